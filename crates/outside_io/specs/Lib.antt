@@ -1,0 +1,5 @@
+pub mod Calls
+pub mod Held
+pub mod Host
+pub mod Memory
+pub mod Outside
