@@ -212,9 +212,7 @@ impl Files for MemFiles {
         ensures rooms { (other : List ℕ) → rooms_of self.new other ≡ rooms_of self.old other }
         ensures tally { tally_of self.new ≡ tally_after_put (tally_of self.old) name.now result }
     {
-        if !count_call(&self.fails, &mut self.calls)
-            && is_roomy(&self.held, name, bytes.len())
-        {
+        if !count_call(&self.fails, &mut self.calls) && is_roomy(&self.held, name, bytes.len()) {
             replace(&mut self.held, name, bytes);
             return Ok(());
         }
