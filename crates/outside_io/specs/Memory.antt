@@ -1,5 +1,5 @@
 -- What files and a sink in memory hold, and which of their calls fail.
-use Rattle.std.specs.Prelude.{◌≡◌, ℕ, ◌+◌, ◌-◌, List, ◌++◌, length, take, drop, min, Option, Some, None, Bool, Result, Ok, Err, nat_eq, nat_le, not, ◌||◌, is_none}
+use Rattle.std.specs.Prelude.{ℕ, ◌+◌, List, length, take, Option, Some, None, Bool, Result, Ok, Err, nat_le, not, ◌||◌, is_none}
 use Rattle.std.specs.Option.{option_map}
 use Rattle.outside_io.specs.declared.memory.MemSink.{MemSink}
 use Rattle.outside_io.specs.declared.memory.MemFiles.{MemFiles}

@@ -1,5 +1,5 @@
 -- What reads, puts and pushes do, by what an object tells of itself and by its counts.
-use Rattle.std.specs.Prelude.{◌≡◌, ◌≢◌, ◌⊎◌, ℕ, ◌+◌, ◌-◌, ◌^◌, ◌<◌, ◌≤◌, min, List, ◌++◌, length, take, drop, Option, Some, None, Result, MatchResult, OnErr, OnOk}
+use Rattle.std.specs.Prelude.{◌≡◌, ◌⊎◌, ℕ, ◌+◌, ◌-◌, ◌^◌, ◌<◌, ◌≤◌, min, List, ◌++◌, length, take, drop, Option, Some, Result, MatchResult, OnErr}
 use Rattle.std.specs.Io.KnownBytes.{Appends}
 
 -- where an object tells a value, it has P

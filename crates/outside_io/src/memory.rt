@@ -140,18 +140,17 @@ impl MemFiles {
         ensures others { (other : List ℕ) → other ≢ name.now → told_by self.new other ≡ told_by self.old other }
         ensures other_rooms { (other : List ℕ) → other ≢ name.now → rooms_of self.new other ≡ rooms_of self.old other }
         ensures err { OnErr result ((other : List ℕ) → told_by self.new other ≡ told_by self.old other) }
+        ensures err_rooms { OnErr result ((other : List ℕ) → rooms_of self.new other ≡ rooms_of self.old other) }
         ensures tally { tally_of self.new ≡ tally_of self.old }
     {
         let mut contents = Vec::with_capacity(self.alloc, room)?;
         contents.extend_from_slice(bytes)?;
         let key = String::from_str(self.alloc, name)?;
-        self.held.insert(
-            key,
-            Held {
-                bytes: contents,
-                room,
-            },
-        )?;
+        let file = Held {
+            bytes: contents,
+            room,
+        };
+        self.held.insert(key, file)?;
         Ok(())
     }
 }

@@ -1,6 +1,8 @@
 //! Each maker and each call once with ample memory, and each way for a call to fail.
-use crate::{Failed, Files, MemFiles, MemSink, ReadAll, Sink, read_all};
+use crate::{Failed, Files, HostFiles, HostSink, MemFiles, MemSink, ReadAll, Sink, read_all};
 use std::alloc::{AllocError, Global};
+use std::fs;
+use std::io::Cursor;
 use std::test::Fail;
 
 // "a.img" with the bytes `abcde` and room for eight.
@@ -132,5 +134,32 @@ fn pushes_within_the_room(rt: HostRuntime) -> Result<(), Fail> {
         assert_eq!(rt; sink.push(piece), want);
         assert_eq!(rt; sink.text(), text);
     }
+    Ok(())
+}
+
+#[test]
+fn writes_to_an_output_until_it_takes_nothing(rt: HostRuntime) -> Result<(), Fail> {
+    let mut taken = *b"_____";
+    let mut sink = HostSink::new(Cursor::new(taken.as_mut_slice()));
+    assert_eq!(rt; sink.push(b"abc"), Ok(()));
+    assert_eq!(rt; sink.push(b"def"), Err(Failed));
+    assert_eq!(rt; sink.push(b"g"), Err(Failed));
+    assert_eq!(rt; sink.push(b""), Ok(()));
+    assert_eq!(rt; taken.as_slice(), b"abcde".as_slice());
+    Ok(())
+}
+
+#[test]
+fn puts_and_reads_a_real_file(rt: HostRuntime) -> Result<(), Fail> {
+    let name = "outside_io_put_and_read.tmp";
+    let mut files = HostFiles::new(&rt);
+    assert_eq!(rt; files.put(name, b"longer"), Ok(()));
+    assert_eq!(rt; files.put(name, b"abcde"), Ok(()));
+    let all = read_all(rt.alloc(), &mut files, name, 5)?;
+    fs::remove_file(&rt, name)?;
+    assert_eq!(rt; all.as_slice(), b"abcde".as_slice());
+    let mut buf = [0u8; 3];
+    assert_eq!(rt; files.read(name, 0, &mut buf), Err(Failed));
+    assert_eq!(rt; files.put("no such folder/put.tmp", b"abcde"), Err(Failed));
     Ok(())
 }

@@ -1,4 +1,4 @@
-use Rattle.std.proofs.Common.{◌≡◌, ◌++◌, ◌∙◌, ◌≤◌, List, ℕ, take, drop, length, Option, None, Some, append_assoc, sym, ap, arith, refl, ◌-◌, rules}
+use Rattle.std.proofs.Common.{◌≡◌, ◌++◌, ◌∙◌, List, ℕ, take, drop, length, Option, None, Some, append_assoc, ap, arith, ◌-◌}
 use Rattle.std.proofs.lemmas.Grind.{common_steps}
 use Rattle.std.specs.Io.KnownBytes.{Appends}
 use Rattle.outside_io.proofs.host.write_whole.Goals as goal

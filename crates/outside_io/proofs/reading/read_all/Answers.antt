@@ -1,6 +1,5 @@
-use Rattle.std.proofs.Common.{rules, ◌≡◌, ◌+◌, ◌-◌, ◌^◌, ◌<◌, ◌≤◌, length, min, ℕ, List, [], ◌∷◌, ◌++◌, Some, take, ap, sym, ◌∙◌, refl, arith, vec_len, length-take}
+use Rattle.std.proofs.Common.{◌≡◌, ◌+◌, ◌≤◌, length, ℕ, List, take, ap, sym, ◌∙◌, refl, arith, vec_len}
 use Rattle.std.proofs.lemmas.Grind.{common_steps}
-use Rattle.outside_io.specs.Outside.{WhereTold}
 use Rattle.outside_io.proofs.Pieces.{read_end, read_more}
 use Rattle.outside_io.proofs.reading.read_all.Goals as goal
 
