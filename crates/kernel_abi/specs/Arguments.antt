@@ -39,7 +39,7 @@ send_args registers = record {
   reply_capacity = register registers 8;
   table = register registers 9;
   leases = register registers 10;
-  }
+}
 
 -- RECV; bit 31 of r7 closes it
 abbrev pub recv_args : List ℕ → RecvArgs
@@ -49,7 +49,7 @@ recv_args registers = record {
   mask = register registers 6;
   closed = nat_le (2 ^ 31) (register registers 7);
   sender = low_id (register registers 7);
-  }
+}
 
 -- REPLY and REPLY_FAULT
 abbrev pub reply_args : List ℕ → ReplyArgs
@@ -58,7 +58,7 @@ reply_args registers = record {
   code = register registers 5;
   reply_base = register registers 6;
   reply_length = register registers 7;
-  }
+}
 
 -- SET_TIMER
 abbrev pub timer_args : List ℕ → TimerArgs
@@ -66,7 +66,7 @@ timer_args registers = record {
   set = not (nat_eq (register registers 4) 0);
   deadline = register registers 5 + register registers 6 * 2 ^ 32;
   bits = register registers 7;
-  }
+}
 
 -- BORROW_READ and BORROW_WRITE
 abbrev pub borrow_args : List ℕ → BorrowArgs
@@ -76,7 +76,7 @@ borrow_args registers = record {
   offset = register registers 6;
   buffer_base = register registers 7;
   buffer_length = register registers 8;
-  }
+}
 
 -- BORROW_INFO
 abbrev pub info_args : List ℕ → InfoArgs

@@ -65,5 +65,5 @@ panic_fault r4 r5 = record { number = 8; x = r4; y = r5 }
 abbrev pub injected_fault : Fault
 injected_fault = record { number = 9; x = 0; y = 0 }
 
-abbrev pub reply_fault_fault : TaskId → Reason → Fault
-reply_fault_fault server reason = record { number = 10; x = server.number; y = reason_number reason }
+abbrev pub reply_fault : TaskId → Reason → Fault
+reply_fault server reason = record { number = 10; x = server.number; y = reason_number reason }

@@ -2,3 +2,4 @@ pub mod Arguments
 pub mod Faults
 pub mod Ids
 pub mod Leases
+pub mod Notes

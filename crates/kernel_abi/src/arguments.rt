@@ -52,7 +52,9 @@ impl SendArgs {
     {
         let target = register(registers, 4);
         SendArgs {
-            recipient: TaskId { number: high_half(target) },
+            recipient: TaskId {
+                number: high_half(target),
+            },
             operation: low_half(target),
             message_base: register(registers, 5),
             message_length: register(registers, 6),
@@ -86,7 +88,9 @@ impl RecvArgs {
             buffer_length: register(registers, 5),
             mask: register(registers, 6),
             closed: from >= 0x8000_0000,
-            sender: TaskId { number: low_half(from) },
+            sender: TaskId {
+                number: low_half(from),
+            },
         }
     }
 }
@@ -107,7 +111,9 @@ impl ReplyArgs {
         ensures { result ≡ reply_args registers.now }
     {
         ReplyArgs {
-            client: TaskId { number: low_half(register(registers, 4)) },
+            client: TaskId {
+                number: low_half(register(registers, 4)),
+            },
             code: register(registers, 5),
             reply_base: register(registers, 6),
             reply_length: register(registers, 7),
@@ -154,7 +160,9 @@ impl BorrowArgs {
         ensures { result ≡ borrow_args registers.now }
     {
         BorrowArgs {
-            lender: TaskId { number: low_half(register(registers, 4)) },
+            lender: TaskId {
+                number: low_half(register(registers, 4)),
+            },
             lease: register(registers, 5),
             offset: register(registers, 6),
             buffer_base: register(registers, 7),
@@ -176,7 +184,9 @@ impl InfoArgs {
         ensures { result ≡ info_args registers.now }
     {
         InfoArgs {
-            lender: TaskId { number: low_half(register(registers, 4)) },
+            lender: TaskId {
+                number: low_half(register(registers, 4)),
+            },
             lease: register(registers, 5),
         }
     }
@@ -214,8 +224,93 @@ impl IdArgs {
         ensures { result ≡ id_args registers.now }
     {
         IdArgs {
-            id: TaskId { number: low_half(register(registers, 4)) },
+            id: TaskId {
+                number: low_half(register(registers, 4)),
+            },
             bits: register(registers, 5),
         }
+    }
+}
+
+#[cfg(test)]
+mod tests {
+    use super::*;
+
+    // Each register holds another number, so that no two can be confused.
+    const REGISTERS: [u32; 8] = [
+        0x0402_0C05,
+        0x5555_0001,
+        0x6666_0002,
+        0x8007_0803,
+        0x8888_0004,
+        0x9999_0005,
+        0xAAAA_0006,
+        0x0000_0000,
+    ];
+
+    #[test]
+    fn send(rt: HostRuntime) {
+        let args = SendArgs::of(&REGISTERS);
+        assert_eq!(rt; args.recipient.number, 0x0402);
+        assert_eq!(rt; args.operation, 0x0C05);
+        assert_eq!(rt; args.message_base, 0x5555_0001);
+        assert_eq!(rt; args.message_length, 0x6666_0002);
+        assert_eq!(rt; args.reply_base, 0x8007_0803);
+        assert_eq!(rt; args.reply_capacity, 0x8888_0004);
+        assert_eq!(rt; args.table, 0x9999_0005);
+        assert_eq!(rt; args.leases, 0xAAAA_0006);
+    }
+
+    #[test]
+    fn recv(rt: HostRuntime) {
+        let args = RecvArgs::of(&REGISTERS);
+        assert_eq!(rt; args.buffer_base, 0x0402_0C05);
+        assert_eq!(rt; args.buffer_length, 0x5555_0001);
+        assert_eq!(rt; args.mask, 0x6666_0002);
+        assert!(rt; args.closed);
+        assert_eq!(rt; args.sender.number, 0x0803);
+        assert!(rt; !RecvArgs::of(&[0, 0, 0, 0x7FFF_FFFF, 0, 0, 0, 0]).closed);
+    }
+
+    #[test]
+    fn reply(rt: HostRuntime) {
+        let args = ReplyArgs::of(&REGISTERS);
+        assert_eq!(rt; args.client.number, 0x0C05);
+        assert_eq!(rt; args.code, 0x5555_0001);
+        assert_eq!(rt; args.reply_base, 0x6666_0002);
+        assert_eq!(rt; args.reply_length, 0x8007_0803);
+    }
+
+    #[test]
+    fn timer(rt: HostRuntime) {
+        let args = TimerArgs::of(&REGISTERS);
+        assert!(rt; args.set);
+        assert_eq!(rt; args.deadline, 0x6666_0002_5555_0001);
+        assert_eq!(rt; args.bits, 0x8007_0803);
+        assert!(rt; !TimerArgs::of(&[0, 1, 1, 1, 1, 1, 1, 1]).set);
+    }
+
+    #[test]
+    fn borrow(rt: HostRuntime) {
+        let args = BorrowArgs::of(&REGISTERS);
+        assert_eq!(rt; args.lender.number, 0x0C05);
+        assert_eq!(rt; args.lease, 0x5555_0001);
+        assert_eq!(rt; args.offset, 0x6666_0002);
+        assert_eq!(rt; args.buffer_base, 0x8007_0803);
+        assert_eq!(rt; args.buffer_length, 0x8888_0004);
+        let info = InfoArgs::of(&REGISTERS);
+        assert_eq!(rt; info.lender.number, 0x0C05);
+        assert_eq!(rt; info.lease, 0x5555_0001);
+    }
+
+    #[test]
+    fn lines_and_ids(rt: HostRuntime) {
+        let irq = IrqArgs::of(&REGISTERS);
+        assert_eq!(rt; irq.bits, 0x0402_0C05);
+        assert!(rt; irq.enable);
+        assert!(rt; !IrqArgs::of(&[2, 2, 1, 1, 1, 1, 1, 1]).enable);
+        let id = IdArgs::of(&REGISTERS);
+        assert_eq!(rt; id.id.number, 0x0C05);
+        assert_eq!(rt; id.bits, 0x5555_0001);
     }
 }
