@@ -1,4 +1,4 @@
--- The ids by which tasks name each other (Hubris Reference, Task IDs).
+-- The ids by which tasks name each other (Hubris Reference, on task ids).
 use Rattle.std.specs.Prelude.{ℕ, ◌+◌, ◌*◌, ◌/◌, ◌%◌}
 
 -- the index of an id, its low ten bits

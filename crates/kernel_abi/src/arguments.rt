@@ -1,5 +1,5 @@
 //! The arguments of system calls, read from the caller's registers r4 to r11 (Hubris Reference,
-//! Syscalls; which register holds which argument is this project's own).
+//! on system calls; which register holds which argument is this project's own).
 //!
 //! Each `of` takes r4 to r11 in this order. Bits above 15 of a register that holds an id count for
 //! nothing, and no value is refused.

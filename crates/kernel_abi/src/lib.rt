@@ -14,7 +14,7 @@ pub use arguments::{
 };
 
 /// A task id of 16 bits: the task's index in bits 9..0, its generation in bits 15..10 (Hubris
-/// Reference, Task IDs).
+/// Reference, on task ids).
 #[derive(Clone, Copy, Debug, PartialEq, Eq)]
 pub struct TaskId {
     pub number: u16,
@@ -67,7 +67,7 @@ impl TaskId {
 }
 
 /// What a caller is answered in r4 for a dead id: the task's present generation under 24 set bits
-/// (Hubris Reference, Task IDs).
+/// (Hubris Reference, on task ids).
 pub fn dead_code(g: Generation) -> u32
     ensures { result ≡ dead_code_of g.number }
 {
@@ -109,7 +109,7 @@ impl Usage {
     }
 }
 
-/// Why a server faults its client by REPLY_FAULT (Hubris Reference, REPLY_FAULT).
+/// Why a server faults its client by REPLY_FAULT (Hubris Reference, on REPLY_FAULT).
 #[derive(Clone, Copy, Debug, PartialEq, Eq)]
 pub enum Reason {
     UndefinedOperation,
