@@ -1,0 +1,5 @@
+pub mod Arguments
+pub mod Faults
+pub mod Ids
+pub mod Leases
+pub mod Notes
