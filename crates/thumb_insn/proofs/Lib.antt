@@ -1,0 +1,4 @@
+pub mod Apart
+pub mod Rows
+pub mod InRange
+pub mod Listed

@@ -1,0 +1,5 @@
+pub mod Fields
+pub mod Table
+pub mod Range
+pub mod Text
+pub mod Operand
