@@ -21,7 +21,6 @@ use Rattle.board_core.specs.Turn.{refusals, cpu_of, bytes_of, put, acted, execut
 abbrev pub counts : State → ℕ × ℕ × ℕ
 counts s = (s.now, s.next_call, s.turn)
 
-
 row : (b : Bool) (u v t : Turn) → counts u.state ≡ counts t.state → counts v.state ≡ counts t.state → counts (cond b u v).state ≡ counts t.state
 row true u v t p q = p
 row false u v t p q = q

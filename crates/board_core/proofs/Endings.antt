@@ -27,6 +27,6 @@ pub before_bound : (x : Scenario) (s : State) (left : ℕ) → 0 < left → end_
 unfolding ending
 before_bound x s left h = by_down (is_down s)
   where
-  by_down : (d : Bool) → end_in d (is_still x s) ≡ end_by d left (is_still x s)
-  by_down true = refl
-  by_down false = rw (not_zero left h) refl
+    by_down : (d : Bool) → end_in d (is_still x s) ≡ end_by d left (is_still x s)
+    by_down true = refl
+    by_down false = rw (not_zero left h) refl

@@ -117,8 +117,8 @@ whole_sp c v e h =
 whole_advance : (n : ℕ) (c : Cpu) → n % 2 ≡ 0 → IsWholeCpu c → IsWholeCpu (advance n c)
 whole_advance n c e h = whole_to c ((pc c + n) % 2 ^ 32) (even_sum (pc c) n h.even e) h
   where
-  even_sum : (a b : ℕ) → a % 2 ≡ 0 → b % 2 ≡ 0 → (a + b) % 2 ^ 32 % 2 ≡ 0
-  even_sum a b x y = omega arith
+    even_sum : (a b : ℕ) → a % 2 ≡ 0 → b % 2 ≡ 0 → (a + b) % 2 ^ 32 % 2 ≡ 0
+    even_sum a b x y = omega arith
 
 module _ (refuses : Refusals) where
   keeps_next : (c : Cpu) → IsWholeCpu c → Keeps refuses (Next c [])
@@ -133,9 +133,9 @@ module _ (refuses : Refusals) where
   keeps_aligned : (addr n : ℕ) (y : Bool) (e : Effect) → Keeps refuses e → Keeps refuses (unless_unaligned addr n y e)
   keeps_aligned addr n y e k = go (nat_eq (addr % n) 0)
     where
-    go : (b : Bool) → Keeps refuses (cond b e (Trap (unaligned_fault addr y)))
-    go true = k
-    go false = (omega arith, omega arith)
+      go : (b : Bool) → Keeps refuses (cond b e (Trap (unaligned_fault addr y)))
+      go true = k
+      go false = (omega arith, omega arith)
 
   keeps_checked : (o : Option ℕ) (y : Access) (e : Effect) → Keeps refuses e → Keeps refuses (unless_refused o y e)
   keeps_checked None y e k = k
@@ -153,28 +153,29 @@ module _ (refuses : Refusals) where
       let k : Keeps refuses next = (whole_advance 2 c refl h, λ x here. record { size = one_size s x here }) in
       keeps_aligned addr (size_of s) true (unless_refused (refuses addr (size_of s) right.Write) access.Store next) (keeps_checked (refuses addr (size_of s) right.Write) access.Store next k)
     where
-    sizes : (s : Size) → (size_of s ≡ 1) ⊎ (size_of s ≡ 2) ⊎ (size_of s ≡ 4)
-    sizes size.Word = inr (inr refl)
-    sizes size.Half = inr (inl refl)
-    sizes size.Byte = inl refl
-    one_size : (s : Size) (x : Store) → Contains (record { addr = addr; bytes = size_of s; value = get c t % 2 ^ (8 * size_of s) } ∷ []) x → (x.bytes ≡ 1) ⊎ (x.bytes ≡ 2) ⊎ (x.bytes ≡ 4)
-    one_size s x (zero, lt, same) = let e : ◌≡◌ {A = Store} (record { addr = addr; bytes = size_of s; value = get c t % 2 ^ (8 * size_of s) }) x = same in rw (← e) (sizes s)
-    one_size s x (suc k, lt, same) = absurd (omega arith)
+      sizes : (s : Size) → (size_of s ≡ 1) ⊎ (size_of s ≡ 2) ⊎ (size_of s ≡ 4)
+      sizes size.Word = inr (inr refl)
+      sizes size.Half = inr (inl refl)
+      sizes size.Byte = inl refl
+
+      one_size : (s : Size) (x : Store) → Contains (record { addr = addr; bytes = size_of s; value = get c t % 2 ^ (8 * size_of s) } ∷ []) x → (x.bytes ≡ 1) ⊎ (x.bytes ≡ 2) ⊎ (x.bytes ≡ 4)
+      one_size s x (zero, lt, same) = let e : ◌≡◌ {A = Store} (record { addr = addr; bytes = size_of s; value = get c t % 2 ^ (8 * size_of s) }) x = same in rw (← e) (sizes s)
+      one_size s x (suc k, lt, same) = absurd (omega arith)
 
   keeps_branch : (c : Cpu) (v : ℕ) → IsWholeCpu c → Keeps refuses (branch_to c v)
   keeps_branch c v h = go (nat_eq (v % 2) 1) refl
     where
-    go : (b : Bool) → nat_eq (v % 2) 1 ≡ b → Keeps refuses (cond b (jump c (v - 1)) (Trap record { number = 5; x = v; y = 0 }))
-    go true e = let odd = eqb-true _ _ e in keeps_next _ (whole_to c (v - 1) (omega arith) h)
-    go false e = (omega arith, omega arith)
+      go : (b : Bool) → nat_eq (v % 2) 1 ≡ b → Keeps refuses (cond b (jump c (v - 1)) (Trap record { number = 5; x = v; y = 0 }))
+      go true e = let odd = eqb-true _ _ e in keeps_next _ (whole_to c (v - 1) (omega arith) h)
+      go false e = (omega arith, omega arith)
 
   keeps_place : (c : Cpu) (d : Reg) (v : ℕ) → IsWholeCpu c → Keeps refuses (place c d v)
   keeps_place c d v h = go (nat_eq d.number 15) (nat_eq d.number 13) refl refl
     where
-    go : (a b : Bool) → nat_eq d.number 15 ≡ a → nat_eq d.number 13 ≡ b → Keeps refuses (cond a (jump c (v / 2 * 2)) (cond b (Next (advance 2 (put c 13 (v / 4 * 4))) []) (Next (advance 2 (put c d.number v)) [])))
-    go true b e f = keeps_next _ (whole_to c (v / 2 * 2) (omega arith) h)
-    go false true e f = keeps_next _ (whole_advance 2 _ refl (whole_sp c (v / 4 * 4) (omega arith) h))
-    go false false e f = keeps_next _ (whole_advance 2 _ refl (whole_put c d.number v (λ s. false≢true (sym f ∙ eq-eqb _ _ s), λ s. false≢true (sym e ∙ eq-eqb _ _ s)) h))
+      go : (a b : Bool) → nat_eq d.number 15 ≡ a → nat_eq d.number 13 ≡ b → Keeps refuses (cond a (jump c (v / 2 * 2)) (cond b (Next (advance 2 (put c 13 (v / 4 * 4))) []) (Next (advance 2 (put c d.number v)) [])))
+      go true b e f = keeps_next _ (whole_to c (v / 2 * 2) (omega arith) h)
+      go false true e f = keeps_next _ (whole_advance 2 _ refl (whole_sp c (v / 4 * 4) (omega arith) h))
+      go false false e f = keeps_next _ (whole_advance 2 _ refl (whole_put c d.number v (λ s. false≢true (sym f ∙ eq-eqb _ _ s), λ s. false≢true (sym e ∙ eq-eqb _ _ s)) h))
 
   keeps_data : (o : Op) (c : Cpu) (d m : Reg) → IsPlain d.number → IsWholeCpu c → Keeps refuses (data_effect o c d m)
   keeps_data op.Ands c d m p h = keeps_result c d _ _ p h
@@ -258,10 +259,10 @@ unfolding words
 words_bit mask k zero addr w h = absurd (omega (arith, h.1))
 words_bit mask k (suc n) addr w h = go (nat_eq (mask / 2 ^ k % 2) 1) refl h (words_bit mask (k + 1) n addr w) (words_bit mask (k + 1) n ((addr + 4) % 2 ^ 32) w)
   where
-  go : (b : Bool) → nat_eq (mask / 2 ^ k % 2) 1 ≡ b → Contains (cond b ((k, addr) ∷ words mask (k + 1) n ((addr + 4) % 2 ^ 32)) (words mask (k + 1) n addr)) w → (Contains (words mask (k + 1) n addr) w → mask / 2 ^ w.0 % 2 ≡ 1) → (Contains (words mask (k + 1) n ((addr + 4) % 2 ^ 32)) w → mask / 2 ^ w.0 % 2 ≡ 1) → mask / 2 ^ w.0 % 2 ≡ 1
-  go false e here p q = p here
-  go true e (zero, lt, same) p q = let z : ◌≡◌ {A = ℕ × ℕ} (k, addr) w = same in rw (← z) (eqb-true _ _ e)
-  go true e (suc i, lt, same) p q = q (i, omega arith, same)
+    go : (b : Bool) → nat_eq (mask / 2 ^ k % 2) 1 ≡ b → Contains (cond b ((k, addr) ∷ words mask (k + 1) n ((addr + 4) % 2 ^ 32)) (words mask (k + 1) n addr)) w → (Contains (words mask (k + 1) n addr) w → mask / 2 ^ w.0 % 2 ≡ 1) → (Contains (words mask (k + 1) n ((addr + 4) % 2 ^ 32)) w → mask / 2 ^ w.0 % 2 ≡ 1) → mask / 2 ^ w.0 % 2 ≡ 1
+    go false e here p q = p here
+    go true e (zero, lt, same) p q = let z : ◌≡◌ {A = ℕ × ℕ} (k, addr) w = same in rw (← z) (eqb-true _ _ e)
+    go true e (suc i, lt, same) p q = q (i, omega arith, same)
 
 -- a register that no word goes to stays
 loaded_stays : (holds : Contents) (rs : Regs) (ws : List (ℕ × ℕ)) (r : ℕ) → ((w : ℕ × ℕ) → Contains ws w → r ≢ w.0) → get_or (loaded_all holds rs ws).words r 0 ≡ get_or rs.words r 0
@@ -290,22 +291,22 @@ loaded_whole holds c mask addr sp pc' h = record {
   sixteen = loaded_length holds c.regs (transfers mask addr) ∙ h.sixteen;
   even = rw (loaded_stays holds c.regs (transfers mask addr) 15 (λ w here. not_bit mask addr 15 w pc' here)) h.even;
   aligned = rw (loaded_stays holds c.regs (transfers mask addr) 13 (λ w here. not_bit mask addr 13 w sp here)) h.aligned;
-  }
+}
 
 -- a branch needs no even PC before
 branch_whole : (refuses : Refusals) (c : Cpu) (v : ℕ) → length c.regs.words ≡ 16 → get_or c.regs.words 13 0 % 4 ≡ 0 → Keeps refuses (branch_to c v)
 branch_whole refuses c v sixteen al = go (nat_eq (v % 2) 1) refl
   where
-  go : (b : Bool) → nat_eq (v % 2) 1 ≡ b → Keeps refuses (cond b (jump c (v - 1)) (Trap record { number = 5; x = v; y = 0 }))
-  go true e =
-      let odd = eqb-true _ _ e in
-      let here : 15 < length c.regs.words = omega arith in
-      keeps_next refuses _ record {
-        sixteen = rw length-set sixteen;
-        even = rw (get_or-set_same c.regs.words 15 (v - 1) 0 here) (omega arith);
-        aligned = rw (get_or-set_other c.regs.words 15 13 (v - 1) 0 (omega arith)) al;
-      }
-  go false e = (omega arith, omega arith)
+    go : (b : Bool) → nat_eq (v % 2) 1 ≡ b → Keeps refuses (cond b (jump c (v - 1)) (Trap record { number = 5; x = v; y = 0 }))
+    go true e =
+        let odd = eqb-true _ _ e in
+        let here : 15 < length c.regs.words = omega arith in
+        keeps_next refuses _ record {
+          sixteen = rw length-set sixteen;
+          even = rw (get_or-set_same c.regs.words 15 (v - 1) 0 here) (omega arith);
+          aligned = rw (get_or-set_other c.regs.words 15 13 (v - 1) 0 (omega arith)) al;
+        }
+    go false e = (omega arith, omega arith)
 
 sp_sum : (a n : ℕ) → a % 4 ≡ 0 → n % 4 ≡ 0 → (a + n) % 2 ^ 32 % 4 ≡ 0
 sp_sum a n x y = omega arith
@@ -335,12 +336,12 @@ module _ (refuses : Refusals) (holds : Contents) (c : Cpu) (h : IsWholeCpu c) wh
   keeps_effect (Bx m) e o = keeps_branch refuses c (get c m) h
   keeps_effect (Blx m) e o = keeps_link (get c m)
     where
-    keeps_link : (v : ℕ) → Keeps refuses (link_to c v)
-    keeps_link v = go (nat_eq (v % 2) 1) refl
-      where
-      go : (b : Bool) → nat_eq (v % 2) 1 ≡ b → Keeps refuses (cond b (Next (put (linked c 2) 15 (v - 1)) []) (Trap record { number = 5; x = v; y = 0 }))
-      go true q = let odd = eqb-true _ _ q in keeps_next refuses _ (whole_to (linked c 2) (v - 1) (omega arith) (whole_put c 14 _ (λ s. absurd (omega arith), λ s. absurd (omega arith)) h))
-      go false q = (omega arith, omega arith)
+      keeps_link : (v : ℕ) → Keeps refuses (link_to c v)
+      keeps_link v = go (nat_eq (v % 2) 1) refl
+        where
+          go : (b : Bool) → nat_eq (v % 2) 1 ≡ b → Keeps refuses (cond b (Next (put (linked c 2) 15 (v - 1)) []) (Trap record { number = 5; x = v; y = 0 }))
+          go true q = let odd = eqb-true _ _ q in keeps_next refuses _ (whole_to (linked c 2) (v - 1) (omega arith) (whole_put c 14 _ (λ s. absurd (omega arith), λ s. absurd (omega arith)) h))
+          go false q = (omega arith, omega arith)
   keeps_effect (LdrLiteral t i) e o = keeps_load refuses holds c (load.Whole size.Word) t _ e h
   keeps_effect (StoreReg s t n m) e o = keeps_store refuses c s t _ h
   keeps_effect (LoadReg k t n m) e o = keeps_load refuses holds c k t _ e h
@@ -359,9 +360,9 @@ module _ (refuses : Refusals) (holds : Contents) (c : Cpu) (h : IsWholeCpu c) wh
   keeps_effect (Hint i) e o = keeps_next refuses _ (whole_advance 2 c refl h)
   keeps_effect (BranchIf cc' offset) e o = go (holds_if cc' c.flags)
     where
-    go : (b : Bool) → Keeps refuses (cond b (jump c (target c offset)) (Next (advance 2 c) []))
-    go true = keeps_next refuses _ (whole_to c (target c offset) (pc_sum (pc c) (word_of offset) h.even e) h)
-    go false = keeps_next refuses _ (whole_advance 2 c refl h)
+      go : (b : Bool) → Keeps refuses (cond b (jump c (target c offset)) (Next (advance 2 c) []))
+      go true = keeps_next refuses _ (whole_to c (target c offset) (pc_sum (pc c) (word_of offset) h.even e) h)
+      go false = keeps_next refuses _ (whole_advance 2 c refl h)
   keeps_effect (Svc i) e o = tt
   keeps_effect (Branch offset) e o = keeps_next refuses _ (whole_to c (target c offset) (pc_sum (pc c) (word_of offset) h.even e) h)
   keeps_effect (Bl offset) e o = keeps_next refuses _ (whole_to (linked c 4) (target c offset) (pc_sum (pc c) (word_of offset) h.even e) (whole_put c 14 _ (λ s. absurd (omega arith), λ s. absurd (omega arith)) h))
@@ -376,9 +377,9 @@ module _ (refuses : Refusals) (holds : Contents) (c : Cpu) (h : IsWholeCpu c) wh
       let w = loaded_whole holds c list (get c n) clear.0 clear.1 h in
       keeps_load_all refuses holds c list (get c n) (ldm_next c n list) (go (nat_eq (list / 2 ^ n.number % 2) 1) w)
     where
-    go : (b : Bool) → IsWholeCpu (with_regs c (loaded_all holds c.regs (transfers list (get c n)))) → Keeps refuses (Next (advance 2 (cond b (with_regs c (loaded_all holds c.regs (transfers list (get c n)))) (put (with_regs c (loaded_all holds c.regs (transfers list (get c n)))) n.number (sum (get c n) (4 * count list))))) [])
-    go true w = keeps_next refuses _ (whole_advance 2 _ refl w)
-    go false w = keeps_next refuses _ (whole_advance 2 _ refl (whole_put _ n.number _ e.0 w))
+      go : (b : Bool) → IsWholeCpu (with_regs c (loaded_all holds c.regs (transfers list (get c n)))) → Keeps refuses (Next (advance 2 (cond b (with_regs c (loaded_all holds c.regs (transfers list (get c n)))) (put (with_regs c (loaded_all holds c.regs (transfers list (get c n)))) n.number (sum (get c n) (4 * count list))))) [])
+      go true w = keeps_next refuses _ (whole_advance 2 _ refl w)
+      go false w = keeps_next refuses _ (whole_advance 2 _ refl (whole_put _ n.number _ e.0 w))
   keeps_effect (Pop list false) e o =
       let clear = clear_low list e in
       let rs = loaded_all holds c.regs (transfers list (reg_at c.regs 13)) in
@@ -391,4 +392,4 @@ module _ (refuses : Refusals) (holds : Contents) (c : Cpu) (h : IsWholeCpu c) wh
       let there : 13 < length rs.words = omega arith in
       let v = sum (reg_at c.regs 13) (4 * count mask) in
       keeps_load_all refuses holds c mask (reg_at c.regs 13) (pop_next c mask true)
-        (branch_whole refuses (put (with_regs c rs) 13 v) (reg_at rs 15) (length-set rs.words 13 v ∙ n) (rw (get_or-set_same rs.words 13 v 0 there) (sp_sum (reg_at c.regs 13) (4 * count mask) h.aligned (omega arith))))
+      (branch_whole refuses (put (with_regs c rs) 13 v) (reg_at rs 15) (length-set rs.words 13 v ∙ n) (rw (get_or-set_same rs.words 13 v 0 there) (sp_sum (reg_at c.regs 13) (4 * count mask) h.aligned (omega arith))))

@@ -61,8 +61,9 @@ sound_setup p f text =
       some = omega arith;
       placed = record {
         within = λ i r here none. elim (f.regions.within i r (regions_here p i r here) none) [
-            inl flash ↦ inr flash
-          | inr inside ↦ inl (inr (inside.0, rw ram inside.1)) ];
+          | inl flash ↦ inr flash
+          | inr inside ↦ inl (inr (inside.0, rw ram inside.1))
+        ];
         writable = λ i r here none write. let inside = f.regions.writable i r (regions_here p i r here) none write in inr (inside.0, rw ram inside.1);
         flash = f.sizes.most_flash;
         devices = λ i r here device. (f.regions.devices i r (regions_here p i r here) device).0;

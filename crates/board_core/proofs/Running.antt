@@ -51,9 +51,9 @@ put_state : (t : Turn) (x : Store) → (put t x).state ≡ record t.state { memo
 unfolding stored
 put_state t x = by_ram (is_ram t.state.memory x.addr x.bytes)
   where
-  by_ram : (b : Bool) → (cond b (stored Own x.addr (bytes_of x.value x.bytes) t) t).state ≡ record t.state { memory = (cond b (stored Own x.addr (bytes_of x.value x.bytes) t) t).state.memory }
-  by_ram true = refl
-  by_ram false = refl
+    by_ram : (b : Bool) → (cond b (stored Own x.addr (bytes_of x.value x.bytes) t) t).state ≡ record t.state { memory = (cond b (stored Own x.addr (bytes_of x.value x.bytes) t) t).state.memory }
+    by_ram true = refl
+    by_ram false = refl
 
 puts_state : (ss : List Store) (t : Turn) → (fold put t ss).state ≡ record t.state { memory = (fold put t ss).state.memory }
 puts_state [] t = refl
@@ -149,7 +149,7 @@ trap_holds g t k task e f is at h =
 rows : Setup → ℕ → Turn → ℕ → ℕ → Bool → Bool → Turn
 rows g c t at first text wide =
     cond (not text) (faulted c record { number = 2; x = at; y = 0 } t)
-      (cond (not wide) (decoded_as g c at (decoded_of first None) t) (stepped_wide g c at first t))
+    (cond (not wide) (decoded_as g c at (decoded_of first None) t) (stepped_wide g c at first t))
 
 stepped_by : (g : Setup) (c : ℕ) (t : Turn) (at first : ℕ) (text wide : Bool) → at ≡ register t.state c 15 → first ≡ number_at t.state.memory at 2 → text ≡ is_text g c at → wide ≡ is_wide first →
     stepped g c t ≡ rows g c t at first text wide
@@ -201,8 +201,16 @@ pub between : (g : Setup) (k : Kernel) (u : Turn) (n : ℕ) → Holds g k u → 
 between g k u n h =
     let h1 = holds_turn g (kept_of k) u n h in
     record {
-      setup = h1.setup; count = h1.count; many = h1.many; tasks = h1.tasks; notes = refl;
-      memory = h1.memory; now = h1.now; lines = h1.lines; current = h1.current; next_call = h1.next_call;
+      setup = h1.setup;
+      count = h1.count;
+      many = h1.many;
+      tasks = h1.tasks;
+      notes = refl;
+      memory = h1.memory;
+      now = h1.now;
+      lines = h1.lines;
+      current = h1.current;
+      next_call = h1.next_call;
     }
 
 -- a kernel at the start of a run stands for the start, between turns

@@ -154,8 +154,8 @@ extra_wide : (c : ℕ) (i : Insn) → wide_of c ≡ Some i → IsExtra i
 unfolding wide_of wide_rows
 extra_wide c i e = any_wide (λ h i. IsExtra i) wide_rows ((λ h m i e. plainE e (double_even _)), ((λ h m i e. plainE e tt), ((λ h m i e. plainE e tt), ((λ h m i e. plainE e tt), ((λ h m i e. plainE (ap Some (only e).1) (plain_reg h (only e).0)), ((λ h m i e. plainE (ap Some (only e).1) tt), tt)))))) c i e
   where
-  plain_reg : (h : ℕ) → not (nat_eq (field h 8 4) 13 || nat_eq (field h 8 4) 15) ≡ true → IsPlain (field h 8 4)
-  plain_reg h q = let two = not_either (nat_eq (field h 8 4) 13) (nat_eq (field h 8 4) 15) q in (λ s. false≢true (sym two.0 ∙ eq-eqb _ _ s), λ s. false≢true (sym two.1 ∙ eq-eqb _ _ s))
+    plain_reg : (h : ℕ) → not (nat_eq (field h 8 4) 13 || nat_eq (field h 8 4) 15) ≡ true → IsPlain (field h 8 4)
+    plain_reg h q = let two = not_either (nat_eq (field h 8 4) 13) (nat_eq (field h 8 4) 15) q in (λ s. false≢true (sym two.0 ∙ eq-eqb _ _ s), λ s. false≢true (sym two.1 ∙ eq-eqb _ _ s))
 
 extra_narrow : (h : ℕ) (i : Insn) → h < 65536 → narrow_of h ≡ Some i → IsExtra i
 unfolding narrow_of

@@ -54,7 +54,7 @@ one_more x xs small all b (suc i, lt, same) = all b (i, omega arith, same)
 all_bytes : (v n : ℕ) → AreAllBytes (bytes_of v n)
 all_bytes v n b here =
     one_more (v % 256) (v / 2 ^ 8 % 256 ∷ v / 2 ^ 16 % 256 ∷ v / 2 ^ 24 % 256 ∷ []) (omega arith) (one_more (v / 2 ^ 8 % 256) (v / 2 ^ 16 % 256 ∷ v / 2 ^ 24 % 256 ∷ []) (omega arith) (one_more (v / 2 ^ 16 % 256) (v / 2 ^ 24 % 256 ∷ []) (omega arith) (one_more (v / 2 ^ 24 % 256) [] (omega arith) no_byte))) b
-      (take_in n (v % 256 ∷ v / 2 ^ 8 % 256 ∷ v / 2 ^ 16 % 256 ∷ v / 2 ^ 24 % 256 ∷ []) b here)
+    (take_in n (v % 256 ∷ v / 2 ^ 8 % 256 ∷ v / 2 ^ 16 % 256 ∷ v / 2 ^ 24 % 256 ∷ []) b here)
 
 few_bytes : (v n : ℕ) → (n ≡ 1) ⊎ (n ≡ 2) ⊎ (n ≡ 4) → length (bytes_of v n) ≡ n
 few_bytes v n (inl e) = rw e refl
@@ -64,14 +64,14 @@ few_bytes v n (inr (inr e)) = rw e refl
 sane-put : {g : Setup} (t : Turn) (x : Store) → Sane g t.state → (x.bytes ≡ 1) ⊎ (x.bytes ≡ 2) ⊎ (x.bytes ≡ 4) → Sane g (put t x).state
 sane-put {g} t x h size = by_ram (is_ram t.state.memory x.addr x.bytes) refl
   where
-  by_ram : (b : Bool) → is_ram t.state.memory x.addr x.bytes ≡ b → Sane g (cond b (stored Own x.addr (bytes_of x.value x.bytes) t) t).state
-  by_ram false e = h
-  by_ram true e =
-      let both = both_true (leb 0x20000000 x.addr) (leb (x.addr + x.bytes) (0x20000000 + length t.state.memory.ram)) e in
-      let few = few_bytes x.value x.bytes size in
-      let above = leb-true 0x20000000 x.addr both.0 in
-      let below = leb-true (x.addr + x.bytes) (0x20000000 + length t.state.memory.ram) both.1 in
-      sane-stored Own x.addr (bytes_of x.value x.bytes) t h (all_bytes x.value x.bytes) (inr (above, rw few below))
+    by_ram : (b : Bool) → is_ram t.state.memory x.addr x.bytes ≡ b → Sane g (cond b (stored Own x.addr (bytes_of x.value x.bytes) t) t).state
+    by_ram false e = h
+    by_ram true e =
+        let both = both_true (leb 0x20000000 x.addr) (leb (x.addr + x.bytes) (0x20000000 + length t.state.memory.ram)) e in
+        let few = few_bytes x.value x.bytes size in
+        let above = leb-true 0x20000000 x.addr both.0 in
+        let below = leb-true (x.addr + x.bytes) (0x20000000 + length t.state.memory.ram) both.1 in
+        sane-stored Own x.addr (bytes_of x.value x.bytes) t h (all_bytes x.value x.bytes) (inr (above, rw few below))
 
 sane-puts : {g : Setup} (refuses : Refusals) (stores : List Store) (t : Turn) → Sane g t.state → ((x : Store) → Contains stores x → IsPermitted refuses x) → Sane g (fold put t stores).state
 sane-puts refuses [] t h ok = h
@@ -108,12 +108,13 @@ pub half_small : (m : Memory) (a : ℕ) → AreAllBytes m.flash → AreAllBytes 
 unfolding bytes_at
 half_small m a flash ram = by_ram (leb 0x20000000 a)
   where
-  by_flash : (b : Bool) → number_of (cond b (take 2 (drop (a - 0x08000000) m.flash)) []) < 65536
-  by_flash true = number_small (drop (a - 0x08000000) m.flash) (λ b here. flash b (drop_in _ m.flash b here))
-  by_flash false = omega arith
-  by_ram : (b : Bool) → number_of (cond b (take 2 (drop (a - 0x20000000) m.ram)) (cond (leb 0x08000000 a) (take 2 (drop (a - 0x08000000) m.flash)) [])) < 65536
-  by_ram true = number_small (drop (a - 0x20000000) m.ram) (λ b here. ram b (drop_in _ m.ram b here))
-  by_ram false = by_flash (leb 0x08000000 a)
+    by_flash : (b : Bool) → number_of (cond b (take 2 (drop (a - 0x08000000) m.flash)) []) < 65536
+    by_flash true = number_small (drop (a - 0x08000000) m.flash) (λ b here. flash b (drop_in _ m.flash b here))
+    by_flash false = omega arith
+
+    by_ram : (b : Bool) → number_of (cond b (take 2 (drop (a - 0x20000000) m.ram)) (cond (leb 0x08000000 a) (take 2 (drop (a - 0x08000000) m.flash)) [])) < 65536
+    by_ram true = number_small (drop (a - 0x20000000) m.ram) (λ b here. ram b (drop_in _ m.ram b here))
+    by_ram false = by_flash (leb 0x08000000 a)
 
 module _ {g : Setup} (c : ℕ) (t : Turn) (h : Sane g t.state) (inside : c < length t.state.tasks) where
   keeps-here : (first : ℕ) (two : Option ℕ) (insn : Insn) → first < 65536 → IfSome two (λ x. x < 65536) → (decoded_of first two ≡ Narrow insn) ⊎ (decoded_of first two ≡ Wide insn) →
@@ -151,8 +152,9 @@ range_below a (suc n) k (suc i, lt, same) = let r = range_below (a + 1) n k (i, 
 
 around_below : (n i k : ℕ) → i ≤ n → Contains (around n i) k → k < n
 around_below n i k le h = elim (Contains-append_cases (range_with_len i (n - i)) (range_with_len 0 i) k h) [
-    inl a ↦ let r = range_below i (n - i) k a in omega arith
-  | inr b ↦ let r = range_below 0 i k b in omega arith ]
+  | inl a ↦ let r = range_below i (n - i) k a in omega arith
+  | inr b ↦ let r = range_below 0 i k b in omega arith
+]
 
 no_some : {A : Type 0} {P : Type 0} {a : A} → None ≡ Some a → P
 no_some e = cc
@@ -165,9 +167,9 @@ found_in : {A : Type 0} (p : A → Bool) (xs : List A) (x : A) → find p xs ≡
 found_in p [] x e = no_some e
 found_in p (y ∷ ys) x e = go (p y) refl (found_in p ys x)
   where
-  go : (b : Bool) → p y ≡ b → (find p ys ≡ Some x → Contains ys x × (p x ≡ true)) → Contains (y ∷ ys) x × (p x ≡ true)
-  go true t rest = let same : y ≡ x = same_some (rw t at e) in ((zero, omega arith, same), ap p (sym same) ∙ t)
-  go false f rest = let r = rest (rw f at e) in ((suc r.0.0, omega (arith, r.0.1), r.0.2), r.1)
+    go : (b : Bool) → p y ≡ b → (find p ys ≡ Some x → Contains ys x × (p x ≡ true)) → Contains (y ∷ ys) x × (p x ≡ true)
+    go true t rest = let same : y ≡ x = same_some (rw t at e) in ((zero, omega arith, same), ap p (sym same) ∙ t)
+    go false f rest = let r = rest (rw f at e) in ((suc r.0.0, omega (arith, r.0.1), r.0.2), r.1)
 
 -- who is chosen is ready, and there
 pub record IsChosen (s : State) (c : ℕ) : Type 0 where
@@ -192,8 +194,9 @@ pub sane-after : (x : Scenario) (s : State) → Sane x.setup s → Sane x.setup 
 unfolding turn ended begun
 sane-after x s h = sane-turn ((turn_of x.setup (chosen x.setup s) t).state.turn + 1) (turn_of x.setup (chosen x.setup s) t) (by_choice (chosen x.setup s) refl)
   where
-  t : Turn
-  t = record { state = s; notes = []; writes = []; reads = [] }
-  by_choice : (o : Option ℕ) → chosen x.setup s ≡ o → Sane x.setup (turn_of x.setup o t).state
-  by_choice None e = h
-  by_choice (Some c) e = let is = chosen_is s c h e in sane-ran c t h is.inside
+    t : Turn
+    t = record { state = s; notes = []; writes = []; reads = [] }
+
+    by_choice : (o : Option ℕ) → chosen x.setup s ≡ o → Sane x.setup (turn_of x.setup o t).state
+    by_choice None e = h
+    by_choice (Some c) e = let is = chosen_is s c h e in sane-ran c t h is.inside

@@ -25,7 +25,7 @@ ending x left s = end_by (is_down s) left (is_still x s)
 
 pub record Run : Type 0 where
   pub last : State
-  pub notes : List (ℕ × Note)   -- each with its turn
+  pub notes : List (ℕ × Note)  -- each with its turn
   pub end : End
 
 abbrev pub ended_at : State → End → Run
@@ -47,4 +47,4 @@ unfoldable pub run : Scenario → ℕ → State → Run
 run x zero s = unless s (ending x 0 s) (ended_at s Bound)
 run x (suc left) s =
     unless s (ending x (suc left) s)
-      (with_front (at_turn s.turn (turn x s).notes) (run x left (turn x s).state))
+    (with_front (at_turn s.turn (turn x s).notes) (run x left (turn x s).state))

@@ -38,9 +38,6 @@ cpu_of x = record { regs = record { words = x.registers }; flags = x.flags }
 
 -- ## what it does
 
-
-
-
 -- the n bytes of a number, the lowest first
 abbrev pub bytes_of : ℕ → ℕ → List ℕ
 bytes_of v n = take n (v % 256 ∷ v / 2 ^ 8 % 256 ∷ v / 2 ^ 16 % 256 ∷ v / 2 ^ 24 % 256 ∷ [])
@@ -73,7 +70,7 @@ abbrev pub stepped_wide : Setup → ℕ → ℕ → ℕ → Turn → Turn
 stepped_wide g c at first t =
     let after = (at + 2) % 2 ^ 32 in
     first_row (
-      (not (is_text g c after), faulted c record { number = 2; x = after; y = 0 } t)
+    (not (is_text g c after), faulted c record { number = 2; x = after; y = 0 } t)
     ∷ []) (decoded_as g c at (decoded_of first (Some (number_at t.state.memory after 2))) t)
 
 -- fetched, decoded, carried out: the first halfword that may not be executed decides
@@ -82,7 +79,7 @@ stepped g c t =
     let at = register t.state c 15 in
     let first = number_at t.state.memory at 2 in
     first_row (
-      (not (is_text g c at), faulted c record { number = 2; x = at; y = 0 } t)
+    (not (is_text g c at), faulted c record { number = 2; x = at; y = 0 } t)
     ∷ (not (is_wide first), decoded_as g c at (decoded_of first None) t)
     ∷ []) (stepped_wide g c at first t)
 

@@ -3,6 +3,8 @@
 
 mod board;
 mod machine;
+#[cfg(test)]
+mod tests;
 mod told;
 
 pub use board::Board;

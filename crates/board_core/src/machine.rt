@@ -126,7 +126,8 @@ impl Machine {
         let mut processor = cpu(&self.kernel, task);
         match exec(&mut processor, insn, self) {
             Outcome::Next => {
-                self.kernel.set_processor(task, processor.regs.words(), processor.flags);
+                self.kernel
+                    .set_processor(task, processor.regs.words(), processor.flags);
             }
             Outcome::Call => {
                 self.kernel.note_call(task);

@@ -47,12 +47,13 @@ lowest_none g s = record { least = λ j p below e. absurd (omega arith); there =
 pub lowest_more : (g : Setup) (s : State) (i : ℕ) (best rank : Option ℕ) → IsLowest g s i best → rank ≡ rank_of g s i → IsLowest g s (i + 1) (lower_of best rank)
 lowest_more g s i best rank h e = record {
   least = λ j p below is. elim (cases_lt j i) [
-      inl lt ↦ at_most_best p best rank (h.least j p lt is)
-    | inr ge ↦ let same : j ≡ i = omega arith in let r : rank ≡ Some p = e ∙ sym (ap (rank_of g s) same) ∙ is in rw r (at_most_rank p best) ];
+    | inl lt ↦ at_most_best p best rank (h.least j p lt is)
+    | inr ge ↦ let same : j ≡ i = omega arith in let r : rank ≡ Some p = e ∙ sym (ap (rank_of g s) same) ∙ is in rw r (at_most_rank p best)
+  ];
   there = one_of_two _ best rank
-    (weaker best _ _ (λ p w. (w.0, omega (arith, w.1), w.2)) h.there)
-    (if_self rank _ (λ p is. (i, omega arith, sym e ∙ is)));
-  }
+      (weaker best _ _ (λ p w. (w.0, omega (arith, w.1), w.2)) h.there)
+      (if_self rank _ (λ p is. (i, omega arith, sym e ∙ is)));
+}
 
 -- ## a search in the order
 
@@ -81,9 +82,9 @@ all_at p from (suc n) i h a b =
     let both = both_true (p from) (list_all p (range_with_len (from + 1) n)) h in
     elim (cases_lt from i) [ inl lt ↦ all_at p (from + 1) n i both.1 (omega arith) (omega arith) | inr ge ↦ let same : i ≡ from = omega arith in rw same both.0 ]
   where
-  both_true : (a b : Bool) → (a && b) ≡ true → (a ≡ true) × (b ≡ true)
-  both_true true b h = (refl, h)
-  both_true false b h = absurd (false≢true h)
+    both_true : (a b : Bool) → (a && b) ≡ true → (a ≡ true) × (b ≡ true)
+    both_true true b h = (refl, h)
+    both_true false b h = absurd (false≢true h)
 
 all_by : (p : ℕ → Bool) (from n : ℕ) → ((i : ℕ) → from ≤ i → i < from + n → p i ≡ true) → list_all p (range_with_len from n) ≡ true
 all_by p from zero h = refl
@@ -126,23 +127,24 @@ pass false x y h = refl
 qualifies_is : (g : Setup) (s : State) (p i : ℕ) → IsLowest g s (length s.tasks) (Some p) → i < length s.tasks → qualifies g s i ≡ has_rank g s p i
 qualifies_is g s p i low below = bool_same (qualifies g s i) (has_rank g s p i) there back
   where
-  there : qualifies g s i ≡ true → has_rank g s p i ≡ true
-  there q =
-      let both = both_true (is_ready s i) (list_all (λ j. not (is_ready s j) || leb (priority g i) (priority g j)) (range_with_len 0 (length s.tasks))) q in
-      let j = low.there.0 in
-      let at_j = rank_is g s j p low.there.2 in
-      let least = low.least i (priority g i) below (rank_ready g s i both.0) in
-      let most = passes (is_ready s j) (priority g i) (priority g j) (all_at _ 0 (length s.tasks) j both.1 (omega arith) (omega (arith, low.there.1))) at_j.0 in
-      let same : priority g i ≡ p = omega (arith, least, most, at_j.1) in
-      rw (rank_ready g s i both.0) (eq-eqb _ _ same)
-    where
-    both_true : (a b : Bool) → (a && b) ≡ true → (a ≡ true) × (b ≡ true)
-    both_true true b h = (refl, h)
-    both_true false b h = absurd (false≢true h)
-  back : has_rank g s p i ≡ true → qualifies g s i ≡ true
-  back r =
-      let mine = rank_is g s i p (rank_true p _ r) in
-      and_true _ _ mine.0 (all_by _ 0 (length s.tasks) (λ j a b. pass (is_ready s j) (priority g i) (priority g j) (λ t. omega (arith, mine.1, low.least j (priority g j) (omega arith) (rank_ready g s j t)))))
+    there : qualifies g s i ≡ true → has_rank g s p i ≡ true
+    there q =
+        let both = both_true (is_ready s i) (list_all (λ j. not (is_ready s j) || leb (priority g i) (priority g j)) (range_with_len 0 (length s.tasks))) q in
+        let j = low.there.0 in
+        let at_j = rank_is g s j p low.there.2 in
+        let least = low.least i (priority g i) below (rank_ready g s i both.0) in
+        let most = passes (is_ready s j) (priority g i) (priority g j) (all_at _ 0 (length s.tasks) j both.1 (omega arith) (omega (arith, low.there.1))) at_j.0 in
+        let same : priority g i ≡ p = omega (arith, least, most, at_j.1) in
+        rw (rank_ready g s i both.0) (eq-eqb _ _ same)
+      where
+        both_true : (a b : Bool) → (a && b) ≡ true → (a ≡ true) × (b ≡ true)
+        both_true true b h = (refl, h)
+        both_true false b h = absurd (false≢true h)
+
+    back : has_rank g s p i ≡ true → qualifies g s i ≡ true
+    back r =
+        let mine = rank_is g s i p (rank_true p _ r) in
+        and_true _ _ mine.0 (all_by _ 0 (length s.tasks) (λ j a b. pass (is_ready s j) (priority g i) (priority g j) (λ t. omega (arith, mine.1, low.least j (priority g j) (omega arith) (rank_ready g s j t)))))
 
 pub chosen_some : (g : Setup) (s : State) (p : ℕ) → IsLowest g s (length s.tasks) (Some p) → s.current < length s.tasks → chosen g s ≡ or_else (find (has_rank g s p) (range_with_len s.current (length s.tasks - s.current))) (find (has_rank g s p) (range_with_len 0 s.current))
 unfolding chosen
@@ -158,8 +160,9 @@ find_nothing p from (suc n) h = let here : p from ≡ false = h from (omega arit
 none_qualifies : (g : Setup) (s : State) (i : ℕ) → IsLowest g s (length s.tasks) None → i < length s.tasks → qualifies g s i ≡ false
 none_qualifies g s i low below =
     elim (bool_cases (is_ready s i)) [
-      inl t ↦ absurd (low.least i (priority g i) below (rank_ready g s i t))
-    | inr f ↦ rw f ]
+      | inl t ↦ absurd (low.least i (priority g i) below (rank_ready g s i t))
+      | inr f ↦ rw f
+    ]
 
 pub chosen_none : (g : Setup) (s : State) → IsLowest g s (length s.tasks) None → s.current < length s.tasks → chosen g s ≡ None
 unfolding chosen

@@ -6,7 +6,6 @@ ghost use Rattle.std.specs.List.{range_with_len};
 ghost use Rattle.task_table.specs.State.{Setup, Turn};
 ghost use Rattle.task_table.specs.Reading.{chosen};
 ghost use Rattle.task_table.specs.Holds.{Holds, Stands, Stood, task_count};
-
 ghost use Rattle.dispatch.specs.Lowest.{IsLowest, has_rank, lower_of, rank_of};
 
 use task_table::Kernel;
@@ -22,8 +21,8 @@ fn lower(best: Option<u8>, rank: Option<u8>) -> Option<u8>
     }
 }
 
-#[tactic(auto, unfolding(crate::specs::Lowest::rank_of))]
 /// The priority number of a task that is ready.
+#[tactic(auto, unfolding(crate::specs::Lowest::rank_of))]
 fn rank(k: &Kernel, task: usize) -> Option<u8>
     requires { task < task_count k.now }
     ensures { (g : Setup) (t : Turn) → Holds g k.now t → result ≡ rank_of g t.state task }

@@ -7,8 +7,8 @@ pub returns-then-not-may : goal.returns-then-not-may
 returns-then-not-may c =
     let test : ℕ → Bool = λ a. not (may_use c.args.regions.now c.args.right a) in
     sym (find_range_some test c.args.addr c.args.n (c.args.addr + c.loop-k.k) (omega arith) (omega arith)
-      (λ a from below. ap not (c.loop-k.invariant a from below))
-      (ap not (sym c.may.ensures ∙ c.if-not-may.true)))
+    (λ a from below. ap not (c.loop-k.invariant a from below))
+    (ap not (sym c.may.ensures ∙ c.if-not-may.true)))
 
 pub returns : goal.returns
 returns c =

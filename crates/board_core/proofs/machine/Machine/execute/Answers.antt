@@ -32,7 +32,7 @@ returns-in-Next c = λ g t r.
     let idle = puts_idle w.stores t t.state.current (ready_idle t.state t.state.current r.ready) in
     let Idle : ℕ → Type 0 = λ i. IsIdle (fold put t w.stores).state i in
     next_holds g t c.set_processor.new.self _ _ w.processor _ w.stores _ (sym here ∙ w.is) w.after task c.words.ensures
-      (c.set_processor.ensures.holds g (fold put t w.stores) (stores_hold w.stores _ _ w.bus g t h) (subst Idle (sym task) idle))
+    (c.set_processor.ensures.holds g (fold put t w.stores) (stores_hold w.stores _ _ w.bus g t h) (subst Idle (sym task) idle))
 
 pub returns-in-Call : goal.returns-in-Call
 returns-in-Call c = λ g t r.

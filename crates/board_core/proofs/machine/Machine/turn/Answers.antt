@@ -34,11 +34,14 @@ step-requires-clause-ready c =
     let t = c.requires.1 in
     let s = begun_stands g c.clear_notes.new.self t (c.clear_notes.ensures.holds g t c.requires.2.holds) c.requires.2.sane in
     let is = chosen_is (begun t.state).state c.in-Some.task s.sane (sym (c.choose.ensures g (begun t.state) s) ∙ c.in-Some.is) in
-    let u : Turn = record (begun t.state) { state = record (begun t.state).state { current = c.in-Some.task } } in
-    (g, u, record {
-      stands = record { holds = c.set_current.ensures.holds g (begun t.state) s.holds; sane = sane-current c.in-Some.task (begun t.state) s.sane is.inside };
-      ready = as_current c.in-Some.task c.in-Some.task (begun t.state).state is.ready;
-    })
+    let u : Turn = record (begun t.state) { state = record (begun t.state).state { current = c.in-Some.task } } in (
+      g,
+      u,
+      record {
+        stands = record { holds = c.set_current.ensures.holds g (begun t.state) s.holds; sane = sane-current c.in-Some.task (begun t.state) s.sane is.inside };
+        ready = as_current c.in-Some.task c.in-Some.task (begun t.state).state is.ready;
+      },
+    )
 
 pub overflow_cast-result : goal.overflow_cast-result
 overflow_cast-result c =
