@@ -1,9 +1,8 @@
 -- A turn changes neither the time nor the next call's number.
-use Rattle.std.proofs.Common.{◌≡◌, ◌+◌, ◌*◌, ◌%◌, ◌^◌, ◌≤◌, ℕ, Bool, true, false, cond, not, ◌&&◌, List, [], ◌∷◌, length, Option, Some, None, refl, sym, ◌∙◌, ap, arith, eqb, leb}
+use Rattle.std.proofs.Common.{◌≡◌, ◌+◌, ◌%◌, ◌^◌, ℕ, Bool, true, false, cond, not, List, [], ◌∷◌, Option, Some, None, refl, ◌∙◌, ap, arith, eqb}
 use Rattle.std.specs.Prelude.{fold}
 use Rattle.kernel_abi.specs.declared.Fault.{Fault}
 use Rattle.words_core.specs.declared.Flags.{Flags}
-use Rattle.thumb_insn.specs.declared.Insn.{Insn}
 use Rattle.thumb_insn.specs.declared.Decoded.{Decoded}
 use Rattle.thumb_insn.specs.declared.Decoded.TheVariants.{Narrow, Wide, Illegal, NeedsSecond}
 use Rattle.thumb_insn.specs.Table.{decoded_of, is_wide}
@@ -16,7 +15,7 @@ use Rattle.task_table.specs.Rows.{called, call_noted, panicked}
 use Rattle.task_table.specs.Start.{begun}
 use Rattle.task_table.specs.Sane.{IsCounted}
 use Rattle.board_core.specs.Script.{Scenario}
-use Rattle.board_core.specs.Turn.{refusals, cpu_of, bytes_of, put, acted, executed, decoded_as, is_text, stepped, turn_of, ended, turn}
+use Rattle.board_core.specs.Turn.{refusals, cpu_of, bytes_of, put, acted, decoded_as, is_text, stepped, turn_of, ended, turn}
 
 abbrev pub counts : State → ℕ × ℕ × ℕ
 counts s = (s.now, s.next_call, s.turn)

@@ -1,10 +1,9 @@
 -- The tests for the end of a run.
-use Rattle.std.proofs.Common.{◌≡◌, ◌<◌, ℕ, zero, suc, Bool, true, false, cond, not, ◌&&◌, Option, refl, sym, ◌∙◌, ap, arith, eqb}
+use Rattle.std.proofs.Common.{◌≡◌, ◌<◌, ℕ, Bool, true, false, not, ◌&&◌, refl, sym, ◌∙◌, ap, arith, eqb}
 use Rattle.std.specs.Prelude.{is_none}
 use Rattle.std.proofs.lemmas.Bool.Decides.{nat_tests}
 use Rattle.task_table.specs.State.{State}
 use Rattle.task_table.specs.Reading.{chosen}
-use Rattle.board_core.specs.declared.told.End.{End}
 use Rattle.board_core.specs.Script.{Scenario, Script, Empty, lasts}
 use Rattle.board_core.specs.Run.{ending, end_by, is_down, is_still}
 use Rattle.board_core.specs.Told.{end_in, end_at}

@@ -1,6 +1,6 @@
 -- An instruction keeps PC even and SP aligned.
-use Rattle.std.proofs.Common.{◌≡◌, ◌≢◌, ◌+◌, ◌-◌, ◌*◌, ◌/◌, ◌%◌, ◌^◌, ◌<◌, ◌≤◌, ◌⊎◌, inl, inr, ℕ, zero, suc, Bool, true, false, cond, List, [], ◌∷◌, length, Option, Some, None, refl, sym, ap, arith, get_or, set, length-set, get_or-set_same, get_or-set_other}
-use Rattle.std.specs.Prelude.{Contains, ℤ}
+use Rattle.std.proofs.Common.{◌≡◌, ◌≢◌, ◌+◌, ◌-◌, ◌*◌, ◌/◌, ◌%◌, ◌^◌, ◌<◌, ◌⊎◌, inl, inr, ℕ, zero, suc, Bool, true, false, cond, List, [], ◌∷◌, length, Option, Some, None, refl, sym, ap, arith, get_or, length-set, get_or-set_same, get_or-set_other}
+use Rattle.std.specs.Prelude.{Contains}
 use Rattle.std.specs.Prelude.{nat_eq}
 use Rattle.std.proofs.Common.{◌∙◌}
 use Rattle.std.proofs.lemmas.Bool.{eq-eqb, eqb-true, false≢true}
@@ -21,8 +21,8 @@ use Rattle.thumb_insn.specs.declared.Size.TheVariants as size
 use Rattle.thumb_insn.specs.declared.Load.{Load}
 use Rattle.thumb_insn.specs.declared.Load.TheVariants as load
 use Rattle.thumb_exec.specs.declared.cpu.Cpu.{Cpu}
-use Rattle.thumb_exec.specs.Effect.{Effect, Next, Call, Trap, Store, Refusals, Contents, put, with_flags, advance, result, tested, data_effect, load_effect, store_effect, size_of, load_size, widened, unless_unaligned, unless_refused, get, jump, branch_to, place, linked, link_to, pc, effect, sum, operand, target, word_of, holds_if, store_all, load_all, stores_of, transfers, loaded_all, first_refused, with_bit, lowered, count, words, with_regs, ldm_next, pop_next}
-use Rattle.board_core.proofs.Whole.{IsWholeCpu, IsPermitted, Keeps}
+use Rattle.thumb_exec.specs.Effect.{Effect, Next, Trap, Store, Refusals, Contents, put, with_flags, advance, result, tested, data_effect, load_effect, store_effect, size_of, load_size, widened, unless_unaligned, unless_refused, get, jump, branch_to, place, linked, link_to, pc, effect, sum, operand, target, word_of, holds_if, store_all, load_all, stores_of, transfers, loaded_all, first_refused, with_bit, lowered, count, words, with_regs, ldm_next, pop_next}
+use Rattle.board_core.proofs.Whole.{IsWholeCpu, Keeps}
 
 -- each store of several words is of four bytes
 stores_four : (rs : Regs) (ws : List (ℕ × ℕ)) (x : Store) → Contains (stores_of rs ws) x → x.bytes ≡ 4

@@ -1,9 +1,9 @@
 -- The setup of a sound image is sound.
-use Rattle.std.proofs.Common.{◌≡◌, ◌+◌, ◌%◌, ◌<◌, ◌≤◌, ◌⊎◌, inl, inr, ℕ, zero, suc, false, true, List, [], ◌∷◌, length, map, replicate, get_or, refl, sym, ◌∙◌, ap, arith}
+use Rattle.std.proofs.Common.{◌≡◌, ◌<◌, inl, inr, ℕ, zero, suc, List, [], ◌∷◌, length, map, replicate, get_or, refl, ◌∙◌, ap, arith}
 use Rattle.std.specs.Prelude.{Contains}
 use Rattle.std.proofs.lemmas.List.{length-map, length-replicate}
 use Rattle.region_check.specs.declared.Region.{Region}
-use Rattle.image_format.specs.Picture.{Picture, TaskPicture, LinePicture, no_task, no_line, task_in, line_in, regions_in}
+use Rattle.image_format.specs.Picture.{Picture, TaskPicture, LinePicture, no_task, no_line, task_in, regions_in}
 use Rattle.image_format.specs.Facts.{Facts}
 use Rattle.task_table.specs.Memory.{Memory}
 use Rattle.task_table.specs.State.{Setup, TaskSetup, LineSetup}

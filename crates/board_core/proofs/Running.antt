@@ -1,5 +1,5 @@
 -- What the executor says over the bus is the turn's instruction.
-use Rattle.std.proofs.Common.{◌≡◌, ◌+◌, ◌<◌, ◌≤◌, ℕ, Bool, true, false, cond, not, List, [], ◌∷◌, length, ◌&&◌, Option, Some, None, is_none, refl, sym, subst, ◌∙◌, ap}
+use Rattle.std.proofs.Common.{◌≡◌, ◌≤◌, ℕ, Bool, true, false, cond, not, List, [], ◌∷◌, ◌&&◌, Option, Some, None, is_none, refl, sym, subst, ◌∙◌, ap}
 use Rattle.std.specs.Prelude.{fold}
 use Rattle.std.proofs.lemmas.Bool.{false≢true}
 use Rattle.kernel_abi.specs.declared.Fault.{Fault}
@@ -24,7 +24,6 @@ use Rattle.task_table.proofs.Steps.{holds_turn}
 use Rattle.board_core.specs.declared.machine.Machine.{Machine}
 use Rattle.board_core.specs.Turn.{refusals, cpu_of, bytes_of, put, acted, is_text, decoded_as, stepped, stepped_wide}
 use Rattle.board_core.specs.Machine.{IsStored, IsReady}
-use Rattle.board_core.proofs.Whole.{Keeps}
 use Rattle.board_core.proofs.TableKeeps.{keeps_coded}
 use Rattle.board_core.proofs.TurnKeeps.{whole_cpu}
 

@@ -1,36 +1,24 @@
 -- What the table says of fields that reach SP or PC.
-use Rattle.std.specs.Prelude.{◌≡◌, ◌<◌, ◌≤◌, ◌⊎◌, ℕ, ◌+◌, ◌-◌, ◌*◌, ◌/◌, ◌%◌, ◌^◌, Bool, true, false, ℤ, pos, negsuc, nat_eq, nat_lt, nat_le, if◌then◌else◌, List, [], ◌∷◌, get_or, bit_and, Option, Some, None, ◌&&◌, ◌||◌, not}
-use Rattle.thumb_insn.specs.Fields.{field, reg, low_reg, any_reg, split_reg, signed_field, double, count, only_if}
-use Rattle.thumb_insn.specs.declared.Reg.{Reg}
-use Rattle.thumb_insn.specs.declared.Cond.{Cond}
+use Rattle.std.specs.Prelude.{◌≡◌, ◌<◌, ◌⊎◌, ℕ, ◌+◌, ◌-◌, ◌*◌, ◌/◌, ◌%◌, ◌^◌, Bool, true, false, ℤ, pos, negsuc, nat_eq, if◌then◌else◌, Option, Some, None, ◌||◌, not}
+use Rattle.thumb_insn.specs.Fields.{field, low_reg, signed_field, double}
 use Rattle.thumb_insn.specs.declared.Cond.TheVariants as cond
-use Rattle.thumb_insn.specs.declared.Shift.TheVariants as shift
-use Rattle.thumb_insn.specs.declared.Op.{Op}
-use Rattle.thumb_insn.specs.declared.Op.TheVariants as op
-use Rattle.thumb_insn.specs.declared.Size.TheVariants as size
-use Rattle.thumb_insn.specs.declared.Load.TheVariants as load
-use Rattle.thumb_insn.specs.declared.Bytes.TheVariants as bytes
 use Rattle.thumb_insn.specs.declared.Insn.{Insn}
 use Rattle.thumb_insn.specs.declared.Insn.TheVariants.{ShiftImm, AddsReg, SubsReg, AddsImm3, SubsImm3, MovsImm, CmpImm, AddsImm8, SubsImm8, Data, AddHigh, CmpHigh, MovHigh, Bx, Blx, LdrLiteral, StoreReg, LoadReg, StoreImm, LoadImm, StoreSp, LoadSp, Adr, AddSp, RaiseSp, LowerSp, Change, Push, Pop, Cpsie, Cpsid, Bkpt, Hint, Stm, Ldm, BranchIf, Svc, Branch, Bl, Fence, Mrs, Msr}
-use Rattle.thumb_insn.specs.declared.Barrier.TheVariants as barrier
-use Rattle.thumb_insn.specs.declared.Decoded.{Decoded}
 use Rattle.thumb_insn.specs.declared.Decoded.TheVariants as decoded
 use Rattle.std.proofs.lemmas.Bool.{false≢true, eq-eqb}
 use Rattle.std.proofs.Common.{arith, refl, ap, sym, subst, ◌∙◌}
-use Rattle.std.proofs.lemmas.Bool.Decides.{nat_tests}
 use Rattle.std.proofs.lemmas.Nat.{mod_below}
-use Rattle.thumb_insn.proofs.Apart.{eq_of}
-use Rattle.thumb_insn.specs.Table.{Row, rows, wide_rows, matches, find_row, narrow_of, wide_of, is_later, long_offset}
-use Rattle.thumb_insn.specs.Range.{InRange, IsCoded, IsCode, insn_of}
+use Rattle.thumb_insn.specs.Table.{rows, wide_rows, narrow_of, wide_of}
+use Rattle.thumb_insn.specs.Range.{InRange, IsCoded}
 use Rattle.thumb_insn.specs.declared.Code.TheVariants.{One, Two}
-use Rattle.thumb_insn.proofs.InRange.{AllRows, any_row, AllWide, any_wide, inner, only, coded_in_range, narrow_in_range}
+use Rattle.thumb_insn.proofs.InRange.{AllRows, any_row, any_wide, inner, only, coded_in_range, narrow_in_range}
 use Rattle.std.specs.Prelude.{IfSome}
 use Rattle.std.proofs.Common.{inl, inr}
 use Rattle.thumb_exec.specs.Effect.{word_of, Refusals, Contents, effect}
 use Rattle.thumb_exec.specs.declared.cpu.Cpu.{Cpu}
 use Rattle.board_core.proofs.InsnKeeps.{IsEven, IsPlain, keeps_effect, low_plain, IsOneWord}
 use Rattle.board_core.proofs.Whole.{IsWholeCpu, Keeps, Effects}
-use Rattle.thumb_insn.specs.Table.{decoded_of, with_second, wide_result, narrow_result, is_wide}
+use Rattle.thumb_insn.specs.Table.{with_second, wide_result, narrow_result, is_wide}
 
 -- what is not said by InRange
 abbrev pub IsExtra : Insn → Type 0

@@ -1,6 +1,6 @@
 -- A turn keeps a state sane.
-use Rattle.std.proofs.Common.{◌≡◌, ◌+◌, ◌-◌, ◌*◌, ◌/◌, ◌%◌, ◌^◌, ◌<◌, ◌≤◌, ◌⊎◌, inl, inr, ℕ, zero, suc, Bool, true, false, cond, not, ◌&&◌, List, [], ◌∷◌, ◌++◌, length, take, drop, Option, Some, None, refl, sym, ◌∙◌, ap, arith, leb, IfSome}
-use Rattle.std.specs.Prelude.{Contains, find, fold, slice_index}
+use Rattle.std.proofs.Common.{◌≡◌, ◌+◌, ◌-◌, ◌/◌, ◌%◌, ◌^◌, ◌<◌, ◌≤◌, ◌⊎◌, inl, inr, ℕ, zero, suc, Bool, true, false, cond, not, ◌&&◌, List, [], ◌∷◌, length, take, drop, Option, Some, None, refl, sym, ◌∙◌, ap, arith, leb, IfSome}
+use Rattle.std.specs.Prelude.{Contains, find, fold}
 use Rattle.std.specs.List.{range_with_len}
 use Rattle.std.proofs.lemmas.List.Elements.{Contains-append_cases}
 use Rattle.std.proofs.lemmas.Bool.{leb-true}
@@ -8,8 +8,7 @@ use Rattle.thumb_insn.specs.declared.Insn.{Insn}
 use Rattle.thumb_insn.specs.declared.Decoded.{Decoded}
 use Rattle.thumb_insn.specs.declared.Decoded.TheVariants.{Narrow, Wide, Illegal, NeedsSecond}
 use Rattle.thumb_insn.specs.Table.{decoded_of, is_wide}
-use Rattle.thumb_exec.specs.declared.cpu.Cpu.{Cpu}
-use Rattle.thumb_exec.specs.Effect.{Effect, Next, Call, Trap, Store, Refusals, Contents, effect}
+use Rattle.thumb_exec.specs.Effect.{Effect, Next, Call, Trap, Store, Refusals, effect}
 use Rattle.task_table.specs.Memory.{Memory, number_at, number_of, bytes_at, is_ram}
 use Rattle.task_table.specs.State.{Setup, State, Own, Turn}
 use Rattle.task_table.specs.Reading.{task_at, register, call_of, listen_of, chosen, qualifies, around, is_ready}
@@ -19,7 +18,7 @@ use Rattle.task_table.specs.Start.{begun}
 use Rattle.task_table.specs.Sane.{Sane, AreAllBytes}
 use Rattle.task_table.proofs.Sanity.{sane-processor, sane-stored, sane-current, sane-turn, sane-faulted, sane-call_noted, sane-called}
 use Rattle.board_core.specs.Script.{Scenario}
-use Rattle.board_core.specs.Turn.{refusals, cpu_of, bytes_of, put, acted, executed, decoded_as, is_text, stepped, turn_of, ended, turn}
+use Rattle.board_core.specs.Turn.{refusals, cpu_of, bytes_of, put, acted, decoded_as, is_text, stepped, turn_of, ended, turn}
 use Rattle.board_core.proofs.Whole.{IsWholeCpu, IsPermitted, Keeps, Effects}
 use Rattle.board_core.proofs.TableKeeps.{effects}
 

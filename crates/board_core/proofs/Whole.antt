@@ -1,5 +1,5 @@
 -- What every instruction keeps of a processor, and what it may store.
-use Rattle.std.specs.Prelude.{ℕ, ◌≡◌, ◌%◌, ◌≤◌, ◌<◌, ◌⊎◌, List, length, Contains, Option, IfSome, slice_index}
+use Rattle.std.specs.Prelude.{ℕ, ◌≡◌, ◌%◌, ◌<◌, ◌⊎◌, length, Contains, Option, IfSome, slice_index}
 use Rattle.thumb_insn.specs.declared.Insn.{Insn}
 use Rattle.thumb_insn.specs.declared.Decoded.TheVariants.{Narrow, Wide}
 use Rattle.thumb_insn.specs.Table.{decoded_of}

@@ -1,5 +1,5 @@
 -- What an image fixes for ever, and the run over it.
-use Rattle.std.specs.Prelude.{ℕ, map}
+use Rattle.std.specs.Prelude.{map}
 use Rattle.image_format.specs.Picture.{Picture, TaskPicture, LinePicture}
 use Rattle.task_table.specs.State.{Setup, TaskSetup, LineSetup}
 use Rattle.board_core.specs.Script.{Scenario, Empty}

@@ -1,7 +1,6 @@
 -- One turn of the board: one instruction of the chosen task, or an idle turn.
-use Rattle.std.specs.Prelude.{ℕ, ◌+◌, ◌*◌, ◌/◌, ◌%◌, ◌^◌, Bool, ◌&&◌, not, List, [], ◌∷◌, length, Option, Some, None, find, fold, take, if◌then◌else◌, nat_le}
+use Rattle.std.specs.Prelude.{ℕ, ◌+◌, ◌/◌, ◌%◌, ◌^◌, Bool, ◌&&◌, not, List, [], ◌∷◌, Option, Some, None, find, fold, take, if◌then◌else◌}
 use Rattle.std.specs.List.{range_with_len}
-use Rattle.kernel_abi.specs.declared.Fault.{Fault}
 use Rattle.region_check.specs.declared.Right.{Right}
 use Rattle.region_check.specs.declared.Right.TheVariants.{Execute}
 use Rattle.region_check.specs.Rights.{may_use}

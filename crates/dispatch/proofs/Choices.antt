@@ -1,12 +1,12 @@
 -- The chosen task, by the lowest priority number.
-use Rattle.std.proofs.Common.{◌≡◌, ◌≢◌, ◌+◌, ◌-◌, ◌<◌, ◌≤◌, ◌⊎◌, inl, inr, ℕ, zero, suc, Bool, true, false, cond, not, ◌&&◌, ◌||◌, List, [], ◌∷◌, ◌++◌, length, Option, Some, None, refl, sym, ◌∙◌, ap, arith, eqb, leb, ltb}
-use Rattle.std.specs.Prelude.{find, IfSome, IsSomeAnd, Contains}
+use Rattle.std.proofs.Common.{◌≡◌, ◌+◌, ◌-◌, ◌<◌, ◌≤◌, ◌⊎◌, inl, inr, ℕ, zero, suc, Bool, true, false, cond, not, ◌&&◌, ◌||◌, List, [], ◌∷◌, ◌++◌, length, Option, Some, None, refl, sym, ◌∙◌, ap, arith, eqb, leb}
+use Rattle.std.specs.Prelude.{find, IfSome, IsSomeAnd}
 use Rattle.std.specs.List.{range_with_len, list_all}
 use Rattle.std.specs.Option.{option_eq}
 use Rattle.std.proofs.lemmas.Bool.{cases_lt, eqb-true, eq-eqb, leb-true, le-leb, false≢true}
-use Rattle.std.proofs.lemmas.Bool.Decides.{leb_tells, eqb_tells}
+use Rattle.std.proofs.lemmas.Bool.Decides.{leb_tells}
 use Rattle.task_table.specs.State.{Setup, State}
-use Rattle.task_table.specs.Reading.{is_ready, priority, qualifies, around, chosen}
+use Rattle.task_table.specs.Reading.{is_ready, priority, qualifies, chosen}
 use Rattle.dispatch.specs.Lowest.{IsLowest, has_rank, lower_of, is_rank, rank_of}
 
 no_some : {A P : Type 0} {a : A} → None ≡ Some a → P

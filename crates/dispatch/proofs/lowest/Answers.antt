@@ -1,5 +1,4 @@
-use Rattle.std.proofs.Common.{◌≡◌, ℕ, arith}
-use Rattle.dispatch.specs.Lowest.{IsLowest}
+use Rattle.std.proofs.Common.{◌≡◌, arith}
 use Rattle.dispatch.proofs.Choices as choices
 use Rattle.task_table.specs.Holds.{task_count}
 use Rattle.dispatch.proofs.lowest.Goals as goal

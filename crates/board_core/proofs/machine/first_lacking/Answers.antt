@@ -1,4 +1,4 @@
-use Rattle.std.proofs.Common.{◌≡◌, ◌+◌, ℕ, Bool, true, false, not, ap, sym, ◌∙◌, arith}
+use Rattle.std.proofs.Common.{◌+◌, ℕ, Bool, not, ap, sym, ◌∙◌, arith}
 use Rattle.region_check.specs.Rights.{may_use}
 use Rattle.region_check.proofs.FirstBad.{find_range_some, find_range_none}
 use Rattle.board_core.proofs.machine.first_lacking.Goals as goal

@@ -1,7 +1,6 @@
-use Rattle.std.proofs.Common.{◌≡◌, Bool, Option, sym, ◌∙◌, ap}
-use Rattle.std.specs.Prelude.{is_none}
-use Rattle.board_core.specs.Run.{is_down, is_still}
-use Rattle.board_core.specs.Told.{end_in, end_at}
+use Rattle.std.proofs.Common.{Bool, ◌∙◌, ap}
+use Rattle.board_core.specs.Run.{is_down}
+use Rattle.board_core.specs.Told.{end_in}
 use Rattle.board_core.proofs.Endings.{still_is, before_bound}
 use Rattle.board_core.proofs.board.Board.ended.Goals as goal
 

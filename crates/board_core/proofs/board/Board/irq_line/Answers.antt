@@ -1,4 +1,4 @@
-use Rattle.std.proofs.Common.{Bool, Option, sym, ◌∙◌, ap}
+use Rattle.std.proofs.Common.{Option, sym, ◌∙◌, ap}
 use Rattle.std.specs.Option.{option_map}
 use Rattle.task_table.specs.declared.Line.{Line}
 use Rattle.board_core.proofs.board.Board.irq_line.Goals as goal

@@ -1,4 +1,4 @@
-use Rattle.std.proofs.Common.{◌≡◌, ℕ, Option, sym, ◌∙◌, ap}
+use Rattle.std.proofs.Common.{ℕ, Option, sym, ◌∙◌, ap}
 use Rattle.std.specs.Prelude.{is_none}
 use Rattle.board_core.proofs.board.Board.is_idle.Goals as goal
 

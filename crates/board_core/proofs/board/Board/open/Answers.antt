@@ -1,5 +1,3 @@
-use Rattle.std.proofs.Common.{refl}
-use Rattle.task_table.specs.Start.{start, begun}
 use Rattle.task_table.proofs.Starts.{counted-start}
 use Rattle.board_core.specs.Opened.{setup_of}
 use Rattle.image_format.specs.Images.{picture}

@@ -1,7 +1,6 @@
-use Rattle.std.proofs.Common.{◌≡◌, ◌+◌, ℕ, List, [], sym, ◌∙◌, ap, arith}
-use Rattle.task_table.specs.State.{State, Turn}
+use Rattle.std.proofs.Common.{◌+◌, [], arith}
+use Rattle.task_table.specs.State.{Turn}
 use Rattle.task_table.specs.Reading.{chosen}
-use Rattle.task_table.specs.Holds.{Stands as KernelStands}
 use Rattle.task_table.specs.Start.{begun}
 use Rattle.board_core.specs.Turn.{turn, turned, ended, turn_of}
 use Rattle.board_core.proofs.Running.{between}

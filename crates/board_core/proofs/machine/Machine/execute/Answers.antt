@@ -1,14 +1,8 @@
-use Rattle.std.proofs.Common.{◌≡◌, ◌<◌, ℕ, List, sym, subst, ◌∙◌, ap, arith}
+use Rattle.std.proofs.Common.{ℕ, sym, subst, ◌∙◌, arith}
 use Rattle.std.specs.Prelude.{fold}
-use Rattle.words_core.specs.declared.Flags.{Flags}
-use Rattle.thumb_exec.specs.declared.cpu.Cpu.{Cpu}
-use Rattle.thumb_exec.specs.Effect.{Effect}
-use Rattle.task_table.specs.State.{Turn}
-use Rattle.task_table.specs.Effects.{with_processor, faulted}
-use Rattle.task_table.specs.Rows.{called, call_noted}
+use Rattle.task_table.specs.Rows.{call_noted}
 use Rattle.task_table.specs.Reading.{IsIdle}
-use Rattle.task_table.specs.Holds.{Holds, task_count}
-use Rattle.board_core.specs.Turn.{acted, put}
+use Rattle.board_core.specs.Turn.{put}
 use Rattle.board_core.proofs.Running.{stores_hold, stores_count, puts_idle, ready_idle, effect_here, was_next, was_call, was_trap, trap_known, next_holds, call_holds, trap_holds}
 use Rattle.board_core.proofs.machine.Machine.execute.Goals as goal
 

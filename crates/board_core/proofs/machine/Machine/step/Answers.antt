@@ -1,6 +1,5 @@
-use Rattle.std.proofs.Common.{◌≡◌, ℕ, sym, ◌∙◌, ap}
+use Rattle.std.proofs.Common.{ℕ, ◌∙◌, ap}
 use Rattle.std.proofs.lemmas.Bool.{le-leb, lt-leb}
-use Rattle.task_table.specs.State.{Turn}
 use Rattle.task_table.specs.Reading.{register}
 use Rattle.board_core.proofs.Running.{text_refused, narrow_acted, wide_stepped}
 use Rattle.board_core.proofs.machine.Machine.step.Goals as goal

@@ -1,10 +1,9 @@
-use Rattle.std.proofs.Common.{◌≡◌, ◌<◌, ℕ, Option, Some, None, sym, ◌∙◌, ap, arith, subst}
+use Rattle.std.proofs.Common.{◌≡◌, ℕ, Option, Some, None, sym, ◌∙◌, ap, arith, subst}
 use Rattle.task_table.specs.State.{State, Turn}
 use Rattle.task_table.specs.Reading.{chosen, register}
 use Rattle.task_table.specs.Start.{begun}
 use Rattle.task_table.specs.Holds.{Holds}
 use Rattle.task_table.proofs.Sanity.{sane-current}
-use Rattle.board_core.specs.declared.told.Turned.{Turned}
 use Rattle.board_core.specs.declared.told.Turned.TheVariants.{Ran}
 use Rattle.board_core.specs.Turn.{turn_of, turned_of}
 use Rattle.board_core.proofs.Running.{begun_stands, begun_state}
