@@ -1,5 +1,5 @@
 -- The text of an instruction, as the syntax column of the table of instructions in docs/FORMATS.md has it.
-use Rattle.std.specs.Prelude.{ℕ, zero, suc, ◌+◌, ◌*◌, ◌/◌, ◌%◌, ◌^◌, Bool, true, false, ℤ, nat_eq, nat_lt, if◌then◌else◌, List, [], ◌∷◌, ◌++◌, map, codes, decimal, Option, Some, None}
+use Rattle.std.specs.Prelude.{ℕ, zero, suc, ◌+◌, ◌*◌, ◌/◌, ◌%◌, ◌^◌, Bool, true, false, ℤ, nat_eq, nat_lt, if◌then◌else◌, List, [], ◌∷◌, ◌++◌, map, codes, decimal}
 use Rattle.std.specs.Int.{cast_unsigned, w32}
 use Rattle.thumb_insn.specs.Fields.{is_listed}
 use Rattle.thumb_insn.specs.declared.Reg.{Reg}
