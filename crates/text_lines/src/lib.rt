@@ -71,14 +71,14 @@ pub fn number(piece: &[u8], max: u64) -> Option<u64>
 
 /// The value of a piece of text that is one or more hexadecimal digits of either case, without
 /// `0x`, where it is below 2^32; otherwise `None`.
-pub fn hex_number(piece: &[u8]) -> Option<u32>
-    ensures { result ≡ hex_number_of piece.now }
+pub fn hex_number(digits: &[u8]) -> Option<u32>
+    ensures { result ≡ hex_number_of digits.now }
 {
-    if piece.is_empty() {
+    if digits.is_empty() {
         return None;
     }
     let mut value = 0u64;
-    for c in piece {
+    for c in digits {
         if !is_hex(*c) {
             return None;
         }
