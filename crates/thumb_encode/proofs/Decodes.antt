@@ -6,10 +6,11 @@ use Rattle.thumb_insn.specs.Table.{rows, wide_of, narrow_of, is_wide, decoded_of
 use Rattle.thumb_insn.specs.Range.{insn_of, IsCode}
 use Rattle.thumb_insn.specs.declared.Decoded.TheVariants as decoded
 use Rattle.thumb_insn.specs.declared.Insn.{Insn}
+use Rattle.thumb_insn.specs.declared.Insn.TheVariants.{Bl, Fence, Mrs, Msr}
 use Rattle.thumb_insn.specs.declared.Code.{Code}
 use Rattle.thumb_insn.specs.declared.Code.TheVariants.{One, Two}
 use Rattle.thumb_insn.proofs.Apart.{by_gap, eq_of}
-use Rattle.thumb_encode.specs.Codes.{fit_of, code_of, DecodesTo}
+use Rattle.thumb_encode.specs.Codes.{fit_of, code_of, DecodesTo, code_size, insn_size}
 use Rattle.thumb_encode.proofs.Again.{code_again}
 use Rattle.thumb_encode.proofs.Wide.{two_again}
 
@@ -83,3 +84,10 @@ narrow_again i h second f e = again i (One h) f (read_narrow (is_wide h) h secon
 
 pub wide_again : (i : Insn) (first second : ℕ) → first < 2 ^ 16 → second < 2 ^ 16 → decoded_of first (Some second) ≡ decoded.Wide i → (fit_of i ≡ None) × (code_of i ≡ Two first second)
 wide_again i first second f s e = again i (Two first second) (f, s) (read_wide (is_wide first) first second i e)
+
+pub sized : (i : Insn) → code_size (code_of i) ≡ insn_size i
+sized (Bl offset) = refl
+sized (Fence b i) = refl
+sized (Mrs d) = refl
+sized (Msr n) = refl
+sized i = refl

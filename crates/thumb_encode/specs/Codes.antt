@@ -1,5 +1,5 @@
 -- The table of instructions the other way: the code of an instruction, and why one has none (docs/FORMATS.md, the table and its ranges).
-use Rattle.std.specs.Prelude.{◌≡◌, ℕ, ◌+◌, ◌*◌, ◌/◌, ◌%◌, ◌^◌, ◌<◌, Bool, false, ℤ, pos, negsuc, nat_eq, nat_lt, nat_le, if◌then◌else◌, Option, Some, None, Result, Ok, ◌&&◌, ◌||◌, not}
+use Rattle.std.specs.Prelude.{◌≡◌, ℕ, ◌+◌, ◌*◌, ◌/◌, ◌%◌, ◌^◌, ◌<◌, Bool, true, false, ℤ, pos, negsuc, nat_eq, nat_lt, nat_le, if◌then◌else◌, Option, Some, None, Result, Ok, ◌&&◌, ◌||◌, not}
 use Rattle.std.specs.Int.{cast_unsigned, w32}
 use Rattle.thumb_encode.specs.declared.Fit.{Fit}
 use Rattle.thumb_encode.specs.declared.Fit.TheVariants.{Offset, Register, Align}
@@ -269,6 +269,23 @@ HasList (Pop list has_pc) = list < 256
 HasList (Stm n list) = list < 256
 HasList (Ldm n list) = list < 256
 HasList i = Unit {0}
+
+-- Sizes in bytes.
+
+-- an instruction of two halfwords
+abbrev pub has_wide : Insn → Bool
+has_wide (Bl offset) = true
+has_wide (Fence b i) = true
+has_wide (Mrs d) = true
+has_wide (Msr n) = true
+has_wide i = false
+
+abbrev pub insn_size : Insn → ℕ
+insn_size i = if has_wide i then 4 else 2
+
+abbrev pub code_size : Code → ℕ
+code_size (One h) = 2
+code_size (Two first second) = 4
 
 -- What the encoder's answer has to do with the table and the decoder.
 

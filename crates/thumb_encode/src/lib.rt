@@ -3,7 +3,7 @@
 #![tactic(auto)]
 
 ghost use Rattle.std.specs.Prelude.{◌≡◌, ◌<◌, ◌≤◌, ◌*◌, ◌/◌, ◌^◌, None, Some, pos, ◌<ℤ◌, ◌≤ℤ◌, nat_abs, IfOk, IfErr, OnOk};
-ghost use Rattle.thumb_encode.specs.Codes.{fit_of, is_high, low3, low2, half_offset, code_of, split, load_code, store_code, imm_code, bytes_code, shift_code, barrier_code, scale, long_first, long_second, HasList, DecodesTo, IsOnlyCode, UndoesNarrow, UndoesWide, misfit, is_no_register, outside, is_odd};
+ghost use Rattle.thumb_encode.specs.Codes.{fit_of, is_high, low3, low2, half_offset, code_of, split, load_code, store_code, imm_code, bytes_code, shift_code, barrier_code, scale, long_first, long_second, HasList, DecodesTo, IsOnlyCode, UndoesNarrow, UndoesWide, code_size, insn_size, misfit, is_no_register, outside, is_odd};
 ghost use Rattle.thumb_insn.specs.Range.{insn_of, IsCode};
 ghost use Rattle.thumb_insn.specs.Table.{is_later, branch_bit};
 
@@ -30,6 +30,7 @@ pub enum Fit {
 pub fn encode(insn: &Insn) -> Result<Code, Fit>
     ensures coded { IfOk result (λ c. insn_of c ≡ Some insn.now) }
     ensures halfwords { IfOk result IsCode }
+    ensures size { IfOk result (λ c. code_size c ≡ insn_size insn.now) }
     ensures only { IsOnlyCode insn.now result }
 
     ensures decoded { IfOk result (DecodesTo insn.now) }

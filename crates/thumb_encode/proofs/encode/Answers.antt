@@ -1,7 +1,8 @@
 use Rattle.std.proofs.Common.{ap, ◌∙◌, sym, Ok}
 use Rattle.thumb_insn.specs.Range.{insn_of}
 use Rattle.thumb_encode.proofs.Both.{code_back}
-use Rattle.thumb_encode.proofs.Decodes.{decodes, again, narrow_again, wide_again}
+use Rattle.thumb_encode.proofs.Decodes.{decodes, again, narrow_again, wide_again, sized}
+use Rattle.thumb_encode.specs.Codes.{code_size}
 use Rattle.thumb_encode.proofs.encode.Goals as goal
 
 pub returns-in-None-clause-coded : goal.returns-in-None-clause-coded
@@ -27,3 +28,6 @@ returns-in-None-clause-undoes_wide c = λ first second f s e. let w = wide_again
 
 pub returns-in-Some-clause-undoes_wide : goal.returns-in-Some-clause-undoes_wide
 returns-in-Some-clause-undoes_wide c = λ first second f s e. let w = wide_again c.args.insn.now first second f s e in let g = c.in-Some.ensures in absurd cc
+
+pub returns-in-None-clause-size : goal.returns-in-None-clause-size
+returns-in-None-clause-size c = ap code_size c.code.ensures.value ∙ sized c.args.insn.now
