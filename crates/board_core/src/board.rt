@@ -20,7 +20,7 @@ ghost use Rattle.board_core.specs.Machine.{IsStarted};
 
 use crate::machine::Machine;
 use crate::{End, TaskView, Turned};
-use dispatch::choose;
+use dispatch::is_idle;
 use image_format::Image;
 use kernel_abi::{Health, Note};
 use region_check::Region;
@@ -151,10 +151,7 @@ impl Board {
         requires { Stood self.now }
         ensures { (x : Scenario) (s : State) → Stands x self.now s → result ≡ is_none (chosen x.setup s) }
     {
-        match choose(&self.machine.kernel) {
-            Some(_) => false,
-            None => true,
-        }
+        is_idle(&self.machine.kernel)
     }
 
     /// The supervisor has faulted.

@@ -142,15 +142,15 @@ impl Machine {
 
 impl Machine {
     /// What was decoded at an address is carried out; what has no row in the table is Illegal.
-    fn act(&mut self, decoded: &Decoded, at: u32)
-        requires coded { GivesCoded decoded.now }
+    fn act(&mut self, decoded: Decoded, at: u32)
+        requires coded { GivesCoded decoded }
         requires ready { (g : Setup) × (t : Turn) × IsReady g self.old.kernel t }
         requires room { note_count self.old.kernel + 2 ≤ 1024 }
-        ensures { (g : Setup) (t : Turn) → IsReady g self.old.kernel t → Holds g self.new.kernel (decoded_as g t.state.current at decoded.now t) }
+        ensures { (g : Setup) (t : Turn) → IsReady g self.old.kernel t → Holds g self.new.kernel (decoded_as g t.state.current at decoded t) }
     {
         match decoded {
-            Decoded::Narrow(insn) => self.execute(insn),
-            Decoded::Wide(insn) => self.execute(insn),
+            Decoded::Narrow(insn) => self.execute(&insn),
+            Decoded::Wide(insn) => self.execute(&insn),
             Decoded::Illegal => self.fault(Fault::illegal(at)),
             Decoded::NeedsSecond => self.fault(Fault::illegal(at)),
         }
@@ -189,7 +189,7 @@ impl Machine {
         }
         let first = self.kernel.half(at);
         if first / 2048 < 29 {
-            self.act(&decode(first, None), at);
+            self.act(decode(first, None), at);
             return;
         }
         self.step_wide(first, at);
@@ -207,7 +207,7 @@ impl Machine {
             return;
         }
         let second = self.kernel.half(after);
-        self.act(&decode(first, Some(second)), at);
+        self.act(decode(first, Some(second)), at);
     }
 }
 
