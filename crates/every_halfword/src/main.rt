@@ -1,0 +1,87 @@
+//! Runs each of the 65,536 halfwords as the first instruction of an image, one turn each, and counts
+//! how the runs end. The numbers that it is to print come from a second, slow emulator that was
+//! written apart from this one.
+#![tactic(auto)]
+
+use outside_io::{MemFiles, MemSink};
+use std::alloc::{AllocError, Global};
+use std::io;
+use trace_cli::hubris_main;
+
+/// An image of one task (docs/FORMATS.md, Image), whose one region is 256 bytes of flash that it may
+/// read and execute: the halfword, then zeros.
+fn image(halfword: u16) -> [u8; 300] {
+    let head: [u8; 44] = [
+        0x48, 0x42, 0x49, 0x31, 1, 0, 1, 0, 0, 1, 0, 0, 0, 0, 0, 0, 1, 0, 0, 0, 0, 1, 1, 0, 1, 0,
+        0, 8, 0, 0, 0, 0x20, 0, 0, 0, 8, 0, 1, 0, 0, 5, 0, 0, 0,
+    ];
+    let mut bytes = [0u8; 300];
+    bytes[..44].copy_from_slice(&head);
+    bytes[44] = (halfword % 256) as u8;
+    bytes[45] = (halfword / 256) as u8;
+    bytes
+}
+
+/// How a run of one turn ends.
+#[derive(Clone, Copy, Debug, PartialEq, Eq)]
+enum Ending {
+    Bound,
+    Supervisor,
+}
+
+/// The ending that the status and the first line after the notes of turn 0 tell together.
+fn ending_of(status: u8, text: &str) -> Option<Ending> {
+    for line in text.lines() {
+        if line.starts_with("0 ") {
+            continue;
+        }
+        return match (status, line) {
+            (0, "end bound 1 0") => Some(Ending::Bound),
+            (6, "end supervisor 1 0") => Some(Ending::Supervisor),
+            _ => None,
+        };
+    }
+    None
+}
+
+fn words(alloc: Global) -> Result<Vec<String>, AllocError> {
+    let mut words = Vec::new(alloc);
+    for word in ["hubris", "run", "a.img", "e.txt", "--steps", "1"] {
+        words.push(String::from_str(alloc, word)?)?;
+    }
+    Ok(words)
+}
+
+/// The ending of the run of the halfword's image with the empty script, None where it tells none.
+fn run(alloc: Global, words: &[String], halfword: u16) -> Result<Option<Ending>, AllocError> {
+    let image = image(halfword);
+    let mut files = MemFiles::open(alloc, &[])?;
+    if !files.is_held("a.img") {
+        files.hold("a.img", &image, image.len())?;
+    }
+    if !files.is_held("e.txt") {
+        files.hold("e.txt", &[], 0)?;
+    }
+    let mut out = MemSink::open(alloc, 1000, &[])?;
+    let status = hubris_main(alloc, words, &mut files, &mut out);
+    match str::from_utf8(out.text()) {
+        Ok(text) => Ok(ending_of(status, text)),
+        Err(_) => Ok(None),
+    }
+}
+
+fn main(rt: HostRuntime) -> io::Result<()> {
+    let alloc = rt.alloc();
+    let words = words(alloc)?;
+    let (mut bound, mut supervisor) = (0_u64, 0_u64);
+    for halfword in 0..=u16::MAX {
+        match run(alloc, &words, halfword)? {
+            Some(Ending::Bound) => bound = bound.saturating_add(1),
+            Some(Ending::Supervisor) => supervisor = supervisor.saturating_add(1),
+            None => println!(rt; "neither: {halfword:04x}")?,
+        }
+    }
+    println!(rt; "bound {bound}")?;
+    println!(rt; "supervisor {supervisor}")?;
+    Ok(())
+}

@@ -1,0 +1,35 @@
+//! Runs two images that gcc compiled from C (data/crc32.c, data/bytecode.c) to the numbers of turns
+//! at which another emulator of the processor told the same registers.
+#![tactic(auto)]
+
+use outside_io::{HostFiles, HostSink};
+use std::alloc::{AllocError, Global};
+use std::io;
+use std::process::ExitCode;
+use trace_cli::hubris_main;
+
+// The words of a run of an image with the empty script.
+fn words(alloc: Global, image: &str, steps: &str) -> Result<Vec<String>, AllocError> {
+    let mut words = Vec::new(alloc);
+    for word in ["hubris", "run", image, "empty.txt", "--steps", steps] {
+        words.push(String::from_str(alloc, word)?)?;
+    }
+    Ok(words)
+}
+
+fn run(rt: &HostRuntime, image: &str, steps: &str) -> u8 {
+    let Ok(words) = words(rt.alloc(), image, steps) else {
+        return 5;
+    };
+    let mut out = HostSink::new(io::writer(rt));
+    let mut files = HostFiles::new(rt);
+    hubris_main(rt.alloc(), &words, &mut files, &mut out)
+}
+
+fn main(rt: HostRuntime) -> ExitCode {
+    let first = run(&rt, "crc32.img", "171158");
+    if first != 0 {
+        return ExitCode::from(first);
+    }
+    ExitCode::from(run(&rt, "bytecode.img", "463331"))
+}
