@@ -4,26 +4,43 @@ use std::alloc::{AllocError, Global};
 use std::process::Abort;
 use std::test::Fail;
 
-// An image of one task, with 256 bytes of flash that begin with these halfwords.
-fn image(alloc: Global, first: u16, second: u16) -> Result<Vec<u8>, AllocError> {
-    let head: [u8; 44] = [
-        0x48, 0x42, 0x49, 0x31, 1, 0, 1, 0, 0, 1, 0, 0, 0, 0, 0, 0, 1, 0, 0, 0, 0, 1, 1, 0, 1, 0,
-        0, 8, 0, 0, 0, 0x20, 0, 0, 0, 8, 0, 1, 0, 0, 5, 0, 0, 0,
-    ];
-    let mut bytes = head.to_vec(alloc)?;
-    bytes.push((first % 256) as u8)?;
-    bytes.push((first / 256) as u8)?;
-    bytes.push((second % 256) as u8)?;
-    bytes.push((second / 256) as u8)?;
-    for _ in 0..252 {
+// An image of one task with this stack pointer, which begins at a place of its 256 bytes of flash;
+// there stands this code, and zeros elsewhere. A stack pointer above the start of RAM comes with 256
+// bytes of RAM, which the task may read and write.
+fn image_at(alloc: Global, sp: u32, at: u8, code: &[u16]) -> Result<Vec<u8>, AllocError> {
+    let ram = u8::from(sp > 0x2000_0000);
+    let mut bytes = Vec::new(alloc);
+    bytes.extend_from_slice(b"HBI1")?;
+    bytes.extend_from_slice(&[1, 0, 1 + ram, 0])?;
+    bytes.extend_from_slice(&[0, 1, 0, 0, 0, ram, 0, 0])?;
+    bytes.extend_from_slice(&[1, 0, 0, 0, 0, 1, 1 + ram, 0])?;
+    bytes.extend_from_slice(&(0x0800_0001 + u32::from(at)).to_le_bytes())?;
+    bytes.extend_from_slice(&sp.to_le_bytes())?;
+    bytes.extend_from_slice(&[0, 0, 0, 8, 0, 1, 0, 0, 5, 0, 0, 0])?;
+    if ram == 1 {
+        bytes.extend_from_slice(&[0, 0, 0, 0x20, 0, 1, 0, 0, 3, 0, 0, 0])?;
+    }
+    let end = bytes.len() + 256;
+    for _ in 0..at {
+        bytes.push(0)?;
+    }
+    for halfword in code {
+        bytes.extend_from_slice(&halfword.to_le_bytes())?;
+    }
+    for _ in bytes.len()..end {
         bytes.push(0)?;
     }
     Ok(bytes)
 }
 
+// The same at the start of flash, with no RAM.
+fn image_of(alloc: Global, code: &[u16]) -> Result<Vec<u8>, AllocError> {
+    image_at(alloc, 0x2000_0000, 0, code)
+}
+
 // movs r0, #1; b to itself.
 fn looping(alloc: Global) -> Result<Vec<u8>, AllocError> {
-    image(alloc, 0x2001, 0xe7fe)
+    image_of(alloc, &[0x2001, 0xe7fe])
 }
 
 // What the program answers and writes, with an image and maybe a script, where these reads and
@@ -87,20 +104,192 @@ high 00000000 00000000 00000000 00000000 00000000 20000000 ffffffff 08000000 000
     Ok(())
 }
 
-// Flash `00de` and zeros.
+// The image's run with the empty script ends with this status and text.
+fn tells(
+    rt: &impl Abort,
+    alloc: Global,
+    image: &[u8],
+    steps: &str,
+    status: u8,
+    text: &str,
+) -> Result<(), AllocError> {
+    let words = ["hubris", "run", "a.img", "e.txt", "--steps", steps];
+    let (found, out) = main_of(alloc, &words, image, Some(&[]), &[], &[])?;
+    assert_eq!(rt; found, status, "{text}");
+    assert_eq!(rt; out.text(), text.as_bytes());
+    Ok(())
+}
+
+// subs r0, r1, r2: 0 minus 0, and 0 minus 1.
+#[test]
+fn subtractions_set_the_flags(rt: HostRuntime) -> Result<(), Fail> {
+    let alloc = rt.alloc();
+    let image = image_of(alloc, &[0x1a88])?;
+    let text = "end bound 1 0
+task 0 0 well - 00000000 -
+low 00000000 00000000 00000000 00000000 00000000 00000000 00000000 00000000
+high 00000000 00000000 00000000 00000000 00000000 20000000 ffffffff 08000002 0110
+";
+    tells(&rt, alloc, &image, "1", 0, text)?;
+    let image = image_of(alloc, &[0x2201, 0x1a88])?;
+    let text = "end bound 2 0
+task 0 0 well - 00000000 -
+low ffffffff 00000000 00000001 00000000 00000000 00000000 00000000 00000000
+high 00000000 00000000 00000000 00000000 00000000 20000000 ffffffff 08000004 1000
+";
+    tells(&rt, alloc, &image, "2", 0, text)?;
+    Ok(())
+}
+
+// movs r0, #1; lsls r0, r0, #31; adds r1, r0, r0, which overflows, or not; lsrs r0, r0, #32.
+#[test]
+fn a_shift_keeps_the_overflow(rt: HostRuntime) -> Result<(), Fail> {
+    let alloc = rt.alloc();
+    let image = image_of(alloc, &[0x2001, 0x07c0, 0x1801, 0x0800])?;
+    let text = "end bound 4 0
+task 0 0 well - 00000000 -
+low 00000000 00000000 00000000 00000000 00000000 00000000 00000000 00000000
+high 00000000 00000000 00000000 00000000 00000000 20000000 ffffffff 08000008 0111
+";
+    tells(&rt, alloc, &image, "4", 0, text)?;
+    let image = image_of(alloc, &[0x2001, 0x07c0, 0x0800])?;
+    let text = "end bound 3 0
+task 0 0 well - 00000000 -
+low 00000000 00000000 00000000 00000000 00000000 00000000 00000000 00000000
+high 00000000 00000000 00000000 00000000 00000000 20000000 ffffffff 08000006 0110
+";
+    tells(&rt, alloc, &image, "3", 0, text)?;
+    Ok(())
+}
+
+// movs r0, #1; lsls r0, r0, #31; subs r0, r0, #1; adcs r0, r1: 7fffffff and 0 with a carry.
+#[test]
+fn a_sum_with_carry_overflows(rt: HostRuntime) -> Result<(), Fail> {
+    let alloc = rt.alloc();
+    let image = image_of(alloc, &[0x2001, 0x07c0, 0x1e40, 0x4148])?;
+    let text = "end bound 4 0
+task 0 0 well - 00000000 -
+low 80000000 00000000 00000000 00000000 00000000 00000000 00000000 00000000
+high 00000000 00000000 00000000 00000000 00000000 20000000 ffffffff 08000008 1001
+";
+    tells(&rt, alloc, &image, "4", 0, text)?;
+    Ok(())
+}
+
+// 80000001 turned right by 32, and 80000000 shifted right by 40 with its sign.
+#[test]
+fn shifts_by_a_register_of_32_and_more(rt: HostRuntime) -> Result<(), Fail> {
+    let alloc = rt.alloc();
+    let image = image_of(alloc, &[0x2001, 0x07c0, 0x3001, 0x2120, 0x41c8])?;
+    let text = "end bound 5 0
+task 0 0 well - 00000000 -
+low 80000001 00000020 00000000 00000000 00000000 00000000 00000000 00000000
+high 00000000 00000000 00000000 00000000 00000000 20000000 ffffffff 0800000a 1010
+";
+    tells(&rt, alloc, &image, "5", 0, text)?;
+    let image = image_of(alloc, &[0x2001, 0x07c0, 0x2128, 0x4108])?;
+    let text = "end bound 4 0
+task 0 0 well - 00000000 -
+low ffffffff 00000028 00000000 00000000 00000000 00000000 00000000 00000000
+high 00000000 00000000 00000000 00000000 00000000 20000000 ffffffff 08000008 1010
+";
+    tells(&rt, alloc, &image, "4", 0, text)?;
+    Ok(())
+}
+
+// bl 0x08000100; then movs r0, #1; lsls r0, r0, #27; ldm r0!, {r1, r2}.
+#[test]
+fn a_call_and_a_load_of_two_registers(rt: HostRuntime) -> Result<(), Fail> {
+    let alloc = rt.alloc();
+    let image = image_of(alloc, &[0xf000, 0xf87e])?;
+    let text = "end bound 1 0
+task 0 0 well - 00000000 -
+low 00000000 00000000 00000000 00000000 00000000 00000000 00000000 00000000
+high 00000000 00000000 00000000 00000000 00000000 20000000 08000005 08000100 0000
+";
+    tells(&rt, alloc, &image, "1", 0, text)?;
+    let image = image_of(alloc, &[0x2001, 0x06c0, 0xc806])?;
+    let text = "end bound 3 0
+task 0 0 well - 00000000 -
+low 08000008 06c02001 0000c806 00000000 00000000 00000000 00000000 00000000
+high 00000000 00000000 00000000 00000000 00000000 20000000 ffffffff 08000006 0000
+";
+    tells(&rt, alloc, &image, "3", 0, text)?;
+    Ok(())
+}
+
 #[test]
 fn an_illegal_instruction_ends_the_run(rt: HostRuntime) -> Result<(), Fail> {
     let alloc = rt.alloc();
-    let image = image(alloc, 0xde00, 0)?;
-    let (status, out) = main_of(alloc, &RUN, &image, Some(&[]), &[], &[])?;
-    assert_eq!(rt; status, 6);
+    let image = image_of(alloc, &[0xde00])?;
     let text = "0 fault 0 1 08000000 00000000
 end supervisor 1 0
 task 0 0 faulted:1 - 00000000 -
 low 00000000 00000000 00000000 00000000 00000000 00000000 00000000 00000000
 high 00000000 00000000 00000000 00000000 00000000 20000000 ffffffff 08000000 0000
 ";
-    assert_eq!(rt; out.text(), text.as_bytes());
+    tells(&rt, alloc, &image, "3", 6, text)?;
+    Ok(())
+}
+
+// The first halfword of a long instruction, where the region ends.
+#[test]
+fn the_last_halfword_of_a_region_needs_a_second(rt: HostRuntime) -> Result<(), Fail> {
+    let alloc = rt.alloc();
+    let image = image_at(alloc, 0x2000_0000, 0xfe, &[0xf000])?;
+    let text = "0 fault 0 2 08000100 00000000
+end supervisor 1 0
+task 0 0 faulted:2 - 00000000 -
+low 00000000 00000000 00000000 00000000 00000000 00000000 00000000 00000000
+high 00000000 00000000 00000000 00000000 00000000 20000000 ffffffff 080000fe 0000
+";
+    tells(&rt, alloc, &image, "1", 6, text)?;
+    Ok(())
+}
+
+// push {r0, r1, r2}, two of which have room.
+#[test]
+fn a_push_below_the_ram_changes_nothing(rt: HostRuntime) -> Result<(), Fail> {
+    let alloc = rt.alloc();
+    let image = image_at(alloc, 0x2000_0008, 0, &[0xb407])?;
+    let text = "0 fault 0 3 1ffffffc 00000001
+end supervisor 1 0
+task 0 0 faulted:3 - 00000000 -
+low 00000000 00000000 00000000 00000000 00000000 00000000 00000000 00000000
+high 00000000 00000000 00000000 00000000 00000000 20000008 ffffffff 08000000 0000
+";
+    tells(&rt, alloc, &image, "1", 6, text)?;
+    Ok(())
+}
+
+// pop {pc} of the word 08000002, at 08000004.
+#[test]
+fn a_pop_of_an_even_place_changes_nothing(rt: HostRuntime) -> Result<(), Fail> {
+    let alloc = rt.alloc();
+    let image = image_at(alloc, 0x0800_0004, 0, &[0xbd00, 0x0000, 0x0002, 0x0800])?;
+    let text = "0 fault 0 5 08000002 00000000
+end supervisor 1 0
+task 0 0 faulted:5 - 00000000 -
+low 00000000 00000000 00000000 00000000 00000000 00000000 00000000 00000000
+high 00000000 00000000 00000000 00000000 00000000 08000004 ffffffff 08000000 0000
+";
+    tells(&rt, alloc, &image, "1", 6, text)?;
+    Ok(())
+}
+
+// movs r0, #8; mov r11, r0; svc #0.
+#[test]
+fn a_panic_ends_the_run(rt: HostRuntime) -> Result<(), Fail> {
+    let alloc = rt.alloc();
+    let image = image_of(alloc, &[0x2008, 0x4683, 0xdf00])?;
+    let text = "2 call 0 8 00000000 00000000 00000000 00000000 00000000 00000000 00000000
+2 fault 0 8 00000000 00000000
+end supervisor 3 0
+task 0 0 faulted:8 - 00000000 -
+low 00000008 00000000 00000000 00000000 00000000 00000000 00000000 00000000
+high 00000000 00000000 00000000 00000008 00000000 20000000 ffffffff 08000004 0000
+";
+    tells(&rt, alloc, &image, "10", 6, text)?;
     Ok(())
 }
 
@@ -138,8 +327,11 @@ fn files_that_are_refused(rt: HostRuntime) -> Result<(), Fail> {
     let mut cut = looping(alloc)?;
     cut.pop();
     let long = vec![in alloc; 0u8; 2_097_153]?;
-    refuses(&rt, alloc, &cut, &[], "refused a.img 3 0\n")?;
-    refuses(&rt, alloc, &[], b"x", "refused a.img 3 0\n")?;
+    let mut longer = looping(alloc)?;
+    longer.push(0)?;
+    refuses(&rt, alloc, &cut, &[], "refused a.img 1 299\n")?;
+    refuses(&rt, alloc, &longer, &[], "refused a.img 4 300\n")?;
+    refuses(&rt, alloc, &[], b"x", "refused a.img 1 0\n")?;
     refuses(&rt, alloc, &image, b"x", "refused e.txt 2 1\n")?;
     refuses(&rt, alloc, &long, b"x", "refused a.img 0 2097152\n")?;
     refuses(&rt, alloc, &image, &long, "refused e.txt 0 2097152\n")?;
