@@ -1,6 +1,6 @@
 //! Runs each of the 65,536 halfwords as the first instruction of an image, one turn each, and counts
-//! how the runs end. The numbers that it is to print come from a second, slow emulator that was
-//! written apart from this one.
+//! how the runs end. The numbers that it is to print come from a second, slow emulator in
+//! Python, whose reading of the rules is its own.
 #![tactic(auto)]
 
 use outside_io::{MemFiles, MemSink};
