@@ -1,0 +1,12 @@
+use Rattle.std.proofs.Common.{◌≡◌, option_map, ◌||◌, nat_eq}
+use Rattle.std.specs.List.{list_any}
+use Rattle.thumb_asm.specs.Cuts.{left_length}
+use Rattle.thumb_asm.specs.Sizes.{is_in, falls}
+use Rattle.thumb_asm.specs.Kinds.{ranges_in, ranges_left}
+use Rattle.thumb_asm.proofs.lists.has_falling.Given as goal
+
+abbrev pub invariant-ranges : goal.invariant-ranges
+invariant-ranges l = list_any falls (ranges_in l.text) ≡ list_any falls (ranges_left (option_map (λ r. r.now) l.ranges.rest))
+
+abbrev pub decreases-ranges : goal.decreases-ranges
+decreases-ranges l = left_length (option_map (λ r. r.now) l.ranges.rest)

@@ -1,0 +1,13 @@
+use Rattle.std.proofs.Common.{◌≡◌, ◌+◌, ◌≤◌, option_map, nat_lt, count_by}
+use Rattle.thumb_asm.specs.Cuts.{left_length}
+use Rattle.thumb_asm.specs.Sizes.{is_in}
+use Rattle.thumb_asm.specs.Kinds.{ranges_in, ranges_left}
+use Rattle.thumb_asm.proofs.lists.is_double.Given as goal
+
+abbrev pub invariant-ranges : goal.invariant-ranges
+invariant-ranges l = record {
+  told : count_by (λ range. is_in range l.r) (ranges_in l.text) ≡ l.count + count_by (λ range. is_in range l.r) (ranges_left (option_map (λ r. r.now) l.ranges.rest));
+  few : l.count ≤ 1 }
+
+abbrev pub decreases-ranges : goal.decreases-ranges
+decreases-ranges l = left_length (option_map (λ r. r.now) l.ranges.rest)
