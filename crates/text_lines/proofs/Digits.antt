@@ -1,5 +1,5 @@
 -- Numbers, digit by digit.
-use Rattle.std.proofs.Common.{◌≡◌, ℕ, suc, zero, ◌+◌, ◌-◌, ◌*◌, ◌^◌, ◌<◌, ◌≤◌, List, [], ◌∷◌, ◌++◌, length, get_or, take, drop, refl, ap, ◌∙◌, sym, arith, add_assoc, Bool, true, false, nat_eq, nat_le, nat_lt, cond, ◌&&◌, Option, Some, None, if◌then◌else◌, zero-add, add-zero, add-one}
+use Rattle.std.proofs.Common.{◌≡◌, ℕ, suc, zero, ◌+◌, ◌*◌, ◌^◌, ◌<◌, ◌≤◌, List, [], ◌∷◌, length, get_or, drop, refl, ap, ◌∙◌, sym, arith, add_assoc, Bool, true, false, nat_le, nat_lt, ◌&&◌, Option, Some, None, if◌then◌else◌, zero-add, add-zero, add-one}
 use Rattle.std.proofs.Math.Seq.{drop-cons}
 use Rattle.text_lines.proofs.Ends.{drop_over}
 use Rattle.std.proofs.Math.Nat.{pow-succ', mul_assoc, add-mul, zero-mul, mul-one, le-mul_of_pos_right, pow-zero, one-le-mul}

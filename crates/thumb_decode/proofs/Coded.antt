@@ -1,5 +1,5 @@
 -- What the table gives for a code has that code.
-use Rattle.std.proofs.Common.{◌≡◌, ℕ, ◌+◌, ◌*◌, ◌^◌, ◌<◌, Option, Some, None}
+use Rattle.std.proofs.Common.{◌≡◌, ℕ, ◌+◌, ◌*◌, ◌^◌, ◌<◌, Some}
 use Rattle.thumb_insn.specs.Table.{narrow_of, wide_of}
 use Rattle.thumb_insn.specs.Range.{IsCoded}
 use Rattle.thumb_insn.specs.declared.Insn.{Insn}

@@ -1,10 +1,8 @@
 -- The code of a code's instruction.
-use Rattle.std.proofs.Common.{List, [], ◌∷◌, bit_and, ◌≡◌, ℕ, suc, ◌+◌, ◌-◌, ◌*◌, ◌/◌, ◌%◌, ◌^◌, ◌<◌, ◌≤◌, Bool, true, false, not, ◌&&◌, ◌||◌, nat_eq, nat_lt, Option, Some, None, ℤ, pos, negsuc, w32, FitsSigned, arith, refl, ap, ◌∙◌, sym, subst, if◌then◌else◌, cond as choose}
+use Rattle.std.proofs.Common.{bit_and, ◌≡◌, ℕ, ◌*◌, ◌%◌, ◌<◌, true, not, ◌&&◌, ◌||◌, nat_eq, nat_lt, Some, None, arith, ap, subst}
 use Rattle.std.proofs.lemmas.Bool.Decides.{nat_tests}
-use Rattle.std.proofs.lemmas.Int.{ints}
-use Rattle.thumb_insn.specs.Table.{narrow_of, is_later, Row, rows, matches, find_row}
-use Rattle.thumb_insn.specs.Fields.{low_reg, any_reg, split_reg, field, reg, count, double, signed_field, only_if}
-use Rattle.thumb_insn.specs.declared.Reg.{Reg}
+use Rattle.thumb_insn.specs.Table.{narrow_of, is_later, rows}
+use Rattle.thumb_insn.specs.Fields.{low_reg, any_reg, split_reg, field, count, double, signed_field}
 use Rattle.thumb_insn.specs.declared.Cond.TheVariants as cond
 use Rattle.thumb_insn.specs.declared.Shift.TheVariants as shift
 use Rattle.thumb_insn.specs.declared.Op.TheVariants as op
@@ -13,12 +11,12 @@ use Rattle.thumb_insn.specs.declared.Load.TheVariants as load
 use Rattle.thumb_insn.specs.declared.Bytes.TheVariants as bytes
 use Rattle.thumb_insn.specs.declared.Insn.{Insn}
 use Rattle.thumb_insn.specs.declared.Insn.TheVariants.{ShiftImm, AddsReg, SubsReg, AddsImm3, SubsImm3, MovsImm, CmpImm, AddsImm8, SubsImm8, Data, AddHigh, CmpHigh, MovHigh, Bx, Blx, LdrLiteral, StoreReg, LoadReg, StoreImm, LoadImm, StoreSp, LoadSp, Adr, AddSp, RaiseSp, LowerSp, Change, Push, Pop, Cpsie, Cpsid, Bkpt, Hint, Stm, Ldm, BranchIf, Svc, Branch}
-use Rattle.std.proofs.lemmas.Nat.{and_block, and_mask, shr_split, mod_below}
+use Rattle.std.proofs.lemmas.Nat.{and_mask}
 use Rattle.std.proofs.lemmas.Nat.Bits.{and_high}
 use Rattle.thumb_insn.proofs.Rows.{mask_ff87, mask_ff0f}
 use Rattle.thumb_insn.proofs.InRange.{AllRows, any_row, inner, only}
 use Rattle.thumb_insn.specs.declared.Code.TheVariants.{One}
-use Rattle.thumb_encode.specs.Codes.{fit_of, code_of, misfit, high, low2, low3, half_offset, outside, odd_offset, flag, split}
+use Rattle.thumb_encode.specs.Codes.{fit_of, code_of, half_offset, flag}
 
 count_back : (i : ℕ) → i < 32 → count i % 32 ≡ i
 count_back i h = grind (arith, nat_tests)

@@ -1,10 +1,9 @@
 -- The instruction of an instruction's code.
-use Rattle.std.proofs.Common.{◌≡◌, ℕ, suc, ◌+◌, ◌-◌, ◌*◌, ◌/◌, ◌%◌, ◌^◌, ◌<◌, ◌≤◌, Bool, true, false, not, ◌&&◌, ◌||◌, nat_eq, nat_lt, Option, Some, None, ℤ, pos, negsuc, w32, FitsSigned, arith, refl, ap, ◌∙◌, sym, cond as choose}
+use Rattle.std.proofs.Common.{◌≡◌, ℕ, suc, ◌+◌, ◌-◌, ◌*◌, ◌/◌, ◌%◌, ◌<◌, Bool, true, false, not, ◌&&◌, ◌||◌, nat_eq, nat_lt, Some, None, ℤ, pos, negsuc, arith, refl, ap, ◌∙◌}
 use Rattle.std.proofs.lemmas.Bool.Decides.{nat_tests}
-use Rattle.std.proofs.lemmas.Int.{ints}
 use Rattle.thumb_insn.specs.Table.{is_later}
 use Rattle.thumb_insn.specs.Range.{insn_of}
-use Rattle.thumb_insn.specs.Fields.{low_reg, any_reg, split_reg, field, reg, count, double, signed_field, only_if}
+use Rattle.thumb_insn.specs.Fields.{field, reg, count, double, signed_field, only_if}
 use Rattle.thumb_insn.specs.declared.Reg.{Reg}
 use Rattle.thumb_insn.specs.declared.Cond.TheVariants as cond
 use Rattle.thumb_insn.specs.declared.Shift.TheVariants as shift
@@ -15,7 +14,7 @@ use Rattle.thumb_insn.specs.declared.Bytes.TheVariants as bytes
 use Rattle.thumb_insn.specs.declared.Insn.{Insn}
 use Rattle.thumb_insn.specs.declared.Insn.TheVariants.{ShiftImm, AddsReg, SubsReg, AddsImm3, SubsImm3, MovsImm, CmpImm, AddsImm8, SubsImm8, Data, AddHigh, CmpHigh, MovHigh, Bx, Blx, LdrLiteral, StoreReg, LoadReg, StoreImm, LoadImm, StoreSp, LoadSp, Adr, AddSp, RaiseSp, LowerSp, Change, Push, Pop, Cpsie, Cpsid, Bkpt, Hint, Stm, Ldm, BranchIf, Svc, Branch}
 use Rattle.thumb_insn.proofs.Rows.{row_0000, row_0800, row_1000, row_1800, row_1a00, row_1c00, row_1e00, row_2000, row_2800, row_3000, row_3800, row_4000, row_4040, row_4080, row_40c0, row_4100, row_4140, row_4180, row_41c0, row_4200, row_4240, row_4280, row_42c0, row_4300, row_4340, row_4380, row_43c0, row_5000, row_5200, row_5400, row_5600, row_5800, row_5a00, row_5c00, row_5e00, row_6000, row_6800, row_7000, row_7800, row_8000, row_8800, row_4800, row_9000, row_9800, row_a000, row_a800, row_b000, row_b080, row_b200, row_b240, row_b280, row_b2c0, row_ba00, row_ba40, row_bac0, row_be00, row_df00, row_bf00, row_b662, row_b672, row_c800, row_d000, row_d100, row_d200, row_d300, row_d400, row_d500, row_d600, row_d700, row_d800, row_d900, row_da00, row_db00, row_dc00, row_dd00, row_4400, row_4500, row_4600, row_4700, row_4780, row_b400, row_bc00, row_c000, row_e000}
-use Rattle.thumb_encode.specs.Codes.{fit_of, code_of, misfit, high, low2, low3, half_offset, outside, odd_offset, split, flag, no_reg, is}
+use Rattle.thumb_encode.specs.Codes.{fit_of, code_of, misfit, is_high, low2, low3, half_offset, outside, is_odd, split, flag}
 
 pub same_reg : (r : Reg) (k : ℕ) → k ≡ r.number → reg k ≡ r
 same_reg r k e = ap reg e
@@ -34,7 +33,7 @@ within true a e = cc
 within false true e = cc
 within false false e = (refl, refl)
 
-within8 : (z : ℤ) → misfit false (outside z 256 254) (odd_offset z) ≡ None → (outside z 256 254 ≡ false) × (odd_offset z ≡ false)
+within8 : (z : ℤ) → misfit false (outside z 256 254) (is_odd z) ≡ None → (outside z 256 254 ≡ false) × (is_odd z ≡ false)
 within8 z e = within _ _ e
 
 low_field : (k x : ℕ) → k % 256 ≡ 0 → x < 256 → field (k + x) 0 8 ≡ x
@@ -67,11 +66,11 @@ pos_half11 n h e = grind (arith, nat_tests)
 neg_half11 : (n : ℕ) → n < 2048 → n % 2 ≡ 1 → double (signed_field 11 ((4294967296 - suc n) / 2 % 2048)) ≡ negsuc n
 neg_half11 n h e = grind (arith, nat_tests)
 
-back_offset11 : (k : ℕ) (z : ℤ) → k % 2048 ≡ 0 → (outside z 2048 2046 ≡ false) × (odd_offset z ≡ false) → double (signed_field 11 (field (k + half_offset z 11) 0 11)) ≡ z
+back_offset11 : (k : ℕ) (z : ℤ) → k % 2048 ≡ 0 → (outside z 2048 2046 ≡ false) × (is_odd z ≡ false) → double (signed_field 11 (field (k + half_offset z 11) 0 11)) ≡ z
 back_offset11 k (pos n) f w = rw (low_field11 k (half_offset (pos n) 11) f (omega arith)) (pos_half11 n (let t = w.0 in grind (arith, nat_tests)) (let t = w.1 in grind (arith, nat_tests)))
 back_offset11 k (negsuc n) f w = rw (low_field11 k (half_offset (negsuc n) 11) f (omega arith)) (neg_half11 n (let t = w.0 in grind (arith, nat_tests)) (let t = w.1 in grind (arith, nat_tests)))
 
-back_offset8 : (k : ℕ) (z : ℤ) → k % 256 ≡ 0 → (outside z 256 254 ≡ false) × (odd_offset z ≡ false) → double (signed_field 8 (field (k + half_offset z 8) 0 8)) ≡ z
+back_offset8 : (k : ℕ) (z : ℤ) → k % 256 ≡ 0 → (outside z 256 254 ≡ false) × (is_odd z ≡ false) → double (signed_field 8 (field (k + half_offset z 8) 0 8)) ≡ z
 back_offset8 k (pos n) f w = rw (low_field k (half_offset (pos n) 8) f (omega arith)) (pos_half n (let t = w.0 in grind (arith, nat_tests)) (let t = w.1 in grind (arith, nat_tests)))
 back_offset8 k (negsuc n) f w = rw (low_field k (half_offset (negsuc n) 8) f (omega arith)) (neg_half n (let t = w.0 in grind (arith, nat_tests)) (let t = w.1 in grind (arith, nat_tests)))
 
@@ -336,7 +335,7 @@ back_bc00 list true p e = back_bc00_true list p e
 back_bc00 list false p e = back_bc00_false list p e
 
 pub back_c000 : (n : Reg) (list : ℕ) → list < 256 → fit_of (Stm n list) ≡ None → insn_of (code_of (Stm n list)) ≡ Some (Stm n list)
-back_c000 n list p e = let w = three (high n) (nat_eq list 0) (is_later list n.number) e in let b : (n.number < 8) × (0 < list) = grind (arith, nat_tests) in let r : field (49152 + n.number * 256 + list) 0 8 ≡ list = omega arith in let k : field (49152 + n.number * 256 + list) 8 3 ≡ n.number = omega arith in row_c000 (49152 + n.number * 256 + list) (omega arith) (omega arith) ∙ legal_if (stm_legal list n.number _ _ r k b.1 w.2) (cc (same_reg n (field (49152 + n.number * 256 + list) 8 3) k, r))
+back_c000 n list p e = let w = three (is_high n) (nat_eq list 0) (is_later list n.number) e in let b : (n.number < 8) × (0 < list) = grind (arith, nat_tests) in let r : field (49152 + n.number * 256 + list) 0 8 ≡ list = omega arith in let k : field (49152 + n.number * 256 + list) 8 3 ≡ n.number = omega arith in row_c000 (49152 + n.number * 256 + list) (omega arith) (omega arith) ∙ legal_if (stm_legal list n.number _ _ r k b.1 w.2) (cc (same_reg n (field (49152 + n.number * 256 + list) 8 3) k, r))
 
 pub back_e000 : (z : ℤ) → fit_of (Branch z) ≡ None → insn_of (code_of (Branch z)) ≡ Some (Branch z)
 back_e000 z e = row_e000 (57344 + half_offset z 11) (omega arith) (omega arith) ∙ ap (λ (k : ℤ). Some (Branch k)) (back_offset11 57344 z (omega arith) (within _ _ e))

@@ -1,11 +1,6 @@
 -- The instruction of an instruction's code, for each.
-use Rattle.std.proofs.Common.{◌≡◌, ℕ, suc, ◌+◌, ◌-◌, ◌*◌, ◌/◌, ◌%◌, ◌^◌, ◌<◌, ◌≤◌, Bool, true, false, not, ◌&&◌, ◌||◌, nat_eq, nat_lt, Option, Some, None, ℤ, pos, negsuc, w32, FitsSigned, arith, refl, ap, ◌∙◌, sym, cond as choose}
-use Rattle.std.proofs.lemmas.Bool.Decides.{nat_tests}
-use Rattle.std.proofs.lemmas.Int.{ints}
-use Rattle.thumb_insn.specs.Table.{is_later}
+use Rattle.std.proofs.Common.{◌≡◌, Some, None}
 use Rattle.thumb_insn.specs.Range.{insn_of}
-use Rattle.thumb_insn.specs.Fields.{low_reg, any_reg, split_reg, field, reg, count, double, signed_field, only_if}
-use Rattle.thumb_insn.specs.declared.Reg.{Reg}
 use Rattle.thumb_insn.specs.declared.Cond.TheVariants as cond
 use Rattle.thumb_insn.specs.declared.Shift.TheVariants as shift
 use Rattle.thumb_insn.specs.declared.Op.TheVariants as op

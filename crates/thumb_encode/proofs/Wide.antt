@@ -1,19 +1,19 @@
 -- Codes of two halfwords, both ways.
-use Rattle.std.proofs.Common.{[], ◌∷◌, bit_and, ◌≡◌, ℕ, suc, ◌+◌, ◌-◌, ◌*◌, ◌/◌, ◌%◌, ◌^◌, ◌<◌, ◌≤◌, Bool, true, false, not, ◌||◌, nat_eq, Option, Some, None, ℤ, pos, negsuc, arith, refl, ap, ◌∙◌, sym, subst, if◌then◌else◌}
+use Rattle.std.proofs.Common.{bit_and, ◌≡◌, ℕ, suc, ◌+◌, ◌-◌, ◌*◌, ◌/◌, ◌%◌, ◌<◌, true, false, not, ◌||◌, nat_eq, Some, None, ℤ, pos, negsuc, arith, refl, ap, ◌∙◌, sym, subst}
 use Rattle.std.proofs.lemmas.Bool.Decides.{nat_tests}
 use Rattle.std.proofs.lemmas.Nat.{and_block, and_mask, shr_split}
 use Rattle.std.proofs.lemmas.Nat.Bits.{and_high, and_pow}
-use Rattle.thumb_insn.specs.Table.{Row, rows, wide_rows, wide_of, narrow_of, find_row, long_offset, branch_bit, all_apart, is_wide, decoded_of}
-use Rattle.thumb_insn.specs.Fields.{field, double, signed_field, reg, any_reg, only_if}
-use Rattle.thumb_insn.specs.Range.{insn_of, IsCode}
+use Rattle.thumb_insn.specs.Table.{Row, wide_rows, wide_of, long_offset, branch_bit, all_apart}
+use Rattle.thumb_insn.specs.Fields.{field, double, signed_field, any_reg, only_if}
+use Rattle.thumb_insn.specs.Range.{insn_of}
 use Rattle.thumb_insn.specs.declared.Reg.{Reg}
 use Rattle.thumb_insn.specs.declared.Barrier.TheVariants as barrier
 use Rattle.thumb_insn.specs.declared.Insn.{Insn}
 use Rattle.thumb_insn.specs.declared.Insn.TheVariants.{Bl, Fence, Mrs, Msr}
-use Rattle.thumb_insn.specs.declared.Code.TheVariants.{One, Two}
+use Rattle.thumb_insn.specs.declared.Code.TheVariants.{Two}
 use Rattle.thumb_insn.proofs.Apart.{nth, found, of_eq}
 use Rattle.thumb_insn.proofs.InRange.{AllWide, any_wide, inner, only}
-use Rattle.thumb_encode.specs.Codes.{fit_of, code_of, misfit, half_offset, outside, odd_offset, long_first, long_second, no_reg, is}
+use Rattle.thumb_encode.specs.Codes.{fit_of, code_of, half_offset, outside, is_odd, long_first, long_second}
 use Rattle.thumb_encode.proofs.Back.{same_reg, same, legal_if}
 
 wide_apart : all_apart wide_rows ≡ true
@@ -87,11 +87,11 @@ pos_half24 n h e = grind (arith, nat_tests)
 neg_half24 : (n : ℕ) → n < 16777216 → n % 2 ≡ 1 → double (signed_field 24 ((4294967296 - suc n) / 2 % 16777216)) ≡ negsuc n
 neg_half24 n h e = grind (arith, nat_tests)
 
-half24_back : (z : ℤ) → (outside z 16777216 16777214 ≡ false) × (odd_offset z ≡ false) → double (signed_field 24 (half_offset z 24)) ≡ z
+half24_back : (z : ℤ) → (outside z 16777216 16777214 ≡ false) × (is_odd z ≡ false) → double (signed_field 24 (half_offset z 24)) ≡ z
 half24_back (pos n) w = pos_half24 n (let t = w.0 in grind (arith, nat_tests)) (let t = w.1 in grind (arith, nat_tests))
 half24_back (negsuc n) w = neg_half24 n (let t = w.0 in grind (arith, nat_tests)) (let t = w.1 in grind (arith, nat_tests))
 
-pub back_bl : (z : ℤ) → (outside z 16777216 16777214 ≡ false) × (odd_offset z ≡ false) → insn_of (code_of (Bl z)) ≡ Some (Bl z)
+pub back_bl : (z : ℤ) → (outside z 16777216 16777214 ≡ false) × (is_odd z ≡ false) → insn_of (code_of (Bl z)) ≡ Some (Bl z)
 back_bl z w =
     let x : half_offset z 24 < 16777216 = omega arith in
     let a = bit_small (half_offset z 24 / 4194304 % 2) (half_offset z 24 / 8388608) in

@@ -1,5 +1,5 @@
--- The code of an instruction, and why it has none.
-use Rattle.std.specs.Prelude.{◌≡◌, ℕ, ◌+◌, ◌-◌, ◌*◌, ◌/◌, ◌%◌, ◌^◌, ◌<◌, Bool, true, false, ℤ, pos, negsuc, nat_eq, nat_lt, nat_le, if◌then◌else◌, Option, Some, None, Result, Ok, ◌&&◌, ◌||◌, not}
+-- The table of instructions the other way: the code of an instruction, and why one has none (docs/FORMATS.md, the table and its ranges).
+use Rattle.std.specs.Prelude.{◌≡◌, ℕ, ◌+◌, ◌*◌, ◌/◌, ◌%◌, ◌^◌, ◌<◌, Bool, true, false, ℤ, pos, negsuc, nat_eq, nat_lt, nat_le, if◌then◌else◌, Option, Some, None, Result, Ok, ◌&&◌, ◌||◌, not}
 use Rattle.std.specs.Int.{cast_unsigned, w32}
 use Rattle.thumb_encode.specs.declared.Fit.{Fit}
 use Rattle.thumb_encode.specs.declared.Fit.TheVariants.{Offset, Register, Align}
@@ -26,90 +26,96 @@ use Rattle.thumb_insn.specs.declared.Barrier.TheVariants as barrier
 use Rattle.thumb_insn.specs.declared.Insn.{Insn}
 use Rattle.thumb_insn.specs.declared.Insn.TheVariants.{ShiftImm, AddsReg, SubsReg, AddsImm3, SubsImm3, MovsImm, CmpImm, AddsImm8, SubsImm8, Data, AddHigh, CmpHigh, MovHigh, Bx, Blx, LdrLiteral, StoreReg, LoadReg, StoreImm, LoadImm, StoreSp, LoadSp, Adr, AddSp, RaiseSp, LowerSp, Change, Push, Pop, Cpsie, Cpsid, Bkpt, Hint, Stm, Ldm, BranchIf, Svc, Branch, Bl, Fence, Mrs, Msr}
 
--- Why an instruction has no code: a register, then an offset out of range, then one that is no multiple.
+-- Why an instruction has no code.
+
+-- the first cause that holds: a register, then a value out of range, then one that is no multiple
 abbrev pub misfit : Bool → Bool → Bool → Option Fit
 misfit register offset align = if register then Some Register else if offset then Some Offset else if align then Some Align else None
 
-abbrev pub high : Reg → Bool
-high r = nat_le 8 r.number
+-- not one of r0 to r7
+abbrev pub is_high : Reg → Bool
+is_high r = nat_le 8 r.number
 
-abbrev pub no_reg : Reg → Bool
-no_reg r = nat_le 16 r.number
+-- not one of the sixteen registers
+abbrev pub is_no_register : Reg → Bool
+is_no_register r = nat_le 16 r.number
 
 abbrev pub is : Reg → ℕ → Bool
 is r k = nat_eq r.number k
 
--- no multiple of n
-abbrev pub odd : ℕ → ℕ → Bool
-odd i n = not (nat_eq (i % n) 0)
+abbrev pub is_no_multiple : ℕ → ℕ → Bool
+is_no_multiple i n = not (nat_eq (i % n) 0)
 
--- outside -low .. top
+-- below -low or above top
 abbrev pub outside : ℤ → ℕ → ℕ → Bool
 outside (pos n) low top = nat_lt top n
 outside (negsuc n) low top = nat_le low n
 
-abbrev pub odd_offset : ℤ → Bool
-odd_offset (pos n) = odd n 2
-odd_offset (negsuc n) = not (odd n 2)
+-- -1 is odd
+abbrev pub is_odd : ℤ → Bool
+is_odd (pos n) = is_no_multiple n 2
+is_odd (negsuc n) = not (is_no_multiple n 2)
 
+-- how many bytes an immediate offset counts in
 abbrev pub scale : Size → ℕ
 scale size.Word = 4
 scale size.Half = 2
 scale size.Byte = 1
 
-abbrev pub fit_shift : Shift → ℕ → Bool
-fit_shift shift.Lsl by = nat_lt 31 by
-fit_shift shift.Lsr by = nat_eq by 0 || nat_lt 32 by
-fit_shift shift.Asr by = nat_eq by 0 || nat_lt 32 by
+-- a shift to the right is by 1 to 32, one to the left by 0 to 31
+abbrev pub is_no_shift : Shift → ℕ → Bool
+is_no_shift shift.Lsl by = nat_lt 31 by
+is_no_shift shift.Lsr by = nat_eq by 0 || nat_lt 32 by
+is_no_shift shift.Asr by = nat_eq by 0 || nat_lt 32 by
 
+-- a list is a byte, with bit k for register k; None: the instruction has a code
 abbrev pub fit_of : Insn → Option Fit
-fit_of (ShiftImm s d m by) = misfit (high d || high m) (fit_shift s by) false
-fit_of (AddsReg d n m) = misfit (high d || high n || high m) false false
-fit_of (SubsReg d n m) = misfit (high d || high n || high m) false false
-fit_of (AddsImm3 d n i) = misfit (high d || high n) (nat_lt 7 i) false
-fit_of (SubsImm3 d n i) = misfit (high d || high n) (nat_lt 7 i) false
-fit_of (MovsImm d i) = misfit (high d) (nat_lt 255 i) false
-fit_of (CmpImm n i) = misfit (high n) (nat_lt 255 i) false
-fit_of (AddsImm8 d i) = misfit (high d) (nat_lt 255 i) false
-fit_of (SubsImm8 d i) = misfit (high d) (nat_lt 255 i) false
-fit_of (Data op d m) = misfit (high d || high m) false false
-fit_of (AddHigh d m) = misfit (no_reg d || no_reg m || (is d 15 && is m 15)) false false
-fit_of (CmpHigh n m) = misfit (no_reg n || no_reg m || (not (high n || high m)) || is n 15 || is m 15) false false
-fit_of (MovHigh d m) = misfit (no_reg d || no_reg m) false false
-fit_of (Bx m) = misfit (no_reg m || is m 15) false false
-fit_of (Blx m) = misfit (no_reg m || is m 15) false false
-fit_of (LdrLiteral t i) = misfit (high t) (nat_lt 1020 i) (odd i 4)
-fit_of (StoreReg s t n m) = misfit (high t || high n || high m) false false
-fit_of (LoadReg k t n m) = misfit (high t || high n || high m) false false
-fit_of (StoreImm s t n i) = misfit (high t || high n) (nat_lt (31 * scale s) i) (odd i (scale s))
-fit_of (LoadImm s t n i) = misfit (high t || high n) (nat_lt (31 * scale s) i) (odd i (scale s))
-fit_of (StoreSp t i) = misfit (high t) (nat_lt 1020 i) (odd i 4)
-fit_of (LoadSp t i) = misfit (high t) (nat_lt 1020 i) (odd i 4)
-fit_of (Adr d i) = misfit (high d) (nat_lt 1020 i) (odd i 4)
-fit_of (AddSp d i) = misfit (high d) (nat_lt 1020 i) (odd i 4)
-fit_of (RaiseSp i) = misfit false (nat_lt 508 i) (odd i 4)
-fit_of (LowerSp i) = misfit false (nat_lt 508 i) (odd i 4)
-fit_of (Change b d m) = misfit (high d || high m) false false
+fit_of (ShiftImm s d m by) = misfit (is_high d || is_high m) (is_no_shift s by) false
+fit_of (AddsReg d n m) = misfit (is_high d || is_high n || is_high m) false false
+fit_of (SubsReg d n m) = misfit (is_high d || is_high n || is_high m) false false
+fit_of (AddsImm3 d n i) = misfit (is_high d || is_high n) (nat_lt 7 i) false
+fit_of (SubsImm3 d n i) = misfit (is_high d || is_high n) (nat_lt 7 i) false
+fit_of (MovsImm d i) = misfit (is_high d) (nat_lt 255 i) false
+fit_of (CmpImm n i) = misfit (is_high n) (nat_lt 255 i) false
+fit_of (AddsImm8 d i) = misfit (is_high d) (nat_lt 255 i) false
+fit_of (SubsImm8 d i) = misfit (is_high d) (nat_lt 255 i) false
+fit_of (Data op d m) = misfit (is_high d || is_high m) false false
+fit_of (AddHigh d m) = misfit (is_no_register d || is_no_register m || (is d 15 && is m 15)) false false
+fit_of (CmpHigh n m) = misfit (is_no_register n || is_no_register m || (not (is_high n || is_high m)) || is n 15 || is m 15) false false
+fit_of (MovHigh d m) = misfit (is_no_register d || is_no_register m) false false
+fit_of (Bx m) = misfit (is_no_register m || is m 15) false false
+fit_of (Blx m) = misfit (is_no_register m || is m 15) false false
+fit_of (LdrLiteral t i) = misfit (is_high t) (nat_lt 1020 i) (is_no_multiple i 4)
+fit_of (StoreReg s t n m) = misfit (is_high t || is_high n || is_high m) false false
+fit_of (LoadReg k t n m) = misfit (is_high t || is_high n || is_high m) false false
+fit_of (StoreImm s t n i) = misfit (is_high t || is_high n) (nat_lt (31 * scale s) i) (is_no_multiple i (scale s))
+fit_of (LoadImm s t n i) = misfit (is_high t || is_high n) (nat_lt (31 * scale s) i) (is_no_multiple i (scale s))
+fit_of (StoreSp t i) = misfit (is_high t) (nat_lt 1020 i) (is_no_multiple i 4)
+fit_of (LoadSp t i) = misfit (is_high t) (nat_lt 1020 i) (is_no_multiple i 4)
+fit_of (Adr d i) = misfit (is_high d) (nat_lt 1020 i) (is_no_multiple i 4)
+fit_of (AddSp d i) = misfit (is_high d) (nat_lt 1020 i) (is_no_multiple i 4)
+fit_of (RaiseSp i) = misfit false (nat_lt 508 i) (is_no_multiple i 4)
+fit_of (LowerSp i) = misfit false (nat_lt 508 i) (is_no_multiple i 4)
+fit_of (Change b d m) = misfit (is_high d || is_high m) false false
 fit_of (Push list lr) = misfit (nat_eq list 0 && not lr) false false
 fit_of (Pop list has_pc) = misfit (nat_eq list 0 && not has_pc) false false
 fit_of Cpsie = None
 fit_of Cpsid = None
 fit_of (Bkpt i) = misfit false (nat_lt 255 i) false
 fit_of (Hint i) = misfit false (nat_lt 15 i) false
-fit_of (Stm n list) = misfit (high n || nat_eq list 0 || is_later list n.number) false false
-fit_of (Ldm n list) = misfit (high n || nat_eq list 0) false false
-fit_of (BranchIf c offset) = misfit false (outside offset 256 254) (odd_offset offset)
+fit_of (Stm n list) = misfit (is_high n || nat_eq list 0 || is_later list n.number) false false
+fit_of (Ldm n list) = misfit (is_high n || nat_eq list 0) false false
+fit_of (BranchIf c offset) = misfit false (outside offset 256 254) (is_odd offset)
 fit_of (Svc i) = misfit false (nat_lt 255 i) false
-fit_of (Branch offset) = misfit false (outside offset 2048 2046) (odd_offset offset)
-fit_of (Bl offset) = misfit false (outside offset 16777216 16777214) (odd_offset offset)
+fit_of (Branch offset) = misfit false (outside offset 2048 2046) (is_odd offset)
+fit_of (Bl offset) = misfit false (outside offset 16777216 16777214) (is_odd offset)
 fit_of (Fence b i) = misfit false (nat_lt 15 i) false
-fit_of (Mrs d) = misfit (no_reg d || is d 13 || is d 15) false false
-fit_of (Msr n) = misfit (no_reg n || is n 13 || is n 15) false false
+fit_of (Mrs d) = misfit (is_no_register d || is d 13 || is d 15) false false
+fit_of (Msr n) = misfit (is_no_register n || is n 13 || is n 15) false false
 
--- a field at its place
-abbrev pub at : ℕ → ℕ → ℕ
-at v k = v * 2 ^ k
+-- The code.
 
+-- the operations on two registers, in the order of their codes
 abbrev pub op_code : Op → ℕ
 op_code op.Ands = 0
 op_code op.Eors = 1
@@ -128,6 +134,7 @@ op_code op.Muls = 13
 op_code op.Bics = 14
 op_code op.Mvns = 15
 
+-- the conditions, in the order of their codes
 abbrev pub cond_code : Cond → ℕ
 cond_code cond.Eq = 0
 cond_code cond.Ne = 1
@@ -144,7 +151,8 @@ cond_code cond.Lt = 11
 cond_code cond.Gt = 12
 cond_code cond.Le = 13
 
--- the code without its fields
+-- codes without their fields
+
 abbrev pub shift_code : Shift → ℕ
 shift_code shift.Lsl = 0x0000
 shift_code shift.Lsr = 0x0800
@@ -162,6 +170,7 @@ load_code (load.Whole size.Byte) = 0x5C00
 load_code load.SignedByte = 0x5600
 load_code load.SignedHalf = 0x5E00
 
+-- of a store; that of a load is 0x800 more
 abbrev pub imm_code : Size → ℕ
 imm_code size.Word = 0x6000
 imm_code size.Half = 0x8000
@@ -176,17 +185,19 @@ bytes_code bytes.Rev = 0xBA00
 bytes_code bytes.Rev16 = 0xBA40
 bytes_code bytes.Revsh = 0xBAC0
 
+-- a bit
 abbrev pub flag : Bool → ℕ
 flag b = if b then 1 else 0
 
--- the low bits of half an offset
+-- the low bits of half an offset, in two's complement
 abbrev pub half_offset : ℤ → ℕ → ℕ
 half_offset z width = cast_unsigned w32 z / 2 % 2 ^ width
 
--- a low register below others
+-- three registers of three bits in a row, the last one lowest
 abbrev pub low3 : Reg → Reg → Reg → ℕ
 low3 m n d = m.number * 64 + n.number * 8 + d.number
 
+-- two registers of three bits
 abbrev pub low2 : Reg → Reg → ℕ
 low2 m d = m.number * 8 + d.number
 
@@ -259,7 +270,26 @@ HasList (Stm n list) = list < 256
 HasList (Ldm n list) = list < 256
 HasList i = Unit {0}
 
--- what the decoder says of the code, whatever halfword stands behind a narrow one
+-- Sizes in bytes.
+
+-- an instruction of two halfwords
+abbrev pub has_wide : Insn → Bool
+has_wide (Bl offset) = true
+has_wide (Fence b i) = true
+has_wide (Mrs d) = true
+has_wide (Msr n) = true
+has_wide i = false
+
+abbrev pub insn_size : Insn → ℕ
+insn_size i = if has_wide i then 4 else 2
+
+abbrev pub code_size : Code → ℕ
+code_size (One h) = 2
+code_size (Two first second) = 4
+
+-- What the encoder's answer has to do with the table and the decoder.
+
+-- the decoder reads the code as the instruction, whatever halfword stands behind a narrow one
 abbrev pub DecodesTo : Insn → Code → Type 0
 DecodesTo i (One h) = (second : Option ℕ) → decoded_of h second ≡ decoded.Narrow i
 DecodesTo i (Two first second) = decoded_of first (Some second) ≡ decoded.Wide i
@@ -267,3 +297,11 @@ DecodesTo i (Two first second) = decoded_of first (Some second) ≡ decoded.Wide
 -- whichever code the table pairs with the instruction, it is the answer
 abbrev pub IsOnlyCode : Insn → Result Code Fit → Type 0
 IsOnlyCode i answer = (c : Code) → IsCode c → insn_of c ≡ Some i → answer ≡ Ok c
+
+-- a halfword that the decoder reads as the instruction is the answer
+abbrev pub UndoesNarrow : Insn → Result Code Fit → Type 0
+UndoesNarrow i answer = (h : ℕ) (second : Option ℕ) → h < 2 ^ 16 → decoded_of h second ≡ decoded.Narrow i → answer ≡ Ok (One h)
+
+-- two halfwords that the decoder reads as the instruction are the answer
+abbrev pub UndoesWide : Insn → Result Code Fit → Type 0
+UndoesWide i answer = (first second : ℕ) → first < 2 ^ 16 → second < 2 ^ 16 → decoded_of first (Some second) ≡ decoded.Wide i → answer ≡ Ok (Two first second)

@@ -3,7 +3,7 @@
 #![tactic(auto)]
 
 ghost use Rattle.std.specs.Prelude.{◌≡◌, ◌<◌, ◌≤◌, ◌*◌, ◌/◌, ◌^◌, None, Some, pos, ◌<ℤ◌, ◌≤ℤ◌, nat_abs, IfOk, IfErr, OnOk};
-ghost use Rattle.thumb_encode.specs.Codes.{fit_of, high, low3, low2, half_offset, code_of, split, load_code, store_code, imm_code, bytes_code, shift_code, barrier_code, scale, long_first, long_second, HasList, DecodesTo, IsOnlyCode, misfit, no_reg, outside, odd_offset};
+ghost use Rattle.thumb_encode.specs.Codes.{fit_of, is_high, low3, low2, half_offset, code_of, split, load_code, store_code, imm_code, bytes_code, shift_code, barrier_code, scale, long_first, long_second, HasList, DecodesTo, IsOnlyCode, UndoesNarrow, UndoesWide, code_size, insn_size, misfit, is_no_register, outside, is_odd};
 ghost use Rattle.thumb_insn.specs.Range.{insn_of, IsCode};
 ghost use Rattle.thumb_insn.specs.Table.{is_later, branch_bit};
 
@@ -30,8 +30,12 @@ pub enum Fit {
 pub fn encode(insn: &Insn) -> Result<Code, Fit>
     ensures coded { IfOk result (λ c. insn_of c ≡ Some insn.now) }
     ensures halfwords { IfOk result IsCode }
-    ensures again { IsOnlyCode insn.now result }
+    ensures size { IfOk result (λ c. code_size c ≡ insn_size insn.now) }
+    ensures only { IsOnlyCode insn.now result }
+
     ensures decoded { IfOk result (DecodesTo insn.now) }
+    ensures undoes_narrow { UndoesNarrow insn.now result }
+    ensures undoes_wide { UndoesWide insn.now result }
 
     ensures fits { OnOk result (fit_of insn.now ≡ None) }
     ensures cause { IfErr result (λ f. fit_of insn.now ≡ Some f) }
@@ -43,7 +47,7 @@ pub fn encode(insn: &Insn) -> Result<Code, Fit>
 }
 
 fn is_high(r: Reg) -> bool
-    ensures { result ≡ high r }
+    ensures { result ≡ is_high r }
 {
     r.number >= 8
 }
@@ -67,13 +71,13 @@ fn low2(m: Reg, d: Reg) -> u16
     u16::from(m.number) * 8 + u16::from(d.number)
 }
 
-fn half(offset: i32) -> u16
+fn offset8(offset: i32) -> u16
     ensures { result ≡ half_offset offset 8 }
 {
     (offset.cast_unsigned() / 2 % 256) as u16
 }
 
-fn half11(offset: i32) -> u16
+fn offset11(offset: i32) -> u16
     ensures { result ≡ half_offset offset 11 }
 {
     (offset.cast_unsigned() / 2 % 2048) as u16
@@ -162,7 +166,7 @@ fn scaled(size: Size, offset: u32) -> u16
 }
 
 /// A register at bit 8.
-fn at8(r: Reg) -> u16
+fn at_bit8(r: Reg) -> u16
     requires { r.number < 8 }
     ensures value { result ≡ r.number * 256 }
     ensures bound { result < 2048 }
@@ -229,17 +233,17 @@ fn code(insn: &Insn) -> Code
         Insn::SubsReg { d, n, m } => Code::One(0x1A00 + low3(m, n, d)),
         Insn::AddsImm3 { d, n, value } => Code::One(0x1C00 + value as u16 * 64 + low2(n, d)),
         Insn::SubsImm3 { d, n, value } => Code::One(0x1E00 + value as u16 * 64 + low2(n, d)),
-        Insn::MovsImm { d, value } => Code::One(0x2000 + at8(d) + value as u16),
-        Insn::CmpImm { n, value } => Code::One(0x2800 + at8(n) + value as u16),
-        Insn::AddsImm8 { d, value } => Code::One(0x3000 + at8(d) + value as u16),
-        Insn::SubsImm8 { d, value } => Code::One(0x3800 + at8(d) + value as u16),
+        Insn::MovsImm { d, value } => Code::One(0x2000 + at_bit8(d) + value as u16),
+        Insn::CmpImm { n, value } => Code::One(0x2800 + at_bit8(n) + value as u16),
+        Insn::AddsImm8 { d, value } => Code::One(0x3000 + at_bit8(d) + value as u16),
+        Insn::SubsImm8 { d, value } => Code::One(0x3800 + at_bit8(d) + value as u16),
         Insn::Data { op, d, m } => Code::One(0x4000 + op as u16 * 64 + low2(m, d)),
         Insn::AddHigh { d, m } => Code::One(0x4400 + u16::from(m.number) * 8 + split(d)),
         Insn::CmpHigh { n, m } => Code::One(0x4500 + u16::from(m.number) * 8 + split(n)),
         Insn::MovHigh { d, m } => Code::One(0x4600 + u16::from(m.number) * 8 + split(d)),
         Insn::Bx { m } => Code::One(0x4700 + u16::from(m.number) * 8),
         Insn::Blx { m } => Code::One(0x4780 + u16::from(m.number) * 8),
-        Insn::LdrLiteral { t, offset } => Code::One(0x4800 + at8(t) + (offset / 4) as u16),
+        Insn::LdrLiteral { t, offset } => Code::One(0x4800 + at_bit8(t) + (offset / 4) as u16),
         Insn::StoreReg { size, t, n, m } => Code::One(store_code(size) + low3(m, n, t)),
         Insn::LoadReg { load, t, n, m } => Code::One(load_code(load) + low3(m, n, t)),
         Insn::StoreImm { size, t, n, offset } => Code::One(
@@ -248,10 +252,10 @@ fn code(insn: &Insn) -> Code
         Insn::LoadImm { size, t, n, offset } => Code::One(
             imm_code(size) + 0x0800 + scaled(size, offset) + low2(n, t),
         ),
-        Insn::StoreSp { t, offset } => Code::One(0x9000 + at8(t) + (offset / 4) as u16),
-        Insn::LoadSp { t, offset } => Code::One(0x9800 + at8(t) + (offset / 4) as u16),
-        Insn::Adr { d, offset } => Code::One(0xA000 + at8(d) + (offset / 4) as u16),
-        Insn::AddSp { d, offset } => Code::One(0xA800 + at8(d) + (offset / 4) as u16),
+        Insn::StoreSp { t, offset } => Code::One(0x9000 + at_bit8(t) + (offset / 4) as u16),
+        Insn::LoadSp { t, offset } => Code::One(0x9800 + at_bit8(t) + (offset / 4) as u16),
+        Insn::Adr { d, offset } => Code::One(0xA000 + at_bit8(d) + (offset / 4) as u16),
+        Insn::AddSp { d, offset } => Code::One(0xA800 + at_bit8(d) + (offset / 4) as u16),
         Insn::RaiseSp { offset } => Code::One(0xB000 + (offset / 4) as u16),
         Insn::LowerSp { offset } => Code::One(0xB080 + (offset / 4) as u16),
         Insn::Change { bytes, d, m } => Code::One(bytes_code(bytes) + low2(m, d)),
@@ -261,11 +265,11 @@ fn code(insn: &Insn) -> Code
         Insn::Cpsid => Code::One(0xB672),
         Insn::Bkpt { value } => Code::One(0xBE00 + value as u16),
         Insn::Hint { value } => Code::One(0xBF00 + value as u16 * 16),
-        Insn::Stm { n, list } => Code::One(0xC000 + at8(n) + u16::from(list)),
-        Insn::Ldm { n, list } => Code::One(0xC800 + at8(n) + u16::from(list)),
-        Insn::BranchIf { cond, offset } => Code::One(0xD000 + cond as u16 * 256 + half(offset)),
+        Insn::Stm { n, list } => Code::One(0xC000 + at_bit8(n) + u16::from(list)),
+        Insn::Ldm { n, list } => Code::One(0xC800 + at_bit8(n) + u16::from(list)),
+        Insn::BranchIf { cond, offset } => Code::One(0xD000 + cond as u16 * 256 + offset8(offset)),
         Insn::Svc { value } => Code::One(0xDF00 + value as u16),
-        Insn::Branch { offset } => Code::One(0xE000 + half11(offset)),
+        Insn::Branch { offset } => Code::One(0xE000 + offset11(offset)),
         Insn::Bl { offset } => long_branch(offset),
         Insn::Fence { barrier, option } => Code::Two(0xF3BF, barrier_code(barrier) + option as u16),
         Insn::Mrs { d } => Code::Two(0xF3EF, 0x8000 + u16::from(d.number) * 256),
@@ -287,8 +291,8 @@ fn first_of(register: bool, offset: bool, align: bool) -> Option<Fit>
     }
 }
 
-fn no_reg(r: Reg) -> bool
-    ensures { result ≡ no_reg r }
+fn is_no_register(r: Reg) -> bool
+    ensures { result ≡ is_no_register r }
 {
     r.number >= 16
 }
@@ -302,7 +306,7 @@ fn is_outside(z: i32, low: i32, top: i32) -> bool
 }
 
 fn is_odd(z: i32) -> bool
-    ensures { result ≡ odd_offset z }
+    ensures { result ≡ is_odd z }
 {
     z.cast_unsigned() % 2 != 0
 }
@@ -342,7 +346,7 @@ fn misfit_of(insn: &Insn) -> Option<Fit>
         Insn::AddsReg { d, n, m } => first_of(is_high(d) || is_high(n) || is_high(m), false, false),
         Insn::AddsImm3 { d, n, value } => first_of(is_high(d) || is_high(n), 7 < value, false),
         Insn::AddHigh { d, m } => first_of(
-            no_reg(d) || no_reg(m) || (d.number == 15 && m.number == 15),
+            is_no_register(d) || is_no_register(m) || (d.number == 15 && m.number == 15),
             false,
             false,
         ),
@@ -374,17 +378,17 @@ fn misfit_of(insn: &Insn) -> Option<Fit>
         Insn::SubsImm8 { d, value } => first_of(is_high(d), 255 < value, false),
         Insn::Data { d, m, .. } => first_of(is_high(d) || is_high(m), false, false),
         Insn::CmpHigh { n, m } => first_of(
-            no_reg(n)
-                || no_reg(m)
+            is_no_register(n)
+                || is_no_register(m)
                 || !(is_high(n) || is_high(m))
                 || n.number == 15
                 || m.number == 15,
             false,
             false,
         ),
-        Insn::MovHigh { d, m } => first_of(no_reg(d) || no_reg(m), false, false),
-        Insn::Bx { m } => first_of(no_reg(m) || m.number == 15, false, false),
-        Insn::Blx { m } => first_of(no_reg(m) || m.number == 15, false, false),
+        Insn::MovHigh { d, m } => first_of(is_no_register(d) || is_no_register(m), false, false),
+        Insn::Bx { m } => first_of(is_no_register(m) || m.number == 15, false, false),
+        Insn::Blx { m } => first_of(is_no_register(m) || m.number == 15, false, false),
         Insn::StoreReg { t, n, m, .. } => first_of(
             is_high(t) || is_high(n) || is_high(m),
             false,
@@ -423,7 +427,15 @@ fn misfit_of(insn: &Insn) -> Option<Fit>
             is_odd(offset),
         ),
         Insn::Fence { option, .. } => first_of(false, 15 < option, false),
-        Insn::Mrs { d } => first_of(no_reg(d) || d.number == 13 || d.number == 15, false, false),
-        Insn::Msr { n } => first_of(no_reg(n) || n.number == 13 || n.number == 15, false, false),
+        Insn::Mrs { d } => first_of(
+            is_no_register(d) || d.number == 13 || d.number == 15,
+            false,
+            false,
+        ),
+        Insn::Msr { n } => first_of(
+            is_no_register(n) || n.number == 13 || n.number == 15,
+            false,
+            false,
+        ),
     }
 }

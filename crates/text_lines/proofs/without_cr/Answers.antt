@@ -1,4 +1,4 @@
-use Rattle.std.proofs.Common.{◌≡◌, ℕ, suc, ◌-◌, ◌<◌, length, get_or, arith, ap, sym, ◌∙◌, rules, subst}
+use Rattle.std.proofs.Common.{◌≡◌, ◌-◌, length, get_or, arith, sym, rules, subst}
 use Rattle.text_lines.proofs.Ends.{without_cr_at, without_cr_none}
 use Rattle.text_lines.proofs.without_cr.Goals as goal
 use Rattle.text_lines.proofs.without_cr.Goals.{else-n-gt0-via-then-n-gt0+else-piece-n-eq13, else-n-gt0-via-else-n-gt0}

@@ -1,0 +1,74 @@
+-- The setup of a sound image is sound.
+use Rattle.std.proofs.Common.{◌≡◌, ◌+◌, ◌%◌, ◌<◌, ◌≤◌, ◌⊎◌, inl, inr, ℕ, zero, suc, false, true, List, [], ◌∷◌, length, map, replicate, get_or, refl, sym, ◌∙◌, ap, arith}
+use Rattle.std.specs.Prelude.{Contains}
+use Rattle.std.proofs.lemmas.List.{length-map, length-replicate}
+use Rattle.region_check.specs.declared.Region.{Region}
+use Rattle.image_format.specs.Picture.{Picture, TaskPicture, LinePicture, no_task, no_line, task_in, line_in, regions_in}
+use Rattle.image_format.specs.Facts.{Facts}
+use Rattle.task_table.specs.Memory.{Memory}
+use Rattle.task_table.specs.State.{Setup, TaskSetup, LineSetup}
+use Rattle.task_table.specs.Reading.{setup_at}
+use Rattle.task_table.specs.Sane.{AreAllBytes}
+use Rattle.task_table.specs.Start.{start}
+use Rattle.task_table.specs.Parts.{IsSound, setup_of_parts, task_setup, line_setup}
+use Rattle.task_table.specs.declared.start.TaskStart.{TaskStart}
+use Rattle.task_table.specs.declared.start.LineStart.{LineStart}
+use Rattle.board_core.specs.Opened.{setup_of, setup_of_task, setup_of_line}
+
+-- the setup that the parts spell is the image's
+pub parts_are : (p : Picture) (m : Memory) (bits : ℕ) (ts : List TaskStart) (ls : List LineStart) → m ≡ record { flash = p.flash; ram = replicate p.ram 0 } → bits ≡ p.fault_bits →
+    map task_setup ts ≡ map setup_of_task p.tasks → map line_setup ls ≡ map setup_of_line p.lines → setup_of_parts m bits ts ls ≡ setup_of p
+parts_are p m bits ts ls memory faults tasks lines =
+    let of : Memory → ℕ → List TaskSetup → List LineSetup → Setup = λ m b t l. record { tasks = t; lines = l; fault_bits = b; flash = m.flash; ram = length m.ram; line_count = 32 } in
+    let zeros : Memory = record { flash = p.flash; ram = replicate p.ram 0 } in
+    ap (λ (x : Memory). of x bits (map task_setup ts) (map line_setup ls)) memory
+    ∙ ap (λ (x : ℕ). of zeros x (map task_setup ts) (map line_setup ls)) faults
+    ∙ ap (λ (x : List TaskSetup). of zeros p.fault_bits x (map line_setup ls)) tasks
+    ∙ ap (λ (x : List LineSetup). of zeros p.fault_bits (map setup_of_task p.tasks) x) lines
+    ∙ ap (λ (x : ℕ). record { tasks = map setup_of_task p.tasks; lines = map setup_of_line p.lines; fault_bits = p.fault_bits; flash = p.flash; ram = x; line_count = 32 }) (length-replicate p.ram 0)
+
+-- a task of the setup is that of the image
+map_at : (f : TaskPicture → TaskSetup) (xs : List TaskPicture) (i : ℕ) (d : TaskPicture) → get_or (map f xs) i (f d) ≡ f (get_or xs i d)
+map_at f [] i d = refl
+map_at f (x ∷ xs) zero d = refl
+map_at f (x ∷ xs) (suc i) d = map_at f xs i d
+
+pub setup_is : (p : Picture) (i : ℕ) → setup_at (setup_of p) i ≡ setup_of_task (task_in p i)
+setup_is p i = map_at setup_of_task p.tasks i no_task
+
+-- each line of the setup has an owner
+owned : (xs : List LinePicture) (n : ℕ) → ((k : ℕ) → k < length xs → (get_or xs k no_line).task < n) → (o : LineSetup) → Contains (map setup_of_line xs) o → o.owner < n
+owned [] n all o h = absurd (omega (arith, h.1))
+owned (x ∷ xs) n all o (zero, lt, same) =
+    let e : setup_of_line x ≡ o = same in
+    let first = all zero (omega arith) in
+    let is : x.task ≡ o.owner = ap (λ (l : LineSetup). l.owner) e in
+    omega arith
+owned (x ∷ xs) n all o (suc i, lt, same) = owned xs n (λ k below. all (suc k) (omega arith)) o (i, omega arith, same)
+
+regions_here : (p : Picture) (i : ℕ) (r : Region) → Contains (setup_at (setup_of p) i).regions r → Contains (regions_in p i) r
+regions_here p i r h = rw (setup_is p i) at h
+
+pub sound_setup : (p : Picture) → Facts p → AreAllBytes p.flash → IsSound (setup_of p)
+unfolding start
+sound_setup p f text =
+    let zeros : List ℕ = replicate p.ram 0 in
+    let ram : length zeros ≡ p.ram = length-replicate p.ram 0 in
+    let count : length (map setup_of_task p.tasks) ≡ length p.tasks = length-map p.tasks setup_of_task in
+    let ram_small = f.sizes.most_ram in
+    let some = f.sizes.some_task in
+    record {
+      some = omega arith;
+      placed = record {
+        within = λ i r here none. elim (f.regions.within i r (regions_here p i r here) none) [
+            inl flash ↦ inr flash
+          | inr inside ↦ inl (inr (inside.0, rw ram inside.1)) ];
+        writable = λ i r here none write. let inside = f.regions.writable i r (regions_here p i r here) none write in inr (inside.0, rw ram inside.1);
+        flash = f.sizes.most_flash;
+        devices = λ i r here device. (f.regions.devices i r (regions_here p i r here) device).0;
+        below = rw ram (omega (arith, ram_small));
+        owners = λ o here. rw count (owned p.lines (length p.tasks) (λ k below. f.lines.owners k below) o here);
+        stack = λ i. rw (setup_is p i) (f.tasks.stacks i);
+      };
+      text = text;
+    }

@@ -1,0 +1,199 @@
+-- A turn keeps a state sane.
+use Rattle.std.proofs.Common.{◌≡◌, ◌+◌, ◌-◌, ◌*◌, ◌/◌, ◌%◌, ◌^◌, ◌<◌, ◌≤◌, ◌⊎◌, inl, inr, ℕ, zero, suc, Bool, true, false, cond, not, ◌&&◌, List, [], ◌∷◌, ◌++◌, length, take, drop, Option, Some, None, refl, sym, ◌∙◌, ap, arith, leb, IfSome}
+use Rattle.std.specs.Prelude.{Contains, find, fold, slice_index}
+use Rattle.std.specs.List.{range_with_len}
+use Rattle.std.proofs.lemmas.List.Elements.{Contains-append_cases}
+use Rattle.std.proofs.lemmas.Bool.{leb-true}
+use Rattle.thumb_insn.specs.declared.Insn.{Insn}
+use Rattle.thumb_insn.specs.declared.Decoded.{Decoded}
+use Rattle.thumb_insn.specs.declared.Decoded.TheVariants.{Narrow, Wide, Illegal, NeedsSecond}
+use Rattle.thumb_insn.specs.Table.{decoded_of, is_wide}
+use Rattle.thumb_exec.specs.declared.cpu.Cpu.{Cpu}
+use Rattle.thumb_exec.specs.Effect.{Effect, Next, Call, Trap, Store, Refusals, Contents, effect}
+use Rattle.task_table.specs.Memory.{Memory, number_at, number_of, bytes_at, is_ram}
+use Rattle.task_table.specs.State.{Setup, State, Own, Turn}
+use Rattle.task_table.specs.Reading.{task_at, register, call_of, listen_of, chosen, qualifies, around, is_ready}
+use Rattle.task_table.specs.Effects.{changed, stored}
+use Rattle.task_table.specs.Rows.{call_noted}
+use Rattle.task_table.specs.Start.{begun}
+use Rattle.task_table.specs.Sane.{Sane, AreAllBytes}
+use Rattle.task_table.proofs.Sanity.{sane-processor, sane-stored, sane-current, sane-turn, sane-faulted, sane-call_noted, sane-called}
+use Rattle.board_core.specs.Script.{Scenario}
+use Rattle.board_core.specs.Turn.{refusals, cpu_of, bytes_of, put, acted, executed, decoded_as, is_text, stepped, turn_of, ended, turn}
+use Rattle.board_core.proofs.Whole.{IsWholeCpu, IsPermitted, Keeps, Effects}
+use Rattle.board_core.proofs.TableKeeps.{effects}
+
+-- ## small things
+
+both_true : (a b : Bool) → (a && b) ≡ true → (a ≡ true) × (b ≡ true)
+both_true true b h = (refl, h)
+both_true false b h = cc
+
+pub record Good (g : Setup) (t : Turn) : Type 0 where
+  pub sane : Sane g t.state
+
+by_row : {g : Setup} (b : Bool) {u v : Turn} → (b ≡ true → Good g u) → (b ≡ false → Good g v) → Good g (cond b u v)
+by_row true f h = f refl
+by_row false f h = h refl
+
+-- ## stores
+
+take_in : (n : ℕ) (xs : List ℕ) (b : ℕ) → Contains (take n xs) b → Contains xs b
+take_in zero xs b h = absurd (omega (arith, h.1))
+take_in (suc n) [] b h = absurd (omega (arith, h.1))
+take_in (suc n) (x ∷ xs) b (zero, lt, same) = (zero, omega arith, same)
+take_in (suc n) (x ∷ xs) b (suc i, lt, same) = let r = take_in n xs b (i, omega arith, same) in (suc r.0, omega (arith, r.1), r.2)
+
+no_byte : AreAllBytes []
+no_byte b h = absurd (omega (arith, h.1))
+
+one_more : (x : ℕ) (xs : List ℕ) → x < 256 → AreAllBytes xs → AreAllBytes (x ∷ xs)
+one_more x xs small all b (zero, lt, same) = let e : x ≡ b = same in omega arith
+one_more x xs small all b (suc i, lt, same) = all b (i, omega arith, same)
+
+all_bytes : (v n : ℕ) → AreAllBytes (bytes_of v n)
+all_bytes v n b here =
+    one_more (v % 256) (v / 2 ^ 8 % 256 ∷ v / 2 ^ 16 % 256 ∷ v / 2 ^ 24 % 256 ∷ []) (omega arith) (one_more (v / 2 ^ 8 % 256) (v / 2 ^ 16 % 256 ∷ v / 2 ^ 24 % 256 ∷ []) (omega arith) (one_more (v / 2 ^ 16 % 256) (v / 2 ^ 24 % 256 ∷ []) (omega arith) (one_more (v / 2 ^ 24 % 256) [] (omega arith) no_byte))) b
+      (take_in n (v % 256 ∷ v / 2 ^ 8 % 256 ∷ v / 2 ^ 16 % 256 ∷ v / 2 ^ 24 % 256 ∷ []) b here)
+
+few_bytes : (v n : ℕ) → (n ≡ 1) ⊎ (n ≡ 2) ⊎ (n ≡ 4) → length (bytes_of v n) ≡ n
+few_bytes v n (inl e) = rw e refl
+few_bytes v n (inr (inl e)) = rw e refl
+few_bytes v n (inr (inr e)) = rw e refl
+
+sane-put : {g : Setup} (t : Turn) (x : Store) → Sane g t.state → (x.bytes ≡ 1) ⊎ (x.bytes ≡ 2) ⊎ (x.bytes ≡ 4) → Sane g (put t x).state
+sane-put {g} t x h size = by_ram (is_ram t.state.memory x.addr x.bytes) refl
+  where
+  by_ram : (b : Bool) → is_ram t.state.memory x.addr x.bytes ≡ b → Sane g (cond b (stored Own x.addr (bytes_of x.value x.bytes) t) t).state
+  by_ram false e = h
+  by_ram true e =
+      let both = both_true (leb 0x20000000 x.addr) (leb (x.addr + x.bytes) (0x20000000 + length t.state.memory.ram)) e in
+      let few = few_bytes x.value x.bytes size in
+      let above = leb-true 0x20000000 x.addr both.0 in
+      let below = leb-true (x.addr + x.bytes) (0x20000000 + length t.state.memory.ram) both.1 in
+      sane-stored Own x.addr (bytes_of x.value x.bytes) t h (all_bytes x.value x.bytes) (inr (above, rw few below))
+
+sane-puts : {g : Setup} (refuses : Refusals) (stores : List Store) (t : Turn) → Sane g t.state → ((x : Store) → Contains stores x → IsPermitted refuses x) → Sane g (fold put t stores).state
+sane-puts refuses [] t h ok = h
+sane-puts refuses (x ∷ xs) t h ok = sane-puts refuses xs (put t x) (sane-put t x h (ok x (zero, omega arith, refl)).size) (λ y here. ok y (suc here.0, omega (arith, here.1), here.2))
+
+-- ## an instruction
+
+still : {g : Setup} {s u : State} {c : ℕ} → Sane g s → Sane g u → c < length s.tasks → c < length u.tasks
+still h k lt = let a = h.steady.as_many in let b = k.steady.as_many in omega arith
+
+module _ {g : Setup} (c : ℕ) (t : Turn) (h : Sane g t.state) (inside : c < length t.state.tasks) where
+  acted-sane : (e : Effect) → Keeps (refusals g c) e → Sane g (acted c e t).state
+  acted-sane (Next cpu stores) k =
+      let h1 = sane-puts (refusals g c) stores t h k.1 in
+      sane-processor c cpu.regs.words cpu.flags (fold put t stores) h1 (still h h1 inside) record { sixteen = k.0.sixteen; even = k.0.even; aligned = k.0.aligned }
+  acted-sane Call k = let h1 = sane-call_noted c t h inside in sane-called c (call_noted c t) h1 (still h h1 inside)
+  acted-sane (Trap f) k = sane-faulted c f t h inside k.0 k.1
+
+  pub whole_cpu : IsWholeCpu (cpu_of (task_at t.state c))
+  whole_cpu = let x = h.steady.tasks c inside in record { sixteen = x.sixteen; even = x.even; aligned = x.aligned }
+
+-- two bytes spell a number below 2 ^ 16
+number_small : (xs : List ℕ) → AreAllBytes xs → number_of (take 2 xs) < 65536
+number_small [] all = omega arith
+number_small (x ∷ []) all = let a = all x (zero, omega arith, refl) in omega arith
+number_small (x ∷ y ∷ xs) all = let a = all x (zero, omega arith, refl) in let b = all y (1, omega arith, refl) in omega arith
+
+drop_in : (n : ℕ) (xs : List ℕ) (b : ℕ) → Contains (drop n xs) b → Contains xs b
+drop_in zero xs b h = h
+drop_in (suc n) [] b h = h
+drop_in (suc n) (x ∷ xs) b h = let r = drop_in n xs b h in (suc r.0, omega (arith, r.1), r.2)
+
+pub half_small : (m : Memory) (a : ℕ) → AreAllBytes m.flash → AreAllBytes m.ram → number_at m a 2 < 65536
+unfolding bytes_at
+half_small m a flash ram = by_ram (leb 0x20000000 a)
+  where
+  by_flash : (b : Bool) → number_of (cond b (take 2 (drop (a - 0x08000000) m.flash)) []) < 65536
+  by_flash true = number_small (drop (a - 0x08000000) m.flash) (λ b here. flash b (drop_in _ m.flash b here))
+  by_flash false = omega arith
+  by_ram : (b : Bool) → number_of (cond b (take 2 (drop (a - 0x20000000) m.ram)) (cond (leb 0x08000000 a) (take 2 (drop (a - 0x08000000) m.flash)) [])) < 65536
+  by_ram true = number_small (drop (a - 0x20000000) m.ram) (λ b here. ram b (drop_in _ m.ram b here))
+  by_ram false = by_flash (leb 0x08000000 a)
+
+module _ {g : Setup} (c : ℕ) (t : Turn) (h : Sane g t.state) (inside : c < length t.state.tasks) where
+  keeps-here : (first : ℕ) (two : Option ℕ) (insn : Insn) → first < 65536 → IfSome two (λ x. x < 65536) → (decoded_of first two ≡ Narrow insn) ⊎ (decoded_of first two ≡ Wide insn) →
+      Keeps (refusals g c) (effect (refusals g c) (number_at t.state.memory) (cpu_of (task_at t.state c)) insn)
+  unfolding Effects
+  keeps-here first two insn f1 f2 e = effects (refusals g c) (number_at t.state.memory) (cpu_of (task_at t.state c)) first two insn f1 f2 e (whole_cpu c t h inside)
+
+  decoded-good : (at first : ℕ) (two : Option ℕ) (d : Decoded) → first < 65536 → IfSome two (λ x. x < 65536) → decoded_of first two ≡ d → Good g (decoded_as g c at d t)
+  decoded-good at first two (Narrow insn) f1 f2 e = record { sane = acted-sane c t h inside _ (keeps-here first two insn f1 f2 (inl e)) }
+  decoded-good at first two (Wide insn) f1 f2 e = record { sane = acted-sane c t h inside _ (keeps-here first two insn f1 f2 (inr e)) }
+  decoded-good at first two Illegal f1 f2 e = record { sane = sane-faulted c _ t h inside (omega arith) (omega arith) }
+  decoded-good at first two NeedsSecond f1 f2 e = record { sane = sane-faulted c _ t h inside (omega arith) (omega arith) }
+
+  pub sane-stepped : Good g (stepped g c t)
+  unfolding stepped
+  sane-stepped =
+      let m = t.state.memory in
+      let at = register t.state c 15 in
+      let after = (at + 2) % 2 ^ 32 in
+      let first = number_at m at 2 in
+      let second = number_at m after 2 in
+      let small1 = half_small m at h.steady.text h.steady.bytes in
+      let small2 = half_small m after h.steady.text h.steady.bytes in
+      by_row (not (is_text g c at)) (λ bad. record { sane = sane-faulted c _ t h inside (omega arith) (omega arith) }) (λ ok.
+      by_row (not (is_wide first)) (λ narrow. decoded-good at first None (decoded_of first None) small1 tt refl) (λ wide.
+      by_row (not (is_text g c after)) (λ bad. record { sane = sane-faulted c _ t h inside (omega arith) (omega arith) }) (λ ok2.
+      decoded-good at first (Some second) (decoded_of first (Some second)) small1 small2 refl)))
+
+-- ## the turn
+
+range_below : (a n k : ℕ) → Contains (range_with_len a n) k → k < a + n
+range_below a zero k h = absurd (omega (arith, h.1))
+range_below a (suc n) k (zero, lt, same) = let e : a ≡ k = same in omega arith
+range_below a (suc n) k (suc i, lt, same) = let r = range_below (a + 1) n k (i, omega arith, same) in omega arith
+
+around_below : (n i k : ℕ) → i ≤ n → Contains (around n i) k → k < n
+around_below n i k le h = elim (Contains-append_cases (range_with_len i (n - i)) (range_with_len 0 i) k h) [
+    inl a ↦ let r = range_below i (n - i) k a in omega arith
+  | inr b ↦ let r = range_below 0 i k b in omega arith ]
+
+no_some : {A : Type 0} {P : Type 0} {a : A} → None ≡ Some a → P
+no_some e = cc
+
+same_some : {A : Type 0} {a b : A} → Some a ≡ Some b → a ≡ b
+same_some e = cc
+
+-- what is found is in the list, and passes the test
+found_in : {A : Type 0} (p : A → Bool) (xs : List A) (x : A) → find p xs ≡ Some x → Contains xs x × (p x ≡ true)
+found_in p [] x e = no_some e
+found_in p (y ∷ ys) x e = go (p y) refl (found_in p ys x)
+  where
+  go : (b : Bool) → p y ≡ b → (find p ys ≡ Some x → Contains ys x × (p x ≡ true)) → Contains (y ∷ ys) x × (p x ≡ true)
+  go true t rest = let same : y ≡ x = same_some (rw t at e) in ((zero, omega arith, same), ap p (sym same) ∙ t)
+  go false f rest = let r = rest (rw f at e) in ((suc r.0.0, omega (arith, r.0.1), r.0.2), r.1)
+
+-- who is chosen is ready, and there
+pub record IsChosen (s : State) (c : ℕ) : Type 0 where
+  pub ready : is_ready s c ≡ true
+  pub inside : c < length s.tasks
+
+pub chosen_is : {g : Setup} (s : State) (c : ℕ) → Sane g s → chosen g s ≡ Some c → IsChosen s c
+unfolding chosen
+chosen_is {g} s c h e =
+    let r = found_in (qualifies g s) (around (length s.tasks) s.current) c e in
+    record { ready = (both_true (is_ready s c) _ r.1).0; inside = let b = h.steady.current in around_below (length s.tasks) s.current c (omega arith) r.0 }
+
+pub as_current : (c i : ℕ) (s : State) → is_ready s c ≡ true → is_ready (record s { current = i }) c ≡ true
+unfolding is_ready task_at call_of listen_of
+as_current c i s h = h
+
+-- the turn of the chosen task, and an idle one
+pub sane-ran : {g : Setup} (c : ℕ) (t : Turn) → Sane g t.state → c < length t.state.tasks → Sane g (turn_of g (Some c) t).state
+sane-ran c t h inside = (sane-stepped c (changed (λ s. record s { current = c }) t) (sane-current c t h inside) inside).sane
+
+pub sane-after : (x : Scenario) (s : State) → Sane x.setup s → Sane x.setup (turn x s).state
+unfolding turn ended begun
+sane-after x s h = sane-turn ((turn_of x.setup (chosen x.setup s) t).state.turn + 1) (turn_of x.setup (chosen x.setup s) t) (by_choice (chosen x.setup s) refl)
+  where
+  t : Turn
+  t = record { state = s; notes = []; writes = []; reads = [] }
+  by_choice : (o : Option ℕ) → chosen x.setup s ≡ o → Sane x.setup (turn_of x.setup o t).state
+  by_choice None e = h
+  by_choice (Some c) e = let is = chosen_is s c h e in sane-ran c t h is.inside

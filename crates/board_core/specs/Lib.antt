@@ -1,0 +1,7 @@
+pub mod Script
+pub mod Turn
+pub mod Run
+pub mod Machine
+pub mod Opened
+pub mod Stands
+pub mod Told

@@ -1,0 +1,25 @@
+-- What an image fixes for ever, and the run over it.
+use Rattle.std.specs.Prelude.{ℕ, map}
+use Rattle.image_format.specs.Picture.{Picture, TaskPicture, LinePicture}
+use Rattle.task_table.specs.State.{Setup, TaskSetup, LineSetup}
+use Rattle.board_core.specs.Script.{Scenario, Empty}
+
+abbrev pub setup_of_task : TaskPicture → TaskSetup
+setup_of_task t = record { priority = t.priority; entry = t.entry; stack = t.sp; regions = t.regions; start = t.started }
+
+abbrev pub setup_of_line : LinePicture → LineSetup
+setup_of_line l = record { line = l.line; owner = l.task; bits = l.bits }
+
+-- the board has 32 interrupt lines
+abbrev pub setup_of : Picture → Setup
+setup_of p = record {
+  tasks = map setup_of_task p.tasks;
+  lines = map setup_of_line p.lines;
+  fault_bits = p.fault_bits;
+  flash = p.flash;
+  ram = p.ram;
+  line_count = 32;
+}
+
+abbrev pub scenario_of : Picture → Scenario
+scenario_of p = record { setup = setup_of p; script = Empty }

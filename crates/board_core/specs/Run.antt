@@ -1,0 +1,50 @@
+-- A whole run: turns, with a test for the end before each.
+use Rattle.std.specs.Prelude.{ℕ, zero, suc, Bool, ◌&&◌, not, List, [], ◌++◌, map, Option, Some, None, ◌==◌, if◌then◌else◌, is_none}
+use Rattle.kernel_abi.specs.declared.Note.{Note}
+use Rattle.task_table.specs.State.{State}
+use Rattle.task_table.specs.Reading.{task_at, is_faulted, chosen}
+use Rattle.board_core.specs.declared.told.End.{End}
+use Rattle.board_core.specs.declared.told.End.TheVariants.{Bound, Still, Supervisor}
+use Rattle.board_core.specs.Script.{Scenario, lasts}
+use Rattle.board_core.specs.Turn.{turn}
+
+-- the supervisor has faulted
+abbrev pub is_down : State → Bool
+is_down s = is_faulted (task_at s 0).health
+
+-- no task is ready, and nothing more comes from outside
+abbrev pub is_still : Scenario → State → Bool
+is_still x s = is_none (chosen x.setup s) && not (lasts x.script s.turn)
+
+-- the tests before a turn, in their order, with so many turns left
+abbrev pub end_by : Bool → ℕ → Bool → Option End
+end_by down left still = if down then Some Supervisor else (if left == 0 then Some Bound else (if still then Some Still else None))
+
+unfoldable pub ending : Scenario → ℕ → State → Option End
+ending x left s = end_by (is_down s) left (is_still x s)
+
+pub record Run : Type 0 where
+  pub last : State
+  pub notes : List (ℕ × Note)   -- each with its turn
+  pub end : End
+
+abbrev pub ended_at : State → End → Run
+ended_at s e = record { last = s; notes = []; end = e }
+
+-- notes that stand before those of a run
+abbrev pub with_front : List (ℕ × Note) → Run → Run
+with_front front r = record r { notes = front ++ r.notes }
+
+abbrev pub unless : State → Option End → Run → Run
+unless s (Some e) more = ended_at s e
+unless s None more = more
+
+abbrev pub at_turn : ℕ → List Note → List (ℕ × Note)
+at_turn n notes = map (λ note. (n, note)) notes
+
+-- the run from a state, with at most so many turns
+unfoldable pub run : Scenario → ℕ → State → Run
+run x zero s = unless s (ending x 0 s) (ended_at s Bound)
+run x (suc left) s =
+    unless s (ending x (suc left) s)
+      (with_front (at_turn s.turn (turn x s).notes) (run x left (turn x s).state))

@@ -1,0 +1,34 @@
+-- Which states a board stands for, in which run.
+use Rattle.std.specs.Prelude.{ℕ, ◌≡◌, List, []}
+use Rattle.kernel_abi.specs.declared.Note.{Note}
+use Rattle.task_table.specs.State.{State}
+use Rattle.task_table.specs.Sane.{Sane, IsCounted}
+use Rattle.task_table.specs.Holds.{Holds as KernelHolds, notes_of as kernel_notes, task_count}
+use Rattle.board_core.specs.declared.board.Board.{Board}
+use Rattle.board_core.specs.Script.{Scenario}
+
+-- what is told of a board whatever it stands for: the notes of its last turn, how many turns it
+-- has made, how many tasks it has
+abbrev pub notes_of : Board → List Note
+notes_of b = kernel_notes b.machine.kernel
+
+abbrev pub turns_of : Board → ℕ
+turns_of b = b.turns
+
+abbrev pub count_of : Board → ℕ
+count_of b = task_count b.machine.kernel
+
+-- its parts are those of the state: its kernel's (crates/task_table, Holds) and its turn number
+pub record Holds (x : Scenario) (b : Board) (s : State) : Type 0 where
+  pub kernel : KernelHolds x.setup b.machine.kernel record { state = s; notes = notes_of b; writes = []; reads = [] }
+  pub turns : b.turns ≡ s.turn
+
+-- and the state is sane, and its counts are those that a run can reach
+pub record Stands (x : Scenario) (b : Board) (s : State) : Type 0 where
+  pub holds : Holds x b s
+  pub sane : Sane x.setup s
+  pub counted : IsCounted s
+
+-- it stands for some state of some run
+abbrev pub Stood : Board → Type 0
+Stood b = (x : Scenario) × (s : State) × Stands x b s

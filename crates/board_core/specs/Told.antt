@@ -1,0 +1,33 @@
+-- What is told of a state.
+use Rattle.std.specs.Prelude.{Bool, ℕ, ◌≡◌, ◌%◌, ◌<◌, ◌≤◌, length, Option, Some, None, if◌then◌else◌}
+use Rattle.task_table.specs.State.{State}
+use Rattle.task_table.specs.Reading.{task_at, call_of, listen_of}
+use Rattle.task_table.specs.Holds.{wait_of}
+use Rattle.board_core.specs.declared.told.TaskView.{TaskView}
+use Rattle.board_core.specs.declared.told.End.{End}
+use Rattle.board_core.specs.declared.told.End.TheVariants.{Still, Supervisor}
+use Rattle.board_core.specs.Script.{Scenario}
+use Rattle.board_core.specs.Run.{is_down, is_still}
+
+-- a view has the parts of the task; there is none past the last task
+pub record IsTask (s : State) (i : ℕ) (v : TaskView) : Type 0 where
+  pub inside : i < length s.tasks
+  pub generation : v.generation ≡ (task_at s i).births % 64
+  pub registers : v.registers ≡ (task_at s i).registers
+  pub flags : v.flags ≡ (task_at s i).flags
+  pub health : v.health ≡ (task_at s i).health
+  pub posted : v.posted ≡ (task_at s i).posted
+  pub timer : v.timer ≡ (task_at s i).timer
+  pub wait : v.wait ≡ wait_of (call_of s i) (listen_of s i)
+
+abbrev pub IsView : State → ℕ → Option TaskView → Type 0
+IsView s i None = length s.tasks ≤ i
+IsView s i (Some v) = IsTask s i v
+
+-- the end by the tests in their order, the bound aside
+abbrev pub end_in : Bool → Bool → Option End
+end_in down still = if down then Some Supervisor else (if still then Some Still else None)
+
+-- the end of a run at a state, its bound aside
+abbrev pub end_at : Scenario → State → Option End
+end_at x s = end_in (is_down s) (is_still x s)

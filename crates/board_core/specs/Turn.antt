@@ -1,0 +1,108 @@
+-- One turn of the board: one instruction of the chosen task, or an idle turn.
+use Rattle.std.specs.Prelude.{ℕ, ◌+◌, ◌*◌, ◌/◌, ◌%◌, ◌^◌, Bool, ◌&&◌, not, List, [], ◌∷◌, length, Option, Some, None, find, fold, take, if◌then◌else◌, nat_le}
+use Rattle.std.specs.List.{range_with_len}
+use Rattle.kernel_abi.specs.declared.Fault.{Fault}
+use Rattle.region_check.specs.declared.Right.{Right}
+use Rattle.region_check.specs.declared.Right.TheVariants.{Execute}
+use Rattle.region_check.specs.Rights.{may_use}
+use Rattle.thumb_insn.specs.declared.Insn.{Insn}
+use Rattle.thumb_insn.specs.declared.Decoded.{Decoded}
+use Rattle.thumb_insn.specs.declared.Decoded.TheVariants.{Narrow, Wide, Illegal, NeedsSecond}
+use Rattle.thumb_insn.specs.Table.{decoded_of, is_wide}
+use Rattle.thumb_exec.specs.declared.cpu.Cpu.{Cpu}
+use Rattle.thumb_exec.specs.Effect.{Effect, Next, Call, Trap, Store, Refusals, effect}
+use Rattle.task_table.specs.Memory.{number_at, is_ram}
+use Rattle.task_table.specs.State.{Setup, Task, State, Own, Turn}
+use Rattle.task_table.specs.Reading.{task_at, setup_at, register, chosen}
+use Rattle.task_table.specs.Effects.{changed, with_processor, stored, faulted}
+use Rattle.task_table.specs.Rows.{first_row, called, call_noted}
+use Rattle.task_table.specs.Start.{begun}
+use Rattle.board_core.specs.declared.told.Turned.{Turned}
+use Rattle.board_core.specs.declared.told.Turned.TheVariants.{Idle, Ran}
+use Rattle.board_core.specs.Script.{Scenario}
+
+-- ## what an instruction of a task sees
+
+abbrev pub may : Setup → ℕ → Right → ℕ → Bool
+may g c right a = may_use (setup_at g c).regions right a
+
+-- the first of n bytes that lacks the right
+abbrev pub first_lacking : (Right → ℕ → Bool) → ℕ → ℕ → Right → Option ℕ
+first_lacking may a n right = find (λ x. not (may right x)) (range_with_len a n)
+
+abbrev pub refusals : Setup → ℕ → Refusals
+refusals g c = first_lacking (may g c)
+
+abbrev pub cpu_of : Task → Cpu
+cpu_of x = record { regs = record { words = x.registers }; flags = x.flags }
+
+-- ## what it does
+
+
+
+
+-- the n bytes of a number, the lowest first
+abbrev pub bytes_of : ℕ → ℕ → List ℕ
+bytes_of v n = take n (v % 256 ∷ v / 2 ^ 8 % 256 ∷ v / 2 ^ 16 % 256 ∷ v / 2 ^ 24 % 256 ∷ [])
+
+-- a store outside the memory, which a device region may permit, changes nothing
+abbrev pub put : Turn → Store → Turn
+put t x = if is_ram t.state.memory x.addr x.bytes then stored Own x.addr (bytes_of x.value x.bytes) t else t
+
+abbrev pub acted : ℕ → Effect → Turn → Turn
+acted c (Next cpu stores) t = with_processor c cpu.regs.words cpu.flags (fold put t stores)
+acted c Call t = called c (call_noted c t)
+acted c (Trap f) t = faulted c f t
+
+abbrev pub executed : Setup → ℕ → Insn → Turn → Turn
+executed g c insn t =
+    acted c (effect (refusals g c) (number_at t.state.memory) (cpu_of (task_at t.state c)) insn) t
+
+abbrev pub decoded_as : Setup → ℕ → ℕ → Decoded → Turn → Turn
+decoded_as g c at (Narrow insn) t = executed g c insn t
+decoded_as g c at (Wide insn) t = executed g c insn t
+decoded_as g c at Illegal t = faulted c record { number = 1; x = at; y = 0 } t
+decoded_as g c at NeedsSecond t = faulted c record { number = 1; x = at; y = 0 } t
+
+-- both bytes of a halfword may be executed
+abbrev pub is_text : Setup → ℕ → ℕ → Bool
+is_text g c a = may g c Execute a && may g c Execute ((a + 1) % 2 ^ 32)
+
+-- a wide instruction, whose second halfword is fetched too
+abbrev pub stepped_wide : Setup → ℕ → ℕ → ℕ → Turn → Turn
+stepped_wide g c at first t =
+    let after = (at + 2) % 2 ^ 32 in
+    first_row (
+      (not (is_text g c after), faulted c record { number = 2; x = after; y = 0 } t)
+    ∷ []) (decoded_as g c at (decoded_of first (Some (number_at t.state.memory after 2))) t)
+
+-- fetched, decoded, carried out: the first halfword that may not be executed decides
+unfoldable pub stepped : Setup → ℕ → Turn → Turn
+stepped g c t =
+    let at = register t.state c 15 in
+    let first = number_at t.state.memory at 2 in
+    first_row (
+      (not (is_text g c at), faulted c record { number = 2; x = at; y = 0 } t)
+    ∷ (not (is_wide first), decoded_as g c at (decoded_of first None) t)
+    ∷ []) (stepped_wide g c at first t)
+
+-- ## the turn
+
+-- the chosen task runs; where there is none, nothing does
+abbrev pub turn_of : Setup → Option ℕ → Turn → Turn
+turn_of g None t = t
+turn_of g (Some c) t = stepped g c (changed (λ s. record s { current = c }) t)
+
+unfoldable pub ended : Turn → Turn
+ended t = changed (λ s. record s { turn = s.turn + 1 }) t
+
+unfoldable pub turn : Scenario → State → Turn
+turn x s = ended (turn_of x.setup (chosen x.setup s) (begun s))
+
+-- what is told of a turn: the chosen task and its PC before
+abbrev pub turned_of : State → Option ℕ → Turned
+turned_of s None = Idle
+turned_of s (Some c) = Ran c (register s c 15)
+
+unfoldable pub turned : Scenario → State → Turned
+turned x s = turned_of s (chosen x.setup s)

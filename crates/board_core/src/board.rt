@@ -1,0 +1,271 @@
+//! The board and one turn of it.
+ghost use Rattle.std.specs.Prelude.{ℕ, ◌≡◌, ◌<◌, ◌≤◌, ◌+◌, ◌↔◌, Option, Some, None, length, map, IfOk, IfSome, IsNone, IsSome, slice_get, is_none};
+ghost use Rattle.std.specs.Option.{option_map};
+ghost use Rattle.image_format.specs.Images.{picture};
+ghost use Rattle.image_format.specs.Picture.{task_in, line_in};
+ghost use Rattle.task_table.specs.State.{Setup, State, Turn};
+ghost use Rattle.task_table.specs.Memory.{byte_at};
+ghost use Rattle.task_table.specs.Reading.{chosen, setup_at, is_faulted, task_at};
+ghost use Rattle.task_table.specs.Start.{start};
+ghost use Rattle.task_table.specs.Parts.{task_setup, line_setup};
+ghost use Rattle.task_table.specs.declared.Line.{Line};
+ghost use Rattle.task_table.specs.Holds.{Holds as KernelHolds, task_count};
+ghost use Rattle.board_core.specs.Script.{Scenario};
+ghost use Rattle.board_core.specs.Turn.{turn, turned};
+ghost use Rattle.board_core.specs.Run.{ending};
+ghost use Rattle.board_core.specs.Opened.{scenario_of, setup_of, setup_of_task, setup_of_line};
+ghost use Rattle.board_core.specs.Stands.{Stands, Stood, notes_of, turns_of, count_of};
+ghost use Rattle.board_core.specs.Told.{IsTask, IsView, end_at, end_in};
+ghost use Rattle.board_core.specs.Machine.{IsStarted};
+
+use crate::machine::Machine;
+use crate::{End, TaskView, Turned};
+use dispatch::choose;
+use image_format::Image;
+use kernel_abi::{Health, Note};
+use region_check::Region;
+use std::alloc::{AllocError, Global};
+use task_table::{Kernel, LineStart, Memory, TaskStart};
+
+/// A board with an image: what its kernel keeps, and how many turns it made.
+#[derive(Drop)]
+pub struct Board {
+    machine: Machine,
+    turns: u32,
+}
+
+/// What the image says of a task.
+fn task_start(alloc: Global, image: &Image, i: usize) -> Result<TaskStart, AllocError>
+    requires { i < length (picture image.now).tasks }
+    ensures { IfOk result (λ t. task_setup t ≡ setup_of_task (task_in (picture image.now) i)) }
+{
+    Ok(TaskStart {
+        priority: image.priority(i),
+        started: image.is_started(i),
+        entry: image.entry(i),
+        sp: image.sp(i),
+        regions: image.regions(alloc, i)?,
+    })
+}
+
+/// What the image says of each task.
+fn task_starts(alloc: Global, image: &Image) -> Result<Vec<TaskStart>, AllocError>
+    ensures { IfOk result (λ v. map task_setup v.items ≡ map setup_of_task (picture image.now).tasks) }
+{
+    let mut tasks = Vec::new(alloc);
+    for i in 0..image.task_count() {
+        tasks.push(task_start(alloc, image, i)?)?;
+    }
+    Ok(tasks)
+}
+
+/// What the image says of an interrupt line.
+fn line_start(image: &Image, k: usize) -> LineStart
+    requires { k < length (picture image.now).lines }
+    ensures { line_setup result ≡ setup_of_line (line_in (picture image.now) k) }
+{
+    LineStart {
+        line: image.line(k),
+        task: u16::from(image.line_task(k)),
+        bits: image.line_bits(k),
+    }
+}
+
+/// What the image says of each interrupt line.
+fn line_starts(alloc: Global, image: &Image) -> Result<Vec<LineStart>, AllocError>
+    ensures { IfOk result (λ v. map line_setup v.items ≡ map setup_of_line (picture image.now).lines) }
+{
+    let mut lines = Vec::new(alloc);
+    for k in 0..image.line_count() {
+        lines.push(line_start(image, k))?;
+    }
+    Ok(lines)
+}
+
+/// The kernel at the start of a run of an image.
+fn kernel(alloc: Global, image: &Image) -> Result<Kernel, AllocError>
+    ensures { IfOk result (λ k. IsStarted (setup_of (picture image.now)) k) }
+{
+    image.facts();
+    let flash = image.flash();
+    let memory = Memory::open(alloc, flash, image.ram())?;
+    let tasks = task_starts(alloc, image)?;
+    let lines = line_starts(alloc, image)?;
+    Kernel::start(alloc, memory, image.fault_bits(), &tasks, &lines)
+}
+
+impl Board {
+    /// The board at the start of a run of an image.
+    ///
+    /// # Errors
+    ///
+    /// Only want of memory.
+    pub fn open(alloc: Global, image: &Image) -> Result<Board, AllocError>
+        ensures stands { IfOk result (λ b. Stands (scenario_of (picture image.now)) b (start (setup_of (picture image.now)))) }
+        ensures turns { IfOk result (λ b. turns_of b ≡ 0) }
+    {
+        Ok(Board {
+            machine: Machine {
+                kernel: kernel(alloc, image)?,
+            },
+            turns: 0,
+        })
+    }
+
+    /// One turn: one instruction of the chosen task, or nothing where none is ready.
+    pub fn turn(&mut self) -> Turned
+        requires few { turns_of self.old < 1000000000 }
+        requires stood { Stood self.old }
+        ensures model { (x : Scenario) (s : State) → Stands x self.old s → Stands x self.new (turn x s).state }
+        ensures notes { (x : Scenario) (s : State) → Stands x self.old s → notes_of self.new ≡ (turn x s).notes }
+        ensures turned { (x : Scenario) (s : State) → Stands x self.old s → result ≡ turned x s }
+        ensures turns { turns_of self.new ≡ turns_of self.old + 1 }
+    {
+        self.turns += 1;
+        self.machine.turn()
+    }
+
+    /// The notes of the last turn, in order.
+    pub fn notes(&self) -> &[Note]
+        ensures { result.now ≡ notes_of self.now }
+    {
+        self.machine.kernel.notes()
+    }
+}
+
+impl Board {
+    /// Whether the run ends here, its bound aside: the supervisor has faulted, or no task is ready and
+    /// nothing more comes from outside.
+    pub fn ended(&self) -> Option<End>
+        requires { Stood self.now }
+        ensures end { (x : Scenario) (s : State) → Stands x self.now s → result ≡ end_at x s }
+        ensures before { (x : Scenario) (s : State) (left : ℕ) → Stands x self.now s → 0 < left → result ≡ ending x left s }
+    {
+        let down = self.is_down();
+        let still = self.is_idle();
+        end_by(down, still)
+    }
+
+    /// No task is ready.
+    fn is_idle(&self) -> bool
+        requires { Stood self.now }
+        ensures { (x : Scenario) (s : State) → Stands x self.now s → result ≡ is_none (chosen x.setup s) }
+    {
+        match choose(&self.machine.kernel) {
+            Some(_) => false,
+            None => true,
+        }
+    }
+
+    /// The supervisor has faulted.
+    fn is_down(&self) -> bool
+        requires { Stood self.now }
+        ensures { (x : Scenario) (s : State) → Stands x self.now s → result ≡ is_faulted (task_at s 0).health }
+    {
+        match self.machine.kernel.health(0) {
+            Health::Well => false,
+            Health::Stopped => false,
+            Health::Faulted(_) => true,
+        }
+    }
+
+    /// How many turns were made; the turn number of each state that the board stands for.
+    pub fn turns(&self) -> u32
+        ensures { result ≡ turns_of self.now }
+    {
+        self.turns
+    }
+
+    /// The time in ticks.
+    pub fn now(&self) -> u64
+        ensures { (x : Scenario) (s : State) → Stands x self.now s → result ≡ s.now }
+    {
+        self.machine.kernel.now()
+    }
+
+    /// The index of the task that ran last; 0 at the start.
+    pub fn current(&self) -> usize
+        ensures { (x : Scenario) (s : State) → Stands x self.now s → result ≡ s.current }
+    {
+        self.machine.kernel.current()
+    }
+
+    /// The number of the next call.
+    pub fn next_call(&self) -> u32
+        ensures { (x : Scenario) (s : State) → Stands x self.now s → result ≡ s.next_call }
+    {
+        self.machine.kernel.next_call()
+    }
+
+    /// How many tasks there are.
+    pub fn task_count(&self) -> usize
+        ensures count { result ≡ count_of self.now }
+        ensures tasks { (x : Scenario) (s : State) → Stands x self.now s → result ≡ length s.tasks }
+    {
+        self.machine.kernel.task_count()
+    }
+
+    /// A task, or None past the last one.
+    pub fn task(&self, i: usize) -> Option<TaskView>
+        ensures there { IsSome result ↔ (i < count_of self.now) }
+        ensures view { (x : Scenario) (s : State) → Stands x self.now s → IsView s i result }
+    {
+        if i >= self.machine.kernel.task_count() {
+            return None;
+        }
+        Some(view(&self.machine.kernel, i))
+    }
+
+    /// The byte at an address of the flash or of the RAM.
+    pub fn byte(&self, addr: u32) -> Option<u8>
+        ensures { (x : Scenario) (s : State) → Stands x self.now s → result ≡ byte_at s.memory addr }
+    {
+        self.machine.kernel.byte(addr)
+    }
+
+    /// How an interrupt line is: enabled, pending. None past the last one.
+    pub fn irq_line(&self, k: usize) -> Option<(bool, bool)>
+        ensures { (x : Scenario) (s : State) → Stands x self.now s → result ≡ option_map (λ l. (l.enabled, l.pending)) (slice_get s.lines k) }
+    {
+        match self.machine.kernel.line(k) {
+            Some(line) => Some((line.enabled, line.pending)),
+            None => None,
+        }
+    }
+
+    /// Region k of a task.
+    pub fn region(&self, i: usize, k: usize) -> Option<Region>
+        ensures { (x : Scenario) (s : State) → Stands x self.now s → result ≡ slice_get (setup_at x.setup i).regions k }
+    {
+        self.machine.kernel.regions(i).get(k).copied()
+    }
+}
+
+/// The end by the tests in their order, the bound aside.
+fn end_by(down: bool, still: bool) -> Option<End>
+    ensures { result ≡ end_in down still }
+{
+    if down {
+        Some(End::Supervisor)
+    } else if still {
+        Some(End::Still)
+    } else {
+        None
+    }
+}
+
+/// What a kernel tells of a task.
+fn view(kernel: &Kernel, i: usize) -> TaskView
+    requires { i < task_count kernel.now }
+    ensures { (g : Setup) (t : Turn) → KernelHolds g kernel.now t → IsTask t.state i result }
+{
+    TaskView {
+        generation: kernel.generation(i).number,
+        health: kernel.health(i),
+        registers: kernel.registers(i),
+        flags: kernel.flags(i),
+        posted: kernel.posted_bits(i),
+        timer: kernel.timer(i),
+        wait: kernel.wait(i),
+    }
+}

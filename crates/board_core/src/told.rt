@@ -1,0 +1,33 @@
+//! What a board tells of itself.
+
+use kernel_abi::{Health, Timer};
+use task_table::Wait;
+use words_core::Flags;
+
+/// How a run ended.
+#[derive(Clone, Copy, Debug, PartialEq, Eq)]
+pub enum End {
+    Bound,
+    Still,
+    Supervisor,
+}
+
+/// What a turn did: nothing, or one instruction of a task, whose PC was at `at`.
+#[derive(Clone, Copy, Debug, PartialEq, Eq)]
+pub enum Turned {
+    Idle,
+    Ran { task: u16, at: u32 },
+}
+
+/// A task between turns: the generation is how often it was born again modulo 64, the wait has ids in
+/// the place of births.
+#[derive(Clone, Copy, Debug, PartialEq, Eq)]
+pub struct TaskView {
+    pub generation: u8,
+    pub health: Health,
+    pub registers: [u32; 16],
+    pub flags: Flags,
+    pub posted: u32,
+    pub timer: Option<Timer>,
+    pub wait: Wait,
+}

@@ -1,0 +1,38 @@
+//! The program: the words, the real files and the standard output, handed to the top call, whose
+//! answer is the exit status.
+#![tactic(auto)]
+
+use outside_io::{HostFiles, HostSink};
+use std::alloc::AllocError;
+use std::io::ErrorKind;
+use std::process::ExitCode;
+use std::{env, io};
+use trace_cli::hubris_main;
+
+// The words of the command line, the program's name first. Words that are no UTF-8 are no command:
+// they count as none at all.
+fn words(rt: &HostRuntime) -> Result<Vec<String>, AllocError> {
+    let mut words = Vec::new(rt.alloc());
+    match env::args(rt) {
+        Ok(args) => {
+            for word in args {
+                words.push(word)?;
+            }
+        }
+        Err(error) => {
+            if error.kind() == ErrorKind::OutOfMemory {
+                return Err(AllocError);
+            }
+        }
+    }
+    Ok(words)
+}
+
+fn main(rt: HostRuntime) -> ExitCode {
+    let Ok(words) = words(&rt) else {
+        return ExitCode::from(5);
+    };
+    let mut out = HostSink::new(io::writer(&rt));
+    let mut files = HostFiles::new(&rt);
+    ExitCode::from(hubris_main(rt.alloc(), &words, &mut files, &mut out))
+}

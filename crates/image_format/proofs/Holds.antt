@@ -1,0 +1,385 @@
+-- What is known of each sound image, from what the steps say.
+use Rattle.std.proofs.Common.{◌≡◌, ◌∙◌, ◌+◌, ◌-◌, ◌*◌, ◌%◌, ◌<◌, ◌≤◌, ℕ, zero, suc, List, [], ◌∷◌, ◌++◌, Bool, true, false, not, ◌||◌, ◌&&◌, ◌==◌, None, length, take, drop, map, get_or, nat_le, nat_lt, ◌⊎◌, inl, inr, arith, ap, refl, sym, subst, append_assoc}
+use Rattle.std.specs.Prelude.{Contains}
+use Rattle.std.specs.List.{list_all, list_any}
+use Rattle.std.proofs.lemmas.Bool.{cases_lt, eqb-true, le-leb, leb-true, lt-ltb, ltb-false, ltb-true}
+use Rattle.std.proofs.lemmas.Bool.Decides.{nat_tests}
+use Rattle.std.proofs.lemmas.List.{append-nil, get_or-map, get_or_past, length-map, take-append-drop}
+use Rattle.image_format.specs.declared.records.Header.{Header}
+use Rattle.image_format.specs.declared.records.TaskRecord.{TaskRecord}
+use Rattle.image_format.specs.declared.records.RegionRecord.{RegionRecord}
+use Rattle.image_format.specs.declared.records.LineRecord.{LineRecord}
+use Rattle.region_check.specs.declared.Region.{Region}
+use Rattle.region_check.specs.declared.Right.TheVariants.{Execute}
+use Rattle.region_check.specs.Rights.{gives, may_use}
+use Rattle.image_format.specs.Accepted.{Accepted}
+use Rattle.image_format.specs.Facts.{Facts, HasLines, HasRegions, HasSizes, HasTasks, IsInFlash, IsInRam, SameOrApart}
+use Rattle.image_format.specs.Picture.{LinePicture, Picture, TaskPicture, line_of, no_line, no_task, picture_of, region_of, regions_in, rights_of, task_of, tasks_of}
+use Rattle.image_format.specs.Records.{Records}
+use Rattle.image_format.specs.Regions.{clashes, cuts, entries_from, entry_fault, has_area, is_size, lies_in, meets, own_fault, region_fault, regions_from, runs_at, sizes}
+use Rattle.image_format.specs.Steps.{counted, line_fault, lines_from, lines_place, task_fault, tasks_from}
+use Rattle.image_format.proofs.Chunks.{blank}
+use Rattle.image_format.proofs.Limits.{limits, or_false, row_none}
+use Rattle.image_format.proofs.Lookups.{In, in_list, own_at, region_source, regions_looked, task_looked}
+use Rattle.image_format.proofs.Passed.{both_none, passed_steps}
+use Rattle.image_format.proofs.Shape.{Every, IsLine, IsRegion, IsTask, counts, equals, every_append, every_region, is_line, is_region, is_task, not_false, nothing_left, or_cases, rest_counted, rights_cases, tasks_length}
+
+-- ---- tests
+
+and_true : (a b : Bool) → (a && b) ≡ true → (a ≡ true) × (b ≡ true)
+and_true true b e = (refl, e)
+and_true false b e = cc
+
+-- ---- one region
+
+lies : (r : RegionRecord) (base end : ℕ) → lies_in r base end ≡ true → (base ≤ r.base) × (r.base + r.size ≤ end)
+lies r base end e =
+    let b = and_true (nat_le base r.base) (nat_le (r.base + r.size) end) e in
+    (leb-true base r.base b.0, leb-true (r.base + r.size) end b.1)
+
+-- what a region is, of an image with so much flash and RAM
+record IsPlaced (p : Picture) (r : Region) : Type 0 where
+  readable : r.rights.read ≡ true
+  no_code : r.rights.device ≡ true → r.rights.execute ≡ false
+  within : r.rights.device ≡ false → IsInFlash p r ⊎ IsInRam p r
+  writable : r.rights.device ≡ false → r.rights.write ≡ true → IsInRam p r
+  devices : r.rights.device ≡ true → (0x40000000 ≤ r.base) × (r.base + r.size ≤ 0x60000000)
+
+no : {A : Type 0} → false ≡ true → A
+no e = cc
+
+yes : {A : Type 0} → true ≡ false → A
+yes e = cc
+
+either_area : (h : Header) (p : Picture) (r : RegionRecord) → length p.flash ≡ h.flash → p.ram ≡ h.ram
+    → (lies_in r 0x08000000 (0x08000000 + h.flash) || lies_in r 0x20000000 (0x20000000 + h.ram)) ≡ true
+    → IsInFlash p (region_of r) ⊎ IsInRam p (region_of r)
+either_area h p r f m e =
+    elim (or_cases (lies_in r 0x08000000 (0x08000000 + h.flash)) (lies_in r 0x20000000 (0x20000000 + h.ram)) e) [
+      | inl a ↦ let l = lies r 0x08000000 (0x08000000 + h.flash) a in inl (l.0, omega (arith, l.1, f))
+      | inr a ↦ let l = lies r 0x20000000 (0x20000000 + h.ram) a in inr (l.0, omega (arith, l.1, m))
+    ]
+
+ram_area : (h : Header) (p : Picture) (r : RegionRecord) → p.ram ≡ h.ram → lies_in r 0x20000000 (0x20000000 + h.ram) ≡ true → IsInRam p (region_of r)
+ram_area h p r m e = let l = lies r 0x20000000 (0x20000000 + h.ram) e in (l.0, omega (arith, l.1, m))
+
+placed : (h : Header) (p : Picture) (r : RegionRecord) → length p.flash ≡ h.flash → p.ram ≡ h.ram → IsRegion h r → IsPlaced p (region_of r)
+placed h p r f m g =
+    rights_cases (λ n. has_area h (record r { rights = n }) ≡ true → IsPlaced p (region_of (record r { rights = n })))
+    (λ e. record { readable = refl; no_code = λ d. no d; within = λ d. either_area h p (record r { rights = 1 }) f m e; writable = λ d w. no w; devices = λ d. no d })
+    (λ e. let in_ram = ram_area h p (record r { rights = 3 }) m e in record { readable = refl; no_code = λ d. no d; within = λ d. inr in_ram; writable = λ d w. in_ram; devices = λ d. no d })
+    (λ e. record { readable = refl; no_code = λ d. no d; within = λ d. either_area h p (record r { rights = 5 }) f m e; writable = λ d w. no w; devices = λ d. no d })
+    (λ e. let in_ram = ram_area h p (record r { rights = 7 }) m e in record { readable = refl; no_code = λ d. no d; within = λ d. inr in_ram; writable = λ d w. in_ram; devices = λ d. no d })
+    (λ e. record { readable = refl; no_code = λ d. refl; within = λ d. yes d; writable = λ d w. yes d; devices = λ d. lies r 0x40000000 0x60000000 e })
+    (λ e. record { readable = refl; no_code = λ d. refl; within = λ d. yes d; writable = λ d w. yes d; devices = λ d. lies r 0x40000000 0x60000000 e })
+    r.rights g.rights g.area
+
+-- ---- sizes
+
+at_least : (least n : ℕ) (ks : List ℕ) → list_all (nat_le least) ks ≡ true → list_any (λ k. n == k) ks ≡ true → least ≤ n
+at_least least n [] a e = cc
+at_least least n (k ∷ ks) a e =
+    let b = and_true (nat_le least k) (list_all (nat_le least) ks) a in
+    elim (or_cases (n == k) (list_any (λ k. n == k) ks) e) [
+      | inl h ↦ same least n k b.0 h
+      | inr h ↦ at_least least n ks b.1 h
+    ]
+  where
+    same : (least n k : ℕ) → nat_le least k ≡ true → (n == k) ≡ true → least ≤ n
+    same least n k a b = grind (arith, nat_tests)
+
+sized : (h : Header) (r : RegionRecord) → IsRegion h r → 256 ≤ r.size
+unfolding is_size
+sized h r g = at_least 256 r.size sizes refl (and_true (is_size r.size) (r.base % r.size == 0) g.shape).0
+
+-- ---- regions apart
+
+abbrev Apart : RegionRecord → RegionRecord → Type 0
+Apart r e = ((r.base ≡ e.base) × (r.size ≡ e.size)) ⊎ (r.base + r.size ≤ e.base) ⊎ (e.base + e.size ≤ r.base)
+
+turned : (r e : RegionRecord) → Apart r e → Apart e r
+turned r e (inl h) = inl (sym h.0, sym h.1)
+turned r e (inr (inl h)) = inr (inr h)
+turned r e (inr (inr h)) = inr (inl h)
+
+not_meeting : (r e : RegionRecord) → meets r e ≡ false → (r.base + r.size ≤ e.base) ⊎ (e.base + e.size ≤ r.base)
+not_meeting r e h = by (nat_lt r.base (e.base + e.size)) refl h
+  where
+    by : (b : Bool) → nat_lt r.base (e.base + e.size) ≡ b → (b && nat_lt e.base (r.base + r.size)) ≡ false → (r.base + r.size ≤ e.base) ⊎ (e.base + e.size ≤ r.base)
+    by true a h = inl (ltb-false e.base (r.base + r.size) h)
+    by false a h = inr (ltb-false r.base (e.base + e.size) a)
+
+not_cutting : (r e : RegionRecord) → cuts r e ≡ false → Apart r e
+not_cutting r e h = by (meets r e) refl h
+  where
+    by : (b : Bool) → meets r e ≡ b → (b && (not (r.base == e.base) || not (r.size == e.size))) ≡ false → Apart r e
+    by true a h = let s = or_false (not (r.base == e.base)) (not (r.size == e.size)) h in inl (equals r.base e.base s.0, equals r.size e.size s.1)
+    by false a h = inr (not_meeting r e a)
+
+none_of : (test : RegionRecord → Bool) (P : RegionRecord → Type 0) → ((e : RegionRecord) → test e ≡ false → P e) → (xs : List RegionRecord) → list_any test xs ≡ false → Every P xs
+none_of test P each [] h = tt
+none_of test P each (x ∷ xs) h = let b = or_false (test x) (list_any test xs) h in (each x b.0, none_of test P each xs b.1)
+
+-- each region is apart from those before it
+abbrev AllApart : List RegionRecord → List RegionRecord → Type 0
+AllApart before [] = Unit {0}
+AllApart before (r ∷ rs) = Every (Apart r) before × AllApart (before ++ r ∷ []) rs
+
+own_apart : (h : Header) (others own : List RegionRecord) (place : ℕ) (rs : List RegionRecord) → own_fault h others own place rs ≡ None → AllApart (others ++ own) rs
+own_apart h others own place [] e = tt
+own_apart h others own place (r ∷ rs) e =
+    let a = both_none (region_fault h (clashes others own r) r place) (own_fault h others (own ++ r ∷ []) (place + 12) rs) e in
+    let c = or_false (list_any (meets r) own) (list_any (cuts r) others) (is_region h r (clashes others own r) place a.0).1 in (
+      every_append (Apart r) others own (none_of (cuts r) (Apart r) (not_cutting r) others c.1) (none_of (meets r) (Apart r) (λ e m. inr (not_meeting r e m)) own c.0),
+      subst (λ (xs : List RegionRecord). AllApart xs rs) (sym (append_assoc others own (r ∷ []))) (own_apart h others (own ++ r ∷ []) (place + 12) rs a.1),
+    )
+
+apart_append : (before xs ys : List RegionRecord) → AllApart before xs → AllApart (before ++ xs) ys → AllApart before (xs ++ ys)
+apart_append before [] ys a b = subst (λ (zs : List RegionRecord). AllApart zs ys) (append-nil before) b
+apart_append before (x ∷ xs) ys a b =
+    (a.0, apart_append (before ++ x ∷ []) xs ys a.1 (subst (λ (zs : List RegionRecord). AllApart zs ys) (sym (append_assoc before (x ∷ []) xs)) b))
+
+regions_apart : (h : Header) (others : List RegionRecord) (place : ℕ) (ts : List TaskRecord) (rs : List RegionRecord)
+    → counted ts ≡ length rs → regions_from h others place ts rs ≡ None → AllApart others rs
+regions_apart h others place [] rs n e = subst (AllApart others) (sym (nothing_left rs n)) tt
+regions_apart h others place (t ∷ ts) rs n e =
+    let own = take t.regions rs in
+    let more = drop t.regions rs in
+    let a = both_none (own_fault h others [] place own) (regions_from h (others ++ own) (place + 12 * t.regions) ts more) e in
+    subst (AllApart others) (take-append-drop t.regions rs)
+    (apart_append others own more (subst (λ (zs : List RegionRecord). AllApart zs own) (append-nil others) (own_apart h others [] place own a.0))
+    (regions_apart h (others ++ own) (place + 12 * t.regions) ts more (rest_counted t ts rs n).1 a.1))
+
+every_in : (P : RegionRecord → Type 0) (xs : List RegionRecord) (x : RegionRecord) → Every P xs → In x xs → P x
+every_in P [] x a h = absurd h
+every_in P (y ∷ ys) x a (inl e) = subst P e a.0
+every_in P (y ∷ ys) x a (inr h) = every_in P ys x a.1 h
+
+in_left : (xs ys : List RegionRecord) (x : RegionRecord) → In x xs → In x (xs ++ ys)
+in_left [] ys x h = absurd h
+in_left (z ∷ xs) ys x (inl e) = inl e
+in_left (z ∷ xs) ys x (inr h) = inr (in_left xs ys x h)
+
+in_end : (xs : List RegionRecord) (x : RegionRecord) → In x (xs ++ x ∷ [])
+in_end [] x = inl refl
+in_end (z ∷ xs) x = inr (in_end xs x)
+
+later : (before rs : List RegionRecord) (x y : RegionRecord) → AllApart before rs → In x before → In y rs → Apart y x
+later before [] x y a h k = absurd k
+later before (r ∷ rs) x y a h (inl e) = subst (λ (z : RegionRecord). Apart z x) e (every_in (Apart r) before x a.0 h)
+later before (r ∷ rs) x y a h (inr k) = later (before ++ r ∷ []) rs x y a.1 (in_left before (r ∷ []) x h) k
+
+pairs : (before rs : List RegionRecord) (x y : RegionRecord) → AllApart before rs → In x rs → In y rs → Apart x y
+pairs before [] x y a h k = absurd h
+pairs before (r ∷ rs) x y a (inl d) (inl e) = inl (ap (λ (z : RegionRecord). z.base) (sym d ∙ e), ap (λ (z : RegionRecord). z.size) (sym d ∙ e))
+pairs before (r ∷ rs) x y a (inl d) (inr k) = turned y x (later (before ++ r ∷ []) rs x y a.1 (subst (λ (z : RegionRecord). In z (before ++ r ∷ [])) d (in_end before r)) k)
+pairs before (r ∷ rs) x y a (inr h) (inl e) = later (before ++ r ∷ []) rs y x a.1 (subst (λ (z : RegionRecord). In z (before ++ r ∷ [])) e (in_end before r)) h
+pairs before (r ∷ rs) x y a (inr h) (inr k) = pairs (before ++ r ∷ []) rs x y a.1 h k
+
+-- ---- regions of the picture
+
+has_regions : (r : Records) → Accepted r → HasRegions (picture_of r)
+has_regions r a =
+    let s = passed_steps r a.records in
+    let n = counts r a in
+    let p = picture_of r in
+    let place = 20 + 12 * r.header.tasks in
+    let every = every_region r.header [] place r.tasks r.regions n s.regions in
+    let apart = regions_apart r.header [] place r.tasks r.regions n s.regions in
+    record {
+      readable = λ i g c. (each every i g c).readable;
+      no_code = λ i g c. (each every i g c).no_code;
+      sizes = λ i g c. let q = region_source r.tasks r.regions i g c in
+          subst (λ (z : Region). 256 ≤ z.size) q.2 (sized r.header q.0 (every_in (IsRegion r.header) r.regions q.0 every q.1));
+      within = λ i g c. (each every i g c).within;
+      writable = λ i g c. (each every i g c).writable;
+      devices = λ i g c. (each every i g c).devices;
+      apart = λ i j g e c d. let q = region_source r.tasks r.regions i g c in let o = region_source r.tasks r.regions j e d in
+          subst (λ (z : Region). SameOrApart z e) q.2 (subst (λ (z : Region). SameOrApart (region_of q.0) z) o.2 (pairs [] r.regions q.0 o.0 apart q.1 o.1));
+    }
+  where
+    each : Every (IsRegion r.header) r.regions → (i : ℕ) (g : Region) → Contains (regions_in (picture_of r) i) g → IsPlaced (picture_of r) g
+    each every i g c =
+        let q = region_source r.tasks r.regions i g c in
+        subst (IsPlaced (picture_of r)) q.2 (placed r.header (picture_of r) q.0 a.flash refl (every_in (IsRegion r.header) r.regions q.0 every q.1))
+
+-- ---- tasks
+
+task_steps : (index place : ℕ) (ts : List TaskRecord) (i : ℕ) → i < length ts → tasks_from index place ts ≡ None → IsTask (index + i) (get_or ts i blank)
+task_steps index place [] i lt e = absurd (omega (arith, lt))
+task_steps index place (t ∷ ts) zero lt e =
+    let a = both_none (task_fault index t place) (tasks_from (index + 1) (place + 12) ts) e in
+    let same : index ≡ index + 0 = omega arith in
+    subst (λ (k : ℕ). IsTask k t) same (is_task index t place a.0)
+task_steps index place (t ∷ ts) (suc i) lt e =
+    let a = both_none (task_fault index t place) (tasks_from (index + 1) (place + 12) ts) e in
+    let same : (index + 1) + i ≡ index + suc i = omega arith in
+    subst (λ (k : ℕ). IsTask k (get_or ts i blank)) same (task_steps (index + 1) (place + 12) ts i (omega (arith, lt)) a.1)
+
+record Enters (own : List RegionRecord) (t : TaskRecord) : Type 0 where
+  odd : t.entry % 2 ≡ 1
+  runs : list_any (runs_at t.entry) own ≡ true
+
+enters : (own : List RegionRecord) (t : TaskRecord) (place : ℕ) → entry_fault own t place ≡ None → Enters own t
+enters own t place e =
+    let b = row_none (t.entry % 2 == 0 || not (list_any (runs_at t.entry) own)) (12, place + 4) None e in
+    let c = or_false (t.entry % 2 == 0) (not (list_any (runs_at t.entry) own)) b.0 in
+    record { odd = odd t.entry c.0; runs = not_false (list_any (runs_at t.entry) own) c.1 }
+  where
+    odd : (n : ℕ) → (n % 2 == 0) ≡ false → n % 2 ≡ 1
+    odd n e = by (n % 2) (omega arith) e
+      where
+        by : (m : ℕ) → m < 2 → (m == 0) ≡ false → m ≡ 1
+        by m lt e = grind (arith, nat_tests)
+
+entry_steps : (place : ℕ) (ts : List TaskRecord) (rs : List RegionRecord) (i : ℕ) → i < length ts → entries_from place ts rs ≡ None → Enters (own_at ts rs i) (get_or ts i blank)
+entry_steps place [] rs i lt e = absurd (omega (arith, lt))
+entry_steps place (t ∷ ts) rs zero lt e =
+    enters (take t.regions rs) t place (both_none (entry_fault (take t.regions rs) t place) (entries_from (place + 12) ts (drop t.regions rs)) e).0
+entry_steps place (t ∷ ts) rs (suc i) lt e =
+    entry_steps (place + 12) ts (drop t.regions rs) i (omega (arith, lt)) (both_none (entry_fault (take t.regions rs) t place) (entries_from (place + 12) ts (drop t.regions rs)) e).1
+
+gives_there : (entry : ℕ) (r : RegionRecord) → runs_at entry r ≡ true → gives Execute (entry - 1) (region_of r) ≡ true
+gives_there entry r e =
+    let a = and_true ((r.rights == 5 || r.rights == 7) && nat_lt r.base entry) (nat_le entry (r.base + r.size)) e in
+    let b = and_true (r.rights == 5 || r.rights == 7) (nat_lt r.base entry) a.0 in
+    let low : r.base ≤ entry - 1 = omega (arith, ltb-true r.base entry b.1) in
+    let high : entry - 1 < r.base + r.size = omega (arith, ltb-true r.base entry b.1, leb-true entry (r.base + r.size) a.1) in
+    let one = le-leb r.base (entry - 1) low in
+    let two = lt-ltb (entry - 1) (r.base + r.size) high in
+    rw (one, two) (elim (or_cases (r.rights == 5) (r.rights == 7) b.0) [
+      | inl h ↦ ap (λ (n : ℕ). (rights_of n).execute) (eqb-true r.rights 5 h)
+      | inr h ↦ ap (λ (n : ℕ). (rights_of n).execute) (eqb-true r.rights 7 h)
+    ])
+
+some_gives : (entry : ℕ) (rs : List RegionRecord) → list_any (runs_at entry) rs ≡ true → may_use (map region_of rs) Execute (entry - 1) ≡ true
+some_gives entry [] e = cc
+some_gives entry (r ∷ rs) e =
+    elim (or_cases (runs_at entry r) (list_any (runs_at entry) rs) e) [
+      | inl h ↦ let g = gives_there entry r h in or_left (gives Execute (entry - 1) (region_of r)) (may_use (map region_of rs) Execute (entry - 1)) g
+      | inr h ↦ or_right (gives Execute (entry - 1) (region_of r)) (may_use (map region_of rs) Execute (entry - 1)) (some_gives entry rs h)
+    ]
+  where
+    or_left : (a b : Bool) → a ≡ true → (a || b) ≡ true
+    or_left true b e = refl
+    or_left false b e = cc
+
+    or_right : (a b : Bool) → b ≡ true → (a || b) ≡ true
+    or_right true b e = refl
+    or_right false b e = e
+
+own_length : (ts : List TaskRecord) (rs : List RegionRecord) (i : ℕ) → i < length ts → counted ts ≡ length rs → length (own_at ts rs i) ≡ (get_or ts i blank).regions
+own_length [] rs i lt e = absurd (omega (arith, lt))
+own_length (t ∷ ts) rs zero lt e = (rest_counted t ts rs e).0
+own_length (t ∷ ts) rs (suc i) lt e = own_length ts (drop t.regions rs) i (omega (arith, lt)) (rest_counted t ts rs e).1
+
+past_end : (ts : List TaskRecord) (rs : List RegionRecord) (i : ℕ) → length ts ≤ i → get_or (tasks_of ts rs) i no_task ≡ no_task
+past_end ts rs i le = get_or_past (tasks_of ts rs) i no_task (omega (arith, le, tasks_length ts rs))
+
+has_tasks : (r : Records) → Accepted r → HasTasks (picture_of r)
+has_tasks r a =
+    let l = limits r.header a.fields in
+    let some : 0 < length r.tasks = omega (arith, a.tasks, l.some_task) in
+    record {
+      supervisor = ap (λ (t : TaskPicture). t.priority) (look 0 some) ∙ (each 0 some).supervisor refl;
+      supervisor_started = ap (λ (t : TaskPicture). t.started) (look 0 some) ∙ ap (λ (n : ℕ). n == 1) ((each 0 some).started refl);
+      priorities = λ i above below. let lt = within i below in subst (λ (t : TaskPicture). 0 < t.priority) (sym (look i lt)) ((each i lt).others above);
+      stacks = λ i. elim (cases_lt i (length r.tasks)) [
+        | inl lt ↦ ap (λ (t : TaskPicture). t.sp % 4) (look i lt) ∙ (each i lt).stack
+        | inr le ↦ ap (λ (t : TaskPicture). t.sp % 4) (past_end r.tasks r.regions i le)
+      ];
+      some_region = λ i below. let lt = within i below in omega (arith, long i lt, (each i lt).some_region);
+      most_regions = λ i. elim (cases_lt i (length r.tasks)) [
+        | inl lt ↦ omega (arith, long i lt, (each i lt).most_regions)
+        | inr le ↦ let e = ap (λ (t : TaskPicture). length t.regions) (past_end r.tasks r.regions i le) in omega (arith, e)
+      ];
+      odd_entries = λ i below. let lt = within i below in ap (λ (t : TaskPicture). t.entry % 2) (look i lt) ∙ (enter i lt).odd;
+      entries = λ i below. let lt = within i below in
+          ap (λ (t : TaskPicture). may_use t.regions Execute (t.entry - 1)) (look i lt)
+          ∙ some_gives (get_or r.tasks i blank).entry (own_at r.tasks r.regions i) (enter i lt).runs;
+    }
+  where
+    within : (i : ℕ) → i < length (tasks_of r.tasks r.regions) → i < length r.tasks
+    within i lt = omega (arith, lt, tasks_length r.tasks r.regions)
+
+    look : (i : ℕ) → i < length r.tasks → get_or (tasks_of r.tasks r.regions) i no_task ≡ task_of (get_or r.tasks i blank) (own_at r.tasks r.regions i)
+    look i lt = task_looked r.tasks r.regions i lt
+
+    each : (i : ℕ) → i < length r.tasks → IsTask i (get_or r.tasks i blank)
+    each i lt = let same : 0 + i ≡ i = omega arith in subst (λ (k : ℕ). IsTask k (get_or r.tasks i blank)) same (task_steps 0 20 r.tasks i lt (passed_steps r a.records).tasks)
+
+    enter : (i : ℕ) → i < length r.tasks → Enters (own_at r.tasks r.regions i) (get_or r.tasks i blank)
+    enter i lt = entry_steps 20 r.tasks r.regions i lt (passed_steps r a.records).entries
+
+    long : (i : ℕ) → i < length r.tasks → length (regions_in (picture_of r) i) ≡ (get_or r.tasks i blank).regions
+    long i lt = ap length (regions_looked r.tasks r.regions i) ∙ length-map (own_at r.tasks r.regions i) region_of ∙ own_length r.tasks r.regions i lt (counts r a)
+
+-- ---- interrupts
+
+blank_line : LineRecord
+blank_line = record { line = 0; task = 0; zero = 0; bits = 0 }
+
+line_steps : (least tasks place : ℕ) (ls : List LineRecord) (k : ℕ) → k < length ls → lines_from least tasks place ls ≡ None → IsLine least tasks (get_or ls k blank_line)
+line_steps least tasks place [] k lt e = absurd (omega (arith, lt))
+line_steps least tasks place (l ∷ ls) zero lt e =
+    is_line least tasks l place (both_none (line_fault least tasks l place) (lines_from (l.line + 1) tasks (place + 8) ls) e).0
+line_steps least tasks place (l ∷ ls) (suc k) lt e =
+    let a = both_none (line_fault least tasks l place) (lines_from (l.line + 1) tasks (place + 8) ls) e in
+    let here = is_line least tasks l place a.0 in
+    let next = line_steps (l.line + 1) tasks (place + 8) ls k (omega (arith, lt)) a.1 in
+    record { most = next.most; least_line = omega (arith, here.least_line, next.least_line); owner = next.owner; zero_half = next.zero_half; bits = next.bits }
+
+line_order : (least tasks place : ℕ) (ls : List LineRecord) (k m : ℕ) → k < m → m < length ls → lines_from least tasks place ls ≡ None
+    → (get_or ls k blank_line).line < (get_or ls m blank_line).line
+line_order least tasks place [] k m lt in_list e = absurd (omega (arith, in_list))
+line_order least tasks place (l ∷ ls) k zero lt in_list e = absurd (omega (arith, lt))
+line_order least tasks place (l ∷ ls) zero (suc m) lt in_list e =
+    let a = both_none (line_fault least tasks l place) (lines_from (l.line + 1) tasks (place + 8) ls) e in
+    let next = line_steps (l.line + 1) tasks (place + 8) ls m (omega (arith, in_list)) a.1 in
+    omega (arith, next.least_line)
+line_order least tasks place (l ∷ ls) (suc k) (suc m) lt in_list e =
+    line_order (l.line + 1) tasks (place + 8) ls k m (omega (arith, lt)) (omega (arith, in_list)) (both_none (line_fault least tasks l place) (lines_from (l.line + 1) tasks (place + 8) ls) e).1
+
+has_lines : (r : Records) → Accepted r → HasLines (picture_of r)
+has_lines r a = record {
+  ascending = λ k m lt below. let n = within m below in
+      omega (arith, ap (λ (l : LinePicture). l.line) (look k (omega (arith, lt, n))), ap (λ (l : LinePicture). l.line) (look m n), line_order 0 r.header.tasks (lines_place r.header) r.lines k m lt n step);
+  below = λ k. elim (cases_lt k (length r.lines)) [
+    | inl lt ↦ omega (arith, ap (λ (l : LinePicture). l.line) (look k lt), (each k lt).most)
+    | inr le ↦ omega (arith, ap (λ (l : LinePicture). l.line) (get_or_past (map line_of r.lines) k no_line (omega (arith, le, length-map r.lines line_of))))
+  ];
+  owners = λ k below. let n = within k below in
+      omega (arith, ap (λ (l : LinePicture). l.task) (look k n), (each k n).owner, a.tasks, tasks_length r.tasks r.regions);
+  bits = λ k below. let n = within k below in omega (arith, ap (λ (l : LinePicture). l.bits) (look k n), (each k n).bits);
+}
+  where
+    step : lines_from 0 r.header.tasks (lines_place r.header) r.lines ≡ None
+    step = (passed_steps r a.records).lines
+
+    within : (k : ℕ) → k < length (map line_of r.lines) → k < length r.lines
+    within k lt = omega (arith, lt, length-map r.lines line_of)
+
+    look : (k : ℕ) → k < length r.lines → get_or (map line_of r.lines) k no_line ≡ line_of (get_or r.lines k blank_line)
+    look k lt = get_or-map line_of r.lines k blank_line no_line lt
+
+    each : (k : ℕ) → k < length r.lines → IsLine 0 r.header.tasks (get_or r.lines k blank_line)
+    each k lt = line_steps 0 r.header.tasks (lines_place r.header) r.lines k lt step
+
+-- ---- the whole
+
+has_sizes : (r : Records) → Accepted r → HasSizes (picture_of r)
+has_sizes r a =
+    let l = limits r.header a.fields in
+    let tasks = tasks_length r.tasks r.regions in
+    record {
+      some_task = omega (arith, tasks, a.tasks, l.some_task);
+      most_tasks = omega (arith, tasks, a.tasks, l.tasks);
+      most_lines = omega (arith, length-map r.lines line_of, a.lines, l.lines);
+      some_flash = omega (arith, a.flash, l.some_flash);
+      most_flash = omega (arith, a.flash, l.flash);
+      most_ram = l.ram;
+      fault_bits = l.bits;
+    }
+
+pub facts : (r : Records) → Accepted r → Facts (picture_of r)
+facts r a = record { sizes = has_sizes r a; tasks = has_tasks r a; regions = has_regions r a; lines = has_lines r a }

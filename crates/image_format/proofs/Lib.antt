@@ -1,0 +1,9 @@
+pub mod Again
+pub mod Chunks
+pub mod Holds
+pub mod Limits
+pub mod Lookups
+pub mod Passed
+pub mod Shape
+pub mod Spelled
+pub mod Steps

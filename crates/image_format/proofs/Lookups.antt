@@ -1,0 +1,92 @@
+-- The i-th task of a picture, and its regions.
+use Rattle.std.proofs.Common.{◌≡◌, ◌∙◌, ◌+◌, ◌<◌, ◌≤◌, ℕ, zero, suc, List, [], ◌∷◌, length, take, drop, get_or, map, arith, ap, refl, subst, sym, ◌⊎◌, inl, inr}
+use Rattle.std.specs.Prelude.{Contains}
+use Rattle.std.proofs.lemmas.List.{drop-drop}
+use Rattle.std.proofs.lemmas.List.Sums.{sum_by-cons, sum_by-take-drop}
+use Rattle.image_format.specs.declared.records.TaskRecord.{TaskRecord}
+use Rattle.image_format.specs.declared.records.RegionRecord.{RegionRecord}
+use Rattle.region_check.specs.declared.Region.{Region}
+use Rattle.image_format.specs.Picture.{no_task, region_of, task_of, tasks_of}
+use Rattle.image_format.specs.Steps.{counted}
+use Rattle.image_format.proofs.Chunks.{blank, counted_step}
+
+-- the i-th task's regions
+abbrev pub own_at : List TaskRecord → List RegionRecord → ℕ → List RegionRecord
+own_at [] rs i = []
+own_at (t ∷ ts) rs zero = take t.regions rs
+own_at (t ∷ ts) rs (suc i) = own_at ts (drop t.regions rs) i
+
+pub task_looked : (ts : List TaskRecord) (rs : List RegionRecord) (i : ℕ) → i < length ts
+    → get_or (tasks_of ts rs) i no_task ≡ task_of (get_or ts i blank) (own_at ts rs i)
+task_looked [] rs i lt = absurd (omega (arith, lt))
+task_looked (t ∷ ts) rs zero lt = refl
+task_looked (t ∷ ts) rs (suc i) lt = task_looked ts (drop t.regions rs) i (omega (arith, lt))
+
+pub own_sliced : (ts : List TaskRecord) (rs : List RegionRecord) (i : ℕ) → i < length ts
+    → own_at ts rs i ≡ take (get_or ts i blank).regions (drop (counted (take i ts)) rs)
+own_sliced [] rs i lt = absurd (omega (arith, lt))
+own_sliced (t ∷ ts) rs zero lt = refl
+own_sliced (t ∷ ts) rs (suc i) lt =
+    let sum = sum_by-cons (λ (t : TaskRecord). t.regions) t (take i ts) in
+    own_sliced ts (drop t.regions rs) i (omega (arith, lt))
+    ∙ ap (take (get_or ts i blank).regions) (drop-drop (counted (take i ts)) t.regions rs ∙ ap (λ (k : ℕ). drop k rs) (sym sum))
+
+-- the i-th task's regions end where those of all do, at the most
+pub within_all : (ts : List TaskRecord) (i n : ℕ) → i < length ts → counted ts ≡ n → counted (take i ts) + (get_or ts i blank).regions ≤ n
+within_all ts i n lt e = omega (arith, e, counted_step ts i lt, sum_by-take-drop (λ (t : TaskRecord). t.regions) ts i)
+
+pub any_default : {T : Type 0} (xs : List T) (i : ℕ) (d e : T) → i < length xs → get_or xs i d ≡ get_or xs i e
+any_default [] i d e lt = absurd (omega (arith, lt))
+any_default (x ∷ xs) zero d e lt = refl
+any_default (x ∷ xs) (suc i) d e lt = any_default xs i d e (omega (arith, lt))
+
+-- an element, by where it stands
+abbrev pub In : {T : Type 0} → T → List T → Type 0
+In x [] = ⊥
+In x (y ∷ ys) = (y ≡ x) ⊎ In x ys
+
+pub in_list : {T : Type 0} (xs : List T) (x : T) → Contains xs x → In x xs
+in_list {T} xs x c = at xs c.0 c.1 c.2
+  where
+    at : (ys : List T) (k : ℕ) → k < length ys → get_or ys k x ≡ x → In x ys
+    at [] k lt e = absurd (omega (arith, lt))
+    at (y ∷ ys) zero lt e = inl e
+    at (y ∷ ys) (suc k) lt e = inr (at ys k (omega (arith, lt)) e)
+
+pub in_map : {S T : Type 0} (f : S → T) (xs : List S) (y : T) → In y (map f xs) → (x : S) × (In x xs) × (f x ≡ y)
+in_map f [] y h = absurd h
+in_map f (x ∷ xs) y (inl e) = (x, inl refl, e)
+in_map f (x ∷ xs) y (inr h) = let m = in_map f xs y h in (m.0, inr m.1, m.2)
+
+pub in_take : {T : Type 0} (n : ℕ) (xs : List T) (x : T) → In x (take n xs) → In x xs
+in_take zero xs x h = absurd h
+in_take (suc n) [] x h = absurd h
+in_take (suc n) (y ∷ ys) x (inl e) = inl e
+in_take (suc n) (y ∷ ys) x (inr h) = inr (in_take n ys x h)
+
+pub in_drop : {T : Type 0} (n : ℕ) (xs : List T) (x : T) → In x (drop n xs) → In x xs
+in_drop zero xs x h = h
+in_drop (suc n) [] x h = absurd h
+in_drop (suc n) (y ∷ ys) x h = inr (in_drop n ys x h)
+
+pub in_own : (ts : List TaskRecord) (rs : List RegionRecord) (i : ℕ) (r : RegionRecord) → In r (own_at ts rs i) → In r rs
+in_own [] rs i r h = absurd h
+in_own (t ∷ ts) rs zero r h = in_take t.regions rs r h
+in_own (t ∷ ts) rs (suc i) r h = in_drop t.regions rs r (in_own ts (drop t.regions rs) i r h)
+
+pub regions_looked : (ts : List TaskRecord) (rs : List RegionRecord) (i : ℕ) → (get_or (tasks_of ts rs) i no_task).regions ≡ map region_of (own_at ts rs i)
+regions_looked [] rs i = past i
+  where
+    past : (i : ℕ) → (get_or [] i no_task).regions ≡ []
+    past zero = refl
+    past (suc i) = refl
+regions_looked (t ∷ ts) rs zero = refl
+regions_looked (t ∷ ts) rs (suc i) = regions_looked ts (drop t.regions rs) i
+
+-- the record that a region of a task comes from
+pub region_source : (ts : List TaskRecord) (rs : List RegionRecord) (i : ℕ) (r : Region)
+    → Contains (get_or (tasks_of ts rs) i no_task).regions r → (q : RegionRecord) × (In q rs) × (region_of q ≡ r)
+region_source ts rs i r c =
+    let h : In r (map region_of (own_at ts rs i)) = subst (In r) (regions_looked ts rs i) (in_list (get_or (tasks_of ts rs) i no_task).regions r c) in
+    let m = in_map region_of (own_at ts rs i) r h in
+    (m.0, in_own ts rs i m.0 m.1, m.2)

@@ -1,0 +1,313 @@
+-- The records of an accepted image are those that say its picture.
+use Rattle.std.proofs.Common.{◌≡◌, ◌∙◌, ◌+◌, ◌*◌, ◌%◌, ◌<◌, ◌≤◌, ℕ, List, [], ◌∷◌, ◌++◌, Bool, true, false, not, ◌||◌, ◌&&◌, ◌==◌, None, length, take, drop, map, nat_le, nat_lt, ◌⊎◌, inl, inr, arith, ap, ap₂, refl, sym, subst, length-drop}
+use Rattle.std.specs.List.{list_any}
+use Rattle.std.proofs.Math.Seq.{drop-append_seam, take-append_seam}
+use Rattle.std.proofs.lemmas.Bool.{eqb-true}
+use Rattle.std.proofs.lemmas.Bool.Decides.{nat_tests}
+use Rattle.std.proofs.lemmas.List.{length-map, length-take, map-append, take-append-drop}
+use Rattle.std.proofs.lemmas.List.Sums.{sum_by-cons}
+use Rattle.image_format.specs.declared.records.Header.{Header}
+use Rattle.image_format.specs.declared.records.TaskRecord.{TaskRecord}
+use Rattle.image_format.specs.declared.records.RegionRecord.{RegionRecord}
+use Rattle.image_format.specs.declared.records.LineRecord.{LineRecord}
+use Rattle.region_check.specs.declared.Region.{Region}
+use Rattle.region_check.specs.declared.Rights.{Rights}
+use Rattle.image_format.specs.Accepted.{Accepted}
+use Rattle.image_format.specs.Picture.{LinePicture, Picture, TaskPicture, all_regions, bit, line_of, line_record, picture_of, records_of, region_of, region_record, rights_number, rights_of, task_of, task_record, tasks_of}
+use Rattle.image_format.specs.Records.{Records}
+use Rattle.image_format.specs.Regions.{clashes, has_area, has_rights, has_shape, own_fault, region_fault, regions_from}
+use Rattle.image_format.specs.Steps.{counted, line_fault, lines_from, task_fault, tasks_from}
+use Rattle.image_format.proofs.Limits.{above, all_counted, or_false, positive, row_none}
+use Rattle.image_format.proofs.Passed.{both_none, passed_steps}
+
+-- ---- tests
+
+pub not_false : (b : Bool) → not b ≡ false → b ≡ true
+not_false true e = refl
+not_false false e = cc
+
+pub equals : (n m : ℕ) → not (n == m) ≡ false → n ≡ m
+equals n m e = eqb-true n m (not_false (n == m) e)
+
+pub or_cases : (a b : Bool) → (a || b) ≡ true → (a ≡ true) ⊎ (b ≡ true)
+or_cases true b e = inl refl
+or_cases false b e = inr e
+
+-- ---- what the step says of a task
+
+pub record IsTask (index : ℕ) (t : TaskRecord) : Type 0 where
+  pub supervisor : index ≡ 0 → t.priority ≡ 0
+  pub others : 0 < index → 0 < t.priority
+  pub flags : t.flags ≤ 1
+  pub started : index ≡ 0 → t.flags ≡ 1
+  pub some_region : 1 ≤ t.regions
+  pub most_regions : t.regions ≤ 8
+  pub zero_byte : t.zero ≡ 0
+  pub stack : t.sp % 4 ≡ 0
+
+pub is_task : (index : ℕ) (t : TaskRecord) (place : ℕ) → task_fault index t place ≡ None → IsTask index t
+is_task index t place e =
+    let a = row_none ((index == 0 && not (t.priority == 0)) || (not (index == 0) && t.priority == 0)) _ _ e in
+    let b = row_none (nat_lt 1 t.flags || (index == 0 && not (t.flags == 1))) _ _ a.1 in
+    let c = row_none (nat_lt t.regions 1 || nat_lt 8 t.regions) _ _ b.1 in
+    let d = row_none (not (t.zero == 0)) _ _ c.1 in
+    let f = row_none (not (t.sp % 4 == 0)) _ _ d.1 in
+    let priority = a.0 in
+    let flags = b.0 in
+    let regions = c.0 in
+    record {
+      supervisor = supervisor index t.priority a.0;
+      others = others index t.priority a.0;
+      flags = most_flags index t.flags b.0;
+      started = started index t.flags b.0;
+      some_region = some t.regions c.0;
+      most_regions = most t.regions c.0;
+      zero_byte = equals t.zero 0 d.0;
+      stack = equals (t.sp % 4) 0 f.0;
+    }
+  where
+    supervisor : (index p : ℕ) → ((index == 0 && not (p == 0)) || (not (index == 0) && p == 0)) ≡ false → index ≡ 0 → p ≡ 0
+    supervisor index p e i = grind (arith, nat_tests)
+
+    others : (index p : ℕ) → ((index == 0 && not (p == 0)) || (not (index == 0) && p == 0)) ≡ false → 0 < index → 0 < p
+    others index p e i = grind (arith, nat_tests)
+
+    most_flags : (index f : ℕ) → (nat_lt 1 f || (index == 0 && not (f == 1))) ≡ false → f ≤ 1
+    most_flags index f e = grind (arith, nat_tests)
+
+    started : (index f : ℕ) → (nat_lt 1 f || (index == 0 && not (f == 1))) ≡ false → index ≡ 0 → f ≡ 1
+    started index f e i = grind (arith, nat_tests)
+
+    some : (n : ℕ) → (nat_lt n 1 || nat_lt 8 n) ≡ false → 1 ≤ n
+    some n e = grind (arith, nat_tests)
+
+    most : (n : ℕ) → (nat_lt n 1 || nat_lt 8 n) ≡ false → n ≤ 8
+    most n e = grind (arith, nat_tests)
+
+-- ---- what the step says of a region
+
+pub record IsRegion (h : Header) (r : RegionRecord) : Type 0 where
+  pub rights : has_rights r ≡ true
+  pub shape : has_shape r ≡ true
+  pub area : has_area h r ≡ true
+
+pub is_region : (h : Header) (r : RegionRecord) (overlaps : Bool) (place : ℕ) → region_fault h overlaps r place ≡ None → IsRegion h r × (overlaps ≡ false)
+is_region h r overlaps place e =
+    let a = row_none (not (has_rights r)) _ _ e in
+    let b = row_none (not (has_shape r)) _ _ a.1 in
+    let c = row_none (not (has_area h r)) _ _ b.1 in
+    let d = row_none overlaps _ _ c.1 in
+    (record { rights = not_false (has_rights r) a.0; shape = not_false (has_shape r) b.0; area = not_false (has_area h r) c.0 }, d.0)
+
+abbrev pub Every : (RegionRecord → Type 0) → List RegionRecord → Type 0
+Every P [] = Unit {0}
+Every P (r ∷ rs) = P r × Every P rs
+
+pub every_append : (P : RegionRecord → Type 0) (xs ys : List RegionRecord) → Every P xs → Every P ys → Every P (xs ++ ys)
+every_append P [] ys a b = b
+every_append P (x ∷ xs) ys a b = (a.0, every_append P xs ys a.1 b)
+
+own_regions : (h : Header) (others own : List RegionRecord) (place : ℕ) (rs : List RegionRecord) → own_fault h others own place rs ≡ None → Every (IsRegion h) rs
+own_regions h others own place [] e = tt
+own_regions h others own place (r ∷ rs) e =
+    let a = both_none (region_fault h (clashes others own r) r place) (own_fault h others (own ++ r ∷ []) (place + 12) rs) e in
+    ((is_region h r (clashes others own r) place a.0).0, own_regions h others (own ++ r ∷ []) (place + 12) rs a.1)
+
+pub nothing_left : (rs : List RegionRecord) → 0 ≡ length rs → rs ≡ []
+nothing_left [] e = refl
+nothing_left (r ∷ rs) e = absurd (omega (arith, e))
+
+-- the first task's regions, and those of the others
+pub rest_counted : (t : TaskRecord) (ts : List TaskRecord) (rs : List RegionRecord) → counted (t ∷ ts) ≡ length rs
+    → (length (take t.regions rs) ≡ t.regions) × (counted ts ≡ length (drop t.regions rs))
+rest_counted t ts rs e =
+    let sum = sum_by-cons (λ (t : TaskRecord). t.regions) t ts in
+    (omega (arith, sum, e, length-take t.regions rs), omega (arith, sum, e, length-drop t.regions rs))
+
+pub every_region : (h : Header) (others : List RegionRecord) (place : ℕ) (ts : List TaskRecord) (rs : List RegionRecord)
+    → counted ts ≡ length rs → regions_from h others place ts rs ≡ None → Every (IsRegion h) rs
+every_region h others place [] rs n e = subst (Every (IsRegion h)) (sym (nothing_left rs n)) tt
+every_region h others place (t ∷ ts) rs n e =
+    let own = take t.regions rs in
+    let more = drop t.regions rs in
+    let a = both_none (own_fault h others [] place own) (regions_from h (others ++ own) (place + 12 * t.regions) ts more) e in
+    subst (Every (IsRegion h)) (take-append-drop t.regions rs)
+    (every_append (IsRegion h) own more (own_regions h others [] place own a.0)
+    (every_region h (others ++ own) (place + 12 * t.regions) ts more (rest_counted t ts rs n).1 a.1))
+
+-- ---- rights
+
+-- what holds of a number that is one of the list
+one_of : (P : ℕ → Type 0) (n k : ℕ) (ks : List ℕ) → P k → (list_any (λ j. n == j) ks ≡ true → P n) → list_any (λ j. n == j) (k ∷ ks) ≡ true → P n
+one_of P n k ks here there e = by (or_cases (n == k) (list_any (λ j. n == j) ks) e)
+  where
+    by : ((n == k) ≡ true) ⊎ (list_any (λ j. n == j) ks ≡ true) → P n
+    by (inl h) = subst P (sym (eqb-true n k h)) here
+    by (inr h) = there h
+
+one_of_none : (P : ℕ → Type 0) (n : ℕ) → list_any (λ j. n == j) [] ≡ true → P n
+one_of_none P n e = cc
+
+-- what holds of each number of rights that is taken
+pub rights_cases : (P : ℕ → Type 0) → P 1 → P 3 → P 5 → P 7 → P 9 → P 11 → (n : ℕ) → list_any (λ k. n == k) (1 ∷ 3 ∷ 5 ∷ 7 ∷ 9 ∷ 11 ∷ []) ≡ true → P n
+rights_cases P one three five seven nine eleven n e =
+    one_of P n 1 (3 ∷ 5 ∷ 7 ∷ 9 ∷ 11 ∷ []) one (one_of P n 3 (5 ∷ 7 ∷ 9 ∷ 11 ∷ []) three (one_of P n 5 (7 ∷ 9 ∷ 11 ∷ []) five
+    (one_of P n 7 (9 ∷ 11 ∷ []) seven (one_of P n 9 (11 ∷ []) nine (one_of P n 11 [] eleven (one_of_none P n)))))) e
+
+rights_again : (n : ℕ) → list_any (λ k. n == k) (1 ∷ 3 ∷ 5 ∷ 7 ∷ 9 ∷ 11 ∷ []) ≡ true → rights_number (rights_of n) ≡ n
+rights_again = rights_cases (λ n. rights_number (rights_of n) ≡ n) refl refl refl refl refl refl
+
+region_again : (h : Header) (r : RegionRecord) → IsRegion h r → region_record (region_of r) ≡ r
+region_again h r g = ap (λ (n : ℕ). record r { rights = n }) (rights_again r.rights g.rights)
+
+regions_again : (h : Header) (rs : List RegionRecord) → Every (IsRegion h) rs → map region_record (map region_of rs) ≡ rs
+regions_again h [] g = refl
+regions_again h (r ∷ rs) g = ap₂ (λ x xs. x ∷ xs) (region_again h r g.0) (regions_again h rs g.1)
+
+-- ---- tasks
+
+pub tasks_length : (ts : List TaskRecord) (rs : List RegionRecord) → length (tasks_of ts rs) ≡ length ts
+tasks_length [] rs = refl
+tasks_length (t ∷ ts) rs = omega (arith, tasks_length ts (drop t.regions rs))
+
+all_again : (ts : List TaskRecord) (rs : List RegionRecord) → counted ts ≡ length rs → all_regions (tasks_of ts rs) ≡ map region_of rs
+all_again [] rs e = sym (ap (map region_of) (nothing_left rs e))
+all_again (t ∷ ts) rs e =
+    ap (λ (xs : List Region). map region_of (take t.regions rs) ++ xs) (all_again ts (drop t.regions rs) (rest_counted t ts rs e).1)
+    ∙ sym (map-append region_of (take t.regions rs) (drop t.regions rs)) ∙ ap (map region_of) (take-append-drop t.regions rs)
+
+flag_again : (n : ℕ) → n ≤ 1 → bit (n == 1) 1 ≡ n
+flag_again n le = grind (arith, nat_tests)
+
+same_task : (t : TaskRecord) (f n z : ℕ) → f ≡ t.flags → n ≡ t.regions → z ≡ t.zero
+    → ◌≡◌ {A = TaskRecord} (record { priority = t.priority; flags = f; regions = n; zero = z; entry = t.entry; sp = t.sp }) t
+same_task t f n z a b c = rw (a, b, c) refl
+
+task_again : (index : ℕ) (t : TaskRecord) (own : List RegionRecord) → IsTask index t → length own ≡ t.regions → task_record (task_of t own) ≡ t
+task_again index t own g e = same_task t _ _ _ (flag_again t.flags g.flags) (length-map own region_of ∙ e) (sym g.zero_byte)
+
+tasks_again : (index place : ℕ) (ts : List TaskRecord) (rs : List RegionRecord) → counted ts ≡ length rs → tasks_from index place ts ≡ None
+    → map task_record (tasks_of ts rs) ≡ ts
+tasks_again index place [] rs n e = refl
+tasks_again index place (t ∷ ts) rs n e =
+    let a = both_none (task_fault index t place) (tasks_from (index + 1) (place + 12) ts) e in
+    let c = rest_counted t ts rs n in
+    ap₂ (λ x xs. x ∷ xs) (task_again index t (take t.regions rs) (is_task index t place a.0) c.0)
+    (tasks_again (index + 1) (place + 12) ts (drop t.regions rs) c.1 a.1)
+
+-- ---- interrupts
+
+pub record IsLine (least tasks : ℕ) (l : LineRecord) : Type 0 where
+  pub most : l.line ≤ 31
+  pub least_line : least ≤ l.line
+  pub owner : l.task < tasks
+  pub zero_half : l.zero ≡ 0
+  pub bits : 0 < l.bits
+
+pub is_line : (least tasks : ℕ) (l : LineRecord) (place : ℕ) → line_fault least tasks l place ≡ None → IsLine least tasks l
+is_line least tasks l place e =
+    let a = row_none (nat_lt 31 l.line || nat_lt l.line least) _ _ e in
+    let b = row_none (nat_le tasks l.task) _ _ a.1 in
+    let c = row_none (not (l.zero == 0)) _ _ b.1 in
+    let d = row_none (l.bits == 0) _ _ c.1 in
+    let line = or_false (nat_lt 31 l.line) (nat_lt l.line least) a.0 in
+    record {
+      most = above 31 l.line line.0;
+      least_line = above l.line least line.1;
+      owner = below tasks l.task b.0;
+      zero_half = equals l.zero 0 c.0;
+      bits = positive l.bits d.0;
+    }
+  where
+    below : (n m : ℕ) → nat_le n m ≡ false → m < n
+    below n m e = grind (arith, nat_tests)
+
+line_again : (l : LineRecord) → l.zero ≡ 0 → line_record (line_of l) ≡ l
+line_again l e = ap (λ (n : ℕ). record l { zero = n }) (sym e)
+
+lines_again : (least tasks place : ℕ) (ls : List LineRecord) → lines_from least tasks place ls ≡ None → map line_record (map line_of ls) ≡ ls
+lines_again least tasks place [] e = refl
+lines_again least tasks place (l ∷ ls) e =
+    let a = both_none (line_fault least tasks l place) (lines_from (l.line + 1) tasks (place + 8) ls) e in
+    ap₂ (λ x xs. x ∷ xs) (line_again l (is_line least tasks l place a.0).zero_half) (lines_again (l.line + 1) tasks (place + 8) ls a.1)
+
+-- ---- the whole
+
+same_records : (r : Records) (t l g f : ℕ) (ts : List TaskRecord) (rs : List RegionRecord) (ls : List LineRecord)
+    → t ≡ r.header.tasks → l ≡ r.header.lines → g ≡ r.header.regions → f ≡ r.header.flash → ts ≡ r.tasks → rs ≡ r.regions → ls ≡ r.lines
+    → ◌≡◌ {A = Records} (record { header = record { tasks = t; lines = l; regions = g; flash = f; ram = r.header.ram; bits = r.header.bits }; tasks = ts; regions = rs; lines = ls; flash = r.flash }) r
+same_records r t l g f ts rs ls a b c d x y z = rw (a, b, c, d, x, y, z) refl
+
+pub counts : (r : Records) → Accepted r → counted r.tasks ≡ length r.regions
+counts r a = all_counted r.header r.tasks (passed_steps r a.records).count ∙ sym a.regions
+
+pub shape_again : (r : Records) → Accepted r → records_of (picture_of r) ≡ r
+shape_again r a =
+    let s = passed_steps r a.records in
+    let n = counts r a in
+    let all = all_again r.tasks r.regions n in
+    same_records r _ _ _ _ _ _ _ (tasks_length r.tasks r.regions ∙ a.tasks) (length-map r.lines line_of ∙ a.lines)
+    (ap length all ∙ length-map r.regions region_of ∙ a.regions) a.flash
+    (tasks_again 0 20 r.tasks r.regions n s.tasks)
+    (ap (map region_record) all ∙ regions_again r.header r.regions (every_region r.header [] (20 + 12 * r.header.tasks) r.tasks r.regions n s.regions))
+    (lines_again 0 r.header.tasks _ r.lines s.lines)
+
+pub sound_picture : (r : Records) → Accepted r → Accepted (records_of (picture_of r))
+sound_picture r a = subst Accepted (sym (shape_again r a)) a
+
+-- ---- and the other way round, for each picture
+
+bit_again : (b : Bool) → (bit b 1 == 1) ≡ b
+bit_again true = refl
+bit_again false = refl
+
+all_rights : (r w x d : Bool) → rights_of (rights_number (record { read = r; write = w; execute = x; device = d })) ≡ record { read = r; write = w; execute = x; device = d }
+all_rights true true true true = refl
+all_rights true true true false = refl
+all_rights true true false true = refl
+all_rights true true false false = refl
+all_rights true false true true = refl
+all_rights true false true false = refl
+all_rights true false false true = refl
+all_rights true false false false = refl
+all_rights false true true true = refl
+all_rights false true true false = refl
+all_rights false true false true = refl
+all_rights false true false false = refl
+all_rights false false true true = refl
+all_rights false false true false = refl
+all_rights false false false true = refl
+all_rights false false false false = refl
+
+regions_back : (rs : List Region) → map region_of (map region_record rs) ≡ rs
+regions_back [] = refl
+regions_back (r ∷ rs) =
+    ap₂ (λ x xs. x ∷ xs) (ap (λ (t : Rights). record r { rights = t }) (all_rights r.rights.read r.rights.write r.rights.execute r.rights.device)) (regions_back rs)
+
+lines_back : (ls : List LinePicture) → map line_of (map line_record ls) ≡ ls
+lines_back [] = refl
+lines_back (l ∷ ls) = ap (λ (xs : List LinePicture). l ∷ xs) (lines_back ls)
+
+-- the front of a list's image, as long as that list, and what follows it
+front : (xs ys : List Region) → take (length xs) (map region_record (xs ++ ys)) ≡ map region_record xs
+front xs ys = ap (take (length xs)) (map-append region_record xs ys) ∙ ap (λ (n : ℕ). take n (map region_record xs ++ map region_record ys)) (sym (length-map xs region_record))
+    ∙ take-append_seam (map region_record xs) (map region_record ys)
+
+behind : (xs ys : List Region) → drop (length xs) (map region_record (xs ++ ys)) ≡ map region_record ys
+behind xs ys = ap (drop (length xs)) (map-append region_record xs ys) ∙ ap (λ (n : ℕ). drop n (map region_record xs ++ map region_record ys)) (sym (length-map xs region_record))
+    ∙ drop-append_seam (map region_record xs) (map region_record ys)
+
+same_picture : (t : TaskPicture) (b : Bool) (rs : List Region) → b ≡ t.started → rs ≡ t.regions → ◌≡◌ {A = TaskPicture} (record t { started = b; regions = rs }) t
+same_picture t b rs d e = rw (d, e) refl
+
+tasks_back : (ts : List TaskPicture) → tasks_of (map task_record ts) (map region_record (all_regions ts)) ≡ ts
+tasks_back [] = refl
+tasks_back (t ∷ ts) =
+    ap₂ (λ x xs. x ∷ xs) (same_picture t _ _ (bit_again t.started) (ap (map region_of) (front t.regions (all_regions ts)) ∙ regions_back t.regions))
+    (ap (tasks_of (map task_record ts)) (behind t.regions (all_regions ts)) ∙ tasks_back ts)
+
+pub picture_again : (p : Picture) → picture_of (records_of p) ≡ p
+picture_again p = same_parts (tasks_back p.tasks) (lines_back p.lines)
+  where
+    same_parts : {ts : List TaskPicture} {ls : List LinePicture} → ts ≡ p.tasks → ls ≡ p.lines → ◌≡◌ {A = Picture} (record p { tasks = ts; lines = ls }) p
+    same_parts d e = rw (d, e) refl

@@ -1,0 +1,66 @@
+-- What is known of each sound image.
+use Rattle.std.specs.Prelude.{ℕ, ◌≡◌, ◌⊎◌, ◌+◌, ◌-◌, ◌≤◌, ◌<◌, ◌%◌, true, false, length, Contains}
+use Rattle.region_check.specs.declared.Region.{Region}
+use Rattle.region_check.specs.declared.Right.TheVariants.{Execute}
+use Rattle.region_check.specs.Rights.{may_use}
+use Rattle.image_format.specs.Picture.{Picture, line_in, regions_in, task_in}
+
+-- the bytes from a base on, so many, lie in the flash; in the RAM
+abbrev pub IsInFlash : Picture → Region → Type 0
+IsInFlash p r = (0x08000000 ≤ r.base) × (r.base + r.size ≤ 0x08000000 + length p.flash)
+
+abbrev pub IsInRam : Picture → Region → Type 0
+IsInRam p r = (0x20000000 ≤ r.base) × (r.base + r.size ≤ 0x20000000 + p.ram)
+
+-- they are the same bytes, or have none in common
+abbrev pub SameOrApart : Region → Region → Type 0
+SameOrApart r e = ((r.base ≡ e.base) × (r.size ≡ e.size))
+    ⊎ (r.base + r.size ≤ e.base) ⊎ (e.base + e.size ≤ r.base)
+
+pub record HasSizes (p : Picture) : Type 0 where
+  pub some_task : 1 ≤ length p.tasks
+  pub most_tasks : length p.tasks ≤ 32
+  pub most_lines : length p.lines ≤ 32
+  pub some_flash : 1 ≤ length p.flash
+  pub most_flash : length p.flash ≤ 1048576
+  pub most_ram : p.ram ≤ 262144
+  pub fault_bits : 0 < p.fault_bits
+
+pub record HasTasks (p : Picture) : Type 0 where
+  pub supervisor : (task_in p 0).priority ≡ 0
+  pub supervisor_started : (task_in p 0).started ≡ true
+  pub priorities : (i : ℕ) → 0 < i → i < length p.tasks → 0 < (task_in p i).priority
+  pub stacks : (i : ℕ) → (task_in p i).sp % 4 ≡ 0
+  pub some_region : (i : ℕ) → i < length p.tasks → 1 ≤ length (regions_in p i)
+  pub most_regions : (i : ℕ) → length (regions_in p i) ≤ 8
+  pub odd_entries : (i : ℕ) → i < length p.tasks → (task_in p i).entry % 2 ≡ 1
+  pub entries : (i : ℕ) → i < length p.tasks
+      → may_use (regions_in p i) Execute ((task_in p i).entry - 1) ≡ true
+
+-- each region r of a task i
+pub record HasRegions (p : Picture) : Type 0 where
+  pub readable : (i : ℕ) (r : Region) → Contains (regions_in p i) r → r.rights.read ≡ true
+  pub no_code : (i : ℕ) (r : Region) → Contains (regions_in p i) r
+      → r.rights.device ≡ true → r.rights.execute ≡ false
+  pub sizes : (i : ℕ) (r : Region) → Contains (regions_in p i) r → 256 ≤ r.size
+  pub within : (i : ℕ) (r : Region) → Contains (regions_in p i) r
+      → r.rights.device ≡ false → IsInFlash p r ⊎ IsInRam p r
+  pub writable : (i : ℕ) (r : Region) → Contains (regions_in p i) r
+      → r.rights.device ≡ false → r.rights.write ≡ true → IsInRam p r
+  pub devices : (i : ℕ) (r : Region) → Contains (regions_in p i) r
+      → r.rights.device ≡ true → (0x40000000 ≤ r.base) × (r.base + r.size ≤ 0x60000000)
+  pub apart : (i j : ℕ) (r e : Region) → Contains (regions_in p i) r
+      → Contains (regions_in p j) e → SameOrApart r e
+
+-- each interrupt k
+pub record HasLines (p : Picture) : Type 0 where
+  pub ascending : (k m : ℕ) → k < m → m < length p.lines → (line_in p k).line < (line_in p m).line
+  pub below : (k : ℕ) → (line_in p k).line < 32
+  pub owners : (k : ℕ) → k < length p.lines → (line_in p k).task < length p.tasks
+  pub bits : (k : ℕ) → k < length p.lines → 0 < (line_in p k).bits
+
+pub record Facts (p : Picture) : Type 0 where
+  pub sizes : HasSizes p
+  pub tasks : HasTasks p
+  pub regions : HasRegions p
+  pub lines : HasLines p

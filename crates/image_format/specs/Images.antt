@@ -1,0 +1,27 @@
+-- What the code's image and fault stand for.
+use Rattle.std.specs.Prelude.{Option, Some, None}
+use Rattle.image_format.specs.declared.image.Image.{Image}
+use Rattle.image_format.specs.declared.records.ImageFault.{ImageFault}
+use Rattle.image_format.specs.declared.records.ImageFault.TheVariants as fault
+use Rattle.image_format.specs.Picture.{Picture, picture_of}
+use Rattle.image_format.specs.Records.{Records}
+use Rattle.image_format.specs.Steps.{Refusal}
+
+-- the parts that it keeps
+abbrev pub records_in : Image → Records
+records_in i = record {
+  header = i.header;
+  tasks = i.tasks.items;
+  regions = i.regions.items;
+  lines = i.lines.items;
+  flash = i.flash.items;
+}
+
+-- the image that it is
+abbrev pub picture : Image → Picture
+picture i = picture_of (records_in i)
+
+-- the cause and the place that it tells; none for want of memory
+abbrev pub told : ImageFault → Option Refusal
+told (fault.Refused cause place) = Some (cause, place)
+told fault.Memory = None

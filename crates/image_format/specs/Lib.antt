@@ -1,0 +1,7 @@
+pub mod Accepted
+pub mod Facts
+pub mod Images
+pub mod Picture
+pub mod Records
+pub mod Regions
+pub mod Steps

@@ -1,0 +1,161 @@
+-- An image: what it says of tasks, interrupts and memory, without how it is spelled.
+use Rattle.std.specs.Prelude.{◌≡◌, ℕ, Bool, ◌+◌, ◌/◌, ◌%◌, ◌==◌, false, List, [], ◌∷◌, Result, Ok, Err, length, map, take, drop, slice_index_or, if◌then◌else◌}
+use Rattle.std.specs.List.{flat_map}
+use Rattle.region_check.specs.declared.Region.{Region}
+use Rattle.region_check.specs.declared.Rights.{Rights}
+use Rattle.image_format.specs.declared.records.Header.{Header}
+use Rattle.image_format.specs.declared.records.TaskRecord.{TaskRecord}
+use Rattle.image_format.specs.declared.records.RegionRecord.{RegionRecord}
+use Rattle.image_format.specs.declared.records.LineRecord.{LineRecord}
+use Rattle.image_format.specs.Accepted.{Accepted}
+use Rattle.image_format.specs.Records.{Records, bytes_of, records_or_fault}
+use Rattle.image_format.specs.Steps.{Refusal}
+
+-- a task: its priority (0 is the highest), whether it runs at the start, where it begins (the lowest
+-- bit set), its first stack pointer, and the bytes that it may use
+pub record TaskPicture : Type 0 where
+  pub priority : ℕ
+  pub started : Bool
+  pub entry : ℕ
+  pub sp : ℕ
+  pub regions : List Region
+
+-- an interrupt line, the task that owns it, and the notification bits that it posts
+pub record LinePicture : Type 0 where
+  pub line : ℕ
+  pub task : ℕ
+  pub bits : ℕ
+
+pub record Picture : Type 0 where
+  pub fault_bits : ℕ  -- what is posted to the supervisor, task 0, at a fault
+  pub ram : ℕ  -- how many bytes of RAM
+  pub tasks : List TaskPicture
+  pub lines : List LinePicture
+  pub flash : List ℕ
+
+abbrev pub no_task : TaskPicture
+no_task = record { priority = 0; started = false; entry = 0; sp = 0; regions = [] }
+
+-- the i-th task
+abbrev pub task_in : Picture → ℕ → TaskPicture
+task_in p i = slice_index_or p.tasks i no_task
+
+abbrev pub regions_in : Picture → ℕ → List Region
+regions_in p i = (task_in p i).regions
+
+abbrev pub no_line : LinePicture
+no_line = record { line = 0; task = 0; bits = 0 }
+
+-- the k-th interrupt
+abbrev pub line_in : Picture → ℕ → LinePicture
+line_in p k = slice_index_or p.lines k no_line
+
+-- ---- the records that say it
+
+-- rights as a number: 1 read, 2 write, 4 execute, 8 device
+abbrev pub bit : Bool → ℕ → ℕ
+bit has value = if has then value else 0
+
+abbrev pub rights_number : Rights → ℕ
+rights_number r = bit r.read 1 + bit r.write 2 + bit r.execute 4 + bit r.device 8
+
+abbrev pub task_record : TaskPicture → TaskRecord
+task_record t = record {
+  priority = t.priority;
+  flags = bit t.started 1;
+  regions = length t.regions;
+  zero = 0;
+  entry = t.entry;
+  sp = t.sp;
+}
+
+abbrev pub region_record : Region → RegionRecord
+region_record r = record { base = r.base; size = r.size; rights = rights_number r.rights }
+
+abbrev pub line_record : LinePicture → LineRecord
+line_record l = record { line = l.line; task = l.task; zero = 0; bits = l.bits }
+
+-- the tasks' regions in order
+abbrev pub all_regions : List TaskPicture → List Region
+all_regions = flat_map (λ t. t.regions)
+
+abbrev pub header_of : Picture → Header
+header_of p = record {
+  tasks = length p.tasks;
+  lines = length p.lines;
+  regions = length (all_regions p.tasks);
+  flash = length p.flash;
+  ram = p.ram;
+  bits = p.fault_bits;
+}
+
+abbrev pub records_of : Picture → Records
+records_of p = record {
+  header = header_of p;
+  tasks = map task_record p.tasks;
+  regions = map region_record (all_regions p.tasks);
+  lines = map line_record p.lines;
+  flash = p.flash;
+}
+
+-- the one spelling of an image
+abbrev pub spelling : Picture → List ℕ
+spelling p = bytes_of (records_of p)
+
+-- the bytes spell the image: header, tasks, regions, interrupts, flash, and nothing else
+abbrev pub Spells : Picture → List ℕ → Type 0
+Spells p bytes = bytes ≡ spelling p
+
+-- no step refuses the image
+abbrev pub Sound : Picture → Type 0
+Sound p = Accepted (records_of p)
+
+-- ---- what records say
+
+abbrev pub rights_of : ℕ → Rights
+rights_of n = record {
+  read = n % 2 == 1;
+  write = n / 2 % 2 == 1;
+  execute = n / 4 % 2 == 1;
+  device = n / 8 % 2 == 1;
+}
+
+abbrev pub region_of : RegionRecord → Region
+region_of r = record { base = r.base; size = r.size; rights = rights_of r.rights }
+
+abbrev pub line_of : LineRecord → LinePicture
+line_of l = record { line = l.line; task = l.task; bits = l.bits }
+
+-- a task with its own regions
+abbrev pub task_of : TaskRecord → List RegionRecord → TaskPicture
+task_of t own = record {
+  priority = t.priority;
+  started = t.flags == 1;
+  entry = t.entry;
+  sp = t.sp;
+  regions = map region_of own;
+}
+
+-- the regions follow one another in the order of the tasks
+abbrev pub tasks_of : List TaskRecord → List RegionRecord → List TaskPicture
+tasks_of [] rs = []
+tasks_of (t ∷ ts) rs = task_of t (take t.regions rs) ∷ tasks_of ts (drop t.regions rs)
+
+abbrev pub picture_of : Records → Picture
+picture_of r = record {
+  fault_bits = r.header.bits;
+  ram = r.header.ram;
+  tasks = tasks_of r.tasks r.regions;
+  lines = map line_of r.lines;
+  flash = r.flash;
+}
+
+-- ---- reading
+
+abbrev pub pictured : Result Records Refusal → Result Picture Refusal
+pictured (Ok r) = Ok (picture_of r)
+pictured (Err fault) = Err fault
+
+-- the image that the bytes spell, or the first cause by which they are refused, with its place
+abbrev pub image_or_fault : List ℕ → Result Picture Refusal
+image_or_fault bytes = pictured (records_or_fault bytes)

@@ -1,0 +1,131 @@
+//! The checks of the header, of tasks and of interrupts.
+
+ghost use Rattle.std.specs.Prelude.{◌≡◌, ◌≤◌, ◌<◌, ◌+◌, ◌*◌, ◌^◌, length, None};
+ghost use Rattle.image_format.specs.Steps.{count_fault, field_fault, line_fault, lines_fault, task_fault, tasks_fault};
+
+use crate::records::{Header, LineRecord, TaskRecord};
+
+/// The most tasks and interrupts that are taken for now.
+const MOST_TASKS: u8 = 1;
+
+const MOST_LINES: u8 = 0;
+
+/// The first field of the header that is refused: a cause and the place of a byte, None where none is.
+/// docs/FORMATS.md, Image.
+#[tactic(auto, unfolding(crate::specs::Steps::field_fault))]
+pub fn check_fields(h: &Header) -> Option<(u8, u32)>
+    ensures { result ≡ field_fault h.now }
+{
+    if h.tasks < 1 || h.tasks > MOST_TASKS {
+        Some((3, 4))
+    } else if h.lines > MOST_LINES {
+        Some((3, 5))
+    } else if h.regions < u16::from(h.tasks) || h.regions > 8 * u16::from(h.tasks) {
+        Some((3, 6))
+    } else if h.flash < 1 || h.flash > 1_048_576 {
+        Some((3, 8))
+    } else if h.ram > 262_144 {
+        Some((3, 12))
+    } else if h.bits == 0 {
+        Some((3, 16))
+    } else {
+        None
+    }
+}
+
+/// Of one task's record, which lies at the place.
+fn check_task(index: usize, t: &TaskRecord, place: u32) -> Option<(u8, u32)>
+    requires { place + 12 ≤ 2 ^ 32 }
+    ensures { result ≡ task_fault index t.now place }
+{
+    if (index == 0 && t.priority != 0) || (index != 0 && t.priority == 0) {
+        Some((5, place))
+    } else if t.flags > 1 || (index == 0 && t.flags != 1) {
+        Some((6, place + 1))
+    } else if t.regions < 1 || t.regions > 8 {
+        Some((3, place + 2))
+    } else if t.zero != 0 {
+        Some((3, place + 3))
+    } else if t.sp % 4 != 0 {
+        Some((7, place + 8))
+    } else {
+        None
+    }
+}
+
+/// The first refusal of the tasks in order: a cause and the place of a byte, None where none is.
+/// docs/FORMATS.md, Image.
+#[tactic(auto, using(crate::proofs::Limits::few_tasks))]
+pub fn check_tasks(h: &Header, tasks: &[TaskRecord]) -> Option<(u8, u32)>
+    requires fields { field_fault h.now ≡ None }
+    requires tasks { length tasks.now ≡ h.now.tasks }
+    ensures { result ≡ tasks_fault tasks.now }
+{
+    let mut place = 20u32;
+    for i in 0..tasks.len() {
+        let found = check_task(i, &tasks[i], place);
+        if found.is_some() {
+            return found;
+        }
+        place += 12;
+    }
+    None
+}
+
+/// Refuses where the tasks' numbers of regions do not sum to the header's.
+/// docs/FORMATS.md, Image.
+#[tactic(auto, using(crate::proofs::Limits::few_tasks, crate::proofs::Limits::few_regions))]
+pub fn check_count(h: &Header, tasks: &[TaskRecord]) -> Option<(u8, u32)>
+    requires fields { field_fault h.now ≡ None }
+    requires tasks { length tasks.now ≡ h.now.tasks }
+    ensures { result ≡ count_fault h.now tasks.now }
+{
+    let mut sum = 0u32;
+    for t in tasks {
+        sum += u32::from(t.regions);
+    }
+    if sum != u32::from(h.regions) {
+        Some((3, 6))
+    } else {
+        None
+    }
+}
+
+/// Of one interrupt's record, which lies at the place; its line is to be at least so high.
+fn check_line(least: u16, tasks: u8, l: &LineRecord, place: u32) -> Option<(u8, u32)>
+    requires { place + 8 ≤ 2 ^ 32 }
+    ensures { result ≡ line_fault least tasks l.now place }
+{
+    if l.line > 31 || u16::from(l.line) < least {
+        Some((13, place))
+    } else if l.task >= tasks {
+        Some((14, place + 1))
+    } else if l.zero != 0 {
+        Some((3, place + 2))
+    } else if l.bits == 0 {
+        Some((15, place + 4))
+    } else {
+        None
+    }
+}
+
+/// The first refusal of the interrupts in order: a cause and the place of a byte, None where none is.
+/// docs/FORMATS.md, Image.
+#[tactic(auto, using(crate::proofs::Limits::few_lines, crate::proofs::Limits::early_lines))]
+pub fn check_lines(h: &Header, lines: &[LineRecord]) -> Option<(u8, u32)>
+    requires fields { field_fault h.now ≡ None }
+    requires lines { length lines.now ≡ h.now.lines }
+    ensures { result ≡ lines_fault h.now lines.now }
+{
+    let mut place = 20 + 12 * u32::from(h.tasks) + 12 * u32::from(h.regions);
+    let mut least = 0u16;
+    for i in 0..lines.len() {
+        let found = check_line(least, h.tasks, &lines[i], place);
+        if found.is_some() {
+            return found;
+        }
+        least = u16::from(lines[i].line) + 1;
+        place += 8;
+    }
+    None
+}

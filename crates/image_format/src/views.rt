@@ -1,0 +1,189 @@
+//! What an image says.
+
+ghost use Rattle.std.specs.Prelude.{◌≡◌, ◌==◌, ◌≤◌, ◌+◌, ◌<◌, length, map, take, IfOk};
+ghost use Rattle.image_format.specs.Facts.{Facts};
+ghost use Rattle.image_format.specs.Images.{picture};
+ghost use Rattle.image_format.specs.Picture.{Sound, line_in, region_of, regions_in, rights_of, task_in};
+ghost use Rattle.image_format.specs.Steps.{counted};
+
+use crate::image::Image;
+use crate::records::{RegionRecord, TaskRecord};
+use region_check::{Region, Rights};
+use std::alloc::{AllocError, Global};
+
+fn rights_of(rights: u32) -> Rights
+    ensures { result ≡ rights_of rights }
+{
+    Rights {
+        read: rights % 2 == 1,
+        write: rights / 2 % 2 == 1,
+        execute: rights / 4 % 2 == 1,
+        device: rights / 8 % 2 == 1,
+    }
+}
+
+fn region_of(r: &RegionRecord) -> Region
+    ensures { result ≡ region_of r.now }
+{
+    Region {
+        base: r.base,
+        size: r.size,
+        rights: rights_of(r.rights),
+    }
+}
+
+/// How many regions the first n tasks have.
+fn counted(tasks: &[TaskRecord], n: usize) -> usize
+    requires few { length tasks.now ≤ 32 }
+    requires within { n ≤ length tasks.now }
+    ensures { result ≡ counted (take n tasks.now) }
+{
+    let mut sum = 0usize;
+    for i in 0..n {
+        sum += usize::from(tasks[i].regions);
+    }
+    sum
+}
+
+/// The i-th task's record.
+#[tactic(auto, using(crate::proofs::Shape::tasks_length))]
+fn task_at(image: &Image, i: usize) -> TaskRecord
+    requires { i < length (picture image.now).tasks }
+    ensures priority { result.priority ≡ (task_in (picture image.now) i).priority }
+    ensures started { (result.flags == 1) ≡ (task_in (picture image.now) i).started }
+    ensures entry { result.entry ≡ (task_in (picture image.now) i).entry }
+    ensures sp { result.sp ≡ (task_in (picture image.now) i).sp }
+{
+    image.tasks[i]
+}
+
+/// The i-th task's regions.
+#[tactic(auto, using(crate::proofs::Shape::tasks_length))]
+fn own_regions(image: &Image, i: usize) -> &[RegionRecord]
+    requires { i < length (picture image.now).tasks }
+    ensures { map region_of result.now ≡ regions_in (picture image.now) i }
+{
+    let tasks = image.tasks.as_slice();
+    let regions = image.regions.as_slice();
+    let start = counted(tasks, i);
+    let end = start + usize::from(tasks[i].regions);
+    &regions[start..end]
+}
+
+fn regions_of(alloc: Global, own: &[RegionRecord]) -> Result<Vec<Region>, AllocError>
+    ensures { IfOk result (λ v. v.items ≡ map region_of own.now) }
+{
+    let mut regions = Vec::new(alloc);
+    for r in own {
+        regions.push(region_of(r))?;
+    }
+    Ok(regions)
+}
+
+impl Image {
+    /// What is known of each image.
+    pub fn facts(&self)
+        ensures sound { Sound (picture self.now) }
+        ensures facts { Facts (picture self.now) }
+    {}
+
+    /// How many tasks, 1 to 32.
+    #[tactic(auto, using(crate::proofs::Shape::tasks_length))]
+    pub fn task_count(&self) -> usize
+        ensures { result ≡ length (picture self.now).tasks }
+    {
+        self.tasks.len()
+    }
+
+    /// The i-th task's priority, of which 0 is the highest.
+    pub fn priority(&self, i: usize) -> u8
+        requires { i < length (picture self.now).tasks }
+        ensures { result ≡ (task_in (picture self.now) i).priority }
+    {
+        task_at(self, i).priority
+    }
+
+    /// Whether the i-th task runs at the start.
+    pub fn is_started(&self, i: usize) -> bool
+        requires { i < length (picture self.now).tasks }
+        ensures { result ≡ (task_in (picture self.now) i).started }
+    {
+        task_at(self, i).flags == 1
+    }
+
+    /// Where the i-th task begins, with bit 0 set.
+    pub fn entry(&self, i: usize) -> u32
+        requires { i < length (picture self.now).tasks }
+        ensures { result ≡ (task_in (picture self.now) i).entry }
+    {
+        task_at(self, i).entry
+    }
+
+    /// The i-th task's first stack pointer.
+    pub fn sp(&self, i: usize) -> u32
+        requires { i < length (picture self.now).tasks }
+        ensures { result ≡ (task_in (picture self.now) i).sp }
+    {
+        task_at(self, i).sp
+    }
+
+    /// The i-th task's regions, in order.
+    pub fn regions(&self, alloc: Global, i: usize) -> Result<Vec<Region>, AllocError>
+        requires { i < length (picture self.now).tasks }
+        ensures { IfOk result (λ v. v.items ≡ regions_in (picture self.now) i) }
+    {
+        regions_of(alloc, own_regions(self, i))
+    }
+
+    /// How many interrupts, at most 32.
+    pub fn line_count(&self) -> usize
+        ensures { result ≡ length (picture self.now).lines }
+    {
+        self.lines.len()
+    }
+
+    /// The k-th interrupt's line, below 32.
+    pub fn line(&self, k: usize) -> u8
+        requires { k < length (picture self.now).lines }
+        ensures { result ≡ (line_in (picture self.now) k).line }
+    {
+        self.lines[k].line
+    }
+
+    /// The task that owns the k-th interrupt.
+    pub fn line_task(&self, k: usize) -> u8
+        requires { k < length (picture self.now).lines }
+        ensures { result ≡ (line_in (picture self.now) k).task }
+    {
+        self.lines[k].task
+    }
+
+    /// The notification bits that the k-th interrupt posts.
+    pub fn line_bits(&self, k: usize) -> u32
+        requires { k < length (picture self.now).lines }
+        ensures { result ≡ (line_in (picture self.now) k).bits }
+    {
+        self.lines[k].bits
+    }
+
+    /// The notification bits that a fault posts to task 0.
+    pub fn fault_bits(&self) -> u32
+        ensures { result ≡ (picture self.now).fault_bits }
+    {
+        self.header.bits
+    }
+
+    /// How many bytes of RAM, at most 262144.
+    pub fn ram(&self) -> u32
+        ensures { result ≡ (picture self.now).ram }
+    {
+        self.header.ram
+    }
+
+    /// The bytes of flash, from 0x08000000 on, 1 to 1048576.
+    pub fn flash(&self) -> &[u8]
+        ensures { result.now ≡ (picture self.now).flash }
+    {
+        self.flash.as_slice()
+    }
+}

@@ -1,0 +1,31 @@
+-- A flash from 0x08000000 and a RAM from 0x20000000, behind regions.
+use Rattle.std.specs.Prelude.{◌≡◌, ℕ, zero, suc, ◌+◌, ◌-◌, ◌*◌, ◌/◌, ◌%◌, ◌^◌, nat_eq, nat_le, nat_lt, ◌&&◌, List, length, slice_index, Option, Some, None, if◌then◌else◌}
+use Rattle.region_check.specs.declared.Right.{Right}
+use Rattle.region_check.specs.declared.Region.{Region}
+use Rattle.region_check.specs.Rights.{may_use}
+
+-- the first of n bytes that lacks the right
+unfoldable pub first_bad : List Region → ℕ → ℕ → Right → Option ℕ
+first_bad regions a zero right = None
+first_bad regions a (suc n) right = if may_use regions right a then first_bad regions (a + 1) n right else Some a
+
+-- the byte at an address: 0 outside flash and RAM
+abbrev pub byte_at : List ℕ → List ℕ → ℕ → ℕ
+byte_at flash ram a = if nat_le (2 ^ 29) a then slice_index ram (a - 2 ^ 29) else (if nat_le (2 ^ 27) a then slice_index flash (a - 2 ^ 27) else 0)
+
+-- n bytes as a number, the lowest first
+unfoldable pub number_of : List ℕ → List ℕ → ℕ → ℕ → ℕ
+number_of flash ram a zero = 0
+number_of flash ram a (suc n) = byte_at flash ram a + 256 * number_of flash ram (a + 1) n
+
+-- the byte of the RAM at an address
+abbrev pub ram_at : List ℕ → ℕ → ℕ
+ram_at ram a = if nat_le (2 ^ 29) a then slice_index ram (a - 2 ^ 29) else 0
+
+-- the RAM after a store of n bytes: those that lie in it are new
+abbrev pub IsStored : List ℕ → ℕ → ℕ → ℕ → List ℕ → Type 0
+IsStored old a n v new = (k : ℕ) → ram_at new k ≡ (if nat_le a k && nat_lt k (a + n) && nat_le (2 ^ 29) k && nat_lt k (2 ^ 29 + length old) then v / 256 ^ (k - a) % 256 else ram_at old k)
+
+-- the RAM after one byte
+abbrev pub IsPut : List ℕ → ℕ → ℕ → List ℕ → Type 0
+IsPut old a v new = (k : ℕ) → ram_at new k ≡ (if nat_eq k a && nat_le (2 ^ 29) k && nat_lt k (2 ^ 29 + length old) then v else ram_at old k)

@@ -1,0 +1,168 @@
+//! A flash and a RAM behind regions, as a bus.
+ghost use Rattle.std.specs.Prelude.{◌≡◌, ℕ, ◌+◌, ◌<◌, ◌≤◌, ◌*◌, ◌^◌, ◌/◌, ◌%◌, length};
+ghost use Rattle.insn_vectors.specs.Flat.{first_bad, byte_at, number_of, IsStored, IsPut};
+
+use region_check::{Region, Right, Rights, may};
+use std::alloc::{AllocError, Global};
+use thumb_exec::bus::Bus;
+
+/// Where the flash and the RAM begin.
+pub const FLASH: u32 = 0x0800_0000;
+
+pub const RAM: u32 = 0x2000_0000;
+
+/// The bytes of a flash and of a RAM, and what a task may do with them.
+#[derive(Drop)]
+pub struct Memory {
+    pub flash: Vec<u8>,
+    pub ram: Vec<u8>,
+    pub regions: Vec<Region>,
+}
+
+/// The first of n bytes that lacks the right.
+#[tactic(auto, using(crate::proofs::Steps::bad_here, crate::proofs::Steps::bad_later, crate::proofs::Steps::bad_none))]
+fn first_bad(regions: &[Region], a: u32, n: u32, right: Right) -> Option<u32>
+    requires { a + n ≤ 2 ^ 32 }
+    ensures { result ≡ first_bad regions.now a n right }
+{
+    for k in 0..n {
+        if !may(regions, a + k, right) {
+            return Some(a + k);
+        }
+    }
+    None
+}
+
+impl Memory {
+    /// Zeros: 64 KiB of flash, which may be read and executed, and 4 KiB of RAM, which may be read
+    /// and written.
+    pub fn new(alloc: Global) -> Result<Memory, AllocError> {
+        let flash = vec![in alloc; 0; 0x1_0000]?;
+        let ram = vec![in alloc; 0; 0x1000]?;
+        let code = Rights {
+            read: true,
+            write: false,
+            execute: true,
+            device: false,
+        };
+        let store = Rights {
+            read: true,
+            write: true,
+            execute: false,
+            device: false,
+        };
+        let regions = vec![in alloc;
+            Region {
+                base: FLASH,
+                size: 0x1_0000,
+                rights: code
+            },
+            Region {
+                base: RAM,
+                size: 0x1000,
+                rights: store
+            },
+        ]?;
+        Ok(Memory {
+            flash,
+            ram,
+            regions,
+        })
+    }
+
+    /// The byte at an address, 0 outside flash and RAM.
+    fn byte(&self, a: u32) -> u32
+        ensures value { result ≡ byte_at self.now.flash.items self.now.ram.items a }
+        ensures bound { result < 256 }
+    {
+        let (bank, base) = if a >= RAM {
+            (&self.ram, RAM)
+        } else {
+            (&self.flash, FLASH)
+        };
+        if a < base {
+            return 0;
+        }
+        match bank.get((a - base) as usize) {
+            Some(byte) => u32::from(*byte),
+            None => 0,
+        }
+    }
+
+    /// Writes a byte of the RAM; elsewhere nothing.
+    #[tactic(auto, using(crate::proofs::Stored::put_in, crate::proofs::Stored::put_out))]
+    fn put(&mut self, a: u32, byte: u8)
+        ensures put { IsPut self.old.ram.items a byte self.new.ram.items }
+        ensures size { length self.new.ram.items ≡ length self.old.ram.items }
+        ensures flash { self.new.flash ≡ self.old.flash }
+        ensures regions { self.new.regions ≡ self.old.regions }
+    {
+        if a >= RAM {
+            let i = (a - RAM) as usize;
+            if i < self.ram.len() {
+                self.ram[i] = byte;
+            }
+        }
+    }
+
+    /// Writes a byte of flash or RAM, whatever the rights; elsewhere nothing.
+    pub fn fill(&mut self, a: u32, byte: u8) {
+        if a >= RAM {
+            self.put(a, byte);
+        } else if a >= FLASH {
+            let i = (a - FLASH) as usize;
+            if i < self.flash.len() {
+                self.flash[i] = byte;
+            }
+        }
+    }
+}
+
+impl Bus for Memory {
+    ghost refuses = { λ s a n r. first_bad s.regions.items a n r };
+
+    ghost holds = { λ s a n. number_of s.flash.items s.ram.items a n };
+
+    ghost stored = { λ s a n v t. IsStored s.ram.items a n v t.ram.items × (length t.ram.items ≡ length s.ram.items) × (t.flash ≡ s.flash) × (t.regions ≡ s.regions) };
+
+    fn allows(&self, addr: u32, n: u32, right: Right) -> Option<u32> {
+        first_bad(self.regions.as_slice(), addr, n, right)
+    }
+
+    #[tactic(auto, using(crate::proofs::Steps::number_2))]
+    fn fetch(&self, addr: u32) -> Result<u16, u32> {
+        if let Some(at) = first_bad(self.regions.as_slice(), addr, 2, Right::Execute) {
+            return Err(at);
+        }
+        Ok((self.byte(addr) + 0x100 * self.byte(addr + 1)) as u16)
+    }
+
+    #[tactic(auto, using(crate::proofs::Steps::number_1, crate::proofs::Steps::number_2, crate::proofs::Steps::number_4))]
+    fn load(&self, addr: u32, n: u32) -> Result<u32, u32> {
+        if let Some(at) = first_bad(self.regions.as_slice(), addr, n, Right::Read) {
+            return Err(at);
+        }
+        let low = self.byte(addr);
+        if n == 1 {
+            return Ok(low);
+        }
+        let half = low + 0x100 * self.byte(addr + 1);
+        if n == 2 {
+            return Ok(half);
+        }
+        Ok(half + 0x1_0000 * self.byte(addr + 2) + 0x100_0000 * self.byte(addr + 3))
+    }
+
+    #[tactic(auto, using(crate::proofs::Stored::stored_more, crate::proofs::Stored::stored_none, crate::proofs::Stored::rest_more))]
+    fn store(&mut self, addr: u32, n: u32, value: u32) -> Result<(), u32> {
+        if let Some(at) = first_bad(self.regions.as_slice(), addr, n, Right::Write) {
+            return Err(at);
+        }
+        let mut rest = value;
+        for k in 0..n {
+            self.put(addr + k, (rest % 256) as u8);
+            rest /= 256;
+        }
+        Ok(())
+    }
+}

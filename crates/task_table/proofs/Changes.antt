@@ -1,0 +1,148 @@
+-- What is read off a state after a change.
+use Rattle.std.proofs.Common.{◌≡◌, ◌≢◌, ◌<◌, ℕ, false, cond, not, List, [], ◌∷◌, length, Some, None, inl, inr, refl, sym, ◌∙◌, ap, eqb, get_or-set_same, get_or-set_other, length-set}
+use Rattle.std.specs.Prelude.{find, filter}
+use Rattle.std.proofs.lemmas.Bool.{ne_eqb}
+use Rattle.std.proofs.lemmas.Bool.Decides.{eqb_tells}
+use Rattle.task_table.specs.State.{Task, State}
+use Rattle.task_table.specs.Reading.{task_at, call_of, listen_of, no_task, IsSameBut}
+use Rattle.task_table.specs.Effects.{with_task, without_call, without_listen}
+
+-- ## a task changed
+
+pub task_at-with_task : (s : State) (i : ℕ) (x : Task) → i < length s.tasks → task_at (with_task i x s) i ≡ x
+unfolding task_at with_task
+task_at-with_task s i x h = get_or-set_same s.tasks i x no_task h
+
+pub task_at-with_task_other : (s : State) (i j : ℕ) (x : Task) → j ≢ i → task_at (with_task i x s) j ≡ task_at s j
+unfolding task_at with_task
+task_at-with_task_other s i j x ne = get_or-set_other s.tasks i j x no_task ne
+
+pub call_of-with_task : (s : State) (i j : ℕ) (x : Task) → call_of (with_task i x s) j ≡ call_of s j
+unfolding call_of with_task
+call_of-with_task s i j x = refl
+
+pub listen_of-with_task : (s : State) (i j : ℕ) (x : Task) → listen_of (with_task i x s) j ≡ listen_of s j
+unfolding listen_of with_task
+listen_of-with_task s i j x = refl
+
+pub length-with_task : (s : State) (i : ℕ) (x : Task) → length (with_task i x s).tasks ≡ length s.tasks
+unfolding with_task
+length-with_task s i x = length-set s.tasks i x
+
+-- ## a call or a listen dropped
+
+find_dropped : {X : Type 0} (key : X → ℕ) (i : ℕ) (xs : List X) → find (λ x. eqb (key x) i) (filter (λ x. not (eqb (key x) i)) xs) ≡ None
+find_dropped key i [] = refl
+find_dropped key i (x ∷ xs) =
+    elim (eqb_tells (key x) i) [
+      | inl t ↦ simp t.0 (find_dropped key i xs)
+      | inr f ↦ simp f.0 (find_dropped key i xs)
+    ]
+
+find_kept : {X : Type 0} (key : X → ℕ) (i j : ℕ) (xs : List X) → j ≢ i → find (λ x. eqb (key x) j) (filter (λ x. not (eqb (key x) i)) xs) ≡ find (λ x. eqb (key x) j) xs
+find_kept key i j [] ne = refl
+find_kept key i j (x ∷ xs) ne =
+    elim (eqb_tells (key x) i) [
+      | inl t ↦ let other : eqb (key x) j ≡ false = ne_eqb _ _ (λ e. ne (sym e ∙ t.1)) in simp (t.0, other) (find_kept key i j xs ne)
+      | inr f ↦ simp f.0 (ap (cond (eqb (key x) j) (Some x)) (find_kept key i j xs ne))
+    ]
+
+pub call_of-without_call : (s : State) (i : ℕ) → call_of (without_call i s) i ≡ None
+unfolding call_of without_call
+call_of-without_call s i = find_dropped (λ c. c.client.index) i s.calls
+
+pub call_of-without_call_other : (s : State) (i j : ℕ) → j ≢ i → call_of (without_call i s) j ≡ call_of s j
+unfolding call_of without_call
+call_of-without_call_other s i j ne = find_kept (λ c. c.client.index) i j s.calls ne
+
+pub listen_of-without_listen : (s : State) (i : ℕ) → listen_of (without_listen i s) i ≡ None
+unfolding listen_of without_listen
+listen_of-without_listen s i = find_dropped (λ l. l.task) i s.listens
+
+pub listen_of-without_listen_other : (s : State) (i j : ℕ) → j ≢ i → listen_of (without_listen i s) j ≡ listen_of s j
+unfolding listen_of without_listen
+listen_of-without_listen_other s i j ne = find_kept (λ l. l.task) i j s.listens ne
+
+pub task_at-without_call : (s : State) (i j : ℕ) → task_at (without_call i s) j ≡ task_at s j
+unfolding task_at without_call
+task_at-without_call s i j = refl
+
+pub task_at-without_listen : (s : State) (i j : ℕ) → task_at (without_listen i s) j ≡ task_at s j
+unfolding task_at without_listen
+task_at-without_listen s i j = refl
+
+pub listen_of-without_call : (s : State) (i j : ℕ) → listen_of (without_call i s) j ≡ listen_of s j
+unfolding listen_of without_call
+listen_of-without_call s i j = refl
+
+pub call_of-without_listen : (s : State) (i j : ℕ) → call_of (without_listen i s) j ≡ call_of s j
+unfolding call_of without_listen
+call_of-without_listen s i j = refl
+
+-- ## what a change leaves
+
+pub same_but-with_task : (s : State) (i : ℕ) (x : Task) → IsSameBut i s (with_task i x s)
+unfolding with_task
+same_but-with_task s i x = record {
+  count = length-with_task s i x;
+  task = λ j ne. task_at-with_task_other s i j x ne;
+  call = λ j ne. call_of-with_task s i j x;
+  listen = λ j ne. listen_of-with_task s i j x;
+  memory = refl;
+  now = refl;
+  current = refl;
+  next_call = refl;
+  lines = refl;
+  turn = refl;
+}
+
+pub same_but-without_call : (s : State) (i : ℕ) → IsSameBut i s (without_call i s)
+unfolding without_call
+same_but-without_call s i = record {
+  count = refl;
+  task = λ j ne. task_at-without_call s i j;
+  call = λ j ne. call_of-without_call_other s i j ne;
+  listen = λ j ne. listen_of-without_call s i j;
+  memory = refl;
+  now = refl;
+  current = refl;
+  next_call = refl;
+  lines = refl;
+  turn = refl;
+}
+
+pub same_but-without_listen : (s : State) (i : ℕ) → IsSameBut i s (without_listen i s)
+unfolding without_listen
+same_but-without_listen s i = record {
+  count = refl;
+  task = λ j ne. task_at-without_listen s i j;
+  call = λ j ne. call_of-without_listen s i j;
+  listen = λ j ne. listen_of-without_listen_other s i j ne;
+  memory = refl;
+  now = refl;
+  current = refl;
+  next_call = refl;
+  lines = refl;
+  turn = refl;
+}
+
+-- ## dropping what is not there
+
+filter_none : {X : Type 0} (key : X → ℕ) (i : ℕ) (xs : List X) → find (λ x. eqb (key x) i) xs ≡ None → filter (λ x. not (eqb (key x) i)) xs ≡ xs
+filter_none key i [] h = refl
+filter_none key i (x ∷ xs) h =
+    elim (eqb_tells (key x) i) [
+      | inl t ↦ absurd (no_some (rw t.0 at h))
+      | inr f ↦ rw f.0 (ap (λ ys. x ∷ ys) (filter_none key i xs (rw f.0 at h)))
+    ]
+  where
+    no_some : {A : Type 0} {a : A} → Some a ≡ None → ⊥
+    no_some e = cc
+
+pub without_listen_none : (s : State) (i : ℕ) → listen_of s i ≡ None → without_listen i s ≡ s
+unfolding without_listen listen_of
+without_listen_none s i h = ap (λ ls. record s { listens = ls }) (filter_none (λ l. l.task) i s.listens h)
+
+pub without_call_none : (s : State) (i : ℕ) → call_of s i ≡ None → without_call i s ≡ s
+unfolding without_call call_of
+without_call_none s i h = ap (λ cs. record s { calls = cs }) (filter_none (λ c. c.client.index) i s.calls h)

@@ -1,0 +1,82 @@
+-- Bytes that a task may use lie in memory.
+use Rattle.std.proofs.Common.{◌≡◌, ◌+◌, ◌<◌, ◌≤◌, ◌⊎◌, inl, inr, ℕ, zero, suc, Bool, true, false, not, ◌&&◌, length, refl, arith, leb, ltb}
+use Rattle.std.proofs.lemmas.Bool.{leb-true, ltb-true, false≢true}
+use Rattle.std.proofs.lemmas.List.Folds.{Any-from_list_any}
+use Rattle.region_check.specs.declared.Region.{Region}
+use Rattle.region_check.specs.declared.Right.{Right}
+use Rattle.region_check.specs.declared.Right.TheVariants.{Write}
+use Rattle.region_check.specs.Rights.{may_copy, gives_copy, is_inside, has_right}
+use Rattle.task_table.specs.Memory.{Memory, IsWithin, IsWithinRam}
+use Rattle.task_table.specs.State.{Setup}
+use Rattle.task_table.specs.Reading.{setup_at}
+use Rattle.task_table.specs.Placed.{ArePlaced}
+
+both_true : (a b : Bool) → (a && b) ≡ true → (a ≡ true) × (b ≡ true)
+both_true true b h = (refl, h)
+both_true false b h = absurd (false≢true h)
+
+not_true : (b : Bool) → not b ≡ true → b ≡ false
+not_true true h = absurd (false≢true h)
+not_true false h = refl
+
+-- what a region gives a copy
+record Gives (right : Right) (a : ℕ) (r : Region) : Type 0 where
+  from : r.base ≤ a
+  below : a < r.base + r.size
+  has : has_right r.rights right ≡ true
+  no_device : r.rights.device ≡ false
+
+gives_is : (right : Right) (a : ℕ) (r : Region) → gives_copy right a r ≡ true → Gives right a r
+gives_is right a r h =
+    let all = both_true (is_inside r a && has_right r.rights right) (not r.rights.device) h in
+    let two = both_true (is_inside r a) (has_right r.rights right) all.0 in
+    let inside = both_true (leb r.base a) (ltb a (r.base + r.size)) two.0 in
+    record { from = leb-true _ _ inside.0; below = ltb-true _ _ inside.1; has = two.1; no_device = not_true _ all.1 }
+
+ram_byte : (m : Memory) (base size a : ℕ) → IsWithinRam m base size → base ≤ a → a < base + size → IsWithinRam m a 1
+ram_byte m base size a w from below = elim w [ inl none ↦ absurd (omega arith) | inr x ↦ inr (omega arith, omega arith) ]
+
+a_byte : (m : Memory) (base size a : ℕ) → IsWithin m base size → base ≤ a → a < base + size → IsWithin m a 1
+a_byte m base size a w from below = elim w [ inl r ↦ inl (ram_byte m base size a r from below) | inr x ↦ inr (omega arith, omega arith) ]
+
+-- a byte that a region which is no device gives lies in flash or in RAM
+pub within-given : (g : Setup) (m : Memory) (i : ℕ) (right : Right) (a : ℕ) → ArePlaced g m → may_copy (setup_at g i).regions right a ≡ true → IsWithin m a 1
+within-given g m i right a placed h =
+    let found = Any-from_list_any (gives_copy right a) (setup_at g i).regions h in
+    let r = found.1 in
+    let gives = gives_is right a r found.4 in
+    a_byte m r.base r.size a (placed.within i r (found.0, found.2, found.3) gives.no_device) gives.from gives.below
+
+-- and in RAM where it may be written
+pub within_ram-given : (g : Setup) (m : Memory) (i a : ℕ) → ArePlaced g m → may_copy (setup_at g i).regions Write a ≡ true → IsWithinRam m a 1
+within_ram-given g m i a placed h =
+    let found = Any-from_list_any (gives_copy Write a) (setup_at g i).regions h in
+    let r = found.1 in
+    let gives = gives_is Write a r found.4 in
+    ram_byte m r.base r.size a (placed.writable i r (found.0, found.2, found.3) gives.no_device gives.has) gives.from gives.below
+
+one_in_ram : (m : Memory) (a : ℕ) → IsWithinRam m a 1 → (0x20000000 ≤ a) × (a < 0x20000000 + length m.ram)
+one_in_ram m a w = elim w [ inl none ↦ absurd (omega arith) | inr x ↦ (x.0, omega arith) ]
+
+one_in : (m : Memory) (a : ℕ) → IsWithin m a 1 → ((0x20000000 ≤ a) × (a < 0x20000000 + length m.ram)) ⊎ ((0x08000000 ≤ a) × (a < 0x08000000 + length m.flash))
+one_in m a w = elim w [ inl r ↦ inl (one_in_ram m a r) | inr x ↦ inr (x.0, omega arith) ]
+
+-- bytes in a row, each in memory, lie in one of the two
+pub within-bytes : (m : Memory) (base n : ℕ) → length m.flash ≤ 1048576 → ((a : ℕ) → base ≤ a → a < base + n → IsWithin m a 1) → IsWithin m base n
+within-bytes m base zero small h = inl (inl refl)
+within-bytes m base (suc n) small h =
+    let last = one_in m (base + n) (h (base + n) (omega arith) (omega arith)) in
+    elim (one_in m base (h base (omega arith) (omega arith))) [
+      | inl r ↦ elim last [ inl x ↦ inl (inr (r.0, omega arith)) | inr x ↦ absurd (omega arith) ]
+      | inr f ↦ elim last [
+        | inl x ↦ elim (one_in m 0x10000000 (h 0x10000000 (omega arith) (omega arith))) [ inl y ↦ absurd (omega arith) | inr y ↦ absurd (omega arith) ]
+        | inr x ↦ inr (f.0, omega arith)
+      ]
+    ]
+
+pub within_ram-bytes : (m : Memory) (base n : ℕ) → ((a : ℕ) → base ≤ a → a < base + n → IsWithinRam m a 1) → IsWithinRam m base n
+within_ram-bytes m base zero h = inl refl
+within_ram-bytes m base (suc n) h =
+    let first = one_in_ram m base (h base (omega arith) (omega arith)) in
+    let last = one_in_ram m (base + n) (h (base + n) (omega arith) (omega arith)) in
+    inr (first.0, omega arith)

@@ -1,0 +1,128 @@
+-- Each effect and each row keeps a state sane.
+use Rattle.std.proofs.Common.{◌≡◌, ◌+◌, ◌-◌, ◌<◌, ◌≤◌, inl, inr, ℕ, zero, suc, Bool, true, false, cond, List, [], ◌∷◌, ◌++◌, length, take, drop, refl, ◌∙◌, arith, eqb}
+use Rattle.std.specs.Prelude.{Contains}
+use Rattle.std.proofs.lemmas.List.Elements.{Contains-append_cases}
+use Rattle.kernel_abi.specs.declared.Fault.{Fault}
+use Rattle.kernel_abi.specs.declared.Health.{Health}
+use Rattle.kernel_abi.specs.declared.Health.TheVariants.{Faulted}
+use Rattle.kernel_abi.specs.declared.Note.{Note}
+use Rattle.words_core.specs.declared.Flags.{Flags}
+use Rattle.task_table.specs.Memory.{Memory, with_bytes, IsWithinRam}
+use Rattle.task_table.specs.State.{Setup, State, Turn, Ground}
+use Rattle.task_table.specs.Reading.{task_at, register}
+use Rattle.task_table.specs.Effects.{with_task, without_call, without_listen, changed, noted, with_processor, with_health, stored, faulted}
+use Rattle.task_table.specs.Rows.{misused, panicked, call_noted, called}
+use Rattle.task_table.specs.Placed.{ArePlaced}
+use Rattle.task_table.specs.Sane.{Sane, IsFaultKnown, AreAllBytes}
+use Rattle.task_table.specs.Counts.{AreWhole}
+use Rattle.task_table.proofs.Changes.{call_of-without_call, listen_of-without_listen, listen_of-without_call}
+use Rattle.task_table.proofs.Keeps.{idle_listen, keeps-with_task, keeps-without_call, keeps-without_listen, keeps-memory, keeps-current, keeps-turn}
+use Rattle.task_table.proofs.Steps.{flash-with_bytes, length-with_bytes}
+
+-- ## memory
+
+placed_same : (g : Setup) (m v : Memory) → ArePlaced g m → v.flash ≡ m.flash → length v.ram ≡ length m.ram → ArePlaced g v
+placed_same g m v h f r = record {
+  within = λ i x here none. rw (r, f) (h.within i x here none);
+  writable = λ i x here none w. rw r (h.writable i x here none w);
+  flash = rw f h.flash;
+  stack = h.stack;
+  devices = h.devices;
+  owners = h.owners;
+  below = rw r h.below;
+}
+
+take_in : (n : ℕ) (xs : List ℕ) (b : ℕ) → Contains (take n xs) b → Contains xs b
+take_in zero xs b h = absurd (omega (arith, h.1))
+take_in (suc n) [] b h = absurd (omega (arith, h.1))
+take_in (suc n) (x ∷ xs) b (zero, lt, same) = (zero, omega arith, same)
+take_in (suc n) (x ∷ xs) b (suc i, lt, same) = let r = take_in n xs b (i, omega arith, same) in (suc r.0, omega (arith, r.1), r.2)
+
+drop_in : (n : ℕ) (xs : List ℕ) (b : ℕ) → Contains (drop n xs) b → Contains xs b
+drop_in zero xs b h = h
+drop_in (suc n) [] b h = h
+drop_in (suc n) (x ∷ xs) b h = let r = drop_in n xs b h in (suc r.0, omega (arith, r.1), r.2)
+
+-- bytes written over bytes
+written_bytes : (m : Memory) (a : ℕ) (bytes : List ℕ) → AreAllBytes m.ram → AreAllBytes bytes → AreAllBytes (with_bytes m a bytes).ram
+unfolding with_bytes
+written_bytes m a bytes old new = λ b here. elim (Contains-append_cases (take (a - 0x20000000) m.ram ++ bytes) (drop (a - 0x20000000 + length bytes) m.ram) b here) [
+  | inl y ↦ elim (Contains-append_cases (take (a - 0x20000000) m.ram) bytes b y) [
+    | inl x ↦ old b (take_in (a - 0x20000000) m.ram b x)
+    | inr x ↦ new b x
+  ]
+  | inr x ↦ old b (drop_in (a - 0x20000000 + length bytes) m.ram b x)
+]
+
+-- ## effects
+
+module _ {g : Setup} where
+  pub sane-noted : (n : Note) (t : Turn) → Sane g t.state → Sane g (noted n t).state
+  unfolding noted
+  sane-noted n t h = h
+
+  pub sane-processor : (i : ℕ) (registers : List ℕ) (flags : Flags) (t : Turn) → Sane g t.state → i < length t.state.tasks → AreWhole registers → Sane g (with_processor i registers flags t).state
+  unfolding with_processor
+  sane-processor i registers flags t h inside whole =
+      let x = h.steady.tasks i inside in
+      keeps-with_task i h inside record {
+        births = refl;
+        health = inl refl;
+        sane = record { sixteen = whole.sixteen; even = whole.even; aligned = whole.aligned; fault = x.fault };
+        ahead = h.ahead i inside;
+        unmet = λ l here m same. rw same at (h.unmet l here m);
+      }
+
+  pub sane-stored : (on : Ground) (at : ℕ) (bytes : List ℕ) (t : Turn) → Sane g t.state → AreAllBytes bytes → IsWithinRam t.state.memory at (length bytes) → Sane g (stored on at bytes t).state
+  unfolding stored
+  sane-stored on at bytes t h all within =
+      let m = t.state.memory in
+      keeps-memory (with_bytes m at bytes) h (flash-with_bytes m at bytes) (written_bytes m at bytes h.steady.bytes all)
+      (placed_same g m (with_bytes m at bytes) h.steady.placed (flash-with_bytes m at bytes) (length-with_bytes m at bytes within))
+
+  pub sane-current : (i : ℕ) (t : Turn) → Sane g t.state → i < length t.state.tasks → Sane g (changed (λ s. record s { current = i }) t).state
+  sane-current i t h inside = keeps-current i h inside
+
+  pub sane-turn : (n : ℕ) (t : Turn) → Sane g t.state → Sane g (changed (λ s. record s { turn = n }) t).state
+  sane-turn n t h = keeps-turn n h
+
+  -- a task stops waiting, and then its health changes
+  stopped : (i : ℕ) (health : Health) (s : State) → Sane g s → i < length s.tasks → IsFaultKnown health → Sane g (with_task i record (task_at s i) { health = health } (without_call i (without_listen i s)))
+  unfolding task_at without_call without_listen
+  stopped i health s h inside known =
+      let u = without_call i (without_listen i s) in
+      let h1 : Sane g u = keeps-without_call i (keeps-without_listen i h) in
+      let x = h.steady.tasks i inside in
+      keeps-with_task i h1 inside record {
+        births = refl;
+        health = inr record { call = call_of-without_call (without_listen i s) i; listen = listen_of-without_call (without_listen i s) i i ∙ listen_of-without_listen s i };
+        sane = record { sixteen = x.sixteen; even = x.even; aligned = x.aligned; fault = known };
+        ahead = h.ahead i inside;
+        unmet = λ l here m same. absurd (idle_listen u i l (listen_of-without_call (without_listen i s) i i ∙ listen_of-without_listen s i) here same);
+      }
+
+  pub sane-faulted : (i : ℕ) (fault : Fault) (t : Turn) → Sane g t.state → i < length t.state.tasks → 1 ≤ fault.number → fault.number ≤ 10 → Sane g (faulted i fault t).state
+  unfolding faulted noted with_health with_task without_call without_listen
+  sane-faulted i fault t h inside low high = stopped i (Faulted fault) t.state h inside (low, high)
+
+-- ## rows
+
+module _ {g : Setup} (c : ℕ) (t : Turn) (h : Sane g t.state) (inside : c < length t.state.tasks) where
+  pub sane-misused : (usage : ℕ) → Sane g (misused c usage t).state
+  sane-misused usage = sane-faulted c record { number = 7; x = usage; y = 0 } t h inside (omega arith) (omega arith)
+
+  pub sane-panicked : Sane g (panicked c t).state
+  unfolding panicked
+  sane-panicked = sane-faulted c _ t h inside (omega arith) (omega arith)
+
+  pub sane-call_noted : Sane g (call_noted c t).state
+  unfolding call_noted
+  sane-call_noted = sane-noted _ t h
+
+  pub sane-called : Sane g (called c t).state
+  unfolding called
+  sane-called = go (eqb (register t.state c 11) 8)
+    where
+      go : (b : Bool) → Sane g (cond b (panicked c t) (misused c 1 t)).state
+      go true = sane-panicked
+      go false = sane-misused 1

@@ -1,0 +1,25 @@
+use Rattle.std.proofs.Common.{◌≡◌, refl, ap, map, List}
+use Rattle.task_table.specs.State.{Setup, TaskSetup, LineSetup}
+use Rattle.task_table.specs.Parts.{setup_of_parts, task_setup, line_setup}
+use Rattle.task_table.proofs.Starts.{shows_start, sane-begun}
+use Rattle.task_table.proofs.kernel.Kernel.start.Goals as goal
+
+pub returns-clause-holds : goal.returns-clause-holds
+returns-clause-holds c =
+    let m = c.args.memory in
+    let g = setup_of_parts m c.args.fault_bits c.args.tasks.now c.args.lines.now in
+    let with : List TaskSetup → List LineSetup → Setup = λ ts ls. record g { tasks = ts; lines = ls } in
+    let tasks : map task_setup c.in_ok-copies_of.field-0.items ≡ map task_setup c.args.tasks.now = c.in_ok-copies_of.ensures.setup in
+    let lines : map line_setup c.in_ok-from_slice.field-0.items ≡ map line_setup c.args.lines.now = ap (map line_setup) c.in_ok-from_slice.ensures.items in
+    let setup : with (map task_setup c.in_ok-copies_of.field-0.items) (map line_setup c.in_ok-from_slice.field-0.items) ≡ g = rw (tasks, lines) refl in
+    shows_start m c.args.fault_bits c.args.tasks.now c.args.lines.now _ c.requires.zeros setup c.in_ok-first_slots.ensures c.new.ensures refl refl refl refl refl
+
+pub returns-clause-stands : goal.returns-clause-stands
+returns-clause-stands c = λ sound.
+    let m = c.args.memory in
+    let g = setup_of_parts m c.args.fault_bits c.args.tasks.now c.args.lines.now in
+    let with : List TaskSetup → List LineSetup → Setup = λ ts ls. record g { tasks = ts; lines = ls } in
+    let tasks : map task_setup c.in_ok-copies_of.field-0.items ≡ map task_setup c.args.tasks.now = c.in_ok-copies_of.ensures.setup in
+    let lines : map line_setup c.in_ok-from_slice.field-0.items ≡ map line_setup c.args.lines.now = ap (map line_setup) c.in_ok-from_slice.ensures.items in
+    let setup : with (map task_setup c.in_ok-copies_of.field-0.items) (map line_setup c.in_ok-from_slice.field-0.items) ≡ g = rw (tasks, lines) refl in
+    record { holds = shows_start m c.args.fault_bits c.args.tasks.now c.args.lines.now _ c.requires.zeros setup c.in_ok-first_slots.ensures c.new.ensures refl refl refl refl refl; sane = sane-begun g sound }

@@ -1,0 +1,20 @@
+use Rattle.task_table.proofs.Frames as frames
+use Rattle.task_table.proofs.laws.ready_waits_for_nothing.Goals as goal
+
+pub returns-clause-idle : goal.returns-clause-idle
+returns-clause-idle c = λ s i h. frames.idle-ready s i h
+
+pub returns-clause-ready_same : goal.returns-clause-ready_same
+returns-clause-ready_same c = λ i s u same h. frames.ready-same i s u same h
+
+pub returns-clause-idle_same : goal.returns-clause-idle_same
+returns-clause-idle_same c = λ i s u same h. frames.idle-same i s u same h
+
+pub returns-clause-noted : goal.returns-clause-noted
+returns-clause-noted c = λ j n t. frames.same_at-noted j n t
+
+pub returns-clause-stored : goal.returns-clause-stored
+returns-clause-stored c = λ j on at bytes t. frames.same_at-stored j on at bytes t
+
+pub returns-clause-current : goal.returns-clause-current
+returns-clause-current c = λ j i t. frames.same_at-current j i t

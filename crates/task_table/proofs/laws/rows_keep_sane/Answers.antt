@@ -1,0 +1,14 @@
+use Rattle.task_table.proofs.Sanity.{sane-misused, sane-panicked, sane-call_noted, sane-called}
+use Rattle.task_table.proofs.laws.rows_keep_sane.Goals as goal
+
+pub returns-clause-misused : goal.returns-clause-misused
+returns-clause-misused c = λ g c usage t h inside. sane-misused c t h inside usage
+
+pub returns-clause-panicked : goal.returns-clause-panicked
+returns-clause-panicked c = λ g c t h inside. sane-panicked c t h inside
+
+pub returns-clause-call_noted : goal.returns-clause-call_noted
+returns-clause-call_noted c = λ g c t h inside. sane-call_noted c t h inside
+
+pub returns-clause-called : goal.returns-clause-called
+returns-clause-called c = λ g c t h inside. sane-called c t h inside

@@ -1,0 +1,24 @@
+use Rattle.std.proofs.Common.{◌≡◌, true, false, leb, refl}
+use Rattle.std.proofs.lemmas.Bool.{le-leb, lt-leb}
+use Rattle.task_table.specs.Memory.{bytes_at}
+use Rattle.task_table.proofs.memory.Memory.word.Goals as goal
+
+pub returns-then-addr-ge-RAM : goal.returns-then-addr-ge-RAM
+unfolding bytes_at
+returns-then-addr-ge-RAM c =
+    let t : leb 0x20000000 c.args.addr ≡ true = le-leb _ _ c.if-addr-ge-RAM.true in
+    rw (← c.self.view_is, t, ← c.deref.ensures.value) c.word_at.ensures
+
+pub returns-then-addr-ge-FLASH : goal.returns-then-addr-ge-FLASH
+unfolding bytes_at
+returns-then-addr-ge-FLASH c =
+    let t : leb 0x20000000 c.args.addr ≡ false = lt-leb _ _ c.if-addr-ge-RAM.false in
+    let u : leb 0x08000000 c.args.addr ≡ true = le-leb _ _ c.if-addr-ge-FLASH.true in
+    rw (← c.self.view_is, t, u, ← c.deref-then-addr-ge-FLASH.ensures.value) c.word_at-then-addr-ge-FLASH.ensures
+
+pub returns-else-addr-ge-FLASH : goal.returns-else-addr-ge-FLASH
+unfolding bytes_at
+returns-else-addr-ge-FLASH c =
+    let t : leb 0x20000000 c.args.addr ≡ false = lt-leb _ _ c.if-addr-ge-RAM.false in
+    let u : leb 0x08000000 c.args.addr ≡ false = lt-leb _ _ c.if-addr-ge-FLASH.false in
+    rw (t, u) refl

@@ -1,0 +1,12 @@
+pub mod Memory
+pub mod State
+pub mod Reading
+pub mod Effects
+pub mod Rows
+pub mod Placed
+pub mod Sane
+pub mod Start
+pub mod Parts
+pub mod Holds
+pub mod Found
+pub mod Counts

@@ -1,0 +1,46 @@
+-- Memory as a map from addresses to bytes: flash from 0x08000000 and RAM from 0x20000000.
+-- (Scope of the profile: docs/FORMATS.md, Image; the addresses are those of a Cortex-M part.)
+use Rattle.std.specs.Prelude.{Bool, ◌&&◌, ℕ, ◌+◌, ◌-◌, ◌*◌, ◌≤◌, ◌⊎◌, ◌≡◌, List, [], ◌∷◌, ◌++◌, length, take, drop, Option, None, slice_get, if◌then◌else◌, nat_le}
+
+pub record Memory : Type 0 where
+  pub flash : List ℕ
+  pub ram : List ℕ
+
+-- the byte at an address, where there is one
+abbrev pub byte_at : Memory → ℕ → Option ℕ
+byte_at m a =
+    if nat_le 0x20000000 a then slice_get m.ram (a - 0x20000000)
+    else (if nat_le 0x08000000 a then slice_get m.flash (a - 0x08000000) else None)
+
+-- the n bytes from an address on; where there is no memory there are none
+unfoldable pub bytes_at : Memory → ℕ → ℕ → List ℕ
+bytes_at m a n =
+    if nat_le 0x20000000 a then take n (drop (a - 0x20000000) m.ram)
+    else (if nat_le 0x08000000 a then take n (drop (a - 0x08000000) m.flash) else [])
+
+-- the number that bytes spell, the lowest first
+abbrev pub number_of : List ℕ → ℕ
+number_of [] = 0
+number_of (byte ∷ bytes) = byte + 256 * number_of bytes
+
+abbrev pub number_at : Memory → ℕ → ℕ → ℕ
+number_at m a n = number_of (bytes_at m a n)
+
+-- the memory with these bytes from an address of the RAM on
+unfoldable pub with_bytes : Memory → ℕ → List ℕ → Memory
+with_bytes m a bytes =
+    record m { ram = take (a - 0x20000000) m.ram ++ bytes ++ drop (a - 0x20000000 + length bytes) m.ram }
+
+-- whether n bytes from an address lie in the RAM
+abbrev pub is_ram : Memory → ℕ → ℕ → Bool
+is_ram m a n = nat_le 0x20000000 a && nat_le (a + n) (0x20000000 + length m.ram)
+
+-- n bytes from an address lie in RAM; in flash or in RAM. An empty range lies anywhere
+abbrev pub IsWithinRam : Memory → ℕ → ℕ → Type 0
+IsWithinRam m a n = (n ≡ 0) ⊎ ((0x20000000 ≤ a) × (a + n ≤ 0x20000000 + length m.ram))
+
+abbrev pub IsWithinFlash : Memory → ℕ → ℕ → Type 0
+IsWithinFlash m a n = (0x08000000 ≤ a) × (a + n ≤ 0x08000000 + length m.flash)
+
+abbrev pub IsWithin : Memory → ℕ → ℕ → Type 0
+IsWithin m a n = IsWithinRam m a n ⊎ IsWithinFlash m a n

@@ -1,0 +1,121 @@
+-- What is read off a state of the abstract kernel.
+use Rattle.std.specs.Prelude.{ℕ, ◌≡◌, ◌≢◌, ◌+◌, ◌^◌, ◌-◌, ◌%◌, Bool, true, false, ◌&&◌, ◌||◌, not, List, [], ◌++◌, length, Option, None, slice_index, slice_index_or, find, nat_le, ◌==◌, is_none}
+use Rattle.std.specs.List.{range_with_len, list_all}
+use Rattle.kernel_abi.specs.Ids.{index_of, generation_of}
+use Rattle.kernel_abi.specs.declared.Health.TheVariants.{Well, Stopped, Faulted}
+use Rattle.kernel_abi.specs.declared.Health.{Health}
+use Rattle.words_core.specs.declared.Flags.{Flags}
+use Rattle.region_check.specs.Rights.{first_bad}
+use Rattle.region_check.specs.declared.Right.{Right}
+use Rattle.task_table.specs.declared.Line.{Line}
+use Rattle.task_table.specs.State.{Setup, TaskSetup, Task, Call, Listen, State, Birth, From, Any, One, KernelOnly, Range}
+
+abbrev pub no_flags : Flags
+no_flags = record { n = false; z = false; c = false; v = false }
+
+-- a task that is not there
+abbrev pub no_task : Task
+no_task = record { births = 0; registers = []; flags = no_flags; health = Stopped; posted = 0; timer = None }
+
+unfoldable pub task_at : State → ℕ → Task
+task_at s i = slice_index_or s.tasks i no_task
+
+abbrev pub setup_at : Setup → ℕ → TaskSetup
+setup_at g i = slice_index_or g.tasks i record { priority = 0; entry = 0; stack = 0; regions = []; start = false }
+
+-- a line that is not there is disabled with nothing pending
+abbrev pub no_line : Line
+no_line = record { enabled = false; pending = false }
+
+unfoldable pub line_at : State → ℕ → Line
+line_at s k = slice_index_or s.lines k no_line
+
+-- a register of a task
+unfoldable pub register : State → ℕ → ℕ → ℕ
+register s i r = slice_index (task_at s i).registers r
+
+-- the open call of a client, and the listen of a task
+unfoldable pub call_of : State → ℕ → Option Call
+call_of s i = find (λ c. c.client.index == i) s.calls
+
+unfoldable pub listen_of : State → ℕ → Option Listen
+listen_of s i = find (λ l. l.task == i) s.listens
+
+abbrev pub is_well : Health → Bool
+is_well Well = true
+is_well Stopped = false
+is_well (Faulted f) = false
+
+abbrev pub is_faulted : Health → Bool
+is_faulted Well = false
+is_faulted Stopped = false
+is_faulted (Faulted f) = true
+
+-- an id names no task; it names an earlier birth of one
+unfoldable pub is_out : State → ℕ → Bool
+is_out s id = nat_le (length s.tasks) (index_of id)
+
+unfoldable pub is_dead : State → ℕ → Bool
+is_dead s id = not (generation_of id == (task_at s (index_of id)).births % 64)
+
+-- ready: well, client of no open call, and not listening
+unfoldable pub is_ready : State → ℕ → Bool
+is_ready s i = is_well (task_at s i).health && is_none (call_of s i) && is_none (listen_of s i)
+
+abbrev pub same_birth : Birth → Birth → Bool
+same_birth a b = (a.index == b.index) && (a.birth == b.birth)
+
+-- a listen is open to a client, or closed to it
+abbrev pub admits : From → Birth → Bool
+admits Any client = true
+admits (One b) client = same_birth b client
+admits KernelOnly client = false
+
+-- a range is valid where it ends inside the address space
+abbrev pub is_valid : Range → Bool
+is_valid r = nat_le (r.base + r.length) (2 ^ 32)
+
+-- the first byte of a range that may not be copied for a task
+unfoldable pub bad_byte : Setup → ℕ → Right → Range → Option ℕ
+bad_byte g i right r = first_bad (setup_at g i).regions right r.base r.length
+
+-- ## who runs
+
+abbrev pub priority : Setup → ℕ → ℕ
+priority g i = (setup_at g i).priority
+
+-- ready, and no ready task has a lower priority number
+abbrev pub qualifies : Setup → State → ℕ → Bool
+qualifies g s i = is_ready s i && list_all (λ j. not (is_ready s j) || nat_le (priority g i) (priority g j)) (range_with_len 0 (length s.tasks))
+
+-- the indices below n in order, from i on and around
+abbrev pub around : ℕ → ℕ → List ℕ
+around n i = range_with_len i (n - i) ++ range_with_len 0 i
+
+-- the current task where it qualifies, else the first that does after it, cyclically
+unfoldable pub chosen : Setup → State → Option ℕ
+chosen g s = find (qualifies g s) (around (length s.tasks) s.current)
+
+-- u is s but for task i, its call and its listen
+pub record IsSameBut (i : ℕ) (s u : State) : Type 0 where
+  pub count : length u.tasks ≡ length s.tasks
+  pub task : (j : ℕ) → j ≢ i → task_at u j ≡ task_at s j
+  pub call : (j : ℕ) → j ≢ i → call_of u j ≡ call_of s j
+  pub listen : (j : ℕ) → j ≢ i → listen_of u j ≡ listen_of s j
+  pub memory : u.memory ≡ s.memory
+  pub now : u.now ≡ s.now
+  pub current : u.current ≡ s.current
+  pub next_call : u.next_call ≡ s.next_call
+  pub lines : u.lines ≡ s.lines
+  pub turn : u.turn ≡ s.turn
+
+-- task i waits for nothing
+pub record IsIdle (s : State) (i : ℕ) : Type 0 where
+  pub call : call_of s i ≡ None
+  pub listen : listen_of s i ≡ None
+
+-- task i, its call and its listen are the same in both
+pub record IsSameAt (i : ℕ) (s u : State) : Type 0 where
+  pub task : task_at u i ≡ task_at s i
+  pub call : call_of u i ≡ call_of s i
+  pub listen : listen_of u i ≡ listen_of s i

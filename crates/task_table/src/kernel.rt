@@ -1,0 +1,477 @@
+//! The kernel: its tasks, their memory, and what may be done to them.
+//!
+//! Most clauses say, for each setup and each turn of the abstract kernel that this kernel holds,
+//! what the answer is, or which turn the kernel holds afterwards.
+
+ghost use Rattle.std.specs.Prelude.{◌≡◌, ◌≤◌, length, slice_range};
+
+use crate::Line;
+use crate::memory::Memory;
+use crate::slot::{Found, Slot, Wait};
+use crate::start::{LineStart, TaskStart, copies_of, first_slots};
+use arrayvec::ArrayVec;
+use kernel_abi::{Fault, Generation, Health, Note, TaskId, Timer, Usage};
+use region_check::Region;
+use std::alloc::{AllocError, Global};
+use words_core::Flags;
+
+/// The tasks and all that they share: up to 32 tasks, 32 interrupt lines, and what a turn notes, at
+/// most 1,024 lines.
+#[derive(Drop)]
+pub struct Kernel {
+    tasks: Vec<TaskStart>,
+    owners: Vec<LineStart>,
+    fault_bits: u32,
+    slots: Vec<Slot>,
+    lines: [Line; 32],
+    notes: ArrayVec<Note, 1024>,
+    memory: Memory,
+    clock: u64,
+    current: usize,
+    next_call: u32,
+    ghost few: { length slots.items ≤ 32 },
+    ghost many: { length tasks.items ≡ length slots.items },
+}
+
+impl Kernel {
+    ghost use Rattle.std.specs.Prelude.{◌≡◌, ◌+◌, ◌-◌, ◌%◌, ◌<◌, ◌≤◌, ◌^◌, ◌⊎◌, ℕ, length, replicate, Option, IfOk, slice_get};
+    ghost use Rattle.kernel_abi.specs.Faults.{usage_number};
+    ghost use Rattle.kernel_abi.specs.declared.Health.TheVariants.{Faulted};
+    ghost use Rattle.task_table.specs.State.{Setup, State, Turn, Own};
+    ghost use Rattle.task_table.specs.Memory.{is_ram, byte_at, number_at, IsWithinRam};
+    ghost use Rattle.task_table.specs.Reading.{task_at, setup_at, register, priority, is_ready, call_of, listen_of, IsSameBut, IsIdle};
+    ghost use Rattle.task_table.specs.Effects.{changed, noted, with_processor, with_health, without_call, without_listen, stored, faulted};
+    ghost use Rattle.task_table.specs.Rows.{misused, call_noted, called};
+    ghost use Rattle.task_table.specs.Start.{start as started_at, begun};
+    ghost use Rattle.task_table.specs.Parts.{setup_of_parts, IsSound};
+    ghost use Rattle.task_table.specs.Holds.{Holds, Stands, IsKept, wait_of, task_count, note_count, memory_of, setup_of, current_of, notes_of};
+    ghost use Rattle.task_table.specs.Found.{IsFound, IsInRange};
+
+    /// The kernel at the start of a run: each task as at its first birth, and the memory as it is
+    /// handed in, with zeros in the RAM. The order of the tasks gives their indices. Where the parts
+    /// are those of a sound image, the state is sane.
+    ///
+    /// # Errors
+    ///
+    /// Only want of memory. The memory that was handed in is dropped then.
+    pub fn start(
+        alloc: Global,
+        memory: Memory,
+        fault_bits: u32,
+        tasks: &[TaskStart],
+        lines: &[LineStart],
+    ) -> Result<Kernel, AllocError>
+        requires few { length tasks.now ≤ 32 }
+        requires zeros { memory.ram ≡ replicate (length memory.ram) 0 }
+        ensures holds { let g = setup_of_parts memory fault_bits tasks.now lines.now in IfOk result (λ k. Holds g k (begun (started_at g))) }
+        ensures stands { let g = setup_of_parts memory fault_bits tasks.now lines.now in IsSound g → IfOk result (λ k. Stands g k (begun (started_at g))) }
+        ensures count { IfOk result (λ k. task_count k ≡ length tasks.now) }
+        ensures notes { IfOk result (λ k. note_count k ≡ 0) }
+    {
+        Ok(Kernel {
+            tasks: copies_of(alloc, tasks)?,
+            owners: Vec::from_slice(alloc, lines)?,
+            fault_bits,
+            slots: first_slots(alloc, tasks)?,
+            lines: [Line {
+                enabled: false,
+                pending: false,
+            }; 32],
+            notes: ArrayVec::new(),
+            memory,
+            clock: 0,
+            current: 0,
+            next_call: 1,
+        })
+    }
+
+    /// How many tasks there are.
+    pub fn task_count(&self) -> usize
+        ensures value { result ≡ task_count self.now }
+        ensures few { result ≤ 32 }
+        ensures holds { (g : Setup) (t : Turn) → Holds g self.now t → result ≡ length t.state.tasks }
+    {
+        self.slots.len()
+    }
+
+    /// What was noted since the notes were cleared, in order.
+    pub fn notes(&self) -> &[Note]
+        ensures value { result.now ≡ notes_of self.now }
+        ensures holds { (g : Setup) (t : Turn) → Holds g self.now t → result.now ≡ t.notes }
+    {
+        self.notes.as_slice()
+    }
+
+    /// The task that ran last.
+    pub fn current(&self) -> usize
+        ensures value { result ≡ current_of self.now }
+        ensures holds { (g : Setup) (t : Turn) → Holds g self.now t → result ≡ t.state.current }
+    {
+        self.current
+    }
+
+    /// The time, in ticks since the start.
+    pub fn now(&self) -> u64
+        ensures { (g : Setup) (t : Turn) → Holds g self.now t → result ≡ t.state.now }
+    {
+        self.clock
+    }
+
+    /// The number that the next call gets.
+    pub fn next_call(&self) -> u32
+        ensures { (g : Setup) (t : Turn) → Holds g self.now t → result ≡ t.state.next_call }
+    {
+        self.next_call
+    }
+
+    /// How an interrupt line is, or None where there is none with this number.
+    pub fn line(&self, number: usize) -> Option<Line>
+        ensures { (g : Setup) (t : Turn) → Holds g self.now t → result ≡ slice_get t.state.lines number }
+    {
+        self.lines.get(number).copied()
+    }
+
+    /// The bits that task 0 is posted where another task faults.
+    pub fn fault_bits(&self) -> u32
+        ensures { (g : Setup) (t : Turn) → Holds g self.now t → result ≡ g.fault_bits }
+    {
+        self.fault_bits
+    }
+
+    /// The bytes that a task may use; none where there is no such task.
+    pub fn regions(&self, task: usize) -> &[Region]
+        ensures value { result.now ≡ (setup_at (setup_of self.now) task).regions }
+        ensures holds { (g : Setup) (t : Turn) → Holds g self.now t → result.now ≡ (setup_at g task).regions }
+    {
+        match self.tasks.get(task) {
+            Some(start) => &start.regions,
+            None => &[],
+        }
+    }
+
+    /// The priority number of a task; a lower one goes first.
+    pub fn priority(&self, task: usize) -> u8
+        requires { task < task_count self.now }
+        ensures { (g : Setup) (t : Turn) → Holds g self.now t → result ≡ priority g task }
+    {
+        self.tasks[task].priority
+    }
+
+    /// What is kept of a task.
+    fn slot(&self, task: usize) -> Slot
+        requires { task < task_count self.now }
+        ensures { (g : Setup) (t : Turn) → Holds g self.now t → IsKept t.state task result }
+    {
+        self.slots[task]
+    }
+
+    /// Whether a task is well and waits for nothing.
+    pub fn is_ready(&self, task: usize) -> bool
+        requires { task < task_count self.now }
+        ensures { (g : Setup) (t : Turn) → Holds g self.now t → result ≡ is_ready t.state task }
+    {
+        let slot = self.slot(task);
+        slot.is_ready()
+    }
+
+    /// How a task is.
+    pub fn health(&self, task: usize) -> Health
+        requires { task < task_count self.now }
+        ensures { (g : Setup) (t : Turn) → Holds g self.now t → result ≡ (task_at t.state task).health }
+    {
+        self.slot(task).health
+    }
+
+    /// How often a task was born again, modulo 64.
+    pub fn generation(&self, task: usize) -> Generation
+        requires { task < task_count self.now }
+        ensures { (g : Setup) (t : Turn) → Holds g self.now t → result.number ≡ (task_at t.state task).births % 64 }
+    {
+        self.slot(task).generation
+    }
+
+    /// The registers of a task.
+    pub fn registers(&self, task: usize) -> [u32; 16]
+        requires { task < task_count self.now }
+        ensures { (g : Setup) (t : Turn) → Holds g self.now t → result ≡ (task_at t.state task).registers }
+    {
+        self.slot(task).registers
+    }
+
+    /// One register of a task.
+    pub fn register(&self, task: usize, number: usize) -> u32
+        requires there { task < task_count self.now }
+        requires small { number < 16 }
+        ensures { (g : Setup) (t : Turn) → Holds g self.now t → result ≡ register t.state task number }
+    {
+        let slot = self.slot(task);
+        slot.registers[number]
+    }
+
+    /// The flags of a task.
+    pub fn flags(&self, task: usize) -> Flags
+        requires { task < task_count self.now }
+        ensures { (g : Setup) (t : Turn) → Holds g self.now t → result ≡ (task_at t.state task).flags }
+    {
+        self.slot(task).flags
+    }
+
+    /// The posted bits of a task.
+    pub fn posted_bits(&self, task: usize) -> u32
+        requires { task < task_count self.now }
+        ensures { (g : Setup) (t : Turn) → Holds g self.now t → result ≡ (task_at t.state task).posted }
+    {
+        self.slot(task).posted
+    }
+
+    /// The timer of a task, where it is set.
+    pub fn timer(&self, task: usize) -> Option<Timer>
+        requires { task < task_count self.now }
+        ensures { (g : Setup) (t : Turn) → Holds g self.now t → result ≡ (task_at t.state task).timer }
+    {
+        self.slot(task).timer
+    }
+
+    /// What a task waits for.
+    pub fn wait(&self, task: usize) -> Wait
+        requires { task < task_count self.now }
+        ensures { (g : Setup) (t : Turn) → Holds g self.now t → result ≡ wait_of (call_of t.state task) (listen_of t.state task) }
+    {
+        self.slot(task).wait
+    }
+
+    /// What an id names: a task at its present birth, an earlier birth of one, or no task (Hubris
+    /// Reference, on task ids).
+    pub fn lookup(&self, id: u16) -> Found
+        ensures found { (g : Setup) (t : Turn) → Holds g self.now t → IsFound t.state id result }
+        ensures in_range { IsInRange (task_count self.now) result }
+    {
+        let id = TaskId::of(id);
+        let index = usize::from(id.index());
+        if index >= self.slots.len() {
+            return Found::Out;
+        }
+        let slot = self.slot(index);
+        let generation = slot.generation.number % 64;
+        if generation == id.generation().number {
+            Found::Live(index)
+        } else {
+            Found::Dead(Generation { number: generation })
+        }
+    }
+
+    /// The byte at an address, where there is one.
+    pub fn byte(&self, addr: u32) -> Option<u8>
+        ensures { (g : Setup) (t : Turn) → Holds g self.now t → result ≡ byte_at t.state.memory addr }
+    {
+        self.memory.byte(addr)
+    }
+
+    /// The number that 1, 2 or 4 bytes from an address on spell, the lowest first. Where there is no
+    /// memory a byte counts as 0.
+    pub fn number(&self, addr: u32, size: u32) -> u32
+        requires { (size ≡ 1) ⊎ (size ≡ 2) ⊎ (size ≡ 4) }
+        ensures value { result ≡ number_at (memory_of self.now) addr size }
+        ensures holds { (g : Setup) (t : Turn) → Holds g self.now t → result ≡ number_at t.state.memory addr size }
+    {
+        self.memory.number(addr, size)
+    }
+
+    /// Nothing is noted any more. What the turn wrote and read is forgotten with it.
+    pub fn clear_notes(&mut self)
+        ensures holds { (g : Setup) (t : Turn) → Holds g self.old t → Holds g self.new (begun t.state) }
+        ensures count { note_count self.new ≡ 0 }
+        ensures tasks { task_count self.new ≡ task_count self.old }
+    {
+        self.notes.clear();
+    }
+
+    /// This task runs.
+    pub fn set_current(&mut self, task: usize)
+        ensures holds { (g : Setup) (t : Turn) → Holds g self.old t → Holds g self.new (changed (λ s. record s { current = task }) t) }
+        ensures count { note_count self.new ≡ note_count self.old }
+        ensures tasks { task_count self.new ≡ task_count self.old }
+    {
+        self.current = task;
+    }
+
+    /// Adds a note.
+    pub fn note(&mut self, note: Note)
+        requires { note_count self.old < 1024 }
+        ensures holds { (g : Setup) (t : Turn) → Holds g self.old t → Holds g self.new (noted note t) }
+        ensures count { note_count self.new ≡ note_count self.old + 1 }
+        ensures tasks { task_count self.new ≡ task_count self.old }
+    {
+        self.notes.push(note);
+    }
+
+    /// Keeps this of a task.
+    fn set_slot(&mut self, task: usize, slot: Slot)
+        requires { task < task_count self.old }
+        ensures holds { (g : Setup) (t : Turn) (u : State) → Holds g self.old t → IsKept u task slot → IsSameBut task t.state u → Holds g self.new record t { state = u } }
+        ensures count { note_count self.new ≡ note_count self.old }
+        ensures tasks { task_count self.new ≡ task_count self.old }
+    {
+        self.slots[task] = slot;
+    }
+
+    /// A task that waits for nothing has these registers and flags from now on. (The registers of a
+    /// task that waits are the arguments of its call.)
+    pub fn set_processor(&mut self, task: usize, registers: [u32; 16], flags: Flags)
+        requires { task < task_count self.old }
+        ensures holds { (g : Setup) (t : Turn) → Holds g self.old t → IsIdle t.state task → Holds g self.new (with_processor task registers flags t) }
+        ensures count { note_count self.new ≡ note_count self.old }
+        ensures tasks { task_count self.new ≡ task_count self.old }
+    {
+        let mut slot = self.slot(task);
+        slot.registers = registers;
+        slot.flags = flags;
+        self.set_slot(task, slot);
+    }
+
+    /// A task is so from now on.
+    fn set_health(&mut self, task: usize, health: Health)
+        requires { task < task_count self.old }
+        ensures holds { (g : Setup) (t : Turn) → Holds g self.old t → Holds g self.new (with_health task health t) }
+        ensures count { note_count self.new ≡ note_count self.old }
+        ensures tasks { task_count self.new ≡ task_count self.old }
+    {
+        let mut slot = self.slot(task);
+        slot.health = health;
+        self.set_slot(task, slot);
+    }
+
+    /// Drops the listen of a task, if it has one.
+    fn stop_listening(&mut self, task: usize)
+        requires { task < task_count self.old }
+        ensures holds { (g : Setup) (t : Turn) → Holds g self.old t → Holds g self.new (changed (without_listen task) t) }
+        ensures count { note_count self.new ≡ note_count self.old }
+        ensures tasks { task_count self.new ≡ task_count self.old }
+    {
+        let mut slot = self.slot(task);
+        if slot.wait.is_listening() {
+            slot.wait = Wait::Nothing;
+            self.set_slot(task, slot);
+        }
+    }
+
+    /// Drops the call of a client, if it has one.
+    fn drop_call(&mut self, client: usize)
+        requires { client < task_count self.old }
+        ensures holds { (g : Setup) (t : Turn) → Holds g self.old t → Holds g self.new (changed (without_call client) t) }
+        ensures count { note_count self.new ≡ note_count self.old }
+        ensures tasks { task_count self.new ≡ task_count self.old }
+    {
+        let mut slot = self.slot(client);
+        if slot.wait.is_calling() {
+            slot.wait = Wait::Nothing;
+            self.set_slot(client, slot);
+        }
+    }
+
+    /// A task faults: it is Faulted, and its listen and the call of which it is the client are
+    /// dropped.
+    pub fn fault(&mut self, task: usize, fault: Fault)
+        requires there { task < task_count self.old }
+        requires room { note_count self.old < 1024 }
+        requires from_one { 1 ≤ fault.number }
+        requires to_ten { fault.number ≤ 10 }
+        ensures holds { (g : Setup) (t : Turn) → Holds g self.old t → Holds g self.new (faulted task fault t) }
+        ensures stands { (g : Setup) (t : Turn) → Stands g self.old t → Stands g self.new (faulted task fault t) }
+        ensures count { note_count self.new ≡ note_count self.old + 1 }
+        ensures tasks { task_count self.new ≡ task_count self.old }
+    {
+        self.set_health(task, Health::Faulted(fault));
+        self.stop_listening(task);
+        self.note(Note::Fault {
+            task: task as u16,
+            fault,
+        });
+        self.drop_call(task);
+    }
+
+    /// A task faults since it misused a system call.
+    pub fn misuse(&mut self, task: usize, usage: Usage)
+        requires there { task < task_count self.old }
+        requires room { note_count self.old < 1024 }
+        ensures holds { (g : Setup) (t : Turn) → Holds g self.old t → Holds g self.new (misused task (usage_number usage) t) }
+        ensures stands { (g : Setup) (t : Turn) → Stands g self.old t → Stands g self.new (misused task (usage_number usage) t) }
+        ensures count { note_count self.new ≡ note_count self.old + 1 }
+        ensures tasks { task_count self.new ≡ task_count self.old }
+    {
+        self.fault(task, Fault::usage(usage));
+    }
+
+    /// Notes the system call that a task makes by its registers: the number in r11, the arguments in
+    /// r4 to r10.
+    pub fn note_call(&mut self, task: usize)
+        requires there { task < task_count self.old }
+        requires room { note_count self.old < 1024 }
+        ensures holds { (g : Setup) (t : Turn) → Holds g self.old t → Holds g self.new (call_noted task t) }
+        ensures count { note_count self.new ≡ note_count self.old + 1 }
+        ensures tasks { task_count self.new ≡ task_count self.old }
+    {
+        let slot = self.slot(task);
+        self.note(Note::Call {
+            task: task as u16,
+            number: slot.registers[11],
+            arguments: arguments_in(&slot.registers),
+        });
+    }
+
+    /// A task makes the system call whose number is in its r11: 8 is PANIC, and any other number
+    /// misuses the calls that there are. Either way the task faults.
+    pub fn call(&mut self, task: usize)
+        requires there { task < task_count self.old }
+        requires room { note_count self.old < 1024 }
+        ensures holds { (g : Setup) (t : Turn) → Holds g self.old t → Holds g self.new (called task t) }
+        ensures stands { (g : Setup) (t : Turn) → Stands g self.old t → Stands g self.new (called task t) }
+        ensures count { note_count self.new ≡ note_count self.old + 1 }
+        ensures tasks { task_count self.new ≡ task_count self.old }
+    {
+        if self.register(task, 11) == 8 {
+            let r4 = self.register(task, 4);
+            let r5 = self.register(task, 5);
+            self.fault(task, Fault::panic(r4, r5));
+        } else {
+            self.misuse(task, Usage::BadCall);
+        }
+    }
+
+    /// The number that the two bytes from an address on spell, the lowest first. Where there is no
+    /// memory a byte counts as 0.
+    pub fn half(&self, addr: u32) -> u16
+        ensures value { result ≡ number_at (memory_of self.now) addr 2 }
+        ensures holds { (g : Setup) (t : Turn) → Holds g self.now t → result ≡ number_at t.state.memory addr 2 }
+    {
+        self.memory.half(addr)
+    }
+
+    /// Whether so many bytes from an address on lie in the RAM.
+    pub fn is_ram(&self, addr: u32, count: u32) -> bool
+        ensures { result ≡ is_ram (memory_of self.now) addr count }
+    {
+        self.memory.is_ram(addr, count)
+    }
+
+    /// Writes bytes into the RAM for the task that runs, on its own ground.
+    pub fn store(&mut self, addr: u32, bytes: &[u8])
+        requires { IsWithinRam (memory_of self.old) addr (length bytes.now) }
+        ensures holds { (g : Setup) (t : Turn) → Holds g self.old t → Holds g self.new (stored Own addr bytes.now t) }
+        ensures setup { setup_of self.new ≡ setup_of self.old }
+        ensures current { current_of self.new ≡ current_of self.old }
+        ensures count { note_count self.new ≡ note_count self.old }
+        ensures tasks { task_count self.new ≡ task_count self.old }
+    {
+        self.memory.store(addr, bytes);
+    }
+}
+
+/// The registers r4 to r10.
+fn arguments_in(registers: &[u32; 16]) -> [u32; 7]
+    ensures { result ≡ slice_range registers.now 4 11 }
+{
+    let mut arguments = [0; 7];
+    arguments.copy_from_slice(&registers[4..11]);
+    arguments
+}

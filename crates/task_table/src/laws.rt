@@ -1,0 +1,84 @@
+//! Laws of the abstract kernel, each the contract of a function that does nothing.
+
+ghost use Rattle.std.specs.Prelude.{◌≡◌, ◌+◌, ◌<◌, ◌≤◌, ℕ, true, List, length};
+ghost use Rattle.kernel_abi.specs.declared.Fault.{Fault};
+ghost use Rattle.kernel_abi.specs.declared.Note.{Note};
+ghost use Rattle.words_core.specs.declared.Flags.{Flags};
+ghost use Rattle.region_check.specs.declared.Right.{Right};
+ghost use Rattle.region_check.specs.declared.Right.TheVariants.{Write};
+ghost use Rattle.region_check.specs.Rights.{may_copy};
+ghost use Rattle.task_table.specs.Memory.{Memory, IsWithin, IsWithinRam};
+ghost use Rattle.task_table.specs.State.{Setup, State, Turn, Ground};
+ghost use Rattle.task_table.specs.Reading.{setup_at, is_ready, IsIdle, IsSameAt};
+ghost use Rattle.task_table.specs.Effects.{changed, noted, with_processor, stored, faulted};
+ghost use Rattle.task_table.specs.Rows.{misused, panicked, call_noted, called};
+ghost use Rattle.task_table.specs.Placed.{ArePlaced};
+ghost use Rattle.task_table.specs.Sane.{Sane, IsCounted, AreAllBytes};
+ghost use Rattle.task_table.specs.Counts.{AreWhole, IsSameTime};
+ghost use Rattle.task_table.specs.Parts.{IsSound};
+ghost use Rattle.task_table.specs.Start.{start};
+ghost use Rattle.task_table.specs.Holds.{Holds};
+ghost use Rattle.task_table.specs.declared.kernel.Kernel.{Kernel};
+
+/// Each effect of an instruction leaves a sane state sane.
+pub fn effects_keep_sane()
+    ensures noted { (g : Setup) (n : Note) (t : Turn) → Sane g t.state → Sane g (noted n t).state }
+    ensures processor { (g : Setup) (i : ℕ) (registers : List ℕ) (flags : Flags) (t : Turn) → Sane g t.state → i < length t.state.tasks → AreWhole registers → Sane g (with_processor i registers flags t).state }
+    ensures stored { (g : Setup) (on : Ground) (at : ℕ) (bytes : List ℕ) (t : Turn) → Sane g t.state → AreAllBytes bytes → IsWithinRam t.state.memory at (length bytes) → Sane g (stored on at bytes t).state }
+    ensures current { (g : Setup) (i : ℕ) (t : Turn) → Sane g t.state → i < length t.state.tasks → Sane g (changed (λ s. record s { current = i }) t).state }
+    ensures turn { (g : Setup) (n : ℕ) (t : Turn) → Sane g t.state → Sane g (changed (λ s. record s { turn = n }) t).state }
+    ensures faulted { (g : Setup) (i : ℕ) (fault : Fault) (t : Turn) → Sane g t.state → i < length t.state.tasks → 1 ≤ fault.number → fault.number ≤ 10 → Sane g (faulted i fault t).state }
+{}
+
+/// Each row of a call leaves a sane state sane.
+pub fn rows_keep_sane()
+    ensures misused { (g : Setup) (c : ℕ) (usage : ℕ) (t : Turn) → Sane g t.state → c < length t.state.tasks → Sane g (misused c usage t).state }
+    ensures panicked { (g : Setup) (c : ℕ) (t : Turn) → Sane g t.state → c < length t.state.tasks → Sane g (panicked c t).state }
+    ensures call_noted { (g : Setup) (c : ℕ) (t : Turn) → Sane g t.state → c < length t.state.tasks → Sane g (call_noted c t).state }
+    ensures called { (g : Setup) (c : ℕ) (t : Turn) → Sane g t.state → c < length t.state.tasks → Sane g (called c t).state }
+{}
+
+/// The start of a run of a sound image is sane, and its counts are in order.
+pub fn start_is_sane()
+    ensures sane { (g : Setup) → IsSound g → Sane g (start g) }
+    ensures counted { (g : Setup) → IsCounted (start g) }
+{}
+
+/// Effects leave the turn, the time and the next call's number alone, and so the counts are in
+/// order after each turn.
+pub fn counts_stay_in_order()
+    ensures noted { (n : Note) (t : Turn) → IsSameTime t.state (noted n t).state }
+    ensures processor { (i : ℕ) (registers : List ℕ) (flags : Flags) (t : Turn) → IsSameTime t.state (with_processor i registers flags t).state }
+    ensures stored { (on : Ground) (at : ℕ) (bytes : List ℕ) (t : Turn) → IsSameTime t.state (stored on at bytes t).state }
+    ensures current { (i : ℕ) (t : Turn) → IsSameTime t.state (changed (λ s. record s { current = i }) t).state }
+    ensures faulted { (i : ℕ) (fault : Fault) (t : Turn) → IsSameTime t.state (faulted i fault t).state }
+    ensures call_noted { (c : ℕ) (t : Turn) → IsSameTime t.state (call_noted c t).state }
+    ensures called { (c : ℕ) (t : Turn) → IsSameTime t.state (called c t).state }
+    ensures joined { (s u v : State) → IsSameTime s u → IsSameTime u v → IsSameTime s v }
+    ensures turn { (s u : State) → IsCounted s → IsSameTime s u → IsCounted record u { turn = u.turn + 1 } }
+{}
+
+/// A task that is ready waits for nothing, and stays so where neither it nor its waiting changes, as
+/// by a note, by a store and where another task becomes current.
+pub fn ready_waits_for_nothing()
+    ensures idle { (s : State) (i : ℕ) → is_ready s i ≡ true → IsIdle s i }
+    ensures ready_same { (i : ℕ) (s u : State) → IsSameAt i s u → is_ready s i ≡ true → is_ready u i ≡ true }
+    ensures idle_same { (i : ℕ) (s u : State) → IsSameAt i s u → IsIdle s i → IsIdle u i }
+    ensures noted { (j : ℕ) (n : Note) (t : Turn) → IsSameAt j t.state (noted n t).state }
+    ensures stored { (j : ℕ) (on : Ground) (at : ℕ) (bytes : List ℕ) (t : Turn) → IsSameAt j t.state (stored on at bytes t).state }
+    ensures current { (j i : ℕ) (t : Turn) → IsSameAt j t.state (changed (λ s. record s { current = i }) t).state }
+{}
+
+/// What a region gives that is no device lies in flash or RAM, and in RAM where it may be written;
+/// bytes in a row, each in memory, lie in one of the two.
+pub fn given_bytes_lie_in_memory()
+    ensures byte { (g : Setup) (m : Memory) (i : ℕ) (right : Right) (a : ℕ) → ArePlaced g m → may_copy (setup_at g i).regions right a ≡ true → IsWithin m a 1 }
+    ensures ram_byte { (g : Setup) (m : Memory) (i : ℕ) (a : ℕ) → ArePlaced g m → may_copy (setup_at g i).regions Write a ≡ true → IsWithinRam m a 1 }
+    ensures range { (m : Memory) (base n : ℕ) → length m.flash ≤ 1048576 → ((a : ℕ) → base ≤ a → a < base + n → IsWithin m a 1) → IsWithin m base n }
+    ensures ram_range { (m : Memory) (base n : ℕ) → ((a : ℕ) → base ≤ a → a < base + n → IsWithinRam m a 1) → IsWithinRam m base n }
+{}
+
+/// The kernel knows nothing of the turn's number, which the board keeps.
+pub fn turns_are_not_kept()
+    ensures { (g : Setup) (k : Kernel) (t : Turn) (n : ℕ) → Holds g k t → Holds g k (changed (λ s. record s { turn = n }) t) }
+{}

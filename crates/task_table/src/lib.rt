@@ -1,0 +1,22 @@
+#![tactic(auto)]
+//! The tasks of the kernel, the memory that they share, and what may be done to a task.
+
+mod kernel;
+pub mod laws;
+mod memory;
+mod slot;
+mod start;
+#[cfg(test)]
+mod tests;
+
+pub use kernel::Kernel;
+pub use memory::{FLASH, Memory, RAM};
+pub use slot::{Found, Slot, Wait};
+pub use start::{LineStart, TaskStart};
+
+/// How an interrupt line is.
+#[derive(Clone, Copy, Debug, PartialEq, Eq)]
+pub struct Line {
+    pub enabled: bool,
+    pub pending: bool,
+}

@@ -1,0 +1,176 @@
+//! The bytes of flash and RAM, as one map from addresses to bytes.
+
+ghost use Rattle.std.specs.Prelude.{◌≡◌, ◌+◌, ◌-◌, ◌*◌, ◌<◌, ◌≤◌, ◌⊎◌, ◌++◌, ◌^◌, slice_index_or, length, take, drop, vec_len, IfOk, Some, None, replicate};
+ghost use Rattle.task_table.specs.Memory.{is_ram, byte_at, number_at, number_of, with_bytes, IsWithinRam};
+ghost use Rattle.task_table.specs.Sane.{AreAllBytes};
+
+use std::alloc::{AllocError, Global};
+use std::marker::Model;
+
+/// The first address of the flash, which is only read and executed.
+pub const FLASH: u32 = 0x0800_0000;
+/// The first address of the RAM.
+pub const RAM: u32 = 0x2000_0000;
+
+/// The flash and the RAM of a board. Callers see the two lists of their bytes; the flash never
+/// changes.
+#[derive(Drop)]
+pub struct Memory {
+    flash: Vec<u8>,
+    ram: Vec<u8>,
+}
+
+impl Model for Memory {
+    ghost use Rattle.std.specs.Prelude.{◌≤◌, length};
+    ghost use Rattle.task_table.specs.Memory.{Memory as Map};
+
+    ghost Value = { Map };
+
+    ghost view = { λ m. record { flash = m.flash.items; ram = m.ram.items } };
+
+    ghost invariant = { λ m. (length m.flash.items ≤ 1048576) × (length m.ram.items ≤ 262144) };
+}
+
+impl Memory {
+    /// A memory with these bytes of flash and so many zero bytes of RAM.
+    ///
+    /// # Errors
+    ///
+    /// Only want of memory.
+    pub fn open(alloc: Global, flash: &[u8], ram: u32) -> Result<Memory, AllocError>
+        requires flash { length flash.now ≤ 1048576 }
+        requires ram { ram ≤ 262144 }
+        ensures value { IfOk result (λ m. m ≡ record { flash = flash.now; ram = replicate ram 0 }) }
+        ensures bytes { AreAllBytes flash.now }
+    {
+        let ram = vec![in alloc; 0; ram as usize]?;
+        Ok(Memory {
+            flash: flash.to_vec(alloc)?,
+            ram,
+        })
+    }
+
+    /// The byte at an address, where there is one.
+    pub fn byte(&self, addr: u32) -> Option<u8>
+        ensures { result ≡ byte_at self.now addr }
+    {
+        if addr >= RAM {
+            self.ram.get((addr - RAM) as usize).copied()
+        } else if addr >= FLASH {
+            self.flash.get((addr - FLASH) as usize).copied()
+        } else {
+            None
+        }
+    }
+
+    /// The number that the two bytes from an address on spell, the lowest first. Where there is
+    /// no memory a byte counts as 0.
+    pub fn half(&self, addr: u32) -> u16
+        ensures { result ≡ number_at self.now addr 2 }
+    {
+        if addr >= RAM {
+            half_at(&self.ram, (addr - RAM) as usize)
+        } else if addr >= FLASH {
+            half_at(&self.flash, (addr - FLASH) as usize)
+        } else {
+            0
+        }
+    }
+
+    /// The number that the four bytes from an address on spell, the lowest first. Where there is
+    /// no memory a byte counts as 0.
+    pub fn word(&self, addr: u32) -> u32
+        ensures { result ≡ number_at self.now addr 4 }
+    {
+        if addr >= RAM {
+            word_at(&self.ram, (addr - RAM) as usize)
+        } else if addr >= FLASH {
+            word_at(&self.flash, (addr - FLASH) as usize)
+        } else {
+            0
+        }
+    }
+
+    /// The number that 1, 2 or 4 bytes from an address on spell, the lowest first. Where there is no
+    /// memory a byte counts as 0.
+    pub fn number(&self, addr: u32, size: u32) -> u32
+        requires { (size ≡ 1) ⊎ (size ≡ 2) ⊎ (size ≡ 4) }
+        ensures { result ≡ number_at self.now addr size }
+    {
+        match size {
+            1 => u32::from(self.small(addr)),
+            2 => u32::from(self.half(addr)),
+            _ => self.word(addr),
+        }
+    }
+
+    /// The byte at an address as a number, or 0 where there is none.
+    fn small(&self, addr: u32) -> u8
+        ensures { result ≡ number_at self.now addr 1 }
+    {
+        if addr >= RAM {
+            byte_or_zero(&self.ram, (addr - RAM) as usize)
+        } else if addr >= FLASH {
+            byte_or_zero(&self.flash, (addr - FLASH) as usize)
+        } else {
+            0
+        }
+    }
+
+    /// Whether so many bytes from an address on lie in the RAM.
+    pub fn is_ram(&self, addr: u32, count: u32) -> bool
+        ensures { result ≡ is_ram self.now addr count }
+    {
+        addr >= RAM && u64::from(addr - RAM) + u64::from(count) <= self.ram.len() as u64
+    }
+
+    /// Writes bytes over those of the RAM from an address on.
+    pub fn store(&mut self, addr: u32, bytes: &[u8])
+        requires { IsWithinRam self.old addr (length bytes.now) }
+        ensures { self.new ≡ with_bytes self.old addr bytes.now }
+    {
+        if bytes.len() == 0 {
+            return;
+        }
+        let at = (addr - RAM) as usize;
+        put(&mut self.ram, at, bytes);
+    }
+}
+
+/// The byte at a place, or 0 past the end.
+fn byte_or_zero(bytes: &[u8], at: usize) -> u8
+    ensures { result ≡ slice_index_or bytes.now at 0 }
+{
+    match bytes.get(at) {
+        Some(byte) => *byte,
+        None => 0,
+    }
+}
+
+/// The number that two bytes from a place on spell, the lowest first.
+fn half_at(bytes: &[u8], at: usize) -> u16
+    requires { at < 2 ^ 32 }
+    ensures { result ≡ number_of (take 2 (drop at bytes.now)) }
+{
+    u16::from(byte_or_zero(bytes, at)) + 256 * u16::from(byte_or_zero(bytes, at + 1))
+}
+
+/// The number that four bytes from a place on spell, the lowest first.
+fn word_at(bytes: &[u8], at: usize) -> u32
+    requires { at < 2 ^ 32 }
+    ensures { result ≡ number_of (take 4 (drop at bytes.now)) }
+{
+    let low = u32::from(byte_or_zero(bytes, at)) + 256 * u32::from(byte_or_zero(bytes, at + 1));
+    let high = u32::from(byte_or_zero(bytes, at + 2))
+        + 256 * u32::from(byte_or_zero(bytes, at + 3));
+    low + 65536 * high
+}
+
+/// Writes bytes over those from a place on.
+fn put(bytes: &mut Vec<u8>, at: usize, new: &[u8])
+    requires { at + length new.now ≤ vec_len bytes.old }
+    ensures { bytes.new.items ≡ take at bytes.old.items ++ new.now ++ drop (at + length new.now) bytes.old.items }
+{
+    let part = &mut bytes[at..at + new.len()];
+    part.copy_from_slice(new);
+}

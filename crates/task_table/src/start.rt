@@ -1,0 +1,111 @@
+//! What an image says of a task and of an interrupt line, and what is kept of a task at first.
+
+ghost use Rattle.std.specs.Prelude.{◌≡◌, IfOk, map, length};
+ghost use Rattle.task_table.specs.Parts.{task_setup};
+ghost use Rattle.task_table.specs.Start.{born};
+ghost use Rattle.task_table.specs.Holds.{packed_task};
+ghost use Rattle.task_table.specs.declared.slot.Wait.TheVariants.{Nothing};
+
+use crate::slot::{Slot, Wait};
+use kernel_abi::{Generation, Health};
+use region_check::Region;
+use std::alloc::{AllocError, Global};
+use words_core::Flags;
+
+/// What an image says of a task: its priority number, of which a lower one goes first, whether it
+/// is started, its PC (bit 0 counts for nothing) and SP at birth, and the bytes that it may use.
+#[derive(Drop)]
+pub struct TaskStart {
+    pub priority: u8,
+    pub started: bool,
+    pub entry: u32,
+    pub sp: u32,
+    pub regions: Vec<Region>,
+}
+
+/// The task that owns an interrupt line, and the bits that it is posted.
+#[derive(Clone, Copy, Debug, PartialEq, Eq)]
+pub struct LineStart {
+    pub line: u8,
+    pub task: u16,
+    pub bits: u32,
+}
+
+/// The same once more.
+fn copy_of(alloc: Global, task: &TaskStart) -> Result<TaskStart, AllocError>
+    ensures { IfOk result (λ x. task_setup x ≡ task_setup task.now) }
+{
+    Ok(TaskStart {
+        priority: task.priority,
+        started: task.started,
+        entry: task.entry,
+        sp: task.sp,
+        regions: task.regions.as_slice().to_vec(alloc)?,
+    })
+}
+
+/// The same tasks once more.
+pub(crate) fn copies_of(alloc: Global, tasks: &[TaskStart]) -> Result<Vec<TaskStart>, AllocError>
+    ensures setup { IfOk result (λ xs. map task_setup xs.items ≡ map task_setup tasks.now) }
+    ensures length { IfOk result (λ xs. length xs.items ≡ length tasks.now) }
+{
+    let mut copies = Vec::new(alloc);
+    for task in tasks {
+        copies.push(copy_of(alloc, task)?)?;
+    }
+    Ok(copies)
+}
+
+/// What is kept of a task at its first birth.
+fn first_slot(task: &TaskStart) -> Slot
+    ensures { result ≡ packed_task (born (task_setup task.now)) Nothing }
+{
+    let health = if task.started {
+        Health::Well
+    } else {
+        Health::Stopped
+    };
+    let pc = task.entry - task.entry % 2;
+    Slot {
+        generation: Generation { number: 0 },
+        registers: [
+            0,
+            0,
+            0,
+            0,
+            0,
+            0,
+            0,
+            0,
+            0,
+            0,
+            0,
+            0,
+            0,
+            task.sp,
+            0xFFFF_FFFF,
+            pc,
+        ],
+        flags: Flags {
+            n: false,
+            z: false,
+            c: false,
+            v: false,
+        },
+        health,
+        posted: 0,
+        timer: None,
+        wait: Wait::Nothing,
+    }
+}
+
+/// What is kept of each task at its first birth.
+pub(crate) fn first_slots(alloc: Global, tasks: &[TaskStart]) -> Result<Vec<Slot>, AllocError>
+    ensures { IfOk result (λ xs. xs.items ≡ map (λ x. packed_task (born (task_setup x)) Nothing) tasks.now) }
+{
+    let mut slots = Vec::new(alloc);
+    for task in tasks {
+        slots.push(first_slot(task))?;
+    }
+    Ok(slots)
+}

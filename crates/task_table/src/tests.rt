@@ -1,0 +1,204 @@
+ghost use Rattle.std.specs.Prelude.{◌≡◌, IfOk, length};
+ghost use Rattle.task_table.specs.Holds.{task_count, note_count, memory_of};
+
+use crate::{FLASH, Found, Kernel, Line, LineStart, Memory, RAM, TaskStart, Wait};
+use kernel_abi::{Fault, Generation, Health, Note, Usage};
+use region_check::{Region, Rights};
+use std::alloc::{AllocError, Global};
+use std::test::Fail;
+use words_core::Flags;
+
+#[test]
+fn memory_at_its_edges(rt: HostRuntime) -> Result<(), Fail> {
+    let alloc = rt.alloc();
+    let memory = Memory::open(alloc, &[0x11, 0x22, 0x33, 0x44, 0x55], 8)?;
+    assert_eq!(rt; memory.byte(FLASH - 1), None);
+    assert_eq!(rt; memory.byte(FLASH), Some(0x11));
+    assert_eq!(rt; memory.byte(FLASH + 4), Some(0x55));
+    assert_eq!(rt; memory.byte(FLASH + 5), None);
+    assert_eq!(rt; memory.byte(RAM - 1), None);
+    assert_eq!(rt; memory.byte(RAM + 7), Some(0));
+    assert_eq!(rt; memory.byte(RAM + 8), None);
+    assert_eq!(rt; memory.byte(u32::MAX), None);
+    assert_eq!(rt; memory.half(FLASH), 0x2211);
+    assert_eq!(rt; memory.half(FLASH + 4), 0x55);
+    assert_eq!(rt; memory.half(FLASH - 1), 0);
+    assert_eq!(rt; memory.word(FLASH + 1), 0x5544_3322);
+    assert_eq!(rt; memory.number(FLASH + 2, 1), 0x33);
+    assert_eq!(rt; memory.word(u32::MAX), 0);
+    Ok(())
+}
+
+#[test]
+fn memory_is_stored_to(rt: HostRuntime) -> Result<(), Fail> {
+    let mut memory = Memory::open(rt.alloc(), &[], 8)?;
+    memory.store(RAM + 4, &[0xAA, 0xBB, 0xCC, 0xDD]);
+    assert_eq!(rt; memory.word(RAM + 4), 0xDDCC_BBAA);
+    assert_eq!(rt; memory.word(RAM + 2), 0xBBAA_0000);
+    assert_eq!(rt; memory.half(RAM + 7), 0xDD);
+    Ok(())
+}
+
+/// A kernel of two tasks, the second of which is not started, and of one owned line.
+fn two_tasks(alloc: Global) -> Result<Kernel, AllocError>
+    ensures { IfOk result (λ k. (task_count k ≡ 2) × (note_count k ≡ 0) × (length (memory_of k).ram ≡ 8)) }
+{
+    let memory = Memory::open(alloc, &[0x20, 0x21, 0x42], 8)?;
+    let region = Region {
+        base: RAM,
+        size: 8,
+        rights: Rights {
+            read: true,
+            write: true,
+            execute: false,
+            device: false,
+        },
+    };
+    let tasks = vec![in alloc;
+        TaskStart {
+            priority: 0,
+            started: true,
+            entry: FLASH + 1,
+            sp: RAM + 8,
+            regions: vec![in alloc; region]?,
+        },
+        TaskStart {
+            priority: 3,
+            started: false,
+            entry: FLASH + 2,
+            sp: RAM + 4,
+            regions: Vec::new(alloc),
+        },
+    ]?;
+    let lines = [LineStart {
+        line: 7,
+        task: 1,
+        bits: 0x10,
+    }];
+    Kernel::start(alloc, memory, 0x8000_0000, &tasks, &lines)
+}
+
+#[test]
+fn the_start_of_a_run(rt: HostRuntime) -> Result<(), Fail> {
+    let kernel = two_tasks(rt.alloc())?;
+    assert_eq!(rt; kernel.task_count(), 2);
+    assert_eq!(rt; kernel.notes().len(), 0);
+    assert_eq!(rt; kernel.current(), 0);
+    assert_eq!(rt; kernel.now(), 0);
+    assert_eq!(rt; kernel.next_call(), 1);
+    assert_eq!(rt; kernel.fault_bits(), 0x8000_0000);
+    let off = Line {
+        enabled: false,
+        pending: false,
+    };
+    assert_eq!(rt; kernel.line(31), Some(off));
+    assert_eq!(rt; kernel.line(32), None);
+    Ok(())
+}
+
+#[test]
+fn the_tasks_at_birth(rt: HostRuntime) -> Result<(), Fail> {
+    let kernel = two_tasks(rt.alloc())?;
+    assert_eq!(rt; kernel.priority(1), 3);
+    assert_eq!(rt; kernel.regions(0).len(), 1);
+    assert_eq!(rt; kernel.regions(1).len(), 0);
+    assert_eq!(rt; kernel.health(0), Health::Well);
+    assert_eq!(rt; kernel.health(1), Health::Stopped);
+    assert!(rt; kernel.is_ready(0));
+    assert!(rt; !kernel.is_ready(1));
+    assert_eq!(rt; kernel.generation(1), Generation { number: 0 });
+    let born = [
+        0,
+        0,
+        0,
+        0,
+        0,
+        0,
+        0,
+        0,
+        0,
+        0,
+        0,
+        0,
+        0,
+        0x2000_0008,
+        0xFFFF_FFFF,
+        0x0800_0000,
+    ];
+    assert_eq!(rt; kernel.registers(0), born);
+    assert_eq!(rt; kernel.register(1, 13), 0x2000_0004);
+    assert_eq!(rt; kernel.register(1, 15), 0x0800_0002);
+    assert_eq!(rt; kernel.posted_bits(0), 0);
+    assert_eq!(rt; kernel.timer(0), None);
+    assert_eq!(rt; kernel.wait(0), Wait::Nothing);
+    Ok(())
+}
+
+#[test]
+fn what_an_id_names(rt: HostRuntime) -> Result<(), Fail> {
+    let kernel = two_tasks(rt.alloc())?;
+    assert_eq!(rt; kernel.lookup(1), Found::Live(1));
+    assert_eq!(rt;
+        kernel.lookup(1 + 5 * 1024),
+        Found::Dead(Generation { number: 0 })
+    );
+    assert_eq!(rt; kernel.lookup(2), Found::Out);
+    assert_eq!(rt; kernel.lookup(0xFFFF), Found::Out);
+    Ok(())
+}
+
+#[test]
+fn a_task_panics(rt: HostRuntime) -> Result<(), Fail> {
+    let mut kernel = two_tasks(rt.alloc())?;
+    let flags = Flags {
+        n: true,
+        z: false,
+        c: true,
+        v: false,
+    };
+    kernel.set_processor(
+        0,
+        [0, 1, 2, 3, 4, 5, 6, 7, 8, 9, 10, 8, 12, RAM, 14, FLASH],
+        flags,
+    );
+    assert_eq!(rt; kernel.flags(0), flags);
+    kernel.note_call(0);
+    kernel.call(0);
+    let fault = Fault {
+        number: 8,
+        x: 4,
+        y: 5,
+    };
+    assert_eq!(rt; kernel.health(0), Health::Faulted(fault));
+    let call = Note::Call {
+        task: 0,
+        number: 8,
+        arguments: [4, 5, 6, 7, 8, 9, 10],
+    };
+    assert_eq!(rt; kernel.notes()[0], call);
+    assert_eq!(rt; kernel.notes()[1], Note::Fault { task: 0, fault });
+    Ok(())
+}
+
+#[test]
+fn a_call_is_misused(rt: HostRuntime) -> Result<(), Fail> {
+    let mut kernel = two_tasks(rt.alloc())?;
+    kernel.misuse(1, Usage::BadReason);
+    assert_eq!(rt;
+        kernel.health(1),
+        Health::Faulted(Fault::usage(Usage::BadReason))
+    );
+    assert_eq!(rt; kernel.notes().len(), 1);
+    kernel.clear_notes();
+    assert_eq!(rt; kernel.notes().len(), 0);
+    Ok(())
+}
+
+#[test]
+fn the_kernel_stores(rt: HostRuntime) -> Result<(), Fail> {
+    let mut kernel = two_tasks(rt.alloc())?;
+    kernel.store(RAM, &[1, 2]);
+    assert_eq!(rt; kernel.number(RAM, 4), 0x0201);
+    assert_eq!(rt; kernel.byte(FLASH + 1), Some(0x21));
+    Ok(())
+}

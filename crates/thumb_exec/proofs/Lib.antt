@@ -1,0 +1,4 @@
+pub mod Transfers
+pub mod Agreeing
+pub mod Fields
+pub mod Keeping

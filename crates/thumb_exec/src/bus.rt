@@ -1,0 +1,49 @@
+//! What an instruction sees of memory.
+ghost use Rattle.std.specs.Prelude.{◌≡◌, ℕ, ◌<◌, ◌≤◌, ◌+◌, ◌%◌, ◌^◌, Option, Some, None, MatchOption, MatchResult, IfOk, IfErr};
+ghost use Rattle.thumb_exec.specs.Sizes.{IsSize};
+ghost use Rattle.region_check.specs.declared.Right.{Right as Rights};
+ghost use Rattle.region_check.specs.declared.Right.TheVariants.{Read, Write, Execute};
+
+use region_check::Right;
+
+/// Memory behind a check of rights, byte by byte. Addresses have 32 bits; a value of n bytes has
+/// the lowest byte first. A refusal is the address of the first byte that lacks the right.
+///
+/// An implementation says what it is by three meanings: which bytes are refused, what bytes hold,
+/// and how it is after a store. The last is a relation, so that a store may reach more than memory.
+pub trait Bus {
+    /// The first of so many bytes, from an address on, that lacks the right.
+    ghost refuses: { Self → ℕ → ℕ → Rights → Option ℕ };
+
+    /// What so many bytes from an address on hold, as a number.
+    ghost holds: { Self → ℕ → ℕ → ℕ };
+
+    /// Before, address, number of bytes, value, and how it is after that store.
+    ghost stored: { Self → ℕ → ℕ → ℕ → Self → Type 0 };
+
+    /// The first of n bytes, 1, 2 or 4 of them, that lacks the right.
+    fn allows(&self, addr: u32, n: u32, right: Right) -> Option<u32>
+        requires size { IsSize n }
+        requires aligned { addr % n ≡ 0 }
+        ensures { result ≡ refuses self.now addr n right };
+
+    /// The halfword at an even address, both bytes of which need the right to execute.
+    fn fetch(&self, addr: u32) -> Result<u16, u32>
+        requires { addr % 2 ≡ 0 }
+        ensures { MatchResult result (λ code. (refuses self.now addr 2 Execute ≡ None) × (code ≡ holds self.now addr 2)) (λ at. refuses self.now addr 2 Execute ≡ Some at) };
+
+    /// What n bytes hold, each of which needs the right to read.
+    fn load(&self, addr: u32, n: u32) -> Result<u32, u32>
+        requires size { IsSize n }
+        requires aligned { addr % n ≡ 0 }
+        ensures { MatchResult result (λ value. (refuses self.now addr n Read ≡ None) × (value ≡ holds self.now addr n)) (λ at. refuses self.now addr n Read ≡ Some at) };
+
+    /// Stores the low n bytes of a value, each of which needs the right to write; or changes
+    /// nothing. No store changes a right.
+    fn store(&mut self, addr: u32, n: u32, value: u32) -> Result<(), u32>
+        requires size { IsSize n }
+        requires aligned { addr % n ≡ 0 }
+        ensures done { IfOk result (λ done. (refuses self.old addr n Write ≡ None) × stored self.old addr n value self.new) }
+        ensures refused { IfErr result (λ at. (refuses self.old addr n Write ≡ Some at) × (self.new ≡ self.old)) }
+        ensures rights { (a m : ℕ) (r : Rights) → refuses self.new a m r ≡ refuses self.old a m r };
+}

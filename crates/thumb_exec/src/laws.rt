@@ -1,0 +1,19 @@
+//! What holds of the effect of every instruction, for proofs about whole turns and runs. Nothing
+//! runs here.
+ghost use Rattle.std.specs.Prelude.{◌≡◌};
+ghost use Rattle.thumb_exec.specs.Effect.{Refusals, Contents, effect};
+ghost use Rattle.thumb_exec.specs.Keeps.{IsWholeCpu, Keeps, Agree};
+ghost use Rattle.thumb_exec.specs.declared.cpu.Cpu.{Cpu as Processor};
+ghost use Rattle.thumb_insn.specs.Range.{IsCoded};
+ghost use Rattle.thumb_insn.specs.declared.Insn.{Insn as Instruction};
+
+/// An instruction that has a code keeps PC even and SP a multiple of 4, stores only bytes that may
+/// be written, and raises none but its own faults.
+pub fn every_effect_keeps()
+    ensures { (refuses : Refusals) (holds : Contents) (c : Processor) (i : Instruction) → IsCoded i → IsWholeCpu c → Keeps refuses (effect refuses holds c i) }
+{}
+
+/// What an instruction does depends on memory only where it may be read.
+pub fn every_effect_reads_what_it_may()
+    ensures { (refuses : Refusals) (holds held : Contents) → Agree refuses holds held → (c : Processor) (i : Instruction) → effect refuses holds c i ≡ effect refuses held c i }
+{}

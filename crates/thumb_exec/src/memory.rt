@@ -1,0 +1,86 @@
+//! Loads and stores of one unit.
+ghost use Rattle.std.specs.Prelude.{◌≡◌, ◌<◌, ℕ, Bool, [], true, false};
+ghost use Rattle.thumb_exec.specs.Effect.{Acts, load_effect, store_effect, widened, load_size, size_of};
+
+use crate::arith::{advance, get};
+use crate::bus::Bus;
+use crate::cpu::{Cpu, Outcome};
+use kernel_abi::{Access, Fault};
+use thumb_insn::{Load, Reg, Size};
+use words_core::extend;
+
+/// How many bytes a size has.
+fn bytes_of(size: Size) -> u32
+    ensures { result ≡ size_of size }
+{
+    match size {
+        Size::Word => 4,
+        Size::Half => 2,
+        Size::Byte => 1,
+    }
+}
+
+/// How many bytes are loaded.
+fn loaded_bytes(load: Load) -> u32
+    ensures { result ≡ load_size load }
+{
+    match load {
+        Load::Whole(size) => bytes_of(size),
+        Load::SignedHalf => 2,
+        Load::SignedByte => 1,
+    }
+}
+
+/// What was loaded as a word, by its sign or with zeros.
+fn widen(load: Load, value: u32) -> u32
+    ensures { result ≡ widened load value }
+{
+    match load {
+        Load::Whole(_) => value,
+        Load::SignedHalf => extend(value, 16, true),
+        Load::SignedByte => extend(value, 8, true),
+    }
+}
+
+/// Loads a register and goes on.
+pub fn load<B: Bus>(cpu: &mut Cpu, bus: &mut B, kind: Load, t: Reg, addr: u32) -> Outcome
+    requires { t.number < 16 }
+    ensures { Acts B.stored cpu.old cpu.new bus.old bus.new result (load_effect (B.refuses bus.old) (B.holds bus.old) cpu.old kind t addr) }
+{
+    let n = loaded_bytes(kind);
+    if addr % n != 0 {
+        return Outcome::Trap(Fault::unaligned(addr, false));
+    }
+    match bus.load(addr, n) {
+        Err(at) => Outcome::Trap(Fault::access(at, Access::Load)),
+        Ok(value) => {
+            cpu.regs.set(usize::from(t.number), widen(kind, value));
+            advance(cpu, 2);
+            Outcome::Next
+        }
+    }
+}
+
+/// Stores a register's low bytes and goes on.
+pub fn store<B: Bus>(cpu: &mut Cpu, bus: &mut B, size: Size, t: Reg, addr: u32) -> Outcome
+    requires { t.number < 16 }
+    ensures { Acts B.stored cpu.old cpu.new bus.old bus.new result (store_effect (B.refuses bus.old) cpu.old size t addr) }
+{
+    let n = bytes_of(size);
+    if addr % n != 0 {
+        return Outcome::Trap(Fault::unaligned(addr, true));
+    }
+    let word = get(cpu, t);
+    let value = match size {
+        Size::Word => word,
+        Size::Half => word % 0x1_0000,
+        Size::Byte => word % 0x100,
+    };
+    match bus.store(addr, n, value) {
+        Err(at) => Outcome::Trap(Fault::access(at, Access::Store)),
+        Ok(()) => {
+            advance(cpu, 2);
+            Outcome::Next
+        }
+    }
+}

@@ -1,0 +1,184 @@
+//! Loads and stores of several words, all or nothing: each word is tested before the first moves.
+//! A mask has bit k for register k.
+ghost use Rattle.std.specs.Prelude.{◌≡◌, ◌<◌, ◌≤◌, ◌%◌, ℕ, Bool, [], true, false, None};
+ghost use Rattle.region_check.specs.declared.Right.{Right as Rights};
+ghost use Rattle.region_check.specs.declared.Right.TheVariants as rights;
+ghost use Rattle.thumb_exec.specs.Effect.{Acts, Stores, transfers, first_refused, stores_of, loaded_all, count, push_effect, stm_effect, ldm_effect, pop_effect};
+
+use crate::arith::{advance, get};
+use crate::bus::Bus;
+use crate::cpu::{Cpu, Outcome};
+use kernel_abi::{Access, Fault};
+use region_check::Right;
+use thumb_insn::Reg;
+use words_core::Regs;
+
+/// How many registers a mask has.
+#[tactic(auto, using(crate::proofs::Transfers::ones_none, crate::proofs::Transfers::ones_more, crate::proofs::Transfers::ones_all))]
+fn count_of(mask: u16) -> u32
+    ensures value { result ≡ count mask }
+    ensures low { result ≤ 16 }
+{
+    let mut n = 0;
+    for k in 0..16_usize {
+        n += u32::from((mask >> k) % 2);
+    }
+    n
+}
+
+/// The first byte that lacks the right, in the order of transfer.
+#[tactic(auto, using(crate::proofs::Transfers::words_set, crate::proofs::Transfers::words_clear, crate::proofs::Transfers::words_all, crate::proofs::Transfers::words_done, crate::proofs::Transfers::refused_here, crate::proofs::Transfers::refused_later, crate::proofs::Transfers::refused_none))]
+fn refused<B: Bus>(bus: &B, mask: u16, addr: u32, right: Right) -> Option<u32>
+    requires { addr % 4 ≡ 0 }
+    ensures { result ≡ first_refused (B.refuses bus.now) right (transfers mask addr) }
+{
+    let mut at = addr;
+    for k in 0..16_usize {
+        if (mask >> k) % 2 == 1 {
+            if let Some(byte) = bus.allows(at, 4, right) {
+                return Some(byte);
+            }
+            at = at.wrapping_add(4);
+        }
+    }
+    None
+}
+
+/// A word that may be loaded.
+fn load_word<B: Bus>(bus: &B, addr: u32) -> u32
+    requires aligned { addr % 4 ≡ 0 }
+    requires allowed { B.refuses bus.now addr 4 rights.Read ≡ None }
+    ensures { result ≡ B.holds bus.now addr 4 }
+{
+    match bus.load(addr, 4) {
+        Ok(word) => word,
+        Err(_) => unreachable!(),
+    }
+}
+
+/// Stores a word that may be stored.
+fn store_word<B: Bus>(bus: &mut B, addr: u32, value: u32)
+    requires aligned { addr % 4 ≡ 0 }
+    requires allowed { B.refuses bus.old addr 4 rights.Write ≡ None }
+    ensures done { B.stored bus.old addr 4 value bus.new }
+    ensures kept { (a n : ℕ) (r : Rights) → B.refuses bus.new a n r ≡ B.refuses bus.old a n r }
+{
+    match bus.store(addr, 4, value) {
+        Ok(()) => {}
+        Err(_) => unreachable!(),
+    }
+}
+
+/// Loads the registers of a mask from ascending words.
+#[tactic(auto, using(crate::proofs::Transfers::words_set, crate::proofs::Transfers::words_clear, crate::proofs::Transfers::words_all, crate::proofs::Transfers::words_done, crate::proofs::Transfers::allowed_here, crate::proofs::Transfers::allowed_later, crate::proofs::Transfers::loaded_more, crate::proofs::Transfers::loaded_none))]
+fn load_words<B: Bus>(regs: &mut Regs, bus: &B, mask: u16, addr: u32)
+    requires aligned { addr % 4 ≡ 0 }
+    requires allowed { first_refused (B.refuses bus.now) rights.Read (transfers mask addr) ≡ None }
+    ensures { regs.new ≡ loaded_all (B.holds bus.now) regs.old (transfers mask addr) }
+{
+    let mut at = addr;
+    for k in 0..16_usize {
+        if (mask >> k) % 2 == 1 {
+            regs.set(k, load_word(bus, at));
+            at = at.wrapping_add(4);
+        }
+    }
+}
+
+/// Stores the registers of a mask to ascending words.
+#[tactic(auto, using(crate::proofs::Transfers::words_set, crate::proofs::Transfers::words_clear, crate::proofs::Transfers::words_all, crate::proofs::Transfers::words_done, crate::proofs::Transfers::allowed_here, crate::proofs::Transfers::allowed_later, crate::proofs::Transfers::stores_more, crate::proofs::Transfers::stores_none))]
+fn store_words<B: Bus>(regs: &Regs, bus: &mut B, mask: u16, addr: u32)
+    requires aligned { addr % 4 ≡ 0 }
+    requires allowed { first_refused (B.refuses bus.old) rights.Write (transfers mask addr) ≡ None }
+    ensures { Stores B.stored bus.old (stores_of regs.now (transfers mask addr)) bus.new }
+{
+    let mut at = addr;
+    for k in 0..16_usize {
+        if (mask >> k) % 2 == 1 {
+            store_word(bus, at, regs.get(k));
+            at = at.wrapping_add(4);
+        }
+    }
+}
+
+/// Stores the registers of a mask below SP, and lowers it.
+pub fn push<B: Bus>(cpu: &mut Cpu, bus: &mut B, mask: u16) -> Outcome
+    ensures { Acts B.stored cpu.old cpu.new bus.old bus.new result (push_effect (B.refuses bus.old) cpu.old mask) }
+{
+    let addr = cpu.regs.get(13).wrapping_sub(4 * count_of(mask));
+    if addr % 4 != 0 {
+        return Outcome::Trap(Fault::unaligned(addr, true));
+    }
+    if let Some(at) = refused(bus, mask, addr, Right::Write) {
+        return Outcome::Trap(Fault::access(at, Access::Store));
+    }
+    store_words(&cpu.regs, bus, mask, addr);
+    cpu.regs.set(13, addr);
+    advance(cpu, 2);
+    Outcome::Next
+}
+
+/// Stores the registers of a mask from a register on, and raises it.
+pub fn stm<B: Bus>(cpu: &mut Cpu, bus: &mut B, n: Reg, mask: u16) -> Outcome
+    requires { n.number < 16 }
+    ensures { Acts B.stored cpu.old cpu.new bus.old bus.new result (stm_effect (B.refuses bus.old) cpu.old n mask) }
+{
+    let addr = get(cpu, n);
+    if addr % 4 != 0 {
+        return Outcome::Trap(Fault::unaligned(addr, true));
+    }
+    if let Some(at) = refused(bus, mask, addr, Right::Write) {
+        return Outcome::Trap(Fault::access(at, Access::Store));
+    }
+    store_words(&cpu.regs, bus, mask, addr);
+    cpu.regs.set(usize::from(n.number), addr.wrapping_add(4 * count_of(mask)));
+    advance(cpu, 2);
+    Outcome::Next
+}
+
+/// Loads the registers of a mask from a register on, and raises it unless it is loaded.
+pub fn ldm<B: Bus>(cpu: &mut Cpu, bus: &mut B, n: Reg, mask: u16) -> Outcome
+    requires { n.number < 8 }
+    ensures { Acts B.stored cpu.old cpu.new bus.old bus.new result (ldm_effect (B.refuses bus.old) (B.holds bus.old) cpu.old n mask) }
+{
+    let addr = get(cpu, n);
+    if addr % 4 != 0 {
+        return Outcome::Trap(Fault::unaligned(addr, false));
+    }
+    if let Some(at) = refused(bus, mask, addr, Right::Read) {
+        return Outcome::Trap(Fault::access(at, Access::Load));
+    }
+    load_words(&mut cpu.regs, bus, mask, addr);
+    if (mask >> n.number) % 2 == 0 {
+        cpu.regs.set(usize::from(n.number), addr.wrapping_add(4 * count_of(mask)));
+    }
+    advance(cpu, 2);
+    Outcome::Next
+}
+
+/// Loads the registers of a mask from SP on, and raises it; PC last, as a branch.
+pub fn pop<B: Bus>(cpu: &mut Cpu, bus: &mut B, mask: u16, has_pc: bool) -> Outcome
+    ensures { Acts B.stored cpu.old cpu.new bus.old bus.new result (pop_effect (B.refuses bus.old) (B.holds bus.old) cpu.old mask has_pc) }
+{
+    let addr = cpu.regs.get(13);
+    if addr % 4 != 0 {
+        return Outcome::Trap(Fault::unaligned(addr, false));
+    }
+    if let Some(at) = refused(bus, mask, addr, Right::Read) {
+        return Outcome::Trap(Fault::access(at, Access::Load));
+    }
+    let mut next = *cpu;
+    load_words(&mut next.regs, bus, mask, addr);
+    let target = next.regs.get(15);
+    next.regs.set(13, addr.wrapping_add(4 * count_of(mask)));
+    if has_pc {
+        if target % 2 == 0 {
+            return Outcome::Trap(Fault::state(target));
+        }
+        next.regs.set(15, target - 1);
+    } else {
+        advance(&mut next, 2);
+    }
+    *cpu = next;
+    Outcome::Next
+}
