@@ -2,7 +2,7 @@
 use Rattle.std.proofs.Common.{◌≡◌, ℕ, ◌+◌, ◌%◌, ◌^◌, ◌<◌, List, [], ◌∷◌, ◌++◌, ◌*◌, ◌/◌, ◌-ℤ◌, length, refl, ap, ◌∙◌, sym, arith, subst, Bool, true, false, nat_eq, Option, Some, None, Result, Ok, Err, OnOk, IfErr}
 use Rattle.thumb_insn.specs.declared.Insn.{Insn}
 use Rattle.thumb_insn.specs.declared.Code.TheVariants as code
-use Rattle.thumb_encode.specs.Codes.{fit_of}
+use Rattle.thumb_encode.specs.Codes.{insn_size, fit_of}
 use Rattle.thumb_encode.specs.declared.Fit.{Fit}
 use Rattle.thumb_asm.specs.declared.Cause.{Cause}
 use Rattle.thumb_asm.specs.declared.Stop.{Stop}
@@ -11,7 +11,7 @@ use Rattle.thumb_asm.specs.Causes.{insn_cause, shape_cause}
 use Rattle.thumb_asm.specs.Outputs.{Coded, Put, Gave}
 use Rattle.thumb_insn.specs.Range.{insn_of, IsCode}
 use Rattle.thumb_insn.specs.declared.Code.{Code}
-use Rattle.thumb_asm.specs.Sizes.{insn_size, shape_size, list_insn, block_insn, mask_of, natural_part, padding}
+use Rattle.thumb_asm.specs.Sizes.{shape_size, list_insn, block_insn, mask_of, natural_part, padding}
 use Rattle.thumb_asm.specs.Syntax.{Shape, Text, Zeros, Padding}
 use Rattle.thumb_asm.specs.Operands.{signed}
 use Rattle.std.specs.List.{repeat}

@@ -1,8 +1,8 @@
 -- Another value leaves an instruction's length.
+use Rattle.thumb_encode.specs.Codes.{insn_size}
 use Rattle.std.proofs.Common.{◌≡◌, ℕ, ℤ, pos, refl}
 use Rattle.thumb_insn.specs.declared.Insn.{Insn}
 use Rattle.thumb_insn.specs.declared.Insn.TheVariants as insn
-use Rattle.thumb_asm.specs.Sizes.{insn_size}
 use Rattle.thumb_asm.specs.Views.{fill, aim}
 
 pub fill_size : (i : Insn) (n : ℕ) → insn_size (fill i 0) ≡ insn_size (fill i n)

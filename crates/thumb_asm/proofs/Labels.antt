@@ -1,6 +1,7 @@
 -- Names in maps and in lists.
-use Rattle.std.proofs.Common.{◌≡◌, ℕ, suc, zero, ◌+◌, ◌<◌, ◌≤◌, List, [], ◌∷◌, ◌++◌, length, get_or, take, drop, map, refl, ap, ◌∙◌, sym, arith, subst, Bool, true, false, cond, ◌&&◌, add-one, Option, Some, None, String, string_bytes, bytes_eq, IfSome, option_map, Bor}
+use Rattle.std.proofs.Common.{◌≡◌, ℕ, suc, zero, ◌+◌, ◌<◌, ◌≤◌, List, [], ◌∷◌, ◌++◌, length, get_or, take, drop, map, refl, ap, ◌∙◌, sym, arith, subst, Bool, true, false, cond, ◌&&◌, add-one, Option, Some, None, is_some, String, string_bytes, bytes_eq, IfSome, option_map, Bor, Result, Ok, Err, OnOk}
 use Rattle.std.specs.List.{list_all}
+use Rattle.std.specs.BTreeMap.{BTreeMap, get_by_text}
 use Rattle.std.specs.Str.{IsUtf8, IsAscii}
 use Rattle.std.proofs.lemmas.Str.{IsUtf8-from_ascii}
 use Rattle.std.proofs.lemmas.Str.Ascii.{IsAscii-cons, IsAscii-nil}
@@ -11,7 +12,8 @@ use Rattle.std.proofs.Math.Path.{fun_ext}
 use Rattle.thumb_asm.specs.Chars.{entry_at, is_name, is_word, is_letter, starts_by}
 use Rattle.thumb_asm.specs.Operands.{or_else}
 use Rattle.thumb_asm.specs.Meaning.{Names, Env, own_label}
-use Rattle.thumb_asm.specs.Passes.{names_of, with_label}
+use Rattle.thumb_asm.specs.Passes.{names_of, with_label, with_symbol}
+use Rattle.std.specs.declared.alloc.AllocError.{AllocError}
 
 and_true : (b c : Bool) → (b && c) ≡ true → (b ≡ true) × (c ≡ true)
 and_true true c h = (refl, h)
@@ -30,15 +32,6 @@ name_text w h = let front = (and_true _ _ h).0 in IsUtf8-from_ascii w (words_asc
 pub if_some_now : (o : Option (Bor (List ℕ))) (P : List ℕ → Type 0) → IfSome (option_map (λ r. r.now) o) P → IfSome o (λ r. P r.now)
 if_some_now None P h = tt
 if_some_now (Some r) P h = h
-
-one_entry : (e : List ℕ × ℕ) (q : List ℕ) → entry_at (e ∷ []) q ≡ (if bytes_eq q e.0 then Some e.1 else None)
-unfolding entry_at
-one_entry e q = refl
-
-or_cond : (b : Bool) (v : ℕ) (o : Option ℕ) → or_else (cond b (Some v) o) None ≡ cond b (Some v) o
-or_cond true v o = refl
-or_cond false v None = refl
-or_cond false v (Some w) = refl
 
 or_push : (b : Bool) (v : ℕ) (o p : Option ℕ) → cond b (Some v) (or_else o p) ≡ or_else (cond b (Some v) o) p
 or_push true v o p = refl
@@ -79,11 +72,16 @@ hidden true v o h = let x = h refl in rw x.1 refl
 hidden false v None h = refl
 hidden false v (Some x) h = refl
 
-pub symbol_hidden : (f : Env) (names : Names) (name : List ℕ) (v x : ℕ) → ((q : List ℕ) → f q ≡ entry_at names q) → f name ≡ Some x → (q : List ℕ) → f q ≡ entry_at (names ++ ((name, v) ∷ [])) q
-symbol_hidden f names name v x h n q =
-    hidden (bytes_eq q name) v (f q) (λ e. (x, ap f (same_text q name (sym e)) ∙ n))
-    ∙ ap (λ t. or_else t (cond (bytes_eq q name) (Some v) None)) (h q)
-    ∙ sym (entry_more names (name, v) q)
+pub symbol_hidden : (f : Env) (name : List ℕ) (v x : ℕ) → f name ≡ Some x → (q : List ℕ) → f q ≡ with_symbol name v f q
+symbol_hidden f name v x n q = hidden (bytes_eq q name) v (f q) (λ e. (x, ap f (same_text q name (sym e)) ∙ n))
+
+-- a symbol that is the first of its name
+pub symbol_added : (f g : Env) (name text : List ℕ) (v : ℕ) (r : Result (Unit {0}) AllocError) → f name ≡ None → text ≡ name → OnOk r ((q : List ℕ) → g q ≡ cond (bytes_eq q text) (Some v) (f q)) → OnOk r ((q : List ℕ) → g q ≡ with_symbol name v f q)
+symbol_added f g name text v (Ok u) n e k = λ q. k q ∙ ap (λ t. cond (bytes_eq q t) (Some v) (f q)) e ∙ labelled (bytes_eq q name) v (f q) (λ h. ap f (same_text q name (sym h)) ∙ n)
+symbol_added f g name text v (Err x) n e k = tt
+
+pub symbol_next : (f g : Env) (names : Names) (name : List ℕ) (v : ℕ) → ((q : List ℕ) → f q ≡ entry_at names q) → ((q : List ℕ) → g q ≡ with_symbol name v f q) → (q : List ℕ) → g q ≡ entry_at (names ++ ((name, v) ∷ [])) q
+symbol_next f g names name v h k q = k q ∙ ap (λ t. or_else t (cond (bytes_eq q name) (Some v) None)) (h q) ∙ sym (entry_more names (name, v) q)
 
 pub named_only : (o : Option (List ℕ)) (f : Env) → IfSome o (λ name. (is_name name ≡ true) × (f name ≡ None)) → IfSome o (λ name. is_name name ≡ true)
 named_only None f h = tt
@@ -92,3 +90,19 @@ named_only (Some name) f h = h.0
 pub free_only : (o : Option (List ℕ)) (f : Env) → IfSome o (λ name. (is_name name ≡ true) × (f name ≡ None)) → IfSome o (λ name. f name ≡ None)
 free_only None f h = tt
 free_only (Some name) f h = h.1
+
+pub nothing_at : (q : List ℕ) → entry_at {A = ℕ} [] q ≡ None
+unfolding entry_at
+nothing_at q = refl
+
+pub some_of : (o : Option ℕ) → is_some o ≡ true → (x : ℕ) × (o ≡ Some x)
+some_of None h = cc
+some_of (Some x) h = (x, refl)
+
+pub none_of : (o : Option ℕ) → is_some o ≡ false → o ≡ None
+none_of None h = refl
+none_of (Some x) h = cc
+
+pub empty_index : {A : Type 0} (m : BTreeMap (String A) ℕ) → m.entries ≡ [] → (q : List ℕ) → get_by_text m q ≡ entry_at [] q
+unfolding entry_at
+empty_index m e q = rw e refl

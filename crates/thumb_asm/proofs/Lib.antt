@@ -9,4 +9,4 @@ pub mod Texts
 pub mod Below
 pub mod Values
 pub mod Labels
-pub mod Narrow
+pub mod Expressions

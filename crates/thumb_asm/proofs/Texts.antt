@@ -1,9 +1,8 @@
 -- Lists in braces and texts in quotes, as the program holds them.
-use Rattle.std.proofs.Common.{◌≡◌, ℕ, suc, zero, ◌+◌, ◌<◌, ◌≤◌, List, [], ◌∷◌, length, get_or, drop, refl, ap, ◌∙◌, sym, arith, Bool, true, false, cond, nat_eq, Option, Some, None, is_some}
+use Rattle.std.proofs.Common.{◌≡◌, ℕ, suc, zero, ◌+◌, ◌<◌, ◌≤◌, List, [], ◌∷◌, length, get_or, drop, refl, ap, ◌∙◌, sym, arith, Bool, true, false, cond, nat_eq, ◌&&◌, bytes_eq, Option, Some, None, is_some}
 use Rattle.thumb_asm.specs.Chars.{is_nil, strip}
 use Rattle.thumb_asm.specs.Operands.{◌>>=◌, ends, ranges, stripped_by, register_list, text_of, escape, with_byte}
 use Rattle.thumb_asm.specs.Kinds.{with_range, good_ranges, ranges_in, with_good, good_text}
-use Rattle.thumb_asm.proofs.Strips.{cell, drop_all}
 
 some_is : {A : Type 0} (o : Option A) → is_some o ≡ true → (x : A) × (o ≡ Some x)
 some_is None h = cc
@@ -66,10 +65,6 @@ quoted_good t h = let x = some_is (text_of false t) h in x.1 ∙ ap Some (sym (s
 pub quoted_bad : (t : List ℕ) → is_some (text_of false t) ≡ false → text_of false t ≡ None
 quoted_bad t h = none_is (text_of false t) h
 
--- Whether quoted text ends well, from here on
-abbrev pub closes : Bool → List ℕ → ℕ → Bool
-closes escaped t i = is_some (text_of escaped (drop i t))
-
 with_some : (c : ℕ) (o : Option (List ℕ)) → is_some (with_byte c o) ≡ is_some o
 with_some c None = refl
 with_some c (Some x) = refl
@@ -84,46 +79,46 @@ one_slash c cs h k = rw (h, k) refl
 
 one_quote : (c : ℕ) (cs : List ℕ) → nat_eq c 34 ≡ true → is_some (text_of false (c ∷ cs)) ≡ is_nil cs
 unfolding text_of
-one_quote c cs h = rw h (elim (is_nil cs) as (λ b. is_some (cond b (Some {A = List ℕ} []) None) ≡ b) [ true ↦ refl | false ↦ refl ])
+one_quote c cs h = rw h (elim (is_nil cs) as (λ b. is_some {T = List ℕ} (cond b (Some []) None) ≡ b) [ true ↦ refl | false ↦ refl ])
 
-good_escape : (c b : ℕ) (cs : List ℕ) → escape c ≡ Some b → is_some (text_of true (c ∷ cs)) ≡ is_some (text_of false cs)
+pub good_escape : (c b : ℕ) (cs : List ℕ) → escape c ≡ Some b → is_some (text_of true (c ∷ cs)) ≡ is_some (text_of false cs)
 unfolding text_of
 good_escape c b cs h = ap (λ e. is_some (e >>= λ x. with_byte x (text_of false cs))) h ∙ with_some b (text_of false cs)
 
-bad_escape : (c : ℕ) (cs : List ℕ) → escape c ≡ None → is_some (text_of true (c ∷ cs)) ≡ false
+pub bad_escape : (c : ℕ) (cs : List ℕ) → escape c ≡ None → is_some (text_of true (c ∷ cs)) ≡ false
 unfolding text_of
 bad_escape c cs h = ap (λ e. is_some (e >>= λ x. with_byte x (text_of false cs))) h
 
-nothing : (e : Bool) → is_some (text_of e []) ≡ false
+-- where quoted text stops, and whether it ends well there
+pub stops_at_end : is_some (text_of false []) ≡ bytes_eq [] (34 ∷ [])
 unfolding text_of
-nothing e = refl
+stops_at_end = refl
 
-eq_true : (c d : ℕ) → c ≡ d → nat_eq c d ≡ true
-eq_true c d h = grind arith
+nil_is : (cs : List ℕ) → is_nil cs ≡ bytes_eq cs []
+nil_is [] = refl
+nil_is (c ∷ cs) = refl
 
-eq_false : (c d : ℕ) → (c ≡ d → ⊥) → nat_eq c d ≡ false
-eq_false c d h = grind arith
+pub stops_at_quote : (c : ℕ) (cs : List ℕ) → c ≡ 34 → is_some (text_of false (c ∷ cs)) ≡ bytes_eq (c ∷ cs) (34 ∷ [])
+stops_at_quote c cs h = let e : nat_eq c 34 ≡ true = grind arith in one_quote c cs e ∙ nil_is cs ∙ ap (λ b. b && bytes_eq cs []) (sym e)
 
-pub closes_byte : (t : List ℕ) (i : ℕ) → i < length t → (get_or t i 0 ≡ 34 → ⊥) → (get_or t i 0 ≡ 92 → ⊥) → closes false t i ≡ closes false t (i + 1)
-closes_byte t i lt h k = ap (λ x. is_some (text_of false x)) (cell t i lt) ∙ one_byte (get_or t i 0) (drop (i + 1) t) (eq_false _ _ h) (eq_false _ _ k)
+pub stops_at_escape : (c : ℕ) (cs : List ℕ) → c ≡ 92 → is_some (text_of true cs) ≡ false → is_some (text_of false (c ∷ cs)) ≡ bytes_eq (c ∷ cs) (34 ∷ [])
+stops_at_escape c cs h k =
+    let e : nat_eq c 34 ≡ false = grind arith in
+    let f : nat_eq c 92 ≡ true = grind arith in
+    one_slash c cs e f ∙ k ∙ ap (λ b. b && bytes_eq cs []) (sym e)
 
-pub closes_slash : (t : List ℕ) (i : ℕ) → i < length t → get_or t i 0 ≡ 92 → closes false t i ≡ closes true t (i + 1)
-closes_slash t i lt k = ap (λ x. is_some (text_of false x)) (cell t i lt) ∙ one_slash (get_or t i 0) (drop (i + 1) t) (eq_false _ _ (λ h. absurd (omega arith))) (eq_true _ _ k)
+pub goes_behind_byte : (c : ℕ) (cs : List ℕ) → (c ≡ 34 → ⊥) → (c ≡ 92 → ⊥) → is_some (text_of false (c ∷ cs)) ≡ is_some (text_of false cs)
+goes_behind_byte c cs h k =
+    let e : nat_eq c 34 ≡ false = grind arith in
+    let f : nat_eq c 92 ≡ false = grind arith in
+    one_byte c cs e f
 
-pub closes_escape : (t : List ℕ) (i b : ℕ) → i < length t → escape (get_or t i 0) ≡ Some b → closes true t i ≡ closes false t (i + 1)
-closes_escape t i b lt h = ap (λ x. is_some (text_of true x)) (cell t i lt) ∙ good_escape (get_or t i 0) b (drop (i + 1) t) h
+pub goes_behind_slash : (c : ℕ) (cs : List ℕ) → c ≡ 92 → is_some (text_of false (c ∷ cs)) ≡ is_some (text_of true cs)
+goes_behind_slash c cs h =
+    let e : nat_eq c 34 ≡ false = grind arith in
+    let f : nat_eq c 92 ≡ true = grind arith in
+    one_slash c cs e f
 
-pub closes_not : (t : List ℕ) (i : ℕ) → i < length t → escape (get_or t i 0) ≡ None → closes true t i ≡ false
-closes_not t i lt h = ap (λ x. is_some (text_of true x)) (cell t i lt) ∙ bad_escape (get_or t i 0) (drop (i + 1) t) h
-
-nil_at : (t : List ℕ) (i : ℕ) → i ≤ length t → is_nil (drop i t) ≡ nat_eq i (length t)
-nil_at [] zero h = refl
-nil_at [] (suc i) h = absurd (omega arith)
-nil_at (c ∷ t) zero h = grind arith
-nil_at (c ∷ t) (suc i) h = nil_at t i (omega arith)
-
-pub closes_here : (t : List ℕ) (i : ℕ) → i < length t → get_or t i 0 ≡ 34 → closes false t i ≡ nat_eq (i + 1) (length t)
-closes_here t i lt h = ap (λ x. is_some (text_of false x)) (cell t i lt) ∙ one_quote (get_or t i 0) (drop (i + 1) t) (eq_true _ _ h) ∙ nil_at t (i + 1) (omega arith)
-
-pub closes_never : (e : Bool) (t : List ℕ) (i : ℕ) → length t ≤ i → closes e t i ≡ false
-closes_never e t i h = ap (λ x. is_some (text_of e x)) (drop_all t i h) ∙ nothing e
+pub escape_at_end : is_some (text_of true []) ≡ false
+unfolding text_of
+escape_at_end = refl

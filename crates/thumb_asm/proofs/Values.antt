@@ -57,13 +57,51 @@ gave_data env at k es old new (Ok u) a b c h = record {
   accepted = rw (a, b, c) refl }
 gave_data env at k es old new (Err x) a b c h = tt
 
-repeat_more : (n : ℕ) → repeat (suc n) (0 ∷ []) ≡ repeat n (0 ∷ []) ++ (0 ∷ [])
+repeat_more : (n : ℕ) → repeat {A = ℕ} (suc n) (0 ∷ []) ≡ repeat {A = ℕ} n (0 ∷ []) ++ (0 ∷ [])
 repeat_more zero = refl
 repeat_more (suc n) = ap (λ t. 0 ∷ t) (repeat_more n)
 
 pub zeros_next : (old now : List ℕ) (i : ℕ) → now ≡ old ++ repeat i (0 ∷ []) → now ++ (0 ∷ []) ≡ old ++ repeat (i + 1) (0 ∷ [])
 zeros_next old now i h = ap (λ t. t ++ (0 ∷ [])) h ∙ append_assoc old (repeat i (0 ∷ [])) (0 ∷ []) ∙ ap (λ t. old ++ t) (sym (repeat_more i)) ∙ ap (λ n. old ++ repeat n (0 ∷ [])) (sym (add-one i))
 
-pub repeat_length : (n : ℕ) → length (repeat n (0 ∷ [])) ≡ n
+pub repeat_length : (n : ℕ) → length {A = ℕ} (repeat n (0 ∷ [])) ≡ n
 repeat_length zero = refl
 repeat_length (suc n) = ap suc (repeat_length n)
+
+pub low_two : (n : ℕ) → (n % 256 ∷ []) ++ (n / 256 % 256 ∷ []) ≡ low_first 2 n
+unfolding low_first
+low_two n = refl
+
+halves : (n : ℕ) → n / 256 / 256 ≡ n / 65536
+halves n = omega arith
+
+pub low_four : (n : ℕ) → low_first 2 n ++ low_first 2 (n / 65536) ≡ low_first 4 n
+unfolding low_first
+low_four n = rw (sym (halves n)) refl
+
+pub low_one : (n : ℕ) → n % 256 ∷ [] ≡ low_first 1 n
+unfolding low_first
+low_one n = refl
+
+-- one piece after another
+pub after : (old mid new xs ys all : List ℕ) (r : Result (Unit {0}) Stop) → mid ≡ old ++ xs → OnOk r (new ≡ mid ++ ys) → xs ++ ys ≡ all → OnOk r (new ≡ old ++ all)
+after old mid new xs ys all (Ok u) h k e = k ∙ ap (λ t. t ++ ys) h ∙ append_assoc old xs ys ∙ ap (λ t. old ++ t) e
+after old mid new xs ys all (Err x) h k e = tt
+
+-- one value more
+pub push_step : (env : Env) (k : ℕ) (e : List ℕ) (es left : List (List ℕ)) (old out new : List ℕ) (z : ℤ) → left ≡ e ∷ es → Some z ≡ value env e → new ≡ out ++ number_bytes k z → out ++ data_bytes env k left ≡ old → new ++ data_bytes env k es ≡ old
+push_step env k e es left old out new z h v n i =
+    ap (λ t. t ++ data_bytes env k es) n
+    ∙ append_assoc out (number_bytes k z) (data_bytes env k es)
+    ∙ ap (λ t. out ++ t) (sym (data_next env k e es z v))
+    ∙ ap (λ t. out ++ data_bytes env k t) (sym h)
+    ∙ i
+
+pub push_last : (env : Env) (k : ℕ) (left : List (List ℕ)) (old out : List ℕ) → left ≡ [] → out ++ data_bytes env k left ≡ old → out ≡ old
+push_last env k left old out h i = sym (append-nil out) ∙ ap (λ t. out ++ t) (sym (data_none env k)) ∙ ap (λ t. out ++ data_bytes env k t) (sym h) ∙ i
+
+pub any_tail : (p : List ℕ → Bool) (e : List ℕ) (es left : List (List ℕ)) → left ≡ e ∷ es → list_any p left ≡ false → list_any p es ≡ false
+any_tail p e es left h k = (or_false (p e) (list_any p es) (ap (list_any p) (sym h) ∙ k)).1
+
+pub any_head : (p : List ℕ → Bool) (e : List ℕ) (es left : List (List ℕ)) → left ≡ e ∷ es → list_any p left ≡ false → p e ≡ false
+any_head p e es left h k = (or_false (p e) (list_any p es) (ap (list_any p) (sym h) ∙ k)).0

@@ -2,7 +2,8 @@
 use Rattle.std.specs.Prelude.{ℕ, ◌≡◌, List, ◌++◌, length, None, Result, Ok}
 use Rattle.thumb_insn.specs.declared.Insn.{Insn}
 use Rattle.thumb_asm.specs.Syntax.{Shape}
-use Rattle.thumb_asm.specs.Sizes.{shape_size, insn_size}
+use Rattle.thumb_asm.specs.Sizes.{shape_size}
+use Rattle.thumb_encode.specs.Codes.{insn_size}
 use Rattle.thumb_asm.specs.declared.Cause.{Cause}
 use Rattle.thumb_asm.specs.Meaning.{Env, Means, Codes, fitting}
 use Rattle.thumb_asm.specs.Causes.{shape_cause, insn_cause}

@@ -9,6 +9,7 @@ use Rattle.thumb_asm.specs.Parts.{Parts, parts}
 use Rattle.thumb_asm.specs.Sizes.{statement_of}
 use Rattle.thumb_asm.specs.Meaning.{Names, Env, env_of, Spells}
 use Rattle.thumb_asm.specs.Chars.{entry_at}
+use Rattle.thumb_asm.specs.Operands.{or_else}
 use Rattle.std.specs.BTreeMap.{BTreeMap, get_by_text}
 use Rattle.thumb_asm.specs.Causes.{line_size, second_group}
 
@@ -50,3 +51,7 @@ pub record Emitted (env : Env) (at : ℕ) (line old new : List ℕ) : Type 0 whe
 abbrev pub with_label : ℕ → Option (List ℕ) → Env → Env
 with_label at None env name = env name
 with_label at (Some label) env name = if bytes_eq name label then Some at else env name
+
+-- names with a symbol, unless it has a value
+abbrev pub with_symbol : List ℕ → ℕ → Env → Env
+with_symbol symbol value env name = or_else (env name) (if bytes_eq name symbol then Some value else None)

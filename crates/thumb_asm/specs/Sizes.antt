@@ -5,7 +5,7 @@ use Rattle.thumb_insn.specs.declared.Reg.{Reg}
 use Rattle.text_lines.specs.Text.{is_between}
 use Rattle.thumb_insn.specs.declared.Insn.{Insn}
 use Rattle.thumb_insn.specs.declared.Insn.TheVariants as insn
-use Rattle.thumb_encode.specs.Codes.{fit_of}
+use Rattle.thumb_encode.specs.Codes.{fit_of, insn_size}
 use Rattle.thumb_encode.specs.declared.Fit.{Fit}
 use Rattle.thumb_encode.specs.declared.Fit.TheVariants as fit
 use Rattle.thumb_asm.specs.declared.Cause.{Cause}
@@ -75,16 +75,6 @@ abbrev pub extra_of : Bool → ℕ
 extra_of loads = if loads then 15 else 14
 
 -- How long a statement is.
-
-abbrev pub has_wide : Insn → Bool
-has_wide (insn.Bl z) = true
-has_wide (insn.Fence b i) = true
-has_wide (insn.Mrs d) = true
-has_wide (insn.Msr n) = true
-has_wide i = false
-
-abbrev pub insn_size : Insn → ℕ
-insn_size i = if has_wide i then 4 else 2
 
 abbrev pub list_insn : Bool → List (ℕ × ℕ) → Insn
 list_insn true rs = insn.Pop (mask_of rs) (is_listed rs 15)

@@ -3,14 +3,14 @@
 ghost use Rattle.std.specs.Prelude.{◌≡◌, ◌++◌, ◌<◌, ◌+◌, ◌-◌, ◌*◌, ◌/◌, ◌^◌, ℤ, pos, nat_abs, ◌-ℤ◌, OnOk, IfOk, IfErr, MatchOption, MatchResult, Result, Ok, Err, None, Some, Option, length};
 ghost use Rattle.thumb_insn.specs.declared.Insn.{Insn as Instruction};
 ghost use Rattle.thumb_asm.specs.declared.Cause.{Cause as Why};
-ghost use Rattle.thumb_encode.specs.Codes.{fit_of};
+ghost use Rattle.thumb_encode.specs.Codes.{insn_size, fit_of};
 ghost use Rattle.thumb_asm.specs.declared.Cause.TheVariants.{OutOfRange};
 ghost use Rattle.thumb_asm.specs.Meaning.{filled, within, aimed, fitting, fit_cause, halfword, code_bytes, Codes};
 ghost use Rattle.thumb_asm.specs.Causes.{insn_cause};
 ghost use Rattle.thumb_asm.specs.Passes.{Stops};
 ghost use Rattle.thumb_asm.specs.Outputs.{Coded, Put};
 ghost use Rattle.thumb_insn.specs.Range.{insn_of, IsCode};
-ghost use Rattle.thumb_asm.specs.Sizes.{insn_size, is_register_fit};
+ghost use Rattle.thumb_asm.specs.Sizes.{is_register_fit};
 ghost use Rattle.thumb_asm.specs.Views.{fill, aim};
 
 use super::{Cause, Stop};

@@ -152,6 +152,18 @@ fn push_value(size: Size, number: i64, out: &mut Vec<u8>) -> Result<(), Stop>
     push_low(size, unsigned(size, number), out)
 }
 
+/// The value of a piece that has one.
+fn known(piece: &[u8], names: &Names<'_>) -> i64
+    requires { is_unknown (value (env_in names.now.labels.now names.now.symbols.now) piece.now) ≡ false }
+    ensures value { Some result ≡ value (env_in names.now.labels.now names.now.symbols.now) piece.now }
+    ensures small { nat_abs result < 2 ^ 34 }
+{
+    match value(piece, names) {
+        None => unreachable!(),
+        Some(number) => number,
+    }
+}
+
 /// Puts values at the end, which are known and in range.
 fn push_all(size: Size, pieces: &[u8], names: &Names<'_>, out: &mut Vec<u8>) -> Result<(), Stop>
     requires known { list_any (λ e. is_unknown (value (env_in names.now.labels.now names.now.symbols.now) e)) (operand_pieces pieces.now) ≡ false }
@@ -161,12 +173,9 @@ fn push_all(size: Size, pieces: &[u8], names: &Names<'_>, out: &mut Vec<u8>) -> 
 {
     let mut left = Pieces::of(pieces);
     'pieces: while let Some(piece) = left.next() {
-        match value(piece, names) {
-            None => {}
-            Some(number) => match push_value(size, number, out) {
-                Ok(()) => {}
-                Err(stop) => return Err(stop),
-            },
+        match push_value(size, known(piece, names), out) {
+            Ok(()) => {}
+            Err(stop) => return Err(stop),
         }
     }
     Ok(())
@@ -184,6 +193,7 @@ fn is_misplaced(at: u32, size: Size) -> bool
 }
 
 /// Puts values at the end, or tells why they can't stand there.
+#[tactic(auto, unfolding(crate::specs::Causes::shape_cause))]
 pub(crate) fn emit(at: u32, size: Size, pieces: &[u8], names: &Names<'_>, out: &mut Vec<u8>) -> Result<(), Stop>
     ensures ok { OnOk result (Gave (env_in names.now.labels.now names.now.symbols.now) at (Data (scale size) (operand_pieces pieces.now)) out.old.items out.new.items) }
     ensures err { IfErr result (λ e. Stops e (shape_cause (env_in names.now.labels.now names.now.symbols.now) at (Data (scale size) (operand_pieces pieces.now)))) }

@@ -4,7 +4,7 @@ ghost use Rattle.std.specs.Prelude.{◌≡◌, List, ℕ, OnOk, IfOk, string_byt
 ghost use Rattle.std.specs.BTreeMap.{get_by_text};
 ghost use Rattle.thumb_asm.specs.Chars.{is_name};
 ghost use Rattle.thumb_asm.specs.Meaning.{own_label};
-ghost use Rattle.thumb_asm.specs.Passes.{names_of, env_in, Indexes, with_label};
+ghost use Rattle.thumb_asm.specs.Passes.{names_of, env_in, Indexes, with_label, with_symbol};
 
 use std::alloc::{AllocError, Global};
 use std::collections::BTreeMap;
@@ -80,15 +80,23 @@ pub(crate) fn add(alloc: Global, labels: &mut BTreeMap<String, u32>, label: Opti
     }
 }
 
+/// Gives a name a value, unless it has one.
+fn add_symbol(alloc: Global, index: &mut BTreeMap<String, u32>, name: &str, value: u32) -> Result<(), AllocError>
+    ensures { OnOk result ((q : List ℕ) → get_by_text index.new q ≡ with_symbol name.now value (get_by_text index.old) q) }
+{
+    match index.get(name) {
+        Some(_) => Ok(()),
+        None => insert(index, String::from_str(alloc, name)?, value),
+    }
+}
+
 /// The symbols by their names; of two with one name the first counts.
 pub(crate) fn of_symbols(alloc: Global, symbols: &[(String, u32)]) -> Result<BTreeMap<String, u32>, AllocError>
     ensures { IfOk result (λ index. Indexes index (names_of symbols.now)) }
 {
     let mut index: BTreeMap<String, u32> = BTreeMap::new(alloc);
     for symbol in symbols {
-        if !index.contains_key(symbol.0.as_str()) {
-            insert(&mut index, symbol.0.clone()?, symbol.1)?;
-        }
+        add_symbol(alloc, &mut index, symbol.0.as_str(), symbol.1)?;
     }
     Ok(index)
 }

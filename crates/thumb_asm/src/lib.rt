@@ -16,6 +16,8 @@ mod passes;
 mod quotes;
 mod shape;
 mod syntax;
+#[cfg(test)]
+mod tests;
 mod words;
 
 pub use passes::{assemble, Object};

@@ -102,10 +102,10 @@ fn are_ranges(text: &[u8]) -> bool
     let mut left = Some(text);
     'pieces: while let Some(text) = left {
         let (piece, rest) = split_by(b',', text);
-        if ends(piece).is_none() {
-            return false;
+        match ends(piece) {
+            None => return false,
+            Some(_) => left = rest,
         }
-        left = rest;
     }
     true
 }
@@ -120,7 +120,7 @@ pub(crate) fn is_listed(text: &[u8], r: u8) -> bool
     ensures { result ≡ is_listed (ranges_in text.now) r }
 {
     let mut ranges = Ranges::of(text);
-    'ranges: while let Some(range) = ranges.next() {
+    'each: while let Some(range) = ranges.next() {
         if is_in(range, r) {
             return true;
         }
@@ -133,7 +133,7 @@ fn is_double(text: &[u8], r: u8) -> bool
 {
     let mut count = 0u32;
     let mut ranges = Ranges::of(text);
-    'ranges: while let Some(range) = ranges.next() {
+    'each: while let Some(range) = ranges.next() {
         if is_in(range, r) {
             if count == 1 {
                 return true;
@@ -148,7 +148,7 @@ fn is_named(text: &[u8], r: u8) -> bool
     ensures { result ≡ is_named (ranges_in text.now) r }
 {
     let mut ranges = Ranges::of(text);
-    'ranges: while let Some(range) = ranges.next() {
+    'each: while let Some(range) = ranges.next() {
         if is_in(range, r) || r == range.0 || r == range.1 {
             return true;
         }
@@ -160,7 +160,7 @@ fn has_falling(text: &[u8]) -> bool
     ensures { result ≡ list_any falls (ranges_in text.now) }
 {
     let mut ranges = Ranges::of(text);
-    'ranges: while let Some(range) = ranges.next() {
+    'each: while let Some(range) = ranges.next() {
         if range.1 < range.0 {
             return true;
         }

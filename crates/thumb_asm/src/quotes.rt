@@ -1,6 +1,6 @@
 //! Texts in quotes.
 
-ghost use Rattle.std.specs.Prelude.{◌≡◌, ◌∷◌, ◌++◌, ◌<◌, ◌≤◌, true, false, length, is_some, MatchOption, IfSome, OnOk, IfErr, Option, []};
+ghost use Rattle.std.specs.Prelude.{◌≡◌, ◌∷◌, ◌++◌, ◌<◌, ◌≤◌, true, false, length, is_some, bytes_eq, MatchOption, IfSome, OnOk, IfErr, Option, []};
 ghost use Rattle.thumb_asm.specs.declared.Cause.{Cause as Why};
 ghost use Rattle.thumb_asm.specs.Operands.{escape, text_of};
 ghost use Rattle.thumb_asm.specs.Kinds.{good_text};
@@ -8,6 +8,7 @@ ghost use Rattle.thumb_asm.specs.Passes.{Stops};
 
 use super::Stop;
 use super::expr::head;
+use super::index::is_same;
 
 /// What is left of a text behind its first quote.
 #[derive(Clone, Copy)]
@@ -28,10 +29,12 @@ fn escape(c: u8) -> Option<u8>
 }
 
 impl<'a> Quoted<'a> {
-    /// The next byte that the text says. None: at the closing quote, or at an escape that is none.
-    #[tactic(auto, unfolding(crate::specs::Kinds::good_text))]
+    /// The next byte that the text says. None: at the closing quote, at an escape that is none, or
+    /// at the end.
+    #[tactic(auto, unfolding(crate::specs::Kinds::good_text), using(crate::proofs::Texts::stops_at_end, crate::proofs::Texts::stops_at_quote, crate::proofs::Texts::stops_at_escape, crate::proofs::Texts::goes_behind_byte, crate::proofs::Texts::goes_behind_slash))]
     fn next(&mut self) -> Option<u8>
         ensures byte { MatchOption result (good_text false self.old.rest.now ≡ []) (λ c. good_text false self.old.rest.now ≡ c ∷ good_text false self.new.rest.now) }
+        ensures closed { MatchOption result (is_some (text_of false self.old.rest.now) ≡ bytes_eq self.new.rest.now (34 ∷ [])) (λ c. is_some (text_of false self.old.rest.now) ≡ is_some (text_of false self.new.rest.now)) }
         ensures shorter { IfSome result (λ c. length self.new.rest.now < length self.old.rest.now) }
     {
         match head(self.rest) {
@@ -40,7 +43,13 @@ impl<'a> Quoted<'a> {
                 if first == b'"' {
                     None
                 } else if first == b'\\' {
-                    self.escaped(rest)
+                    match escaped(rest) {
+                        None => None,
+                        Some((byte, more)) => {
+                            self.rest = more;
+                            Some(byte)
+                        }
+                    }
                 } else {
                     self.rest = rest;
                     Some(first)
@@ -48,23 +57,21 @@ impl<'a> Quoted<'a> {
             }
         }
     }
+}
 
-    /// The byte behind a backslash.
-    #[tactic(auto, unfolding(crate::specs::Kinds::good_text))]
-    fn escaped(&mut self, rest: &'a [u8]) -> Option<u8>
-        ensures byte { MatchOption result (good_text true rest.now ≡ []) (λ c. good_text true rest.now ≡ c ∷ good_text false self.new.rest.now) }
-        ensures shorter { IfSome result (λ c. length self.new.rest.now < length rest.now) }
-    {
-        match head(rest) {
+/// The byte behind a backslash, and what follows it.
+#[tactic(auto, unfolding(crate::specs::Kinds::good_text), using(crate::proofs::Texts::good_escape, crate::proofs::Texts::bad_escape, crate::proofs::Texts::escape_at_end))]
+fn escaped(rest: &[u8]) -> Option<(u8, &[u8])>
+    ensures byte { MatchOption result (good_text true rest.now ≡ []) (λ p. good_text true rest.now ≡ p.0 ∷ good_text false p.1.now) }
+    ensures closed { MatchOption result (is_some (text_of true rest.now) ≡ false) (λ p. is_some (text_of true rest.now) ≡ is_some (text_of false p.1.now)) }
+    ensures shorter { IfSome result (λ p. length p.1.now < length rest.now) }
+{
+    match head(rest) {
+        None => None,
+        Some((c, more)) => match escape(c) {
             None => None,
-            Some((c, more)) => match escape(c) {
-                None => None,
-                Some(byte) => {
-                    self.rest = more;
-                    Some(byte)
-                }
-            },
-        }
+            Some(byte) => Some((byte, more)),
+        },
     }
 }
 
@@ -72,20 +79,9 @@ impl<'a> Quoted<'a> {
 pub(crate) fn is_closed(text: &[u8]) -> bool
     ensures { result ≡ is_some (text_of false text.now) }
 {
-    let mut escaped = false;
-    for (i, c) in text.iter().enumerate() {
-        if escaped {
-            if escape(*c).is_none() {
-                return false;
-            }
-            escaped = false;
-        } else if *c == b'"' {
-            return i + 1 == text.len();
-        } else {
-            escaped = *c == b'\\';
-        }
-    }
-    false
+    let mut left = Quoted { rest: text };
+    'bytes: while let Some(_) = left.next() {}
+    is_same(left.rest, b"\"")
 }
 
 /// How many bytes a text says.

@@ -1,11 +1,11 @@
 //! Statements.
 
 ghost use Rattle.std.specs.Prelude.{◌≡◌, ◌++◌, ◌<◌, ◌≤◌, ◌+◌, ◌^◌, false, option_map, length, OnOk, IfOk, IfErr, IfSome, MatchResult, nat_abs, pos, ◌≤ℤ◌, Result, Ok, Err, None, Some};
-ghost use Rattle.thumb_asm.specs.Sizes.{statement_of, shape_size, insn_size, list_insn, block_insn, extra_of, natural_part, padding, has_bad_count, has_bad_number, has_bad_register, has_bad_list, is_off, is_no_expr, is_no_number, checked};
+ghost use Rattle.thumb_asm.specs.Sizes.{statement_of, shape_size, list_insn, block_insn, extra_of, natural_part, padding, has_bad_count, has_bad_number, has_bad_register, has_bad_list, is_off, is_no_expr, is_no_number, checked};
 ghost use Rattle.thumb_asm.specs.Operands.{signed, expression};
 ghost use Rattle.thumb_asm.specs.Parts.{operand_pieces};
 ghost use Rattle.thumb_asm.specs.Kinds.{ranges_in};
-ghost use Rattle.thumb_encode.specs.Codes.{scale};
+ghost use Rattle.thumb_encode.specs.Codes.{insn_size, scale};
 ghost use Rattle.std.specs.List.{list_any};
 ghost use Rattle.thumb_asm.specs.Meaning.{insn_at, fitting};
 ghost use Rattle.thumb_asm.specs.Syntax.{Filled as SpecFilled, Within as SpecWithin, Aimed as SpecAimed, Near as SpecNear};

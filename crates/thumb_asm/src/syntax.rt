@@ -8,8 +8,9 @@ ghost use Rattle.thumb_asm.specs.Sizes.{shaped_by};
 ghost use Rattle.thumb_asm.specs.Operands.{operands};
 ghost use Rattle.thumb_asm.specs.Parts.{operand_pieces};
 ghost use Rattle.thumb_asm.specs.Views.{shape_of, fill};
-ghost use Rattle.thumb_insn.specs.declared.Load.TheVariants as load;
-ghost use Rattle.thumb_asm.specs.declared.Mnemonic.TheVariants.{Shift, Movs, Adds, Subs, Cmp, Rors, Rsbs, Pair, Add, Sub, Mov, Bx, Blx, Load, Store, Adr, Change, Push, Pop, Cpsie, Cpsid, Bkpt, Hint, Named, Stm, Ldm, BranchIf, Svc, Branch, Bl, Fence, Mrs, Msr, Values, Ascii, Space, Align};
+ghost use Rattle.thumb_insn.specs.declared.Load.TheVariants as loads;
+ghost use Rattle.thumb_asm.specs.declared.Mnemonic.TheVariants as kind;
+ghost use Rattle.thumb_asm.specs.declared.Mnemonic.TheVariants.{Movs, Adds, Subs, Cmp, Rors, Rsbs, Pair, Add, Sub, Mov, Bx, Blx, Store, Adr, Change, Push, Pop, Cpsie, Cpsid, Bkpt, Hint, Named, Stm, Ldm, BranchIf, Svc, Branch, Bl, Fence, Mrs, Msr, Values, Ascii, Space, Align};
 ghost use Rattle.thumb_asm.specs.Pairs.{reg_text, reg_ranges, reg_reg_text};
 
 use super::Mnemonic;
@@ -449,7 +450,7 @@ fn shift_op(shift: Shift) -> Op
 
 #[tactic(auto, unfolding(crate::specs::Syntax::shaped))]
 fn shift<'a>(shift: Shift, operands: Operands<'a>) -> Option<Shape<'a>>
-    ensures { option_map shape_of result ≡ shaped (Shift shift) (operands_of operands.entry) }
+    ensures { option_map shape_of result ≡ shaped (kind.Shift shift) (operands_of operands.entry) }
 {
     match reg_reg_imm(operands) {
         Some((d, m, e)) => Some(Shape::Within(1, top_shift(shift), e, Insn::ShiftImm { shift, d, m, by: 0 })),
@@ -650,7 +651,7 @@ fn stored(size: Size, t: Reg, n: Reg) -> Insn
 
 /// A load with an immediate, without one, or of a literal.
 fn load_whole<'a>(size: Size, operands: Operands<'a>) -> Option<Shape<'a>>
-    ensures { option_map shape_of result ≡ plain_load (load.Whole size) (operands_of operands.entry) }
+    ensures { option_map shape_of result ≡ plain_load (loads.Whole size) (operands_of operands.entry) }
 {
     match reg_mem_imm(operands) {
         Some((t, (n, e))) => Some(Shape::Filled(e, loaded(size, t, n))),
@@ -676,7 +677,7 @@ fn literal<'a>(size: Size, operands: Operands<'a>) -> Option<Shape<'a>>
 
 #[tactic(auto, unfolding(crate::specs::Syntax::shaped))]
 fn load<'a>(load: Load, operands: Operands<'a>) -> Option<Shape<'a>>
-    ensures { option_map shape_of result ≡ shaped (Load load) (operands_of operands.entry) }
+    ensures { option_map shape_of result ≡ shaped (kind.Load load) (operands_of operands.entry) }
 {
     match reg_mem_reg(operands) {
         Some((t, (n, m))) => Some(Shape::Fixed(Insn::LoadReg { load, t, n, m })),
@@ -1000,6 +1001,7 @@ pub(crate) fn shaped<'a>(m: Mnemonic, rest: &'a [u8]) -> Option<Shape<'a>>
 }
 
 /// Values, each an expression, at least one.
+#[tactic(auto, using(crate::proofs::Expressions::values_some, crate::proofs::Expressions::values_none))]
 pub(crate) fn values<'a>(size: Size, rest: &'a [u8]) -> Option<Shape<'a>>
     ensures { option_map shape_of result ≡ shaped_by (Values size) (operands (operand_pieces rest.now)) }
 {

@@ -5,8 +5,8 @@ use Rattle.thumb_asm.specs.Sizes.{is_in, falls}
 use Rattle.thumb_asm.specs.Kinds.{ranges_in, ranges_left}
 use Rattle.thumb_asm.proofs.lists.has_falling.Given as goal
 
-abbrev pub invariant-ranges : goal.invariant-ranges
-invariant-ranges l = list_any falls (ranges_in l.text) ≡ list_any falls (ranges_left (option_map (λ r. r.now) l.ranges.rest))
+abbrev pub invariant-each : goal.invariant-each
+invariant-each l = list_any falls (ranges_in l.text) ≡ list_any falls (ranges_left (option_map (λ r. r.now) l.ranges.rest))
 
-abbrev pub decreases-ranges : goal.decreases-ranges
-decreases-ranges l = left_length (option_map (λ r. r.now) l.ranges.rest)
+abbrev pub decreases-each : goal.decreases-each
+decreases-each l = left_length (option_map (λ r. r.now) l.ranges.rest)

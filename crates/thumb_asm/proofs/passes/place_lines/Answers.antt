@@ -6,14 +6,14 @@ use Rattle.text_lines.specs.Text.{lines_of}
 use Rattle.thumb_asm.specs.Parts.{Parts, parts}
 use Rattle.thumb_asm.specs.Meaning.{own_label, Env}
 use Rattle.thumb_asm.specs.Passes.{with_label}
-use Rattle.thumb_asm.proofs.Labels.{if_some_now, same_env, label_added, named_only, free_only}
+use Rattle.thumb_asm.proofs.Labels.{empty_index, if_some_now, same_env, label_added, named_only, free_only}
 use Rattle.thumb_asm.proofs.Passing.{Surveyed, survey_start, survey_step, survey_fails, survey_ends}
 use Rattle.thumb_asm.proofs.passes.place_lines.Goals as goal
 
 pub lines-init : goal.lines-init
 lines-init c = record {
   earlier = [];
-  same = search rules;
+  same = empty_index c.new-labels.result c.new-labels.ensures.empty;
   told = survey_start (get_by_text c.args.symbols.now) c.args.base (lines_of c.args.text.now) (lines_of c.of-lines.result.rest.now) (ap lines_of c.of-lines.ensures);
   few = omega (arith, ap length c.of-lines.ensures) }
 

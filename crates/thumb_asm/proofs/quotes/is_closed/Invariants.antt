@@ -1,6 +1,9 @@
-use Rattle.std.proofs.Common.{◌≡◌, false}
-use Rattle.thumb_asm.proofs.Texts.{closes}
+use Rattle.std.proofs.Common.{◌≡◌, false, length, is_some}
+use Rattle.thumb_asm.specs.Operands.{text_of}
 use Rattle.thumb_asm.proofs.quotes.is_closed.Given as goal
 
-abbrev pub invariant-loop-i : goal.invariant-loop-i
-invariant-loop-i l = closes false l.text 0 ≡ closes l.escaped l.text l.i
+abbrev pub invariant-bytes : goal.invariant-bytes
+invariant-bytes l = is_some (text_of false l.text) ≡ is_some (text_of false l.left.rest.now)
+
+abbrev pub decreases-bytes : goal.decreases-bytes
+decreases-bytes l = length l.left.rest.now
