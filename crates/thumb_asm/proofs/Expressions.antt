@@ -71,7 +71,7 @@ bare_self piece = self_or piece _ _ (other_then (register piece) (λ r. Some (Re
 
 operand_self : (piece : List ℕ) → IsSelf piece (operand piece)
 unfolding operand
-operand_self [] h = cc
+operand_self [] = λ h. cc
 operand_self (c ∷ cs) = self_cond (c ∷ cs) (nat_eq c 35) _ _ (self_other (c ∷ cs) _ (quoted_other (list_any (λ d. nat_eq d 34) cs) (Immediate cs) refl)) (self_cond (c ∷ cs) (nat_eq c 91) _ _ (self_other (c ∷ cs) _ (brackets_other cs)) (self_cond (c ∷ cs) (nat_eq c 123) _ _ (self_other (c ∷ cs) _ (braces_other cs)) (self_cond (c ∷ cs) (nat_eq c 34) _ _ (self_other (c ∷ cs) _ (quotes_other cs)) (bare_self (c ∷ cs)))))
 
 and_true : (b c : Bool) → (b && c) ≡ true → (b ≡ true) × (c ≡ true)
@@ -105,7 +105,7 @@ pub values_some : (s : Size) (ps : List (List ℕ)) → are_expressions ps ≡ t
 values_some s [] h = cc
 values_some s (p ∷ ps) h = ap (shaped_by (Values s)) (all_operands (p ∷ ps) h) ∙ shaped_values s (map Expression (p ∷ ps)) ∙ ap (λ r. r >>= values (scale s)) (all_texts (p ∷ ps))
 
-texts : List (List ℕ) → Option (List (List ℕ))
+abbrev texts : List (List ℕ) → Option (List (List ℕ))
 texts ps = operands ps >>= expressions
 
 expressions_next : (o : Operand) (os : List Operand) → expressions (o ∷ os) ≡ (as_expression o >>= λ e. expressions os >>= λ es. Some (e ∷ es))
@@ -116,9 +116,9 @@ no_first : (e : Option (List ℕ)) (r : Option (List (List ℕ))) → is_some e 
 no_first None r h = refl
 no_first (Some x) r h = cc
 
-no_rest : (e : Option (List ℕ)) → (e >>= λ x. (None {T = List (List ℕ)}) >>= λ xs. Some (x ∷ xs)) ≡ None
-no_rest None = refl
-no_rest (Some x) = refl
+no_rest : (e : Option (List ℕ)) (r : Option (List (List ℕ))) → r ≡ None → (e >>= λ x. r >>= λ xs. Some (x ∷ xs)) ≡ None
+no_rest None r h = refl
+no_rest (Some x) r h = rw h refl
 
 not_first : (o : Option Operand) (r : Option (List Operand)) → is_some (o >>= as_expression) ≡ false → ((o >>= λ x. r >>= λ xs. Some (x ∷ xs)) >>= expressions) ≡ None
 not_first None r h = refl
@@ -128,7 +128,7 @@ not_first (Some x) (Some xs) h = expressions_next x xs ∙ no_first (as_expressi
 not_rest : (o : Option Operand) (r : Option (List Operand)) → (r >>= expressions) ≡ None → ((o >>= λ x. r >>= λ xs. Some (x ∷ xs)) >>= expressions) ≡ None
 not_rest None r h = refl
 not_rest (Some x) None h = refl
-not_rest (Some x) (Some xs) h = expressions_next x xs ∙ ap (λ q. as_expression x >>= λ e. q >>= λ es. Some (e ∷ es)) h ∙ no_rest (as_expression x)
+not_rest (Some x) (Some xs) h = expressions_next x xs ∙ no_rest (as_expression x) (expressions xs) h
 
 and_false : (b c : Bool) (A : Type 0) → (b && c) ≡ false → (b ≡ false → A) → (c ≡ false → A) → A
 and_false true c A h f g = g h

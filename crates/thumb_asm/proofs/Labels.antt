@@ -12,7 +12,10 @@ use Rattle.std.proofs.Math.Path.{fun_ext}
 use Rattle.thumb_asm.specs.Chars.{entry_at, is_name, is_word, is_letter, starts_by}
 use Rattle.thumb_asm.specs.Operands.{or_else}
 use Rattle.thumb_asm.specs.Meaning.{Names, Env, own_label}
-use Rattle.thumb_asm.specs.Passes.{names_of, with_label, with_symbol}
+use Rattle.thumb_asm.specs.Passes.{names_of, with_label, with_symbol, Refuses}
+use Rattle.thumb_asm.specs.declared.Cause.{Cause}
+use Rattle.thumb_asm.specs.declared.AsmFault.{AsmFault}
+use Rattle.thumb_asm.specs.declared.AsmFault.TheVariants as fault
 use Rattle.std.specs.declared.alloc.AllocError.{AllocError}
 
 and_true : (b c : Bool) → (b && c) ≡ true → (b ≡ true) × (c ≡ true)
@@ -106,3 +109,13 @@ none_of (Some x) h = cc
 pub empty_index : {A : Type 0} (m : BTreeMap (String A) ℕ) → m.entries ≡ [] → (q : List ℕ) → get_by_text m q ≡ entry_at [] q
 unfolding entry_at
 empty_index m e q = rw e refl
+
+pub refuses_first : (e : AsmFault) (x y : Option (Cause × ℕ)) → Refuses e x → Refuses e (or_else x y)
+refuses_first fault.Memory x y h = tt
+refuses_first (fault.Refused c k) x y h = ap (λ o. or_else o y) h
+
+pub refuses_second : (e : AsmFault) (x y : Option (Cause × ℕ)) → x ≡ None → Refuses e y → Refuses e (or_else x y)
+refuses_second e x y h k = subst (λ o. Refuses e (or_else o y)) (sym h) k
+
+pub accepts_both : (x y : Option (Cause × ℕ)) → x ≡ None → y ≡ None → or_else x y ≡ None
+accepts_both x y h k = ap (λ o. or_else o y) h ∙ k

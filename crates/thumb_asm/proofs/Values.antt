@@ -39,9 +39,9 @@ data_length env k (e ∷ es) h =
     ∙ ap (λ n. k + n) (data_length env k es both.1)
     ∙ times_suc k (length es)
 
-pub data_next : (env : Env) (k : ℕ) (e : List ℕ) (es : List (List ℕ)) (z : ℤ) → Some z ≡ value env e → data_bytes env k (e ∷ es) ≡ number_bytes k z ++ data_bytes env k es
+pub data_next : (env : Env) (k : ℕ) (e : List ℕ) (es : List (List ℕ)) → data_bytes env k (e ∷ es) ≡ value_bytes k (value env e) ++ data_bytes env k es
 unfolding data_bytes
-data_next env k e es z h = ap (λ o. value_bytes k o ++ data_bytes env k es) (sym h)
+data_next env k e es = refl
 
 pub data_none : (env : Env) (k : ℕ) → data_bytes env k [] ≡ []
 unfolding data_bytes
@@ -89,11 +89,11 @@ after old mid new xs ys all (Ok u) h k e = k ∙ ap (λ t. t ++ ys) h ∙ append
 after old mid new xs ys all (Err x) h k e = tt
 
 -- one value more
-pub push_step : (env : Env) (k : ℕ) (e : List ℕ) (es left : List (List ℕ)) (old out new : List ℕ) (z : ℤ) → left ≡ e ∷ es → Some z ≡ value env e → new ≡ out ++ number_bytes k z → out ++ data_bytes env k left ≡ old → new ++ data_bytes env k es ≡ old
-push_step env k e es left old out new z h v n i =
+pub push_step : (env : Env) (k : ℕ) (e : List ℕ) (es left : List (List ℕ)) (old out new : List ℕ) → left ≡ e ∷ es → new ≡ out ++ value_bytes k (value env e) → out ++ data_bytes env k left ≡ old → new ++ data_bytes env k es ≡ old
+push_step env k e es left old out new h n i =
     ap (λ t. t ++ data_bytes env k es) n
-    ∙ append_assoc out (number_bytes k z) (data_bytes env k es)
-    ∙ ap (λ t. out ++ t) (sym (data_next env k e es z v))
+    ∙ append_assoc out (value_bytes k (value env e)) (data_bytes env k es)
+    ∙ ap (λ t. out ++ t) (sym (data_next env k e es))
     ∙ ap (λ t. out ++ data_bytes env k t) (sym h)
     ∙ i
 

@@ -118,5 +118,5 @@ labels_from at [] = []
 labels_from at (l ∷ ls) = own_label at (parts l).label ++ labels_from (at + line_size at l) ls
 
 -- the cause and its line, counted from 1; None: the text is accepted
-unfoldable pub first_cause : List (List ℕ) → ℕ → Names → Option (Cause × ℕ)
-first_cause lines base given = or_else (first_in (entry_at given) base [] 0 1 lines) (second_in (env_of (entry_at (labels_from base lines)) (entry_at given)) base 1 lines)
+unfoldable pub first_cause : List (List ℕ) → ℕ → Env → Option (Cause × ℕ)
+first_cause lines base given = or_else (first_in given base [] 0 1 lines) (second_in (env_of (entry_at (labels_from base lines)) given) base 1 lines)

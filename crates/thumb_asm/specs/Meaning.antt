@@ -137,5 +137,5 @@ Lays env at (l ∷ ls) bytes labels =
 
 -- `labels` gives the labels of the lines with their addresses, and no other name; these and the given symbols are the
 -- values of names; the first line stands at the base
-abbrev pub Assembles : List (List ℕ) → ℕ → Names → List ℕ → Env → Type 0
-Assembles lines base given bytes labels = (names : Names) × ((name : List ℕ) → labels name ≡ entry_at names name) × Lays (env_of (entry_at names) (entry_at given)) base lines bytes names
+abbrev pub Assembles : List (List ℕ) → ℕ → Env → List ℕ → Env → Type 0
+Assembles lines base given bytes labels = (names : Names) × ((name : List ℕ) → labels name ≡ entry_at names name) × Lays (env_of (entry_at names) given) base lines bytes names

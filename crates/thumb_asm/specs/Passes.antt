@@ -17,6 +17,10 @@ use Rattle.thumb_asm.specs.Causes.{line_size, second_group}
 abbrev pub names_of : {A : Type 0} → List (String A × ℕ) → Names
 names_of es = map (λ e. (string_bytes e.0, e.1)) es
 
+-- the values of symbols, of which the first of a name counts
+abbrev pub symbol_values : {A : Type 0} → List (String A × ℕ) → Env
+symbol_values es = entry_at (names_of es)
+
 -- what two maps give: labels, and symbols that are no labels
 abbrev pub env_in : {A : Type 0} → BTreeMap (String A) ℕ → BTreeMap (String A) ℕ → Env
 env_in labels symbols = env_of (get_by_text labels) (get_by_text symbols)

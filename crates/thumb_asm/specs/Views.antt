@@ -64,12 +64,6 @@ shape_of (held.Text text) = Text (good_text false text.now)
 shape_of (held.Zeros e) = Zeros e.now
 shape_of (held.Padding e) = Padding e.now
 
--- a text on a line, whose bytes can be counted
-abbrev pub IsShort : Held → Type 0
-IsShort (held.Data s es) = length es.now ≤ 255
-IsShort (held.Text text) = length text.now ≤ 255
-IsShort s = Unit {0}
-
 -- a statement with an instruction's code
 abbrev pub HoldsInsn : Held → Type 0
 HoldsInsn (held.Data s es) = ⊥

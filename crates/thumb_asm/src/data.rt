@@ -4,7 +4,7 @@ ghost use Rattle.std.specs.Prelude.{◌≡◌, ◌++◌, ◌<◌, ◌≤◌, ◌
 ghost use Rattle.std.specs.List.{list_any, repeat};
 ghost use Rattle.thumb_encode.specs.Codes.{scale};
 ghost use Rattle.thumb_asm.specs.declared.Cause.{Cause as Why};
-ghost use Rattle.thumb_asm.specs.Meaning.{value, low_first, number_bytes, data_bytes};
+ghost use Rattle.thumb_asm.specs.Meaning.{value, low_first, number_bytes, value_bytes, data_bytes};
 ghost use Rattle.thumb_asm.specs.Causes.{is_unknown, is_beyond, shape_cause};
 ghost use Rattle.thumb_asm.specs.Parts.{operand_pieces};
 ghost use Rattle.thumb_asm.specs.Syntax.{Data};
@@ -152,15 +152,16 @@ fn push_value(size: Size, number: i64, out: &mut Vec<u8>) -> Result<(), Stop>
     push_low(size, unsigned(size, number), out)
 }
 
-/// The value of a piece that has one.
-fn known(piece: &[u8], names: &Names<'_>) -> i64
-    requires { is_unknown (value (env_in names.now.labels.now names.now.symbols.now) piece.now) ≡ false }
-    ensures value { Some result ≡ value (env_in names.now.labels.now names.now.symbols.now) piece.now }
-    ensures small { nat_abs result < 2 ^ 34 }
+/// Puts the value of a piece at the end.
+fn push_piece(size: Size, piece: &[u8], names: &Names<'_>, out: &mut Vec<u8>) -> Result<(), Stop>
+    requires known { is_unknown (value (env_in names.now.labels.now names.now.symbols.now) piece.now) ≡ false }
+    requires within { is_beyond (scale size) (value (env_in names.now.labels.now names.now.symbols.now) piece.now) ≡ false }
+    ensures ok { OnOk result (out.new.items ≡ out.old.items ++ value_bytes (scale size) (value (env_in names.now.labels.now names.now.symbols.now) piece.now)) }
+    ensures err { IfErr result (λ e. (cause : Option Why) → Stops e cause) }
 {
     match value(piece, names) {
         None => unreachable!(),
-        Some(number) => number,
+        Some(number) => push_value(size, number, out),
     }
 }
 
@@ -173,7 +174,7 @@ fn push_all(size: Size, pieces: &[u8], names: &Names<'_>, out: &mut Vec<u8>) -> 
 {
     let mut left = Pieces::of(pieces);
     'pieces: while let Some(piece) = left.next() {
-        match push_value(size, known(piece, names), out) {
+        match push_piece(size, piece, names, out) {
             Ok(()) => {}
             Err(stop) => return Err(stop),
         }

@@ -9,7 +9,7 @@ ghost use Rattle.thumb_asm.specs.Sizes.{statement_of};
 ghost use Rattle.thumb_asm.specs.Meaning.{env_of, own_label, Lays, Assembles};
 ghost use Rattle.thumb_asm.specs.Causes.{first_group, second_group, line_size, label_cause, first_in, second_in, labels_from, first_cause, at_line};
 ghost use Rattle.thumb_asm.specs.declared.Cause.{Cause};
-ghost use Rattle.thumb_asm.specs.Passes.{names_of, env_in, Indexes, Stops, Refuses, Emitted, size_from};
+ghost use Rattle.thumb_asm.specs.Passes.{symbol_values, env_in, Indexes, Stops, Refuses, Emitted, size_from};
 
 use super::index::{self, Names, find};
 use super::parts::line_of;
@@ -77,9 +77,12 @@ fn survey_line(line: &[u8], base: u32, used: u32, names: &Names<'_>) -> Result<u
     }
     let size = match shape::statement(parts.statement)? {
         None => 0,
-        Some(shape) => shape::size(base + used, &shape),
+        Some(shape) => match shape::size(base + used, &shape) {
+            None => return Err(Cause::TooLong),
+            Some(size) => size,
+        },
     };
-    if size > 1048576 - used {
+    if size > 1_048_576 - used {
         Err(Cause::TooLong)
     } else {
         Ok(size)
@@ -152,18 +155,34 @@ fn emit(alloc: Global, text: &[u8], base: u32, names: &Names<'_>) -> Result<Vec<
     Ok(out)
 }
 
+/// The same with the symbols by their names.
+#[tactic(auto, unfolding(crate::specs::Causes::first_cause))]
+fn assemble_with(alloc: Global, text: &[u8], base: u32, symbols: &BTreeMap<String, u32>) -> Result<Object, AsmFault>
+    requires { base + 1048576 < 2 ^ 32 }
+    ensures accepted { IfOk result (λ o. first_cause (lines_of text.now) base (get_by_text symbols.now) ≡ None) }
+    ensures assembled { IfOk result (λ o. Assembles (lines_of text.now) base (get_by_text symbols.now) o.bytes.items (get_by_text o.labels)) }
+    ensures refused { IfErr result (λ e. Refuses e (first_cause (lines_of text.now) base (get_by_text symbols.now))) }
+{
+    match place_lines(alloc, text, base, symbols) {
+        Err(fault) => Err(fault),
+        Ok(survey) => match emit(alloc, text, base, &Names { labels: &survey.labels, symbols }) {
+            Err(fault) => Err(fault),
+            Ok(bytes) => Ok(Object { bytes, labels: survey.labels }),
+        },
+    }
+}
+
 /// The bytes and labels of a text whose first line stands at `base`, or the first cause why it has
 /// none, by the order of docs/FORMATS.md, Assembler. `symbols` give names values besides the labels;
-/// of two with one name the first counts.
-#[tactic(auto, unfolding(crate::specs::Causes::first_cause))]
+/// of two with one name the first counts. The last byte of a text stands below address 2^32.
 pub fn assemble(alloc: Global, text: &[u8], base: u32, symbols: &[(String, u32)]) -> Result<Object, AsmFault>
     requires { base + 1048576 < 2 ^ 32 }
-    ensures accepted { IfOk result (λ o. first_cause (lines_of text.now) base (names_of symbols.now) ≡ None) }
-    ensures assembled { IfOk result (λ o. Assembles (lines_of text.now) base (names_of symbols.now) o.bytes.items (get_by_text o.labels)) }
-    ensures refused { IfErr result (λ e. Refuses e (first_cause (lines_of text.now) base (names_of symbols.now))) }
+    ensures accepted { IfOk result (λ o. first_cause (lines_of text.now) base (symbol_values symbols.now) ≡ None) }
+    ensures assembled { IfOk result (λ o. Assembles (lines_of text.now) base (symbol_values symbols.now) o.bytes.items (get_by_text o.labels)) }
+    ensures refused { IfErr result (λ e. Refuses e (first_cause (lines_of text.now) base (symbol_values symbols.now))) }
 {
-    let symbols = index::of_symbols(alloc, symbols)?;
-    let survey = place_lines(alloc, text, base, &symbols)?;
-    let bytes = emit(alloc, text, base, &Names { labels: &survey.labels, symbols: &symbols })?;
-    Ok(Object { bytes, labels: survey.labels })
+    match index::of_symbols(alloc, symbols) {
+        Err(_) => Err(AsmFault::Memory),
+        Ok(symbols) => assemble_with(alloc, text, base, &symbols),
+    }
 }

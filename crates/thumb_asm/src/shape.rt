@@ -1,17 +1,17 @@
 //! Statements.
 
-ghost use Rattle.std.specs.Prelude.{◌≡◌, ◌++◌, ◌<◌, ◌≤◌, ◌+◌, ◌^◌, false, option_map, length, OnOk, IfOk, IfErr, IfSome, MatchResult, nat_abs, pos, ◌≤ℤ◌, Result, Ok, Err, None, Some};
+ghost use Rattle.std.specs.Prelude.{◌≡◌, ◌++◌, ◌<◌, ◌≤◌, ◌+◌, ◌*◌, ◌^◌, false, option_map, length, OnOk, IfOk, IfErr, IfSome, MatchOption, MatchResult, nat_abs, pos, ◌≤ℤ◌, Result, Ok, Err, None, Some};
 ghost use Rattle.thumb_asm.specs.Sizes.{statement_of, shape_size, list_insn, block_insn, extra_of, natural_part, padding, has_bad_count, has_bad_number, has_bad_register, has_bad_list, is_off, is_no_expr, is_no_number, checked};
 ghost use Rattle.thumb_asm.specs.Operands.{signed, expression};
 ghost use Rattle.thumb_asm.specs.Parts.{operand_pieces};
-ghost use Rattle.thumb_asm.specs.Kinds.{ranges_in};
+ghost use Rattle.thumb_asm.specs.Kinds.{ranges_in, good_text};
 ghost use Rattle.thumb_encode.specs.Codes.{insn_size, scale};
 ghost use Rattle.std.specs.List.{list_any};
 ghost use Rattle.thumb_asm.specs.Meaning.{insn_at, fitting};
 ghost use Rattle.thumb_asm.specs.Syntax.{Filled as SpecFilled, Within as SpecWithin, Aimed as SpecAimed, Near as SpecNear};
 ghost use Rattle.thumb_asm.specs.Causes.{shape_cause};
 ghost use Rattle.thumb_asm.specs.Passes.{env_in, Stops};
-ghost use Rattle.thumb_asm.specs.Views.{shape_of, shown, fill, aim, IsShort, HoldsInsn};
+ghost use Rattle.thumb_asm.specs.Views.{shape_of, shown, fill, aim, HoldsInsn};
 ghost use Rattle.thumb_asm.specs.Outputs.{Gave};
 
 use super::codes::{aim, emit_found, fill, is_misfit, with_bounded, with_distance, with_value};
@@ -262,23 +262,38 @@ fn padding(at: u32, power: u32) -> u32
     (unit - at % unit) % unit
 }
 
-/// How many bytes a statement takes.
+/// How many bytes values take, unless they are too many.
+fn data_size(size: Size, pieces: &[u8]) -> Option<u32>
+    ensures { MatchOption result (1048576 < scale size * length (operand_pieces pieces.now)) (λ n. n ≡ scale size * length (operand_pieces pieces.now)) }
+{
+    let count = count(pieces);
+    if count > 1_048_576 { None } else { Some((width(size) * count) as u32) }
+}
+
+/// How many bytes a text says, unless they are too many.
+fn text_size(text: &[u8]) -> Option<u32>
+    ensures { MatchOption result (1048576 < length (good_text false text.now)) (λ n. n ≡ length (good_text false text.now)) }
+{
+    let count = quotes::count(text);
+    if count > 1_048_576 { None } else { Some(count as u32) }
+}
+
+/// How many bytes a statement takes. None: more than a text may have.
 #[tactic(auto, unfolding(crate::specs::Sizes::shape_size, crate::specs::Sizes::has_bad_count))]
-pub(crate) fn size(at: u32, shape: &Shape<'_>) -> u32
-    requires short { IsShort shape.now }
-    requires counted { has_bad_count (shape_of shape.now) ≡ false }
-    ensures { result ≡ shape_size at (shape_of shape.now) }
+pub(crate) fn size(at: u32, shape: &Shape<'_>) -> Option<u32>
+    requires { has_bad_count (shape_of shape.now) ≡ false }
+    ensures { MatchOption result (1048576 < shape_size at (shape_of shape.now)) (λ n. n ≡ shape_size at (shape_of shape.now)) }
 {
     match *shape {
-        Shape::Fixed(insn) => insn_size(&insn),
-        Shape::Filled(_, insn) | Shape::Within(_, _, _, insn) | Shape::Near(_, insn) => insn_size(&fill(insn, 0)),
-        Shape::Aimed(_, insn) => insn_size(&aim(insn, 0)),
-        Shape::Misplaced => 0,
-        Shape::Listed(_, _) | Shape::Block(_, _, _, _) => 2,
-        Shape::Data(size, pieces) => (width(size) * count(pieces)) as u32,
-        Shape::Text(text) => quotes::count(text) as u32,
-        Shape::Zeros(piece) => zeros(piece),
-        Shape::Padding(piece) => padding(at, zeros(piece)),
+        Shape::Fixed(insn) => Some(insn_size(&insn)),
+        Shape::Filled(_, insn) | Shape::Within(_, _, _, insn) | Shape::Near(_, insn) => Some(insn_size(&fill(insn, 0))),
+        Shape::Aimed(_, insn) => Some(insn_size(&aim(insn, 0))),
+        Shape::Misplaced => Some(0),
+        Shape::Listed(_, _) | Shape::Block(_, _, _, _) => Some(2),
+        Shape::Data(size, pieces) => data_size(size, pieces),
+        Shape::Text(text) => text_size(text),
+        Shape::Zeros(piece) => Some(zeros(piece)),
+        Shape::Padding(piece) => Some(padding(at, zeros(piece))),
     }
 }
 
@@ -384,6 +399,7 @@ fn emit_code(at: u32, shape: &Shape<'_>, names: &Names<'_>, out: &mut Vec<u8>) -
 }
 
 /// Puts a statement's bytes at the end.
+#[tactic(auto, unfolding(crate::specs::Sizes::has_bad_count, crate::specs::Causes::shape_cause))]
 pub(crate) fn emit(at: u32, shape: &Shape<'_>, names: &Names<'_>, out: &mut Vec<u8>) -> Result<(), Stop>
     requires { has_bad_count (shape_of shape.now) ≡ false }
     ensures ok { OnOk result (Gave (env_in names.now.labels.now names.now.symbols.now) at (shape_of shape.now) out.old.items out.new.items) }

@@ -14,7 +14,7 @@ pub pieces-preserved : goal.pieces-preserved
 pieces-preserved c = c.pieces.invariant
     ∙ ap (λ (o : Option (Bor (List ℕ))). is_some (ranges (cuts_left 44 (option_map (λ r. r.now) o)))) c.in-Some.is
     ∙ ap (λ ps. is_some (ranges ps)) c.split_by.ensures.cuts
-    ∙ some_left c.split_by.result.0.now _ _ c.in-Some-2.ensures.value
+    ∙ some_left c.split_by.result.0.now _ _ c.in-Some-ends.ensures.value
 
 pub returns : goal.returns
-returns c = ?
+returns c = sym (c.pieces.invariant ∙ ap (λ (o : Option (Bor (List ℕ))). is_some (ranges (cuts_left 44 (option_map (λ r. r.now) o)))) c.in_default.is ∙ no_ranges)
