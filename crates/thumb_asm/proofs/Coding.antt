@@ -40,7 +40,8 @@ coded_by i at c old new (Ok u) z n f e = record {
   size = n.2;
   codes = (c, n.1, n.0, refl);
   fits = ap (fit_cause i) f;
-  even = rw (even (at % 2) z) refl }
+  even = rw (even (at % 2) z) refl;
+}
 coded_by i at c old new (Err s) z n f e = tt
 
 pub put_ok : (i : Insn) (at : ℕ) (old new : List ℕ) (s : Result (Unit {0}) Stop) (r : Result Insn Cause) → r ≡ fitting i → OnOk s (Coded i at old new) → OnOk s (Put r at old new)
@@ -58,7 +59,8 @@ gave_put env at s old new (Ok u) z m c k = record {
   bytes = k.coded.bytes;
   size = k.coded.size ∙ sym (z k.insn k.is);
   means = m k.coded.own k.insn k.is k.coded.codes;
-  accepted = c ∙ ap (insn_cause at) k.is ∙ k.coded.even }
+  accepted = c ∙ ap (insn_cause at) k.is ∙ k.coded.even;
+}
 gave_put env at s old new (Err x) z m c k = tt
 
 pub odd_cause : (at : ℕ) (r : Result Insn Cause) → (at % 2 ≡ 0 → ⊥) → insn_cause at r ≡ Some Misaligned

@@ -55,19 +55,22 @@ take_more text i lt = ap (λ n. take n text) (add-one i) ∙ take-suc text i 0 l
 pub piece_step : (text : List ℕ) (i : ℕ) (p : Place) (d : ℕ) → i < length text → (is_outside p && nat_eq d 0 && nat_eq (get_or text i 0) 44) ≡ false → next_depth p (get_or text i 0) d ≤ d + 1 → Pieced text i p d → Pieced text (i + 1) (next_place p (get_or text i 0)) (next_depth p (get_or text i 0) d)
 piece_step text i p d lt h b s = record {
   rest = s.rest ∙ ap (λ t. glued (take i text) (pieces p d t)) (cell text i lt) ∙ ap (glued (take i text)) (more p d (get_or text i 0) (drop (i + 1) text) h) ∙ glue_first (take i text) (get_or text i 0) _ ∙ ap (λ t. glued t (pieces (next_place p (get_or text i 0)) (next_depth p (get_or text i 0) d) (drop (i + 1) text))) (sym (take_more text i lt));
-  few = omega (arith, s.few) }
+  few = omega (arith, s.few);
+}
 
 pub piece_found : (text : List ℕ) (i : ℕ) (p : Place) (d : ℕ) → i < length text → (is_outside p && nat_eq d 0 && nat_eq (get_or text i 0) 44) ≡ true → Pieced text i p d → IsComma text i
 piece_found text i p d lt h s = record {
   within = omega arith;
   found = λ k. s.rest ∙ ap (λ t. glued (take i text) (pieces p d t)) (cell text i lt) ∙ ap (glued (take i text)) (stop p d (get_or text i 0) (drop (i + 1) text) h) ∙ ap (λ t. t ∷ pieces Outside 0 (drop (i + 1) text)) (append-nil (take i text));
-  none = λ k. absurd (omega arith) }
+  none = λ k. absurd (omega arith);
+}
 
 pub piece_none : (text : List ℕ) (i : ℕ) (p : Place) (d : ℕ) → i ≡ length text → Pieced text i p d → IsComma text i
 piece_none text i p d h s = record {
   within = omega arith;
   found = λ k. absurd (omega arith);
-  none = λ k. s.rest ∙ ap (λ t. glued (take i text) (pieces p d t)) (drop_all text i (omega arith)) ∙ ap (glued (take i text)) (last p d) ∙ ap (λ t. t ∷ []) (append-nil (take i text)) }
+  none = λ k. s.rest ∙ ap (λ t. glued (take i text) (pieces p d t)) (drop_all text i (omega arith)) ∙ ap (glued (take i text)) (last p d) ∙ ap (λ t. t ∷ []) (append-nil (take i text));
+}
 
 -- split at each mark, up to here
 abbrev pub Splitting : ℕ → List ℕ → ℕ → Type 0

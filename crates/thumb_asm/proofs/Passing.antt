@@ -53,7 +53,8 @@ survey_start given base lines rest e = record {
   firsts = ap (first_in given base [] 0 1) (sym e);
   places = ap (labels_from base) (sym e) ∙ ap (λ n. labels_from n rest) (sym (add-zero base));
   sizes = ap (size_from base) (sym e) ∙ ap (λ n. size_from n rest) (sym (add-zero base)) ∙ sym (zero-add _);
-  within = omega arith }
+  within = omega arith;
+}
 
 pub survey_step : (given : Env) (base : ℕ) (lines rest more : List (List ℕ)) (labels labels' : Names) (used size number : ℕ) (l : List ℕ) → rest ≡ l ∷ more → first_group given base (entry_at labels) used l ≡ None → size ≡ line_size (base + used) l → labels' ≡ labels ++ own_label (base + used) (parts l).label → used + size ≤ 1048576 → Surveyed given base lines rest labels used number → Surveyed given base lines more labels' (used + size) (number + 1)
 survey_step given base lines rest more labels labels' used size number l e h z q w s =
@@ -62,17 +63,19 @@ survey_step given base lines rest more labels labels' used size number l e h z q
       firsts = s.firsts ∙ ap (first_in given base labels used (number + 1)) e ∙ first_next given base labels used (number + 1) l more h ∙ ap (λ n. first_in given base n (used + line_size (base + used) l) (number + 1 + 1) more) (sym q) ∙ ap (λ n. first_in given base labels' (used + n) (number + 1 + 1) more) (sym z);
       places = s.places ∙ ap (λ t. labels ++ labels_from (base + used) t) e ∙ ap (λ t. labels ++ t) (labels_next (base + used) l more) ∙ sym (append_assoc labels _ _) ∙ ap (λ t. t ++ labels_from (base + used + line_size (base + used) l) more) (sym q) ∙ ap (λ n. labels' ++ labels_from n more) at;
       sizes = s.sizes ∙ ap (λ t. used + size_from (base + used) t) e ∙ ap (λ t. used + t) (size_next (base + used) l more) ∙ sym (add_assoc used _ _) ∙ ap (λ n. used + n + size_from (base + used + line_size (base + used) l) more) (sym z) ∙ ap (λ n. used + size + size_from n more) at;
-      within = w }
+      within = w;
+    }
 
 pub survey_fails : (given : Env) (base : ℕ) (lines rest more : List (List ℕ)) (labels : Names) (used number : ℕ) (l : List ℕ) (c : Cause) → rest ≡ l ∷ more → first_group given base (entry_at labels) used l ≡ Some c → Surveyed given base lines rest labels used number → first_in given base [] 0 1 lines ≡ Some (c, number + 1)
 survey_fails given base lines rest more labels used number l c e h s = s.firsts ∙ ap (first_in given base labels used (number + 1)) e ∙ first_here given base labels used (number + 1) l more c h
 
 pub survey_ends : (given : Env) (base : ℕ) (lines rest : List (List ℕ)) (labels : Names) (used number : ℕ) → rest ≡ [] → Surveyed given base lines rest labels used number → (first_in given base [] 0 1 lines ≡ None) × (labels ≡ labels_from base lines) × (used ≡ size_from base lines) × (used ≤ 1048576)
-survey_ends given base lines rest labels used number e s =
-    (s.firsts ∙ ap (first_in given base labels used (number + 1)) e ∙ first_none given base labels used (number + 1),
-     sym (s.places ∙ ap (λ t. labels ++ labels_from (base + used) t) e ∙ ap (λ t. labels ++ t) (labels_none (base + used)) ∙ append-nil labels),
-     sym (s.sizes ∙ ap (λ t. used + size_from (base + used) t) e ∙ ap (λ t. used + t) (size_none (base + used)) ∙ add-zero used),
-     s.within)
+survey_ends given base lines rest labels used number e s = (
+  s.firsts ∙ ap (first_in given base labels used (number + 1)) e ∙ first_none given base labels used (number + 1),
+  sym (s.places ∙ ap (λ t. labels ++ labels_from (base + used) t) e ∙ ap (λ t. labels ++ t) (labels_none (base + used)) ∙ append-nil labels),
+  sym (s.sizes ∙ ap (λ t. used + size_from (base + used) t) e ∙ ap (λ t. used + t) (size_none (base + used)) ∙ add-zero used),
+  s.within,
+)
 
 -- the second pass up to here, and what is left of it
 pub record Emitting (env : Env) (base : ℕ) (lines rest : List (List ℕ)) (out : List ℕ) (number : ℕ) : Type 0 where
@@ -104,7 +107,8 @@ pub emit_start : (env : Env) (base : ℕ) (lines rest : List (List ℕ)) → res
 emit_start env base lines rest e = record {
   seconds = ap (second_in env base 1) (sym e) ∙ ap (λ n. second_in env n 1 rest) (sym (add-zero base));
   lays = λ bytes h. subst (λ t. Lays env base t bytes (labels_from base t)) e (subst (λ n. Lays env n rest bytes (labels_from n rest)) (add-zero base) h);
-  sizes = ap (size_from base) (sym e) ∙ ap (λ n. size_from n rest) (sym (add-zero base)) ∙ sym (zero-add _) }
+  sizes = ap (size_from base) (sym e) ∙ ap (λ n. size_from n rest) (sym (add-zero base)) ∙ sym (zero-add _);
+}
 
 pub emit_step : (env : Env) (base : ℕ) (lines rest more : List (List ℕ)) (out out' : List ℕ) (number : ℕ) (l : List ℕ) → rest ≡ l ∷ more → Emitted env (base + length out) l out out' → Emitting env base lines rest out number → Emitting env base lines more out' (number + 1)
 emit_step env base lines rest more out out' number l e m s =
@@ -114,18 +118,20 @@ emit_step env base lines rest more out out' number l e m s =
     record {
       seconds = s.seconds ∙ ap (second_in env at (number + 1)) e ∙ second_next env at (number + 1) l more m.accepted ∙ ap (λ n. second_in env (at + n) (number + 1 + 1) more) (sym m.size) ∙ ap (λ n. second_in env n (number + 1 + 1) more) next;
       lays = λ bytes h.
-        subst (λ t. Lays env base lines t (labels_from base lines)) (sym (append_assoc out m.own bytes) ∙ ap (λ t. t ++ bytes) (sym m.bytes))
-        (s.lays (m.own ++ bytes) (subst (λ t. Lays env at t (m.own ++ bytes) (labels_from at t)) (sym e) (lays_next env at l more m.own bytes m.size m.spells (subst (λ n. Lays env n more bytes (labels_from n more)) (sym next) h))));
-      sizes = s.sizes ∙ ap (λ t. length out + size_from at t) e ∙ ap (λ t. length out + t) (size_next at l more) ∙ sym (add_assoc (length out) _ _) ∙ ap (λ n. length out + n + size_from (at + n) more) (sym m.size) ∙ ap (λ n. n + size_from (at + length m.own) more) (sym long) ∙ ap (λ n. length out' + size_from n more) next }
+          subst (λ t. Lays env base lines t (labels_from base lines)) (sym (append_assoc out m.own bytes) ∙ ap (λ t. t ++ bytes) (sym m.bytes))
+          (s.lays (m.own ++ bytes) (subst (λ t. Lays env at t (m.own ++ bytes) (labels_from at t)) (sym e) (lays_next env at l more m.own bytes m.size m.spells (subst (λ n. Lays env n more bytes (labels_from n more)) (sym next) h))));
+      sizes = s.sizes ∙ ap (λ t. length out + size_from at t) e ∙ ap (λ t. length out + t) (size_next at l more) ∙ sym (add_assoc (length out) _ _) ∙ ap (λ n. length out + n + size_from (at + n) more) (sym m.size) ∙ ap (λ n. n + size_from (at + length m.own) more) (sym long) ∙ ap (λ n. length out' + size_from n more) next;
+    }
 
 pub emit_fails : (env : Env) (base : ℕ) (lines rest more : List (List ℕ)) (out : List ℕ) (number : ℕ) (l : List ℕ) (c : Cause) → rest ≡ l ∷ more → second_group env (base + length out) (statement_of (parts l).statement) ≡ Some c → Emitting env base lines rest out number → second_in env base 1 lines ≡ Some (c, number + 1)
 emit_fails env base lines rest more out number l c e h s = s.seconds ∙ ap (second_in env (base + length out) (number + 1)) e ∙ second_here env (base + length out) (number + 1) l more c h
 
 pub emit_ends : (env : Env) (base : ℕ) (lines rest : List (List ℕ)) (out : List ℕ) (number : ℕ) → rest ≡ [] → Emitting env base lines rest out number → (second_in env base 1 lines ≡ None) × Lays env base lines out (labels_from base lines)
 emit_ends env base lines rest out number e s =
-    let at = base + length out in
-    (s.seconds ∙ ap (second_in env at (number + 1)) e ∙ second_none env at (number + 1),
-     subst (λ t. Lays env base lines t (labels_from base lines)) (append-nil out) (s.lays [] (subst (λ t. Lays env at t [] (labels_from at t)) (sym e) (lays_none env at))))
+    let at = base + length out in (
+      s.seconds ∙ ap (second_in env at (number + 1)) e ∙ second_none env at (number + 1),
+      subst (λ t. Lays env base lines t (labels_from base lines)) (append-nil out) (s.lays [] (subst (λ t. Lays env at t [] (labels_from at t)) (sym e) (lays_none env at))),
+    )
 
 pub emitted_by : (env : Env) (at : ℕ) (line old new : List ℕ) (s : Shape) (r : Result (Unit {0}) Stop) → statement_of (parts line).statement ≡ Ok (Some s) → OnOk r (Gave env at s old new) → OnOk r (Emitted env at line old new)
 unfolding line_size
@@ -134,7 +140,8 @@ emitted_by env at line old new s (Ok u) e g = record {
   bytes = g.bytes;
   size = g.size ∙ ap (size_by at) (sym e);
   spells = subst (λ t. Spells env at t g.own) (sym e) g.means;
-  accepted = ap (second_group env at) e ∙ g.accepted }
+  accepted = ap (second_group env at) e ∙ g.accepted;
+}
 emitted_by env at line old new s (Err f) e g = tt
 
 pub refused_by : (env : Env) (at : ℕ) (line : List ℕ) (s : Shape) (r : Result (Unit {0}) Stop) → statement_of (parts line).statement ≡ Ok (Some s) → IfErr r (λ e. Stops e (shape_cause env at s)) → IfErr r (λ e. Stops e (second_group env at (statement_of (parts line).statement)))
@@ -149,7 +156,8 @@ emitted_none env at line old e = record {
   bytes = sym (append-nil old);
   size = ap (size_by at) (sym e);
   spells = subst (λ t. Spells env at t []) (sym e) refl;
-  accepted = ap (second_group env at) e }
+  accepted = ap (second_group env at) e;
+}
 
 pub emitted_err : (env : Env) (at : ℕ) (line old : List ℕ) (c : Cause) → statement_of (parts line).statement ≡ Err c → Emitted env at line old old
 unfolding line_size
@@ -158,7 +166,8 @@ emitted_err env at line old c e = record {
   bytes = sym (append-nil old);
   size = ap (size_by at) (sym e);
   spells = subst (λ t. Spells env at t []) (sym e) refl;
-  accepted = ap (second_group env at) e }
+  accepted = ap (second_group env at) e;
+}
 
 pub emit_stops : (env : Env) (base : ℕ) (lines rest more : List (List ℕ)) (out : List ℕ) (number : ℕ) (l : List ℕ) → rest ≡ l ∷ more → Emitting env base lines rest out number → second_in env base 1 lines ≡ at_line (number + 1) (second_group env (base + length out) (statement_of (parts l).statement)) (second_in env (base + length out + line_size (base + length out) l) (number + 1 + 1) more)
 unfolding second_in

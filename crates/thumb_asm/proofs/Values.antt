@@ -54,7 +54,8 @@ gave_data env at k es old new (Ok u) a b c h = record {
   bytes = h;
   size = data_length env k es b;
   means = refl;
-  accepted = rw (a, b, c) refl }
+  accepted = rw (a, b, c) refl;
+}
 gave_data env at k es old new (Err x) a b c h = tt
 
 repeat_more : (n : ℕ) → repeat {A = ℕ} (suc n) (0 ∷ []) ≡ repeat {A = ℕ} n (0 ∷ []) ++ (0 ∷ [])

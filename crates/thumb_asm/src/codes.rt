@@ -22,16 +22,39 @@ pub(crate) fn fill(insn: Insn, number: u32) -> Insn
     ensures { result ≡ fill insn number }
 {
     match insn {
-        Insn::ShiftImm { shift, d, m, .. } => Insn::ShiftImm { shift, d, m, by: number },
-        Insn::AddsImm3 { d, n, .. } => Insn::AddsImm3 { d, n, value: number },
-        Insn::SubsImm3 { d, n, .. } => Insn::SubsImm3 { d, n, value: number },
+        Insn::ShiftImm { shift, d, m, .. } => Insn::ShiftImm {
+            shift,
+            d,
+            m,
+            by: number,
+        },
+        Insn::AddsImm3 { d, n, .. } => Insn::AddsImm3 {
+            d,
+            n,
+            value: number,
+        },
+        Insn::SubsImm3 { d, n, .. } => Insn::SubsImm3 {
+            d,
+            n,
+            value: number,
+        },
         Insn::MovsImm { d, .. } => Insn::MovsImm { d, value: number },
         Insn::CmpImm { n, .. } => Insn::CmpImm { n, value: number },
         Insn::AddsImm8 { d, .. } => Insn::AddsImm8 { d, value: number },
         Insn::SubsImm8 { d, .. } => Insn::SubsImm8 { d, value: number },
         Insn::LdrLiteral { t, .. } => Insn::LdrLiteral { t, offset: number },
-        Insn::StoreImm { size, t, n, .. } => Insn::StoreImm { size, t, n, offset: number },
-        Insn::LoadImm { size, t, n, .. } => Insn::LoadImm { size, t, n, offset: number },
+        Insn::StoreImm { size, t, n, .. } => Insn::StoreImm {
+            size,
+            t,
+            n,
+            offset: number,
+        },
+        Insn::LoadImm { size, t, n, .. } => Insn::LoadImm {
+            size,
+            t,
+            n,
+            offset: number,
+        },
         Insn::StoreSp { t, .. } => Insn::StoreSp { t, offset: number },
         Insn::LoadSp { t, .. } => Insn::LoadSp { t, offset: number },
         Insn::Adr { d, .. } => Insn::Adr { d, offset: number },
@@ -41,7 +64,10 @@ pub(crate) fn fill(insn: Insn, number: u32) -> Insn
         Insn::Bkpt { .. } => Insn::Bkpt { value: number },
         Insn::Hint { .. } => Insn::Hint { value: number },
         Insn::Svc { .. } => Insn::Svc { value: number },
-        Insn::Fence { barrier, .. } => Insn::Fence { barrier, option: number },
+        Insn::Fence { barrier, .. } => Insn::Fence {
+            barrier,
+            option: number,
+        },
         Insn::AddsReg { .. }
         | Insn::SubsReg { .. }
         | Insn::Data { .. }
@@ -72,7 +98,10 @@ pub(crate) fn aim(insn: Insn, distance: i32) -> Insn
     ensures { result ≡ aim insn distance }
 {
     match insn {
-        Insn::BranchIf { cond, .. } => Insn::BranchIf { cond, offset: distance },
+        Insn::BranchIf { cond, .. } => Insn::BranchIf {
+            cond,
+            offset: distance,
+        },
         Insn::Branch { .. } => Insn::Branch { offset: distance },
         Insn::Bl { .. } => Insn::Bl { offset: distance },
         Insn::ShiftImm { .. }
@@ -132,7 +161,11 @@ pub(crate) fn with_bounded(insn: Insn, low: u32, top: u32, value: i64) -> Option
     ensures { MatchOption result (within low top (fill insn) value ≡ Err OutOfRange) (λ i. within low top (fill insn) value ≡ fitting i) }
 {
     match u32::try_from(value) {
-        Ok(number) => if low <= number && number <= top { Some(fill(insn, number)) } else { None },
+        Ok(number) => if low <= number && number <= top {
+            Some(fill(insn, number))
+        } else {
+            None
+        },
         Err(_) => None,
     }
 }

@@ -67,7 +67,11 @@ fn is_beyond(size: Size, number: i64) -> bool
     ensures { result ≡ is_beyond (scale size) (Some number) }
 {
     let limit = limit(size);
-    if number < 0 { 2 * (-1 - number) >= limit } else { number >= limit }
+    if number < 0 {
+        2 * (-1 - number) >= limit
+    } else {
+        number >= limit
+    }
 }
 
 fn is_out(size: Size, piece: &[u8], names: &Names<'_>) -> bool
@@ -139,7 +143,11 @@ fn unsigned(size: Size, number: i64) -> u32
     requires within { is_beyond (scale size) (Some number) ≡ false }
     ensures { low_first (scale size) result ≡ number_bytes (scale size) number }
 {
-    if number < 0 { (number + limit(size)) as u32 } else { number as u32 }
+    if number < 0 {
+        (number + limit(size)) as u32
+    } else {
+        number as u32
+    }
 }
 
 /// Puts a value at the end.
@@ -195,7 +203,13 @@ fn is_misplaced(at: u32, size: Size) -> bool
 
 /// Puts values at the end, or tells why they can't stand there.
 #[tactic(auto, unfolding(crate::specs::Causes::shape_cause))]
-pub(crate) fn emit(at: u32, size: Size, pieces: &[u8], names: &Names<'_>, out: &mut Vec<u8>) -> Result<(), Stop>
+pub(crate) fn emit(
+    at: u32,
+    size: Size,
+    pieces: &[u8],
+    names: &Names<'_>,
+    out: &mut Vec<u8>,
+) -> Result<(), Stop>
     ensures ok { OnOk result (Gave (env_in names.now.labels.now names.now.symbols.now) at (Data (scale size) (operand_pieces pieces.now)) out.old.items out.new.items) }
     ensures err { IfErr result (λ e. Stops e (shape_cause (env_in names.now.labels.now names.now.symbols.now) at (Data (scale size) (operand_pieces pieces.now)))) }
 {

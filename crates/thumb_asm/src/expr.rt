@@ -111,7 +111,10 @@ fn term(piece: &[u8]) -> Option<Expr<'_>>
     ensures name { IfSome result (λ e. IfSome e.name (λ n. is_name n.now ≡ true)) }
 {
     if is_name(piece) {
-        Some(Expr { name: Some(piece), number: 0 })
+        Some(Expr {
+            name: Some(piece),
+            number: 0,
+        })
     } else {
         match signed(piece) {
             Some(number) => Some(Expr { name: None, number }),
@@ -140,7 +143,10 @@ fn added_at<'a>(expr: Option<Expr<'a>>, sign: u8, rest: &[u8]) -> Option<Expr<'a
         None => None,
         Some(expr) => match signed(strip(rest)) {
             None => None,
-            Some(number) => Some(Expr { name: expr.name, number: expr.number + turned(sign, number) }),
+            Some(number) => Some(Expr {
+                name: expr.name,
+                number: expr.number + turned(sign, number),
+            }),
         },
     }
 }

@@ -67,7 +67,12 @@ fn text(alloc: Global, name: &[u8]) -> Result<String, AllocError>
 }
 
 /// Adds a line's label.
-pub(crate) fn add(alloc: Global, labels: &mut BTreeMap<String, u32>, label: Option<&[u8]>, at: u32) -> Result<(), AllocError>
+pub(crate) fn add(
+    alloc: Global,
+    labels: &mut BTreeMap<String, u32>,
+    label: Option<&[u8]>,
+    at: u32,
+) -> Result<(), AllocError>
     requires { IfSome label (λ name. is_name name.now ≡ true) }
     ensures { OnOk result ((q : List ℕ) → get_by_text labels.new q ≡ with_label at (option_map (λ r. r.now) label.entry) (get_by_text labels.old) q) }
 {
@@ -81,7 +86,12 @@ pub(crate) fn add(alloc: Global, labels: &mut BTreeMap<String, u32>, label: Opti
 }
 
 /// Gives a name a value, unless it has one.
-fn add_symbol(alloc: Global, index: &mut BTreeMap<String, u32>, name: &str, value: u32) -> Result<(), AllocError>
+fn add_symbol(
+    alloc: Global,
+    index: &mut BTreeMap<String, u32>,
+    name: &str,
+    value: u32,
+) -> Result<(), AllocError>
     ensures { OnOk result ((q : List ℕ) → get_by_text index.new q ≡ with_symbol name.now value (get_by_text index.old) q) }
 {
     match index.get(name) {
@@ -91,7 +101,10 @@ fn add_symbol(alloc: Global, index: &mut BTreeMap<String, u32>, name: &str, valu
 }
 
 /// The symbols by their names; of two with one name the first counts.
-pub(crate) fn of_symbols(alloc: Global, symbols: &[(String, u32)]) -> Result<BTreeMap<String, u32>, AllocError>
+pub(crate) fn of_symbols(
+    alloc: Global,
+    symbols: &[(String, u32)],
+) -> Result<BTreeMap<String, u32>, AllocError>
     ensures { IfOk result (λ index. Indexes index (names_of symbols.now)) }
 {
     let mut index: BTreeMap<String, u32> = BTreeMap::new(alloc);

@@ -1,4 +1,7 @@
-//! The assembler.
+//! The assembler (docs/FORMATS.md, Assembler): lines of text become the bytes of instructions and
+//! data, or the first cause why they do not. The language is defined in `specs/`: `Parts` cuts a
+//! line, `Operands` reads its operands, `Syntax` has one line for each syntax, `Meaning` says which
+//! bytes and labels lines have, and `Causes` what is refused and in which order.
 #![tactic(auto)]
 
 ghost use Rattle.std.specs.Prelude.{◌≡◌};
@@ -20,16 +23,14 @@ mod syntax;
 mod tests;
 mod words;
 
-pub use passes::{assemble, Object};
-
+pub use passes::{Object, assemble};
 use std::alloc::AllocError;
-
 use thiserror::Error;
 use thumb_insn::{Barrier, Bytes, Cond, Load, Op, Shift, Size};
 
-/// What a first word names.
+/// What the first word of a statement names.
 #[derive(Clone, Copy, PartialEq, Eq, Debug)]
-pub enum Mnemonic {
+pub(crate) enum Mnemonic {
     Shift(Shift),
     Movs,
     Adds,

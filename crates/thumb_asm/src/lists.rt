@@ -231,7 +231,11 @@ pub(crate) fn is_raised_wrong(n: u8, raised: bool, loads: bool, text: &[u8]) -> 
     ensures { result ≡ is_raised_wrong n raised loads (ranges_in text.now) }
 {
     if loads {
-        if raised { is_listed(text, n) } else { !is_listed(text, n) }
+        if raised {
+            is_listed(text, n)
+        } else {
+            !is_listed(text, n)
+        }
     } else {
         !raised || (is_listed(text, n) && has_lower(text, n))
     }
@@ -242,7 +246,14 @@ pub(crate) fn is_raised_wrong(n: u8, raised: bool, loads: bool, text: &[u8]) -> 
 pub(crate) fn mask(text: &[u8]) -> u8
     ensures { result ≡ mask_of (ranges_in text.now) }
 {
-    bit(text, 0, 1) + bit(text, 1, 2) + bit(text, 2, 4) + bit(text, 3, 8) + bit(text, 4, 16) + bit(text, 5, 32) + bit(text, 6, 64) + bit(text, 7, 128)
+    bit(text, 0, 1)
+        + bit(text, 1, 2)
+        + bit(text, 2, 4)
+        + bit(text, 3, 8)
+        + bit(text, 4, 16)
+        + bit(text, 5, 32)
+        + bit(text, 6, 64)
+        + bit(text, 7, 128)
 }
 
 /// A register's bit.

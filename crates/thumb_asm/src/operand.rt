@@ -39,7 +39,11 @@ fn closed_by(mark: u8, text: &[u8]) -> Option<&[u8]>
         return None;
     }
     let end = text.len() - 1;
-    if text[end] == mark { Some(&text[..end]) } else { None }
+    if text[end] == mark {
+        Some(&text[..end])
+    } else {
+        None
+    }
 }
 
 fn has_quote(text: &[u8]) -> bool
@@ -51,7 +55,11 @@ fn has_quote(text: &[u8]) -> bool
 fn immediate(text: &[u8]) -> Option<Operand<'_>>
     ensures { option_map operand_of result ≡ unquoted text.now (Immediate text.now) }
 {
-    if has_quote(text) { None } else { Some(Operand::Immediate(text)) }
+    if has_quote(text) {
+        None
+    } else {
+        Some(Operand::Immediate(text))
+    }
 }
 
 /// The register of a name.
@@ -81,7 +89,11 @@ fn bare(piece: &[u8]) -> Option<Operand<'_>>
         Some(r) => Some(Operand::Register(r)),
         None => match raised(piece) {
             Some(r) => Some(Operand::Raised(r)),
-            None => if has_quote(piece) { None } else { Some(Operand::Expression(piece)) },
+            None => if has_quote(piece) {
+                None
+            } else {
+                Some(Operand::Expression(piece))
+            },
         },
     }
 }
@@ -92,7 +104,11 @@ fn offset_at<'a>(base: Reg, first: u8, rest: &'a [u8], piece: &'a [u8]) -> Optio
     ensures { option_map operand_of result ≡ offset base (first ∷ rest.now) }
 {
     if first == b'#' {
-        if has_quote(rest) { None } else { Some(Operand::MemoryImmediate(base, rest)) }
+        if has_quote(rest) {
+            None
+        } else {
+            Some(Operand::MemoryImmediate(base, rest))
+        }
     } else {
         match reg(piece) {
             Some(m) => Some(Operand::MemoryRegister(base, m)),
@@ -159,7 +175,11 @@ fn braced(text: &[u8]) -> Option<Operand<'_>>
 {
     match closed_by(b'}', text) {
         None => None,
-        Some(inner) => if is_list(inner) { Some(Operand::Registers(inner)) } else { None },
+        Some(inner) => if is_list(inner) {
+            Some(Operand::Registers(inner))
+        } else {
+            None
+        },
     }
 }
 
@@ -168,7 +188,11 @@ fn braced(text: &[u8]) -> Option<Operand<'_>>
 fn quoted(text: &[u8]) -> Option<Operand<'_>>
     ensures { option_map operand_of result ≡ in_quotes text.now }
 {
-    if is_closed(text) { Some(Operand::Quoted(text)) } else { None }
+    if is_closed(text) {
+        Some(Operand::Quoted(text))
+    } else {
+        None
+    }
 }
 
 #[tactic(auto, unfolding(crate::specs::Operands::operand))]
@@ -215,11 +239,17 @@ pub(crate) fn parse_all(text: &[u8]) -> Option<Operands<'_>>
     ensures { option_map operands_of result ≡ up_to_three (operands (operand_pieces text.now)) }
 {
     let mut pieces = Pieces::of(text);
-    let Some(first) = pieces.next() else { return Some(Operands::Zero) };
+    let Some(first) = pieces.next() else {
+        return Some(Operands::Zero)
+    };
     let a = parse(first)?;
-    let Some(second) = pieces.next() else { return Some(Operands::One(a)) };
+    let Some(second) = pieces.next() else {
+        return Some(Operands::One(a))
+    };
     let b = parse(second)?;
-    let Some(third) = pieces.next() else { return Some(Operands::Two(a, b)) };
+    let Some(third) = pieces.next() else {
+        return Some(Operands::Two(a, b))
+    };
     let c = parse(third)?;
     match pieces.next() {
         None => Some(Operands::Three(a, b, c)),

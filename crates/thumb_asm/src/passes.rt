@@ -90,7 +90,12 @@ fn survey_line(line: &[u8], base: u32, used: u32, names: &Names<'_>) -> Result<u
 }
 
 /// The first pass: labels and lengths.
-fn place_lines(alloc: Global, text: &[u8], base: u32, symbols: &BTreeMap<String, u32>) -> Result<Survey, AsmFault>
+fn place_lines(
+    alloc: Global,
+    text: &[u8],
+    base: u32,
+    symbols: &BTreeMap<String, u32>,
+) -> Result<Survey, AsmFault>
     requires { base + 1048576 < 2 ^ 32 }
     ensures ok { IfOk result (λ s. (first_in (get_by_text symbols.now) base [] 0 1 (lines_of text.now) ≡ None) × Indexes s.labels (labels_from base (lines_of text.now)) × (s.size ≡ size_from base (lines_of text.now)) × (s.size ≤ 1048576)) }
     ensures err { IfErr result (λ e. Refuses e (first_in (get_by_text symbols.now) base [] 0 1 (lines_of text.now))) }
@@ -101,7 +106,15 @@ fn place_lines(alloc: Global, text: &[u8], base: u32, symbols: &BTreeMap<String,
     let mut lines = Lines::of(text);
     'lines: while let Some(line) = lines.next() {
         number += 1;
-        match survey_line(line, base, used, &Names { labels: &labels, symbols }) {
+        match survey_line(
+            line,
+            base,
+            used,
+            &Names {
+                labels: &labels,
+                symbols,
+            },
+        ) {
             Err(cause) => return Err(AsmFault::Refused(cause, number)),
             Ok(size) => {
                 index::add(alloc, &mut labels, line_of(line).label, base + used)?;
@@ -157,7 +170,12 @@ fn emit(alloc: Global, text: &[u8], base: u32, names: &Names<'_>) -> Result<Vec<
 
 /// The same with the symbols by their names.
 #[tactic(auto, unfolding(crate::specs::Causes::first_cause))]
-fn assemble_with(alloc: Global, text: &[u8], base: u32, symbols: &BTreeMap<String, u32>) -> Result<Object, AsmFault>
+fn assemble_with(
+    alloc: Global,
+    text: &[u8],
+    base: u32,
+    symbols: &BTreeMap<String, u32>,
+) -> Result<Object, AsmFault>
     requires { base + 1048576 < 2 ^ 32 }
     ensures accepted { IfOk result (λ o. first_cause (lines_of text.now) base (get_by_text symbols.now) ≡ None) }
     ensures assembled { IfOk result (λ o. Assembles (lines_of text.now) base (get_by_text symbols.now) o.bytes.items (get_by_text o.labels)) }
@@ -165,9 +183,20 @@ fn assemble_with(alloc: Global, text: &[u8], base: u32, symbols: &BTreeMap<Strin
 {
     match place_lines(alloc, text, base, symbols) {
         Err(fault) => Err(fault),
-        Ok(survey) => match emit(alloc, text, base, &Names { labels: &survey.labels, symbols }) {
+        Ok(survey) => match emit(
+            alloc,
+            text,
+            base,
+            &Names {
+                labels: &survey.labels,
+                symbols,
+            },
+        ) {
             Err(fault) => Err(fault),
-            Ok(bytes) => Ok(Object { bytes, labels: survey.labels }),
+            Ok(bytes) => Ok(Object {
+                bytes,
+                labels: survey.labels,
+            }),
         },
     }
 }
@@ -175,7 +204,12 @@ fn assemble_with(alloc: Global, text: &[u8], base: u32, symbols: &BTreeMap<Strin
 /// The bytes and labels of a text whose first line stands at `base`, or the first cause why it has
 /// none, by the order of docs/FORMATS.md, Assembler. `symbols` give names values besides the labels;
 /// of two with one name the first counts. The last byte of a text stands below address 2^32.
-pub fn assemble(alloc: Global, text: &[u8], base: u32, symbols: &[(String, u32)]) -> Result<Object, AsmFault>
+pub fn assemble(
+    alloc: Global,
+    text: &[u8],
+    base: u32,
+    symbols: &[(String, u32)],
+) -> Result<Object, AsmFault>
     requires { base + 1048576 < 2 ^ 32 }
     ensures accepted { IfOk result (λ o. first_cause (lines_of text.now) base (symbol_values symbols.now) ≡ None) }
     ensures assembled { IfOk result (λ o. Assembles (lines_of text.now) base (symbol_values symbols.now) o.bytes.items (get_by_text o.labels)) }

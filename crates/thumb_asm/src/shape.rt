@@ -20,10 +20,9 @@ use super::expr::{expression, signed, value};
 use super::index::Names;
 use super::lists::{has_stray, is_listed, is_no_list, is_raised_wrong, mask};
 use super::parts::{Pieces, count, split_word};
-use super::quotes;
 use super::syntax::{mnemonic, shaped, values};
 use super::words::is_nil;
-use super::{Cause, Mnemonic, Stop};
+use super::{Cause, Mnemonic, Stop, quotes};
 use thumb_insn::{Insn, Reg, Size};
 
 /// A statement, with its expressions as they are written.
@@ -51,7 +50,16 @@ fn has_bad_count(shape: &Shape<'_>) -> bool
     match *shape {
         Shape::Zeros(e) => is_off(0, 1048576, signed(e)),
         Shape::Padding(e) => is_off(1, 8, signed(e)),
-        Shape::Fixed(_) | Shape::Filled(_, _) | Shape::Within(_, _, _, _) | Shape::Aimed(_, _) | Shape::Near(_, _) | Shape::Misplaced | Shape::Listed(_, _) | Shape::Block(_, _, _, _) | Shape::Data(_, _) | Shape::Text(_) => false,
+        Shape::Fixed(_)
+        | Shape::Filled(_, _)
+        | Shape::Within(_, _, _, _)
+        | Shape::Aimed(_, _)
+        | Shape::Near(_, _)
+        | Shape::Misplaced
+        | Shape::Listed(_, _)
+        | Shape::Block(_, _, _, _)
+        | Shape::Data(_, _)
+        | Shape::Text(_) => false,
     }
 }
 
@@ -72,10 +80,15 @@ fn has_bad_number(shape: &Shape<'_>) -> bool
     ensures { result ≡ has_bad_number (shape_of shape.now) }
 {
     match *shape {
-        Shape::Filled(e, _) | Shape::Within(_, _, e, _) | Shape::Aimed(e, _) | Shape::Near(e, _) => is_no_expr(e),
+        Shape::Filled(e, _) | Shape::Within(_, _, e, _) | Shape::Aimed(e, _) | Shape::Near(e, _) =>
+            is_no_expr(e),
         Shape::Zeros(e) | Shape::Padding(e) => is_no_number(e),
         Shape::Data(_, es) => has_no_expr(es),
-        Shape::Fixed(_) | Shape::Misplaced | Shape::Listed(_, _) | Shape::Block(_, _, _, _) | Shape::Text(_) => false,
+        Shape::Fixed(_)
+        | Shape::Misplaced
+        | Shape::Listed(_, _)
+        | Shape::Block(_, _, _, _)
+        | Shape::Text(_) => false,
     }
 }
 
@@ -117,11 +130,17 @@ fn has_bad_register(shape: &Shape<'_>) -> bool
 {
     match *shape {
         Shape::Fixed(insn) => is_misfit(&insn),
-        Shape::Filled(_, insn) | Shape::Within(_, _, _, insn) | Shape::Near(_, insn) => is_misfit(&fill(insn, 0)),
+        Shape::Filled(_, insn) | Shape::Within(_, _, _, insn) | Shape::Near(_, insn) => is_misfit(
+            &fill(insn, 0),
+        ),
         Shape::Misplaced => true,
         Shape::Listed(loads, text) => has_stray(extra_of(loads), text),
         Shape::Block(n, _, _, text) => n.number >= 8 || has_stray(0, text),
-        Shape::Aimed(_, _) | Shape::Data(_, _) | Shape::Text(_) | Shape::Zeros(_) | Shape::Padding(_) => false,
+        Shape::Aimed(_, _)
+        | Shape::Data(_, _)
+        | Shape::Text(_)
+        | Shape::Zeros(_)
+        | Shape::Padding(_) => false,
     }
 }
 
@@ -132,8 +151,18 @@ fn has_bad_list(shape: &Shape<'_>) -> bool
 {
     match *shape {
         Shape::Listed(_, text) => is_no_list(text),
-        Shape::Block(n, raised, loads, text) => is_no_list(text) || is_raised_wrong(n.number, raised, loads, text),
-        Shape::Fixed(_) | Shape::Filled(_, _) | Shape::Within(_, _, _, _) | Shape::Aimed(_, _) | Shape::Near(_, _) | Shape::Misplaced | Shape::Data(_, _) | Shape::Text(_) | Shape::Zeros(_) | Shape::Padding(_) => false,
+        Shape::Block(n, raised, loads, text) => is_no_list(text)
+            || is_raised_wrong(n.number, raised, loads, text),
+        Shape::Fixed(_)
+        | Shape::Filled(_, _)
+        | Shape::Within(_, _, _, _)
+        | Shape::Aimed(_, _)
+        | Shape::Near(_, _)
+        | Shape::Misplaced
+        | Shape::Data(_, _)
+        | Shape::Text(_)
+        | Shape::Zeros(_)
+        | Shape::Padding(_) => false,
     }
 }
 
@@ -267,7 +296,11 @@ fn data_size(size: Size, pieces: &[u8]) -> Option<u32>
     ensures { MatchOption result (1048576 < scale size * length (operand_pieces pieces.now)) (λ n. n ≡ scale size * length (operand_pieces pieces.now)) }
 {
     let count = count(pieces);
-    if count > 1_048_576 { None } else { Some((width(size) * count) as u32) }
+    if count > 1_048_576 {
+        None
+    } else {
+        Some((width(size) * count) as u32)
+    }
 }
 
 /// How many bytes a text says, unless they are too many.
@@ -275,7 +308,11 @@ fn text_size(text: &[u8]) -> Option<u32>
     ensures { MatchOption result (1048576 < length (good_text false text.now)) (λ n. n ≡ length (good_text false text.now)) }
 {
     let count = quotes::count(text);
-    if count > 1_048_576 { None } else { Some(count as u32) }
+    if count > 1_048_576 {
+        None
+    } else {
+        Some(count as u32)
+    }
 }
 
 /// How many bytes a statement takes. None: more than a text may have.
@@ -286,7 +323,9 @@ pub(crate) fn size(at: u32, shape: &Shape<'_>) -> Option<u32>
 {
     match *shape {
         Shape::Fixed(insn) => Some(insn_size(&insn)),
-        Shape::Filled(_, insn) | Shape::Within(_, _, _, insn) | Shape::Near(_, insn) => Some(insn_size(&fill(insn, 0))),
+        Shape::Filled(_, insn) | Shape::Within(_, _, _, insn) | Shape::Near(_, insn) => Some(
+            insn_size(&fill(insn, 0)),
+        ),
         Shape::Aimed(_, insn) => Some(insn_size(&aim(insn, 0))),
         Shape::Misplaced => Some(0),
         Shape::Listed(_, _) | Shape::Block(_, _, _, _) => Some(2),
@@ -313,7 +352,14 @@ fn filled(at: u32, piece: &[u8], insn: Insn, names: &Names<'_>) -> Result<Insn, 
 
 /// The same for a value with bounds of its own.
 #[tactic(auto, unfolding(crate::specs::Meaning::insn_at))]
-fn within(at: u32, low: u32, top: u32, piece: &[u8], insn: Insn, names: &Names<'_>) -> Result<Insn, Cause>
+fn within(
+    at: u32,
+    low: u32,
+    top: u32,
+    piece: &[u8],
+    insn: Insn,
+    names: &Names<'_>,
+) -> Result<Insn, Cause>
     ensures { MatchResult result (λ i. insn_at (env_in names.now.labels.now names.now.symbols.now) at (SpecWithin low top piece.now (fill insn)) ≡ fitting i) (λ c. insn_at (env_in names.now.labels.now names.now.symbols.now) at (SpecWithin low top piece.now (fill insn)) ≡ Err c) }
 {
     match value(piece, names) {
@@ -358,16 +404,26 @@ fn list_insn(loads: bool, text: &[u8]) -> Insn
     ensures { result ≡ list_insn loads (ranges_in text.now) }
 {
     if loads {
-        Insn::Pop { list: mask(text), pc: is_listed(text, 15) }
+        Insn::Pop {
+            list: mask(text),
+            pc: is_listed(text, 15),
+        }
     } else {
-        Insn::Push { list: mask(text), lr: is_listed(text, 14) }
+        Insn::Push {
+            list: mask(text),
+            lr: is_listed(text, 14),
+        }
     }
 }
 
 fn block_insn(n: Reg, loads: bool, list: u8) -> Insn
     ensures { result ≡ block_insn n loads list }
 {
-    if loads { Insn::Ldm { n, list } } else { Insn::Stm { n, list } }
+    if loads {
+        Insn::Ldm { n, list }
+    } else {
+        Insn::Stm { n, list }
+    }
 }
 
 /// The instruction of a statement, or why there is none.
@@ -400,7 +456,12 @@ fn emit_code(at: u32, shape: &Shape<'_>, names: &Names<'_>, out: &mut Vec<u8>) -
 
 /// Puts a statement's bytes at the end.
 #[tactic(auto, unfolding(crate::specs::Sizes::has_bad_count, crate::specs::Causes::shape_cause))]
-pub(crate) fn emit(at: u32, shape: &Shape<'_>, names: &Names<'_>, out: &mut Vec<u8>) -> Result<(), Stop>
+pub(crate) fn emit(
+    at: u32,
+    shape: &Shape<'_>,
+    names: &Names<'_>,
+    out: &mut Vec<u8>,
+) -> Result<(), Stop>
     requires { has_bad_count (shape_of shape.now) ≡ false }
     ensures ok { OnOk result (Gave (env_in names.now.labels.now names.now.symbols.now) at (shape_of shape.now) out.old.items out.new.items) }
     ensures err { IfErr result (λ e. Stops e (shape_cause (env_in names.now.labels.now names.now.symbols.now) at (shape_of shape.now))) }

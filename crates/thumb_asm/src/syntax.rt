@@ -200,7 +200,14 @@ fn as_register<'a>(operand: Operand<'a>) -> Option<Reg>
 {
     match operand {
         Operand::Register(r) => Some(r),
-        Operand::Raised(_) | Operand::Immediate(_) | Operand::Expression(_) | Operand::Memory(_) | Operand::MemoryRegister(_, _) | Operand::MemoryImmediate(_, _) | Operand::Registers(_) | Operand::Quoted(_) => None,
+        Operand::Raised(_)
+        | Operand::Immediate(_)
+        | Operand::Expression(_)
+        | Operand::Memory(_)
+        | Operand::MemoryRegister(_, _)
+        | Operand::MemoryImmediate(_, _)
+        | Operand::Registers(_)
+        | Operand::Quoted(_) => None,
     }
 }
 
@@ -209,7 +216,14 @@ fn as_raised<'a>(operand: Operand<'a>) -> Option<Reg>
 {
     match operand {
         Operand::Raised(r) => Some(r),
-        Operand::Register(_) | Operand::Immediate(_) | Operand::Expression(_) | Operand::Memory(_) | Operand::MemoryRegister(_, _) | Operand::MemoryImmediate(_, _) | Operand::Registers(_) | Operand::Quoted(_) => None,
+        Operand::Register(_)
+        | Operand::Immediate(_)
+        | Operand::Expression(_)
+        | Operand::Memory(_)
+        | Operand::MemoryRegister(_, _)
+        | Operand::MemoryImmediate(_, _)
+        | Operand::Registers(_)
+        | Operand::Quoted(_) => None,
     }
 }
 
@@ -218,7 +232,14 @@ fn as_immediate<'a>(operand: Operand<'a>) -> Option<&'a [u8]>
 {
     match operand {
         Operand::Immediate(e) => Some(e),
-        Operand::Register(_) | Operand::Raised(_) | Operand::Expression(_) | Operand::Memory(_) | Operand::MemoryRegister(_, _) | Operand::MemoryImmediate(_, _) | Operand::Registers(_) | Operand::Quoted(_) => None,
+        Operand::Register(_)
+        | Operand::Raised(_)
+        | Operand::Expression(_)
+        | Operand::Memory(_)
+        | Operand::MemoryRegister(_, _)
+        | Operand::MemoryImmediate(_, _)
+        | Operand::Registers(_)
+        | Operand::Quoted(_) => None,
     }
 }
 
@@ -227,7 +248,14 @@ fn as_expression<'a>(operand: Operand<'a>) -> Option<&'a [u8]>
 {
     match operand {
         Operand::Expression(e) => Some(e),
-        Operand::Register(_) | Operand::Raised(_) | Operand::Immediate(_) | Operand::Memory(_) | Operand::MemoryRegister(_, _) | Operand::MemoryImmediate(_, _) | Operand::Registers(_) | Operand::Quoted(_) => None,
+        Operand::Register(_)
+        | Operand::Raised(_)
+        | Operand::Immediate(_)
+        | Operand::Memory(_)
+        | Operand::MemoryRegister(_, _)
+        | Operand::MemoryImmediate(_, _)
+        | Operand::Registers(_)
+        | Operand::Quoted(_) => None,
     }
 }
 
@@ -236,7 +264,14 @@ fn as_memory<'a>(operand: Operand<'a>) -> Option<Reg>
 {
     match operand {
         Operand::Memory(n) => Some(n),
-        Operand::Register(_) | Operand::Raised(_) | Operand::Immediate(_) | Operand::Expression(_) | Operand::MemoryRegister(_, _) | Operand::MemoryImmediate(_, _) | Operand::Registers(_) | Operand::Quoted(_) => None,
+        Operand::Register(_)
+        | Operand::Raised(_)
+        | Operand::Immediate(_)
+        | Operand::Expression(_)
+        | Operand::MemoryRegister(_, _)
+        | Operand::MemoryImmediate(_, _)
+        | Operand::Registers(_)
+        | Operand::Quoted(_) => None,
     }
 }
 
@@ -245,7 +280,14 @@ fn as_memory_register<'a>(operand: Operand<'a>) -> Option<(Reg, Reg)>
 {
     match operand {
         Operand::MemoryRegister(n, m) => Some((n, m)),
-        Operand::Register(_) | Operand::Raised(_) | Operand::Immediate(_) | Operand::Expression(_) | Operand::Memory(_) | Operand::MemoryImmediate(_, _) | Operand::Registers(_) | Operand::Quoted(_) => None,
+        Operand::Register(_)
+        | Operand::Raised(_)
+        | Operand::Immediate(_)
+        | Operand::Expression(_)
+        | Operand::Memory(_)
+        | Operand::MemoryImmediate(_, _)
+        | Operand::Registers(_)
+        | Operand::Quoted(_) => None,
     }
 }
 
@@ -254,7 +296,14 @@ fn as_memory_immediate<'a>(operand: Operand<'a>) -> Option<(Reg, &'a [u8])>
 {
     match operand {
         Operand::MemoryImmediate(n, e) => Some((n, e)),
-        Operand::Register(_) | Operand::Raised(_) | Operand::Immediate(_) | Operand::Expression(_) | Operand::Memory(_) | Operand::MemoryRegister(_, _) | Operand::Registers(_) | Operand::Quoted(_) => None,
+        Operand::Register(_)
+        | Operand::Raised(_)
+        | Operand::Immediate(_)
+        | Operand::Expression(_)
+        | Operand::Memory(_)
+        | Operand::MemoryRegister(_, _)
+        | Operand::Registers(_)
+        | Operand::Quoted(_) => None,
     }
 }
 
@@ -263,7 +312,14 @@ fn as_list<'a>(operand: Operand<'a>) -> Option<&'a [u8]>
 {
     match operand {
         Operand::Registers(text) => Some(text),
-        Operand::Register(_) | Operand::Raised(_) | Operand::Immediate(_) | Operand::Expression(_) | Operand::Memory(_) | Operand::MemoryRegister(_, _) | Operand::MemoryImmediate(_, _) | Operand::Quoted(_) => None,
+        Operand::Register(_)
+        | Operand::Raised(_)
+        | Operand::Immediate(_)
+        | Operand::Expression(_)
+        | Operand::Memory(_)
+        | Operand::MemoryRegister(_, _)
+        | Operand::MemoryImmediate(_, _)
+        | Operand::Quoted(_) => None,
     }
 }
 
@@ -272,7 +328,14 @@ fn as_quoted<'a>(operand: Operand<'a>) -> Option<&'a [u8]>
 {
     match operand {
         Operand::Quoted(text) => Some(text),
-        Operand::Register(_) | Operand::Raised(_) | Operand::Immediate(_) | Operand::Expression(_) | Operand::Memory(_) | Operand::MemoryRegister(_, _) | Operand::MemoryImmediate(_, _) | Operand::Registers(_) => None,
+        Operand::Register(_)
+        | Operand::Raised(_)
+        | Operand::Immediate(_)
+        | Operand::Expression(_)
+        | Operand::Memory(_)
+        | Operand::MemoryRegister(_, _)
+        | Operand::MemoryImmediate(_, _)
+        | Operand::Registers(_) => None,
     }
 }
 
@@ -453,9 +516,18 @@ fn shift<'a>(shift: Shift, operands: Operands<'a>) -> Option<Shape<'a>>
     ensures { option_map shape_of result ≡ shaped (kind.Shift shift) (operands_of operands.entry) }
 {
     match reg_reg_imm(operands) {
-        Some((d, m, e)) => Some(Shape::Within(1, top_shift(shift), e, Insn::ShiftImm { shift, d, m, by: 0 })),
+        Some((d, m, e)) => Some(Shape::Within(
+            1,
+            top_shift(shift),
+            e,
+            Insn::ShiftImm { shift, d, m, by: 0 },
+        )),
         None => match reg_reg(operands) {
-            Some((d, m)) => Some(Shape::Fixed(Insn::Data { op: shift_op(shift), d, m })),
+            Some((d, m)) => Some(Shape::Fixed(Insn::Data {
+                op: shift_op(shift),
+                d,
+                m,
+            })),
             None => None,
         },
     }
@@ -476,7 +548,12 @@ fn movs<'a>(operands: Operands<'a>) -> Option<Shape<'a>>
     ensures { option_map shape_of result ≡ shaped Movs (operands_of operands.entry) }
 {
     match reg_reg(operands) {
-        Some((d, m)) => Some(Shape::Fixed(Insn::ShiftImm { shift: Shift::Lsl, d, m, by: 0 })),
+        Some((d, m)) => Some(Shape::Fixed(Insn::ShiftImm {
+            shift: Shift::Lsl,
+            d,
+            m,
+            by: 0,
+        })),
         None => match reg_imm(operands) {
             Some((d, e)) => Some(Shape::Filled(e, Insn::MovsImm { d, value: 0 })),
             None => None,
@@ -522,7 +599,11 @@ fn compared(n: Reg, m: Reg) -> Insn
     if n.number >= 8 || m.number >= 8 {
         Insn::CmpHigh { n, m }
     } else {
-        Insn::Data { op: Op::Cmp, d: n, m }
+        Insn::Data {
+            op: Op::Cmp,
+            d: n,
+            m,
+        }
     }
 }
 
@@ -562,7 +643,11 @@ fn pair<'a>(op: Op, operands: Operands<'a>) -> Option<Shape<'a>>
 fn at_sp(r: Reg, shape: Shape<'_>) -> Shape<'_>
     ensures { shape_of result ≡ at_sp r (shape_of shape.entry) }
 {
-    if r.number == 13 { shape } else { Shape::Misplaced }
+    if r.number == 13 {
+        shape
+    } else {
+        Shape::Misplaced
+    }
 }
 
 #[tactic(auto, unfolding(crate::specs::Syntax::shaped))]
@@ -629,9 +714,19 @@ fn loaded(size: Size, t: Reg, n: Reg) -> Insn
         Size::Word => if n.number == 13 {
             Insn::LoadSp { t, offset: 0 }
         } else {
-            Insn::LoadImm { size, t, n, offset: 0 }
+            Insn::LoadImm {
+                size,
+                t,
+                n,
+                offset: 0,
+            }
         },
-        Size::Half | Size::Byte => Insn::LoadImm { size, t, n, offset: 0 },
+        Size::Half | Size::Byte => Insn::LoadImm {
+            size,
+            t,
+            n,
+            offset: 0,
+        },
     }
 }
 
@@ -643,9 +738,19 @@ fn stored(size: Size, t: Reg, n: Reg) -> Insn
         Size::Word => if n.number == 13 {
             Insn::StoreSp { t, offset: 0 }
         } else {
-            Insn::StoreImm { size, t, n, offset: 0 }
+            Insn::StoreImm {
+                size,
+                t,
+                n,
+                offset: 0,
+            }
         },
-        Size::Half | Size::Byte => Insn::StoreImm { size, t, n, offset: 0 },
+        Size::Half | Size::Byte => Insn::StoreImm {
+            size,
+            t,
+            n,
+            offset: 0,
+        },
     }
 }
 
@@ -747,7 +852,11 @@ fn pop<'a>(operands: Operands<'a>) -> Option<Shape<'a>>
 fn keyword<'a>(text: &[u8], word: &[u8], insn: Insn) -> Option<Shape<'a>>
     ensures { option_map shape_of result ≡ keyword text.now word.now (Fixed insn) }
 {
-    if is_any_case(text, word) { Some(Shape::Fixed(insn)) } else { None }
+    if is_any_case(text, word) {
+        Some(Shape::Fixed(insn))
+    } else {
+        None
+    }
 }
 
 #[tactic(auto, unfolding(crate::specs::Syntax::shaped))]
@@ -871,7 +980,14 @@ fn system<'a>(barrier: Barrier, operands: Operands<'a>) -> Option<Shape<'a>>
     ensures { option_map shape_of result ≡ system barrier (operands_of operands.entry) }
 {
     match expr(operands) {
-        Some(e) => keyword(e, b"sy", Insn::Fence { barrier, option: 15 }),
+        Some(e) => keyword(
+            e,
+            b"sy",
+            Insn::Fence {
+                barrier,
+                option: 15,
+            },
+        ),
         None => None,
     }
 }
@@ -881,7 +997,10 @@ fn fence<'a>(barrier: Barrier, operands: Operands<'a>) -> Option<Shape<'a>>
     ensures { option_map shape_of result ≡ shaped (Fence barrier) (operands_of operands.entry) }
 {
     match none(operands) {
-        Some(()) => Some(Shape::Fixed(Insn::Fence { barrier, option: 15 })),
+        Some(()) => Some(Shape::Fixed(Insn::Fence {
+            barrier,
+            option: 15,
+        })),
         None => match system(barrier, operands) {
             Some(shape) => Some(shape),
             None => match imm(operands) {
@@ -1005,7 +1124,11 @@ pub(crate) fn shaped<'a>(m: Mnemonic, rest: &'a [u8]) -> Option<Shape<'a>>
 pub(crate) fn values<'a>(size: Size, rest: &'a [u8]) -> Option<Shape<'a>>
     ensures { option_map shape_of result ≡ shaped_by (Values size) (operands (operand_pieces rest.now)) }
 {
-    if are_expressions(rest) { Some(Shape::Data(size, rest)) } else { None }
+    if are_expressions(rest) {
+        Some(Shape::Data(size, rest))
+    } else {
+        None
+    }
 }
 
 /// Is each operand an expression, and is there one?
@@ -1013,7 +1136,9 @@ fn are_expressions(rest: &[u8]) -> bool
     ensures { result ≡ are_expressions (operand_pieces rest.now) }
 {
     let mut pieces = Pieces::of(rest);
-    let Some(first) = pieces.next() else { return false };
+    let Some(first) = pieces.next() else {
+        return false
+    };
     if !is_expression(first) {
         return false;
     }

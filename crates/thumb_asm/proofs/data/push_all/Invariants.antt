@@ -12,7 +12,8 @@ abbrev pub invariant-pieces : goal.invariant-pieces
 invariant-pieces l = record {
   told : l.out.items ++ data_bytes (env_in l.names.labels.now l.names.symbols.now) (scale l.size) (pieces_left (option_map (λ r. r.now) l.left.rest)) ≡ l.fn.out.items ++ data_bytes (env_in l.names.labels.now l.names.symbols.now) (scale l.size) (operand_pieces l.pieces);
   known : list_any (λ e. is_unknown (value (env_in l.names.labels.now l.names.symbols.now) e)) (pieces_left (option_map (λ r. r.now) l.left.rest)) ≡ false;
-  within : list_any (λ e. is_beyond (scale l.size) (value (env_in l.names.labels.now l.names.symbols.now) e)) (pieces_left (option_map (λ r. r.now) l.left.rest)) ≡ false }
+  within : list_any (λ e. is_beyond (scale l.size) (value (env_in l.names.labels.now l.names.symbols.now) e)) (pieces_left (option_map (λ r. r.now) l.left.rest)) ≡ false;
+}
 
 abbrev pub decreases-pieces : goal.decreases-pieces
 decreases-pieces l = left_length (option_map (λ r. r.now) l.left.rest)

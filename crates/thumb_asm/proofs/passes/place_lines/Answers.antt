@@ -15,7 +15,8 @@ lines-init c = record {
   earlier = [];
   same = empty_index c.new-labels.result c.new-labels.ensures.empty;
   told = survey_start (get_by_text c.args.symbols.now) c.args.base (lines_of c.args.text.now) (lines_of c.of-lines.result.rest.now) (ap lines_of c.of-lines.ensures);
-  few = omega (arith, ap length c.of-lines.ensures) }
+  few = omega (arith, ap length c.of-lines.ensures);
+}
 
 pub returns-in-Err-clause-err : goal.returns-in-Err-clause-err
 returns-in-Err-clause-err c =
@@ -33,7 +34,8 @@ lines-preserved c =
       earlier = i.earlier ++ own_label (c.args.base + c.lines.used) label;
       same = label_added (get_by_text c.lines.labels) (get_by_text c.add.new.labels) i.earlier (c.args.base + c.lines.used) label i.same (λ q. subst (λ (o : Option (List ℕ)). get_by_text c.add.new.labels q ≡ with_label (c.args.base + c.lines.used) o (get_by_text c.lines.labels) q) (ap (λ (p : Parts). p.label) c.line_of.ensures) (c.in_ok-add-in-Ok.ensures q)) (free_only label (get_by_text c.lines.labels) c.in-Ok.ensures.ok.3);
       told = survey_step (get_by_text c.args.symbols.now) c.args.base (lines_of c.args.text.now) (lines_of c.lines.lines.rest.now) (lines_of c.next.new.self.rest.now) i.earlier (i.earlier ++ own_label (c.args.base + c.lines.used) label) c.lines.used c.in-Ok.size c.lines.number c.in-Some.line.now c.in-Some.ensures.line (subst (λ (f : Env). first_group (get_by_text c.args.symbols.now) c.args.base f c.lines.used c.in-Some.line.now ≡ None) (same_env (get_by_text c.lines.labels) i.earlier i.same) c.in-Ok.ensures.ok.0) c.in-Ok.ensures.ok.1 refl c.in-Ok.ensures.ok.2 i.told;
-      few = omega (arith, c.in-Some.ensures.shorter) }
+      few = omega (arith, c.in-Some.ensures.shorter);
+    }
 
 pub returns-clause-ok : goal.returns-clause-ok
 returns-clause-ok c =

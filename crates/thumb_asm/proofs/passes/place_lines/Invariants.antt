@@ -11,7 +11,8 @@ invariant-lines l = record {
   earlier : Names;
   same : Indexes l.labels earlier;
   told : Surveyed (get_by_text l.symbols) l.base (lines_of l.text) (lines_of l.lines.rest.now) earlier l.used l.number;
-  few : l.number + length l.lines.rest.now ≤ length l.text }
+  few : l.number + length l.lines.rest.now ≤ length l.text;
+}
 
 abbrev pub decreases-lines : goal.decreases-lines
 decreases-lines l = length l.lines.rest.now
