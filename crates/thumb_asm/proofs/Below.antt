@@ -1,5 +1,5 @@
 -- Questions about registers, one by one.
-use Rattle.std.proofs.Common.{◌≡◌, ℕ, suc, zero, ◌+◌, ◌<◌, ◌≤◌, List, [], ◌∷◌, refl, ap, ◌∙◌, sym, arith, subst, add-one, Bool, true, false, ◌||◌, nat_eq}
+use Rattle.std.proofs.Common.{◌≡◌, ℕ, suc, zero, ◌+◌, ◌<◌, refl, ap, ◌∙◌, arith, subst, add-one, Bool, true, false, ◌||◌, nat_eq}
 use Rattle.thumb_asm.specs.Sizes.{any_below}
 
 or_right : (b : Bool) → (b || true) ≡ true

@@ -1,7 +1,6 @@
 -- The codes of instructions.
-use Rattle.std.proofs.Common.{◌≡◌, ℕ, ◌+◌, ◌%◌, ◌^◌, ◌<◌, List, [], ◌∷◌, ◌++◌, ◌*◌, ◌/◌, ◌-ℤ◌, length, refl, ap, ◌∙◌, sym, arith, subst, Bool, true, false, nat_eq, Option, Some, None, Result, Ok, Err, OnOk, IfErr}
+use Rattle.std.proofs.Common.{◌≡◌, ℕ, ◌+◌, ◌%◌, List, [], ◌∷◌, ◌++◌, ◌*◌, ◌/◌, ◌-ℤ◌, length, refl, ap, ◌∙◌, sym, arith, subst, Bool, true, false, nat_eq, Option, Some, None, Result, Ok, Err, OnOk, IfErr}
 use Rattle.thumb_insn.specs.declared.Insn.{Insn}
-use Rattle.thumb_insn.specs.declared.Code.TheVariants as code
 use Rattle.thumb_encode.specs.Codes.{insn_size, fit_of}
 use Rattle.thumb_encode.specs.declared.Fit.{Fit}
 use Rattle.thumb_asm.specs.declared.Cause.{Cause}

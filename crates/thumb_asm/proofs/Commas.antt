@@ -1,14 +1,14 @@
 -- Commas that separate operands.
-use Rattle.std.proofs.Common.{◌≡◌, ℕ, suc, zero, ◌+◌, ◌-◌, ◌<◌, ◌≤◌, List, [], ◌∷◌, ◌++◌, length, get_or, take, drop, refl, ap, ◌∙◌, sym, arith, Bool, true, false, nat_eq, cond, ◌&&◌, add-one, append_assoc}
+use Rattle.std.proofs.Common.{◌≡◌, ℕ, ◌+◌, ◌<◌, ◌≤◌, List, [], ◌∷◌, ◌++◌, length, get_or, take, drop, refl, ap, ◌∙◌, sym, arith, true, false, nat_eq, cond, ◌&&◌, add-one, append_assoc}
 use Rattle.std.proofs.Math.Seq.{take-suc, take-length}
 use Rattle.std.proofs.lemmas.List.{append-nil}
 use Rattle.text_lines.specs.Text.{with_first}
 use Rattle.thumb_asm.specs.declared.parts.Place.{Place}
-use Rattle.thumb_asm.specs.declared.parts.Place.TheVariants.{Outside, Inside, Escaped}
+use Rattle.thumb_asm.specs.declared.parts.Place.TheVariants.{Outside}
 use Rattle.thumb_asm.specs.Parts.{pieces, next_place, next_depth, is_outside}
 use Rattle.thumb_asm.specs.Cuts.{IsComma}
-use Rattle.thumb_asm.specs.Operands.{split_by, stripped_by, memory, ends, Operand}
-use Rattle.std.proofs.Common.{map, Option, None}
+use Rattle.thumb_asm.specs.Operands.{split_by, stripped_by, memory, ends}
+use Rattle.std.proofs.Common.{map, None}
 use Rattle.thumb_asm.specs.Chars.{strip}
 use Rattle.thumb_asm.proofs.Strips.{cell, drop_all}
 

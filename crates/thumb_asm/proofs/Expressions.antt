@@ -1,5 +1,5 @@
 -- Operands that are expressions.
-use Rattle.std.proofs.Common.{◌≡◌, ℕ, List, [], ◌∷◌, map, refl, ap, ◌∙◌, sym, Bool, true, false, cond, nat_eq, ◌&&◌, Option, Some, None, is_some}
+use Rattle.std.proofs.Common.{◌≡◌, ℕ, List, [], ◌∷◌, map, refl, ap, ◌∙◌, Bool, true, false, cond, nat_eq, ◌&&◌, Option, Some, None, is_some}
 use Rattle.std.specs.List.{list_all, list_any}
 use Rattle.thumb_insn.specs.Fields.{reg}
 use Rattle.thumb_insn.specs.declared.Reg.{Reg}
@@ -7,8 +7,8 @@ use Rattle.thumb_insn.specs.declared.Size.{Size}
 use Rattle.thumb_encode.specs.Codes.{scale}
 use Rattle.thumb_asm.specs.declared.Mnemonic.TheVariants.{Values}
 use Rattle.thumb_asm.specs.Chars.{register, strip}
-use Rattle.thumb_asm.specs.Operands.{Operand, Register, Raised, Immediate, Expression, Memory, MemoryRegister, MemoryImmediate, Registers, Quoted, ◌>>=◌, or_else, closed_by, stripped_by, unquoted, offset, memory, register_list, text_of, bare, in_brackets, in_braces, in_quotes, operand, operands}
-use Rattle.thumb_asm.specs.Syntax.{Shape, Data, as_expression, expressions, values, shaped}
+use Rattle.thumb_asm.specs.Operands.{Operand, Register, Raised, Immediate, Expression, Memory, MemoryRegister, MemoryImmediate, Registers, Quoted, ◌>>=◌, or_else, closed_by, stripped_by, offset, memory, register_list, text_of, bare, in_brackets, in_braces, in_quotes, operand, operands}
+use Rattle.thumb_asm.specs.Syntax.{Data, as_expression, expressions, values, shaped}
 use Rattle.thumb_asm.specs.Sizes.{shaped_by}
 use Rattle.thumb_asm.specs.Kinds.{is_expression, are_expressions}
 

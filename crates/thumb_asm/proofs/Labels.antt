@@ -1,5 +1,5 @@
 -- Names in maps and in lists.
-use Rattle.std.proofs.Common.{◌≡◌, ℕ, suc, zero, ◌+◌, ◌<◌, ◌≤◌, List, [], ◌∷◌, ◌++◌, length, get_or, take, drop, map, refl, ap, ◌∙◌, sym, arith, subst, Bool, true, false, cond, ◌&&◌, add-one, Option, Some, None, is_some, String, string_bytes, bytes_eq, IfSome, option_map, Bor, Result, Ok, Err, OnOk}
+use Rattle.std.proofs.Common.{◌≡◌, ℕ, ◌+◌, ◌<◌, List, [], ◌∷◌, ◌++◌, length, get_or, take, refl, ap, ◌∙◌, sym, arith, subst, Bool, true, false, cond, ◌&&◌, add-one, Option, Some, None, is_some, String, string_bytes, bytes_eq, IfSome, option_map, Bor, Result, Ok, Err, OnOk}
 use Rattle.std.specs.List.{list_all}
 use Rattle.std.specs.BTreeMap.{BTreeMap, get_by_text}
 use Rattle.std.specs.Str.{IsUtf8, IsAscii}
@@ -9,7 +9,7 @@ use Rattle.std.proofs.lemmas.List.{append-nil}
 use Rattle.std.specs.Cmp.Lexicographic.{same_text}
 use Rattle.std.proofs.Math.Seq.{take-suc}
 use Rattle.std.proofs.Math.Path.{fun_ext}
-use Rattle.thumb_asm.specs.Chars.{entry_at, is_name, is_word, is_letter, starts_by}
+use Rattle.thumb_asm.specs.Chars.{entry_at, is_name, is_word}
 use Rattle.thumb_asm.specs.Operands.{or_else}
 use Rattle.thumb_asm.specs.Meaning.{Names, Env, own_label}
 use Rattle.thumb_asm.specs.Passes.{names_of, with_label, with_symbol, Refuses}

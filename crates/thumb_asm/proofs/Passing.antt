@@ -1,16 +1,15 @@
 -- The passes, line by line.
-use Rattle.std.proofs.Common.{◌≡◌, ℕ, suc, zero, ◌+◌, ◌-◌, ◌<◌, ◌≤◌, List, [], ◌∷◌, ◌++◌, length, get_or, take, drop, refl, ap, ◌∙◌, sym, arith, subst, Bool, true, false, cond, not, ◌&&◌, ◌||◌, if◌then◌else◌, add-one, add_assoc, add-zero, zero-add, append_assoc, length-append, Option, Some, None, IfSome, Result, Ok, Err, OnOk, IfErr}
+use Rattle.std.proofs.Common.{◌≡◌, ℕ, ◌+◌, ◌≤◌, List, [], ◌∷◌, ◌++◌, length, refl, ap, ◌∙◌, sym, arith, subst, add_assoc, add-zero, zero-add, append_assoc, length-append, Some, None, Result, Ok, Err, OnOk, IfErr}
 use Rattle.std.proofs.lemmas.List.{append-nil}
 use Rattle.thumb_asm.specs.declared.Cause.{Cause}
-use Rattle.thumb_asm.specs.Chars.{is_name, entry_at}
+use Rattle.thumb_asm.specs.Chars.{entry_at}
 use Rattle.thumb_asm.specs.Parts.{parts}
-use Rattle.thumb_asm.specs.Operands.{or_else}
 use Rattle.thumb_asm.specs.Sizes.{statement_of}
 use Rattle.thumb_asm.specs.Meaning.{Names, Env, own_label, Lays, Spells}
 use Rattle.thumb_asm.specs.declared.Stop.{Stop}
 use Rattle.thumb_asm.specs.Syntax.{Shape}
 use Rattle.thumb_asm.specs.Outputs.{Gave}
-use Rattle.thumb_asm.specs.Causes.{size_by, shape_cause, first_group, second_group, line_size, label_cause, first_in, second_in, labels_from, at_line}
+use Rattle.thumb_asm.specs.Causes.{size_by, shape_cause, first_group, second_group, line_size, first_in, second_in, labels_from, at_line}
 use Rattle.thumb_asm.specs.Passes.{size_from, Emitted, Stops}
 
 -- the first pass up to here, and what is left of it

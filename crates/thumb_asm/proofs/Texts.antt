@@ -1,5 +1,5 @@
 -- Lists in braces and texts in quotes, as the program holds them.
-use Rattle.std.proofs.Common.{◌≡◌, ℕ, suc, zero, ◌+◌, ◌<◌, ◌≤◌, List, [], ◌∷◌, length, get_or, drop, refl, ap, ◌∙◌, sym, arith, Bool, true, false, cond, nat_eq, ◌&&◌, bytes_eq, Option, Some, None, is_some}
+use Rattle.std.proofs.Common.{◌≡◌, ℕ, List, [], ◌∷◌, refl, ap, ◌∙◌, sym, arith, Bool, true, false, cond, nat_eq, ◌&&◌, bytes_eq, Option, Some, None, is_some}
 use Rattle.thumb_asm.specs.Chars.{is_nil, strip}
 use Rattle.thumb_asm.specs.Operands.{◌>>=◌, ends, ranges, stripped_by, register_list, text_of, escape, with_byte}
 use Rattle.thumb_asm.specs.Kinds.{with_range, good_ranges, ranges_in, with_good, good_text}

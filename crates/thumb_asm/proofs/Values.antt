@@ -1,5 +1,5 @@
 -- The bytes of values.
-use Rattle.std.proofs.Common.{◌≡◌, ℕ, suc, zero, ◌+◌, ◌-◌, ◌*◌, ◌/◌, ◌%◌, ◌^◌, ◌<◌, ◌≤◌, List, [], ◌∷◌, ◌++◌, length, refl, ap, ◌∙◌, sym, arith, subst, add-one, append_assoc, length-append, Bool, true, false, ◌||◌, not, nat_eq, nat_le, nat_lt, Option, Some, None, Result, Ok, Err, OnOk, ℤ, pos, negsuc}
+use Rattle.std.proofs.Common.{◌≡◌, ℕ, suc, zero, ◌+◌, ◌*◌, ◌/◌, ◌%◌, List, [], ◌∷◌, ◌++◌, length, refl, ap, ◌∙◌, sym, arith, add-one, append_assoc, length-append, Bool, true, false, ◌||◌, nat_eq, Option, Some, None, Result, Ok, Err, OnOk, ℤ, pos, negsuc}
 use Rattle.std.specs.List.{list_any, repeat}
 use Rattle.std.proofs.lemmas.List.{append-nil}
 use Rattle.thumb_asm.specs.declared.Stop.{Stop}

@@ -1,13 +1,13 @@
 -- Why a text is refused: the first line with a cause of the first group, or else the first with one of the second.
-use Rattle.std.specs.Prelude.{ℕ, ◌+◌, ◌-◌, ◌*◌, ◌%◌, ◌^◌, Bool, true, false, nat_eq, nat_lt, nat_le, if◌then◌else◌, List, [], ◌∷◌, ◌++◌, length, Option, Some, None, is_some, Result, Ok, Err, ◌&&◌, ◌||◌, not, ℤ, pos, negsuc}
+use Rattle.std.specs.Prelude.{ℕ, ◌+◌, ◌*◌, ◌%◌, ◌^◌, Bool, true, false, nat_eq, nat_lt, nat_le, if◌then◌else◌, List, [], ◌∷◌, ◌++◌, length, Option, Some, None, is_some, Result, Ok, Err, ◌||◌, not, ℤ, pos, negsuc}
 use Rattle.std.specs.List.{list_any, list_all}
 use Rattle.thumb_insn.specs.declared.Insn.{Insn}
 use Rattle.thumb_asm.specs.declared.Cause.{Cause}
 use Rattle.thumb_asm.specs.declared.Cause.TheVariants as cause
 use Rattle.thumb_asm.specs.Chars.{is_allowed, is_name, register, entry_at}
-use Rattle.thumb_asm.specs.Parts.{Parts, parts}
+use Rattle.thumb_asm.specs.Parts.{parts}
 use Rattle.thumb_asm.specs.Operands.{or_else}
-use Rattle.thumb_asm.specs.Syntax.{Shape, Fixed, Filled, Within, Aimed, Near, Misplaced, Listed, Block, Data, Text, Zeros, Padding}
+use Rattle.thumb_asm.specs.Syntax.{Shape, Data, Text, Zeros, Padding}
 use Rattle.thumb_asm.specs.Sizes.{shape_size, statement_of}
 use Rattle.thumb_asm.specs.Meaning.{Names, Env, env_of, value, insn_at, own_label}
 

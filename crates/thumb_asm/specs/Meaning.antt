@@ -1,5 +1,5 @@
 -- What a line means: its label, its length, its bytes under the values of names.
-use Rattle.std.specs.Prelude.{ℕ, zero, suc, ◌+◌, ◌-◌, ◌*◌, ◌/◌, ◌%◌, ◌^◌, ◌≡◌, Bool, true, false, nat_eq, nat_lt, nat_le, if◌then◌else◌, List, [], ◌∷◌, ◌++◌, length, map, flat_map, Option, Some, None, Result, Ok, Err, ◌&&◌, ◌||◌, not, ℤ, pos, negsuc, ◌+ℤ◌, ◌-ℤ◌}
+use Rattle.std.specs.Prelude.{ℕ, zero, suc, ◌+◌, ◌-◌, ◌*◌, ◌/◌, ◌%◌, ◌^◌, ◌≡◌, nat_lt, nat_le, if◌then◌else◌, List, [], ◌∷◌, ◌++◌, length, Option, Some, None, Result, Ok, Err, ◌&&◌, ℤ, pos, negsuc, ◌+ℤ◌, ◌-ℤ◌}
 use Rattle.std.specs.List.{repeat}
 use Rattle.thumb_insn.specs.declared.Insn.{Insn}
 use Rattle.thumb_insn.specs.declared.Code.{Code}
@@ -11,10 +11,10 @@ use Rattle.thumb_encode.specs.declared.Fit.TheVariants as fit
 use Rattle.thumb_asm.specs.declared.Cause.{Cause}
 use Rattle.thumb_asm.specs.declared.Cause.TheVariants as cause
 use Rattle.thumb_asm.specs.Chars.{entry_at}
-use Rattle.thumb_asm.specs.Parts.{Parts, parts}
+use Rattle.thumb_asm.specs.Parts.{parts}
 use Rattle.thumb_asm.specs.Operands.{Expr, expression, signed, or_else}
-use Rattle.thumb_asm.specs.Syntax.{Shape, Fixed, Filled, Within, Aimed, Near, Misplaced, Listed, Block, Data, Text, Zeros, Padding, is_high}
-use Rattle.thumb_asm.specs.Sizes.{shape_size, statement_of, list_insn, block_insn, mask_of, natural_part, padding}
+use Rattle.thumb_asm.specs.Syntax.{Shape, Fixed, Filled, Within, Aimed, Near, Listed, Block, Data, Text, Zeros, Padding}
+use Rattle.thumb_asm.specs.Sizes.{statement_of, list_insn, block_insn, mask_of, natural_part, padding}
 
 -- names with their values, of which the first counts
 abbrev pub Names : Type 0

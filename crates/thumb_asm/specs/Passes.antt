@@ -1,11 +1,11 @@
 -- What a line and a text come to in the program.
-use Rattle.std.specs.Prelude.{ℕ, ◌+◌, ◌≡◌, List, [], ◌∷◌, ◌++◌, length, map, Option, Some, None, Result, Ok, Err, String, string_bytes, bytes_eq, if◌then◌else◌}
+use Rattle.std.specs.Prelude.{ℕ, ◌+◌, ◌≡◌, List, [], ◌∷◌, ◌++◌, length, map, Option, Some, None, String, string_bytes, bytes_eq, if◌then◌else◌}
 use Rattle.thumb_asm.specs.declared.Cause.{Cause}
 use Rattle.thumb_asm.specs.declared.AsmFault.{AsmFault}
 use Rattle.thumb_asm.specs.declared.AsmFault.TheVariants as fault
 use Rattle.thumb_asm.specs.declared.Stop.{Stop}
 use Rattle.thumb_asm.specs.declared.Stop.TheVariants as stop
-use Rattle.thumb_asm.specs.Parts.{Parts, parts}
+use Rattle.thumb_asm.specs.Parts.{parts}
 use Rattle.thumb_asm.specs.Sizes.{statement_of}
 use Rattle.thumb_asm.specs.Meaning.{Names, Env, env_of, Spells}
 use Rattle.thumb_asm.specs.Chars.{entry_at}

@@ -1,5 +1,5 @@
 -- What a statement is, how long it is, and why it is refused before any value is known.
-use Rattle.std.specs.Prelude.{ℕ, zero, suc, ◌+◌, ◌-◌, ◌*◌, ◌/◌, ◌%◌, ◌^◌, Bool, true, false, nat_eq, nat_lt, nat_le, if◌then◌else◌, List, [], ◌∷◌, ◌++◌, length, map, flat_map, count_by, Option, Some, None, Result, Ok, Err, ◌&&◌, ◌||◌, not, ℤ, pos, negsuc}
+use Rattle.std.specs.Prelude.{ℕ, zero, suc, ◌+◌, ◌-◌, ◌*◌, ◌%◌, ◌^◌, Bool, true, false, nat_eq, nat_lt, if◌then◌else◌, List, [], ◌∷◌, length, count_by, Option, Some, None, Result, Ok, Err, ◌&&◌, ◌||◌, not, ℤ, pos, negsuc}
 use Rattle.std.specs.List.{list_any}
 use Rattle.thumb_insn.specs.declared.Reg.{Reg}
 use Rattle.text_lines.specs.Text.{is_between}

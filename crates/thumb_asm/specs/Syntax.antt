@@ -1,6 +1,5 @@
 -- The mnemonics, and for each the syntaxes with what they mean.
-use Rattle.std.specs.Prelude.{ℕ, ◌+◌, ◌-◌, ◌^◌, Bool, true, false, nat_eq, nat_lt, nat_le, if◌then◌else◌, List, [], ◌∷◌, ◌++◌, length, map, Option, Some, None, ◌&&◌, ◌||◌, not, codes, bytes_eq, ℤ, pos, negsuc}
-use Rattle.thumb_insn.specs.Fields.{reg}
+use Rattle.std.specs.Prelude.{ℕ, Bool, true, false, nat_eq, nat_le, if◌then◌else◌, List, [], ◌∷◌, map, Option, Some, None, ◌||◌, codes, bytes_eq, ℤ}
 use Rattle.thumb_insn.specs.declared.Reg.{Reg}
 use Rattle.thumb_insn.specs.declared.Cond.TheVariants as cond
 use Rattle.thumb_insn.specs.declared.Shift.{Shift as ShiftKind}

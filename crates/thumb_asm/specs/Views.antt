@@ -1,5 +1,5 @@
 -- Values of the program without where their texts lie in memory.
-use Rattle.std.specs.Prelude.{ℕ, ℤ, false, length, ◌≤◌, List, Option, Some, None, option_map, Result, Ok, Err}
+use Rattle.std.specs.Prelude.{ℕ, ℤ, false, Option, option_map, Result, Ok, Err}
 use Rattle.thumb_insn.specs.declared.Insn.{Insn}
 use Rattle.thumb_insn.specs.declared.Insn.TheVariants as insn
 use Rattle.thumb_asm.specs.declared.Cause.{Cause}

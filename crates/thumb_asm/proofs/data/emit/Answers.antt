@@ -1,4 +1,4 @@
-use Rattle.std.proofs.Common.{◌≡◌, ◌∙◌, sym, ap, true, false, refl, not, nat_eq, ◌%◌, Bool}
+use Rattle.std.proofs.Common.{◌≡◌, ◌∙◌, sym, true, false, refl, not, Bool}
 use Rattle.thumb_encode.specs.Codes.{scale}
 use Rattle.thumb_asm.specs.Parts.{operand_pieces}
 use Rattle.thumb_asm.specs.Passes.{env_in}

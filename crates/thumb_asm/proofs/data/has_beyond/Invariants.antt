@@ -4,7 +4,7 @@ use Rattle.thumb_encode.specs.Codes.{scale}
 use Rattle.thumb_asm.specs.Parts.{pieces_left, operand_pieces}
 use Rattle.thumb_asm.specs.Cuts.{left_length}
 use Rattle.thumb_asm.specs.Meaning.{value}
-use Rattle.thumb_asm.specs.Causes.{is_unknown, is_beyond}
+use Rattle.thumb_asm.specs.Causes.{is_beyond}
 use Rattle.thumb_asm.specs.Passes.{env_in}
 use Rattle.thumb_asm.proofs.data.has_beyond.Given as goal
 

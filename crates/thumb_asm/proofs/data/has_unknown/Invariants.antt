@@ -1,10 +1,9 @@
 use Rattle.std.proofs.Common.{◌≡◌, option_map}
 use Rattle.std.specs.List.{list_any}
-use Rattle.thumb_encode.specs.Codes.{scale}
 use Rattle.thumb_asm.specs.Parts.{pieces_left, operand_pieces}
 use Rattle.thumb_asm.specs.Cuts.{left_length}
 use Rattle.thumb_asm.specs.Meaning.{value}
-use Rattle.thumb_asm.specs.Causes.{is_unknown, is_beyond}
+use Rattle.thumb_asm.specs.Causes.{is_unknown}
 use Rattle.thumb_asm.specs.Passes.{env_in}
 use Rattle.thumb_asm.proofs.data.has_unknown.Given as goal
 

@@ -1,4 +1,3 @@
-use Rattle.std.proofs.Common.{◌≡◌, ◌∷◌, ◌++◌, ◌∙◌, false}
 use Rattle.thumb_encode.specs.Codes.{scale}
 use Rattle.thumb_asm.specs.Meaning.{value}
 use Rattle.thumb_asm.specs.Causes.{is_unknown, is_beyond}

@@ -1,5 +1,4 @@
-use Rattle.std.proofs.Common.{◌≡◌, ◌∷◌, [], ◌++◌, List, ℕ, ◌%◌, ◌/◌, sym, ◌∙◌, ap, refl, append_assoc, Result, Ok, Err, OnOk}
-use Rattle.thumb_asm.specs.declared.Stop.{Stop}
+use Rattle.std.proofs.Common.{◌∷◌, [], ◌%◌, ◌/◌}
 use Rattle.thumb_asm.specs.Meaning.{low_first}
 use Rattle.thumb_asm.proofs.Values.{low_two, after}
 use Rattle.thumb_asm.proofs.data.push_half.Goals as goal

@@ -1,4 +1,4 @@
-use Rattle.std.proofs.Common.{◌≡◌, ◌∙◌}
+use Rattle.std.proofs.Common.{◌∙◌}
 use Rattle.thumb_asm.proofs.Values.{zeros_next}
 use Rattle.thumb_asm.proofs.data.push_zeros.Goals as goal
 

@@ -1,4 +1,4 @@
-use Rattle.std.proofs.Common.{◌≡◌, ◌∙◌, ◌∷◌, [], ◌++◌, sym, ap, subst, arith, None, Some, List, ℕ, take, string_bytes}
+use Rattle.std.proofs.Common.{◌≡◌, ◌∙◌, sym, ap, subst, arith, take, string_bytes}
 use Rattle.std.specs.BTreeMap.{get_by_text}
 use Rattle.thumb_asm.specs.Chars.{entry_at}
 use Rattle.thumb_asm.specs.Passes.{names_of, with_symbol}

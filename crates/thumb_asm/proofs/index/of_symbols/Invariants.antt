@@ -1,4 +1,4 @@
-use Rattle.std.proofs.Common.{◌≡◌, take}
+use Rattle.std.proofs.Common.{take}
 use Rattle.thumb_asm.specs.Passes.{names_of, Indexes}
 use Rattle.thumb_asm.proofs.index.of_symbols.Given as goal
 

@@ -1,4 +1,4 @@
-use Rattle.std.proofs.Common.{◌≡◌, ◌∷◌, sym, ap, ◌∙◌, Option, option_map, is_some, Bor, List, ℕ}
+use Rattle.std.proofs.Common.{sym, ap, ◌∙◌, Option, option_map, is_some, Bor, List, ℕ}
 use Rattle.thumb_asm.specs.Operands.{ranges}
 use Rattle.thumb_asm.specs.Kinds.{cuts_left}
 use Rattle.thumb_asm.proofs.Texts.{some_left, none_left, no_ranges}

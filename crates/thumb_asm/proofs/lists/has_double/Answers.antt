@@ -1,4 +1,4 @@
-use Rattle.std.proofs.Common.{◌≡◌, sym, ◌∙◌, arith, subst, ap}
+use Rattle.std.proofs.Common.{sym, ◌∙◌, arith, ap}
 use Rattle.thumb_asm.specs.Sizes.{any_below, is_double}
 use Rattle.thumb_asm.specs.Kinds.{ranges_in}
 use Rattle.thumb_asm.proofs.Below.{any_start, any_next, any_found}

@@ -1,4 +1,4 @@
-use Rattle.std.proofs.Common.{◌≡◌, ◌+◌, ◌≤◌, option_map, nat_lt, count_by}
+use Rattle.std.proofs.Common.{◌≡◌, ◌+◌, ◌≤◌, option_map, count_by}
 use Rattle.thumb_asm.specs.Cuts.{left_length}
 use Rattle.thumb_asm.specs.Sizes.{is_in}
 use Rattle.thumb_asm.specs.Kinds.{ranges_in, ranges_left}

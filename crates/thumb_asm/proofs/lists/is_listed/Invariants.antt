@@ -1,7 +1,7 @@
-use Rattle.std.proofs.Common.{◌≡◌, option_map, ◌||◌, nat_eq}
+use Rattle.std.proofs.Common.{◌≡◌, option_map}
 use Rattle.std.specs.List.{list_any}
 use Rattle.thumb_asm.specs.Cuts.{left_length}
-use Rattle.thumb_asm.specs.Sizes.{is_in, falls}
+use Rattle.thumb_asm.specs.Sizes.{is_in}
 use Rattle.thumb_asm.specs.Kinds.{ranges_in, ranges_left}
 use Rattle.thumb_asm.proofs.lists.is_listed.Given as goal
 

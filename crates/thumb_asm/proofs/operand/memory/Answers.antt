@@ -1,4 +1,4 @@
-use Rattle.std.proofs.Common.{◌≡◌, ◌∷◌, sym, ap, ◌∙◌, Option, option_map, Bor, List, ℕ}
+use Rattle.std.proofs.Common.{◌∷◌, sym, ap, ◌∙◌, Option, option_map, Bor, List, ℕ}
 use Rattle.thumb_asm.specs.Kinds.{cuts_left}
 use Rattle.thumb_asm.proofs.Commas.{memory_long}
 use Rattle.thumb_asm.proofs.operand.memory.Goals as goal

@@ -1,6 +1,6 @@
-use Rattle.std.proofs.Common.{◌≡◌, ◌∷◌, [], ◌+◌, ℕ, sym, ◌∙◌, arith, ap, length, List, map, take, drop}
+use Rattle.std.proofs.Common.{◌∷◌, [], ◌+◌, sym, ◌∙◌, arith, ap, map, drop}
 use Rattle.thumb_asm.specs.Chars.{strip}
-use Rattle.thumb_asm.specs.Operands.{split_by, stripped_by}
+use Rattle.thumb_asm.specs.Operands.{stripped_by}
 use Rattle.thumb_asm.proofs.Strips.{take_all}
 use Rattle.thumb_asm.proofs.Commas.{split_start, split_step, split_found, split_none}
 use Rattle.thumb_asm.proofs.operand.split_by.Goals as goal

@@ -1,10 +1,9 @@
-use Rattle.std.proofs.Common.{◌≡◌, sym, ◌∙◌, ap, subst, refl, Ok, Err, IfOk, IfErr, None, Some, List, ℕ, Option}
+use Rattle.std.proofs.Common.{◌≡◌, subst, IfOk, IfErr, None}
 use Rattle.std.specs.BTreeMap.{get_by_text}
 use Rattle.text_lines.specs.Text.{lines_of}
-use Rattle.thumb_asm.specs.Chars.{entry_at}
-use Rattle.thumb_asm.specs.Meaning.{Env, env_of, Assembles, Lays}
-use Rattle.thumb_asm.specs.Causes.{first_cause, second_in, labels_from}
-use Rattle.thumb_asm.specs.Passes.{symbol_values, names_of, Refuses}
+use Rattle.thumb_asm.specs.Meaning.{Env, Assembles}
+use Rattle.thumb_asm.specs.Causes.{first_cause}
+use Rattle.thumb_asm.specs.Passes.{names_of, Refuses}
 use Rattle.thumb_asm.proofs.Labels.{same_env}
 use Rattle.thumb_asm.proofs.passes.assemble.Goals as goal
 

@@ -1,4 +1,4 @@
-use Rattle.std.proofs.Common.{◌≡◌, ◌+◌, sym, ◌∙◌, arith, ap, refl, subst, length, ◌++◌, ℕ, Option, List, rules}
+use Rattle.std.proofs.Common.{◌≡◌, ◌+◌, sym, arith, ap, subst, length, rules}
 use Rattle.thumb_asm.specs.Parts.{parts}
 use Rattle.thumb_asm.specs.Sizes.{statement_of}
 use Rattle.thumb_asm.specs.Causes.{second_group}

@@ -1,4 +1,4 @@
-use Rattle.std.proofs.Common.{◌≡◌, ◌+◌, ◌≤◌, length, ℕ}
+use Rattle.std.proofs.Common.{◌+◌, ◌≤◌, length}
 use Rattle.text_lines.specs.Text.{lines_of}
 use Rattle.thumb_asm.specs.Passes.{env_in}
 use Rattle.thumb_asm.proofs.Passing.{Emitting}

@@ -1,9 +1,9 @@
-use Rattle.std.proofs.Common.{◌≡◌, sym, ◌∙◌, ap, List, ℕ, Ok, Err, Result, Option, option_map}
+use Rattle.std.proofs.Common.{sym, ◌∙◌, ap, Ok, option_map}
 use Rattle.thumb_asm.specs.Parts.{Parts}
 use Rattle.thumb_asm.specs.Sizes.{statement_of}
 use Rattle.thumb_asm.specs.Passes.{env_in}
 use Rattle.thumb_asm.specs.Views.{shape_of, shown}
-use Rattle.thumb_asm.proofs.Passing.{emitted_by, refused_by, emitted_none, emitted_err}
+use Rattle.thumb_asm.proofs.Passing.{emitted_by, emitted_none, emitted_err}
 use Rattle.thumb_asm.proofs.passes.emit_line.Goals as goal
 
 pub returns-in-Some-clause-ok : goal.returns-in-Some-clause-ok

@@ -1,4 +1,4 @@
-use Rattle.std.proofs.Common.{◌≡◌, ◌+◌, sym, ◌∙◌, arith, ap, refl, subst, length, ◌++◌, [], Some, None, true, IfSome, List, ℕ, Option, option_map}
+use Rattle.std.proofs.Common.{◌≡◌, ◌+◌, sym, ◌∙◌, arith, ap, refl, subst, length, ◌++◌, [], Some, None, true, IfSome, List, ℕ, Option}
 use Rattle.std.specs.BTreeMap.{get_by_text}
 use Rattle.thumb_asm.specs.Causes.{first_group}
 use Rattle.thumb_asm.specs.Chars.{is_name, entry_at}
@@ -7,7 +7,7 @@ use Rattle.thumb_asm.specs.Parts.{Parts, parts}
 use Rattle.thumb_asm.specs.Meaning.{own_label, Env}
 use Rattle.thumb_asm.specs.Passes.{with_label}
 use Rattle.thumb_asm.proofs.Labels.{empty_index, if_some_now, same_env, label_added, named_only, free_only}
-use Rattle.thumb_asm.proofs.Passing.{Surveyed, survey_start, survey_step, survey_fails, survey_ends}
+use Rattle.thumb_asm.proofs.Passing.{survey_start, survey_step, survey_fails, survey_ends}
 use Rattle.thumb_asm.proofs.passes.place_lines.Goals as goal
 
 pub lines-init : goal.lines-init

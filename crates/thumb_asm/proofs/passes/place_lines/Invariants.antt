@@ -1,4 +1,4 @@
-use Rattle.std.proofs.Common.{◌≡◌, ◌+◌, ◌≤◌, length, ℕ}
+use Rattle.std.proofs.Common.{◌+◌, ◌≤◌, length}
 use Rattle.std.specs.BTreeMap.{get_by_text}
 use Rattle.text_lines.specs.Text.{lines_of}
 use Rattle.thumb_asm.specs.Meaning.{Names}

@@ -1,6 +1,5 @@
-use Rattle.std.proofs.Common.{◌≡◌, sym, subst, arith, Ok, Err, MatchResult, OnOk, IfErr, ◌++◌, false, List, ℕ}
-use Rattle.thumb_asm.specs.Meaning.{insn_at, fitting}
-use Rattle.thumb_asm.specs.Passes.{env_in, Stops}
+use Rattle.std.proofs.Common.{◌≡◌, sym, subst, OnOk, false}
+use Rattle.thumb_asm.specs.Passes.{env_in}
 use Rattle.thumb_asm.specs.Kinds.{good_text}
 use Rattle.thumb_asm.specs.Outputs.{Gave}
 use Rattle.thumb_asm.specs.declared.shape.Shape.{Shape as Held}

@@ -1,8 +1,6 @@
-use Rattle.std.proofs.Common.{◌≡◌, sym, subst, arith, Ok, Err, MatchResult, OnOk, IfErr, ◌++◌, false, List, ℕ}
+use Rattle.std.proofs.Common.{◌≡◌, sym, subst, Err, MatchResult}
 use Rattle.thumb_asm.specs.Meaning.{insn_at, fitting}
-use Rattle.thumb_asm.specs.Passes.{env_in, Stops}
-use Rattle.thumb_asm.specs.Kinds.{good_text}
-use Rattle.thumb_asm.specs.Outputs.{Gave}
+use Rattle.thumb_asm.specs.Passes.{env_in}
 use Rattle.thumb_asm.specs.declared.shape.Shape.{Shape as Held}
 use Rattle.thumb_asm.specs.Views.{shape_of}
 use Rattle.thumb_asm.proofs.shape.insn_at.Goals as goal
