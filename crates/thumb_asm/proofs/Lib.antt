@@ -1,0 +1,12 @@
+pub mod Strips
+pub mod Scans
+pub mod Passing
+pub mod Coding
+pub mod Commas
+pub mod Counts
+pub mod Fills
+pub mod Texts
+pub mod Below
+pub mod Values
+pub mod Labels
+pub mod Expressions

@@ -1,0 +1,31 @@
+-- What a statement adds.
+use Rattle.std.specs.Prelude.{ℕ, ◌≡◌, List, ◌++◌, length, None, Result, Ok}
+use Rattle.thumb_insn.specs.declared.Insn.{Insn}
+use Rattle.thumb_asm.specs.Syntax.{Shape}
+use Rattle.thumb_asm.specs.Sizes.{shape_size}
+use Rattle.thumb_encode.specs.Codes.{insn_size}
+use Rattle.thumb_asm.specs.declared.Cause.{Cause}
+use Rattle.thumb_asm.specs.Meaning.{Env, Means, Codes, fitting}
+use Rattle.thumb_asm.specs.Causes.{shape_cause, insn_cause}
+
+pub record Gave (env : Env) (at : ℕ) (s : Shape) (old new : List ℕ) : Type 0 where
+  pub own : List ℕ
+  pub bytes : new ≡ old ++ own
+  pub size : length own ≡ shape_size at s
+  pub means : Means env at s own
+  pub accepted : shape_cause env at s ≡ None
+
+-- the code of an instruction at the end
+pub record Coded (i : Insn) (at : ℕ) (old new : List ℕ) : Type 0 where
+  pub own : List ℕ
+  pub bytes : new ≡ old ++ own
+  pub size : length own ≡ insn_size i
+  pub codes : Codes i own
+  pub fits : fitting i ≡ Ok i
+  pub even : insn_cause at (Ok i) ≡ None
+
+-- the code of an instruction that was found
+pub record Put (r : Result Insn Cause) (at : ℕ) (old new : List ℕ) : Type 0 where
+  pub insn : Insn
+  pub is : r ≡ Ok insn
+  pub coded : Coded insn at old new

@@ -1,0 +1,61 @@
+-- What a line and a text come to in the program.
+use Rattle.std.specs.Prelude.{ℕ, ◌+◌, ◌≡◌, List, [], ◌∷◌, ◌++◌, length, map, Option, Some, None, String, string_bytes, bytes_eq, if◌then◌else◌}
+use Rattle.thumb_asm.specs.declared.Cause.{Cause}
+use Rattle.thumb_asm.specs.declared.AsmFault.{AsmFault}
+use Rattle.thumb_asm.specs.declared.AsmFault.TheVariants as fault
+use Rattle.thumb_asm.specs.declared.Stop.{Stop}
+use Rattle.thumb_asm.specs.declared.Stop.TheVariants as stop
+use Rattle.thumb_asm.specs.Parts.{parts}
+use Rattle.thumb_asm.specs.Sizes.{statement_of}
+use Rattle.thumb_asm.specs.Meaning.{Names, Env, env_of, Spells}
+use Rattle.thumb_asm.specs.Chars.{entry_at}
+use Rattle.thumb_asm.specs.Operands.{or_else}
+use Rattle.std.specs.BTreeMap.{BTreeMap, get_by_text}
+use Rattle.thumb_asm.specs.Causes.{line_size, second_group}
+
+-- names and values as lists of bytes and numbers
+abbrev pub names_of : {A : Type 0} → List (String A × ℕ) → Names
+names_of es = map (λ e. (string_bytes e.0, e.1)) es
+
+-- the values of symbols, of which the first of a name counts
+abbrev pub symbol_values : {A : Type 0} → List (String A × ℕ) → Env
+symbol_values es = entry_at (names_of es)
+
+-- what two maps give: labels, and symbols that are no labels
+abbrev pub env_in : {A : Type 0} → BTreeMap (String A) ℕ → BTreeMap (String A) ℕ → Env
+env_in labels symbols = env_of (get_by_text labels) (get_by_text symbols)
+
+-- a map has these names with their values
+abbrev pub Indexes : {A : Type 0} → BTreeMap (String A) ℕ → Names → Type 0
+Indexes index names = (name : List ℕ) → get_by_text index name ≡ entry_at names name
+
+-- a fault is this cause at this line, or want of memory
+abbrev pub Refuses : AsmFault → Option (Cause × ℕ) → Type 0
+Refuses fault.Memory first = Unit {0}
+Refuses (fault.Refused c k) first = first ≡ Some (c, k)
+
+abbrev pub Stops : Stop → Option Cause → Type 0
+Stops stop.Memory cause = Unit {0}
+Stops (stop.Cause c) cause = cause ≡ Some c
+
+-- how many bytes lines take from an address on
+unfoldable pub size_from : ℕ → List (List ℕ) → ℕ
+size_from at [] = 0
+size_from at (l ∷ ls) = line_size at l + size_from (at + line_size at l) ls
+
+-- the bytes of one line at the end
+pub record Emitted (env : Env) (at : ℕ) (line old new : List ℕ) : Type 0 where
+  pub own : List ℕ
+  pub bytes : new ≡ old ++ own
+  pub size : length own ≡ line_size at line
+  pub spells : Spells env at (statement_of (parts line).statement) own
+  pub accepted : second_group env at (statement_of (parts line).statement) ≡ None
+
+-- names with a line's label
+abbrev pub with_label : ℕ → Option (List ℕ) → Env → Env
+with_label at None env name = env name
+with_label at (Some label) env name = if bytes_eq name label then Some at else env name
+
+-- names with a symbol, unless it has a value
+abbrev pub with_symbol : List ℕ → ℕ → Env → Env
+with_symbol symbol value env name = or_else (env name) (if bytes_eq name symbol then Some value else None)

@@ -1,0 +1,154 @@
+//! The assembler (docs/FORMATS.md, Assembler): lines of text become the bytes of instructions and
+//! data, or the first cause why they do not. The language is defined in `specs/`: `Parts` cuts a
+//! line, `Operands` reads its operands, `Syntax` has one line for each syntax, `Meaning` says which
+//! bytes and labels lines have, and `Causes` what is refused and in which order.
+#![tactic(auto)]
+
+ghost use Rattle.std.specs.Prelude.{◌≡◌};
+ghost use Rattle.thumb_asm.specs.declared.AsmFault.TheVariants.{Memory};
+ghost use Rattle.thumb_asm.specs.Causes.{cause_number};
+
+mod codes;
+mod data;
+mod expr;
+mod index;
+mod lists;
+mod operand;
+mod parts;
+mod passes;
+mod quotes;
+mod shape;
+mod syntax;
+#[cfg(test)]
+mod tests;
+mod words;
+
+pub use passes::{Object, assemble};
+use std::alloc::AllocError;
+use thiserror::Error;
+use thumb_insn::{Barrier, Bytes, Cond, Load, Op, Shift, Size};
+
+/// What the first word of a statement names.
+#[derive(Clone, Copy, PartialEq, Eq, Debug)]
+pub(crate) enum Mnemonic {
+    Shift(Shift),
+    Movs,
+    Adds,
+    Subs,
+    Cmp,
+    Rors,
+    Rsbs,
+    Pair(Op),
+    Add,
+    Sub,
+    Mov,
+    Bx,
+    Blx,
+    Load(Load),
+    Store(Size),
+    Adr,
+    Change(Bytes),
+    Push,
+    Pop,
+    Cpsie,
+    Cpsid,
+    Bkpt,
+    Hint,
+    Named(u32),
+    Stm,
+    Ldm,
+    BranchIf(Cond),
+    Svc,
+    Branch,
+    Bl,
+    Fence(Barrier),
+    Mrs,
+    Msr,
+    Values(Size),
+    Ascii,
+    Space,
+    Align,
+}
+
+/// Why a line is refused.
+#[derive(Clone, Copy, PartialEq, Eq, Debug, Drop, Error)]
+pub enum Cause {
+    #[error("a byte that is not allowed")]
+    BadByte,
+    #[error("what stands before the colon is no name")]
+    BadLabel,
+    #[error("the label stands on an earlier line")]
+    LabelTwice,
+    #[error("an unknown mnemonic")]
+    UnknownMnemonic,
+    #[error("operands that the mnemonic does not take")]
+    BadOperands,
+    #[error("a register that cannot stand here")]
+    BadRegister,
+    #[error("no number of 32 bits")]
+    BadNumber,
+    #[error("a name that is neither a label nor a symbol")]
+    UnknownSymbol,
+    #[error("a value out of range")]
+    OutOfRange,
+    #[error("a value or an address that is no multiple")]
+    Misaligned,
+    #[error("a list of registers that is not allowed")]
+    BadList,
+    #[error("more than 1048576 bytes")]
+    TooLong,
+    #[error("the label is the name of a register or a symbol")]
+    NameClash,
+    #[error("a line of more than 255 bytes")]
+    LineTooLong,
+}
+
+impl Cause {
+    /// The number of a cause, as docs/FORMATS.md lists them.
+    pub fn number(self) -> u8
+        ensures { result ≡ cause_number self }
+    {
+        match self {
+            Cause::BadByte => 1,
+            Cause::BadLabel => 2,
+            Cause::LabelTwice => 3,
+            Cause::UnknownMnemonic => 4,
+            Cause::BadOperands => 5,
+            Cause::BadRegister => 6,
+            Cause::BadNumber => 7,
+            Cause::UnknownSymbol => 8,
+            Cause::OutOfRange => 9,
+            Cause::Misaligned => 10,
+            Cause::BadList => 11,
+            Cause::TooLong => 12,
+            Cause::NameClash => 13,
+            Cause::LineTooLong => 14,
+        }
+    }
+}
+
+/// Why a text is not assembled.
+#[derive(Debug, Drop, Error)]
+pub enum AsmFault {
+    /// There was not enough memory.
+    #[error("out of memory")]
+    Memory,
+    /// A cause, and its line, counted from 1.
+    #[error("line {1}: {0}")]
+    Refused(Cause, usize),
+}
+
+/// Why a line is not emitted.
+#[derive(Debug, Drop)]
+pub(crate) enum Stop {
+    Memory,
+    Cause(Cause),
+}
+
+impl From<AllocError> for AsmFault {
+    ghost from_gives = { λ _ e. e ≡ Memory };
+
+    fn from(_error: AllocError) -> AsmFault {
+        AsmFault::Memory
+    }
+}

@@ -1,0 +1,222 @@
+//! The two passes.
+
+ghost use Rattle.std.specs.Prelude.{ℕ, Option, ◌≡◌, ◌++◌, ◌<◌, ◌≤◌, ◌+◌, ◌^◌, ◌-◌, [], option_map, length, OnOk, IfOk, IfErr, IfSome, None, Some, true, false, vec_len};
+ghost use Rattle.std.specs.BTreeMap.{get_by_text};
+ghost use Rattle.text_lines.specs.Text.{lines_of};
+ghost use Rattle.thumb_asm.specs.Chars.{is_name};
+ghost use Rattle.thumb_asm.specs.Parts.{parts};
+ghost use Rattle.thumb_asm.specs.Sizes.{statement_of};
+ghost use Rattle.thumb_asm.specs.Meaning.{env_of, own_label, Lays, Assembles};
+ghost use Rattle.thumb_asm.specs.Causes.{first_group, second_group, line_size, label_cause, first_in, second_in, labels_from, first_cause, at_line};
+ghost use Rattle.thumb_asm.specs.declared.Cause.{Cause};
+ghost use Rattle.thumb_asm.specs.Passes.{symbol_values, env_in, Indexes, Stops, Refuses, Emitted, size_from};
+
+use super::index::{self, Names, find};
+use super::parts::line_of;
+use super::shape::{self, Shape};
+use super::words::{are_allowed, is_name, register};
+use super::{AsmFault, Cause, Stop};
+use std::alloc::Global;
+use std::collections::BTreeMap;
+use text_lines::Lines;
+
+/// What a text is assembled to.
+#[derive(Drop)]
+pub struct Object {
+    /// The bytes of the lines one behind the other, the first at the base.
+    pub bytes: Vec<u8>,
+    /// Each label with the address of its line.
+    pub labels: BTreeMap<String, u32>,
+}
+
+/// What the first pass finds.
+#[derive(Drop)]
+struct Survey {
+    labels: BTreeMap<String, u32>,
+    size: u32,
+}
+
+/// Why a label is refused.
+fn check_label(label: Option<&[u8]>, names: &Names<'_>) -> Option<Cause>
+    ensures { result ≡ label_cause (get_by_text names.now.symbols.now) (get_by_text names.now.labels.now) (option_map (λ r. r.now) label.entry) }
+{
+    match label {
+        None => None,
+        Some(name) => {
+            if !is_name(name) {
+                Some(Cause::BadLabel)
+            } else if register(name).is_some() || find(names.symbols, name).is_some() {
+                Some(Cause::NameClash)
+            } else if find(names.labels, name).is_some() {
+                Some(Cause::LabelTwice)
+            } else {
+                None
+            }
+        }
+    }
+}
+
+/// How many bytes a line takes, or why it is refused.
+#[tactic(auto, unfolding(crate::specs::Causes::first_group, crate::specs::Causes::line_size))]
+fn survey_line(line: &[u8], base: u32, used: u32, names: &Names<'_>) -> Result<u32, Cause>
+    requires base { base + 1048576 < 2 ^ 32 }
+    requires used { used ≤ 1048576 }
+    ensures ok { IfOk result (λ size. (first_group (get_by_text names.now.symbols.now) base (get_by_text names.now.labels.now) used line.now ≡ None) × (size ≡ line_size (base + used) line.now) × (used + size ≤ 1048576) × IfSome (parts line.now).label (λ name. (is_name name ≡ true) × (get_by_text names.now.labels.now name ≡ None))) }
+    ensures err { IfErr result (λ c. first_group (get_by_text names.now.symbols.now) base (get_by_text names.now.labels.now) used line.now ≡ Some c) }
+{
+    if line.len() > 255 {
+        return Err(Cause::LineTooLong);
+    }
+    if !are_allowed(line) {
+        return Err(Cause::BadByte);
+    }
+    let parts = line_of(line);
+    match check_label(parts.label, names) {
+        Some(cause) => return Err(cause),
+        None => {}
+    }
+    let size = match shape::statement(parts.statement)? {
+        None => 0,
+        Some(shape) => match shape::size(base + used, &shape) {
+            None => return Err(Cause::TooLong),
+            Some(size) => size,
+        },
+    };
+    if size > 1_048_576 - used {
+        Err(Cause::TooLong)
+    } else {
+        Ok(size)
+    }
+}
+
+/// The first pass: labels and lengths.
+fn place_lines(
+    alloc: Global,
+    text: &[u8],
+    base: u32,
+    symbols: &BTreeMap<String, u32>,
+) -> Result<Survey, AsmFault>
+    requires { base + 1048576 < 2 ^ 32 }
+    ensures ok { IfOk result (λ s. (first_in (get_by_text symbols.now) base [] 0 1 (lines_of text.now) ≡ None) × Indexes s.labels (labels_from base (lines_of text.now)) × (s.size ≡ size_from base (lines_of text.now)) × (s.size ≤ 1048576)) }
+    ensures err { IfErr result (λ e. Refuses e (first_in (get_by_text symbols.now) base [] 0 1 (lines_of text.now))) }
+{
+    let mut labels: BTreeMap<String, u32> = BTreeMap::new(alloc);
+    let mut used = 0u32;
+    let mut number = 0usize;
+    let mut lines = Lines::of(text);
+    'lines: while let Some(line) = lines.next() {
+        number += 1;
+        match survey_line(
+            line,
+            base,
+            used,
+            &Names {
+                labels: &labels,
+                symbols,
+            },
+        ) {
+            Err(cause) => return Err(AsmFault::Refused(cause, number)),
+            Ok(size) => {
+                index::add(alloc, &mut labels, line_of(line).label, base + used)?;
+                used += size;
+            }
+        }
+    }
+    Ok(Survey { labels, size: used })
+}
+
+/// The bytes of a line.
+fn emit_line(at: u32, line: &[u8], names: &Names<'_>, out: &mut Vec<u8>) -> Result<(), Stop>
+    ensures ok { OnOk result (Emitted (env_in names.now.labels.now names.now.symbols.now) at line.now out.old.items out.new.items) }
+    ensures err { IfErr result (λ e. Stops e (second_group (env_in names.now.labels.now names.now.symbols.now) at (statement_of (parts line.now).statement))) }
+{
+    match shape::statement(line_of(line).statement) {
+        Ok(found) => match found {
+            Some(shape) => shape::emit(at, &shape, names, out),
+            None => Ok(()),
+        },
+        Err(_) => Ok(()),
+    }
+}
+
+fn fault_at(stop: Stop, line: usize) -> AsmFault
+    ensures { (cause : Option Cause) (later : Option (Cause × ℕ)) → Stops stop cause → Refuses result (at_line line cause later) }
+{
+    match stop {
+        Stop::Memory => AsmFault::Memory,
+        Stop::Cause(cause) => AsmFault::Refused(cause, line),
+    }
+}
+
+/// The second pass: bytes.
+fn emit(alloc: Global, text: &[u8], base: u32, names: &Names<'_>) -> Result<Vec<u8>, AsmFault>
+    requires base { base + 1048576 < 2 ^ 32 }
+    requires size { size_from base (lines_of text.now) ≤ 1048576 }
+    ensures ok { IfOk result (λ v. (second_in (env_in names.now.labels.now names.now.symbols.now) base 1 (lines_of text.now) ≡ None) × Lays (env_in names.now.labels.now names.now.symbols.now) base (lines_of text.now) v.items (labels_from base (lines_of text.now))) }
+    ensures err { IfErr result (λ e. Refuses e (second_in (env_in names.now.labels.now names.now.symbols.now) base 1 (lines_of text.now))) }
+{
+    let mut out: Vec<u8> = Vec::new(alloc);
+    let mut number = 0usize;
+    let mut lines = Lines::of(text);
+    'lines: while let Some(line) = lines.next() {
+        number += 1;
+        match emit_line(base + out.len() as u32, line, names, &mut out) {
+            Err(stop) => return Err(fault_at(stop, number)),
+            Ok(()) => {}
+        }
+    }
+    Ok(out)
+}
+
+/// The same with the symbols by their names.
+#[tactic(auto, unfolding(crate::specs::Causes::first_cause))]
+fn assemble_with(
+    alloc: Global,
+    text: &[u8],
+    base: u32,
+    symbols: &BTreeMap<String, u32>,
+) -> Result<Object, AsmFault>
+    requires { base + 1048576 < 2 ^ 32 }
+    ensures accepted { IfOk result (λ o. first_cause (lines_of text.now) base (get_by_text symbols.now) ≡ None) }
+    ensures assembled { IfOk result (λ o. Assembles (lines_of text.now) base (get_by_text symbols.now) o.bytes.items (get_by_text o.labels)) }
+    ensures refused { IfErr result (λ e. Refuses e (first_cause (lines_of text.now) base (get_by_text symbols.now))) }
+{
+    match place_lines(alloc, text, base, symbols) {
+        Err(fault) => Err(fault),
+        Ok(survey) => match emit(
+            alloc,
+            text,
+            base,
+            &Names {
+                labels: &survey.labels,
+                symbols,
+            },
+        ) {
+            Err(fault) => Err(fault),
+            Ok(bytes) => Ok(Object {
+                bytes,
+                labels: survey.labels,
+            }),
+        },
+    }
+}
+
+/// The bytes and labels of a text whose first line stands at `base`, or the first cause why it has
+/// none, by the order of docs/FORMATS.md, Assembler. `symbols` give names values besides the labels;
+/// of two with one name the first counts. The last byte of a text stands below address 2^32.
+pub fn assemble(
+    alloc: Global,
+    text: &[u8],
+    base: u32,
+    symbols: &[(String, u32)],
+) -> Result<Object, AsmFault>
+    requires { base + 1048576 < 2 ^ 32 }
+    ensures accepted { IfOk result (λ o. first_cause (lines_of text.now) base (symbol_values symbols.now) ≡ None) }
+    ensures assembled { IfOk result (λ o. Assembles (lines_of text.now) base (symbol_values symbols.now) o.bytes.items (get_by_text o.labels)) }
+    ensures refused { IfErr result (λ e. Refuses e (first_cause (lines_of text.now) base (symbol_values symbols.now))) }
+{
+    match index::of_symbols(alloc, symbols) {
+        Err(_) => Err(AsmFault::Memory),
+        Ok(symbols) => assemble_with(alloc, text, base, &symbols),
+    }
+}

@@ -1,0 +1,483 @@
+//! Statements.
+
+ghost use Rattle.std.specs.Prelude.{◌≡◌, ◌++◌, ◌<◌, ◌≤◌, ◌+◌, ◌*◌, ◌^◌, false, option_map, length, OnOk, IfOk, IfErr, IfSome, MatchOption, MatchResult, nat_abs, pos, ◌≤ℤ◌, Result, Ok, Err, None, Some};
+ghost use Rattle.thumb_asm.specs.Sizes.{statement_of, shape_size, list_insn, block_insn, extra_of, natural_part, padding, has_bad_count, has_bad_number, has_bad_register, has_bad_list, is_off, is_no_expr, is_no_number, checked};
+ghost use Rattle.thumb_asm.specs.Operands.{signed, expression};
+ghost use Rattle.thumb_asm.specs.Parts.{operand_pieces};
+ghost use Rattle.thumb_asm.specs.Kinds.{ranges_in, good_text};
+ghost use Rattle.thumb_encode.specs.Codes.{insn_size, scale};
+ghost use Rattle.std.specs.List.{list_any};
+ghost use Rattle.thumb_asm.specs.Meaning.{insn_at, fitting};
+ghost use Rattle.thumb_asm.specs.Syntax.{Filled as SpecFilled, Within as SpecWithin, Aimed as SpecAimed, Near as SpecNear};
+ghost use Rattle.thumb_asm.specs.Causes.{shape_cause};
+ghost use Rattle.thumb_asm.specs.Passes.{env_in, Stops};
+ghost use Rattle.thumb_asm.specs.Views.{shape_of, shown, fill, aim, HoldsInsn};
+ghost use Rattle.thumb_asm.specs.Outputs.{Gave};
+
+use super::codes::{aim, emit_found, fill, is_misfit, with_bounded, with_distance, with_value};
+use super::data::{self, push_zeros};
+use super::expr::{expression, signed, value};
+use super::index::Names;
+use super::lists::{has_stray, is_listed, is_no_list, is_raised_wrong, mask};
+use super::parts::{Pieces, count, split_word};
+use super::syntax::{mnemonic, shaped, values};
+use super::words::is_nil;
+use super::{Cause, Mnemonic, Stop, quotes};
+use thumb_insn::{Insn, Reg, Size};
+
+/// A statement, with its expressions as they are written.
+#[derive(Clone, Copy)]
+pub(crate) enum Shape<'a> {
+    Fixed(Insn),
+    Filled(&'a [u8], Insn),
+    Within(u32, u32, &'a [u8], Insn),
+    Aimed(&'a [u8], Insn),
+    Near(&'a [u8], Insn),
+    Misplaced,
+    Listed(bool, &'a [u8]),
+    Block(Reg, bool, bool, &'a [u8]),
+    Data(Size, &'a [u8]),
+    Text(&'a [u8]),
+    Zeros(&'a [u8]),
+    Padding(&'a [u8]),
+}
+
+/// A number of bytes or an alignment that is out of its range.
+#[tactic(auto, unfolding(crate::specs::Sizes::has_bad_count))]
+fn has_bad_count(shape: &Shape<'_>) -> bool
+    ensures { result ≡ has_bad_count (shape_of shape.now) }
+{
+    match *shape {
+        Shape::Zeros(e) => is_off(0, 1048576, signed(e)),
+        Shape::Padding(e) => is_off(1, 8, signed(e)),
+        Shape::Fixed(_)
+        | Shape::Filled(_, _)
+        | Shape::Within(_, _, _, _)
+        | Shape::Aimed(_, _)
+        | Shape::Near(_, _)
+        | Shape::Misplaced
+        | Shape::Listed(_, _)
+        | Shape::Block(_, _, _, _)
+        | Shape::Data(_, _)
+        | Shape::Text(_) => false,
+    }
+}
+
+fn is_off(low: i64, top: i64, number: Option<i64>) -> bool
+    requires low { pos 0 ≤ℤ low }
+    requires top { pos 0 ≤ℤ top }
+    ensures { result ≡ is_off (nat_abs low) (nat_abs top) number }
+{
+    match number {
+        None => false,
+        Some(n) => n < low || top < n,
+    }
+}
+
+/// A number that is none.
+#[tactic(auto, unfolding(crate::specs::Sizes::has_bad_number))]
+fn has_bad_number(shape: &Shape<'_>) -> bool
+    ensures { result ≡ has_bad_number (shape_of shape.now) }
+{
+    match *shape {
+        Shape::Filled(e, _) | Shape::Within(_, _, e, _) | Shape::Aimed(e, _) | Shape::Near(e, _) =>
+            is_no_expr(e),
+        Shape::Zeros(e) | Shape::Padding(e) => is_no_number(e),
+        Shape::Data(_, es) => has_no_expr(es),
+        Shape::Fixed(_)
+        | Shape::Misplaced
+        | Shape::Listed(_, _)
+        | Shape::Block(_, _, _, _)
+        | Shape::Text(_) => false,
+    }
+}
+
+fn is_no_expr(piece: &[u8]) -> bool
+    ensures { result ≡ is_no_expr (expression piece.now) }
+{
+    match expression(piece) {
+        None => true,
+        Some(_) => false,
+    }
+}
+
+fn is_no_number(piece: &[u8]) -> bool
+    ensures { result ≡ is_no_number (signed piece.now) }
+{
+    match signed(piece) {
+        None => true,
+        Some(_) => false,
+    }
+}
+
+/// Is one of these no expression?
+fn has_no_expr(text: &[u8]) -> bool
+    ensures { result ≡ list_any (λ e. is_no_expr (expression e)) (operand_pieces text.now) }
+{
+    let mut pieces = Pieces::of(text);
+    'pieces: while let Some(piece) = pieces.next() {
+        if is_no_expr(piece) {
+            return true;
+        }
+    }
+    false
+}
+
+/// A register that the row doesn't take.
+#[tactic(auto, unfolding(crate::specs::Sizes::has_bad_register))]
+fn has_bad_register(shape: &Shape<'_>) -> bool
+    ensures { result ≡ has_bad_register (shape_of shape.now) }
+{
+    match *shape {
+        Shape::Fixed(insn) => is_misfit(&insn),
+        Shape::Filled(_, insn) | Shape::Within(_, _, _, insn) | Shape::Near(_, insn) => is_misfit(
+            &fill(insn, 0),
+        ),
+        Shape::Misplaced => true,
+        Shape::Listed(loads, text) => has_stray(extra_of(loads), text),
+        Shape::Block(n, _, _, text) => n.number >= 8 || has_stray(0, text),
+        Shape::Aimed(_, _)
+        | Shape::Data(_, _)
+        | Shape::Text(_)
+        | Shape::Zeros(_)
+        | Shape::Padding(_) => false,
+    }
+}
+
+/// A list that is none.
+#[tactic(auto, unfolding(crate::specs::Sizes::has_bad_list))]
+fn has_bad_list(shape: &Shape<'_>) -> bool
+    ensures { result ≡ has_bad_list (shape_of shape.now) }
+{
+    match *shape {
+        Shape::Listed(_, text) => is_no_list(text),
+        Shape::Block(n, raised, loads, text) => is_no_list(text)
+            || is_raised_wrong(n.number, raised, loads, text),
+        Shape::Fixed(_)
+        | Shape::Filled(_, _)
+        | Shape::Within(_, _, _, _)
+        | Shape::Aimed(_, _)
+        | Shape::Near(_, _)
+        | Shape::Misplaced
+        | Shape::Data(_, _)
+        | Shape::Text(_)
+        | Shape::Zeros(_)
+        | Shape::Padding(_) => false,
+    }
+}
+
+/// The high register that the list of `push` or `pop` can hold.
+fn extra_of(loads: bool) -> u8
+    ensures { result ≡ extra_of loads }
+{
+    if loads { 15 } else { 14 }
+}
+
+/// The first cause of a statement's shape.
+#[tactic(auto, unfolding(crate::specs::Sizes::checked))]
+fn checked<'a>(found: Option<Shape<'a>>) -> Result<Option<Shape<'a>>, Cause>
+    ensures value { shown result ≡ checked (option_map shape_of found.entry) }
+    ensures counted { IfOk result (λ o. IfSome o (λ s. has_bad_count (shape_of s) ≡ false)) }
+{
+    match found {
+        None => Err(Cause::BadOperands),
+        Some(shape) => if has_bad_count(&shape) {
+            Err(Cause::BadOperands)
+        } else if has_bad_register(&shape) {
+            Err(Cause::BadRegister)
+        } else if has_bad_number(&shape) {
+            Err(Cause::BadNumber)
+        } else if has_bad_list(&shape) {
+            Err(Cause::BadList)
+        } else {
+            Ok(Some(shape))
+        },
+    }
+}
+
+/// What a statement is.
+#[tactic(auto, unfolding(crate::specs::Sizes::statement_of))]
+pub(crate) fn statement(text: &[u8]) -> Result<Option<Shape<'_>>, Cause>
+    ensures value { shown result ≡ statement_of text.now }
+    ensures counted { IfOk result (λ o. IfSome o (λ s. has_bad_count (shape_of s) ≡ false)) }
+{
+    if is_nil(text) {
+        return Ok(None);
+    }
+    let (word, rest) = split_word(text);
+    match mnemonic(word) {
+        None => Err(Cause::UnknownMnemonic),
+        Some(Mnemonic::Values(size)) => checked(values(size, rest)),
+        Some(m) => checked(shaped(m, rest)),
+    }
+}
+
+/// How many bytes an instruction takes.
+fn insn_size(insn: &Insn) -> u32
+    ensures { result ≡ insn_size insn.now }
+{
+    match *insn {
+        Insn::Bl { .. } | Insn::Fence { .. } | Insn::Mrs { .. } | Insn::Msr { .. } => 4,
+        Insn::ShiftImm { .. }
+        | Insn::AddsReg { .. }
+        | Insn::SubsReg { .. }
+        | Insn::AddsImm3 { .. }
+        | Insn::SubsImm3 { .. }
+        | Insn::MovsImm { .. }
+        | Insn::CmpImm { .. }
+        | Insn::AddsImm8 { .. }
+        | Insn::SubsImm8 { .. }
+        | Insn::Data { .. }
+        | Insn::AddHigh { .. }
+        | Insn::CmpHigh { .. }
+        | Insn::MovHigh { .. }
+        | Insn::Bx { .. }
+        | Insn::Blx { .. }
+        | Insn::LdrLiteral { .. }
+        | Insn::StoreReg { .. }
+        | Insn::LoadReg { .. }
+        | Insn::StoreImm { .. }
+        | Insn::LoadImm { .. }
+        | Insn::StoreSp { .. }
+        | Insn::LoadSp { .. }
+        | Insn::Adr { .. }
+        | Insn::AddSp { .. }
+        | Insn::RaiseSp { .. }
+        | Insn::LowerSp { .. }
+        | Insn::Change { .. }
+        | Insn::Push { .. }
+        | Insn::Pop { .. }
+        | Insn::Cpsie
+        | Insn::Cpsid
+        | Insn::Bkpt { .. }
+        | Insn::Hint { .. }
+        | Insn::Stm { .. }
+        | Insn::Ldm { .. }
+        | Insn::BranchIf { .. }
+        | Insn::Svc { .. }
+        | Insn::Branch { .. } => 2,
+    }
+}
+
+/// How many bytes a value takes.
+fn width(size: Size) -> usize
+    ensures value { result ≡ scale size }
+    ensures bound { result ≤ 4 }
+    ensures positive { 0 < result }
+{
+    match size {
+        Size::Word => 4,
+        Size::Half => 2,
+        Size::Byte => 1,
+    }
+}
+
+/// How many zero bytes are asked for.
+fn zeros(piece: &[u8]) -> u32
+    ensures { result ≡ natural_part (signed piece.now) }
+{
+    match signed(piece) {
+        None => 0,
+        Some(number) => if number < 0 { 0 } else { number as u32 },
+    }
+}
+
+/// How many zero bytes lead to a multiple of a power of two.
+fn padding(at: u32, power: u32) -> u32
+    requires { power ≤ 8 }
+    ensures { result ≡ padding at power }
+{
+    let unit = 1u32 << power;
+    (unit - at % unit) % unit
+}
+
+/// How many bytes values take, unless they are too many.
+fn data_size(size: Size, pieces: &[u8]) -> Option<u32>
+    ensures { MatchOption result (1048576 < scale size * length (operand_pieces pieces.now)) (λ n. n ≡ scale size * length (operand_pieces pieces.now)) }
+{
+    let count = count(pieces);
+    if count > 1_048_576 {
+        None
+    } else {
+        Some((width(size) * count) as u32)
+    }
+}
+
+/// How many bytes a text says, unless they are too many.
+fn text_size(text: &[u8]) -> Option<u32>
+    ensures { MatchOption result (1048576 < length (good_text false text.now)) (λ n. n ≡ length (good_text false text.now)) }
+{
+    let count = quotes::count(text);
+    if count > 1_048_576 {
+        None
+    } else {
+        Some(count as u32)
+    }
+}
+
+/// How many bytes a statement takes. None: more than a text may have.
+#[tactic(auto, unfolding(crate::specs::Sizes::shape_size, crate::specs::Sizes::has_bad_count))]
+pub(crate) fn size(at: u32, shape: &Shape<'_>) -> Option<u32>
+    requires { has_bad_count (shape_of shape.now) ≡ false }
+    ensures { MatchOption result (1048576 < shape_size at (shape_of shape.now)) (λ n. n ≡ shape_size at (shape_of shape.now)) }
+{
+    match *shape {
+        Shape::Fixed(insn) => Some(insn_size(&insn)),
+        Shape::Filled(_, insn) | Shape::Within(_, _, _, insn) | Shape::Near(_, insn) => Some(
+            insn_size(&fill(insn, 0)),
+        ),
+        Shape::Aimed(_, insn) => Some(insn_size(&aim(insn, 0))),
+        Shape::Misplaced => Some(0),
+        Shape::Listed(_, _) | Shape::Block(_, _, _, _) => Some(2),
+        Shape::Data(size, pieces) => data_size(size, pieces),
+        Shape::Text(text) => text_size(text),
+        Shape::Zeros(piece) => Some(zeros(piece)),
+        Shape::Padding(piece) => Some(padding(at, zeros(piece))),
+    }
+}
+
+/// The value's instruction, or why there is none.
+#[tactic(auto, unfolding(crate::specs::Meaning::insn_at))]
+fn filled(at: u32, piece: &[u8], insn: Insn, names: &Names<'_>) -> Result<Insn, Cause>
+    ensures { MatchResult result (λ i. insn_at (env_in names.now.labels.now names.now.symbols.now) at (SpecFilled piece.now (fill insn)) ≡ fitting i) (λ c. insn_at (env_in names.now.labels.now names.now.symbols.now) at (SpecFilled piece.now (fill insn)) ≡ Err c) }
+{
+    match value(piece, names) {
+        None => Err(Cause::UnknownSymbol),
+        Some(number) => match with_value(insn, number) {
+            Some(insn) => Ok(insn),
+            None => Err(Cause::OutOfRange),
+        },
+    }
+}
+
+/// The same for a value with bounds of its own.
+#[tactic(auto, unfolding(crate::specs::Meaning::insn_at))]
+fn within(
+    at: u32,
+    low: u32,
+    top: u32,
+    piece: &[u8],
+    insn: Insn,
+    names: &Names<'_>,
+) -> Result<Insn, Cause>
+    ensures { MatchResult result (λ i. insn_at (env_in names.now.labels.now names.now.symbols.now) at (SpecWithin low top piece.now (fill insn)) ≡ fitting i) (λ c. insn_at (env_in names.now.labels.now names.now.symbols.now) at (SpecWithin low top piece.now (fill insn)) ≡ Err c) }
+{
+    match value(piece, names) {
+        None => Err(Cause::UnknownSymbol),
+        Some(number) => match with_bounded(insn, low, top, number) {
+            Some(insn) => Ok(insn),
+            None => Err(Cause::OutOfRange),
+        },
+    }
+}
+
+/// The instruction with the distance of a target, or why there is none.
+#[tactic(auto, unfolding(crate::specs::Meaning::insn_at))]
+fn aimed(at: u32, piece: &[u8], insn: Insn, names: &Names<'_>) -> Result<Insn, Cause>
+    ensures { MatchResult result (λ i. insn_at (env_in names.now.labels.now names.now.symbols.now) at (SpecAimed piece.now (aim insn)) ≡ fitting i) (λ c. insn_at (env_in names.now.labels.now names.now.symbols.now) at (SpecAimed piece.now (aim insn)) ≡ Err c) }
+{
+    match value(piece, names) {
+        None => Err(Cause::UnknownSymbol),
+        Some(target) => match with_distance(insn, target - (i64::from(at) + 4)) {
+            Some(insn) => Ok(insn),
+            None => Err(Cause::OutOfRange),
+        },
+    }
+}
+
+/// The same from the address aligned down.
+#[tactic(auto, unfolding(crate::specs::Meaning::insn_at))]
+fn near(at: u32, piece: &[u8], insn: Insn, names: &Names<'_>) -> Result<Insn, Cause>
+    ensures { MatchResult result (λ i. insn_at (env_in names.now.labels.now names.now.symbols.now) at (SpecNear piece.now (fill insn)) ≡ fitting i) (λ c. insn_at (env_in names.now.labels.now names.now.symbols.now) at (SpecNear piece.now (fill insn)) ≡ Err c) }
+{
+    match value(piece, names) {
+        None => Err(Cause::UnknownSymbol),
+        Some(target) => match with_value(insn, target - (i64::from(at) + 4) / 4 * 4) {
+            Some(insn) => Ok(insn),
+            None => Err(Cause::OutOfRange),
+        },
+    }
+}
+
+/// The instruction of a list.
+fn list_insn(loads: bool, text: &[u8]) -> Insn
+    ensures { result ≡ list_insn loads (ranges_in text.now) }
+{
+    if loads {
+        Insn::Pop {
+            list: mask(text),
+            pc: is_listed(text, 15),
+        }
+    } else {
+        Insn::Push {
+            list: mask(text),
+            lr: is_listed(text, 14),
+        }
+    }
+}
+
+fn block_insn(n: Reg, loads: bool, list: u8) -> Insn
+    ensures { result ≡ block_insn n loads list }
+{
+    if loads {
+        Insn::Ldm { n, list }
+    } else {
+        Insn::Stm { n, list }
+    }
+}
+
+/// The instruction of a statement, or why there is none.
+#[tactic(auto, unfolding(crate::specs::Meaning::insn_at))]
+fn insn_at(at: u32, shape: &Shape<'_>, names: &Names<'_>) -> Result<Insn, Cause>
+    requires { HoldsInsn shape.now }
+    ensures { MatchResult result (λ i. insn_at (env_in names.now.labels.now names.now.symbols.now) at (shape_of shape.now) ≡ fitting i) (λ c. insn_at (env_in names.now.labels.now names.now.symbols.now) at (shape_of shape.now) ≡ Err c) }
+{
+    match *shape {
+        Shape::Fixed(insn) => Ok(insn),
+        Shape::Filled(e, insn) => filled(at, e, insn, names),
+        Shape::Within(low, top, e, insn) => within(at, low, top, e, insn, names),
+        Shape::Aimed(e, insn) => aimed(at, e, insn, names),
+        Shape::Near(e, insn) => near(at, e, insn, names),
+        Shape::Misplaced => Err(Cause::BadRegister),
+        Shape::Listed(loads, text) => Ok(list_insn(loads, text)),
+        Shape::Block(n, _, loads, text) => Ok(block_insn(n, loads, mask(text))),
+        Shape::Data(_, _) | Shape::Text(_) | Shape::Zeros(_) | Shape::Padding(_) => unreachable!(),
+    }
+}
+
+/// Puts the code of a statement's instruction at the end.
+fn emit_code(at: u32, shape: &Shape<'_>, names: &Names<'_>, out: &mut Vec<u8>) -> Result<(), Stop>
+    requires { HoldsInsn shape.now }
+    ensures ok { OnOk result (Gave (env_in names.now.labels.now names.now.symbols.now) at (shape_of shape.now) out.old.items out.new.items) }
+    ensures err { IfErr result (λ e. Stops e (shape_cause (env_in names.now.labels.now names.now.symbols.now) at (shape_of shape.now))) }
+{
+    emit_found(at, insn_at(at, shape, names), out)
+}
+
+/// Puts a statement's bytes at the end.
+#[tactic(auto, unfolding(crate::specs::Sizes::has_bad_count, crate::specs::Causes::shape_cause))]
+pub(crate) fn emit(
+    at: u32,
+    shape: &Shape<'_>,
+    names: &Names<'_>,
+    out: &mut Vec<u8>,
+) -> Result<(), Stop>
+    requires { has_bad_count (shape_of shape.now) ≡ false }
+    ensures ok { OnOk result (Gave (env_in names.now.labels.now names.now.symbols.now) at (shape_of shape.now) out.old.items out.new.items) }
+    ensures err { IfErr result (λ e. Stops e (shape_cause (env_in names.now.labels.now names.now.symbols.now) at (shape_of shape.now))) }
+{
+    match *shape {
+        Shape::Data(size, pieces) => data::emit(at, size, pieces, names, out),
+        Shape::Text(text) => quotes::push(text, out),
+        Shape::Zeros(piece) => push_zeros(zeros(piece), out),
+        Shape::Padding(piece) => push_zeros(padding(at, zeros(piece)), out),
+        Shape::Fixed(_)
+        | Shape::Filled(_, _)
+        | Shape::Within(_, _, _, _)
+        | Shape::Aimed(_, _)
+        | Shape::Near(_, _)
+        | Shape::Misplaced
+        | Shape::Listed(_, _)
+        | Shape::Block(_, _, _, _) => emit_code(at, shape, names, out),
+    }
+}
