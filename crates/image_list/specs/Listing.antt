@@ -1,0 +1,46 @@
+-- The JSON object that lists an image, its keys in byte order.
+use Rattle.std.specs.Prelude.{ℕ, List, codes, length, map}
+use Rattle.serde_json.specs.Data.{Data, Items, number, unsigned, array, object, member, no_members}
+use Rattle.serde_json.specs.View.{items_of}
+use Rattle.region_check.specs.declared.Region.{Region}
+use Rattle.image_format.specs.Picture.{Picture, TaskPicture, LinePicture, bit, rights_number}
+
+-- a whole number, from 0 on
+abbrev pub whole : ℕ → Data
+whole n = number (unsigned n)
+
+-- rights as a number: 1 read, 2 write, 4 execute, 8 device
+abbrev pub region_data : Region → Data
+region_data r = object (member (codes "base") (whole r.base)
+    (member (codes "rights") (whole (rights_number r.rights))
+    (member (codes "size") (whole r.size) no_members)))
+
+abbrev pub regions_data : List Region → Items
+regions_data rs = items_of (map region_data rs)
+
+-- start is 1 for a task that runs at the start, else 0
+abbrev pub task_data : TaskPicture → Data
+task_data t = object (member (codes "entry") (whole t.entry)
+    (member (codes "priority") (whole t.priority)
+    (member (codes "regions") (array (regions_data t.regions))
+    (member (codes "sp") (whole t.sp)
+    (member (codes "start") (whole (bit t.started 1)) no_members)))))
+
+abbrev pub tasks_data : List TaskPicture → Items
+tasks_data ts = items_of (map task_data ts)
+
+abbrev pub line_data : LinePicture → Data
+line_data l = object (member (codes "bits") (whole l.bits)
+    (member (codes "line") (whole l.line)
+    (member (codes "task") (whole l.task) no_members)))
+
+abbrev pub lines_data : List LinePicture → Items
+lines_data ls = items_of (map line_data ls)
+
+-- flash and ram are numbers of bytes; supervisor has the bits posted to task 0 at a fault
+abbrev pub image_data : Picture → Data
+image_data p = object (member (codes "flash") (whole (length p.flash))
+    (member (codes "interrupts") (array (lines_data p.lines))
+    (member (codes "ram") (whole p.ram)
+    (member (codes "supervisor") (whole p.fault_bits)
+    (member (codes "tasks") (array (tasks_data p.tasks)) no_members)))))

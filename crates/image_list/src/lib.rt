@@ -1,0 +1,121 @@
+//! What an image says, as one line of JSON.
+#![tactic(auto)]
+
+ghost use Rattle.std.specs.Prelude.{◌≡◌, ◌≤◌, ◌<◌, IfOk, length, map, string_bytes};
+ghost use Rattle.serde_json.specs.View.{view};
+ghost use Rattle.serde_json.specs.Written.{compact_text};
+ghost use Rattle.image_format.specs.Images.{picture};
+ghost use Rattle.image_format.specs.Picture.{bit, line_in, rights_number, task_in};
+ghost use Rattle.image_list.specs.Listing.{image_data, line_data, region_data, task_data};
+
+#[cfg(test)]
+mod tests;
+
+use image_format::Image;
+use region_check::{Region, Rights};
+use serde_json::{Value, json};
+use std::alloc::{AllocError, Global};
+
+/// The value where it has, else 0.
+fn bit(has: bool, value: u8) -> u8
+    ensures value { result ≡ bit has value }
+    ensures most { result ≤ value }
+{
+    if has { value } else { 0 }
+}
+
+fn rights_number(rights: &Rights) -> u8
+    ensures { result ≡ rights_number rights.now }
+{
+    bit(rights.read, 1) + bit(rights.write, 2) + bit(rights.execute, 4) + bit(rights.device, 8)
+}
+
+fn region_value(alloc: Global, region: &Region) -> Result<Value, AllocError>
+    ensures { IfOk result (λ v. view v ≡ region_data region.now) }
+{
+    let rights = rights_number(&region.rights);
+    json!(in alloc; {"base": region.base, "rights": rights, "size": region.size})
+}
+
+fn region_values(alloc: Global, regions: &[Region]) -> Result<Vec<Value>, AllocError>
+    ensures { IfOk result (λ v. map view v.items ≡ map region_data regions.now) }
+{
+    let mut values = Vec::new(alloc);
+    for region in regions {
+        values.push(region_value(alloc, region)?)?;
+    }
+    Ok(values)
+}
+
+fn task_value(alloc: Global, image: &Image, i: usize) -> Result<Value, AllocError>
+    requires { i < length (picture image.now).tasks }
+    ensures { IfOk result (λ v. view v ≡ task_data (task_in (picture image.now) i)) }
+{
+    let own = image.regions(alloc, i)?;
+    let regions = region_values(alloc, own.as_slice())?;
+    json!(in alloc; {
+        "entry": image.entry(i),
+        "priority": image.priority(i),
+        "regions": regions,
+        "sp": image.sp(i),
+        "start": bit(image.is_started(i), 1)
+    })
+}
+
+fn task_values(alloc: Global, image: &Image) -> Result<Vec<Value>, AllocError>
+    ensures { IfOk result (λ v. map view v.items ≡ map task_data (picture image.now).tasks) }
+{
+    let mut values = Vec::new(alloc);
+    for i in 0..image.task_count() {
+        values.push(task_value(alloc, image, i)?)?;
+    }
+    Ok(values)
+}
+
+fn line_value(alloc: Global, image: &Image, k: usize) -> Result<Value, AllocError>
+    requires { k < length (picture image.now).lines }
+    ensures { IfOk result (λ v. view v ≡ line_data (line_in (picture image.now) k)) }
+{
+    json!(in alloc; {
+        "bits": image.line_bits(k),
+        "line": image.line(k),
+        "task": image.line_task(k)
+    })
+}
+
+fn line_values(alloc: Global, image: &Image) -> Result<Vec<Value>, AllocError>
+    ensures { IfOk result (λ v. map view v.items ≡ map line_data (picture image.now).lines) }
+{
+    let mut values = Vec::new(alloc);
+    for k in 0..image.line_count() {
+        values.push(line_value(alloc, image, k)?)?;
+    }
+    Ok(values)
+}
+
+fn image_value(alloc: Global, image: &Image) -> Result<Value, AllocError>
+    ensures { IfOk result (λ v. view v ≡ image_data (picture image.now)) }
+{
+    let tasks = task_values(alloc, image)?;
+    let lines = line_values(alloc, image)?;
+    json!(in alloc; {
+        "flash": image.flash().len(),
+        "interrupts": lines,
+        "ram": image.ram(),
+        "supervisor": image.fault_bits(),
+        "tasks": tasks
+    })
+}
+
+/// The image as one JSON object without blanks, its keys in byte order (docs/FORMATS.md, Listing):
+/// how many bytes of flash and of RAM, the interrupts, the bits posted to the supervisor at a fault,
+/// and the tasks, each with its regions; rights as a sum of 1 read, 2 write, 4 execute, 8 device.
+///
+/// # Errors
+///
+/// `AllocError` where memory ran out.
+pub fn list(alloc: Global, image: &Image) -> Result<String, AllocError>
+    ensures { IfOk result (λ s. string_bytes s ≡ compact_text (image_data (picture image.now))) }
+{
+    image_value(alloc, image)?.to_string(alloc)
+}
