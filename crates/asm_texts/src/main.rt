@@ -82,10 +82,16 @@ fn others(alloc: Global) -> Count {
 fn main(rt: HostRuntime) -> io::Result<()> {
     let alloc = rt.alloc();
     let count = narrow(alloc);
-    println!(rt; "one halfword: {} texts read, {} not", count.same, count.other)?;
+    println!(rt;
+        "one halfword: {} texts read, {} not",
+        count.same, count.other
+    )?;
     let count = branches(alloc);
     println!(rt; "bl: {} texts read, {} not", count.same, count.other)?;
     let count = others(alloc);
-    println!(rt; "other codes of two halfwords: {} texts read, {} not", count.same, count.other)?;
+    println!(rt;
+        "other codes of two halfwords: {} texts read, {} not",
+        count.same, count.other
+    )?;
     Ok(())
 }
