@@ -1,17 +1,17 @@
 -- What the matches of one level hold where it is not refused: each required argument, and each with
 -- a default, has a value that its parser took.
-use Rattle.std.proofs.Common.{◌≡◌, ◌∙◌, ◌<◌, ◌&&◌, ◌||◌, ap, sym, subst, refl, cond, Bool, true, false, not, List, [], ◌∷◌, ◌++◌, length, Option, Some, None, is_some, arith}
-use Rattle.std.specs.Prelude.{IfSome, slice_get}
+use Rattle.std.proofs.Common.{◌≡◌, ◌∙◌, ◌<◌, ◌&&◌, ◌||◌, ap, refl, cond, Bool, true, false, not, List, [], ◌∷◌, ◌++◌, length, Option, Some, None, arith}
+use Rattle.std.specs.Prelude.{IfSome}
 use Rattle.std.specs.List.{find, fold, list_any}
 use Rattle.std.specs.Option.{option_map_or}
 use Rattle.std.specs.Str.{bytes_eq}
 use Rattle.std.proofs.lemmas.Slice.Eq.{bytes_eq-Decides}
 use Rattle.clap.specs.Facts.{explicit_source, parser_of_value}
 use Rattle.clap.specs.Values.{read_as}
-use Rattle.clap.specs.Walk.{Held, Names, Row, Rule, Text, arg_by_id, at_row, default_rows, finished, first_of, has_row, is_empty, more_values, nothing_held, one_of, reading_by, settled, walk, walk_from, with_default, with_values}
+use Rattle.clap.specs.Walk.{Held, Names, Row, Rule, Text, arg_by_id, at_row, default_rows, finished, first_of, has_row, more_values, nothing_held, one_of, reading_by, settled, walk, walk_from, with_default}
 use Rattle.clap.specs.Simple.{Shape}
 use Rattle.clap.specs.Takes.{is_given}
-use Rattle.clap.specs.Kinds.{Kinds, check_kinds, or_else, value_kinds, values_kinds}
+use Rattle.clap.specs.Kinds.{Kinds, check_kinds, or_else, value_kinds}
 use Rattle.clap.specs.Faults.{check_fault, defaults_fault, level_fault, settle_fault, values_fault, walk_fault}
 use Rattle.clap.specs.declared.parser.matches.ValueSource.{ValueSource}
 use Rattle.clap.specs.declared.parser.matches.ValueSource.TheVariants as source

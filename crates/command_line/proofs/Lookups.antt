@@ -1,15 +1,11 @@
 -- What is read of matches that are whole.
-use Rattle.std.proofs.Common.{◌≡◌, ◌∙◌, ◌≤◌, ap, sym, subst, refl, ℕ, List, [], Option, Some, None, Ok, Err, Result, option_map, arith, true, false, Box, Global}
+use Rattle.std.proofs.Common.{◌≡◌, ◌≤◌, ap, ℕ, [], Option, Some, None, Ok, Err, Result, arith, false}
 use Rattle.std.specs.Prelude.{unwrap_or}
-use Rattle.std.specs.Box.{box_value}
 use Rattle.std.specs.Str.Parse.{ParsesUnsigned}
-use Rattle.clap.specs.Words.{ReadsOne, Text, first_value, found_of, one_text, rows_of}
-use Rattle.clap.specs.Walk.{Row, first_of, one_of}
-use Rattle.clap.specs.Simple.{subcommand_rows}
+use Rattle.clap.specs.Words.{ReadsOne, Text, one_text, rows_of}
+use Rattle.clap.specs.Walk.{one_of}
 use Rattle.clap.specs.declared.builder.value_parser.ValueParser.TheVariants as parser
 use Rattle.clap.specs.declared.parser.matches.Found.{Found}
-use Rattle.clap.specs.declared.parser.matches.SubCommand.{SubCommand}
-use Rattle.clap.specs.declared.parser.matches.ArgMatches.TheViews.{out-SubCommand}
 use Rattle.clap.proofs.ValueTestLemmas.{accepts-Accepts}
 use Rattle.clap.proofs.WalkLemmas.{one_text-rows}
 use Rattle.command_line.specs.CommandLine.{most_steps, number_of}

@@ -1,6 +1,6 @@
 -- What holds of the rows of matches at a command of which each use leaves values: each row has
 -- values, which the parser of its argument took.
-use Rattle.std.proofs.Common.{◌≡◌, ◌∙◌, ◌<◌, ◌==◌, ◌&&◌, ◌||◌, ap, sym, subst, refl, cond, ℕ, zero, suc, Bool, true, false, not, List, [], ◌∷◌, ◌++◌, length, Option, Some, None, arith, true≢false, nat_lt}
+use Rattle.std.proofs.Common.{◌≡◌, ◌∙◌, ◌<◌, ◌||◌, ap, sym, subst, refl, cond, ℕ, zero, suc, Bool, true, false, not, List, [], ◌∷◌, ◌++◌, length, Option, Some, None, arith, nat_lt}
 use Rattle.std.specs.Bool.{⊤}
 use Rattle.std.specs.List.{find, fold}
 use Rattle.std.specs.Option.{option_map_or, unwrap_or}
@@ -95,12 +95,14 @@ with_values_good : (c : List Rule) (a : Rule) (s : ValueSource) (vs : List Text)
 with_values_good c a s vs rows known some pass h = at_row_keeps (Good c) a.id (more_values s vs) _ rows
     (λ r same g.
     let is = same_id c a r.id known same in
-    let had = given_of c a r is g in
-    (good_of c a _ is (record {
-      some = rw (length-append r.values vs) (omega (arith, had.some));
-      pass = values_append a.ignore_case (parser_of_value a.parser) r.values vs had.pass pass;
-      reading = had.reading;
-    }), tt))
+    let had = given_of c a r is g in (
+      good_of c a _ is (record {
+        some = rw (length-append r.values vs) (omega (arith, had.some));
+        pass = values_append a.ignore_case (parser_of_value a.parser) r.values vs had.pass pass;
+        reading = had.reading;
+      }),
+      tt,
+    ))
     (good_of c a _ known (record { some = some; pass = pass; reading = refl }), tt) h
 
 -- ---- one use

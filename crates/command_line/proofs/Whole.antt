@@ -1,10 +1,8 @@
 -- Words that are taken name a command, with all that it wants.
-use Rattle.std.proofs.Common.{◌≡◌, ◌∙◌, ◌⊎◌, ◌<◌, ◌≤◌, ap, sym, subst, refl, cond, codes, inl, inr, drop, Bool, true, false, ℕ, List, [], ◌∷◌, length, Option, Some, None, is_some, arith}
+use Rattle.std.proofs.Common.{◌≡◌, ◌⊎◌, ◌<◌, ◌≤◌, ap, sym, subst, refl, cond, codes, inl, inr, drop, Bool, true, false, ℕ, List, [], ◌∷◌, Option, Some, None, is_some, arith}
 use Rattle.std.specs.Prelude.{IfSome, unwrap_or, pos, ◌==◌}
 use Rattle.std.specs.Bool.{⊤}
 use Rattle.std.specs.List.{slice_index_or}
-use Rattle.std.specs.Option.{option_map_or}
-use Rattle.std.specs.Str.{bytes_eq}
 use Rattle.std.specs.Str.Parse.{IsNumeral, digits_value, starts_with_minus, without_leading_plus}
 use Rattle.std.proofs.lemmas.Bool.{ne_eqb}
 use Rattle.std.proofs.lemmas.Str.Parse.{digit_from_value}
@@ -13,17 +11,17 @@ use Rattle.clap.specs.Lexer.{without_minus}
 use Rattle.clap.specs.Values.{IsSignedIn, read_as, reading_of, refused_kind}
 use Rattle.clap.specs.ValueTests.{accepts}
 use Rattle.clap.specs.Facts.{parser_of_value}
-use Rattle.clap.specs.Walk.{Names, Row, Rule, Text, answers_to, first_of, nothing_held, one_of, rows_after, walk}
-use Rattle.clap.specs.Simple.{App, Shape, argument_words, built, entered, label_of, names_of, new_rule, new_shape, subcommand_of}
-use Rattle.clap.specs.Kinds.{Kinds, value_kinds}
+use Rattle.clap.specs.Walk.{Row, Rule, Text, nothing_held, one_of, rows_after, walk}
+use Rattle.clap.specs.Simple.{App, Shape, argument_words, built, entered, names_of, new_rule, new_shape, subcommand_of}
+use Rattle.clap.specs.Kinds.{value_kinds}
 use Rattle.clap.specs.Faults.{entered_fault, level_fault}
 use Rattle.clap.specs.declared.builder.value_parser.ValueParser.{ValueParser}
 use Rattle.clap.specs.declared.builder.value_parser.ValueParser.TheVariants as parser
 use Rattle.clap.proofs.ValueTestLemmas.{accepts-Accepts, Accepts-accepts}
-use Rattle.command_line.specs.CommandLine.{has_none, hubris_app, is_taken, list_rules, most_steps, positional_rule, run_rules, steps_parser}
-use Rattle.command_line.specs.Required.{HasText, IsSteps, IsWhole, IsWholeList, IsWholeRun, is_steps}
+use Rattle.command_line.specs.CommandLine.{hubris_app, is_taken, most_steps, steps_parser}
+use Rattle.command_line.specs.Required.{HasText, IsSteps, IsWhole}
 use Rattle.command_line.proofs.Taking.{none_left}
-use Rattle.command_line.proofs.Rows.{Each, Good, Sure}
+use Rattle.command_line.proofs.Rows.{Each, Sure}
 use Rattle.command_line.proofs.Walking.{asks_for_help}
 use Rattle.command_line.proofs.Ending.{Done, Has, below_passes, ends, has_default, has_given, stops, wants}
 
@@ -102,12 +100,15 @@ run_whole words e =
     let s = shape_at 0 in
     let rows = rows_after s.rules [] words in
     let d = leaf s words run_sure refl e in
-    inl (refl, record {
-      image = text (rule_at s 0) rows (has_given s.rules (rule_at s 0) rows d.good refl (d.given.0 refl));
-      script = text (rule_at s 1) rows (has_given s.rules (rule_at s 1) rows d.good refl (d.given.1.0 refl));
-      steps = steps (rule_at s 2) rows refl (has_given s.rules (rule_at s 2) rows d.good refl (d.given.1.1.0 refl));
-      mem = text (rule_at s 3) rows (has_default s.rules (rule_at s 3) rows d.good refl (d.filled.1.1.1.0 (omega arith)));
-    })
+    inl (
+      refl,
+      record {
+        image = text (rule_at s 0) rows (has_given s.rules (rule_at s 0) rows d.good refl (d.given.0 refl));
+        script = text (rule_at s 1) rows (has_given s.rules (rule_at s 1) rows d.good refl (d.given.1.0 refl));
+        steps = steps (rule_at s 2) rows refl (has_given s.rules (rule_at s 2) rows d.good refl (d.given.1.1.0 refl));
+        mem = text (rule_at s 3) rows (has_default s.rules (rule_at s 3) rows d.good refl (d.filled.1.1.1.0 (omega arith)));
+      },
+    )
 
 list_sure : Each (Sure (shape_at 1).rules) (shape_at 1).rules
 list_sure = (record { known = refl; sure = refl }, (record { known = refl; sure = refl }, tt))

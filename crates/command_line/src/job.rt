@@ -8,6 +8,7 @@ ghost use Rattle.command_line.specs.Asking.{asked, steps_of};
 use clap::ArgMatches;
 
 /// What the program is asked to do; names are those of files, `steps` is at most 1,000,000,000.
+#[derive(Clone, Copy, Drop)]
 pub enum Job<'a> {
     /// Run IMAGE with SCRIPT for at most `steps` turns; with `mem`, write the memory after it.
     Run {

@@ -9,6 +9,7 @@ use clap::error::ErrorKind;
 use std::alloc::Global;
 
 /// Why words give no job.
+#[derive(Clone, Copy, Drop)]
 pub enum Refusal {
     /// The definition does not take them; a call for help or for the version is not taken either.
     NotTaken,

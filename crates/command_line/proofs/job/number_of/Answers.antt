@@ -1,9 +1,7 @@
-use Rattle.std.proofs.Common.{◌≡◌, ◌∙◌, ◌≤◌, sym, ap, ℕ, [], Some, None}
+use Rattle.std.proofs.Common.{◌∙◌, sym, ap}
 use Rattle.std.specs.Prelude.{unwrap_or}
 use Rattle.std.specs.Str.Parse.{ParsesUnsigned, ExplainsUnsignedError, HasUnsignedDigitsIfOk}
-use Rattle.clap.specs.Words.{found_of, one_of, rows_of}
-use Rattle.command_line.specs.CommandLine.{most_steps, number_of}
-use Rattle.command_line.specs.Required.{IsSteps}
+use Rattle.clap.specs.Words.{found_of}
 use Rattle.command_line.proofs.Lookups.{steps_read}
 use Rattle.command_line.proofs.job.number_of.Goals as goal
 

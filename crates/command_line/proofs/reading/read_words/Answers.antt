@@ -1,7 +1,7 @@
-use Rattle.std.proofs.Common.{◌∙◌, ◌≡◌, ap, map, sym, subst, Some, string_bytes}
+use Rattle.std.proofs.Common.{◌∙◌, ap, map, sym, subst, Some, string_bytes}
 use Rattle.std.specs.Prelude.{option_map}
-use Rattle.clap.specs.Words.{found_of, rows_of, subcommand_of}
-use Rattle.command_line.specs.CommandLine.{asked_by, hubris_app}
+use Rattle.clap.specs.Words.{found_of, rows_of}
+use Rattle.command_line.specs.CommandLine.{asked_by}
 use Rattle.command_line.specs.Required.{IsWhole}
 use Rattle.command_line.proofs.Taking.{named, not_taken, taken}
 use Rattle.command_line.proofs.Whole.{whole}
