@@ -11,7 +11,7 @@ use Rattle.clap.specs.Lexer.{without_minus}
 use Rattle.clap.specs.Values.{IsSignedIn, read_as, reading_of, refused_kind}
 use Rattle.clap.specs.ValueTests.{accepts}
 use Rattle.clap.specs.Facts.{parser_of_value}
-use Rattle.clap.specs.Walk.{Row, Rule, Text, nothing_held, one_of, rows_after, walk}
+use Rattle.clap.specs.Walk.{first_of, Row, Rule, Text, nothing_held, one_of, rows_after, walk}
 use Rattle.clap.specs.Simple.{App, Shape, argument_words, built, entered, names_of, new_rule, new_shape, subcommand_of}
 use Rattle.clap.specs.Kinds.{value_kinds}
 use Rattle.clap.specs.Faults.{entered_fault, level_fault}
@@ -19,7 +19,7 @@ use Rattle.clap.specs.declared.builder.value_parser.ValueParser.{ValueParser}
 use Rattle.clap.specs.declared.builder.value_parser.ValueParser.TheVariants as parser
 use Rattle.clap.proofs.ValueTestLemmas.{accepts-Accepts, Accepts-accepts}
 use Rattle.command_line.specs.CommandLine.{hubris_app, is_taken, most_steps, steps_parser}
-use Rattle.command_line.specs.Required.{HasText, IsSteps, IsWhole}
+use Rattle.command_line.specs.Required.{HasText, IsSteps, IsSwitch, IsWhole}
 use Rattle.command_line.proofs.Taking.{none_left}
 use Rattle.command_line.proofs.Rows.{Each, Sure}
 use Rattle.command_line.proofs.Walking.{asks_for_help}
@@ -92,6 +92,10 @@ steps a rows is h =
     let one : one_of a.id rows ≡ Some (without_minus h.text) = subst (λ (p : Option ValueParser). one_of a.id rows ≡ Some (read_as (reading_of (parser_of_value p)) h.text)) is h.one in
     subst IsSteps (sym one) (without_sign most_steps h.text (omega arith) (accepts-Accepts a.ignore_case steps_parser h.text taken))
 
+switch : (a : Rule) (rows : List Row) → a.parser ≡ Some parser.Bool → Has a rows → IsSwitch (first_of a.id rows)
+switch a rows is h = subst IsSwitch (sym h.first)
+    (subst (λ (p : Option ValueParser). accepts a.ignore_case (parser_of_value p) h.text ≡ true) is (accepted a.ignore_case (parser_of_value a.parser) h.text h.pass))
+
 run_sure : Each (Sure (shape_at 0).rules) (shape_at 0).rules
 run_sure = (record { known = refl; sure = refl }, (record { known = refl; sure = refl }, (record { known = refl; sure = refl }, (record { known = refl; sure = refl }, (record { known = refl; sure = refl }, tt)))))
 
@@ -106,7 +110,7 @@ run_whole words e =
         image = text (rule_at s 0) rows (has_given s.rules (rule_at s 0) rows d.good refl (d.given.0 refl));
         script = text (rule_at s 1) rows (has_given s.rules (rule_at s 1) rows d.good refl (d.given.1.0 refl));
         steps = steps (rule_at s 2) rows refl (has_given s.rules (rule_at s 2) rows d.good refl (d.given.1.1.0 refl));
-        mem = text (rule_at s 3) rows (has_default s.rules (rule_at s 3) rows d.good refl (d.filled.1.1.1.0 (omega arith)));
+        mem = switch (rule_at s 3) rows refl (has_default s.rules (rule_at s 3) rows d.good refl (d.filled.1.1.1.0 (omega arith)));
       },
     )
 

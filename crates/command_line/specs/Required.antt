@@ -17,11 +17,16 @@ abbrev pub IsSteps : Option Text → Type 0
 IsSteps None = ⊥
 IsSteps (Some text) = is_steps text ≡ true
 
+-- `true` or `false`, which clap finds for an option without a value
+abbrev pub IsSwitch : Option Text → Type 0
+IsSwitch None = ⊥
+IsSwitch (Some text) = accepts false parser.Bool text ≡ true
+
 pub record IsWholeRun (rows : List Row) : Type 0 where
   pub image : HasText (codes "image") rows
   pub script : HasText (codes "script") rows
   pub steps : IsSteps (one_of (codes "steps") rows)
-  pub mem : HasText (codes "mem") rows
+  pub mem : IsSwitch (first_of (codes "mem") rows)
 
 pub record IsWholeList (rows : List Row) : Type 0 where
   pub image : HasText (codes "image") rows

@@ -1,8 +1,8 @@
 //! What `clap` is told: the program, a function for each command and for each kind of argument.
-ghost use Rattle.std.specs.Prelude.{◌≡◌, IfOk, false, codes};
+ghost use Rattle.std.specs.Prelude.{◌≡◌, IfOk, false};
 ghost use Rattle.clap.specs.Words.{app_of, rule_of};
 ghost use Rattle.clap.specs.declared.builder.command.Command.TheViews.{out-Command as fields_of};
-ghost use Rattle.command_line.specs.CommandLine.{hubris_app, positional_rule, steps_rule, flag_rule, one_command, run_rules, list_rules};
+ghost use Rattle.command_line.specs.CommandLine.{hubris_app, positional_rule, steps_rule, flag_rule, app_of_form, run_form, list_form};
 
 use clap::{Arg, ArgAction, Command};
 use std::alloc::{AllocError, Global};
@@ -32,7 +32,7 @@ fn flag<'a>(alloc: Global, name: &'a str) -> Arg<'a>
 }
 
 fn run_command<'a>(alloc: Global) -> Result<Command<'a>, AllocError>
-    ensures shape { IfOk result (λ c. app_of c ≡ one_command (codes "run") run_rules) }
+    ensures shape { IfOk result (λ c. app_of c ≡ app_of_form run_form) }
     ensures local { IfOk result (λ c. (fields_of c).has_globals ≡ false) }
 {
     Command::new(alloc, "run")
@@ -43,7 +43,7 @@ fn run_command<'a>(alloc: Global) -> Result<Command<'a>, AllocError>
 }
 
 fn list_command<'a>(alloc: Global) -> Result<Command<'a>, AllocError>
-    ensures shape { IfOk result (λ c. app_of c ≡ one_command (codes "list") list_rules) }
+    ensures shape { IfOk result (λ c. app_of c ≡ app_of_form list_form) }
     ensures local { IfOk result (λ c. (fields_of c).has_globals ≡ false) }
 {
     Command::new(alloc, "list").arg(positional(alloc, "image"))

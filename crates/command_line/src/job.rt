@@ -1,7 +1,7 @@
 //! What the matches of a command ask for.
 ghost use Rattle.std.specs.Prelude.{◌≡◌, ◌≤◌, Some, codes};
 ghost use Rattle.clap.specs.Words.{rows_of, found_of, one_of};
-ghost use Rattle.command_line.specs.CommandLine.{asked_by, run_in, list_in, text_in, is_set, number_in, most_steps};
+ghost use Rattle.command_line.specs.CommandLine.{asked_by, run_form, list_form, text_in, is_set, number_in, most_steps};
 ghost use Rattle.command_line.specs.Required.{IsSteps, IsWhole};
 ghost use Rattle.command_line.specs.Asking.{asked, steps_of};
 
@@ -49,7 +49,7 @@ fn number_of(matches: &ArgMatches<'_>, id: &str) -> u32
 }
 
 fn run_by<'a>(matches: &ArgMatches<'a>) -> Job<'a>
-    ensures job { IsSteps (one_of (codes "steps") (rows_of (found_of matches.now))) → asked result ≡ run_in (rows_of (found_of matches.now)) }
+    ensures job { IsSteps (one_of (codes "steps") (rows_of (found_of matches.now))) → asked result ≡ run_form.asks (rows_of (found_of matches.now)) }
     ensures few { IsSteps (one_of (codes "steps") (rows_of (found_of matches.now))) → steps_of result ≤ most_steps }
 {
     Job::Run {
@@ -61,7 +61,7 @@ fn run_by<'a>(matches: &ArgMatches<'a>) -> Job<'a>
 }
 
 fn list_by<'a>(matches: &ArgMatches<'a>) -> Job<'a>
-    ensures job { asked result ≡ list_in (rows_of (found_of matches.now)) }
+    ensures job { asked result ≡ list_form.asks (rows_of (found_of matches.now)) }
     ensures few { steps_of result ≡ 0 }
 {
     Job::List {
@@ -71,7 +71,7 @@ fn list_by<'a>(matches: &ArgMatches<'a>) -> Job<'a>
 
 /// The job that a command's name and matches ask for.
 pub fn job_by<'a>(name: &str, matches: &ArgMatches<'a>) -> Job<'a>
-    ensures job { IsWhole (Some (name.now, rows_of (found_of matches.now))) → asked result ≡ asked_by name.now (rows_of (found_of matches.now)) }
+    ensures job { IsWhole (Some (name.now, rows_of (found_of matches.now))) → asked_by name.now (rows_of (found_of matches.now)) ≡ Some (asked result) }
     ensures few { IsWhole (Some (name.now, rows_of (found_of matches.now))) → steps_of result ≤ most_steps }
 {
     if name == "run" {

@@ -1,5 +1,5 @@
-use Rattle.std.proofs.Common.{◌∙◌, ap, map, sym, subst, Some, string_bytes}
-use Rattle.std.specs.Prelude.{option_map}
+use Rattle.std.proofs.Common.{◌∙◌, ap, map, subst, string_bytes}
+use Rattle.std.specs.Prelude.{option_and_then}
 use Rattle.clap.specs.Words.{found_of, rows_of}
 use Rattle.command_line.specs.CommandLine.{asked_by}
 use Rattle.command_line.specs.Required.{IsWhole}
@@ -18,7 +18,7 @@ returns-in-Some-clause-job c =
     let is = named _ words c.in-Ok-try_get_matches_from.matches c.in-Some.name.now (rows_of (found_of c.in-Some.inner.now)) c.in-Ok.ensures.shape
     c.in-Ok-try_get_matches_from.ensures.matches c.in-Some.ensures.name c.in-Some.ensures.rows in
     let all = subst IsWhole is (whole words (taken _ words c.in-Ok.ensures.shape c.in-Ok-try_get_matches_from.ensures.kinds)) in
-    ap (option_map (λ p. asked_by p.0 p.1)) is ∙ ap Some (sym (c.job_by.ensures.job all))
+    ap (option_and_then (λ p. asked_by p.0 p.1)) is ∙ c.job_by.ensures.job all
 
 pub returns-in-Some-clause-few : goal.returns-in-Some-clause-few
 returns-in-Some-clause-few c =
