@@ -2,6 +2,7 @@
 use Rattle.std.proofs.Common.{◌≡◌, ◌≢◌, ℕ, Bool, true, false, List, [], ◌∷◌, ◌++◌, Option, Some, None, refl, sym, ap, subst, ◌∙◌, inl, inr, arith, ◌-◌, cond}
 use Rattle.std.specs.Prelude.{unwrap_or}
 use Rattle.std.specs.List.{AllByRecursion}
+use Rattle.std.specs.Io.KnownBytes.{Appends}
 use Rattle.std.proofs.lemmas.Option.{same_Some}
 use Rattle.outside_io.specs.Outside.{WhereTold, Rose}
 use Rattle.image_format.specs.Picture.{Picture}
@@ -24,7 +25,7 @@ use Rattle.trace_cli.specs.Stops.{Stops}
 use Rattle.trace_cli.specs.Verdict.{Verdict, usage, refused, unread, ran, listed, run_of, status_of, unless_refused, file_verdict, files_verdict, contents, done, job_verdict, verdict}
 use Rattle.trace_cli.specs.Ready.{Halts}
 use Rattle.trace_cli.specs.Told.{TellsHalt, TellsStop}
-use Rattle.trace_cli.specs.Answer.{Reason, cannot_read, refuses, runs, lists, IsRun, IsListing, Ground, no_job, of_job, Tells, whole, cut, short, AnswersJob, Answers, HasFront, Answered, IsComplete}
+use Rattle.trace_cli.specs.Answer.{Reason, cannot_read, refuses, runs, lists, IsRun, IsListing, Ground, no_job, of_job, Tells, whole, cut, short, AnswersJob, Answers, HasRun, HasDone, HasRefused, HasUnread, HasFront, Answered, IsComplete}
 
 -- ## the reason of a verdict on a job
 
@@ -198,6 +199,106 @@ pub was_cut : (words : List (List ℕ)) (told : List ℕ → Option (List ℕ)) 
     Answers words told before after last w w' f f' r → r ≡ 4 → Rose f f' × HasFront words told before after last w w'
 was_cut words told before after last w w' f f' r (inl s) e = let is = s.status in absurd (cc)
 was_cut words told before after last w w' f f' r (inr a) e = cut_by words told before after last w w' f f' a.0 r e a.1 a.2
+
+-- told whole, under another status than 4 and 5
+told_whole : (words : List (List ℕ)) (told : List ℕ → Option (List ℕ)) (before after : ℕ) (last : Option (ℕ × List ℕ)) (w w' : Option (List ℕ)) (f f' : ℕ) (r : ℕ) →
+    Answers words told before after last w w' f f' r → (r ≡ 4 → ⊥) → (r ≡ 5 → ⊥) → (v : Verdict) × Ground words told before after last v × (r ≡ v.status) × Appends w w' v.text
+told_whole words told before after last w w' f f' r (inl s) not4 not5 = absurd (not5 s.status)
+told_whole words told before after last w w' f f' r (inr a) not4 not5 = by_tells a.2 where
+  by_tells : Tells w w' f f' a.0 r → (v : Verdict) × Ground words told before after last v × (r ≡ v.status) × Appends w w' v.text
+  by_tells (whole is text) = (a.0, a.1, is, text)
+  by_tells (cut is rose front) = absurd (not4 is)
+  by_tells (short is same faults) = absurd (not5 is)
+
+same_text : (w w' : Option (List ℕ)) (v u : Verdict) → v ≡ u → Appends w w' v.text → Appends w w' u.text
+same_text w w' v u e t = let P : Verdict → Type 0 = λ x. Appends w w' x.text in subst P e t
+
+ran_not_one : (e : End) → status_of e ≡ 1 → ⊥
+ran_not_one Bound e = cc
+ran_not_one Still e = cc
+ran_not_one Supervisor e = cc
+
+ran_not_three : (e : End) → status_of e ≡ 3 → ⊥
+ran_not_three Bound e = cc
+ran_not_three Still e = cc
+ran_not_three Supervisor e = cc
+
+refused_by : (words : List (List ℕ)) (told : List ℕ → Option (List ℕ)) (before after : ℕ) (last : Option (ℕ × List ℕ)) (w w' : Option (List ℕ)) (v : Verdict) →
+    v.status ≡ 1 → Appends w w' v.text → Ground words told before after last v → HasRefused words told w w'
+refused_by words told before after last w w' v e t (no_job none is) = let s = ap (λ (u : Verdict). u.status) is in absurd (omega arith)
+refused_by words told before after last w w' v e t (of_job job at (cannot_read f why is)) = let s = ap (λ (u : Verdict). u.status) is in absurd (omega arith)
+refused_by words told before after last w w' v e t (of_job job at (refuses f why h is)) =
+    record { job = job; command = at; file = f; why = why; is = h; line = same_text w w' v (refused f.name why) is t }
+refused_by words told before after last w w' v e t (of_job job at (runs n mem x h is)) = absurd (ran_not_one (run_of n x).end (sym (ap (λ (u : Verdict). u.status) is) ∙ e))
+refused_by words told before after last w w' v e t (of_job job at (lists p h is)) = let s = ap (λ (u : Verdict). u.status) is in absurd (omega arith)
+
+unread_by : (words : List (List ℕ)) (told : List ℕ → Option (List ℕ)) (before after : ℕ) (last : Option (ℕ × List ℕ)) (w w' : Option (List ℕ)) (v : Verdict) →
+    v.status ≡ 3 → Appends w w' v.text → Ground words told before after last v → HasUnread words told before after last w w'
+unread_by words told before after last w w' v e t (no_job none is) = let s = ap (λ (u : Verdict). u.status) is in absurd (omega arith)
+unread_by words told before after last w w' v e t (of_job job at (cannot_read f why is)) =
+    record { job = job; command = at; file = f; is = why; line = same_text w w' v (unread f.name) is t }
+unread_by words told before after last w w' v e t (of_job job at (refuses f why h is)) = let s = ap (λ (u : Verdict). u.status) is in absurd (omega arith)
+unread_by words told before after last w w' v e t (of_job job at (runs n mem x h is)) = absurd (ran_not_three (run_of n x).end (sym (ap (λ (u : Verdict). u.status) is) ∙ e))
+unread_by words told before after last w w' v e t (of_job job at (lists p h is)) = let s = ap (λ (u : Verdict). u.status) is in absurd (omega arith)
+
+ran_by : (words : List (List ℕ)) (told : List ℕ → Option (List ℕ)) (before after : ℕ) (last : Option (ℕ × List ℕ)) (w w' : Option (List ℕ)) (v : Verdict) →
+    v.status ≡ 6 → Appends w w' v.text → Ground words told before after last v → HasRun words told w w' 6
+ran_by words told before after last w w' v e t (no_job none is) = let s = ap (λ (u : Verdict). u.status) is in absurd (omega arith)
+ran_by words told before after last w w' v e t (of_job job at (cannot_read f why is)) = let s = ap (λ (u : Verdict). u.status) is in absurd (omega arith)
+ran_by words told before after last w w' v e t (of_job job at (refuses f why h is)) = let s = ap (λ (u : Verdict). u.status) is in absurd (omega arith)
+ran_by words told before after last w w' v e t (of_job job at (runs n mem x h is)) = record {
+  job = job;
+  command = at;
+  bound = n;
+  mem = mem;
+  scenario = x;
+  is = h;
+  status = sym (ap (λ (u : Verdict). u.status) is) ∙ e;
+  text = same_text w w' v (ran n mem x) is t;
+}
+ran_by words told before after last w w' v e t (of_job job at (lists p h is)) = let s = ap (λ (u : Verdict). u.status) is in absurd (omega arith)
+
+done_by : (words : List (List ℕ)) (told : List ℕ → Option (List ℕ)) (before after : ℕ) (last : Option (ℕ × List ℕ)) (w w' : Option (List ℕ)) (v : Verdict) →
+    v.status ≡ 0 → Appends w w' v.text → Ground words told before after last v → HasDone words told w w'
+done_by words told before after last w w' v e t (no_job none is) = let s = ap (λ (u : Verdict). u.status) is in absurd (omega arith)
+done_by words told before after last w w' v e t (of_job job at (cannot_read f why is)) = let s = ap (λ (u : Verdict). u.status) is in absurd (omega arith)
+done_by words told before after last w w' v e t (of_job job at (refuses f why h is)) = let s = ap (λ (u : Verdict). u.status) is in absurd (omega arith)
+done_by words told before after last w w' v e t (of_job job at (runs n mem x h is)) = inl (record {
+  job = job;
+  command = at;
+  bound = n;
+  mem = mem;
+  scenario = x;
+  is = h;
+  status = sym (ap (λ (u : Verdict). u.status) is) ∙ e;
+  text = same_text w w' v (ran n mem x) is t;
+})
+done_by words told before after last w w' v e t (of_job job at (lists p h is)) =
+    inr (record { job = job; command = at; picture = p; is = h; text = same_text w w' v (listed p) is t })
+
+pub was_refused : (words : List (List ℕ)) (told : List ℕ → Option (List ℕ)) (before after : ℕ) (last : Option (ℕ × List ℕ)) (w w' : Option (List ℕ)) (f f' : ℕ) (r : ℕ) →
+    Answers words told before after last w w' f f' r → r ≡ 1 → HasRefused words told w w'
+was_refused words told before after last w w' f f' r a e =
+    let t = told_whole words told before after last w w' f f' r a (λ is. omega arith) (λ is. omega arith) in
+    refused_by words told before after last w w' t.0 (sym t.2 ∙ e) t.3 t.1
+
+pub was_unread : (words : List (List ℕ)) (told : List ℕ → Option (List ℕ)) (before after : ℕ) (last : Option (ℕ × List ℕ)) (w w' : Option (List ℕ)) (f f' : ℕ) (r : ℕ) →
+    Answers words told before after last w w' f f' r → r ≡ 3 → HasUnread words told before after last w w'
+was_unread words told before after last w w' f f' r a e =
+    let t = told_whole words told before after last w w' f f' r a (λ is. omega arith) (λ is. omega arith) in
+    unread_by words told before after last w w' t.0 (sym t.2 ∙ e) t.3 t.1
+
+pub was_ran : (words : List (List ℕ)) (told : List ℕ → Option (List ℕ)) (before after : ℕ) (last : Option (ℕ × List ℕ)) (w w' : Option (List ℕ)) (f f' : ℕ) (r : ℕ) →
+    Answers words told before after last w w' f f' r → r ≡ 6 → HasRun words told w w' 6
+was_ran words told before after last w w' f f' r a e =
+    let t = told_whole words told before after last w w' f f' r a (λ is. omega arith) (λ is. omega arith) in
+    ran_by words told before after last w w' t.0 (sym t.2 ∙ e) t.3 t.1
+
+pub was_done : (words : List (List ℕ)) (told : List ℕ → Option (List ℕ)) (before after : ℕ) (last : Option (ℕ × List ℕ)) (w w' : Option (List ℕ)) (f f' : ℕ) (r : ℕ) →
+    Answers words told before after last w w' f f' r → r ≡ 0 → HasDone words told w w'
+was_done words told before after last w w' f f' r a e =
+    let t = told_whole words told before after last w w' f f' r a (λ is. omega arith) (λ is. omega arith) in
+    done_by words told before after last w w' t.0 (sym t.2 ∙ e) t.3 t.1
 
 -- ## the run from the start
 

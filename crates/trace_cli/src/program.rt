@@ -128,12 +128,14 @@ fn answer<F: Files, S: Sink>(alloc: Global, words: &[String], files: &mut F, out
     ensures puts { F.put_faults files.new ≡ F.put_faults files.old }
 {
     match read_words(alloc, words) {
-        Ok(Job::Run {
-            image,
-            script,
-            steps,
-            mem,
-        }) => run_files(alloc, image, script, steps, mem, files, out),
+        Ok(
+            Job::Run {
+                image,
+                script,
+                steps,
+                mem,
+            },
+        ) => run_files(alloc, image, script, steps, mem, files, out),
         Ok(Job::List { image }) => list_file(alloc, image, files, out),
         Err(Refusal::NotTaken) => tell_usage(out),
         Err(Refusal::Memory) => 5,

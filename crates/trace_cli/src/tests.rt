@@ -475,7 +475,8 @@ fn a_listing_of_an_image(rt: HostRuntime) -> Result<(), Fail> {
     let words = ["hubris", "list", "a.img"];
     let (status, out) = main_of(alloc, &words, &image, None, &[], &[])?;
     assert_eq!(rt; status, 0);
-    let text = "{\"flash\":256,\"interrupts\":[],\"ram\":0,\"supervisor\":1,\"tasks\":[{\"entry\":134217729,\"priority\":0,\"regions\":[{\"base\":134217728,\"rights\":5,\"size\":256}],\"sp\":536870912,\"start\":1}]}\n";
+    let text =
+        "{\"flash\":256,\"interrupts\":[],\"ram\":0,\"supervisor\":1,\"tasks\":[{\"entry\":134217729,\"priority\":0,\"regions\":[{\"base\":134217728,\"rights\":5,\"size\":256}],\"sp\":536870912,\"start\":1}]}\n";
     assert_eq!(rt; out.text(), text.as_bytes());
     let (status, out) = main_of(alloc, &words, b"HBI", None, &[], &[])?;
     assert_eq!(rt; status, 1);
