@@ -1,0 +1,27 @@
+-- When the assembler's definitions read a line as an instruction.
+use Rattle.std.specs.Prelude.{◌≡◌, ◌<◌, ℕ, ◌+◌, ◌*◌, ◌/◌, ◌^◌, ℤ, pos, negsuc, ◌+ℤ◌, Some, None, Ok}
+use Rattle.thumb_insn.specs.declared.Insn.{Insn}
+use Rattle.thumb_insn.specs.declared.Insn.TheVariants.{LdrLiteral, Adr, BranchIf, Branch, Bl}
+use Rattle.thumb_insn.specs.Text.{insn_text}
+use Rattle.thumb_asm.specs.Parts.{parts}
+use Rattle.thumb_asm.specs.Syntax.{Shape}
+use Rattle.thumb_asm.specs.Sizes.{statement_of}
+use Rattle.thumb_asm.specs.Meaning.{Env, insn_at}
+
+abbrev pub IsAddress : ℤ → Type 0
+IsAddress (pos n) = n < 2 ^ 32
+IsAddress (negsuc n) = ⊥
+
+-- where the text names a target, that is an address: it does not go round at 2^32
+abbrev pub HasTarget : Insn → ℕ → Type 0
+HasTarget (LdrLiteral t i) at = (at + 4) / 4 * 4 + i < 2 ^ 32
+HasTarget (Adr d i) at = (at + 4) / 4 * 4 + i < 2 ^ 32
+HasTarget (BranchIf c z) at = IsAddress (pos (at + 4) +ℤ z)
+HasTarget (Branch z) at = IsAddress (pos (at + 4) +ℤ z)
+HasTarget (Bl z) at = IsAddress (pos (at + 4) +ℤ z)
+HasTarget i at = Unit {0}
+
+-- The line of the instruction's text has no label, and a statement that is this instruction at the address, whatever the
+-- values of names.
+abbrev pub IsRead : Insn → ℕ → Type 0
+IsRead i at = ((parts (insn_text i at)).label ≡ None) × ((s : Shape) × (statement_of (parts (insn_text i at)).statement ≡ Ok (Some s)) × ((env : Env) → insn_at env at s ≡ Ok i))
