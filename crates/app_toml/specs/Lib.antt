@@ -1,0 +1,11 @@
+pub mod Accepted
+pub mod Apps
+pub mod Crossed
+pub mod Document
+pub mod Forms
+pub mod Held
+pub mod Keys
+pub mod Places
+pub mod Reading
+pub mod Sites
+pub mod Values

@@ -1,0 +1,13 @@
+//! The description of an application, a TOML document: read, checked and held.
+//! docs/FORMATS.md, Application, has its keys and the table of causes.
+#![tactic(auto)]
+
+mod app;
+mod forms;
+mod keys;
+mod parts;
+mod places;
+mod views;
+
+pub use app::App;
+pub use parts::{AppFault, Device, Interrupt, SharedRegion, Task};
