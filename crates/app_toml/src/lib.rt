@@ -3,10 +3,13 @@
 #![tactic(auto)]
 
 mod app;
+mod document;
 mod forms;
 mod keys;
 mod parts;
 mod places;
+mod tables;
+mod values;
 mod views;
 
 pub use app::App;
