@@ -4,7 +4,7 @@ use Rattle.std.specs.Prelude.{ℕ, Bool, not, ◌+◌, ◌%◌, ◌^◌, ◌==�
 use Rattle.std.specs.List.{list_any, range_with_len}
 use Rattle.std.specs.Str.{bytes_eq}
 use Rattle.app_toml.specs.Apps.{AppData, DeviceData, InterruptData, RegionData, TaskData}
-use Rattle.app_toml.specs.Places.{Refusal, Site, Text, at_entry, at_key, first_clash, first_fault, first_refusal, head_site, index_site, or_else, refuse_if}
+use Rattle.app_toml.specs.Places.{Refusal, Site, Text, at_entry, at_key, first_clash, first_fault, head_site, index_site, or_else, refuse_if}
 
 abbrev pub task_site : ℕ → Text → Site
 task_site k key = at_key key (index_site (codes "task") k)
@@ -128,19 +128,22 @@ count_fault tasks =
 -- ---- causes 15 to 17: priorities, start and stacks
 
 -- task 0, the supervisor, has priority 0, and no other task has
+abbrev pub is_wrong : ℕ → ℕ → Bool
+is_wrong k priority = if k == 0 then not (priority == 0) else priority == 0
+
 abbrev pub wrong_priority : ℕ → TaskData → Option Refusal
-wrong_priority k t =
-    refuse_if (if k == 0 then not (t.priority == 0) else t.priority == 0) 15
-    (task_site k (codes "priority"))
+wrong_priority k t = refuse_if (is_wrong k t.priority) 15 (task_site k (codes "priority"))
 
 abbrev pub supervisor_stopped : List TaskData → Option Refusal
 supervisor_stopped [] = None
 supervisor_stopped (t ∷ ts) = refuse_if (not t.start) 16 (task_site 0 (codes "start"))
 
--- a stack lies in the task's RAM, and is a multiple of 8 bytes
+-- above the task's RAM, or no multiple of 8 bytes
+abbrev pub is_bad_stack : ℕ → ℕ → Bool
+is_bad_stack ram stack = nat_lt ram stack || not (stack % 8 == 0)
+
 abbrev pub bad_stack : ℕ → TaskData → Option Refusal
-bad_stack k t =
-    refuse_if (nat_lt t.ram t.stack || not (t.stack % 8 == 0)) 17 (task_site k (codes "stack"))
+bad_stack k t = refuse_if (is_bad_stack t.ram t.stack) 17 (task_site k (codes "stack"))
 
 abbrev pub start_fault : List TaskData → Option Refusal
 start_fault tasks =

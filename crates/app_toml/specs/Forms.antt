@@ -1,6 +1,6 @@
 -- The forms that values have, and the first fault of a value: of cause 4 its type, 5 its range,
 -- 6 its form.
-use Rattle.std.specs.Prelude.{ℕ, ℤ, Bool, List, ◌+◌, ◌&&◌, ◌||◌, ◌==◌, length, Option, None, if◌then◌else◌, int_le, nat_le, nat_lt}
+use Rattle.std.specs.Prelude.{ℕ, ℤ, Bool, ◌+◌, ◌&&◌, ◌||◌, ◌==◌, length, Option, None, if◌then◌else◌, int_le, nat_le, nat_lt}
 use Rattle.std.specs.List.{list_all, slice_index_or}
 use Rattle.toml.specs.Data.{Data, string, integer, boolean, array, Items, no_items, item}
 use Rattle.app_toml.specs.declared.forms.Form.{Form}

@@ -1,6 +1,6 @@
 -- What a document says, where its values have their forms; an absent list is empty, and a task
 -- without `start` runs from the start.
-use Rattle.std.specs.Prelude.{ℕ, ℤ, Bool, true, List, [], ◌∷◌, Option, Some, None, codes, pos, if◌then◌else◌, nat_lt, unwrap_or, option_map, option_and_then}
+use Rattle.std.specs.Prelude.{ℕ, ℤ, Bool, true, List, [], ◌∷◌, Option, Some, codes, pos, if◌then◌else◌, nat_lt, unwrap_or, option_map, option_and_then}
 use Rattle.toml.specs.Data.{Data, Items, no_items, item, Members, no_members, as_array, as_bool, as_integer, as_str, as_table, get_member}
 use Rattle.app_toml.specs.Apps.{AppData, DeviceData, InterruptData, RegionData, TaskData}
 use Rattle.app_toml.specs.Places.{Text}

@@ -3,12 +3,19 @@
 #![tactic(auto)]
 
 mod app;
+mod crossed;
 mod document;
 mod forms;
 mod keys;
+mod lines;
+mod names;
 mod parts;
 mod places;
+mod reading;
+mod repeats;
 mod tables;
+mod tasks;
+mod unknowns;
 mod values;
 mod views;
 
