@@ -7,5 +7,6 @@ pub mod Held
 pub mod Keys
 pub mod Places
 pub mod Reading
+pub mod Relations
 pub mod Sites
 pub mod Values

@@ -41,10 +41,7 @@ fn flag_in(table: &Table, name: &str) -> bool
     ensures { result ≡ flag_in name.now (table_view table.now) }
 {
     match member(table, name) {
-        Some(value) => match value.as_bool() {
-            Some(flag) => flag,
-            None => true,
-        },
+        Some(value) => value.as_bool().unwrap_or(true),
         None => true,
     }
 }

@@ -3,6 +3,7 @@
 ghost use Rattle.std.specs.Prelude.{◌≡◌, map};
 ghost use Rattle.app_toml.specs.Accepted.{IsAccepted};
 ghost use Rattle.app_toml.specs.Held.{app_of};
+ghost use Rattle.app_toml.specs.Relations.{Relations};
 ghost use Rattle.app_toml.specs.Sites.{device_of, interrupt_of, region_of, task_of};
 
 use crate::app::App;
@@ -58,5 +59,10 @@ impl App {
     /// What is known of each description: its values have their forms, and no cause refuses it.
     pub fn facts(&self)
         ensures { IsAccepted (app_of self.now) }
+    {}
+
+    /// How its tables stand to one another: names, references, counts, stacks, lines and devices.
+    pub fn relations(&self)
+        ensures { Relations (app_of self.now) }
     {}
 }
