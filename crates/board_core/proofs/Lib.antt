@@ -6,3 +6,5 @@ pub mod TurnKeeps
 pub mod Running
 pub mod Opens
 pub mod Endings
+pub mod Quiet
+pub mod Turning

@@ -23,7 +23,9 @@ use Rattle.task_table.specs.Sane.{Sane}
 use Rattle.task_table.proofs.Steps.{holds_turn}
 use Rattle.board_core.specs.declared.machine.Machine.{Machine}
 use Rattle.board_core.specs.Turn.{refusals, cpu_of, bytes_of, put, acted, is_text, decoded_as, stepped, stepped_wide}
-use Rattle.board_core.specs.Machine.{IsStored, IsReady}
+use Rattle.board_core.specs.Machine.{IsStored, IsReady, IsNext}
+use Rattle.board_core.specs.declared.choice.Choice.{Choice}
+use Rattle.board_core.specs.Kept.{IsChoice}
 use Rattle.board_core.proofs.TableKeeps.{keeps_coded}
 use Rattle.board_core.proofs.TurnKeeps.{whole_cpu}
 
@@ -54,7 +56,7 @@ put_state t x = by_ram (is_ram t.state.memory x.addr x.bytes)
     by_ram true = refl
     by_ram false = refl
 
-puts_state : (ss : List Store) (t : Turn) → (fold put t ss).state ≡ record t.state { memory = (fold put t ss).state.memory }
+pub puts_state : (ss : List Store) (t : Turn) → (fold put t ss).state ≡ record t.state { memory = (fold put t ss).state.memory }
 puts_state [] t = refl
 puts_state (x ∷ xs) t = puts_state xs (put t x) ∙ ap (λ (s : State). record s { memory = (fold put (put t x) xs).state.memory }) (put_state t x)
 
@@ -190,6 +192,15 @@ module _ (g : Setup) (t : Turn) (k : Kernel) (at first : ℕ) (b : Bool)
 pub begun_stands : (g : Setup) (k : Kernel) (t : Turn) → Holds g k (begun t.state) → Sane g t.state → Stands g k (begun t.state)
 unfolding begun
 begun_stands g k t h s = record { holds = h; sane = s }
+
+-- the choice is that of the turn before it comes to anything
+pub begun_next : (g : Setup) (k : Kernel) (t : Turn) (next : Option ℕ) → Holds g k (begun t.state) → {before : Kernel} → IsNext g before t next → IsNext g k (begun t.state) next
+unfolding begun
+begun_next g k t next h is = record { stands = record { holds = h; sane = is.stands.sane }; is = is.is }
+
+pub choice_begun : (g : Setup) (s : State) (c : Choice) → IsChoice g (begun s).state c → IsChoice g s c
+unfolding begun
+choice_begun g s c h = h
 
 pub begun_state : (s : State) → (begun s).state ≡ s
 unfolding begun

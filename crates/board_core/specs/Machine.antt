@@ -1,8 +1,8 @@
 -- The kernel as the bus of its current task.
-use Rattle.std.specs.Prelude.{ℕ, ◌≡◌, true}
+use Rattle.std.specs.Prelude.{ℕ, ◌≡◌, true, Option}
 use Rattle.task_table.specs.declared.kernel.Kernel.{Kernel}
 use Rattle.task_table.specs.State.{Setup, Turn}
-use Rattle.task_table.specs.Reading.{is_ready}
+use Rattle.task_table.specs.Reading.{is_ready, chosen}
 use Rattle.task_table.specs.Start.{start, begun}
 use Rattle.task_table.specs.Holds.{Holds, Stands, setup_of, current_of, task_count, note_count}
 use Rattle.board_core.specs.Turn.{put}
@@ -19,6 +19,11 @@ pub record IsStored (k : Kernel) (a n v : ℕ) (k' : Kernel) : Type 0 where
 pub record IsReady (g : Setup) (k : Kernel) (t : Turn) : Type 0 where
   pub stands : Stands g k t
   pub ready : is_ready t.state t.state.current ≡ true
+
+-- the kernel stands for the turn, and this is the choice
+pub record IsNext (g : Setup) (k : Kernel) (t : Turn) (next : Option ℕ) : Type 0 where
+  pub stands : Stands g k t
+  pub is : next ≡ chosen g t.state
 
 -- the kernel stands for the start of a run
 pub record IsStarted (g : Setup) (k : Kernel) : Type 0 where

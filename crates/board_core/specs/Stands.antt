@@ -6,6 +6,7 @@ use Rattle.task_table.specs.Sane.{Sane, IsCounted}
 use Rattle.task_table.specs.Holds.{Holds as KernelHolds, notes_of as kernel_notes, task_count}
 use Rattle.board_core.specs.declared.board.Board.{Board}
 use Rattle.board_core.specs.Script.{Scenario}
+use Rattle.board_core.specs.Kept.{IsChoice}
 
 -- what is told of a board whatever it stands for: the notes of its last turn, how many turns it
 -- has made, how many tasks it has
@@ -18,10 +19,12 @@ turns_of b = b.turns
 abbrev pub count_of : Board → ℕ
 count_of b = task_count b.machine.kernel
 
--- its parts are those of the state: its kernel's (crates/task_table, Holds) and its turn number
+-- its parts are those of the state: its kernel's (crates/task_table, Holds), its turn number and its
+-- choice
 pub record Holds (x : Scenario) (b : Board) (s : State) : Type 0 where
   pub kernel : KernelHolds x.setup b.machine.kernel record { state = s; notes = notes_of b; writes = []; reads = [] }
   pub turns : b.turns ≡ s.turn
+  pub choice : IsChoice x.setup s b.choice
 
 -- and the state is sane, and its counts are those that a run can reach
 pub record Stands (x : Scenario) (b : Board) (s : State) : Type 0 where

@@ -1,11 +1,11 @@
 //! The board and one turn of it.
-ghost use Rattle.std.specs.Prelude.{ℕ, ◌≡◌, ◌<◌, ◌≤◌, ◌+◌, ◌↔◌, Option, Some, None, length, map, IfOk, IfSome, IsNone, IsSome, slice_get, is_none};
+ghost use Rattle.std.specs.Prelude.{ℕ, ◌≡◌, ◌<◌, ◌≤◌, ◌+◌, ◌↔◌, Option, Some, None, length, map, IfOk, IfSome, IsNone, IsSome, slice_get};
 ghost use Rattle.std.specs.Option.{option_map};
 ghost use Rattle.image_format.specs.Images.{picture};
 ghost use Rattle.image_format.specs.Picture.{task_in, line_in};
 ghost use Rattle.task_table.specs.State.{Setup, State, Turn};
 ghost use Rattle.task_table.specs.Memory.{byte_at};
-ghost use Rattle.task_table.specs.Reading.{chosen, setup_at, is_faulted, task_at};
+ghost use Rattle.task_table.specs.Reading.{setup_at};
 ghost use Rattle.task_table.specs.Start.{start};
 ghost use Rattle.task_table.specs.Parts.{task_setup, line_setup};
 ghost use Rattle.task_table.specs.declared.Line.{Line};
@@ -18,20 +18,22 @@ ghost use Rattle.board_core.specs.Stands.{Stands, Stood, notes_of, turns_of, cou
 ghost use Rattle.board_core.specs.Told.{IsTask, IsView, end_at, end_in};
 ghost use Rattle.board_core.specs.Machine.{IsStarted};
 
+use crate::choice::{Choice, choice_after, choice_of};
 use crate::machine::Machine;
 use crate::{End, TaskView, Turned};
-use dispatch::is_idle;
 use image_format::Image;
-use kernel_abi::{Health, Note};
+use kernel_abi::Note;
 use region_check::Region;
 use std::alloc::{AllocError, Global};
 use task_table::{Kernel, LineStart, Memory, TaskStart};
 
-/// A board with an image: what its kernel keeps, and how many turns it made.
+/// A board with an image: what its kernel keeps, how many turns it made, and the choice of the task
+/// that runs next.
 #[derive(Drop)]
 pub struct Board {
     machine: Machine,
     turns: u32,
+    choice: Choice,
 }
 
 /// What the image says of a task.
@@ -104,11 +106,12 @@ impl Board {
         ensures stands { IfOk result (λ b. Stands (scenario_of (picture image.now)) b (start (setup_of (picture image.now)))) }
         ensures turns { IfOk result (λ b. turns_of b ≡ 0) }
     {
+        let kernel = kernel(alloc, image)?;
+        let choice = choice_of(&kernel);
         Ok(Board {
-            machine: Machine {
-                kernel: kernel(alloc, image)?,
-            },
+            machine: Machine { kernel },
             turns: 0,
+            choice,
         })
     }
 
@@ -122,7 +125,9 @@ impl Board {
         ensures turns { turns_of self.new ≡ turns_of self.old + 1 }
     {
         self.turns += 1;
-        self.machine.turn()
+        let turned = self.machine.turn(self.choice.next);
+        self.choice = choice_after(self.choice, &self.machine.kernel);
+        turned
     }
 
     /// The notes of the last turn, in order.
@@ -141,29 +146,7 @@ impl Board {
         ensures end { (x : Scenario) (s : State) → Stands x self.now s → result ≡ end_at x s }
         ensures before { (x : Scenario) (s : State) (left : ℕ) → Stands x self.now s → 0 < left → result ≡ ending x left s }
     {
-        let down = self.is_down();
-        let still = self.is_idle();
-        end_by(down, still)
-    }
-
-    /// No task is ready.
-    fn is_idle(&self) -> bool
-        requires { Stood self.now }
-        ensures { (x : Scenario) (s : State) → Stands x self.now s → result ≡ is_none (chosen x.setup s) }
-    {
-        is_idle(&self.machine.kernel)
-    }
-
-    /// The supervisor has faulted.
-    fn is_down(&self) -> bool
-        requires { Stood self.now }
-        ensures { (x : Scenario) (s : State) → Stands x self.now s → result ≡ is_faulted (task_at s 0).health }
-    {
-        match self.machine.kernel.health(0) {
-            Health::Well => false,
-            Health::Stopped => false,
-            Health::Faulted(_) => true,
-        }
+        end_by(self.choice.down, self.choice.next.is_none())
     }
 
     /// How many turns were made; the turn number of each state that the board stands for.

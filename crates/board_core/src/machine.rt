@@ -1,20 +1,19 @@
 //! The kernel as the bus of its current task, and one instruction of that task.
-ghost use Rattle.std.specs.Prelude.{◌≡◌, ◌+◌, ◌≤◌, ◌<◌, ◌%◌, ◌^◌, ◌/◌, ◌∷◌, [], ℕ, true};
+ghost use Rattle.std.specs.Prelude.{◌≡◌, ◌+◌, ◌≤◌, ◌<◌, ◌%◌, ◌^◌, ◌/◌, ◌∷◌, [], ℕ, Option, true};
 ghost use Rattle.region_check.specs.Rights.{may_use};
 ghost use Rattle.task_table.specs.State.{Setup, Turn};
-ghost use Rattle.task_table.specs.Reading.{is_ready, task_at, chosen};
+ghost use Rattle.task_table.specs.Reading.{is_ready, task_at};
 ghost use Rattle.task_table.specs.Start.{begun};
 ghost use Rattle.task_table.specs.Memory.{number_at};
 ghost use Rattle.task_table.specs.Effects.{faulted};
-ghost use Rattle.task_table.specs.Holds.{Holds, Stands, Stood, task_count, note_count, memory_of, setup_of, current_of};
+ghost use Rattle.task_table.specs.Holds.{Holds, task_count, note_count, memory_of, setup_of, current_of};
 ghost use Rattle.thumb_insn.specs.Range.{IsCoded, GivesCoded};
 ghost use Rattle.thumb_insn.specs.Table.{is_wide};
 ghost use Rattle.thumb_exec.specs.Sizes.{IsSize};
 ghost use Rattle.board_core.specs.Turn.{first_lacking, refusals, is_text, put, stepped, stepped_wide, decoded_as, executed, cpu_of, turn_of, turned_of};
-ghost use Rattle.board_core.specs.Machine.{IsStored, IsReady};
+ghost use Rattle.board_core.specs.Machine.{IsStored, IsReady, IsNext};
 
 use crate::Turned;
-use dispatch::choose;
 use kernel_abi::Fault;
 use region_check::{Region, Right, may};
 use task_table::Kernel;
@@ -212,14 +211,14 @@ impl Machine {
 }
 
 impl Machine {
-    /// One turn: one instruction of the chosen task, or nothing where none is ready.
-    pub fn turn(&mut self) -> Turned
-        requires { Stood self.old.kernel }
-        ensures holds { (g : Setup) (t : Turn) → Stands g self.old.kernel t → Holds g self.new.kernel (turn_of g (chosen g t.state) (begun t.state)) }
-        ensures turned { (g : Setup) (t : Turn) → Stands g self.old.kernel t → result ≡ turned_of t.state (chosen g t.state) }
+    /// One turn: one instruction of the task that is chosen, or nothing where none is.
+    pub fn turn(&mut self, next: Option<usize>) -> Turned
+        requires { (g : Setup) × (t : Turn) × IsNext g self.old.kernel t next }
+        ensures holds { (g : Setup) (t : Turn) → IsNext g self.old.kernel t next → Holds g self.new.kernel (turn_of g next (begun t.state)) }
+        ensures turned { (g : Setup) (t : Turn) → IsNext g self.old.kernel t next → result ≡ turned_of t.state next }
     {
         self.kernel.clear_notes();
-        match choose(&self.kernel) {
+        match next {
             None => Turned::Idle,
             Some(task) => {
                 let at = self.kernel.register(task, 15);
