@@ -6,5 +6,7 @@ pub mod TurnKeeps
 pub mod Running
 pub mod Opens
 pub mod Endings
+pub mod Lending
+pub mod Views
 pub mod Quiet
 pub mod Turning

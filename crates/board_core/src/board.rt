@@ -1,5 +1,5 @@
 //! The board and one turn of it.
-ghost use Rattle.std.specs.Prelude.{ℕ, ◌≡◌, ◌<◌, ◌≤◌, ◌+◌, ◌↔◌, Option, Some, None, length, map, IfOk, IfSome, IsNone, IsSome, slice_get};
+ghost use Rattle.std.specs.Prelude.{ℕ, ◌≡◌, ◌<◌, ◌≤◌, ◌+◌, ◌↔◌, [], Option, Some, None, length, map, IfOk, IfSome, IsNone, IsSome, slice_get};
 ghost use Rattle.std.specs.Option.{option_map};
 ghost use Rattle.image_format.specs.Images.{picture};
 ghost use Rattle.image_format.specs.Picture.{task_in, line_in};
@@ -16,9 +16,10 @@ ghost use Rattle.board_core.specs.Run.{ending};
 ghost use Rattle.board_core.specs.Opened.{scenario_of, setup_of, setup_of_task, setup_of_line};
 ghost use Rattle.board_core.specs.Stands.{Stands, Stood, notes_of, turns_of, count_of};
 ghost use Rattle.board_core.specs.Told.{IsTask, IsView, end_at, end_in};
-ghost use Rattle.board_core.specs.Machine.{IsStarted};
+ghost use Rattle.board_core.specs.Machine.{IsStarted, MachineHolds, MachineStands};
+ghost use Rattle.board_core.specs.Kept.{IsChoice};
 
-use crate::choice::{Choice, choice_after, choice_of};
+use crate::choice::{Choice, choice_of};
 use crate::machine::Machine;
 use crate::{End, TaskView, Turned};
 use image_format::Image;
@@ -109,7 +110,7 @@ impl Board {
         let kernel = kernel(alloc, image)?;
         let choice = choice_of(&kernel);
         Ok(Board {
-            machine: Machine { kernel },
+            machine: Machine::of(kernel),
             turns: 0,
             choice,
         })
@@ -126,15 +127,29 @@ impl Board {
     {
         self.turns += 1;
         let turned = self.machine.turn(self.choice.next);
-        self.choice = choice_after(self.choice, &self.machine.kernel);
+        self.renew();
         turned
+    }
+
+    /// The choice is made anew where the last turn noted something: a turn that notes nothing leaves
+    /// each task as ready as it was.
+    fn renew(&mut self)
+        requires { (g : Setup) × (t : Turn) × MachineStands g self.old.machine t }
+        ensures holds { (g : Setup) (t : Turn) → MachineHolds g self.old.machine t → MachineHolds g self.new.machine t }
+        ensures choice { (g : Setup) (t : Turn) → MachineStands g self.old.machine t → (t.notes ≡ [] → IsChoice g t.state self.old.choice) → IsChoice g t.state self.new.choice }
+        ensures turns { turns_of self.new ≡ turns_of self.old }
+    {
+        if !self.notes().is_empty() {
+            self.machine.settle();
+            self.choice = choice_of(&self.machine.reach.kernel);
+        }
     }
 
     /// The notes of the last turn, in order.
     pub fn notes(&self) -> &[Note]
         ensures { result.now ≡ notes_of self.now }
     {
-        self.machine.kernel.notes()
+        self.machine.reach.kernel.notes()
     }
 }
 
@@ -160,21 +175,21 @@ impl Board {
     pub fn now(&self) -> u64
         ensures { (x : Scenario) (s : State) → Stands x self.now s → result ≡ s.now }
     {
-        self.machine.kernel.now()
+        self.machine.reach.kernel.now()
     }
 
     /// The index of the task that ran last; 0 at the start.
     pub fn current(&self) -> usize
         ensures { (x : Scenario) (s : State) → Stands x self.now s → result ≡ s.current }
     {
-        self.machine.kernel.current()
+        self.machine.reach.kernel.current()
     }
 
     /// The number of the next call.
     pub fn next_call(&self) -> u32
         ensures { (x : Scenario) (s : State) → Stands x self.now s → result ≡ s.next_call }
     {
-        self.machine.kernel.next_call()
+        self.machine.reach.kernel.next_call()
     }
 
     /// How many tasks there are.
@@ -182,7 +197,7 @@ impl Board {
         ensures count { result ≡ count_of self.now }
         ensures tasks { (x : Scenario) (s : State) → Stands x self.now s → result ≡ length s.tasks }
     {
-        self.machine.kernel.task_count()
+        self.machine.reach.kernel.task_count()
     }
 
     /// A task, or None past the last one.
@@ -190,24 +205,24 @@ impl Board {
         ensures there { IsSome result ↔ (i < count_of self.now) }
         ensures view { (x : Scenario) (s : State) → Stands x self.now s → IsView s i result }
     {
-        if i >= self.machine.kernel.task_count() {
+        if i >= self.machine.reach.kernel.task_count() {
             return None;
         }
-        Some(view(&self.machine.kernel, i))
+        Some(view(&self.machine, i))
     }
 
     /// The byte at an address of the flash or of the RAM.
     pub fn byte(&self, addr: u32) -> Option<u8>
         ensures { (x : Scenario) (s : State) → Stands x self.now s → result ≡ byte_at s.memory addr }
     {
-        self.machine.kernel.byte(addr)
+        self.machine.reach.kernel.byte(addr)
     }
 
     /// How an interrupt line is: enabled, pending. None past the last one.
     pub fn irq_line(&self, k: usize) -> Option<(bool, bool)>
         ensures { (x : Scenario) (s : State) → Stands x self.now s → result ≡ option_map (λ l. (l.enabled, l.pending)) (slice_get s.lines k) }
     {
-        match self.machine.kernel.line(k) {
+        match self.machine.reach.kernel.line(k) {
             Some(line) => Some((line.enabled, line.pending)),
             None => None,
         }
@@ -224,7 +239,7 @@ impl Board {
     pub fn region(&self, i: usize, k: usize) -> Option<Region>
         ensures { (x : Scenario) (s : State) → Stands x self.now s → result ≡ slice_get (setup_at x.setup i).regions k }
     {
-        self.machine.kernel.regions(i).get(k).copied()
+        self.machine.reach.kernel.regions(i).get(k).copied()
     }
 }
 
@@ -241,8 +256,8 @@ fn end_by(down: bool, still: bool) -> Option<End>
     }
 }
 
-/// What a kernel tells of a task.
-fn view(kernel: &Kernel, i: usize) -> TaskView
+/// What a kernel has of a task.
+fn kept(kernel: &Kernel, i: usize) -> TaskView
     requires { i < task_count kernel.now }
     ensures { (g : Setup) (t : Turn) → KernelHolds g kernel.now t → IsTask t.state i result }
 {
@@ -255,4 +270,20 @@ fn view(kernel: &Kernel, i: usize) -> TaskView
         timer: kernel.timer(i),
         wait: kernel.wait(i),
     }
+}
+
+/// What a machine tells of a task: the registers and flags of the processor where it is lent to it.
+fn view(machine: &Machine, i: usize) -> TaskView
+    requires { i < task_count machine.now.reach.kernel }
+    ensures { (g : Setup) (t : Turn) → MachineHolds g machine.now t → IsTask t.state i result }
+{
+    let kept = kept(&machine.reach.kernel, i);
+    if machine.is_lent_to(i) {
+        return TaskView {
+            registers: machine.processor.regs.words(),
+            flags: machine.processor.flags,
+            ..kept
+        };
+    }
+    kept
 }

@@ -1,5 +1,5 @@
 //! What is kept of a state between turns, since most turns leave it.
-ghost use Rattle.std.specs.Prelude.{◌≡◌, ◌<◌, []};
+ghost use Rattle.std.specs.Prelude.{◌≡◌, ◌<◌};
 ghost use Rattle.task_table.specs.State.{Setup, Turn};
 ghost use Rattle.task_table.specs.Reading.{is_faulted, task_at};
 ghost use Rattle.task_table.specs.Holds.{Holds, Stands, Stood, task_count};
@@ -36,18 +36,5 @@ pub fn choice_of(kernel: &Kernel) -> Choice
     Choice {
         next: choose(kernel),
         down: is_down(kernel),
-    }
-}
-
-/// The choice after a turn, by that before it: a turn that notes nothing leaves each task as ready as
-/// it was.
-pub fn choice_after(kept: Choice, kernel: &Kernel) -> Choice
-    requires { Stood kernel.now }
-    ensures { (g : Setup) (t : Turn) → Stands g kernel.now t → (t.notes ≡ [] → IsChoice g t.state kept) → IsChoice g t.state result }
-{
-    if kernel.notes().is_empty() {
-        kept
-    } else {
-        choice_of(kernel)
     }
 }

@@ -3,6 +3,7 @@ use Rattle.task_table.specs.Start.{start, begun}
 use Rattle.board_core.specs.Opened.{setup_of}
 use Rattle.image_format.specs.Images.{picture}
 use Rattle.board_core.proofs.Running.{opened, choice_begun}
+use Rattle.board_core.proofs.Lending.{opened_as}
 use Rattle.board_core.proofs.board.Board.open.Goals as goal
 
 pub choice_of-choice-requires : goal.choice_of-choice-requires
@@ -13,7 +14,7 @@ returns-clause-stands c =
     let g = setup_of (picture c.args.image.now) in
     let s = opened g c.in_ok-kernel.kernel c.in_ok-kernel.ensures.stands in
     record {
-      holds = record { kernel = s.0; turns = s.2; choice = choice_begun g (start g) _ (c.choice_of-choice.ensures g (begun (start g)) c.in_ok-kernel.ensures.stands) };
+      holds = record { machine = opened_as g _ c.of.result (start g) c.of.ensures.kernel c.of.ensures.lent s.0; turns = s.2; choice = choice_begun g (start g) _ (c.choice_of-choice.ensures g (begun (start g)) c.in_ok-kernel.ensures.stands) };
       sane = s.1;
       counted = counted-start g;
     }
