@@ -1,6 +1,6 @@
 -- What an instruction that has a code is: it fits, and its list is a byte.
 use Rattle.std.specs.Prelude.{◌≡◌, ◌<◌, ℕ, ◌*◌, ◌/◌, ◌+◌, ◌^◌, Some, None}
-use Rattle.std.proofs.Common.{arith, refl, ap, subst}
+use Rattle.std.proofs.Common.{arith, ap, subst}
 use Rattle.std.proofs.lemmas.Nat.{mod_below}
 use Rattle.thumb_insn.specs.Fields.{field}
 use Rattle.thumb_insn.specs.declared.Insn.{Insn}

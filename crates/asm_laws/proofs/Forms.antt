@@ -1,18 +1,17 @@
 -- Instructions by the kinds of their operands.
-use Rattle.std.proofs.Common.{◌≡◌, ℕ, zero, suc, ◌+◌, ◌-◌, ◌*◌, ◌/◌, ◌%◌, ◌^◌, ◌<◌, ◌≤◌, List, [], ◌∷◌, refl, ap, ◌∙◌, sym, arith, Bool, true, false, Option, Some, None, Ok, decimal, subst, ⊎_elim, nat_lt}
+use Rattle.std.proofs.Common.{◌≡◌, ℕ, zero, suc, ◌+◌, ◌-◌, ◌*◌, ◌/◌, ◌<◌, ◌≤◌, List, [], ◌∷◌, refl, ap, ◌∙◌, arith, true, false, Some, None, decimal, subst, ⊎_elim, nat_lt}
 use Rattle.std.proofs.Math.IntN.{sub_ℕ}
 use Rattle.std.proofs.lemmas.Bool.Decides.{nat_tests}
 use Rattle.std.proofs.lemmas.Bool.{cases_lt}
 use Rattle.std.specs.Prelude.{ℤ, pos, negsuc, ◌-ℤ◌, ◌+ℤ◌}
-use Rattle.std.specs.Int.{cast_unsigned, w32}
 use Rattle.std.specs.List.{list_all}
 use Rattle.thumb_insn.specs.declared.Reg.{Reg}
 use Rattle.thumb_insn.specs.declared.Insn.{Insn}
 use Rattle.thumb_insn.specs.Text.{insn_text, line, reg_text, imm, place, at_sum, literal_target, branch_target}
 use Rattle.thumb_encode.specs.Codes.{fit_of}
 use Rattle.thumb_asm.specs.Chars.{is_nil}
-use Rattle.thumb_asm.specs.Operands.{Operand, Register, Immediate, Expression, MemoryRegister, MemoryImmediate, ◌>>=◌}
-use Rattle.thumb_asm.specs.Syntax.{Shape, Fixed, Filled, Within, Aimed, Near, mnemonic, shaped}
+use Rattle.thumb_asm.specs.Operands.{Register, Immediate, Expression, MemoryRegister, MemoryImmediate, ◌>>=◌}
+use Rattle.thumb_asm.specs.Syntax.{Fixed, Filled, Within, Aimed, Near, mnemonic, shaped}
 use Rattle.thumb_asm.specs.Sizes.{is_register_fit}
 use Rattle.thumb_asm.proofs.Bytes.{is_solid}
 use Rattle.asm_laws.specs.Reading.{IsRead, IsAddress}
@@ -33,7 +32,7 @@ pub mem_reg : (i : Insn) (at : ℕ) (name : List ℕ) (p n m : Reg) → insn_tex
 mem_reg i at name p n m t u s q e h j k = say i at name (reg_text p) (at_sum (reg_text n) (reg_text m) ∷ []) (Register p) (MemoryRegister n m ∷ []) (Fixed i) t u s (reads_reg p h) (reads_sum n m j k, tt) q (fixed_ok i e) (λ env. fixed_at env at i e)
 
 pub one_imm : (f : ℕ → Insn) (at : ℕ) (name : List ℕ) (v : ℕ) → insn_text (f v) at ≡ line name (imm v ∷ []) → is_nil name ≡ false → list_all is_solid name ≡ true → (mnemonic name >>= λ q. shaped q (Immediate (decimal v) ∷ [])) ≡ Some (Filled (decimal v) f) → fit_of (f v) ≡ None → is_register_fit (fit_of (f 0)) ≡ false → v < 1024 → IsRead (f v) at
-one_imm f at name  v t u s q e r b = say (f v) at name (imm v) ([]) (Immediate (decimal v)) ([]) (Filled (decimal v) f) t u s (reads_imm v b) tt q (filled_ok (decimal v) f v r (decimal_is v b).is) (λ env. filled_at env at (decimal v) f v (decimal_is v b).is b e)
+one_imm f at name v t u s q e r b = say (f v) at name (imm v) ([]) (Immediate (decimal v)) ([]) (Filled (decimal v) f) t u s (reads_imm v b) tt q (filled_ok (decimal v) f v r (decimal_is v b).is) (λ env. filled_at env at (decimal v) f v (decimal_is v b).is b e)
 
 pub reg_imm : (f : ℕ → Insn) (at : ℕ) (name : List ℕ) (d : Reg) (v : ℕ) → insn_text (f v) at ≡ line name (reg_text d ∷ imm v ∷ []) → is_nil name ≡ false → list_all is_solid name ≡ true → (mnemonic name >>= λ q. shaped q (Register d ∷ Immediate (decimal v) ∷ [])) ≡ Some (Filled (decimal v) f) → fit_of (f v) ≡ None → is_register_fit (fit_of (f 0)) ≡ false → d.number < 16 → v < 1024 → IsRead (f v) at
 reg_imm f at name d v t u s q e r h b = say (f v) at name (reg_text d) (imm v ∷ []) (Register d) (Immediate (decimal v) ∷ []) (Filled (decimal v) f) t u s (reads_reg d h) (reads_imm v b, tt) q (filled_ok (decimal v) f v r (decimal_is v b).is) (λ env. filled_at env at (decimal v) f v (decimal_is v b).is b e)

@@ -8,3 +8,4 @@ pub mod Rows
 pub mod Lists
 pub mod Coded
 pub mod Every
+pub mod Spelling

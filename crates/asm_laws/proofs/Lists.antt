@@ -1,5 +1,5 @@
 -- The lists of `push`, `pop`, `stm` and `ldm` are read as these lists.
-use Rattle.std.proofs.Common.{◌≡◌, ℕ, zero, suc, ◌+◌, ◌*◌, ◌/◌, ◌%◌, ◌^◌, ◌<◌, ◌≤◌, List, [], ◌∷◌, ◌++◌, map, refl, ap, ◌∙◌, sym, arith, Bool, true, false, not, nat_eq, nat_lt, ◌&&◌, ◌||◌, if◌then◌else◌, Option, Some, None, Result, Ok, Err, codes}
+use Rattle.std.proofs.Common.{◌≡◌, ℕ, ◌%◌, ◌^◌, ◌<◌, List, [], ◌∷◌, ◌++◌, map, refl, ap, ◌∙◌, sym, arith, Bool, true, false, not, nat_eq, nat_lt, ◌&&◌, ◌||◌, if◌then◌else◌, Option, Some, None, Result, Ok, Err, codes}
 use Rattle.std.proofs.lemmas.Bool.{not-true, agree_below_at, agree_below}
 use Rattle.std.proofs.lemmas.Bool.Decides.{nat_tests}
 use Rattle.std.specs.List.{list_all}
@@ -9,13 +9,13 @@ use Rattle.thumb_insn.specs.declared.Insn.{Insn}
 use Rattle.thumb_insn.specs.declared.Insn.TheVariants.{Push, Pop, Stm, Ldm}
 use Rattle.thumb_insn.specs.Table.{is_later}
 use Rattle.thumb_insn.specs.Text.{insn_text, low_registers, and_also, registers_below, braces, raised, reg_text, line}
-use Rattle.thumb_encode.specs.Codes.{fit_of, misfit, is_high}
+use Rattle.thumb_encode.specs.Codes.{fit_of, is_high}
 use Rattle.thumb_asm.specs.declared.Cause.{Cause}
 use Rattle.thumb_asm.specs.declared.Cause.TheVariants as cause
 use Rattle.thumb_asm.specs.Chars.{entry_at}
-use Rattle.thumb_asm.specs.Operands.{Operand, Register, Raised, Registers}
+use Rattle.thumb_asm.specs.Operands.{Register, Raised, Registers}
 use Rattle.thumb_asm.specs.Syntax.{Shape, Listed, Block, mnemonic, mnemonics4, mnemonics1, mnemonics2, mnemonics3, shaped}
-use Rattle.thumb_asm.specs.Sizes.{checked, has_bad_count, has_bad_register, has_bad_number, has_bad_list, has_stray, is_no_list, is_raised_wrong, is_listed, mask_of, mask_below, any_below, extra_of, list_insn, block_insn}
+use Rattle.thumb_asm.specs.Sizes.{checked, has_bad_count, has_bad_register, has_bad_number, has_bad_list, has_stray, is_no_list, is_raised_wrong, is_listed, mask_of, mask_below, any_below, extra_of}
 use Rattle.thumb_asm.specs.Meaning.{Env, insn_at, fitting}
 use Rattle.thumb_asm.proofs.Bytes.{both}
 use Rattle.thumb_asm.proofs.Lines.{Reads}

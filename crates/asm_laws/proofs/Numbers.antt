@@ -1,16 +1,16 @@
 -- Numbers in decimal, and targets in hexadecimal, are read as these numbers.
-use Rattle.std.proofs.Common.{◌≡◌, ℕ, zero, suc, ◌+◌, ◌-◌, ◌*◌, ◌/◌, ◌%◌, ◌^◌, ◌<◌, ◌≤◌, List, [], ◌∷◌, ◌++◌, refl, ap, ◌∙◌, sym, arith, Bool, true, false, not, nat_eq, nat_le, nat_lt, ◌&&◌, ◌||◌, Option, Some, None, codes, decimal, if◌then◌else◌, take, drop, length}
+use Rattle.std.proofs.Common.{◌≡◌, ℕ, ◌+◌, ◌*◌, ◌/◌, ◌%◌, ◌<◌, List, [], ◌∷◌, refl, ap, ◌∙◌, arith, Bool, true, false, not, nat_eq, nat_le, nat_lt, ◌&&◌, Option, Some, None, decimal, length}
 use Rattle.std.specs.Prelude.{ℤ, pos, negsuc}
 use Rattle.std.proofs.lemmas.Bool.{not-true}
 use Rattle.std.proofs.lemmas.Bool.Decides.{nat_tests}
 use Rattle.std.proofs.lemmas.Bool.{agree_below_at, agree_below}
 use Rattle.std.specs.Fmt.{digits}
-use Rattle.std.specs.List.{list_all, list_any}
-use Rattle.text_lines.specs.Text.{value_in, number_in, number_of, hex_number_of, is_hex, digit}
-use Rattle.thumb_insn.specs.Text.{hex_digit, hex_word, place, imm}
+use Rattle.std.specs.List.{list_all}
+use Rattle.text_lines.specs.Text.{value_in, hex_number_of, is_hex, digit}
+use Rattle.thumb_insn.specs.Text.{hex_digit, hex_word, place}
 use Rattle.thumb_asm.specs.Chars.{is_nil, strip, strip_front, strip_end, until, from_first, register, register_names, entry_at}
-use Rattle.thumb_asm.specs.Operands.{Operand, Immediate, Expression as AsExpression, MemoryImmediate, Expr, operand, expression, signed, natural, is_sign, closed_by, unquoted, ◌>>=◌, added, term, sum_of}
-use Rattle.thumb_asm.proofs.Bytes.{is_solid, is_plain, both, join, all_by, plain_of, no_quote, none_is, closed_none, front_visible, ends_solid, visible_of}
+use Rattle.thumb_asm.specs.Operands.{Operand, Expression as AsExpression, Expr, operand, expression, signed, natural, is_sign, unquoted, term, sum_of}
+use Rattle.thumb_asm.proofs.Bytes.{is_solid, both, join, all_by, plain_of, no_quote, none_is, closed_none}
 use Rattle.asm_laws.proofs.Registers.{sixteen}
 use Rattle.asm_laws.proofs.Splits.{Solid, tight_first}
 

@@ -1,16 +1,16 @@
 -- The operands of an instruction's text are read as these operands.
-use Rattle.std.proofs.Common.{◌≡◌, ℕ, ◌<◌, List, [], ◌∷◌, ◌++◌, map, refl, ap, ◌∙◌, sym, Bool, true, false, not, nat_eq, ◌&&◌, ◌||◌, Option, Some, None, codes, decimal, if◌then◌else◌}
+use Rattle.std.proofs.Common.{◌≡◌, ℕ, ◌<◌, List, [], ◌∷◌, map, refl, ap, ◌∙◌, true, false, not, nat_eq, Some, codes, decimal}
 use Rattle.std.proofs.lemmas.Bool.{not-true}
 use Rattle.std.specs.List.{list_all}
 use Rattle.thumb_insn.specs.Fields.{reg}
 use Rattle.thumb_insn.specs.declared.Reg.{Reg}
 use Rattle.thumb_insn.specs.Text.{register_name, reg_text, imm, place, joined, at_sum, braces, raised}
-use Rattle.thumb_asm.specs.Chars.{is_nil, register, strip_front, strip_end, strip, starts_by, is_blank, unless_last, register_names, entry_at}
-use Rattle.thumb_asm.specs.Operands.{Operand, Register, Raised, Immediate, Expression, MemoryRegister, MemoryImmediate, Registers, operand, in_brackets, in_braces, memory, offset, unquoted, closed_by, stripped_by, ends, ranges, register_list, ◌>>=◌}
-use Rattle.thumb_asm.proofs.Bytes.{is_solid, is_inner, is_visible, all_by, plain_of, no_quote, none_is, closed_framed, framed, front_visible}
-use Rattle.thumb_asm.proofs.Lines.{Piece, Reads, solid_piece, bracket_piece, brace_piece}
-use Rattle.asm_laws.proofs.Registers.{Named, named}
-use Rattle.asm_laws.proofs.Numbers.{Decimal, decimal_is, target_solid, target_alone, digits_of, all_hex, place_is, target}
+use Rattle.thumb_asm.specs.Chars.{is_nil, register, strip_end, strip, starts_by, is_blank, unless_last, register_names, entry_at}
+use Rattle.thumb_asm.specs.Operands.{Operand, Register, Raised, Immediate, Expression, MemoryRegister, MemoryImmediate, Registers, operand, memory, offset, unquoted, closed_by, stripped_by, ranges, register_list, ◌>>=◌}
+use Rattle.thumb_asm.proofs.Bytes.{is_solid, is_visible, all_by, plain_of, no_quote, none_is, closed_framed, framed, front_visible}
+use Rattle.thumb_asm.proofs.Lines.{Reads, solid_piece, bracket_piece, brace_piece}
+use Rattle.asm_laws.proofs.Registers.{named}
+use Rattle.asm_laws.proofs.Numbers.{decimal_is, target_solid, target_alone, digits_of, all_hex, place_is, target}
 use Rattle.asm_laws.proofs.Splits.{Solid, AllSolid, stripped, joined_begins, joined_inner}
 
 solid_reads : (a : List ℕ) (o : Operand) → Solid a → operand a ≡ Some o → Reads a o
@@ -118,5 +118,5 @@ reads_list k ks h =
     let t : List ℕ = joined (map register_name (k ∷ ks)) in
     record {
       piece = brace_piece (joined (map register_name (k ∷ ks))) (joined_inner (register_name k) (map register_name ks) a);
-      is = brace_operand (joined (map register_name (k ∷ ks))) ∙ ap (λ o. o >>= λ rs. Some (Registers rs)) (list_of (joined (map register_name (k ∷ ks))) (joined_begins (register_name k) (map register_name ks) a) ∙ ap ranges (stripped (register_name k) (map register_name ks) a) ∙ all_ranges (k ∷ ks) h)
+      is = brace_operand (joined (map register_name (k ∷ ks))) ∙ ap (λ o. o >>= λ rs. Some (Registers rs)) (list_of (joined (map register_name (k ∷ ks))) (joined_begins (register_name k) (map register_name ks) a) ∙ ap ranges (stripped (register_name k) (map register_name ks) a) ∙ all_ranges (k ∷ ks) h);
     }

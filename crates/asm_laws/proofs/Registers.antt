@@ -1,12 +1,12 @@
 -- The names of registers are read as these registers.
-use Rattle.std.proofs.Common.{◌≡◌, ℕ, zero, suc, ◌<◌, List, [], ◌∷◌, ◌++◌, refl, arith, Bool, true, false, Some, codes}
+use Rattle.std.proofs.Common.{◌≡◌, ℕ, zero, suc, ◌<◌, ◌++◌, refl, arith, true, false, Some, codes}
 use Rattle.std.specs.List.{list_all}
 use Rattle.std.specs.Fmt.{digits}
 use Rattle.thumb_insn.specs.Fields.{reg}
 use Rattle.thumb_insn.specs.declared.Reg.{Reg}
 use Rattle.thumb_insn.specs.Text.{register_name}
 use Rattle.thumb_asm.specs.Chars.{is_nil, register, register_names, entry_at, strip, strip_front, strip_end}
-use Rattle.thumb_asm.specs.Operands.{Operand, Register, Raised, MemoryRegister, operand, closed_by, split_by, stripped_by, ends, offset}
+use Rattle.thumb_asm.specs.Operands.{Register, Raised, MemoryRegister, operand, closed_by, split_by, stripped_by, ends, offset}
 use Rattle.thumb_asm.proofs.Bytes.{is_solid}
 
 -- one of sixteen

@@ -1,5 +1,5 @@
 -- Each instruction's text is read as it, by the rows of the table.
-use Rattle.std.proofs.Common.{◌≡◌, ℕ, zero, suc, ◌+◌, ◌*◌, ◌/◌, ◌%◌, ◌^◌, ◌<◌, ◌≤◌, List, [], ◌∷◌, refl, ap, ◌∙◌, sym, arith, Bool, true, false, not, nat_eq, nat_lt, nat_le, ◌&&◌, ◌||◌, if◌then◌else◌, Option, Some, None, Ok, codes, decimal}
+use Rattle.std.proofs.Common.{◌≡◌, ℕ, zero, suc, ◌+◌, ◌*◌, ◌/◌, ◌<◌, ◌≤◌, List, [], ◌∷◌, refl, ap, arith, Bool, true, false, not, nat_eq, nat_lt, ◌&&◌, ◌||◌, if◌then◌else◌, Some, None, codes, decimal}
 use Rattle.std.specs.Prelude.{ℤ, pos, negsuc, ◌+ℤ◌}
 use Rattle.std.proofs.lemmas.Bool.{not-false}
 use Rattle.std.proofs.lemmas.Bool.Decides.{nat_tests}
@@ -19,17 +19,16 @@ use Rattle.thumb_insn.specs.declared.Bytes.{Bytes}
 use Rattle.thumb_insn.specs.declared.Bytes.TheVariants as bytes
 use Rattle.thumb_insn.specs.declared.Barrier.{Barrier}
 use Rattle.thumb_insn.specs.declared.Barrier.TheVariants as barrier
-use Rattle.thumb_insn.specs.declared.Insn.{Insn}
 use Rattle.thumb_insn.specs.declared.Insn.TheVariants.{ShiftImm, AddsReg, SubsReg, AddsImm3, SubsImm3, MovsImm, CmpImm, AddsImm8, SubsImm8, Data, AddHigh, CmpHigh, MovHigh, Bx, Blx, LdrLiteral, StoreReg, LoadReg, StoreImm, LoadImm, StoreSp, LoadSp, Adr, AddSp, RaiseSp, LowerSp, Change, Cpsie, Cpsid, Bkpt, Hint, BranchIf, Svc, Branch, Bl, Fence, Mrs, Msr}
 use Rattle.thumb_insn.specs.Text.{insn_text, line, reg_text, imm}
-use Rattle.thumb_encode.specs.Codes.{fit_of, misfit, is_high, is_no_register, is, is_no_multiple, scale, outside, is_odd}
-use Rattle.thumb_asm.specs.Chars.{entry_at, is_nil, strip, strip_front, strip_end, until, from_first}
+use Rattle.thumb_encode.specs.Codes.{fit_of, is_high, is_no_register, is, is_no_multiple, outside, is_odd}
+use Rattle.thumb_asm.specs.Chars.{entry_at, strip, strip_front, strip_end, until, from_first}
 use Rattle.thumb_asm.specs.Parts.{parts, before, after, operand_pieces}
-use Rattle.thumb_asm.specs.Operands.{Operand, Register, Expression, operand, operands}
-use Rattle.thumb_asm.specs.Syntax.{Shape, Fixed, Filled, mnemonic, mnemonics1, mnemonics2, mnemonics3, mnemonics4, mnemonics5, mnemonics6, mnemonics7, shaped}
-use Rattle.thumb_asm.specs.Sizes.{statement_of, is_register_fit, checked, has_bad_count, has_bad_register, has_bad_number, has_bad_list}
+use Rattle.thumb_asm.specs.Operands.{Register, Expression, operands}
+use Rattle.thumb_asm.specs.Syntax.{Fixed, Filled, mnemonic, mnemonics1, mnemonics2, mnemonics3, mnemonics4, mnemonics5, mnemonics6, mnemonics7, shaped}
+use Rattle.thumb_asm.specs.Sizes.{statement_of, checked, has_bad_count, has_bad_register, has_bad_number, has_bad_list}
 use Rattle.thumb_asm.specs.Meaning.{insn_at}
-use Rattle.asm_laws.specs.Reading.{IsRead, IsAddress, HasTarget}
+use Rattle.asm_laws.specs.Reading.{IsRead, IsAddress}
 use Rattle.asm_laws.proofs.Operands.{reads_reg, reads_apsr, reads_interrupts}
 use Rattle.asm_laws.proofs.Shapes.{fits, reg_fits, two_false, three_false, low, not_above, fixed_ok, fixed_at, IsNear, say}
 use Rattle.asm_laws.proofs.Forms.{one_reg, two_regs, three_regs, mem_reg, one_imm, reg_imm, reg_reg_imm, mem_imm, one_within, regs_within, near, aims}
@@ -299,4 +298,3 @@ hint at (suc (suc zero)) e = wfe at
 hint at (suc (suc (suc zero))) e = wfi at
 hint at (suc (suc (suc (suc zero)))) e = sev at
 hint at (suc (suc (suc (suc (suc k))))) e = let f = fits false (nat_lt 15 (suc (suc (suc (suc (suc k)))))) false e in let b : (suc (suc (suc (suc (suc k))))) ≤ 15 = grind (arith, nat_tests) in one_within 5 15 Hint at (codes "hint") (suc (suc (suc (suc (suc k))))) (hint_text_is at (suc (suc (suc (suc (suc k))))) (omega arith)) refl refl refl e refl (omega arith) b (omega arith)
-

@@ -1,17 +1,17 @@
 -- Which instruction a shape is, and that it is accepted.
-use Rattle.std.proofs.Common.{◌≡◌, ℕ, zero, suc, ◌+◌, ◌-◌, ◌*◌, ◌/◌, ◌%◌, ◌^◌, ◌<◌, ◌≤◌, List, [], ◌∷◌, ◌++◌, refl, ap, ◌∙◌, sym, arith, Bool, true, false, not, nat_eq, nat_le, nat_lt, ◌&&◌, ◌||◌, Option, Some, None, Ok, codes, decimal}
-use Rattle.std.specs.Prelude.{ℤ, pos, negsuc, ◌-ℤ◌, ◌+ℤ◌}
+use Rattle.std.proofs.Common.{◌≡◌, ℕ, ◌+◌, ◌*◌, ◌/◌, ◌<◌, ◌≤◌, List, ◌∷◌, refl, arith, Bool, true, false, nat_le, nat_lt, ◌||◌, Some, None, Ok}
+use Rattle.std.specs.Prelude.{ℤ, pos, negsuc, ◌-ℤ◌}
 use Rattle.std.proofs.lemmas.Bool.Decides.{nat_tests}
 use Rattle.std.specs.List.{list_all}
 use Rattle.thumb_insn.specs.declared.Reg.{Reg}
 use Rattle.thumb_insn.specs.declared.Insn.{Insn}
-use Rattle.thumb_insn.specs.Text.{insn_text, line, place}
+use Rattle.thumb_insn.specs.Text.{insn_text, line}
 use Rattle.thumb_encode.specs.Codes.{fit_of, misfit, is_high}
 use Rattle.thumb_asm.specs.Chars.{is_nil}
 use Rattle.thumb_asm.specs.Operands.{Operand, ◌>>=◌, expression}
 use Rattle.thumb_asm.specs.Syntax.{Shape, Fixed, Filled, Within, Aimed, Near, mnemonic, shaped}
 use Rattle.thumb_asm.specs.Sizes.{checked, has_bad_count, has_bad_register, has_bad_number, has_bad_list, is_register_fit}
-use Rattle.thumb_asm.specs.Meaning.{Env, insn_at, value, fitting}
+use Rattle.thumb_asm.specs.Meaning.{Env, insn_at, value}
 use Rattle.thumb_asm.proofs.Bytes.{is_solid}
 use Rattle.thumb_asm.proofs.Lines.{Reads, AllRead, line_shape}
 use Rattle.asm_laws.proofs.Numbers.{number}

@@ -1,10 +1,9 @@
 -- Texts between commas in brackets and braces.
-use Rattle.std.proofs.Common.{◌≡◌, ℕ, List, [], ◌∷◌, ◌++◌, map, refl, ap, ◌∙◌, sym, Bool, true, false, not, nat_eq, ◌&&◌, append-nil, codes}
-use Rattle.std.proofs.lemmas.Bool.{not-true}
+use Rattle.std.proofs.Common.{◌≡◌, ℕ, List, [], ◌∷◌, ◌++◌, map, refl, ap, ◌∙◌, sym, true, false, nat_eq, append-nil}
 use Rattle.std.specs.List.{list_all}
 use Rattle.text_lines.specs.Text.{with_first}
 use Rattle.thumb_insn.specs.Text.{joined}
-use Rattle.thumb_asm.specs.Chars.{is_nil, strip_front, strip_end, strip, starts_by}
+use Rattle.thumb_asm.specs.Chars.{is_nil, strip_end, strip, starts_by}
 use Rattle.thumb_asm.specs.Operands.{split_by, stripped_by}
 use Rattle.thumb_asm.proofs.Bytes.{is_visible, is_solid, is_inner, both, all_by, all_append, inner_of, visible_of, front_visible, front_blank, starts_append, ends_solid, with_text, text_first, comma_of}
 use Rattle.thumb_asm.proofs.Lines.{joined_more, spaced}

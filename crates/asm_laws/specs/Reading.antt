@@ -1,12 +1,13 @@
 -- When the assembler's definitions read a line as an instruction.
-use Rattle.std.specs.Prelude.{◌≡◌, ◌<◌, ℕ, ◌+◌, ◌*◌, ◌/◌, ◌^◌, ℤ, pos, negsuc, ◌+ℤ◌, Some, None, Ok}
+use Rattle.std.specs.Prelude.{◌≡◌, ◌<◌, ℕ, ◌+◌, ◌*◌, ◌/◌, ◌%◌, ◌^◌, List, ℤ, pos, negsuc, ◌+ℤ◌, Some, None, Ok}
 use Rattle.thumb_insn.specs.declared.Insn.{Insn}
 use Rattle.thumb_insn.specs.declared.Insn.TheVariants.{LdrLiteral, Adr, BranchIf, Branch, Bl}
 use Rattle.thumb_insn.specs.Text.{insn_text}
 use Rattle.thumb_asm.specs.Parts.{parts}
 use Rattle.thumb_asm.specs.Syntax.{Shape}
 use Rattle.thumb_asm.specs.Sizes.{statement_of}
-use Rattle.thumb_asm.specs.Meaning.{Env, insn_at}
+use Rattle.thumb_asm.specs.Meaning.{Env, insn_at, Codes, Spells}
+use Rattle.thumb_asm.specs.Causes.{second_group}
 
 abbrev pub IsAddress : ℤ → Type 0
 IsAddress (pos n) = n < 2 ^ 32
@@ -25,3 +26,11 @@ HasTarget i at = Unit {0}
 -- values of names.
 abbrev pub IsRead : Insn → ℕ → Type 0
 IsRead i at = ((parts (insn_text i at)).label ≡ None) × ((s : Shape) × (statement_of (parts (insn_text i at)).statement ≡ Ok (Some s)) × ((env : Env) → insn_at env at s ≡ Ok i))
+
+-- The bytes of the line at the address are those of a code of the instruction, and each code's bytes are its bytes.
+abbrev pub IsSpelled : Insn → ℕ → Type 0
+IsSpelled i at = (env : Env) (own : List ℕ) → (Codes i own → Spells env at (statement_of (parts (insn_text i at)).statement) own) × (Spells env at (statement_of (parts (insn_text i at)).statement) own → Codes i own)
+
+-- At an even address the line is not refused for an address or a value.
+abbrev pub IsAccepted : Insn → ℕ → Type 0
+IsAccepted i at = (env : Env) → at % 2 ≡ 0 → second_group env at (statement_of (parts (insn_text i at)).statement) ≡ None

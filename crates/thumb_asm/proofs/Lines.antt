@@ -1,16 +1,16 @@
 -- How the reader cuts a line of a mnemonic and operands.
-use Rattle.std.proofs.Common.{◌≡◌, ℕ, List, [], ◌∷◌, ◌++◌, map, refl, ap, ◌∙◌, sym, Bool, true, false, nat_eq, ◌&&◌, Option, Some, None, Ok, append-nil, append_assoc, codes, if◌then◌else◌}
+use Rattle.std.proofs.Common.{◌≡◌, ℕ, List, [], ◌∷◌, ◌++◌, map, refl, ap, ◌∙◌, sym, true, false, Option, Some, None, Ok, append-nil, append_assoc, codes, if◌then◌else◌}
 use Rattle.std.specs.List.{list_all}
 use Rattle.text_lines.specs.Text.{with_first}
 use Rattle.thumb_insn.specs.Text.{joined, line}
 use Rattle.thumb_asm.specs.declared.parts.Place.TheVariants.{Outside}
 use Rattle.thumb_asm.specs.declared.Mnemonic.{Mnemonic}
 use Rattle.thumb_asm.specs.Chars.{is_nil, strip_front, strip_end, strip, starts_by}
-use Rattle.thumb_asm.specs.Parts.{before, after, parts, pieces, operand_pieces, with_label}
-use Rattle.thumb_asm.specs.Operands.{Operand, operand, operands, split_by, stripped_by, ◌>>=◌}
+use Rattle.thumb_asm.specs.Parts.{after, parts, pieces, operand_pieces, with_label}
+use Rattle.thumb_asm.specs.Operands.{Operand, operand, operands, ◌>>=◌}
 use Rattle.thumb_asm.specs.Syntax.{Shape, mnemonic, shaped}
 use Rattle.thumb_asm.specs.Sizes.{checked, named, shaped_by, statement_of}
-use Rattle.thumb_asm.proofs.Bytes.{is_visible, is_plain, is_solid, is_inner, both, join, all_by, all_append, inner_of, visible_of, plain_of, plain_inner, before_plain, after_plain, word_of, rest_of, front_visible, front_blank, starts_append, nil_append, ends_append, end_visible, ends_solid, with_text, text_first, solid_pieces, bracket_pieces, brace_pieces, framed}
+use Rattle.thumb_asm.proofs.Bytes.{is_visible, is_plain, is_solid, is_inner, both, all_by, all_append, visible_of, plain_of, plain_inner, before_plain, after_plain, word_of, rest_of, front_visible, front_blank, starts_append, nil_append, ends_append, end_visible, ends_solid, with_text, text_first, solid_pieces, bracket_pieces, brace_pieces, framed}
 
 -- a text that is one piece, with no blank around it
 pub record Piece (a : List ℕ) : Type 0 where
@@ -56,7 +56,7 @@ solid_piece a h k = record {
   whole = λ rest. solid_pieces a rest k;
   begins = starts_solid a h k;
   ends = ends_solid a k;
-  plain = all_by is_solid is_plain plain_of a k
+  plain = all_by is_solid is_plain plain_of a k;
 }
 
 pub bracket_piece : (t : List ℕ) → list_all is_inner t ≡ true → Piece (framed 91 t 93)
@@ -64,7 +64,7 @@ bracket_piece t h = record {
   whole = λ rest. bracket_pieces t rest h;
   begins = refl;
   ends = end_visible (91 ∷ t) 93 refl;
-  plain = all_append is_plain t (93 ∷ []) (all_by is_inner is_plain plain_inner t h) refl
+  plain = all_append is_plain t (93 ∷ []) (all_by is_inner is_plain plain_inner t h) refl;
 }
 
 pub brace_piece : (t : List ℕ) → list_all is_inner t ≡ true → Piece (framed 123 t 125)
@@ -72,7 +72,7 @@ brace_piece t h = record {
   whole = λ rest. brace_pieces t rest h;
   begins = refl;
   ends = end_visible (123 ∷ t) 125 refl;
-  plain = all_append is_plain t (125 ∷ []) (all_by is_inner is_plain plain_inner t h) refl
+  plain = all_append is_plain t (125 ∷ []) (all_by is_inner is_plain plain_inner t h) refl;
 }
 
 pub joined_more : (x y : List ℕ) (ys : List (List ℕ)) → joined (x ∷ y ∷ ys) ≡ x ++ (44 ∷ 32 ∷ joined (y ∷ ys))
@@ -135,7 +135,7 @@ pub operand_pieces_of : (x : List ℕ) (xs : List (List ℕ)) → AllPieces (x �
 unfolding operand_pieces strip
 operand_pieces_of x xs h =
     let e : is_nil (strip_end (strip_front (32 ∷ joined (x ∷ xs)))) ≡ false =
-        ap (λ t. is_nil (strip_end t)) (front_blank (joined (x ∷ xs)) (joined_begins x xs h)) ∙ ap is_nil (joined_ends x xs h) ∙ nil_of (joined (x ∷ xs)) (joined_begins x xs h) in
+    ap (λ t. is_nil (strip_end t)) (front_blank (joined (x ∷ xs)) (joined_begins x xs h)) ∙ ap is_nil (joined_ends x xs h) ∙ nil_of (joined (x ∷ xs)) (joined_begins x xs h) in
     ap (λ b. if b then [] else map strip (pieces Outside 0 (32 ∷ joined (x ∷ xs)))) e
     ∙ ap (map strip) (blank (joined (x ∷ xs)) ∙ ap (with_first 32) (spread x xs h))
     ∙ all_tight (x ∷ xs) h
