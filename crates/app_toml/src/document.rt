@@ -37,7 +37,8 @@ fn top_fault<'a>(document: &'a Table) -> Option<Fault<'a>>
 
 /// A table that has to be there.
 fn single_fault<'a>(name: &'static str, keys: &[Key], document: &'a Table) -> Option<Fault<'a>>
-    ensures { option_map refusal_of result ≡ single_fault name.now (keys_of keys.now) (table_view document.now) }
+    ensures { option_map refusal_of result
+        ≡ single_fault name.now (keys_of keys.now) (table_view document.now) }
 {
     match member(document, name) {
         Some(value) => table_fault(keys, head_place(name), value),
@@ -47,7 +48,8 @@ fn single_fault<'a>(name: &'static str, keys: &[Key], document: &'a Table) -> Op
 
 /// Each table of a list, in order.
 fn tables_fault<'a>(name: &'static str, keys: &[Key], values: &'a [Value]) -> Option<Fault<'a>>
-    ensures { option_map refusal_of result ≡ tables_fault name.now (keys_of keys.now) 0 (items_view values.now) }
+    ensures { option_map refusal_of result
+        ≡ tables_fault name.now (keys_of keys.now) 0 (items_view values.now) }
 {
     for i in 0..values.len() {
         let found = table_fault(keys, index_place(name, i), &values[i]);
@@ -65,7 +67,8 @@ fn listed_fault<'a>(
     keys: &[Key],
     document: &'a Table,
 ) -> Option<Fault<'a>>
-    ensures { option_map refusal_of result ≡ listed_fault name.now is_needed (keys_of keys.now) (table_view document.now) }
+    ensures { option_map refusal_of result
+        ≡ listed_fault name.now is_needed (keys_of keys.now) (table_view document.now) }
 {
     match member(document, name) {
         Some(value) => match value.as_array() {

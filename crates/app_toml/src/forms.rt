@@ -12,7 +12,7 @@ use toml::Value;
 /// What the value of a key has to be: a number within limits, a name, a text that is not empty,
 /// a truth value, or a list of names.
 #[derive(Clone, Copy)]
-pub enum Form {
+pub(crate) enum Form {
     Number(i64, i64),
     Name,
     Filled,
@@ -70,7 +70,8 @@ fn name_fault<'a>(place: Place<'a>, value: &Value) -> Option<Fault<'a>>
 
 /// Of the names of a list, in order.
 fn names_fault<'a>(place: Place<'a>, values: &[Value]) -> Option<Fault<'a>>
-    ensures { option_map refusal_of result ≡ names_fault (site_of place.entry) 0 (items_view values.now) }
+    ensures { option_map refusal_of result
+        ≡ names_fault (site_of place.entry) 0 (items_view values.now) }
 {
     for i in 0..values.len() {
         let found = name_fault(entry_place(place, i), &values[i]);
@@ -106,7 +107,8 @@ fn flag_fault<'a>(place: Place<'a>, value: &Value) -> Option<Fault<'a>>
 }
 
 fn number_fault<'a>(low: i64, high: i64, place: Place<'a>, value: &Value) -> Option<Fault<'a>>
-    ensures { option_map refusal_of result ≡ number_fault low high (site_of place.entry) (view value.now) }
+    ensures { option_map refusal_of result
+        ≡ number_fault low high (site_of place.entry) (view value.now) }
 {
     match value.as_integer() {
         None => fault_at(4, place),
@@ -122,7 +124,8 @@ fn number_fault<'a>(low: i64, high: i64, place: Place<'a>, value: &Value) -> Opt
 
 /// A value against its form: its type, then its range or its form.
 pub(crate) fn value_fault<'a>(form: Form, place: Place<'a>, value: &Value) -> Option<Fault<'a>>
-    ensures { option_map refusal_of result ≡ value_fault form (site_of place.entry) (view value.now) }
+    ensures { option_map refusal_of result
+        ≡ value_fault form (site_of place.entry) (view value.now) }
 {
     match form {
         Form::Number(low, high) => number_fault(low, high, place, value),

@@ -12,7 +12,7 @@ use toml::{Table, Value};
 
 /// A key of a table, whether it is needed, and the form of its value.
 #[derive(Clone, Copy)]
-pub struct Key {
+pub(crate) struct Key {
     pub(crate) name: &'static str,
     pub(crate) is_needed: bool,
     pub(crate) form: Form,
@@ -27,7 +27,8 @@ pub(crate) fn member<'a>(table: &'a Table, name: &str) -> Option<&'a Value>
 
 /// One key of a table: missing, then the fault of its value.
 fn key_fault<'a>(key: Key, place: Place<'a>, table: &Table) -> Option<Fault<'a>>
-    ensures { option_map refusal_of result ≡ key_fault (key_of key) (site_of place.entry) (table_view table.now) }
+    ensures { option_map refusal_of result
+        ≡ key_fault (key_of key) (site_of place.entry) (table_view table.now) }
 {
     let here = key_place(place, key.name);
     match member(table, key.name) {
@@ -38,7 +39,8 @@ fn key_fault<'a>(key: Key, place: Place<'a>, table: &Table) -> Option<Fault<'a>>
 
 /// The keys of a table one by one.
 fn keys_fault<'a>(keys: &[Key], place: Place<'a>, table: &Table) -> Option<Fault<'a>>
-    ensures { option_map refusal_of result ≡ keys_fault (keys_of keys.now) (site_of place.entry) (table_view table.now) }
+    ensures { option_map refusal_of result
+        ≡ keys_fault (keys_of keys.now) (site_of place.entry) (table_view table.now) }
 {
     for key in keys {
         let found = key_fault(*key, place, table);
@@ -62,7 +64,8 @@ fn is_known(name: &str, keys: &[Key]) -> bool
 
 /// The first key in byte order that is none of the table's.
 fn unknown_fault<'a>(keys: &[Key], place: Place<'a>, table: &'a Table) -> Option<Fault<'a>>
-    ensures { option_map refusal_of result ≡ unknown_fault (keys_of keys.now) (site_of place.entry) (table_view table.now) }
+    ensures { option_map refusal_of result
+        ≡ unknown_fault (keys_of keys.now) (site_of place.entry) (table_view table.now) }
 {
     for (name, _value) in table.iter() {
         if !is_known(name.as_str(), keys) {
@@ -74,7 +77,8 @@ fn unknown_fault<'a>(keys: &[Key], place: Place<'a>, table: &'a Table) -> Option
 
 /// One table: its unknown keys, then its keys one by one.
 pub(crate) fn table_fault<'a>(keys: &[Key], place: Place<'a>, value: &'a Value) -> Option<Fault<'a>>
-    ensures { option_map refusal_of result ≡ table_fault (keys_of keys.now) (site_of place.entry) (view value.now) }
+    ensures { option_map refusal_of result
+        ≡ table_fault (keys_of keys.now) (site_of place.entry) (view value.now) }
 {
     match value.as_table() {
         None => fault_at(4, place),

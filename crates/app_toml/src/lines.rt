@@ -22,7 +22,8 @@ fn has_line(line: u8, interrupts: &[Interrupt]) -> bool
 }
 
 fn line_twice(interrupts: &[Interrupt]) -> Option<Fault<'static>>
-    ensures { option_map refusal_of result ≡ first_clash line_twice [] 0 (map interrupt_of interrupts.now) }
+    ensures { option_map refusal_of result
+        ≡ first_clash line_twice [] 0 (map interrupt_of interrupts.now) }
 {
     for i in 0..interrupts.len() {
         let twice = has_line(interrupts[i].line, &interrupts[..i]);

@@ -12,7 +12,7 @@ use std::alloc::{AllocError, Global};
 
 /// A table, its index in its list, a key, and an entry of the key's list.
 #[derive(Clone, Copy)]
-pub struct Place<'a> {
+pub(crate) struct Place<'a> {
     pub(crate) head: &'a str,
     pub(crate) index: Option<usize>,
     pub(crate) key: Option<&'a str>,
@@ -21,7 +21,7 @@ pub struct Place<'a> {
 
 /// A cause, and the place whose text is made only when it is told.
 #[derive(Clone, Copy)]
-pub struct Fault<'a> {
+pub(crate) struct Fault<'a> {
     pub(crate) cause: u8,
     pub(crate) place: Place<'a>,
 }

@@ -12,7 +12,8 @@ use crate::places::{Fault, Place, entry_place, fault_if, index_place, key_place}
 
 /// The first name that is among the earlier ones, or before it in its own list.
 fn entries_twice<'a>(earlier: &[String], place: Place<'a>, names: &[String]) -> Option<Fault<'a>>
-    ensures { option_map refusal_of result ≡ entries_twice (map string_bytes earlier.now) (site_of place.entry) (map string_bytes names.now) }
+    ensures { option_map refusal_of result
+        ≡ entries_twice (map string_bytes earlier.now) (site_of place.entry) (map string_bytes names.now) }
 {
     for i in 0..names.len() {
         let name = names[i].as_str();
@@ -27,7 +28,8 @@ fn entries_twice<'a>(earlier: &[String], place: Place<'a>, names: &[String]) -> 
 
 /// Of the k-th task: its name, then its notifications, then what it uses and reads together.
 fn task_twice(before: &[Task], k: usize, task: &Task) -> Option<Fault<'static>>
-    ensures { option_map refusal_of result ≡ task_twice (map task_of before.now) k (task_of task.now) }
+    ensures { option_map refusal_of result
+        ≡ task_twice (map task_of before.now) k (task_of task.now) }
 {
     let place = index_place("task", k);
     let twice = has_task(task.name.as_str(), before);
@@ -67,7 +69,8 @@ fn tasks_twice(tasks: &[Task]) -> Option<Fault<'static>>
 }
 
 fn regions_twice(regions: &[SharedRegion]) -> Option<Fault<'static>>
-    ensures { option_map refusal_of result ≡ first_clash region_twice [] 0 (map region_of regions.now) }
+    ensures { option_map refusal_of result
+        ≡ first_clash region_twice [] 0 (map region_of regions.now) }
 {
     for i in 0..regions.len() {
         let twice = has_region(regions[i].name.as_str(), &regions[..i]);
@@ -81,7 +84,8 @@ fn regions_twice(regions: &[SharedRegion]) -> Option<Fault<'static>>
 
 /// Of the devices, whose names stand with those of the regions.
 fn devices_twice(regions: &[SharedRegion], devices: &[Device]) -> Option<Fault<'static>>
-    ensures { option_map refusal_of result ≡ first_clash (device_twice (map region_of regions.now)) [] 0 (map device_of devices.now) }
+    ensures { option_map refusal_of result
+        ≡ first_clash (device_twice (map region_of regions.now)) [] 0 (map device_of devices.now) }
 {
     for i in 0..devices.len() {
         let name = devices[i].name.as_str();

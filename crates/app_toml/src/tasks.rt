@@ -25,7 +25,8 @@ fn task_count(tasks: &[Task]) -> Option<Fault<'static>>
 }
 
 fn notification_count(tasks: &[Task]) -> Option<Fault<'static>>
-    ensures { option_map refusal_of result ≡ first_fault notification_count 0 (map task_of tasks.now) }
+    ensures { option_map refusal_of result
+        ≡ first_fault notification_count 0 (map task_of tasks.now) }
 {
     for i in 0..tasks.len() {
         let many = tasks[i].notifications.len() > 32;

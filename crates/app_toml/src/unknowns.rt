@@ -12,7 +12,8 @@ use crate::places::{Fault, Place, entry_place, fault_if, head_place, index_place
 
 /// The first interrupt whose task there is not.
 fn unknown_owner(tasks: &[Task], interrupts: &[Interrupt]) -> Option<Fault<'static>>
-    ensures { option_map refusal_of result ≡ first_fault (unknown_owner (map task_of tasks.now)) 0 (map interrupt_of interrupts.now) }
+    ensures { option_map refusal_of result
+        ≡ first_fault (unknown_owner (map task_of tasks.now)) 0 (map interrupt_of interrupts.now) }
 {
     for i in 0..interrupts.len() {
         let known = has_task(interrupts[i].task.as_str(), tasks);
@@ -37,7 +38,8 @@ fn unknown_fault_bit(fault: &str, tasks: &[Task]) -> Option<Fault<'static>>
 
 /// The first interrupt whose notification its task has not.
 fn unknown_bit(tasks: &[Task], interrupts: &[Interrupt]) -> Option<Fault<'static>>
-    ensures { option_map refusal_of result ≡ first_fault (unknown_bit (map task_of tasks.now)) 0 (map interrupt_of interrupts.now) }
+    ensures { option_map refusal_of result
+        ≡ first_fault (unknown_bit (map task_of tasks.now)) 0 (map interrupt_of interrupts.now) }
 {
     for i in 0..interrupts.len() {
         let bits = notifications_of(interrupts[i].task.as_str(), tasks);
@@ -61,7 +63,8 @@ fn unknown_entry<'a>(
     place: Place<'a>,
     names: &[String],
 ) -> Option<Fault<'a>>
-    ensures { option_map refusal_of result ≡ first_fault (unknown_entry (map region_of regions.now) (map device_of devices.now) (site_of place.entry)) 0 (map string_bytes names.now) }
+    ensures { option_map refusal_of result
+        ≡ first_fault (unknown_entry (map region_of regions.now) (map device_of devices.now) (site_of place.entry)) 0 (map string_bytes names.now) }
 {
     for i in 0..names.len() {
         let name = names[i].as_str();
@@ -81,7 +84,8 @@ fn unknown_region(
     k: usize,
     task: &Task,
 ) -> Option<Fault<'static>>
-    ensures { option_map refusal_of result ≡ unknown_region (map region_of regions.now) (map device_of devices.now) k (task_of task.now) }
+    ensures { option_map refusal_of result
+        ≡ unknown_region (map region_of regions.now) (map device_of devices.now) k (task_of task.now) }
 {
     let place = index_place("task", k);
     let uses = unknown_entry(
@@ -106,7 +110,8 @@ fn unknown_regions(
     devices: &[Device],
     tasks: &[Task],
 ) -> Option<Fault<'static>>
-    ensures { option_map refusal_of result ≡ first_fault (unknown_region (map region_of regions.now) (map device_of devices.now)) 0 (map task_of tasks.now) }
+    ensures { option_map refusal_of result
+        ≡ first_fault (unknown_region (map region_of regions.now) (map device_of devices.now)) 0 (map task_of tasks.now) }
 {
     for i in 0..tasks.len() {
         let found = unknown_region(regions, devices, i, &tasks[i]);

@@ -88,7 +88,8 @@ fn values_in<'a>(table: &'a Table, name: &str) -> &'a [Value]
 }
 
 fn texts_in(alloc: Global, table: &Table, name: &str) -> Result<Vec<String>, AllocError>
-    ensures { IfOk result (λ v. map string_bytes v.items ≡ texts_in name.now (table_view table.now)) }
+    ensures { IfOk result (λ v. map string_bytes v.items
+        ≡ texts_in name.now (table_view table.now)) }
 {
     texts_of(alloc, values_in(table, name))
 }
@@ -211,7 +212,8 @@ fn interrupts_in(
     values: &[Value],
 ) -> Result<Vec<Interrupt>, AllocError>
     requires { table_view empty.now ≡ no_members }
-    ensures { IfOk result (λ v. map interrupt_of v.items ≡ each_in interrupt_in (items_view values.now)) }
+    ensures { IfOk result (λ v. map interrupt_of v.items
+        ≡ each_in interrupt_in (items_view values.now)) }
 {
     let mut interrupts = Vec::new(alloc);
     for value in values {
