@@ -1,9 +1,9 @@
 //! One instruction of a task: fetched, decoded and executed.
-ghost use Rattle.std.specs.Prelude.{◌≡◌, ◌%◌, true};
+ghost use Rattle.std.specs.Prelude.{◌≡◌, ◌%◌, true, IfOk};
 ghost use Rattle.words_core.specs.Regs.{reg_at};
 ghost use Rattle.thumb_insn.specs.Range.{GivesCoded};
 ghost use Rattle.thumb_exec.specs.Effect.{Acts};
-ghost use Rattle.insn_vectors.specs.Played.{decoded_effect, wide_effect, step_effect};
+ghost use Rattle.insn_vectors.specs.Played.{decoded_effect, wide_effect, step_effect, Passes};
 
 use crate::case::{Case, fill};
 use crate::memory::Memory;
@@ -89,7 +89,11 @@ fn is_wanted(case: &Case, cpu: &Cpu, outcome: Outcome) -> bool
 }
 
 /// Whether the instruction of a case does just what is wanted, to registers, flags and every byte.
-pub fn passes(alloc: Global, case: &Case) -> Result<bool, AllocError> {
+/// One that passes ends so from some memory, by its rows in the table; which bytes that memory
+/// holds, no clause says.
+pub fn passes(alloc: Global, case: &Case) -> Result<bool, AllocError>
+    ensures { IfOk result (λ passed. passed ≡ true → Passes case.now) }
+{
     let Some(mut memory) = memory_of(alloc, case)? else {
         return Ok(false);
     };
