@@ -287,6 +287,7 @@ impl Machine {
     }
 
     /// What was decoded at an address is carried out; what has no row in the table is Illegal.
+    #[inline(always)]
     fn act(&mut self, decoded: &Decoded, at: u32)
         requires coded { GivesCoded decoded.now }
         requires ready { (g : Setup) × (t : Turn) × IsReady g self.old t }
@@ -314,7 +315,8 @@ impl Machine {
         }
         let first = self.reach.kernel.half(at);
         if first / 2048 < 29 {
-            self.act(&decode(first, None), at);
+            let decoded = decode(first, None);
+            self.act(&decoded, at);
             return;
         }
         self.step_wide(first, at);
@@ -332,7 +334,8 @@ impl Machine {
             return;
         }
         let second = self.reach.kernel.half(after);
-        self.act(&decode(first, Some(second)), at);
+        let decoded = decode(first, Some(second));
+        self.act(&decoded, at);
     }
 }
 
