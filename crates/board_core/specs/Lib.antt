@@ -1,4 +1,5 @@
 pub mod Script
+pub mod Spans
 pub mod Turn
 pub mod Run
 pub mod Kept

@@ -1,6 +1,8 @@
 //! The kernel as the bus of its current task, and one instruction of that task.
-ghost use Rattle.std.specs.Prelude.{◌≡◌, ◌≢◌, ◌⊎◌, ◌+◌, ◌≤◌, ◌<◌, ◌%◌, ◌^◌, ◌/◌, ◌∷◌, [], ℕ, Option, true, false};
-ghost use Rattle.region_check.specs.Rights.{may_use};
+ghost use Rattle.std.specs.Prelude.{◌≡◌, ◌≢◌, ◌⊎◌, ◌&&◌, ◌+◌, ◌≤◌, ◌<◌, ◌%◌, ◌^◌, ◌/◌, ◌∷◌, [], ℕ, Option, true, false};
+ghost use Rattle.region_check.specs.Rights.{may_use, has_right};
+ghost use Rattle.region_check.specs.declared.Right.TheVariants.{Execute};
+ghost use Rattle.board_core.specs.Spans.{spans, one_gives};
 ghost use Rattle.task_table.specs.State.{Setup, Turn};
 ghost use Rattle.task_table.specs.Reading.{is_ready, task_at};
 ghost use Rattle.task_table.specs.Start.{begun};
@@ -16,7 +18,7 @@ ghost use Rattle.board_core.specs.Machine.{IsStored, IsReady, IsNext, MachineHol
 
 use crate::Turned;
 use kernel_abi::Fault;
-use region_check::{Region, Right, may};
+use region_check::{Region, Right, Rights, may};
 use task_table::Kernel;
 use thumb_decode::decode;
 use thumb_exec::bus::Bus;
@@ -40,11 +42,42 @@ pub struct Machine {
     pub lent: bool,
 }
 
+/// Whether the rights have it.
+fn grants(rights: &Rights, right: Right) -> bool
+    ensures { result ≡ has_right rights.now right }
+{
+    match right {
+        Right::Read => rights.read,
+        Right::Write => rights.write,
+        Right::Execute => rights.execute,
+    }
+}
+
+/// Whether a region has all of n bytes.
+fn spans(region: &Region, addr: u32, n: u32) -> bool
+    ensures { result ≡ spans region.now addr n }
+{
+    let end = u64::from(addr) + u64::from(n);
+    region.base <= addr && end <= u64::from(region.base) + u64::from(region.size)
+}
+
+/// Whether one region gives all of n bytes.
+fn one_gives(regions: &[Region], addr: u32, n: u32, right: Right) -> bool
+    ensures { result ≡ one_gives right addr n regions.now }
+{
+    regions
+        .iter()
+        .any(|r| spans(r, addr, n) && grants(&r.rights, right))
+}
+
 /// The first of n bytes at which no region grants the right.
 fn first_lacking(regions: &[Region], addr: u32, n: u32, right: Right) -> Option<u32>
     requires { addr + n ≤ 2 ^ 32 }
     ensures { result ≡ first_lacking (may_use regions.now) addr n right }
 {
+    if one_gives(regions, addr, n, right) {
+        return None;
+    }
     for k in 0..n {
         if !may(regions, addr + k, right) {
             return Some(addr + k);
@@ -123,12 +156,23 @@ fn cpu(kernel: &Kernel, task: usize) -> Cpu
     }
 }
 
+/// Whether both bytes of a halfword may be executed.
+fn may_execute(regions: &[Region], at: u32) -> bool
+    ensures { result ≡ (may_use regions.now Execute at && may_use regions.now Execute ((at + 1) % 2 ^ 32)) }
+{
+    if at < 0xFFFF_FFFF {
+        if one_gives(regions, at, 2, Right::Execute) {
+            return true;
+        }
+    }
+    may(regions, at, Right::Execute) && may(regions, at.wrapping_add(1), Right::Execute)
+}
+
 /// Whether both bytes of a halfword may be executed by the current task.
 fn is_text(kernel: &Kernel, at: u32) -> bool
     ensures { (g : Setup) (t : Turn) → Holds g kernel.now t → result ≡ is_text g t.state.current at }
 {
-    let regions = kernel.regions(kernel.current());
-    may(regions, at, Right::Execute) && may(regions, at.wrapping_add(1), Right::Execute)
+    may_execute(kernel.regions(kernel.current()), at)
 }
 
 impl Machine {
@@ -243,6 +287,7 @@ impl Machine {
     }
 
     /// What was decoded at an address is carried out; what has no row in the table is Illegal.
+    #[inline(always)]
     fn act(&mut self, decoded: &Decoded, at: u32)
         requires coded { GivesCoded decoded.now }
         requires ready { (g : Setup) × (t : Turn) × IsReady g self.old t }
@@ -270,7 +315,8 @@ impl Machine {
         }
         let first = self.reach.kernel.half(at);
         if first / 2048 < 29 {
-            self.act(&decode(first, None), at);
+            let decoded = decode(first, None);
+            self.act(&decoded, at);
             return;
         }
         self.step_wide(first, at);
@@ -288,7 +334,8 @@ impl Machine {
             return;
         }
         let second = self.reach.kernel.half(after);
-        self.act(&decode(first, Some(second)), at);
+        let decoded = decode(first, Some(second));
+        self.act(&decoded, at);
     }
 }
 

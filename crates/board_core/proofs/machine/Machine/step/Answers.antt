@@ -22,7 +22,7 @@ returns-then-first-lt29 c = λ g t r.
     let at = c.get-at.ensures ∙ lent_register g _ _ t h r.sane.steady.current in
     let text = c.is_text.ensures g h.saved h.holds ∙ ap (λ (i : ℕ). is_text g i c.get-at.result) (sym rest.current) in
     let half = c.half-first.ensures.holds g h.saved h.holds ∙ ap (λ (m : Memory). number_at m c.get-at.result 2) (sym rest.memory) in
-    narrow_acted g t (MachineHolds g c.act.new.self) c.get-at.result c.half-first.result c.is_text.result at text c.decode.result c.if-not-is_text.false half (lt-leb _ _ c.if-first-lt29.true) c.decode.ensures.table (c.act.ensures g t r)
+    narrow_acted g t (MachineHolds g c.act.new.self) c.get-at.result c.half-first.result c.is_text.result at text c.decode-decoded.result c.if-not-is_text.false half (lt-leb _ _ c.if-first-lt29.true) c.decode-decoded.ensures.table (c.act.ensures g t r)
 
 pub returns : goal.returns
 returns c = λ g t r.

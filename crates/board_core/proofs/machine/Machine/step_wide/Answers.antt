@@ -18,4 +18,4 @@ returns c = λ g t r.
     let rest = rest_of h.saved t _ h.is in
     let text = c.is_text.ensures g h.saved h.holds ∙ ap (λ (i : ℕ). is_text g i ((c.args.at + 2) % 2 ^ 32)) (sym rest.current) in
     let half = c.half-second.ensures.holds g h.saved h.holds ∙ ap (λ (m : Memory). number_at m ((c.args.at + 2) % 2 ^ 32) 2) (sym rest.memory) in
-    second_acted g t (MachineHolds g c.act.new.self) c.args.at c.args.first ((c.args.at + 2) % 2 ^ 32) c.is_text.result refl text c.half-second.result c.decode.result c.if-not-is_text.false half c.decode.ensures.table (c.act.ensures g t r)
+    second_acted g t (MachineHolds g c.act.new.self) c.args.at c.args.first ((c.args.at + 2) % 2 ^ 32) c.is_text.result refl text c.half-second.result c.decode-decoded.result c.if-not-is_text.false half c.decode-decoded.ensures.table (c.act.ensures g t r)
