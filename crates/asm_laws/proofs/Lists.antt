@@ -20,6 +20,7 @@ use Rattle.thumb_asm.specs.Sizes.{checked, has_bad_count, has_bad_register, has_
 use Rattle.thumb_asm.specs.Meaning.{Env, insn_at, fitting}
 use Rattle.thumb_asm.proofs.Bytes.{both}
 use Rattle.thumb_asm.proofs.Lines.{Reads}
+use Rattle.asm_laws.proofs.Numbers.{le_of}
 use Rattle.asm_laws.proofs.Operands.{single, AllBelow, reads_list, reads_reg, reads_raised}
 use Rattle.asm_laws.proofs.Shapes.{Told, fits, two_false, three_false, low, say}
 
@@ -50,9 +51,6 @@ pub record Good (extra : ℕ) (ks : List ℕ) : Type 0 where
 some_reads : (ks : List ℕ) → is_none ks ≡ false → AllBelow ks → length (joined (map register_name ks)) ≤ 58 → Reads (braces ks) (Registers (map single ks))
 some_reads [] h b l = cc
 some_reads (k ∷ ks) h b l = reads_list k ks b l
-
-le_of : (a b : ℕ) → nat_le a b ≡ true → a ≤ b
-le_of a b h = grind (arith, nat_tests)
 
 good : (extra : ℕ) (ks : List ℕ) → is_good extra ks ≡ true → Good extra ks
 good extra ks h =

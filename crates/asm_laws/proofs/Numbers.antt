@@ -54,7 +54,7 @@ same_number : (n : ℕ) (o : Option Expr) → is_number n o ≡ true → o ≡ S
 same_number n None h = cc
 same_number n (Some e) h = is_unnamed_number n e.name e.number h
 
-le_of : (a b : ℕ) → nat_le a b ≡ true → a ≤ b
+pub le_of : (a b : ℕ) → nat_le a b ≡ true → a ≤ b
 le_of a b h = grind (arith, nat_tests)
 
 pub decimal_is : (n : ℕ) → n < 1024 → Decimal n
@@ -132,7 +132,7 @@ target ds = 48 ∷ 120 ∷ hexes ds
 pub target_solid : (ds : List ℕ) → AllHex ds → Solid (target ds)
 target_solid ds h = record { some = refl; solid = hexes_solid ds h }
 
-unquoted_is : (t : List ℕ) (o : Operand) → list_all is_solid t ≡ true → unquoted t o ≡ Some o
+pub unquoted_is : (t : List ℕ) (o : Operand) → list_all is_solid t ≡ true → unquoted t o ≡ Some o
 unquoted_is t o h = rw (none_is 34 t (all_by is_solid (λ c. not (nat_eq c 34)) (λ c k. ap not (no_quote c (plain_of c k))) t h)) refl
 
 pub target_alone : (ds : List ℕ) → AllHex ds → operand (target ds) ≡ Some (AsExpression (target ds))

@@ -1,17 +1,16 @@
 -- The operands of an instruction's text are read as these operands.
-use Rattle.std.proofs.Common.{◌≡◌, ℕ, ◌≤◌, ◌+◌, length, length-append, arith, nat_le, ◌<◌, List, [], ◌∷◌, map, refl, ap, ◌∙◌, true, false, not, nat_eq, Some, codes, decimal}
+use Rattle.std.proofs.Common.{◌≡◌, ℕ, ◌≤◌, ◌+◌, length, length-append, arith, ◌<◌, List, [], ◌∷◌, map, refl, ap, ◌∙◌, true, false, Some, codes, decimal}
 use Rattle.std.proofs.lemmas.Bool.{not-true}
 use Rattle.std.specs.List.{list_all}
 use Rattle.thumb_insn.specs.Fields.{reg}
 use Rattle.thumb_insn.specs.declared.Reg.{Reg}
 use Rattle.thumb_insn.specs.Text.{register_name, reg_text, imm, place, joined, at_sum, braces, raised}
 use Rattle.thumb_asm.specs.Chars.{is_nil, register, strip_end, strip, starts_by, is_blank, unless_last, register_names, entry_at}
-use Rattle.thumb_asm.specs.Operands.{Operand, Register, Raised, Immediate, Expression, MemoryRegister, MemoryImmediate, Registers, operand, memory, offset, unquoted, closed_by, stripped_by, ranges, register_list, ◌>>=◌}
-use Rattle.thumb_asm.proofs.Bytes.{is_solid, is_visible, all_by, plain_of, no_quote, none_is, closed_framed, framed, front_visible}
-use Rattle.std.proofs.lemmas.Bool.Decides.{nat_tests}
+use Rattle.thumb_asm.specs.Operands.{Operand, Register, Raised, Immediate, Expression, MemoryRegister, MemoryImmediate, Registers, operand, memory, offset, closed_by, stripped_by, ranges, register_list, ◌>>=◌}
+use Rattle.thumb_asm.proofs.Bytes.{is_solid, is_visible, closed_framed, framed, front_visible}
 use Rattle.thumb_asm.proofs.Lines.{joined_more, Reads, solid_piece, bracket_piece, brace_piece}
 use Rattle.asm_laws.proofs.Registers.{named}
-use Rattle.asm_laws.proofs.Numbers.{decimal_is, target_solid, target_alone, digits_of, all_hex, place_is, target}
+use Rattle.asm_laws.proofs.Numbers.{le_of, unquoted_is, decimal_is, target_solid, target_alone, digits_of, all_hex, place_is, target}
 use Rattle.asm_laws.proofs.Splits.{Solid, AllSolid, stripped, joined_begins, joined_inner}
 
 solid_reads : (a : List ℕ) (o : Operand) → Solid a → length a ≤ 60 → operand a ≡ Some o → Reads a o
@@ -19,9 +18,6 @@ solid_reads a o h l e = record { piece = solid_piece a h.some h.solid l; is = e 
 
 pub reg_solid : (k : ℕ) → k < 16 → Solid (register_name k)
 reg_solid k h = let e = named k h in record { some = e.some; solid = e.solid }
-
-le_of : (a b : ℕ) → nat_le a b ≡ true → a ≤ b
-le_of a b h = grind (arith, nat_tests)
 
 reg_short : (k : ℕ) → k < 16 → length (register_name k) ≤ 4
 reg_short k h = le_of _ _ (named k h).short
@@ -31,9 +27,6 @@ reads_reg r h = solid_reads (reg_text r) (Register r) (reg_solid r.number h) (le
 
 pub reads_raised : (r : Reg) → r.number < 16 → Reads (raised r) (Raised r)
 reads_raised r h = let e = named r.number h in solid_reads (raised r) (Raised r) (record { some = e.some_raised; solid = e.solid_raised }) (le_of _ _ e.short_raised) e.raised
-
-unquoted_is : (t : List ℕ) (o : Operand) → list_all is_solid t ≡ true → unquoted t o ≡ Some o
-unquoted_is t o h = rw (none_is 34 t (all_by is_solid (λ c. not (nat_eq c 34)) (λ c k. ap not (no_quote c (plain_of c k))) t h)) refl
 
 imm_solid : (i : ℕ) → i < 1024 → Solid (imm i)
 imm_solid i h = record { some = refl; solid = (decimal_is i h).solid }

@@ -15,7 +15,7 @@ use Rattle.thumb_asm.specs.Sizes.{checked, has_bad_count, has_bad_register, has_
 use Rattle.thumb_asm.specs.Meaning.{Env, insn_at, value}
 use Rattle.thumb_asm.proofs.Bytes.{is_solid, is_plain, both, all_by, allowed_of}
 use Rattle.thumb_asm.proofs.Lines.{Reads, AllRead, Line, line_shape}
-use Rattle.asm_laws.proofs.Numbers.{number}
+use Rattle.asm_laws.proofs.Numbers.{le_of, number}
 use Rattle.asm_laws.specs.Reading.{IsRead}
 
 -- What a fit tells.
@@ -118,9 +118,6 @@ pub record Told (i : Insn) (at : ℕ) : Type 0 where
   pub read : IsRead i at
   pub allowed : list_all is_allowed (insn_text i at) ≡ true
   pub short : length (insn_text i at) ≤ 255
-
-le_of : (a b : ℕ) → nat_le a b ≡ true → a ≤ b
-le_of a b h = grind (arith, nat_tests)
 
 told : (i : Insn) (at : ℕ) (text : List ℕ) (s : Shape) → insn_text i at ≡ text → Line text s → ((env : Env) → insn_at env at s ≡ Ok i) → Told i at
 told i at text s t l g = record {
