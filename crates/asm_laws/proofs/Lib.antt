@@ -9,3 +9,4 @@ pub mod Lists
 pub mod Coded
 pub mod Every
 pub mod Spelling
+pub mod Whole

@@ -1,5 +1,5 @@
 -- The lists of `push`, `pop`, `stm` and `ldm` are read as these lists.
-use Rattle.std.proofs.Common.{◌≡◌, ℕ, ◌%◌, ◌^◌, ◌<◌, List, [], ◌∷◌, ◌++◌, map, refl, ap, ◌∙◌, sym, arith, Bool, true, false, not, nat_eq, nat_lt, ◌&&◌, ◌||◌, if◌then◌else◌, Option, Some, None, Result, Ok, Err, codes}
+use Rattle.std.proofs.Common.{◌≡◌, ℕ, ◌≤◌, length, nat_le, ◌%◌, ◌^◌, ◌<◌, List, [], ◌∷◌, ◌++◌, map, refl, ap, ◌∙◌, sym, arith, Bool, true, false, not, nat_eq, nat_lt, ◌&&◌, ◌||◌, if◌then◌else◌, Option, Some, None, Result, Ok, Err, codes}
 use Rattle.std.proofs.lemmas.Bool.{not-true, agree_below_at, agree_below}
 use Rattle.std.proofs.lemmas.Bool.Decides.{nat_tests}
 use Rattle.std.specs.List.{list_all}
@@ -8,7 +8,8 @@ use Rattle.thumb_insn.specs.declared.Reg.{Reg}
 use Rattle.thumb_insn.specs.declared.Insn.{Insn}
 use Rattle.thumb_insn.specs.declared.Insn.TheVariants.{Push, Pop, Stm, Ldm}
 use Rattle.thumb_insn.specs.Table.{is_later}
-use Rattle.thumb_insn.specs.Text.{insn_text, low_registers, and_also, registers_below, braces, raised, reg_text, line}
+use Rattle.std.specs.Fmt.{digits}
+use Rattle.thumb_insn.specs.Text.{joined, register_name, insn_text, low_registers, and_also, registers_below, braces, raised, reg_text, line}
 use Rattle.thumb_encode.specs.Codes.{fit_of, is_high}
 use Rattle.thumb_asm.specs.declared.Cause.{Cause}
 use Rattle.thumb_asm.specs.declared.Cause.TheVariants as cause
@@ -19,9 +20,9 @@ use Rattle.thumb_asm.specs.Sizes.{checked, has_bad_count, has_bad_register, has_
 use Rattle.thumb_asm.specs.Meaning.{Env, insn_at, fitting}
 use Rattle.thumb_asm.proofs.Bytes.{both}
 use Rattle.thumb_asm.proofs.Lines.{Reads}
-use Rattle.asm_laws.specs.Reading.{IsRead}
+use Rattle.asm_laws.proofs.Numbers.{le_of}
 use Rattle.asm_laws.proofs.Operands.{single, AllBelow, reads_list, reads_reg, reads_raised}
-use Rattle.asm_laws.proofs.Shapes.{fits, two_false, three_false, low, say}
+use Rattle.asm_laws.proofs.Shapes.{Told, fits, two_false, three_false, low, say}
 
 abbrev pub same_bit : Bool → Bool → Bool
 same_bit a b = if a then b else not b
@@ -40,23 +41,28 @@ below_is (k ∷ ks) h = let e = both (nat_lt k 16) (list_all (λ j. nat_lt j 16)
 
 -- a list of registers that is read as it is, with no other high register than this one
 abbrev pub is_good : ℕ → List ℕ → Bool
-is_good extra ks = (not (is_none ks) && list_all (λ k. nat_lt k 16) ks) && (not (has_stray extra (map single ks)) && not (is_no_list (map single ks)))
+is_good extra ks = (not (is_none ks) && (nat_le (length (joined (map register_name ks))) 58 && list_all (λ k. nat_lt k 16) ks)) && (not (has_stray extra (map single ks)) && not (is_no_list (map single ks)))
 
 pub record Good (extra : ℕ) (ks : List ℕ) : Type 0 where
   pub reads : Reads (braces ks) (Registers (map single ks))
   pub stray : has_stray extra (map single ks) ≡ false
   pub list : is_no_list (map single ks) ≡ false
 
-some_reads : (ks : List ℕ) → is_none ks ≡ false → AllBelow ks → Reads (braces ks) (Registers (map single ks))
-some_reads [] h b = cc
-some_reads (k ∷ ks) h b = reads_list k ks b
+some_reads : (ks : List ℕ) → is_none ks ≡ false → AllBelow ks → length (joined (map register_name ks)) ≤ 58 → Reads (braces ks) (Registers (map single ks))
+some_reads [] h b l = cc
+some_reads (k ∷ ks) h b l = reads_list k ks b l
 
 good : (extra : ℕ) (ks : List ℕ) → is_good extra ks ≡ true → Good extra ks
 good extra ks h =
-    let e = both (not (is_none ks) && list_all (λ k. nat_lt k 16) ks) (not (has_stray extra (map single ks)) && not (is_no_list (map single ks))) h in
-    let a = both (not (is_none ks)) (list_all (λ k. nat_lt k 16) ks) e.0 in
+    let e = both (not (is_none ks) && (nat_le (length (joined (map register_name ks))) 58 && list_all (λ k. nat_lt k 16) ks)) (not (has_stray extra (map single ks)) && not (is_no_list (map single ks))) h in
+    let a = both (not (is_none ks)) (nat_le (length (joined (map register_name ks))) 58 && list_all (λ k. nat_lt k 16) ks) e.0 in
+    let d = both (nat_le (length (joined (map register_name ks))) 58) (list_all (λ k. nat_lt k 16) ks) a.1 in
     let b = both (not (has_stray extra (map single ks))) (not (is_no_list (map single ks))) e.1 in
-    record { reads = some_reads ks (not-true _ a.0) (below_is ks a.1); stray = not-true _ b.0; list = not-true _ b.1 }
+    record {
+      reads = some_reads ks (not-true _ a.0) (below_is ks d.1) (le_of _ _ d.0);
+      stray = not-true _ b.0;
+      list = not-true _ b.1;
+    }
 
 either : (a b : Bool) → (a || b) ≡ true → a ≡ false → b ≡ true
 either true b h e = cc
@@ -79,19 +85,19 @@ is_right extra has list =
     (is_good extra (whole_list extra has list) && (nat_eq (mask_of (map single (whole_list extra has list))) list && same_bit (is_listed (map single (whole_list extra has list)) extra) has))
 
 push_with : agree_below (is_right 14 true) (λ k. true) 256 ≡ true
-unfolding registers_below any_below mask_below
+unfolding digits registers_below any_below mask_below
 push_with = refl
 
 push_without : agree_below (is_right 14 false) (λ k. true) 256 ≡ true
-unfolding registers_below any_below mask_below
+unfolding digits registers_below any_below mask_below
 push_without = refl
 
 pop_with : agree_below (is_right 15 true) (λ k. true) 256 ≡ true
-unfolding registers_below any_below mask_below
+unfolding digits registers_below any_below mask_below
 pop_with = refl
 
 pop_without : agree_below (is_right 15 false) (λ k. true) 256 ≡ true
-unfolding registers_below any_below mask_below
+unfolding digits registers_below any_below mask_below
 pop_without = refl
 
 pushed : (has : Bool) (list : ℕ) → list < 256 → is_right 14 has list ≡ true
@@ -128,19 +134,19 @@ pop_at : (env : Env) (at list : ℕ) (has : Bool) (rs : List (ℕ × ℕ)) → m
 unfolding insn_at
 pop_at env at list has rs m l e = ap (λ x. fitting (Pop x (is_listed rs 15))) m ∙ ap (λ b. fitting (Pop list b)) l ∙ fitting_is (Pop list has) e
 
-pub push : (at list : ℕ) (lr : Bool) → list < 256 → fit_of (Push list lr) ≡ None → IsRead (Push list lr) at
+pub push : (at list : ℕ) (lr : Bool) → list < 256 → fit_of (Push list lr) ≡ None → Told (Push list lr) at
 unfolding insn_text mnemonic mnemonics1 mnemonics2 mnemonics3 mnemonics4 entry_at shaped
 push at list lr h e =
     let n = fits (nat_eq list 0 && not lr) false false e in
     let w = whole 14 lr list (pushed lr list h) n.0 in
-    say (Push list lr) at (codes "push") (braces (whole_list 14 lr list)) [] (Registers (map single (whole_list 14 lr list))) [] (Listed false (map single (whole_list 14 lr list))) refl refl refl w.good.reads tt refl (listed_ok false (map single (whole_list 14 lr list)) w.good.stray w.good.list) (λ env. push_at env at list lr (map single (whole_list 14 lr list)) w.mask w.has_extra e)
+    say (Push list lr) at (codes "push") (braces (whole_list 14 lr list)) [] (Registers (map single (whole_list 14 lr list))) [] (Listed false (map single (whole_list 14 lr list))) refl refl refl refl w.good.reads tt refl (listed_ok false (map single (whole_list 14 lr list)) w.good.stray w.good.list) (λ env. push_at env at list lr (map single (whole_list 14 lr list)) w.mask w.has_extra e)
 
-pub pop : (at list : ℕ) (has : Bool) → list < 256 → fit_of (Pop list has) ≡ None → IsRead (Pop list has) at
+pub pop : (at list : ℕ) (has : Bool) → list < 256 → fit_of (Pop list has) ≡ None → Told (Pop list has) at
 unfolding insn_text mnemonic mnemonics1 mnemonics2 mnemonics3 mnemonics4 entry_at shaped
 pop at list has h e =
     let n = fits (nat_eq list 0 && not has) false false e in
     let w = whole 15 has list (popped has list h) n.0 in
-    say (Pop list has) at (codes "pop") (braces (whole_list 15 has list)) [] (Registers (map single (whole_list 15 has list))) [] (Listed true (map single (whole_list 15 has list))) refl refl refl w.good.reads tt refl (listed_ok true (map single (whole_list 15 has list)) w.good.stray w.good.list) (λ env. pop_at env at list has (map single (whole_list 15 has list)) w.mask w.has_extra e)
+    say (Pop list has) at (codes "pop") (braces (whole_list 15 has list)) [] (Registers (map single (whole_list 15 has list))) [] (Listed true (map single (whole_list 15 has list))) refl refl refl refl w.good.reads tt refl (listed_ok true (map single (whole_list 15 has list)) w.good.stray w.good.list) (λ env. pop_at env at list has (map single (whole_list 15 has list)) w.mask w.has_extra e)
 
 -- `stm` and `ldm`: each list of low registers, and each low base.
 
@@ -154,7 +160,7 @@ abbrev pub is_block : ℕ → Bool
 is_block list = nat_eq list 0 || (is_good 0 (low_registers list) && (nat_eq (mask_of (low_list list)) list && agree_below (is_same_at list) (λ n. true) 8))
 
 all_blocks : agree_below is_block (λ k. true) 256 ≡ true
-unfolding registers_below any_below mask_below
+unfolding digits registers_below any_below mask_below
 all_blocks = refl
 
 pub record Blocks (n list : ℕ) : Type 0 where
@@ -193,31 +199,31 @@ below_eight n e = grind (arith, nat_tests)
 both_same : (a b c d : Bool) → a ≡ c → b ≡ d → (c && d) ≡ false → (a && b) ≡ false
 both_same a b c d e f h = rw (e, f) h
 
-pub stm : (at list : ℕ) (n : Reg) → list < 256 → fit_of (Stm n list) ≡ None → IsRead (Stm n list) at
+pub stm : (at list : ℕ) (n : Reg) → list < 256 → fit_of (Stm n list) ≡ None → Told (Stm n list) at
 unfolding insn_text mnemonic mnemonics1 mnemonics2 mnemonics3 mnemonics4 entry_at shaped
 stm at list n h e =
     let f = fits (is_high n || nat_eq list 0 || is_later list n.number) false false e in
     let l = three_false (is_high n) (nat_eq list 0) (is_later list n.number) f.0 in
     let b = blocks n.number list (below_eight n l.0) h l.1 in
     let w = both_same (is_listed (low_list list) n.number) (any_below (is_listed (low_list list)) n.number) (has_bit list n.number) (nat_lt 0 (list % 2 ^ n.number)) b.base b.lower l.2 in
-    say (Stm n list) at (codes "stm") (raised n) (braces (low_registers list) ∷ []) (Raised n) (Registers (low_list list) ∷ []) (Block n true false (low_list list)) refl refl refl (reads_raised n (low n l.0)) (b.good.reads, tt) refl (block_ok n true false (low_list list) l.0 b.good.stray b.good.list w) (λ env. stm_at env at list n (low_list list) b.mask e)
+    say (Stm n list) at (codes "stm") (raised n) (braces (low_registers list) ∷ []) (Raised n) (Registers (low_list list) ∷ []) (Block n true false (low_list list)) refl refl refl refl (reads_raised n (low n l.0)) (b.good.reads, tt) refl (block_ok n true false (low_list list) l.0 b.good.stray b.good.list w) (λ env. stm_at env at list n (low_list list) b.mask e)
 
 ldm_text : (at list : ℕ) (n : Reg) (b : Bool) → has_bit list n.number ≡ b → insn_text (Ldm n list) at ≡ line (codes "ldm") ((if b then reg_text n else raised n) ∷ braces (low_registers list) ∷ [])
 unfolding insn_text
 ldm_text at list n b h = ap (λ c. line (codes "ldm") ((if c then reg_text n else raised n) ∷ braces (low_registers list) ∷ [])) h
 
-ldm_by : (at list : ℕ) (n : Reg) (b : Bool) → has_bit list n.number ≡ b → list < 256 → fit_of (Ldm n list) ≡ None → IsRead (Ldm n list) at
+ldm_by : (at list : ℕ) (n : Reg) (b : Bool) → has_bit list n.number ≡ b → list < 256 → fit_of (Ldm n list) ≡ None → Told (Ldm n list) at
 unfolding mnemonic mnemonics1 mnemonics2 mnemonics3 mnemonics4 entry_at shaped
 ldm_by at list n true t h e =
     let f = fits (is_high n || nat_eq list 0) false false e in
     let l = two_false (is_high n) (nat_eq list 0) f.0 in
     let b = blocks n.number list (below_eight n l.0) h l.1 in
-    say (Ldm n list) at (codes "ldm") (reg_text n) (braces (low_registers list) ∷ []) (Register n) (Registers (low_list list) ∷ []) (Block n false true (low_list list)) (ldm_text at list n true t) refl refl (reads_reg n (low n l.0)) (b.good.reads, tt) refl (block_ok n false true (low_list list) l.0 b.good.stray b.good.list (ap not (b.base ∙ t))) (λ env. ldm_at env at list false n (low_list list) b.mask e)
+    say (Ldm n list) at (codes "ldm") (reg_text n) (braces (low_registers list) ∷ []) (Register n) (Registers (low_list list) ∷ []) (Block n false true (low_list list)) (ldm_text at list n true t) refl refl refl (reads_reg n (low n l.0)) (b.good.reads, tt) refl (block_ok n false true (low_list list) l.0 b.good.stray b.good.list (ap not (b.base ∙ t))) (λ env. ldm_at env at list false n (low_list list) b.mask e)
 ldm_by at list n false t h e =
     let f = fits (is_high n || nat_eq list 0) false false e in
     let l = two_false (is_high n) (nat_eq list 0) f.0 in
     let b = blocks n.number list (below_eight n l.0) h l.1 in
-    say (Ldm n list) at (codes "ldm") (raised n) (braces (low_registers list) ∷ []) (Raised n) (Registers (low_list list) ∷ []) (Block n true true (low_list list)) (ldm_text at list n false t) refl refl (reads_raised n (low n l.0)) (b.good.reads, tt) refl (block_ok n true true (low_list list) l.0 b.good.stray b.good.list (b.base ∙ t)) (λ env. ldm_at env at list true n (low_list list) b.mask e)
+    say (Ldm n list) at (codes "ldm") (raised n) (braces (low_registers list) ∷ []) (Raised n) (Registers (low_list list) ∷ []) (Block n true true (low_list list)) (ldm_text at list n false t) refl refl refl (reads_raised n (low n l.0)) (b.good.reads, tt) refl (block_ok n true true (low_list list) l.0 b.good.stray b.good.list (b.base ∙ t)) (λ env. ldm_at env at list true n (low_list list) b.mask e)
 
-pub ldm : (at list : ℕ) (n : Reg) → list < 256 → fit_of (Ldm n list) ≡ None → IsRead (Ldm n list) at
+pub ldm : (at list : ℕ) (n : Reg) → list < 256 → fit_of (Ldm n list) ≡ None → Told (Ldm n list) at
 ldm at list n h e = ldm_by at list n (has_bit list n.number) refl h e

@@ -1,5 +1,5 @@
 -- Numbers in decimal, and targets in hexadecimal, are read as these numbers.
-use Rattle.std.proofs.Common.{◌≡◌, ℕ, ◌+◌, ◌*◌, ◌/◌, ◌%◌, ◌<◌, List, [], ◌∷◌, refl, ap, ◌∙◌, arith, Bool, true, false, not, nat_eq, nat_le, nat_lt, ◌&&◌, Option, Some, None, decimal, length}
+use Rattle.std.proofs.Common.{◌≡◌, ℕ, ◌≤◌, ◌+◌, ◌*◌, ◌/◌, ◌%◌, ◌<◌, List, [], ◌∷◌, refl, ap, ◌∙◌, arith, Bool, true, false, not, nat_eq, nat_le, nat_lt, ◌&&◌, Option, Some, None, decimal, length}
 use Rattle.std.specs.Prelude.{ℤ, pos, negsuc}
 use Rattle.std.proofs.lemmas.Bool.{not-true}
 use Rattle.std.proofs.lemmas.Bool.Decides.{nat_tests}
@@ -32,7 +32,7 @@ is_number n (Some e) = is_unnamed e.name && is_pos n e.number
 
 -- a decimal is solid, and is read as its number
 abbrev pub is_right : ℕ → Bool
-is_right n = list_all is_solid (decimal n) && (not (is_nil (decimal n)) && is_number n (expression (decimal n)))
+is_right n = (list_all is_solid (decimal n) && nat_le (length (decimal n)) 10) && (not (is_nil (decimal n)) && is_number n (expression (decimal n)))
 
 all_right : agree_below is_right (λ n. true) 1024 ≡ true
 unfolding digits expression strip strip_front strip_end until from_first signed natural value_in
@@ -43,6 +43,7 @@ pub record Decimal (n : ℕ) : Type 0 where
   pub some : is_nil (decimal n) ≡ false
   pub solid : list_all is_solid (decimal n) ≡ true
   pub is : expression (decimal n) ≡ Some (number n)
+  pub short : length (decimal n) ≤ 10
 
 is_unnamed_number : (n : ℕ) (name : Option (List ℕ)) (z : ℤ) → (is_unnamed name && is_pos n z) ≡ true → Some (record { name = name; number = z }) ≡ Some (number n)
 is_unnamed_number n None (pos m) h = let e : m ≡ n = grind (arith, nat_tests) in rw e refl
@@ -53,12 +54,16 @@ same_number : (n : ℕ) (o : Option Expr) → is_number n o ≡ true → o ≡ S
 same_number n None h = cc
 same_number n (Some e) h = is_unnamed_number n e.name e.number h
 
+pub le_of : (a b : ℕ) → nat_le a b ≡ true → a ≤ b
+le_of a b h = grind (arith, nat_tests)
+
 pub decimal_is : (n : ℕ) → n < 1024 → Decimal n
 decimal_is n h =
     let e = agree_below_at is_right (λ k. true) 1024 n all_right h in
-    let f = both (list_all is_solid (decimal n)) _ e in
-    let g = both (not (is_nil (decimal n))) _ f.1 in
-    record { some = not-true _ g.0; solid = f.0; is = same_number n (expression (decimal n)) g.1 }
+    let d = both (list_all is_solid (decimal n) && nat_le (length (decimal n)) 10) (not (is_nil (decimal n)) && is_number n (expression (decimal n))) e in
+    let f = both (list_all is_solid (decimal n)) (nat_le (length (decimal n)) 10) d.0 in
+    let g = both (not (is_nil (decimal n))) (is_number n (expression (decimal n))) d.1 in
+    record { some = not-true _ g.0; solid = f.0; is = same_number n (expression (decimal n)) g.1; short = le_of _ _ f.1 }
 
 -- Targets.
 
@@ -127,7 +132,7 @@ target ds = 48 ∷ 120 ∷ hexes ds
 pub target_solid : (ds : List ℕ) → AllHex ds → Solid (target ds)
 target_solid ds h = record { some = refl; solid = hexes_solid ds h }
 
-unquoted_is : (t : List ℕ) (o : Operand) → list_all is_solid t ≡ true → unquoted t o ≡ Some o
+pub unquoted_is : (t : List ℕ) (o : Operand) → list_all is_solid t ≡ true → unquoted t o ≡ Some o
 unquoted_is t o h = rw (none_is 34 t (all_by is_solid (λ c. not (nat_eq c 34)) (λ c k. ap not (no_quote c (plain_of c k))) t h)) refl
 
 pub target_alone : (ds : List ℕ) → AllHex ds → operand (target ds) ≡ Some (AsExpression (target ds))

@@ -1,5 +1,5 @@
 -- The names of registers are read as these registers.
-use Rattle.std.proofs.Common.{◌≡◌, ℕ, zero, suc, ◌<◌, ◌++◌, refl, arith, true, false, Some, codes}
+use Rattle.std.proofs.Common.{◌≡◌, ℕ, nat_le, length, zero, suc, ◌<◌, ◌++◌, refl, arith, true, false, Some, codes}
 use Rattle.std.specs.List.{list_all}
 use Rattle.std.specs.Fmt.{digits}
 use Rattle.thumb_insn.specs.Fields.{reg}
@@ -35,6 +35,8 @@ pub record Named (k : ℕ) : Type 0 where
   pub solid : list_all is_solid (register_name k) ≡ true
   pub is : register (register_name k) ≡ Some k
   pub alone : operand (register_name k) ≡ Some (Register (reg k))
+  pub short : nat_le (length (register_name k)) 4 ≡ true
+  pub short_raised : nat_le (length (register_name k ++ codes "!")) 60 ≡ true
   pub solid_raised : list_all is_solid (register_name k ++ codes "!") ≡ true
   pub some_raised : is_nil (register_name k ++ codes "!") ≡ false
   pub raised : operand (register_name k ++ codes "!") ≡ Some (Raised (reg k))
@@ -44,19 +46,19 @@ pub record Named (k : ℕ) : Type 0 where
 pub named : (k : ℕ) → k < 16 → Named k
 unfolding digits register register_names entry_at operand closed_by strip strip_front strip_end split_by
 named = sixteen Named
-    (record { some = refl; solid = refl; is = refl; alone = refl; solid_raised = refl; some_raised = refl; raised = refl; listed = refl; added = λ n. refl })
-    (record { some = refl; solid = refl; is = refl; alone = refl; solid_raised = refl; some_raised = refl; raised = refl; listed = refl; added = λ n. refl })
-    (record { some = refl; solid = refl; is = refl; alone = refl; solid_raised = refl; some_raised = refl; raised = refl; listed = refl; added = λ n. refl })
-    (record { some = refl; solid = refl; is = refl; alone = refl; solid_raised = refl; some_raised = refl; raised = refl; listed = refl; added = λ n. refl })
-    (record { some = refl; solid = refl; is = refl; alone = refl; solid_raised = refl; some_raised = refl; raised = refl; listed = refl; added = λ n. refl })
-    (record { some = refl; solid = refl; is = refl; alone = refl; solid_raised = refl; some_raised = refl; raised = refl; listed = refl; added = λ n. refl })
-    (record { some = refl; solid = refl; is = refl; alone = refl; solid_raised = refl; some_raised = refl; raised = refl; listed = refl; added = λ n. refl })
-    (record { some = refl; solid = refl; is = refl; alone = refl; solid_raised = refl; some_raised = refl; raised = refl; listed = refl; added = λ n. refl })
-    (record { some = refl; solid = refl; is = refl; alone = refl; solid_raised = refl; some_raised = refl; raised = refl; listed = refl; added = λ n. refl })
-    (record { some = refl; solid = refl; is = refl; alone = refl; solid_raised = refl; some_raised = refl; raised = refl; listed = refl; added = λ n. refl })
-    (record { some = refl; solid = refl; is = refl; alone = refl; solid_raised = refl; some_raised = refl; raised = refl; listed = refl; added = λ n. refl })
-    (record { some = refl; solid = refl; is = refl; alone = refl; solid_raised = refl; some_raised = refl; raised = refl; listed = refl; added = λ n. refl })
-    (record { some = refl; solid = refl; is = refl; alone = refl; solid_raised = refl; some_raised = refl; raised = refl; listed = refl; added = λ n. refl })
-    (record { some = refl; solid = refl; is = refl; alone = refl; solid_raised = refl; some_raised = refl; raised = refl; listed = refl; added = λ n. refl })
-    (record { some = refl; solid = refl; is = refl; alone = refl; solid_raised = refl; some_raised = refl; raised = refl; listed = refl; added = λ n. refl })
-    (record { some = refl; solid = refl; is = refl; alone = refl; solid_raised = refl; some_raised = refl; raised = refl; listed = refl; added = λ n. refl })
+    (record { some = refl; solid = refl; is = refl; alone = refl; solid_raised = refl; short = refl; short_raised = refl; some_raised = refl; raised = refl; listed = refl; added = λ n. refl })
+    (record { some = refl; solid = refl; is = refl; alone = refl; solid_raised = refl; short = refl; short_raised = refl; some_raised = refl; raised = refl; listed = refl; added = λ n. refl })
+    (record { some = refl; solid = refl; is = refl; alone = refl; solid_raised = refl; short = refl; short_raised = refl; some_raised = refl; raised = refl; listed = refl; added = λ n. refl })
+    (record { some = refl; solid = refl; is = refl; alone = refl; solid_raised = refl; short = refl; short_raised = refl; some_raised = refl; raised = refl; listed = refl; added = λ n. refl })
+    (record { some = refl; solid = refl; is = refl; alone = refl; solid_raised = refl; short = refl; short_raised = refl; some_raised = refl; raised = refl; listed = refl; added = λ n. refl })
+    (record { some = refl; solid = refl; is = refl; alone = refl; solid_raised = refl; short = refl; short_raised = refl; some_raised = refl; raised = refl; listed = refl; added = λ n. refl })
+    (record { some = refl; solid = refl; is = refl; alone = refl; solid_raised = refl; short = refl; short_raised = refl; some_raised = refl; raised = refl; listed = refl; added = λ n. refl })
+    (record { some = refl; solid = refl; is = refl; alone = refl; solid_raised = refl; short = refl; short_raised = refl; some_raised = refl; raised = refl; listed = refl; added = λ n. refl })
+    (record { some = refl; solid = refl; is = refl; alone = refl; solid_raised = refl; short = refl; short_raised = refl; some_raised = refl; raised = refl; listed = refl; added = λ n. refl })
+    (record { some = refl; solid = refl; is = refl; alone = refl; solid_raised = refl; short = refl; short_raised = refl; some_raised = refl; raised = refl; listed = refl; added = λ n. refl })
+    (record { some = refl; solid = refl; is = refl; alone = refl; solid_raised = refl; short = refl; short_raised = refl; some_raised = refl; raised = refl; listed = refl; added = λ n. refl })
+    (record { some = refl; solid = refl; is = refl; alone = refl; solid_raised = refl; short = refl; short_raised = refl; some_raised = refl; raised = refl; listed = refl; added = λ n. refl })
+    (record { some = refl; solid = refl; is = refl; alone = refl; solid_raised = refl; short = refl; short_raised = refl; some_raised = refl; raised = refl; listed = refl; added = λ n. refl })
+    (record { some = refl; solid = refl; is = refl; alone = refl; solid_raised = refl; short = refl; short_raised = refl; some_raised = refl; raised = refl; listed = refl; added = λ n. refl })
+    (record { some = refl; solid = refl; is = refl; alone = refl; solid_raised = refl; short = refl; short_raised = refl; some_raised = refl; raised = refl; listed = refl; added = λ n. refl })
+    (record { some = refl; solid = refl; is = refl; alone = refl; solid_raised = refl; short = refl; short_raised = refl; some_raised = refl; raised = refl; listed = refl; added = λ n. refl })

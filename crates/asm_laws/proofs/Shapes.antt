@@ -1,20 +1,21 @@
 -- Which instruction a shape is, and that it is accepted.
-use Rattle.std.proofs.Common.{◌≡◌, ℕ, ◌+◌, ◌*◌, ◌/◌, ◌<◌, ◌≤◌, List, ◌∷◌, refl, arith, Bool, true, false, nat_le, nat_lt, ◌||◌, Some, None, Ok}
+use Rattle.std.proofs.Common.{◌≡◌, ℕ, length, not, ◌&&◌, ◌+◌, ◌*◌, ◌/◌, ◌<◌, ◌≤◌, List, ◌∷◌, refl, arith, Bool, true, false, nat_le, nat_lt, ◌||◌, Some, None, Ok}
 use Rattle.std.specs.Prelude.{ℤ, pos, negsuc, ◌-ℤ◌}
+use Rattle.std.proofs.lemmas.Bool.{not-true}
 use Rattle.std.proofs.lemmas.Bool.Decides.{nat_tests}
 use Rattle.std.specs.List.{list_all}
 use Rattle.thumb_insn.specs.declared.Reg.{Reg}
 use Rattle.thumb_insn.specs.declared.Insn.{Insn}
 use Rattle.thumb_insn.specs.Text.{insn_text, line}
 use Rattle.thumb_encode.specs.Codes.{fit_of, misfit, is_high}
-use Rattle.thumb_asm.specs.Chars.{is_nil}
+use Rattle.thumb_asm.specs.Chars.{is_nil, is_allowed}
 use Rattle.thumb_asm.specs.Operands.{Operand, ◌>>=◌, expression}
 use Rattle.thumb_asm.specs.Syntax.{Shape, Fixed, Filled, Within, Aimed, Near, mnemonic, shaped}
 use Rattle.thumb_asm.specs.Sizes.{checked, has_bad_count, has_bad_register, has_bad_number, has_bad_list, is_register_fit}
 use Rattle.thumb_asm.specs.Meaning.{Env, insn_at, value}
-use Rattle.thumb_asm.proofs.Bytes.{is_solid}
-use Rattle.thumb_asm.proofs.Lines.{Reads, AllRead, line_shape}
-use Rattle.asm_laws.proofs.Numbers.{number}
+use Rattle.thumb_asm.proofs.Bytes.{is_solid, is_plain, both, all_by, allowed_of}
+use Rattle.thumb_asm.proofs.Lines.{Reads, AllRead, Line, line_shape}
+use Rattle.asm_laws.proofs.Numbers.{le_of, number}
 use Rattle.asm_laws.specs.Reading.{IsRead}
 
 -- What a fit tells.
@@ -108,6 +109,25 @@ unfolding insn_at
 aimed_at env at t f v (pos n) h d b e = rw (valued env t v h, d, near_aim n b, e) refl
 aimed_at env at t f v (negsuc n) h d b e = rw (valued env t v h, d, near_aim n b, e) refl
 
+-- a word of few letters
+abbrev pub is_word : List ℕ → Bool
+is_word name = not (is_nil name) && nat_le (length name) 9
+
+-- an instruction's text is read as it, and is a line
+pub record Told (i : Insn) (at : ℕ) : Type 0 where
+  pub read : IsRead i at
+  pub allowed : list_all is_allowed (insn_text i at) ≡ true
+  pub short : length (insn_text i at) ≤ 255
+
+told : (i : Insn) (at : ℕ) (text : List ℕ) (s : Shape) → insn_text i at ≡ text → Line text s → ((env : Env) → insn_at env at s ≡ Ok i) → Told i at
+told i at text s t l g = record {
+  read = rw t (l.label, (s, l.statement, g));
+  allowed = rw t (all_by is_plain is_allowed allowed_of text l.plain);
+  short = rw t (l.short);
+}
+
 -- a line of a word and operands is the instruction of its shape
-pub say : (i : Insn) (at : ℕ) (name x : List ℕ) (xs : List (List ℕ)) (o : Operand) (os : List Operand) (s : Shape) → insn_text i at ≡ line name (x ∷ xs) → is_nil name ≡ false → list_all is_solid name ≡ true → Reads x o → AllRead xs os → (mnemonic name >>= λ m. shaped m (o ∷ os)) ≡ Some s → checked (Some s) ≡ Ok (Some s) → ((env : Env) → insn_at env at s ≡ Ok i) → IsRead i at
-say i at name x xs o os s t n h r rs e f g = let p = line_shape name x xs o os s n h r rs e f in rw t (p.0, (s, p.1, g))
+pub say : (i : Insn) (at : ℕ) (name x : List ℕ) (xs : List (List ℕ)) (o : Operand) (os : List Operand) (s : Shape) → insn_text i at ≡ line name (x ∷ xs) → is_word name ≡ true → list_all is_solid name ≡ true → nat_le (length xs) 2 ≡ true → Reads x o → AllRead xs os → (mnemonic name >>= λ m. shaped m (o ∷ os)) ≡ Some s → checked (Some s) ≡ Ok (Some s) → ((env : Env) → insn_at env at s ≡ Ok i) → Told i at
+say i at name x xs o os s t n h v r rs e f g =
+    let w = both (not (is_nil name)) (nat_le (length name) 9) n in
+    told i at (line name (x ∷ xs)) s t (line_shape name x xs o os s (not-true _ w.0) h (le_of _ _ w.1) (le_of _ _ v) r rs e f) g

@@ -6,8 +6,9 @@ use Rattle.thumb_insn.specs.Text.{insn_text}
 use Rattle.thumb_asm.specs.Parts.{parts}
 use Rattle.thumb_asm.specs.Syntax.{Shape}
 use Rattle.thumb_asm.specs.Sizes.{statement_of}
-use Rattle.thumb_asm.specs.Meaning.{Env, insn_at, Codes, Spells}
-use Rattle.thumb_asm.specs.Causes.{second_group}
+use Rattle.thumb_asm.specs.Meaning.{Env, insn_at, Codes, Spells, Assembles}
+use Rattle.thumb_asm.specs.Causes.{second_group, first_cause}
+use Rattle.text_lines.specs.Text.{lines_of}
 
 abbrev pub IsAddress : ℤ → Type 0
 IsAddress (pos n) = n < 2 ^ 32
@@ -34,3 +35,11 @@ IsSpelled i at = (env : Env) (own : List ℕ) → (Codes i own → Spells env at
 -- At an even address the line is not refused for an address or a value.
 abbrev pub IsAccepted : Insn → ℕ → Type 0
 IsAccepted i at = (env : Env) → at % 2 ≡ 0 → second_group env at (statement_of (parts (insn_text i at)).statement) ≡ None
+
+-- The text alone, at its address, an even one, is refused for no cause, and is assembled to the bytes of a code of the
+-- instruction, and to nothing else, whatever symbols are given.
+abbrev pub IsAssembled : Insn → ℕ → Type 0
+IsAssembled i at = (given : Env) → at % 2 ≡ 0 →
+    (first_cause (lines_of (insn_text i at)) at given ≡ None)
+    × ((own : List ℕ) → Codes i own → Assembles (lines_of (insn_text i at)) at given own (λ name. None))
+    × ((bytes : List ℕ) (labels : Env) → Assembles (lines_of (insn_text i at)) at given bytes labels → Codes i bytes)

@@ -5,7 +5,7 @@ use Rattle.std.proofs.lemmas.Bool.Decides.{nat_tests}
 use Rattle.std.specs.List.{list_all, list_any}
 use Rattle.text_lines.specs.Text.{with_first}
 use Rattle.thumb_asm.specs.declared.parts.Place.TheVariants.{Outside}
-use Rattle.thumb_asm.specs.Chars.{is_blank, is_nil, strip_front, strip_end, unless_last, starts_by, until, from_first}
+use Rattle.thumb_asm.specs.Chars.{is_allowed, is_blank, is_nil, strip_front, strip_end, unless_last, starts_by, until, from_first}
 use Rattle.thumb_asm.specs.Parts.{before, after, pieces}
 use Rattle.thumb_asm.specs.Operands.{closed_by, ◌>>=◌}
 
@@ -14,8 +14,12 @@ abbrev pub is_visible : ℕ → Bool
 is_visible c = not (is_blank c)
 
 -- no quote, colon or semicolon
+abbrev pub is_unmarked : ℕ → Bool
+is_unmarked c = not (nat_eq c 34 || nat_eq c 58 || nat_eq c 59)
+
+-- a byte that a line may have, and none of these
 abbrev pub is_plain : ℕ → Bool
-is_plain c = not (nat_eq c 34 || nat_eq c 58 || nat_eq c 59)
+is_plain c = is_allowed c && is_unmarked c
 
 -- no bracket or brace
 abbrev pub is_flat : ℕ → Bool
@@ -67,14 +71,20 @@ pub neither : (a b : Bool) → (a || b) ≡ false → (a ≡ false) × (b ≡ fa
 neither true b e = cc
 neither false b e = (refl, e)
 
+pub allowed_of : (c : ℕ) → is_plain c ≡ true → is_allowed c ≡ true
+allowed_of c h = (both (is_allowed c) (is_unmarked c) h).0
+
+unmarked_of : (c : ℕ) → is_plain c ≡ true → is_unmarked c ≡ true
+unmarked_of c h = (both (is_allowed c) (is_unmarked c) h).1
+
 pub no_quote : (c : ℕ) → is_plain c ≡ true → nat_eq c 34 ≡ false
-no_quote c h = grind (arith, nat_tests)
+no_quote c h = let e = unmarked_of c h in grind (arith, nat_tests)
 
 no_colon : (c : ℕ) → is_plain c ≡ true → nat_eq c 58 ≡ false
-no_colon c h = grind (arith, nat_tests)
+no_colon c h = let e = unmarked_of c h in grind (arith, nat_tests)
 
 no_semicolon : (c : ℕ) → is_plain c ≡ true → nat_eq c 59 ≡ false
-no_semicolon c h = grind (arith, nat_tests)
+no_semicolon c h = let e = unmarked_of c h in grind (arith, nat_tests)
 
 -- Lines without quotes, colons and semicolons.
 
@@ -161,26 +171,26 @@ pub text_append : (a b : List ℕ) (ls : List (List ℕ)) → with_text (a ++ b)
 text_append [] b ls = refl
 text_append (c ∷ cs) b ls = ap (with_first c) (text_append cs b ls)
 
+flat : (c : ℕ) → is_flat c ≡ true → (nat_eq c 91 ≡ false) × (nat_eq c 93 ≡ false) × (nat_eq c 123 ≡ false) × (nat_eq c 125 ≡ false)
+flat c h = (grind (arith, nat_tests), grind (arith, nat_tests), grind (arith, nat_tests), grind (arith, nat_tests))
+
+flat_of : (c : ℕ) → is_inner c ≡ true → (nat_eq c 91 ≡ false) × (nat_eq c 93 ≡ false) × (nat_eq c 123 ≡ false) × (nat_eq c 125 ≡ false)
+flat_of c h = flat c (both (is_plain c) (is_flat c) h).1
+
 one_solid : (c : ℕ) (cs : List ℕ) → is_solid c ≡ true → pieces Outside 0 (c ∷ cs) ≡ with_first c (pieces Outside 0 cs)
 unfolding pieces
 one_solid c cs h =
     let p = no_quote c (plain_of c h) in
     let k = comma_of c h in
-    let a : nat_eq c 91 ≡ false = grind (arith, nat_tests) in
-    let b : nat_eq c 93 ≡ false = grind (arith, nat_tests) in
-    let x : nat_eq c 123 ≡ false = grind (arith, nat_tests) in
-    let y : nat_eq c 125 ≡ false = grind (arith, nat_tests) in
-    rw (p, k, a, b, x, y) refl
+    let f = flat_of c (inner_of c h) in
+    rw (p, k, f.0, f.1, f.2, f.3) refl
 
 one_inner : (c : ℕ) (cs : List ℕ) → is_inner c ≡ true → pieces Outside 1 (c ∷ cs) ≡ with_first c (pieces Outside 1 cs)
 unfolding pieces
 one_inner c cs h =
     let p = no_quote c (plain_inner c h) in
-    let a : nat_eq c 91 ≡ false = grind (arith, nat_tests) in
-    let b : nat_eq c 93 ≡ false = grind (arith, nat_tests) in
-    let x : nat_eq c 123 ≡ false = grind (arith, nat_tests) in
-    let y : nat_eq c 125 ≡ false = grind (arith, nat_tests) in
-    rw (p, a, b, x, y) refl
+    let f = flat_of c h in
+    rw (p, f.0, f.1, f.2, f.3) refl
 
 pub solid_pieces : (t rest : List ℕ) → list_all is_solid t ≡ true → pieces Outside 0 (t ++ rest) ≡ with_text t (pieces Outside 0 rest)
 solid_pieces [] rest h = refl

@@ -1,5 +1,5 @@
 -- How the reader cuts a line of a mnemonic and operands.
-use Rattle.std.proofs.Common.{◌≡◌, ℕ, List, [], ◌∷◌, ◌++◌, map, refl, ap, ◌∙◌, sym, true, false, Option, Some, None, Ok, append-nil, append_assoc, codes, if◌then◌else◌}
+use Rattle.std.proofs.Common.{◌≡◌, ℕ, ◌≤◌, ◌+◌, ◌*◌, length, length-append, arith, List, [], ◌∷◌, ◌++◌, map, refl, ap, ◌∙◌, sym, true, false, Option, Some, None, Ok, append-nil, append_assoc, codes, if◌then◌else◌}
 use Rattle.std.specs.List.{list_all}
 use Rattle.text_lines.specs.Text.{with_first}
 use Rattle.thumb_insn.specs.Text.{joined, line}
@@ -18,6 +18,7 @@ pub record Piece (a : List ℕ) : Type 0 where
   pub begins : starts_by is_visible a ≡ true
   pub ends : strip_end a ≡ a
   pub plain : list_all is_plain a ≡ true
+  pub short : length a ≤ 60
 
 -- a piece that is read as an operand
 pub record Reads (a : List ℕ) (o : Operand) : Type 0 where
@@ -51,28 +52,31 @@ starts_solid : (a : List ℕ) → is_nil a ≡ false → list_all is_solid a ≡
 starts_solid [] h k = cc
 starts_solid (c ∷ cs) h k = visible_of c (both (is_solid c) (list_all is_solid cs) k).0
 
-pub solid_piece : (a : List ℕ) → is_nil a ≡ false → list_all is_solid a ≡ true → Piece a
-solid_piece a h k = record {
+pub solid_piece : (a : List ℕ) → is_nil a ≡ false → list_all is_solid a ≡ true → length a ≤ 60 → Piece a
+solid_piece a h k l = record {
   whole = λ rest. solid_pieces a rest k;
   begins = starts_solid a h k;
   ends = ends_solid a k;
   plain = all_by is_solid is_plain plain_of a k;
+  short = l;
 }
 
-pub bracket_piece : (t : List ℕ) → list_all is_inner t ≡ true → Piece (framed 91 t 93)
-bracket_piece t h = record {
+pub bracket_piece : (t : List ℕ) → list_all is_inner t ≡ true → length t ≤ 58 → Piece (framed 91 t 93)
+bracket_piece t h l = record {
   whole = λ rest. bracket_pieces t rest h;
   begins = refl;
   ends = end_visible (91 ∷ t) 93 refl;
   plain = all_append is_plain t (93 ∷ []) (all_by is_inner is_plain plain_inner t h) refl;
+  short = omega (arith, length-append t (93 ∷ []));
 }
 
-pub brace_piece : (t : List ℕ) → list_all is_inner t ≡ true → Piece (framed 123 t 125)
-brace_piece t h = record {
+pub brace_piece : (t : List ℕ) → list_all is_inner t ≡ true → length t ≤ 58 → Piece (framed 123 t 125)
+brace_piece t h l = record {
   whole = λ rest. brace_pieces t rest h;
   begins = refl;
   ends = end_visible (123 ∷ t) 125 refl;
   plain = all_append is_plain t (125 ∷ []) (all_by is_inner is_plain plain_inner t h) refl;
+  short = omega (arith, length-append t (125 ∷ []));
 }
 
 pub joined_more : (x y : List ℕ) (ys : List (List ℕ)) → joined (x ∷ y ∷ ys) ≡ x ++ (44 ∷ 32 ∷ joined (y ∷ ys))
@@ -130,6 +134,14 @@ joined_plain : (x : List ℕ) (xs : List (List ℕ)) → AllPieces (x ∷ xs) �
 joined_plain x [] h = h.0.plain
 joined_plain x (y ∷ ys) h = rw (joined_more x y ys) (all_append is_plain x (44 ∷ 32 ∷ joined (y ∷ ys)) h.0.plain (joined_plain y ys h.1))
 
+joined_short : (x : List ℕ) (xs : List (List ℕ)) → AllPieces (x ∷ xs) → length (joined (x ∷ xs)) ≤ 62 * length xs + 60
+joined_short x [] h = let e = h.0.short in omega arith
+joined_short x (y ∷ ys) h =
+    let e = h.0.short in
+    let f = joined_short y ys h.1 in
+    let g : length (joined (x ∷ y ∷ ys)) ≡ length x + length (44 ∷ 32 ∷ joined (y ∷ ys)) = ap length (joined_more x y ys) ∙ length-append x (44 ∷ 32 ∷ joined (y ∷ ys)) in
+    omega arith
+
 -- the operands of a line are its pieces
 pub operand_pieces_of : (x : List ℕ) (xs : List (List ℕ)) → AllPieces (x ∷ xs) → operand_pieces (32 ∷ joined (x ∷ xs)) ≡ x ∷ xs
 unfolding operand_pieces strip
@@ -165,10 +177,29 @@ named_shape : (q : Option Mnemonic) (rest : List ℕ) (os : List Operand) (s : S
 named_shape None rest os s e f = cc
 named_shape (Some m) rest os s e f = ap (λ z. checked (shaped_by m z)) e ∙ ap checked f
 
--- a line of a word and operands, of which the word makes an accepted shape, is this shape without a label
-pub line_shape : (name x : List ℕ) (xs : List (List ℕ)) (o : Operand) (os : List Operand) (s : Shape) → is_nil name ≡ false → list_all is_solid name ≡ true → Reads x o → AllRead xs os → (mnemonic name >>= λ m. shaped m (o ∷ os)) ≡ Some s → checked (Some s) ≡ Ok (Some s) → ((parts (line name (x ∷ xs))).label ≡ None) × (statement_of (parts (line name (x ∷ xs))).statement ≡ Ok (Some s))
-line_shape name x xs o os s n h r rs e f =
+-- a line that is a shape without a label
+pub record Line (text : List ℕ) (s : Shape) : Type 0 where
+  pub plain : list_all is_plain text ≡ true
+  pub short : length text ≤ 255
+  pub label : (parts text).label ≡ None
+  pub statement : statement_of (parts text).statement ≡ Ok (Some s)
+
+line_short : (name x : List ℕ) (xs : List (List ℕ)) → length name ≤ 9 → length xs ≤ 2 → AllPieces (x ∷ xs) → length (line name (x ∷ xs)) ≤ 255
+line_short name x xs n l h =
+    let e = joined_short x xs h in
+    let g : length (line name (x ∷ xs)) ≡ length name + length (32 ∷ joined (x ∷ xs)) = ap length (line_more name (x ∷ xs)) ∙ length-append name (32 ∷ joined (x ∷ xs)) in
+    omega arith
+
+-- a line of a word and operands, of which the word makes an accepted shape
+pub line_shape : (name x : List ℕ) (xs : List (List ℕ)) (o : Operand) (os : List Operand) (s : Shape) → is_nil name ≡ false → list_all is_solid name ≡ true → length name ≤ 9 → length xs ≤ 2 → Reads x o → AllRead xs os → (mnemonic name >>= λ m. shaped m (o ∷ os)) ≡ Some s → checked (Some s) ≡ Ok (Some s) → Line (line name (x ∷ xs)) s
+line_shape name x xs o os s n h u v r rs e f =
     let k : AllPieces (x ∷ xs) = (r.piece, all_pieces xs os rs) in
-    let p = plain_parts (line name (x ∷ xs)) (line_plain name x xs h k) (line_tight name x xs n h k) in
+    let l = line_plain name x xs h k in
+    let p = plain_parts (line name (x ∷ xs)) l (line_tight name x xs n h k) in
     let t = ap operands (operand_pieces_of x xs k) ∙ all_operands (x ∷ xs) (o ∷ os) (r, rs) in
-    (ap (λ q. q.label) p, ap (λ q. statement_of q.statement) p ∙ statement_line name x xs n h k ∙ named_shape (mnemonic name) (32 ∷ joined (x ∷ xs)) (o ∷ os) s t e ∙ f)
+    record {
+      plain = l;
+      short = line_short name x xs u v k;
+      label = ap (λ q. q.label) p;
+      statement = ap (λ q. statement_of q.statement) p ∙ statement_line name x xs n h k ∙ named_shape (mnemonic name) (32 ∷ joined (x ∷ xs)) (o ∷ os) s t e ∙ f;
+    }
