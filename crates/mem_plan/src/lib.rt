@@ -11,3 +11,4 @@ mod tests;
 
 pub use made::{Plan, PlanFault};
 pub use placing::plan;
+pub use sizes::rounded;

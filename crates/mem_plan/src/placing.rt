@@ -55,7 +55,7 @@ fn packed(
 ///
 /// `TooSmall` comes exactly where the rounded sizes sum to more than the room, and then no other
 /// placement fits either. At a base that is a multiple of 2^20 each region begins at a multiple of its
-/// rounded size.
+/// rounded size; they take the first bytes of the room (`packed`).
 pub fn plan(alloc: Global, sizes: &[u32], base: u32, room: u32) -> Result<Plan, PlanFault>
     requires sizes { All (λ s. (1 ≤ s) × (s ≤ 1048576)) sizes.now }
     requires fits { base + room ≤ 2 ^ 32 }
@@ -66,6 +66,8 @@ pub fn plan(alloc: Global, sizes: &[u32], base: u32, room: u32) -> Result<Plan, 
     ensures fits { IfOk result (λ p. total (map rounded sizes.now) ≤ room) }
     ensures apart { IfOk result (λ p.
         KeepsApart base room (map rounded sizes.now) p.bases.items) }
+    ensures packed { IfOk result (λ p. let taken = map rounded sizes.now in
+        KeepsApart base (total taken) taken p.bases.items) }
 
     ensures small { IfErr result (IsTooSmall (total (map rounded sizes.now)) room) }
     ensures none { IfErr result (λ e. (¬ (e ≡ PlanFault.Memory)) → (spans : List Span)

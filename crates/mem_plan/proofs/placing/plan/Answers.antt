@@ -63,3 +63,8 @@ returns-clause-aligned c = λ whole i lt.
     let perm : IsPermutation (numbered 0 (map rounded c.args.sizes.now)) c.as_slice-3.result.now = search rules in
     let at = placed_all (map rounded c.args.sizes.now) _ c.args.base _ perm (search rules) c.in_ok-bases.ensures.at i lt in
     rw at (aligned c.args.sizes.now c.args.base i (omega (arith, lt, length-map c.args.sizes.now rounded)) whole)
+
+pub returns-clause-packed : goal.returns-clause-packed
+returns-clause-packed c =
+    let perm : IsPermutation (numbered 0 (map rounded c.args.sizes.now)) c.as_slice-3.result.now = search rules in
+    keeps_apart (map rounded c.args.sizes.now) _ c.args.base (total (map rounded c.args.sizes.now)) _ perm c.in_ok-bases.ensures.at (omega arith)
