@@ -228,6 +228,13 @@ impl Board {
         }
     }
 
+    /// The regions of a task; none where there is no such task.
+    pub fn regions(&self, i: usize) -> &[Region]
+        ensures { (x : Scenario) (s : State) → Stands x self.now s → result.now ≡ (setup_at x.setup i).regions }
+    {
+        self.machine.reach.kernel.regions(i)
+    }
+
     /// Region k of a task.
     pub fn region(&self, i: usize, k: usize) -> Option<Region>
         ensures { (x : Scenario) (s : State) → Stands x self.now s → result ≡ slice_get (setup_at x.setup i).regions k }

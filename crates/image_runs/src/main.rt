@@ -1,5 +1,5 @@
 //! Runs two images that gcc compiled from C (data/crc32.c, data/bytecode.c) to the numbers of turns
-//! at which another emulator of the processor told the same registers.
+//! at which another emulator of the processor told the same registers and the same memory.
 #![tactic(auto)]
 
 use outside_io::{HostFiles, HostSink};
@@ -8,10 +8,10 @@ use std::io;
 use std::process::ExitCode;
 use trace_cli::hubris_main;
 
-// The words of a run of an image with the empty script.
+// The words of a run of an image with the empty script, and of its memory after it.
 fn words(alloc: Global, image: &str, steps: &str) -> Result<Vec<String>, AllocError> {
     let mut words = Vec::new(alloc);
-    for word in ["hubris", "run", image, "empty.txt", "--steps", steps] {
+    for word in ["hubris", "run", image, "empty.txt", "--steps", steps, "--mem"] {
         words.push(String::from_str(alloc, word)?)?;
     }
     Ok(words)

@@ -1,37 +1,52 @@
 -- What an answer of the program says of the words, of the files and of the sink.
-use Rattle.std.specs.Prelude.{◌≡◌, ◌⊎◌, ℕ, List, Option, Some, None, IsSome}
+use Rattle.std.specs.Prelude.{◌≡◌, ◌⊎◌, ℕ, Bool, false, List, Option, Some}
 use Rattle.std.specs.Io.KnownBytes.{Appends}
 use Rattle.outside_io.specs.Outside.{WhereTold, Rose, AppendsFront, short_name}
+use Rattle.image_format.specs.Picture.{Picture}
 use Rattle.board_core.specs.Script.{Scenario}
-use Rattle.trace_cli.specs.Words.{steps_of}
-use Rattle.trace_cli.specs.Sources.{Role, name_of, refusal_of, IsReached, AreTaken}
-use Rattle.trace_cli.specs.Verdict.{Verdict, usage, refused, refused_line, unread, unread_line, ran}
+use Rattle.command_line.specs.CommandLine.{Asked, run, list, is_taken}
+use Rattle.trace_cli.specs.Words.{job_in}
+use Rattle.trace_cli.specs.Sources.{File, refusal_of, IsReached, IsSetup, IsPicture, IsScript}
+use Rattle.trace_cli.specs.Verdict.{Verdict, usage, refused, refused_line, unread, unread_line, ran, listed}
 
--- ## why a verdict was given
+-- ## why a verdict was given on a job
 
--- the words are accepted, so is each file before, and a read of this one failed (counts and last failing name: before and after the call)
-pub record IsUnread (words : List (List ℕ)) (told : List ℕ → Option (List ℕ)) (before after : ℕ) (last : Option (ℕ × List ℕ)) (role : Role) : Type 0 where
-  pub command : IsSome (steps_of words)
-  pub reached : IsReached role words told
+-- each file before is accepted, and a read of this one failed (counts and last failing name: before and after the call)
+pub record IsUnread (job : Asked) (told : List ℕ → Option (List ℕ)) (before after : ℕ) (last : Option (ℕ × List ℕ)) (f : File) : Type 0 where
+  pub reached : IsReached told job f
   pub rose : Rose before after
-  pub named : WhereTold last (λ name. name ≡ short_name (name_of role words))
+  pub named : WhereTold last (λ name. name ≡ short_name f.name)
 
--- the words are accepted, so is each file before, and this one is refused where it is told
-pub record IsRefused (words : List (List ℕ)) (told : List ℕ → Option (List ℕ)) (role : Role) (why : ℕ × ℕ) : Type 0 where
-  pub command : IsSome (steps_of words)
-  pub reached : IsReached role words told
-  pub refused : WhereTold (told (name_of role words)) (λ all. refusal_of role all ≡ Some why)
+-- each file before is accepted, and this one is refused where it is told
+pub record IsRefused (job : Asked) (told : List ℕ → Option (List ℕ)) (f : File) (why : ℕ × ℕ) : Type 0 where
+  pub reached : IsReached told job f
+  pub refused : WhereTold (told f.name) (λ all. refusal_of f.role all ≡ Some why)
 
--- the words are accepted, so are both files, and the run is that of this scenario up to this bound
-pub record IsRun (words : List (List ℕ)) (told : List ℕ → Option (List ℕ)) (n : ℕ) (x : Scenario) : Type 0 where
-  pub command : steps_of words ≡ Some n
-  pub files : AreTaken words told x
+-- the job is a run, both files are accepted, and it is that of this scenario up to this bound
+pub record IsRun (job : Asked) (told : List ℕ → Option (List ℕ)) (n : ℕ) (mem : Bool) (x : Scenario) : Type 0 where
+  pub image : List ℕ
+  pub script : List ℕ
+  pub is : job ≡ run image script n mem
+  pub setup : IsSetup told image x.setup
+  pub events : IsScript told script x.script
 
-pub data Reason (words : List (List ℕ)) (told : List ℕ → Option (List ℕ)) (before after : ℕ) (last : Option (ℕ × List ℕ)) (v : Verdict) : Type 0 where
-  no_command : steps_of words ≡ None → v ≡ usage → Reason words told before after last v
-  cannot_read : (role : Role) → IsUnread words told before after last role → v ≡ unread (name_of role words) → Reason words told before after last v
-  refuses : (role : Role) (why : ℕ × ℕ) → IsRefused words told role why → v ≡ refused (name_of role words) why → Reason words told before after last v
-  runs : (n : ℕ) (x : Scenario) → IsRun words told n x → v ≡ ran n x → Reason words told before after last v
+-- the job is a listing, the image is accepted, and it is this one
+pub record IsListing (job : Asked) (told : List ℕ → Option (List ℕ)) (p : Picture) : Type 0 where
+  pub image : List ℕ
+  pub is : job ≡ list image
+  pub picture : IsPicture told image p
+
+pub data Reason (job : Asked) (told : List ℕ → Option (List ℕ)) (before after : ℕ) (last : Option (ℕ × List ℕ)) (v : Verdict) : Type 0 where
+  cannot_read : (f : File) → IsUnread job told before after last f → v ≡ unread f.name → Reason job told before after last v
+  refuses : (f : File) (why : ℕ × ℕ) → IsRefused job told f why → v ≡ refused f.name why → Reason job told before after last v
+  runs : (n : ℕ) (mem : Bool) (x : Scenario) → IsRun job told n mem x → v ≡ ran n mem x → Reason job told before after last v
+  lists : (p : Picture) → IsListing job told p → v ≡ listed p → Reason job told before after last v
+
+-- ## and on words
+
+pub data Ground (words : List (List ℕ)) (told : List ℕ → Option (List ℕ)) (before after : ℕ) (last : Option (ℕ × List ℕ)) (v : Verdict) : Type 0 where
+  no_job : is_taken words ≡ false → v ≡ usage → Ground words told before after last v
+  of_job : (job : Asked) → job_in words ≡ Some job → Reason job told before after last v → Ground words told before after last v
 
 -- ## what was told of a verdict
 
@@ -47,46 +62,76 @@ pub record IsShort (w w' : Option (List ℕ)) (f f' : ℕ) (r : ℕ) : Type 0 wh
   pub same : w' ≡ w
   pub faults : f' ≡ f
 
--- the answer: some verdict, for its reason, was told, or memory is short
+-- the answer to a job, and to words: some verdict, for its reason, was told, or memory is short
+abbrev pub AnswersJob : Asked → (List ℕ → Option (List ℕ)) → ℕ → ℕ → Option (ℕ × List ℕ) → Option (List ℕ) → Option (List ℕ) → ℕ → ℕ → ℕ → Type 0
+AnswersJob job told before after last w w' f f' r =
+    IsShort w w' f f' r ⊎ ((v : Verdict) × Reason job told before after last v × Tells w w' f f' v r)
+
 abbrev pub Answers : List (List ℕ) → (List ℕ → Option (List ℕ)) → ℕ → ℕ → Option (ℕ × List ℕ) → Option (List ℕ) → Option (List ℕ) → ℕ → ℕ → ℕ → Type 0
 Answers words told before after last w w' f f' r =
-    IsShort w w' f f' r ⊎ ((v : Verdict) × Reason words told before after last v × Tells w w' f f' v r)
+    IsShort w w' f f' r ⊎ ((v : Verdict) × Ground words told before after last v × Tells w w' f f' v r)
 
 -- ## by status
 
--- 0 and 6: the whole text of a run that ended so
+-- the whole text of a run that ended so, with its memory where it was asked for
 pub record HasRun (words : List (List ℕ)) (told : List ℕ → Option (List ℕ)) (w w' : Option (List ℕ)) (r : ℕ) : Type 0 where
+  pub job : Asked
+  pub command : job_in words ≡ Some job
   pub bound : ℕ
+  pub mem : Bool
   pub scenario : Scenario
-  pub is : IsRun words told bound scenario
-  pub status : (ran bound scenario).status ≡ r
-  pub text : Appends w w' (ran bound scenario).text
+  pub is : IsRun job told bound mem scenario
+  pub status : (ran bound mem scenario).status ≡ r
+  pub text : Appends w w' (ran bound mem scenario).text
+
+-- the line of a listing
+pub record HasListed (words : List (List ℕ)) (told : List ℕ → Option (List ℕ)) (w w' : Option (List ℕ)) : Type 0 where
+  pub job : Asked
+  pub command : job_in words ≡ Some job
+  pub picture : Picture
+  pub is : IsListing job told picture
+  pub text : Appends w w' (listed picture).text
+
+-- 0: the job was done
+abbrev pub HasDone : List (List ℕ) → (List ℕ → Option (List ℕ)) → Option (List ℕ) → Option (List ℕ) → Type 0
+HasDone words told w w' = HasRun words told w w' 0 ⊎ HasListed words told w w'
 
 -- 1: the line of the file that is refused
 pub record HasRefused (words : List (List ℕ)) (told : List ℕ → Option (List ℕ)) (w w' : Option (List ℕ)) : Type 0 where
-  pub role : Role
+  pub job : Asked
+  pub command : job_in words ≡ Some job
+  pub file : File
   pub why : ℕ × ℕ
-  pub is : IsRefused words told role why
-  pub line : Appends w w' (refused_line (name_of role words) why.0 why.1)
+  pub is : IsRefused job told file why
+  pub line : Appends w w' (refused_line file.name why.0 why.1)
 
 -- 3: the line of the file that cannot be read
 pub record HasUnread (words : List (List ℕ)) (told : List ℕ → Option (List ℕ)) (before after : ℕ) (last : Option (ℕ × List ℕ)) (w w' : Option (List ℕ)) : Type 0 where
-  pub role : Role
-  pub is : IsUnread words told before after last role
-  pub line : Appends w w' (unread_line (name_of role words))
+  pub job : Asked
+  pub command : job_in words ≡ Some job
+  pub file : File
+  pub is : IsUnread job told before after last file
+  pub line : Appends w w' (unread_line file.name)
 
 -- 4: a front of the text that was to be told
 pub record HasFront (words : List (List ℕ)) (told : List ℕ → Option (List ℕ)) (before after : ℕ) (last : Option (ℕ × List ℕ)) (w w' : Option (List ℕ)) : Type 0 where
   pub verdict : Verdict
-  pub reason : Reason words told before after last verdict
+  pub ground : Ground words told before after last verdict
   pub front : AppendsFront w w' verdict.text
 
 -- ## where the contents are told
 
 -- the verdict on them, or a read failed and that is told
+pub record HasUnreadTold (words : List (List ℕ)) (told : List ℕ → Option (List ℕ)) (before after : ℕ) (last : Option (ℕ × List ℕ)) (w w' : Option (List ℕ)) (f f' : ℕ) (r : ℕ) : Type 0 where
+  pub job : Asked
+  pub command : job_in words ≡ Some job
+  pub file : File
+  pub is : IsUnread job told before after last file
+  pub tells : Tells w w' f f' (unread file.name) r
+
 abbrev pub Answered : List (List ℕ) → (List ℕ → Option (List ℕ)) → ℕ → ℕ → Option (ℕ × List ℕ) → Option (List ℕ) → Option (List ℕ) → ℕ → ℕ → Verdict → ℕ → Type 0
 Answered words told before after last w w' f f' v r =
-    Tells w w' f f' v r ⊎ ((role : Role) × IsUnread words told before after last role × Tells w w' f f' (unread (name_of role words)) r)
+    Tells w w' f f' v r ⊎ HasUnreadTold words told before after last w w' f f' r
 
 -- where no count of faults rose: the whole text under its status, or want of memory
 abbrev pub IsComplete : Option (List ℕ) → Option (List ℕ) → Verdict → ℕ → Type 0

@@ -1,11 +1,7 @@
 pub mod Answer
-pub mod Midway
 pub mod Ready
-pub mod Running
 pub mod Sources
 pub mod Stops
-pub mod Text
 pub mod Told
 pub mod Verdict
-pub mod ViewText
 pub mod Words

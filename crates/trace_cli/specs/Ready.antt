@@ -10,7 +10,7 @@ use Rattle.trace_cli.specs.declared.sources.Stop.TheVariants as stops
 use Rattle.trace_cli.specs.declared.preparing.Halt.{Halt}
 use Rattle.trace_cli.specs.declared.preparing.Halt.TheVariants.{Memory, ImageUnread, ScriptUnread, ImageRefused, ScriptRefused}
 use Rattle.trace_cli.specs.Stops.{IsCannotRead}
-use Rattle.trace_cli.specs.Sources.{image_refusal, script_refusal, setup_of, script_of}
+use Rattle.trace_cli.specs.Sources.{image_refusal, script_refusal, IsSetup, IsScript}
 
 abbrev pub image_halt : Stop → Halt
 image_halt stops.Memory = Memory
@@ -27,8 +27,8 @@ pub record IsReady (told : List ℕ → Option (List ℕ)) (image script : List 
   pub scenario : Scenario
   pub stands : Stands scenario b (start scenario.setup)
   pub turns : turns_of b ≡ 0
-  pub image_read : WhereTold (told image) (λ all. (image_refusal all ≡ None) × (scenario.setup ≡ setup_of all))
-  pub script_read : WhereTold (told script) (λ all. (script_refusal all ≡ None) × (scenario.script ≡ script_of all))
+  pub setup : IsSetup told image scenario.setup
+  pub events : IsScript told script scenario.script
 
 -- the first file that is not taken, and why
 abbrev pub Halts : (List ℕ → Option (List ℕ)) → ℕ → ℕ → Option (ℕ × List ℕ) → List ℕ → List ℕ → Halt → Type 0

@@ -1,12 +1,13 @@
--- The files of a run: which contents are accepted, and of what run they are.
-use Rattle.std.specs.Prelude.{◌≡◌, ℕ, ◌==◌, nat_lt, if◌then◌else◌, List, [], length, Option, Some, None, Result, Ok, Err}
+-- The files of a job: which contents are accepted, and what they say.
+use Rattle.std.specs.Prelude.{◌≡◌, ℕ, ◌==◌, nat_lt, if◌then◌else◌, List, [], ◌∷◌, ◌++◌, length, Option, Some, None, Result, Ok, Err}
 use Rattle.outside_io.specs.Outside.{WhereTold}
 use Rattle.image_format.specs.Picture.{Picture}
 use Rattle.image_format.specs.Picture.{image_or_fault}
 use Rattle.task_table.specs.State.{Setup}
 use Rattle.board_core.specs.Opened as opened
 use Rattle.board_core.specs.Script.{Scenario, Script, Empty}
-use Rattle.trace_cli.specs.Words.{text_at}
+use Rattle.std.specs.List.{AllByRecursion}
+use Rattle.command_line.specs.CommandLine.{Asked, run, list}
 
 -- where there is no image
 abbrev pub no_picture : Picture
@@ -48,30 +49,51 @@ script_of bytes = Empty
 abbrev pub scenario_of : List ℕ → List ℕ → Scenario
 scenario_of image script = record { setup = setup_of image; script = script_of script }
 
--- ## the files of a command, in the order in which they are taken
+-- ## the files of a job, in the order in which they are taken
 
 pub data Role : Type 0 where
   Image : Role
   Events : Role
 
-abbrev pub name_of : Role → List (List ℕ) → List ℕ
-name_of Image words = text_at words 2
-name_of Events words = text_at words 3
+pub record File : Type 0 where
+  pub role : Role
+  pub name : List ℕ
+
+abbrev pub image_file : List ℕ → File
+image_file name = record { role = Image; name = name }
+
+abbrev pub script_file : List ℕ → File
+script_file name = record { role = Events; name = name }
+
+-- `run` takes its image and then its script, `list` its image
+abbrev pub files_of : Asked → List File
+files_of (run image script steps mem) = image_file image ∷ script_file script ∷ []
+files_of (list image) = image_file image ∷ []
 
 abbrev pub refusal_of : Role → List ℕ → Option (ℕ × ℕ)
 refusal_of Image = image_refusal
 refusal_of Events = script_refusal
 
 -- where the contents are told, the file is accepted
-abbrev pub IsTaken : Role → List (List ℕ) → (List ℕ → Option (List ℕ)) → Type 0
-IsTaken role words told = WhereTold (told (name_of role words)) (λ all. refusal_of role all ≡ None)
+abbrev pub IsTaken : (List ℕ → Option (List ℕ)) → File → Type 0
+IsTaken told f = WhereTold (told f.name) (λ all. refusal_of f.role all ≡ None)
 
--- each file before it is accepted
-abbrev pub IsReached : Role → List (List ℕ) → (List ℕ → Option (List ℕ)) → Type 0
-IsReached Image words told = Unit {0}
-IsReached Events words told = IsTaken Image words told
+-- it is a file of the job, and each before it is accepted
+pub record IsReached (told : List ℕ → Option (List ℕ)) (job : Asked) (f : File) : Type 0 where
+  pub before : List File
+  pub after : List File
+  pub is : files_of job ≡ before ++ f ∷ after
+  pub taken : AllByRecursion (IsTaken told) before
 
--- where the contents are told, both files are accepted, and together they are this scenario
-pub record AreTaken (words : List (List ℕ)) (told : List ℕ → Option (List ℕ)) (x : Scenario) : Type 0 where
-  pub image : WhereTold (told (name_of Image words)) (λ all. (image_refusal all ≡ None) × (x.setup ≡ setup_of all))
-  pub script : WhereTold (told (name_of Events words)) (λ all. (script_refusal all ≡ None) × (x.script ≡ script_of all))
+-- ## what a job is done over, where the contents are told
+
+-- the image is accepted, and this is what it fixes for ever; and this is what it spells
+abbrev pub IsSetup : (List ℕ → Option (List ℕ)) → List ℕ → Setup → Type 0
+IsSetup told image g = WhereTold (told image) (λ all. (image_refusal all ≡ None) × (g ≡ setup_of all))
+
+abbrev pub IsPicture : (List ℕ → Option (List ℕ)) → List ℕ → Picture → Type 0
+IsPicture told image p = WhereTold (told image) (λ all. (image_refusal all ≡ None) × (p ≡ picture_of all))
+
+-- the script is accepted, and this is what it says
+abbrev pub IsScript : (List ℕ → Option (List ℕ)) → List ℕ → Script → Type 0
+IsScript told script events = WhereTold (told script) (λ all. (script_refusal all ≡ None) × (events ≡ script_of all))

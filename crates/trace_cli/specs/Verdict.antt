@@ -1,19 +1,25 @@
 -- What the program answers: a status and its text.
-use Rattle.std.specs.Prelude.{ℕ, List, ◌++◌, codes, decimal, Option, Some, None}
+use Rattle.std.specs.Prelude.{ℕ, Bool, if◌then◌else◌, List, [], ◌∷◌, ◌++◌, codes, decimal, Option, Some, None, unwrap_or}
+use Rattle.serde_json.specs.Written.{compact_text}
+use Rattle.image_format.specs.Picture.{Picture}
+use Rattle.image_list.specs.Listing.{image_data}
 use Rattle.board_core.specs.declared.told.End.{End}
 use Rattle.board_core.specs.declared.told.End.TheVariants.{Bound, Still, Supervisor}
 use Rattle.task_table.specs.Start.{start}
+use Rattle.task_table.specs.State.{Setup, State}
 use Rattle.board_core.specs.Script.{Scenario}
-use Rattle.board_core.specs.Run.{Run, run}
-use Rattle.trace_cli.specs.Text.{trace_text}
-use Rattle.trace_cli.specs.Words.{steps_of}
-use Rattle.trace_cli.specs.Sources.{Image, Events, name_of, image_refusal, script_refusal, scenario_of}
+use Rattle.board_core.specs.Run as board
+use Rattle.board_run.specs.Text.{trace_text}
+use Rattle.board_run.specs.MemoryText.{memory_text}
+use Rattle.command_line.specs.CommandLine.{Asked, run, list}
+use Rattle.trace_cli.specs.Words.{job_in}
+use Rattle.trace_cli.specs.Sources.{File, files_of, refusal_of, picture_of, scenario_of}
 
 pub record Verdict : Type 0 where
   pub status : ℕ
   pub text : List ℕ
 
--- ## the four verdicts
+-- ## the verdicts
 
 abbrev pub usage_line : List ℕ
 usage_line = codes "usage: hubris build, run, go, list or sample\n"
@@ -44,12 +50,23 @@ status_of Still = 0
 status_of Supervisor = 6
 
 -- the run of a scenario from its start, of at most n turns
-abbrev pub run_of : ℕ → Scenario → Run
-run_of n x = run x n (start x.setup)
+abbrev pub run_of : ℕ → Scenario → board.Run
+run_of n x = board.run x n (start x.setup)
+
+-- the memory of its last state, where it is asked for
+abbrev pub memory_if : Bool → Setup → State → List ℕ
+memory_if mem g s = if mem then memory_text g s else []
 
 -- a run was done
-abbrev pub ran : ℕ → Scenario → Verdict
-ran n x = record { status = status_of (run_of n x).end; text = trace_text (run_of n x) }
+abbrev pub ran : ℕ → Bool → Scenario → Verdict
+ran n mem x = record { status = status_of (run_of n x).end; text = trace_text (run_of n x) ++ memory_if mem x.setup (run_of n x).last }
+
+-- an image was listed
+abbrev pub listing_line : Picture → List ℕ
+listing_line p = compact_text (image_data p) ++ codes "\n"
+
+abbrev pub listed : Picture → Verdict
+listed p = record { status = 0; text = listing_line p }
 
 -- ## the verdict on words and contents, where they are told as far as they count
 
@@ -58,18 +75,27 @@ abbrev pub unless_refused : List ℕ → Option (ℕ × ℕ) → Option Verdict 
 unless_refused name (Some why) more = Some (refused name why)
 unless_refused name None more = more
 
-abbrev pub script_verdict : List (List ℕ) → ℕ → List ℕ → Option (List ℕ) → Option Verdict
-script_verdict words n image None = None
-script_verdict words n image (Some script) = unless_refused (name_of Events words) (script_refusal script) (Some (ran n (scenario_of image script)))
+abbrev pub file_verdict : File → Option (List ℕ) → Option Verdict → Option Verdict
+file_verdict f None more = None
+file_verdict f (Some all) more = unless_refused f.name (refusal_of f.role all) more
 
-abbrev pub image_verdict : List (List ℕ) → (List ℕ → Option (List ℕ)) → ℕ → Option (List ℕ) → Option Verdict
-image_verdict words told n None = None
-image_verdict words told n (Some image) = unless_refused (name_of Image words) (image_refusal image) (script_verdict words n image (told (name_of Events words)))
+-- the files are taken one after the other
+abbrev pub files_verdict : (List ℕ → Option (List ℕ)) → List File → Option Verdict → Option Verdict
+files_verdict told [] done = done
+files_verdict told (f ∷ fs) done = file_verdict f (told f.name) (files_verdict told fs done)
 
-abbrev pub command_verdict : List (List ℕ) → (List ℕ → Option (List ℕ)) → Option ℕ → Option Verdict
-command_verdict words told None = Some usage
-command_verdict words told (Some n) = image_verdict words told n (told (name_of Image words))
+abbrev pub contents : (List ℕ → Option (List ℕ)) → List ℕ → List ℕ
+contents told name = unwrap_or (told name) []
 
--- words that are not accepted are answered by the usage line, the first file that is refused by its line, and two accepted files by the trace of their run
+-- what comes of accepted files
+abbrev pub done : (List ℕ → Option (List ℕ)) → Asked → Verdict
+done told (run image script steps mem) = ran steps mem (scenario_of (contents told image) (contents told script))
+done told (list image) = listed (picture_of (contents told image))
+
+abbrev pub job_verdict : (List ℕ → Option (List ℕ)) → Option Asked → Option Verdict
+job_verdict told None = Some usage
+job_verdict told (Some job) = files_verdict told (files_of job) (Some (done told job))
+
+-- words that are not taken are answered by the usage line, the first file that is refused by its line, and accepted files by what the job is
 unfoldable pub verdict : List (List ℕ) → (List ℕ → Option (List ℕ)) → Option Verdict
-verdict words told = command_verdict words told (steps_of words)
+verdict words told = job_verdict told (job_in words)

@@ -374,9 +374,9 @@ fn words_that_are_no_command(rt: HostRuntime) -> Result<(), Fail> {
         &["hubris", "ran", "a.img", "e.txt", "--steps", "3"],
         &["hubris", "run", "a.img", "e.txt", "--step", "3"],
         &["hubris", "run", "a.img", "e.txt", "--steps", ""],
-        &["hubris", "run", "a.img", "e.txt", "--steps", "+3"],
+        &["hubris", "run", "a.img", "e.txt", "--steps", "-1"],
         &["hubris", "run", "a.img", "e.txt", "--steps", "1000000001"],
-        &["hubris", "run", "a.img", "e.txt", "--steps", "00000000003"],
+        &["hubris", "list", "a.img", "e.txt"],
     ];
     for words in rows {
         let (status, out) = main_of(alloc, words, &image, Some(&[]), &[], &[])?;
@@ -386,8 +386,106 @@ fn words_that_are_no_command(rt: HostRuntime) -> Result<(), Fail> {
             "usage: hubris build, run, go, list or sample\n".as_bytes()
         );
     }
-    let padded = ["hubris", "run", "a.img", "e.txt", "--steps", "0000000003"];
-    let (status, _out) = main_of(alloc, &padded, &image, Some(&[]), &[], &[])?;
+    Ok(())
+}
+
+// The bound comes in whatever way the command line takes it.
+#[test]
+fn a_bound_before_the_files(rt: HostRuntime) -> Result<(), Fail> {
+    let alloc = rt.alloc();
+    let image = looping(alloc)?;
+    let words = ["hubris", "run", "--steps=03", "a.img", "e.txt"];
+    let (status, out) = main_of(alloc, &words, &image, Some(&[]), &[], &[])?;
+    let (same, plain) = main_of(alloc, &RUN, &image, Some(&[]), &[], &[])?;
     assert_eq!(rt; status, 0);
+    assert_eq!(rt; same, 0);
+    assert_eq!(rt; out.text(), plain.text());
+    Ok(())
+}
+
+// movs r0, #1; lsls r0, r0, #29; movs r1, #0xab; strb r1, [r0, #17]: one byte of the second row.
+#[test]
+fn memory_after_a_run_leaves_rows_of_zeros_out(rt: HostRuntime) -> Result<(), Fail> {
+    let alloc = rt.alloc();
+    let image = image_at(alloc, 0x2000_0040, 0, &[0x2001, 0x0740, 0x21ab, 0x7441])?;
+    let words = ["hubris", "run", "a.img", "e.txt", "--steps", "4", "--mem"];
+    let (status, out) = main_of(alloc, &words, &image, Some(&[]), &[], &[])?;
+    assert_eq!(rt; status, 0);
+    let text = "end bound 4 0
+task 0 0 well - 00000000 -
+low 20000000 000000ab 00000000 00000000 00000000 00000000 00000000 00000000
+high 00000000 00000000 00000000 00000000 00000000 20000040 ffffffff 08000008 0000
+mem 20000000 256
+20000010 00ab0000000000000000000000000000
+";
+    assert_eq!(rt; out.text(), text.as_bytes());
+    Ok(())
+}
+
+// A run without RAM has no memory to tell, and one that ends by the supervisor's fault tells it too.
+#[test]
+fn memory_after_a_fault(rt: HostRuntime) -> Result<(), Fail> {
+    let alloc = rt.alloc();
+    let image = image_at(alloc, 0x2000_0040, 0, &[0xde00])?;
+    let words = ["hubris", "run", "--mem", "a.img", "e.txt", "--steps", "4"];
+    let (status, out) = main_of(alloc, &words, &image, Some(&[]), &[], &[])?;
+    assert_eq!(rt; status, 6);
+    let text = "0 fault 0 1 08000000 00000000
+end supervisor 1 0
+task 0 0 faulted:1 - 00000000 -
+low 00000000 00000000 00000000 00000000 00000000 00000000 00000000 00000000
+high 00000000 00000000 00000000 00000000 00000000 20000040 ffffffff 08000000 0000
+mem 20000000 256
+";
+    assert_eq!(rt; out.text(), text.as_bytes());
+    let image = looping(alloc)?;
+    let words = ["hubris", "run", "--mem", "a.img", "e.txt", "--steps", "0"];
+    let (status, out) = main_of(alloc, &words, &image, Some(&[]), &[], &[])?;
+    assert_eq!(rt; status, 0);
+    let text = "end bound 0 0
+task 0 0 well - 00000000 -
+low 00000000 00000000 00000000 00000000 00000000 00000000 00000000 00000000
+high 00000000 00000000 00000000 00000000 00000000 20000000 ffffffff 08000000 0000
+";
+    assert_eq!(rt; out.text(), text.as_bytes());
+    Ok(())
+}
+
+// The fifth push is the line of the region.
+#[test]
+fn a_failing_push_within_the_memory(rt: HostRuntime) -> Result<(), Fail> {
+    let alloc = rt.alloc();
+    let image = image_at(alloc, 0x2000_0040, 0, &[0x2001, 0x0740, 0x21ab, 0x7441])?;
+    let words = ["hubris", "run", "a.img", "e.txt", "--steps", "4", "--mem"];
+    let (status, out) = main_of(alloc, &words, &image, Some(&[]), &[], &[5])?;
+    assert_eq!(rt; status, 4);
+    let text = "end bound 4 0
+task 0 0 well - 00000000 -
+low 20000000 000000ab 00000000 00000000 00000000 00000000 00000000 00000000
+high 00000000 00000000 00000000 00000000 00000000 20000040 ffffffff 08000008 0000
+";
+    assert_eq!(rt; out.text(), text.as_bytes());
+    Ok(())
+}
+
+#[test]
+fn a_listing_of_an_image(rt: HostRuntime) -> Result<(), Fail> {
+    let alloc = rt.alloc();
+    let image = looping(alloc)?;
+    let words = ["hubris", "list", "a.img"];
+    let (status, out) = main_of(alloc, &words, &image, None, &[], &[])?;
+    assert_eq!(rt; status, 0);
+    let text =
+        "{\"flash\":256,\"interrupts\":[],\"ram\":0,\"supervisor\":1,\"tasks\":[{\"entry\":134217729,\"priority\":0,\"regions\":[{\"base\":134217728,\"rights\":5,\"size\":256}],\"sp\":536870912,\"start\":1}]}\n";
+    assert_eq!(rt; out.text(), text.as_bytes());
+    let (status, out) = main_of(alloc, &words, b"HBI", None, &[], &[])?;
+    assert_eq!(rt; status, 1);
+    assert_eq!(rt; out.text(), "refused a.img 1 3\n".as_bytes());
+    let (status, out) = main_of(alloc, &words, &image, None, &[1], &[])?;
+    assert_eq!(rt; status, 3);
+    assert_eq!(rt; out.text(), "cannot read a.img\n".as_bytes());
+    let (status, out) = main_of(alloc, &words, &image, None, &[], &[1])?;
+    assert_eq!(rt; status, 4);
+    assert_eq!(rt; out.text().len(), 0);
     Ok(())
 }

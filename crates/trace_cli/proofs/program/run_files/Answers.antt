@@ -6,16 +6,16 @@ use Rattle.trace_cli.proofs.program.run_files.Goals as goal
 
 pub returns-in-Ok-clause-answer : goal.returns-in-Ok-clause-answer
 returns-in-Ok-clause-answer g c =
-    let ready = rw (c.word-image.ensures, c.word-script.ensures) at c.in-Ok.ensures.ready in
-    let n = c.args.limit in
+    let ready = c.in-Ok.ensures.ready in
+    let n = c.args.steps in
+    let m = c.args.mem in
+    let x = ready.scenario in
     inr (
-      ran n ready.scenario,
-      runs n ready.scenario (record { command = c.requires.command; files = record { image = ready.image_read; script = ready.script_read } }) refl,
-      c.tell_run.ensures ready.scenario ready.stands,
+      ran n m x,
+      runs n m x (record { image = c.args.image.now; script = c.args.script.now; is = refl; setup = ready.setup; events = ready.events }) refl,
+      c.tell_run.ensures x ready.stands,
     )
 
 pub returns-in-Err-clause-answer : goal.returns-in-Err-clause-answer
 returns-in-Err-clause-answer g c =
-    let h = rw (c.word-image.ensures, c.word-script.ensures) at c.in-Err.ensures.halt in
-    let t = rw (c.word-image.ensures, c.word-script.ensures) at c.tell_halt.ensures in
-    halted _ _ _ _ _ _ _ _ _ c.args.limit c.in-Err.halt _ c.requires.command t h
+    halted _ _ _ _ _ _ _ _ c.args.image.now c.args.script.now c.args.steps c.args.mem c.in-Err.halt _ c.tell_halt.ensures c.in-Err.ensures.halt

@@ -1,22 +1,10 @@
-use Rattle.std.proofs.Common.{◌∙◌, ap, subst, refl}
-use Rattle.std.specs.Io.KnownBytes.{Appends}
-use Rattle.outside_io.specs.Outside.{AppendsFront}
-use Rattle.task_table.specs.Start.{start}
-use Rattle.board_core.specs.Run.{Run}
+use Rattle.std.proofs.Common.{◌∙◌, ap, refl}
 use Rattle.trace_cli.specs.Answer.{whole, cut}
-use Rattle.trace_cli.specs.Text.{trace_text}
 use Rattle.trace_cli.specs.Verdict.{status_of}
-use Rattle.trace_cli.proofs.Answering.{from_start}
 use Rattle.trace_cli.proofs.program.tell_run.Goals as goal
 
 pub returns-in-Ok : goal.returns-in-Ok
-returns-in-Ok g c = λ x st.
-    let same = from_start x c.args.board.now c.args.limit st c.requires.fresh in
-    let P : Run → Type 0 = λ r. Appends (g.S.Sink.written c.args.out.now) (g.S.Sink.written c.run_board.new.out) (trace_text r) in
-    whole (c.status_by.ensures ∙ ap status_of (c.in-Ok.ensures.end x (start x.setup) st ∙ ap (λ (r : Run). r.end) same)) (subst P same (c.in-Ok.ensures.text x (start x.setup) st))
+returns-in-Ok g c = λ x st. whole (c.status_by.ensures ∙ ap status_of (c.in-Ok.ensures.end x st)) (c.in-Ok.ensures.text x st)
 
 pub returns-in-Err : goal.returns-in-Err
-returns-in-Err g c = λ x st.
-    let same = from_start x c.args.board.now c.args.limit st c.requires.fresh in
-    let P : Run → Type 0 = λ r. AppendsFront (g.S.Sink.written c.args.out.now) (g.S.Sink.written c.run_board.new.out) (trace_text r) in
-    cut refl c.in-Err.ensures.cause.failed (subst P same (c.in-Err.ensures.text x (start x.setup) st))
+returns-in-Err g c = λ x st. cut refl c.in-Err.ensures.cause.failed (c.in-Err.ensures.text x st)

@@ -1,0 +1,4 @@
+pub mod Appending
+pub mod Going
+pub mod MemoryLines
+pub mod Tasks

@@ -1,0 +1,54 @@
+-- The text of the tasks, one more at a time.
+use Rattle.std.proofs.Common.{◌≡◌, ℕ, ◌+◌, List, ◌++◌, Option, Some, None, refl, sym, ap, subst, ◌∙◌, arith, length, zero, suc, ◌≤◌, append_assoc, ◌%◌}
+use Rattle.std.specs.Prelude.{Result, Err, codes}
+use Rattle.std.specs.Io.KnownBytes.{Appends}
+use Rattle.std.specs.List.{flat_map, range_with_len}
+use Rattle.outside_io.specs.Outside.{Pushes, AppendsFront}
+use Rattle.kernel_abi.specs.declared.Health.{Health}
+use Rattle.kernel_abi.specs.declared.Timer.{Timer}
+use Rattle.words_core.specs.declared.Flags.{Flags}
+use Rattle.task_table.specs.State as kernel
+use Rattle.task_table.specs.State.{Task, State, Listen, Phase, Offered, Taken, From, Any, One, KernelOnly}
+use Rattle.task_table.specs.Holds.{wait_in, wait_from, wait_of}
+use Rattle.task_table.specs.Reading.{task_at, call_of, listen_of}
+use Rattle.board_core.specs.declared.told.TaskView.{TaskView}
+use Rattle.board_core.specs.Told.{IsTask}
+use Rattle.board_run.specs.Text.{task_line, low_line, high_line, task_lines, task_text, tasks_text, wait_text, call_text}
+use Rattle.board_run.specs.ViewText.{view_text, wait_words}
+use Rattle.board_run.proofs.Appending.{appends_more, range_more, range_fails}
+
+-- what a task waits for reads the same as told by the board and by the state
+words_in : (p : Phase) (number id : ℕ) → wait_words (wait_in p number id) ≡ call_text p number
+words_in Offered number id = refl
+words_in Taken number id = refl
+
+words_from : (f : From) → wait_words (wait_from f) ≡ codes "listen"
+words_from Any = refl
+words_from (One b) = refl
+words_from KernelOnly = refl
+
+words_are : (c : Option kernel.Call) (l : Option Listen) → wait_words (wait_of c l) ≡ wait_text c l
+words_are (Some c) l = words_in c.phase c.number _
+words_are None (Some l) = words_from l.from
+words_are None None = refl
+
+-- what is told of a task gives the text of the state's
+pub view_is : (s : State) (i : ℕ) (v : TaskView) → IsTask s i v → view_text i v ≡ task_text s i
+unfolding view_text task_text task_lines
+view_is s i v t =
+    let head : ℕ → Health → List ℕ → ℕ → Option Timer → List ℕ → Flags → List ℕ = λ g h w p d rs f. task_line i g h w p d ++ low_line rs ++ high_line rs f in
+    let waits : wait_words v.wait ≡ wait_text (call_of s i) (listen_of s i) = ap wait_words t.wait ∙ words_are (call_of s i) (listen_of s i) in
+    rw (t.generation, t.registers, t.flags, t.health, t.posted, t.timer) (ap (λ (w : List ℕ). head ((task_at s i).births % 64) (task_at s i).health w (task_at s i).posted (task_at s i).timer (task_at s i).registers (task_at s i).flags) waits)
+
+pub tasks_more : (a b c : Option (List ℕ)) (s : State) (i : ℕ) (v : TaskView) → IsTask s i v → Appends a b (tasks_text s i) → Appends b c (view_text i v) → Appends a c (tasks_text s (i + 1))
+tasks_more a b c s i v t p q =
+    let P : List ℕ → Type 0 = λ w. Appends a c w in
+    let Q : List ℕ → Type 0 = λ w. Appends b c w in
+    subst P (sym (range_more (task_text s) i)) (appends_more a b c (tasks_text s i) (task_text s i) p (subst Q (view_is s i v t) q))
+
+-- a failure within the lines of a task
+pub tasks_fail : {T E : Type 0} (a b c : Option (List ℕ)) (s : State) (i : ℕ) (v : TaskView) (r : Result T E) (e : E) → r ≡ Err e → IsTask s i v →
+    Appends a b (tasks_text s i) → AppendsFront b c (view_text i v) → Pushes a c (tasks_text s (length s.tasks)) r
+tasks_fail {T} {E} a b c s i v r e failed t p q =
+    let Q : List ℕ → Type 0 = λ w. AppendsFront b c w in
+    range_fails a b c (task_text s) i (length s.tasks) r e failed t.inside p (subst Q (view_is s i v t) q)

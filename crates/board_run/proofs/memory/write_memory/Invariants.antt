@@ -1,0 +1,13 @@
+use Rattle.std.proofs.Common.{◌≤◌}
+use Rattle.std.specs.Io.KnownBytes.{Appends}
+use Rattle.task_table.specs.State.{State}
+use Rattle.board_core.specs.Script.{Scenario}
+use Rattle.board_core.specs.Stands.{Stands}
+use Rattle.board_run.specs.MemoryText.{places_text}
+use Rattle.board_run.proofs.memory.write_memory.Given as goal
+
+abbrev pub invariant-loop-k : goal.invariant-loop-k
+invariant-loop-k g l = record {
+  pushed : (x : Scenario) (s : State) → Stands x l.board s → Appends (g.S.Sink.written l.fn.out) (g.S.Sink.written l.out) (places_text x.setup s.memory l.k);
+  later : g.S.Sink.faults l.fn.out ≤ g.S.Sink.faults l.out;
+}

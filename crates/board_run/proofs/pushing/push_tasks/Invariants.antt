@@ -1,0 +1,13 @@
+use Rattle.std.proofs.Common.{◌≤◌}
+use Rattle.std.specs.Io.KnownBytes.{Appends}
+use Rattle.task_table.specs.State.{State}
+use Rattle.board_core.specs.Script.{Scenario}
+use Rattle.board_core.specs.Stands.{Stands}
+use Rattle.board_run.specs.Text.{tasks_text}
+use Rattle.board_run.proofs.pushing.push_tasks.Given as goal
+
+abbrev pub invariant-loop-i : goal.invariant-loop-i
+invariant-loop-i g l = record {
+  pushed : (x : Scenario) (s : State) → Stands x l.board s → Appends (g.S.Sink.written l.fn.out) (g.S.Sink.written l.out) (tasks_text s l.i);
+  later : g.S.Sink.faults l.fn.out ≤ g.S.Sink.faults l.out;
+}

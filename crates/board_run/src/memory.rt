@@ -1,0 +1,166 @@
+//! The memory of a board, line by line.
+ghost use Rattle.std.specs.Prelude.{◌≡◌, ◌+◌, ◌*◌, ◌++◌, ◌<◌, ◌≤◌, ◌^◌, [], length, find, IfSome};
+ghost use Rattle.arrayvec.specs.ArrayString.{array_string_len};
+ghost use Rattle.outside_io.specs.Outside.{Pushes, HasCause};
+ghost use Rattle.task_table.specs.State.{State};
+ghost use Rattle.board_core.specs.Script.{Scenario};
+ghost use Rattle.board_core.specs.Stands.{Stands};
+ghost use Rattle.board_run.specs.MemoryText.{are_zeros, begins_at, byte_of, bytes_hex, memory_text, place_text, region_at, region_line, region_text, row_count, row_line, row_text, rows_text};
+
+use crate::line::{Line, push_byte, push_hex, region_line as put_region_line};
+use board_core::Board;
+use outside_io::{Failed, Sink};
+use region_check::Region;
+
+/// Where RAM begins.
+const RAM: u32 = 0x2000_0000;
+
+// The first of the regions that begins there.
+fn region_in(regions: &[Region], base: u32) -> Option<Region>
+    ensures found { result ≡ find (begins_at base) regions.now }
+    ensures base { IfSome result (λ r. r.base ≡ base) }
+{
+    for region in regions {
+        if region.base == base {
+            return Some(*region);
+        }
+    }
+    None
+}
+
+/// The region that begins at an address, of whatever task.
+fn region_at(board: &Board, base: u32) -> Option<Region>
+    ensures base { IfSome result (λ r. r.base ≡ base) }
+    ensures found { (x : Scenario) (s : State) → Stands x board.now s → result ≡ region_at x.setup base }
+{
+    for i in 0..board.task_count() {
+        let found = region_in(board.regions(i), base);
+        if found.is_some() {
+            return found;
+        }
+    }
+    None
+}
+
+/// The byte at an address; 0 where there is none.
+fn byte_at(board: &Board, addr: u32) -> u8
+    ensures { (x : Scenario) (s : State) → Stands x board.now s → result ≡ byte_of s.memory addr }
+{
+    board.byte(addr).unwrap_or(0)
+}
+
+fn are_zeros(board: &Board, addr: u32) -> bool
+    requires { addr + 16 ≤ 2 ^ 32 }
+    ensures { (x : Scenario) (s : State) → Stands x board.now s → result ≡ are_zeros s.memory addr 16 }
+{
+    for k in 0..16 {
+        if byte_at(board, addr + k) != 0 {
+            return false;
+        }
+    }
+    true
+}
+
+/// Sixteen bytes, in hexadecimal digits.
+fn push_bytes(board: &Board, addr: u32, line: &mut Line)
+    requires inside { addr + 16 ≤ 2 ^ 32 }
+    requires room { array_string_len line.old + 32 ≤ 160 }
+    ensures bytes { (x : Scenario) (s : State) → Stands x board.now s → line.new.bytes ≡ line.old.bytes ++ bytes_hex s.memory addr 16 }
+    ensures len { array_string_len line.new ≡ array_string_len line.old + 32 }
+{
+    for k in 0..16 {
+        push_byte(line, byte_at(board, addr + k));
+    }
+}
+
+#[tactic(auto, unfolding(crate::specs::MemoryText::row_line))]
+fn row_line(board: &Board, addr: u32, line: &mut Line)
+    requires inside { addr + 16 ≤ 2 ^ 32 }
+    requires empty { line.old.bytes ≡ [] }
+    ensures { (x : Scenario) (s : State) → Stands x board.now s → line.new.bytes ≡ row_line s.memory addr }
+{
+    push_hex(line, addr);
+    line.push_str(" ");
+    push_bytes(board, addr, line);
+    line.push_str("\n");
+}
+
+/// The line of sixteen bytes, where one of them is not zero.
+fn push_row<S: Sink>(board: &Board, addr: u32, out: &mut S) -> Result<(), Failed>
+    requires inside { addr + 16 ≤ 2 ^ 32 }
+    ensures bytes { (x : Scenario) (s : State) → Stands x board.now s → Pushes (S.written out.old) (S.written out.new) (row_text s.memory addr) result }
+    ensures cause { HasCause (S.faults out.old) (S.faults out.new) result }
+{
+    if are_zeros(board, addr) {
+        return Ok(());
+    }
+    let mut line = Line::new();
+    row_line(board, addr, &mut line);
+    out.push(line.as_str().as_bytes())
+}
+
+fn push_rows<S: Sink>(board: &Board, base: u32, count: u32, out: &mut S) -> Result<(), Failed>
+    requires inside { base + 16 * count ≤ 2 ^ 32 }
+    ensures bytes { (x : Scenario) (s : State) → Stands x board.now s → Pushes (S.written out.old) (S.written out.new) (rows_text s.memory base count) result }
+    ensures cause { HasCause (S.faults out.old) (S.faults out.new) result }
+{
+    for k in 0..count {
+        push_row(board, base + 16 * k, out)?;
+    }
+    Ok(())
+}
+
+fn push_region_line<S: Sink>(region: &Region, out: &mut S) -> Result<(), Failed>
+    ensures bytes { Pushes (S.written out.old) (S.written out.new) (region_line region.now) result }
+    ensures cause { HasCause (S.faults out.old) (S.faults out.new) result }
+{
+    let mut line = Line::new();
+    put_region_line(region, &mut line);
+    out.push(line.as_str().as_bytes())
+}
+
+fn row_count(region: &Region) -> u32
+    ensures count { result ≡ row_count region.now }
+    ensures few { result ≤ 16384 }
+{
+    region.size.min(262_144) / 16
+}
+
+/// The lines of a region.
+fn push_region<S: Sink>(board: &Board, region: &Region, out: &mut S) -> Result<(), Failed>
+    requires inside { region.now.base + 262144 ≤ 2 ^ 32 }
+    ensures bytes { (x : Scenario) (s : State) → Stands x board.now s → Pushes (S.written out.old) (S.written out.new) (region_text s.memory region.now) result }
+    ensures cause { HasCause (S.faults out.old) (S.faults out.new) result }
+{
+    push_region_line(region, out)?;
+    push_rows(board, region.base, row_count(region), out)
+}
+
+/// The lines of the region that begins at the k-th place of RAM, if one does.
+fn push_place<S: Sink>(board: &Board, k: u32, out: &mut S) -> Result<(), Failed>
+    requires inside { k < 1024 }
+    ensures bytes { (x : Scenario) (s : State) → Stands x board.now s → Pushes (S.written out.old) (S.written out.new) (place_text x.setup s.memory k) result }
+    ensures cause { HasCause (S.faults out.old) (S.faults out.new) result }
+{
+    match region_at(board, RAM + 256 * k) {
+        None => Ok(()),
+        Some(region) => push_region(board, &region, out),
+    }
+}
+
+/// The memory of every task as the board has it: each different region of RAM by ascending base, a line
+/// `mem <base> <size>` and then a line for each 16 bytes of it that are not all zero (docs/FORMATS.md,
+/// Memories), one push each. After a failing push nothing more is pushed.
+///
+/// # Errors
+///
+/// Only where a push failed.
+pub fn write_memory<S: Sink>(board: &Board, out: &mut S) -> Result<(), Failed>
+    ensures text { (x : Scenario) (s : State) → Stands x board.now s → Pushes (S.written out.old) (S.written out.new) (memory_text x.setup s) result }
+    ensures cause { HasCause (S.faults out.old) (S.faults out.new) result }
+{
+    for k in 0..1024 {
+        push_place(board, k, out)?;
+    }
+    Ok(())
+}

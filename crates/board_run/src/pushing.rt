@@ -1,0 +1,124 @@
+//! Lines go to a sink, one push each. After a failing push nothing more is pushed.
+ghost use Rattle.std.specs.Prelude.{◌≡◌, ◌≤◌, length};
+ghost use Rattle.outside_io.specs.Outside.{Pushes, HasCause};
+ghost use Rattle.board_core.specs.Run.{at_turn};
+ghost use Rattle.board_run.specs.Text.{line_of, notes_text, task_line, low_line, high_line, end_line};
+ghost use Rattle.board_run.specs.ViewText.{view_text, wait_words};
+
+use crate::line::{
+    Line, call_line, end_line as put_end_line, fault_line, high_line as put_high_line,
+    low_line as put_low_line, task_line as put_task_line,
+};
+use board_core::{Board, End, TaskView};
+use kernel_abi::Note;
+use outside_io::{Failed, Sink};
+use words_core::Flags;
+
+fn push_note<S: Sink>(turn: u32, note: &Note, out: &mut S) -> Result<(), Failed>
+    ensures bytes { Pushes (S.written out.old) (S.written out.new) (line_of (turn, note.now)) result }
+    ensures cause { HasCause (S.faults out.old) (S.faults out.new) result }
+{
+    let mut line = Line::new();
+    match note {
+        Note::Call {
+            task,
+            number,
+            arguments,
+        } => call_line(turn, *task, *number, arguments, &mut line),
+        Note::Fault { task, fault } => fault_line(turn, *task, fault, &mut line),
+    }
+    out.push(line.as_str().as_bytes())
+}
+
+/// The notes of a turn, one line each.
+pub fn push_notes<S: Sink>(turn: u32, notes: &[Note], out: &mut S) -> Result<(), Failed>
+    ensures bytes { Pushes (S.written out.old) (S.written out.new) (notes_text (at_turn turn notes.now)) result }
+    ensures cause { HasCause (S.faults out.old) (S.faults out.new) result }
+{
+    for note in notes {
+        push_note(turn, note, out)?;
+    }
+    Ok(())
+}
+
+fn push_task_line<S: Sink>(i: u64, task: &TaskView, out: &mut S) -> Result<(), Failed>
+    ensures bytes { Pushes (S.written out.old) (S.written out.new)
+        (task_line i task.now.generation task.now.health (wait_words task.now.wait) task.now.posted task.now.timer) result }
+    ensures cause { HasCause (S.faults out.old) (S.faults out.new) result }
+{
+    let mut line = Line::new();
+    put_task_line(
+        i,
+        task.generation,
+        task.health,
+        task.wait,
+        task.posted,
+        task.timer,
+        &mut line,
+    );
+    out.push(line.as_str().as_bytes())
+}
+
+fn push_low<S: Sink>(registers: &[u32; 16], out: &mut S) -> Result<(), Failed>
+    ensures bytes { Pushes (S.written out.old) (S.written out.new) (low_line registers.now) result }
+    ensures cause { HasCause (S.faults out.old) (S.faults out.new) result }
+{
+    let mut line = Line::new();
+    put_low_line(registers, &mut line);
+    out.push(line.as_str().as_bytes())
+}
+
+fn push_high<S: Sink>(registers: &[u32; 16], flags: Flags, out: &mut S) -> Result<(), Failed>
+    ensures bytes { Pushes (S.written out.old) (S.written out.new) (high_line registers.now flags) result }
+    ensures cause { HasCause (S.faults out.old) (S.faults out.new) result }
+{
+    let mut line = Line::new();
+    put_high_line(registers, flags, &mut line);
+    out.push(line.as_str().as_bytes())
+}
+
+fn push_end_line<S: Sink>(end: End, turns: u32, now: u64, out: &mut S) -> Result<(), Failed>
+    ensures bytes { Pushes (S.written out.old) (S.written out.new) (end_line end turns now) result }
+    ensures cause { HasCause (S.faults out.old) (S.faults out.new) result }
+{
+    let mut line = Line::new();
+    put_end_line(end, turns, now, &mut line);
+    out.push(line.as_str().as_bytes())
+}
+
+// The three lines of a task.
+fn push_task<S: Sink>(i: u64, task: &TaskView, out: &mut S) -> Result<(), Failed>
+    ensures bytes { Pushes (S.written out.old) (S.written out.new) (view_text i task.now) result }
+    ensures cause { HasCause (S.faults out.old) (S.faults out.new) result }
+{
+    push_task_line(i, task, out)?;
+    push_low(&task.registers, out)?;
+    push_high(&task.registers, task.flags, out)
+}
+
+ghost use Rattle.task_table.specs.State.{State};
+ghost use Rattle.board_core.specs.Script.{Scenario};
+ghost use Rattle.board_core.specs.Stands.{Stands};
+ghost use Rattle.board_run.specs.Text.{tasks_text, end_text};
+
+fn push_tasks<S: Sink>(board: &Board, out: &mut S) -> Result<(), Failed>
+    ensures bytes { (x : Scenario) (s : State) → Stands x board.now s → Pushes (S.written out.old) (S.written out.new) (tasks_text s (length s.tasks)) result }
+    ensures cause { HasCause (S.faults out.old) (S.faults out.new) result }
+{
+    for i in 0..board.task_count() {
+        match board.task(i) {
+            Some(task) => push_task(i as u64, &task, out)?,
+            None => unreachable!(),
+        }
+    }
+    Ok(())
+}
+
+/// How a run ended, and each task.
+pub fn push_end<S: Sink>(end: End, board: &Board, out: &mut S) -> Result<(), Failed>
+    ensures bytes { (x : Scenario) (s : State) → Stands x board.now s → Pushes (S.written out.old) (S.written out.new) (end_text end s) result }
+    ensures cause { HasCause (S.faults out.old) (S.faults out.new) result }
+{
+    push_end_line(end, board.turns(), board.now(), out)?;
+    push_tasks(board, out)
+}

@@ -1,0 +1,76 @@
+//! The loop over turns.
+ghost use Rattle.std.specs.Prelude.{◌≡◌, ◌≤◌, ◌<◌, ◌-◌, IfOk, IsNone, None};
+ghost use Rattle.outside_io.specs.Outside.{Pushes, HasCause};
+ghost use Rattle.task_table.specs.State.{State};
+ghost use Rattle.board_core.specs.Script.{Scenario};
+ghost use Rattle.board_core.specs.Stands.{Stands, Stood, turns_of};
+ghost use Rattle.board_core.specs.Run.{run, ending};
+ghost use Rattle.board_run.specs.Text.{trace_text};
+ghost use Rattle.board_run.specs.Running.{StandsMidway, end_within};
+
+use crate::pushing::{push_end, push_notes};
+use board_core::{Board, End};
+use outside_io::{Failed, Sink};
+
+// The supervisor's fault ends a run before its bound does, the bound before standing still.
+fn end_within(ended: Option<End>, left: u32) -> Option<End>
+    ensures is { result ≡ end_within ended left }
+    ensures goes { IsNone result → ended ≡ None }
+    ensures left { IsNone result → 0 < left }
+{
+    match ended {
+        Some(End::Supervisor) => Some(End::Supervisor),
+        Some(other) => {
+            if left == 0 {
+                Some(End::Bound)
+            } else {
+                Some(other)
+            }
+        }
+        None => { if left == 0 { Some(End::Bound) } else { None } }
+    }
+}
+
+// Whether the run ends before the next turn.
+fn ending(board: &Board, limit: u32) -> Option<End>
+    requires stood { Stood board.now }
+    requires within { turns_of board.now ≤ limit }
+    ensures end { (x : Scenario) (s : State) → Stands x board.now s → result ≡ ending x (limit - s.turn) s }
+    ensures goes { IsNone result → (x : Scenario) (s : State) → Stands x board.now s → ending x 1 s ≡ None }
+    ensures left { IsNone result → turns_of board.now < limit }
+{
+    end_within(board.ended(), limit - board.turns())
+}
+
+/// Turns up to the end of the run, and its text. After a failing push nothing more is pushed, and no
+/// further turn is made.
+pub fn run<S: Sink>(board: &mut Board, limit: u32, out: &mut S) -> Result<End, Failed>
+    requires stood { Stood board.old }
+    requires from { turns_of board.old ≤ limit }
+    requires few { limit ≤ 1000000000 }
+
+    ensures text { (x : Scenario) (s : State) → Stands x board.old s →
+        Pushes (S.written out.old) (S.written out.new) (trace_text (run x (limit - s.turn) s)) result }
+    ensures end { (x : Scenario) (s : State) → Stands x board.old s →
+        IfOk result (λ e. e ≡ (run x (limit - s.turn) s).end) }
+    ensures last { (x : Scenario) (s : State) → Stands x board.old s →
+        IfOk result (λ _. Stands x board.new (run x (limit - s.turn) s).last) }
+
+    // Also where a push failed.
+    ensures midway { (x : Scenario) (s : State) → Stands x board.old s → StandsMidway x board.new s }
+    ensures within { turns_of board.new ≤ limit }
+    ensures cause { HasCause (S.faults out.old) (S.faults out.new) result }
+{
+    'turns: loop {
+        match ending(board, limit) {
+            Some(end) => {
+                push_end(end, board, out)?;
+                return Ok(end);
+            }
+            None => {}
+        }
+        let turn = board.turns();
+        board.turn();
+        push_notes(turn, board.notes(), out)?;
+    }
+}

@@ -1,0 +1,157 @@
+-- Words that are taken name a command, with all that it wants.
+use Rattle.std.proofs.Common.{◌≡◌, ◌⊎◌, ◌<◌, ◌≤◌, ap, sym, subst, refl, cond, codes, inl, inr, drop, Bool, true, false, ℕ, List, [], ◌∷◌, Option, Some, None, is_some, arith}
+use Rattle.std.specs.Prelude.{IfSome, unwrap_or, pos, ◌==◌}
+use Rattle.std.specs.Bool.{⊤}
+use Rattle.std.specs.List.{slice_index_or}
+use Rattle.std.specs.Str.Parse.{IsNumeral, digits_value, starts_with_minus, without_leading_plus}
+use Rattle.std.proofs.lemmas.Bool.{ne_eqb}
+use Rattle.std.proofs.lemmas.Str.Parse.{digit_from_value}
+use Rattle.std.proofs.lemmas.Int.{ints}
+use Rattle.clap.specs.Lexer.{without_minus}
+use Rattle.clap.specs.Values.{IsSignedIn, read_as, reading_of, refused_kind}
+use Rattle.clap.specs.ValueTests.{accepts}
+use Rattle.clap.specs.Facts.{parser_of_value}
+use Rattle.clap.specs.Walk.{first_of, Row, Rule, Text, nothing_held, one_of, rows_after, walk}
+use Rattle.clap.specs.Simple.{App, Shape, argument_words, built, entered, names_of, new_rule, new_shape, subcommand_of}
+use Rattle.clap.specs.Kinds.{value_kinds}
+use Rattle.clap.specs.Faults.{entered_fault, level_fault}
+use Rattle.clap.specs.declared.builder.value_parser.ValueParser.{ValueParser}
+use Rattle.clap.specs.declared.builder.value_parser.ValueParser.TheVariants as parser
+use Rattle.clap.proofs.ValueTestLemmas.{accepts-Accepts, Accepts-accepts}
+use Rattle.command_line.specs.CommandLine.{hubris_app, is_taken, most_steps, steps_parser}
+use Rattle.command_line.specs.Required.{HasText, IsSteps, IsSwitch, IsWhole}
+use Rattle.command_line.proofs.Taking.{none_left}
+use Rattle.command_line.proofs.Rows.{Each, Sure}
+use Rattle.command_line.proofs.Walking.{asks_for_help}
+use Rattle.command_line.proofs.Ending.{Done, Has, below_passes, ends, has_default, has_given, stops, wants}
+
+-- ---- a number of turns
+
+no_plus : (ds : List ℕ) → IsNumeral 10 ds → without_leading_plus ds ≡ ds
+no_plus [] h = refl
+no_plus (d ∷ ds) h =
+    let plus : (d == 43) ≡ false = ne_eqb _ _ (λ e. omega (arith, digit_from_value d h.1.0)) in
+    ap (λ (b : Bool). drop (cond b 1 0) (d ∷ ds)) plus
+
+without_minus-cond : (t : Text) → without_minus t ≡ cond (starts_with_minus t) (drop 1 t) t
+without_minus-cond [] = refl
+without_minus-cond (x ∷ xs) = go (x == 45)
+  where
+    go : (b : Bool) → unwrap_or (cond b (Some xs) None) (x ∷ xs) ≡ cond b xs (x ∷ xs)
+    go true = refl
+    go false = refl
+
+-- a text in a range from 0 on is, without a minus, a number in it
+without_sign : (high : ℕ) (t : Text) → high < 4294967296 → IsSignedIn (pos 0) (pos high) t → accepts false (parser.Unsigned 0 high) (without_minus t) ≡ true
+without_sign high t small h = Accepts-accepts false (parser.Unsigned 0 high) (without_minus t) (rw (without_minus-cond t) (go (starts_with_minus t) refl))
+  where
+    Plain : Text → Type 0
+    Plain u = IsNumeral 10 (without_leading_plus u) × (digits_value 10 (without_leading_plus u) < 18446744073709551616) × (0 ≤ digits_value 10 (without_leading_plus u))
+        × (digits_value 10 (without_leading_plus u) ≤ high)
+
+    go : (b : Bool) → starts_with_minus t ≡ b → Plain (cond (starts_with_minus t) (drop 1 t) t)
+    go true minus =
+        let low = rw minus at h.2 in
+        let numeral : IsNumeral 10 (drop 1 t) = rw minus at h.0 in
+        rw (minus, no_plus (drop 1 t) numeral) (numeral, omega (arith, ints), omega arith, omega (arith, ints))
+    go false minus =
+        let top = rw minus at h.3 in
+        let numeral = rw minus at h.0 in
+        rw minus (numeral, omega (arith, ints), omega arith, omega (arith, ints))
+
+accepted : (ic : Bool) (p : ValueParser) (t : Text) → value_kinds ic p t ≡ [] → accepts ic p t ≡ true
+accepted ic p t e = go (accepts ic p t) refl e
+  where
+    go : (b : Bool) → accepts ic p t ≡ b → cond b [] (refused_kind p ∷ []) ≡ [] → accepts ic p t ≡ true
+    go true is e = is
+    go false is e = cc
+
+-- ---- the commands
+
+-- the program's command line, with what clap adds
+abbrev app : App
+app = built hubris_app
+
+abbrev shape_at : ℕ → Shape
+shape_at i = slice_index_or app.subs i (new_shape [])
+
+abbrev rule_at : Shape → ℕ → Rule
+rule_at s i = slice_index_or s.rules i (new_rule [])
+
+-- a command that is not refused
+leaf : (s : Shape) (words : List Text) → Each (Sure s.rules) s.rules → s.subcommand_negates_reqs ≡ false → level_fault s [] nothing_held words false [] ≡ []
+    → Done s (rows_after s.rules [] words)
+leaf s words sure negates e = ends s [] (λ _. ⊤) sure tt words false [] e negates
+
+text : (a : Rule) (rows : List Row) → Has a rows → HasText a.id rows
+text a rows h = rw h.first refl
+
+steps : (a : Rule) (rows : List Row) → a.parser ≡ Some steps_parser → Has a rows → IsSteps (one_of a.id rows)
+steps a rows is h =
+    let taken : accepts a.ignore_case steps_parser h.text ≡ true = subst (λ (p : Option ValueParser). accepts a.ignore_case (parser_of_value p) h.text ≡ true) is (accepted a.ignore_case (parser_of_value a.parser) h.text h.pass) in
+    let one : one_of a.id rows ≡ Some (without_minus h.text) = subst (λ (p : Option ValueParser). one_of a.id rows ≡ Some (read_as (reading_of (parser_of_value p)) h.text)) is h.one in
+    subst IsSteps (sym one) (without_sign most_steps h.text (omega arith) (accepts-Accepts a.ignore_case steps_parser h.text taken))
+
+switch : (a : Rule) (rows : List Row) → a.parser ≡ Some parser.Bool → Has a rows → IsSwitch (first_of a.id rows)
+switch a rows is h = subst IsSwitch (sym h.first)
+    (subst (λ (p : Option ValueParser). accepts a.ignore_case (parser_of_value p) h.text ≡ true) is (accepted a.ignore_case (parser_of_value a.parser) h.text h.pass))
+
+run_sure : Each (Sure (shape_at 0).rules) (shape_at 0).rules
+run_sure = (record { known = refl; sure = refl }, (record { known = refl; sure = refl }, (record { known = refl; sure = refl }, (record { known = refl; sure = refl }, (record { known = refl; sure = refl }, tt)))))
+
+run_whole : (words : List Text) → entered_fault app (Some (codes "run", words)) ≡ [] → IsWhole (entered app (Some (codes "run", words)))
+run_whole words e =
+    let s = shape_at 0 in
+    let rows = rows_after s.rules [] words in
+    let d = leaf s words run_sure refl e in
+    inl (
+      refl,
+      record {
+        image = text (rule_at s 0) rows (has_given s.rules (rule_at s 0) rows d.good refl (d.given.0 refl));
+        script = text (rule_at s 1) rows (has_given s.rules (rule_at s 1) rows d.good refl (d.given.1.0 refl));
+        steps = steps (rule_at s 2) rows refl (has_given s.rules (rule_at s 2) rows d.good refl (d.given.1.1.0 refl));
+        mem = switch (rule_at s 3) rows refl (has_default s.rules (rule_at s 3) rows d.good refl (d.filled.1.1.1.0 (omega arith)));
+      },
+    )
+
+list_sure : Each (Sure (shape_at 1).rules) (shape_at 1).rules
+list_sure = (record { known = refl; sure = refl }, (record { known = refl; sure = refl }, tt))
+
+list_whole : (words : List Text) → entered_fault app (Some (codes "list", words)) ≡ [] → IsWhole (entered app (Some (codes "list", words)))
+list_whole words e =
+    let s = shape_at 1 in
+    let rows = rows_after s.rules [] words in
+    let d = leaf s words list_sure refl e in
+    inr (refl, record { image = text (rule_at s 0) rows (has_given s.rules (rule_at s 0) rows d.good refl (d.given.0 refl)) })
+
+-- ---- the program
+
+-- the name of one of its commands
+abbrev IsCommand : Text → Type 0
+IsCommand name = (name ≡ codes "run") ⊎ (name ≡ codes "list")
+
+top_sure : Each (Sure app.top.rules) app.top.rules
+top_sure = (record { known = refl; sure = refl }, tt)
+
+own : Each (λ n. asks_for_help app.top n.0 ≡ false → IsCommand n.0) (names_of app)
+own = ((λ _. inl refl), ((λ _. inr refl), ((λ e. cc), tt)))
+
+command_whole : (name : Text) (words : List Text) → IsCommand name → entered_fault app (Some (name, words)) ≡ [] → IsWhole (entered app (Some (name, words)))
+command_whole name words (inl is) = subst (λ n. entered_fault app (Some (n, words)) ≡ [] → IsWhole (entered app (Some (n, words)))) (sym is) (run_whole words)
+command_whole name words (inr is) = subst (λ n. entered_fault app (Some (n, words)) ≡ [] → IsWhole (entered app (Some (n, words)))) (sym is) (list_whole words)
+
+stopped : (stop : Option (Text × List Text)) → IfSome stop (λ p. IsCommand p.0) → entered_fault app stop ≡ [] → is_some (entered app stop) ≡ true
+    → IsWhole (entered app stop)
+stopped None is e some = cc
+stopped (Some p) is e some = command_whole p.0 p.1 is e
+
+pub whole : (words : List Text) → is_taken words ≡ true → IsWhole (subcommand_of hubris_app words)
+whole words taken =
+    let rest = argument_words hubris_app words in
+    let stop = (walk app.top.rules (names_of app) nothing_held rest).stopped in
+    let has = is_some (entered app stop) in
+    let below = entered_fault app stop in
+    let passed : level_fault app.top (names_of app) nothing_held rest has below ≡ [] = none_left _ taken in
+    stopped stop (stops app.top (names_of app) IsCommand top_sure own rest has below passed)
+    (below_passes app.top (names_of app) IsCommand top_sure own rest has below passed)
+    (wants app.top (names_of app) IsCommand top_sure own rest has below passed refl)

@@ -1,0 +1,119 @@
+-- The command line: what `clap` is told, which words it then takes, and what they ask for.
+-- docs/FORMATS.md, Command line. How a definition reads words is the crate `clap`'s own: its
+-- specs/Simple.antt (what building adds), specs/Walk.antt (the walk over the words) and
+-- specs/Faults.antt (what is refused).
+use Rattle.std.specs.Prelude.{ℕ, Bool, pos, true, false, List, [], ◌∷◌, Option, Some, codes, unwrap_or, option_map, option_and_then, find, map}
+use Rattle.std.specs.Str.{bytes_eq}
+use Rattle.std.specs.Str.Parse.{digits_value, without_leading_plus}
+use Rattle.clap.specs.Walk.{Row, Rule, Text, first_of, one_of}
+use Rattle.clap.specs.Simple.{App, Shape, new_rule, new_shape, subcommand_of}
+use Rattle.clap.specs.Faults.{fault_of}
+use Rattle.clap.specs.Kinds.{Kinds}
+use Rattle.clap.specs.declared.builder.action.ArgAction.TheVariants.{SetTrue}
+use Rattle.clap.specs.declared.builder.value_parser.ValueParser.{ValueParser}
+use Rattle.clap.specs.declared.builder.value_parser.ValueParser.TheVariants as parser
+
+-- ---- what clap is told
+
+-- the most turns that a run may be asked for
+abbrev pub most_steps : ℕ
+most_steps = 1000000000
+
+abbrev pub steps_parser : ValueParser
+steps_parser = parser.Signed (pos 0) (pos most_steps)
+
+-- a word that must be there (`Arg::new(name).required(true)`)
+abbrev pub positional_rule : Text → Rule
+positional_rule name = record (new_rule name) { required = true }
+
+-- `--steps N`, which must be there too
+abbrev pub steps_rule : Rule
+steps_rule = record (new_rule (codes "steps")) {
+  long = Some (codes "steps");
+  required = true;
+  parser = Some steps_parser;
+}
+
+-- `--NAME`, without a value
+abbrev pub flag_rule : Text → Rule
+flag_rule name = record (new_rule name) { long = Some name; action = Some SetTrue }
+
+-- ---- what clap finds
+
+-- What it found for an id. The defaults never show in words that are taken (specs/Required.antt).
+abbrev pub text_in : Text → List Row → Text
+text_in id rows = unwrap_or (first_of id rows) []
+
+abbrev pub is_set : Text → List Row → Bool
+is_set id rows = bytes_eq (text_in id rows) (codes "true")
+
+abbrev pub number_of : Text → ℕ
+number_of text = digits_value 10 (without_leading_plus text)
+
+abbrev pub number_in : Text → List Row → ℕ
+number_in id rows = number_of (unwrap_or (one_of id rows) [])
+
+-- ---- the commands
+
+-- what the program may be asked for: a run of an image with a script, for so many turns at most, and
+-- whether the memory is to be written; a list of an image
+pub data Asked : Type 0 where
+  run : Text → Text → ℕ → Bool → Asked
+  list : Text → Asked
+
+-- the form of a command: its name, its arguments, and what they ask for
+pub record Form : Type 0 where
+  pub name : Text
+  pub rules : List Rule
+  pub asks : List Row → Asked
+
+-- `run IMAGE SCRIPT --steps N [--mem]`
+abbrev pub run_form : Form
+run_form = record {
+  name = codes "run";
+  rules = positional_rule (codes "image") ∷ positional_rule (codes "script") ∷ steps_rule ∷ flag_rule (codes "mem") ∷ [];
+  asks = λ rows. run (text_in (codes "image") rows) (text_in (codes "script") rows) (number_in (codes "steps") rows) (is_set (codes "mem") rows);
+}
+
+-- `list IMAGE`
+abbrev pub list_form : Form
+list_form = record {
+  name = codes "list";
+  rules = positional_rule (codes "image") ∷ [];
+  asks = λ rows. list (text_in (codes "image") rows);
+}
+
+abbrev pub forms : List Form
+forms = run_form ∷ list_form ∷ []
+
+-- ---- the program
+
+abbrev pub shape_of_form : Form → Shape
+shape_of_form form = record (new_shape form.name) { rules = form.rules }
+
+-- a command by itself, as clap's value
+abbrev pub app_of_form : Form → App
+app_of_form form = record { top = shape_of_form form; subs = [] }
+
+-- `hubris`, of which one command is wanted
+abbrev pub hubris_app : App
+hubris_app = record {
+  top = record (new_shape (codes "hubris")) { is_leaf = false; subcommand_required = true };
+  subs = map shape_of_form forms;
+}
+
+abbrev pub has_none : Kinds → Bool
+has_none [] = true
+has_none (kind ∷ more) = false
+
+-- no step of clap's reading of the definition refuses the words; the first is the program's name
+abbrev pub is_taken : List Text → Bool
+is_taken words = has_none (fault_of hubris_app words)
+
+-- what the command of this name asks for
+abbrev pub asked_by : Text → List Row → Option Asked
+asked_by name rows = option_map (λ form. form.asks rows) (find (λ form. bytes_eq form.name name) forms)
+
+-- what the words ask for, where they are taken
+abbrev pub job_of : List Text → Option Asked
+job_of words = option_and_then (λ p. asked_by p.0 p.1) (subcommand_of hubris_app words)

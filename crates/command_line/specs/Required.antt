@@ -1,0 +1,37 @@
+-- What words that are taken hold: a command, and each value that it asks for.
+use Rattle.std.specs.Prelude.{◌≡◌, ◌⊎◌, Bool, true, false, List, Option, Some, None, codes, is_some}
+use Rattle.clap.specs.Walk.{Row, Text, first_of, one_of}
+use Rattle.clap.specs.ValueTests.{accepts}
+use Rattle.clap.specs.declared.builder.value_parser.ValueParser.TheVariants as parser
+use Rattle.command_line.specs.CommandLine.{most_steps}
+
+-- the words gave a text for the id
+abbrev pub HasText : Text → List Row → Type 0
+HasText id rows = is_some (first_of id rows) ≡ true
+
+-- a number of 0 to 1,000,000,000 by clap's parser, which reads a `-0` as `0`
+abbrev pub is_steps : Text → Bool
+is_steps text = accepts false (parser.Unsigned 0 most_steps) text
+
+abbrev pub IsSteps : Option Text → Type 0
+IsSteps None = ⊥
+IsSteps (Some text) = is_steps text ≡ true
+
+-- `true` or `false`, which clap finds for an option without a value
+abbrev pub IsSwitch : Option Text → Type 0
+IsSwitch None = ⊥
+IsSwitch (Some text) = accepts false parser.Bool text ≡ true
+
+pub record IsWholeRun (rows : List Row) : Type 0 where
+  pub image : HasText (codes "image") rows
+  pub script : HasText (codes "script") rows
+  pub steps : IsSteps (one_of (codes "steps") rows)
+  pub mem : IsSwitch (first_of (codes "mem") rows)
+
+pub record IsWholeList (rows : List Row) : Type 0 where
+  pub image : HasText (codes "image") rows
+
+-- a command of the program, with all that it wants
+abbrev pub IsWhole : Option (Text × List Row) → Type 0
+IsWhole None = ⊥
+IsWhole (Some p) = ((p.0 ≡ codes "run") × IsWholeRun p.1) ⊎ ((p.0 ≡ codes "list") × IsWholeList p.1)

@@ -1,0 +1,82 @@
+//! What the matches of a command ask for.
+ghost use Rattle.std.specs.Prelude.{◌≡◌, ◌≤◌, Some, codes};
+ghost use Rattle.clap.specs.Words.{rows_of, found_of, one_of};
+ghost use Rattle.command_line.specs.CommandLine.{asked_by, run_form, list_form, text_in, is_set, number_in, most_steps};
+ghost use Rattle.command_line.specs.Required.{IsSteps, IsWhole};
+ghost use Rattle.command_line.specs.Asking.{asked, steps_of};
+
+use clap::ArgMatches;
+
+/// What the program is asked to do; names are those of files, `steps` is at most 1,000,000,000.
+#[derive(Clone, Copy, Drop)]
+pub enum Job<'a> {
+    /// Run IMAGE with SCRIPT for at most `steps` turns; with `mem`, write the memory after it.
+    Run {
+        image: &'a str,
+        script: &'a str,
+        steps: u32,
+        mem: bool,
+    },
+    /// List what IMAGE says.
+    List {
+        image: &'a str,
+    },
+}
+
+fn text_of<'a>(matches: &ArgMatches<'a>, id: &str) -> &'a str
+    ensures { result.now ≡ text_in id.now (rows_of (found_of matches.now)) }
+{
+    match matches.get_str(id) {
+        Some(text) => text,
+        None => "",
+    }
+}
+
+fn flag_of(matches: &ArgMatches<'_>, id: &str) -> bool
+    ensures { result ≡ is_set id.now (rows_of (found_of matches.now)) }
+{
+    text_of(matches, id) == "true"
+}
+
+fn number_of(matches: &ArgMatches<'_>, id: &str) -> u32
+    ensures number { IsSteps (one_of id.now (rows_of (found_of matches.now))) → result ≡ number_in id.now (rows_of (found_of matches.now)) }
+    ensures few { IsSteps (one_of id.now (rows_of (found_of matches.now))) → result ≤ most_steps }
+{
+    match matches.get_one::<u32>(id) {
+        Some(number) => number,
+        None => 0,
+    }
+}
+
+fn run_by<'a>(matches: &ArgMatches<'a>) -> Job<'a>
+    ensures job { IsSteps (one_of (codes "steps") (rows_of (found_of matches.now))) → asked result ≡ run_form.asks (rows_of (found_of matches.now)) }
+    ensures few { IsSteps (one_of (codes "steps") (rows_of (found_of matches.now))) → steps_of result ≤ most_steps }
+{
+    Job::Run {
+        image: text_of(matches, "image"),
+        script: text_of(matches, "script"),
+        steps: number_of(matches, "steps"),
+        mem: flag_of(matches, "mem"),
+    }
+}
+
+fn list_by<'a>(matches: &ArgMatches<'a>) -> Job<'a>
+    ensures job { asked result ≡ list_form.asks (rows_of (found_of matches.now)) }
+    ensures few { steps_of result ≡ 0 }
+{
+    Job::List {
+        image: text_of(matches, "image"),
+    }
+}
+
+/// The job that a command's name and matches ask for.
+pub fn job_by<'a>(name: &str, matches: &ArgMatches<'a>) -> Job<'a>
+    ensures job { IsWhole (Some (name.now, rows_of (found_of matches.now))) → asked_by name.now (rows_of (found_of matches.now)) ≡ Some (asked result) }
+    ensures few { IsWhole (Some (name.now, rows_of (found_of matches.now))) → steps_of result ≤ most_steps }
+{
+    if name == "run" {
+        run_by(matches)
+    } else {
+        list_by(matches)
+    }
+}

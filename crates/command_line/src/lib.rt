@@ -1,0 +1,13 @@
+//! The command line of the program, by `clap`.
+#![tactic(auto)]
+
+mod definition;
+mod job;
+mod laws;
+mod reading;
+#[cfg(test)]
+mod tests;
+
+pub use job::Job;
+pub use laws::every_taken_command_is_whole;
+pub use reading::{Refusal, read_words};
