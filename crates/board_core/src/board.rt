@@ -232,7 +232,7 @@ impl Board {
     pub fn regions(&self, i: usize) -> &[Region]
         ensures { (x : Scenario) (s : State) → Stands x self.now s → result.now ≡ (setup_at x.setup i).regions }
     {
-        self.machine.kernel.regions(i)
+        self.machine.reach.kernel.regions(i)
     }
 
     /// Region k of a task.
