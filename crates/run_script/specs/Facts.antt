@@ -1,0 +1,22 @@
+-- What is known of each script that is read.
+use Rattle.std.specs.Prelude.{ℕ, ◌≡◌, ◌≤◌, ◌<◌, Some, length}
+use Rattle.std.specs.List.{All, count_by}
+use Rattle.std.specs.List.Sorted.{IsNonDecreasingBy}
+use Rattle.run_script.specs.declared.events.Event.TheVariants.{Irq}
+use Rattle.run_script.specs.Scripts.{Listed, ScriptData, is_of}
+
+pub record IsPeriod (period : ℕ) : Type 0 where
+  pub some : 0 < period
+  pub most : period ≤ 1000000000
+
+pub record IsListed (listed : Listed) : Type 0 where
+  pub turn : listed.0 < 1000000000
+  pub line : (line : ℕ) → listed.1 ≡ Irq line → line < 32
+
+-- the events come by their turns, at most eight of each
+pub record Facts (script : ScriptData) : Type 0 where
+  pub every : (period : ℕ) → script.every ≡ Some period → IsPeriod period
+  pub most : length script.events ≤ 65536
+  pub ascending : IsNonDecreasingBy (λ (listed : Listed). listed.0) script.events
+  pub most_each : (turn : ℕ) → count_by (is_of turn) script.events ≤ 8
+  pub listed : All IsListed script.events
