@@ -1,7 +1,6 @@
 -- What is known of a script that is read.
-use Rattle.std.proofs.Common.{◌≡◌, ℕ, suc, zero, ◌+◌, ◌≤◌, ◌<◌, List, [], ◌∷◌, ◌++◌, length, get_or, refl, ap, ◌∙◌, sym, arith, subst, Bool, true, false, nat_eq, nat_le, nat_lt, ◌||◌, ◌==◌, if◌then◌else◌, Result, Ok, Err, Option, Some, None, codes, bytes_eq, length-append, is_some}
-use Rattle.std.specs.List.{All, count_by, list_all, sum_by}
-use Rattle.std.specs.List.Sorted.{IsNonDecreasingBy}
+use Rattle.std.proofs.Common.{◌≡◌, ℕ, suc, zero, ◌+◌, ◌≤◌, ◌<◌, List, [], ◌∷◌, ◌++◌, length, get_or, refl, ◌∙◌, sym, arith, subst, Bool, true, false, nat_le, nat_lt, ◌||◌, ◌==◌, if◌then◌else◌, Result, Ok, Err, Option, Some, None, codes, bytes_eq, length-append, is_some}
+use Rattle.std.specs.List.{count_by, list_all}
 use Rattle.std.proofs.lemmas.List.Elements.{All-push}
 use Rattle.std.proofs.lemmas.List.Sorted.{IsNonDecreasingBy-push}
 use Rattle.std.proofs.lemmas.List.Sums.{sum_by-append}
@@ -12,7 +11,7 @@ use Rattle.run_script.specs.declared.statement.Statement.TheVariants.{Nothing, E
 use Rattle.run_script.specs.Facts.{Facts, IsListed, IsPeriod}
 use Rattle.run_script.specs.Words.{is_allowed, words}
 use Rattle.run_script.specs.Statements.{at_said, every_said, irq_said, line_in, period_in, period_said, starts_by_hash, statement_of, tick_said, turn_in, words_said}
-use Rattle.run_script.specs.Scripts.{Listed, ScriptData, Refusal, go_on, has_later, is_full, is_of, no_script, with_event, with_lines, with_period, with_statement}
+use Rattle.run_script.specs.Scripts.{Listed, ScriptData, Refusal, go_on, has_later, is_full, is_of, no_script, with_lines, with_statement}
 use Rattle.run_script.proofs.Numbers.{number_within_bounds}
 use Rattle.run_script.proofs.Walk.{no_line, one_line}
 

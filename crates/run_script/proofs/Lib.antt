@@ -4,3 +4,4 @@ pub mod Tracking
 pub mod Walk
 pub mod Picks
 pub mod Known
+pub mod Each

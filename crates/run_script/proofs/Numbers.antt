@@ -1,5 +1,5 @@
 -- Numbers and their bounds.
-use Rattle.std.proofs.Common.{◌≡◌, ℕ, ◌≤◌, ◌<◌, List, length, Option, Some, None, arith, Bool, true, false, nat_le, nat_lt, ◌&&◌, if◌then◌else◌, IfSome, refl, ap, ◌∙◌, sym}
+use Rattle.std.proofs.Common.{◌≡◌, ℕ, ◌≤◌, List, length, Option, Some, None, arith, Bool, true, false, nat_le, nat_lt, ◌&&◌, if◌then◌else◌, refl}
 use Rattle.std.specs.List.{list_all}
 use Rattle.text_lines.specs.Text.{number_of, is_digit, value_in}
 use Rattle.run_script.specs.Statements.{at_least, number_within}

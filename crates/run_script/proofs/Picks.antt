@@ -1,17 +1,13 @@
 -- The events of a turn.
-use Rattle.std.proofs.Common.{◌≡◌, ℕ, suc, zero, ◌+◌, ◌-◌, ◌≤◌, ◌<◌, List, [], ◌∷◌, ◌++◌, length, get_or, take, drop, map, filter, slice_get, Option, Some, None, refl, ap, ◌∙◌, sym, arith, subst, Bool, true, false, nat_lt, nat_le, ◌==◌, ◌||◌, if◌then◌else◌}
+use Rattle.std.proofs.Common.{◌≡◌, ℕ, suc, zero, ◌+◌, ◌≤◌, ◌<◌, List, [], ◌∷◌, length, get_or, slice_get, Option, Some, None, refl, ap, ◌∙◌, sym, arith, Bool, true, false, nat_lt, nat_le, ◌==◌, ◌||◌, if◌then◌else◌}
 use Rattle.std.specs.List.{list_any}
 use Rattle.std.specs.List.Sorted.{IsNonDecreasingBy}
 use Rattle.run_script.specs.declared.events.Event.{Event}
 use Rattle.run_script.specs.declared.events.Event.TheVariants.{Tick}
-use Rattle.run_script.specs.Scripts.{Listed, is_of}
+use Rattle.run_script.specs.Scripts.{Listed, is_of, listed_of}
 
 abbrev pub turn_at : List Listed → ℕ → ℕ
 turn_at events i = (get_or events i (0, Tick)).0
-
--- the listed events of a turn
-abbrev pub listed_of : ℕ → List Listed → List Event
-listed_of turn events = map (λ listed. listed.1) (filter (is_of turn) events)
 
 abbrev pub pick : ℕ → Option Listed → Option Event
 pick turn None = None
@@ -61,8 +57,8 @@ from_turn [] k turn sorted h = refl
 from_turn (l ∷ ls) k turn sorted h = by_test (is_of turn l)
     (λ holds. from_own l ls k turn holds (λ j. from_turn ls j turn (λ i m d a b. sorted (suc i) (suc m) d (omega arith) (omega arith)) (λ i lt. h (suc i) (omega arith))))
     (λ fails. let above : turn < l.0 = is_above l turn (h 0 (omega arith)) fails in
-        let rest : (i : ℕ) → i < length (l ∷ ls) → turn < turn_at (l ∷ ls) i = λ i lt. omega (arith, above, sorted 0 i (0, Tick) (omega arith) lt) in
-        ap (λ (es : List Event). slice_get es k) (none_after (l ∷ ls) turn rest) ∙ sym (no_pick (l ∷ ls) k turn rest))
+    let rest : (i : ℕ) → i < length (l ∷ ls) → turn < turn_at (l ∷ ls) i = λ i lt. omega (arith, above, sorted 0 i (0, Tick) (omega arith) lt) in
+    ap (λ (es : List Event). slice_get es k) (none_after (l ∷ ls) turn rest) ∙ sym (no_pick (l ∷ ls) k turn rest))
 
 -- events before the turn count for nothing
 pick_at : (events : List Listed) (first k i turn : ℕ) → i ≡ first + k → first ≤ length events → IsNonDecreasingBy (λ (l : Listed). l.0) events → ((j : ℕ) → j < first → turn_at events j < turn) → ((j : ℕ) → first ≤ j → j < length events → turn ≤ turn_at events j) → slice_get (listed_of turn events) k ≡ pick turn (slice_get events i)
@@ -130,12 +126,6 @@ searched_other events xs turn first k d e s lt h =
 pub searched_past : (events xs : List Listed) (turn first k : ℕ) → xs ≡ events → IsFirst events turn first → length xs ≤ first + k → None ≡ slice_get (listed_of turn events) k
 searched_past events xs turn first k e s h =
     sym (searched events turn first k s ∙ ap (λ (es : List Listed). pick turn (slice_get es (first + k))) (sym e) ∙ past_picks xs (first + k) turn h)
-
--- ---- the tick before the listed events
-
-pub after_tick : (events : List Event) (k : ℕ) → (k ≡ 0 → ⊥) → slice_get (Tick ∷ events) k ≡ slice_get events (k - 1)
-after_tick events zero h = absurd (h refl)
-after_tick events (suc k) h = ap (slice_get events) (omega arith)
 
 -- ---- the last event
 

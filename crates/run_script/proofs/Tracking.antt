@@ -1,6 +1,5 @@
 -- A script that is being read: the turn of its last event, and how many events are of that turn.
-use Rattle.std.proofs.Common.{◌≡◌, ℕ, suc, zero, ◌+◌, ◌≤◌, ◌<◌, List, [], ◌∷◌, ◌++◌, length, refl, ap, ◌∙◌, sym, arith, Bool, true, false, nat_eq, nat_le, nat_lt, ◌||◌, ◌==◌, if◌then◌else◌, Result, Ok, Err}
-use Rattle.std.specs.List.{count_by, sum_by, list_any}
+use Rattle.std.proofs.Common.{◌≡◌, ℕ, ◌+◌, ◌≤◌, ◌<◌, List, [], ◌∷◌, ◌++◌, length, refl, ap, ◌∙◌, sym, arith, Bool, true, false, nat_le, nat_lt, ◌||◌, ◌==◌, if◌then◌else◌, Ok, Err}
 use Rattle.std.proofs.lemmas.List.Folds.{list_any-append}
 use Rattle.std.proofs.lemmas.List.Sums.{sum_by-append}
 use Rattle.run_script.specs.declared.events.Event.{Event}
@@ -40,18 +39,11 @@ no_later turn last h = grind arith
 has_room : (size n : ℕ) → size < 65536 → n < 8 → (nat_le 65536 size || nat_le 8 n) ≡ false
 has_room size n h k = grind arith
 
-is_filled : (size n : ℕ) → (size < 65536 → n < 8 → ⊥) → (nat_le 65536 size || nat_le 8 n) ≡ true
-is_filled size n h = grind arith
-
 full_by : (events : List Listed) (last here turn n : ℕ) → last ≤ turn → n ≡ (if turn == last then here else 0) → Tracks events last here → is_full events turn ≡ (nat_le 65536 (length events) || nat_le 8 n)
 full_by events last here turn n h e t = ap (λ m. nat_le 65536 (length events) || nat_le 8 m) (t.of_turn turn h ∙ sym e)
 
 refused_here : (script : ScriptData) (turn : ℕ) (event : Event) (b d : Bool) → has_later script.events turn ≡ b → is_full script.events turn ≡ d → with_event script turn event ≡ (if b then Err 4 else if d then Err 5 else Ok (record { every = script.every; events = script.events ++ (turn, event) ∷ [] }))
 refused_here script turn event b d h k = rw (h, k) refl
-
-pub is_full_then : (script : ScriptData) (last here turn n : ℕ) (event : Event) → last ≤ turn → n ≡ (if turn == last then here else 0) → (length script.events < 65536 → n < 8 → ⊥) → Tracks script.events last here → with_event script turn event ≡ Err 5
-is_full_then script last here turn n event h e full t =
-    refused_here script turn event false true (t.later turn ∙ no_later turn last h) (full_by script.events last here turn n h e t ∙ is_filled (length script.events) n full)
 
 pub added : (script : ScriptData) (more : List Listed) (last here turn n : ℕ) (event : Event) → last ≤ turn → n ≡ (if turn == last then here else 0) → length script.events < 65536 → n < 8 → more ≡ script.events ++ (turn, event) ∷ [] → Tracks script.events last here → with_event script turn event ≡ Ok (record { every = script.every; events = more })
 added script more last here turn n event h e size few m t =

@@ -1,6 +1,5 @@
 -- Line by line.
-use Rattle.std.proofs.Common.{◌≡◌, ℕ, suc, zero, ◌+◌, ◌≤◌, ◌<◌, List, [], ◌∷◌, ◌++◌, length, refl, ap, ◌∙◌, sym, arith, Result, Ok, Err, Option, Some, None, OnOk, IfErr, IfSome}
-use Rattle.run_script.specs.declared.statement.Statement.{Statement}
+use Rattle.std.proofs.Common.{◌≡◌, ℕ, ◌+◌, List, [], ◌∷◌, refl, ap, ◌∙◌, sym, Result, Ok, Err, IfSome}
 use Rattle.run_script.specs.declared.events.ScriptFault.{ScriptFault}
 use Rattle.run_script.specs.declared.events.ScriptFault.TheVariants as fault
 use Rattle.run_script.specs.Drafts.{Stops}

@@ -1,15 +1,14 @@
 -- The words of a line, from the left.
-use Rattle.std.proofs.Common.{◌≡◌, ℕ, suc, zero, ◌+◌, ◌-◌, ◌<◌, ◌≤◌, List, [], ◌∷◌, length, get_or, take, drop, refl, ap, ◌∙◌, sym, arith, Bool, true, false, add-one}
-use Rattle.std.proofs.Math.Seq.{drop-cons, take-length}
-use Rattle.std.proofs.lemmas.List.{length-drop}
+use Rattle.std.proofs.Common.{◌≡◌, ℕ, suc, zero, ◌+◌, ◌<◌, ◌≤◌, List, [], ◌∷◌, ◌++◌, length, get_or, take, drop, refl, ap, ◌∙◌, sym, arith, Bool, true, false, add-one}
+use Rattle.std.proofs.Math.Seq.{drop-cons}
 use Rattle.text_lines.specs.Text.{with_first}
-use Rattle.run_script.specs.Words.{is_blank, ends_word, words, word_then}
+use Rattle.run_script.specs.Words.{HasNoBlank, is_blank, ends_word, words, word_then}
 
 pub words_nil : words [] ≡ []
 unfolding words
 words_nil = refl
 
-blank_first : (c : ℕ) (cs : List ℕ) → is_blank c ≡ true → words (c ∷ cs) ≡ words cs
+pub blank_first : (c : ℕ) (cs : List ℕ) → is_blank c ≡ true → words (c ∷ cs) ≡ words cs
 unfolding words
 blank_first c cs h = rw h refl
 
@@ -26,15 +25,6 @@ cell s i lt = drop-cons s i 0 lt ∙ ap (λ n. get_or s i 0 ∷ drop n s) (sym (
 
 pub skips : (s : List ℕ) (i : ℕ) → i < length s → is_blank (get_or s i 0) ≡ true → words (drop i s) ≡ words (drop (i + 1) s)
 skips s i lt h = ap words (cell s i lt) ∙ blank_first (get_or s i 0) (drop (i + 1) s) h
-
-pub take_all : (s : List ℕ) (i : ℕ) → take (length s - i) (drop i s) ≡ drop i s
-take_all s i = ap (λ n. take n (drop i s)) (sym (length-drop i s)) ∙ take-length (drop i s)
-
-pub drop_all : (s : List ℕ) (k : ℕ) → length s ≤ k → drop k s ≡ []
-drop_all [] zero h = refl
-drop_all [] (suc k) h = refl
-drop_all (c ∷ cs) zero h = absurd (omega arith)
-drop_all (c ∷ cs) (suc k) h = drop_all cs k (omega arith)
 
 -- a word of k + 1 bytes
 word_of : (c : ℕ) (cs : List ℕ) (k : ℕ) → is_blank c ≡ false → k ≤ length cs → ((j : ℕ) → j < k → is_blank (get_or cs j 0) ≡ false) → (k < length cs → is_blank (get_or cs k 0) ≡ true) → words (c ∷ cs) ≡ (c ∷ take k cs) ∷ words (drop k cs)
@@ -60,3 +50,12 @@ cuts_none [] zero start found e = words_nil
 cuts_none [] (suc k) start found e = words_nil
 cuts_none (c ∷ cs) zero start found e = apart (is_blank c) (found (omega arith)) (start (omega arith))
 cuts_none (c ∷ cs) (suc k) start found e = absurd (cc)
+
+-- ---- a word and what stands behind it
+
+pub word_and : (word behind : List ℕ) → 0 < length word → HasNoBlank word → ends_word behind ≡ true → words (word ++ behind) ≡ word ∷ words behind
+word_and [] behind lt free h = absurd (omega arith)
+word_and (c ∷ []) behind lt free h = word_last c behind (free 0 lt) h
+word_and (c ∷ d ∷ ds) behind lt free h =
+    word_goes_on c (d ∷ (ds ++ behind)) (free 0 lt) (free 1 (omega arith))
+    ∙ ap (with_first c) (word_and (d ∷ ds) behind (omega arith) (λ k m. free (suc k) (omega arith)) h)

@@ -1,5 +1,5 @@
 -- What the code's script and fault stand for.
-use Rattle.std.specs.Prelude.{ℕ, ◌≡◌, Option, Some, None, Result, Err}
+use Rattle.std.specs.Prelude.{Option, Some, None}
 use Rattle.run_script.specs.declared.events.ScriptFault.{ScriptFault}
 use Rattle.run_script.specs.declared.events.ScriptFault.TheVariants as fault
 use Rattle.run_script.specs.declared.script.Script.{Script}

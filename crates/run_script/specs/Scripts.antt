@@ -29,10 +29,13 @@ abbrev pub ticks_of : Option ℕ → ℕ → List Event
 ticks_of None turn = []
 ticks_of (Some period) turn = if nat_lt 0 turn && (turn % period == 0) then Tick ∷ [] else []
 
--- what happens in a turn: the tick, then the listed events of this turn
+-- what is listed of a turn, in the order of the script
+abbrev pub listed_of : ℕ → List Listed → List Event
+listed_of turn events = map (λ listed. listed.1) (filter (is_of turn) events)
+
+-- what happens in a turn
 abbrev pub events_of : ScriptData → ℕ → List Event
-events_of script turn =
-    ticks_of script.every turn ++ map (λ listed. listed.1) (filter (is_of turn) script.events)
+events_of script turn = ticks_of script.every turn ++ listed_of turn script.events
 
 -- something happens in a turn from this one on
 abbrev pub lasts : ScriptData → ℕ → Bool

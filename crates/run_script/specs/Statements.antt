@@ -1,8 +1,7 @@
 -- What a line of a script says. docs/FORMATS.md, Script, has the forms and the causes.
-use Rattle.std.specs.Prelude.{ℕ, Bool, true, false, nat_eq, nat_le, if◌then◌else◌, List, [], ◌∷◌, length, Option, Some, None, codes, bytes_eq}
+use Rattle.std.specs.Prelude.{ℕ, Bool, false, nat_eq, nat_le, if◌then◌else◌, List, [], ◌∷◌, length, Option, Some, None, codes, bytes_eq}
 use Rattle.std.specs.List.{list_all}
 use Rattle.text_lines.specs.Text.{number_of}
-use Rattle.run_script.specs.declared.events.Event.{Event}
 use Rattle.run_script.specs.declared.events.Event.TheVariants.{Tick, Irq}
 use Rattle.run_script.specs.declared.statement.Statement.{Statement}
 use Rattle.run_script.specs.declared.statement.Statement.TheVariants.{Nothing, Every, At, Refused}

@@ -14,3 +14,4 @@ mod words;
 
 pub use events::{Event, ScriptFault};
 pub use script::Script;
+pub use words::words_end_at_blanks;

@@ -1,11 +1,11 @@
 //! The events of a script, turn by turn.
 
-ghost use Rattle.std.specs.Prelude.{◌≡◌, ◌≤◌, ◌+◌, ◌<◌, ◌==◌, ◌&&◌, length, nat_lt, nat_le, slice_get, map, filter, ℕ, slice_index_or, ◌∷◌, [], true, false, if◌then◌else◌};
+ghost use Rattle.std.specs.Prelude.{◌≡◌, ◌≤◌, ◌+◌, ◌<◌, ◌==◌, ◌&&◌, length, nat_lt, nat_le, IfSome, OnSome, slice_get, ℕ, slice_index_or, ◌∷◌, [], true, false, if◌then◌else◌};
 ghost use Rattle.std.specs.List.{list_any};
 ghost use Rattle.std.specs.List.Sorted.{IsNonDecreasingBy};
 ghost use Rattle.run_script.specs.Events.{script_data};
-ghost use Rattle.run_script.specs.Facts.{Facts};
-ghost use Rattle.run_script.specs.Scripts.{Listed, events_of, is_of, lasts, ticks_of};
+ghost use Rattle.run_script.specs.Facts.{Facts, HasLine, IsTurn};
+ghost use Rattle.run_script.specs.Scripts.{Listed, events_of, lasts, listed_of, ticks_of};
 
 use crate::events::Event;
 use crate::script::Script;
@@ -18,12 +18,15 @@ fn first_of(script: &Script, turn: u32) -> usize
     ensures from { (k : ℕ) (d : Listed) → result ≤ k → k < length (script_data script.now).events
         → nat_lt (slice_index_or (script_data script.now).events k d).0 turn ≡ false }
 {
-    script.events.as_slice().partition_point(|listed| listed.0 < turn)
+    script
+        .events
+        .as_slice()
+        .partition_point(|listed| listed.0 < turn)
 }
 
 /// The k-th listed event of a turn.
 fn listed_at(script: &Script, turn: u32, k: u32) -> Option<Event>
-    ensures { result ≡ slice_get (map (λ listed. listed.1) (filter (is_of turn) (script_data script.now).events)) k }
+    ensures { result ≡ slice_get (listed_of turn (script_data script.now).events) k }
 {
     let at = first_of(script, turn) + k as usize;
     let events = script.events.as_slice();
@@ -44,6 +47,21 @@ fn has_tick(script: &Script, turn: u32) -> bool
     }
 }
 
+/// The k-th event of a turn.
+fn event_of(script: &Script, turn: u32, k: u32) -> Option<Event>
+    ensures { result ≡ slice_get (events_of (script_data script.now) turn) k }
+{
+    if has_tick(script, turn) {
+        if k == 0 {
+            Some(Event::Tick)
+        } else {
+            listed_at(script, turn, k - 1)
+        }
+    } else {
+        listed_at(script, turn, k)
+    }
+}
+
 /// Whether the last event is of turn `from` or later.
 fn lists_from(events: &[(u32, Event)], from: u32) -> bool
     requires { IsNonDecreasingBy (λ (listed : Listed). listed.0) events.now }
@@ -54,25 +72,20 @@ fn lists_from(events: &[(u32, Event)], from: u32) -> bool
 }
 
 impl Script {
-    /// What is known of each script.
+    /// What is known of each script, and of each turn.
     pub fn facts(&self)
-        ensures { Facts (script_data self.now) }
+        ensures script { Facts (script_data self.now) }
+        ensures turn { (turn : ℕ) → IsTurn (events_of (script_data self.now) turn) }
     {}
 
     /// The k-th event of a turn, from 0: the tick where there is one, then the listed events in order;
     /// `None` past the last.
     pub fn event_at(&self, turn: u32, k: u32) -> Option<Event>
         ensures event { result ≡ slice_get (events_of (script_data self.now) turn) k }
+        ensures few { OnSome result (k < 9) }
+        ensures line { IfSome result HasLine }
     {
-        if has_tick(self, turn) {
-            if k == 0 {
-                Some(Event::Tick)
-            } else {
-                listed_at(self, turn, k - 1)
-            }
-        } else {
-            listed_at(self, turn, k)
-        }
+        event_of(self, turn, k)
     }
 
     /// Whether anything happens in turn `from` or later: a listed event, or an `every`.

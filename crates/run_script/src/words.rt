@@ -2,7 +2,14 @@
 
 ghost use Rattle.std.specs.Prelude.{◌≡◌, ◌<◌, ◌≤◌, ℕ, false, true, length, slice_index, bytes_eq, []};
 ghost use Rattle.std.specs.List.{list_all};
-ghost use Rattle.run_script.specs.Words.{is_allowed, is_blank, word_then, words};
+ghost use Rattle.run_script.specs.Words.{BlanksAreSkipped, NothingHasNoWord, WordsEndAtBlanks, is_allowed, is_blank, word_then, words};
+
+/// The words of a line are its pieces between spaces and tabs.
+pub fn words_end_at_blanks()
+    ensures skipped { BlanksAreSkipped }
+    ensures word { WordsEndAtBlanks }
+    ensures none { NothingHasNoWord }
+{}
 
 fn is_blank(c: u8) -> bool
     ensures { result ≡ is_blank c }

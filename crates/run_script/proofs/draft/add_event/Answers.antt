@@ -1,4 +1,4 @@
-use Rattle.std.proofs.Common.{◌≡◌, ◌<◌, ℕ, arith, if◌then◌else◌, ◌==◌, length}
+use Rattle.std.proofs.Common.{◌≡◌, arith, if◌then◌else◌, ◌==◌}
 use Rattle.run_script.specs.Drafts.{drafted}
 use Rattle.run_script.proofs.Tracking.{added, tracks_more}
 use Rattle.run_script.proofs.draft.add_event.Goals as goal

@@ -2,7 +2,6 @@ use Rattle.std.proofs.Common.{◌≡◌, ◌+◌, ◌∙◌, ap, sym, arith, len
 use Rattle.text_lines.specs.Text.{lines_of}
 use Rattle.run_script.specs.declared.statement.Statement.{Statement}
 use Rattle.run_script.specs.Drafts.{Stops, drafted}
-use Rattle.run_script.specs.Events.{told}
 use Rattle.run_script.specs.Scripts.{ScriptData, script_or_fault, with_lines, with_statement}
 use Rattle.run_script.proofs.Walk.{no_line, goes_on, stops_at}
 use Rattle.run_script.proofs.reading.draft_of.Goals as goal

@@ -1,4 +1,4 @@
-use Rattle.std.proofs.Common.{◌≡◌, ltb, arith, rules, subst, sym, List, length, get_or, true, false}
+use Rattle.std.proofs.Common.{◌≡◌, ltb, arith, rules, subst, sym, List, get_or, true, false}
 use Rattle.std.specs.List.Sorted.{IsNonDecreasingBy}
 use Rattle.std.proofs.lemmas.List.Sorted.{IsPartitionPoint-from_clause, IsPartitionedBy-ltb}
 use Rattle.run_script.specs.Scripts.{Listed}

@@ -1,4 +1,3 @@
-use Rattle.std.proofs.Common.{◌≡◌, arith}
 use Rattle.run_script.specs.declared.events.Event.TheVariants.{Tick}
 use Rattle.run_script.proofs.Picks.{IsFirst, searched_own, searched_other, searched_past}
 use Rattle.run_script.proofs.turns.listed_at.Goals as goal

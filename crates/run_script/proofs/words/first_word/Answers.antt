@@ -1,4 +1,4 @@
-use Rattle.std.proofs.Common.{◌≡◌, ◌∙◌, ap, sym, take, drop, [], List, ℕ}
+use Rattle.std.proofs.Common.{◌∙◌, ap, sym, drop, List, ℕ}
 use Rattle.run_script.specs.Words.{words, word_then}
 use Rattle.run_script.proofs.Wording.{cuts, cuts_none}
 use Rattle.run_script.proofs.words.first_word.Goals as goal

@@ -1,6 +1,5 @@
-use Rattle.std.proofs.Common.{◌≡◌, ◌+◌, ◌∙◌, ap, arith, length, sym, subst, get_or, zero, false, drop}
-use Rattle.run_script.specs.Words.{is_blank, words}
-use Rattle.run_script.proofs.Wording.{skips, take_all, drop_all}
+use Rattle.std.proofs.Common.{◌∙◌, arith, sym}
+use Rattle.run_script.proofs.Wording.{skips}
 use Rattle.run_script.proofs.words.without_blanks.Goals as goal
 
 pub loop-i-preserved : goal.loop-i-preserved
