@@ -2,3 +2,4 @@ pub mod Finding
 pub mod Known
 pub mod Opening
 pub mod Planning
+pub mod Recorded

@@ -40,7 +40,8 @@ fn named(app: &App, layout: &Layout, is_written: bool, name: &str) -> RegionReco
             rights,
         }
     } else {
-        let device = &app.devices()[device_place(name, app.devices())];
+        let devices = app.devices();
+        let device = &devices[device_place(name, devices)];
         RegionRecord {
             base: device.base,
             size: device.size,
