@@ -1,21 +1,24 @@
 -- The region or the device that a name names, and lists of regions that grow.
-use Rattle.std.proofs.Common.{◌≡◌, ◌∙◌, ℕ, zero, suc, Bool, true, false, ◌+◌, ◌≤◌, ◌<◌, ◌||◌, List, [], ◌∷◌, ◌++◌, length, get_or, map, refl, sym, ap, subst, arith, inl, inr, if◌then◌else◌}
+use Rattle.std.proofs.Common.{◌≡◌, ◌∙◌, ℕ, zero, suc, Bool, true, false, ◌+◌, ◌≤◌, ◌<◌, ◌||◌, List, [], ◌∷◌, ◌++◌, append_assoc, drop, drop-cons, length, get_or, map, Global, String, string_bytes, refl, sym, ap, subst, arith, inl, inr, if◌then◌else◌}
 use Rattle.std.specs.Str.{bytes_eq}
 use Rattle.std.proofs.lemmas.Bool.{cases_Bool}
-use Rattle.std.proofs.lemmas.List.{get_or-map}
+use Rattle.std.proofs.lemmas.List.{get_or-map, map-append}
+use Rattle.std.specs.List.{All}
 use Rattle.app_toml.specs.Accepted.{IsAccepted}
-use Rattle.app_toml.specs.Apps.{AppData, DeviceData, RegionData}
+use Rattle.app_toml.specs.Apps.{AppData, DeviceData, RegionData, TaskData}
 use Rattle.app_toml.specs.Crossed.{has_device, has_region}
 use Rattle.app_toml.specs.Places.{Text}
-use Rattle.app_toml.specs.Sites.{device_of, region_of}
+use Rattle.app_toml.specs.Sites.{device_of, region_of, task_of}
 use Rattle.app_toml.specs.declared.parts.Device.{Device}
 use Rattle.app_toml.specs.declared.parts.SharedRegion.{SharedRegion}
-use Rattle.image_format.specs.Picture.{region_record, rights_number}
+use Rattle.app_toml.specs.declared.parts.Task.{Task}
+use Rattle.image_format.specs.Picture.{all_regions, region_record, rights_number}
 use Rattle.image_format.specs.declared.records.RegionRecord.{RegionRecord}
 use Rattle.mem_plan.specs.Sizes.{rounded}
 use Rattle.region_check.specs.declared.Region.{Region}
 use Rattle.image_build.specs.Building.{IsKnown}
-use Rattle.image_build.specs.Layout.{device, device_named, index_from, index_of, index_of_region, memory, named, no_device, no_region, region_base, region_named}
+use Rattle.image_build.specs.Built.{tasks_from}
+use Rattle.image_build.specs.Layout.{device, device_named, flash_base, index_from, index_of, index_of_region, memory, named, no_device, no_region, no_task, ram_base, region_base, region_named, task_at, task_regions}
 use Rattle.image_build.proofs.Finding.{same_count}
 
 -- ---- a name among those of regions and of devices
@@ -135,3 +138,41 @@ device_is app write name xs k ds j d base size rights m at le n there known b s 
     found : device_of (get_or ds j d) ≡ device_named app name
     found = device_in app ds n j d (device_below app name xs k ds j m at le n there known)
         ∙ ap (λ (i : ℕ). get_or app.devices i no_device) (place_of_device app name ds j n there)
+
+-- ---- lists of records that grow
+
+pub named_more : (app : AppData) (write : Bool) (out more all : List RegionRecord) (names : List (String Global)) (k : ℕ) (item : String Global) (r : RegionRecord)
+    → k < length names → item ≡ get_or names k item → r ≡ region_record (named app write (string_bytes item)) → more ≡ out ++ r ∷ []
+    → out ++ map region_record (map (named app write) (map string_bytes (drop k names))) ≡ all
+    → more ++ map region_record (map (named app write) (map string_bytes (drop (k + 1) names))) ≡ all
+named_more app write out more all names k item r lt at_k at is before =
+    let here : RegionRecord = region_record (named app write (string_bytes item)) in
+    let rest : List RegionRecord = map region_record (map (named app write) (map string_bytes (drop (k + 1) names))) in
+    let next : suc k ≡ k + 1 = omega arith in
+    let split : drop k names ≡ item ∷ drop (k + 1) names =
+    drop-cons names k item lt ∙ ap (λ (x : String Global). x ∷ drop (suc k) names) (sym at_k) ∙ ap (λ (n : ℕ). item ∷ drop n names) next in
+    let first : out ++ (here ∷ rest) ≡ all =
+    subst (λ (xs : List (String Global)). out ++ map region_record (map (named app write) (map string_bytes xs)) ≡ all) split before in
+    ap (λ (rs : List RegionRecord). rs ++ rest) (is ∙ ap (λ (x : RegionRecord). out ++ x ∷ []) at) ∙ append_assoc out (here ∷ []) rest ∙ first
+
+pub known_names : (app : AppData) (names : List Text) (xs : List (String Global)) → map string_bytes xs ≡ names
+    → ((j : ℕ) → j < length names → IsKnown app (get_or names j [])) → All (λ n. IsKnown app (string_bytes n)) xs
+known_names app names xs m each k d lt =
+    let look : get_or names k [] ≡ string_bytes (get_or xs k d) =
+    ap (λ (ys : List Text). get_or ys k []) (sym m) ∙ get_or-map string_bytes xs k d [] lt in
+    subst (IsKnown app) look (each k (omega (arith, lt, same_count string_bytes xs names m)))
+
+pub regions_more : (app : AppData) (out more all : List RegionRecord) (i : ℕ) → i < length app.tasks
+    → more ≡ out ++ map region_record (task_regions app i (task_at app i))
+    → out ++ map region_record (all_regions (tasks_from app i (drop i app.tasks))) ≡ all
+    → more ++ map region_record (all_regions (tasks_from app (i + 1) (drop (i + 1) app.tasks))) ≡ all
+regions_more app out more all i lt is before =
+    let here : List Region = task_regions app i (task_at app i) in
+    let rest : List Region = all_regions (tasks_from app (i + 1) (drop (i + 1) app.tasks)) in
+    let next : suc i ≡ i + 1 = omega arith in
+    let split : drop i app.tasks ≡ task_at app i ∷ drop (i + 1) app.tasks =
+    drop-cons app.tasks i no_task lt ∙ ap (λ (n : ℕ). task_at app i ∷ drop n app.tasks) next in
+    let first : out ++ map region_record (here ++ rest) ≡ all =
+    subst (λ (ts : List TaskData). out ++ map region_record (all_regions (tasks_from app i ts)) ≡ all) split before in
+    ap (λ (rs : List RegionRecord). rs ++ map region_record rest) is ∙ append_assoc out (map region_record here) (map region_record rest)
+    ∙ ap (λ (rs : List RegionRecord). out ++ rs) (sym (map-append region_record here rest)) ∙ first

@@ -78,6 +78,7 @@ pub(crate) fn push_task_regions(
     requires laid { IsLaid (app_of app.now) layout.now }
     ensures { OnOk result (out.new.items ≡ out.old.items ++ map region_record (task_regions (app_of app.now) i (task_at (app_of app.now) i))) }
 {
+    app.facts();
     let task = task(app, i);
     out.push(RegionRecord {
         base: flash_base(app, layout, i),
