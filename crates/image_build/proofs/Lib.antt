@@ -4,3 +4,4 @@ pub mod Known
 pub mod Opening
 pub mod Planning
 pub mod Recorded
+pub mod Whole

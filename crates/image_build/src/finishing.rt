@@ -21,7 +21,7 @@ impl<'a> Builder<'a> {
     /// The image, once the source of each task has been taken; `Memory` where memory ran out, and then the
     /// builder is gone.
     pub fn finish(self) -> Result<Image, BuildFault>
-        requires { next_task self.entry ≡ length (described self.entry).tasks }
+        requires { next_task self ≡ length (described self).tasks }
         ensures built { IfOk result (λ i. (sources : List (List ℕ)) → HasTaken sources self.entry → Built (described self.entry) sources (picture i)) }
         ensures sound { IfOk result (λ i. Sound (picture i)) }
         ensures memory { IfErr result (λ e. e ≡ BuildFault.Memory) }
