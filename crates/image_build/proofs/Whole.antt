@@ -1,10 +1,10 @@
 -- Sources are taken one after another: all of them, or those before the first that is refused.
-use Rattle.std.proofs.Common.{◌≡◌, ◌∙◌, ℕ, suc, ◌+◌, ◌≤◌, ◌<◌, List, [], ◌∷◌, ◌++◌, length, get_or, map, take, refl, sym, ap, subst, arith}
+use Rattle.std.proofs.Common.{◌≡◌, ◌∙◌, ℕ, suc, ◌+◌, ◌≤◌, ◌<◌, List, [], ◌∷◌, ◌++◌, length, get_or, take, refl, sym, ap, subst, arith}
 use Rattle.std.proofs.Math.Seq.{take-suc}
 use Rattle.std.proofs.lemmas.List.{get_or-take, length-take-le, take_all}
 use Rattle.app_toml.specs.Apps.{AppData}
-use Rattle.image_build.specs.Building.{HasRoom, IsAccepted, IsTaken, LacksRoom, Refuses, RefusesSource, TakesBelow}
-use Rattle.image_build.specs.Built.{Built, source_at}
+use Rattle.image_build.specs.Building.{HasRoom, IsAccepted, IsTaken, Refuses, RefusesSource, TakesBelow}
+use Rattle.image_build.specs.Built.{source_at}
 use Rattle.image_build.specs.Taken.{HasTaken, described, next_task}
 use Rattle.image_build.specs.declared.builder.Builder.{Builder}
 use Rattle.image_build.specs.declared.fault.BuildFault.{BuildFault}
@@ -27,15 +27,6 @@ one_more all k source b lt at h =
       ap (λ (s : List ℕ). take k all ++ s ∷ []) at ∙ sym (take-suc all k [] lt) ∙ ap (λ (n : ℕ). take n all) next
     ) h
 
-pub is_left : (app : AppData) (all : List (List ℕ)) (k : ℕ) (b : Builder) → described b ≡ app → k < length all → length all ≡ length app.tasks
-    → HasTaken (take k all) b → next_task b < length (described b).tasks
-is_left app all k b is lt count h = omega (arith, lt, count, next_is all k b (omega (arith, lt)) h, ap (λ (a : AppData). length a.tasks) is)
-
-pub is_done : (app : AppData) (all : List (List ℕ)) (k : ℕ) (b : Builder) → described b ≡ app → length all ≡ k → length all ≡ length app.tasks
-    → HasTaken (take k all) b → next_task b ≡ length (described b).tasks
-is_done app all k b is done count h =
-    omega (arith, done, count, next_is all k b (omega (arith, done)) h, ap (λ (a : AppData). length a.tasks) is)
-
 pub all_taken : (all : List (List ℕ)) (k : ℕ) (b : Builder) → length all ≡ k → HasTaken (take k all) b → HasTaken all b
 all_taken all k b done h = subst (λ (xs : List (List ℕ)). HasTaken xs b) (take_all k all (omega (arith, done))) h
 
@@ -47,19 +38,12 @@ all_accepted app all b is count h = subst (λ (a : AppData). IsAccepted a all) i
 
 -- ---- the first that is refused
 
-pub refuses_room : (app : AppData) (all : List (List ℕ)) (f : BuildFault) → LacksRoom app f → Refuses app all f
-refuses_room app all (fault.Flash needed) r = r
-refuses_room app all (fault.Ram needed) r = r
-refuses_room app all (fault.Source task cause line) r = absurd r
-refuses_room app all (fault.Code task bytes) r = absurd r
-refuses_room app all fault.Memory r = r
-
 refuses_source : (app : AppData) (all : List (List ℕ)) (k : ℕ) (f : BuildFault) → HasRoom app → k < length app.tasks → TakesBelow app all k
     → RefusesSource app k (source_at all k) f → Refuses app all f
 refuses_source app all k (fault.Flash needed) room lt below r = absurd r
 refuses_source app all k (fault.Ram needed) room lt below r = absurd r
-refuses_source app all k (fault.Source task cause line) room lt below r = (room, k, lt, below, r)
-refuses_source app all k (fault.Code task bytes) room lt below r = (room, k, lt, below, r)
+refuses_source app all k (fault.Source task cause line) room lt below r = (room, (k, lt, below, r))
+refuses_source app all k (fault.Code task bytes) room lt below r = (room, (k, lt, below, r))
 refuses_source app all k fault.Memory room lt below r = r
 
 pub refuses_next : (app : AppData) (all : List (List ℕ)) (k : ℕ) (b : Builder) (source : List ℕ) (f : BuildFault) → described b ≡ app → k < length all
