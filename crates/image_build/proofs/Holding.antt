@@ -154,6 +154,6 @@ pub holds_more : (app : AppData) (layout : Layout) (sources : List (List ℕ)) (
     → n ≡ length sources → base ≡ flash_base app n → Puts app sources n base source code old flash labels → Holds app (sources ++ source ∷ []) flash
 holds_more app layout sources n base source code old flash labels l next at p =
     holds_next app layout sources source code old flash labels l (
-      subst (λ (b : ℕ). Puts app sources (length sources) b source code old flash labels) (at ∙ ap (flash_base app) next)
-      (subst (λ (m : ℕ). Puts app sources m base source code old flash labels) next p)
+    subst (λ (b : ℕ). Puts app sources (length sources) b source code old flash labels) (at ∙ ap (flash_base app) next)
+    (subst (λ (m : ℕ). Puts app sources m base source code old flash labels) next p)
     )

@@ -24,7 +24,7 @@ pub one_more : (all : List (List ℕ)) (k : ℕ) (source : List ℕ) (b : Builde
 one_more all k source b lt at h =
     let next : suc k ≡ k + 1 = omega arith in
     subst (λ (xs : List (List ℕ)). HasTaken xs b) (
-      ap (λ (s : List ℕ). take k all ++ s ∷ []) at ∙ sym (take-suc all k [] lt) ∙ ap (λ (n : ℕ). take n all) next
+    ap (λ (s : List ℕ). take k all ++ s ∷ []) at ∙ sym (take-suc all k [] lt) ∙ ap (λ (n : ℕ). take n all) next
     ) h
 
 pub all_taken : (all : List (List ℕ)) (k : ℕ) (b : Builder) → length all ≡ k → HasTaken (take k all) b → HasTaken all b
@@ -52,6 +52,6 @@ refuses_next app all k b source f is lt count at h r =
     let le : k ≤ length all = omega (arith, lt) in
     let left : k < length (described b).tasks = omega (arith, lt, count, ap (λ (a : AppData). length a.tasks) is) in
     subst (λ (a : AppData). Refuses a all f) is (
-      refuses_source (described b) all k f b.laid.room left (below_first (described b) all k le h.holds.taken)
-      (subst (λ (s : List ℕ). RefusesSource (described b) k s f) at (subst (λ (n : ℕ). RefusesSource (described b) n source f) (next_is all k b le h) r))
+    refuses_source (described b) all k f b.laid.room left (below_first (described b) all k le h.holds.taken)
+    (subst (λ (s : List ℕ). RefusesSource (described b) k s f) at (subst (λ (n : ℕ). RefusesSource (described b) n source f) (next_is all k b le h) r))
     )

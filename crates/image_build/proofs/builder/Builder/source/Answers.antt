@@ -14,15 +14,17 @@ use Rattle.image_build.proofs.builder.Builder.source.Goals as goal
 pub returns-then-task-length-clause-refused : goal.returns-then-task-length-clause-refused
 returns-then-task-length-clause-refused c =
     let flash : c.task.result.now.flash ≡ (task_at (described c.args.self.now) (next_task c.args.self.now)).flash = ap (λ t. t.flash) c.task.ensures.task in
-    let is : c.len-length.result ≡ length c.in_ok-object.object.bytes.items = search rules in
-    (refl, record {
-      accepted = c.in_ok-object.ensures.accepted;
-      code = c.in_ok-object.object.bytes.items;
-      labels = get_by_text c.in_ok-object.object.labels;
-      assembled = c.in_ok-object.ensures.assembled;
-      is = is;
-      above = omega (arith, is, flash, c.if-task-length.true);
-    })
+    let is : c.len-length.result ≡ length c.in_ok-object.object.bytes.items = search rules in (
+      refl,
+      record {
+        accepted = c.in_ok-object.ensures.accepted;
+        code = c.in_ok-object.object.bytes.items;
+        labels = get_by_text c.in_ok-object.object.labels;
+        assembled = c.in_ok-object.ensures.assembled;
+        is = is;
+        above = omega (arith, is, flash, c.if-task-length.true);
+      },
+    )
 
 pub put-requires : goal.put-requires
 put-requires c =
@@ -54,18 +56,18 @@ holds c sources h =
     let count : length c.put.new.flash ≡ c.args.self.now.flash.len = search rules in
     let same : length c.put.new.flash ≡ length c.args.self.now.flash.items = search rules in
     subst (Holds app (sources ++ c.args.bytes.now ∷ [])) (sym (with_items_is c.args.self.now.flash c.put.new.flash count)) (
-      holds_more app c.args.self.now.layout sources next c.flash_base.result c.args.bytes.now c.as_slice.result.now c.args.self.now.flash.items c.put.new.flash
-      (get_by_text c.in_ok-object.object.labels) c.args.self.now.laid h.next c.flash_base.ensures.base (record {
-        holds = h.holds;
-        left = c.requires;
-        accepted = c.in_ok-object.ensures.accepted;
-        assembled = subst (λ (bytes : List ℕ). Assembles (lines_of c.args.bytes.now) (flash_base app next) (given app next) bytes (get_by_text c.in_ok-object.object.labels)) (sym c.as_slice.ensures.value) c.in_ok-object.ensures.assembled;
-        fits = omega (arith, code, flash, c.if-task-length.false);
-        most = omega (arith, flash, c.task.ensures.flash);
-        same = same;
-        stands = c.put.ensures.stands;
-        kept = λ k side. c.put.ensures.kept k side ∙ ap (λ (xs : List ℕ). get_or xs k 0) c.as_mut_slice.ensures.value;
-      })
+    holds_more app c.args.self.now.layout sources next c.flash_base.result c.args.bytes.now c.as_slice.result.now c.args.self.now.flash.items c.put.new.flash
+    (get_by_text c.in_ok-object.object.labels) c.args.self.now.laid h.next c.flash_base.ensures.base (record {
+      holds = h.holds;
+      left = c.requires;
+      accepted = c.in_ok-object.ensures.accepted;
+      assembled = subst (λ (bytes : List ℕ). Assembles (lines_of c.args.bytes.now) (flash_base app next) (given app next) bytes (get_by_text c.in_ok-object.object.labels)) (sym c.as_slice.ensures.value) c.in_ok-object.ensures.assembled;
+      fits = omega (arith, code, flash, c.if-task-length.false);
+      most = omega (arith, flash, c.task.ensures.flash);
+      same = same;
+      stands = c.put.ensures.stands;
+      kept = λ k side. c.put.ensures.kept k side ∙ ap (λ (xs : List ℕ). get_or xs k 0) c.as_mut_slice.ensures.value;
+    })
     )
 
 pub returns-clause-taken : goal.returns-clause-taken
