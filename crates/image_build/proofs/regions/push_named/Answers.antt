@@ -1,4 +1,4 @@
-use Rattle.std.proofs.Common.{◌≡◌, ◌∙◌, ap, rules, string_bytes}
+use Rattle.std.proofs.Common.{◌∙◌, ap, rules}
 use Rattle.app_toml.specs.Held.{app_of}
 use Rattle.app_toml.specs.Places.{Text}
 use Rattle.image_format.specs.Picture.{region_record}

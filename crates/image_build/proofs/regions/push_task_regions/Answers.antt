@@ -1,4 +1,4 @@
-use Rattle.std.proofs.Common.{◌≡◌, ◌∙◌, List, ap, map, rules, string_bytes}
+use Rattle.std.proofs.Common.{◌∙◌, ap, map, string_bytes}
 use Rattle.app_toml.specs.Apps.{TaskData}
 use Rattle.app_toml.specs.Held.{app_of}
 use Rattle.image_build.specs.Layout.{task_at}

@@ -1,4 +1,4 @@
-use Rattle.std.proofs.Common.{◌≡◌, ◌∙◌, ◌+◌, ap, arith, length, rules}
+use Rattle.std.proofs.Common.{◌≡◌, ◌∙◌, ◌+◌, ap, arith, rules}
 use Rattle.app_toml.specs.Held.{app_of}
 use Rattle.app_toml.specs.Sites.{region_of, task_of}
 use Rattle.image_build.specs.Layout.{ram_base, region_base}

@@ -1,4 +1,4 @@
-use Rattle.std.proofs.Common.{◌≡◌, ◌+◌, ap, arith, length, rules}
+use Rattle.std.proofs.Common.{◌≡◌, ◌+◌, ap, length, rules}
 use Rattle.app_toml.specs.Held.{app_of}
 use Rattle.image_format.specs.Picture.{bit}
 use Rattle.image_build.proofs.Finding.{same_record}
