@@ -1,0 +1,7 @@
+pub mod Finding
+pub mod Holding
+pub mod Known
+pub mod Opening
+pub mod Planning
+pub mod Recorded
+pub mod Whole
