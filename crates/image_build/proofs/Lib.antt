@@ -4,5 +4,6 @@ pub mod Naming
 pub mod Opening
 pub mod Planning
 pub mod Rounding
+pub mod Sound
 pub mod Spots
 pub mod Walking

@@ -179,14 +179,14 @@ lie_own app i t lt flash ram uses reads =
 
 -- ---- different places
 
-abbrev Differ : Spot → Spot → Type 0
+abbrev pub Differ : Spot → Spot → Type 0
 Differ p q = p ≡ q → ⊥
 
-each_from : {T : Type 0} (P : T → Type 0) (d : T) (xs : List T) → ((i : ℕ) → i < length xs → P (get_or xs i d)) → Each P xs
+pub each_from : {T : Type 0} (P : T → Type 0) (d : T) (xs : List T) → ((i : ℕ) → i < length xs → P (get_or xs i d)) → Each P xs
 each_from P d [] h = tt
 each_from P d (x ∷ xs) h = (h 0 (omega arith), each_from P d xs (λ i lt. h (suc i) (omega (arith, lt))))
 
-pairs_from : {T : Type 0} (R : T → T → Type 0) (d : T) (xs : List T) → AllPairs R xs → Pairs R xs
+pub pairs_from : {T : Type 0} (R : T → T → Type 0) (d : T) (xs : List T) → AllPairs R xs → Pairs R xs
 pairs_from R d [] h = tt
 pairs_from R d (x ∷ xs) h = (
   each_from (R x) d xs (λ j lt. h 0 (suc j) d (omega arith) (omega (arith, lt))),

@@ -10,7 +10,7 @@ use Rattle.std.proofs.lemmas.List.Sums.{sum_by-cons}
 use Rattle.region_check.specs.declared.Region.{Region}
 use Rattle.image_format.specs.Picture.{LinePicture, TaskPicture, all_regions, line_record, region_record, task_record}
 use Rattle.image_format.specs.Regions.{clashes, cuts, entries_from, entry_fault, has_area, has_rights, has_shape, meets, own_fault, region_fault, regions_from, runs_at}
-use Rattle.image_format.specs.Steps.{Refusal, counted, field_fault, first, line_fault, lines_from, or_else, task_fault, tasks_from}
+use Rattle.image_format.specs.Steps.{Refusal, count_fault, counted, field_fault, first, line_fault, lines_from, or_else, task_fault, tasks_from}
 use Rattle.image_format.specs.declared.records.Header.{Header}
 use Rattle.image_format.specs.declared.records.LineRecord.{LineRecord}
 use Rattle.image_format.specs.declared.records.RegionRecord.{RegionRecord}
@@ -123,6 +123,9 @@ pub counted_all : (ts : List TaskPicture) → counted (map task_record ts) ≡ l
 counted_all [] = refl
 counted_all (t ∷ ts) =
     omega (arith, sum_by-cons (λ (r : TaskRecord). r.regions) (task_record t) (map task_record ts), counted_all ts, length-append t.regions (all_regions ts))
+
+pub counted_none : (h : Header) (ts : List TaskRecord) → counted ts ≡ h.regions → count_fault h ts ≡ None
+counted_none h ts is = let e = eq-eqb (counted ts) h.regions is in rw e refl
 
 -- ---- regions
 
