@@ -3,6 +3,7 @@ pub mod Known
 pub mod Naming
 pub mod Opening
 pub mod Planning
+pub mod Recorded
 pub mod Rounding
 pub mod Sound
 pub mod Spots

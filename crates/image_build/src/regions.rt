@@ -40,7 +40,8 @@ fn named(app: &App, layout: &Layout, is_written: bool, name: &str) -> RegionReco
             rights,
         }
     } else {
-        let device = &app.devices()[device_place(name, app.devices())];
+        let devices = app.devices();
+        let device = &devices[device_place(name, devices)];
         RegionRecord {
             base: device.base,
             size: device.size,
@@ -77,6 +78,7 @@ pub(crate) fn push_task_regions(
     requires laid { IsLaid (app_of app.now) layout.now }
     ensures { OnOk result (out.new.items ≡ out.old.items ++ map region_record (task_regions (app_of app.now) i (task_at (app_of app.now) i))) }
 {
+    app.facts();
     let task = task(app, i);
     out.push(RegionRecord {
         base: flash_base(app, layout, i),
