@@ -224,16 +224,42 @@ at_most app a r line =
     no_interrupt : InterruptData
     no_interrupt = record { line = 0; task = []; notification = [] }
 
+-- ---- how many of each
+
+own_count : (app : AppData) → IsAccepted app → (i : ℕ) → i < length app.tasks
+    → (1 ≤ length (task_regions app i (task_at app i))) × (length (task_regions app i (task_at app i)) ≤ 8)
+own_count app a i lt =
+    let t = task_at app i in
+    (omega (arith, region_count app i t), omega (arith, region_count app i t, few_regions app a i lt))
+
+region_counts : (app : AppData) → IsAccepted app → (length (tasks_from app 0 app.tasks) ≤ length (all_regions (tasks_from app 0 app.tasks)))
+    × (length (all_regions (tasks_from app 0 app.tasks)) ≤ 8 * length (tasks_from app 0 app.tasks))
+region_counts app a = counts (tasks_from app 0 app.tasks) (each_built app (λ t. (1 ≤ length t.regions) × (length t.regions ≤ 8)) 0 app.tasks
+    (λ i lt. at_zero (λ k. (1 ≤ length (task_regions app k (task_at app i))) × (length (task_regions app k (task_at app i)) ≤ 8)) i (own_count app a i lt)))
+
+-- the counts fit the header
+pub record AreFew (app : AppData) : Type 0 where
+  pub tasks : length (map task_record (tasks_from app 0 app.tasks)) ≤ 32
+  pub regions : length (map region_record (all_regions (tasks_from app 0 app.tasks))) ≤ 256
+  pub lines : length (map line_record (lines_built app)) ≤ 32
+
+pub are_few : (app : AppData) → IsAccepted app → Relations app → AreFew app
+are_few app a r =
+    let ts = tasks_from app 0 app.tasks in
+    let n = built_count app 0 app.tasks in
+    record {
+      tasks = omega (arith, length-map ts task_record, n, few_tasks app a);
+      regions = omega (arith, length-map (all_regions ts) region_record, (region_counts app a).1, n, few_tasks app a);
+      lines = omega (arith, length-map (lines_built app) line_record, few_lines (lines_at app) (length app.tasks) (at_most app a r) 32 0);
+    }
+
 -- ---- the whole
 
 header_none : (app : AppData) (layout : Layout) → IsLaid app layout → IsAccepted app → Relations app → (flash : List ℕ) → length flash ≡ flash_needed app
     → field_fault (header_of (picture_built app flash)) ≡ None
 header_none app layout l a r flash whole =
-    let ts = tasks_from app 0 app.tasks in
     let n = built_count app 0 app.tasks in
-    let each = each_built app (λ t. (1 ≤ length t.regions) × (length t.regions ≤ 8)) 0 app.tasks
-    (λ i lt. at_zero (λ k. (1 ≤ length (task_regions app k (task_at app i))) × (length (task_regions app k (task_at app i)) ≤ 8)) i (let g = good_task app layout l a r i lt in (g.some, g.most))) in
-    let c = counts ts each in
+    let c = region_counts app a in
     let first_task = some_task app a in
     let code : 1 ≤ flash_needed app = omega (arith, flash_end app layout 0 l first_task, l.flash.low 0 (omega (arith, first_task, flash_count app)), some_size (task_at app 0).flash) in
     fields_none (header_of (picture_built app flash)) (omega (arith, n, first_task)) (omega (arith, n, few_tasks app a))

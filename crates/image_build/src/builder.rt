@@ -1,5 +1,6 @@
 //! A builder: an application and what has been taken of its sources.
 
+ghost use Rattle.std.specs.Prelude.{◌≡◌, length};
 ghost use Rattle.app_toml.specs.Held.{app_of};
 ghost use Rattle.image_build.specs.Building.{IsLaid};
 
@@ -16,4 +17,5 @@ pub struct Builder<'a> {
     pub(crate) flash: Vec<u8>,
     pub(crate) done: usize,
     ghost laid: { IsLaid (app_of app.now) layout },
+    ghost filled: { length flash.items ≡ layout.flash_length },
 }
