@@ -13,11 +13,12 @@ use Rattle.image_format.specs.Records.{records_fault}
 use Rattle.image_format.specs.Regions.{entries_fault, meets, regions_fault, runs_at}
 use Rattle.image_format.specs.Steps.{count_fault, field_fault, line_fault, lines_fault, lines_from, lines_place, tasks_fault}
 use Rattle.image_format.specs.declared.records.Header.{Header}
+use Rattle.image_format.specs.declared.records.LineRecord.{LineRecord}
 use Rattle.image_format.specs.declared.records.RegionRecord.{RegionRecord}
 use Rattle.image_format.specs.declared.records.TaskRecord.{TaskRecord}
 use Rattle.mem_plan.specs.Sizes.{rounded}
-use Rattle.image_build.specs.Building.{IsLaid, IsOwned}
-use Rattle.image_build.specs.Built.{line_built, lines_at, lines_built, picture_built, task_built, tasks_from}
+use Rattle.image_build.specs.Building.{Holds, IsLaid, IsOwned}
+use Rattle.image_build.specs.Built.{Built, line_built, lines_at, lines_built, picture_built, task_built, tasks_from}
 use Rattle.image_build.specs.Layout.{flash_base, flash_needed, flash_sizes, named, no_task, ram_base, ram_needed, ram_sizes, task_at, task_regions}
 use Rattle.image_build.specs.declared.layout.Layout.{Layout}
 use Rattle.image_build.proofs.Finding.{task_below}
@@ -298,3 +299,17 @@ sound_built app layout l a r flash whole = record {
   fields = header_none app layout l a r flash whole;
   records = records_none app layout l a r flash whole;
 }
+
+-- ---- the records that are made
+
+pub records_made : (app : AppData) (flash : List ℕ) (h : Header) (ts : List TaskRecord) (rs : List RegionRecord) (ls : List LineRecord)
+    → h ≡ header_of (picture_built app flash) → ts ≡ map task_record (tasks_from app 0 app.tasks) → rs ≡ map region_record (all_regions (tasks_from app 0 app.tasks))
+    → ls ≡ map line_record (lines_built app)
+    → records_of (picture_built app flash) ≡ record { header = h; tasks = ts; regions = rs; lines = ls; flash = flash }
+records_made app flash h ts rs ls a b c d = rw (a, b, c, d) refl
+
+pub built_as : (app : AppData) (sources : List (List ℕ)) (flash : List ℕ) (p : Picture) → p ≡ picture_built app flash → length app.tasks ≡ length sources → Holds app sources flash
+    → Built app sources p
+built_as app sources flash p is count h =
+    subst (Built app sources) (sym is)
+    (record { parts = refl; length_of_flash = h.length_of_flash; programs = λ i lt. h.programs i (omega (arith, lt, count)) })

@@ -59,7 +59,7 @@ impl<'a> Builder<'a> {
     /// builder is gone.
     pub fn finish(self) -> Result<Image, BuildFault>
         requires { next_task self ≡ length (described self).tasks }
-        ensures built { IfOk result (λ i. (sources : List (List ℕ)) → HasTaken sources self → Built (described self) sources (picture i)) }
+        ensures built { IfOk result (λ i. (sources : List (List ℕ)) → HasTaken sources self.entry → Built (described self.entry) sources (picture i)) }
         ensures sound { IfOk result (λ i. Sound (picture i)) }
         ensures memory { IfErr result (λ e. e ≡ BuildFault.Memory) }
     {
