@@ -41,7 +41,7 @@ each_built app P k (t ∷ ts) h =
     let here : k + 0 ≡ k = omega arith in (
       subst (λ (n : ℕ). P (task_built app n t)) here (h 0 (omega arith)),
       each_built app P (k + 1) ts (λ i lt. let next : k + suc i ≡ (k + 1) + i = omega arith in
-      subst (λ (n : ℕ). P (task_built app n (get_or ts i no_task))) next (h (suc i) (omega (arith, lt)))),
+          subst (λ (n : ℕ). P (task_built app n (get_or ts i no_task))) next (h (suc i) (omega (arith, lt)))),
     )
 
 built_count : (app : AppData) (k : ℕ) (ts : List TaskData) → length (tasks_from app k ts) ≡ length ts

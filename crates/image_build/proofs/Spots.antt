@@ -54,9 +54,9 @@ Misses a s b t = (nat_lt a (b + t) && nat_lt b (a + s)) ≡ false
 misses : (a s b t : ℕ) → (a < b + t → b < a + s → ⊥) → Misses a s b t
 misses a s b t apart = elim (cases_lt a (b + t)) [
   | inl low ↦ elim (cases_lt b (a + s)) [
-      | inl high ↦ absurd (apart low high)
-      | inr past ↦ and_right (nat_lt a (b + t)) (nat_lt b (a + s)) (le-ltb b (a + s) past)
-    ]
+    | inl high ↦ absurd (apart low high)
+    | inr past ↦ and_right (nat_lt a (b + t)) (nat_lt b (a + s)) (le-ltb b (a + s) past)
+  ]
   | inr past ↦ and_left (nat_lt a (b + t)) (nat_lt b (a + s)) (le-ltb a (b + t) past)
 ]
 
@@ -78,9 +78,9 @@ below_or_above m n other = elim (cases_lt m n) [
     above m n other le = elim (cases_eq m n) [
       | inl e ↦ absurd (other e)
       | inr ne ↦ elim (cases_lt n m) [
-          | inl lt ↦ lt
-          | inr ge ↦ let e : m ≡ n = omega (arith, le, ge) in absurd (other e)
-        ]
+        | inl lt ↦ lt
+        | inr ge ↦ let e : m ≡ n = omega (arith, le, ge) in absurd (other e)
+      ]
     ]
 
 devices_miss : (devices : List DeviceData) → ((i j : ℕ) (d : DeviceData) → i < j → j < length devices → IsBeside (get_or devices i d) (get_or devices j d))
