@@ -1,4 +1,5 @@
 pub mod Finding
+pub mod Holding
 pub mod Known
 pub mod Naming
 pub mod Opening
