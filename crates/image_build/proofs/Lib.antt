@@ -1,3 +1,6 @@
+pub mod EachLine
+pub mod EachRegion
+pub mod EachTask
 pub mod Finding
 pub mod Holding
 pub mod Known

@@ -1,5 +1,5 @@
 -- Where the regions of a task lie, by their names, and that they are different places.
-use Rattle.std.proofs.Common.{◌≡◌, ◌≢◌, ◌∙◌, ℕ, zero, suc, Bool, true, false, ◌+◌, ◌-◌, ◌≤◌, ◌<◌, ◌||◌, ◌⊎◌, List, [], ◌∷◌, ◌++◌, length, get_or, map, length-append, refl, sym, ap, subst, arith, inl, inr}
+use Rattle.std.proofs.Common.{◌≡◌, ◌≢◌, ◌∙◌, ℕ, suc, Bool, true, false, ◌+◌, ◌-◌, ◌≤◌, ◌<◌, ◌||◌, List, [], ◌∷◌, ◌++◌, length, get_or, map, length-append, refl, sym, ap, subst, arith, inl, inr}
 use Rattle.std.specs.List.{list_any}
 use Rattle.std.specs.Prelude.{⊤, AllPairs, if◌then◌else◌}
 use Rattle.std.specs.Str.{bytes_eq}
@@ -10,15 +10,14 @@ use Rattle.app_toml.specs.Accepted.{IsAccepted}
 use Rattle.app_toml.specs.Apps.{AppData, DeviceData, RegionData, TaskData}
 use Rattle.app_toml.specs.Crossed.{has_device, has_region}
 use Rattle.app_toml.specs.Places.{Text}
-use Rattle.app_toml.specs.Relations.{AreApart, AreDistinct, HasOwnNames}
+use Rattle.app_toml.specs.Relations.{AreApart, HasOwnNames}
 use Rattle.image_format.specs.Picture.{region_record}
 use Rattle.image_format.specs.declared.records.RegionRecord.{RegionRecord}
 use Rattle.mem_plan.specs.Sizes.{rounded}
-use Rattle.region_check.specs.declared.Region.{Region}
 use Rattle.image_build.specs.Building.{IsKnown}
-use Rattle.image_build.specs.Layout.{device, device_named, flash_base, flash_sizes, index_from, index_of, index_of_region, memory, named, no_device, no_region, no_task, ram_base, ram_sizes, ram_wanted, region_base, region_named, task_at, task_regions}
+use Rattle.image_build.specs.Layout.{device, flash_base, flash_sizes, index_from, index_of, index_of_region, memory, named, no_device, no_region, no_task, ram_base, ram_sizes, ram_wanted, region_base, task_at, task_regions}
 use Rattle.image_build.proofs.Known.{read_known, used_known}
-use Rattle.image_build.proofs.Planning.{flash_count, flash_size}
+use Rattle.image_build.proofs.Planning.{flash_count}
 use Rattle.image_build.proofs.Spots.{Lies, Spot, at_device, in_flash, in_ram}
 use Rattle.image_build.proofs.Walking.{Each, Pairs, each_append}
 

@@ -1,5 +1,5 @@
 -- The sizes of regions are powers of two, from 256 to 2 ^ 20.
-use Rattle.std.proofs.Common.{◌≡◌, ◌∙◌, ◌++◌, ◌∷◌, [], List, ℕ, suc, Bool, true, ◌||◌, ◌==◌, ◌*◌, ◌%◌, ◌^◌, ◌≤◌, nat_le, refl, ap, arith, inl, inr}
+use Rattle.std.proofs.Common.{◌≡◌, ◌∙◌, ◌++◌, ◌∷◌, [], ℕ, suc, Bool, true, ◌||◌, ◌==◌, ◌*◌, ◌%◌, ◌^◌, ◌≤◌, nat_le, refl, ap, arith, inl, inr}
 use Rattle.std.specs.List.{list_any}
 use Rattle.std.proofs.lemmas.Bool.{cases_Bool}
 use Rattle.std.proofs.lemmas.List.Folds.{list_any-append}

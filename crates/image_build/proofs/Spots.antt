@@ -1,11 +1,11 @@
 -- Where regions lie: in a task's flash, in a part of RAM, at a device. No two of these places meet.
-use Rattle.std.proofs.Common.{◌≡◌, ◌∙◌, ℕ, Bool, true, false, not, ◌+◌, ◌-◌, ◌%◌, ◌≤◌, ◌<◌, ◌||◌, ◌&&◌, ◌==◌, ◌⊎◌, List, length, get_or, map, nat_le, nat_lt, refl, sym, ap, subst, arith, inl, inr}
+use Rattle.std.proofs.Common.{◌≡◌, ◌∙◌, ℕ, true, false, not, ◌+◌, ◌%◌, ◌≤◌, ◌<◌, ◌||◌, ◌&&◌, ◌==◌, ◌⊎◌, List, length, get_or, map, nat_lt, refl, sym, ap, arith, inl, inr}
 use Rattle.std.proofs.lemmas.Bool.{and_left, and_right, cases_eq, cases_lt, eq-eqb, le-leb, le-ltb, or_left, or_right}
 use Rattle.std.proofs.lemmas.List.{get_or-map, length-map}
 use Rattle.app_toml.specs.Accepted.{IsAccepted}
 use Rattle.app_toml.specs.Apps.{AppData, DeviceData}
 use Rattle.app_toml.specs.Relations.{HasDevices, IsBeside}
-use Rattle.image_format.specs.Regions.{cuts, has_area, has_rights, has_shape, is_size, lies_in, meets}
+use Rattle.image_format.specs.Regions.{cuts, has_shape, is_size, lies_in, meets}
 use Rattle.image_format.specs.declared.records.Header.{Header}
 use Rattle.image_format.specs.declared.records.RegionRecord.{RegionRecord}
 use Rattle.mem_plan.specs.Sizes.{rounded}
