@@ -12,3 +12,4 @@ pub mod Rounding
 pub mod Sound
 pub mod Spots
 pub mod Walking
+pub mod Whole
