@@ -1,5 +1,5 @@
 -- The region or the device that a name names, and lists of regions that grow.
-use Rattle.std.proofs.Common.{◌≡◌, ◌∙◌, ℕ, zero, suc, Bool, true, false, ◌+◌, ◌≤◌, ◌<◌, ◌||◌, List, [], ◌∷◌, ◌++◌, append_assoc, drop, drop-cons, length, get_or, map, Global, String, string_bytes, refl, sym, ap, subst, arith, inl, inr, if◌then◌else◌}
+use Rattle.std.proofs.Common.{◌≡◌, ◌∙◌, ℕ, suc, Bool, true, false, ◌+◌, ◌≤◌, ◌<◌, ◌||◌, List, [], ◌∷◌, ◌++◌, append_assoc, drop, drop-cons, length, get_or, map, Global, String, string_bytes, refl, sym, ap, subst, arith, inl, inr, if◌then◌else◌}
 use Rattle.std.specs.Str.{bytes_eq}
 use Rattle.std.proofs.lemmas.Bool.{cases_Bool}
 use Rattle.std.proofs.lemmas.List.{get_or-map, map-append}
@@ -8,17 +8,16 @@ use Rattle.app_toml.specs.Accepted.{IsAccepted}
 use Rattle.app_toml.specs.Apps.{AppData, DeviceData, RegionData, TaskData}
 use Rattle.app_toml.specs.Crossed.{has_device, has_region}
 use Rattle.app_toml.specs.Places.{Text}
-use Rattle.app_toml.specs.Sites.{device_of, region_of, task_of}
+use Rattle.app_toml.specs.Sites.{device_of, region_of}
 use Rattle.app_toml.specs.declared.parts.Device.{Device}
 use Rattle.app_toml.specs.declared.parts.SharedRegion.{SharedRegion}
-use Rattle.app_toml.specs.declared.parts.Task.{Task}
 use Rattle.image_format.specs.Picture.{all_regions, region_record, rights_number}
 use Rattle.image_format.specs.declared.records.RegionRecord.{RegionRecord}
 use Rattle.mem_plan.specs.Sizes.{rounded}
 use Rattle.region_check.specs.declared.Region.{Region}
 use Rattle.image_build.specs.Building.{IsKnown}
 use Rattle.image_build.specs.Built.{tasks_from}
-use Rattle.image_build.specs.Layout.{device, device_named, flash_base, index_from, index_of, index_of_region, memory, named, no_device, no_region, no_task, ram_base, region_base, region_named, task_at, task_regions}
+use Rattle.image_build.specs.Layout.{device, device_named, index_from, index_of, index_of_region, memory, named, no_device, no_region, no_task, region_base, region_named, task_at, task_regions}
 use Rattle.image_build.proofs.Finding.{same_count}
 
 -- ---- a name among those of regions and of devices
