@@ -145,11 +145,12 @@ fn three_tasks_are_built_a_source_at_a_time(rt: HostRuntime) -> Result<(), Fail>
     text.push_str(THREE)?;
     let app = App::read(rt.alloc(), text.as_bytes())?;
     let mut builder = Builder::open(rt.alloc(), &app)?;
-    for source in [LOOP, CLIENT, SERVER] {
-        if builder.next() < app.tasks().len() {
-            builder.source(source)?;
-        }
-    }
+    assert!(rt; builder.next() < app.tasks().len());
+    builder.source(LOOP)?;
+    assert!(rt; builder.next() < app.tasks().len());
+    builder.source(CLIENT)?;
+    assert!(rt; builder.next() < app.tasks().len());
+    builder.source(SERVER)?;
     assert_eq!(rt; builder.next(), app.tasks().len());
     let bytes = builder.finish()?.write()?;
     assert_eq!(rt; bytes.len(), 1204);
