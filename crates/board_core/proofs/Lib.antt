@@ -6,3 +6,8 @@ pub mod TurnKeeps
 pub mod Running
 pub mod Opens
 pub mod Endings
+pub mod Spanning
+pub mod Lending
+pub mod Views
+pub mod Quiet
+pub mod Turning

@@ -15,34 +15,35 @@ use Rattle.task_table.specs.declared.kernel.Kernel.{Kernel}
 use Rattle.task_table.specs.Memory.{Memory, number_at, is_ram}
 use Rattle.task_table.specs.State.{Setup, State, Own, Turn, Call as OpenCall, Listen}
 use Rattle.task_table.specs.Reading.{register, task_at, call_of, listen_of, is_ready, is_well, IsIdle}
-use Rattle.task_table.specs.Effects.{stored, with_processor, faulted}
-use Rattle.task_table.specs.Rows.{called, call_noted}
+use Rattle.task_table.specs.Effects.{stored, faulted}
 use Rattle.task_table.specs.Holds.{Holds, Stands, setup_of, current_of, memory_of, notes_of, kept_of, task_count, note_count}
 use Rattle.task_table.specs.Start.{begun, start}
 use Rattle.task_table.specs.Sane.{Sane}
 use Rattle.task_table.proofs.Steps.{holds_turn}
-use Rattle.board_core.specs.declared.machine.Machine.{Machine}
-use Rattle.board_core.specs.Turn.{refusals, cpu_of, bytes_of, put, acted, is_text, decoded_as, stepped, stepped_wide}
-use Rattle.board_core.specs.Machine.{IsStored, IsReady}
+use Rattle.board_core.specs.declared.machine.Reach.{Reach}
+use Rattle.board_core.specs.Turn.{refusals, cpu_of, bytes_of, put, is_text, decoded_as, stepped, stepped_wide}
+use Rattle.board_core.specs.Machine.{IsStored}
+use Rattle.board_core.specs.declared.choice.Choice.{Choice}
+use Rattle.board_core.specs.Kept.{IsChoice}
 use Rattle.board_core.proofs.TableKeeps.{keeps_coded}
 use Rattle.board_core.proofs.TurnKeeps.{whole_cpu}
 
 -- what the bus says of a store
-abbrev pub stored_by : Machine → ℕ → ℕ → ℕ → Machine → Type 0
+abbrev pub stored_by : Reach → ℕ → ℕ → ℕ → Reach → Type 0
 stored_by m a n v m' = IsStored m.kernel a n v m'.kernel
 
 -- ## stores through the bus are the turn's
 
-pub stores_hold : (ss : List Store) (m m' : Machine) → Stores stored_by m ss m' → (g : Setup) (t : Turn) → Holds g m.kernel t → Holds g m'.kernel (fold put t ss)
+pub stores_hold : (ss : List Store) (m m' : Reach) → Stores stored_by m ss m' → (g : Setup) (t : Turn) → Holds g m.kernel t → Holds g m'.kernel (fold put t ss)
 stores_hold [] m m' e g t h = rw e h
 stores_hold (x ∷ xs) m m' e g t h = stores_hold xs e.0 m' e.2 g (put t x) (e.1.holds g t h)
 
-pub stores_count : (ss : List Store) (m m' : Machine) → Stores stored_by m ss m' → task_count m'.kernel ≡ task_count m.kernel
-stores_count [] m m' e = ap (λ (n : Machine). task_count n.kernel) e
+pub stores_count : (ss : List Store) (m m' : Reach) → Stores stored_by m ss m' → task_count m'.kernel ≡ task_count m.kernel
+stores_count [] m m' e = ap (λ (n : Reach). task_count n.kernel) e
 stores_count (x ∷ xs) m m' e = stores_count xs e.0 m' e.2 ∙ e.1.tasks
 
-pub stores_notes : (ss : List Store) (m m' : Machine) → Stores stored_by m ss m' → note_count m'.kernel ≡ note_count m.kernel
-stores_notes [] m m' e = ap (λ (n : Machine). note_count n.kernel) e
+pub stores_notes : (ss : List Store) (m m' : Reach) → Stores stored_by m ss m' → note_count m'.kernel ≡ note_count m.kernel
+stores_notes [] m m' e = ap (λ (n : Reach). note_count n.kernel) e
 stores_notes (x ∷ xs) m m' e = stores_notes xs e.0 m' e.2 ∙ e.1.notes
 
 -- they change nothing of a state but its memory
@@ -54,7 +55,7 @@ put_state t x = by_ram (is_ram t.state.memory x.addr x.bytes)
     by_ram true = refl
     by_ram false = refl
 
-puts_state : (ss : List Store) (t : Turn) → (fold put t ss).state ≡ record t.state { memory = (fold put t ss).state.memory }
+pub puts_state : (ss : List Store) (t : Turn) → (fold put t ss).state ≡ record t.state { memory = (fold put t ss).state.memory }
 puts_state [] t = refl
 puts_state (x ∷ xs) t = puts_state xs (put t x) ∙ ap (λ (s : State). record s { memory = (fold put (put t x) xs).state.memory }) (put_state t x)
 
@@ -80,67 +81,43 @@ ready_idle s i h = let p = no_call (call_of s i) (listen_of s i) (is_well (task_
 -- ## what came of an instruction
 
 -- the effect by the bus is the effect by the turn
-pub effect_here : (g : Setup) (t : Turn) (k : Kernel) (cpu : Cpu) (insn : Insn) → Holds g k t → cpu ≡ cpu_of (task_at t.state t.state.current) →
+pub effect_here : (g : Setup) (t : Turn) (k : Kernel) (cpu : Cpu) (insn : Insn) → setup_of k ≡ g → current_of k ≡ t.state.current → memory_of k ≡ t.state.memory → cpu ≡ cpu_of (task_at t.state t.state.current) →
     effect (refusals (setup_of k) (current_of k)) (number_at (memory_of k)) cpu insn ≡ effect (refusals g t.state.current) (number_at t.state.memory) (cpu_of (task_at t.state t.state.current)) insn
-effect_here g t k cpu insn h same =
-    ap (λ (x : Setup). effect (refusals x (current_of k)) (number_at (memory_of k)) cpu insn) h.setup
-    ∙ ap (λ (c : ℕ). effect (refusals g c) (number_at (memory_of k)) cpu insn) h.current
-    ∙ ap (λ (m : Memory). effect (refusals g t.state.current) (number_at m) cpu insn) h.memory
+effect_here g t k cpu insn setup current memory same =
+    ap (λ (x : Setup). effect (refusals x (current_of k)) (number_at (memory_of k)) cpu insn) setup
+    ∙ ap (λ (c : ℕ). effect (refusals g c) (number_at (memory_of k)) cpu insn) current
+    ∙ ap (λ (m : Memory). effect (refusals g t.state.current) (number_at m) cpu insn) memory
     ∙ ap (λ (c : Cpu). effect (refusals g t.state.current) (number_at t.state.memory) c insn) same
 
-pub record WasNext (c' : Cpu) (m m' : Machine) (e : Effect) : Type 0 where
+pub record WasNext (c' : Cpu) (m m' : Reach) (e : Effect) : Type 0 where
   pub processor : Cpu
   pub stores : List Store
   pub is : e ≡ Next processor stores
   pub after : c' ≡ processor
   pub bus : Stores stored_by m stores m'
 
-pub was_next : (c c' : Cpu) (m m' : Machine) (o : Outcome) (e : Effect) → Acts stored_by c c' m m' o e → o ≡ outcome.Next → WasNext c' m m' e
+pub was_next : (c c' : Cpu) (m m' : Reach) (o : Outcome) (e : Effect) → Acts stored_by c c' m m' o e → o ≡ outcome.Next → WasNext c' m m' e
 was_next c c' m m' o (Next d ss) a p = record { processor = d; stores = ss; is = refl; after = a.1; bus = a.2 }
 was_next c c' m m' o Call a p = absurd (let q : o ≡ outcome.Call = a.0 in cc)
 was_next c c' m m' o (Trap f) a p = absurd (let q : o ≡ outcome.Trap f = a.0 in cc)
 
-pub was_call : (c c' : Cpu) (m m' : Machine) (o : Outcome) (e : Effect) → Acts stored_by c c' m m' o e → o ≡ outcome.Call → (e ≡ Call) × (m' ≡ m)
+pub was_call : (c c' : Cpu) (m m' : Reach) (o : Outcome) (e : Effect) → Acts stored_by c c' m m' o e → o ≡ outcome.Call → (e ≡ Call) × (m' ≡ m) × (c' ≡ c)
 was_call c c' m m' o (Next d ss) a p = absurd (let q : o ≡ outcome.Next = a.0 in cc)
-was_call c c' m m' o Call a p = (refl, a.2)
+was_call c c' m m' o Call a p = (refl, a.2, a.1)
 was_call c c' m m' o (Trap f) a p = absurd (let q : o ≡ outcome.Trap f = a.0 in cc)
 
-pub was_trap : (c c' : Cpu) (m m' : Machine) (o : Outcome) (e : Effect) (f : Fault) → Acts stored_by c c' m m' o e → o ≡ outcome.Trap f → (e ≡ Trap f) × (m' ≡ m)
+pub was_trap : (c c' : Cpu) (m m' : Reach) (o : Outcome) (e : Effect) (f : Fault) → Acts stored_by c c' m m' o e → o ≡ outcome.Trap f → (e ≡ Trap f) × (m' ≡ m) × (c' ≡ c)
 was_trap c c' m m' o (Next d ss) f a p = absurd (let q : o ≡ outcome.Next = a.0 in cc)
 was_trap c c' m m' o Call f a p = absurd (let q : o ≡ outcome.Call = a.0 in cc)
-was_trap c c' m m' o (Trap d) f a p = (let q : o ≡ outcome.Trap d = a.0 in let r : d ≡ f = cc in ap Trap r, a.2)
+was_trap c c' m m' o (Trap d) f a p = (let q : o ≡ outcome.Trap d = a.0 in let r : d ≡ f = cc in ap Trap r, a.2, a.1)
 
 -- a fault of an instruction has a number of 1 to 10
-pub trap_known : (g : Setup) (t : Turn) (k : Kernel) (cpu : Cpu) (insn : Insn) (f : Fault) → IsReady g k t → IsCoded insn → cpu ≡ cpu_of (task_at t.state t.state.current) →
-    effect (refusals (setup_of k) (current_of k)) (number_at (memory_of k)) cpu insn ≡ Trap f → (1 ≤ f.number) × (f.number ≤ 10)
-trap_known g t k cpu insn f r coded same is =
-    let whole = whole_cpu t.state.current t r.stands.sane r.stands.sane.steady.current in
+pub trap_known : (g : Setup) (t : Turn) (insn : Insn) (f : Fault) → Sane g t.state → IsCoded insn →
+    effect (refusals g t.state.current) (number_at t.state.memory) (cpu_of (task_at t.state t.state.current)) insn ≡ Trap f → (1 ≤ f.number) × (f.number ≤ 10)
+trap_known g t insn f sane coded is =
+    let whole = whole_cpu t.state.current t sane sane.steady.current in
     let keeps = keeps_coded (refusals g t.state.current) (number_at t.state.memory) (cpu_of (task_at t.state t.state.current)) insn coded whole in
-    let e : effect (refusals g t.state.current) (number_at t.state.memory) (cpu_of (task_at t.state t.state.current)) insn ≡ Trap f = sym (effect_here g t k cpu insn r.stands.holds same) ∙ is in
-    rw e at keeps
-
--- ## the turn, by what came of it
-
-pub next_holds : (g : Setup) (t : Turn) (k : Kernel) (task : ℕ) (e : Effect) (d after : Cpu) (ss : List Store) (words : List ℕ) → e ≡ Next d ss → after ≡ d → task ≡ t.state.current → words ≡ after.regs.words →
-    Holds g k (with_processor task words after.flags (fold put t ss)) → Holds g k (acted t.state.current e t)
-next_holds g t k task e d after ss words is same at written h =
-    let P : ℕ → Type 0 = λ i. Holds g k (with_processor i words after.flags (fold put t ss)) in
-    let Q : List ℕ → Type 0 = λ w. Holds g k (with_processor t.state.current w after.flags (fold put t ss)) in
-    let R : Cpu → Type 0 = λ c. Holds g k (with_processor t.state.current c.regs.words c.flags (fold put t ss)) in
-    let S : Effect → Type 0 = λ x. Holds g k (acted t.state.current x t) in
-    subst S (sym is) (subst R same (subst Q written (subst P at h)))
-
-pub call_holds : (g : Setup) (t : Turn) (k : Kernel) (task : ℕ) (e : Effect) → e ≡ Call → task ≡ t.state.current → Holds g k (called task (call_noted task t)) → Holds g k (acted t.state.current e t)
-call_holds g t k task e is at h =
-    let P : ℕ → Type 0 = λ i. Holds g k (called i (call_noted i t)) in
-    let S : Effect → Type 0 = λ x. Holds g k (acted t.state.current x t) in
-    subst S (sym is) (subst P at h)
-
-pub trap_holds : (g : Setup) (t : Turn) (k : Kernel) (task : ℕ) (e : Effect) (f : Fault) → e ≡ Trap f → task ≡ t.state.current → Holds g k (faulted task f t) → Holds g k (acted t.state.current e t)
-trap_holds g t k task e f is at h =
-    let P : ℕ → Type 0 = λ i. Holds g k (faulted i f t) in
-    let S : Effect → Type 0 = λ x. Holds g k (acted t.state.current x t) in
-    subst S (sym is) (subst P at h)
+    rw is at keeps
 
 -- ## the turn, by what was fetched
 
@@ -160,36 +137,37 @@ stepped_by g c t at first text wide same fetched is begins =
     let by_wide : Bool → Turn = λ w. rows g c t at first text w in
     ap at_place (sym same) ∙ ap by_first (sym fetched) ∙ ap by_text (sym is) ∙ ap by_wide (sym begins)
 
-module _ (g : Setup) (t : Turn) (k : Kernel) (at first : ℕ) (b : Bool)
+module _ (g : Setup) (t : Turn) (P : Turn → Type 0) (at first : ℕ) (b : Bool)
     (same : at ≡ register t.state t.state.current 15) (is : b ≡ is_text g t.state.current at) where
-  pub text_refused : (f : Fault) → b ≡ false → f ≡ record { number = 2; x = at; y = 0 } → Holds g k (faulted t.state.current f t) → Holds g k (stepped g t.state.current t)
+  pub text_refused : (f : Fault) → b ≡ false → f ≡ record { number = 2; x = at; y = 0 } → P (faulted t.state.current f t) → P (stepped g t.state.current t)
   unfolding rows
   text_refused f refused fault h =
       let e = stepped_by g t.state.current t at (number_at t.state.memory at 2) false (is_wide (number_at t.state.memory at 2)) same refl (sym refused ∙ is) refl in
-      let S : Turn → Type 0 = λ u. Holds g k u in
-      let F : Fault → Type 0 = λ x. Holds g k (faulted t.state.current x t) in
-      subst S (sym e) (subst F fault h)
+      let F : Fault → Type 0 = λ x. P (faulted t.state.current x t) in
+      subst P (sym e) (subst F fault h)
 
-  pub narrow_acted : (d : Decoded) → b ≡ true → first ≡ number_at t.state.memory at 2 → is_wide first ≡ false → d ≡ decoded_of first None → Holds g k (decoded_as g t.state.current at d t) → Holds g k (stepped g t.state.current t)
+  pub narrow_acted : (d : Decoded) → b ≡ true → first ≡ number_at t.state.memory at 2 → is_wide first ≡ false → d ≡ decoded_of first None → P (decoded_as g t.state.current at d t) → P (stepped g t.state.current t)
   unfolding rows
   narrow_acted d granted fetched narrow decoded h =
       let e = stepped_by g t.state.current t at first true false same fetched (sym granted ∙ is) (sym narrow) in
-      let S : Turn → Type 0 = λ u. Holds g k u in
-      let F : Decoded → Type 0 = λ x. Holds g k (decoded_as g t.state.current at x t) in
-      subst S (sym e) (subst F decoded h)
+      let F : Decoded → Type 0 = λ x. P (decoded_as g t.state.current at x t) in
+      subst P (sym e) (subst F decoded h)
 
-  pub wide_stepped : b ≡ true → first ≡ number_at t.state.memory at 2 → is_wide first ≡ true → Holds g k (stepped_wide g t.state.current at first t) → Holds g k (stepped g t.state.current t)
+  pub wide_stepped : b ≡ true → first ≡ number_at t.state.memory at 2 → is_wide first ≡ true → P (stepped_wide g t.state.current at first t) → P (stepped g t.state.current t)
   unfolding rows
   wide_stepped granted fetched wide h =
       let e = stepped_by g t.state.current t at first true true same fetched (sym granted ∙ is) (sym wide) in
-      let S : Turn → Type 0 = λ u. Holds g k u in
-      subst S (sym e) h
+      subst P (sym e) h
 
 -- ## the turn
 
-pub begun_stands : (g : Setup) (k : Kernel) (t : Turn) → Holds g k (begun t.state) → Sane g t.state → Stands g k (begun t.state)
+pub choice_begun : (g : Setup) (s : State) (c : Choice) → IsChoice g (begun s).state c → IsChoice g s c
 unfolding begun
-begun_stands g k t h s = record { holds = h; sane = s }
+choice_begun g s c h = h
+
+pub begun_sane : (g : Setup) (s : State) → Sane g s → Sane g (begun s).state
+unfolding begun
+begun_sane g s h = h
 
 pub begun_state : (s : State) → (begun s).state ≡ s
 unfolding begun

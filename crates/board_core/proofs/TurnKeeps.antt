@@ -24,7 +24,7 @@ use Rattle.board_core.proofs.TableKeeps.{effects}
 
 -- ## small things
 
-both_true : (a b : Bool) → (a && b) ≡ true → (a ≡ true) × (b ≡ true)
+pub both_true : (a b : Bool) → (a && b) ≡ true → (a ≡ true) × (b ≡ true)
 both_true true b h = (refl, h)
 both_true false b h = cc
 
@@ -162,7 +162,7 @@ same_some : {A : Type 0} {a b : A} → Some a ≡ Some b → a ≡ b
 same_some e = cc
 
 -- what is found is in the list, and passes the test
-found_in : {A : Type 0} (p : A → Bool) (xs : List A) (x : A) → find p xs ≡ Some x → Contains xs x × (p x ≡ true)
+pub found_in : {A : Type 0} (p : A → Bool) (xs : List A) (x : A) → find p xs ≡ Some x → Contains xs x × (p x ≡ true)
 found_in p [] x e = no_some e
 found_in p (y ∷ ys) x e = go (p y) refl (found_in p ys x)
   where

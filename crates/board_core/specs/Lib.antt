@@ -1,6 +1,8 @@
 pub mod Script
+pub mod Spans
 pub mod Turn
 pub mod Run
+pub mod Kept
 pub mod Machine
 pub mod Opened
 pub mod Stands

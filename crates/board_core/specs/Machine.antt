@@ -1,10 +1,14 @@
--- The kernel as the bus of its current task.
-use Rattle.std.specs.Prelude.{ℕ, ◌≡◌, true}
+-- The kernel as the bus of its current task, and the processor that is lent to that task.
+use Rattle.std.specs.Prelude.{ℕ, ◌≡◌, Bool, true, false, Option}
+use Rattle.thumb_exec.specs.declared.cpu.Cpu.{Cpu}
 use Rattle.task_table.specs.declared.kernel.Kernel.{Kernel}
 use Rattle.task_table.specs.State.{Setup, Turn}
-use Rattle.task_table.specs.Reading.{is_ready}
+use Rattle.task_table.specs.Reading.{is_ready, chosen}
+use Rattle.task_table.specs.Effects.{with_processor}
 use Rattle.task_table.specs.Start.{start, begun}
+use Rattle.task_table.specs.Sane.{Sane}
 use Rattle.task_table.specs.Holds.{Holds, Stands, setup_of, current_of, task_count, note_count}
+use Rattle.board_core.specs.declared.machine.Machine.{Machine}
 use Rattle.board_core.specs.Turn.{put}
 
 -- what a store leaves: the turn that was held, with the store; all else is as it was
@@ -15,10 +19,41 @@ pub record IsStored (k : Kernel) (a n v : ℕ) (k' : Kernel) : Type 0 where
   pub tasks : task_count k' ≡ task_count k
   pub notes : note_count k' ≡ note_count k
 
--- the kernel stands for the turn, and the current task is ready
-pub record IsReady (g : Setup) (k : Kernel) (t : Turn) : Type 0 where
-  pub stands : Stands g k t
-  pub ready : is_ready t.state t.state.current ≡ true
+-- the registers and flags of the current task become the processor's
+abbrev pub with_cpu : Cpu → Turn → Turn
+with_cpu cpu t = with_processor t.state.current cpu.regs.words cpu.flags t
+
+-- the processor is lent to the current task: what the kernel has of that task's registers and flags
+-- is of an earlier time
+pub record IsLent (g : Setup) (k : Kernel) (cpu : Cpu) (t : Turn) : Type 0 where
+  pub saved : Turn
+  pub holds : Holds g k saved
+  pub ready : is_ready saved.state saved.state.current ≡ true
+  pub is : t ≡ with_cpu cpu saved
+
+abbrev pub HoldsBy : Bool → Setup → Kernel → Cpu → Turn → Type 0
+HoldsBy true g k cpu t = IsLent g k cpu t
+HoldsBy false g k cpu t = Holds g k t
+
+-- the machine holds just what the turn has come to
+abbrev pub MachineHolds : Setup → Machine → Turn → Type 0
+MachineHolds g m t = HoldsBy m.lent g m.reach.kernel m.processor t
+
+-- and the state is sane
+pub record MachineStands (g : Setup) (m : Machine) (t : Turn) : Type 0 where
+  pub holds : MachineHolds g m t
+  pub sane : Sane g t.state
+
+-- the machine stands for the turn, and the processor is lent to the current task, which is ready
+pub record IsReady (g : Setup) (m : Machine) (t : Turn) : Type 0 where
+  pub lent : m.lent ≡ true
+  pub holds : IsLent g m.reach.kernel m.processor t
+  pub sane : Sane g t.state
+
+-- the machine stands for the turn, and this is the choice
+pub record IsNext (g : Setup) (m : Machine) (t : Turn) (next : Option ℕ) : Type 0 where
+  pub stands : MachineStands g m t
+  pub is : next ≡ chosen g t.state
 
 -- the kernel stands for the start of a run
 pub record IsStarted (g : Setup) (k : Kernel) : Type 0 where

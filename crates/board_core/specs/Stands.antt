@@ -3,25 +3,28 @@ use Rattle.std.specs.Prelude.{ℕ, ◌≡◌, List, []}
 use Rattle.kernel_abi.specs.declared.Note.{Note}
 use Rattle.task_table.specs.State.{State}
 use Rattle.task_table.specs.Sane.{Sane, IsCounted}
-use Rattle.task_table.specs.Holds.{Holds as KernelHolds, notes_of as kernel_notes, task_count}
+use Rattle.task_table.specs.Holds.{notes_of as kernel_notes, task_count}
 use Rattle.board_core.specs.declared.board.Board.{Board}
 use Rattle.board_core.specs.Script.{Scenario}
+use Rattle.board_core.specs.Kept.{IsChoice}
+use Rattle.board_core.specs.Machine.{MachineHolds}
 
 -- what is told of a board whatever it stands for: the notes of its last turn, how many turns it
 -- has made, how many tasks it has
 abbrev pub notes_of : Board → List Note
-notes_of b = kernel_notes b.machine.kernel
+notes_of b = kernel_notes b.machine.reach.kernel
 
 abbrev pub turns_of : Board → ℕ
 turns_of b = b.turns
 
 abbrev pub count_of : Board → ℕ
-count_of b = task_count b.machine.kernel
+count_of b = task_count b.machine.reach.kernel
 
--- its parts are those of the state: its kernel's (crates/task_table, Holds) and its turn number
+-- its parts are those of the state: its machine's, its turn number and its choice
 pub record Holds (x : Scenario) (b : Board) (s : State) : Type 0 where
-  pub kernel : KernelHolds x.setup b.machine.kernel record { state = s; notes = notes_of b; writes = []; reads = [] }
+  pub machine : MachineHolds x.setup b.machine record { state = s; notes = notes_of b; writes = []; reads = [] }
   pub turns : b.turns ≡ s.turn
+  pub choice : IsChoice x.setup s b.choice
 
 -- and the state is sane, and its counts are those that a run can reach
 pub record Stands (x : Scenario) (b : Board) (s : State) : Type 0 where

@@ -84,10 +84,14 @@ stepped g c t =
 
 -- ## the turn
 
+-- a task is the current one from now on
+abbrev pub with_current : ℕ → Turn → Turn
+with_current c t = changed (λ s. record s { current = c }) t
+
 -- the chosen task runs; where there is none, nothing does
 abbrev pub turn_of : Setup → Option ℕ → Turn → Turn
 turn_of g None t = t
-turn_of g (Some c) t = stepped g c (changed (λ s. record s { current = c }) t)
+turn_of g (Some c) t = stepped g c (with_current c t)
 
 unfoldable pub ended : Turn → Turn
 ended t = changed (λ s. record s { turn = s.turn + 1 }) t

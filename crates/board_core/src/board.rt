@@ -1,11 +1,11 @@
 //! The board and one turn of it.
-ghost use Rattle.std.specs.Prelude.{ℕ, ◌≡◌, ◌<◌, ◌≤◌, ◌+◌, ◌↔◌, Option, Some, None, length, map, IfOk, IfSome, IsNone, IsSome, slice_get, is_none};
+ghost use Rattle.std.specs.Prelude.{ℕ, ◌≡◌, ◌<◌, ◌≤◌, ◌+◌, ◌↔◌, [], Option, Some, None, length, map, IfOk, IfSome, IsNone, IsSome, slice_get};
 ghost use Rattle.std.specs.Option.{option_map};
 ghost use Rattle.image_format.specs.Images.{picture};
 ghost use Rattle.image_format.specs.Picture.{task_in, line_in};
 ghost use Rattle.task_table.specs.State.{Setup, State, Turn};
 ghost use Rattle.task_table.specs.Memory.{byte_at};
-ghost use Rattle.task_table.specs.Reading.{chosen, setup_at, is_faulted, task_at};
+ghost use Rattle.task_table.specs.Reading.{setup_at};
 ghost use Rattle.task_table.specs.Start.{start};
 ghost use Rattle.task_table.specs.Parts.{task_setup, line_setup};
 ghost use Rattle.task_table.specs.declared.Line.{Line};
@@ -16,22 +16,25 @@ ghost use Rattle.board_core.specs.Run.{ending};
 ghost use Rattle.board_core.specs.Opened.{scenario_of, setup_of, setup_of_task, setup_of_line};
 ghost use Rattle.board_core.specs.Stands.{Stands, Stood, notes_of, turns_of, count_of};
 ghost use Rattle.board_core.specs.Told.{IsTask, IsView, end_at, end_in};
-ghost use Rattle.board_core.specs.Machine.{IsStarted};
+ghost use Rattle.board_core.specs.Machine.{IsStarted, MachineHolds, MachineStands};
+ghost use Rattle.board_core.specs.Kept.{IsChoice};
 
+use crate::choice::{Choice, choice_of};
 use crate::machine::Machine;
 use crate::{End, TaskView, Turned};
-use dispatch::is_idle;
 use image_format::Image;
-use kernel_abi::{Health, Note};
+use kernel_abi::Note;
 use region_check::Region;
 use std::alloc::{AllocError, Global};
 use task_table::{Kernel, LineStart, Memory, TaskStart};
 
-/// A board with an image: what its kernel keeps, and how many turns it made.
+/// A board with an image: what its kernel keeps, how many turns it made, and the choice of the task
+/// that runs next.
 #[derive(Drop)]
 pub struct Board {
     machine: Machine,
     turns: u32,
+    choice: Choice,
 }
 
 /// What the image says of a task.
@@ -104,11 +107,12 @@ impl Board {
         ensures stands { IfOk result (λ b. Stands (scenario_of (picture image.now)) b (start (setup_of (picture image.now)))) }
         ensures turns { IfOk result (λ b. turns_of b ≡ 0) }
     {
+        let kernel = kernel(alloc, image)?;
+        let choice = choice_of(&kernel);
         Ok(Board {
-            machine: Machine {
-                kernel: kernel(alloc, image)?,
-            },
+            machine: Machine::of(kernel),
             turns: 0,
+            choice,
         })
     }
 
@@ -122,14 +126,30 @@ impl Board {
         ensures turns { turns_of self.new ≡ turns_of self.old + 1 }
     {
         self.turns += 1;
-        self.machine.turn()
+        let turned = self.machine.turn(self.choice.next);
+        self.renew();
+        turned
+    }
+
+    /// The choice is made anew where the last turn noted something: a turn that notes nothing leaves
+    /// each task as ready as it was.
+    fn renew(&mut self)
+        requires { (g : Setup) × (t : Turn) × MachineStands g self.old.machine t }
+        ensures holds { (g : Setup) (t : Turn) → MachineHolds g self.old.machine t → MachineHolds g self.new.machine t }
+        ensures choice { (g : Setup) (t : Turn) → MachineStands g self.old.machine t → (t.notes ≡ [] → IsChoice g t.state self.old.choice) → IsChoice g t.state self.new.choice }
+        ensures turns { turns_of self.new ≡ turns_of self.old }
+    {
+        if !self.notes().is_empty() {
+            self.machine.settle();
+            self.choice = choice_of(&self.machine.reach.kernel);
+        }
     }
 
     /// The notes of the last turn, in order.
     pub fn notes(&self) -> &[Note]
         ensures { result.now ≡ notes_of self.now }
     {
-        self.machine.kernel.notes()
+        self.machine.reach.kernel.notes()
     }
 }
 
@@ -141,29 +161,7 @@ impl Board {
         ensures end { (x : Scenario) (s : State) → Stands x self.now s → result ≡ end_at x s }
         ensures before { (x : Scenario) (s : State) (left : ℕ) → Stands x self.now s → 0 < left → result ≡ ending x left s }
     {
-        let down = self.is_down();
-        let still = self.is_idle();
-        end_by(down, still)
-    }
-
-    /// No task is ready.
-    fn is_idle(&self) -> bool
-        requires { Stood self.now }
-        ensures { (x : Scenario) (s : State) → Stands x self.now s → result ≡ is_none (chosen x.setup s) }
-    {
-        is_idle(&self.machine.kernel)
-    }
-
-    /// The supervisor has faulted.
-    fn is_down(&self) -> bool
-        requires { Stood self.now }
-        ensures { (x : Scenario) (s : State) → Stands x self.now s → result ≡ is_faulted (task_at s 0).health }
-    {
-        match self.machine.kernel.health(0) {
-            Health::Well => false,
-            Health::Stopped => false,
-            Health::Faulted(_) => true,
-        }
+        end_by(self.choice.down, self.choice.next.is_none())
     }
 
     /// How many turns were made; the turn number of each state that the board stands for.
@@ -177,21 +175,21 @@ impl Board {
     pub fn now(&self) -> u64
         ensures { (x : Scenario) (s : State) → Stands x self.now s → result ≡ s.now }
     {
-        self.machine.kernel.now()
+        self.machine.reach.kernel.now()
     }
 
     /// The index of the task that ran last; 0 at the start.
     pub fn current(&self) -> usize
         ensures { (x : Scenario) (s : State) → Stands x self.now s → result ≡ s.current }
     {
-        self.machine.kernel.current()
+        self.machine.reach.kernel.current()
     }
 
     /// The number of the next call.
     pub fn next_call(&self) -> u32
         ensures { (x : Scenario) (s : State) → Stands x self.now s → result ≡ s.next_call }
     {
-        self.machine.kernel.next_call()
+        self.machine.reach.kernel.next_call()
     }
 
     /// How many tasks there are.
@@ -199,7 +197,7 @@ impl Board {
         ensures count { result ≡ count_of self.now }
         ensures tasks { (x : Scenario) (s : State) → Stands x self.now s → result ≡ length s.tasks }
     {
-        self.machine.kernel.task_count()
+        self.machine.reach.kernel.task_count()
     }
 
     /// A task, or None past the last one.
@@ -207,24 +205,24 @@ impl Board {
         ensures there { IsSome result ↔ (i < count_of self.now) }
         ensures view { (x : Scenario) (s : State) → Stands x self.now s → IsView s i result }
     {
-        if i >= self.machine.kernel.task_count() {
+        if i >= self.machine.reach.kernel.task_count() {
             return None;
         }
-        Some(view(&self.machine.kernel, i))
+        Some(view(&self.machine, i))
     }
 
     /// The byte at an address of the flash or of the RAM.
     pub fn byte(&self, addr: u32) -> Option<u8>
         ensures { (x : Scenario) (s : State) → Stands x self.now s → result ≡ byte_at s.memory addr }
     {
-        self.machine.kernel.byte(addr)
+        self.machine.reach.kernel.byte(addr)
     }
 
     /// How an interrupt line is: enabled, pending. None past the last one.
     pub fn irq_line(&self, k: usize) -> Option<(bool, bool)>
         ensures { (x : Scenario) (s : State) → Stands x self.now s → result ≡ option_map (λ l. (l.enabled, l.pending)) (slice_get s.lines k) }
     {
-        match self.machine.kernel.line(k) {
+        match self.machine.reach.kernel.line(k) {
             Some(line) => Some((line.enabled, line.pending)),
             None => None,
         }
@@ -234,14 +232,14 @@ impl Board {
     pub fn regions(&self, i: usize) -> &[Region]
         ensures { (x : Scenario) (s : State) → Stands x self.now s → result.now ≡ (setup_at x.setup i).regions }
     {
-        self.machine.kernel.regions(i)
+        self.machine.reach.kernel.regions(i)
     }
 
     /// Region k of a task.
     pub fn region(&self, i: usize, k: usize) -> Option<Region>
         ensures { (x : Scenario) (s : State) → Stands x self.now s → result ≡ slice_get (setup_at x.setup i).regions k }
     {
-        self.machine.kernel.regions(i).get(k).copied()
+        self.machine.reach.kernel.regions(i).get(k).copied()
     }
 }
 
@@ -258,8 +256,8 @@ fn end_by(down: bool, still: bool) -> Option<End>
     }
 }
 
-/// What a kernel tells of a task.
-fn view(kernel: &Kernel, i: usize) -> TaskView
+/// What a kernel has of a task.
+fn kept(kernel: &Kernel, i: usize) -> TaskView
     requires { i < task_count kernel.now }
     ensures { (g : Setup) (t : Turn) → KernelHolds g kernel.now t → IsTask t.state i result }
 {
@@ -272,4 +270,20 @@ fn view(kernel: &Kernel, i: usize) -> TaskView
         timer: kernel.timer(i),
         wait: kernel.wait(i),
     }
+}
+
+/// What a machine tells of a task: the registers and flags of the processor where it is lent to it.
+fn view(machine: &Machine, i: usize) -> TaskView
+    requires { i < task_count machine.now.reach.kernel }
+    ensures { (g : Setup) (t : Turn) → MachineHolds g machine.now t → IsTask t.state i result }
+{
+    let kept = kept(&machine.reach.kernel, i);
+    if machine.is_lent_to(i) {
+        return TaskView {
+            registers: machine.processor.regs.words(),
+            flags: machine.processor.flags,
+            ..kept
+        };
+    }
+    kept
 }

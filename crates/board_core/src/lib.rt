@@ -2,6 +2,7 @@
 #![tactic(auto)]
 
 mod board;
+mod choice;
 mod machine;
 #[cfg(test)]
 mod tests;

@@ -1,34 +1,73 @@
 //! The kernel as the bus of its current task, and one instruction of that task.
-ghost use Rattle.std.specs.Prelude.{◌≡◌, ◌+◌, ◌≤◌, ◌<◌, ◌%◌, ◌^◌, ◌/◌, ◌∷◌, [], ℕ, true};
-ghost use Rattle.region_check.specs.Rights.{may_use};
+ghost use Rattle.std.specs.Prelude.{◌≡◌, ◌≢◌, ◌⊎◌, ◌&&◌, ◌+◌, ◌≤◌, ◌<◌, ◌%◌, ◌^◌, ◌/◌, ◌∷◌, [], ℕ, Option, true, false};
+ghost use Rattle.region_check.specs.Rights.{may_use, has_right};
+ghost use Rattle.region_check.specs.declared.Right.TheVariants.{Execute};
+ghost use Rattle.board_core.specs.Spans.{spans, one_gives};
 ghost use Rattle.task_table.specs.State.{Setup, Turn};
-ghost use Rattle.task_table.specs.Reading.{is_ready, task_at, chosen};
+ghost use Rattle.task_table.specs.Reading.{is_ready, task_at};
 ghost use Rattle.task_table.specs.Start.{begun};
 ghost use Rattle.task_table.specs.Memory.{number_at};
 ghost use Rattle.task_table.specs.Effects.{faulted};
-ghost use Rattle.task_table.specs.Holds.{Holds, Stands, Stood, task_count, note_count, memory_of, setup_of, current_of};
+ghost use Rattle.task_table.specs.Rows.{called, call_noted};
+ghost use Rattle.task_table.specs.Holds.{Holds, task_count, note_count, memory_of, setup_of, current_of};
 ghost use Rattle.thumb_insn.specs.Range.{IsCoded, GivesCoded};
 ghost use Rattle.thumb_insn.specs.Table.{is_wide};
 ghost use Rattle.thumb_exec.specs.Sizes.{IsSize};
-ghost use Rattle.board_core.specs.Turn.{first_lacking, refusals, is_text, put, stepped, stepped_wide, decoded_as, executed, cpu_of, turn_of, turned_of};
-ghost use Rattle.board_core.specs.Machine.{IsStored, IsReady};
+ghost use Rattle.board_core.specs.Turn.{first_lacking, with_current, refusals, is_text, put, stepped, stepped_wide, decoded_as, executed, cpu_of, turn_of, turned_of};
+ghost use Rattle.board_core.specs.Machine.{IsStored, IsReady, IsNext, MachineHolds, MachineStands, IsLent};
 
 use crate::Turned;
-use dispatch::choose;
 use kernel_abi::Fault;
-use region_check::{Region, Right, may};
+use region_check::{Region, Right, Rights, may};
 use task_table::Kernel;
 use thumb_decode::decode;
 use thumb_exec::bus::Bus;
 use thumb_exec::cpu::{Cpu, Outcome};
 use thumb_exec::step::exec;
 use thumb_insn::{Decoded, Insn};
-use words_core::Regs;
+use words_core::{Flags, Regs};
 
 /// The kernel, of whose memory the current task reaches as much as its regions permit.
 #[derive(Drop)]
-pub struct Machine {
+pub struct Reach {
     pub kernel: Kernel,
+}
+
+/// A kernel and a processor. While the processor is lent to the current task, that task's registers
+/// and flags are the processor's; what the kernel has of them is of an earlier time.
+#[derive(Drop)]
+pub struct Machine {
+    pub reach: Reach,
+    pub processor: Cpu,
+    pub lent: bool,
+}
+
+/// Whether the rights have it.
+fn grants(rights: &Rights, right: Right) -> bool
+    ensures { result ≡ has_right rights.now right }
+{
+    match right {
+        Right::Read => rights.read,
+        Right::Write => rights.write,
+        Right::Execute => rights.execute,
+    }
+}
+
+/// Whether a region has all of n bytes.
+fn spans(region: &Region, addr: u32, n: u32) -> bool
+    ensures { result ≡ spans region.now addr n }
+{
+    let end = u64::from(addr) + u64::from(n);
+    region.base <= addr && end <= u64::from(region.base) + u64::from(region.size)
+}
+
+/// Whether one region gives all of n bytes.
+fn one_gives(regions: &[Region], addr: u32, n: u32, right: Right) -> bool
+    ensures { result ≡ one_gives right addr n regions.now }
+{
+    regions
+        .iter()
+        .any(|r| spans(r, addr, n) && grants(&r.rights, right))
 }
 
 /// The first of n bytes at which no region grants the right.
@@ -36,6 +75,9 @@ fn first_lacking(regions: &[Region], addr: u32, n: u32, right: Right) -> Option<
     requires { addr + n ≤ 2 ^ 32 }
     ensures { result ≡ first_lacking (may_use regions.now) addr n right }
 {
+    if one_gives(regions, addr, n, right) {
+        return None;
+    }
     for k in 0..n {
         if !may(regions, addr + k, right) {
             return Some(addr + k);
@@ -67,7 +109,7 @@ fn write(kernel: &mut Kernel, addr: u32, n: u32, value: u32)
     }
 }
 
-impl Bus for Machine {
+impl Bus for Reach {
     ghost refuses = { λ m a n r. refusals (setup_of m.kernel) (current_of m.kernel) a n r };
 
     ghost holds = { λ m a n. number_at (memory_of m.kernel) a n };
@@ -114,82 +156,167 @@ fn cpu(kernel: &Kernel, task: usize) -> Cpu
     }
 }
 
-impl Machine {
-    /// One instruction of the current task, with its effect on the task and on memory.
-    fn execute(&mut self, insn: &Insn)
-        requires coded { IsCoded insn.now }
-        requires ready { (g : Setup) × (t : Turn) × IsReady g self.old.kernel t }
-        requires room { note_count self.old.kernel + 2 ≤ 1024 }
-        ensures { (g : Setup) (t : Turn) → IsReady g self.old.kernel t → Holds g self.new.kernel (executed g t.state.current insn.now t) }
-    {
-        let task = self.kernel.current();
-        let mut processor = cpu(&self.kernel, task);
-        match exec(&mut processor, insn, self) {
-            Outcome::Next => {
-                self.kernel
-                    .set_processor(task, processor.regs.words(), processor.flags);
-            }
-            Outcome::Call => {
-                self.kernel.note_call(task);
-                self.kernel.call(task);
-            }
-            Outcome::Trap(fault) => {
-                self.kernel.fault(task, fault);
-            }
+/// Whether both bytes of a halfword may be executed.
+fn may_execute(regions: &[Region], at: u32) -> bool
+    ensures { result ≡ (may_use regions.now Execute at && may_use regions.now Execute ((at + 1) % 2 ^ 32)) }
+{
+    if at < 0xFFFF_FFFF {
+        if one_gives(regions, at, 2, Right::Execute) {
+            return true;
         }
+    }
+    may(regions, at, Right::Execute) && may(regions, at.wrapping_add(1), Right::Execute)
+}
+
+/// Whether both bytes of a halfword may be executed by the current task.
+fn is_text(kernel: &Kernel, at: u32) -> bool
+    ensures { (g : Setup) (t : Turn) → Holds g kernel.now t → result ≡ is_text g t.state.current at }
+{
+    may_execute(kernel.regions(kernel.current()), at)
+}
+
+impl Machine {
+    /// A machine with this kernel, whose processor is lent to no task.
+    pub fn of(kernel: Kernel) -> Machine
+        ensures kernel { result.reach.kernel ≡ kernel }
+        ensures lent { result.lent ≡ false }
+    {
+        let flags = Flags {
+            n: false,
+            z: false,
+            c: false,
+            v: false,
+        };
+        Machine {
+            reach: Reach { kernel },
+            processor: Cpu {
+                regs: Regs::of([0; 16]),
+                flags,
+            },
+            lent: false,
+        }
+    }
+
+    /// The kernel has the registers and flags of the current task again: before it acts.
+    pub fn settle(&mut self)
+        requires { (g : Setup) × (t : Turn) × MachineStands g self.old t }
+        ensures holds { (g : Setup) (t : Turn) → MachineHolds g self.old t → Holds g self.new.reach.kernel t }
+        ensures settled { self.new.lent ≡ false }
+        ensures count { note_count self.new.reach.kernel ≡ note_count self.old.reach.kernel }
+        ensures tasks { task_count self.new.reach.kernel ≡ task_count self.old.reach.kernel }
+    {
+        if self.lent {
+            let task = self.reach.kernel.current();
+            let registers = self.processor.regs.words();
+            self.reach
+                .kernel
+                .set_processor(task, registers, self.processor.flags);
+            self.lent = false;
+        }
+    }
+
+    /// Whether the processor is lent to this task.
+    pub fn is_lent_to(&self, task: usize) -> bool
+        ensures lent { result ≡ true → self.now.lent ≡ true }
+        ensures current { result ≡ true → current_of self.now.reach.kernel ≡ task }
+        ensures other { result ≡ false → (self.now.lent ≡ false) ⊎ (current_of self.now.reach.kernel ≢ task) }
+    {
+        if self.lent {
+            self.reach.kernel.current() == task
+        } else {
+            false
+        }
+    }
+
+    /// The task is the current one from now on, and the processor is lent to it.
+    fn lend(&mut self, task: usize)
+        requires there { task < task_count self.old.reach.kernel }
+        requires stands { (g : Setup) × (t : Turn) × MachineStands g self.old t }
+        ensures lent { self.new.lent ≡ true }
+        ensures holds { (g : Setup) (t : Turn) → MachineHolds g self.old t → is_ready t.state task ≡ true → IsLent g self.new.reach.kernel self.new.processor (with_current task t) }
+        ensures count { note_count self.new.reach.kernel ≡ note_count self.old.reach.kernel }
+    {
+        if self.is_lent_to(task) {
+            return;
+        }
+        self.settle();
+        self.reach.kernel.set_current(task);
+        self.processor = cpu(&self.reach.kernel, task);
+        self.lent = true;
     }
 }
 
 impl Machine {
+    /// One instruction of the current task, with its effect on the task and on memory.
+    fn execute(&mut self, insn: &Insn)
+        requires coded { IsCoded insn.now }
+        requires ready { (g : Setup) × (t : Turn) × IsReady g self.old t }
+        requires room { note_count self.old.reach.kernel + 2 ≤ 1024 }
+        ensures { (g : Setup) (t : Turn) → IsReady g self.old t → MachineHolds g self.new (executed g t.state.current insn.now t) }
+    {
+        match exec(&mut self.processor, insn, &mut self.reach) {
+            Outcome::Next => {}
+            Outcome::Call => self.call(),
+            Outcome::Trap(fault) => self.fault(fault),
+        }
+    }
+
+    /// The current task calls the kernel.
+    fn call(&mut self)
+        requires ready { (g : Setup) × (t : Turn) × IsReady g self.old t }
+        requires room { note_count self.old.reach.kernel + 2 ≤ 1024 }
+        ensures { (g : Setup) (t : Turn) → IsReady g self.old t → MachineHolds g self.new (called t.state.current (call_noted t.state.current t)) }
+    {
+        self.settle();
+        let task = self.reach.kernel.current();
+        self.reach.kernel.note_call(task);
+        self.reach.kernel.call(task);
+    }
+
+    /// The current task faults.
+    fn fault(&mut self, fault: Fault)
+        requires ready { (g : Setup) × (t : Turn) × IsReady g self.old t }
+        requires from_one { 1 ≤ fault.number }
+        requires to_ten { fault.number ≤ 10 }
+        requires room { note_count self.old.reach.kernel < 1024 }
+        ensures { (g : Setup) (t : Turn) → IsReady g self.old t → MachineHolds g self.new (faulted t.state.current fault t) }
+    {
+        self.settle();
+        let task = self.reach.kernel.current();
+        self.reach.kernel.fault(task, fault);
+    }
+
     /// What was decoded at an address is carried out; what has no row in the table is Illegal.
-    fn act(&mut self, decoded: Decoded, at: u32)
-        requires coded { GivesCoded decoded }
-        requires ready { (g : Setup) × (t : Turn) × IsReady g self.old.kernel t }
-        requires room { note_count self.old.kernel + 2 ≤ 1024 }
-        ensures { (g : Setup) (t : Turn) → IsReady g self.old.kernel t → Holds g self.new.kernel (decoded_as g t.state.current at decoded t) }
+    #[inline(always)]
+    fn act(&mut self, decoded: &Decoded, at: u32)
+        requires coded { GivesCoded decoded.now }
+        requires ready { (g : Setup) × (t : Turn) × IsReady g self.old t }
+        requires room { note_count self.old.reach.kernel + 2 ≤ 1024 }
+        ensures { (g : Setup) (t : Turn) → IsReady g self.old t → MachineHolds g self.new (decoded_as g t.state.current at decoded.now t) }
     {
         match decoded {
-            Decoded::Narrow(insn) => self.execute(&insn),
-            Decoded::Wide(insn) => self.execute(&insn),
+            Decoded::Narrow(insn) => self.execute(insn),
+            Decoded::Wide(insn) => self.execute(insn),
             Decoded::Illegal => self.fault(Fault::illegal(at)),
             Decoded::NeedsSecond => self.fault(Fault::illegal(at)),
         }
     }
 
-    /// The current task faults.
-    fn fault(&mut self, fault: Fault)
-        requires ready { (g : Setup) × (t : Turn) × IsReady g self.old.kernel t }
-        requires from_one { 1 ≤ fault.number }
-        requires to_ten { fault.number ≤ 10 }
-        requires room { note_count self.old.kernel < 1024 }
-        ensures { (g : Setup) (t : Turn) → IsReady g self.old.kernel t → Holds g self.new.kernel (faulted t.state.current fault t) }
-    {
-        let task = self.kernel.current();
-        self.kernel.fault(task, fault);
-    }
-
-    /// Whether both bytes of a halfword may be executed by the current task.
-    fn is_text(&self, at: u32) -> bool
-        ensures { (g : Setup) (t : Turn) → Holds g self.now.kernel t → result ≡ is_text g t.state.current at }
-    {
-        let regions = self.kernel.regions(self.kernel.current());
-        may(regions, at, Right::Execute) && may(regions, at.wrapping_add(1), Right::Execute)
-    }
-
     /// One instruction of the current task: fetched, decoded, carried out.
     pub fn step(&mut self)
-        requires ready { (g : Setup) × (t : Turn) × IsReady g self.old.kernel t }
-        requires room { note_count self.old.kernel + 2 ≤ 1024 }
-        ensures { (g : Setup) (t : Turn) → IsReady g self.old.kernel t → Holds g self.new.kernel (stepped g t.state.current t) }
+        requires ready { (g : Setup) × (t : Turn) × IsReady g self.old t }
+        requires room { note_count self.old.reach.kernel + 2 ≤ 1024 }
+        ensures { (g : Setup) (t : Turn) → IsReady g self.old t → MachineHolds g self.new (stepped g t.state.current t) }
     {
-        let at = self.kernel.register(self.kernel.current(), 15);
-        if !self.is_text(at) {
+        let at = self.processor.regs.get(15);
+        if !is_text(&self.reach.kernel, at) {
             self.fault(Fault::illegal_text(at));
             return;
         }
-        let first = self.kernel.half(at);
+        let first = self.reach.kernel.half(at);
         if first / 2048 < 29 {
-            self.act(decode(first, None), at);
+            let decoded = decode(first, None);
+            self.act(&decoded, at);
             return;
         }
         self.step_wide(first, at);
@@ -197,33 +324,34 @@ impl Machine {
 
     /// The same where the first halfword begins a wide instruction.
     fn step_wide(&mut self, first: u16, at: u32)
-        requires ready { (g : Setup) × (t : Turn) × IsReady g self.old.kernel t }
-        requires room { note_count self.old.kernel + 2 ≤ 1024 }
-        ensures { (g : Setup) (t : Turn) → IsReady g self.old.kernel t → Holds g self.new.kernel (stepped_wide g t.state.current at first t) }
+        requires ready { (g : Setup) × (t : Turn) × IsReady g self.old t }
+        requires room { note_count self.old.reach.kernel + 2 ≤ 1024 }
+        ensures { (g : Setup) (t : Turn) → IsReady g self.old t → MachineHolds g self.new (stepped_wide g t.state.current at first t) }
     {
         let after = at.wrapping_add(2);
-        if !self.is_text(after) {
+        if !is_text(&self.reach.kernel, after) {
             self.fault(Fault::illegal_text(after));
             return;
         }
-        let second = self.kernel.half(after);
-        self.act(decode(first, Some(second)), at);
+        let second = self.reach.kernel.half(after);
+        let decoded = decode(first, Some(second));
+        self.act(&decoded, at);
     }
 }
 
 impl Machine {
-    /// One turn: one instruction of the chosen task, or nothing where none is ready.
-    pub fn turn(&mut self) -> Turned
-        requires { Stood self.old.kernel }
-        ensures holds { (g : Setup) (t : Turn) → Stands g self.old.kernel t → Holds g self.new.kernel (turn_of g (chosen g t.state) (begun t.state)) }
-        ensures turned { (g : Setup) (t : Turn) → Stands g self.old.kernel t → result ≡ turned_of t.state (chosen g t.state) }
+    /// One turn: one instruction of the task that is chosen, or nothing where none is.
+    pub fn turn(&mut self, next: Option<usize>) -> Turned
+        requires { (g : Setup) × (t : Turn) × IsNext g self.old t next }
+        ensures holds { (g : Setup) (t : Turn) → IsNext g self.old t next → MachineHolds g self.new (turn_of g next (begun t.state)) }
+        ensures turned { (g : Setup) (t : Turn) → IsNext g self.old t next → result ≡ turned_of t.state next }
     {
-        self.kernel.clear_notes();
-        match choose(&self.kernel) {
+        self.reach.kernel.clear_notes();
+        match next {
             None => Turned::Idle,
             Some(task) => {
-                let at = self.kernel.register(task, 15);
-                self.kernel.set_current(task);
+                self.lend(task);
+                let at = self.processor.regs.get(15);
                 self.step();
                 Turned::Ran {
                     task: task as u16,

@@ -175,34 +175,3 @@ chosen_none g s low inside =
 pub rank_test : (o : Option ℕ) (p : ℕ) → option_eq eqb o (Some p) ≡ is_rank p o
 rank_test None p = refl
 rank_test (Some q) p = refl
-
--- ## where a task has the lowest priority number, some task is chosen
-
-none_both : {X : Type 0} (a b : Option X) → or_else a b ≡ None → (a ≡ None) × (b ≡ None)
-none_both None b h = (refl, h)
-none_both (Some x) b h = no_some (sym h)
-
-same_place : (p : ℕ) → is_rank p (Some p) ≡ true
-same_place p = eq-eqb p p refl
-
-none_or : (o : Option ℕ) → (o ≡ None → ⊥) → is_none o ≡ false
-none_or None h = absurd (h refl)
-none_or (Some x) h = refl
-
-not_missed : (p : ℕ → Bool) (from len j : ℕ) → find p (range_with_len from len) ≡ None → from ≤ j → j < from + len → p j ≡ true → ⊥
-not_missed p from len j none above below found = false≢true (sym (find_range_none_at p from len j none above below) ∙ found)
-
-pub some_chosen : (g : Setup) (s : State) (p : ℕ) → IsLowest g s (length s.tasks) (Some p) → s.current < length s.tasks → is_none (chosen g s) ≡ false
-some_chosen g s p low inside = none_or (chosen g s) (λ e.
-    let test : ℕ → Bool = has_rank g s p in
-    let n : ℕ = length s.tasks in
-    let c : ℕ = s.current in
-    let both = none_both (find test (range_with_len c (n - c))) (find test (range_with_len 0 c)) (sym (chosen_some g s p low inside) ∙ e) in
-    let j : ℕ = low.there.0 in
-    let below : j < n = low.there.1 in
-    let ranked : test j ≡ true = ap (is_rank p) low.there.2 ∙ same_place p in
-    at_place test n c j below inside both.0 both.1 ranked (cases_lt j c))
-  where
-    at_place : (test : ℕ → Bool) (n c j : ℕ) → j < n → c < n → find test (range_with_len c (n - c)) ≡ None → find test (range_with_len 0 c) ≡ None → test j ≡ true → (j < c) ⊎ (c ≤ j) → ⊥
-    at_place test n c j below inside late early ranked (inl before) = not_missed test 0 c j early (omega arith) (omega arith) ranked
-    at_place test n c j below inside late early ranked (inr after) = not_missed test c (n - c) j late after (omega arith) ranked

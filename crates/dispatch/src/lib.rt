@@ -1,7 +1,7 @@
 #![tactic(auto)]
 //! Which task runs (Hubris Reference, Scheduling: strict priority; of equals the one that goes on, else the next).
 
-ghost use Rattle.std.specs.Prelude.{◌≡◌, ◌+◌, ◌-◌, ◌<◌, ◌≤◌, ℕ, Option, Some, None, find, is_none};
+ghost use Rattle.std.specs.Prelude.{◌≡◌, ◌+◌, ◌-◌, ◌<◌, ◌≤◌, ℕ, Option, Some, None, find};
 ghost use Rattle.std.specs.List.{range_with_len};
 ghost use Rattle.task_table.specs.State.{Setup, Turn};
 ghost use Rattle.task_table.specs.Reading.{chosen};
@@ -70,16 +70,5 @@ pub fn choose(k: &Kernel) -> Option<usize>
             Some(i) => Some(i),
             None => first_with(k, 0, k.current(), priority),
         },
-    }
-}
-
-/// Whether no task is ready.
-pub fn is_idle(k: &Kernel) -> bool
-    requires { Stood k.now }
-    ensures { (g : Setup) (t : Turn) → Stands g k.now t → result ≡ is_none (chosen g t.state) }
-{
-    match lowest(k) {
-        None => true,
-        Some(_) => false,
     }
 }

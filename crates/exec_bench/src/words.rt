@@ -1,6 +1,7 @@
 //! The bus of the loop: ten halfwords of code and 64 words of RAM.
-ghost use Rattle.std.specs.Prelude.{◌≡◌, ℕ, ◌<◌, ◌≤◌, slice_set};
-ghost use Rattle.exec_bench.specs.Words.{refused, held, word_index, is_word, is_code};
+ghost use Rattle.std.specs.Prelude.{◌≡◌, ℕ, ◌<◌, ◌≤◌, slice_set, map, Some, replicate};
+ghost use Rattle.thumb_insn.specs.Table.{narrow_of};
+ghost use Rattle.exec_bench.specs.Words.{refused, held, word_index, is_word, is_code, loop_insns};
 
 use region_check::Right;
 use thumb_exec::bus::Bus;
@@ -29,7 +30,11 @@ impl Words {
     /// The loop at 0x08000000: `adds r0, r0, #1`, `lsls r1, r0, #3`, `eors r2, r1`,
     /// `str r2, [r4, #0]`, `ldr r3, [r4, #4]`, `push {r0, r2}`, `pop {r1, r5}`, `subs r6, r0, r3`,
     /// `cmp r6, #0`, `bne 0x08000000`.
-    pub fn new() -> Words {
+    #[tactic(auto, using(crate::proofs::Loop::loop_is_coded))]
+    pub fn new() -> Words
+        ensures code { map narrow_of result.code ≡ map Some loop_insns }
+        ensures ram { result.ram ≡ replicate 64 0 }
+    {
         Words {
             code: [
                 0x1C40, 0x00C1, 0x404A, 0x6022, 0x6863, 0xB405, 0xBC22, 0x1AC6, 0x2E00, 0xD1F5,

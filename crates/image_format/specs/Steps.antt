@@ -6,12 +6,12 @@ use Rattle.image_format.specs.declared.records.Header.{Header}
 use Rattle.image_format.specs.declared.records.TaskRecord.{TaskRecord}
 use Rattle.image_format.specs.declared.records.LineRecord.{LineRecord}
 
--- the most tasks and interrupts that are taken for now
+-- the most tasks and the most interrupts of an image
 abbrev pub most_tasks : ℕ
-most_tasks = 1
+most_tasks = 32
 
 abbrev pub most_lines : ℕ
-most_lines = 0
+most_lines = 32
 
 -- a cause and a place
 abbrev pub Refusal : Type 0

@@ -5,10 +5,10 @@ ghost use Rattle.image_format.specs.Steps.{count_fault, field_fault, line_fault,
 
 use crate::records::{Header, LineRecord, TaskRecord};
 
-/// The most tasks and interrupts that are taken for now.
-const MOST_TASKS: u8 = 1;
+/// The most tasks and the most interrupts of an image.
+const MOST_TASKS: u8 = 32;
 
-const MOST_LINES: u8 = 0;
+const MOST_LINES: u8 = 32;
 
 /// The first field of the header that is refused: a cause and the place of a byte, None where none is.
 /// docs/FORMATS.md, Image.

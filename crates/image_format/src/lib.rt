@@ -4,6 +4,7 @@
 
 mod checks;
 mod image;
+mod making;
 mod parts;
 mod reading;
 mod records;

@@ -11,7 +11,15 @@ use trace_cli::hubris_main;
 // The words of a run of an image with the empty script, and of its memory after it.
 fn words(alloc: Global, image: &str, steps: &str) -> Result<Vec<String>, AllocError> {
     let mut words = Vec::new(alloc);
-    for word in ["hubris", "run", image, "empty.txt", "--steps", steps, "--mem"] {
+    for word in [
+        "hubris",
+        "run",
+        image,
+        "empty.txt",
+        "--steps",
+        steps,
+        "--mem",
+    ] {
         words.push(String::from_str(alloc, word)?)?;
     }
     Ok(words)

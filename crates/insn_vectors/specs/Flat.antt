@@ -1,5 +1,5 @@
 -- A flash from 0x08000000 and a RAM from 0x20000000, behind regions.
-use Rattle.std.specs.Prelude.{◌≡◌, ℕ, zero, suc, ◌+◌, ◌-◌, ◌*◌, ◌/◌, ◌%◌, ◌^◌, nat_eq, nat_le, nat_lt, ◌&&◌, List, length, slice_index, Option, Some, None, if◌then◌else◌}
+use Rattle.std.specs.Prelude.{◌≡◌, ℕ, zero, suc, ◌+◌, ◌-◌, ◌*◌, ◌/◌, ◌%◌, ◌^◌, nat_eq, nat_le, nat_lt, ◌&&◌, List, length, true, false, slice_index, slice_set, Option, Some, None, if◌then◌else◌}
 use Rattle.region_check.specs.declared.Right.{Right}
 use Rattle.region_check.specs.declared.Region.{Region}
 use Rattle.region_check.specs.Rights.{may_use}
@@ -29,3 +29,15 @@ IsStored old a n v new = (k : ℕ) → ram_at new k ≡ (if nat_le a k && nat_lt
 -- the RAM after one byte
 abbrev pub IsPut : List ℕ → ℕ → ℕ → List ℕ → Type 0
 IsPut old a v new = (k : ℕ) → ram_at new k ≡ (if nat_eq k a && nat_le (2 ^ 29) k && nat_lt k (2 ^ 29 + length old) then v else ram_at old k)
+
+-- the flash after a byte at an address is filled in
+abbrev pub filled : List ℕ → ℕ → ℕ → List ℕ
+filled flash a v = if nat_le (2 ^ 27) a && nat_lt a (2 ^ 27 + length flash) && nat_lt a (2 ^ 29) then slice_set flash (a - 2 ^ 27) v else flash
+
+-- 64 KiB of flash, to be read and executed
+abbrev pub flash_region : Region
+flash_region = record { base = 2 ^ 27; size = 0x10000; rights = record { read = true; write = false; execute = true; device = false } }
+
+-- 4 KiB of RAM, to be read and written
+abbrev pub ram_region : Region
+ram_region = record { base = 2 ^ 29; size = 0x1000; rights = record { read = true; write = true; execute = false; device = false } }

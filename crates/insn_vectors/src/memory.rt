@@ -1,6 +1,6 @@
 //! A flash and a RAM behind regions, as a bus.
-ghost use Rattle.std.specs.Prelude.{◌≡◌, ℕ, ◌+◌, ◌<◌, ◌≤◌, ◌*◌, ◌^◌, ◌/◌, ◌%◌, length};
-ghost use Rattle.insn_vectors.specs.Flat.{first_bad, byte_at, number_of, IsStored, IsPut};
+ghost use Rattle.std.specs.Prelude.{◌≡◌, ℕ, ◌+◌, ◌<◌, ◌≤◌, ◌*◌, ◌^◌, ◌/◌, ◌%◌, length, replicate, ◌∷◌, [], IfOk};
+ghost use Rattle.insn_vectors.specs.Flat.{first_bad, byte_at, number_of, IsStored, IsPut, filled, flash_region, ram_region};
 
 use region_check::{Region, Right, Rights, may};
 use std::alloc::{AllocError, Global};
@@ -36,7 +36,11 @@ fn first_bad(regions: &[Region], a: u32, n: u32, right: Right) -> Option<u32>
 impl Memory {
     /// Zeros: 64 KiB of flash, which may be read and executed, and 4 KiB of RAM, which may be read
     /// and written.
-    pub fn new(alloc: Global) -> Result<Memory, AllocError> {
+    pub fn new(alloc: Global) -> Result<Memory, AllocError>
+        ensures flash { IfOk result (λ m. m.flash.items ≡ replicate 0x10000 0) }
+        ensures ram { IfOk result (λ m. m.ram.items ≡ replicate 0x1000 0) }
+        ensures regions { IfOk result (λ m. m.regions.items ≡ flash_region ∷ ram_region ∷ []) }
+    {
         let flash = vec![in alloc; 0; 0x1_0000]?;
         let ram = vec![in alloc; 0; 0x1000]?;
         let code = Rights {
@@ -106,7 +110,11 @@ impl Memory {
     }
 
     /// Writes a byte of flash or RAM, whatever the rights; elsewhere nothing.
-    pub fn fill(&mut self, a: u32, byte: u8) {
+    pub fn fill(&mut self, a: u32, byte: u8)
+        ensures ram { IsPut self.old.ram.items a byte self.new.ram.items }
+        ensures flash { self.new.flash.items ≡ filled self.old.flash.items a byte }
+        ensures regions { self.new.regions ≡ self.old.regions }
+    {
         if a >= RAM {
             self.put(a, byte);
         } else if a >= FLASH {

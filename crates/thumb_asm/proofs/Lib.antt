@@ -10,3 +10,5 @@ pub mod Below
 pub mod Values
 pub mod Labels
 pub mod Expressions
+pub mod Bytes
+pub mod Lines

@@ -1,12 +1,17 @@
 -- What the table gives for a code has that code.
 use Rattle.std.proofs.Common.{◌≡◌, ℕ, ◌+◌, ◌*◌, ◌^◌, ◌<◌, Some}
-use Rattle.thumb_insn.specs.Table.{narrow_of, wide_of}
-use Rattle.thumb_insn.specs.Range.{IsCoded}
+use Rattle.std.specs.Prelude.{Option, None}
+use Rattle.thumb_insn.specs.Table.{narrow_of, narrow_result, wide_of}
+use Rattle.thumb_insn.specs.Range.{IsCoded, GivesCoded}
 use Rattle.thumb_insn.specs.declared.Insn.{Insn}
 use Rattle.thumb_insn.specs.declared.Code.TheVariants.{One, Two}
 
-pub narrow_coded : (h : ℕ) (i : Insn) → narrow_of h ≡ Some i → h < 2 ^ 16 → IsCoded i
+narrow_coded : (h : ℕ) (i : Insn) → narrow_of h ≡ Some i → h < 2 ^ 16 → IsCoded i
 narrow_coded h i e f = (One h, f, e)
 
 pub wide_coded : (first second : ℕ) (i : Insn) → wide_of (first * 2 ^ 16 + second) ≡ Some i → first < 2 ^ 16 → second < 2 ^ 16 → IsCoded i
 wide_coded first second i e f g = (Two first second, (f, g), e)
+
+pub narrow_gives_coded : (h : ℕ) (o : Option Insn) → narrow_of h ≡ o → h < 2 ^ 16 → GivesCoded (narrow_result o)
+narrow_gives_coded h None e f = tt
+narrow_gives_coded h (Some i) e f = narrow_coded h i e f

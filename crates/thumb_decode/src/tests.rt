@@ -192,14 +192,14 @@ fn codes_outside_the_table_are_illegal(rt: HostRuntime) {
         (0xf3ef, Some(0x0000)),
         (0xf000, Some(0x8000)),
     ] {
-        assert!(&rt; decode(first, second) == Decoded::Illegal);
+        assert!(&rt; matches!(decode(first, second), Decoded::Illegal));
     }
 }
 
 #[test]
 fn a_second_halfword_is_asked_for_after_each_wide_prefix(rt: HostRuntime) {
     for first in [0xe800, 0xefff, 0xf000, 0xf7ff, 0xf800, 0xffff] {
-        assert!(&rt; decode(first, None) == Decoded::NeedsSecond);
+        assert!(&rt; matches!(decode(first, None), Decoded::NeedsSecond));
     }
 }
 
@@ -209,7 +209,7 @@ fn the_halfwords_are_counted(rt: HostRuntime) {
         .filter(|first| matches!(decode(*first, None), Decoded::Narrow(_)))
         .count();
     let longer = (0..=0xffff_u16)
-        .filter(|first| decode(*first, None) == Decoded::NeedsSecond)
+        .filter(|first| matches!(decode(*first, None), Decoded::NeedsSecond))
         .count();
     assert_eq!(rt; legal, 55_933);
     assert_eq!(rt; longer, 6_144);

@@ -1,6 +1,7 @@
 //! Instructions that reach no memory.
 ghost use Rattle.std.specs.Prelude.{◌≡◌, ◌<◌, ℕ, Bool, [], true, false};
 ghost use Rattle.thumb_exec.specs.Effect.{Next, advance, put, get, with_flags, nz, nzc, data_effect, sum_to, shift_to, tested, result as result_of};
+ghost use Rattle.words_core.specs.Words.{awc, complement};
 
 use crate::cpu::{Cpu, Outcome};
 use thumb_insn::{Op, Reg};
@@ -79,6 +80,35 @@ pub fn finish_test(cpu: &mut Cpu, flags: Flags)
 {
     cpu.flags = flags;
     advance(cpu, 2);
+}
+
+/// Adds to a register, with the flags of the sum, and goes on.
+pub fn add(cpu: &mut Cpu, d: Reg, n: Reg, y: u32)
+    requires place { d.number < 16 }
+    requires source { n.number < 16 }
+    ensures { sum_to cpu.old d (awc (get cpu.old n) y false) ≡ Next cpu.new [] }
+{
+    let sum = add_with_carry(get(cpu, n), y, false);
+    finish_sum(cpu, d, sum);
+}
+
+/// Subtracts from a register, with the flags of the sum with the complement, and goes on.
+pub fn subtract(cpu: &mut Cpu, d: Reg, n: Reg, y: u32)
+    requires place { d.number < 16 }
+    requires source { n.number < 16 }
+    ensures { sum_to cpu.old d (awc (get cpu.old n) (complement y) true) ≡ Next cpu.new [] }
+{
+    let sum = add_with_carry(get(cpu, n), !y, true);
+    finish_sum(cpu, d, sum);
+}
+
+/// The flags of a subtraction alone, and goes on.
+pub fn compare(cpu: &mut Cpu, n: Reg, y: u32)
+    requires { n.number < 16 }
+    ensures { tested cpu.old (awc (get cpu.old n) (complement y) true).1 ≡ Next cpu.new [] }
+{
+    let flags = add_with_carry(get(cpu, n), !y, true).1;
+    finish_test(cpu, flags);
 }
 
 /// Computes of two low registers.

@@ -3,7 +3,7 @@ ghost use Rattle.std.specs.Prelude.{◌≡◌, ◌<◌, ℕ, Bool, [], true, fal
 ghost use Rattle.thumb_exec.specs.Effect.{Acts, effect, put, advance, shifted};
 ghost use Rattle.thumb_insn.specs.Range.{InRange, IsCoded};
 
-use crate::arith::{advance, data, finish_nz, finish_shift, finish_sum, finish_test, get};
+use crate::arith::{add, advance, compare, data, finish_nz, finish_shift, get, subtract};
 use crate::bus::Bus;
 use crate::control::{
     base, branch_to, change, flags_of, flags_word, holds, link, link_to, operand, put_any, target,
@@ -13,7 +13,7 @@ use crate::memory::{load, store};
 use crate::several::{ldm, pop, push, stm};
 use kernel_abi::Fault;
 use thumb_insn::{Insn, Load, Shift, Size};
-use words_core::{add_with_carry, asr, lsl, lsr};
+use words_core::{asr, lsl, lsr};
 
 /// A shift by a number of bits.
 fn shift(by: Shift, x: u32, n: u8, c: bool) -> (u32, bool)
@@ -54,23 +54,21 @@ fn step<B: Bus>(cpu: &mut Cpu, insn: &Insn, bus: &mut B) -> Outcome
             Outcome::Next
         }
         Insn::AddsReg { d, n, m } => {
-            let sum = add_with_carry(get(cpu, n), get(cpu, m), false);
-            finish_sum(cpu, d, sum);
+            let y = get(cpu, m);
+            add(cpu, d, n, y);
             Outcome::Next
         }
         Insn::SubsReg { d, n, m } => {
-            let sum = add_with_carry(get(cpu, n), !get(cpu, m), true);
-            finish_sum(cpu, d, sum);
+            let y = get(cpu, m);
+            subtract(cpu, d, n, y);
             Outcome::Next
         }
         Insn::AddsImm3 { d, n, value } => {
-            let sum = add_with_carry(get(cpu, n), value, false);
-            finish_sum(cpu, d, sum);
+            add(cpu, d, n, value);
             Outcome::Next
         }
         Insn::SubsImm3 { d, n, value } => {
-            let sum = add_with_carry(get(cpu, n), !value, true);
-            finish_sum(cpu, d, sum);
+            subtract(cpu, d, n, value);
             Outcome::Next
         }
         Insn::MovsImm { d, value } => {
@@ -78,18 +76,15 @@ fn step<B: Bus>(cpu: &mut Cpu, insn: &Insn, bus: &mut B) -> Outcome
             Outcome::Next
         }
         Insn::CmpImm { n, value } => {
-            let sum = add_with_carry(get(cpu, n), !value, true);
-            finish_test(cpu, sum.1);
+            compare(cpu, n, value);
             Outcome::Next
         }
         Insn::AddsImm8 { d, value } => {
-            let sum = add_with_carry(get(cpu, d), value, false);
-            finish_sum(cpu, d, sum);
+            add(cpu, d, d, value);
             Outcome::Next
         }
         Insn::SubsImm8 { d, value } => {
-            let sum = add_with_carry(get(cpu, d), !value, true);
-            finish_sum(cpu, d, sum);
+            subtract(cpu, d, d, value);
             Outcome::Next
         }
         Insn::Data { op, d, m } => {
@@ -102,8 +97,8 @@ fn step<B: Bus>(cpu: &mut Cpu, insn: &Insn, bus: &mut B) -> Outcome
             Outcome::Next
         }
         Insn::CmpHigh { n, m } => {
-            let sum = add_with_carry(get(cpu, n), !get(cpu, m), true);
-            finish_test(cpu, sum.1);
+            let y = get(cpu, m);
+            compare(cpu, n, y);
             Outcome::Next
         }
         Insn::MovHigh { d, m } => {

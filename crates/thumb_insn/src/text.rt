@@ -2,30 +2,226 @@
 ghost use Rattle.std.specs.Prelude.{◌≡◌, ◌≤◌, ◌<◌, ◌+◌, ◌++◌, [], ◌∷◌, length, map, codes, decimal, Bool, true, false, if◌then◌else◌, nat_eq};
 ghost use Rattle.arrayvec.specs.ArrayString.{array_string_len};
 ghost use Rattle.thumb_insn.specs.Fields.{is_listed};
-ghost use Rattle.thumb_insn.specs.Text.{branch_target, literal_target, register_name, reg_text, hex_digit, hex_word, place, joined, registers_below, low_registers, is_empty, and_also, braces, shift_name, store_name, load_name, change_name, branch_name, barrier_name, shift_text, op_text, hint_text, line, insn_text, raised};
-ghost use Rattle.thumb_insn.specs.Operand.{operand_text, room};
+ghost use Rattle.thumb_insn.specs.Text.{imm, at_sum, branch_target, literal_target, register_name, reg_text, hex_digit, hex_word, place, joined, registers_below, low_registers, is_empty, and_also, braces, shift_name, op_name, store_name, load_name, change_name, branch_name, barrier_name, shift_text, op_text, hint_text, line, insn_text, raised};
+ghost use Rattle.thumb_insn.specs.Line.{name_text, operand_text, line_text};
 ghost use Rattle.thumb_insn.specs.declared.text.Operand.TheVariants as operand;
 
 use crate::{Barrier, Bytes, Cond, Insn, Load, Op, Reg, Shift, Size};
 use arrayvec::ArrayString;
 use itoa::Buffer;
 
+/// A mnemonic of its own, or one for each value of a part.
+#[derive(Clone, Copy)]
+enum Name {
+    Movs,
+    Adds,
+    Subs,
+    Add,
+    Sub,
+    Cmp,
+    Mov,
+    Bx,
+    Blx,
+    Ldr,
+    Str,
+    Adr,
+    Push,
+    Pop,
+    Cpsie,
+    Cpsid,
+    Bkpt,
+    Stm,
+    Ldm,
+    Svc,
+    B,
+    Bl,
+    Mrs,
+    Nop,
+    Yield,
+    Wfe,
+    Wfi,
+    Sev,
+    Hint,
+    ShiftBy(Shift),
+    Compute(Op),
+    StoreOf(Size),
+    LoadOf(Load),
+    Change(Bytes),
+    BranchIf(Cond),
+    Fence(Barrier),
+}
+
 /// An operand as it is written.
 #[derive(Clone, Copy)]
 enum Operand {
     Register(Reg),
-    Raised(Reg),
     Imm(u32),
     Place(u32),
     Sum(Reg, Reg),
     Beyond(Reg, u32),
-    List(u8),
-    ListAnd(u8, u8),
     Apsr,
     Interrupts,
 }
 
+/// What is written of an instruction: its mnemonic and its operands. The last four have a list of
+/// registers: alone, with one register behind, behind a base, and behind a base that is raised.
+#[derive(Clone, Copy)]
+enum Line {
+    Bare(Name),
+    One(Name, Operand),
+    Two(Name, Reg, Operand),
+    Three(Name, Reg, Reg, Operand),
+    ToStatus(Reg),
+    List(Name, u8),
+    ListAnd(Name, u8, u8),
+    Several(Name, Reg, u8),
+    Raised(Name, Reg, u8),
+}
+
 const SP: Reg = Reg { number: 13 };
+
+fn shift_name(shift: Shift) -> &'static str
+    ensures { result.now ≡ shift_name shift }
+{
+    match shift {
+        Shift::Lsl => "lsls",
+        Shift::Lsr => "lsrs",
+        Shift::Asr => "asrs",
+    }
+}
+
+fn op_name(op: Op) -> &'static str
+    ensures { result.now ≡ op_name op }
+{
+    match op {
+        Op::Ands => "ands",
+        Op::Eors => "eors",
+        Op::Lsls => "lsls",
+        Op::Lsrs => "lsrs",
+        Op::Asrs => "asrs",
+        Op::Adcs => "adcs",
+        Op::Sbcs => "sbcs",
+        Op::Rors => "rors",
+        Op::Tst => "tst",
+        Op::Rsbs => "rsbs",
+        Op::Cmp => "cmp",
+        Op::Cmn => "cmn",
+        Op::Orrs => "orrs",
+        Op::Muls => "muls",
+        Op::Bics => "bics",
+        Op::Mvns => "mvns",
+    }
+}
+
+fn store_name(size: Size) -> &'static str
+    ensures { result.now ≡ store_name size }
+{
+    match size {
+        Size::Word => "str",
+        Size::Half => "strh",
+        Size::Byte => "strb",
+    }
+}
+
+fn load_name(load: Load) -> &'static str
+    ensures { result.now ≡ load_name load }
+{
+    match load {
+        Load::Whole(Size::Word) => "ldr",
+        Load::Whole(Size::Half) => "ldrh",
+        Load::Whole(Size::Byte) => "ldrb",
+        Load::SignedHalf => "ldrsh",
+        Load::SignedByte => "ldrsb",
+    }
+}
+
+fn change_name(bytes: Bytes) -> &'static str
+    ensures { result.now ≡ change_name bytes }
+{
+    match bytes {
+        Bytes::Sxth => "sxth",
+        Bytes::Sxtb => "sxtb",
+        Bytes::Uxth => "uxth",
+        Bytes::Uxtb => "uxtb",
+        Bytes::Rev => "rev",
+        Bytes::Rev16 => "rev16",
+        Bytes::Revsh => "revsh",
+    }
+}
+
+fn branch_name(cond: Cond) -> &'static str
+    ensures { result.now ≡ branch_name cond }
+{
+    match cond {
+        Cond::Eq => "beq",
+        Cond::Ne => "bne",
+        Cond::Cs => "bcs",
+        Cond::Cc => "bcc",
+        Cond::Mi => "bmi",
+        Cond::Pl => "bpl",
+        Cond::Vs => "bvs",
+        Cond::Vc => "bvc",
+        Cond::Hi => "bhi",
+        Cond::Ls => "bls",
+        Cond::Ge => "bge",
+        Cond::Lt => "blt",
+        Cond::Gt => "bgt",
+        Cond::Le => "ble",
+    }
+}
+
+fn barrier_name(barrier: Barrier) -> &'static str
+    ensures { result.now ≡ barrier_name barrier }
+{
+    match barrier {
+        Barrier::Dsb => "dsb",
+        Barrier::Dmb => "dmb",
+        Barrier::Isb => "isb",
+    }
+}
+
+fn name_of(name: Name) -> &'static str
+    ensures { result.now ≡ name_text name }
+{
+    match name {
+        Name::Movs => "movs",
+        Name::Adds => "adds",
+        Name::Subs => "subs",
+        Name::Add => "add",
+        Name::Sub => "sub",
+        Name::Cmp => "cmp",
+        Name::Mov => "mov",
+        Name::Bx => "bx",
+        Name::Blx => "blx",
+        Name::Ldr => "ldr",
+        Name::Str => "str",
+        Name::Adr => "adr",
+        Name::Push => "push",
+        Name::Pop => "pop",
+        Name::Cpsie => "cpsie",
+        Name::Cpsid => "cpsid",
+        Name::Bkpt => "bkpt",
+        Name::Stm => "stm",
+        Name::Ldm => "ldm",
+        Name::Svc => "svc",
+        Name::B => "b",
+        Name::Bl => "bl",
+        Name::Mrs => "mrs",
+        Name::Nop => "nop",
+        Name::Yield => "yield",
+        Name::Wfe => "wfe",
+        Name::Wfi => "wfi",
+        Name::Sev => "sev",
+        Name::Hint => "hint",
+        Name::ShiftBy(shift) => shift_name(shift),
+        Name::Compute(op) => op_name(op),
+        Name::StoreOf(size) => store_name(size),
+        Name::LoadOf(load) => load_name(load),
+        Name::Change(bytes) => change_name(bytes),
+        Name::BranchIf(cond) => branch_name(cond),
+        Name::Fence(barrier) => barrier_name(barrier),
+    }
+}
 
 fn push_decimal(out: &mut ArrayString<64>, n: u32)
     requires { array_string_len out.old + 10 ≤ 64 }
@@ -148,16 +344,12 @@ fn push_list_and(out: &mut ArrayString<64>, list: u8, k: u8)
 }
 
 fn push_operand(out: &mut ArrayString<64>, operand: Operand)
-    requires { array_string_len out.old + room operand ≤ 64 }
+    requires { array_string_len out.old + 19 ≤ 64 }
     ensures bytes { out.new.bytes ≡ out.old.bytes ++ operand_text operand }
-    ensures len { array_string_len out.new ≤ array_string_len out.old + room operand }
+    ensures len { array_string_len out.new ≤ array_string_len out.old + 19 }
 {
     match operand {
         Operand::Register(r) => push_register(out, r.number),
-        Operand::Raised(r) => {
-            push_register(out, r.number);
-            out.push_str("!");
-        }
         Operand::Imm(i) => push_imm(out, i),
         Operand::Place(n) => push_place(out, n),
         Operand::Sum(n, m) => {
@@ -174,173 +366,123 @@ fn push_operand(out: &mut ArrayString<64>, operand: Operand)
             push_imm(out, i);
             out.push_str("]");
         }
-        Operand::List(list) => push_list(out, list),
-        Operand::ListAnd(list, k) => push_list_and(out, list, k),
         Operand::Apsr => out.push_str("apsr"),
         Operand::Interrupts => out.push_str("i"),
     }
 }
 
-fn one(out: &mut ArrayString<64>, name: &str, x: Operand)
-    requires empty { out.old.bytes ≡ [] }
-    requires short { length name.now ≤ 5 }
-    requires fits { room x ≤ 58 }
-    ensures { out.new.bytes ≡ line name.now (operand_text x ∷ []) }
-{
-    out.push_str(name);
-    out.push_str(" ");
-    push_operand(out, x);
-}
-
-fn two(out: &mut ArrayString<64>, name: &str, x: Operand, y: Operand)
-    requires empty { out.old.bytes ≡ [] }
-    requires short { length name.now ≤ 5 }
-    requires fits { room x + room y ≤ 56 }
-    ensures { out.new.bytes ≡ line name.now (operand_text x ∷ operand_text y ∷ []) }
-{
-    out.push_str(name);
-    out.push_str(" ");
-    push_operand(out, x);
-    out.push_str(", ");
-    push_operand(out, y);
-}
-
-fn three(out: &mut ArrayString<64>, name: &str, x: Operand, y: Operand, z: Operand)
-    requires empty { out.old.bytes ≡ [] }
-    requires short { length name.now ≤ 5 }
-    requires fits { room x + room y + room z ≤ 54 }
-    ensures { out.new.bytes ≡ line name.now (operand_text x ∷ operand_text y ∷ operand_text z ∷ []) }
-{
-    out.push_str(name);
-    out.push_str(" ");
-    push_operand(out, x);
-    out.push_str(", ");
-    push_operand(out, y);
-    out.push_str(", ");
-    push_operand(out, z);
-}
-
-fn shift_by(out: &mut ArrayString<64>, shift: Shift, d: Reg, m: Reg, by: u32)
+/// A mnemonic, which has five bytes at most.
+#[tactic(auto, using(crate::proofs::Names::is_short))]
+fn push_name(out: &mut ArrayString<64>, name: Name)
     requires { out.old.bytes ≡ [] }
-    ensures { out.new.bytes ≡ shift_text shift d m by }
+    ensures bytes { out.new.bytes ≡ name_text name }
+    ensures len { array_string_len out.new ≤ 5 }
 {
-    let (x, y, z) = (Operand::Register(d), Operand::Register(m), Operand::Imm(by));
+    out.push_str(name_of(name));
+}
+
+/// A mnemonic and the space behind it.
+fn open_line(out: &mut ArrayString<64>, name: Name)
+    requires { out.old.bytes ≡ [] }
+    ensures bytes { out.new.bytes ≡ name_text name ++ codes " " }
+    ensures len { array_string_len out.new ≤ 6 }
+{
+    push_name(out, name);
+    out.push_str(" ");
+}
+
+/// A mnemonic and a register.
+fn push_first(out: &mut ArrayString<64>, name: Name, d: Reg)
+    requires { out.old.bytes ≡ [] }
+    ensures bytes { out.new.bytes ≡ (name_text name ++ codes " ") ++ reg_text d }
+    ensures len { array_string_len out.new ≤ 10 }
+{
+    open_line(out, name);
+    push_register(out, d.number);
+}
+
+/// One more operand, behind a comma.
+fn push_next(out: &mut ArrayString<64>, x: Operand)
+    requires { array_string_len out.old + 21 ≤ 64 }
+    ensures bytes { out.new.bytes ≡ (out.old.bytes ++ codes ", ") ++ operand_text x }
+    ensures len { array_string_len out.new ≤ array_string_len out.old + 21 }
+{
+    out.push_str(", ");
+    push_operand(out, x);
+}
+
+fn push_line(out: &mut ArrayString<64>, line: Line)
+    requires { out.old.bytes ≡ [] }
+    ensures { out.new.bytes ≡ line_text line }
+{
+    match line {
+        Line::Bare(name) => push_name(out, name),
+        Line::One(name, x) => {
+            open_line(out, name);
+            push_operand(out, x);
+        }
+        Line::Two(name, d, x) => {
+            push_first(out, name, d);
+            push_next(out, x);
+        }
+        Line::Three(name, d, n, x) => {
+            push_first(out, name, d);
+            push_next(out, Operand::Register(n));
+            push_next(out, x);
+        }
+        Line::ToStatus(n) => {
+            out.push_str("msr apsr, ");
+            push_register(out, n.number);
+        }
+        Line::List(name, list) => {
+            open_line(out, name);
+            push_list(out, list);
+        }
+        Line::ListAnd(name, list, k) => {
+            open_line(out, name);
+            push_list_and(out, list, k);
+        }
+        Line::Several(name, n, list) => {
+            push_first(out, name, n);
+            out.push_str(", ");
+            push_list(out, list);
+        }
+        Line::Raised(name, n, list) => {
+            push_first(out, name, n);
+            out.push_str("!, ");
+            push_list(out, list);
+        }
+    }
+}
+
+fn shift_by(shift: Shift, d: Reg, m: Reg, by: u32) -> Line
+    ensures { line_text result ≡ shift_text shift d m by }
+{
     match shift {
-        Shift::Lsl if by == 0 => two(out, "movs", x, y),
-        Shift::Lsl => three(out, "lsls", x, y, z),
-        Shift::Lsr => three(out, "lsrs", x, y, z),
-        Shift::Asr => three(out, "asrs", x, y, z),
+        Shift::Lsl if by == 0 => Line::Two(Name::Movs, d, Operand::Register(m)),
+        _ => Line::Three(Name::ShiftBy(shift), d, m, Operand::Imm(by)),
     }
 }
 
-fn compute(out: &mut ArrayString<64>, op: Op, d: Reg, m: Reg)
-    requires { out.old.bytes ≡ [] }
-    ensures { out.new.bytes ≡ op_text op d m }
+fn compute(op: Op, d: Reg, m: Reg) -> Line
+    ensures { line_text result ≡ op_text op d m }
 {
-    let (x, y) = (Operand::Register(d), Operand::Register(m));
     match op {
-        Op::Ands => two(out, "ands", x, y),
-        Op::Eors => two(out, "eors", x, y),
-        Op::Lsls => two(out, "lsls", x, y),
-        Op::Lsrs => two(out, "lsrs", x, y),
-        Op::Asrs => two(out, "asrs", x, y),
-        Op::Adcs => two(out, "adcs", x, y),
-        Op::Sbcs => two(out, "sbcs", x, y),
-        Op::Rors => two(out, "rors", x, y),
-        Op::Tst => two(out, "tst", x, y),
-        Op::Rsbs => three(out, "rsbs", x, y, Operand::Imm(0)),
-        Op::Cmp => two(out, "cmp", x, y),
-        Op::Cmn => two(out, "cmn", x, y),
-        Op::Orrs => two(out, "orrs", x, y),
-        Op::Muls => two(out, "muls", x, y),
-        Op::Bics => two(out, "bics", x, y),
-        Op::Mvns => two(out, "mvns", x, y),
+        Op::Rsbs => Line::Three(Name::Compute(op), d, m, Operand::Imm(0)),
+        _ => Line::Two(Name::Compute(op), d, Operand::Register(m)),
     }
 }
 
-fn store_name(size: Size) -> &'static str
-    ensures name { result.now ≡ store_name size }
-    ensures short { length result.now ≤ 4 }
-{
-    match size {
-        Size::Word => "str",
-        Size::Half => "strh",
-        Size::Byte => "strb",
-    }
-}
-
-fn load_name(load: Load) -> &'static str
-    ensures name { result.now ≡ load_name load }
-    ensures short { length result.now ≤ 5 }
-{
-    match load {
-        Load::Whole(Size::Word) => "ldr",
-        Load::Whole(Size::Half) => "ldrh",
-        Load::Whole(Size::Byte) => "ldrb",
-        Load::SignedHalf => "ldrsh",
-        Load::SignedByte => "ldrsb",
-    }
-}
-
-fn change_name(bytes: Bytes) -> &'static str
-    ensures name { result.now ≡ change_name bytes }
-    ensures short { length result.now ≤ 5 }
-{
-    match bytes {
-        Bytes::Sxth => "sxth",
-        Bytes::Sxtb => "sxtb",
-        Bytes::Uxth => "uxth",
-        Bytes::Uxtb => "uxtb",
-        Bytes::Rev => "rev",
-        Bytes::Rev16 => "rev16",
-        Bytes::Revsh => "revsh",
-    }
-}
-
-fn branch_name(cond: Cond) -> &'static str
-    ensures name { result.now ≡ branch_name cond }
-    ensures short { length result.now ≤ 3 }
-{
-    match cond {
-        Cond::Eq => "beq",
-        Cond::Ne => "bne",
-        Cond::Cs => "bcs",
-        Cond::Cc => "bcc",
-        Cond::Mi => "bmi",
-        Cond::Pl => "bpl",
-        Cond::Vs => "bvs",
-        Cond::Vc => "bvc",
-        Cond::Hi => "bhi",
-        Cond::Ls => "bls",
-        Cond::Ge => "bge",
-        Cond::Lt => "blt",
-        Cond::Gt => "bgt",
-        Cond::Le => "ble",
-    }
-}
-
-fn barrier_name(barrier: Barrier) -> &'static str
-    ensures name { result.now ≡ barrier_name barrier }
-    ensures short { length result.now ≤ 3 }
-{
-    match barrier {
-        Barrier::Dsb => "dsb",
-        Barrier::Dmb => "dmb",
-        Barrier::Isb => "isb",
-    }
-}
-
-fn hint(out: &mut ArrayString<64>, h: u32)
-    requires { out.old.bytes ≡ [] }
-    ensures { out.new.bytes ≡ hint_text h }
+fn hint(h: u32) -> Line
+    ensures { line_text result ≡ hint_text h }
 {
     match h {
-        0 => out.push_str("nop"),
-        1 => out.push_str("yield"),
-        2 => out.push_str("wfe"),
-        3 => out.push_str("wfi"),
-        4 => out.push_str("sev"),
-        _ => one(out, "hint", Operand::Imm(h)),
+        0 => Line::Bare(Name::Nop),
+        1 => Line::Bare(Name::Yield),
+        2 => Line::Bare(Name::Wfe),
+        3 => Line::Bare(Name::Wfi),
+        4 => Line::Bare(Name::Sev),
+        _ => Line::One(Name::Hint, Operand::Imm(h)),
     }
 }
 
@@ -357,15 +499,13 @@ fn literal(at: u32, offset: u32) -> Operand
 }
 
 /// A list, with register k behind it where it has that one too.
-fn list_with(out: &mut ArrayString<64>, name: &str, list: u8, has: bool, k: u8)
-    requires empty { out.old.bytes ≡ [] }
-    requires short { length name.now ≤ 5 }
-    ensures { out.new.bytes ≡ line name.now (braces (low_registers list ++ and_also has k) ∷ []) }
+fn list_with(name: Name, list: u8, has: bool, k: u8) -> Line
+    ensures { line_text result ≡ line (name_text name) (braces (low_registers list ++ and_also has k) ∷ []) }
 {
     if has {
-        one(out, name, Operand::ListAnd(list, k));
+        Line::ListAnd(name, list, k)
     } else {
-        one(out, name, Operand::List(list));
+        Line::List(name, list)
     }
 }
 
@@ -377,15 +517,73 @@ fn is_listed(list: u8, n: u8) -> bool
     if n < 8 { (list >> n) % 2 == 1 } else { false }
 }
 
-/// The base of a load of several registers, raised unless it is among them.
-fn load_base(n: Reg, list: u8) -> Operand
-    ensures text { operand_text result ≡ (if is_listed list n.number then reg_text n else raised n) }
-    ensures short { room result ≤ 5 }
+/// A load of several registers, whose base is raised unless it is among them.
+fn loaded(n: Reg, list: u8) -> Line
+    ensures { line_text result ≡ line (codes "ldm") ((if is_listed list n.number then reg_text n else raised n) ∷ braces (low_registers list) ∷ []) }
 {
     if is_listed(list, n.number) {
-        Operand::Register(n)
+        Line::Several(Name::Ldm, n, list)
     } else {
-        Operand::Raised(n)
+        Line::Raised(Name::Ldm, n, list)
+    }
+}
+
+/// The parts of an instruction's text, at address `at`.
+#[tactic(auto, unfolding(crate::specs::Text::insn_text))]
+fn line_of(insn: Insn, at: u32) -> Line
+    ensures { line_text result ≡ insn_text insn at }
+{
+    match insn {
+        Insn::ShiftImm { shift, d, m, by } => shift_by(shift, d, m, by),
+        Insn::AddsReg { d, n, m } => Line::Three(Name::Adds, d, n, Operand::Register(m)),
+        Insn::SubsReg { d, n, m } => Line::Three(Name::Subs, d, n, Operand::Register(m)),
+        Insn::AddsImm3 { d, n, value } => Line::Three(Name::Adds, d, n, Operand::Imm(value)),
+        Insn::SubsImm3 { d, n, value } => Line::Three(Name::Subs, d, n, Operand::Imm(value)),
+        Insn::MovsImm { d, value } => Line::Two(Name::Movs, d, Operand::Imm(value)),
+        Insn::CmpImm { n, value } => Line::Two(Name::Cmp, n, Operand::Imm(value)),
+        Insn::AddsImm8 { d, value } => Line::Two(Name::Adds, d, Operand::Imm(value)),
+        Insn::SubsImm8 { d, value } => Line::Two(Name::Subs, d, Operand::Imm(value)),
+        Insn::Data { op, d, m } => compute(op, d, m),
+        Insn::AddHigh { d, m } => Line::Two(Name::Add, d, Operand::Register(m)),
+        Insn::CmpHigh { n, m } => Line::Two(Name::Cmp, n, Operand::Register(m)),
+        Insn::MovHigh { d, m } => Line::Two(Name::Mov, d, Operand::Register(m)),
+        Insn::Bx { m } => Line::One(Name::Bx, Operand::Register(m)),
+        Insn::Blx { m } => Line::One(Name::Blx, Operand::Register(m)),
+        Insn::LdrLiteral { t, offset } => Line::Two(Name::Ldr, t, literal(at, offset)),
+        Insn::StoreReg { size, t, n, m } => Line::Two(Name::StoreOf(size), t, Operand::Sum(n, m)),
+        Insn::LoadReg { load, t, n, m } => Line::Two(Name::LoadOf(load), t, Operand::Sum(n, m)),
+        Insn::StoreImm { size, t, n, offset } => Line::Two(
+            Name::StoreOf(size),
+            t,
+            Operand::Beyond(n, offset),
+        ),
+        Insn::LoadImm { size, t, n, offset } => Line::Two(
+            Name::LoadOf(Load::Whole(size)),
+            t,
+            Operand::Beyond(n, offset),
+        ),
+        Insn::StoreSp { t, offset } => Line::Two(Name::Str, t, Operand::Beyond(SP, offset)),
+        Insn::LoadSp { t, offset } => Line::Two(Name::Ldr, t, Operand::Beyond(SP, offset)),
+        Insn::Adr { d, offset } => Line::Two(Name::Adr, d, literal(at, offset)),
+        Insn::AddSp { d, offset } => Line::Three(Name::Add, d, SP, Operand::Imm(offset)),
+        Insn::RaiseSp { offset } => Line::Two(Name::Add, SP, Operand::Imm(offset)),
+        Insn::LowerSp { offset } => Line::Two(Name::Sub, SP, Operand::Imm(offset)),
+        Insn::Change { bytes, d, m } => Line::Two(Name::Change(bytes), d, Operand::Register(m)),
+        Insn::Push { list, lr } => list_with(Name::Push, list, lr, 14),
+        Insn::Pop { list, pc } => list_with(Name::Pop, list, pc, 15),
+        Insn::Cpsie => Line::One(Name::Cpsie, Operand::Interrupts),
+        Insn::Cpsid => Line::One(Name::Cpsid, Operand::Interrupts),
+        Insn::Bkpt { value } => Line::One(Name::Bkpt, Operand::Imm(value)),
+        Insn::Hint { value } => hint(value),
+        Insn::Stm { n, list } => Line::Raised(Name::Stm, n, list),
+        Insn::Ldm { n, list } => loaded(n, list),
+        Insn::BranchIf { cond, offset } => Line::One(Name::BranchIf(cond), branch_to(at, offset)),
+        Insn::Svc { value } => Line::One(Name::Svc, Operand::Imm(value)),
+        Insn::Branch { offset } => Line::One(Name::B, branch_to(at, offset)),
+        Insn::Bl { offset } => Line::One(Name::Bl, branch_to(at, offset)),
+        Insn::Fence { barrier, option } => Line::One(Name::Fence(barrier), Operand::Imm(option)),
+        Insn::Mrs { d } => Line::Two(Name::Mrs, d, Operand::Apsr),
+        Insn::Msr { n } => Line::ToStatus(n),
     }
 }
 
@@ -395,153 +593,10 @@ impl Insn {
     /// space after the mnemonic and after each comma, immediates in decimal, the places of
     /// branches, literals and `adr` as `0x` and eight digits, each register of a list by name.
     /// It is written for a value without a code too, as its variant has it.
-    #[tactic(auto, unfolding(crate::specs::Text::insn_text))]
     pub fn text(&self, at: u32, out: &mut ArrayString<64>)
         requires empty { out.old.bytes ≡ [] }
         ensures { out.new.bytes ≡ insn_text self.now at }
     {
-        match *self {
-            Insn::ShiftImm { shift, d, m, by } => shift_by(out, shift, d, m, by),
-            Insn::AddsReg { d, n, m } => three(
-                out,
-                "adds",
-                Operand::Register(d),
-                Operand::Register(n),
-                Operand::Register(m),
-            ),
-            Insn::SubsReg { d, n, m } => three(
-                out,
-                "subs",
-                Operand::Register(d),
-                Operand::Register(n),
-                Operand::Register(m),
-            ),
-            Insn::AddsImm3 { d, n, value } => three(
-                out,
-                "adds",
-                Operand::Register(d),
-                Operand::Register(n),
-                Operand::Imm(value),
-            ),
-            Insn::SubsImm3 { d, n, value } => three(
-                out,
-                "subs",
-                Operand::Register(d),
-                Operand::Register(n),
-                Operand::Imm(value),
-            ),
-            Insn::MovsImm { d, value } => two(
-                out,
-                "movs",
-                Operand::Register(d),
-                Operand::Imm(value),
-            ),
-            Insn::CmpImm { n, value } => two(out, "cmp", Operand::Register(n), Operand::Imm(value)),
-            Insn::AddsImm8 { d, value } => two(
-                out,
-                "adds",
-                Operand::Register(d),
-                Operand::Imm(value),
-            ),
-            Insn::SubsImm8 { d, value } => two(
-                out,
-                "subs",
-                Operand::Register(d),
-                Operand::Imm(value),
-            ),
-            Insn::Data { op, d, m } => compute(out, op, d, m),
-            Insn::AddHigh { d, m } => two(out, "add", Operand::Register(d), Operand::Register(m)),
-            Insn::CmpHigh { n, m } => two(out, "cmp", Operand::Register(n), Operand::Register(m)),
-            Insn::MovHigh { d, m } => two(out, "mov", Operand::Register(d), Operand::Register(m)),
-            Insn::Bx { m } => one(out, "bx", Operand::Register(m)),
-            Insn::Blx { m } => one(out, "blx", Operand::Register(m)),
-            Insn::LdrLiteral { t, offset } => two(
-                out,
-                "ldr",
-                Operand::Register(t),
-                literal(at, offset),
-            ),
-            Insn::StoreReg { size, t, n, m } => two(
-                out,
-                store_name(size),
-                Operand::Register(t),
-                Operand::Sum(n, m),
-            ),
-            Insn::LoadReg { load, t, n, m } => two(
-                out,
-                load_name(load),
-                Operand::Register(t),
-                Operand::Sum(n, m),
-            ),
-            Insn::StoreImm { size, t, n, offset } => two(
-                out,
-                store_name(size),
-                Operand::Register(t),
-                Operand::Beyond(n, offset),
-            ),
-            Insn::LoadImm { size, t, n, offset } => two(
-                out,
-                load_name(Load::Whole(size)),
-                Operand::Register(t),
-                Operand::Beyond(n, offset),
-            ),
-            Insn::StoreSp { t, offset } => two(
-                out,
-                "str",
-                Operand::Register(t),
-                Operand::Beyond(SP, offset),
-            ),
-            Insn::LoadSp { t, offset } => two(
-                out,
-                "ldr",
-                Operand::Register(t),
-                Operand::Beyond(SP, offset),
-            ),
-            Insn::Adr { d, offset } => two(out, "adr", Operand::Register(d), literal(at, offset)),
-            Insn::AddSp { d, offset } => three(
-                out,
-                "add",
-                Operand::Register(d),
-                Operand::Register(SP),
-                Operand::Imm(offset),
-            ),
-            Insn::RaiseSp { offset } => two(
-                out,
-                "add",
-                Operand::Register(SP),
-                Operand::Imm(offset),
-            ),
-            Insn::LowerSp { offset } => two(
-                out,
-                "sub",
-                Operand::Register(SP),
-                Operand::Imm(offset),
-            ),
-            Insn::Change { bytes, d, m } => two(
-                out,
-                change_name(bytes),
-                Operand::Register(d),
-                Operand::Register(m),
-            ),
-            Insn::Push { list, lr } => list_with(out, "push", list, lr, 14),
-            Insn::Pop { list, pc } => list_with(out, "pop", list, pc, 15),
-            Insn::Cpsie => one(out, "cpsie", Operand::Interrupts),
-            Insn::Cpsid => one(out, "cpsid", Operand::Interrupts),
-            Insn::Bkpt { value } => one(out, "bkpt", Operand::Imm(value)),
-            Insn::Hint { value } => hint(out, value),
-            Insn::Stm { n, list } => two(out, "stm", Operand::Raised(n), Operand::List(list)),
-            Insn::Ldm { n, list } => two(out, "ldm", load_base(n, list), Operand::List(list)),
-            Insn::BranchIf { cond, offset } => one(out, branch_name(cond), branch_to(at, offset)),
-            Insn::Svc { value } => one(out, "svc", Operand::Imm(value)),
-            Insn::Branch { offset } => one(out, "b", branch_to(at, offset)),
-            Insn::Bl { offset } => one(out, "bl", branch_to(at, offset)),
-            Insn::Fence { barrier, option } => one(
-                out,
-                barrier_name(barrier),
-                Operand::Imm(option),
-            ),
-            Insn::Mrs { d } => two(out, "mrs", Operand::Register(d), Operand::Apsr),
-            Insn::Msr { n } => two(out, "msr", Operand::Apsr, Operand::Register(n)),
-        }
+        push_line(out, line_of(*self, at));
     }
 }

@@ -43,6 +43,23 @@ fn looping(alloc: Global) -> Result<Vec<u8>, AllocError> {
     image_of(alloc, &[0x2001, 0xe7fe])
 }
 
+// Three tasks, each with 256 bytes of flash and of RAM, the last of them stopped at the start, and line 3
+// of task 1 and line 30 of task 2; then movs r0, #1; b to itself, and zeros.
+const THREE: [u8; 148] = [
+    0x48, 0x42, 0x49, 0x31, 3, 2, 6, 0, 0, 3, 0, 0, 0, 3, 0, 0, 1, 0, 0, 0, 0, 1, 2, 0, 1, 0, 0, 8,
+    0x80, 0, 0, 0x20, 2, 1, 2, 0, 1, 1, 0, 8, 0x40, 1, 0, 0x20, 1, 0, 2, 0, 1, 2, 0, 8, 0x40, 2, 0,
+    0x20, 0, 0, 0, 8, 0, 1, 0, 0, 5, 0, 0, 0, 0, 0, 0, 0x20, 0, 1, 0, 0, 3, 0, 0, 0, 0, 1, 0, 8, 0,
+    1, 0, 0, 5, 0, 0, 0, 0, 1, 0, 0x20, 0, 1, 0, 0, 3, 0, 0, 0, 0, 2, 0, 8, 0, 1, 0, 0, 5, 0, 0, 0,
+    0, 2, 0, 0x20, 0, 1, 0, 0, 3, 0, 0, 0, 3, 1, 0, 0, 2, 0, 0, 0, 30, 2, 0, 0, 4, 0, 0, 0, 1,
+    0x20, 0xFE, 0xE7,
+];
+
+fn three_tasks(alloc: Global) -> Result<Vec<u8>, AllocError> {
+    let mut bytes = THREE.to_vec(alloc)?;
+    bytes.resize(912, 0)?;
+    Ok(bytes)
+}
+
 // What the program answers and writes, with an image and maybe a script, where these reads and
 // these pushes fail.
 fn main_of(
@@ -218,6 +235,26 @@ high 00000000 00000000 00000000 00000000 00000000 20000000 ffffffff 08000006 000
     Ok(())
 }
 
+// The last line of each task is where it stands; the third does not run at the start.
+#[test]
+fn of_three_tasks_the_supervisor_runs(rt: HostRuntime) -> Result<(), Fail> {
+    let alloc = rt.alloc();
+    let image = three_tasks(alloc)?;
+    let text = "end bound 3 0
+task 0 0 well - 00000000 -
+low 00000001 00000000 00000000 00000000 00000000 00000000 00000000 00000000
+high 00000000 00000000 00000000 00000000 00000000 20000080 ffffffff 08000002 0000
+task 1 0 well - 00000000 -
+low 00000000 00000000 00000000 00000000 00000000 00000000 00000000 00000000
+high 00000000 00000000 00000000 00000000 00000000 20000140 ffffffff 08000100 0000
+task 2 0 stopped - 00000000 -
+low 00000000 00000000 00000000 00000000 00000000 00000000 00000000 00000000
+high 00000000 00000000 00000000 00000000 00000000 20000240 ffffffff 08000200 0000
+";
+    tells(&rt, alloc, &image, "3", 0, text)?;
+    Ok(())
+}
+
 #[test]
 fn an_illegal_instruction_ends_the_run(rt: HostRuntime) -> Result<(), Fail> {
     let alloc = rt.alloc();
@@ -326,12 +363,22 @@ fn files_that_are_refused(rt: HostRuntime) -> Result<(), Fail> {
     let image = looping(alloc)?;
     let mut cut = looping(alloc)?;
     cut.pop();
+    let mut crowded = looping(alloc)?;
+    if 5 < crowded.len() {
+        crowded[4] = 33;
+    }
+    let mut same_line = three_tasks(alloc)?;
+    if 136 < same_line.len() {
+        same_line[136] = 3;
+    }
     let long = vec![in alloc; 0u8; 2_097_153]?;
     let mut longer = looping(alloc)?;
     longer.push(0)?;
     refuses(&rt, alloc, &cut, &[], "refused a.img 1 299\n")?;
     refuses(&rt, alloc, &longer, &[], "refused a.img 4 300\n")?;
     refuses(&rt, alloc, &[], b"x", "refused a.img 1 0\n")?;
+    refuses(&rt, alloc, &crowded, &[], "refused a.img 3 4\n")?;
+    refuses(&rt, alloc, &same_line, &[], "refused a.img 13 136\n")?;
     refuses(&rt, alloc, &image, b"x", "refused e.txt 2 1\n")?;
     refuses(&rt, alloc, &long, b"x", "refused a.img 0 2097152\n")?;
     refuses(&rt, alloc, &image, &long, "refused e.txt 0 2097152\n")?;

@@ -1,6 +1,7 @@
-use Rattle.std.proofs.Common.{arith, sym}
-use Rattle.thumb_decode.proofs.Coded.{narrow_coded}
+use Rattle.std.proofs.Common.{arith, refl}
+use Rattle.thumb_insn.specs.Table.{narrow_of}
+use Rattle.thumb_decode.proofs.Coded.{narrow_gives_coded}
 use Rattle.thumb_decode.proofs.decode_narrow.Goals as goal
 
-pub returns-in-Some-clause-coded : goal.returns-in-Some-clause-coded
-returns-in-Some-clause-coded c = narrow_coded c.args.first c.in-Some.insn (sym c.in-Some.ensures) (omega arith)
+pub returns-clause-coded : goal.returns-clause-coded
+returns-clause-coded c = rw c.narrow.ensures (narrow_gives_coded c.args.first (narrow_of c.args.first) refl (omega arith))

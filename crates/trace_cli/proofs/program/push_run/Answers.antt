@@ -1,4 +1,4 @@
-use Rattle.std.proofs.Common.{◌≡◌, ◌++◌, ap, subst, List, ℕ, sym}
+use Rattle.std.proofs.Common.{ap, subst, ◌∙◌}
 use Rattle.std.proofs.lemmas.Result.{err_from_is_err_and}
 use Rattle.std.specs.Io.KnownBytes.{Appends}
 use Rattle.outside_io.specs.Outside.{AppendsFront}
@@ -39,3 +39,11 @@ returns-in_ok-write_memory-clause-text g c = λ x st.
     let L : Run → Type 0 = λ r. Stands x c.run.new.board r.last in
     let last = subst L same (c.in_ok-end.ensures.last x (start x.setup) st) in
     rw c.if-mem.true (appends_more _ _ _ (trace_text whole) (memory_text x.setup whole.last) (subst P same (c.in_ok-end.ensures.text x (start x.setup) st)) (c.in_ok-write_memory.ensures.text x whole.last last))
+
+pub returns-in_ok-write_memory-clause-end : goal.returns-in_ok-write_memory-clause-end
+returns-in_ok-write_memory-clause-end g c = λ x st.
+    c.in_ok-end.ensures.end x (start x.setup) st ∙ ap (λ (r : Run). r.end) (from_start x c.args.board.now c.args.steps st c.requires.fresh)
+
+pub returns-else-mem-clause-end : goal.returns-else-mem-clause-end
+returns-else-mem-clause-end g c = λ x st.
+    c.in_ok-end.ensures.end x (start x.setup) st ∙ ap (λ (r : Run). r.end) (from_start x c.args.board.now c.args.steps st c.requires.fresh)

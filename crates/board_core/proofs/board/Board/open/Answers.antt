@@ -1,14 +1,20 @@
 use Rattle.task_table.proofs.Starts.{counted-start}
+use Rattle.task_table.specs.Start.{start, begun}
 use Rattle.board_core.specs.Opened.{setup_of}
 use Rattle.image_format.specs.Images.{picture}
-use Rattle.board_core.proofs.Running.{opened}
+use Rattle.board_core.proofs.Running.{opened, choice_begun}
+use Rattle.board_core.proofs.Lending.{opened_as}
 use Rattle.board_core.proofs.board.Board.open.Goals as goal
+
+pub choice_of-choice-requires : goal.choice_of-choice-requires
+choice_of-choice-requires c = let g = setup_of (picture c.args.image.now) in (g, begun (start g), c.in_ok-kernel.ensures.stands)
 
 pub returns-clause-stands : goal.returns-clause-stands
 returns-clause-stands c =
-    let s = opened (setup_of (picture c.args.image.now)) c.in_ok-kernel.field-0 c.in_ok-kernel.ensures.stands in
+    let g = setup_of (picture c.args.image.now) in
+    let s = opened g c.in_ok-kernel.kernel c.in_ok-kernel.ensures.stands in
     record {
-      holds = record { kernel = s.0; turns = s.2 };
+      holds = record { machine = opened_as g _ c.of.result (start g) c.of.ensures.kernel c.of.ensures.lent s.0; turns = s.2; choice = choice_begun g (start g) _ (c.choice_of-choice.ensures g (begun (start g)) c.in_ok-kernel.ensures.stands) };
       sane = s.1;
-      counted = counted-start (setup_of (picture c.args.image.now));
+      counted = counted-start g;
     }

@@ -1,41 +1,8 @@
-use Rattle.std.proofs.Common.{ℕ, sym, subst, ◌∙◌, arith}
-use Rattle.std.specs.Prelude.{fold}
-use Rattle.task_table.specs.Rows.{call_noted}
-use Rattle.task_table.specs.Reading.{IsIdle}
-use Rattle.board_core.specs.Turn.{put}
-use Rattle.board_core.proofs.Running.{stores_hold, stores_count, puts_idle, ready_idle, effect_here, was_next, was_call, was_trap, trap_known, next_holds, call_holds, trap_holds}
+use Rattle.std.proofs.Common.{sym, ◌∙◌}
+use Rattle.board_core.specs.Machine.{MachineHolds}
+use Rattle.board_core.proofs.Running.{stores_hold, was_next, was_call, was_trap, trap_known}
+use Rattle.board_core.proofs.Lending.{effect_lent, lent_by, goes_on, next_lent, acted_as, ready_same}
 use Rattle.board_core.proofs.machine.Machine.execute.Goals as goal
-
-pub set_processor-requires : goal.set_processor-requires
-set_processor-requires c =
-    let r = c.requires.ready.2 in
-    let w = was_next _ _ _ _ _ _ c.exec.ensures c.in-Next.is in
-    let count = stores_count w.stores _ _ w.bus in
-    let same = c.current-task.ensures.holds c.requires.ready.0 c.requires.ready.1 r.stands.holds in
-    let tasks = r.stands.holds.count in
-    let inside = r.stands.sane.steady.current in
-    omega arith
-
-pub returns-in-Next : goal.returns-in-Next
-returns-in-Next c = λ g t r.
-    let h = r.stands.holds in
-    let w = was_next _ _ _ _ _ _ c.exec.ensures c.in-Next.is in
-    let task = c.current-task.ensures.holds g t h in
-    let processor = c.cpu-processor.ensures g t h in
-    let here = effect_here g t c.args.self.now.kernel c.cpu-processor.result c.args.insn.now h (rw task at processor) in
-    let idle = puts_idle w.stores t t.state.current (ready_idle t.state t.state.current r.ready) in
-    let Idle : ℕ → Type 0 = λ i. IsIdle (fold put t w.stores).state i in
-    next_holds g t c.set_processor.new.self _ _ w.processor _ w.stores _ (sym here ∙ w.is) w.after task c.words.ensures
-    (c.set_processor.ensures.holds g (fold put t w.stores) (stores_hold w.stores _ _ w.bus g t h) (subst Idle (sym task) idle))
-
-pub returns-in-Call : goal.returns-in-Call
-returns-in-Call c = λ g t r.
-    let h = r.stands.holds in
-    let w = was_call _ _ _ _ _ _ c.exec.ensures c.in-Call.is in
-    let task = c.current-task.ensures.holds g t h in
-    let processor = c.cpu-processor.ensures g t h in
-    let here = effect_here g t c.args.self.now.kernel c.cpu-processor.result c.args.insn.now h (rw task at processor) in
-    call_holds g t c.call.new.self _ _ (sym here ∙ w.0) task (c.call.ensures.holds g (call_noted c.current-task.result t) (c.note_call.ensures.holds g t (rw w.1 h)))
 
 pub fault-requires-clause-from_one : goal.fault-requires-clause-from_one
 fault-requires-clause-from_one c =
@@ -43,9 +10,8 @@ fault-requires-clause-from_one c =
     let t = c.requires.ready.1 in
     let r = c.requires.ready.2 in
     let w = was_trap _ _ _ _ _ _ _ c.exec.ensures c.in-Trap.is in
-    let processor = c.cpu-processor.ensures g t r.stands.holds in
-    let task = c.current-task.ensures.holds g t r.stands.holds in
-    (trap_known g t c.args.self.now.kernel c.cpu-processor.result c.args.insn.now c.in-Trap.fault r c.requires.coded (rw task at processor) w.0).0
+    let here = effect_lent g _ _ t c.args.insn.now r.holds r.sane.steady.current in
+    (trap_known g t c.args.insn.now c.in-Trap.fault r.sane c.requires.coded (sym here ∙ w.0)).0
 
 pub fault-requires-clause-to_ten : goal.fault-requires-clause-to_ten
 fault-requires-clause-to_ten c =
@@ -53,15 +19,35 @@ fault-requires-clause-to_ten c =
     let t = c.requires.ready.1 in
     let r = c.requires.ready.2 in
     let w = was_trap _ _ _ _ _ _ _ c.exec.ensures c.in-Trap.is in
-    let processor = c.cpu-processor.ensures g t r.stands.holds in
-    let task = c.current-task.ensures.holds g t r.stands.holds in
-    (trap_known g t c.args.self.now.kernel c.cpu-processor.result c.args.insn.now c.in-Trap.fault r c.requires.coded (rw task at processor) w.0).1
+    let here = effect_lent g _ _ t c.args.insn.now r.holds r.sane.steady.current in
+    (trap_known g t c.args.insn.now c.in-Trap.fault r.sane c.requires.coded (sym here ∙ w.0)).1
+
+pub call-requires-clause-ready : goal.call-requires-clause-ready
+call-requires-clause-ready c =
+    let w = was_call _ _ _ _ _ _ c.exec.ensures c.in-Call.is in
+    (c.requires.ready.0, c.requires.ready.1, ready_same _ _ _ _ _ w.1 w.2 c.requires.ready.2)
+
+pub fault-requires-clause-ready : goal.fault-requires-clause-ready
+fault-requires-clause-ready c =
+    let w = was_trap _ _ _ _ _ _ _ c.exec.ensures c.in-Trap.is in
+    (c.requires.ready.0, c.requires.ready.1, ready_same _ _ _ _ _ w.1 w.2 c.requires.ready.2)
+
+pub returns-in-Next : goal.returns-in-Next
+returns-in-Next c = λ g t r.
+    let w = was_next _ _ _ _ _ _ c.exec.ensures c.in-Next.is in
+    let here = effect_lent g _ _ t c.args.insn.now r.holds r.sane.steady.current in
+    lent_by _ g _ _ _ r.lent
+    (next_lent g _ t t.state.current _ w.processor c.exec.new.cpu w.stores (sym here ∙ w.is) w.after
+    (goes_on g _ _ _ c.exec.new.cpu t w.stores r.holds r.sane.steady.current (λ u h. stores_hold w.stores _ _ w.bus g u h)))
+
+pub returns-in-Call : goal.returns-in-Call
+returns-in-Call c = λ g t r.
+    let w = was_call _ _ _ _ _ _ c.exec.ensures c.in-Call.is in
+    let here = effect_lent g _ _ t c.args.insn.now r.holds r.sane.steady.current in
+    acted_as (MachineHolds g c.call.new.self) t.state.current t _ _ (sym here ∙ w.0) (c.call.ensures g t (ready_same _ _ _ _ _ w.1 w.2 r))
 
 pub returns-in-Trap : goal.returns-in-Trap
 returns-in-Trap c = λ g t r.
-    let h = r.stands.holds in
     let w = was_trap _ _ _ _ _ _ _ c.exec.ensures c.in-Trap.is in
-    let task = c.current-task.ensures.holds g t h in
-    let processor = c.cpu-processor.ensures g t h in
-    let here = effect_here g t c.args.self.now.kernel c.cpu-processor.result c.args.insn.now h (rw task at processor) in
-    trap_holds g t c.fault.new.self _ _ _ (sym here ∙ w.0) task (c.fault.ensures.holds g t (rw w.1 h))
+    let here = effect_lent g _ _ t c.args.insn.now r.holds r.sane.steady.current in
+    acted_as (MachineHolds g c.fault.new.self) t.state.current t _ _ (sym here ∙ w.0) (c.fault.ensures g t (ready_same _ _ _ _ _ w.1 w.2 r))

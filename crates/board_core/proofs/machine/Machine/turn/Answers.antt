@@ -1,88 +1,81 @@
-use Rattle.std.proofs.Common.{◌≡◌, ℕ, Option, Some, None, sym, ◌∙◌, ap, arith, subst}
-use Rattle.task_table.specs.State.{State, Turn}
+use Rattle.std.proofs.Common.{◌≡◌, ℕ, Option, sym, ◌∙◌, ap, arith, subst}
 use Rattle.task_table.specs.Reading.{chosen, register}
 use Rattle.task_table.specs.Start.{begun}
-use Rattle.task_table.specs.Holds.{Holds}
 use Rattle.task_table.proofs.Sanity.{sane-current}
 use Rattle.board_core.specs.declared.told.Turned.TheVariants.{Ran}
-use Rattle.board_core.specs.Turn.{turn_of, turned_of}
-use Rattle.board_core.proofs.Running.{begun_stands, begun_state}
-use Rattle.board_core.proofs.TurnKeeps.{chosen_is, as_current}
+use Rattle.board_core.specs.Machine.{MachineHolds}
+use Rattle.board_core.specs.Turn.{turn_of, turned_of, with_current}
+use Rattle.board_core.proofs.Running.{begun_sane, begun_state}
+use Rattle.board_core.proofs.TurnKeeps.{chosen_is}
+use Rattle.board_core.proofs.Lending.{begun_by, below, lent_register, register_begun}
 use Rattle.board_core.proofs.machine.Machine.turn.Goals as goal
 
-pub choose-requires : goal.choose-requires
-choose-requires c =
+pub lend-requires-clause-there : goal.lend-requires-clause-there
+lend-requires-clause-there c =
     let g = c.requires.0 in
     let t = c.requires.1 in
-    let s = c.requires.2 in
-    (g, begun t.state, begun_stands g c.clear_notes.new.self t (c.clear_notes.ensures.holds g t s.holds) s.sane)
+    let n = c.requires.2 in
+    let h = begun_by _ g _ c.clear_notes.new.self _ t (λ u hu. c.clear_notes.ensures.holds g u hu) n.stands.holds in
+    let sane = begun_sane g t.state n.stands.sane in
+    let is = chosen_is (begun t.state).state c.in-Some.task sane (ap (chosen g) (begun_state t.state) ∙ sym n.is ∙ c.in-Some.is) in
+    below _ g c.clear_notes.new.self _ (begun t.state) c.in-Some.task h is.inside
 
-pub register-at-requires-clause-there : goal.register-at-requires-clause-there
-register-at-requires-clause-there c =
+pub lend-requires-clause-stands : goal.lend-requires-clause-stands
+lend-requires-clause-stands c =
     let g = c.requires.0 in
     let t = c.requires.1 in
-    let s = begun_stands g c.clear_notes.new.self t (c.clear_notes.ensures.holds g t c.requires.2.holds) c.requires.2.sane in
-    let is = chosen_is (begun t.state).state c.in-Some.task s.sane (sym (c.choose.ensures g (begun t.state) s) ∙ c.in-Some.is) in
-    let count = s.holds.count in
-    let inside = is.inside in
-    omega arith
+    let n = c.requires.2 in (
+      g,
+      begun t.state,
+      record { holds = begun_by _ g _ c.clear_notes.new.self _ t (λ u hu. c.clear_notes.ensures.holds g u hu) n.stands.holds; sane = begun_sane g t.state n.stands.sane },
+    )
 
 pub step-requires-clause-ready : goal.step-requires-clause-ready
 step-requires-clause-ready c =
     let g = c.requires.0 in
     let t = c.requires.1 in
-    let s = begun_stands g c.clear_notes.new.self t (c.clear_notes.ensures.holds g t c.requires.2.holds) c.requires.2.sane in
-    let is = chosen_is (begun t.state).state c.in-Some.task s.sane (sym (c.choose.ensures g (begun t.state) s) ∙ c.in-Some.is) in
-    let u : Turn = record (begun t.state) { state = record (begun t.state).state { current = c.in-Some.task } } in (
+    let n = c.requires.2 in
+    let h = begun_by _ g _ c.clear_notes.new.self _ t (λ u hu. c.clear_notes.ensures.holds g u hu) n.stands.holds in
+    let sane = begun_sane g t.state n.stands.sane in
+    let is = chosen_is (begun t.state).state c.in-Some.task sane (ap (chosen g) (begun_state t.state) ∙ sym n.is ∙ c.in-Some.is) in (
       g,
-      u,
-      record {
-        stands = record { holds = c.set_current.ensures.holds g (begun t.state) s.holds; sane = sane-current c.in-Some.task (begun t.state) s.sane is.inside };
-        ready = as_current c.in-Some.task c.in-Some.task (begun t.state).state is.ready;
-      },
+      with_current c.in-Some.task (begun t.state),
+      record { lent = c.lend.ensures.lent; holds = c.lend.ensures.holds g (begun t.state) h is.ready; sane = sane-current c.in-Some.task (begun t.state) sane is.inside },
     )
 
 pub overflow_cast-result : goal.overflow_cast-result
 overflow_cast-result c =
     let g = c.requires.0 in
     let t = c.requires.1 in
-    let s = begun_stands g c.clear_notes.new.self t (c.clear_notes.ensures.holds g t c.requires.2.holds) c.requires.2.sane in
-    let is = chosen_is (begun t.state).state c.in-Some.task s.sane (sym (c.choose.ensures g (begun t.state) s) ∙ c.in-Some.is) in
-    let count = s.holds.count in
-    let inside = is.inside in
+    let n = c.requires.2 in
+    let h = begun_by _ g _ c.clear_notes.new.self _ t (λ u hu. c.clear_notes.ensures.holds g u hu) n.stands.holds in
+    let sane = begun_sane g t.state n.stands.sane in
+    let is = chosen_is (begun t.state).state c.in-Some.task sane (ap (chosen g) (begun_state t.state) ∙ sym n.is ∙ c.in-Some.is) in
+    let there = below _ g c.clear_notes.new.self _ (begun t.state) c.in-Some.task h is.inside in
     let few = c.clear_notes.new.self.few in
     omega arith
 
 pub returns-in-None-clause-holds : goal.returns-in-None-clause-holds
-returns-in-None-clause-holds c = λ g t s0.
-    let s = begun_stands g c.clear_notes.new.self t (c.clear_notes.ensures.holds g t s0.holds) s0.sane in
-    let e : chosen g t.state ≡ None = ap (chosen g) (sym (begun_state t.state)) ∙ sym (c.choose.ensures g (begun t.state) s) ∙ c.in-None.is in
-    let P : Option ℕ → Type 0 = λ o. Holds g c.clear_notes.new.self (turn_of g o (begun t.state)) in
-    subst P (sym e) s.holds
+returns-in-None-clause-holds c = λ g t n.
+    let P : Option ℕ → Type 0 = λ o. MachineHolds g record { reach = record { kernel = c.clear_notes.new.self }; processor = c.args.self.now.processor; lent = c.args.self.now.lent } (turn_of g o (begun t.state)) in
+    subst P (sym c.in-None.is) (begun_by _ g _ c.clear_notes.new.self _ t (λ u hu. c.clear_notes.ensures.holds g u hu) n.stands.holds)
 
 pub returns-in-None-clause-turned : goal.returns-in-None-clause-turned
-returns-in-None-clause-turned c = λ g t s0.
-    let s = begun_stands g c.clear_notes.new.self t (c.clear_notes.ensures.holds g t s0.holds) s0.sane in
-    let e : chosen g t.state ≡ None = ap (chosen g) (sym (begun_state t.state)) ∙ sym (c.choose.ensures g (begun t.state) s) ∙ c.in-None.is in
-    ap (turned_of t.state) (sym e)
+returns-in-None-clause-turned c = λ g t n. ap (turned_of t.state) (sym c.in-None.is)
 
 pub returns-in-Some-clause-holds : goal.returns-in-Some-clause-holds
-returns-in-Some-clause-holds c = λ g t s0.
-    let s = begun_stands g c.clear_notes.new.self t (c.clear_notes.ensures.holds g t s0.holds) s0.sane in
-    let found = sym (c.choose.ensures g (begun t.state) s) ∙ c.in-Some.is in
-    let is = chosen_is (begun t.state).state c.in-Some.task s.sane found in
-    let e : chosen g t.state ≡ Some c.in-Some.task = ap (chosen g) (sym (begun_state t.state)) ∙ found in
-    let u : Turn = record (begun t.state) { state = record (begun t.state).state { current = c.in-Some.task } } in
-    let P : Option ℕ → Type 0 = λ o. Holds g c.step.new.self.kernel (turn_of g o (begun t.state)) in
-    subst P (sym e) (c.step.ensures g u record {
-      stands = record { holds = c.set_current.ensures.holds g (begun t.state) s.holds; sane = sane-current c.in-Some.task (begun t.state) s.sane is.inside };
-      ready = as_current c.in-Some.task c.in-Some.task (begun t.state).state is.ready;
-    })
+returns-in-Some-clause-holds c = λ g t n.
+    let h = begun_by _ g _ c.clear_notes.new.self _ t (λ u hu. c.clear_notes.ensures.holds g u hu) n.stands.holds in
+    let sane = begun_sane g t.state n.stands.sane in
+    let is = chosen_is (begun t.state).state c.in-Some.task sane (ap (chosen g) (begun_state t.state) ∙ sym n.is ∙ c.in-Some.is) in
+    let P : Option ℕ → Type 0 = λ o. MachineHolds g c.step.new.self (turn_of g o (begun t.state)) in
+    subst P (sym c.in-Some.is) (c.step.ensures g (with_current c.in-Some.task (begun t.state)) record { lent = c.lend.ensures.lent; holds = c.lend.ensures.holds g (begun t.state) h is.ready; sane = sane-current c.in-Some.task (begun t.state) sane is.inside })
 
 pub returns-in-Some-clause-turned : goal.returns-in-Some-clause-turned
-returns-in-Some-clause-turned c = λ g t s0.
-    let s = begun_stands g c.clear_notes.new.self t (c.clear_notes.ensures.holds g t s0.holds) s0.sane in
-    let found = sym (c.choose.ensures g (begun t.state) s) ∙ c.in-Some.is in
-    let e : chosen g t.state ≡ Some c.in-Some.task = ap (chosen g) (sym (begun_state t.state)) ∙ found in
-    let at : c.register-at.result ≡ register t.state c.in-Some.task 15 = c.register-at.ensures g (begun t.state) s.holds ∙ ap (λ (v : State). register v c.in-Some.task 15) (begun_state t.state) in
-    ap (Ran c.in-Some.task) at ∙ ap (turned_of t.state) (sym e)
+returns-in-Some-clause-turned c = λ g t n.
+    let h = begun_by _ g _ c.clear_notes.new.self _ t (λ u hu. c.clear_notes.ensures.holds g u hu) n.stands.holds in
+    let sane = begun_sane g t.state n.stands.sane in
+    let is = chosen_is (begun t.state).state c.in-Some.task sane (ap (chosen g) (begun_state t.state) ∙ sym n.is ∙ c.in-Some.is) in
+    let lent = c.lend.ensures.holds g (begun t.state) h is.ready in
+    let at : c.get-at.result ≡ register t.state c.in-Some.task 15 = c.get-at.ensures ∙ lent_register g _ _ (with_current c.in-Some.task (begun t.state)) lent is.inside ∙ register_begun t.state c.in-Some.task in
+    ap (Ran c.in-Some.task) at ∙ ap (turned_of t.state) (sym c.in-Some.is)

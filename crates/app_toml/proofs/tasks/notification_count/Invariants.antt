@@ -1,0 +1,10 @@
+use Rattle.std.proofs.Common.{◌≡◌, drop, map}
+use Rattle.app_toml.specs.Crossed.{notification_count}
+use Rattle.app_toml.specs.Places.{first_fault}
+use Rattle.app_toml.specs.Sites.{task_of}
+use Rattle.app_toml.proofs.tasks.notification_count.Given as goal
+
+abbrev pub invariant-loop-i : goal.invariant-loop-i
+invariant-loop-i l =
+    first_fault notification_count l.i (map task_of (drop l.i l.tasks))
+    ≡ first_fault notification_count 0 (map task_of l.tasks)

@@ -1,0 +1,10 @@
+use Rattle.std.proofs.Common.{◌≡◌, drop, map}
+use Rattle.app_toml.specs.Crossed.{wrong_priority}
+use Rattle.app_toml.specs.Places.{first_fault}
+use Rattle.app_toml.specs.Sites.{task_of}
+use Rattle.app_toml.proofs.tasks.wrong_priority.Given as goal
+
+abbrev pub invariant-loop-i : goal.invariant-loop-i
+invariant-loop-i l =
+    first_fault wrong_priority l.i (map task_of (drop l.i l.tasks))
+    ≡ first_fault wrong_priority 0 (map task_of l.tasks)

@@ -1,0 +1,38 @@
+-- What the code's descriptions and faults stand for.
+use Rattle.std.specs.Prelude.{ℕ, map, string_bytes, Option, Some, None}
+use Rattle.app_toml.specs.Apps.{AppData}
+use Rattle.app_toml.specs.Places.{Text}
+use Rattle.app_toml.specs.Sites.{device_of, interrupt_of, region_of, task_of}
+use Rattle.app_toml.specs.declared.app.App.{App}
+use Rattle.app_toml.specs.declared.parts.AppFault.{AppFault}
+use Rattle.app_toml.specs.declared.parts.AppFault.TheVariants as fault
+use Rattle.app_toml.specs.declared.parts.Parts.{Parts}
+
+-- the description that it is
+abbrev pub app_of : App → AppData
+app_of a = record {
+  flash = a.flash;
+  ram = a.ram;
+  fault = string_bytes a.fault;
+  tasks = map task_of a.tasks.items;
+  regions = map region_of a.regions.items;
+  devices = map device_of a.devices.items;
+  interrupts = map interrupt_of a.interrupts.items;
+}
+
+-- what a description is to be, before causes 7 to 20 are looked for
+abbrev pub parts_of : Parts → AppData
+parts_of p = record {
+  flash = p.flash;
+  ram = p.ram;
+  fault = string_bytes p.fault;
+  tasks = map task_of p.tasks.items;
+  regions = map region_of p.regions.items;
+  devices = map device_of p.devices.items;
+  interrupts = map interrupt_of p.interrupts.items;
+}
+
+-- the cause and the place that it tells; none for want of memory
+abbrev pub told : AppFault → Option (ℕ × Text)
+told (fault.Refused cause place) = Some (cause, string_bytes place)
+told fault.Memory = None

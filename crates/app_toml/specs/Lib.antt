@@ -1,0 +1,12 @@
+pub mod Accepted
+pub mod Apps
+pub mod Crossed
+pub mod Document
+pub mod Forms
+pub mod Held
+pub mod Keys
+pub mod Places
+pub mod Reading
+pub mod Relations
+pub mod Sites
+pub mod Values

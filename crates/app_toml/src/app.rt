@@ -1,0 +1,28 @@
+//! An accepted description.
+
+ghost use Rattle.std.specs.Prelude.{map, string_bytes};
+ghost use Rattle.app_toml.specs.Accepted.{IsAccepted};
+ghost use Rattle.app_toml.specs.Sites.{device_of, interrupt_of, region_of, task_of};
+
+use crate::parts::{Device, Interrupt, SharedRegion, Task};
+
+/// A description that no cause refuses; `app_of` of its specs is what it says.
+#[derive(Drop)]
+pub struct App {
+    pub(crate) flash: u32,
+    pub(crate) ram: u32,
+    pub(crate) fault: String,
+    pub(crate) tasks: Vec<Task>,
+    pub(crate) regions: Vec<SharedRegion>,
+    pub(crate) devices: Vec<Device>,
+    pub(crate) interrupts: Vec<Interrupt>,
+    ghost accepted: { IsAccepted (record {
+      flash = flash;
+      ram = ram;
+      fault = string_bytes fault;
+      tasks = map task_of tasks.items;
+      regions = map region_of regions.items;
+      devices = map device_of devices.items;
+      interrupts = map interrupt_of interrupts.items;
+    }) },
+}

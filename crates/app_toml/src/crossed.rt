@@ -1,0 +1,36 @@
+//! Causes 7 to 20 by number.
+
+ghost use Rattle.std.specs.Prelude.{◌≡◌, option_map};
+ghost use Rattle.app_toml.specs.Crossed.{cross_fault};
+ghost use Rattle.app_toml.specs.Held.{parts_of};
+ghost use Rattle.app_toml.specs.Sites.{refusal_of};
+
+use crate::lines::line_fault;
+use crate::parts::Parts;
+use crate::places::Fault;
+use crate::repeats::name_twice;
+use crate::tasks::{count_fault, start_fault};
+use crate::unknowns::unknown_name;
+
+/// The first fault of causes 7 to 20.
+pub(crate) fn cross_fault(parts: &Parts) -> Option<Fault<'static>>
+    ensures { option_map refusal_of result ≡ cross_fault (parts_of parts.now) }
+{
+    let twice = name_twice(parts);
+    if twice.is_some() {
+        return twice;
+    }
+    let unknown = unknown_name(parts);
+    if unknown.is_some() {
+        return unknown;
+    }
+    let count = count_fault(parts.tasks.as_slice());
+    if count.is_some() {
+        return count;
+    }
+    let start = start_fault(parts.tasks.as_slice());
+    if start.is_some() {
+        return start;
+    }
+    line_fault(parts)
+}

@@ -1,0 +1,140 @@
+//! The forms of values.
+
+ghost use Rattle.std.specs.Prelude.{◌≡◌, option_map};
+ghost use Rattle.std.specs.List.{list_all};
+ghost use Rattle.toml.specs.View.{items_view, view};
+ghost use Rattle.app_toml.specs.Forms.{filled_fault, flag_fault, is_letter, is_name, is_name_byte, name_fault, names_fault, number_fault, value_fault};
+ghost use Rattle.app_toml.specs.Sites.{refusal_of, site_of};
+
+use crate::places::{Fault, Place, entry_place, fault_at};
+use toml::Value;
+
+/// What the value of a key has to be: a number within limits, a name, a text that is not empty,
+/// a truth value, or a list of names.
+#[derive(Clone, Copy)]
+pub(crate) enum Form {
+    Number(i64, i64),
+    Name,
+    Filled,
+    Flag,
+    Names,
+}
+
+fn is_letter(byte: u8) -> bool
+    ensures { result ≡ is_letter byte }
+{
+    (65 <= byte && byte <= 90) || (97 <= byte && byte <= 122)
+}
+
+fn is_name_byte(byte: u8) -> bool
+    ensures { result ≡ is_name_byte byte }
+{
+    is_letter(byte) || (48 <= byte && byte <= 57) || byte == 95
+}
+
+fn all_name_bytes(bytes: &[u8]) -> bool
+    ensures { result ≡ list_all is_name_byte bytes.now }
+{
+    for byte in bytes {
+        if !is_name_byte(*byte) {
+            return false;
+        }
+    }
+    true
+}
+
+fn is_name(text: &str) -> bool
+    ensures { result ≡ is_name text.now }
+{
+    let bytes = text.as_bytes();
+    if bytes.is_empty() || bytes.len() > 24 {
+        return false;
+    }
+    is_letter(bytes[0]) && all_name_bytes(bytes)
+}
+
+fn name_fault<'a>(place: Place<'a>, value: &Value) -> Option<Fault<'a>>
+    ensures { option_map refusal_of result ≡ name_fault (site_of place.entry) (view value.now) }
+{
+    match value.as_str() {
+        None => fault_at(4, place),
+        Some(text) => {
+            if is_name(text) {
+                None
+            } else {
+                fault_at(6, place)
+            }
+        }
+    }
+}
+
+/// Of the names of a list, in order.
+fn names_fault<'a>(place: Place<'a>, values: &[Value]) -> Option<Fault<'a>>
+    ensures { option_map refusal_of result
+        ≡ names_fault (site_of place.entry) 0 (items_view values.now) }
+{
+    for i in 0..values.len() {
+        let found = name_fault(entry_place(place, i), &values[i]);
+        if found.is_some() {
+            return found;
+        }
+    }
+    None
+}
+
+fn filled_fault<'a>(place: Place<'a>, value: &Value) -> Option<Fault<'a>>
+    ensures { option_map refusal_of result ≡ filled_fault (site_of place.entry) (view value.now) }
+{
+    match value.as_str() {
+        None => fault_at(4, place),
+        Some(text) => {
+            if text.is_empty() {
+                fault_at(6, place)
+            } else {
+                None
+            }
+        }
+    }
+}
+
+fn flag_fault<'a>(place: Place<'a>, value: &Value) -> Option<Fault<'a>>
+    ensures { option_map refusal_of result ≡ flag_fault (site_of place.entry) (view value.now) }
+{
+    match value.as_bool() {
+        None => fault_at(4, place),
+        Some(_) => None,
+    }
+}
+
+fn number_fault<'a>(low: i64, high: i64, place: Place<'a>, value: &Value) -> Option<Fault<'a>>
+    ensures { option_map refusal_of result
+        ≡ number_fault low high (site_of place.entry) (view value.now) }
+{
+    match value.as_integer() {
+        None => fault_at(4, place),
+        Some(number) => {
+            if low <= number && number <= high {
+                None
+            } else {
+                fault_at(5, place)
+            }
+        }
+    }
+}
+
+/// A value against its form: its type, then its range or its form.
+pub(crate) fn value_fault<'a>(form: Form, place: Place<'a>, value: &Value) -> Option<Fault<'a>>
+    ensures { option_map refusal_of result
+        ≡ value_fault form (site_of place.entry) (view value.now) }
+{
+    match form {
+        Form::Number(low, high) => number_fault(low, high, place, value),
+        Form::Name => name_fault(place, value),
+        Form::Filled => filled_fault(place, value),
+        Form::Flag => flag_fault(place, value),
+        Form::Names => match value.as_array() {
+            None => fault_at(4, place),
+            Some(values) => names_fault(place, values.as_slice()),
+        },
+    }
+}

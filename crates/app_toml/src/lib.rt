@@ -1,0 +1,25 @@
+//! The description of an application, a TOML document: read, checked and held.
+//! docs/FORMATS.md, Application, has its keys and the table of causes.
+#![tactic(auto)]
+
+mod app;
+mod crossed;
+mod document;
+mod forms;
+mod keys;
+mod lines;
+mod names;
+mod parts;
+mod places;
+mod reading;
+mod repeats;
+mod tables;
+mod tasks;
+#[cfg(test)]
+mod tests;
+mod unknowns;
+mod values;
+mod views;
+
+pub use app::App;
+pub use parts::{AppFault, Device, Interrupt, SharedRegion, Task};

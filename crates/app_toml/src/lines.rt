@@ -1,0 +1,135 @@
+//! Causes 18 to 20: interrupt lines and devices.
+
+ghost use Rattle.std.specs.Prelude.{◌≡◌, ◌<◌, ◌==◌, [], map, option_map, true};
+ghost use Rattle.std.specs.List.{list_any};
+ghost use Rattle.app_toml.specs.Crossed.{bad_device, is_placed, is_size, line_fault, line_twice, meets, overlap};
+ghost use Rattle.app_toml.specs.Held.{parts_of};
+ghost use Rattle.app_toml.specs.Places.{first_clash, first_fault};
+ghost use Rattle.app_toml.specs.Sites.{device_of, interrupt_of, refusal_of};
+
+use crate::parts::{Device, Interrupt, Parts};
+use crate::places::{Fault, fault_if, index_place, key_place};
+
+fn has_line(line: u8, interrupts: &[Interrupt]) -> bool
+    ensures { result ≡ list_any (λ e. e.line == line) (map interrupt_of interrupts.now) }
+{
+    for interrupt in interrupts {
+        if interrupt.line == line {
+            return true;
+        }
+    }
+    false
+}
+
+fn line_twice(interrupts: &[Interrupt]) -> Option<Fault<'static>>
+    ensures { option_map refusal_of result
+        ≡ first_clash line_twice [] 0 (map interrupt_of interrupts.now) }
+{
+    for i in 0..interrupts.len() {
+        let twice = has_line(interrupts[i].line, &interrupts[..i]);
+        let found = fault_if(twice, 18, key_place(index_place("interrupt", i), "line"));
+        if found.is_some() {
+            return found;
+        }
+    }
+    None
+}
+
+#[tactic(auto, unfolding(crate::specs::Crossed::is_size))]
+fn is_size(size: u32) -> bool
+    ensures exact { result ≡ is_size size }
+    ensures above { result ≡ true → 0 < size }
+{
+    matches!(
+        size,
+        256 | 512
+            | 1024
+            | 2048
+            | 4096
+            | 8192
+            | 16384
+            | 32768
+            | 65536
+            | 131_072
+            | 262_144
+            | 524_288
+            | 1_048_576
+            | 2_097_152
+            | 4_194_304
+            | 8_388_608
+            | 16_777_216
+            | 33_554_432
+            | 67_108_864
+            | 134_217_728
+            | 268_435_456
+            | 536_870_912
+    )
+}
+
+fn is_placed(d: &Device) -> bool
+    ensures { result ≡ is_placed (device_of d.now) }
+{
+    is_size(d.size)
+        && d.base % d.size == 0
+        && d.base >= 0x4000_0000
+        && u64::from(d.base) + u64::from(d.size) <= 0x6000_0000
+}
+
+fn bad_device(devices: &[Device]) -> Option<Fault<'static>>
+    ensures { option_map refusal_of result ≡ first_fault bad_device 0 (map device_of devices.now) }
+{
+    for i in 0..devices.len() {
+        let placed = is_placed(&devices[i]);
+        let found = fault_if(!placed, 19, index_place("device", i));
+        if found.is_some() {
+            return found;
+        }
+    }
+    None
+}
+
+fn meets(d: &Device, e: &Device) -> bool
+    ensures { result ≡ meets (device_of d.now) (device_of e.now) }
+{
+    u64::from(d.base) < u64::from(e.base) + u64::from(e.size)
+        && u64::from(e.base) < u64::from(d.base) + u64::from(d.size)
+}
+
+fn meets_one(d: &Device, devices: &[Device]) -> bool
+    ensures { result ≡ list_any (meets (device_of d.now)) (map device_of devices.now) }
+{
+    for device in devices {
+        if meets(d, device) {
+            return true;
+        }
+    }
+    false
+}
+
+fn overlap(devices: &[Device]) -> Option<Fault<'static>>
+    ensures { option_map refusal_of result ≡ first_clash overlap [] 0 (map device_of devices.now) }
+{
+    for i in 0..devices.len() {
+        let meeting = meets_one(&devices[i], &devices[..i]);
+        let found = fault_if(meeting, 20, index_place("device", i));
+        if found.is_some() {
+            return found;
+        }
+    }
+    None
+}
+
+/// The first fault of causes 18 to 20.
+pub(crate) fn line_fault(parts: &Parts) -> Option<Fault<'static>>
+    ensures { option_map refusal_of result ≡ line_fault (parts_of parts.now) }
+{
+    let line = line_twice(parts.interrupts.as_slice());
+    if line.is_some() {
+        return line;
+    }
+    let device = bad_device(parts.devices.as_slice());
+    if device.is_some() {
+        return device;
+    }
+    overlap(parts.devices.as_slice())
+}

@@ -1,0 +1,125 @@
+//! The keys of each table, in order of reading, with their limits: docs/FORMATS.md, Application.
+
+use crate::forms::Form;
+use crate::keys::Key;
+
+pub(crate) static BOARD_KEYS: [Key; 2] = [
+    Key {
+        name: "flash",
+        is_needed: true,
+        form: Form::Number(256, 1_048_576),
+    },
+    Key {
+        name: "ram",
+        is_needed: true,
+        form: Form::Number(256, 262_144),
+    },
+];
+
+pub(crate) static SUPERVISOR_KEYS: [Key; 1] = [Key {
+    name: "fault",
+    is_needed: true,
+    form: Form::Name,
+}];
+
+pub(crate) static TASK_KEYS: [Key; 10] = [
+    Key {
+        name: "name",
+        is_needed: true,
+        form: Form::Name,
+    },
+    Key {
+        name: "source",
+        is_needed: true,
+        form: Form::Filled,
+    },
+    Key {
+        name: "priority",
+        is_needed: true,
+        form: Form::Number(0, 255),
+    },
+    Key {
+        name: "start",
+        is_needed: false,
+        form: Form::Flag,
+    },
+    Key {
+        name: "flash",
+        is_needed: true,
+        form: Form::Number(1, 1_048_576),
+    },
+    Key {
+        name: "ram",
+        is_needed: true,
+        form: Form::Number(1, 262_144),
+    },
+    Key {
+        name: "stack",
+        is_needed: true,
+        form: Form::Number(0, 262_144),
+    },
+    Key {
+        name: "notifications",
+        is_needed: false,
+        form: Form::Names,
+    },
+    Key {
+        name: "uses",
+        is_needed: false,
+        form: Form::Names,
+    },
+    Key {
+        name: "reads",
+        is_needed: false,
+        form: Form::Names,
+    },
+];
+
+pub(crate) static REGION_KEYS: [Key; 2] = [
+    Key {
+        name: "name",
+        is_needed: true,
+        form: Form::Name,
+    },
+    Key {
+        name: "size",
+        is_needed: true,
+        form: Form::Number(1, 262_144),
+    },
+];
+
+pub(crate) static DEVICE_KEYS: [Key; 3] = [
+    Key {
+        name: "name",
+        is_needed: true,
+        form: Form::Name,
+    },
+    Key {
+        name: "base",
+        is_needed: true,
+        form: Form::Number(0, 4_294_967_295),
+    },
+    Key {
+        name: "size",
+        is_needed: true,
+        form: Form::Number(256, 536_870_912),
+    },
+];
+
+pub(crate) static INTERRUPT_KEYS: [Key; 3] = [
+    Key {
+        name: "line",
+        is_needed: true,
+        form: Form::Number(0, 31),
+    },
+    Key {
+        name: "task",
+        is_needed: true,
+        form: Form::Name,
+    },
+    Key {
+        name: "notification",
+        is_needed: true,
+        form: Form::Name,
+    },
+];

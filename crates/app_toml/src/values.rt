@@ -1,0 +1,246 @@
+//! What a document says.
+
+ghost use Rattle.std.specs.Prelude.{◌≡◌, IfOk, map, string_bytes};
+ghost use Rattle.toml.specs.Data.{no_members};
+ghost use Rattle.toml.specs.View.{items_view, table_view, view};
+ghost use Rattle.app_toml.specs.Held.{parts_of};
+ghost use Rattle.app_toml.specs.Sites.{device_of, interrupt_of, region_of, task_of};
+ghost use Rattle.app_toml.specs.Values.{app_in, byte_in, device_in, each_in, flag_in, interrupt_in, items_in, members_in, number_in, region_in, table_of, task_in, text_in, text_of, texts_in, texts_of};
+
+use crate::keys::member;
+use crate::parts::{Device, Interrupt, Parts, SharedRegion, Task};
+use std::alloc::{AllocError, Global};
+use toml::{Table, Value};
+
+fn number_in(table: &Table, name: &str) -> u32
+    ensures { result ≡ number_in name.now (table_view table.now) }
+{
+    let value = match member(table, name) {
+        Some(value) => value,
+        None => return 0,
+    };
+    match value.as_integer() {
+        Some(number) => match u32::try_from(number) {
+            Ok(small) => small,
+            Err(_) => 0,
+        },
+        None => 0,
+    }
+}
+
+fn byte_in(table: &Table, name: &str) -> u8
+    ensures { result ≡ byte_in name.now (table_view table.now) }
+{
+    match u8::try_from(number_in(table, name)) {
+        Ok(small) => small,
+        Err(_) => 0,
+    }
+}
+
+fn flag_in(table: &Table, name: &str) -> bool
+    ensures { result ≡ flag_in name.now (table_view table.now) }
+{
+    match member(table, name) {
+        Some(value) => value.as_bool().unwrap_or(true),
+        None => true,
+    }
+}
+
+fn text_of(value: &Value) -> &str
+    ensures { result.now ≡ text_of (view value.now) }
+{
+    match value.as_str() {
+        Some(text) => text,
+        None => "",
+    }
+}
+
+fn text_in(alloc: Global, table: &Table, name: &str) -> Result<String, AllocError>
+    ensures { IfOk result (λ s. string_bytes s ≡ text_in name.now (table_view table.now)) }
+{
+    match member(table, name) {
+        Some(value) => String::from_str(alloc, text_of(value)),
+        None => String::from_str(alloc, ""),
+    }
+}
+
+fn texts_of(alloc: Global, values: &[Value]) -> Result<Vec<String>, AllocError>
+    ensures { IfOk result (λ v. map string_bytes v.items ≡ texts_of (items_view values.now)) }
+{
+    let mut texts = Vec::new(alloc);
+    for value in values {
+        texts.push(String::from_str(alloc, text_of(value))?)?;
+    }
+    Ok(texts)
+}
+
+/// The values of a list; none where there is no list.
+fn values_in<'a>(table: &'a Table, name: &str) -> &'a [Value]
+    ensures { items_view result.now ≡ items_in name.now (table_view table.now) }
+{
+    match member(table, name) {
+        Some(value) => match value.as_array() {
+            Some(values) => values.as_slice(),
+            None => &[],
+        },
+        None => &[],
+    }
+}
+
+fn texts_in(alloc: Global, table: &Table, name: &str) -> Result<Vec<String>, AllocError>
+    ensures { IfOk result (λ v. map string_bytes v.items
+        ≡ texts_in name.now (table_view table.now)) }
+{
+    texts_of(alloc, values_in(table, name))
+}
+
+fn table_of<'a>(empty: &'a Table, value: &'a Value) -> &'a Table
+    requires { table_view empty.now ≡ no_members }
+    ensures { table_view result.now ≡ table_of (view value.now) }
+{
+    match value.as_table() {
+        Some(table) => table,
+        None => empty,
+    }
+}
+
+fn members_in<'a>(empty: &'a Table, document: &'a Table, name: &str) -> &'a Table
+    requires { table_view empty.now ≡ no_members }
+    ensures { table_view result.now ≡ members_in name.now (table_view document.now) }
+{
+    match member(document, name) {
+        Some(value) => table_of(empty, value),
+        None => empty,
+    }
+}
+
+fn task_in(alloc: Global, table: &Table) -> Result<Task, AllocError>
+    ensures { IfOk result (λ t. task_of t ≡ task_in (table_view table.now)) }
+{
+    let name = text_in(alloc, table, "name")?;
+    let source = text_in(alloc, table, "source")?;
+    let notifications = texts_in(alloc, table, "notifications")?;
+    let uses = texts_in(alloc, table, "uses")?;
+    let reads = texts_in(alloc, table, "reads")?;
+    Ok(Task {
+        name,
+        source,
+        priority: byte_in(table, "priority"),
+        start: flag_in(table, "start"),
+        flash: number_in(table, "flash"),
+        ram: number_in(table, "ram"),
+        stack: number_in(table, "stack"),
+        notifications,
+        uses,
+        reads,
+    })
+}
+
+fn region_in(alloc: Global, table: &Table) -> Result<SharedRegion, AllocError>
+    ensures { IfOk result (λ r. region_of r ≡ region_in (table_view table.now)) }
+{
+    let name = text_in(alloc, table, "name")?;
+    Ok(SharedRegion {
+        name,
+        size: number_in(table, "size"),
+    })
+}
+
+fn device_in(alloc: Global, table: &Table) -> Result<Device, AllocError>
+    ensures { IfOk result (λ d. device_of d ≡ device_in (table_view table.now)) }
+{
+    let name = text_in(alloc, table, "name")?;
+    Ok(Device {
+        name,
+        base: number_in(table, "base"),
+        size: number_in(table, "size"),
+    })
+}
+
+fn interrupt_in(alloc: Global, table: &Table) -> Result<Interrupt, AllocError>
+    ensures { IfOk result (λ i. interrupt_of i ≡ interrupt_in (table_view table.now)) }
+{
+    let task = text_in(alloc, table, "task")?;
+    let notification = text_in(alloc, table, "notification")?;
+    Ok(Interrupt {
+        line: byte_in(table, "line"),
+        task,
+        notification,
+    })
+}
+
+fn tasks_in(alloc: Global, empty: &Table, values: &[Value]) -> Result<Vec<Task>, AllocError>
+    requires { table_view empty.now ≡ no_members }
+    ensures { IfOk result (λ v. map task_of v.items ≡ each_in task_in (items_view values.now)) }
+{
+    let mut tasks = Vec::new(alloc);
+    for value in values {
+        tasks.push(task_in(alloc, table_of(empty, value))?)?;
+    }
+    Ok(tasks)
+}
+
+fn regions_in(
+    alloc: Global,
+    empty: &Table,
+    values: &[Value],
+) -> Result<Vec<SharedRegion>, AllocError>
+    requires { table_view empty.now ≡ no_members }
+    ensures { IfOk result (λ v. map region_of v.items ≡ each_in region_in (items_view values.now)) }
+{
+    let mut regions = Vec::new(alloc);
+    for value in values {
+        regions.push(region_in(alloc, table_of(empty, value))?)?;
+    }
+    Ok(regions)
+}
+
+fn devices_in(alloc: Global, empty: &Table, values: &[Value]) -> Result<Vec<Device>, AllocError>
+    requires { table_view empty.now ≡ no_members }
+    ensures { IfOk result (λ v. map device_of v.items ≡ each_in device_in (items_view values.now)) }
+{
+    let mut devices = Vec::new(alloc);
+    for value in values {
+        devices.push(device_in(alloc, table_of(empty, value))?)?;
+    }
+    Ok(devices)
+}
+
+fn interrupts_in(
+    alloc: Global,
+    empty: &Table,
+    values: &[Value],
+) -> Result<Vec<Interrupt>, AllocError>
+    requires { table_view empty.now ≡ no_members }
+    ensures { IfOk result (λ v. map interrupt_of v.items
+        ≡ each_in interrupt_in (items_view values.now)) }
+{
+    let mut interrupts = Vec::new(alloc);
+    for value in values {
+        interrupts.push(interrupt_in(alloc, table_of(empty, value))?)?;
+    }
+    Ok(interrupts)
+}
+
+/// What a document says whose values have their forms.
+pub(crate) fn parts_in(alloc: Global, document: &Table) -> Result<Parts, AllocError>
+    ensures { IfOk result (λ p. parts_of p ≡ app_in (table_view document.now)) }
+{
+    let empty = Table::new(alloc);
+    let board = members_in(&empty, document, "board");
+    let supervisor = members_in(&empty, document, "supervisor");
+    let fault = text_in(alloc, supervisor, "fault")?;
+    let tasks = tasks_in(alloc, &empty, values_in(document, "task"))?;
+    let regions = regions_in(alloc, &empty, values_in(document, "region"))?;
+    let devices = devices_in(alloc, &empty, values_in(document, "device"))?;
+    let interrupts = interrupts_in(alloc, &empty, values_in(document, "interrupt"))?;
+    Ok(Parts {
+        flash: number_in(board, "flash"),
+        ram: number_in(board, "ram"),
+        fault,
+        tasks,
+        regions,
+        devices,
+        interrupts,
+    })
+}

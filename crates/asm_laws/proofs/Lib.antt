@@ -1,0 +1,12 @@
+pub mod Splits
+pub mod Registers
+pub mod Numbers
+pub mod Operands
+pub mod Shapes
+pub mod Forms
+pub mod Rows
+pub mod Lists
+pub mod Coded
+pub mod Every
+pub mod Spelling
+pub mod Whole

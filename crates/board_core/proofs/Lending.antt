@@ -1,0 +1,276 @@
+-- A machine whose processor is lent to the current task.
+use Rattle.std.proofs.Common.{◌≡◌, ◌+◌, ◌%◌, ◌^◌, ◌<◌, ℕ, Bool, true, false, cond, not, List, [], ◌∷◌, length, Some, refl, sym, ◌∙◌, ap, subst, arith, length-set}
+use Rattle.std.specs.Prelude.{fold, slice_index}
+use Rattle.std.proofs.lemmas.List.{set-set, set-get_or}
+use Rattle.words_core.specs.declared.Flags.{Flags}
+use Rattle.thumb_exec.specs.declared.cpu.Cpu.{Cpu}
+use Rattle.thumb_exec.specs.Effect.{Effect, Next, Store, effect}
+use Rattle.thumb_insn.specs.declared.Insn.{Insn}
+use Rattle.thumb_insn.specs.declared.Decoded.{Decoded}
+use Rattle.thumb_insn.specs.Table.{decoded_of}
+use Rattle.kernel_abi.specs.declared.Fault.{Fault}
+use Rattle.task_table.specs.declared.kernel.Kernel.{Kernel}
+use Rattle.task_table.specs.Memory.{Memory, is_ram, number_at}
+use Rattle.task_table.specs.State.{Setup, State, Task, Own, Turn}
+use Rattle.task_table.specs.Reading.{register, task_at, call_of, listen_of, is_ready, no_task}
+use Rattle.task_table.specs.Effects.{with_task, stored, with_processor, faulted}
+use Rattle.task_table.specs.Holds.{Holds, notes_of, setup_of, current_of, memory_of, task_count}
+use Rattle.task_table.specs.Start.{begun}
+use Rattle.task_table.proofs.Changes.{task_at-with_task}
+use Rattle.board_core.specs.Turn.{refusals, cpu_of, bytes_of, put, acted, is_text, decoded_as, stepped_wide, with_current}
+use Rattle.board_core.specs.Machine.{with_cpu, IsLent, HoldsBy, IsReady, MachineStands}
+use Rattle.board_core.specs.declared.machine.Machine.{Machine}
+use Rattle.board_core.specs.declared.machine.Reach.{Reach}
+use Rattle.board_core.proofs.Running.{between, puts_state, effect_here}
+
+-- ## what the kernel knows all the same
+
+pub record IsSameRest (saved t : Turn) : Type 0 where
+  pub count : length t.state.tasks ≡ length saved.state.tasks
+  pub notes : t.notes ≡ saved.notes
+  pub memory : t.state.memory ≡ saved.state.memory
+  pub time : t.state.now ≡ saved.state.now
+  pub lines : t.state.lines ≡ saved.state.lines
+  pub current : t.state.current ≡ saved.state.current
+  pub next_call : t.state.next_call ≡ saved.state.next_call
+
+rest-with_cpu : (cpu : Cpu) (s : Turn) → IsSameRest s (with_cpu cpu s)
+unfolding with_processor with_task
+rest-with_cpu cpu s = record { count = length-set s.state.tasks s.state.current _; notes = refl; memory = refl; time = refl; lines = refl; current = refl; next_call = refl }
+
+pub rest_of : (saved t : Turn) (cpu : Cpu) → t ≡ with_cpu cpu saved → IsSameRest saved t
+rest_of saved t cpu e = rw e (rest-with_cpu cpu saved)
+
+-- a turn that the kernel holds, with all but the registers and flags of the current task
+pub record IsTold (g : Setup) (k : Kernel) (t : Turn) : Type 0 where
+  pub saved : Turn
+  pub holds : Holds g k saved
+  pub rest : IsSameRest saved t
+
+pub told_by : (lent : Bool) (g : Setup) (k : Kernel) (cpu : Cpu) (t : Turn) → HoldsBy lent g k cpu t → IsTold g k t
+told_by true g k cpu t h = record { saved = h.saved; holds = h.holds; rest = rest_of h.saved t cpu h.is }
+told_by false g k cpu t h = record { saved = t; holds = h; rest = record { count = refl; notes = refl; memory = refl; time = refl; lines = refl; current = refl; next_call = refl } }
+
+-- ## lent or not
+
+pub lent_by : (lent : Bool) (g : Setup) (k : Kernel) (cpu : Cpu) (t : Turn) → lent ≡ true → IsLent g k cpu t → HoldsBy lent g k cpu t
+lent_by lent g k cpu t e h = rw e h
+
+pub is_lent : (lent : Bool) (g : Setup) (k : Kernel) (cpu : Cpu) (t : Turn) → lent ≡ true → HoldsBy lent g k cpu t → IsLent g k cpu t
+is_lent lent g k cpu t e h = rw e at h
+
+pub settled_by : (lent : Bool) (g : Setup) (k : Kernel) (cpu : Cpu) (t : Turn) → lent ≡ false → Holds g k t → HoldsBy lent g k cpu t
+settled_by lent g k cpu t e h = rw e h
+
+pub is_settled : (lent : Bool) (g : Setup) (k : Kernel) (cpu : Cpu) (t : Turn) → lent ≡ false → HoldsBy lent g k cpu t → Holds g k t
+is_settled lent g k cpu t e h = rw e at h
+
+-- ## a turn begins, and has ended
+
+begun-with_cpu : (cpu : Cpu) (s : Turn) → begun (with_cpu cpu s).state ≡ with_cpu cpu (begun s.state)
+unfolding begun with_processor with_task
+begun-with_cpu cpu s = refl
+
+begun_ready : (s : Turn) → is_ready s.state s.state.current ≡ true → is_ready (begun s.state).state (begun s.state).state.current ≡ true
+unfolding begun
+begun_ready s h = h
+
+pub begun_by : (lent : Bool) (g : Setup) (k k' : Kernel) (cpu : Cpu) (t : Turn) → ((u : Turn) → Holds g k u → Holds g k' (begun u.state)) → HoldsBy lent g k cpu t → HoldsBy lent g k' cpu (begun t.state)
+begun_by true g k k' cpu t f h = record { saved = begun h.saved.state; holds = f h.saved h.holds; ready = begun_ready h.saved h.ready; is = ap (λ (u : Turn). begun u.state) h.is ∙ begun-with_cpu cpu h.saved }
+begun_by false g k k' cpu t f h = f t h
+
+-- the machine between turns: what the turn noted is still there
+abbrev pub after : Kernel → ℕ → Turn → Turn
+after k n u = record { state = record u.state { turn = n }; notes = notes_of k; writes = []; reads = [] }
+
+after-with_cpu : (k : Kernel) (n : ℕ) (cpu : Cpu) (s : Turn) → after k n (with_cpu cpu s) ≡ with_cpu cpu (after k n s)
+unfolding with_processor with_task task_at
+after-with_cpu k n cpu s = refl
+
+turn_ready : (s : State) (n : ℕ) → is_ready s s.current ≡ true → is_ready (record s { turn = n }) s.current ≡ true
+unfolding is_ready task_at call_of listen_of
+turn_ready s n h = h
+
+pub between_by : (lent : Bool) (g : Setup) (k : Kernel) (cpu : Cpu) (u : Turn) (n : ℕ) → HoldsBy lent g k cpu u → HoldsBy lent g k cpu (after k n u)
+between_by true g k cpu u n h = record { saved = after k n h.saved; holds = between g k h.saved n h.holds; ready = turn_ready h.saved.state n h.ready; is = ap (after k n) h.is ∙ after-with_cpu k n cpu h.saved }
+between_by false g k cpu u n h = between g k u n h
+
+-- ## the processor is the task's
+
+task-with_cpu : (cpu : Cpu) (s : Turn) → s.state.current < length s.state.tasks → cpu_of (task_at (with_cpu cpu s).state s.state.current) ≡ cpu
+unfolding with_processor
+task-with_cpu cpu s inside = ap cpu_of (task_at-with_task s.state s.state.current _ inside)
+
+pub lent_cpu : (g : Setup) (k : Kernel) (cpu : Cpu) (t : Turn) → IsLent g k cpu t → t.state.current < length t.state.tasks → cpu ≡ cpu_of (task_at t.state t.state.current)
+lent_cpu g k cpu t h inside =
+    let rest = rest_of h.saved t cpu h.is in
+    let there : h.saved.state.current < length h.saved.state.tasks = rw (rest.current, rest.count) at inside in
+    sym (task-with_cpu cpu h.saved there) ∙ ap (λ (u : Turn). cpu_of (task_at u.state h.saved.state.current)) (sym h.is) ∙ ap (λ (i : ℕ). cpu_of (task_at t.state i)) (sym rest.current)
+
+-- who gets the processor with its own registers is as it was
+with_own : (c : ℕ) (s : State) (t : Turn) → s ≡ t.state → with_processor c (task_at s c).registers (task_at s c).flags t ≡ t
+unfolding with_processor with_task task_at
+with_own c s t e = rw e (ap (λ (xs : List Task). record t { state = record t.state { tasks = xs } }) (set-get_or t.state.tasks c no_task))
+
+pub lent_own : (g : Setup) (k : Kernel) (cpu : Cpu) (t : Turn) → Holds g k t → is_ready t.state t.state.current ≡ true → cpu ≡ cpu_of (task_at t.state t.state.current) → IsLent g k cpu t
+lent_own g k cpu t h ready e = record { saved = t; holds = h; ready = ready; is = rw e (sym (with_own t.state.current t.state t refl)) }
+
+pub lent_again : (g : Setup) (k : Kernel) (cpu : Cpu) (t : Turn) (task : ℕ) → task ≡ t.state.current → IsLent g k cpu t → IsLent g k cpu (with_current task t)
+lent_again g k cpu t task e h = rw e h
+
+-- ## an instruction goes on
+
+put-with_cpu : (c : ℕ) (registers : List ℕ) (flags : Flags) (t : Turn) (x : Store) → put (with_processor c registers flags t) x ≡ with_processor c registers flags (put t x)
+unfolding with_processor with_task stored task_at
+put-with_cpu c registers flags t x = by_ram (is_ram t.state.memory x.addr x.bytes)
+  where
+    by_ram : (b : Bool) → cond b (stored Own x.addr (bytes_of x.value x.bytes) (with_processor c registers flags t)) (with_processor c registers flags t) ≡ with_processor c registers flags (cond b (stored Own x.addr (bytes_of x.value x.bytes) t) t)
+    by_ram true = refl
+    by_ram false = refl
+
+puts-with_cpu : (c : ℕ) (registers : List ℕ) (flags : Flags) (ss : List Store) (t : Turn) → fold put (with_processor c registers flags t) ss ≡ with_processor c registers flags (fold put t ss)
+puts-with_cpu c registers flags [] t = refl
+puts-with_cpu c registers flags (x ∷ xs) t = ap (λ (u : Turn). fold put u xs) (put-with_cpu c registers flags t x) ∙ puts-with_cpu c registers flags xs (put t x)
+
+-- of two writes of a processor the later stays
+set_twice : (s : State) (i : ℕ) (x y : Task) → with_task i y (with_task i x s) ≡ with_task i y s
+unfolding with_task
+set_twice s i x y = ap (λ (xs : List Task). record s { tasks = xs }) (set-set s.tasks i x y)
+
+twice : (c : ℕ) (r r' : List ℕ) (f f' : Flags) (t : Turn) → c < length t.state.tasks → with_processor c r' f' (with_processor c r f t) ≡ with_processor c r' f' t
+unfolding with_processor
+twice c r r' f f' t inside =
+    let s = t.state in
+    let x : Task = record (task_at s c) { registers = r; flags = f } in
+    let at : task_at (with_task c x s) c ≡ x = task_at-with_task s c x inside in
+    let y : Task → Task = λ z. record z { registers = r'; flags = f' } in
+    ap (λ (z : Task). record t { state = with_task c (y z) (with_task c x s) }) at
+    ∙ ap (λ (u : State). record t { state = u }) (set_twice s c x (y x))
+
+puts_rest : (ss : List Store) (t : Turn) → (fold put t ss).state.current ≡ t.state.current
+puts_rest ss t = ap (λ (s : State). s.current) (puts_state ss t)
+
+puts_count : (ss : List Store) (t : Turn) → length (fold put t ss).state.tasks ≡ length t.state.tasks
+puts_count ss t = ap (λ (s : State). length s.tasks) (puts_state ss t)
+
+memory_ready : (s : State) (m : Memory) (i : ℕ) → is_ready s i ≡ true → is_ready (record s { memory = m }) i ≡ true
+unfolding is_ready task_at call_of listen_of
+memory_ready s m i h = h
+
+puts_ready : (ss : List Store) (t : Turn) (i : ℕ) → is_ready t.state i ≡ true → is_ready (fold put t ss).state i ≡ true
+puts_ready ss t i h = rw (puts_state ss t) (memory_ready t.state (fold put t ss).state.memory i h)
+
+-- the processor goes on in place, and the stores are the kernel's
+pub goes_on : (g : Setup) (k k' : Kernel) (cpu cpu' : Cpu) (t : Turn) (ss : List Store) → IsLent g k cpu t → t.state.current < length t.state.tasks → ((u : Turn) → Holds g k u → Holds g k' (fold put u ss)) → IsLent g k' cpu' (with_processor t.state.current cpu'.regs.words cpu'.flags (fold put t ss))
+goes_on g k k' cpu cpu' t ss h inside f =
+    let s = h.saved in
+    let c = s.state.current in
+    let rest = rest_of s t cpu h.is in
+    let there : c < length s.state.tasks = rw (rest.current, rest.count) at inside in
+    let r = cpu'.regs.words in
+    let u : Turn = fold put s ss in
+    let count = puts_count ss s in
+    let below : c < length u.state.tasks = rw count there in
+    let here : with_processor t.state.current r cpu'.flags (fold put t ss) ≡ with_processor c r cpu'.flags u =
+    ap (λ (i : ℕ). with_processor i r cpu'.flags (fold put t ss)) rest.current
+    ∙ ap (λ (v : Turn). with_processor c r cpu'.flags (fold put v ss)) h.is
+    ∙ ap (λ (v : Turn). with_processor c r cpu'.flags v) (puts-with_cpu c cpu.regs.words cpu.flags ss s)
+    ∙ twice c cpu.regs.words r cpu.flags cpu'.flags u below in
+    record {
+      saved = u;
+      holds = f s h.holds;
+      ready = subst (λ (i : ℕ). is_ready u.state i ≡ true) (sym (puts_rest ss s)) (puts_ready ss s c h.ready);
+      is = here ∙ ap (λ (i : ℕ). with_processor i r cpu'.flags u) (sym (puts_rest ss s));
+    }
+
+-- ## as the machine's functions use it
+
+pub stands_of : (g : Setup) (m : Machine) (t : Turn) → IsReady g m t → MachineStands g m t
+stands_of g m t r = record { holds = lent_by m.lent g m.reach.kernel m.processor t r.lent r.holds; sane = r.sane }
+
+pub current_below : (lent : Bool) (g : Setup) (k : Kernel) (cpu : Cpu) (t : Turn) → HoldsBy lent g k cpu t → t.state.current < length t.state.tasks → current_of k < task_count k
+current_below lent g k cpu t h inside =
+    let w = told_by lent g k cpu t h in
+    let a : current_of k ≡ w.saved.state.current = w.holds.current in
+    let b : task_count k ≡ length w.saved.state.tasks = w.holds.count in
+    let r : t.state.current ≡ w.saved.state.current = w.rest.current in
+    let n : length t.state.tasks ≡ length w.saved.state.tasks = w.rest.count in
+    omega arith
+
+pub below : (lent : Bool) (g : Setup) (k : Kernel) (cpu : Cpu) (t : Turn) (i : ℕ) → HoldsBy lent g k cpu t → i < length t.state.tasks → i < task_count k
+below lent g k cpu t i h inside =
+    let w = told_by lent g k cpu t h in
+    let b : task_count k ≡ length w.saved.state.tasks = w.holds.count in
+    let n : length t.state.tasks ≡ length w.saved.state.tasks = w.rest.count in
+    omega arith
+
+pub written_back : (g : Setup) (k : Kernel) (cpu : Cpu) (saved t : Turn) (task : ℕ) (words : List ℕ) → task ≡ saved.state.current → words ≡ cpu.regs.words → t ≡ with_cpu cpu saved → Holds g k (with_processor task words cpu.flags saved) → Holds g k t
+written_back g k cpu saved t task words at w is h =
+    let P : ℕ → Type 0 = λ i. Holds g k (with_processor i words cpu.flags saved) in
+    let Q : List ℕ → Type 0 = λ x. Holds g k (with_processor saved.state.current x cpu.flags saved) in
+    let R : Turn → Type 0 = λ u. Holds g k u in
+    subst R (sym is) (subst Q w (subst P at h))
+
+pub lent_register : (g : Setup) (k : Kernel) (cpu : Cpu) (t : Turn) → IsLent g k cpu t → t.state.current < length t.state.tasks → slice_index cpu.regs.words 15 ≡ register t.state t.state.current 15
+unfolding register
+lent_register g k cpu t h inside = ap (λ (x : Cpu). slice_index x.regs.words 15) (lent_cpu g k cpu t h inside)
+
+-- the effect by the bus and the lent processor is the effect by the turn
+pub effect_lent : (g : Setup) (k : Kernel) (cpu : Cpu) (t : Turn) (insn : Insn) → IsLent g k cpu t → t.state.current < length t.state.tasks →
+    effect (refusals (setup_of k) (current_of k)) (number_at (memory_of k)) cpu insn ≡ effect (refusals g t.state.current) (number_at t.state.memory) (cpu_of (task_at t.state t.state.current)) insn
+effect_lent g k cpu t insn h inside =
+    let rest = rest_of h.saved t cpu h.is in
+    effect_here g t k cpu insn h.holds.setup (h.holds.current ∙ sym rest.current) (h.holds.memory ∙ sym rest.memory) (lent_cpu g k cpu t h inside)
+
+pub next_lent : (g : Setup) (k : Kernel) (t : Turn) (c : ℕ) (e : Effect) (d cpu : Cpu) (ss : List Store) → e ≡ Next d ss → cpu ≡ d → IsLent g k cpu (with_processor c cpu.regs.words cpu.flags (fold put t ss)) → IsLent g k cpu (acted c e t)
+next_lent g k t c e d cpu ss is same h =
+    let P : Cpu → Type 0 = λ x. IsLent g k cpu (with_processor c x.regs.words x.flags (fold put t ss)) in
+    let S : Effect → Type 0 = λ x. IsLent g k cpu (acted c x t) in
+    subst S (sym is) (subst P same h)
+
+pub acted_as : (P : Turn → Type 0) (c : ℕ) (t : Turn) (e d : Effect) → e ≡ d → P (acted c d t) → P (acted c e t)
+acted_as P c t e d is h =
+    let S : Effect → Type 0 = λ x. P (acted c x t) in
+    subst S (sym is) h
+
+pub ready_same : (g : Setup) (m : Machine) (reach : Reach) (cpu : Cpu) (t : Turn) → reach ≡ m.reach → cpu ≡ m.processor → IsReady g m t → IsReady g record { reach = reach; processor = cpu; lent = m.lent } t
+ready_same g m reach cpu t e f r =
+    let P : Reach → Type 0 = λ x. IsLent g x.kernel m.processor t in
+    let Q : Cpu → Type 0 = λ x. IsLent g reach.kernel x t in
+    record { lent = r.lent; holds = subst Q (sym f) (subst P (sym e) r.holds); sane = r.sane }
+
+pub register_begun : (s : State) (c : ℕ) → register (with_current c (begun s)).state c 15 ≡ register s c 15
+unfolding register task_at begun
+register_begun s c = refl
+
+-- ## a wide instruction
+
+wide_rows : Setup → ℕ → Turn → ℕ → ℕ → ℕ → Bool → Turn
+wide_rows g c t at first after text =
+    cond (not text) (faulted c record { number = 2; x = after; y = 0 } t) (decoded_as g c at (decoded_of first (Some (number_at t.state.memory after 2))) t)
+
+wide_by : (g : Setup) (c : ℕ) (t : Turn) (at first after : ℕ) (b : Bool) → after ≡ (at + 2) % 2 ^ 32 → b ≡ is_text g c after → wide_rows g c t at first after b ≡ stepped_wide g c at first t
+unfolding wide_rows
+wide_by g c t at first after b e is =
+    let by : Bool → Turn = λ x. wide_rows g c t at first after x in
+    let at_place : ℕ → Turn = λ a. wide_rows g c t at first a (is_text g c a) in
+    ap by is ∙ ap at_place e
+
+module _ (g : Setup) (t : Turn) (P : Turn → Type 0) (at first after : ℕ) (b : Bool) (e : after ≡ (at + 2) % 2 ^ 32) (is : b ≡ is_text g t.state.current after) where
+  pub second_refused : (f : Fault) → b ≡ false → f ≡ record { number = 2; x = after; y = 0 } → P (faulted t.state.current f t) → P (stepped_wide g t.state.current at first t)
+  unfolding wide_rows
+  second_refused f refused fault h =
+      let F : Fault → Type 0 = λ x. P (faulted t.state.current x t) in
+      subst P (wide_by g t.state.current t at first after false e (sym refused ∙ is)) (subst F fault h)
+
+  pub second_acted : (second : ℕ) (d : Decoded) → b ≡ true → second ≡ number_at t.state.memory after 2 → d ≡ decoded_of first (Some second) → P (decoded_as g t.state.current at d t) → P (stepped_wide g t.state.current at first t)
+  unfolding wide_rows
+  second_acted second d granted fetched decoded h =
+      let F : Decoded → Type 0 = λ x. P (decoded_as g t.state.current at x t) in
+      let all : d ≡ decoded_of first (Some (number_at t.state.memory after 2)) = decoded ∙ ap (λ (x : ℕ). decoded_of first (Some x)) fetched in
+      subst P (wide_by g t.state.current t at first after true e (sym granted ∙ is)) (subst F all h)
+
+pub opened_as : (g : Setup) (k : Kernel) (m : Machine) (s : State) → m.reach.kernel ≡ k → m.lent ≡ false → Holds g k record { state = s; notes = notes_of k; writes = []; reads = [] } → HoldsBy m.lent g m.reach.kernel m.processor record { state = s; notes = notes_of m.reach.kernel; writes = []; reads = [] }
+opened_as g k m s e lent h =
+    let P : Kernel → Type 0 = λ x. Holds g x record { state = s; notes = notes_of x; writes = []; reads = [] } in
+    settled_by m.lent g m.reach.kernel m.processor _ lent (subst P (sym e) h)

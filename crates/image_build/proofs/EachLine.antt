@@ -1,0 +1,75 @@
+-- The interrupts that are built: of each line one at most.
+use Rattle.std.proofs.Common.{◌≡◌, ◌≢◌, ◌∙◌, ℕ, zero, suc, false, ◌+◌, ◌≤◌, ◌<◌, ◌==◌, ◌⊎◌, List, [], ◌∷◌, ◌++◌, None, filter, length, map, length-append, pow_pos, refl, sym, ap, subst, arith, inl, inr}
+use Rattle.std.specs.List.{flat_map, range_with_len}
+use Rattle.std.proofs.lemmas.Bool.{cases_Bool, eqb-true, ne_eqb}
+use Rattle.app_toml.specs.Accepted.{IsAccepted}
+use Rattle.app_toml.specs.Apps.{AppData, InterruptData}
+use Rattle.app_toml.specs.Relations.{Relations}
+use Rattle.image_format.specs.Picture.{LinePicture, line_record}
+use Rattle.image_format.specs.Steps.{line_fault, lines_from}
+use Rattle.image_build.specs.Building.{IsOwned}
+use Rattle.image_build.specs.Built.{line_built, lines_at}
+use Rattle.image_build.proofs.Finding.{task_below}
+use Rattle.image_build.proofs.Known.{owned}
+use Rattle.image_build.proofs.Naming.{each_from, pairs_from}
+use Rattle.image_build.proofs.Walking.{Each, IsOf, Pairs, both, line_none}
+
+-- ---- interrupts
+
+abbrev AtMost : ℕ → ℕ → List LinePicture → Type 0
+AtMost line tasks ls = (ls ≡ []) ⊎ ((l : LinePicture) × (ls ≡ l ∷ []) × IsOf line tasks l)
+
+no_more : (line : ℕ) (x : InterruptData) (xs : List InterruptData) → x.line ≡ line → Each (λ j. x.line ≢ j.line) xs → filter (λ i. i.line == line) xs ≡ []
+no_more line x [] is other = refl
+no_more line x (j ∷ xs) is other =
+    let miss : (j.line == line) ≡ false = ne_eqb j.line line (λ e. other.0 (is ∙ sym e)) in
+    rw miss (no_more line x xs is other.1)
+
+one_line : (app : AppData) (line : ℕ) (xs : List InterruptData) → Pairs (λ i j. i.line ≢ j.line) xs → Each (IsOwned app) xs
+    → AtMost line (length app.tasks) (map (line_built app) (filter (λ i. i.line == line) xs))
+one_line app line [] apart known = inl refl
+one_line app line (x ∷ xs) apart known = elim (cases_Bool (x.line == line)) [
+  | inl hit ↦
+      let is = eqb-true x.line line hit in
+      let alone : map (line_built app) (x ∷ filter (λ i. i.line == line) xs) ≡ line_built app x ∷ [] =
+      ap (λ (js : List InterruptData). map (line_built app) (x ∷ js)) (no_more line x xs is apart.0) in
+      let owner : (line_built app x).task < length app.tasks = omega (arith, task_below 0 x.task app.tasks known.0.owner) in
+      let good : IsOf line (length app.tasks) (line_built app x) = record { is = is; owner = owner; bits = pow_pos _ } in
+      rw hit (inr (line_built app x, alone, good))
+  | inr miss ↦ rw miss (one_line app line xs apart.1 known.1)
+]
+
+pub lines_none : (at : ℕ → List LinePicture) (tasks : ℕ) → ((line : ℕ) → AtMost line tasks (at line)) → (n line least place : ℕ) → least ≤ line → line + n ≤ 32
+    → lines_from least tasks place (map line_record (flat_map at (range_with_len line n))) ≡ None
+lines_none at tasks most zero line least place low high = refl
+lines_none at tasks most (suc n) line least place low high =
+    step (most line) (lines_none at tasks most n (line + 1) least place (omega (arith, low)) (omega (arith, high)))
+    (lines_none at tasks most n (line + 1) (line + 1) (place + 8) (omega arith) (omega (arith, high)))
+  where
+    rest : List LinePicture
+    rest = flat_map at (range_with_len (line + 1) n)
+
+    step : AtMost line tasks (at line) → lines_from least tasks place (map line_record rest) ≡ None → lines_from (line + 1) tasks (place + 8) (map line_record rest) ≡ None
+        → lines_from least tasks place (map line_record (at line ++ rest)) ≡ None
+    step (inl none) skipped next = subst (λ (ls : List LinePicture). lines_from least tasks place (map line_record (ls ++ rest)) ≡ None) (sym none) skipped
+    step (inr (l, is, g)) skipped next =
+        subst (λ (ls : List LinePicture). lines_from least tasks place (map line_record (ls ++ rest)) ≡ None) (sym is)
+        (both (line_fault least tasks (line_record l) place) (lines_from (l.line + 1) tasks (place + 8) (map line_record rest))
+        (line_none least tasks line l place low (omega (arith, high)) g)
+        (subst (λ (k : ℕ). lines_from (k + 1) tasks (place + 8) (map line_record rest) ≡ None) (sym g.is) next))
+
+pub few_lines : (at : ℕ → List LinePicture) (tasks : ℕ) → ((line : ℕ) → AtMost line tasks (at line)) → (n line : ℕ) → length (flat_map at (range_with_len line n)) ≤ n
+few_lines at tasks most zero line = omega arith
+few_lines at tasks most (suc n) line = omega (arith, length-append (at line) (flat_map at (range_with_len (line + 1) n)), one (at line) (most line), few_lines at tasks most n (line + 1))
+  where
+    one : (ls : List LinePicture) → AtMost line tasks ls → length ls ≤ 1
+    one ls (inl none) = omega (arith, ap length none)
+    one ls (inr (l, is, g)) = omega (arith, ap length is)
+
+pub at_most : (app : AppData) → IsAccepted app → Relations app → (line : ℕ) → AtMost line (length app.tasks) (lines_at app line)
+at_most app a r line =
+    one_line app line app.interrupts (pairs_from (λ i j. i.line ≢ j.line) no_interrupt app.interrupts r.devices.lines)
+    (each_from (IsOwned app) no_interrupt app.interrupts (λ k lt. owned app a k no_interrupt lt))
+  where
+    no_interrupt : InterruptData
+    no_interrupt = record { line = 0; task = []; notification = [] }

@@ -1,0 +1,177 @@
+-- Names that are found, and lists that grow.
+use Rattle.std.proofs.Common.{◌≡◌, ◌∙◌, ℕ, zero, suc, Bool, true, false, ◌+◌, ◌-◌, ◌≤◌, ◌<◌, List, [], ◌∷◌, ◌++◌, append_assoc, codes, drop, drop-cons, length, get_or, map, length-append, string_bytes, refl, sym, ap, subst, arith, inl, inr}
+use Rattle.std.specs.List.{flat_map, range_with_len}
+use Rattle.std.specs.Str.{bytes_eq}
+use Rattle.std.proofs.lemmas.Bool.{cases_Bool}
+use Rattle.std.proofs.lemmas.List.{append-nil, get_or-map, length-map, map-append}
+use Rattle.app_toml.specs.Accepted.{IsAccepted, IsTask}
+use Rattle.app_toml.specs.Apps.{AppData, InterruptData, TaskData}
+use Rattle.app_toml.specs.Crossed.{has_task, is_among, notifications_of}
+use Rattle.app_toml.specs.Places.{Text}
+use Rattle.app_toml.specs.Sites.{interrupt_of, region_of, task_of}
+use Rattle.app_toml.specs.declared.parts.Interrupt.{Interrupt}
+use Rattle.app_toml.specs.declared.parts.SharedRegion.{SharedRegion}
+use Rattle.app_toml.specs.declared.parts.Task.{Task}
+use Rattle.image_format.specs.Picture.{LinePicture, bit, line_record, task_record}
+use Rattle.image_format.specs.declared.records.LineRecord.{LineRecord}
+use Rattle.image_format.specs.declared.records.TaskRecord.{TaskRecord}
+use Rattle.thumb_asm.specs.Meaning.{Names}
+use Rattle.image_build.specs.Building.{IsOwned}
+use Rattle.image_build.specs.Built.{task_built}
+use Rattle.image_build.specs.Layout.{flash_base, index_from, named, no_task, ram_base, region_base, task_at, task_regions}
+use Rattle.image_build.specs.Symbols.{region_symbols}
+use Rattle.image_build.proofs.Known.{few_notes, few_regions, owned}
+
+-- ---- a name among names
+
+pub among_below : (k : ℕ) (name : Text) (names : List Text) → is_among name names ≡ true → index_from k name names < k + length names
+among_below k name [] e = cc
+among_below k name (n ∷ ns) e = elim (cases_Bool (bytes_eq n name)) [
+  | inl hit ↦ rw hit (omega arith)
+  | inr miss ↦ let rest : is_among name ns ≡ true = rw miss at e in rw miss (omega (arith, among_below (k + 1) name ns rest))
+]
+
+pub task_below : (k : ℕ) (name : Text) (ts : List TaskData) → has_task name ts ≡ true → index_from k name (map (λ t. t.name) ts) < k + length ts
+task_below k name [] e = cc
+task_below k name (t ∷ ts) e = elim (cases_Bool (bytes_eq t.name name)) [
+  | inl hit ↦ rw hit (omega arith)
+  | inr miss ↦ let rest : has_task name ts ≡ true = rw miss at e in rw miss (omega (arith, task_below (k + 1) name ts rest))
+]
+
+few_of : (name : Text) (ts : List TaskData) → ((i : ℕ) → i < length ts → length (get_or ts i no_task).notifications ≤ 32) → length (notifications_of name ts) ≤ 32
+few_of name [] each = omega arith
+few_of name (t ∷ ts) each = elim (cases_Bool (bytes_eq t.name name)) [
+  | inl hit ↦ rw hit (each 0 (omega arith))
+  | inr miss ↦ rw miss (few_of name ts (λ i lt. each (suc i) (omega (arith, lt))))
+]
+
+pub owner_notes : (app : AppData) → IsAccepted app → (name : Text) → length (notifications_of name app.tasks) ≤ 32
+owner_notes app a name = few_of name app.tasks (few_notes app a)
+
+-- ---- of the code's lists
+
+pub same_count : {A : Type 0} → {B : Type 0} → (f : A → B) (xs : List A) (ys : List B) → map f xs ≡ ys → length xs ≡ length ys
+same_count f xs ys e = sym (length-map xs f) ∙ ap length e
+
+pub owned_in : (app : AppData) (xs : List Interrupt) → IsAccepted app → map interrupt_of xs ≡ app.interrupts
+    → (k : ℕ) (d : Interrupt) → k < length xs → IsOwned app (interrupt_of (get_or xs k d))
+owned_in app xs a m k d lt =
+    let look : get_or app.interrupts k (interrupt_of d) ≡ interrupt_of (get_or xs k d) =
+    ap (λ (ys : List InterruptData). get_or ys k (interrupt_of d)) (sym m) ∙ get_or-map interrupt_of xs k d (interrupt_of d) lt in
+    subst (IsOwned app) look (owned app a k (interrupt_of d) (omega (arith, lt, same_count interrupt_of xs app.interrupts m)))
+
+pub few_notes_in : (app : AppData) (xs : List Task) → IsAccepted app → map task_of xs ≡ app.tasks
+    → (k : ℕ) (d : Task) → k < length xs → length (get_or xs k d).notifications.items ≤ 32
+few_notes_in app xs a m k d lt =
+    let below : k < length app.tasks = omega (arith, lt, same_count task_of xs app.tasks m) in
+    let look : get_or app.tasks k no_task ≡ task_of (get_or xs k d) =
+    ap (λ (ys : List TaskData). get_or ys k no_task) (sym m) ∙ get_or-map task_of xs k d no_task lt in
+    let same : length (task_at app k).notifications ≡ length (get_or xs k d).notifications.items =
+    ap (λ (t : TaskData). length t.notifications) look ∙ length-map (get_or xs k d).notifications.items string_bytes in
+    omega (arith, same, few_notes app a k below)
+
+pub few_regions_in : (app : AppData) (xs : List Task) → IsAccepted app → map task_of xs ≡ app.tasks
+    → (k : ℕ) (d : Task) → k < length xs → length (get_or xs k d).uses.items + length (get_or xs k d).reads.items ≤ 6
+few_regions_in app xs a m k d lt =
+    let below : k < length app.tasks = omega (arith, lt, same_count task_of xs app.tasks m) in
+    let look : get_or app.tasks k no_task ≡ task_of (get_or xs k d) =
+    ap (λ (ys : List TaskData). get_or ys k no_task) (sym m) ∙ get_or-map task_of xs k d no_task lt in
+    let uses : length (task_at app k).uses ≡ length (get_or xs k d).uses.items =
+    ap (λ (t : TaskData). length t.uses) look ∙ length-map (get_or xs k d).uses.items string_bytes in
+    let reads : length (task_at app k).reads ≡ length (get_or xs k d).reads.items =
+    ap (λ (t : TaskData). length t.reads) look ∙ length-map (get_or xs k d).reads.items string_bytes in
+    omega (arith, uses, reads, few_regions app a k below)
+
+pub task_in : (app : AppData) (xs : List Task) → map task_of xs ≡ app.tasks → (k : ℕ) (d : Task) → k < length xs → task_of (get_or xs k d) ≡ task_at app k
+task_in app xs m k d lt = sym (ap (λ (ys : List TaskData). get_or ys k no_task) (sym m) ∙ get_or-map task_of xs k d no_task lt)
+
+pub is_task_in : (app : AppData) (xs : List Task) → IsAccepted app → map task_of xs ≡ app.tasks → (k : ℕ) (d : Task) → k < length xs → IsTask (task_of (get_or xs k d))
+is_task_in app xs a m k d lt =
+    subst IsTask (sym (task_in app xs m k d lt)) (a.tasks k no_task (omega (arith, lt, same_count task_of xs app.tasks m)))
+
+-- what is known of the k-th task
+pub record Known (app : AppData) (k : ℕ) (t : Task) : Type 0 where
+  pub task : task_of t ≡ task_at app k
+  pub notes : length t.notifications.items ≤ 32
+  pub regions : length t.uses.items + length t.reads.items ≤ 6
+  pub form : IsTask (task_of t)
+
+pub known_task : (app : AppData) (xs : List Task) → IsAccepted app → map task_of xs ≡ app.tasks → (k : ℕ) (t : Task) → k < length app.tasks → t ≡ get_or xs k t → Known app k t
+known_task app xs a m k t lt is =
+    let below : k < length xs = omega (arith, lt, same_count task_of xs app.tasks m) in
+    subst (Known app k) (sym is) (record {
+      task = task_in app xs m k t below;
+      notes = few_notes_in app xs a m k t below;
+      regions = few_regions_in app xs a m k t below;
+      form = is_task_in app xs a m k t below;
+    })
+
+-- ---- lists that grow
+
+pub three_more : (a b c d : Names) (x y z : List ℕ × ℕ) → b ≡ a ++ x ∷ [] → c ≡ b ++ y ∷ [] → d ≡ c ++ z ∷ [] → d ≡ a ++ (x ∷ y ∷ z ∷ [])
+three_more a b c d x y z e f g =
+    g ∙ ap (λ (ns : Names). ns ++ z ∷ []) (f ∙ ap (λ (ns : Names). ns ++ y ∷ []) e)
+    ∙ append_assoc (a ++ x ∷ []) (y ∷ []) (z ∷ []) ∙ append_assoc a (x ∷ []) (y ∷ z ∷ [])
+
+pub ram_three : (a b c d : Names) (base r size top : ℕ) → r ≡ size → b ≡ a ++ (codes "ram", base) ∷ [] → c ≡ b ++ (codes "ram_size", r) ∷ []
+    → d ≡ c ++ (codes "stack_top", top) ∷ [] → d ≡ a ++ ((codes "ram", base) ∷ (codes "ram_size", size) ∷ (codes "stack_top", top) ∷ [])
+ram_three a b c d base r size top is e f g =
+    three_more a b c d (codes "ram", base) (codes "ram_size", r) (codes "stack_top", top) e f g
+    ∙ ap (λ (v : ℕ). a ++ ((codes "ram", base) ∷ (codes "ram_size", v) ∷ (codes "stack_top", top) ∷ [])) is
+
+pub region_more : (app : AppData) (names more all : Names) (rs : List SharedRegion) (k v : ℕ) (item : SharedRegion) → k < length rs → item ≡ get_or rs k item
+    → v ≡ region_base app k → more ≡ names ++ (codes "region_" ++ string_bytes item.name, v) ∷ []
+    → names ++ region_symbols app k (map region_of (drop k rs)) ≡ all → more ++ region_symbols app (k + 1) (map region_of (drop (k + 1) rs)) ≡ all
+region_more app names more all rs k v item lt at_k at is before =
+    let name = codes "region_" ++ string_bytes item.name in
+    let rest : Names = region_symbols app (k + 1) (map region_of (drop (k + 1) rs)) in
+    let next : suc k ≡ k + 1 = omega arith in
+    let split : drop k rs ≡ item ∷ drop (k + 1) rs =
+    drop-cons rs k item lt ∙ ap (λ (x : SharedRegion). x ∷ drop (suc k) rs) (sym at_k) ∙ ap (λ (n : ℕ). item ∷ drop n rs) next in
+    let here : names ++ ((name, region_base app k) ∷ rest) ≡ all =
+    subst (λ (xs : List SharedRegion). names ++ region_symbols app k (map region_of xs) ≡ all) split before in
+    ap (λ (ns : Names). ns ++ rest) (is ∙ ap (λ (n : ℕ). names ++ (name, n) ∷ []) at) ∙ append_assoc names ((name, region_base app k) ∷ []) rest ∙ here
+
+pub lines_more : (at : ℕ → List LinePicture) (out more all : List LineRecord) (line : ℕ) → line < 32 → more ≡ out ++ map line_record (at line)
+    → out ++ map line_record (flat_map at (range_with_len line (32 - line))) ≡ all
+    → more ++ map line_record (flat_map at (range_with_len (line + 1) (32 - (line + 1)))) ≡ all
+lines_more at out more all line lt is before =
+    let m = 32 - (line + 1) in
+    let rest : List LinePicture = flat_map at (range_with_len (line + 1) m) in
+    let e : 32 - line ≡ suc m = omega (arith, lt) in
+    let here : out ++ map line_record (at line ++ rest) ≡ all =
+    subst (λ (n : ℕ). out ++ map line_record (flat_map at (range_with_len line n)) ≡ all) e before in
+    ap (λ (o : List LineRecord). o ++ map line_record rest) is ∙ append_assoc out (map line_record (at line)) (map line_record rest)
+    ∙ ap (λ (x : List LineRecord). out ++ x) (sym (map-append line_record (at line) rest)) ∙ here
+
+pub lines_end : (at : ℕ → List LinePicture) (out all : List LineRecord) (line : ℕ) → 32 ≤ line
+    → out ++ map line_record (flat_map at (range_with_len line (32 - line))) ≡ all → out ≡ all
+lines_end at out all line le before =
+    let e : 32 - line ≡ 0 = omega (arith, le) in
+    sym (append-nil out) ∙ subst (λ (n : ℕ). out ++ map line_record (flat_map at (range_with_len line n)) ≡ all) e before
+
+-- ---- a task's record
+
+pub region_count : (app : AppData) (i : ℕ) (t : Task) → length (task_regions app i (task_of t)) ≡ 2 + length t.uses.items + length t.reads.items
+region_count app i t =
+    let uses = map string_bytes t.uses.items in
+    let reads = map string_bytes t.reads.items in
+    omega (
+      arith,
+      length-append (map (named app true) uses) (map (named app false) reads),
+      length-map uses (named app true),
+      length-map reads (named app false),
+      length-map t.uses.items string_bytes,
+      length-map t.reads.items string_bytes,
+    )
+
+same_fields : (p f g r s e h a b : ℕ) → f ≡ g → r ≡ s → e ≡ h → a ≡ b
+    → ◌≡◌ {A = TaskRecord} (record { priority = p; flags = f; regions = r; zero = 0; entry = e; sp = a }) (record { priority = p; flags = g; regions = s; zero = 0; entry = h; sp = b })
+same_fields p f g r s e h a b i j k l = rw (i, j, k, l) refl
+
+pub same_record : (app : AppData) (i : ℕ) (t : Task) (flags regions entry sp : ℕ) → task_of t ≡ task_at app i → flags ≡ bit t.start 1
+    → regions ≡ 2 + length t.uses.items + length t.reads.items → entry ≡ flash_base app i + 1 → sp ≡ ram_base app i + t.stack
+    → ◌≡◌ {A = TaskRecord} (record { priority = t.priority; flags = flags; regions = regions; zero = 0; entry = entry; sp = sp }) (task_record (task_built app i (task_at app i)))
+same_record app i t flags regions entry sp is f r e s =
+    subst (λ (d : TaskData). ◌≡◌ {A = TaskRecord} (record { priority = t.priority; flags = flags; regions = regions; zero = 0; entry = entry; sp = sp }) (task_record (task_built app i d))) is
+    (same_fields t.priority flags _ regions _ entry _ sp _ f (r ∙ sym (region_count app i t)) e s)

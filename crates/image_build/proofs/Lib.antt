@@ -1,0 +1,15 @@
+pub mod EachLine
+pub mod EachRegion
+pub mod EachTask
+pub mod Finding
+pub mod Holding
+pub mod Known
+pub mod Naming
+pub mod Opening
+pub mod Planning
+pub mod Recorded
+pub mod Rounding
+pub mod Sound
+pub mod Spots
+pub mod Walking
+pub mod Whole

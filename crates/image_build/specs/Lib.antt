@@ -1,0 +1,5 @@
+pub mod Building
+pub mod Built
+pub mod Layout
+pub mod Symbols
+pub mod Taken

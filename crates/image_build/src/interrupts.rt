@@ -1,0 +1,62 @@
+//! The interrupts, ascending by line.
+
+ghost use Rattle.std.specs.Prelude.{◌≡◌, ◌++◌, ◌==◌, All, filter, map, IfOk, OnOk};
+ghost use Rattle.app_toml.specs.Held.{app_of};
+ghost use Rattle.app_toml.specs.Sites.{interrupt_of};
+ghost use Rattle.image_format.specs.Picture.{line_record};
+ghost use Rattle.image_build.specs.Building.{IsOwned};
+ghost use Rattle.image_build.specs.Built.{line_built, lines_built};
+
+use crate::names::{bit_of, notifications_of, task_place};
+use app_toml::{App, Interrupt};
+use image_format::LineRecord;
+use std::alloc::{AllocError, Global};
+
+fn line_record(app: &App, interrupt: &Interrupt) -> LineRecord
+    requires { IsOwned (app_of app.now) (interrupt_of interrupt.now) }
+    ensures { result ≡ line_record (line_built (app_of app.now) (interrupt_of interrupt.now)) }
+{
+    app.facts();
+    let tasks = app.tasks();
+    let owner = interrupt.task.as_str();
+    LineRecord {
+        line: interrupt.line,
+        task: task_place(owner, tasks) as u8,
+        zero: 0,
+        bits: bit_of(
+            interrupt.notification.as_str(),
+            notifications_of(owner, tasks),
+        ),
+    }
+}
+
+/// Those of one line, of which there is at most one.
+fn push_line(
+    out: &mut Vec<LineRecord>,
+    app: &App,
+    interrupts: &[Interrupt],
+    line: u8,
+) -> Result<(), AllocError>
+    requires { All (λ i. IsOwned (app_of app.now) (interrupt_of i)) interrupts.now }
+    ensures { OnOk result (out.new.items ≡ out.old.items
+        ++ map line_record (map (line_built (app_of app.now)) (filter (λ i. i.line == line) (map interrupt_of interrupts.now)))) }
+{
+    for interrupt in interrupts {
+        if interrupt.line == line {
+            out.push(line_record(app, interrupt))?;
+        }
+    }
+    Ok(())
+}
+
+pub(crate) fn line_records(alloc: Global, app: &App) -> Result<Vec<LineRecord>, AllocError>
+    ensures { IfOk result (λ v. v.items ≡ map line_record (lines_built (app_of app.now))) }
+{
+    app.facts();
+    let interrupts = app.interrupts();
+    let mut out = Vec::new(alloc);
+    for line in 0..32u8 {
+        push_line(&mut out, app, interrupts, line)?;
+    }
+    Ok(out)
+}

@@ -1,0 +1,4 @@
+pub mod Faults
+pub mod Order
+pub mod Placing
+pub mod Sizes

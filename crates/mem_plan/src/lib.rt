@@ -1,0 +1,14 @@
+//! Where memory regions are placed, given their sizes (docs/FORMATS.md, Plan). Each size is rounded up to
+//! a power of two of at least 256; the largest is placed first, of equal ones the one that stands first,
+//! each where the one before it ends.
+#![tactic(auto)]
+
+mod made;
+mod placing;
+mod sizes;
+#[cfg(test)]
+mod tests;
+
+pub use made::{Plan, PlanFault};
+pub use placing::plan;
+pub use sizes::rounded;

@@ -1,0 +1,7 @@
+pub mod Wording
+pub mod Numbers
+pub mod Tracking
+pub mod Walk
+pub mod Picks
+pub mod Known
+pub mod Each

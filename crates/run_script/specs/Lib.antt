@@ -1,0 +1,6 @@
+pub mod Events
+pub mod Facts
+pub mod Drafts
+pub mod Scripts
+pub mod Statements
+pub mod Words

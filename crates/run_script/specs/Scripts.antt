@@ -1,0 +1,91 @@
+-- A script: what happens from outside, turn by turn, and the script that a text is.
+-- docs/FORMATS.md, Script, has the grammar and the table of causes.
+use Rattle.std.specs.Prelude.{ℕ, Bool, ◌+◌, ◌%◌, ◌==◌, ◌&&◌, ◌||◌, nat_lt, nat_le, if◌then◌else◌, List, [], ◌∷◌, ◌++◌, length, map, filter, Option, Some, None, is_some, Result, Ok, Err}
+use Rattle.std.specs.List.{count_by, list_any}
+use Rattle.text_lines.specs.Text.{lines_of}
+use Rattle.run_script.specs.declared.events.Event.{Event}
+use Rattle.run_script.specs.declared.events.Event.TheVariants.{Tick}
+use Rattle.run_script.specs.declared.statement.Statement.{Statement}
+use Rattle.run_script.specs.declared.statement.Statement.TheVariants.{Nothing, Every, At, Refused}
+use Rattle.run_script.specs.Statements.{statement_of}
+
+-- a turn and what happens in it
+abbrev pub Listed : Type 0
+Listed = ℕ × Event
+
+-- a tick every so many turns, and the listed events in order
+pub record ScriptData : Type 0 where
+  pub every : Option ℕ
+  pub events : List Listed
+
+-- ---- turn by turn
+
+-- is the listed event of this turn?
+abbrev pub is_of : ℕ → Listed → Bool
+is_of turn listed = listed.0 == turn
+
+-- a tick on each turn above 0 that is a multiple of the period
+abbrev pub ticks_of : Option ℕ → ℕ → List Event
+ticks_of None turn = []
+ticks_of (Some period) turn = if nat_lt 0 turn && (turn % period == 0) then Tick ∷ [] else []
+
+-- what is listed of a turn, in the order of the script
+abbrev pub listed_of : ℕ → List Listed → List Event
+listed_of turn events = map (λ listed. listed.1) (filter (is_of turn) events)
+
+-- what happens in a turn
+abbrev pub events_of : ScriptData → ℕ → List Event
+events_of script turn = ticks_of script.every turn ++ listed_of turn script.events
+
+-- something happens in a turn from this one on
+abbrev pub lasts : ScriptData → ℕ → Bool
+lasts script from = is_some script.every || list_any (λ listed. nat_le from listed.0) script.events
+
+-- ---- reading
+
+-- what is read before the first line
+abbrev pub no_script : ScriptData
+no_script = record { every = None; events = [] }
+
+abbrev pub has_later : List Listed → ℕ → Bool
+has_later events turn = list_any (λ listed. nat_lt turn listed.0) events
+
+-- no room for one more event: 65,536 are listed, or eight of this turn
+abbrev pub is_full : List Listed → ℕ → Bool
+is_full events turn = nat_le 65536 (length events) || nat_le 8 (count_by (is_of turn) events)
+
+abbrev pub with_event : ScriptData → ℕ → Event → Result ScriptData ℕ
+with_event script turn event =
+    if has_later script.events turn then Err 4
+    else if is_full script.events turn then Err 5
+    else Ok (record { every = script.every; events = script.events ++ (turn, event) ∷ [] })
+
+abbrev pub with_period : ScriptData → ℕ → Result ScriptData ℕ
+with_period script period =
+    if is_some script.every || nat_lt 0 (length script.events) then Err 4
+    else Ok (record { every = Some period; events = script.events })
+
+-- the script with one more statement, or the cause by which that is refused
+abbrev pub with_statement : ScriptData → Statement → Result ScriptData ℕ
+with_statement script Nothing = Ok script
+with_statement script (Every period) = with_period script period
+with_statement script (At turn event) = with_event script turn event
+with_statement script (Refused cause) = Err cause
+
+-- a cause and a line
+abbrev pub Refusal : Type 0
+Refusal = ℕ × ℕ
+
+abbrev pub go_on : ℕ → Result ScriptData ℕ → (ScriptData → Result ScriptData Refusal) → Result ScriptData Refusal
+go_on line (Ok script) rest = rest script
+go_on line (Err cause) rest = Err (cause, line)
+
+-- what is read so far, with the lines from this number on
+unfoldable pub with_lines : ScriptData → ℕ → List (List ℕ) → Result ScriptData Refusal
+with_lines script number [] = Ok script
+with_lines script number (line ∷ lines) =
+    go_on number (with_statement script (statement_of line)) (λ next. with_lines next (number + 1) lines)
+
+-- the script that the bytes say, or the first cause with its line, from 1
+abbrev pub script_or_fault : List ℕ → Result ScriptData Refusal
+script_or_fault bytes = with_lines no_script 1 (lines_of bytes)

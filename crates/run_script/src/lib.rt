@@ -1,0 +1,17 @@
+//! The script of what happens from outside: its text read, and the events of each turn.
+//! docs/FORMATS.md, Script, has the grammar and the table of causes.
+#![tactic(auto)]
+
+mod draft;
+mod events;
+mod reading;
+mod script;
+mod statement;
+#[cfg(test)]
+mod tests;
+mod turns;
+mod words;
+
+pub use events::{Event, ScriptFault};
+pub use script::Script;
+pub use words::words_end_at_blanks;
