@@ -96,15 +96,31 @@ switch : (a : Rule) (rows : List Row) → a.parser ≡ Some parser.Bool → Has 
 switch a rows is h = subst IsSwitch (sym h.first)
     (subst (λ (p : Option ValueParser). accepts a.ignore_case (parser_of_value p) h.text ≡ true) is (accepted a.ignore_case (parser_of_value a.parser) h.text h.pass))
 
-run_sure : Each (Sure (shape_at 0).rules) (shape_at 0).rules
+build_sure : Each (Sure (shape_at 0).rules) (shape_at 0).rules
+build_sure = (record { known = refl; sure = refl }, (record { known = refl; sure = refl }, (record { known = refl; sure = refl }, tt)))
+
+build_whole : (words : List Text) → entered_fault app (Some (codes "build", words)) ≡ [] → IsWhole (entered app (Some (codes "build", words)))
+build_whole words e =
+    let s = shape_at 0 in
+    let rows = rows_after s.rules [] words in
+    let d = leaf s words build_sure refl e in
+    inl (
+      refl,
+      record {
+        app = text (rule_at s 0) rows (has_given s.rules (rule_at s 0) rows d.good refl (d.given.0 refl));
+        out = text (rule_at s 1) rows (has_given s.rules (rule_at s 1) rows d.good refl (d.given.1.0 refl));
+      },
+    )
+
+run_sure : Each (Sure (shape_at 1).rules) (shape_at 1).rules
 run_sure = (record { known = refl; sure = refl }, (record { known = refl; sure = refl }, (record { known = refl; sure = refl }, (record { known = refl; sure = refl }, (record { known = refl; sure = refl }, tt)))))
 
 run_whole : (words : List Text) → entered_fault app (Some (codes "run", words)) ≡ [] → IsWhole (entered app (Some (codes "run", words)))
 run_whole words e =
-    let s = shape_at 0 in
+    let s = shape_at 1 in
     let rows = rows_after s.rules [] words in
     let d = leaf s words run_sure refl e in
-    inl (
+    inr (inl (
       refl,
       record {
         image = text (rule_at s 0) rows (has_given s.rules (rule_at s 0) rows d.good refl (d.given.0 refl));
@@ -112,33 +128,53 @@ run_whole words e =
         steps = steps (rule_at s 2) rows refl (has_given s.rules (rule_at s 2) rows d.good refl (d.given.1.1.0 refl));
         mem = switch (rule_at s 3) rows refl (has_default s.rules (rule_at s 3) rows d.good refl (d.filled.1.1.1.0 (omega arith)));
       },
-    )
+    ))
 
-list_sure : Each (Sure (shape_at 1).rules) (shape_at 1).rules
+go_sure : Each (Sure (shape_at 2).rules) (shape_at 2).rules
+go_sure = (record { known = refl; sure = refl }, (record { known = refl; sure = refl }, (record { known = refl; sure = refl }, (record { known = refl; sure = refl }, (record { known = refl; sure = refl }, tt)))))
+
+go_whole : (words : List Text) → entered_fault app (Some (codes "go", words)) ≡ [] → IsWhole (entered app (Some (codes "go", words)))
+go_whole words e =
+    let s = shape_at 2 in
+    let rows = rows_after s.rules [] words in
+    let d = leaf s words go_sure refl e in
+    inr (inr (inl (
+      refl,
+      record {
+        app = text (rule_at s 0) rows (has_given s.rules (rule_at s 0) rows d.good refl (d.given.0 refl));
+        script = text (rule_at s 1) rows (has_given s.rules (rule_at s 1) rows d.good refl (d.given.1.0 refl));
+        steps = steps (rule_at s 2) rows refl (has_given s.rules (rule_at s 2) rows d.good refl (d.given.1.1.0 refl));
+        mem = switch (rule_at s 3) rows refl (has_default s.rules (rule_at s 3) rows d.good refl (d.filled.1.1.1.0 (omega arith)));
+      },
+    )))
+
+list_sure : Each (Sure (shape_at 3).rules) (shape_at 3).rules
 list_sure = (record { known = refl; sure = refl }, (record { known = refl; sure = refl }, tt))
 
 list_whole : (words : List Text) → entered_fault app (Some (codes "list", words)) ≡ [] → IsWhole (entered app (Some (codes "list", words)))
 list_whole words e =
-    let s = shape_at 1 in
+    let s = shape_at 3 in
     let rows = rows_after s.rules [] words in
     let d = leaf s words list_sure refl e in
-    inr (refl, record { image = text (rule_at s 0) rows (has_given s.rules (rule_at s 0) rows d.good refl (d.given.0 refl)) })
+    inr (inr (inr (refl, record { image = text (rule_at s 0) rows (has_given s.rules (rule_at s 0) rows d.good refl (d.given.0 refl)) })))
 
 -- ---- the program
 
 -- the name of one of its commands
 abbrev IsCommand : Text → Type 0
-IsCommand name = (name ≡ codes "run") ⊎ (name ≡ codes "list")
+IsCommand name = (name ≡ codes "build") ⊎ ((name ≡ codes "run") ⊎ ((name ≡ codes "go") ⊎ (name ≡ codes "list")))
 
 top_sure : Each (Sure app.top.rules) app.top.rules
 top_sure = (record { known = refl; sure = refl }, tt)
 
 own : Each (λ n. asks_for_help app.top n.0 ≡ false → IsCommand n.0) (names_of app)
-own = ((λ _. inl refl), ((λ _. inr refl), ((λ e. cc), tt)))
+own = ((λ _. inl refl), ((λ _. inr (inl refl)), ((λ _. inr (inr (inl refl))), ((λ _. inr (inr (inr refl))), ((λ e. cc), tt)))))
 
 command_whole : (name : Text) (words : List Text) → IsCommand name → entered_fault app (Some (name, words)) ≡ [] → IsWhole (entered app (Some (name, words)))
-command_whole name words (inl is) = subst (λ n. entered_fault app (Some (n, words)) ≡ [] → IsWhole (entered app (Some (n, words)))) (sym is) (run_whole words)
-command_whole name words (inr is) = subst (λ n. entered_fault app (Some (n, words)) ≡ [] → IsWhole (entered app (Some (n, words)))) (sym is) (list_whole words)
+command_whole name words (inl is) = subst (λ n. entered_fault app (Some (n, words)) ≡ [] → IsWhole (entered app (Some (n, words)))) (sym is) (build_whole words)
+command_whole name words (inr (inl is)) = subst (λ n. entered_fault app (Some (n, words)) ≡ [] → IsWhole (entered app (Some (n, words)))) (sym is) (run_whole words)
+command_whole name words (inr (inr (inl is))) = subst (λ n. entered_fault app (Some (n, words)) ≡ [] → IsWhole (entered app (Some (n, words)))) (sym is) (go_whole words)
+command_whole name words (inr (inr (inr is))) = subst (λ n. entered_fault app (Some (n, words)) ≡ [] → IsWhole (entered app (Some (n, words)))) (sym is) (list_whole words)
 
 stopped : (stop : Option (Text × List Text)) → IfSome stop (λ p. IsCommand p.0) → entered_fault app stop ≡ [] → is_some (entered app stop) ≡ true
     → IsWhole (entered app stop)

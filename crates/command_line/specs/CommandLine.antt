@@ -55,10 +55,13 @@ number_in id rows = number_of (unwrap_or (one_of id rows) [])
 
 -- ---- the commands
 
--- what the program may be asked for: a run of an image with a script, for so many turns at most, and
--- whether the memory is to be written; a list of an image
+-- What the program may be asked for: to build an application, and the name of the image; a run of an
+-- image with a script, for so many turns at most, and whether the memory is to be written; the same of an
+-- application; a list of an image.
 pub data Asked : Type 0 where
+  build : Text → Text → Asked
   run : Text → Text → ℕ → Bool → Asked
+  go : Text → Text → ℕ → Bool → Asked
   list : Text → Asked
 
 -- the form of a command: its name, its arguments, and what they ask for
@@ -67,12 +70,28 @@ pub record Form : Type 0 where
   pub rules : List Rule
   pub asks : List Row → Asked
 
+-- `build APP OUT`
+abbrev pub build_form : Form
+build_form = record {
+  name = codes "build";
+  rules = positional_rule (codes "app") ∷ positional_rule (codes "out") ∷ [];
+  asks = λ rows. build (text_in (codes "app") rows) (text_in (codes "out") rows);
+}
+
 -- `run IMAGE SCRIPT --steps N [--mem]`
 abbrev pub run_form : Form
 run_form = record {
   name = codes "run";
   rules = positional_rule (codes "image") ∷ positional_rule (codes "script") ∷ steps_rule ∷ flag_rule (codes "mem") ∷ [];
   asks = λ rows. run (text_in (codes "image") rows) (text_in (codes "script") rows) (number_in (codes "steps") rows) (is_set (codes "mem") rows);
+}
+
+-- `go APP SCRIPT --steps N [--mem]`
+abbrev pub go_form : Form
+go_form = record {
+  name = codes "go";
+  rules = positional_rule (codes "app") ∷ positional_rule (codes "script") ∷ steps_rule ∷ flag_rule (codes "mem") ∷ [];
+  asks = λ rows. go (text_in (codes "app") rows) (text_in (codes "script") rows) (number_in (codes "steps") rows) (is_set (codes "mem") rows);
 }
 
 -- `list IMAGE`
@@ -84,7 +103,7 @@ list_form = record {
 }
 
 abbrev pub forms : List Form
-forms = run_form ∷ list_form ∷ []
+forms = build_form ∷ run_form ∷ go_form ∷ list_form ∷ []
 
 -- ---- the program
 

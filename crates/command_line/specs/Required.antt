@@ -22,8 +22,18 @@ abbrev pub IsSwitch : Option Text → Type 0
 IsSwitch None = ⊥
 IsSwitch (Some text) = accepts false parser.Bool text ≡ true
 
+pub record IsWholeBuild (rows : List Row) : Type 0 where
+  pub app : HasText (codes "app") rows
+  pub out : HasText (codes "out") rows
+
 pub record IsWholeRun (rows : List Row) : Type 0 where
   pub image : HasText (codes "image") rows
+  pub script : HasText (codes "script") rows
+  pub steps : IsSteps (one_of (codes "steps") rows)
+  pub mem : IsSwitch (first_of (codes "mem") rows)
+
+pub record IsWholeGo (rows : List Row) : Type 0 where
+  pub app : HasText (codes "app") rows
   pub script : HasText (codes "script") rows
   pub steps : IsSteps (one_of (codes "steps") rows)
   pub mem : IsSwitch (first_of (codes "mem") rows)
@@ -34,4 +44,7 @@ pub record IsWholeList (rows : List Row) : Type 0 where
 -- a command of the program, with all that it wants
 abbrev pub IsWhole : Option (Text × List Row) → Type 0
 IsWhole None = ⊥
-IsWhole (Some p) = ((p.0 ≡ codes "run") × IsWholeRun p.1) ⊎ ((p.0 ≡ codes "list") × IsWholeList p.1)
+IsWhole (Some p) = ((p.0 ≡ codes "build") × IsWholeBuild p.1)
+    ⊎ (((p.0 ≡ codes "run") × IsWholeRun p.1)
+    ⊎ (((p.0 ≡ codes "go") × IsWholeGo p.1)
+    ⊎ ((p.0 ≡ codes "list") × IsWholeList p.1)))

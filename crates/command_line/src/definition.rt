@@ -1,8 +1,8 @@
 //! What `clap` is told: the program, a function for each command and for each kind of argument.
-ghost use Rattle.std.specs.Prelude.{◌≡◌, IfOk, false};
+ghost use Rattle.std.specs.Prelude.{◌≡◌, IfOk, false, map, [], ◌∷◌};
 ghost use Rattle.clap.specs.Words.{app_of, rule_of};
 ghost use Rattle.clap.specs.declared.builder.command.Command.TheViews.{out-Command as fields_of};
-ghost use Rattle.command_line.specs.CommandLine.{hubris_app, positional_rule, steps_rule, flag_rule, app_of_form, run_form, list_form};
+ghost use Rattle.command_line.specs.CommandLine.{hubris_app, positional_rule, steps_rule, flag_rule, app_of_form, shape_of_form, build_form, run_form, go_form, list_form};
 
 use clap::{Arg, ArgAction, Command};
 use std::alloc::{AllocError, Global};
@@ -31,12 +31,32 @@ fn flag<'a>(alloc: Global, name: &'a str) -> Arg<'a>
     Arg::new(alloc, name).long(name).action(ArgAction::SetTrue)
 }
 
+fn build_command<'a>(alloc: Global) -> Result<Command<'a>, AllocError>
+    ensures shape { IfOk result (λ c. app_of c ≡ app_of_form build_form) }
+    ensures local { IfOk result (λ c. (fields_of c).has_globals ≡ false) }
+{
+    Command::new(alloc, "build")
+        .arg(positional(alloc, "app"))?
+        .arg(positional(alloc, "out"))
+}
+
 fn run_command<'a>(alloc: Global) -> Result<Command<'a>, AllocError>
     ensures shape { IfOk result (λ c. app_of c ≡ app_of_form run_form) }
     ensures local { IfOk result (λ c. (fields_of c).has_globals ≡ false) }
 {
     Command::new(alloc, "run")
         .arg(positional(alloc, "image"))?
+        .arg(positional(alloc, "script"))?
+        .arg(steps(alloc))?
+        .arg(flag(alloc, "mem"))
+}
+
+fn go_command<'a>(alloc: Global) -> Result<Command<'a>, AllocError>
+    ensures shape { IfOk result (λ c. app_of c ≡ app_of_form go_form) }
+    ensures local { IfOk result (λ c. (fields_of c).has_globals ≡ false) }
+{
+    Command::new(alloc, "go")
+        .arg(positional(alloc, "app"))?
         .arg(positional(alloc, "script"))?
         .arg(steps(alloc))?
         .arg(flag(alloc, "mem"))
@@ -49,12 +69,21 @@ fn list_command<'a>(alloc: Global) -> Result<Command<'a>, AllocError>
     Command::new(alloc, "list").arg(positional(alloc, "image"))
 }
 
+// The commands that make or run an image; the program wants one of its commands.
+fn with_build_and_run<'a>(alloc: Global) -> Result<Command<'a>, AllocError>
+    ensures shape { IfOk result (λ c. app_of c ≡ record hubris_app { subs = map shape_of_form (build_form ∷ run_form ∷ []) }) }
+{
+    Command::new(alloc, "hubris")
+        .subcommand_required(true)
+        .subcommand(build_command(alloc)?)?
+        .subcommand(run_command(alloc)?)
+}
+
 /// The program's command line: one command of those above is wanted.
 pub fn hubris_command<'a>(alloc: Global) -> Result<Command<'a>, AllocError>
     ensures shape { IfOk result (λ c. app_of c ≡ hubris_app) }
 {
-    Command::new(alloc, "hubris")
-        .subcommand_required(true)
-        .subcommand(run_command(alloc)?)?
+    with_build_and_run(alloc)?
+        .subcommand(go_command(alloc)?)?
         .subcommand(list_command(alloc)?)
 }

@@ -1,7 +1,7 @@
 //! What the matches of a command ask for.
 ghost use Rattle.std.specs.Prelude.{◌≡◌, ◌≤◌, Some, codes};
 ghost use Rattle.clap.specs.Words.{rows_of, found_of, one_of};
-ghost use Rattle.command_line.specs.CommandLine.{asked_by, run_form, list_form, text_in, is_set, number_in, most_steps};
+ghost use Rattle.command_line.specs.CommandLine.{asked_by, build_form, run_form, go_form, list_form, text_in, is_set, number_in, most_steps};
 ghost use Rattle.command_line.specs.Required.{IsSteps, IsWhole};
 ghost use Rattle.command_line.specs.Asking.{asked, steps_of};
 
@@ -10,9 +10,18 @@ use clap::ArgMatches;
 /// What the program is asked to do; names are those of files, `steps` is at most 1,000,000,000.
 #[derive(Clone, Copy, Drop)]
 pub enum Job<'a> {
+    /// Build APP, and put the image under OUT.
+    Build { app: &'a str, out: &'a str },
     /// Run IMAGE with SCRIPT for at most `steps` turns; with `mem`, write the memory after it.
     Run {
         image: &'a str,
+        script: &'a str,
+        steps: u32,
+        mem: bool,
+    },
+    /// Build APP and run it as `Run` runs an image.
+    Go {
+        app: &'a str,
         script: &'a str,
         steps: u32,
         mem: bool,
@@ -48,12 +57,34 @@ fn number_of(matches: &ArgMatches<'_>, id: &str) -> u32
     }
 }
 
+fn build_by<'a>(matches: &ArgMatches<'a>) -> Job<'a>
+    ensures job { asked result ≡ build_form.asks (rows_of (found_of matches.now)) }
+    ensures few { steps_of result ≡ 0 }
+{
+    Job::Build {
+        app: text_of(matches, "app"),
+        out: text_of(matches, "out"),
+    }
+}
+
 fn run_by<'a>(matches: &ArgMatches<'a>) -> Job<'a>
     ensures job { IsSteps (one_of (codes "steps") (rows_of (found_of matches.now))) → asked result ≡ run_form.asks (rows_of (found_of matches.now)) }
     ensures few { IsSteps (one_of (codes "steps") (rows_of (found_of matches.now))) → steps_of result ≤ most_steps }
 {
     Job::Run {
         image: text_of(matches, "image"),
+        script: text_of(matches, "script"),
+        steps: number_of(matches, "steps"),
+        mem: flag_of(matches, "mem"),
+    }
+}
+
+fn go_by<'a>(matches: &ArgMatches<'a>) -> Job<'a>
+    ensures job { IsSteps (one_of (codes "steps") (rows_of (found_of matches.now))) → asked result ≡ go_form.asks (rows_of (found_of matches.now)) }
+    ensures few { IsSteps (one_of (codes "steps") (rows_of (found_of matches.now))) → steps_of result ≤ most_steps }
+{
+    Job::Go {
+        app: text_of(matches, "app"),
         script: text_of(matches, "script"),
         steps: number_of(matches, "steps"),
         mem: flag_of(matches, "mem"),
@@ -74,8 +105,12 @@ pub fn job_by<'a>(name: &str, matches: &ArgMatches<'a>) -> Job<'a>
     ensures job { IsWhole (Some (name.now, rows_of (found_of matches.now))) → asked_by name.now (rows_of (found_of matches.now)) ≡ Some (asked result) }
     ensures few { IsWhole (Some (name.now, rows_of (found_of matches.now))) → steps_of result ≤ most_steps }
 {
-    if name == "run" {
+    if name == "build" {
+        build_by(matches)
+    } else if name == "run" {
         run_by(matches)
+    } else if name == "go" {
+        go_by(matches)
     } else {
         list_by(matches)
     }

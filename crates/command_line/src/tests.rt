@@ -43,6 +43,34 @@ fn lists(alloc: Global, words: &[&str], image: &str) -> Result<bool, AllocError>
     }
 }
 
+fn builds(alloc: Global, words: &[&str], app: &str, out: &str) -> Result<bool, AllocError> {
+    let all = after_name(alloc, words)?;
+    match read_words(alloc, &all) {
+        Ok(Job::Build { app: a, out: o }) => Ok(a == app && o == out),
+        _ => Ok(false),
+    }
+}
+
+// Whether the words ask for this run of an application.
+fn goes(
+    alloc: Global,
+    words: &[&str],
+    (app, script, steps, mem): Asked,
+) -> Result<bool, AllocError> {
+    let all = after_name(alloc, words)?;
+    match read_words(alloc, &all) {
+        Ok(
+            Job::Go {
+                app: a,
+                script: s,
+                steps: n,
+                mem: m,
+            },
+        ) => Ok(a == app && s == script && n == steps && m == mem),
+        _ => Ok(false),
+    }
+}
+
 fn is_refused(alloc: Global, words: &[&str]) -> Result<bool, AllocError> {
     let all = after_name(alloc, words)?;
     match read_words(alloc, &all) {
@@ -137,6 +165,51 @@ fn a_list_is_of_one_image(rt: HostRuntime) -> Result<(), Fail> {
 }
 
 #[test]
+fn a_build_is_of_an_application_to_a_file(rt: HostRuntime) -> Result<(), Fail> {
+    let alloc = rt.alloc();
+    assert!(rt; builds(alloc, &["build", "a.toml", "a.img"], "a.toml", "a.img")?);
+    assert!(rt; builds(alloc, &["build", "--", "-a", "-b"], "-a", "-b")?);
+    assert!(rt; builds(alloc, &["build", "go", ""], "go", "")?);
+    for (i, words) in [
+        &["build"] as &[&str],
+        &["build", "a"],
+        &["build", "a", "b", "c"],
+        &["build", "a", "b", "--mem"],
+        &["build", "a", "b", "--steps=3"],
+        &["build", "-a", "b"],
+    ]
+    .into_iter()
+    .enumerate()
+    {
+        assert!(rt; is_refused(alloc, words)?, "at {i}");
+    }
+    Ok(())
+}
+
+#[test]
+fn an_application_is_run_as_an_image_is(rt: HostRuntime) -> Result<(), Fail> {
+    let alloc = rt.alloc();
+    assert!(rt; goes(alloc, &["go", "a", "e", "--steps", "3"], ("a", "e", 3, false))?);
+    assert!(rt; goes(alloc, &["go", "--mem", "--steps=+07", "a", "e"], ("a", "e", 7, true))?);
+    assert!(rt; goes(alloc, &["go", "a", "--steps=-0", "--", "-e"], ("a", "-e", 0, false))?);
+    for (i, words) in [
+        &["go", "a", "--steps=3"] as &[&str],
+        &["go", "a", "e", "f", "--steps=3"],
+        &["go", "a", "e", "--steps", "-0"],
+        &["go", "a", "e", "--steps=1000000001"],
+        &["go", "a", "e", "--steps=3", "--steps=3"],
+        &["go", "a", "e", "--steps=3", "--all"],
+        &["go", "a", "e", "--step=3"],
+    ]
+    .into_iter()
+    .enumerate()
+    {
+        assert!(rt; is_refused(alloc, words)?, "at {i}");
+    }
+    Ok(())
+}
+
+#[test]
 fn a_bound_that_is_no_number_of_turns(rt: HostRuntime) -> Result<(), Fail> {
     let bounds: [&[&str]; 12] = [
         &["--steps", "-0"],
@@ -218,8 +291,8 @@ fn a_command_that_is_missing_or_not_whole(rt: HostRuntime) -> Result<(), Fail> {
         &["--"],
         &[""],
         &["--", "run", "a", "e", "--steps=3"],
-        &["build", "a", "b"],
-        &["go", "a", "e", "--steps=3"],
+        &["build", "a"],
+        &["go", "a", "e"],
         &["sample", "1", "2"],
         &["ru", "a", "e", "--steps=3"],
         &["RUN", "a", "e", "--steps=3"],
