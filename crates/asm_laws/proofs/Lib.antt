@@ -10,3 +10,6 @@ pub mod Coded
 pub mod Every
 pub mod Spelling
 pub mod Whole
+pub mod Steady
+pub mod Lengths
+pub mod Single

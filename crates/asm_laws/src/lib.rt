@@ -1,11 +1,15 @@
-//! A law that stands over the definitions of the text of instructions and of the assembler's
+//! Laws that stand over the definitions of the text of instructions and of the assembler's
 //! language. Nothing runs here.
 #![tactic(auto)]
+
+mod image;
 
 ghost use Rattle.std.specs.Prelude.{◌≡◌, ℕ};
 ghost use Rattle.thumb_insn.specs.Range.{IsCoded};
 ghost use Rattle.thumb_insn.specs.declared.Insn.{Insn as Instruction};
 ghost use Rattle.asm_laws.specs.Reading.{HasTarget, IsRead, IsSpelled, IsAccepted, IsAssembled};
+
+pub use image::one_image;
 
 /// What `Insn::text` writes of an instruction at an address is a line that the assembler's
 /// definitions read, at that address, as this very instruction, whatever names stand for: for
