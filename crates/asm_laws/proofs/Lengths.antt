@@ -45,7 +45,7 @@ unfolding low_first
 low_length zero n = refl
 low_length (suc k) n = ap suc (low_length k (n / 256))
 
-number_length : (k : ℕ) (z : ℤ) → length (number_bytes k z) ≡ k
+pub number_length : (k : ℕ) (z : ℤ) → length (number_bytes k z) ≡ k
 number_length k (pos n) = low_length k n
 number_length k (negsuc n) = low_length k _
 
@@ -55,7 +55,7 @@ value_length k None (Some z) h = cc
 value_length k (Some y) None h = cc
 value_length k (Some y) (Some z) h = number_length k y ∙ sym (number_length k z)
 
-data_length : (env env' : Env) (k : ℕ) (es : List (List ℕ)) → Alike env env' → length (data_bytes env k es) ≡ length (data_bytes env' k es)
+pub data_length : (env env' : Env) (k : ℕ) (es : List (List ℕ)) → Alike env env' → length (data_bytes env k es) ≡ length (data_bytes env' k es)
 unfolding data_bytes
 data_length env env' k [] h = refl
 data_length env env' k (e ∷ es) h =
@@ -90,7 +90,7 @@ abbrev IsLong : ℕ → Result Insn Cause → Type 0
 IsLong k (Ok i) = long i ≡ k
 IsLong k (Err c) = Unit {0}
 
-coded_length : (k : ℕ) (r : Result Insn Cause) (own : List ℕ) → IsLong k r → CodesOf r own → length own ≡ k
+pub coded_length : (k : ℕ) (r : Result Insn Cause) (own : List ℕ) → IsLong k r → CodesOf r own → length own ≡ k
 coded_length k r own h p = ap length (code_is p.0 own p.2) ∙ code_length (code_of p.0) ∙ subst (IsLong k) p.1 h
 
 fit_long : (k : ℕ) (i : Insn) (f : Option Fit) → long i ≡ k → IsLong k (fit_cause i f)
@@ -120,7 +120,7 @@ valued_long k None g h = tt
 valued_long k (Some z) g h = h z
 
 -- the length of a shape's instruction
-abbrev shape_long : Shape → ℕ
+abbrev pub shape_long : Shape → ℕ
 shape_long (Fixed i) = long i
 shape_long (Filled e f) = long (f 0)
 shape_long (Within low top e f) = long (f 0)
@@ -130,7 +130,7 @@ shape_long (Listed loads rs) = long (list_insn loads rs)
 shape_long (Block n raised loads rs) = long (block_insn n loads (mask_of rs))
 shape_long s = 0
 
-insn_long : (env : Env) (at : ℕ) (s : Shape) → Steady s → IsLong (shape_long s) (insn_at env at s)
+pub insn_long : (env : Env) (at : ℕ) (s : Shape) → Steady s → IsLong (shape_long s) (insn_at env at s)
 unfolding insn_at
 insn_long env at (Fixed i) h = fit_long (long i) i (fit_of i) refl
 insn_long env at (Filled e f) h = valued_long _ (value env e) (filled f) (λ z. filled_long _ f z h)

@@ -13,3 +13,4 @@ pub mod Whole
 pub mod Steady
 pub mod Lengths
 pub mod Single
+pub mod Sized

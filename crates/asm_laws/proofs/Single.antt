@@ -15,12 +15,12 @@ alike_head : (b : Bool) (at at' : ℕ) (o p : Option ℕ) → is_some o ≡ is_s
 alike_head true at at' o p h = refl
 alike_head false at at' o p h = h
 
-alike_label : (label : Option (List ℕ)) (at at' : ℕ) (more more' : Names) → Alike (entry_at more) (entry_at more') → Alike (entry_at (own_label at label ++ more)) (entry_at (own_label at' label ++ more'))
+pub alike_label : (label : Option (List ℕ)) (at at' : ℕ) (more more' : Names) → Alike (entry_at more) (entry_at more') → Alike (entry_at (own_label at label ++ more)) (entry_at (own_label at' label ++ more'))
 unfolding entry_at
 alike_label None at at' more more' h name = h name
 alike_label (Some label) at at' more more' h name = alike_head (bytes_eq name label) at at' (entry_at more name) (entry_at more' name) (h name)
 
-same_entries : (names names' : Names) → names ≡ names' → Alike (entry_at names) (entry_at names')
+pub same_entries : (names names' : Names) → names ≡ names' → Alike (entry_at names) (entry_at names')
 same_entries names names' e name = ap (λ ns. is_some (entry_at ns name)) e
 
 alike_names : (lines : List (List ℕ)) (env env' : Env) (at at' : ℕ) (bytes bytes' : List ℕ) (names names' : Names) → Lays env at lines bytes names → Lays env' at' lines bytes' names' → Alike (entry_at names) (entry_at names')
@@ -37,7 +37,7 @@ alike_given None (Some n) given h = cc
 alike_given (Some m) None given h = cc
 alike_given (Some m) (Some n) given h = refl
 
-alike_env : (given labels labels' : Env) → Alike labels labels' → Alike (env_of labels given) (env_of labels' given)
+pub alike_env : (given labels labels' : Env) → Alike labels labels' → Alike (env_of labels given) (env_of labels' given)
 alike_env given labels labels' h name = alike_given (labels name) (labels' name) (given name) (h name)
 
 -- So the lines are equally long, and the labels have the same addresses.

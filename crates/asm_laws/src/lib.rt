@@ -1,5 +1,9 @@
 //! Laws that stand over the definitions of the text of instructions and of the assembler's
 //! language. Nothing runs here.
+//!
+//! - The text of an instruction is read as that instruction (`text_is_read`).
+//! - No source has two assemblies (`one_image`).
+//! - An accepted source is assembled to as many bytes as its lines take (`image_length`).
 #![tactic(auto)]
 
 mod image;
@@ -9,7 +13,7 @@ ghost use Rattle.thumb_insn.specs.Range.{IsCoded};
 ghost use Rattle.thumb_insn.specs.declared.Insn.{Insn as Instruction};
 ghost use Rattle.asm_laws.specs.Reading.{HasTarget, IsRead, IsSpelled, IsAccepted, IsAssembled};
 
-pub use image::one_image;
+pub use image::{image_length, one_image};
 
 /// What `Insn::text` writes of an instruction at an address is a line that the assembler's
 /// definitions read, at that address, as this very instruction, whatever names stand for: for
