@@ -14,7 +14,7 @@ use Rattle.thumb_asm.specs.Meaning.{Env, Names, env_of, value, value_bytes, data
 use Rattle.thumb_asm.specs.Causes.{when, is_unknown, shape_cause, second_group, second_in, at_line, size_by, line_size, labels_from, first_in, first_cause}
 use Rattle.thumb_asm.proofs.Bytes.{neither}
 use Rattle.thumb_asm.proofs.Values.{repeat_length}
-use Rattle.asm_laws.specs.Length.{lines_size}
+use Rattle.thumb_asm.specs.Passes.{size_from}
 use Rattle.asm_laws.proofs.Steady.{Steady, IsSteady, steady_statement}
 use Rattle.asm_laws.proofs.Lengths.{Alike, CodesOf, number_length, data_length, coded_length, shape_long, insn_long}
 use Rattle.asm_laws.proofs.Single.{same_entries, alike_label, alike_env}
@@ -94,8 +94,8 @@ spells_sized env env' at (Ok (Some s)) own a h c p = means_sized env env' at s o
 
 -- Lines.
 
-laid_sized : (lines : List (List ℕ)) (env env' : Env) (at number : ℕ) (bytes : List ℕ) (names : Names) → Alike env env' → second_in env' at number lines ≡ None → Lays env at lines bytes names → length bytes ≡ lines_size at lines
-unfolding Lays second_in lines_size line_size
+laid_sized : (lines : List (List ℕ)) (env env' : Env) (at number : ℕ) (bytes : List ℕ) (names : Names) → Alike env env' → second_in env' at number lines ≡ None → Lays env at lines bytes names → length bytes ≡ size_from at lines
+unfolding Lays second_in size_from line_size
 laid_sized [] env env' at number bytes names a c h = ap length h.0
 laid_sized (l ∷ ls) env env' at number bytes names a c h =
     let s = statement_of (parts l).statement in
@@ -115,7 +115,7 @@ alike_from (l ∷ ls) env at at' bytes names h = λ name.
     ap (λ ns. is_some (entry_at ns name)) h.4
     ∙ alike_label (parts l).label at at' h.2 (labels_from (at' + line_size at' l) ls) (alike_from ls env (at + length h.0) (at' + line_size at' l) h.1 h.2 h.6) name
 
-pub image_sized : (lines : List (List ℕ)) (base : ℕ) (given : Env) (bytes : List ℕ) (labels : Env) → first_cause lines base given ≡ None → Assembles lines base given bytes labels → length bytes ≡ lines_size base lines
+pub image_sized : (lines : List (List ℕ)) (base : ℕ) (given : Env) (bytes : List ℕ) (labels : Env) → first_cause lines base given ≡ None → Assembles lines base given bytes labels → length bytes ≡ size_from base lines
 unfolding first_cause
 image_sized lines base given bytes labels c h =
     let own = entry_at h.0 in

@@ -1,138 +1,168 @@
 -- What an answer of the program says of the words, of the files and of the sink.
-use Rattle.std.specs.Prelude.{◌≡◌, ◌⊎◌, ℕ, Bool, false, List, Option, Some}
+use Rattle.std.specs.Prelude.{◌≡◌, ◌≢◌, ◌⊎◌, ℕ, Bool, false, ⊥, List, Option, Some, None}
 use Rattle.std.specs.Io.KnownBytes.{Appends}
-use Rattle.outside_io.specs.Outside.{WhereTold, Rose, AppendsFront, short_name}
-use Rattle.image_format.specs.Picture.{Picture}
+use Rattle.outside_io.specs.Outside.{WhereTold, Rose, AppendsFront, IsFront, short_name}
+use Rattle.image_format.specs.Picture.{Picture, spelling}
 use Rattle.board_core.specs.Script.{Scenario}
-use Rattle.command_line.specs.CommandLine.{Asked, run, list, is_taken}
+use Rattle.command_line.specs.CommandLine.{Asked, is_taken}
+use Rattle.trace_cli.specs.Contents.{Why}
+use Rattle.trace_cli.specs.Seen.{FilesSeen, SinkSeen}
 use Rattle.trace_cli.specs.Words.{job_in}
-use Rattle.trace_cli.specs.Sources.{File, refusal_of, IsReached, IsSetup, IsPicture, IsScript}
-use Rattle.trace_cli.specs.Verdict.{Verdict, usage, refused, refused_line, unread, unread_line, ran, listed}
+use Rattle.trace_cli.specs.Sources.{File, MayBe, Reaches, TakesAll, IsRun, IsListing, IsBuild}
+use Rattle.trace_cli.specs.Verdict.{Verdict, usage, refused, refused_line, unread, unread_line, ran, listed, built, Does}
 
--- ## why a verdict was given on a job
+-- ## why a verdict was given on a job (the files: before and after the call)
 
--- each file before is accepted, and a read of this one failed (counts and last failing name: before and after the call)
-pub record IsUnread (job : Asked) (told : List ℕ → Option (List ℕ)) (before after : ℕ) (last : Option (ℕ × List ℕ)) (f : File) : Type 0 where
-  pub reached : IsReached told job f
-  pub rose : Rose before after
-  pub named : WhereTold last (λ name. name ≡ short_name f.name)
+-- each file before is accepted, and a read of this one failed, by the count and the name of the last failing call
+pub record IsUnread (job : Asked) (before after : FilesSeen) (f : File) : Type 0 where
+  pub contents : List (List ℕ)
+  pub reached : Reaches (MayBe before.told) job contents f
+  pub rose : Rose before.read_faults after.read_faults
+  pub named : WhereTold after.last_failing (λ name. name ≡ short_name f.name)
 
 -- each file before is accepted, and this one is refused where it is told
-pub record IsRefused (job : Asked) (told : List ℕ → Option (List ℕ)) (f : File) (why : ℕ × ℕ) : Type 0 where
-  pub reached : IsReached told job f
-  pub refused : WhereTold (told f.name) (λ all. refusal_of f.role all ≡ Some why)
+pub record IsRefused (job : Asked) (told : List ℕ → Option (List ℕ)) (f : File) (why : Why) : Type 0 where
+  pub contents : List (List ℕ)
+  pub reached : Reaches (MayBe told) job contents f
+  pub refused : WhereTold (told f.name) (λ all. f.refusal all ≡ Some why)
 
--- the job is a run, both files are accepted, and it is that of this scenario up to this bound
-pub record IsRun (job : Asked) (told : List ℕ → Option (List ℕ)) (n : ℕ) (mem : Bool) (x : Scenario) : Type 0 where
-  pub image : List ℕ
-  pub script : List ℕ
-  pub is : job ≡ run image script n mem
-  pub setup : IsSetup told image x.setup
-  pub events : IsScript told script x.script
+-- each file is accepted
+abbrev pub IsAccepted : Asked → (List ℕ → Option (List ℕ)) → List (List ℕ) → Type 0
+IsAccepted job told contents = TakesAll (MayBe told) job contents
 
--- the job is a listing, the image is accepted, and it is this one
-pub record IsListing (job : Asked) (told : List ℕ → Option (List ℕ)) (p : Picture) : Type 0 where
-  pub image : List ℕ
-  pub is : job ≡ list image
-  pub picture : IsPicture told image p
-
-pub data Reason (job : Asked) (told : List ℕ → Option (List ℕ)) (before after : ℕ) (last : Option (ℕ × List ℕ)) (v : Verdict) : Type 0 where
-  cannot_read : (f : File) → IsUnread job told before after last f → v ≡ unread f.name → Reason job told before after last v
-  refuses : (f : File) (why : ℕ × ℕ) → IsRefused job told f why → v ≡ refused f.name why → Reason job told before after last v
-  runs : (n : ℕ) (mem : Bool) (x : Scenario) → IsRun job told n mem x → v ≡ ran n mem x → Reason job told before after last v
-  lists : (p : Picture) → IsListing job told p → v ≡ listed p → Reason job told before after last v
+pub data Reason (job : Asked) (before after : FilesSeen) (v : Verdict) : Type 0 where
+  cannot_read : (f : File) → IsUnread job before after f → v ≡ unread f.name → Reason job before after v
+  refuses : (f : File) (why : Why) → IsRefused job before.told f why → v ≡ refused f.name why → Reason job before after v
+  does : (contents : List (List ℕ)) → IsAccepted job before.told contents → Does job contents v → Reason job before after v
 
 -- ## and on words
 
-pub data Ground (words : List (List ℕ)) (told : List ℕ → Option (List ℕ)) (before after : ℕ) (last : Option (ℕ × List ℕ)) (v : Verdict) : Type 0 where
-  no_job : is_taken words ≡ false → v ≡ usage → Ground words told before after last v
-  of_job : (job : Asked) → job_in words ≡ Some job → Reason job told before after last v → Ground words told before after last v
+pub data Ground (words : List (List ℕ)) (before after : FilesSeen) (v : Verdict) : Type 0 where
+  no_job : is_taken words ≡ false → v ≡ usage → Ground words before after v
+  of_job : (job : Asked) → job_in words ≡ Some job → Reason job before after v → Ground words before after v
 
--- ## what was told of a verdict
+-- ## what became of a verdict
 
--- the text was pushed whole under its status; or a push failed and a front of it was pushed, under 4; or memory is short and nothing was pushed, under 5
-pub data Tells (w w' : Option (List ℕ)) (f f' : ℕ) (v : Verdict) (r : ℕ) : Type 0 where
-  whole : r ≡ v.status → Appends w w' v.text → Tells w w' f f' v r
-  cut : r ≡ 4 → Rose f f' → AppendsFront w w' v.text → Tells w w' f f' v r
-  short : r ≡ 5 → w' ≡ w → f' ≡ f → Tells w w' f f' v r
+-- other names keep what is told of them
+abbrev pub OthersStay : (List ℕ → Option (List ℕ)) → (List ℕ → Option (List ℕ)) → List ℕ → Type 0
+OthersStay told told' name = (other : List ℕ) → other ≢ name → told' other ≡ told other
 
--- nothing was pushed, for want of memory
-pub record IsShort (w w' : Option (List ℕ)) (f f' : ℕ) (r : ℕ) : Type 0 where
+-- the file of the verdict, if it has one, was put
+abbrev pub HasPut : (List ℕ → Option (List ℕ)) → (List ℕ → Option (List ℕ)) → Option (List ℕ × List ℕ) → Type 0
+HasPut told told' None = told' ≡ told
+HasPut told told' (Some (name, bytes)) = WhereTold (told' name) (λ all. all ≡ bytes) × OthersStay told told' name
+
+-- its put failed: under its name are the old contents or a front of the new ones
+abbrev pub HasSpoiled : (List ℕ → Option (List ℕ)) → (List ℕ → Option (List ℕ)) → Option (List ℕ × List ℕ) → Type 0
+HasSpoiled told told' None = ⊥
+HasSpoiled told told' (Some (name, bytes)) = WhereTold (told' name) (λ all. (told name ≡ Some all) ⊎ IsFront all bytes) × OthersStay told told' name
+
+-- nothing was pushed and nothing was put, for want of memory
+pub record IsShort (before after : FilesSeen) (w w' : SinkSeen) (r : ℕ) : Type 0 where
   pub status : r ≡ 5
-  pub same : w' ≡ w
-  pub faults : f' ≡ f
+  pub written : w'.written ≡ w.written
+  pub faults : w'.faults ≡ w.faults
+  pub files : after.told ≡ before.told
+
+-- The file was put and the text pushed whole, under the verdict's status; or, under 4, a push failed after the file was put
+-- and a front of the text pushed; or, under 4, the put failed and nothing was pushed; or memory is short.
+pub data Tells (before after : FilesSeen) (w w' : SinkSeen) (v : Verdict) (r : ℕ) : Type 0 where
+  whole : r ≡ v.status → HasPut before.told after.told v.put → Appends w.written w'.written v.text → Tells before after w w' v r
+  cut : r ≡ 4 → Rose w.faults w'.faults → HasPut before.told after.told v.put → AppendsFront w.written w'.written v.text → Tells before after w w' v r
+  spoiled : r ≡ 4 → Rose before.put_faults after.put_faults → HasSpoiled before.told after.told v.put → w'.written ≡ w.written → Tells before after w w' v r
+  short : IsShort before after w w' r → Tells before after w w' v r
 
 -- the answer to a job, and to words: some verdict, for its reason, was told, or memory is short
-abbrev pub AnswersJob : Asked → (List ℕ → Option (List ℕ)) → ℕ → ℕ → Option (ℕ × List ℕ) → Option (List ℕ) → Option (List ℕ) → ℕ → ℕ → ℕ → Type 0
-AnswersJob job told before after last w w' f f' r =
-    IsShort w w' f f' r ⊎ ((v : Verdict) × Reason job told before after last v × Tells w w' f f' v r)
+abbrev pub AnswersJob : Asked → FilesSeen → FilesSeen → SinkSeen → SinkSeen → ℕ → Type 0
+AnswersJob job before after w w' r = IsShort before after w w' r ⊎ ((v : Verdict) × Reason job before after v × Tells before after w w' v r)
 
-abbrev pub Answers : List (List ℕ) → (List ℕ → Option (List ℕ)) → ℕ → ℕ → Option (ℕ × List ℕ) → Option (List ℕ) → Option (List ℕ) → ℕ → ℕ → ℕ → Type 0
-Answers words told before after last w w' f f' r =
-    IsShort w w' f f' r ⊎ ((v : Verdict) × Ground words told before after last v × Tells w w' f f' v r)
+abbrev pub Answers : List (List ℕ) → FilesSeen → FilesSeen → SinkSeen → SinkSeen → ℕ → Type 0
+Answers words before after w w' r = IsShort before after w w' r ⊎ ((v : Verdict) × Ground words before after v × Tells before after w w' v r)
 
 -- ## by status
 
 -- the whole text of a run that ended so, with its memory where it was asked for
-pub record HasRun (words : List (List ℕ)) (told : List ℕ → Option (List ℕ)) (w w' : Option (List ℕ)) (r : ℕ) : Type 0 where
+pub record HasRun (words : List (List ℕ)) (told : List ℕ → Option (List ℕ)) (w w' : SinkSeen) (r : ℕ) : Type 0 where
   pub job : Asked
   pub command : job_in words ≡ Some job
+  pub contents : List (List ℕ)
+  pub accepted : IsAccepted job told contents
   pub bound : ℕ
   pub mem : Bool
   pub scenario : Scenario
-  pub is : IsRun job told bound mem scenario
+  pub is : IsRun job contents bound mem scenario
   pub status : (ran bound mem scenario).status ≡ r
-  pub text : Appends w w' (ran bound mem scenario).text
+  pub text : Appends w.written w'.written (ran bound mem scenario).text
 
 -- the line of a listing
-pub record HasListed (words : List (List ℕ)) (told : List ℕ → Option (List ℕ)) (w w' : Option (List ℕ)) : Type 0 where
+pub record HasListed (words : List (List ℕ)) (told : List ℕ → Option (List ℕ)) (w w' : SinkSeen) : Type 0 where
   pub job : Asked
   pub command : job_in words ≡ Some job
-  pub picture : Picture
-  pub is : IsListing job told picture
-  pub text : Appends w w' (listed picture).text
+  pub contents : List (List ℕ)
+  pub accepted : IsAccepted job told contents
+  pub image : Picture
+  pub is : IsListing job contents image
+  pub text : Appends w.written w'.written (listed image).text
+
+-- an image was put, and its line pushed
+pub record HasBuilt (words : List (List ℕ)) (told told' : List ℕ → Option (List ℕ)) (w w' : SinkSeen) : Type 0 where
+  pub job : Asked
+  pub command : job_in words ≡ Some job
+  pub contents : List (List ℕ)
+  pub accepted : IsAccepted job told contents
+  pub out : List ℕ
+  pub image : Picture
+  pub is : IsBuild job contents out image
+  pub file : WhereTold (told' out) (λ all. all ≡ spelling image)
+  pub text : Appends w.written w'.written (built out image).text
 
 -- 0: the job was done
-abbrev pub HasDone : List (List ℕ) → (List ℕ → Option (List ℕ)) → Option (List ℕ) → Option (List ℕ) → Type 0
-HasDone words told w w' = HasRun words told w w' 0 ⊎ HasListed words told w w'
+abbrev pub HasDone : List (List ℕ) → FilesSeen → FilesSeen → SinkSeen → SinkSeen → Type 0
+HasDone words before after w w' = HasRun words before.told w w' 0 ⊎ (HasListed words before.told w w' ⊎ HasBuilt words before.told after.told w w')
 
 -- 1: the line of the file that is refused
-pub record HasRefused (words : List (List ℕ)) (told : List ℕ → Option (List ℕ)) (w w' : Option (List ℕ)) : Type 0 where
+pub record HasRefused (words : List (List ℕ)) (told : List ℕ → Option (List ℕ)) (w w' : SinkSeen) : Type 0 where
   pub job : Asked
   pub command : job_in words ≡ Some job
   pub file : File
-  pub why : ℕ × ℕ
+  pub why : Why
   pub is : IsRefused job told file why
-  pub line : Appends w w' (refused_line file.name why.0 why.1)
+  pub line : Appends w.written w'.written (refused_line file.name why.0 why.1)
 
 -- 3: the line of the file that cannot be read
-pub record HasUnread (words : List (List ℕ)) (told : List ℕ → Option (List ℕ)) (before after : ℕ) (last : Option (ℕ × List ℕ)) (w w' : Option (List ℕ)) : Type 0 where
+pub record HasUnread (words : List (List ℕ)) (before after : FilesSeen) (w w' : SinkSeen) : Type 0 where
   pub job : Asked
   pub command : job_in words ≡ Some job
   pub file : File
-  pub is : IsUnread job told before after last file
-  pub line : Appends w w' (unread_line file.name)
+  pub is : IsUnread job before after file
+  pub line : Appends w.written w'.written (unread_line file.name)
 
--- 4: a front of the text that was to be told
-pub record HasFront (words : List (List ℕ)) (told : List ℕ → Option (List ℕ)) (before after : ℕ) (last : Option (ℕ × List ℕ)) (w w' : Option (List ℕ)) : Type 0 where
+-- 4: the file was put, if there is one, and a front of the text that was to be told was pushed; or its put failed, and
+-- nothing was pushed
+abbrev pub IsCut : FilesSeen → FilesSeen → SinkSeen → SinkSeen → Verdict → Type 0
+IsCut before after w w' v =
+    (Rose w.faults w'.faults × HasPut before.told after.told v.put × AppendsFront w.written w'.written v.text)
+    ⊎ (Rose before.put_faults after.put_faults × HasSpoiled before.told after.told v.put × (w'.written ≡ w.written))
+
+pub record HasFront (words : List (List ℕ)) (before after : FilesSeen) (w w' : SinkSeen) : Type 0 where
   pub verdict : Verdict
-  pub ground : Ground words told before after last verdict
-  pub front : AppendsFront w w' verdict.text
+  pub ground : Ground words before after verdict
+  pub front : IsCut before after w w' verdict
 
 -- ## where the contents are told
 
 -- the verdict on them, or a read failed and that is told
-pub record HasUnreadTold (words : List (List ℕ)) (told : List ℕ → Option (List ℕ)) (before after : ℕ) (last : Option (ℕ × List ℕ)) (w w' : Option (List ℕ)) (f f' : ℕ) (r : ℕ) : Type 0 where
+pub record HasUnreadTold (words : List (List ℕ)) (before after : FilesSeen) (w w' : SinkSeen) (r : ℕ) : Type 0 where
   pub job : Asked
   pub command : job_in words ≡ Some job
   pub file : File
-  pub is : IsUnread job told before after last file
-  pub tells : Tells w w' f f' (unread file.name) r
+  pub is : IsUnread job before after file
+  pub tells : Tells before after w w' (unread file.name) r
 
-abbrev pub Answered : List (List ℕ) → (List ℕ → Option (List ℕ)) → ℕ → ℕ → Option (ℕ × List ℕ) → Option (List ℕ) → Option (List ℕ) → ℕ → ℕ → Verdict → ℕ → Type 0
-Answered words told before after last w w' f f' v r =
-    Tells w w' f f' v r ⊎ HasUnreadTold words told before after last w w' f f' r
+abbrev pub Answered : List (List ℕ) → FilesSeen → FilesSeen → SinkSeen → SinkSeen → Verdict → ℕ → Type 0
+Answered words before after w w' v r = Tells before after w w' v r ⊎ HasUnreadTold words before after w w' r
 
--- where no count of faults rose: the whole text under its status, or want of memory
-abbrev pub IsComplete : Option (List ℕ) → Option (List ℕ) → Verdict → ℕ → Type 0
-IsComplete w w' v r = ((r ≡ v.status) × Appends w w' v.text) ⊎ ((r ≡ 5) × (w' ≡ w))
+-- where no count of faults rose: the file was put and the whole text pushed under its status, or memory is short
+abbrev pub IsComplete : FilesSeen → FilesSeen → SinkSeen → SinkSeen → Verdict → ℕ → Type 0
+IsComplete before after w w' v r =
+    ((r ≡ v.status) × HasPut before.told after.told v.put × Appends w.written w'.written v.text) ⊎ IsShort before after w w' r

@@ -1,5 +1,8 @@
 pub mod Answer
+pub mod Building
+pub mod Contents
 pub mod Ready
+pub mod Seen
 pub mod Sources
 pub mod Stops
 pub mod Told

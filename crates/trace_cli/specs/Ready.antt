@@ -1,40 +1,35 @@
--- A board at the start of a run, or the file that is not taken.
-use Rattle.std.specs.Prelude.{◌≡◌, ℕ, List, Option, Some, None}
-use Rattle.outside_io.specs.Outside.{WhereTold}
+-- A board at the start of a job's run, or the file that is not taken.
+use Rattle.std.specs.Prelude.{◌≡◌, ℕ, Bool, List, Option, None}
 use Rattle.task_table.specs.Start.{start}
+use Rattle.image_format.specs.Picture.{Picture}
 use Rattle.board_core.specs.declared.board.Board.{Board}
 use Rattle.board_core.specs.Script.{Scenario}
 use Rattle.board_core.specs.Stands.{Stands, turns_of}
-use Rattle.trace_cli.specs.declared.sources.Stop.{Stop}
-use Rattle.trace_cli.specs.declared.sources.Stop.TheVariants as stops
-use Rattle.trace_cli.specs.declared.preparing.Halt.{Halt}
-use Rattle.trace_cli.specs.declared.preparing.Halt.TheVariants.{Memory, ImageUnread, ScriptUnread, ImageRefused, ScriptRefused}
-use Rattle.trace_cli.specs.Stops.{IsCannotRead}
-use Rattle.trace_cli.specs.Sources.{image_refusal, script_refusal, IsSetup, IsScript}
+use Rattle.command_line.specs.CommandLine.{Asked}
+use Rattle.trace_cli.specs.declared.stops.Halt.{Halt}
+use Rattle.trace_cli.specs.Contents.{script_refusal, scenario_of}
+use Rattle.trace_cli.specs.Seen.{FilesSeen}
+use Rattle.trace_cli.specs.Sources.{MayBe, TakesAll, files_by, IsRun}
+use Rattle.trace_cli.specs.Building.{HaltsAfter}
 
-abbrev pub image_halt : Stop → Halt
-image_halt stops.Memory = Memory
-image_halt stops.CannotRead = ImageUnread
-image_halt (stops.Refused cause place) = ImageRefused cause place
+-- the board stands for the start of the image's run with the script of this name
+pub record IsSet (told : List ℕ → Option (List ℕ)) (image : Picture) (name : List ℕ) (b : Board) : Type 0 where
+  pub script : List ℕ
+  pub held : MayBe told name script
+  pub accepted : script_refusal script ≡ None
+  pub stands : Stands (scenario_of image script) b (start (scenario_of image script).setup)
+  pub turns : turns_of b ≡ 0
 
-abbrev pub script_halt : Stop → Halt
-script_halt stops.Memory = Memory
-script_halt stops.CannotRead = ScriptUnread
-script_halt (stops.Refused cause place) = ScriptRefused cause place
-
--- where told, both files are accepted, and the board stands for the start of their run
-pub record IsReady (told : List ℕ → Option (List ℕ)) (image script : List ℕ) (b : Board) : Type 0 where
+-- each file of the job is accepted, and the board stands for the start of its run
+pub record IsReady (job : Asked) (told : List ℕ → Option (List ℕ)) (n : ℕ) (mem : Bool) (b : Board) : Type 0 where
+  pub contents : List (List ℕ)
+  pub accepted : TakesAll (MayBe told) job contents
   pub scenario : Scenario
+  pub is : IsRun job contents n mem scenario
   pub stands : Stands scenario b (start scenario.setup)
   pub turns : turns_of b ≡ 0
-  pub setup : IsSetup told image scenario.setup
-  pub events : IsScript told script scenario.script
 
--- the first file that is not taken, and why
-abbrev pub Halts : (List ℕ → Option (List ℕ)) → ℕ → ℕ → Option (ℕ × List ℕ) → List ℕ → List ℕ → Halt → Type 0
-Halts told before after last image script Memory = Unit {0}
-Halts told before after last image script ImageUnread = IsCannotRead before after last image
-Halts told before after last image script ScriptUnread = WhereTold (told image) (λ all. image_refusal all ≡ None) × IsCannotRead before after last script
-Halts told before after last image script (ImageRefused cause place) = WhereTold (told image) (λ all. image_refusal all ≡ Some (cause, place))
-Halts told before after last image script (ScriptRefused cause place) =
-    WhereTold (told image) (λ all. image_refusal all ≡ None) × WhereTold (told script) (λ all. script_refusal all ≡ Some (cause, place))
+-- a file of the job is not taken
+pub record Halts (job : Asked) (before after : FilesSeen) (halt : Halt) : Type 0 where
+  pub contents : List (List ℕ)
+  pub at : HaltsAfter before after (files_by job contents) contents halt

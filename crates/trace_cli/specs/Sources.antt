@@ -1,99 +1,123 @@
--- The files of a job: which contents are accepted, and what they say.
-use Rattle.std.specs.Prelude.{◌≡◌, ℕ, ◌==◌, nat_lt, if◌then◌else◌, List, [], ◌∷◌, ◌++◌, length, Option, Some, None, Result, Ok, Err}
+-- The files of a job, in the order in which they are taken.
+use Rattle.std.specs.Prelude.{◌≡◌, ℕ, ◌+◌, Bool, ⊥, List, [], ◌∷◌, ◌++◌, length, drop, take, slice_get, slice_index_or, Option, Some, None}
 use Rattle.outside_io.specs.Outside.{WhereTold}
-use Rattle.image_format.specs.Picture.{Picture}
-use Rattle.image_format.specs.Picture.{image_or_fault}
-use Rattle.task_table.specs.State.{Setup}
-use Rattle.board_core.specs.Opened as opened
-use Rattle.board_core.specs.Script.{Scenario, Script, Empty}
-use Rattle.std.specs.List.{AllByRecursion}
-use Rattle.command_line.specs.CommandLine.{Asked, run, list}
+use Rattle.app_toml.specs.Apps.{AppData, TaskData}
+use Rattle.image_format.specs.Picture.{Picture, Sound}
+use Rattle.image_build.specs.Built.{Built}
+use Rattle.board_core.specs.Script.{Scenario}
+use Rattle.command_line.specs.CommandLine.{Asked, build, run, go, list}
+use Rattle.trace_cli.specs.Contents.{Why, image_refusal, script_refusal, app_refusal, source_refusal, picture_of, application_of, scenario_of}
 
--- where there is no image
-abbrev pub no_picture : Picture
-no_picture = record { fault_bits = 0; ram = 0; tasks = []; lines = []; flash = [] }
-
--- a file of more than 2,097,152 bytes is refused by its length; of others its definition decides
-abbrev pub unless_long : List ℕ → Option (ℕ × ℕ) → Option (ℕ × ℕ)
-unless_long bytes refusal = if nat_lt 2097152 (length bytes) then Some (0, 2097152) else refusal
-
--- why bytes are no image, and what image they are
-abbrev pub why_not : Result Picture (ℕ × ℕ) → Option (ℕ × ℕ)
-why_not (Ok image) = None
-why_not (Err why) = Some why
-
-abbrev pub image_in : Result Picture (ℕ × ℕ) → Picture
-image_in (Ok image) = image
-image_in (Err why) = no_picture
-
--- why an image is refused, if it is: the cause and the place (docs/FORMATS.md, Image)
-unfoldable pub image_refusal : List ℕ → Option (ℕ × ℕ)
-image_refusal bytes = unless_long bytes (why_not (image_or_fault bytes))
-
--- the image that accepted bytes spell
-unfoldable pub picture_of : List ℕ → Picture
-picture_of bytes = image_in (image_or_fault bytes)
-
--- what it fixes for ever
-abbrev pub setup_of : List ℕ → Setup
-setup_of bytes = opened.setup_of (picture_of bytes)
-
--- why a script is refused, if it is (docs/FORMATS.md, Script): as yet only the empty one is accepted
-unfoldable pub script_refusal : List ℕ → Option (ℕ × ℕ)
-script_refusal bytes = unless_long bytes (if length bytes == 0 then None else Some (2, 1))
-
--- what an accepted script says
-abbrev pub script_of : List ℕ → Script
-script_of bytes = Empty
-
-abbrev pub scenario_of : List ℕ → List ℕ → Scenario
-scenario_of image script = record { setup = setup_of image; script = script_of script }
-
--- ## the files of a job, in the order in which they are taken
-
-pub data Role : Type 0 where
-  Image : Role
-  Events : Role
-
+-- a file, and why contents of it are refused
 pub record File : Type 0 where
-  pub role : Role
   pub name : List ℕ
+  pub refusal : List ℕ → Option Why
 
 abbrev pub image_file : List ℕ → File
-image_file name = record { role = Image; name = name }
+image_file name = record { name = name; refusal = image_refusal }
 
 abbrev pub script_file : List ℕ → File
-script_file name = record { role = Events; name = name }
+script_file name = record { name = name; refusal = script_refusal }
 
--- `run` takes its image and then its script, `list` its image
-abbrev pub files_of : Asked → List File
-files_of (run image script steps mem) = image_file image ∷ script_file script ∷ []
-files_of (list image) = image_file image ∷ []
+abbrev pub app_file : List ℕ → File
+app_file name = record { name = name; refusal = app_refusal }
 
-abbrev pub refusal_of : Role → List ℕ → Option (ℕ × ℕ)
-refusal_of Image = image_refusal
-refusal_of Events = script_refusal
+-- the source of the i-th task, under the name that its key `source` holds
+abbrev pub source_file : AppData → ℕ → TaskData → File
+source_file app i t = record { name = t.source; refusal = source_refusal app i }
 
--- where the contents are told, the file is accepted
-abbrev pub IsTaken : (List ℕ → Option (List ℕ)) → File → Type 0
-IsTaken told f = WhereTold (told f.name) (λ all. refusal_of f.role all ≡ None)
+-- the sources of these tasks in their order, of which the first is the i-th
+abbrev pub sources_from : AppData → ℕ → List TaskData → List File
+sources_from app i [] = []
+sources_from app i (t ∷ ts) = source_file app i t ∷ sources_from app (i + 1) ts
 
--- it is a file of the job, and each before it is accepted
-pub record IsReached (told : List ℕ → Option (List ℕ)) (job : Asked) (f : File) : Type 0 where
-  pub before : List File
-  pub after : List File
-  pub is : files_of job ≡ before ++ f ∷ after
-  pub taken : AllByRecursion (IsTaken told) before
+abbrev pub source_files : AppData → List File
+source_files app = sources_from app 0 app.tasks
 
--- ## what a job is done over, where the contents are told
+-- the files of which an application is built, where its own holds these bytes: it, and then the source of each task
+abbrev pub files_to_build : List ℕ → List ℕ → List File
+files_to_build app first = app_file app ∷ source_files (application_of first)
 
--- the image is accepted, and this is what it fixes for ever; and this is what it spells
-abbrev pub IsSetup : (List ℕ → Option (List ℕ)) → List ℕ → Setup → Type 0
-IsSetup told image g = WhereTold (told image) (λ all. (image_refusal all ≡ None) × (g ≡ setup_of all))
+-- The files of a job of which the first file holds these bytes: `build` takes those of its application, `go` too and then
+-- its script; `run` takes its image and then its script, `list` its image.
+abbrev pub files_of : Asked → List ℕ → List File
+files_of (build app out) first = files_to_build app first
+files_of (run image script steps mem) first = image_file image ∷ script_file script ∷ []
+files_of (go app script steps mem) first = files_to_build app first ++ script_file script ∷ []
+files_of (list image) first = image_file image ∷ []
 
-abbrev pub IsPicture : (List ℕ → Option (List ℕ)) → List ℕ → Picture → Type 0
-IsPicture told image p = WhereTold (told image) (λ all. (image_refusal all ≡ None) × (p ≡ picture_of all))
+abbrev pub first_of : List (List ℕ) → List ℕ
+first_of contents = slice_index_or contents 0 []
 
--- the script is accepted, and this is what it says
-abbrev pub IsScript : (List ℕ → Option (List ℕ)) → List ℕ → Script → Type 0
-IsScript told script events = WhereTold (told script) (λ all. (script_refusal all ≡ None) × (events ≡ script_of all))
+-- the files of a job whose first files have these contents
+abbrev pub files_by : Asked → List (List ℕ) → List File
+files_by job contents = files_of job (first_of contents)
+
+-- ## contents, by what is told of them
+
+-- they may be the contents under the name: where those are told, they are these
+abbrev pub MayBe : (List ℕ → Option (List ℕ)) → List ℕ → List ℕ → Type 0
+MayBe told name bytes = WhereTold (told name) (λ all. bytes ≡ all)
+
+-- they are told to be the contents under the name
+abbrev pub Are : (List ℕ → Option (List ℕ)) → List ℕ → List ℕ → Type 0
+Are told name bytes = told name ≡ Some bytes
+
+-- these are contents of the first of the files, and each of them is accepted
+abbrev pub Takes : (List ℕ → List ℕ → Type 0) → List File → List (List ℕ) → Type 0
+Takes Held files contents = (k : ℕ) (bytes : List ℕ) → slice_get contents k ≡ Some bytes
+    → (f : File) × (slice_get files k ≡ Some f) × Held f.name bytes × (f.refusal bytes ≡ None)
+
+-- the job takes first files with these contents, and then this file
+pub record Reaches (Held : List ℕ → List ℕ → Type 0) (job : Asked) (contents : List (List ℕ)) (f : File) : Type 0 where
+  pub takes : Takes Held (files_by job contents) contents
+  pub next : slice_get (files_by job contents) (length contents) ≡ Some f
+
+-- and then no more
+pub record TakesAll (Held : List ℕ → List ℕ → Type 0) (job : Asked) (contents : List (List ℕ)) : Type 0 where
+  pub takes : Takes Held (files_by job contents) contents
+  pub all : length (files_by job contents) ≡ length contents
+
+-- ## what a job is done over, where the contents of its files are these
+
+-- the application that the first of them describes, and how many tasks it has
+abbrev pub described : List (List ℕ) → AppData
+described contents = application_of (first_of contents)
+
+abbrev pub task_count : List (List ℕ) → ℕ
+task_count contents = length (described contents).tasks
+
+-- the sources of its tasks, and the script after them
+abbrev pub sources_in : List (List ℕ) → List (List ℕ)
+sources_in contents = take (task_count contents) (drop 1 contents)
+
+abbrev pub script_in : List (List ℕ) → List ℕ
+script_in contents = slice_index_or contents (1 + task_count contents) []
+
+-- the image that is built of them
+pub record IsBuilt (contents : List (List ℕ)) (image : Picture) : Type 0 where
+  pub built : Built (described contents) (sources_in contents) image
+  pub sound : Sound image
+
+-- the job is a run of this scenario up to this bound, with the memory after it or without
+abbrev pub IsRun : Asked → List (List ℕ) → ℕ → Bool → Scenario → Type 0
+IsRun (run image script steps mem) contents n m x =
+    (n ≡ steps) × (m ≡ mem) × (x ≡ scenario_of (picture_of (first_of contents)) (slice_index_or contents 1 []))
+IsRun (go app script steps mem) contents n m x =
+    (n ≡ steps) × (m ≡ mem) × ((image : Picture) × IsBuilt contents image × (x ≡ scenario_of image (script_in contents)))
+IsRun (build app out) contents n m x = ⊥
+IsRun (list image) contents n m x = ⊥
+
+-- the job is a listing of this image
+abbrev pub IsListing : Asked → List (List ℕ) → Picture → Type 0
+IsListing (list name) contents image = image ≡ picture_of (first_of contents)
+IsListing (build app out) contents image = ⊥
+IsListing (run name script steps mem) contents image = ⊥
+IsListing (go app script steps mem) contents image = ⊥
+
+-- the job is to build this image and to put it under this name
+abbrev pub IsBuild : Asked → List (List ℕ) → List ℕ → Picture → Type 0
+IsBuild (build app out) contents name image = (name ≡ out) × IsBuilt contents image
+IsBuild (run file script steps mem) contents name image = ⊥
+IsBuild (go app script steps mem) contents name image = ⊥
+IsBuild (list file) contents name image = ⊥

@@ -1,29 +1,41 @@
 -- Why a file is not taken.
-use Rattle.std.specs.Prelude.{◌≡◌, ℕ, List, Option, Some}
+use Rattle.std.specs.Prelude.{◌≡◌, ℕ, ◌<◌, ⊤, ⊥, List, length, codes, Option, Some, string_bytes}
 use Rattle.outside_io.specs.Outside.{WhereTold, Rose, short_name}
-use Rattle.outside_io.specs.declared.reading.ReadAll.{ReadAll}
-use Rattle.outside_io.specs.declared.reading.ReadAll.TheVariants.{Failed, TooLong, Memory}
-use Rattle.trace_cli.specs.declared.sources.Stop.{Stop}
-use Rattle.trace_cli.specs.declared.sources.Stop.TheVariants as stops
-
-abbrev pub stop_of : ReadAll → Stop
-stop_of Failed = stops.CannotRead
-stop_of TooLong = stops.Refused 0 2097152
-stop_of Memory = stops.Memory
+use Rattle.trace_cli.specs.declared.stops.Stop.{Stop}
+use Rattle.trace_cli.specs.declared.stops.Stop.TheVariants as stops
+use Rattle.trace_cli.specs.declared.stops.Halt.{Halt}
+use Rattle.trace_cli.specs.declared.stops.Halt.TheVariants as halts
+use Rattle.trace_cli.specs.Contents.{Why}
+use Rattle.trace_cli.specs.Seen.{FilesSeen}
+use Rattle.trace_cli.specs.Sources.{File}
 
 -- a read failed, by the count, and of this name where that is told
-pub record IsCannotRead (before after : ℕ) (last : Option (ℕ × List ℕ)) (name : List ℕ) : Type 0 where
-  pub rose : Rose before after
-  pub named : WhereTold last (λ n. n ≡ short_name name)
+pub record IsCannotRead (before after : FilesSeen) (name : List ℕ) : Type 0 where
+  pub rose : Rose before.read_faults after.read_faults
+  pub named : WhereTold after.last_failing (λ n. n ≡ short_name name)
 
--- the bytes are refused with this cause and place, or memory is short
-abbrev pub StopsAt : (List ℕ → Option (ℕ × ℕ)) → List ℕ → Stop → Type 0
-StopsAt refusal bytes stops.Memory = Unit {0}
-StopsAt refusal bytes stops.CannotRead = ⊥
-StopsAt refusal bytes (stops.Refused cause place) = refusal bytes ≡ Some (cause, place)
+-- the bytes are refused so, or memory is short
+abbrev pub StopsAt : Option Why → Stop → Type 0
+StopsAt refusal stops.Memory = ⊤
+StopsAt refusal stops.CannotRead = ⊥
+StopsAt refusal (stops.Refused cause place) = refusal ≡ Some (cause, string_bytes place)
+
+-- the file cannot be read, is too long where it is told, or memory is short
+abbrev pub CannotTake : FilesSeen → FilesSeen → List ℕ → Stop → Type 0
+CannotTake before after name stops.Memory = ⊤
+CannotTake before after name stops.CannotRead = IsCannotRead before after name
+CannotTake before after name (stops.Refused cause place) =
+    (cause ≡ 0) × (string_bytes place ≡ codes "2097152") × WhereTold (before.told name) (λ all. 2097152 < length all)
 
 -- the file cannot be read, is refused where it is told, or memory is short
-abbrev pub Stops : (List ℕ → Option (ℕ × ℕ)) → Option (List ℕ) → ℕ → ℕ → Option (ℕ × List ℕ) → List ℕ → Stop → Type 0
-Stops refusal told before after last name stops.Memory = Unit {0}
-Stops refusal told before after last name stops.CannotRead = IsCannotRead before after last name
-Stops refusal told before after last name (stops.Refused cause place) = WhereTold told (λ all. refusal all ≡ Some (cause, place))
+abbrev pub Stops : FilesSeen → FilesSeen → File → Stop → Type 0
+Stops before after f stops.Memory = ⊤
+Stops before after f stops.CannotRead = IsCannotRead before after f.name
+Stops before after f (stops.Refused cause place) = WhereTold (before.told f.name) (λ all. f.refusal all ≡ Some (cause, string_bytes place))
+
+-- the same, with the name of the file
+abbrev pub HaltsAt : FilesSeen → FilesSeen → File → Halt → Type 0
+HaltsAt before after f halts.Memory = ⊤
+HaltsAt before after f (halts.CannotRead name) = (string_bytes name ≡ f.name) × IsCannotRead before after f.name
+HaltsAt before after f (halts.Refused name cause place) =
+    (string_bytes name ≡ f.name) × WhereTold (before.told f.name) (λ all. f.refusal all ≡ Some (cause, string_bytes place))

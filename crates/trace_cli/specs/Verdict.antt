@@ -1,7 +1,7 @@
--- What the program answers: a status and its text.
-use Rattle.std.specs.Prelude.{ℕ, Bool, if◌then◌else◌, List, [], ◌∷◌, ◌++◌, codes, decimal, Option, Some, None, unwrap_or}
+-- What the program answers: a status, its text, and the file that it puts.
+use Rattle.std.specs.Prelude.{◌≡◌, ℕ, Bool, true, false, if◌then◌else◌, List, [], ◌∷◌, ◌++◌, length, codes, decimal, Option, Some, None}
 use Rattle.serde_json.specs.Written.{compact_text}
-use Rattle.image_format.specs.Picture.{Picture}
+use Rattle.image_format.specs.Picture.{Picture, spelling}
 use Rattle.image_list.specs.Listing.{image_data}
 use Rattle.board_core.specs.declared.told.End.{End}
 use Rattle.board_core.specs.declared.told.End.TheVariants.{Bound, Still, Supervisor}
@@ -11,38 +11,47 @@ use Rattle.board_core.specs.Script.{Scenario}
 use Rattle.board_core.specs.Run as board
 use Rattle.board_run.specs.Text.{trace_text}
 use Rattle.board_run.specs.MemoryText.{memory_text}
-use Rattle.command_line.specs.CommandLine.{Asked, run, list}
+use Rattle.command_line.specs.CommandLine.{Asked, is_taken}
+use Rattle.trace_cli.specs.Contents.{Why}
 use Rattle.trace_cli.specs.Words.{job_in}
-use Rattle.trace_cli.specs.Sources.{File, files_of, refusal_of, picture_of, scenario_of}
+use Rattle.trace_cli.specs.Sources.{File, Are, Reaches, TakesAll, IsRun, IsListing, IsBuild}
 
 pub record Verdict : Type 0 where
   pub status : ℕ
   pub text : List ℕ
+  pub put : Option (List ℕ × List ℕ)  -- a name, and what is put under it
 
 -- ## the verdicts
+
+abbrev pub line_alone : ℕ → List ℕ → Verdict
+line_alone status line = record { status = status; text = line; put = None }
 
 abbrev pub usage_line : List ℕ
 usage_line = codes "usage: hubris build, run, go, list or sample\n"
 
 -- `refused <name> <cause> <place>`
-unfoldable pub refused_line : List ℕ → ℕ → ℕ → List ℕ
-refused_line name cause place = codes "refused " ++ name ++ codes " " ++ decimal cause ++ codes " " ++ decimal place ++ codes "\n"
+unfoldable pub refused_line : List ℕ → ℕ → List ℕ → List ℕ
+refused_line name cause place = codes "refused " ++ name ++ codes " " ++ decimal cause ++ codes " " ++ place ++ codes "\n"
 
 -- `cannot read <name>`
 unfoldable pub unread_line : List ℕ → List ℕ
 unread_line name = codes "cannot read " ++ name ++ codes "\n"
 
+-- `built <length> bytes`
+unfoldable pub built_line : ℕ → List ℕ
+built_line bytes = codes "built " ++ decimal bytes ++ codes " bytes\n"
+
 -- the words are not accepted
 abbrev pub usage : Verdict
-usage = record { status = 2; text = usage_line }
+usage = line_alone 2 usage_line
 
 -- a file is refused, with a cause and a place
-abbrev pub refused : List ℕ → ℕ × ℕ → Verdict
-refused name why = record { status = 1; text = refused_line name why.0 why.1 }
+abbrev pub refused : List ℕ → Why → Verdict
+refused name why = line_alone 1 (refused_line name why.0 why.1)
 
 -- a file cannot be read
 abbrev pub unread : List ℕ → Verdict
-unread name = record { status = 3; text = unread_line name }
+unread name = line_alone 3 (unread_line name)
 
 abbrev pub status_of : End → ℕ
 status_of Bound = 0
@@ -59,43 +68,33 @@ memory_if mem g s = if mem then memory_text g s else []
 
 -- a run was done
 abbrev pub ran : ℕ → Bool → Scenario → Verdict
-ran n mem x = record { status = status_of (run_of n x).end; text = trace_text (run_of n x) ++ memory_if mem x.setup (run_of n x).last }
+ran n mem x = line_alone (status_of (run_of n x).end) (trace_text (run_of n x) ++ memory_if mem x.setup (run_of n x).last)
 
 -- an image was listed
 abbrev pub listing_line : Picture → List ℕ
-listing_line p = compact_text (image_data p) ++ codes "\n"
+listing_line image = compact_text (image_data image) ++ codes "\n"
 
 abbrev pub listed : Picture → Verdict
-listed p = record { status = 0; text = listing_line p }
+listed image = line_alone 0 (listing_line image)
+
+-- an image was built and put under a name
+abbrev pub built : List ℕ → Picture → Verdict
+built out image = record { status = 0; text = built_line (length (spelling image)); put = Some (out, spelling image) }
+
+-- ## what comes of accepted files with these contents
+
+pub data Does (job : Asked) (contents : List (List ℕ)) (v : Verdict) : Type 0 where
+  runs : (n : ℕ) (mem : Bool) (x : Scenario) → IsRun job contents n mem x → v ≡ ran n mem x → Does job contents v
+  lists : (image : Picture) → IsListing job contents image → v ≡ listed image → Does job contents v
+  builds : (out : List ℕ) (image : Picture) → IsBuild job contents out image → v ≡ built out image → Does job contents v
 
 -- ## the verdict on words and contents, where they are told as far as they count
 
--- a refusal decides, or what comes after it
-abbrev pub unless_refused : List ℕ → Option (ℕ × ℕ) → Option Verdict → Option Verdict
-unless_refused name (Some why) more = Some (refused name why)
-unless_refused name None more = more
-
-abbrev pub file_verdict : File → Option (List ℕ) → Option Verdict → Option Verdict
-file_verdict f None more = None
-file_verdict f (Some all) more = unless_refused f.name (refusal_of f.role all) more
-
--- the files are taken one after the other
-abbrev pub files_verdict : (List ℕ → Option (List ℕ)) → List File → Option Verdict → Option Verdict
-files_verdict told [] done = done
-files_verdict told (f ∷ fs) done = file_verdict f (told f.name) (files_verdict told fs done)
-
-abbrev pub contents : (List ℕ → Option (List ℕ)) → List ℕ → List ℕ
-contents told name = unwrap_or (told name) []
-
--- what comes of accepted files
-abbrev pub done : (List ℕ → Option (List ℕ)) → Asked → Verdict
-done told (run image script steps mem) = ran steps mem (scenario_of (contents told image) (contents told script))
-done told (list image) = listed (picture_of (contents told image))
-
-abbrev pub job_verdict : (List ℕ → Option (List ℕ)) → Option Asked → Option Verdict
-job_verdict told None = Some usage
-job_verdict told (Some job) = files_verdict told (files_of job) (Some (done told job))
-
--- words that are not taken are answered by the usage line, the first file that is refused by its line, and accepted files by what the job is
-unfoldable pub verdict : List (List ℕ) → (List ℕ → Option (List ℕ)) → Option Verdict
-verdict words told = job_verdict told (job_in words)
+-- Words that are not taken are answered by the usage line, the first file that is refused by its line, and accepted files
+-- by what the job is. There is at most one verdict.
+pub data IsVerdict (words : List (List ℕ)) (told : List ℕ → Option (List ℕ)) (v : Verdict) : Type 0 where
+  no_job : is_taken words ≡ false → v ≡ usage → IsVerdict words told v
+  refuses : (job : Asked) (contents : List (List ℕ)) (f : File) (bytes : List ℕ) (why : Why) → job_in words ≡ Some job
+      → Reaches (Are told) job contents f → Are told f.name bytes → f.refusal bytes ≡ Some why → v ≡ refused f.name why → IsVerdict words told v
+  does : (job : Asked) (contents : List (List ℕ)) → job_in words ≡ Some job
+      → TakesAll (Are told) job contents → Does job contents v → IsVerdict words told v

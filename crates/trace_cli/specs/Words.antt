@@ -1,8 +1,8 @@
 -- The words of the command line, the program's name first (docs/FORMATS.md, Command line).
-use Rattle.std.specs.Prelude.{ℕ, if◌then◌else◌, List, map, Option, None, string_bytes}
+use Rattle.std.specs.Prelude.{ℕ, if◌then◌else◌, List, map, Option, Some, None, string_bytes}
 use Rattle.std.specs.declared.string.String.{String}
 use Rattle.std.specs.declared.alloc.Global.{Global}
-use Rattle.command_line.specs.CommandLine.{Asked, is_taken, job_of}
+use Rattle.command_line.specs.CommandLine.{Asked, build, run, go, list, is_taken, job_of}
 
 abbrev pub texts_of : List (String Global) → List (List ℕ)
 texts_of words = map string_bytes words
@@ -10,3 +10,11 @@ texts_of words = map string_bytes words
 -- the job that the words ask for, where they are taken
 abbrev pub job_in : List (List ℕ) → Option Asked
 job_in words = if is_taken words then job_of words else None
+
+-- the name under which a job puts a file, if it puts one
+abbrev pub out_of : Option Asked → Option (List ℕ)
+out_of None = None
+out_of (Some (build app out)) = Some out
+out_of (Some (run image script steps mem)) = None
+out_of (Some (go app script steps mem)) = None
+out_of (Some (list image)) = None

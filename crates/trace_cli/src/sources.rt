@@ -1,10 +1,15 @@
-//! The files of a run.
-ghost use Rattle.std.specs.Prelude.{◌≡◌, ◌≤◌, ◌<◌, length, None, IfOk, OnOk, IfErr};
-ghost use Rattle.outside_io.specs.Outside.{WhereTold};
+//! The contents of files.
+ghost use Rattle.std.specs.Prelude.{◌≡◌, ◌≤◌, ◌<◌, ℕ, List, length, None, Some, Ok, IfOk, OnOk, IfErr};
+ghost use Rattle.app_toml.specs.Held.{app_of};
+ghost use Rattle.app_toml.specs.Reading.{read_app};
 ghost use Rattle.image_format.specs.Images.{picture};
-ghost use Rattle.trace_cli.specs.Sources.{image_refusal, picture_of, script_refusal};
-ghost use Rattle.trace_cli.specs.Stops.{Stops, StopsAt, stop_of};
+ghost use Rattle.trace_cli.specs.Contents.{image_refusal, picture_of, script_refusal, app_refusal};
+ghost use Rattle.trace_cli.specs.Seen.{files_seen};
+ghost use Rattle.trace_cli.specs.Sources.{MayBe};
+ghost use Rattle.trace_cli.specs.Stops.{StopsAt, CannotTake};
 
+use crate::stops::{Stop, refused_at_number};
+use app_toml::{App, AppFault};
 use image_format::{Image, ImageFault};
 use outside_io::{Files, ReadAll, read_all};
 use std::alloc::Global;
@@ -12,77 +17,62 @@ use std::alloc::Global;
 /// The longest file that is read, in bytes.
 const LIMIT: usize = 2_097_152;
 
-/// Why a file is not taken.
-#[derive(Clone, Copy, Debug, PartialEq, Eq)]
-pub enum Stop {
-    Memory,
-    CannotRead,
-    Refused { cause: u8, place: u32 },
-}
-
-fn stop_by(why: ReadAll) -> Stop
-    ensures { result ≡ stop_of why }
+/// The contents under a name.
+pub fn read_contents<F: Files>(alloc: Global, files: &mut F, name: &str) -> Result<Vec<u8>, Stop>
+    ensures held { IfOk result (λ v. MayBe (F.told files.old) name.now v.items) }
+    ensures few { IfOk result (λ v. length v.items ≤ 2097152) }
+    ensures stop { IfErr result (CannotTake (files_seen (F.told files.old) (F.read_faults files.old) (F.put_faults files.old) (F.last_failing files.old)) (files_seen (F.told files.new) (F.read_faults files.new) (F.put_faults files.new) (F.last_failing files.new)) name.now) }
+    ensures later { F.read_faults files.old ≤ F.read_faults files.new }
+    ensures contents { F.told files.new ≡ F.told files.old }
+    ensures puts { F.put_faults files.new ≡ F.put_faults files.old }
 {
-    match why {
-        ReadAll::Failed => Stop::CannotRead,
-        ReadAll::TooLong => Stop::Refused {
-            cause: 0,
-            place: 2_097_152,
-        },
-        ReadAll::Memory => Stop::Memory,
+    match read_all(alloc, files, name, LIMIT) {
+        Ok(bytes) => Ok(bytes),
+        Err(ReadAll::Failed) => Err(Stop::CannotRead),
+        Err(ReadAll::TooLong) => Err(refused_at_number(alloc, 0, 2_097_152)),
+        Err(ReadAll::Memory) => Err(Stop::Memory),
     }
 }
 
 /// The image that the bytes of a file spell.
-fn image_in(alloc: Global, bytes: &[u8]) -> Result<Image, Stop>
+pub fn image_in(alloc: Global, bytes: &[u8]) -> Result<Image, Stop>
     requires { length bytes.now ≤ 2097152 }
-    ensures read { IfOk result (λ i. (image_refusal bytes.now ≡ None) × (picture i ≡ picture_of bytes.now)) }
-    ensures stop { IfErr result (λ e. StopsAt image_refusal bytes.now e) }
+    ensures accepted { IfOk result (λ i. image_refusal bytes.now ≡ None) }
+    ensures image { IfOk result (λ i. picture i ≡ picture_of bytes.now) }
+    ensures stop { IfErr result (StopsAt (image_refusal bytes.now)) }
 {
     match Image::read(alloc, bytes) {
         Ok(image) => Ok(image),
-        Err(ImageFault::Refused { cause, place }) => Err(Stop::Refused { cause, place }),
+        Err(ImageFault::Refused { cause, place }) => {
+            Err(refused_at_number(alloc, cause, place as u64))
+        }
         Err(ImageFault::Memory) => Err(Stop::Memory),
     }
 }
 
-/// The image under a name.
-pub fn read_image<F: Files>(alloc: Global, files: &mut F, name: &str) -> Result<Image, Stop>
-    ensures read { IfOk result (λ i. WhereTold (F.told files.old name.now) (λ all. (image_refusal all ≡ None) × (picture i ≡ picture_of all))) }
-    ensures stop { IfErr result (λ e. Stops image_refusal (F.told files.old name.now) (F.read_faults files.old) (F.read_faults files.new) (F.last_failing files.new) name.now e) }
-    ensures later { F.read_faults files.old ≤ F.read_faults files.new }
-    ensures contents { F.told files.new ≡ F.told files.old }
-    ensures puts { F.put_faults files.new ≡ F.put_faults files.old }
-{
-    match read_all(alloc, files, name, LIMIT) {
-        Err(why) => Err(stop_by(why)),
-        Ok(bytes) => image_in(alloc, &bytes),
-    }
-}
-
-#[tactic(auto, unfolding(crate::specs::Sources::script_refusal))]
-fn script_in(bytes: &[u8]) -> Result<(), Stop>
+/// The script that the bytes of a file are. As yet only the empty one is accepted, and says nothing.
+#[tactic(auto, unfolding(crate::specs::Contents::script_refusal))]
+pub fn script_in(alloc: Global, bytes: &[u8]) -> Result<(), Stop>
     requires { length bytes.now ≤ 2097152 }
-    ensures read { OnOk result (script_refusal bytes.now ≡ None) }
-    ensures stop { IfErr result (λ e. StopsAt script_refusal bytes.now e) }
+    ensures accepted { OnOk result (script_refusal bytes.now ≡ None) }
+    ensures stop { IfErr result (StopsAt (script_refusal bytes.now)) }
 {
     if bytes.is_empty() {
         Ok(())
     } else {
-        Err(Stop::Refused { cause: 2, place: 1 })
+        Err(refused_at_number(alloc, 2, 1))
     }
 }
 
-/// The script under a name. As yet only the empty one is accepted, and says nothing.
-pub fn read_script<F: Files>(alloc: Global, files: &mut F, name: &str) -> Result<(), Stop>
-    ensures read { OnOk result (WhereTold (F.told files.old name.now) (λ all. script_refusal all ≡ None)) }
-    ensures stop { IfErr result (λ e. Stops script_refusal (F.told files.old name.now) (F.read_faults files.old) (F.read_faults files.new) (F.last_failing files.new) name.now e) }
-    ensures later { F.read_faults files.old ≤ F.read_faults files.new }
-    ensures contents { F.told files.new ≡ F.told files.old }
-    ensures puts { F.put_faults files.new ≡ F.put_faults files.old }
+/// The application that the bytes of a file describe.
+pub fn app_in(alloc: Global, bytes: &[u8]) -> Result<App, Stop>
+    requires { length bytes.now ≤ 2097152 }
+    ensures app { IfOk result (λ a. read_app bytes.now ≡ Ok (app_of a)) }
+    ensures stop { IfErr result (StopsAt (app_refusal bytes.now)) }
 {
-    match read_all(alloc, files, name, LIMIT) {
-        Err(why) => Err(stop_by(why)),
-        Ok(bytes) => script_in(&bytes),
+    match App::read(alloc, bytes) {
+        Ok(app) => Ok(app),
+        Err(AppFault::Refused { cause, place }) => Err(Stop::Refused { cause, place }),
+        Err(AppFault::Memory) => Err(Stop::Memory),
     }
 }

@@ -1,0 +1,44 @@
+-- The image that is built of files.
+use Rattle.std.specs.Prelude.{◌≡◌, ℕ, List, length, slice_get, Option, Some}
+use Rattle.app_toml.specs.Apps.{AppData}
+use Rattle.image_format.specs.Picture.{Picture}
+use Rattle.image_build.specs.Taken.{HasTaken}
+use Rattle.image_build.specs.declared.builder.Builder.{Builder}
+use Rattle.trace_cli.specs.declared.stops.Halt.{Halt}
+use Rattle.trace_cli.specs.Seen.{FilesSeen}
+use Rattle.trace_cli.specs.Sources.{File, files_to_build, first_of, source_files, MayBe, Takes, IsBuilt}
+use Rattle.trace_cli.specs.Stops.{HaltsAt}
+
+-- each of these files was accepted with its contents
+pub record TakesEach (told : List ℕ → Option (List ℕ)) (files : List File) (contents : List (List ℕ)) : Type 0 where
+  pub takes : Takes (MayBe told) files contents
+  pub all : length files ≡ length contents
+
+-- those before were accepted, and this is why the next one was not taken
+pub record HaltsAfter (before after : FilesSeen) (files : List File) (contents : List (List ℕ)) (halt : Halt) : Type 0 where
+  pub takes : Takes (MayBe before.told) files contents
+  pub file : File
+  pub next : slice_get files (length contents) ≡ Some file
+  pub halts : HaltsAt before after file halt
+
+-- the builder has taken the sources of all tasks
+pub record HasAll (told : List ℕ → Option (List ℕ)) (app : AppData) (builder : Builder) : Type 0 where
+  pub sources : List (List ℕ)
+  pub each : TakesEach told (source_files app) sources
+  pub taken : HasTaken sources builder
+
+-- an image was built of the application's files
+pub record IsImage (told : List ℕ → Option (List ℕ)) (app : List ℕ) (image : Picture) : Type 0 where
+  pub contents : List (List ℕ)
+  pub each : TakesEach told (files_to_build app (first_of contents)) contents
+  pub is : IsBuilt contents image
+
+-- one of its sources was not taken
+pub record HaltsInSources (before after : FilesSeen) (app : AppData) (halt : Halt) : Type 0 where
+  pub sources : List (List ℕ)
+  pub at : HaltsAfter before after (source_files app) sources halt
+
+-- one of its files was not taken
+pub record HaltsInApp (before after : FilesSeen) (app : List ℕ) (halt : Halt) : Type 0 where
+  pub contents : List (List ℕ)
+  pub at : HaltsAfter before after (files_to_build app (first_of contents)) contents halt

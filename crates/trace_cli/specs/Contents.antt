@@ -1,0 +1,117 @@
+-- The contents of a file: why they are refused, and what they say.
+use Rattle.std.specs.Prelude.{◌≡◌, ℕ, ◌^◌, ◌==◌, min, nat_lt, if◌then◌else◌, List, [], ◌++◌, length, codes, decimal, Option, Some, None, option_map, Result, Ok, Err}
+use Rattle.app_toml.specs.Apps.{AppData}
+use Rattle.app_toml.specs.Reading.{read_app}
+use Rattle.text_lines.specs.Text.{lines_of}
+use Rattle.thumb_asm.specs.Causes.{cause_number}
+use Rattle.thumb_asm.specs.declared.Cause.{Cause}
+use Rattle.thumb_asm.specs.Passes.{size_from}
+use Rattle.image_format.specs.Picture.{Picture, image_or_fault}
+use Rattle.image_build.specs.Layout.{flash_base, flash_needed, ram_needed, task_at}
+use Rattle.image_build.specs.Building.{source_cause}
+use Rattle.task_table.specs.State.{Setup}
+use Rattle.board_core.specs.Opened as opened
+use Rattle.board_core.specs.Script.{Scenario, Script, Empty}
+
+-- the number of a cause, and the place as it is told
+abbrev pub Why : Type 0
+Why = ℕ × List ℕ
+
+abbrev pub or_later : Option Why → Option Why → Option Why
+or_later None later = later
+or_later (Some why) later = Some why
+
+-- a cause at a place of a number: a byte of an image, a line of a text
+abbrev pub at_number : ℕ × ℕ → Why
+at_number p = (p.0, decimal p.1)
+
+abbrev pub fault_in : {T W : Type 0} → Result T W → Option W
+fault_in (Ok value) = None
+fault_in (Err why) = Some why
+
+-- a file of more than 2,097,152 bytes is refused by its length; of others its definition decides
+abbrev pub unless_long : List ℕ → Option Why → Option Why
+unless_long bytes refusal = if nat_lt 2097152 (length bytes) then Some (0, codes "2097152") else refusal
+
+-- ## an image
+
+-- where there is no image
+abbrev pub no_picture : Picture
+no_picture = record { fault_bits = 0; ram = 0; tasks = []; lines = []; flash = [] }
+
+abbrev pub image_in : Result Picture (ℕ × ℕ) → Picture
+image_in (Ok image) = image
+image_in (Err why) = no_picture
+
+-- why an image is refused, if it is (docs/FORMATS.md, Image)
+unfoldable pub image_refusal : List ℕ → Option Why
+image_refusal bytes = unless_long bytes (option_map at_number (fault_in (image_or_fault bytes)))
+
+-- the image that accepted bytes spell
+unfoldable pub picture_of : List ℕ → Picture
+picture_of bytes = image_in (image_or_fault bytes)
+
+-- ## a script
+
+-- why a script is refused, if it is (docs/FORMATS.md, Script): as yet only the empty one is accepted
+unfoldable pub script_refusal : List ℕ → Option Why
+script_refusal bytes = unless_long bytes (if length bytes == 0 then None else Some (at_number (2, 1)))
+
+-- what an accepted script says
+abbrev pub script_of : List ℕ → Script
+script_of bytes = Empty
+
+-- ## an application
+
+-- where there is no application
+abbrev pub no_app : AppData
+no_app = record { flash = 0; ram = 0; fault = []; tasks = []; regions = []; devices = []; interrupts = [] }
+
+abbrev pub app_in : Result AppData Why → AppData
+app_in (Ok app) = app
+app_in (Err why) = no_app
+
+-- the application that accepted bytes describe
+unfoldable pub application_of : List ℕ → AppData
+application_of bytes = app_in (read_app bytes)
+
+-- how many bytes are needed, as far as a number of 64 bits says it
+abbrev pub told_need : ℕ → List ℕ
+told_need needed = decimal (min needed (2 ^ 64 - 1))
+
+-- the board has no room for its memory: flash first (docs/FORMATS.md, Building)
+abbrev pub room_refusal : AppData → Option Why
+room_refusal app = if nat_lt app.flash (flash_needed app) then Some (21, codes "flash:" ++ told_need (flash_needed app))
+    else if nat_lt app.ram (ram_needed app) then Some (21, codes "ram:" ++ told_need (ram_needed app))
+    else None
+
+-- why an application is refused, if it is: its description (docs/FORMATS.md, Application), or its plan
+unfoldable pub app_refusal : List ℕ → Option Why
+app_refusal bytes = unless_long bytes (or_later (fault_in (read_app bytes)) (room_refusal (application_of bytes)))
+
+-- ## the source of a task
+
+abbrev pub at_line : Cause × ℕ → Why
+at_line p = at_number (cause_number p.0, p.1)
+
+-- how many bytes it is assembled to
+abbrev pub code_length : AppData → ℕ → List ℕ → ℕ
+code_length app i source = size_from (flash_base app i) (lines_of source)
+
+-- it is assembled to more bytes than the task's flash has
+abbrev pub code_refusal : AppData → ℕ → List ℕ → Option Why
+code_refusal app i source =
+    if nat_lt (task_at app i).flash (code_length app i source) then Some (at_number (15, code_length app i source)) else None
+
+-- why the i-th task's source is refused, if it is: the assembler's first cause (docs/FORMATS.md, Assembler), or its length
+unfoldable pub source_refusal : AppData → ℕ → List ℕ → Option Why
+source_refusal app i source = unless_long source (or_later (option_map at_line (source_cause app i source)) (code_refusal app i source))
+
+-- ## a run
+
+-- what an image fixes for ever
+abbrev pub setup_of : Picture → Setup
+setup_of image = opened.setup_of image
+
+abbrev pub scenario_of : Picture → List ℕ → Scenario
+scenario_of image script = record { setup = setup_of image; script = script_of script }

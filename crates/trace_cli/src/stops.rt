@@ -1,0 +1,85 @@
+//! Why a file is not taken.
+ghost use Rattle.std.specs.Prelude.{◌≡◌, ◌≤◌, ◌<◌, ◌++◌, ◌⊎◌, length, codes, decimal, min, None, Some, Err, string_bytes, option_map};
+ghost use Rattle.app_toml.specs.Reading.{read_app};
+ghost use Rattle.image_build.specs.Building.{LacksRoom, RefusesSource};
+ghost use Rattle.trace_cli.specs.Contents.{at_number, app_refusal, application_of, source_refusal, fault_in};
+ghost use Rattle.trace_cli.specs.Seen.{FilesSeen};
+ghost use Rattle.trace_cli.specs.Sources.{File};
+ghost use Rattle.trace_cli.specs.Stops.{StopsAt, CannotTake, Stops, HaltsAt};
+
+use app_toml::AppFault;
+use image_build::BuildFault;
+use image_format::ImageFault;
+use std::alloc::{AllocError, Global};
+
+/// Why a file is not taken: where it is refused, the number of the cause and the place.
+#[derive(Drop)]
+pub enum Stop {
+    Memory,
+    CannotRead,
+    Refused { cause: u8, place: String },
+}
+
+/// The file that is not taken, and why; or memory is short.
+#[derive(Drop)]
+pub enum Halt {
+    Memory,
+    CannotRead {
+        name: String,
+    },
+    Refused {
+        name: String,
+        cause: u8,
+        place: String,
+    },
+}
+
+/// A refusal at a place that is a text, where there was memory for it.
+pub fn refused_at(cause: u8, place: Result<String, AllocError>) -> Stop
+    ensures { (text : List ℕ) → IfOk place (λ p. string_bytes p ≡ text) → StopsAt (Some (cause, text)) result }
+{
+    match place {
+        Ok(place) => Stop::Refused { cause, place },
+        Err(_) => Stop::Memory,
+    }
+}
+
+/// A refusal at a place that is a number: a byte of an image, a line of a text.
+pub fn refused_at_number(alloc: Global, cause: u8, place: u64) -> Stop
+    ensures { StopsAt (Some (at_number (cause, place))) result }
+{
+    refused_at(cause, format!(in alloc; "{place}"))
+}
+
+/// Why an application is refused by its plan.
+pub fn stop_by_plan(alloc: Global, fault: BuildFault) -> Stop
+    ensures { (app : AppData) → LacksRoom app fault → StopsAt (room_refusal app) result }
+{
+    match fault {
+        BuildFault::Flash { needed } => refused_at(21, format!(in alloc; "flash:{needed}")),
+        BuildFault::Ram { needed } => refused_at(21, format!(in alloc; "ram:{needed}")),
+        _ => Stop::Memory,
+    }
+}
+
+/// Why the source of a task is refused.
+pub fn stop_by_source(alloc: Global, fault: BuildFault) -> Stop
+    ensures { (app : AppData) (i : ℕ) (source : List ℕ) → length source ≤ 2097152 → RefusesSource app i source fault → StopsAt (source_refusal app i source) result }
+{
+    match fault {
+        BuildFault::Source { cause, line, .. } => refused_at_number(alloc, cause, line as u64),
+        BuildFault::Code { length, .. } => refused_at_number(alloc, 15, length as u64),
+        _ => Stop::Memory,
+    }
+}
+
+/// The same with the name of the file.
+pub fn halted(alloc: Global, name: &str, stop: Stop) -> Halt
+    ensures { (before after : FilesSeen) (f : File) → f.name ≡ name.now → Stops before after f stop → HaltsAt before after f result }
+{
+    match (String::from_str(alloc, name), stop) {
+        (Ok(name), Stop::CannotRead) => Halt::CannotRead { name },
+        (Ok(name), Stop::Refused { cause, place }) => Halt::Refused { name, cause, place },
+        _ => Halt::Memory,
+    }
+}
