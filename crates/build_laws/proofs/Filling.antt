@@ -1,5 +1,5 @@
 -- The regions of a plan leave no gap.
-use Rattle.std.proofs.Common.{◌≡◌, ◌∙◌, ℕ, zero, suc, ◌+◌, ◌-◌, ◌≤◌, ◌<◌, List, [], ◌∷◌, length, take, get_or, refl, sym, ap, subst, arith, inl, inr}
+use Rattle.std.proofs.Common.{◌≡◌, ◌∙◌, ℕ, suc, ◌+◌, ◌-◌, ◌≤◌, ◌<◌, List, [], ◌∷◌, length, take, get_or, sym, ap, arith, inl, inr}
 use Rattle.std.specs.List.{sum_by, Contains}
 use Rattle.std.specs.List.Sorted.{IsPermutation, IsSorted}
 use Rattle.std.proofs.lemmas.Bool.{cases_lt}
@@ -45,21 +45,34 @@ begins base sizes order perm up q i below is =
     let e : i ≡ 0 + i = omega arith in ap (λ (j : ℕ). sum_by (earlier (get_or sizes i 0) j) (numbered 0 sizes)) e in
     sym (ap (λ n. base + n) (before ∙ at ∙ from_zero ∙ by_index (get_or sizes i 0) i 0 sizes))
 
-pub filled : (base : ℕ) (sizes : List ℕ) (address : ℕ) → base ≤ address → address < base + total sizes → (i : ℕ) × LiesIn base sizes i address
-filled base sizes address low high =
-    let order = arranged (numbered 0 sizes) in
-    let perm : IsPermutation (numbered 0 sizes) order = arranged_all (numbered 0 sizes) in
-    let p = place_of order (address - base) (omega (arith, low, high, same_total sizes order perm)) in
-    let x = get_or order p.place none in
-    let found = Contains-permutation order (numbered 0 sizes) x (IsPermutation-sym _ _ perm) (p.place, p.below, get_or_default order p.place x none p.below) in
-    let i = found.0 in
-    let index : i < length sizes = omega (arith, found.1, length_numbered 0 sizes) in
+-- whose size it is
+record Owner (sizes : List ℕ) (x : Ranked) : Type 0 where
+  pub index : ℕ
+  pub below : index < length sizes
+  pub is : x ≡ (record { 0 = get_or sizes index 0 }, index)
+  pub size : size_of x ≡ get_or sizes index 0
+
+owner : (sizes : List ℕ) (x : Ranked) → Contains (numbered 0 sizes) x → Owner sizes x
+owner sizes x (i, lt, is) =
+    let below : i < length sizes = omega (arith, lt, length_numbered 0 sizes) in
     let from_zero : 0 + i ≡ i = omega arith in
-    let is : x ≡ (record { 0 = get_or sizes i 0 }, i) = sym found.2 ∙ get_numbered 0 sizes i x index ∙ ap (λ (j : ℕ). (record { 0 = get_or sizes i 0 }, j)) from_zero in
-    let begin = begins base sizes order perm (arranged_sorted (numbered 0 sizes)) p.place i p.below is in
-    let size : size_of x ≡ get_or sizes i 0 = ap size_of is in
-    (i, record {
-      index = index;
-      low = omega (arith, low, begin, p.low);
-      high = omega (arith, low, begin, size, p.high);
-    })
+    let itself : x ≡ (record { 0 = get_or sizes i 0 }, i) = sym is ∙ get_numbered 0 sizes i x below ∙ ap (λ (j : ℕ). (record { 0 = get_or sizes i 0 }, j)) from_zero in
+    record { index = i; below = below; is = itself; size = ap size_of itself }
+
+filled_by : (base : ℕ) (sizes : List ℕ) (order : List Ranked) → IsPermutation (numbered 0 sizes) order → IsSorted goes_before order
+    → (address : ℕ) → base ≤ address → address < base + total sizes → (i : ℕ) × LiesIn base sizes i address
+filled_by base sizes order perm up address low high =
+    let p = place_of order (address - base) (omega (arith, low, high, same_total sizes order perm)) in
+    let one : Contains order (get_or order p.place none) = (p.place, p.below, get_or_default order p.place (get_or order p.place none) none p.below) in
+    let o = owner sizes (get_or order p.place none) (Contains-permutation order (numbered 0 sizes) _ (IsPermutation-sym _ _ perm) one) in
+    let begin = begins base sizes order perm up p.place o.index p.below o.is in (
+      o.index,
+      record {
+        index = o.below;
+        low = omega (arith, low, begin, p.low);
+        high = omega (arith, low, begin, o.size, p.high);
+      },
+    )
+
+pub filled : (base : ℕ) (sizes : List ℕ) (address : ℕ) → base ≤ address → address < base + total sizes → (i : ℕ) × LiesIn base sizes i address
+filled base sizes = filled_by base sizes (arranged (numbered 0 sizes)) (arranged_all (numbered 0 sizes)) (arranged_sorted (numbered 0 sizes))
