@@ -1,0 +1,3 @@
+pub mod Arranging
+pub mod Filling
+pub mod OneImage

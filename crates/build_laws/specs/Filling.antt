@@ -1,0 +1,9 @@
+-- Which region of a plan a byte lies in.
+use Rattle.std.specs.Prelude.{ℕ, List, ◌+◌, ◌≤◌, ◌<◌, length, get_or}
+use Rattle.mem_plan.specs.Placing.{placed}
+
+-- the address is one of the bytes that the i-th size takes
+pub record LiesIn (base : ℕ) (sizes : List ℕ) (i address : ℕ) : Type 0 where
+  pub index : i < length sizes
+  pub low : placed base sizes i ≤ address
+  pub high : address < placed base sizes i + get_or sizes i 0

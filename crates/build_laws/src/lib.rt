@@ -1,0 +1,12 @@
+//! Laws that stand over the definitions of plans and of images. Nothing runs here.
+#![tactic(auto)]
+
+ghost use Rattle.std.specs.Prelude.{ℕ, List, ◌+◌, ◌≤◌, ◌<◌};
+ghost use Rattle.mem_plan.specs.Sizes.{total};
+ghost use Rattle.build_laws.specs.Filling.{LiesIn};
+
+/// The regions of a plan leave no gap: every byte of the room that the sizes need lies in one of
+/// them.
+pub fn regions_fill_the_room()
+    ensures { (base : ℕ) (sizes : List ℕ) (address : ℕ) → base ≤ address → address < base + total sizes → (i : ℕ) × LiesIn base sizes i address }
+{}
