@@ -1,7 +1,10 @@
 //! Laws that stand over the definitions of plans and of images. Nothing runs here.
 #![tactic(auto)]
 
-ghost use Rattle.std.specs.Prelude.{ℕ, List, ◌+◌, ◌≤◌, ◌<◌};
+ghost use Rattle.std.specs.Prelude.{◌≡◌, ℕ, List, ◌+◌, ◌≤◌, ◌<◌};
+ghost use Rattle.app_toml.specs.Apps.{AppData};
+ghost use Rattle.image_build.specs.Built.{Built};
+ghost use Rattle.image_format.specs.Picture.{Picture};
 ghost use Rattle.mem_plan.specs.Sizes.{total};
 ghost use Rattle.build_laws.specs.Filling.{LiesIn};
 
@@ -9,4 +12,9 @@ ghost use Rattle.build_laws.specs.Filling.{LiesIn};
 /// them.
 pub fn regions_fill_the_room()
     ensures { (base : ℕ) (sizes : List ℕ) (address : ℕ) → base ≤ address → address < base + total sizes → (i : ℕ) × LiesIn base sizes i address }
+{}
+
+/// An application and the sources of its tasks are built to at most one image.
+pub fn one_picture()
+    ensures { (app : AppData) (sources : List (List ℕ)) (image image' : Picture) → Built app sources image → Built app sources image' → image ≡ image' }
 {}
