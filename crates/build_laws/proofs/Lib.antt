@@ -1,3 +1,4 @@
 pub mod Arranging
 pub mod Filling
 pub mod OneImage
+pub mod OnePicture

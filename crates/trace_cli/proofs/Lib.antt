@@ -1,2 +1,7 @@
-pub mod Answering
+pub mod Agreeing
+pub mod Deciding
+pub mod Lists
+pub mod Refusals
+pub mod Starting
+pub mod Statuses
 pub mod Stopping

@@ -1,42 +1,81 @@
--- Why a file was not read, as a stop.
-use Rattle.std.proofs.Common.{◌≡◌, ℕ, ◌<◌, ◌≤◌, List, length, Option, Some, None, refl, sym, ◌∙◌, ap, arith, cond, Bool, true, false, nat_lt, ltb}
-use Rattle.std.specs.Prelude.{Ok, Err, IsErrOf}
-use Rattle.image_format.specs.Picture.{Picture, image_or_fault}
+-- Why a file is not taken.
+use Rattle.std.proofs.Common.{◌≡◌, ℕ, ◌<◌, ◌≤◌, Bool, true, false, List, length, Option, Some, None, refl, sym, ap, subst, ◌∙◌, arith, cond, nat_lt, ltb, string_bytes, codes}
+use Rattle.std.specs.Prelude.{Result, Ok, Err}
 use Rattle.std.proofs.lemmas.Bool.Decides.{nat_tests}
-use Rattle.outside_io.specs.Outside.{WhereTold, Rose, short_name}
-use Rattle.outside_io.specs.declared.reading.ReadAll.{ReadAll}
-use Rattle.outside_io.specs.declared.reading.ReadAll.TheVariants.{Failed, TooLong, Memory}
-use Rattle.trace_cli.specs.Sources.{unless_long, image_refusal, script_refusal, picture_of, why_not, image_in}
-use Rattle.trace_cli.specs.Stops.{Stops, stop_of}
+use Rattle.std.proofs.lemmas.Option.{same_Some}
+use Rattle.outside_io.specs.Outside.{WhereTold, Rose}
+use Rattle.trace_cli.specs.declared.stops.Stop.{Stop}
+use Rattle.trace_cli.specs.declared.stops.Stop.TheVariants as stops
+use Rattle.trace_cli.specs.declared.stops.Halt.{Halt}
+use Rattle.trace_cli.specs.declared.stops.Halt.TheVariants as halts
+use Rattle.trace_cli.specs.Contents.{Why, at_number, unless_long, image_refusal, script_refusal, app_refusal, source_refusal}
+use Rattle.trace_cli.specs.Seen.{FilesSeen}
+use Rattle.trace_cli.specs.Sources.{File, MayBe}
+use Rattle.trace_cli.specs.Stops.{IsCannotRead, StopsAt, CannotTake, Stops, HaltsAt}
+use Rattle.app_toml.specs.Apps.{AppData}
 
-long_refused : (bytes : List ℕ) (r : Option (ℕ × ℕ)) → 2097152 < length bytes → unless_long bytes r ≡ Some (0, 2097152)
-long_refused bytes r lt = let t : nat_lt 2097152 (length bytes) ≡ true = grind (arith, nat_tests) in ap (λ (b : Bool). cond b (Some (0, 2097152)) r) t
+-- ## long and short files
 
-pub long_image : (bytes : List ℕ) → 2097152 < length bytes → image_refusal bytes ≡ Some (0, 2097152)
+abbrev too_long : Option Why
+too_long = Some (0, codes "2097152")
+
+long_refused : (bytes : List ℕ) (r : Option Why) → 2097152 < length bytes → unless_long bytes r ≡ too_long
+long_refused bytes r lt = let t : nat_lt 2097152 (length bytes) ≡ true = grind (arith, nat_tests) in ap (λ (b : Bool). cond b too_long r) t
+
+pub long_image : (bytes : List ℕ) → 2097152 < length bytes → image_refusal bytes ≡ Some (0, codes "2097152")
 unfolding image_refusal
 long_image bytes lt = long_refused bytes _ lt
 
-pub long_script : (bytes : List ℕ) → 2097152 < length bytes → script_refusal bytes ≡ Some (0, 2097152)
+pub long_script : (bytes : List ℕ) → 2097152 < length bytes → script_refusal bytes ≡ Some (0, codes "2097152")
 unfolding script_refusal
 long_script bytes lt = long_refused bytes _ lt
 
-pub stopped : {T : Type 0} (refusal : List ℕ → Option (ℕ × ℕ)) → ((bytes : List ℕ) → 2097152 < length bytes → refusal bytes ≡ Some (0, 2097152)) →
-    (told : Option (List ℕ)) (before after : ℕ) (last : Option (ℕ × List ℕ)) (name : List ℕ) (why : ReadAll) →
-    (IsErrOf {T = T} {E = ReadAll} (Err why) Failed → Rose before after) → (IsErrOf {T = T} {E = ReadAll} (Err why) Failed → WhereTold last (λ n. n ≡ short_name name)) →
-    (IsErrOf {T = T} {E = ReadAll} (Err why) TooLong → WhereTold told (λ all. 2097152 < length all)) → Stops refusal told before after last name (stop_of why)
-stopped refusal long told before after last name Failed rose named more = record { rose = rose refl; named = named refl }
-stopped refusal long told before after last name TooLong rose named more = λ all is. long all (more refl all is)
-stopped refusal long told before after last name Memory rose named more = tt
+pub long_app : (bytes : List ℕ) → 2097152 < length bytes → app_refusal bytes ≡ Some (0, codes "2097152")
+unfolding app_refusal
+long_app bytes lt = long_refused bytes _ lt
 
--- ## an image of at most so many bytes
+pub long_source : (app : AppData) (i : ℕ) (bytes : List ℕ) → 2097152 < length bytes → source_refusal app i bytes ≡ Some (0, codes "2097152")
+unfolding source_refusal
+long_source app i bytes lt = long_refused bytes _ lt
 
-short : (bytes : List ℕ) (r : Option (ℕ × ℕ)) → length bytes ≤ 2097152 → unless_long bytes r ≡ r
+pub short : (bytes : List ℕ) (r : Option Why) → length bytes ≤ 2097152 → unless_long bytes r ≡ r
 short bytes r le = let e : ltb 2097152 (length bytes) ≡ false = grind (arith, nat_tests) in rw e refl
 
-pub image_taken : (bytes : List ℕ) (p : Picture) → length bytes ≤ 2097152 → image_or_fault bytes ≡ Ok p → (image_refusal bytes ≡ None) × (p ≡ picture_of bytes)
-unfolding image_refusal picture_of
-image_taken bytes p le is = (short bytes (why_not (image_or_fault bytes)) le ∙ ap why_not is, ap image_in (sym is))
+-- a file that is too long where it is told
+pub by_length : (a b : FilesSeen) (name : List ℕ) (stop : Stop) → StopsAt (Some (at_number (0, 2097152))) stop → WhereTold (a.told name) (λ all. 2097152 < length all)
+    → CannotTake a b name stop
+by_length a b name stops.Memory at long = tt
+by_length a b name stops.CannotRead at long = absurd at
+by_length a b name (stops.Refused cause place) at long =
+    let same : (0, codes "2097152") ≡ (cause, string_bytes place) = same_Some (0, codes "2097152") (cause, string_bytes place) at in
+    (ap (λ (p : Why). p.0) (sym same), ap (λ (p : Why). p.1) (sym same), long)
 
-pub image_refused : (bytes : List ℕ) (why : ℕ × ℕ) → length bytes ≤ 2097152 → image_or_fault bytes ≡ Err why → image_refusal bytes ≡ Some why
-unfolding image_refusal
-image_refused bytes why le is = short bytes (why_not (image_or_fault bytes)) le ∙ ap why_not is
+-- ## from contents to their file
+
+pub cannot_take : (a b : FilesSeen) (f : File) (stop : Stop) → ((bytes : List ℕ) → 2097152 < length bytes → f.refusal bytes ≡ Some (0, codes "2097152"))
+    → CannotTake a b f.name stop → Stops a b f stop
+cannot_take a b f stops.Memory long t = tt
+cannot_take a b f stops.CannotRead long t = t
+cannot_take a b f (stops.Refused cause place) long t = λ all is.
+    let reason : List ℕ → Option Why = λ p. Some (0, p) in
+    let number : ℕ → Option Why = λ n. Some (n, string_bytes place) in
+    long all (t.2 all is) ∙ ap reason (sym t.1) ∙ ap number (sym t.0)
+
+pub refused_in : (a b : FilesSeen) (f : File) (bytes : List ℕ) (stop : Stop) → MayBe a.told f.name bytes → StopsAt (f.refusal bytes) stop → Stops a b f stop
+refused_in a b f bytes stops.Memory may t = tt
+refused_in a b f bytes stops.CannotRead may t = absurd t
+refused_in a b f bytes (stops.Refused cause place) may t = λ all is. ap f.refusal (sym (may all is)) ∙ t
+
+-- ## from an earlier call on
+
+rose_earlier : (a b c : ℕ) → a ≤ b → Rose b c → Rose a c
+rose_earlier a b c le rose = omega arith
+
+read_earlier : (a b c : FilesSeen) (name : List ℕ) → a.read_faults ≤ b.read_faults → IsCannotRead b c name → IsCannotRead a c name
+read_earlier a b c name le h = record { rose = rose_earlier a.read_faults b.read_faults c.read_faults le h.rose; named = h.named }
+
+pub halts_earlier : (a b c : FilesSeen) (f : File) (halt : Halt) → b.told ≡ a.told → a.read_faults ≤ b.read_faults → HaltsAt b c f halt → HaltsAt a c f halt
+halts_earlier a b c f halts.Memory same le h = tt
+halts_earlier a b c f (halts.CannotRead name) same le h = (h.0, read_earlier a b c f.name le h.1)
+halts_earlier a b c f (halts.Refused name cause place) same le h =
+    (h.0, subst (λ (t : List ℕ → Option (List ℕ)). WhereTold (t f.name) (λ all. f.refusal all ≡ Some (cause, string_bytes place))) same h.1)

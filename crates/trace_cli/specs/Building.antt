@@ -1,10 +1,12 @@
 -- The image that is built of files.
-use Rattle.std.specs.Prelude.{◌≡◌, ℕ, List, length, slice_get, Option, Some}
+use Rattle.std.specs.Prelude.{◌≡◌, ℕ, List, [], ◌∷◌, ◌++◌, length, slice_get, Option, Some, None}
 use Rattle.app_toml.specs.Apps.{AppData}
-use Rattle.image_format.specs.Picture.{Picture}
-use Rattle.image_build.specs.Taken.{HasTaken}
+use Rattle.image_format.specs.Picture.{Picture, Sound}
+use Rattle.image_build.specs.Built.{Built}
+use Rattle.image_build.specs.Taken.{HasTaken, described, next_task}
 use Rattle.image_build.specs.declared.builder.Builder.{Builder}
 use Rattle.trace_cli.specs.declared.stops.Halt.{Halt}
+use Rattle.trace_cli.specs.Contents.{source_refusal}
 use Rattle.trace_cli.specs.Seen.{FilesSeen}
 use Rattle.trace_cli.specs.Sources.{File, files_to_build, first_of, source_files, MayBe, Takes, IsBuilt}
 use Rattle.trace_cli.specs.Stops.{HaltsAt}
@@ -21,17 +23,32 @@ pub record HaltsAfter (before after : FilesSeen) (files : List File) (contents :
   pub next : slice_get files (length contents) ≡ Some file
   pub halts : HaltsAt before after file halt
 
--- the builder has taken the sources of all tasks
+-- the builder has taken one more source
+pub record HasNext (told : List ℕ → Option (List ℕ)) (name : List ℕ) (sources : List (List ℕ)) (before after : Builder) : Type 0 where
+  pub bytes : List ℕ
+  pub held : MayBe told name bytes
+  pub accepted : source_refusal (described before) (next_task before) bytes ≡ None
+  pub taken : HasTaken (sources ++ bytes ∷ []) after
+
+-- it has taken those of all tasks
 pub record HasAll (told : List ℕ → Option (List ℕ)) (app : AppData) (builder : Builder) : Type 0 where
   pub sources : List (List ℕ)
   pub each : TakesEach told (source_files app) sources
   pub taken : HasTaken sources builder
 
--- an image was built of the application's files
+-- an image was built of the application and of the files of its sources
+pub record IsImageOf (told : List ℕ → Option (List ℕ)) (app : AppData) (image : Picture) : Type 0 where
+  pub sources : List (List ℕ)
+  pub each : TakesEach told (source_files app) sources
+  pub built : Built app sources image
+  pub sound : Sound image
+
+-- an image was built of the application's files: its own holds these bytes, and then come the sources
 pub record IsImage (told : List ℕ → Option (List ℕ)) (app : List ℕ) (image : Picture) : Type 0 where
-  pub contents : List (List ℕ)
-  pub each : TakesEach told (files_to_build app (first_of contents)) contents
-  pub is : IsBuilt contents image
+  pub bytes : List ℕ
+  pub sources : List (List ℕ)
+  pub each : TakesEach told (files_to_build app bytes) (bytes ∷ sources)
+  pub is : IsBuilt (bytes ∷ sources) image
 
 -- one of its sources was not taken
 pub record HaltsInSources (before after : FilesSeen) (app : AppData) (halt : Halt) : Type 0 where

@@ -7,10 +7,17 @@ use Rattle.board_core.specs.Script.{Scenario}
 use Rattle.board_core.specs.Stands.{Stands, turns_of}
 use Rattle.command_line.specs.CommandLine.{Asked}
 use Rattle.trace_cli.specs.declared.stops.Halt.{Halt}
-use Rattle.trace_cli.specs.Contents.{script_refusal, scenario_of}
+use Rattle.trace_cli.specs.Contents.{image_refusal, script_refusal, picture_of, scenario_of}
 use Rattle.trace_cli.specs.Seen.{FilesSeen}
 use Rattle.trace_cli.specs.Sources.{MayBe, TakesAll, files_by, IsRun}
 use Rattle.trace_cli.specs.Building.{HaltsAfter}
+
+-- an image is that which the file of this name spells
+pub record IsImageFile (told : List ℕ → Option (List ℕ)) (name : List ℕ) (image : Picture) : Type 0 where
+  pub bytes : List ℕ
+  pub held : MayBe told name bytes
+  pub accepted : image_refusal bytes ≡ None
+  pub is : image ≡ picture_of bytes
 
 -- the board stands for the start of the image's run with the script of this name
 pub record IsSet (told : List ℕ → Option (List ℕ)) (image : Picture) (name : List ℕ) (b : Board) : Type 0 where

@@ -1,5 +1,5 @@
 -- Why a file is not taken.
-use Rattle.std.specs.Prelude.{◌≡◌, ℕ, ◌<◌, ⊤, ⊥, List, length, codes, Option, Some, string_bytes}
+use Rattle.std.specs.Prelude.{◌≡◌, ℕ, ◌<◌, ⊤, List, length, codes, Option, Some, string_bytes}
 use Rattle.outside_io.specs.Outside.{WhereTold, Rose, short_name}
 use Rattle.trace_cli.specs.declared.stops.Stop.{Stop}
 use Rattle.trace_cli.specs.declared.stops.Stop.TheVariants as stops

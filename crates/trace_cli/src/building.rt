@@ -7,7 +7,7 @@ ghost use Rattle.trace_cli.specs.Contents.{room_refusal, source_refusal};
 ghost use Rattle.trace_cli.specs.Seen.{files_seen};
 ghost use Rattle.trace_cli.specs.Sources.{MayBe};
 ghost use Rattle.trace_cli.specs.Stops.{StopsAt, HaltsAt};
-ghost use Rattle.trace_cli.specs.Building.{HasAll, IsImage, HaltsInApp, HaltsInSources};
+ghost use Rattle.trace_cli.specs.Building.{HasNext, HasAll, IsImageOf, IsImage, HaltsInApp, HaltsInSources};
 
 use crate::sources::{app_in, read_contents};
 use crate::stops::{Halt, Stop, halted, stop_by_plan, stop_by_source};
@@ -42,5 +42,92 @@ fn take_bytes(alloc: Global, builder: &mut Builder<'_>, bytes: &[u8]) -> Result<
     match builder.source(bytes) {
         Ok(()) => Ok(()),
         Err(fault) => Err(stop_by_source(alloc, fault)),
+    }
+}
+
+// Takes the file under a name as the source of the next task.
+fn take_source<F: Files>(
+    alloc: Global,
+    files: &mut F,
+    name: &str,
+    builder: &mut Builder<'_>,
+) -> Result<(), Halt>
+    requires next { next_task builder.old < length (described builder.old).tasks }
+    ensures described { described builder.new ≡ described builder.old }
+    ensures taken { (sources : List (List ℕ)) → HasTaken sources builder.old → OnOk result (HasNext (F.told files.old) name.now sources builder.old builder.new) }
+    ensures halt { IfErr result (HaltsAt (files_seen (F.told files.old) (F.read_faults files.old) (F.put_faults files.old) (F.last_failing files.old)) (files_seen (F.told files.new) (F.read_faults files.new) (F.put_faults files.new) (F.last_failing files.new)) record { name = name.now; refusal = source_refusal (described builder.old) (next_task builder.old) }) }
+    ensures later { F.read_faults files.old ≤ F.read_faults files.new }
+    ensures contents { F.told files.new ≡ F.told files.old }
+    ensures puts { F.put_faults files.new ≡ F.put_faults files.old }
+{
+    let bytes = match read_contents(alloc, files, name) {
+        Ok(bytes) => bytes,
+        Err(stop) => return Err(halted(alloc, name, stop)),
+    };
+    match take_bytes(alloc, builder, &bytes) {
+        Ok(()) => Ok(()),
+        Err(stop) => Err(halted(alloc, name, stop)),
+    }
+}
+
+// Takes the sources of all tasks in their order.
+fn take_sources<F: Files>(
+    alloc: Global,
+    files: &mut F,
+    app: &App,
+    builder: &mut Builder<'_>,
+) -> Result<(), Halt>
+    requires described { described builder.old ≡ app_of app.now }
+    requires none { HasTaken [] builder.old }
+    ensures described { described builder.new ≡ described builder.old }
+    ensures taken { OnOk result (HasAll (F.told files.old) (app_of app.now) builder.new) }
+    ensures halt { IfErr result (HaltsInSources (files_seen (F.told files.old) (F.read_faults files.old) (F.put_faults files.old) (F.last_failing files.old)) (files_seen (F.told files.new) (F.read_faults files.new) (F.put_faults files.new) (F.last_failing files.new)) (app_of app.now)) }
+    ensures later { F.read_faults files.old ≤ F.read_faults files.new }
+    ensures contents { F.told files.new ≡ F.told files.old }
+    ensures puts { F.put_faults files.new ≡ F.put_faults files.old }
+{
+    'tasks: for task in app.tasks() {
+        take_source(alloc, files, &task.source, builder)?;
+    }
+    Ok(())
+}
+
+// The image of an application, of which the sources of the tasks are read here.
+fn image_of<F: Files>(alloc: Global, files: &mut F, app: &App, builder: Builder<'_>) -> Result<Image, Halt>
+    requires described { described builder ≡ app_of app.now }
+    requires none { HasTaken [] builder }
+    ensures image { IfOk result (λ i. IsImageOf (F.told files.old) (app_of app.now) (picture i)) }
+    ensures halt { IfErr result (HaltsInSources (files_seen (F.told files.old) (F.read_faults files.old) (F.put_faults files.old) (F.last_failing files.old)) (files_seen (F.told files.new) (F.read_faults files.new) (F.put_faults files.new) (F.last_failing files.new)) (app_of app.now)) }
+    ensures later { F.read_faults files.old ≤ F.read_faults files.new }
+    ensures contents { F.told files.new ≡ F.told files.old }
+    ensures puts { F.put_faults files.new ≡ F.put_faults files.old }
+{
+    let mut builder = builder;
+    take_sources(alloc, files, app, &mut builder)?;
+    match builder.finish() {
+        Ok(image) => Ok(image),
+        Err(_) => Err(Halt::Memory),
+    }
+}
+
+/// The image of the application under a name.
+pub fn built_image<F: Files>(alloc: Global, files: &mut F, name: &str) -> Result<Image, Halt>
+    ensures image { IfOk result (λ i. IsImage (F.told files.old) name.now (picture i)) }
+    ensures halt { IfErr result (HaltsInApp (files_seen (F.told files.old) (F.read_faults files.old) (F.put_faults files.old) (F.last_failing files.old)) (files_seen (F.told files.new) (F.read_faults files.new) (F.put_faults files.new) (F.last_failing files.new)) name.now) }
+    ensures later { F.read_faults files.old ≤ F.read_faults files.new }
+    ensures contents { F.told files.new ≡ F.told files.old }
+    ensures puts { F.put_faults files.new ≡ F.put_faults files.old }
+{
+    let bytes = match read_contents(alloc, files, name) {
+        Ok(bytes) => bytes,
+        Err(stop) => return Err(halted(alloc, name, stop)),
+    };
+    let app = match app_in(alloc, &bytes) {
+        Ok(app) => app,
+        Err(stop) => return Err(halted(alloc, name, stop)),
+    };
+    match opened(alloc, &app) {
+        Ok(builder) => image_of(alloc, files, &app, builder),
+        Err(stop) => Err(halted(alloc, name, stop)),
     }
 }

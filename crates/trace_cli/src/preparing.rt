@@ -1,65 +1,99 @@
-//! From the files to the board.
-ghost use Rattle.std.specs.Prelude.{◌≡◌, ◌≤◌, IfOk, IfErr};
-ghost use Rattle.trace_cli.specs.Ready.{IsReady, Halts, image_halt, script_halt};
+//! From the files of a job to the board of its run.
+ghost use Rattle.std.specs.Prelude.{◌≡◌, ◌≤◌, ℕ, Bool, IfOk, IfErr};
+ghost use Rattle.image_format.specs.Images.{picture};
+ghost use Rattle.command_line.specs.CommandLine.{run as run_job, go as go_job};
+ghost use Rattle.trace_cli.specs.Seen.{files_seen};
+ghost use Rattle.trace_cli.specs.Sources.{image_file, script_file};
+ghost use Rattle.trace_cli.specs.Stops.{HaltsAt};
+ghost use Rattle.trace_cli.specs.Ready.{IsImageFile, IsSet, IsReady, Halts};
 
-use crate::sources::{Stop, read_image, read_script};
+use crate::building::built_image;
+use crate::sources::{image_in, read_contents, script_in};
+use crate::stops::{Halt, halted};
 use board_core::Board;
+use image_format::Image;
 use outside_io::Files;
 use std::alloc::Global;
 
-/// The file that is not taken, and why; or memory is short.
-#[derive(Clone, Copy, Debug, PartialEq, Eq)]
-pub enum Halt {
-    Memory,
-    ImageUnread,
-    ScriptUnread,
-    ImageRefused { cause: u8, place: u32 },
-    ScriptRefused { cause: u8, place: u32 },
-}
-
-fn halt_by_image(stop: Stop) -> Halt
-    ensures { result ≡ image_halt stop }
+/// The image under a name.
+pub fn read_image<F: Files>(alloc: Global, files: &mut F, name: &str) -> Result<Image, Halt>
+    ensures image { IfOk result (λ i. IsImageFile (F.told files.old) name.now (picture i)) }
+    ensures halt { IfErr result (HaltsAt (files_seen (F.told files.old) (F.read_faults files.old) (F.put_faults files.old) (F.last_failing files.old)) (files_seen (F.told files.new) (F.read_faults files.new) (F.put_faults files.new) (F.last_failing files.new)) (image_file name.now)) }
+    ensures later { F.read_faults files.old ≤ F.read_faults files.new }
+    ensures contents { F.told files.new ≡ F.told files.old }
+    ensures puts { F.put_faults files.new ≡ F.put_faults files.old }
 {
-    match stop {
-        Stop::Memory => Halt::Memory,
-        Stop::CannotRead => Halt::ImageUnread,
-        Stop::Refused { cause, place } => Halt::ImageRefused { cause, place },
+    let bytes = match read_contents(alloc, files, name) {
+        Ok(bytes) => bytes,
+        Err(stop) => return Err(halted(alloc, name, stop)),
+    };
+    match image_in(alloc, &bytes) {
+        Ok(image) => Ok(image),
+        Err(stop) => Err(halted(alloc, name, stop)),
     }
 }
 
-fn halt_by_script(stop: Stop) -> Halt
-    ensures { result ≡ script_halt stop }
+// The board of an image with the script under a name.
+fn set_up<F: Files>(
+    alloc: Global,
+    files: &mut F,
+    image: &Image,
+    script: &str,
+) -> Result<Board, Halt>
+    ensures set { IfOk result (IsSet (F.told files.old) (picture image.now) script.now) }
+    ensures halt { IfErr result (HaltsAt (files_seen (F.told files.old) (F.read_faults files.old) (F.put_faults files.old) (F.last_failing files.old)) (files_seen (F.told files.new) (F.read_faults files.new) (F.put_faults files.new) (F.last_failing files.new)) (script_file script.now)) }
+    ensures later { F.read_faults files.old ≤ F.read_faults files.new }
+    ensures contents { F.told files.new ≡ F.told files.old }
+    ensures puts { F.put_faults files.new ≡ F.put_faults files.old }
 {
-    match stop {
-        Stop::Memory => Halt::Memory,
-        Stop::CannotRead => Halt::ScriptUnread,
-        Stop::Refused { cause, place } => Halt::ScriptRefused { cause, place },
+    let bytes = match read_contents(alloc, files, script) {
+        Ok(bytes) => bytes,
+        Err(stop) => return Err(halted(alloc, script, stop)),
+    };
+    match script_in(alloc, &bytes) {
+        Ok(()) => {}
+        Err(stop) => return Err(halted(alloc, script, stop)),
+    }
+    match Board::open(alloc, image) {
+        Ok(board) => Ok(board),
+        Err(_) => Err(Halt::Memory),
     }
 }
 
 /// The board at the start of the run of the image and the script under these names.
-pub fn prepare<F: Files>(
+pub fn prepare_run<F: Files>(
     alloc: Global,
     files: &mut F,
     image: &str,
     script: &str,
 ) -> Result<Board, Halt>
-    ensures ready { IfOk result (λ b. IsReady (F.told files.old) image.now script.now b) }
-    ensures halt { IfErr result (λ h. Halts (F.told files.old) (F.read_faults files.old) (F.read_faults files.new) (F.last_failing files.new) image.now script.now h) }
+    ensures ready { (n : ℕ) (mem : Bool) → IfOk result (IsReady (run_job image.now script.now n mem) (F.told files.old) n mem) }
+    ensures halt { (n : ℕ) (mem : Bool) → IfErr result (Halts (run_job image.now script.now n mem) (files_seen (F.told files.old) (F.read_faults files.old) (F.put_faults files.old) (F.last_failing files.old)) (files_seen (F.told files.new) (F.read_faults files.new) (F.put_faults files.new) (F.last_failing files.new))) }
     ensures later { F.read_faults files.old ≤ F.read_faults files.new }
     ensures contents { F.told files.new ≡ F.told files.old }
     ensures puts { F.put_faults files.new ≡ F.put_faults files.old }
 {
-    let picture = match read_image(alloc, files, image) {
-        Ok(picture) => picture,
-        Err(stop) => return Err(halt_by_image(stop)),
-    };
-    match read_script(alloc, files, script) {
-        Ok(()) => {}
-        Err(stop) => return Err(halt_by_script(stop)),
+    match read_image(alloc, files, image) {
+        Ok(picture) => set_up(alloc, files, &picture, script),
+        Err(halt) => Err(halt),
     }
-    match Board::open(alloc, &picture) {
-        Ok(board) => Ok(board),
-        Err(_) => Err(Halt::Memory),
+}
+
+/// The board at the start of the run of the application and the script under these names.
+pub fn prepare_go<F: Files>(
+    alloc: Global,
+    files: &mut F,
+    app: &str,
+    script: &str,
+) -> Result<Board, Halt>
+    ensures ready { (n : ℕ) (mem : Bool) → IfOk result (IsReady (go_job app.now script.now n mem) (F.told files.old) n mem) }
+    ensures halt { (n : ℕ) (mem : Bool) → IfErr result (Halts (go_job app.now script.now n mem) (files_seen (F.told files.old) (F.read_faults files.old) (F.put_faults files.old) (F.last_failing files.old)) (files_seen (F.told files.new) (F.read_faults files.new) (F.put_faults files.new) (F.last_failing files.new))) }
+    ensures later { F.read_faults files.old ≤ F.read_faults files.new }
+    ensures contents { F.told files.new ≡ F.told files.old }
+    ensures puts { F.put_faults files.new ≡ F.put_faults files.old }
+{
+    match built_image(alloc, files, app) {
+        Ok(picture) => set_up(alloc, files, &picture, script),
+        Err(halt) => Err(halt),
     }
 }

@@ -1,22 +1,27 @@
 //! The top call.
-ghost use Rattle.std.specs.Prelude.{◌≡◌, ◌≤◌, ◌⊎◌, Some, false, IfOk};
+ghost use Rattle.std.specs.Prelude.{◌≡◌, ◌≢◌, ◌≤◌, ◌⊎◌, ℕ, List, Option, Some, None, false, IfOk, IfErr};
 ghost use Rattle.std.specs.Io.KnownBytes.{Appends};
 ghost use Rattle.outside_io.specs.Outside.{Pushes, Rose, HasCause};
+ghost use Rattle.image_format.specs.Images.{picture};
 ghost use Rattle.board_core.specs.Script.{Scenario};
 ghost use Rattle.board_core.specs.Stands.{Stands, Stood, turns_of};
 ghost use Rattle.task_table.specs.Start.{start};
-ghost use Rattle.command_line.specs.CommandLine.{is_taken, run as run_job, list as list_job};
-ghost use Rattle.trace_cli.specs.Words.{texts_of};
-ghost use Rattle.trace_cli.specs.Verdict.{Verdict, usage_line, ran, run_of, verdict, status_of};
+ghost use Rattle.command_line.specs.CommandLine.{Asked, is_taken, build as build_job, run as run_job, go as go_job, list as list_job};
+ghost use Rattle.trace_cli.specs.Seen.{FilesSeen, files_seen, sink_seen};
+ghost use Rattle.trace_cli.specs.Words.{texts_of, job_in, out_of};
+ghost use Rattle.trace_cli.specs.Verdict.{Verdict, IsVerdict, usage_line, ran, built, run_of, status_of};
+ghost use Rattle.trace_cli.specs.Told.{Pushed, Says, SaysHalt};
+ghost use Rattle.trace_cli.specs.Ready.{IsReady, Halts};
 ghost use Rattle.trace_cli.specs.Answer.{Tells, AnswersJob, Answers, Answered, IsComplete, HasRun, HasDone, HasRefused, HasUnread, HasFront};
-ghost use Rattle.trace_cli.specs.Told.{TellsHalt, TellsStop};
 
-use crate::preparing::{Halt, prepare};
-use crate::sources::{Stop, read_image};
-use crate::telling::{tell_listing, tell_refused, tell_unread, tell_usage};
+use crate::building::built_image;
+use crate::preparing::{prepare_go, prepare_run, read_image};
+use crate::stops::Halt;
+use crate::telling::{line_of_built, tell, tell_halt, tell_listing, tell_usage};
 use board_core::{Board, End};
 use board_run::{run, write_memory};
 use command_line::{Job, Refusal, read_words};
+use image_format::Image;
 use outside_io::{Failed, Files, Sink};
 use std::alloc::Global;
 
@@ -50,8 +55,7 @@ fn tell_run<S: Sink>(board: &mut Board, steps: u32, mem: bool, out: &mut S) -> u
     requires stood { Stood board.old }
     requires fresh { turns_of board.old ≡ 0 }
     requires few { steps ≤ 1000000000 }
-    ensures { (x : Scenario) → Stands x board.old (start x.setup) →
-        Tells (S.written out.old) (S.written out.new) (S.faults out.old) (S.faults out.new) (ran steps mem x) result }
+    ensures { (x : Scenario) → Stands x board.old (start x.setup) → Pushed (sink_seen (S.written out.old) (S.faults out.old)) (sink_seen (S.written out.new) (S.faults out.new)) (ran steps mem x) result }
 {
     match push_run(board, steps, mem, out) {
         Ok(end) => status_by(end),
@@ -59,16 +63,26 @@ fn tell_run<S: Sink>(board: &mut Board, steps: u32, mem: bool, out: &mut S) -> u
     }
 }
 
-// What is told of a file that is not taken.
-fn tell_halt<S: Sink>(alloc: Global, halt: Halt, image: &str, script: &str, out: &mut S) -> u8
-    ensures { TellsHalt (S.written out.old) (S.written out.new) (S.faults out.old) (S.faults out.new) image.now script.now halt result }
+// The run of the board that a job came to, or why there is none.
+fn play<S: Sink>(
+    alloc: Global,
+    prepared: Result<Board, Halt>,
+    steps: u32,
+    mem: bool,
+    out: &mut S,
+) -> u8
+    requires few { steps ≤ 1000000000 }
+    requires ready { IfOk prepared (λ b. Stood b × (turns_of b ≡ 0)) }
+    ensures { (job : Asked) (before after : FilesSeen) → after.told ≡ before.told
+        → IfOk prepared (IsReady job before.told steps mem) → IfErr prepared (Halts job before after)
+        → AnswersJob job before after (sink_seen (S.written out.old) (S.faults out.old)) (sink_seen (S.written out.new) (S.faults out.new)) result }
 {
-    match halt {
-        Halt::Memory => 5,
-        Halt::ImageUnread => tell_unread(alloc, image, out),
-        Halt::ScriptUnread => tell_unread(alloc, script, out),
-        Halt::ImageRefused { cause, place } => tell_refused(alloc, image, cause, place, out),
-        Halt::ScriptRefused { cause, place } => tell_refused(alloc, script, cause, place, out),
+    match prepared {
+        Ok(board) => {
+            let mut board = board;
+            tell_run(&mut board, steps, mem, out)
+        }
+        Err(halt) => tell_halt(alloc, &halt, out),
     }
 }
 
@@ -83,51 +97,100 @@ fn run_files<F: Files, S: Sink>(
     out: &mut S,
 ) -> u8
     requires few { steps ≤ 1000000000 }
-    ensures answer { AnswersJob (run_job image.now script.now steps mem) (F.told files.old) (F.read_faults files.old) (F.read_faults files.new) (F.last_failing files.new) (S.written out.old) (S.written out.new) (S.faults out.old) (S.faults out.new) result }
+    ensures answer { AnswersJob (run_job image.now script.now steps mem) (files_seen (F.told files.old) (F.read_faults files.old) (F.put_faults files.old) (F.last_failing files.old)) (files_seen (F.told files.new) (F.read_faults files.new) (F.put_faults files.new) (F.last_failing files.new)) (sink_seen (S.written out.old) (S.faults out.old)) (sink_seen (S.written out.new) (S.faults out.new)) result }
     ensures later { F.read_faults files.old ≤ F.read_faults files.new }
     ensures contents { F.told files.new ≡ F.told files.old }
     ensures puts { F.put_faults files.new ≡ F.put_faults files.old }
 {
-    match prepare(alloc, files, image, script) {
-        Ok(board) => {
-            let mut board = board;
-            tell_run(&mut board, steps, mem, out)
-        }
-        Err(halt) => tell_halt(alloc, halt, image, script, out),
-    }
+    let prepared = prepare_run(alloc, files, image, script);
+    play(alloc, prepared, steps, mem, out)
 }
 
-// What is told of an image that is not taken.
-fn tell_stop<S: Sink>(alloc: Global, stop: Stop, image: &str, out: &mut S) -> u8
-    ensures { TellsStop (S.written out.old) (S.written out.new) (S.faults out.old) (S.faults out.new) image.now stop result }
+// `go APP SCRIPT --steps N [--mem]`.
+fn go_files<F: Files, S: Sink>(
+    alloc: Global,
+    app: &str,
+    script: &str,
+    steps: u32,
+    mem: bool,
+    files: &mut F,
+    out: &mut S,
+) -> u8
+    requires few { steps ≤ 1000000000 }
+    ensures answer { AnswersJob (go_job app.now script.now steps mem) (files_seen (F.told files.old) (F.read_faults files.old) (F.put_faults files.old) (F.last_failing files.old)) (files_seen (F.told files.new) (F.read_faults files.new) (F.put_faults files.new) (F.last_failing files.new)) (sink_seen (S.written out.old) (S.faults out.old)) (sink_seen (S.written out.new) (S.faults out.new)) result }
+    ensures later { F.read_faults files.old ≤ F.read_faults files.new }
+    ensures contents { F.told files.new ≡ F.told files.old }
+    ensures puts { F.put_faults files.new ≡ F.put_faults files.old }
 {
-    match stop {
-        Stop::Memory => 5,
-        Stop::CannotRead => tell_unread(alloc, image, out),
-        Stop::Refused { cause, place } => tell_refused(alloc, image, cause, place, out),
-    }
+    let prepared = prepare_go(alloc, files, app, script);
+    play(alloc, prepared, steps, mem, out)
 }
 
 // `list IMAGE`.
 fn list_file<F: Files, S: Sink>(alloc: Global, image: &str, files: &mut F, out: &mut S) -> u8
-    ensures answer { AnswersJob (list_job image.now) (F.told files.old) (F.read_faults files.old) (F.read_faults files.new) (F.last_failing files.new) (S.written out.old) (S.written out.new) (S.faults out.old) (S.faults out.new) result }
+    ensures answer { AnswersJob (list_job image.now) (files_seen (F.told files.old) (F.read_faults files.old) (F.put_faults files.old) (F.last_failing files.old)) (files_seen (F.told files.new) (F.read_faults files.new) (F.put_faults files.new) (F.last_failing files.new)) (sink_seen (S.written out.old) (S.faults out.old)) (sink_seen (S.written out.new) (S.faults out.new)) result }
     ensures later { F.read_faults files.old ≤ F.read_faults files.new }
     ensures contents { F.told files.new ≡ F.told files.old }
     ensures puts { F.put_faults files.new ≡ F.put_faults files.old }
 {
     match read_image(alloc, files, image) {
         Ok(picture) => tell_listing(alloc, &picture, out),
-        Err(stop) => tell_stop(alloc, stop, image, out),
+        Err(halt) => tell_halt(alloc, &halt, out),
+    }
+}
+
+// Puts an image under a name, and says so.
+fn put_image<F: Files, S: Sink>(
+    alloc: Global,
+    image: &Image,
+    name: &str,
+    files: &mut F,
+    out: &mut S,
+) -> u8
+    ensures tells { Tells (files_seen (F.told files.old) (F.read_faults files.old) (F.put_faults files.old) (F.last_failing files.old)) (files_seen (F.told files.new) (F.read_faults files.new) (F.put_faults files.new) (F.last_failing files.new)) (sink_seen (S.written out.old) (S.faults out.old)) (sink_seen (S.written out.new) (S.faults out.new)) (built name.now (picture image.now)) result }
+    ensures reads { F.read_faults files.new ≡ F.read_faults files.old }
+    ensures puts { F.put_faults files.old ≤ F.put_faults files.new }
+{
+    let bytes = match image.write() {
+        Ok(bytes) => bytes,
+        Err(_) => return 5,
+    };
+    let line = match line_of_built(alloc, bytes.len()) {
+        Ok(line) => line,
+        Err(_) => return 5,
+    };
+    match files.put(name, &bytes) {
+        Ok(()) => tell(line.as_bytes(), 0, out),
+        Err(_) => 4,
+    }
+}
+
+// `build APP OUT`.
+fn build_file<F: Files, S: Sink>(
+    alloc: Global,
+    app: &str,
+    name: &str,
+    files: &mut F,
+    out: &mut S,
+) -> u8
+    ensures answer { AnswersJob (build_job app.now name.now) (files_seen (F.told files.old) (F.read_faults files.old) (F.put_faults files.old) (F.last_failing files.old)) (files_seen (F.told files.new) (F.read_faults files.new) (F.put_faults files.new) (F.last_failing files.new)) (sink_seen (S.written out.old) (S.faults out.old)) (sink_seen (S.written out.new) (S.faults out.new)) result }
+    ensures later { F.read_faults files.old ≤ F.read_faults files.new }
+    ensures puts { F.put_faults files.old ≤ F.put_faults files.new }
+{
+    match built_image(alloc, files, app) {
+        Ok(image) => put_image(alloc, &image, name, files, out),
+        Err(halt) => tell_halt(alloc, &halt, out),
     }
 }
 
 fn answer<F: Files, S: Sink>(alloc: Global, words: &[String], files: &mut F, out: &mut S) -> u8
-    ensures answer { Answers (texts_of words.now) (F.told files.old) (F.read_faults files.old) (F.read_faults files.new) (F.last_failing files.new) (S.written out.old) (S.written out.new) (S.faults out.old) (S.faults out.new) result }
+    ensures answer { Answers (texts_of words.now) (files_seen (F.told files.old) (F.read_faults files.old) (F.put_faults files.old) (F.last_failing files.old)) (files_seen (F.told files.new) (F.read_faults files.new) (F.put_faults files.new) (F.last_failing files.new)) (sink_seen (S.written out.old) (S.faults out.old)) (sink_seen (S.written out.new) (S.faults out.new)) result }
     ensures later { F.read_faults files.old ≤ F.read_faults files.new }
-    ensures contents { F.told files.new ≡ F.told files.old }
-    ensures puts { F.put_faults files.new ≡ F.put_faults files.old }
+    ensures puts { F.put_faults files.old ≤ F.put_faults files.new }
+    ensures no_put { out_of (job_in (texts_of words.now)) ≡ None → F.put_faults files.new ≡ F.put_faults files.old }
 {
     match read_words(alloc, words) {
+        Ok(Job::Build { app, out: name }) => build_file(alloc, app, name, files, out),
         Ok(
             Job::Run {
                 image,
@@ -136,6 +199,14 @@ fn answer<F: Files, S: Sink>(alloc: Global, words: &[String], files: &mut F, out
                 mem,
             },
         ) => run_files(alloc, image, script, steps, mem, files, out),
+        Ok(
+            Job::Go {
+                app,
+                script,
+                steps,
+                mem,
+            },
+        ) => go_files(alloc, app, script, steps, mem, files, out),
         Ok(Job::List { image }) => list_file(alloc, image, files, out),
         Err(Refusal::NotTaken) => tell_usage(out),
         Err(Refusal::Memory) => 5,
@@ -146,12 +217,13 @@ fn answer<F: Files, S: Sink>(alloc: Global, words: &[String], files: &mut F, out
 /// the lines go to the sink, one push each; the answer is the program's exit status.
 ///
 /// - 0: the trace of the run (docs/FORMATS.md, Trace), with `--mem` its last memory, or the listing of the
-///   image was written.
+///   image was written; or the image that was built is under OUT, and its line was written.
 /// - 1: a file is refused, and `refused <name> <cause> <place>` was written.
 /// - 2: the words are not accepted (docs/FORMATS.md, Command line), and the usage line was written.
 /// - 3: a file cannot be read, and `cannot read <name>` was written.
-/// - 4: the output failed. What was written is the beginning of the same text.
-/// - 5: memory is short, and nothing was written.
+/// - 4: the output failed. What was written is the beginning of the same text, and under OUT is the image; or the put
+///   failed, nothing was written, and under OUT are the old contents or the beginning of the image.
+/// - 5: memory is short, and nothing was written or put.
 /// - 6: as 0, and the run ended because the supervisor faulted.
 pub fn hubris_main<F: Files, S: Sink>(
     alloc: Global,
@@ -160,29 +232,30 @@ pub fn hubris_main<F: Files, S: Sink>(
     out: &mut S,
 ) -> u8
     // Where the words and the told contents give a verdict (of accepted words and files: the trace of
-    // their run, or the listing), its whole text was pushed under its status; or the sink's count of faults rose, the
-    // status is 4, and a front of the text was pushed; or memory is short, the status is 5, and
-    // nothing was pushed; or the count of failed reads rose, and the same holds of the line of a file
-    // that cannot be read.
-    ensures told { (v : Verdict) → verdict (texts_of words.now) (F.told files.old) ≡ Some v →
-        Answered (texts_of words.now) (F.told files.old) (F.read_faults files.old) (F.read_faults files.new) (F.last_failing files.new) (S.written out.old) (S.written out.new) (S.faults out.old) (S.faults out.new) v result }
-    ensures complete { ¬ Rose (F.read_faults files.old) (F.read_faults files.new) → ¬ Rose (S.faults out.old) (S.faults out.new) →
-        (v : Verdict) → verdict (texts_of words.now) (F.told files.old) ≡ Some v → IsComplete (S.written out.old) (S.written out.new) v result }
+    // their run, the listing, or the image that is built), its file was put, its whole text was pushed
+    // under its status; or the sink's count of faults rose, the status is 4, and a front of the text was
+    // pushed; or the count of failed puts rose, the status is 4, and nothing was pushed; or memory is
+    // short, the status is 5, and nothing was pushed or put; or the count of failed reads rose, and the
+    // same holds of the line of a file that cannot be read.
+    ensures told { (v : Verdict) → IsVerdict (texts_of words.now) (F.told files.old) v → Answered (texts_of words.now) (files_seen (F.told files.old) (F.read_faults files.old) (F.put_faults files.old) (F.last_failing files.old)) (files_seen (F.told files.new) (F.read_faults files.new) (F.put_faults files.new) (F.last_failing files.new)) (sink_seen (S.written out.old) (S.faults out.old)) (sink_seen (S.written out.new) (S.faults out.new)) v result }
+    ensures complete { ¬ Rose (F.read_faults files.old) (F.read_faults files.new) → ¬ Rose (F.put_faults files.old) (F.put_faults files.new) → ¬ Rose (S.faults out.old) (S.faults out.new) →
+        (v : Verdict) → IsVerdict (texts_of words.now) (F.told files.old) v → IsComplete (files_seen (F.told files.old) (F.read_faults files.old) (F.put_faults files.old) (F.last_failing files.old)) (files_seen (F.told files.new) (F.read_faults files.new) (F.put_faults files.new) (F.last_failing files.new)) (sink_seen (S.written out.old) (S.faults out.old)) (sink_seen (S.written out.new) (S.faults out.new)) v result }
 
-    // When each status comes, and what was pushed with it.
-    ensures done { result ≡ 0 → HasDone (texts_of words.now) (F.told files.old) (S.written out.old) (S.written out.new) }
-    ensures refused { result ≡ 1 → HasRefused (texts_of words.now) (F.told files.old) (S.written out.old) (S.written out.new) }
+    // When each status comes, and what was pushed and put with it.
+    ensures done { result ≡ 0 → HasDone (texts_of words.now) (files_seen (F.told files.old) (F.read_faults files.old) (F.put_faults files.old) (F.last_failing files.old)) (files_seen (F.told files.new) (F.read_faults files.new) (F.put_faults files.new) (F.last_failing files.new)) (sink_seen (S.written out.old) (S.faults out.old)) (sink_seen (S.written out.new) (S.faults out.new)) }
+    ensures refused { result ≡ 1 → HasRefused (texts_of words.now) (F.told files.old) (sink_seen (S.written out.old) (S.faults out.old)) (sink_seen (S.written out.new) (S.faults out.new)) }
     ensures no_command { result ≡ 2 → (is_taken (texts_of words.now) ≡ false) × Appends (S.written out.old) (S.written out.new) usage_line }
-    ensures unread { result ≡ 3 → HasUnread (texts_of words.now) (F.told files.old) (F.read_faults files.old) (F.read_faults files.new) (F.last_failing files.new) (S.written out.old) (S.written out.new) }
-    ensures cut { result ≡ 4 → Rose (S.faults out.old) (S.faults out.new)
-        × HasFront (texts_of words.now) (F.told files.old) (F.read_faults files.old) (F.read_faults files.new) (F.last_failing files.new) (S.written out.old) (S.written out.new) }
-    ensures short { result ≡ 5 → (S.written out.new ≡ S.written out.old) × (S.faults out.new ≡ S.faults out.old) }
-    ensures supervisor { result ≡ 6 → HasRun (texts_of words.now) (F.told files.old) (S.written out.old) (S.written out.new) 6 }
+    ensures unread { result ≡ 3 → HasUnread (texts_of words.now) (files_seen (F.told files.old) (F.read_faults files.old) (F.put_faults files.old) (F.last_failing files.old)) (files_seen (F.told files.new) (F.read_faults files.new) (F.put_faults files.new) (F.last_failing files.new)) (sink_seen (S.written out.old) (S.faults out.old)) (sink_seen (S.written out.new) (S.faults out.new)) }
+    ensures cut { result ≡ 4 → HasFront (texts_of words.now) (files_seen (F.told files.old) (F.read_faults files.old) (F.put_faults files.old) (F.last_failing files.old)) (files_seen (F.told files.new) (F.read_faults files.new) (F.put_faults files.new) (F.last_failing files.new)) (sink_seen (S.written out.old) (S.faults out.old)) (sink_seen (S.written out.new) (S.faults out.new)) }
+    ensures short { result ≡ 5 → (S.written out.new ≡ S.written out.old) × (S.faults out.new ≡ S.faults out.old) × (F.told files.new ≡ F.told files.old) }
+    ensures supervisor { result ≡ 6 → HasRun (texts_of words.now) (F.told files.old) (sink_seen (S.written out.old) (S.faults out.old)) (sink_seen (S.written out.new) (S.faults out.new)) 6 }
     ensures known { result ≤ 6 }
 
-    // No file is changed.
-    ensures contents { F.told files.new ≡ F.told files.old }
-    ensures puts { F.put_faults files.new ≡ F.put_faults files.old }
+    // Only the file under OUT is changed, and only under the statuses 0 and 4.
+    ensures others { (name : List ℕ) → out_of (job_in (texts_of words.now)) ≢ Some name → F.told files.new name ≡ F.told files.old name }
+    ensures kept { result ≢ 0 → result ≢ 4 → F.told files.new ≡ F.told files.old }
+    ensures no_put { out_of (job_in (texts_of words.now)) ≡ None → F.put_faults files.new ≡ F.put_faults files.old }
+    ensures later { (F.read_faults files.old ≤ F.read_faults files.new) × (F.put_faults files.old ≤ F.put_faults files.new) }
 {
     answer(alloc, words, files, out)
 }

@@ -1,15 +1,13 @@
 //! Why a file is not taken.
-ghost use Rattle.std.specs.Prelude.{◌≡◌, ◌≤◌, ◌<◌, ◌++◌, ◌⊎◌, length, codes, decimal, min, None, Some, Err, string_bytes, option_map};
-ghost use Rattle.app_toml.specs.Reading.{read_app};
+ghost use Rattle.std.specs.Prelude.{◌≡◌, ◌≤◌, ℕ, List, length, Some, IfOk, string_bytes};
+ghost use Rattle.app_toml.specs.Apps.{AppData};
 ghost use Rattle.image_build.specs.Building.{LacksRoom, RefusesSource};
-ghost use Rattle.trace_cli.specs.Contents.{at_number, app_refusal, application_of, source_refusal, fault_in};
+ghost use Rattle.trace_cli.specs.Contents.{at_number, room_refusal, source_refusal};
 ghost use Rattle.trace_cli.specs.Seen.{FilesSeen};
 ghost use Rattle.trace_cli.specs.Sources.{File};
-ghost use Rattle.trace_cli.specs.Stops.{StopsAt, CannotTake, Stops, HaltsAt};
+ghost use Rattle.trace_cli.specs.Stops.{StopsAt, Stops, HaltsAt};
 
-use app_toml::AppFault;
 use image_build::BuildFault;
-use image_format::ImageFault;
 use std::alloc::{AllocError, Global};
 
 /// Why a file is not taken: where it is refused, the number of the cause and the place.

@@ -1,16 +1,19 @@
 //! One line, and the status that goes with it.
-ghost use Rattle.std.specs.Prelude.{◌≡◌, IfOk, string_bytes};
-ghost use Rattle.trace_cli.specs.Answer.{Tells};
+ghost use Rattle.std.specs.Prelude.{◌≡◌, ℕ, IfOk, string_bytes};
 ghost use Rattle.image_format.specs.Images.{picture};
-ghost use Rattle.trace_cli.specs.Verdict.{usage, unread, refused, unread_line, listed, listing_line};
+ghost use Rattle.trace_cli.specs.Seen.{sink_seen};
+ghost use Rattle.trace_cli.specs.Told.{Pushed, Says, SaysHalt};
+ghost use Rattle.trace_cli.specs.Verdict.{Verdict, usage, unread, refused, refused_line, unread_line, built_line, listed, listing_line};
 
+use crate::stops::Halt;
 use image_format::Image;
 use image_list::list;
 use outside_io::Sink;
 use std::alloc::{AllocError, Global};
 
-fn tell<S: Sink>(line: &[u8], status: u8, out: &mut S) -> u8
-    ensures { Tells (S.written out.old) (S.written out.new) (S.faults out.old) (S.faults out.new) record { status = status; text = line.now } result }
+/// A line alone, in one push.
+pub fn tell<S: Sink>(line: &[u8], status: u8, out: &mut S) -> u8
+    ensures { (v : Verdict) → v.status ≡ status → v.text ≡ line.now → Pushed (sink_seen (S.written out.old) (S.faults out.old)) (sink_seen (S.written out.new) (S.faults out.new)) v result }
 {
     match out.push(line) {
         Ok(()) => status,
@@ -19,7 +22,7 @@ fn tell<S: Sink>(line: &[u8], status: u8, out: &mut S) -> u8
 }
 
 pub fn tell_usage<S: Sink>(out: &mut S) -> u8
-    ensures { Tells (S.written out.old) (S.written out.new) (S.faults out.old) (S.faults out.new) usage result }
+    ensures { Says (sink_seen (S.written out.old) (S.faults out.old)) (sink_seen (S.written out.new) (S.faults out.new)) usage result }
 {
     tell(
         "usage: hubris build, run, go, list or sample\n".as_bytes(),
@@ -35,9 +38,9 @@ fn line_of_unread(alloc: Global, name: &str) -> Result<String, AllocError>
     format!(in alloc; "cannot read {name}\n")
 }
 
-/// That a file cannot be read.
-pub fn tell_unread<S: Sink>(alloc: Global, name: &str, out: &mut S) -> u8
-    ensures { Tells (S.written out.old) (S.written out.new) (S.faults out.old) (S.faults out.new) (unread name.now) result }
+// That a file cannot be read.
+fn tell_unread<S: Sink>(alloc: Global, name: &str, out: &mut S) -> u8
+    ensures { Says (sink_seen (S.written out.old) (S.faults out.old)) (sink_seen (S.written out.new) (S.faults out.new)) (unread name.now) result }
 {
     match line_of_unread(alloc, name) {
         Ok(line) => tell(line.as_bytes(), 3, out),
@@ -45,12 +48,23 @@ pub fn tell_unread<S: Sink>(alloc: Global, name: &str, out: &mut S) -> u8
     }
 }
 
-/// That a file is refused, with the cause and the place.
 #[tactic(auto, unfolding(crate::specs::Verdict::refused_line))]
-pub fn tell_refused<S: Sink>(alloc: Global, name: &str, cause: u8, place: u32, out: &mut S) -> u8
-    ensures { Tells (S.written out.old) (S.written out.new) (S.faults out.old) (S.faults out.new) (refused name.now (cause, place)) result }
+fn line_of_refused(
+    alloc: Global,
+    name: &str,
+    cause: u8,
+    place: &str,
+) -> Result<String, AllocError>
+    ensures { IfOk result (λ line. string_bytes line ≡ refused_line name.now cause place.now) }
 {
-    match format!(in alloc; "refused {name} {cause} {place}\n") {
+    format!(in alloc; "refused {name} {cause} {place}\n")
+}
+
+// That a file is refused, with the cause and the place.
+fn tell_refused<S: Sink>(alloc: Global, name: &str, cause: u8, place: &str, out: &mut S) -> u8
+    ensures { Says (sink_seen (S.written out.old) (S.faults out.old)) (sink_seen (S.written out.new) (S.faults out.new)) (refused name.now (cause, place.now)) result }
+{
+    match line_of_refused(alloc, name, cause, place) {
         Ok(line) => tell(line.as_bytes(), 1, out),
         Err(_) => 5,
     }
@@ -66,10 +80,29 @@ fn line_of_listing(alloc: Global, image: &Image) -> Result<String, AllocError>
 
 /// What an image says.
 pub fn tell_listing<S: Sink>(alloc: Global, image: &Image, out: &mut S) -> u8
-    ensures { Tells (S.written out.old) (S.written out.new) (S.faults out.old) (S.faults out.new) (listed (picture image.now)) result }
+    ensures { Says (sink_seen (S.written out.old) (S.faults out.old)) (sink_seen (S.written out.new) (S.faults out.new)) (listed (picture image.now)) result }
 {
     match line_of_listing(alloc, image) {
         Ok(line) => tell(line.as_bytes(), 0, out),
         Err(_) => 5,
+    }
+}
+
+/// The line of an image of so many bytes that was built.
+#[tactic(auto, unfolding(crate::specs::Verdict::built_line))]
+pub fn line_of_built(alloc: Global, bytes: usize) -> Result<String, AllocError>
+    ensures { IfOk result (λ line. string_bytes line ≡ built_line bytes) }
+{
+    format!(in alloc; "built {bytes} bytes\n")
+}
+
+/// What is told of a file that is not taken.
+pub fn tell_halt<S: Sink>(alloc: Global, halt: &Halt, out: &mut S) -> u8
+    ensures { SaysHalt (sink_seen (S.written out.old) (S.faults out.old)) (sink_seen (S.written out.new) (S.faults out.new)) halt.now result }
+{
+    match halt {
+        Halt::Memory => 5,
+        Halt::CannotRead { name } => tell_unread(alloc, name, out),
+        Halt::Refused { name, cause, place } => tell_refused(alloc, name, *cause, place, out),
     }
 }

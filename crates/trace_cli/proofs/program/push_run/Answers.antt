@@ -10,7 +10,7 @@ use Rattle.board_run.specs.Text.{trace_text}
 use Rattle.board_run.specs.MemoryText.{memory_text}
 use Rattle.board_run.proofs.Appending.{appends_more, front_more, front_wider}
 use Rattle.trace_cli.specs.Verdict.{memory_if, run_of}
-use Rattle.trace_cli.proofs.Answering.{from_start}
+use Rattle.trace_cli.proofs.Starting.{from_start}
 use Rattle.trace_cli.proofs.program.push_run.Goals as goal
 
 pub returns-in_err-end-clause-text : goal.returns-in_err-end-clause-text

@@ -1,8 +1,17 @@
-use Rattle.trace_cli.proofs.Stopping.{image_taken, image_refused}
+use Rattle.std.proofs.Common.{sym, subst}
+use Rattle.image_format.specs.Images.{picture}
+use Rattle.trace_cli.specs.Stops.{StopsAt}
+use Rattle.trace_cli.proofs.Refusals.{image_taken, image_refused}
 use Rattle.trace_cli.proofs.sources.image_in.Goals as goal
 
-pub returns-in-Ok-clause-read : goal.returns-in-Ok-clause-read
-returns-in-Ok-clause-read c = image_taken c.args.bytes.now _ c.requires c.in-Ok.ensures.ok
+pub returns-in-Ok-clause-accepted : goal.returns-in-Ok-clause-accepted
+returns-in-Ok-clause-accepted c = (image_taken c.args.bytes.now (picture c.in-Ok.image) c.requires c.in-Ok.ensures.ok).0
+
+pub returns-in-Ok-clause-image : goal.returns-in-Ok-clause-image
+returns-in-Ok-clause-image c = (image_taken c.args.bytes.now (picture c.in-Ok.image) c.requires c.in-Ok.ensures.ok).1
 
 pub returns-in-Err-Refused-clause-stop : goal.returns-in-Err-Refused-clause-stop
-returns-in-Err-Refused-clause-stop c = image_refused c.args.bytes.now (c.in-Err-Refused.cause, c.in-Err-Refused.place) c.requires (rw c.in-Err-Refused.field-0-is at c.in-Err-Refused.ensures.refused)
+returns-in-Err-Refused-clause-stop c =
+    let why = (c.in-Err-Refused.cause, c.in-Err-Refused.place) in
+    let refused = image_refused c.args.bytes.now why c.requires (rw c.in-Err-Refused.field-0-is at c.in-Err-Refused.ensures.refused) in
+    subst (λ r. StopsAt r c.refused_at_number.result) (sym refused) c.refused_at_number.ensures

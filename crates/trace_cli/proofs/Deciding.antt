@@ -1,0 +1,237 @@
+-- Where the contents are told: a reason gives the one verdict, but that a file cannot be read.
+use Rattle.std.proofs.Common.{◌≡◌, ℕ, zero, suc, ◌<◌, ◌≤◌, ◌⊎◌, Bool, true, false, List, length, Option, Some, None, refl, sym, ap, subst, ◌∙◌, inl, inr, arith, cond}
+use Rattle.std.specs.Prelude.{slice_get}
+use Rattle.std.proofs.lemmas.Option.{same_Some}
+use Rattle.outside_io.specs.Outside.{WhereTold}
+use Rattle.image_format.specs.Picture.{Picture}
+use Rattle.board_core.specs.Script.{Scenario}
+use Rattle.command_line.specs.CommandLine.{Asked, build, run, go, list, is_taken, job_of}
+use Rattle.build_laws.proofs.OnePicture.{one_picture}
+use Rattle.trace_cli.specs.Contents.{Why, scenario_of}
+use Rattle.trace_cli.specs.Seen.{FilesSeen}
+use Rattle.trace_cli.specs.Words.{job_in}
+use Rattle.trace_cli.specs.Sources.{File, files_by, MayBe, Are, Takes, Reaches, TakesAll, IsBuilt, IsRun, IsListing, IsBuild, described, sources_in, script_in}
+use Rattle.trace_cli.specs.Verdict as verdict
+use Rattle.trace_cli.specs.Verdict.{Verdict, IsVerdict, Does, runs, lists, builds, usage, refused, unread, ran, listed, built}
+use Rattle.trace_cli.specs.Answer.{Reason, cannot_read, refuses, does, IsUnread, IsRefused, Ground, no_job, of_job}
+use Rattle.trace_cli.proofs.Lists.{get_below, is_below}
+use Rattle.trace_cli.proofs.Agreeing.{same_files, told_further, may_further, same_contents}
+
+-- ## what is done with files is one thing
+
+same_image : (cs : List (List ℕ)) (a b : Picture) → IsBuilt cs a → IsBuilt cs b → a ≡ b
+same_image cs a b p q = one_picture (described cs) (sources_in cs) a b p.built q.built
+
+same_run : (job : Asked) (cs : List (List ℕ)) (n n' : ℕ) (m m' : Bool) (x y : Scenario) → IsRun job cs n m x → IsRun job cs n' m' y → ran n m x ≡ ran n' m' y
+same_run (run image script steps mem) cs n n' m m' x y p q =
+    let bound : n ≡ n' = p.0 ∙ sym q.0 in
+    let memory : m ≡ m' = p.1 ∙ sym q.1 in
+    let scenario : x ≡ y = p.2 ∙ sym q.2 in
+    ap (λ (k : ℕ). ran k m x) bound ∙ ap (λ (b : Bool). ran n' b x) memory ∙ ap (ran n' m') scenario
+same_run (go app script steps mem) cs n n' m m' x y p q =
+    let bound : n ≡ n' = p.0 ∙ sym q.0 in
+    let memory : m ≡ m' = p.1 ∙ sym q.1 in
+    let image : p.2.0 ≡ q.2.0 = same_image cs p.2.0 q.2.0 p.2.1 q.2.1 in
+    let scenario : x ≡ y = p.2.2 ∙ ap (λ (i : Picture). scenario_of i (script_in cs)) image ∙ sym q.2.2 in
+    ap (λ (k : ℕ). ran k m x) bound ∙ ap (λ (b : Bool). ran n' b x) memory ∙ ap (ran n' m') scenario
+same_run (build app out) cs n n' m m' x y p q = absurd p
+same_run (list image) cs n n' m m' x y p q = absurd p
+
+same_listing : (job : Asked) (cs : List (List ℕ)) (a b : Picture) → IsListing job cs a → IsListing job cs b → listed a ≡ listed b
+same_listing (list image) cs a b p q = ap listed (p ∙ sym q)
+same_listing (build app out) cs a b p q = absurd p
+same_listing (run image script steps mem) cs a b p q = absurd p
+same_listing (go app script steps mem) cs a b p q = absurd p
+
+same_build : (job : Asked) (cs : List (List ℕ)) (o o' : List ℕ) (a b : Picture) → IsBuild job cs o a → IsBuild job cs o' b → built o a ≡ built o' b
+same_build (build app out) cs o o' a b p q =
+    let name : o ≡ o' = p.0 ∙ sym q.0 in
+    let image : a ≡ b = same_image cs a b p.1 q.1 in
+    ap (λ (n : List ℕ). built n a) name ∙ ap (built o') image
+same_build (run image script steps mem) cs o o' a b p q = absurd p
+same_build (go app script steps mem) cs o o' a b p q = absurd p
+same_build (list image) cs o o' a b p q = absurd p
+
+run_or_listing : (job : Asked) (cs : List (List ℕ)) (n : ℕ) (m : Bool) (x : Scenario) (a : Picture) → IsRun job cs n m x → IsListing job cs a → ⊥
+run_or_listing (run image script steps mem) cs n m x a p q = q
+run_or_listing (go app script steps mem) cs n m x a p q = q
+run_or_listing (build app out) cs n m x a p q = q
+run_or_listing (list image) cs n m x a p q = p
+
+run_or_build : (job : Asked) (cs : List (List ℕ)) (n : ℕ) (m : Bool) (x : Scenario) (o : List ℕ) (a : Picture) → IsRun job cs n m x → IsBuild job cs o a → ⊥
+run_or_build (run image script steps mem) cs n m x o a p q = q
+run_or_build (go app script steps mem) cs n m x o a p q = q
+run_or_build (build app out) cs n m x o a p q = p
+run_or_build (list image) cs n m x o a p q = p
+
+listing_or_build : (job : Asked) (cs : List (List ℕ)) (a : Picture) (o : List ℕ) (b : Picture) → IsListing job cs a → IsBuild job cs o b → ⊥
+listing_or_build (run image script steps mem) cs a o b p q = q
+listing_or_build (go app script steps mem) cs a o b p q = q
+listing_or_build (build app out) cs a o b p q = p
+listing_or_build (list image) cs a o b p q = q
+
+same_done : (job : Asked) (cs : List (List ℕ)) (u v : Verdict) → Does job cs u → Does job cs v → u ≡ v
+same_done job cs u v (runs n m x p e) (runs n' m' y q d) = e ∙ same_run job cs n n' m m' x y p q ∙ sym d
+same_done job cs u v (runs n m x p e) (lists a q d) = absurd (run_or_listing job cs n m x a p q)
+same_done job cs u v (runs n m x p e) (builds o a q d) = absurd (run_or_build job cs n m x o a p q)
+same_done job cs u v (lists a p e) (runs n m x q d) = absurd (run_or_listing job cs n m x a q p)
+same_done job cs u v (lists a p e) (lists b q d) = e ∙ same_listing job cs a b p q ∙ sym d
+same_done job cs u v (lists a p e) (builds o b q d) = absurd (listing_or_build job cs a o b p q)
+same_done job cs u v (builds o a p e) (runs n m x q d) = absurd (run_or_build job cs n m x o a q p)
+same_done job cs u v (builds o a p e) (lists b q d) = absurd (listing_or_build job cs b o a q p)
+same_done job cs u v (builds o a p e) (builds o' b q d) = e ∙ same_build job cs o o' a b p q ∙ sym d
+
+-- ## three ways in which lengths meet
+
+pub data Meets (m n : ℕ) : Type 0 where
+  less : m < n → Meets m n
+  more : n < m → Meets m n
+  same : m ≡ n → Meets m n
+
+meets_more : (m n : ℕ) → Meets m n → Meets (suc m) (suc n)
+meets_more m n (less lt) = less (omega arith)
+meets_more m n (more lt) = more (omega arith)
+meets_more m n (same e) = same (ap suc e)
+
+meets : (m n : ℕ) → Meets m n
+meets zero zero = same refl
+meets zero (suc n) = less (omega arith)
+meets (suc m) zero = more (omega arith)
+meets (suc m) (suc n) = meets_more m n (meets m n)
+
+-- ## a refusal by told contents, and one by contents that may be
+
+no_refusal : (f : File) (c : List ℕ) (why : Why) → f.refusal c ≡ Some why → f.refusal c ≡ None → ⊥
+no_refusal f c why e d = let both : Some why ≡ None = sym e ∙ d in absurd (cc)
+
+-- a file that is refused where it is told is none that told contents of it were accepted
+not_accepted : (told : List ℕ → Option (List ℕ)) (f g : File) (why : Why) (c : List ℕ) → f ≡ g → WhereTold (told f.name) (λ all. f.refusal all ≡ Some why)
+    → told g.name ≡ Some c → g.refusal c ≡ None → ⊥
+not_accepted told f g why c same refused is none =
+    no_refusal g c why (subst (λ (h : File). WhereTold (told h.name) (λ all. h.refusal all ≡ Some why)) same refused c is) none
+
+-- the other way
+not_refused : (told : List ℕ → Option (List ℕ)) (f g : File) (why : Why) (c d : List ℕ) → f ≡ g → told f.name ≡ Some c → f.refusal c ≡ Some why
+    → MayBe told g.name d → g.refusal d ≡ None → ⊥
+not_refused told f g why c d same is refused may none =
+    let held : d ≡ c = subst (λ (h : File). MayBe told h.name d) (sym same) may c is in
+    no_refusal f c why refused (subst (λ (b : List ℕ). f.refusal b ≡ None) held (subst (λ (h : File). h.refusal d ≡ None) (sym same) none))
+
+file_next : (f g : File) (o p : Option File) → o ≡ Some f → p ≡ Some g → o ≡ p → f ≡ g
+file_next f g o p e d same = same_Some f g (sym e ∙ same ∙ d)
+
+-- at the end there is no file
+no_file : (files : List File) (k : ℕ) (f : File) → length files ≡ k → slice_get files k ≡ Some f → ⊥
+no_file files k f e at = let below = is_below files k f at in absurd (omega arith)
+
+-- two refusals are one
+same_refusal : (told : List ℕ → Option (List ℕ)) (job : Asked) (f g : File) (why why' : Why) (cs : List (List ℕ)) (c : List ℕ) → IsRefused job told f why
+    → Reaches (Are told) job cs g → told g.name ≡ Some c → g.refusal c ≡ Some why' → refused f.name why ≡ refused g.name why'
+same_refusal told job f g why why' cs c h r is refusal = by_length (meets (length cs) (length h.contents)) where
+  by_length : Meets (length cs) (length h.contents) → refused f.name why ≡ refused g.name why'
+  by_length (less lt) =
+      let t = may_further told job cs h.contents r.takes h.reached.takes lt in
+      absurd (not_refused told g t.0 why' c t.2.0 (same_Some g t.0 (sym r.next ∙ t.1)) is refusal t.2.1 t.2.2)
+  by_length (more lt) =
+      let t = told_further told job cs h.contents r.takes h.reached.takes lt in
+      absurd (not_accepted told f t.0 why t.2.0 (same_Some f t.0 (sym h.reached.next ∙ t.1)) h.refused t.2.1 t.2.2)
+  by_length (same e) =
+      let files = same_files told job cs h.contents r.takes h.reached.takes (length cs) (omega arith) (omega arith) in
+      let there : slice_get (files_by job h.contents) (length cs) ≡ Some f = ap (λ (k : ℕ). slice_get (files_by job h.contents) k) e ∙ h.reached.next in
+      let file : g ≡ f = same_Some g f (sym r.next ∙ files ∙ there) in
+      let mine : g.refusal c ≡ Some why = subst (λ (i : File). WhereTold (told i.name) (λ all. i.refusal all ≡ Some why)) (sym file) h.refused c is in
+      let reason : why ≡ why' = same_Some why why' (sym mine ∙ refusal) in
+      ap (λ (i : File). refused i.name why) (sym file) ∙ ap (refused g.name) reason
+
+-- where a file is refused, not all are accepted
+refused_not_done : (told : List ℕ → Option (List ℕ)) (job : Asked) (f : File) (why : Why) (cs : List (List ℕ)) → IsRefused job told f why → TakesAll (Are told) job cs → ⊥
+refused_not_done told job f why cs h all = by_length (meets (length cs) (length h.contents)) where
+  by_length : Meets (length cs) (length h.contents) → ⊥
+  by_length (less lt) =
+      let t = may_further told job cs h.contents all.takes h.reached.takes lt in
+      no_file (files_by job cs) (length cs) t.0 all.all t.1
+  by_length (more lt) =
+      let t = told_further told job cs h.contents all.takes h.reached.takes lt in
+      not_accepted told f t.0 why t.2.0 (same_Some f t.0 (sym h.reached.next ∙ t.1)) h.refused t.2.1 t.2.2
+  by_length (same e) =
+      let files = same_files told job cs h.contents all.takes h.reached.takes (length cs) (omega arith) (omega arith) in
+      let there : slice_get (files_by job h.contents) (length cs) ≡ Some f = ap (λ (k : ℕ). slice_get (files_by job h.contents) k) e ∙ h.reached.next in
+      no_file (files_by job cs) (length cs) f all.all (files ∙ there)
+
+done_not_refused : (told : List ℕ → Option (List ℕ)) (job : Asked) (ds cs : List (List ℕ)) (g : File) (why : Why) (c : List ℕ) → TakesAll (MayBe told) job ds
+    → Reaches (Are told) job cs g → told g.name ≡ Some c → g.refusal c ≡ Some why → ⊥
+done_not_refused told job ds cs g why c all r is refusal = by_length (meets (length cs) (length ds)) where
+  by_length : Meets (length cs) (length ds) → ⊥
+  by_length (less lt) =
+      let t = may_further told job cs ds r.takes all.takes lt in
+      not_refused told g t.0 why c t.2.0 (same_Some g t.0 (sym r.next ∙ t.1)) is refusal t.2.1 t.2.2
+  by_length (more lt) =
+      let t = told_further told job cs ds r.takes all.takes lt in
+      no_file (files_by job ds) (length ds) t.0 all.all t.1
+  by_length (same e) =
+      let files = same_files told job cs ds r.takes all.takes (length cs) (omega arith) (omega arith) in
+      no_file (files_by job ds) (length cs) g (all.all ∙ sym e) (sym files ∙ r.next)
+
+all_same : (told : List ℕ → Option (List ℕ)) (job : Asked) (cs ds : List (List ℕ)) (u v : Verdict) → TakesAll (Are told) job cs → TakesAll (MayBe told) job ds → Does job cs u → Does job ds v → v ≡ u
+all_same told job cs ds u v are may p q = by_length (meets (length cs) (length ds)) where
+  by_length : Meets (length cs) (length ds) → v ≡ u
+  by_length (less lt) =
+      let t = may_further told job cs ds are.takes may.takes lt in
+      absurd (no_file (files_by job cs) (length cs) t.0 are.all t.1)
+  by_length (more lt) =
+      let t = told_further told job cs ds are.takes may.takes lt in
+      absurd (no_file (files_by job ds) (length ds) t.0 may.all t.1)
+  by_length (same e) =
+      let contents = same_contents told job cs ds are.takes may.takes e in
+      same_done job ds v u q (subst (λ (xs : List (List ℕ)). Does job xs u) contents p)
+
+-- ## the verdict
+
+CannotRead : Asked → FilesSeen → FilesSeen → Verdict → Type 0
+CannotRead job before after v = (f : File) × IsUnread job before after f × (v ≡ unread f.name)
+
+on_refusal : (job : Asked) (before after : FilesSeen) (v u : Verdict) (cs : List (List ℕ)) (g : File) (c : List ℕ) (why : Why) → Reason job before after v
+    → Reaches (Are before.told) job cs g → before.told g.name ≡ Some c → g.refusal c ≡ Some why → u ≡ refused g.name why → (v ≡ u) ⊎ CannotRead job before after v
+on_refusal job before after v u cs g c why (cannot_read f h e) r is refusal d = inr (f, h, e)
+on_refusal job before after v u cs g c why (refuses f why' h e) r is refusal d = inl (e ∙ same_refusal before.told job f g why' why cs c h r is refusal ∙ sym d)
+on_refusal job before after v u cs g c why (does ds all p) r is refusal d = absurd (done_not_refused before.told job ds cs g why c all r is refusal)
+
+on_done : (job : Asked) (before after : FilesSeen) (v u : Verdict) (cs : List (List ℕ)) → Reason job before after v
+    → TakesAll (Are before.told) job cs → Does job cs u → (v ≡ u) ⊎ CannotRead job before after v
+on_done job before after v u cs (cannot_read f h e) all p = inr (f, h, e)
+on_done job before after v u cs (refuses f why h e) all p = absurd (refused_not_done before.told job f why cs h all)
+on_done job before after v u cs (does ds may q) all p = inl (all_same before.told job cs ds u v all may p q)
+
+pub no_job_in : (words : List (List ℕ)) → is_taken words ≡ false → job_in words ≡ None
+no_job_in words e = ap (λ (b : Bool). cond b (job_of words) None) e
+
+no_job_of : (words : List (List ℕ)) (job : Asked) → is_taken words ≡ false → job_in words ≡ Some job → ⊥
+no_job_of words job e d = let none : None ≡ Some job = sym (no_job_in words e) ∙ d in absurd (cc)
+
+on_job : (words : List (List ℕ)) (job : Asked) (before after : FilesSeen) (v u : Verdict) → job_in words ≡ Some job → Reason job before after v → IsVerdict words before.told u
+    → (v ≡ u) ⊎ CannotRead job before after v
+on_job words job before after v u is why (verdict.no_job none e) = absurd (no_job_of words job none is)
+on_job words job before after v u is why (verdict.refuses job' cs g c reason is' r held refusal e) =
+    let same : job' ≡ job = same_Some job' job (sym is' ∙ is) in
+    on_refusal job before after v u cs g c reason why (subst (λ (j : Asked). Reaches (Are before.told) j cs g) same r) held refusal e
+on_job words job before after v u is why (verdict.does job' cs is' all p) =
+    let same : job' ≡ job = same_Some job' job (sym is' ∙ is) in
+    on_done job before after v u cs why (subst (λ (j : Asked). TakesAll (Are before.told) j cs) same all) (subst (λ (j : Asked). Does j cs u) same p)
+
+on_no_job : (words : List (List ℕ)) (told : List ℕ → Option (List ℕ)) (v u : Verdict) → is_taken words ≡ false → v ≡ usage → IsVerdict words told u → v ≡ u
+on_no_job words told v u none e (verdict.no_job none' d) = e ∙ sym d
+on_no_job words told v u none e (verdict.refuses job cs g c reason is r held refusal d) = absurd (no_job_of words job none is)
+on_no_job words told v u none e (verdict.does job cs is all p) = absurd (no_job_of words job none is)
+
+-- a verdict that was told is the one verdict, or that a file cannot be read
+pub data Decided (words : List (List ℕ)) (before after : FilesSeen) (v u : Verdict) : Type 0 where
+  agreed : v ≡ u → Decided words before after v u
+  not_read : (job : Asked) (f : File) → job_in words ≡ Some job → IsUnread job before after f → v ≡ unread f.name → Decided words before after v u
+
+by_reason : (words : List (List ℕ)) (job : Asked) (before after : FilesSeen) (v u : Verdict) → job_in words ≡ Some job → (v ≡ u) ⊎ CannotRead job before after v → Decided words before after v u
+by_reason words job before after v u is (inl e) = agreed e
+by_reason words job before after v u is (inr h) = not_read job h.0 is h.1 h.2
+
+pub decided : (words : List (List ℕ)) (before after : FilesSeen) (v u : Verdict) → Ground words before after v → IsVerdict words before.told u → Decided words before after v u
+decided words before after v u (no_job none e) is = agreed (on_no_job words before.told v u none e is)
+decided words before after v u (of_job job at why) is = by_reason words job before after v u at (on_job words job before after v u at why is)

@@ -1,0 +1,88 @@
+-- Why an application or a source is refused, by what its builder says.
+use Rattle.std.proofs.Common.{◌≡◌, ℕ, ◌<◌, ◌≤◌, ◌++◌, Bool, true, false, List, length, Option, Some, None, refl, sym, ap, subst, ◌∙◌, arith, cond, nat_lt, ltb, codes}
+use Rattle.std.specs.Prelude.{decimal, option_map, Result, Ok, Err}
+use Rattle.std.proofs.lemmas.Bool.Decides.{nat_tests}
+use Rattle.app_toml.specs.Apps.{AppData}
+use Rattle.app_toml.specs.Reading.{read_app}
+use Rattle.text_lines.specs.Text.{lines_of}
+use Rattle.thumb_asm.specs.declared.Cause.{Cause}
+use Rattle.asm_laws.proofs.Sized.{image_sized}
+use Rattle.image_build.specs.Layout.{flash_base, flash_needed, ram_needed, task_at}
+use Rattle.image_build.specs.Built.{given}
+use Rattle.image_build.specs.Building.{HasRoom, LacksRoom, RefusesSource, IsTaken, IsTooLong, source_cause}
+use Rattle.image_build.specs.declared.fault.BuildFault.TheVariants as fault
+use Rattle.image_format.specs.Picture.{Picture, image_or_fault}
+use Rattle.trace_cli.specs.Contents.{Why, or_later, at_number, at_line, fault_in, app_in, image_in, unless_long, image_refusal, picture_of, application_of, app_refusal, room_refusal, told_need, source_refusal, code_refusal, code_length}
+use Rattle.trace_cli.proofs.Stopping.{short}
+
+-- ## an image
+
+pub image_taken : (bytes : List ℕ) (p : Picture) → length bytes ≤ 2097152 → image_or_fault bytes ≡ Ok p → (image_refusal bytes ≡ None) × (p ≡ picture_of bytes)
+unfolding image_refusal picture_of
+image_taken bytes p le is = (short bytes _ le ∙ ap (λ r. option_map at_number (fault_in r)) is, ap image_in (sym is))
+
+pub image_refused : (bytes : List ℕ) (why : ℕ × ℕ) → length bytes ≤ 2097152 → image_or_fault bytes ≡ Err why → image_refusal bytes ≡ Some (at_number why)
+unfolding image_refusal
+image_refused bytes why le is = short bytes _ le ∙ ap (λ r. option_map at_number (fault_in r)) is
+
+-- ## an application
+
+pub app_refused : (bytes : List ℕ) (why : Why) → length bytes ≤ 2097152 → read_app bytes ≡ Err why → app_refusal bytes ≡ Some why
+unfolding app_refusal
+app_refused bytes why le is = short bytes _ le ∙ ap (λ r. or_later (fault_in r) (room_refusal (application_of bytes))) is
+
+pub is_application : (bytes : List ℕ) (app : AppData) → read_app bytes ≡ Ok app → application_of bytes ≡ app
+unfolding application_of
+is_application bytes app is = ap app_in is
+
+-- of a description that is accepted the plan decides
+pub app_by_room : (bytes : List ℕ) (app : AppData) → length bytes ≤ 2097152 → read_app bytes ≡ Ok app → app_refusal bytes ≡ room_refusal app
+unfolding app_refusal
+app_by_room bytes app le is = short bytes _ le ∙ ap (λ r. or_later (fault_in r) (room_refusal (application_of bytes))) is ∙ ap room_refusal (is_application bytes app is)
+
+pub lacks_flash : (app : AppData) (needed : ℕ) → LacksRoom app (fault.Flash needed) → room_refusal app ≡ Some (21, codes "flash:" ++ decimal needed)
+lacks_flash app needed h =
+    let lacks : ltb app.flash (flash_needed app) ≡ true = let lt = h.0 in grind (arith, nat_tests) in
+    let told : List ℕ → Option Why = λ p. Some (21, codes "flash:" ++ p) in
+    rw lacks (ap (λ n. told (decimal n)) (sym h.1))
+
+pub lacks_ram : (app : AppData) (needed : ℕ) → LacksRoom app (fault.Ram needed) → room_refusal app ≡ Some (21, codes "ram:" ++ decimal needed)
+lacks_ram app needed h =
+    let flash : ltb app.flash (flash_needed app) ≡ false = let le = h.0 in grind (arith, nat_tests) in
+    let ram : ltb app.ram (ram_needed app) ≡ true = let lt = h.1 in grind (arith, nat_tests) in
+    let told : List ℕ → Option Why = λ p. Some (21, codes "ram:" ++ p) in
+    rw (flash, ram) (ap (λ n. told (decimal n)) (sym h.2))
+
+pub has_room : (app : AppData) → HasRoom app → room_refusal app ≡ None
+has_room app h =
+    let flash : ltb app.flash (flash_needed app) ≡ false = let le = h.flash in grind (arith, nat_tests) in
+    let ram : ltb app.ram (ram_needed app) ≡ false = let le = h.ram in grind (arith, nat_tests) in
+    rw (flash, ram) refl
+
+-- ## a source
+
+by_cause : (app : AppData) (i : ℕ) (source : List ℕ) (o : Option (Cause × ℕ)) → length source ≤ 2097152 → source_cause app i source ≡ o
+    → source_refusal app i source ≡ or_later (option_map at_line o) (code_refusal app i source)
+unfolding source_refusal
+by_cause app i source o le is = short source _ le ∙ ap (λ p. or_later (option_map at_line p) (code_refusal app i source)) is
+
+pub source_by_cause : (app : AppData) (i : ℕ) (source : List ℕ) (task cause line : ℕ) → length source ≤ 2097152 → RefusesSource app i source (fault.Source task cause line)
+    → source_refusal app i source ≡ Some (at_number (cause, line))
+source_by_cause app i source task cause line le h =
+    by_cause app i source (Some (h.1, line)) le h.2 ∙ ap (λ n. Some (at_number (n, line))) (sym h.3)
+
+pub source_too_long : (app : AppData) (i : ℕ) (source : List ℕ) (task bytes : ℕ) → length source ≤ 2097152 → RefusesSource app i source (fault.Code task bytes)
+    → source_refusal app i source ≡ Some (at_number (15, bytes))
+source_too_long app i source task bytes le h =
+    let long = h.1 in
+    let size : length long.code ≡ code_length app i source = image_sized (lines_of source) (flash_base app i) (given app i) long.code long.labels long.accepted long.assembled in
+    let above : ltb (task_at app i).flash (code_length app i source) ≡ true = let lt = long.above in grind (arith, nat_tests) in
+    let code : code_refusal app i source ≡ Some (at_number (15, code_length app i source)) = rw above refl in
+    by_cause app i source None le long.accepted ∙ code ∙ ap (λ n. Some (at_number (15, n))) (sym (long.is ∙ size))
+
+pub source_taken : (app : AppData) (i : ℕ) (source : List ℕ) → length source ≤ 2097152 → IsTaken app i source → source_refusal app i source ≡ None
+source_taken app i source le h =
+    let size : length h.code ≡ code_length app i source = image_sized (lines_of source) (flash_base app i) (given app i) h.code h.labels h.accepted h.assembled in
+    let fits : ltb (task_at app i).flash (code_length app i source) ≡ false = let at_most = h.fits in grind (arith, nat_tests) in
+    let code : code_refusal app i source ≡ None = rw fits refl in
+    by_cause app i source None le h.accepted ∙ code

@@ -1,0 +1,313 @@
+-- What each status says.
+use Rattle.std.proofs.Common.{◌≡◌, ◌≢◌, ℕ, ◌≤◌, ◌⊎◌, Bool, true, false, List, Option, Some, None, refl, sym, ap, subst, ◌∙◌, inl, inr, arith, cond}
+use Rattle.std.specs.Io.KnownBytes.{Appends}
+use Rattle.std.proofs.lemmas.Option.{same_Some}
+use Rattle.outside_io.specs.Outside.{WhereTold, Rose}
+use Rattle.image_format.specs.Picture.{Picture, spelling}
+use Rattle.board_core.specs.declared.told.End.{End}
+use Rattle.board_core.specs.declared.told.End.TheVariants.{Bound, Still, Supervisor}
+use Rattle.board_core.specs.Script.{Scenario}
+use Rattle.command_line.specs.CommandLine.{Asked, build, run, go, list, is_taken, job_of}
+use Rattle.trace_cli.specs.Seen.{FilesSeen, SinkSeen}
+use Rattle.trace_cli.specs.Words.{job_in, out_of}
+use Rattle.trace_cli.specs.Sources.{IsBuild}
+use Rattle.trace_cli.specs.Verdict.{Verdict, IsVerdict, Does, runs, lists, builds, usage, usage_line, refused, unread, ran, listed, built, run_of, status_of}
+use Rattle.trace_cli.specs.Answer.{Reason, cannot_read, refuses, does, Ground, no_job, of_job, HasPut, HasSpoiled, IsShort, Tells, whole, cut, spoiled, short, AnswersJob, Answers, HasRun, HasListed, HasBuilt, HasDone, HasRefused, HasUnread, HasFront, Answered, IsComplete}
+use Rattle.trace_cli.proofs.Deciding.{Decided, agreed, not_read, decided, no_job_in}
+
+-- ## where the contents are told
+
+same_told : (a b : FilesSeen) (w w' : SinkSeen) (v u : Verdict) (r : ℕ) → v ≡ u → Tells a b w w' v r → Tells a b w w' u r
+same_told a b w w' v u r e t = let P : Verdict → Type 0 = λ x. Tells a b w w' x r in subst P e t
+
+by_decision : (words : List (List ℕ)) (a b : FilesSeen) (w w' : SinkSeen) (v u : Verdict) (r : ℕ) → Decided words a b v u → Tells a b w w' v r → Answered words a b w w' u r
+by_decision words a b w w' v u r (agreed e) t = inl (same_told a b w w' v u r e t)
+by_decision words a b w w' v u r (not_read job f at is e) t = inr (record { job = job; command = at; file = f; is = is; tells = same_told a b w w' v (unread f.name) r e t })
+
+pub answered : (words : List (List ℕ)) (a b : FilesSeen) (w w' : SinkSeen) (u : Verdict) (r : ℕ) → Answers words a b w w' r → IsVerdict words a.told u → Answered words a b w w' u r
+answered words a b w w' u r (inl s) is = inl (short s)
+answered words a b w w' u r (inr h) is = by_decision words a b w w' h.0 u r (decided words a b h.0 u h.1 is) h.2
+
+without_fault : (a b : FilesSeen) (w w' : SinkSeen) (u : Verdict) (r : ℕ) → ¬ Rose a.put_faults b.put_faults → ¬ Rose w.faults w'.faults → Tells a b w w' u r → IsComplete a b w w' u r
+without_fault a b w w' u r no_put no_push (whole is put text) = inl (is, put, text)
+without_fault a b w w' u r no_put no_push (cut is rose put front) = absurd (no_push rose)
+without_fault a b w w' u r no_put no_push (spoiled is rose left same) = absurd (no_put rose)
+without_fault a b w w' u r no_put no_push (short s) = inr s
+
+pub completed : (words : List (List ℕ)) (a b : FilesSeen) (w w' : SinkSeen) (u : Verdict) (r : ℕ) →
+    ¬ Rose a.read_faults b.read_faults → ¬ Rose a.put_faults b.put_faults → ¬ Rose w.faults w'.faults → Answered words a b w w' u r → IsComplete a b w w' u r
+completed words a b w w' u r no_read no_put no_push (inl t) = without_fault a b w w' u r no_put no_push t
+completed words a b w w' u r no_read no_put no_push (inr h) = absurd (no_read h.is.rose)
+
+-- ## the answer to words by the answer to their job
+
+pub by_job : (words : List (List ℕ)) (job : Asked) (a b : FilesSeen) (w w' : SinkSeen) (r : ℕ) →
+    is_taken words ≡ true → job_of words ≡ Some job → AnswersJob job a b w w' r → Answers words a b w w' r
+by_job words job a b w w' r taken is (inl s) = inl s
+by_job words job a b w w' r taken is (inr h) =
+    let in_words : job_in words ≡ Some job = ap (λ (b : Bool). cond b (job_of words) None) taken ∙ is in
+    inr (h.0, of_job job in_words h.1, h.2)
+
+-- ## statuses of verdicts
+
+end_zero_or_six : (e : End) → (status_of e ≡ 0) ⊎ (status_of e ≡ 6)
+end_zero_or_six Bound = inl refl
+end_zero_or_six Still = inl refl
+end_zero_or_six Supervisor = inr refl
+
+-- of what is done with files
+done_status : (job : Asked) (cs : List (List ℕ)) (v : Verdict) → Does job cs v → (v.status ≡ 0) ⊎ (v.status ≡ 6)
+done_status job cs v (runs n m x p e) = by_end (end_zero_or_six (run_of n x).end) where
+  status : v.status ≡ status_of (run_of n x).end
+  status = ap (λ (u : Verdict). u.status) e
+  by_end : (status_of (run_of n x).end ≡ 0) ⊎ (status_of (run_of n x).end ≡ 6) → (v.status ≡ 0) ⊎ (v.status ≡ 6)
+  by_end (inl z) = inl (status ∙ z)
+  by_end (inr s) = inr (status ∙ s)
+done_status job cs v (lists i p e) = inl (ap (λ (u : Verdict). u.status) e)
+done_status job cs v (builds o i p e) = inl (ap (λ (u : Verdict). u.status) e)
+
+not_done : (v : Verdict) (n : ℕ) → (v.status ≡ 0) ⊎ (v.status ≡ 6) → v.status ≡ n → (n ≡ 0 → ⊥) → (n ≡ 6 → ⊥) → ⊥
+not_done v n (inl z) e not0 not6 = not0 (sym e ∙ z)
+not_done v n (inr s) e not0 not6 = not6 (sym e ∙ s)
+
+job_status : (job : Asked) (a b : FilesSeen) (v : Verdict) → Reason job a b v → (v.status ≤ 3) ⊎ (v.status ≡ 6)
+job_status job a b v (cannot_read f h is) = let s : v.status ≡ 3 = ap (λ (u : Verdict). u.status) is in inl (omega arith)
+job_status job a b v (refuses f why h is) = let s : v.status ≡ 1 = ap (λ (u : Verdict). u.status) is in inl (omega arith)
+job_status job a b v (does cs all p) = by (done_status job cs v p) where
+  by : (v.status ≡ 0) ⊎ (v.status ≡ 6) → (v.status ≤ 3) ⊎ (v.status ≡ 6)
+  by (inl z) = inl (omega arith)
+  by (inr s) = inr s
+
+ground_status : (words : List (List ℕ)) (a b : FilesSeen) (v : Verdict) → Ground words a b v → (v.status ≤ 3) ⊎ (v.status ≡ 6)
+ground_status words a b v (no_job none is) = let s : v.status ≡ 2 = ap (λ (u : Verdict). u.status) is in inl (omega arith)
+ground_status words a b v (of_job job at why) = job_status job a b v why
+
+not_four_or_five : (v : Verdict) → (v.status ≤ 3) ⊎ (v.status ≡ 6) → 4 ≤ v.status → v.status ≤ 5 → ⊥
+not_four_or_five v (inl few) low high = omega arith
+not_four_or_five v (inr six) low high = omega arith
+
+at_most_six : (v : Verdict) → (v.status ≤ 3) ⊎ (v.status ≡ 6) → v.status ≤ 6
+at_most_six v (inl few) = omega arith
+at_most_six v (inr six) = omega arith
+
+-- ## by status
+
+known_by : (words : List (List ℕ)) (a b : FilesSeen) (w w' : SinkSeen) (v : Verdict) (r : ℕ) → Ground words a b v → Tells a b w w' v r → r ≤ 6
+known_by words a b w w' v r g (whole is put text) = let most = at_most_six v (ground_status words a b v g) in omega arith
+known_by words a b w w' v r g (cut is rose put front) = omega arith
+known_by words a b w w' v r g (spoiled is rose left same) = omega arith
+known_by words a b w w' v r g (short s) = let is = s.status in omega arith
+
+pub known : (words : List (List ℕ)) (a b : FilesSeen) (w w' : SinkSeen) (r : ℕ) → Answers words a b w w' r → r ≤ 6
+known words a b w w' r (inl s) = let is = s.status in omega arith
+known words a b w w' r (inr h) = known_by words a b w w' h.0 r h.1 h.2
+
+cut_by : (words : List (List ℕ)) (a b : FilesSeen) (w w' : SinkSeen) (v : Verdict) (r : ℕ) → r ≡ 4 → Ground words a b v → Tells a b w w' v r → HasFront words a b w w'
+cut_by words a b w w' v r e g (whole is put text) = absurd (not_four_or_five v (ground_status words a b v g) (omega arith) (omega arith))
+cut_by words a b w w' v r e g (cut is rose put front) = record { verdict = v; ground = g; front = inl (rose, put, front) }
+cut_by words a b w w' v r e g (spoiled is rose left same) = record { verdict = v; ground = g; front = inr (rose, left, same) }
+cut_by words a b w w' v r e g (short s) = let is = s.status in absurd (omega arith)
+
+pub was_cut : (words : List (List ℕ)) (a b : FilesSeen) (w w' : SinkSeen) (r : ℕ) → Answers words a b w w' r → r ≡ 4 → HasFront words a b w w'
+was_cut words a b w w' r (inl s) e = let is = s.status in absurd (omega arith)
+was_cut words a b w w' r (inr h) e = cut_by words a b w w' h.0 r e h.1 h.2
+
+abbrev Nothing : FilesSeen → FilesSeen → SinkSeen → SinkSeen → Type 0
+Nothing a b w w' = (w'.written ≡ w.written) × (w'.faults ≡ w.faults) × (b.told ≡ a.told)
+
+short_by : (words : List (List ℕ)) (a b : FilesSeen) (w w' : SinkSeen) (v : Verdict) (r : ℕ) → r ≡ 5 → Ground words a b v → Tells a b w w' v r → Nothing a b w w'
+short_by words a b w w' v r e g (whole is put text) = absurd (not_four_or_five v (ground_status words a b v g) (omega arith) (omega arith))
+short_by words a b w w' v r e g (cut is rose put front) = absurd (omega arith)
+short_by words a b w w' v r e g (spoiled is rose left same) = absurd (omega arith)
+short_by words a b w w' v r e g (short s) = (s.written, s.faults, s.files)
+
+pub was_short : (words : List (List ℕ)) (a b : FilesSeen) (w w' : SinkSeen) (r : ℕ) → Answers words a b w w' r → r ≡ 5 → Nothing a b w w'
+was_short words a b w w' r (inl s) e = (s.written, s.faults, s.files)
+was_short words a b w w' r (inr h) e = short_by words a b w w' h.0 r e h.1 h.2
+
+-- told whole, under another status than 4 and 5
+record IsWhole (words : List (List ℕ)) (a b : FilesSeen) (w w' : SinkSeen) (r : ℕ) : Type 0 where
+  verdict : Verdict
+  ground : Ground words a b verdict
+  status : verdict.status ≡ r
+  put : HasPut a.told b.told verdict.put
+  text : Appends w.written w'.written verdict.text
+
+whole_by : (words : List (List ℕ)) (a b : FilesSeen) (w w' : SinkSeen) (v : Verdict) (r : ℕ) → (r ≡ 4 → ⊥) → (r ≡ 5 → ⊥) → Ground words a b v → Tells a b w w' v r → IsWhole words a b w w' r
+whole_by words a b w w' v r not4 not5 g (whole is put text) = record { verdict = v; ground = g; status = sym is; put = put; text = text }
+whole_by words a b w w' v r not4 not5 g (cut is rose put front) = absurd (not4 is)
+whole_by words a b w w' v r not4 not5 g (spoiled is rose left same) = absurd (not4 is)
+whole_by words a b w w' v r not4 not5 g (short s) = absurd (not5 s.status)
+
+told_whole : (words : List (List ℕ)) (a b : FilesSeen) (w w' : SinkSeen) (r : ℕ) → Answers words a b w w' r → (r ≡ 4 → ⊥) → (r ≡ 5 → ⊥) → IsWhole words a b w w' r
+told_whole words a b w w' r (inl s) not4 not5 = absurd (not5 s.status)
+told_whole words a b w w' r (inr h) not4 not5 = whole_by words a b w w' h.0 r not4 not5 h.1 h.2
+
+same_text : (w w' : SinkSeen) (v u : Verdict) → v ≡ u → Appends w.written w'.written v.text → Appends w.written w'.written u.text
+same_text w w' v u e t = let P : Verdict → Type 0 = λ x. Appends w.written w'.written x.text in subst P e t
+
+same_put : (a b : FilesSeen) (v u : Verdict) → v ≡ u → HasPut a.told b.told v.put → HasPut a.told b.told u.put
+same_put a b v u e p = let P : Verdict → Type 0 = λ x. HasPut a.told b.told x.put in subst P e p
+
+refused_by : (words : List (List ℕ)) (a b : FilesSeen) (w w' : SinkSeen) (v : Verdict) → v.status ≡ 1 → Appends w.written w'.written v.text → Ground words a b v → HasRefused words a.told w w'
+refused_by words a b w w' v e t (no_job none is) = let s : v.status ≡ 2 = ap (λ (u : Verdict). u.status) is in absurd (omega arith)
+refused_by words a b w w' v e t (of_job job at (cannot_read f h is)) = let s : v.status ≡ 3 = ap (λ (u : Verdict). u.status) is in absurd (omega arith)
+refused_by words a b w w' v e t (of_job job at (refuses f why h is)) =
+    record { job = job; command = at; file = f; why = why; is = h; line = same_text w w' v (refused f.name why) is t }
+refused_by words a b w w' v e t (of_job job at (does cs all p)) = absurd (not_done v 1 (done_status job cs v p) e (λ z. omega arith) (λ s. omega arith))
+
+pub was_refused : (words : List (List ℕ)) (a b : FilesSeen) (w w' : SinkSeen) (r : ℕ) → Answers words a b w w' r → r ≡ 1 → HasRefused words a.told w w'
+was_refused words a b w w' r h e =
+    let t = told_whole words a b w w' r h (λ is. omega arith) (λ is. omega arith) in
+    refused_by words a b w w' t.verdict (t.status ∙ e) t.text t.ground
+
+no_command_by : (words : List (List ℕ)) (a b : FilesSeen) (w w' : SinkSeen) (v : Verdict) → v.status ≡ 2 → Appends w.written w'.written v.text → Ground words a b v
+    → (is_taken words ≡ false) × Appends w.written w'.written usage_line
+no_command_by words a b w w' v e t (no_job none is) = (none, same_text w w' v usage is t)
+no_command_by words a b w w' v e t (of_job job at (cannot_read f h is)) = let s : v.status ≡ 3 = ap (λ (u : Verdict). u.status) is in absurd (omega arith)
+no_command_by words a b w w' v e t (of_job job at (refuses f why h is)) = let s : v.status ≡ 1 = ap (λ (u : Verdict). u.status) is in absurd (omega arith)
+no_command_by words a b w w' v e t (of_job job at (does cs all p)) = absurd (not_done v 2 (done_status job cs v p) e (λ z. omega arith) (λ s. omega arith))
+
+pub was_no_command : (words : List (List ℕ)) (a b : FilesSeen) (w w' : SinkSeen) (r : ℕ) → Answers words a b w w' r → r ≡ 2 → (is_taken words ≡ false) × Appends w.written w'.written usage_line
+was_no_command words a b w w' r h e =
+    let t = told_whole words a b w w' r h (λ is. omega arith) (λ is. omega arith) in
+    no_command_by words a b w w' t.verdict (t.status ∙ e) t.text t.ground
+
+unread_by : (words : List (List ℕ)) (a b : FilesSeen) (w w' : SinkSeen) (v : Verdict) → v.status ≡ 3 → Appends w.written w'.written v.text → Ground words a b v → HasUnread words a b w w'
+unread_by words a b w w' v e t (no_job none is) = let s : v.status ≡ 2 = ap (λ (u : Verdict). u.status) is in absurd (omega arith)
+unread_by words a b w w' v e t (of_job job at (cannot_read f h is)) =
+    record { job = job; command = at; file = f; is = h; line = same_text w w' v (unread f.name) is t }
+unread_by words a b w w' v e t (of_job job at (refuses f why h is)) = let s : v.status ≡ 1 = ap (λ (u : Verdict). u.status) is in absurd (omega arith)
+unread_by words a b w w' v e t (of_job job at (does cs all p)) = absurd (not_done v 3 (done_status job cs v p) e (λ z. omega arith) (λ s. omega arith))
+
+pub was_unread : (words : List (List ℕ)) (a b : FilesSeen) (w w' : SinkSeen) (r : ℕ) → Answers words a b w w' r → r ≡ 3 → HasUnread words a b w w'
+was_unread words a b w w' r h e =
+    let t = told_whole words a b w w' r h (λ is. omega arith) (λ is. omega arith) in
+    unread_by words a b w w' t.verdict (t.status ∙ e) t.text t.ground
+
+done_by : (words : List (List ℕ)) (a b : FilesSeen) (w w' : SinkSeen) (v : Verdict) → v.status ≡ 0 → HasPut a.told b.told v.put → Appends w.written w'.written v.text → Ground words a b v → HasDone words a b w w'
+done_by words a b w w' v e p t (no_job none is) = let s : v.status ≡ 2 = ap (λ (u : Verdict). u.status) is in absurd (omega arith)
+done_by words a b w w' v e p t (of_job job at (cannot_read f h is)) = let s : v.status ≡ 3 = ap (λ (u : Verdict). u.status) is in absurd (omega arith)
+done_by words a b w w' v e p t (of_job job at (refuses f why h is)) = let s : v.status ≡ 1 = ap (λ (u : Verdict). u.status) is in absurd (omega arith)
+done_by words a b w w' v e p t (of_job job at (does cs all (runs n m x h is))) = inl (record {
+  job = job;
+  command = at;
+  contents = cs;
+  accepted = all;
+  bound = n;
+  mem = m;
+  scenario = x;
+  is = h;
+  status = sym (ap (λ (u : Verdict). u.status) is) ∙ e;
+  text = same_text w w' v (ran n m x) is t;
+})
+done_by words a b w w' v e p t (of_job job at (does cs all (lists i h is))) =
+    inr (inl (record { job = job; command = at; contents = cs; accepted = all; image = i; is = h; text = same_text w w' v (listed i) is t }))
+done_by words a b w w' v e p t (of_job job at (does cs all (builds o i h is))) = inr (inr (record {
+  job = job;
+  command = at;
+  contents = cs;
+  accepted = all;
+  out = o;
+  image = i;
+  is = h;
+  file = (same_put a b v (built o i) is p).0;
+  text = same_text w w' v (built o i) is t;
+}))
+
+pub was_done : (words : List (List ℕ)) (a b : FilesSeen) (w w' : SinkSeen) (r : ℕ) → Answers words a b w w' r → r ≡ 0 → HasDone words a b w w'
+was_done words a b w w' r h e =
+    let t = told_whole words a b w w' r h (λ is. omega arith) (λ is. omega arith) in
+    done_by words a b w w' t.verdict (t.status ∙ e) t.put t.text t.ground
+
+ran_by : (words : List (List ℕ)) (a b : FilesSeen) (w w' : SinkSeen) (v : Verdict) → v.status ≡ 6 → Appends w.written w'.written v.text → Ground words a b v → HasRun words a.told w w' 6
+ran_by words a b w w' v e t (no_job none is) = let s : v.status ≡ 2 = ap (λ (u : Verdict). u.status) is in absurd (omega arith)
+ran_by words a b w w' v e t (of_job job at (cannot_read f h is)) = let s : v.status ≡ 3 = ap (λ (u : Verdict). u.status) is in absurd (omega arith)
+ran_by words a b w w' v e t (of_job job at (refuses f why h is)) = let s : v.status ≡ 1 = ap (λ (u : Verdict). u.status) is in absurd (omega arith)
+ran_by words a b w w' v e t (of_job job at (does cs all (runs n m x h is))) = record {
+  job = job;
+  command = at;
+  contents = cs;
+  accepted = all;
+  bound = n;
+  mem = m;
+  scenario = x;
+  is = h;
+  status = sym (ap (λ (u : Verdict). u.status) is) ∙ e;
+  text = same_text w w' v (ran n m x) is t;
+}
+ran_by words a b w w' v e t (of_job job at (does cs all (lists i h is))) = let s : v.status ≡ 0 = ap (λ (u : Verdict). u.status) is in absurd (omega arith)
+ran_by words a b w w' v e t (of_job job at (does cs all (builds o i h is))) = let s : v.status ≡ 0 = ap (λ (u : Verdict). u.status) is in absurd (omega arith)
+
+pub was_ran : (words : List (List ℕ)) (a b : FilesSeen) (w w' : SinkSeen) (r : ℕ) → Answers words a b w w' r → r ≡ 6 → HasRun words a.told w w' 6
+was_ran words a b w w' r h e =
+    let t = told_whole words a b w w' r h (λ is. omega arith) (λ is. omega arith) in
+    ran_by words a b w w' t.verdict (t.status ∙ e) t.text t.ground
+
+-- ## which file is changed, and when
+
+-- a verdict that puts a file is a build's, under its OUT and with status 0
+data Puts (words : List (List ℕ)) (v : Verdict) : Type 0 where
+  puts_none : v.put ≡ None → Puts words v
+  puts_out : (o bytes : List ℕ) → v.put ≡ Some (o, bytes) → out_of (job_in words) ≡ Some o → v.status ≡ 0 → Puts words v
+
+built_out : (job : Asked) (cs : List (List ℕ)) (o : List ℕ) (i : Picture) → IsBuild job cs o i → out_of (Some job) ≡ Some o
+built_out (build app out) cs o i p = ap Some (sym p.0)
+built_out (run image script steps mem) cs o i p = absurd p
+built_out (go app script steps mem) cs o i p = absurd p
+built_out (list image) cs o i p = absurd p
+
+ground_puts : (words : List (List ℕ)) (a b : FilesSeen) (v : Verdict) → Ground words a b v → Puts words v
+ground_puts words a b v (no_job none is) = puts_none (ap (λ (u : Verdict). u.put) is)
+ground_puts words a b v (of_job job at (cannot_read f h is)) = puts_none (ap (λ (u : Verdict). u.put) is)
+ground_puts words a b v (of_job job at (refuses f why h is)) = puts_none (ap (λ (u : Verdict). u.put) is)
+ground_puts words a b v (of_job job at (does cs all (runs n m x h is))) = puts_none (ap (λ (u : Verdict). u.put) is)
+ground_puts words a b v (of_job job at (does cs all (lists i h is))) = puts_none (ap (λ (u : Verdict). u.put) is)
+ground_puts words a b v (of_job job at (does cs all (builds o i h is))) =
+    puts_out o (spelling i) (ap (λ (u : Verdict). u.put) is) (ap out_of at ∙ built_out job cs o i h) (ap (λ (u : Verdict). u.status) is)
+
+put_elsewhere : (told told' : List ℕ → Option (List ℕ)) (words : List (List ℕ)) (v : Verdict) (name : List ℕ) → Puts words v → HasPut told told' v.put
+    → out_of (job_in words) ≢ Some name → told' name ≡ told name
+put_elsewhere told told' words v name (puts_none e) p not =
+    let P : Option (List ℕ × List ℕ) → Type 0 = HasPut told told' in
+    let same : told' ≡ told = subst P e p in
+    ap (λ (t : List ℕ → Option (List ℕ)). t name) same
+put_elsewhere told told' words v name (puts_out o bytes e out is) p not =
+    let P : Option (List ℕ × List ℕ) → Type 0 = HasPut told told' in
+    (subst P e p).1 name (λ same. not (out ∙ ap Some (sym same)))
+
+spoiled_elsewhere : (told told' : List ℕ → Option (List ℕ)) (words : List (List ℕ)) (v : Verdict) (name : List ℕ) → Puts words v → HasSpoiled told told' v.put
+    → out_of (job_in words) ≢ Some name → told' name ≡ told name
+spoiled_elsewhere told told' words v name (puts_none e) p not =
+    let P : Option (List ℕ × List ℕ) → Type 0 = HasSpoiled told told' in
+    absurd (subst P e p)
+spoiled_elsewhere told told' words v name (puts_out o bytes e out is) p not =
+    let P : Option (List ℕ × List ℕ) → Type 0 = HasSpoiled told told' in
+    (subst P e p).1 name (λ same. not (out ∙ ap Some (sym same)))
+
+others_by : (words : List (List ℕ)) (a b : FilesSeen) (w w' : SinkSeen) (v : Verdict) (r : ℕ) (name : List ℕ) → Puts words v → Tells a b w w' v r
+    → out_of (job_in words) ≢ Some name → b.told name ≡ a.told name
+others_by words a b w w' v r name g (whole is put text) not = put_elsewhere a.told b.told words v name g put not
+others_by words a b w w' v r name g (cut is rose put front) not = put_elsewhere a.told b.told words v name g put not
+others_by words a b w w' v r name g (spoiled is rose left same) not = spoiled_elsewhere a.told b.told words v name g left not
+others_by words a b w w' v r name g (short s) not = ap (λ (t : List ℕ → Option (List ℕ)). t name) s.files
+
+pub others : (words : List (List ℕ)) (a b : FilesSeen) (w w' : SinkSeen) (r : ℕ) (name : List ℕ) → Answers words a b w w' r → out_of (job_in words) ≢ Some name → b.told name ≡ a.told name
+others words a b w w' r name (inl s) not = ap (λ (t : List ℕ → Option (List ℕ)). t name) s.files
+others words a b w w' r name (inr h) not = others_by words a b w w' h.0 r name (ground_puts words a b h.0 h.1) h.2 not
+
+put_none : (told told' : List ℕ → Option (List ℕ)) (words : List (List ℕ)) (v : Verdict) (r : ℕ) → r ≡ v.status → r ≢ 0 → Puts words v → HasPut told told' v.put → told' ≡ told
+put_none told told' words v r is not (puts_none e) p =
+    let P : Option (List ℕ × List ℕ) → Type 0 = HasPut told told' in
+    subst P e p
+put_none told told' words v r is not (puts_out o bytes e out z) p = absurd (not (is ∙ z))
+
+kept_by : (words : List (List ℕ)) (a b : FilesSeen) (w w' : SinkSeen) (v : Verdict) (r : ℕ) → r ≢ 0 → r ≢ 4 → Puts words v → Tells a b w w' v r → b.told ≡ a.told
+kept_by words a b w w' v r not0 not4 g (whole is put text) = put_none a.told b.told words v r is not0 g put
+kept_by words a b w w' v r not0 not4 g (cut is rose put front) = absurd (not4 is)
+kept_by words a b w w' v r not0 not4 g (spoiled is rose left same) = absurd (not4 is)
+kept_by words a b w w' v r not0 not4 g (short s) = s.files
+
+pub kept : (words : List (List ℕ)) (a b : FilesSeen) (w w' : SinkSeen) (r : ℕ) → Answers words a b w w' r → r ≢ 0 → r ≢ 4 → b.told ≡ a.told
+kept words a b w w' r (inl s) not0 not4 = s.files
+kept words a b w w' r (inr h) not0 not4 = kept_by words a b w w' h.0 r not0 not4 (ground_puts words a b h.0 h.1) h.2
