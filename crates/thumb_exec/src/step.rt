@@ -1,6 +1,7 @@
-//! One instruction, row by row of the table.
+//! One instruction, row by row of the table, in families that each a function executes.
 ghost use Rattle.std.specs.Prelude.{◌≡◌, ◌<◌, ℕ, Bool, [], true, false};
-ghost use Rattle.thumb_exec.specs.Effect.{Acts, effect, put, advance, shifted};
+ghost use Rattle.thumb_exec.specs.Effect.{Acts, Effects, Next, Refusals, Contents, effect, put, advance, shifted};
+ghost use Rattle.thumb_exec.specs.Families.{IsSum, IsData, IsAddress, IsJump, IsSystem, IsLoad, IsStore, IsSeveral};
 ghost use Rattle.thumb_insn.specs.Range.{InRange, IsCoded};
 
 use crate::arith::{add, advance, compare, data, finish_nz, finish_shift, get, subtract};
@@ -36,13 +37,43 @@ fn set(cpu: &mut Cpu, d: usize, value: u32, n: u32)
     advance(cpu, n);
 }
 
-/// Executes an instruction whose fields are in range.
+/// Sums, differences and comparisons.
 #[tactic(auto, unfolding(crate::specs::Effect::effect))]
-fn step<B: Bus>(cpu: &mut Cpu, insn: &Insn, bus: &mut B) -> Outcome
-    requires { InRange insn.now }
-    ensures { Acts B.stored cpu.old cpu.new bus.old bus.new result (effect (B.refuses bus.old) (B.holds bus.old) cpu.old insn.now) }
+fn sums(cpu: &mut Cpu, insn: Insn)
+    requires family { IsSum insn }
+    requires range { InRange insn }
+    ensures { (refuses : Refusals) (holds : Contents) → effect refuses holds cpu.old insn ≡ Next cpu.new [] }
 {
-    match *insn {
+    match insn {
+        Insn::AddsReg { d, n, m } => {
+            let y = get(cpu, m);
+            add(cpu, d, n, y);
+        }
+        Insn::SubsReg { d, n, m } => {
+            let y = get(cpu, m);
+            subtract(cpu, d, n, y);
+        }
+        Insn::AddsImm3 { d, n, value } => add(cpu, d, n, value),
+        Insn::SubsImm3 { d, n, value } => subtract(cpu, d, n, value),
+        Insn::AddsImm8 { d, value } => add(cpu, d, d, value),
+        Insn::SubsImm8 { d, value } => subtract(cpu, d, d, value),
+        Insn::CmpImm { n, value } => compare(cpu, n, value),
+        Insn::CmpHigh { n, m } => {
+            let y = get(cpu, m);
+            compare(cpu, n, y);
+        }
+        _ => unreachable!(),
+    }
+}
+
+/// What computes otherwise, of low registers, immediates or flags.
+#[tactic(auto, unfolding(crate::specs::Effect::effect))]
+fn compute(cpu: &mut Cpu, insn: Insn)
+    requires family { IsData insn }
+    requires range { InRange insn }
+    ensures { (refuses : Refusals) (holds : Contents) → effect refuses holds cpu.old insn ≡ Next cpu.new [] }
+{
+    match insn {
         Insn::ShiftImm {
             shift: kind,
             d,
@@ -51,61 +82,65 @@ fn step<B: Bus>(cpu: &mut Cpu, insn: &Insn, bus: &mut B) -> Outcome
         } => {
             let shifted = shift(kind, get(cpu, m), by as u8, cpu.flags.c);
             finish_shift(cpu, d, shifted);
-            Outcome::Next
         }
-        Insn::AddsReg { d, n, m } => {
-            let y = get(cpu, m);
-            add(cpu, d, n, y);
-            Outcome::Next
+        Insn::MovsImm { d, value } => finish_nz(cpu, d, value),
+        Insn::Data { op, d, m } => data(cpu, op, d, m),
+        Insn::Change { bytes, d, m } => {
+            let value = change(bytes, get(cpu, m));
+            set(cpu, usize::from(d.number), value, 2);
         }
-        Insn::SubsReg { d, n, m } => {
-            let y = get(cpu, m);
-            subtract(cpu, d, n, y);
-            Outcome::Next
+        Insn::Mrs { d } => {
+            let value = flags_word(cpu.flags);
+            set(cpu, usize::from(d.number), value, 4);
         }
-        Insn::AddsImm3 { d, n, value } => {
-            add(cpu, d, n, value);
-            Outcome::Next
-        }
-        Insn::SubsImm3 { d, n, value } => {
-            subtract(cpu, d, n, value);
-            Outcome::Next
-        }
-        Insn::MovsImm { d, value } => {
-            finish_nz(cpu, d, value);
-            Outcome::Next
-        }
-        Insn::CmpImm { n, value } => {
-            compare(cpu, n, value);
-            Outcome::Next
-        }
-        Insn::AddsImm8 { d, value } => {
-            add(cpu, d, d, value);
-            Outcome::Next
-        }
-        Insn::SubsImm8 { d, value } => {
-            subtract(cpu, d, d, value);
-            Outcome::Next
-        }
-        Insn::Data { op, d, m } => {
-            data(cpu, op, d, m);
-            Outcome::Next
-        }
+        _ => unreachable!(),
+    }
+}
+
+/// What reads or writes SP, PC or a high register, without flags.
+#[tactic(auto, unfolding(crate::specs::Effect::effect))]
+fn place(cpu: &mut Cpu, insn: Insn)
+    requires family { IsAddress insn }
+    requires range { InRange insn }
+    ensures { (refuses : Refusals) (holds : Contents) → effect refuses holds cpu.old insn ≡ Next cpu.new [] }
+{
+    match insn {
         Insn::AddHigh { d, m } => {
             let sum = operand(cpu, d).wrapping_add(operand(cpu, m));
             put_any(cpu, d, sum);
-            Outcome::Next
-        }
-        Insn::CmpHigh { n, m } => {
-            let y = get(cpu, m);
-            compare(cpu, n, y);
-            Outcome::Next
         }
         Insn::MovHigh { d, m } => {
             let value = operand(cpu, m);
             put_any(cpu, d, value);
-            Outcome::Next
         }
+        Insn::Adr { d, offset } => {
+            let value = base(cpu).wrapping_add(offset);
+            set(cpu, usize::from(d.number), value, 2);
+        }
+        Insn::AddSp { d, offset } => {
+            let value = cpu.regs.get(13).wrapping_add(offset);
+            set(cpu, usize::from(d.number), value, 2);
+        }
+        Insn::RaiseSp { offset } => {
+            let value = cpu.regs.get(13).wrapping_add(offset);
+            set(cpu, 13, value, 2);
+        }
+        Insn::LowerSp { offset } => {
+            let value = cpu.regs.get(13).wrapping_sub(offset);
+            set(cpu, 13, value, 2);
+        }
+        _ => unreachable!(),
+    }
+}
+
+/// Branches.
+#[tactic(auto, unfolding(crate::specs::Effect::effect))]
+fn jump(cpu: &mut Cpu, insn: Insn) -> Outcome
+    requires family { IsJump insn }
+    requires range { InRange insn }
+    ensures { (refuses : Refusals) (holds : Contents) → Effects cpu.old cpu.new result (effect refuses holds cpu.old insn) }
+{
+    match insn {
         Insn::Bx { m } => {
             let value = get(cpu, m);
             branch_to(cpu, value)
@@ -114,87 +149,6 @@ fn step<B: Bus>(cpu: &mut Cpu, insn: &Insn, bus: &mut B) -> Outcome
             let value = get(cpu, m);
             link_to(cpu, value)
         }
-        Insn::LdrLiteral { t, offset } => {
-            let addr = base(cpu).wrapping_add(offset);
-            load(cpu, bus, Load::Whole(Size::Word), t, addr)
-        }
-        Insn::StoreReg { size, t, n, m } => {
-            let addr = get(cpu, n).wrapping_add(get(cpu, m));
-            store(cpu, bus, size, t, addr)
-        }
-        Insn::LoadReg {
-            load: kind,
-            t,
-            n,
-            m,
-        } => {
-            let addr = get(cpu, n).wrapping_add(get(cpu, m));
-            load(cpu, bus, kind, t, addr)
-        }
-        Insn::StoreImm { size, t, n, offset } => {
-            let addr = get(cpu, n).wrapping_add(offset);
-            store(cpu, bus, size, t, addr)
-        }
-        Insn::LoadImm { size, t, n, offset } => {
-            let addr = get(cpu, n).wrapping_add(offset);
-            load(cpu, bus, Load::Whole(size), t, addr)
-        }
-        Insn::StoreSp { t, offset } => {
-            let addr = cpu.regs.get(13).wrapping_add(offset);
-            store(cpu, bus, Size::Word, t, addr)
-        }
-        Insn::LoadSp { t, offset } => {
-            let addr = cpu.regs.get(13).wrapping_add(offset);
-            load(cpu, bus, Load::Whole(Size::Word), t, addr)
-        }
-        Insn::Adr { d, offset } => {
-            let value = base(cpu).wrapping_add(offset);
-            set(cpu, usize::from(d.number), value, 2);
-            Outcome::Next
-        }
-        Insn::AddSp { d, offset } => {
-            let value = cpu.regs.get(13).wrapping_add(offset);
-            set(cpu, usize::from(d.number), value, 2);
-            Outcome::Next
-        }
-        Insn::RaiseSp { offset } => {
-            let value = cpu.regs.get(13).wrapping_add(offset);
-            set(cpu, 13, value, 2);
-            Outcome::Next
-        }
-        Insn::LowerSp { offset } => {
-            let value = cpu.regs.get(13).wrapping_sub(offset);
-            set(cpu, 13, value, 2);
-            Outcome::Next
-        }
-        Insn::Change { bytes, d, m } => {
-            let value = change(bytes, get(cpu, m));
-            set(cpu, usize::from(d.number), value, 2);
-            Outcome::Next
-        }
-        Insn::Push { list, lr } => {
-            let mask = if lr {
-                u16::from(list) + 0x4000
-            } else {
-                u16::from(list)
-            };
-            push(cpu, bus, mask)
-        }
-        Insn::Pop { list, pc } => {
-            let mask = if pc {
-                u16::from(list) + 0x8000
-            } else {
-                u16::from(list)
-            };
-            pop(cpu, bus, mask, pc)
-        }
-        Insn::Cpsie | Insn::Cpsid | Insn::Hint { .. } => {
-            advance(cpu, 2);
-            Outcome::Next
-        }
-        Insn::Bkpt { value } => Outcome::Trap(Fault::breakpoint(value)),
-        Insn::Stm { n, list } => stm(cpu, bus, n, u16::from(list)),
-        Insn::Ldm { n, list } => ldm(cpu, bus, n, u16::from(list)),
         Insn::BranchIf { cond, offset } => {
             if holds(cond, cpu.flags) {
                 let to = target(cpu, offset);
@@ -204,7 +158,6 @@ fn step<B: Bus>(cpu: &mut Cpu, insn: &Insn, bus: &mut B) -> Outcome
             }
             Outcome::Next
         }
-        Insn::Svc { .. } => Outcome::Call,
         Insn::Branch { offset } => {
             let to = target(cpu, offset);
             cpu.regs.set(15, to);
@@ -216,13 +169,26 @@ fn step<B: Bus>(cpu: &mut Cpu, insn: &Insn, bus: &mut B) -> Outcome
             cpu.regs.set(15, to);
             Outcome::Next
         }
-        Insn::Fence { .. } => {
-            advance(cpu, 4);
+        _ => unreachable!(),
+    }
+}
+
+/// Calls, hints, barriers and the flags' status.
+#[tactic(auto, unfolding(crate::specs::Effect::effect))]
+fn system(cpu: &mut Cpu, insn: Insn) -> Outcome
+    requires family { IsSystem insn }
+    requires range { InRange insn }
+    ensures { (refuses : Refusals) (holds : Contents) → Effects cpu.old cpu.new result (effect refuses holds cpu.old insn) }
+{
+    match insn {
+        Insn::Svc { .. } => Outcome::Call,
+        Insn::Bkpt { value } => Outcome::Trap(Fault::breakpoint(value)),
+        Insn::Cpsie | Insn::Cpsid | Insn::Hint { .. } => {
+            advance(cpu, 2);
             Outcome::Next
         }
-        Insn::Mrs { d } => {
-            let value = flags_word(cpu.flags);
-            set(cpu, usize::from(d.number), value, 4);
+        Insn::Fence { .. } => {
+            advance(cpu, 4);
             Outcome::Next
         }
         Insn::Msr { n } => {
@@ -230,6 +196,146 @@ fn step<B: Bus>(cpu: &mut Cpu, insn: &Insn, bus: &mut B) -> Outcome
             advance(cpu, 4);
             Outcome::Next
         }
+        _ => unreachable!(),
+    }
+}
+
+/// Loads of one unit.
+#[tactic(auto, unfolding(crate::specs::Effect::effect))]
+fn load_one<B: Bus>(cpu: &mut Cpu, insn: Insn, bus: &mut B) -> Outcome
+    requires family { IsLoad insn }
+    requires range { InRange insn }
+    ensures { Acts B.stored cpu.old cpu.new bus.old bus.new result (effect (B.refuses bus.old) (B.holds bus.old) cpu.old insn) }
+{
+    match insn {
+        Insn::LdrLiteral { t, offset } => {
+            let addr = base(cpu).wrapping_add(offset);
+            load(cpu, bus, Load::Whole(Size::Word), t, addr)
+        }
+        Insn::LoadReg {
+            load: kind,
+            t,
+            n,
+            m,
+        } => {
+            let addr = get(cpu, n).wrapping_add(get(cpu, m));
+            load(cpu, bus, kind, t, addr)
+        }
+        Insn::LoadImm { size, t, n, offset } => {
+            let addr = get(cpu, n).wrapping_add(offset);
+            load(cpu, bus, Load::Whole(size), t, addr)
+        }
+        Insn::LoadSp { t, offset } => {
+            let addr = cpu.regs.get(13).wrapping_add(offset);
+            load(cpu, bus, Load::Whole(Size::Word), t, addr)
+        }
+        _ => unreachable!(),
+    }
+}
+
+/// Stores of one unit.
+#[tactic(auto, unfolding(crate::specs::Effect::effect))]
+fn store_one<B: Bus>(cpu: &mut Cpu, insn: Insn, bus: &mut B) -> Outcome
+    requires family { IsStore insn }
+    requires range { InRange insn }
+    ensures { Acts B.stored cpu.old cpu.new bus.old bus.new result (effect (B.refuses bus.old) (B.holds bus.old) cpu.old insn) }
+{
+    match insn {
+        Insn::StoreReg { size, t, n, m } => {
+            let addr = get(cpu, n).wrapping_add(get(cpu, m));
+            store(cpu, bus, size, t, addr)
+        }
+        Insn::StoreImm { size, t, n, offset } => {
+            let addr = get(cpu, n).wrapping_add(offset);
+            store(cpu, bus, size, t, addr)
+        }
+        Insn::StoreSp { t, offset } => {
+            let addr = cpu.regs.get(13).wrapping_add(offset);
+            store(cpu, bus, Size::Word, t, addr)
+        }
+        _ => unreachable!(),
+    }
+}
+
+/// Loads and stores of several words.
+#[tactic(auto, unfolding(crate::specs::Effect::effect))]
+fn several<B: Bus>(cpu: &mut Cpu, insn: Insn, bus: &mut B) -> Outcome
+    requires family { IsSeveral insn }
+    requires range { InRange insn }
+    ensures { Acts B.stored cpu.old cpu.new bus.old bus.new result (effect (B.refuses bus.old) (B.holds bus.old) cpu.old insn) }
+{
+    match insn {
+        Insn::Push { list, lr } => {
+            let more = if lr { 0x4000 } else { 0 };
+            push(cpu, bus, u16::from(list) + more)
+        }
+        Insn::Pop { list, pc } => {
+            let more = if pc { 0x8000 } else { 0 };
+            pop(cpu, bus, u16::from(list) + more, pc)
+        }
+        Insn::Stm { n, list } => stm(cpu, bus, n, u16::from(list)),
+        Insn::Ldm { n, list } => ldm(cpu, bus, n, u16::from(list)),
+        _ => unreachable!(),
+    }
+}
+
+/// Executes an instruction whose fields are in range.
+#[tactic(auto, using(crate::proofs::Acting::acts_next, crate::proofs::Acting::acts_of))]
+fn step<B: Bus>(cpu: &mut Cpu, insn: Insn, bus: &mut B) -> Outcome
+    requires { InRange insn }
+    ensures { Acts B.stored cpu.old cpu.new bus.old bus.new result (effect (B.refuses bus.old) (B.holds bus.old) cpu.old insn) }
+{
+    match insn {
+        Insn::AddsReg { .. }
+        | Insn::SubsReg { .. }
+        | Insn::AddsImm3 { .. }
+        | Insn::SubsImm3 { .. }
+        | Insn::AddsImm8 { .. }
+        | Insn::SubsImm8 { .. }
+        | Insn::CmpImm { .. }
+        | Insn::CmpHigh { .. } => {
+            sums(cpu, insn);
+            Outcome::Next
+        }
+        Insn::ShiftImm { .. }
+        | Insn::MovsImm { .. }
+        | Insn::Data { .. }
+        | Insn::Change { .. }
+        | Insn::Mrs { .. } => {
+            compute(cpu, insn);
+            Outcome::Next
+        }
+        Insn::AddHigh { .. }
+        | Insn::MovHigh { .. }
+        | Insn::Adr { .. }
+        | Insn::AddSp { .. }
+        | Insn::RaiseSp { .. }
+        | Insn::LowerSp { .. } => {
+            place(cpu, insn);
+            Outcome::Next
+        }
+        Insn::LdrLiteral { .. }
+        | Insn::LoadReg { .. }
+        | Insn::LoadImm { .. }
+        | Insn::LoadSp { .. } => load_one(cpu, insn, bus),
+        Insn::StoreReg { .. } | Insn::StoreImm { .. } | Insn::StoreSp { .. } => {
+            store_one(cpu, insn, bus)
+        }
+        Insn::Push { .. } | Insn::Pop { .. } | Insn::Stm { .. } | Insn::Ldm { .. } => {
+            several(cpu, insn, bus)
+        }
+        Insn::Bx { .. }
+        | Insn::Blx { .. }
+        | Insn::BranchIf { .. }
+        | Insn::Branch { .. }
+        | Insn::Bl { .. } => jump(cpu, insn),
+        Insn::Svc { .. }
+        | Insn::Bkpt { .. }
+        | Insn::Cpsie
+        | Insn::Cpsid
+        | Insn::Hint { .. }
+        | Insn::Fence { .. }
+        | Insn::Msr { .. } => system(cpu, insn),
     }
 }
 
@@ -244,5 +350,5 @@ pub fn exec<B: Bus>(cpu: &mut Cpu, insn: &Insn, bus: &mut B) -> Outcome
     requires { IsCoded insn.now }
     ensures { Acts B.stored cpu.old cpu.new bus.old bus.new result (effect (B.refuses bus.old) (B.holds bus.old) cpu.old insn.now) }
 {
-    step(cpu, insn, bus)
+    step(cpu, *insn, bus)
 }
