@@ -1,6 +1,6 @@
 //! One instruction, row by row of the table, in families that each a function executes.
 ghost use Rattle.std.specs.Prelude.{◌≡◌, ◌<◌, ℕ, Bool, [], true, false};
-ghost use Rattle.thumb_exec.specs.Effect.{Acts, Effects, Next, Refusals, Contents, effect, put, advance, shifted};
+ghost use Rattle.thumb_exec.specs.Effect.{Acts, Effects, Next, Refusals, Contents, effect, load_effect, store_effect, put, advance, shifted};
 ghost use Rattle.thumb_exec.specs.Families.{IsSum, IsData, IsAddress, IsJump, IsSystem, IsLoad, IsStore, IsSeveral};
 ghost use Rattle.thumb_insn.specs.Range.{InRange, IsCoded};
 
@@ -13,7 +13,7 @@ use crate::cpu::{Cpu, Outcome};
 use crate::memory::{load, store};
 use crate::several::{ldm, pop, push, stm};
 use kernel_abi::Fault;
-use thumb_insn::{Insn, Load, Shift, Size};
+use thumb_insn::{Insn, Load, Reg, Shift, Size};
 use words_core::{asr, lsl, lsr};
 
 /// A shift by a number of bits.
@@ -28,12 +28,12 @@ fn shift(by: Shift, x: u32, n: u8, c: bool) -> (u32, bool)
 }
 
 /// Puts a value into a register and goes on, n bytes further.
-fn set(cpu: &mut Cpu, d: usize, value: u32, n: u32)
-    requires place { d < 16 }
+fn set(cpu: &mut Cpu, d: Reg, value: u32, n: u32)
+    requires place { d.number < 16 }
     requires step { n < 8 }
-    ensures { cpu.new ≡ advance n (put cpu.old d value) }
+    ensures { cpu.new ≡ advance n (put cpu.old d.number value) }
 {
-    cpu.regs.set(d, value);
+    cpu.regs.set(usize::from(d.number), value);
     advance(cpu, n);
 }
 
@@ -87,11 +87,11 @@ fn compute(cpu: &mut Cpu, insn: Insn)
         Insn::Data { op, d, m } => data(cpu, op, d, m),
         Insn::Change { bytes, d, m } => {
             let value = change(bytes, get(cpu, m));
-            set(cpu, usize::from(d.number), value, 2);
+            set(cpu, d, value, 2);
         }
         Insn::Mrs { d } => {
             let value = flags_word(cpu.flags);
-            set(cpu, usize::from(d.number), value, 4);
+            set(cpu, d, value, 4);
         }
         _ => unreachable!(),
     }
@@ -115,19 +115,19 @@ fn place(cpu: &mut Cpu, insn: Insn)
         }
         Insn::Adr { d, offset } => {
             let value = base(cpu).wrapping_add(offset);
-            set(cpu, usize::from(d.number), value, 2);
+            set(cpu, d, value, 2);
         }
         Insn::AddSp { d, offset } => {
             let value = cpu.regs.get(13).wrapping_add(offset);
-            set(cpu, usize::from(d.number), value, 2);
+            set(cpu, d, value, 2);
         }
         Insn::RaiseSp { offset } => {
             let value = cpu.regs.get(13).wrapping_add(offset);
-            set(cpu, 13, value, 2);
+            set(cpu, Reg { number: 13 }, value, 2);
         }
         Insn::LowerSp { offset } => {
             let value = cpu.regs.get(13).wrapping_sub(offset);
-            set(cpu, 13, value, 2);
+            set(cpu, Reg { number: 13 }, value, 2);
         }
         _ => unreachable!(),
     }
@@ -200,58 +200,55 @@ fn system(cpu: &mut Cpu, insn: Insn) -> Outcome
     }
 }
 
-/// Loads of one unit.
+/// How a load of one unit loads, to which register and from where.
 #[tactic(auto, unfolding(crate::specs::Effect::effect))]
-fn load_one<B: Bus>(cpu: &mut Cpu, insn: Insn, bus: &mut B) -> Outcome
+fn loading(cpu: &Cpu, insn: Insn) -> (Load, Reg, u32)
     requires family { IsLoad insn }
     requires range { InRange insn }
-    ensures { Acts B.stored cpu.old cpu.new bus.old bus.new result (effect (B.refuses bus.old) (B.holds bus.old) cpu.old insn) }
+    ensures effect { (refuses : Refusals) (holds : Contents) → effect refuses holds cpu.now insn ≡ load_effect refuses holds cpu.now result.0 result.1 result.2 }
+    ensures register { result.1.number < 16 }
 {
     match insn {
         Insn::LdrLiteral { t, offset } => {
             let addr = base(cpu).wrapping_add(offset);
-            load(cpu, bus, Load::Whole(Size::Word), t, addr)
+            (Load::Whole(Size::Word), t, addr)
         }
-        Insn::LoadReg {
-            load: kind,
-            t,
-            n,
-            m,
-        } => {
+        Insn::LoadReg { load, t, n, m } => {
             let addr = get(cpu, n).wrapping_add(get(cpu, m));
-            load(cpu, bus, kind, t, addr)
+            (load, t, addr)
         }
         Insn::LoadImm { size, t, n, offset } => {
             let addr = get(cpu, n).wrapping_add(offset);
-            load(cpu, bus, Load::Whole(size), t, addr)
+            (Load::Whole(size), t, addr)
         }
         Insn::LoadSp { t, offset } => {
             let addr = cpu.regs.get(13).wrapping_add(offset);
-            load(cpu, bus, Load::Whole(Size::Word), t, addr)
+            (Load::Whole(Size::Word), t, addr)
         }
         _ => unreachable!(),
     }
 }
 
-/// Stores of one unit.
+/// How much a store of one unit stores, of which register and where.
 #[tactic(auto, unfolding(crate::specs::Effect::effect))]
-fn store_one<B: Bus>(cpu: &mut Cpu, insn: Insn, bus: &mut B) -> Outcome
+fn storing(cpu: &Cpu, insn: Insn) -> (Size, Reg, u32)
     requires family { IsStore insn }
     requires range { InRange insn }
-    ensures { Acts B.stored cpu.old cpu.new bus.old bus.new result (effect (B.refuses bus.old) (B.holds bus.old) cpu.old insn) }
+    ensures effect { (refuses : Refusals) (holds : Contents) → effect refuses holds cpu.now insn ≡ store_effect refuses cpu.now result.0 result.1 result.2 }
+    ensures register { result.1.number < 16 }
 {
     match insn {
         Insn::StoreReg { size, t, n, m } => {
             let addr = get(cpu, n).wrapping_add(get(cpu, m));
-            store(cpu, bus, size, t, addr)
+            (size, t, addr)
         }
         Insn::StoreImm { size, t, n, offset } => {
             let addr = get(cpu, n).wrapping_add(offset);
-            store(cpu, bus, size, t, addr)
+            (size, t, addr)
         }
         Insn::StoreSp { t, offset } => {
             let addr = cpu.regs.get(13).wrapping_add(offset);
-            store(cpu, bus, Size::Word, t, addr)
+            (Size::Word, t, addr)
         }
         _ => unreachable!(),
     }
@@ -317,9 +314,13 @@ fn step<B: Bus>(cpu: &mut Cpu, insn: Insn, bus: &mut B) -> Outcome
         Insn::LdrLiteral { .. }
         | Insn::LoadReg { .. }
         | Insn::LoadImm { .. }
-        | Insn::LoadSp { .. } => load_one(cpu, insn, bus),
+        | Insn::LoadSp { .. } => {
+            let (kind, t, addr) = loading(cpu, insn);
+            load(cpu, bus, kind, t, addr)
+        }
         Insn::StoreReg { .. } | Insn::StoreImm { .. } | Insn::StoreSp { .. } => {
-            store_one(cpu, insn, bus)
+            let (size, t, addr) = storing(cpu, insn);
+            store(cpu, bus, size, t, addr)
         }
         Insn::Push { .. } | Insn::Pop { .. } | Insn::Stm { .. } | Insn::Ldm { .. } => {
             several(cpu, insn, bus)
