@@ -1,6 +1,6 @@
 -- The families of instructions, each of which one function executes.
 use Rattle.thumb_insn.specs.declared.Insn.{Insn}
-use Rattle.thumb_insn.specs.declared.Insn.TheVariants.{AddsReg, SubsReg, AddsImm3, SubsImm3, AddsImm8, SubsImm8, CmpImm, CmpHigh, ShiftImm, MovsImm, Data, Change, Mrs, AddHigh, MovHigh, Adr, AddSp, RaiseSp, LowerSp, LdrLiteral, LoadReg, LoadImm, LoadSp, StoreReg, StoreImm, StoreSp, Push, Pop, Stm, Ldm, Bx, Blx, BranchIf, Branch, Bl, Svc, Bkpt, Cpsie, Cpsid, Hint, Fence, Msr}
+use Rattle.thumb_insn.specs.declared.Insn.TheVariants.{AddsReg, SubsReg, AddsImm3, SubsImm3, AddsImm8, SubsImm8, CmpImm, CmpHigh, ShiftImm, MovsImm, Data, Change, Mrs, AddHigh, MovHigh, Adr, AddSp, RaiseSp, LowerSp, LdrLiteral, LoadReg, LoadImm, LoadSp, StoreReg, StoreImm, StoreSp, Push, Stm, Bx, Blx, BranchIf, Branch, Bl, Svc, Bkpt, Cpsie, Cpsid, Hint, Fence, Msr}
 
 -- sums, differences and comparisons
 abbrev pub IsSum : Insn → Type 0
@@ -48,13 +48,11 @@ IsStore (StoreImm s t n i) = Unit {0}
 IsStore (StoreSp t i) = Unit {0}
 IsStore i = ⊥
 
--- loads and stores of several words
-abbrev pub IsSeveral : Insn → Type 0
-IsSeveral (Push list lr) = Unit {0}
-IsSeveral (Pop list has_pc) = Unit {0}
-IsSeveral (Stm n list) = Unit {0}
-IsSeveral (Ldm n list) = Unit {0}
-IsSeveral i = ⊥
+-- stores of several words
+abbrev pub IsStoreAll : Insn → Type 0
+IsStoreAll (Push list lr) = Unit {0}
+IsStoreAll (Stm n list) = Unit {0}
+IsStoreAll i = ⊥
 
 -- branches
 abbrev pub IsJump : Insn → Type 0

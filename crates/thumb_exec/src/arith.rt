@@ -24,6 +24,16 @@ pub fn advance(cpu: &mut Cpu, n: u32)
     cpu.regs.set(15, at.wrapping_add(n));
 }
 
+/// Puts a value into a register and goes on, n bytes further.
+pub fn set(cpu: &mut Cpu, d: Reg, value: u32, n: u32)
+    requires place { d.number < 16 }
+    requires step { n < 8 }
+    ensures { cpu.new ≡ advance n (put cpu.old d.number value) }
+{
+    cpu.regs.set(usize::from(d.number), value);
+    advance(cpu, n);
+}
+
 /// Writes a result and flags, and goes on.
 pub fn finish(cpu: &mut Cpu, d: Reg, value: u32, flags: Flags)
     requires { d.number < 16 }

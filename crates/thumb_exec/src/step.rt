@@ -1,17 +1,17 @@
 //! One instruction, row by row of the table, in families that each a function executes.
 ghost use Rattle.std.specs.Prelude.{◌≡◌, ◌<◌, ℕ, Bool, [], true, false};
-ghost use Rattle.thumb_exec.specs.Effect.{Acts, Effects, Next, Refusals, Contents, effect, load_effect, store_effect, put, advance, shifted};
-ghost use Rattle.thumb_exec.specs.Families.{IsSum, IsData, IsAddress, IsJump, IsSystem, IsLoad, IsStore, IsSeveral};
+ghost use Rattle.thumb_exec.specs.Effect.{Acts, Effects, Next, Refusals, Contents, effect, load_effect, store_effect, store_all, put, advance, shifted};
+ghost use Rattle.thumb_exec.specs.Families.{IsSum, IsData, IsAddress, IsJump, IsSystem, IsLoad, IsStore, IsStoreAll};
 ghost use Rattle.thumb_insn.specs.Range.{InRange, IsCoded};
 
-use crate::arith::{add, advance, compare, data, finish_nz, finish_shift, get, subtract};
+use crate::arith::{add, advance, compare, data, finish_nz, finish_shift, get, set, subtract};
 use crate::bus::Bus;
 use crate::control::{
     base, branch_to, change, flags_of, flags_word, holds, link, link_to, operand, put_any, target,
 };
 use crate::cpu::{Cpu, Outcome};
 use crate::memory::{load, store};
-use crate::several::{ldm, pop, push, stm};
+use crate::several::{count_of, ldm, mask_of, pop, store_all};
 use kernel_abi::Fault;
 use thumb_insn::{Insn, Load, Reg, Shift, Size};
 use words_core::{asr, lsl, lsr};
@@ -25,16 +25,6 @@ fn shift(by: Shift, x: u32, n: u8, c: bool) -> (u32, bool)
         Shift::Lsr => lsr(x, n, c),
         Shift::Asr => asr(x, n, c),
     }
-}
-
-/// Puts a value into a register and goes on, n bytes further.
-fn set(cpu: &mut Cpu, d: Reg, value: u32, n: u32)
-    requires place { d.number < 16 }
-    requires step { n < 8 }
-    ensures { cpu.new ≡ advance n (put cpu.old d.number value) }
-{
-    cpu.regs.set(usize::from(d.number), value);
-    advance(cpu, n);
 }
 
 /// Sums, differences and comparisons.
@@ -254,24 +244,25 @@ fn storing(cpu: &Cpu, insn: Insn) -> (Size, Reg, u32)
     }
 }
 
-/// Loads and stores of several words.
+/// Which registers a store of several words stores and where, and which register then has which word.
 #[tactic(auto, unfolding(crate::specs::Effect::effect))]
-fn several<B: Bus>(cpu: &mut Cpu, insn: Insn, bus: &mut B) -> Outcome
-    requires family { IsSeveral insn }
+fn storing_all(cpu: &Cpu, insn: Insn) -> (u16, u32, Reg, u32)
+    requires family { IsStoreAll insn }
     requires range { InRange insn }
-    ensures { Acts B.stored cpu.old cpu.new bus.old bus.new result (effect (B.refuses bus.old) (B.holds bus.old) cpu.old insn) }
+    ensures effect { (refuses : Refusals) (holds : Contents) → effect refuses holds cpu.now insn ≡ store_all refuses cpu.now result.0 result.1 (advance 2 (put cpu.now result.2.number result.3)) }
+    ensures register { result.2.number < 16 }
 {
     match insn {
         Insn::Push { list, lr } => {
-            let more = if lr { 0x4000 } else { 0 };
-            push(cpu, bus, u16::from(list) + more)
+            let mask = mask_of(list, lr, 0x4000);
+            let addr = cpu.regs.get(13).wrapping_sub(4 * count_of(mask));
+            (mask, addr, Reg { number: 13 }, addr)
         }
-        Insn::Pop { list, pc } => {
-            let more = if pc { 0x8000 } else { 0 };
-            pop(cpu, bus, u16::from(list) + more, pc)
+        Insn::Stm { n, list } => {
+            let mask = u16::from(list);
+            let addr = get(cpu, n);
+            (mask, addr, n, addr.wrapping_add(4 * count_of(mask)))
         }
-        Insn::Stm { n, list } => stm(cpu, bus, n, u16::from(list)),
-        Insn::Ldm { n, list } => ldm(cpu, bus, n, u16::from(list)),
         _ => unreachable!(),
     }
 }
@@ -322,9 +313,12 @@ fn step<B: Bus>(cpu: &mut Cpu, insn: Insn, bus: &mut B) -> Outcome
             let (size, t, addr) = storing(cpu, insn);
             store(cpu, bus, size, t, addr)
         }
-        Insn::Push { .. } | Insn::Pop { .. } | Insn::Stm { .. } | Insn::Ldm { .. } => {
-            several(cpu, insn, bus)
+        Insn::Push { .. } | Insn::Stm { .. } => {
+            let (mask, addr, d, value) = storing_all(cpu, insn);
+            store_all(cpu, bus, mask, addr, d, value)
         }
+        Insn::Ldm { n, list } => ldm(cpu, bus, n, list),
+        Insn::Pop { list, pc } => pop(cpu, bus, list, pc),
         Insn::Bx { .. }
         | Insn::Blx { .. }
         | Insn::BranchIf { .. }
