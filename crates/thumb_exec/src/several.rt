@@ -28,7 +28,7 @@ pub fn count_of(mask: u16) -> u32
 }
 
 /// The first byte that lacks the right, in the order of transfer.
-#[tactic(auto, using(crate::proofs::Transfers::words_set, crate::proofs::Transfers::words_clear, crate::proofs::Transfers::words_all, crate::proofs::Transfers::words_done, crate::proofs::Transfers::refused_here, crate::proofs::Transfers::refused_later, crate::proofs::Transfers::refused_none))]
+#[tactic(auto, using(crate::proofs::Transfers::words_all))]
 fn refused<B: Bus>(bus: &B, mask: u16, addr: u32, right: Right) -> Option<u32>
     requires { addr % 4 ≡ 0 }
     ensures { result ≡ first_refused (B.refuses bus.now) right (transfers mask addr) }
@@ -71,7 +71,7 @@ fn store_word<B: Bus>(bus: &mut B, addr: u32, value: u32)
 }
 
 /// Loads the registers of a mask from ascending words.
-#[tactic(auto, using(crate::proofs::Transfers::words_set, crate::proofs::Transfers::words_clear, crate::proofs::Transfers::words_all, crate::proofs::Transfers::words_done, crate::proofs::Transfers::allowed_here, crate::proofs::Transfers::allowed_later, crate::proofs::Transfers::loaded_more, crate::proofs::Transfers::loaded_none))]
+#[tactic(auto, using(crate::proofs::Transfers::words_all))]
 fn load_words<B: Bus>(regs: &mut Regs, bus: &B, mask: u16, addr: u32)
     requires aligned { addr % 4 ≡ 0 }
     requires allowed { first_refused (B.refuses bus.now) rights.Read (transfers mask addr) ≡ None }
@@ -87,7 +87,7 @@ fn load_words<B: Bus>(regs: &mut Regs, bus: &B, mask: u16, addr: u32)
 }
 
 /// Stores the registers of a mask to ascending words.
-#[tactic(auto, using(crate::proofs::Transfers::words_set, crate::proofs::Transfers::words_clear, crate::proofs::Transfers::words_all, crate::proofs::Transfers::words_done, crate::proofs::Transfers::allowed_here, crate::proofs::Transfers::allowed_later, crate::proofs::Transfers::stores_more, crate::proofs::Transfers::stores_none))]
+#[tactic(auto, using(crate::proofs::Transfers::words_all))]
 fn store_words<B: Bus>(regs: &Regs, bus: &mut B, mask: u16, addr: u32)
     requires aligned { addr % 4 ≡ 0 }
     requires allowed { first_refused (B.refuses bus.old) rights.Write (transfers mask addr) ≡ None }
