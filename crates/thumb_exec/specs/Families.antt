@@ -1,8 +1,11 @@
 -- The families of instructions, each of which one function executes.
+use Rattle.std.specs.Prelude.{Bool, true, false}
+use Rattle.thumb_insn.specs.declared.Op.{Op}
+use Rattle.thumb_insn.specs.declared.Op.TheVariants as op
 use Rattle.thumb_insn.specs.declared.Insn.{Insn}
 use Rattle.thumb_insn.specs.declared.Insn.TheVariants.{AddsReg, SubsReg, AddsImm3, SubsImm3, AddsImm8, SubsImm8, CmpImm, CmpHigh, ShiftImm, MovsImm, Data, Change, Mrs, AddHigh, MovHigh, Adr, AddSp, RaiseSp, LowerSp, LdrLiteral, LoadReg, LoadImm, LoadSp, StoreReg, StoreImm, StoreSp, Push, Stm, Bx, Blx, BranchIf, Branch, Bl, Svc, Bkpt, Cpsie, Cpsid, Hint, Fence, Msr}
 
--- sums, differences and comparisons
+-- sums and differences
 abbrev pub IsSum : Insn → Type 0
 IsSum (AddsReg d n m) = Unit {0}
 IsSum (SubsReg d n m) = Unit {0}
@@ -10,8 +13,6 @@ IsSum (AddsImm3 d n i) = Unit {0}
 IsSum (SubsImm3 d n i) = Unit {0}
 IsSum (AddsImm8 d i) = Unit {0}
 IsSum (SubsImm8 d i) = Unit {0}
-IsSum (CmpImm n i) = Unit {0}
-IsSum (CmpHigh n m) = Unit {0}
 IsSum i = ⊥
 
 -- what computes otherwise, of low registers, immediates or flags
@@ -21,6 +22,8 @@ IsData (MovsImm d i) = Unit {0}
 IsData (Data op d m) = Unit {0}
 IsData (Change bytes d m) = Unit {0}
 IsData (Mrs d) = Unit {0}
+IsData (CmpImm n i) = Unit {0}
+IsData (CmpHigh n m) = Unit {0}
 IsData i = ⊥
 
 -- what reads or writes SP, PC or a high register, without flags
@@ -73,3 +76,10 @@ IsSystem (Hint i) = Unit {0}
 IsSystem (Fence barrier i) = Unit {0}
 IsSystem (Msr n) = Unit {0}
 IsSystem i = ⊥
+
+-- of two low registers, flags alone
+abbrev pub is_test : Op → Bool
+is_test op.Tst = true
+is_test op.Cmp = true
+is_test op.Cmn = true
+is_test o = false

@@ -1,10 +1,11 @@
 //! One instruction, row by row of the table, in families that each a function executes.
 ghost use Rattle.std.specs.Prelude.{◌≡◌, ◌<◌, ℕ, Bool, [], true, false};
-ghost use Rattle.thumb_exec.specs.Effect.{Acts, Effects, Next, Refusals, Contents, effect, load_effect, store_effect, store_all, put, advance, shifted};
+ghost use Rattle.thumb_exec.specs.Effect.{Acts, Effects, Next, Refusals, Contents, effect, load_effect, store_effect, store_all, sum_to, put, advance, shifted};
+ghost use Rattle.words_core.specs.Words.{awc};
 ghost use Rattle.thumb_exec.specs.Families.{IsSum, IsData, IsAddress, IsJump, IsSystem, IsLoad, IsStore, IsStoreAll};
 ghost use Rattle.thumb_insn.specs.Range.{InRange, IsCoded};
 
-use crate::arith::{add, advance, compare, data, finish_nz, finish_shift, get, set, subtract};
+use crate::arith::{advance, compare, data, finish_sum, get, set, with_nz, with_nzc};
 use crate::bus::Bus;
 use crate::control::{
     base, branch_to, change, flags_of, flags_word, holds, link, link_to, operand, put_any, target,
@@ -14,7 +15,7 @@ use crate::memory::{load, store};
 use crate::several::{count_of, ldm, mask_of, pop, store_all};
 use kernel_abi::Fault;
 use thumb_insn::{Insn, Load, Reg, Shift, Size};
-use words_core::{asr, lsl, lsr};
+use words_core::{add_with_carry, asr, lsl, lsr};
 
 /// A shift by a number of bits.
 fn shift(by: Shift, x: u32, n: u8, c: bool) -> (u32, bool)
@@ -27,31 +28,21 @@ fn shift(by: Shift, x: u32, n: u8, c: bool) -> (u32, bool)
     }
 }
 
-/// Sums, differences and comparisons.
+/// What a sum adds, with a carry, and where it goes; a difference is a sum with the complement.
 #[tactic(auto, unfolding(crate::specs::Effect::effect))]
-fn sums(cpu: &mut Cpu, insn: Insn)
+fn adding(cpu: &Cpu, insn: Insn) -> (Reg, u32, u32, bool)
     requires family { IsSum insn }
     requires range { InRange insn }
-    ensures { (refuses : Refusals) (holds : Contents) → effect refuses holds cpu.old insn ≡ Next cpu.new [] }
+    ensures effect { (refuses : Refusals) (holds : Contents) → effect refuses holds cpu.now insn ≡ sum_to cpu.now result.0 (awc result.1 result.2 result.3) }
+    ensures register { result.0.number < 16 }
 {
     match insn {
-        Insn::AddsReg { d, n, m } => {
-            let y = get(cpu, m);
-            add(cpu, d, n, y);
-        }
-        Insn::SubsReg { d, n, m } => {
-            let y = get(cpu, m);
-            subtract(cpu, d, n, y);
-        }
-        Insn::AddsImm3 { d, n, value } => add(cpu, d, n, value),
-        Insn::SubsImm3 { d, n, value } => subtract(cpu, d, n, value),
-        Insn::AddsImm8 { d, value } => add(cpu, d, d, value),
-        Insn::SubsImm8 { d, value } => subtract(cpu, d, d, value),
-        Insn::CmpImm { n, value } => compare(cpu, n, value),
-        Insn::CmpHigh { n, m } => {
-            let y = get(cpu, m);
-            compare(cpu, n, y);
-        }
+        Insn::AddsReg { d, n, m } => (d, get(cpu, n), get(cpu, m), false),
+        Insn::SubsReg { d, n, m } => (d, get(cpu, n), !get(cpu, m), true),
+        Insn::AddsImm3 { d, n, value } => (d, get(cpu, n), value, false),
+        Insn::SubsImm3 { d, n, value } => (d, get(cpu, n), !value, true),
+        Insn::AddsImm8 { d, value } => (d, get(cpu, d), value, false),
+        Insn::SubsImm8 { d, value } => (d, get(cpu, d), !value, true),
         _ => unreachable!(),
     }
 }
@@ -71,9 +62,18 @@ fn compute(cpu: &mut Cpu, insn: Insn)
             by,
         } => {
             let shifted = shift(kind, get(cpu, m), by as u8, cpu.flags.c);
-            finish_shift(cpu, d, shifted);
+            let result = with_nzc(cpu.flags, shifted);
+            finish_sum(cpu, d, result);
         }
-        Insn::MovsImm { d, value } => finish_nz(cpu, d, value),
+        Insn::MovsImm { d, value } => {
+            let result = with_nz(cpu.flags, value);
+            finish_sum(cpu, d, result);
+        }
+        Insn::CmpImm { n, value } => compare(cpu, n, value),
+        Insn::CmpHigh { n, m } => {
+            let y = get(cpu, m);
+            compare(cpu, n, y);
+        }
         Insn::Data { op, d, m } => data(cpu, op, d, m),
         Insn::Change { bytes, d, m } => {
             let value = change(bytes, get(cpu, m));
@@ -279,14 +279,16 @@ fn step<B: Bus>(cpu: &mut Cpu, insn: Insn, bus: &mut B) -> Outcome
         | Insn::AddsImm3 { .. }
         | Insn::SubsImm3 { .. }
         | Insn::AddsImm8 { .. }
-        | Insn::SubsImm8 { .. }
-        | Insn::CmpImm { .. }
-        | Insn::CmpHigh { .. } => {
-            sums(cpu, insn);
+        | Insn::SubsImm8 { .. } => {
+            let (d, x, y, carry) = adding(cpu, insn);
+            let sum = add_with_carry(x, y, carry);
+            finish_sum(cpu, d, sum);
             Outcome::Next
         }
         Insn::ShiftImm { .. }
         | Insn::MovsImm { .. }
+        | Insn::CmpImm { .. }
+        | Insn::CmpHigh { .. }
         | Insn::Data { .. }
         | Insn::Change { .. }
         | Insn::Mrs { .. } => {
