@@ -1,5 +1,5 @@
 -- What an instruction that stores nothing makes of a bus.
-use Rattle.std.proofs.Common.{◌≡◌, ℕ, List, [], ◌∷◌, refl}
+use Rattle.std.proofs.Common.{◌≡◌, ℕ, [], ◌∷◌, refl}
 use Rattle.thumb_exec.specs.declared.cpu.Cpu.{Cpu}
 use Rattle.thumb_exec.specs.declared.cpu.Outcome.{Outcome}
 use Rattle.thumb_exec.specs.declared.cpu.Outcome.TheVariants as outcome

@@ -115,7 +115,14 @@ pub fn mask_of(list: u8, more: bool, bit: u16) -> u16
 }
 
 /// Stores the registers of a mask from an address on; then a word goes to a register.
-pub fn store_all<B: Bus>(cpu: &mut Cpu, bus: &mut B, mask: u16, addr: u32, d: Reg, value: u32) -> Outcome
+pub fn store_all<B: Bus>(
+    cpu: &mut Cpu,
+    bus: &mut B,
+    mask: u16,
+    addr: u32,
+    d: Reg,
+    value: u32,
+) -> Outcome
     requires { d.number < 16 }
     ensures { Acts B.stored cpu.old cpu.new bus.old bus.new result (store_all (B.refuses bus.old) cpu.old mask addr (advance 2 (put cpu.old d.number value))) }
 {

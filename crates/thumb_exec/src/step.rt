@@ -62,12 +62,12 @@ fn compute(cpu: &mut Cpu, insn: Insn)
             by,
         } => {
             let shifted = shift(kind, get(cpu, m), by as u8, cpu.flags.c);
-            let result = with_nzc(cpu.flags, shifted);
-            finish_sum(cpu, d, result);
+            let done = with_nzc(cpu.flags, shifted);
+            finish_sum(cpu, d, done);
         }
         Insn::MovsImm { d, value } => {
-            let result = with_nz(cpu.flags, value);
-            finish_sum(cpu, d, result);
+            let done = with_nz(cpu.flags, value);
+            finish_sum(cpu, d, done);
         }
         Insn::CmpImm { n, value } => compare(cpu, n, value),
         Insn::CmpHigh { n, m } => {

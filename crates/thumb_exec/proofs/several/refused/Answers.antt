@@ -6,14 +6,14 @@ use Rattle.thumb_exec.proofs.several.refused.Goals.{then-mask-k-eq1+in_default, 
 pub loop-k-preserved : goal.loop-k-preserved
 loop-k-preserved g c =
     elim c.if-mask-k-eq1.branch [
-    then-mask-k-eq1+in_default w ↦ rw w.at-is record {
-      aligned = aligned_on c.loop-k.at c.loop-k.invariant.aligned;
-      rest = sym (refused_set (g.B.Bus.refuses c.args.bus.now) c.args.right c.args.mask c.loop-k.k c.loop-k.at c.loop-k-test.true w.if-mask-k-eq1.true (sym w.allows.ensures ∙ w.in_default.is)) ∙ c.loop-k.invariant.rest;
-    }
-  | else-mask-k-eq1 w ↦ rw w.at-is record {
-      aligned = c.loop-k.invariant.aligned;
-      rest = sym (refused_clear (g.B.Bus.refuses c.args.bus.now) c.args.right c.args.mask c.loop-k.k c.loop-k.at c.loop-k-test.true w.if-mask-k-eq1.false) ∙ c.loop-k.invariant.rest;
-    }
+      | then-mask-k-eq1+in_default w ↦ rw w.at-is record {
+        aligned = aligned_on c.loop-k.at c.loop-k.invariant.aligned;
+        rest = sym (refused_set (g.B.Bus.refuses c.args.bus.now) c.args.right c.args.mask c.loop-k.k c.loop-k.at c.loop-k-test.true w.if-mask-k-eq1.true (sym w.allows.ensures ∙ w.in_default.is)) ∙ c.loop-k.invariant.rest;
+      }
+      | else-mask-k-eq1 w ↦ rw w.at-is record {
+        aligned = c.loop-k.invariant.aligned;
+        rest = sym (refused_clear (g.B.Bus.refuses c.args.bus.now) c.args.right c.args.mask c.loop-k.k c.loop-k.at c.loop-k-test.true w.if-mask-k-eq1.false) ∙ c.loop-k.invariant.rest;
+      }
     ]
 
 pub returns-in-Some : goal.returns-in-Some
