@@ -2,3 +2,4 @@ pub mod Transfers
 pub mod Agreeing
 pub mod Fields
 pub mod Keeping
+pub mod Acting

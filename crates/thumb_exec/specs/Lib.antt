@@ -1,3 +1,4 @@
 pub mod Effect
 pub mod Keeps
 pub mod Sizes
+pub mod Families

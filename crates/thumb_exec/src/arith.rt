@@ -1,6 +1,7 @@
 //! Instructions that reach no memory.
-ghost use Rattle.std.specs.Prelude.{◌≡◌, ◌<◌, ℕ, Bool, [], true, false};
-ghost use Rattle.thumb_exec.specs.Effect.{Next, advance, put, get, with_flags, nz, nzc, data_effect, sum_to, shift_to, tested, result as result_of};
+ghost use Rattle.std.specs.Prelude.{◌≡◌, ◌<◌, ℕ, Bool, [], true, false, if◌then◌else◌};
+ghost use Rattle.thumb_exec.specs.Effect.{Next, advance, put, get, with_flags, nz, nzc, data_effect, sum_to, tested};
+ghost use Rattle.thumb_exec.specs.Families.{is_test};
 ghost use Rattle.words_core.specs.Words.{awc, complement};
 
 use crate::cpu::{Cpu, Outcome};
@@ -24,6 +25,16 @@ pub fn advance(cpu: &mut Cpu, n: u32)
     cpu.regs.set(15, at.wrapping_add(n));
 }
 
+/// Puts a value into a register and goes on, n bytes further.
+pub fn set(cpu: &mut Cpu, d: Reg, value: u32, n: u32)
+    requires place { d.number < 16 }
+    requires step { n < 8 }
+    ensures { cpu.new ≡ advance n (put cpu.old d.number value) }
+{
+    cpu.regs.set(usize::from(d.number), value);
+    advance(cpu, n);
+}
+
 /// Writes a result and flags, and goes on.
 pub fn finish(cpu: &mut Cpu, d: Reg, value: u32, flags: Flags)
     requires { d.number < 16 }
@@ -45,33 +56,30 @@ fn nz(flags: Flags, value: u32) -> Flags
     }
 }
 
-/// Writes a result with N and Z, and goes on.
-pub fn finish_nz(cpu: &mut Cpu, d: Reg, value: u32)
-    requires { d.number < 16 }
-    ensures { result_of cpu.old d value (nz cpu.old.flags value) ≡ Next cpu.new [] }
+/// A result with N and Z.
+pub fn with_nz(flags: Flags, value: u32) -> (u32, Flags)
+    ensures { result ≡ (value, nz flags value) }
 {
-    let flags = nz(cpu.flags, value);
-    finish(cpu, d, value, flags);
+    (value, nz(flags, value))
 }
 
-/// Writes a sum with its flags, and goes on.
+/// A shifted word with N, Z and C.
+pub fn with_nzc(flags: Flags, shifted: (u32, bool)) -> (u32, Flags)
+    ensures { result ≡ (shifted.0, nzc flags shifted.0 shifted.1) }
+{
+    let flags = Flags {
+        c: shifted.1,
+        ..nz(flags, shifted.0)
+    };
+    (shifted.0, flags)
+}
+
+/// Writes a result with its flags, and goes on.
 pub fn finish_sum(cpu: &mut Cpu, d: Reg, sum: (u32, Flags))
     requires { d.number < 16 }
     ensures { sum_to cpu.old d sum ≡ Next cpu.new [] }
 {
     finish(cpu, d, sum.0, sum.1);
-}
-
-/// Writes a shifted word with N, Z and C, and goes on.
-pub fn finish_shift(cpu: &mut Cpu, d: Reg, shifted: (u32, bool))
-    requires { d.number < 16 }
-    ensures { shift_to cpu.old d shifted ≡ Next cpu.new [] }
-{
-    let flags = Flags {
-        c: shifted.1,
-        ..nz(cpu.flags, shifted.0)
-    };
-    finish(cpu, d, shifted.0, flags);
 }
 
 /// Sets flags alone, and goes on.
@@ -80,26 +88,6 @@ pub fn finish_test(cpu: &mut Cpu, flags: Flags)
 {
     cpu.flags = flags;
     advance(cpu, 2);
-}
-
-/// Adds to a register, with the flags of the sum, and goes on.
-pub fn add(cpu: &mut Cpu, d: Reg, n: Reg, y: u32)
-    requires place { d.number < 16 }
-    requires source { n.number < 16 }
-    ensures { sum_to cpu.old d (awc (get cpu.old n) y false) ≡ Next cpu.new [] }
-{
-    let sum = add_with_carry(get(cpu, n), y, false);
-    finish_sum(cpu, d, sum);
-}
-
-/// Subtracts from a register, with the flags of the sum with the complement, and goes on.
-pub fn subtract(cpu: &mut Cpu, d: Reg, n: Reg, y: u32)
-    requires place { d.number < 16 }
-    requires source { n.number < 16 }
-    ensures { sum_to cpu.old d (awc (get cpu.old n) (complement y) true) ≡ Next cpu.new [] }
-{
-    let sum = add_with_carry(get(cpu, n), !y, true);
-    finish_sum(cpu, d, sum);
 }
 
 /// The flags of a subtraction alone, and goes on.
@@ -111,34 +99,43 @@ pub fn compare(cpu: &mut Cpu, n: Reg, y: u32)
     finish_test(cpu, flags);
 }
 
-/// Computes of two low registers.
+/// What is computed of two low registers, with its flags.
+fn computed(cpu: &Cpu, op: Op, d: Reg, m: Reg) -> (u32, Flags)
+    requires first { d.number < 8 }
+    requires second { m.number < 8 }
+    ensures { data_effect op cpu.now d m ≡ (if is_test op then tested cpu.now result.1 else sum_to cpu.now d result) }
+{
+    let (x, y) = (get(cpu, d), get(cpu, m));
+    let flags = cpu.flags;
+    let by = (y % 256) as u8;
+    match op {
+        Op::Ands | Op::Tst => with_nz(flags, x & y),
+        Op::Eors => with_nz(flags, x ^ y),
+        Op::Lsls => with_nzc(flags, lsl(x, by, flags.c)),
+        Op::Lsrs => with_nzc(flags, lsr(x, by, flags.c)),
+        Op::Asrs => with_nzc(flags, asr(x, by, flags.c)),
+        Op::Adcs => add_with_carry(x, y, flags.c),
+        Op::Sbcs => add_with_carry(x, !y, flags.c),
+        Op::Rors => with_nzc(flags, ror(x, by, flags.c)),
+        Op::Rsbs => add_with_carry(!y, 0, true),
+        Op::Cmp => add_with_carry(x, !y, true),
+        Op::Cmn => add_with_carry(x, y, false),
+        Op::Orrs => with_nz(flags, x | y),
+        Op::Muls => with_nz(flags, x.wrapping_mul(y)),
+        Op::Bics => with_nz(flags, x & !y),
+        Op::Mvns => with_nz(flags, !y),
+    }
+}
+
+/// Computes of two low registers, and goes on.
 pub fn data(cpu: &mut Cpu, op: Op, d: Reg, m: Reg)
     requires first { d.number < 8 }
     requires second { m.number < 8 }
     ensures { data_effect op cpu.old d m ≡ Next cpu.new [] }
 {
-    let (x, y) = (get(cpu, d), get(cpu, m));
-    let c = cpu.flags.c;
-    let by = (y % 256) as u8;
+    let done = computed(cpu, op, d, m);
     match op {
-        Op::Ands => finish_nz(cpu, d, x & y),
-        Op::Eors => finish_nz(cpu, d, x ^ y),
-        Op::Lsls => finish_shift(cpu, d, lsl(x, by, c)),
-        Op::Lsrs => finish_shift(cpu, d, lsr(x, by, c)),
-        Op::Asrs => finish_shift(cpu, d, asr(x, by, c)),
-        Op::Adcs => finish_sum(cpu, d, add_with_carry(x, y, c)),
-        Op::Sbcs => finish_sum(cpu, d, add_with_carry(x, !y, c)),
-        Op::Rors => finish_shift(cpu, d, ror(x, by, c)),
-        Op::Tst => {
-            let flags = nz(cpu.flags, x & y);
-            finish_test(cpu, flags);
-        }
-        Op::Rsbs => finish_sum(cpu, d, add_with_carry(!y, 0, true)),
-        Op::Cmp => finish_test(cpu, add_with_carry(x, !y, true).1),
-        Op::Cmn => finish_test(cpu, add_with_carry(x, y, false).1),
-        Op::Orrs => finish_nz(cpu, d, x | y),
-        Op::Muls => finish_nz(cpu, d, x.wrapping_mul(y)),
-        Op::Bics => finish_nz(cpu, d, x & !y),
-        Op::Mvns => finish_nz(cpu, d, !y),
+        Op::Tst | Op::Cmp | Op::Cmn => finish_test(cpu, done.1),
+        _ => finish_sum(cpu, d, done),
     }
 }

@@ -1,11 +1,12 @@
 //! Loads and stores of several words, all or nothing: each word is tested before the first moves.
 //! A mask has bit k for register k.
-ghost use Rattle.std.specs.Prelude.{◌≡◌, ◌<◌, ◌≤◌, ◌%◌, ℕ, Bool, [], true, false, None};
+ghost use Rattle.std.specs.Prelude.{◌≡◌, ◌<◌, ◌≤◌, ◌+◌, ◌%◌, ℕ, Bool, [], true, false, if◌then◌else◌, None};
 ghost use Rattle.region_check.specs.declared.Right.{Right as Rights};
 ghost use Rattle.region_check.specs.declared.Right.TheVariants as rights;
-ghost use Rattle.thumb_exec.specs.Effect.{Acts, Stores, transfers, first_refused, stores_of, loaded_all, count, push_effect, stm_effect, ldm_effect, pop_effect};
+ghost use Rattle.thumb_exec.specs.Effect.{Acts, Stores, transfers, first_refused, stores_of, loaded_all, count, store_all, effect, advance, put};
+ghost use Rattle.thumb_insn.specs.declared.Insn.TheVariants as insns;
 
-use crate::arith::{advance, get};
+use crate::arith::{advance, get, set};
 use crate::bus::Bus;
 use crate::cpu::{Cpu, Outcome};
 use kernel_abi::{Access, Fault};
@@ -15,7 +16,7 @@ use words_core::Regs;
 
 /// How many registers a mask has.
 #[tactic(auto, using(crate::proofs::Transfers::ones_none, crate::proofs::Transfers::ones_more, crate::proofs::Transfers::ones_all))]
-fn count_of(mask: u16) -> u32
+pub fn count_of(mask: u16) -> u32
     ensures value { result ≡ count mask }
     ensures low { result ≤ 16 }
 {
@@ -27,7 +28,7 @@ fn count_of(mask: u16) -> u32
 }
 
 /// The first byte that lacks the right, in the order of transfer.
-#[tactic(auto, using(crate::proofs::Transfers::words_set, crate::proofs::Transfers::words_clear, crate::proofs::Transfers::words_all, crate::proofs::Transfers::words_done, crate::proofs::Transfers::refused_here, crate::proofs::Transfers::refused_later, crate::proofs::Transfers::refused_none))]
+#[tactic(auto, using(crate::proofs::Transfers::words_all))]
 fn refused<B: Bus>(bus: &B, mask: u16, addr: u32, right: Right) -> Option<u32>
     requires { addr % 4 ≡ 0 }
     ensures { result ≡ first_refused (B.refuses bus.now) right (transfers mask addr) }
@@ -70,7 +71,7 @@ fn store_word<B: Bus>(bus: &mut B, addr: u32, value: u32)
 }
 
 /// Loads the registers of a mask from ascending words.
-#[tactic(auto, using(crate::proofs::Transfers::words_set, crate::proofs::Transfers::words_clear, crate::proofs::Transfers::words_all, crate::proofs::Transfers::words_done, crate::proofs::Transfers::allowed_here, crate::proofs::Transfers::allowed_later, crate::proofs::Transfers::loaded_more, crate::proofs::Transfers::loaded_none))]
+#[tactic(auto, using(crate::proofs::Transfers::words_all))]
 fn load_words<B: Bus>(regs: &mut Regs, bus: &B, mask: u16, addr: u32)
     requires aligned { addr % 4 ≡ 0 }
     requires allowed { first_refused (B.refuses bus.now) rights.Read (transfers mask addr) ≡ None }
@@ -86,7 +87,7 @@ fn load_words<B: Bus>(regs: &mut Regs, bus: &B, mask: u16, addr: u32)
 }
 
 /// Stores the registers of a mask to ascending words.
-#[tactic(auto, using(crate::proofs::Transfers::words_set, crate::proofs::Transfers::words_clear, crate::proofs::Transfers::words_all, crate::proofs::Transfers::words_done, crate::proofs::Transfers::allowed_here, crate::proofs::Transfers::allowed_later, crate::proofs::Transfers::stores_more, crate::proofs::Transfers::stores_none))]
+#[tactic(auto, using(crate::proofs::Transfers::words_all))]
 fn store_words<B: Bus>(regs: &Regs, bus: &mut B, mask: u16, addr: u32)
     requires aligned { addr % 4 ≡ 0 }
     requires allowed { first_refused (B.refuses bus.old) rights.Write (transfers mask addr) ≡ None }
@@ -101,29 +102,30 @@ fn store_words<B: Bus>(regs: &Regs, bus: &mut B, mask: u16, addr: u32)
     }
 }
 
-/// Stores the registers of a mask below SP, and lowers it.
-pub fn push<B: Bus>(cpu: &mut Cpu, bus: &mut B, mask: u16) -> Outcome
-    ensures { Acts B.stored cpu.old cpu.new bus.old bus.new result (push_effect (B.refuses bus.old) cpu.old mask) }
+/// The mask of a list of low registers and, by its bit, one more.
+pub fn mask_of(list: u8, more: bool, bit: u16) -> u16
+    requires { bit ≤ 0x8000 }
+    ensures { result ≡ (if more then list + bit else list) }
 {
-    let addr = cpu.regs.get(13).wrapping_sub(4 * count_of(mask));
-    if addr % 4 != 0 {
-        return Outcome::Trap(Fault::unaligned(addr, true));
+    if more {
+        u16::from(list) + bit
+    } else {
+        u16::from(list)
     }
-    if let Some(at) = refused(bus, mask, addr, Right::Write) {
-        return Outcome::Trap(Fault::access(at, Access::Store));
-    }
-    store_words(&cpu.regs, bus, mask, addr);
-    cpu.regs.set(13, addr);
-    advance(cpu, 2);
-    Outcome::Next
 }
 
-/// Stores the registers of a mask from a register on, and raises it.
-pub fn stm<B: Bus>(cpu: &mut Cpu, bus: &mut B, n: Reg, mask: u16) -> Outcome
-    requires { n.number < 16 }
-    ensures { Acts B.stored cpu.old cpu.new bus.old bus.new result (stm_effect (B.refuses bus.old) cpu.old n mask) }
+/// Stores the registers of a mask from an address on; then a word goes to a register.
+pub fn store_all<B: Bus>(
+    cpu: &mut Cpu,
+    bus: &mut B,
+    mask: u16,
+    addr: u32,
+    d: Reg,
+    value: u32,
+) -> Outcome
+    requires { d.number < 16 }
+    ensures { Acts B.stored cpu.old cpu.new bus.old bus.new result (store_all (B.refuses bus.old) cpu.old mask addr (advance 2 (put cpu.old d.number value))) }
 {
-    let addr = get(cpu, n);
     if addr % 4 != 0 {
         return Outcome::Trap(Fault::unaligned(addr, true));
     }
@@ -131,16 +133,17 @@ pub fn stm<B: Bus>(cpu: &mut Cpu, bus: &mut B, n: Reg, mask: u16) -> Outcome
         return Outcome::Trap(Fault::access(at, Access::Store));
     }
     store_words(&cpu.regs, bus, mask, addr);
-    cpu.regs.set(usize::from(n.number), addr.wrapping_add(4 * count_of(mask)));
-    advance(cpu, 2);
+    set(cpu, d, value, 2);
     Outcome::Next
 }
 
 /// Loads the registers of a mask from a register on, and raises it unless it is loaded.
-pub fn ldm<B: Bus>(cpu: &mut Cpu, bus: &mut B, n: Reg, mask: u16) -> Outcome
+#[tactic(auto, unfolding(crate::specs::Effect::effect))]
+pub fn ldm<B: Bus>(cpu: &mut Cpu, bus: &mut B, n: Reg, list: u8) -> Outcome
     requires { n.number < 8 }
-    ensures { Acts B.stored cpu.old cpu.new bus.old bus.new result (ldm_effect (B.refuses bus.old) (B.holds bus.old) cpu.old n mask) }
+    ensures { Acts B.stored cpu.old cpu.new bus.old bus.new result (effect (B.refuses bus.old) (B.holds bus.old) cpu.old (insns.Ldm n list)) }
 {
+    let mask = u16::from(list);
     let addr = get(cpu, n);
     if addr % 4 != 0 {
         return Outcome::Trap(Fault::unaligned(addr, false));
@@ -157,9 +160,11 @@ pub fn ldm<B: Bus>(cpu: &mut Cpu, bus: &mut B, n: Reg, mask: u16) -> Outcome
 }
 
 /// Loads the registers of a mask from SP on, and raises it; PC last, as a branch.
-pub fn pop<B: Bus>(cpu: &mut Cpu, bus: &mut B, mask: u16, has_pc: bool) -> Outcome
-    ensures { Acts B.stored cpu.old cpu.new bus.old bus.new result (pop_effect (B.refuses bus.old) (B.holds bus.old) cpu.old mask has_pc) }
+#[tactic(auto, unfolding(crate::specs::Effect::effect))]
+pub fn pop<B: Bus>(cpu: &mut Cpu, bus: &mut B, list: u8, has_pc: bool) -> Outcome
+    ensures { Acts B.stored cpu.old cpu.new bus.old bus.new result (effect (B.refuses bus.old) (B.holds bus.old) cpu.old (insns.Pop list has_pc)) }
 {
+    let mask = mask_of(list, has_pc, 0x8000);
     let addr = cpu.regs.get(13);
     if addr % 4 != 0 {
         return Outcome::Trap(Fault::unaligned(addr, false));

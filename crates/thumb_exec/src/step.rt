@@ -1,19 +1,21 @@
-//! One instruction, row by row of the table.
+//! One instruction, row by row of the table, in families that each a function executes.
 ghost use Rattle.std.specs.Prelude.{◌≡◌, ◌<◌, ℕ, Bool, [], true, false};
-ghost use Rattle.thumb_exec.specs.Effect.{Acts, effect, put, advance, shifted};
+ghost use Rattle.thumb_exec.specs.Effect.{Acts, Effects, Next, Refusals, Contents, effect, load_effect, store_effect, store_all, sum_to, put, advance, shifted};
+ghost use Rattle.words_core.specs.Words.{awc};
+ghost use Rattle.thumb_exec.specs.Families.{IsSum, IsData, IsAddress, IsJump, IsSystem, IsLoad, IsStore, IsStoreAll};
 ghost use Rattle.thumb_insn.specs.Range.{InRange, IsCoded};
 
-use crate::arith::{add, advance, compare, data, finish_nz, finish_shift, get, subtract};
+use crate::arith::{advance, compare, data, finish_sum, get, set, with_nz, with_nzc};
 use crate::bus::Bus;
 use crate::control::{
     base, branch_to, change, flags_of, flags_word, holds, link, link_to, operand, put_any, target,
 };
 use crate::cpu::{Cpu, Outcome};
 use crate::memory::{load, store};
-use crate::several::{ldm, pop, push, stm};
+use crate::several::{count_of, ldm, mask_of, pop, store_all};
 use kernel_abi::Fault;
-use thumb_insn::{Insn, Load, Shift, Size};
-use words_core::{asr, lsl, lsr};
+use thumb_insn::{Insn, Load, Reg, Shift, Size};
+use words_core::{add_with_carry, asr, lsl, lsr};
 
 /// A shift by a number of bits.
 fn shift(by: Shift, x: u32, n: u8, c: bool) -> (u32, bool)
@@ -26,23 +28,33 @@ fn shift(by: Shift, x: u32, n: u8, c: bool) -> (u32, bool)
     }
 }
 
-/// Puts a value into a register and goes on, n bytes further.
-fn set(cpu: &mut Cpu, d: usize, value: u32, n: u32)
-    requires place { d < 16 }
-    requires step { n < 8 }
-    ensures { cpu.new ≡ advance n (put cpu.old d value) }
+/// What a sum adds, with a carry, and where it goes; a difference is a sum with the complement.
+#[tactic(auto, unfolding(crate::specs::Effect::effect))]
+fn adding(cpu: &Cpu, insn: Insn) -> (Reg, u32, u32, bool)
+    requires family { IsSum insn }
+    requires range { InRange insn }
+    ensures effect { (refuses : Refusals) (holds : Contents) → effect refuses holds cpu.now insn ≡ sum_to cpu.now result.0 (awc result.1 result.2 result.3) }
+    ensures register { result.0.number < 16 }
 {
-    cpu.regs.set(d, value);
-    advance(cpu, n);
+    match insn {
+        Insn::AddsReg { d, n, m } => (d, get(cpu, n), get(cpu, m), false),
+        Insn::SubsReg { d, n, m } => (d, get(cpu, n), !get(cpu, m), true),
+        Insn::AddsImm3 { d, n, value } => (d, get(cpu, n), value, false),
+        Insn::SubsImm3 { d, n, value } => (d, get(cpu, n), !value, true),
+        Insn::AddsImm8 { d, value } => (d, get(cpu, d), value, false),
+        Insn::SubsImm8 { d, value } => (d, get(cpu, d), !value, true),
+        _ => unreachable!(),
+    }
 }
 
-/// Executes an instruction whose fields are in range.
+/// What computes otherwise, of low registers, immediates or flags.
 #[tactic(auto, unfolding(crate::specs::Effect::effect))]
-fn step<B: Bus>(cpu: &mut Cpu, insn: &Insn, bus: &mut B) -> Outcome
-    requires { InRange insn.now }
-    ensures { Acts B.stored cpu.old cpu.new bus.old bus.new result (effect (B.refuses bus.old) (B.holds bus.old) cpu.old insn.now) }
+fn compute(cpu: &mut Cpu, insn: Insn)
+    requires family { IsData insn }
+    requires range { InRange insn }
+    ensures { (refuses : Refusals) (holds : Contents) → effect refuses holds cpu.old insn ≡ Next cpu.new [] }
 {
-    match *insn {
+    match insn {
         Insn::ShiftImm {
             shift: kind,
             d,
@@ -50,62 +62,75 @@ fn step<B: Bus>(cpu: &mut Cpu, insn: &Insn, bus: &mut B) -> Outcome
             by,
         } => {
             let shifted = shift(kind, get(cpu, m), by as u8, cpu.flags.c);
-            finish_shift(cpu, d, shifted);
-            Outcome::Next
-        }
-        Insn::AddsReg { d, n, m } => {
-            let y = get(cpu, m);
-            add(cpu, d, n, y);
-            Outcome::Next
-        }
-        Insn::SubsReg { d, n, m } => {
-            let y = get(cpu, m);
-            subtract(cpu, d, n, y);
-            Outcome::Next
-        }
-        Insn::AddsImm3 { d, n, value } => {
-            add(cpu, d, n, value);
-            Outcome::Next
-        }
-        Insn::SubsImm3 { d, n, value } => {
-            subtract(cpu, d, n, value);
-            Outcome::Next
+            let done = with_nzc(cpu.flags, shifted);
+            finish_sum(cpu, d, done);
         }
         Insn::MovsImm { d, value } => {
-            finish_nz(cpu, d, value);
-            Outcome::Next
+            let done = with_nz(cpu.flags, value);
+            finish_sum(cpu, d, done);
         }
-        Insn::CmpImm { n, value } => {
-            compare(cpu, n, value);
-            Outcome::Next
-        }
-        Insn::AddsImm8 { d, value } => {
-            add(cpu, d, d, value);
-            Outcome::Next
-        }
-        Insn::SubsImm8 { d, value } => {
-            subtract(cpu, d, d, value);
-            Outcome::Next
-        }
-        Insn::Data { op, d, m } => {
-            data(cpu, op, d, m);
-            Outcome::Next
-        }
-        Insn::AddHigh { d, m } => {
-            let sum = operand(cpu, d).wrapping_add(operand(cpu, m));
-            put_any(cpu, d, sum);
-            Outcome::Next
-        }
+        Insn::CmpImm { n, value } => compare(cpu, n, value),
         Insn::CmpHigh { n, m } => {
             let y = get(cpu, m);
             compare(cpu, n, y);
-            Outcome::Next
+        }
+        Insn::Data { op, d, m } => data(cpu, op, d, m),
+        Insn::Change { bytes, d, m } => {
+            let value = change(bytes, get(cpu, m));
+            set(cpu, d, value, 2);
+        }
+        Insn::Mrs { d } => {
+            let value = flags_word(cpu.flags);
+            set(cpu, d, value, 4);
+        }
+        _ => unreachable!(),
+    }
+}
+
+/// What reads or writes SP, PC or a high register, without flags.
+#[tactic(auto, unfolding(crate::specs::Effect::effect))]
+fn place(cpu: &mut Cpu, insn: Insn)
+    requires family { IsAddress insn }
+    requires range { InRange insn }
+    ensures { (refuses : Refusals) (holds : Contents) → effect refuses holds cpu.old insn ≡ Next cpu.new [] }
+{
+    match insn {
+        Insn::AddHigh { d, m } => {
+            let sum = operand(cpu, d).wrapping_add(operand(cpu, m));
+            put_any(cpu, d, sum);
         }
         Insn::MovHigh { d, m } => {
             let value = operand(cpu, m);
             put_any(cpu, d, value);
-            Outcome::Next
         }
+        Insn::Adr { d, offset } => {
+            let value = base(cpu).wrapping_add(offset);
+            set(cpu, d, value, 2);
+        }
+        Insn::AddSp { d, offset } => {
+            let value = cpu.regs.get(13).wrapping_add(offset);
+            set(cpu, d, value, 2);
+        }
+        Insn::RaiseSp { offset } => {
+            let value = cpu.regs.get(13).wrapping_add(offset);
+            set(cpu, Reg { number: 13 }, value, 2);
+        }
+        Insn::LowerSp { offset } => {
+            let value = cpu.regs.get(13).wrapping_sub(offset);
+            set(cpu, Reg { number: 13 }, value, 2);
+        }
+        _ => unreachable!(),
+    }
+}
+
+/// Branches.
+#[tactic(auto, unfolding(crate::specs::Effect::effect))]
+fn jump(cpu: &mut Cpu, insn: Insn) -> Outcome
+    requires family { IsJump insn }
+    requires range { InRange insn }
+    ensures { (refuses : Refusals) (holds : Contents) → Effects cpu.old cpu.new result (effect refuses holds cpu.old insn) }
+{
+    match insn {
         Insn::Bx { m } => {
             let value = get(cpu, m);
             branch_to(cpu, value)
@@ -114,87 +139,6 @@ fn step<B: Bus>(cpu: &mut Cpu, insn: &Insn, bus: &mut B) -> Outcome
             let value = get(cpu, m);
             link_to(cpu, value)
         }
-        Insn::LdrLiteral { t, offset } => {
-            let addr = base(cpu).wrapping_add(offset);
-            load(cpu, bus, Load::Whole(Size::Word), t, addr)
-        }
-        Insn::StoreReg { size, t, n, m } => {
-            let addr = get(cpu, n).wrapping_add(get(cpu, m));
-            store(cpu, bus, size, t, addr)
-        }
-        Insn::LoadReg {
-            load: kind,
-            t,
-            n,
-            m,
-        } => {
-            let addr = get(cpu, n).wrapping_add(get(cpu, m));
-            load(cpu, bus, kind, t, addr)
-        }
-        Insn::StoreImm { size, t, n, offset } => {
-            let addr = get(cpu, n).wrapping_add(offset);
-            store(cpu, bus, size, t, addr)
-        }
-        Insn::LoadImm { size, t, n, offset } => {
-            let addr = get(cpu, n).wrapping_add(offset);
-            load(cpu, bus, Load::Whole(size), t, addr)
-        }
-        Insn::StoreSp { t, offset } => {
-            let addr = cpu.regs.get(13).wrapping_add(offset);
-            store(cpu, bus, Size::Word, t, addr)
-        }
-        Insn::LoadSp { t, offset } => {
-            let addr = cpu.regs.get(13).wrapping_add(offset);
-            load(cpu, bus, Load::Whole(Size::Word), t, addr)
-        }
-        Insn::Adr { d, offset } => {
-            let value = base(cpu).wrapping_add(offset);
-            set(cpu, usize::from(d.number), value, 2);
-            Outcome::Next
-        }
-        Insn::AddSp { d, offset } => {
-            let value = cpu.regs.get(13).wrapping_add(offset);
-            set(cpu, usize::from(d.number), value, 2);
-            Outcome::Next
-        }
-        Insn::RaiseSp { offset } => {
-            let value = cpu.regs.get(13).wrapping_add(offset);
-            set(cpu, 13, value, 2);
-            Outcome::Next
-        }
-        Insn::LowerSp { offset } => {
-            let value = cpu.regs.get(13).wrapping_sub(offset);
-            set(cpu, 13, value, 2);
-            Outcome::Next
-        }
-        Insn::Change { bytes, d, m } => {
-            let value = change(bytes, get(cpu, m));
-            set(cpu, usize::from(d.number), value, 2);
-            Outcome::Next
-        }
-        Insn::Push { list, lr } => {
-            let mask = if lr {
-                u16::from(list) + 0x4000
-            } else {
-                u16::from(list)
-            };
-            push(cpu, bus, mask)
-        }
-        Insn::Pop { list, pc } => {
-            let mask = if pc {
-                u16::from(list) + 0x8000
-            } else {
-                u16::from(list)
-            };
-            pop(cpu, bus, mask, pc)
-        }
-        Insn::Cpsie | Insn::Cpsid | Insn::Hint { .. } => {
-            advance(cpu, 2);
-            Outcome::Next
-        }
-        Insn::Bkpt { value } => Outcome::Trap(Fault::breakpoint(value)),
-        Insn::Stm { n, list } => stm(cpu, bus, n, u16::from(list)),
-        Insn::Ldm { n, list } => ldm(cpu, bus, n, u16::from(list)),
         Insn::BranchIf { cond, offset } => {
             if holds(cond, cpu.flags) {
                 let to = target(cpu, offset);
@@ -204,7 +148,6 @@ fn step<B: Bus>(cpu: &mut Cpu, insn: &Insn, bus: &mut B) -> Outcome
             }
             Outcome::Next
         }
-        Insn::Svc { .. } => Outcome::Call,
         Insn::Branch { offset } => {
             let to = target(cpu, offset);
             cpu.regs.set(15, to);
@@ -216,13 +159,26 @@ fn step<B: Bus>(cpu: &mut Cpu, insn: &Insn, bus: &mut B) -> Outcome
             cpu.regs.set(15, to);
             Outcome::Next
         }
-        Insn::Fence { .. } => {
-            advance(cpu, 4);
+        _ => unreachable!(),
+    }
+}
+
+/// Calls, hints, barriers and the flags' status.
+#[tactic(auto, unfolding(crate::specs::Effect::effect))]
+fn system(cpu: &mut Cpu, insn: Insn) -> Outcome
+    requires family { IsSystem insn }
+    requires range { InRange insn }
+    ensures { (refuses : Refusals) (holds : Contents) → Effects cpu.old cpu.new result (effect refuses holds cpu.old insn) }
+{
+    match insn {
+        Insn::Svc { .. } => Outcome::Call,
+        Insn::Bkpt { value } => Outcome::Trap(Fault::breakpoint(value)),
+        Insn::Cpsie | Insn::Cpsid | Insn::Hint { .. } => {
+            advance(cpu, 2);
             Outcome::Next
         }
-        Insn::Mrs { d } => {
-            let value = flags_word(cpu.flags);
-            set(cpu, usize::from(d.number), value, 4);
+        Insn::Fence { .. } => {
+            advance(cpu, 4);
             Outcome::Next
         }
         Insn::Msr { n } => {
@@ -230,6 +186,153 @@ fn step<B: Bus>(cpu: &mut Cpu, insn: &Insn, bus: &mut B) -> Outcome
             advance(cpu, 4);
             Outcome::Next
         }
+        _ => unreachable!(),
+    }
+}
+
+/// How a load of one unit loads, to which register and from where.
+#[tactic(auto, unfolding(crate::specs::Effect::effect))]
+fn loading(cpu: &Cpu, insn: Insn) -> (Load, Reg, u32)
+    requires family { IsLoad insn }
+    requires range { InRange insn }
+    ensures effect { (refuses : Refusals) (holds : Contents) → effect refuses holds cpu.now insn ≡ load_effect refuses holds cpu.now result.0 result.1 result.2 }
+    ensures register { result.1.number < 16 }
+{
+    match insn {
+        Insn::LdrLiteral { t, offset } => {
+            let addr = base(cpu).wrapping_add(offset);
+            (Load::Whole(Size::Word), t, addr)
+        }
+        Insn::LoadReg { load, t, n, m } => {
+            let addr = get(cpu, n).wrapping_add(get(cpu, m));
+            (load, t, addr)
+        }
+        Insn::LoadImm { size, t, n, offset } => {
+            let addr = get(cpu, n).wrapping_add(offset);
+            (Load::Whole(size), t, addr)
+        }
+        Insn::LoadSp { t, offset } => {
+            let addr = cpu.regs.get(13).wrapping_add(offset);
+            (Load::Whole(Size::Word), t, addr)
+        }
+        _ => unreachable!(),
+    }
+}
+
+/// How much a store of one unit stores, of which register and where.
+#[tactic(auto, unfolding(crate::specs::Effect::effect))]
+fn storing(cpu: &Cpu, insn: Insn) -> (Size, Reg, u32)
+    requires family { IsStore insn }
+    requires range { InRange insn }
+    ensures effect { (refuses : Refusals) (holds : Contents) → effect refuses holds cpu.now insn ≡ store_effect refuses cpu.now result.0 result.1 result.2 }
+    ensures register { result.1.number < 16 }
+{
+    match insn {
+        Insn::StoreReg { size, t, n, m } => {
+            let addr = get(cpu, n).wrapping_add(get(cpu, m));
+            (size, t, addr)
+        }
+        Insn::StoreImm { size, t, n, offset } => {
+            let addr = get(cpu, n).wrapping_add(offset);
+            (size, t, addr)
+        }
+        Insn::StoreSp { t, offset } => {
+            let addr = cpu.regs.get(13).wrapping_add(offset);
+            (Size::Word, t, addr)
+        }
+        _ => unreachable!(),
+    }
+}
+
+/// Which registers a store of several words stores and where, and which register then has which word.
+#[tactic(auto, unfolding(crate::specs::Effect::effect))]
+fn storing_all(cpu: &Cpu, insn: Insn) -> (u16, u32, Reg, u32)
+    requires family { IsStoreAll insn }
+    requires range { InRange insn }
+    ensures effect { (refuses : Refusals) (holds : Contents) → effect refuses holds cpu.now insn ≡ store_all refuses cpu.now result.0 result.1 (advance 2 (put cpu.now result.2.number result.3)) }
+    ensures register { result.2.number < 16 }
+{
+    match insn {
+        Insn::Push { list, lr } => {
+            let mask = mask_of(list, lr, 0x4000);
+            let addr = cpu.regs.get(13).wrapping_sub(4 * count_of(mask));
+            (mask, addr, Reg { number: 13 }, addr)
+        }
+        Insn::Stm { n, list } => {
+            let mask = u16::from(list);
+            let addr = get(cpu, n);
+            (mask, addr, n, addr.wrapping_add(4 * count_of(mask)))
+        }
+        _ => unreachable!(),
+    }
+}
+
+/// Executes an instruction whose fields are in range.
+#[tactic(auto, using(crate::proofs::Acting::acts_next, crate::proofs::Acting::acts_of))]
+fn step<B: Bus>(cpu: &mut Cpu, insn: Insn, bus: &mut B) -> Outcome
+    requires { InRange insn }
+    ensures { Acts B.stored cpu.old cpu.new bus.old bus.new result (effect (B.refuses bus.old) (B.holds bus.old) cpu.old insn) }
+{
+    match insn {
+        Insn::AddsReg { .. }
+        | Insn::SubsReg { .. }
+        | Insn::AddsImm3 { .. }
+        | Insn::SubsImm3 { .. }
+        | Insn::AddsImm8 { .. }
+        | Insn::SubsImm8 { .. } => {
+            let (d, x, y, carry) = adding(cpu, insn);
+            let sum = add_with_carry(x, y, carry);
+            finish_sum(cpu, d, sum);
+            Outcome::Next
+        }
+        Insn::ShiftImm { .. }
+        | Insn::MovsImm { .. }
+        | Insn::CmpImm { .. }
+        | Insn::CmpHigh { .. }
+        | Insn::Data { .. }
+        | Insn::Change { .. }
+        | Insn::Mrs { .. } => {
+            compute(cpu, insn);
+            Outcome::Next
+        }
+        Insn::AddHigh { .. }
+        | Insn::MovHigh { .. }
+        | Insn::Adr { .. }
+        | Insn::AddSp { .. }
+        | Insn::RaiseSp { .. }
+        | Insn::LowerSp { .. } => {
+            place(cpu, insn);
+            Outcome::Next
+        }
+        Insn::LdrLiteral { .. }
+        | Insn::LoadReg { .. }
+        | Insn::LoadImm { .. }
+        | Insn::LoadSp { .. } => {
+            let (kind, t, addr) = loading(cpu, insn);
+            load(cpu, bus, kind, t, addr)
+        }
+        Insn::StoreReg { .. } | Insn::StoreImm { .. } | Insn::StoreSp { .. } => {
+            let (size, t, addr) = storing(cpu, insn);
+            store(cpu, bus, size, t, addr)
+        }
+        Insn::Push { .. } | Insn::Stm { .. } => {
+            let (mask, addr, d, value) = storing_all(cpu, insn);
+            store_all(cpu, bus, mask, addr, d, value)
+        }
+        Insn::Ldm { n, list } => ldm(cpu, bus, n, list),
+        Insn::Pop { list, pc } => pop(cpu, bus, list, pc),
+        Insn::Bx { .. }
+        | Insn::Blx { .. }
+        | Insn::BranchIf { .. }
+        | Insn::Branch { .. }
+        | Insn::Bl { .. } => jump(cpu, insn),
+        Insn::Svc { .. }
+        | Insn::Bkpt { .. }
+        | Insn::Cpsie
+        | Insn::Cpsid
+        | Insn::Hint { .. }
+        | Insn::Fence { .. }
+        | Insn::Msr { .. } => system(cpu, insn),
     }
 }
 
@@ -244,5 +347,5 @@ pub fn exec<B: Bus>(cpu: &mut Cpu, insn: &Insn, bus: &mut B) -> Outcome
     requires { IsCoded insn.now }
     ensures { Acts B.stored cpu.old cpu.new bus.old bus.new result (effect (B.refuses bus.old) (B.holds bus.old) cpu.old insn.now) }
 {
-    step(cpu, insn, bus)
+    step(cpu, *insn, bus)
 }

@@ -1,0 +1,23 @@
+use Rattle.std.proofs.Common.{◌∙◌, sym}
+use Rattle.thumb_exec.proofs.Transfers.{aligned_on, refused_now, refused_set, refused_clear, refused_done}
+use Rattle.thumb_exec.proofs.several.refused.Goals as goal
+use Rattle.thumb_exec.proofs.several.refused.Goals.{then-mask-k-eq1+in_default, else-mask-k-eq1}
+
+pub loop-k-preserved : goal.loop-k-preserved
+loop-k-preserved g c =
+    elim c.if-mask-k-eq1.branch [
+      | then-mask-k-eq1+in_default w ↦ rw w.at-is record {
+        aligned = aligned_on c.loop-k.at c.loop-k.invariant.aligned;
+        rest = sym (refused_set (g.B.Bus.refuses c.args.bus.now) c.args.right c.args.mask c.loop-k.k c.loop-k.at c.loop-k-test.true w.if-mask-k-eq1.true (sym w.allows.ensures ∙ w.in_default.is)) ∙ c.loop-k.invariant.rest;
+      }
+      | else-mask-k-eq1 w ↦ rw w.at-is record {
+        aligned = c.loop-k.invariant.aligned;
+        rest = sym (refused_clear (g.B.Bus.refuses c.args.bus.now) c.args.right c.args.mask c.loop-k.k c.loop-k.at c.loop-k-test.true w.if-mask-k-eq1.false) ∙ c.loop-k.invariant.rest;
+      }
+    ]
+
+pub returns-in-Some : goal.returns-in-Some
+returns-in-Some g c = sym (refused_now (g.B.Bus.refuses c.args.bus.now) c.args.right c.args.mask c.loop-k.k c.loop-k.at c.in-Some.byte c.loop-k-test.true c.if-mask-k-eq1.true (sym c.allows.ensures ∙ c.in-Some.is)) ∙ c.loop-k.invariant.rest
+
+pub returns : goal.returns
+returns g c = sym (refused_done (g.B.Bus.refuses c.args.bus.now) c.args.right c.args.mask c.loop-k.k c.loop-k.at c.loop-k-test.false) ∙ c.loop-k.invariant.rest

@@ -1,0 +1,85 @@
+-- The families of instructions, each of which one function executes.
+use Rattle.std.specs.Prelude.{Bool, true, false}
+use Rattle.thumb_insn.specs.declared.Op.{Op}
+use Rattle.thumb_insn.specs.declared.Op.TheVariants as op
+use Rattle.thumb_insn.specs.declared.Insn.{Insn}
+use Rattle.thumb_insn.specs.declared.Insn.TheVariants.{AddsReg, SubsReg, AddsImm3, SubsImm3, AddsImm8, SubsImm8, CmpImm, CmpHigh, ShiftImm, MovsImm, Data, Change, Mrs, AddHigh, MovHigh, Adr, AddSp, RaiseSp, LowerSp, LdrLiteral, LoadReg, LoadImm, LoadSp, StoreReg, StoreImm, StoreSp, Push, Stm, Bx, Blx, BranchIf, Branch, Bl, Svc, Bkpt, Cpsie, Cpsid, Hint, Fence, Msr}
+
+-- sums and differences
+abbrev pub IsSum : Insn → Type 0
+IsSum (AddsReg d n m) = Unit {0}
+IsSum (SubsReg d n m) = Unit {0}
+IsSum (AddsImm3 d n i) = Unit {0}
+IsSum (SubsImm3 d n i) = Unit {0}
+IsSum (AddsImm8 d i) = Unit {0}
+IsSum (SubsImm8 d i) = Unit {0}
+IsSum i = ⊥
+
+-- what computes otherwise, of low registers, immediates or flags
+abbrev pub IsData : Insn → Type 0
+IsData (ShiftImm shift d m by) = Unit {0}
+IsData (MovsImm d i) = Unit {0}
+IsData (Data op d m) = Unit {0}
+IsData (Change bytes d m) = Unit {0}
+IsData (Mrs d) = Unit {0}
+IsData (CmpImm n i) = Unit {0}
+IsData (CmpHigh n m) = Unit {0}
+IsData i = ⊥
+
+-- what reads or writes SP, PC or a high register, without flags
+abbrev pub IsAddress : Insn → Type 0
+IsAddress (AddHigh d m) = Unit {0}
+IsAddress (MovHigh d m) = Unit {0}
+IsAddress (Adr d i) = Unit {0}
+IsAddress (AddSp d i) = Unit {0}
+IsAddress (RaiseSp i) = Unit {0}
+IsAddress (LowerSp i) = Unit {0}
+IsAddress i = ⊥
+
+-- loads of one unit
+abbrev pub IsLoad : Insn → Type 0
+IsLoad (LdrLiteral t i) = Unit {0}
+IsLoad (LoadReg k t n m) = Unit {0}
+IsLoad (LoadImm s t n i) = Unit {0}
+IsLoad (LoadSp t i) = Unit {0}
+IsLoad i = ⊥
+
+-- stores of one unit
+abbrev pub IsStore : Insn → Type 0
+IsStore (StoreReg s t n m) = Unit {0}
+IsStore (StoreImm s t n i) = Unit {0}
+IsStore (StoreSp t i) = Unit {0}
+IsStore i = ⊥
+
+-- stores of several words
+abbrev pub IsStoreAll : Insn → Type 0
+IsStoreAll (Push list lr) = Unit {0}
+IsStoreAll (Stm n list) = Unit {0}
+IsStoreAll i = ⊥
+
+-- branches
+abbrev pub IsJump : Insn → Type 0
+IsJump (Bx m) = Unit {0}
+IsJump (Blx m) = Unit {0}
+IsJump (BranchIf cond offset) = Unit {0}
+IsJump (Branch offset) = Unit {0}
+IsJump (Bl offset) = Unit {0}
+IsJump i = ⊥
+
+-- calls, hints, barriers and the flags from a register
+abbrev pub IsSystem : Insn → Type 0
+IsSystem (Svc i) = Unit {0}
+IsSystem (Bkpt i) = Unit {0}
+IsSystem Cpsie = Unit {0}
+IsSystem Cpsid = Unit {0}
+IsSystem (Hint i) = Unit {0}
+IsSystem (Fence barrier i) = Unit {0}
+IsSystem (Msr n) = Unit {0}
+IsSystem i = ⊥
+
+-- of two low registers, flags alone
+abbrev pub is_test : Op → Bool
+is_test op.Tst = true
+is_test op.Cmp = true
+is_test op.Cmn = true
+is_test o = false
