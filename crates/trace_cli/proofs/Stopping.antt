@@ -17,24 +17,24 @@ use Rattle.app_toml.specs.Apps.{AppData}
 -- ## long and short files
 
 abbrev too_long : Option Why
-too_long = Some (0, codes "2097152")
+too_long = Some (at_number (0, 2097152))
 
 long_refused : (bytes : List ℕ) (r : Option Why) → 2097152 < length bytes → unless_long bytes r ≡ too_long
 long_refused bytes r lt = let t : nat_lt 2097152 (length bytes) ≡ true = grind (arith, nat_tests) in ap (λ (b : Bool). cond b too_long r) t
 
-pub long_image : (bytes : List ℕ) → 2097152 < length bytes → image_refusal bytes ≡ Some (0, codes "2097152")
+pub long_image : (bytes : List ℕ) → 2097152 < length bytes → image_refusal bytes ≡ Some (at_number (0, 2097152))
 unfolding image_refusal
 long_image bytes lt = long_refused bytes _ lt
 
-pub long_script : (bytes : List ℕ) → 2097152 < length bytes → script_refusal bytes ≡ Some (0, codes "2097152")
+pub long_script : (bytes : List ℕ) → 2097152 < length bytes → script_refusal bytes ≡ Some (at_number (0, 2097152))
 unfolding script_refusal
 long_script bytes lt = long_refused bytes _ lt
 
-pub long_app : (bytes : List ℕ) → 2097152 < length bytes → app_refusal bytes ≡ Some (0, codes "2097152")
+pub long_app : (bytes : List ℕ) → 2097152 < length bytes → app_refusal bytes ≡ Some (at_number (0, 2097152))
 unfolding app_refusal
 long_app bytes lt = long_refused bytes _ lt
 
-pub long_source : (app : AppData) (i : ℕ) (bytes : List ℕ) → 2097152 < length bytes → source_refusal app i bytes ≡ Some (0, codes "2097152")
+pub long_source : (app : AppData) (i : ℕ) (bytes : List ℕ) → 2097152 < length bytes → source_refusal app i bytes ≡ Some (at_number (0, 2097152))
 unfolding source_refusal
 long_source app i bytes lt = long_refused bytes _ lt
 
@@ -47,12 +47,13 @@ pub by_length : (a b : FilesSeen) (name : List ℕ) (stop : Stop) → StopsAt (S
 by_length a b name stops.Memory at long = tt
 by_length a b name stops.CannotRead at long = absurd at
 by_length a b name (stops.Refused cause place) at long =
-    let same : (0, codes "2097152") ≡ (cause, string_bytes place) = same_Some (0, codes "2097152") (cause, string_bytes place) at in
+    let why : Why = (cause, string_bytes place) in
+    let same : at_number (0, 2097152) ≡ why = same_Some (at_number (0, 2097152)) why at in
     (ap (λ (p : Why). p.0) (sym same), ap (λ (p : Why). p.1) (sym same), long)
 
 -- ## from contents to their file
 
-pub cannot_take : (a b : FilesSeen) (f : File) (stop : Stop) → ((bytes : List ℕ) → 2097152 < length bytes → f.refusal bytes ≡ Some (0, codes "2097152"))
+pub cannot_take : (a b : FilesSeen) (f : File) (stop : Stop) → ((bytes : List ℕ) → 2097152 < length bytes → f.refusal bytes ≡ Some (at_number (0, 2097152)))
     → CannotTake a b f.name stop → Stops a b f stop
 cannot_take a b f stops.Memory long t = tt
 cannot_take a b f stops.CannotRead long t = t

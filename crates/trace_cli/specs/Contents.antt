@@ -31,7 +31,7 @@ fault_in (Err why) = Some why
 
 -- a file of more than 2,097,152 bytes is refused by its length; of others its definition decides
 abbrev pub unless_long : List ℕ → Option Why → Option Why
-unless_long bytes refusal = if nat_lt 2097152 (length bytes) then Some (0, codes "2097152") else refusal
+unless_long bytes refusal = if nat_lt 2097152 (length bytes) then Some (at_number (0, 2097152)) else refusal
 
 -- ## an image
 

@@ -1,5 +1,5 @@
 -- Why a file is not taken.
-use Rattle.std.specs.Prelude.{◌≡◌, ℕ, ◌<◌, ⊤, List, length, codes, Option, Some, string_bytes}
+use Rattle.std.specs.Prelude.{◌≡◌, ℕ, ◌<◌, ⊤, List, length, decimal, Option, Some, string_bytes}
 use Rattle.outside_io.specs.Outside.{WhereTold, Rose, short_name}
 use Rattle.trace_cli.specs.declared.stops.Stop.{Stop}
 use Rattle.trace_cli.specs.declared.stops.Stop.TheVariants as stops
@@ -25,7 +25,7 @@ abbrev pub CannotTake : FilesSeen → FilesSeen → List ℕ → Stop → Type 0
 CannotTake before after name stops.Memory = ⊤
 CannotTake before after name stops.CannotRead = IsCannotRead before after name
 CannotTake before after name (stops.Refused cause place) =
-    (cause ≡ 0) × (string_bytes place ≡ codes "2097152") × WhereTold (before.told name) (λ all. 2097152 < length all)
+    (cause ≡ 0) × (string_bytes place ≡ decimal 2097152) × WhereTold (before.told name) (λ all. 2097152 < length all)
 
 -- the file cannot be read, is refused where it is told, or memory is short
 abbrev pub Stops : FilesSeen → FilesSeen → File → Stop → Type 0

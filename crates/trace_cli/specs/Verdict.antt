@@ -30,8 +30,11 @@ abbrev pub usage_line : List ℕ
 usage_line = codes "usage: hubris build, run, go, list or sample\n"
 
 -- `refused <name> <cause> <place>`
+unfoldable pub refused_front : List ℕ → ℕ → List ℕ
+refused_front name cause = codes "refused " ++ name ++ codes " " ++ decimal cause ++ codes " "
+
 unfoldable pub refused_line : List ℕ → ℕ → List ℕ → List ℕ
-refused_line name cause place = codes "refused " ++ name ++ codes " " ++ decimal cause ++ codes " " ++ place ++ codes "\n"
+refused_line name cause place = (refused_front name cause ++ place) ++ codes "\n"
 
 -- `cannot read <name>`
 unfoldable pub unread_line : List ℕ → List ℕ

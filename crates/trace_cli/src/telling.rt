@@ -3,7 +3,7 @@ ghost use Rattle.std.specs.Prelude.{◌≡◌, ℕ, IfOk, string_bytes};
 ghost use Rattle.image_format.specs.Images.{picture};
 ghost use Rattle.trace_cli.specs.Seen.{sink_seen};
 ghost use Rattle.trace_cli.specs.Told.{Pushed, Says, SaysHalt};
-ghost use Rattle.trace_cli.specs.Verdict.{Verdict, usage, unread, refused, refused_line, unread_line, built_line, listed, listing_line};
+ghost use Rattle.trace_cli.specs.Verdict.{Verdict, usage, unread, refused, refused_front, refused_line, unread_line, built_line, listed, listing_line};
 
 use crate::stops::Halt;
 use image_format::Image;
@@ -48,6 +48,14 @@ fn tell_unread<S: Sink>(alloc: Global, name: &str, out: &mut S) -> u8
     }
 }
 
+#[tactic(auto, unfolding(crate::specs::Verdict::refused_front))]
+fn front_of_refused(alloc: Global, name: &str, cause: u8) -> Result<String, AllocError>
+    ensures { IfOk result (λ line. string_bytes line ≡ refused_front name.now cause) }
+{
+    let front = format!(in alloc; "refused {name} {cause} ")?;
+    Ok(front)
+}
+
 #[tactic(auto, unfolding(crate::specs::Verdict::refused_line))]
 fn line_of_refused(
     alloc: Global,
@@ -57,7 +65,10 @@ fn line_of_refused(
 ) -> Result<String, AllocError>
     ensures { IfOk result (λ line. string_bytes line ≡ refused_line name.now cause place.now) }
 {
-    format!(in alloc; "refused {name} {cause} {place}\n")
+    let mut line = front_of_refused(alloc, name, cause)?;
+    line.push_str(place)?;
+    line.push_str("\n")?;
+    Ok(line)
 }
 
 // That a file is refused, with the cause and the place.

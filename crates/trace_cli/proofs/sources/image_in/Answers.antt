@@ -1,4 +1,4 @@
-use Rattle.std.proofs.Common.{sym, subst}
+use Rattle.std.proofs.Common.{sym, subst, ℕ}
 use Rattle.image_format.specs.Images.{picture}
 use Rattle.trace_cli.specs.Stops.{StopsAt}
 use Rattle.trace_cli.proofs.Refusals.{image_taken, image_refused}
@@ -12,6 +12,6 @@ returns-in-Ok-clause-image c = (image_taken c.args.bytes.now (picture c.in-Ok.im
 
 pub returns-in-Err-Refused-clause-stop : goal.returns-in-Err-Refused-clause-stop
 returns-in-Err-Refused-clause-stop c =
-    let why = (c.in-Err-Refused.cause, c.in-Err-Refused.place) in
+    let why : ℕ × ℕ = (c.in-Err-Refused.cause, c.in-Err-Refused.place) in
     let refused = image_refused c.args.bytes.now why c.requires (rw c.in-Err-Refused.field-0-is at c.in-Err-Refused.ensures.refused) in
     subst (λ r. StopsAt r c.refused_at_number.result) (sym refused) c.refused_at_number.ensures
