@@ -5,3 +5,4 @@ pub mod Refusals
 pub mod Starting
 pub mod Statuses
 pub mod Stopping
+pub mod Taking

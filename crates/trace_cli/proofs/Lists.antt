@@ -45,7 +45,7 @@ same_lists (x ∷ xs) [] e same = absurd (omega arith)
 same_lists (x ∷ xs) (y ∷ ys) e same =
     let rest = same_lists xs ys (omega arith) (tails x y xs ys same) in
     let head = same 0 x y refl refl in
-    ap (λ a. a ∷ xs) head ∙ ap (λ as. y ∷ as) rest
+    ap (λ a. a ∷ xs) head ∙ ap (λ more. y ∷ more) rest
 
 -- ## files that are taken
 

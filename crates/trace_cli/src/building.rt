@@ -86,8 +86,11 @@ fn take_sources<F: Files>(
     ensures contents { F.told files.new ≡ F.told files.old }
     ensures puts { F.put_faults files.new ≡ F.put_faults files.old }
 {
-    'tasks: for task in app.tasks() {
-        take_source(alloc, files, &task.source, builder)?;
+    for task in app.tasks() {
+        match take_source(alloc, files, &task.source, builder) {
+            Ok(()) => {}
+            Err(halt) => return Err(halt),
+        }
     }
     Ok(())
 }
@@ -103,7 +106,10 @@ fn image_of<F: Files>(alloc: Global, files: &mut F, app: &App, builder: Builder<
     ensures puts { F.put_faults files.new ≡ F.put_faults files.old }
 {
     let mut builder = builder;
-    take_sources(alloc, files, app, &mut builder)?;
+    match take_sources(alloc, files, app, &mut builder) {
+        Ok(()) => {}
+        Err(halt) => return Err(halt),
+    }
     match builder.finish() {
         Ok(image) => Ok(image),
         Err(_) => Err(Halt::Memory),

@@ -1,0 +1,178 @@
+-- The sources that a builder has taken, as files of its application.
+use Rattle.std.proofs.Common.{◌≡◌, ℕ, zero, suc, ◌+◌, ◌<◌, ◌≤◌, List, [], ◌∷◌, ◌++◌, length, get_or, map, Option, Some, None, refl, sym, ap, subst, ◌∙◌, arith}
+use Rattle.std.specs.Prelude.{slice_get, slice_index_or, Ok}
+use Rattle.std.proofs.lemmas.Option.{same_Some}
+use Rattle.app_toml.specs.Apps.{AppData, TaskData}
+use Rattle.image_build.specs.Built.{Built, source_at}
+use Rattle.image_build.specs.Building.{IsTaken}
+use Rattle.image_build.specs.Layout.{no_task, task_at}
+use Rattle.image_build.specs.Taken.{HasTaken, described, next_task}
+use Rattle.image_build.specs.declared.builder.Builder.{Builder}
+use Rattle.app_toml.specs.Reading.{read_app}
+use Rattle.image_format.specs.Picture.{Picture}
+use Rattle.trace_cli.specs.Contents.{Why, source_refusal, app_refusal, application_of, room_refusal}
+use Rattle.trace_cli.specs.Seen.{FilesSeen}
+use Rattle.trace_cli.specs.Sources.{File, source_file, sources_from, source_files, files_to_build, app_file, first_of, MayBe, Takes}
+use Rattle.trace_cli.specs.Stops.{HaltsAt}
+use Rattle.trace_cli.specs.Building.{TakesEach, HaltsAfter, HasNext, HasAll, IsImageOf, IsImage, HaltsInSources, HaltsInApp}
+use Rattle.trace_cli.specs.declared.stops.Halt.{Halt}
+use Rattle.trace_cli.proofs.Lists.{takes_none, takes_last, takes_first, get_below, is_below}
+use Rattle.trace_cli.proofs.Refusals.{is_application, app_by_room}
+use Rattle.trace_cli.proofs.Stopping.{halts_earlier}
+use Rattle.std.proofs.lemmas.List.{take_all}
+
+at_end : (sources : List (List ℕ)) (bytes : List ℕ) → source_at (sources ++ bytes ∷ []) (length sources) ≡ bytes
+at_end [] bytes = refl
+at_end (s ∷ ss) bytes = at_end ss bytes
+
+longer : (sources : List (List ℕ)) (bytes : List ℕ) → length (sources ++ bytes ∷ []) ≡ suc (length sources)
+longer [] bytes = refl
+longer (s ∷ ss) bytes = ap suc (longer ss bytes)
+
+-- the source that was taken last is accepted
+pub taken_last : (old new : Builder) (sources : List (List ℕ)) (bytes : List ℕ) → described new ≡ described old → HasTaken sources old → HasTaken (sources ++ bytes ∷ []) new
+    → IsTaken (described old) (next_task old) bytes
+taken_last old new sources bytes same before after =
+    let long = longer sources bytes in
+    let last : IsTaken (described new) (length sources) (source_at (sources ++ bytes ∷ []) (length sources)) = after.holds.taken (length sources) (omega arith) in
+    let app : IsTaken (described old) (length sources) (source_at (sources ++ bytes ∷ []) (length sources)) =
+    subst (λ (a : AppData). IsTaken a (length sources) (source_at (sources ++ bytes ∷ []) (length sources))) same last in
+    let at : IsTaken (described old) (length sources) bytes = subst (λ (s : List ℕ). IsTaken (described old) (length sources) s) (at_end sources bytes) app in
+    subst (λ (i : ℕ). IsTaken (described old) i bytes) (sym before.next) at
+
+-- ## the files of tasks
+
+get_source : (app : AppData) (i : ℕ) (ts : List TaskData) (k : ℕ) (t : TaskData) → slice_get ts k ≡ Some t → slice_get (sources_from app i ts) k ≡ Some (source_file app (i + k) t)
+get_source app i [] k t e = absurd (cc)
+get_source app i (u ∷ us) zero t e = let same : i ≡ i + 0 = omega arith in
+    let file : ℕ → Option File = λ n. Some (source_file app n u) in
+    ap file same ∙ ap (λ x. Some (source_file app (i + 0) x)) (same_Some u t e)
+get_source app i (u ∷ us) (suc k) t e =
+    let file : ℕ → Option File = λ n. Some (source_file app n t) in
+    let same : i + 1 + k ≡ i + suc k = omega arith in
+    get_source app (i + 1) us k t e ∙ ap file same
+
+pub source_at_index : (app : AppData) (k : ℕ) (t : TaskData) → slice_get app.tasks k ≡ Some t → slice_get (source_files app) k ≡ Some (source_file app k t)
+source_at_index app k t e = get_source app 0 app.tasks k t e
+
+as_many : (app : AppData) (i : ℕ) (ts : List TaskData) → length (sources_from app i ts) ≡ length ts
+as_many app i [] = refl
+as_many app i (t ∷ ts) = ap suc (as_many app (i + 1) ts)
+
+pub as_many_sources : (app : AppData) → length (source_files app) ≡ length app.tasks
+as_many_sources app = as_many app 0 app.tasks
+
+-- ## sources one by one
+
+-- these sources were taken of the first files, so many
+pub record HasFirst (told : List ℕ → Option (List ℕ)) (app : AppData) (builder : Builder) (k : ℕ) : Type 0 where
+  pub sources : List (List ℕ)
+  pub count : length sources ≡ k
+  pub takes : Takes (MayBe told) (source_files app) sources
+  pub taken : HasTaken sources builder
+
+pub none_yet : (told : List ℕ → Option (List ℕ)) (app : AppData) (builder : Builder) → HasTaken [] builder → HasFirst told app builder 0
+none_yet told app builder h = record { sources = []; count = refl; takes = takes_none (MayBe told) (source_files app); taken = h }
+
+pub one_more : (told : List ℕ → Option (List ℕ)) (app : AppData) (old new : Builder) (k : ℕ) (t : TaskData) (h : HasFirst told app old k) → described old ≡ app
+    → slice_get app.tasks k ≡ Some t → HasNext told t.source h.sources old new → HasFirst told app new (suc k)
+one_more told app old new k t h same at next =
+    let index : next_task old ≡ k = h.taken.next ∙ h.count in
+    let file : slice_get (source_files app) (length h.sources) ≡ Some (source_file app k t) = ap (λ n. slice_get (source_files app) n) h.count ∙ source_at_index app k t at in
+    let mine : source_refusal app (next_task old) next.bytes ≡ None = subst (λ (a : AppData). source_refusal a (next_task old) next.bytes ≡ None) same next.accepted in
+    let accepted : source_refusal app k next.bytes ≡ None = subst (λ (i : ℕ). source_refusal app i next.bytes ≡ None) index mine in
+    record {
+      sources = h.sources ++ next.bytes ∷ [];
+      count = longer h.sources next.bytes ∙ ap suc h.count;
+      takes = takes_last (MayBe told) (source_files app) h.sources (source_file app k t) next.bytes h.takes file next.held accepted;
+      taken = next.taken;
+    }
+
+pub all_taken : (told : List ℕ → Option (List ℕ)) (app : AppData) (builder : Builder) (k : ℕ) → k ≡ length app.tasks → HasFirst told app builder k → HasAll told app builder
+all_taken told app builder k all h =
+    record { sources = h.sources; each = record { takes = h.takes; all = as_many_sources app ∙ sym all ∙ sym h.count }; taken = h.taken }
+
+-- ## an application before its sources
+
+pub app_then_sources : (told : List ℕ → Option (List ℕ)) (name bytes : List ℕ) (app : AppData) (sources : List (List ℕ)) → MayBe told name bytes → (app_file name).refusal bytes ≡ None
+    → Takes (MayBe told) (source_files app) sources → Takes (MayBe told) (app_file name ∷ source_files app) (bytes ∷ sources)
+app_then_sources told name bytes app sources held accepted takes = takes_first (MayBe told) (app_file name) (source_files app) bytes sources held accepted takes
+
+-- the next source is not taken
+pub halts_next : (a b c : FilesSeen) (app : AppData) (builder : Builder) (k : ℕ) (t : TaskData) (halt : Halt) → HasFirst a.told app builder k → b.told ≡ a.told → a.read_faults ≤ b.read_faults
+    → described builder ≡ app → slice_get app.tasks k ≡ Some t → HaltsAt b c record { name = t.source; refusal = source_refusal (described builder) (next_task builder) } halt
+    → HaltsInSources a c app halt
+halts_next a b c app builder k t halt h told le same at halts =
+    let index : next_task builder ≡ k = h.taken.next ∙ h.count in
+    let at_app : AppData → File = λ x. record { name = t.source; refusal = source_refusal x (next_task builder) } in
+    let at_index : ℕ → File = λ i. record { name = t.source; refusal = source_refusal app i } in
+    let file : at_app (described builder) ≡ source_file app k t = ap at_app same ∙ ap at_index index in
+    let mine : HaltsAt b c (source_file app k t) halt = subst (λ (f : File). HaltsAt b c f halt) file halts in
+    record {
+      sources = h.sources;
+      at = record {
+        takes = h.takes;
+        file = source_file app k t;
+        next = ap (λ n. slice_get (source_files app) n) h.count ∙ source_at_index app k t at;
+        halts = halts_earlier a b c (source_file app k t) halt told le mine;
+      };
+    }
+
+pub get_mapped : {A B : Type 0} (f : A → B) (xs : List A) (k : ℕ) (d : A) → k < length xs → slice_get (map f xs) k ≡ Some (f (get_or xs k d))
+get_mapped f [] k d lt = absurd (omega arith)
+get_mapped f (x ∷ xs) zero d lt = refl
+get_mapped f (x ∷ xs) (suc k) d lt = get_mapped f xs k d (omega arith)
+
+-- ## an application's files
+
+sources_are : (told : List ℕ → Option (List ℕ)) (name bytes : List ℕ) (app : AppData) (image : Picture) → application_of bytes ≡ app → MayBe told name bytes → app_refusal bytes ≡ None
+    → IsImageOf told app image → IsImage told name image
+sources_are told name bytes app image is held accepted h =
+    let mine : IsImageOf told (application_of bytes) image = subst (λ (a : AppData). IsImageOf told a image) (sym is) h in
+    let count : length mine.sources ≡ length (application_of bytes).tasks = sym mine.each.all ∙ as_many_sources (application_of bytes) in
+    record {
+      bytes = bytes;
+      sources = mine.sources;
+      each = record {
+        takes = app_then_sources told name bytes (application_of bytes) mine.sources held accepted mine.each.takes;
+        all = ap suc mine.each.all;
+      };
+      is = record {
+        built = subst (λ (ss : List (List ℕ)). Built (application_of bytes) ss image) (sym (take_all (length (application_of bytes).tasks) mine.sources (omega arith))) mine.built;
+        sound = mine.sound;
+      };
+    }
+
+pub image_of_files : (told : List ℕ → Option (List ℕ)) (name bytes : List ℕ) (app : AppData) (image : Picture) → length bytes ≤ 2097152 → read_app bytes ≡ Ok app → room_refusal app ≡ None
+    → MayBe told name bytes → IsImageOf told app image → IsImage told name image
+image_of_files told name bytes app image le is room held h =
+    sources_are told name bytes app image (is_application bytes app is) held (app_by_room bytes app le is ∙ room) h
+
+-- a source is not taken
+pub halts_in_app : (a b c : FilesSeen) (name bytes : List ℕ) (app : AppData) (halt : Halt) → length bytes ≤ 2097152 → read_app bytes ≡ Ok app → room_refusal app ≡ None
+    → MayBe a.told name bytes → b.told ≡ a.told → a.read_faults ≤ b.read_faults → HaltsInSources b c app halt → HaltsInApp a c name halt
+halts_in_app a b c name bytes app halt le is room held told later h =
+    let mine : HaltsInSources b c (application_of bytes) halt = subst (λ (x : AppData). HaltsInSources b c x halt) (sym (is_application bytes app is)) h in
+    let takes : Takes (MayBe a.told) (source_files (application_of bytes)) mine.sources =
+    subst (λ (t : List ℕ → Option (List ℕ)). Takes (MayBe t) (source_files (application_of bytes)) mine.sources) told mine.at.takes in
+    record {
+      contents = bytes ∷ mine.sources;
+      at = record {
+        takes = app_then_sources a.told name bytes (application_of bytes) mine.sources held (app_by_room bytes app le is ∙ room) takes;
+        file = mine.at.file;
+        next = mine.at.next;
+        halts = halts_earlier a b c mine.at.file halt told later mine.at.halts;
+      };
+    }
+
+-- the application's own file is not taken
+pub halts_at_app : (a c : FilesSeen) (name : List ℕ) (halt : Halt) → HaltsAt a c (app_file name) halt → HaltsInApp a c name halt
+halts_at_app a c name halt h = record {
+  contents = [];
+  at = record {
+    takes = takes_none (MayBe a.told) (files_to_build name (first_of []));
+    file = app_file name;
+    next = refl;
+    halts = h;
+  };
+}

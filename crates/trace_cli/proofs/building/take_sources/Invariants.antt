@@ -1,0 +1,16 @@
+use Rattle.std.proofs.Common.{◌≡◌, ◌≤◌, map}
+use Rattle.app_toml.specs.Held.{app_of}
+use Rattle.app_toml.specs.Sites.{task_of}
+use Rattle.image_build.specs.Taken.{described}
+use Rattle.trace_cli.proofs.Taking.{HasFirst}
+use Rattle.trace_cli.proofs.building.take_sources.Given as goal
+
+abbrev pub invariant-loop-task : goal.invariant-loop-task
+invariant-loop-task g l = record {
+  described : described l.builder ≡ app_of l.app;
+  items : map task_of l.task-items ≡ (app_of l.app).tasks;
+  first : HasFirst (g.F.Files.told l.fn.files) (app_of l.app) l.builder l.task-index;
+  told : g.F.Files.told l.files ≡ g.F.Files.told l.fn.files;
+  later : g.F.Files.read_faults l.fn.files ≤ g.F.Files.read_faults l.files;
+  puts : g.F.Files.put_faults l.files ≡ g.F.Files.put_faults l.fn.files;
+}
