@@ -2,6 +2,7 @@ pub mod Copies
 pub mod Changes
 pub mod Steps
 pub mod Keeps
+pub mod Posting
 pub mod Sanity
 pub mod Starts
 pub mod Ranges

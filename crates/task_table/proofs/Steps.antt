@@ -1,5 +1,6 @@
 -- How a change of the code's kernel follows one of the turn.
-use Rattle.std.proofs.Common.{◌≡◌, ◌≢◌, ◌<◌, ℕ, Bool, true, false, ◌&&◌, List, [], ◌∷◌, ◌++◌, length, Option, Some, None, inl, inr, refl, sym, ◌∙◌, ap, arith, get_or, set, get_or-set_same, get_or-set_other, length-set, IfSome, is_some, is_none}
+use Rattle.std.proofs.Common.{◌≡◌, ◌≢◌, ◌<◌, ◌≤◌, ◌+◌, ℕ, zero, suc, Bool, true, false, ◌&&◌, List, [], ◌∷◌, ◌++◌, length, Option, Some, None, inl, inr, refl, sym, ◌∙◌, ap, arith, get_or, set, get_or-set_same, get_or-set_other, length-set, IfSome, is_some, is_none}
+use Rattle.std.specs.Option.{option_map}
 use Rattle.std.proofs.lemmas.Bool.Decides.{eqb_tells}
 use Rattle.std.proofs.lemmas.Bool.{false≢true}
 use Rattle.std.proofs.lemmas.List.{length-append, length-take, length-drop}
@@ -8,7 +9,8 @@ use Rattle.kernel_abi.specs.Ids.{id_of}
 use Rattle.task_table.specs.Memory.{Memory, with_bytes, IsWithinRam}
 use Rattle.task_table.specs.State.{Setup, Task, Call, Listen, State, Turn, Ground, Offered, Taken, Any, One, KernelOnly}
 use Rattle.task_table.specs.Reading.{task_at, call_of, listen_of, is_ready, is_well, IsSameBut, IsIdle}
-use Rattle.task_table.specs.Effects.{with_task, without_call, without_listen, noted, stored}
+use Rattle.task_table.specs.declared.Line.{Line}
+use Rattle.task_table.specs.Effects.{with_task, without_call, without_listen, noted, with_line, stored}
 use Rattle.task_table.specs.Start.{begun}
 use Rattle.task_table.specs.Holds.{Shows, Kept, IsKept, IsSavedCall, IsSavedListen, packed, packed_task, wait_of, wait_in, wait_from, is_nothing, is_free, is_listening, is_calling}
 use Rattle.task_table.specs.declared.slot.Slot.{Slot}
@@ -127,6 +129,40 @@ some_listens s i slot h e = listening_is (call_of s i) (listen_of s i) (sym (ap 
 pub none_listens : (s : State) (i : ℕ) (slot : Slot) → IsKept s i slot → is_listening slot.wait ≡ false → listen_of s i ≡ None
 none_listens s i slot h e = not_listening_is (call_of s i) (listen_of s i) h.alone (sym (ap is_listening (wait_kept s i slot h)) ∙ e)
 
+-- a task that listens is client of no call, and its mask is in r6
+pub record Listens (s : State) (i : ℕ) (slot : Slot) : Type 0 where
+  pub no_call : call_of s i ≡ None
+  pub what : Listen
+  pub is : listen_of s i ≡ Some what
+  pub mask : what.mask ≡ get_or slot.registers 6 0
+
+listen_there : (lo : Option Listen) → is_some lo ≡ true → (l : Listen) × (lo ≡ Some l)
+listen_there None h = absurd (false≢true h)
+listen_there (Some l) h = (l, refl)
+
+pub listens : (s : State) (i : ℕ) (slot : Slot) → IsKept s i slot → is_listening slot.wait ≡ true → Listens s i slot
+listens s i slot h e =
+    let none = some_listens s i slot h e in
+    let told : is_listening (wait_of None (listen_of s i)) ≡ true = ap (λ (co : Option Call). is_listening (wait_of co (listen_of s i))) (sym none) ∙ sym (ap is_listening (wait_kept s i slot h)) ∙ e in
+    let l = listen_there (listen_of s i) (sym (listening_wait (listen_of s i)) ∙ told) in
+    let saved : IsSavedListen (task_at s i).registers l.0 = rw l.1 at h.listen in
+    let registers : slot.registers ≡ (task_at s i).registers = ap (λ (o : Slot). o.registers) h.is in
+    record { no_call = none; what = l.0; is = l.1; mask = saved.mask ∙ ap (λ rs. get_or rs 6 0) (sym registers) }
+
+pub some_mask : (lo : Option Listen) (n : ℕ) → Some n ≡ option_map (λ (l : Listen). l.mask) lo → (l : Listen) × (lo ≡ Some l) × (l.mask ≡ n)
+some_mask None n h = absurd (no_some h)
+  where
+    no_some : {A : Type 0} {a : A} → Some a ≡ None → ⊥
+    no_some e = cc
+some_mask (Some l) n h = (l, refl, cc)
+
+pub no_mask : (lo : Option Listen) → None ≡ option_map (λ (l : Listen). l.mask) lo → lo ≡ None
+no_mask None h = refl
+no_mask (Some l) h = absurd (no_some h)
+  where
+    no_some : {A : Type 0} {a : A} → None ≡ Some a → ⊥
+    no_some e = cc
+
 calls_or_not : (o : Option Call) (b : Bool) → is_some o ≡ b → IsCalling b o
 calls_or_not None true h = absurd (false≢true h)
 calls_or_not None false h = refl
@@ -201,6 +237,48 @@ holds_current g k t i h = record {
   tasks = λ j below d. kept_same t.state _ j _ refl refl refl (h.tasks j below d);
   current = refl;
 }
+
+-- the time goes on, before it is noted
+pub holds_now : (g : Setup) (k : Kept) (t : Turn) (n : ℕ) → Shows g k t → n ≡ t.state.now → Shows g record k { clock = n + 1 } record t { state = record t.state { now = t.state.now + 1 } }
+unfolding task_at call_of listen_of
+holds_now g k t n h e = record {
+  setup = h.setup;
+  count = h.count;
+  many = h.many;
+  notes = h.notes;
+  memory = h.memory;
+  lines = h.lines;
+  current = h.current;
+  next_call = h.next_call;
+  tasks = λ j below d. kept_same t.state _ j _ refl refl refl (h.tasks j below d);
+  now = ap (λ (x : ℕ). x + 1) e;
+}
+
+-- a line changes; the setup knows only how many there are
+pub holds_line : (g : Setup) (k : Kept) (t : Turn) (n : ℕ) (line : Line) (setup : Setup) → Shows g k t → setup ≡ k.setup → Shows g record k { setup = setup; lines = set k.lines n line } (with_line n line t)
+unfolding with_line task_at call_of listen_of
+holds_line g k t n line setup h e = record {
+  setup = e ∙ h.setup;
+  count = h.count;
+  many = h.many;
+  notes = h.notes;
+  memory = h.memory;
+  now = h.now;
+  current = h.current;
+  next_call = h.next_call;
+  tasks = λ j below d. kept_same t.state _ j _ refl refl refl (h.tasks j below d);
+  lines = ap (λ xs. set xs n line) h.lines;
+}
+
+set_away : {X : Type 0} (xs : List X) (n : ℕ) (x : X) → length xs ≤ n → set xs n x ≡ xs
+set_away [] n x h = refl
+set_away (y ∷ ys) zero x h = absurd (omega arith)
+set_away (y ∷ ys) (suc n) x h = ap (λ zs. y ∷ zs) (set_away ys n x (omega arith))
+
+-- a line that is not there stays away
+pub line_away : (t : Turn) (n : ℕ) (line : Line) → length t.state.lines ≤ n → with_line n line t ≡ t
+unfolding with_line
+line_away t n line h = ap (λ xs. record t { state = record t.state { lines = xs } }) (set_away t.state.lines n line h)
 
 -- the turn's number is kept by the board
 pub holds_turn : (g : Setup) (k : Kept) (t : Turn) (n : ℕ) → Shows g k t → Shows g k record t { state = record t.state { turn = n } }

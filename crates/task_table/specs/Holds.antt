@@ -108,6 +108,9 @@ notes_of k = k.notes.items
 abbrev pub current_of : Kernel → ℕ
 current_of k = k.current
 
+abbrev pub clock_of : Kernel → ℕ
+clock_of k = k.clock
+
 abbrev pub memory_of : Kernel → Memory
 memory_of k = k.memory
 

@@ -3,7 +3,7 @@ use Rattle.std.specs.Prelude.{ℕ, Bool, List, [], ◌∷◌, ◌==◌, cond, sl
 use Rattle.kernel_abi.specs.declared.Note.TheVariants as note
 use Rattle.task_table.specs.State.{Turn}
 use Rattle.task_table.specs.Reading.{task_at, register}
-use Rattle.task_table.specs.Effects.{noted, faulted}
+use Rattle.task_table.specs.Effects.{noted, given, returned, advanced, faulted}
 
 -- ## how rows are written
 
@@ -14,6 +14,13 @@ first_row (row ∷ rows) otherwise = cond row.0 row.1 (first_row rows otherwise)
 -- the caller faults by its usage
 abbrev pub misused : ℕ → ℕ → Turn → Turn
 misused c usage t = faulted c record { number = 7; x = usage; y = 0 } t
+
+-- the caller goes on after its call, and with results from r4 on
+abbrev pub goes_on : ℕ → Turn → Turn
+goes_on c t = returned c (advanced c t)
+
+abbrev pub goes_on_with : ℕ → List ℕ → Turn → Turn
+goes_on_with c values t = goes_on c (given c values t)
 
 -- ## PANIC: r4 and r5 are told, nothing is read
 

@@ -30,21 +30,23 @@ pub struct Kernel {
     current: usize,
     next_call: u32,
     ghost few: { length slots.items ≤ 32 },
+    ghost all_lines: { length lines ≡ 32 },
+    ghost few_owners: { length owners.items ≤ 32 },
     ghost many: { length tasks.items ≡ length slots.items },
 }
 
 impl Kernel {
-    ghost use Rattle.std.specs.Prelude.{◌≡◌, ◌+◌, ◌-◌, ◌%◌, ◌<◌, ◌≤◌, ◌^◌, ◌⊎◌, ℕ, length, replicate, Option, IfOk, slice_get};
+    ghost use Rattle.std.specs.Prelude.{◌≡◌, ◌+◌, ◌-◌, ◌%◌, ◌<◌, ◌≤◌, ◌^◌, ◌⊎◌, ℕ, length, map, replicate, Option, IfOk, slice_get};
     ghost use Rattle.kernel_abi.specs.Faults.{usage_number};
     ghost use Rattle.kernel_abi.specs.declared.Health.TheVariants.{Faulted};
     ghost use Rattle.task_table.specs.State.{Setup, State, Turn, Own};
     ghost use Rattle.task_table.specs.Memory.{is_ram, byte_at, number_at, IsWithinRam};
     ghost use Rattle.task_table.specs.Reading.{task_at, setup_at, register, priority, is_ready, call_of, listen_of, IsSameBut, IsIdle};
-    ghost use Rattle.task_table.specs.Effects.{changed, noted, with_processor, with_health, without_call, without_listen, stored, faulted};
+    ghost use Rattle.task_table.specs.Effects.{changed, noted, clocked, with_line, with_processor, with_health, without_call, without_listen, stored, faulted};
     ghost use Rattle.task_table.specs.Rows.{misused, call_noted, called};
     ghost use Rattle.task_table.specs.Start.{start as started_at, begun};
-    ghost use Rattle.task_table.specs.Parts.{setup_of_parts, IsSound};
-    ghost use Rattle.task_table.specs.Holds.{Holds, Stands, IsKept, wait_of, task_count, note_count, memory_of, setup_of, current_of, notes_of};
+    ghost use Rattle.task_table.specs.Parts.{setup_of_parts, line_setup, IsSound};
+    ghost use Rattle.task_table.specs.Holds.{Holds, Stands, IsKept, wait_of, task_count, note_count, clock_of, memory_of, setup_of, current_of, notes_of};
     ghost use Rattle.task_table.specs.Found.{IsFound, IsInRange};
 
     /// The kernel at the start of a run: each task as at its first birth, and the memory as it is
@@ -62,6 +64,7 @@ impl Kernel {
         lines: &[LineStart],
     ) -> Result<Kernel, AllocError>
         requires few { length tasks.now ≤ 32 }
+        requires few_owners { length lines.now ≤ 32 }
         requires zeros { memory.ram ≡ replicate (length memory.ram) 0 }
         ensures holds { let g = setup_of_parts memory fault_bits tasks.now lines.now in IfOk result (λ k. Holds g k (begun (started_at g))) }
         ensures stands { let g = setup_of_parts memory fault_bits tasks.now lines.now in IsSound g → IfOk result (λ k. Stands g k (begun (started_at g))) }
@@ -112,7 +115,8 @@ impl Kernel {
 
     /// The time, in ticks since the start.
     pub fn now(&self) -> u64
-        ensures { (g : Setup) (t : Turn) → Holds g self.now t → result ≡ t.state.now }
+        ensures value { result ≡ clock_of self.now }
+        ensures holds { (g : Setup) (t : Turn) → Holds g self.now t → result ≡ t.state.now }
     {
         self.clock
     }
@@ -129,6 +133,15 @@ impl Kernel {
         ensures { (g : Setup) (t : Turn) → Holds g self.now t → result ≡ slice_get t.state.lines number }
     {
         self.lines.get(number).copied()
+    }
+
+    /// The owners of the interrupt lines that have one, in the order of the image; a board has 32
+    /// lines.
+    pub fn owners(&self) -> &[LineStart]
+        ensures few { length result.now ≤ 32 }
+        ensures holds { (g : Setup) (t : Turn) → Holds g self.now t → map line_setup result.now ≡ g.lines }
+    {
+        &self.owners
     }
 
     /// The bits that task 0 is posted where another task faults.
@@ -158,7 +171,7 @@ impl Kernel {
     }
 
     /// What is kept of a task.
-    fn slot(&self, task: usize) -> Slot
+    pub(crate) fn slot(&self, task: usize) -> Slot
         requires { task < task_count self.now }
         ensures { (g : Setup) (t : Turn) → Holds g self.now t → IsKept t.state task result }
     {
@@ -305,8 +318,31 @@ impl Kernel {
         self.notes.push(note);
     }
 
+    /// The time goes on by one tick, which is noted.
+    pub fn step_clock(&mut self)
+        requires room { note_count self.old < 1024 }
+        requires small { clock_of self.old + 1 < 2 ^ 64 }
+        ensures holds { (g : Setup) (t : Turn) → Holds g self.old t → Holds g self.new (clocked t) }
+        ensures count { note_count self.new ≡ note_count self.old + 1 }
+        ensures tasks { task_count self.new ≡ task_count self.old }
+    {
+        self.clock += 1;
+        self.note(Note::Tick { now: self.clock });
+    }
+
+    /// An interrupt line is so from now on; where there is none with this number, nothing changes.
+    pub fn set_line(&mut self, number: usize, line: Line)
+        ensures holds { (g : Setup) (t : Turn) → Holds g self.old t → Holds g self.new (with_line number line t) }
+        ensures count { note_count self.new ≡ note_count self.old }
+        ensures tasks { task_count self.new ≡ task_count self.old }
+    {
+        if number < 32 {
+            self.lines[number] = line;
+        }
+    }
+
     /// Keeps this of a task.
-    fn set_slot(&mut self, task: usize, slot: Slot)
+    pub(crate) fn set_slot(&mut self, task: usize, slot: Slot)
         requires { task < task_count self.old }
         ensures holds { (g : Setup) (t : Turn) (u : State) → Holds g self.old t → IsKept u task slot → IsSameBut task t.state u → Holds g self.new record t { state = u } }
         ensures count { note_count self.new ≡ note_count self.old }
@@ -342,7 +378,7 @@ impl Kernel {
     }
 
     /// Drops the listen of a task, if it has one.
-    fn stop_listening(&mut self, task: usize)
+    pub(crate) fn stop_listening(&mut self, task: usize)
         requires { task < task_count self.old }
         ensures holds { (g : Setup) (t : Turn) → Holds g self.old t → Holds g self.new (changed (without_listen task) t) }
         ensures count { note_count self.new ≡ note_count self.old }
