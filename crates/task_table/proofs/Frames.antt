@@ -1,18 +1,21 @@
 -- What effects leave alone: who waits, and the time.
-use Rattle.std.proofs.Common.{◌≡◌, ◌+◌, ℕ, Bool, true, false, ◌&&◌, List, [], ◌∷◌, Option, Some, None, inl, inr, refl, ◌∙◌, arith, eqb, bit_and, cond, is_none, length-set}
+use Rattle.std.proofs.Common.{◌≡◌, ◌≢◌, ◌+◌, ℕ, Bool, true, false, ◌&&◌, List, [], ◌∷◌, ◌++◌, Option, Some, None, inl, inr, refl, ◌∙◌, arith, eqb, bit_and, cond, is_none, length-set}
 use Rattle.std.proofs.lemmas.Bool.Decides.{eqb_tells}
 use Rattle.std.proofs.lemmas.Bool.{false≢true}
 use Rattle.kernel_abi.specs.declared.Fault.{Fault}
 use Rattle.kernel_abi.specs.declared.Note.{Note}
+use Rattle.kernel_abi.specs.declared.Note.TheVariants as note
+use Rattle.kernel_abi.specs.declared.Ending.TheVariants.{Client}
+use Rattle.kernel_abi.specs.declared.Health.TheVariants.{Faulted}
 use Rattle.kernel_abi.specs.declared.Timer.{Timer}
 use Rattle.words_core.specs.declared.Flags.{Flags}
 use Rattle.task_table.specs.declared.Line.{Line}
-use Rattle.task_table.specs.State.{State, Listen, Turn, Ground}
+use Rattle.task_table.specs.State.{Setup, State, Listen, Turn, Ground}
 use Rattle.task_table.specs.Reading.{task_at, register, call_of, listen_of, is_ready, is_well, IsIdle, IsSameAt}
-use Rattle.task_table.specs.Effects.{with_task, without_call, without_listen, changed, noted, with_processor, with_health, given, returned, bits_added, bits_cleared, woken_by, woken, posted, with_timer, with_line, stored, faulted}
+use Rattle.task_table.specs.Effects.{with_task, without_call, without_listen, changed, noted, with_processor, with_health, given, returned, bits_added, bits_cleared, woken_by, woken, posted, with_timer, with_line, stored, close_notes, closed, faulted_as, faulted}
 use Rattle.task_table.specs.Rows.{call_noted, called, misused, panicked}
 use Rattle.task_table.specs.Sane.{IsCounted}
-use Rattle.task_table.specs.Counts.{IsSameTime}
+use Rattle.task_table.specs.Counts.{IsSameTime, IsNoted}
 use Rattle.task_table.proofs.Changes.{call_of-with_task, listen_of-with_task, call_of-without_listen, listen_of-without_listen, listen_of-without_listen_other}
 
 -- ## who waits
@@ -179,17 +182,25 @@ pub time-posted : (i bits : ℕ) (t : Turn) → IsSameTime t.state (posted i bit
 unfolding posted woken
 time-posted i bits t = time-joined t.state (bits_added i bits t).state (posted i bits t).state (time-added i bits t) (time-woken i (listen_of (bits_added i bits t).state i) (bits_added i bits t))
 
-pub time-faulted : (i : ℕ) (fault : Fault) (t : Turn) → IsSameTime t.state (faulted i fault t).state
-unfolding faulted noted with_health with_task without_call without_listen
-time-faulted i fault t = record { count = length-set t.state.tasks i _; turn = refl; now = refl; next_call = refl }
-
-pub time-called : (c : ℕ) (t : Turn) → IsSameTime t.state (called c t).state
-unfolding called panicked
-time-called c t = go (eqb (register t.state c 11) 8)
+pub time-faulted : (g : Setup) (i : ℕ) (fault : Fault) (t : Turn) → IsSameTime t.state (faulted g i fault t).state
+unfolding faulted_as closed noted with_health with_task without_call without_listen
+time-faulted g i fault t = go (eqb i 0)
   where
-    go : (b : Bool) → IsSameTime t.state (cond b (panicked c t) (misused c 1 t)).state
-    go true = time-faulted c _ t
-    go false = time-faulted c _ t
+    shut : Turn
+    shut = closed i Client (noted (note.Fault i fault) (changed (without_listen i) (with_health i (Faulted fault) t)))
+    same : IsSameTime t.state shut.state
+    same = record { count = length-set t.state.tasks i _; turn = refl; now = refl; next_call = refl }
+    go : (b : Bool) → IsSameTime t.state (cond b shut (posted 0 g.fault_bits shut)).state
+    go true = same
+    go false = time-joined t.state shut.state (posted 0 g.fault_bits shut).state same (time-posted 0 g.fault_bits shut)
+
+pub time-called : (g : Setup) (c : ℕ) (t : Turn) → IsSameTime t.state (called g c t).state
+unfolding called panicked
+time-called g c t = go (eqb (register t.state c 11) 8)
+  where
+    go : (b : Bool) → IsSameTime t.state (cond b (panicked g c t) (misused g c 1 t)).state
+    go true = time-faulted g c _ t
+    go false = time-faulted g c _ t
 
 pub time-call_noted : (c : ℕ) (t : Turn) → IsSameTime t.state (call_noted c t).state
 unfolding call_noted
@@ -202,3 +213,40 @@ counted-turn s u h same = record {
   calls = rw (same.next_call, same.turn) (omega (arith, h.calls));
   now = rw (same.now, same.turn) (omega (arith, h.now));
 }
+
+-- ## what is noted
+
+some_note : (xs : List Note) (n : Note) → xs ++ n ∷ [] ≢ []
+some_note [] n e = cc
+some_note (x ∷ xs) n e = cc
+
+some_more : (xs ys : List Note) → xs ≢ [] → xs ++ ys ≢ []
+some_more [] ys h e = h refl
+some_more (x ∷ xs) ys h e = cc
+
+noted-woken : (i : ℕ) (lo : Option Listen) (t : Turn) → IsNoted t → IsNoted (woken_by i lo t)
+unfolding returned noted
+noted-woken i None t h = h
+noted-woken i (Some l) t h = go (eqb (bit_and (task_at t.state i).posted l.mask) 0)
+  where
+    u : Turn
+    u = given i (0 ∷ 0xFFFF ∷ bit_and (task_at t.state i).posted l.mask ∷ 0 ∷ 0 ∷ 0 ∷ []) (bits_cleared i l.mask (changed (without_listen i) t))
+    go : (b : Bool) → IsNoted (cond b t (returned i u))
+    go true = h
+    go false = some_note u.notes _
+
+pub noted-posted : (i bits : ℕ) (t : Turn) → IsNoted (posted i bits t)
+unfolding posted woken bits_added noted
+noted-posted i bits t = noted-woken i (listen_of (bits_added i bits t).state i) (bits_added i bits t) (some_note t.notes _)
+
+pub noted-faulted : (g : Setup) (i : ℕ) (fault : Fault) (t : Turn) → IsNoted (faulted g i fault t)
+unfolding faulted_as closed noted with_health
+noted-faulted g i fault t = go (eqb i 0)
+  where
+    stopped : Turn
+    stopped = changed (without_listen i) (with_health i (Faulted fault) t)
+    shut : Turn
+    shut = closed i Client (noted (note.Fault i fault) stopped)
+    go : (b : Bool) → IsNoted (cond b shut (posted 0 g.fault_bits shut))
+    go true = some_more (t.notes ++ note.Fault i fault ∷ []) (close_notes Client (call_of stopped.state i)) (some_note t.notes _)
+    go false = noted-posted 0 g.fault_bits shut

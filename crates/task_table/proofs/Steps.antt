@@ -12,15 +12,10 @@ use Rattle.task_table.specs.Reading.{task_at, call_of, listen_of, is_ready, is_w
 use Rattle.task_table.specs.declared.Line.{Line}
 use Rattle.task_table.specs.Effects.{with_task, without_call, without_listen, noted, with_line, stored}
 use Rattle.task_table.specs.Start.{begun}
-use Rattle.task_table.specs.Holds.{Shows, Kept, IsKept, IsSavedCall, IsSavedListen, packed, packed_task, wait_of, wait_in, wait_from, is_nothing, is_free, is_listening, is_calling}
+use Rattle.task_table.specs.Holds.{Shows, Kept, IsKept, IsSavedCall, IsSavedListen, packed, packed_task, wait_of, wait_in, wait_from, is_nothing, is_free, is_listening, call_number}
 use Rattle.task_table.specs.declared.slot.Slot.{Slot}
 use Rattle.task_table.specs.declared.slot.Wait.TheVariants as wait
 use Rattle.task_table.proofs.Changes.{task_at-with_task, call_of-with_task, listen_of-with_task, call_of-without_call, listen_of-without_call, task_at-without_call, call_of-without_listen, listen_of-without_listen, task_at-without_listen}
-
--- the task is client of a call, or of none
-abbrev pub IsCalling : Bool → Option Call → Type 0
-IsCalling true o = (c : Call) × (o ≡ Some c)
-IsCalling false o = o ≡ None
 
 -- what is kept of a task depends on that task, its call and its listen alone
 packed_by : (u s : State) (i : ℕ) → task_at u i ≡ task_at s i → call_of u i ≡ call_of s i → listen_of u i ≡ listen_of s i → packed u i ≡ packed s i
@@ -110,10 +105,10 @@ not_listening_is None None a h = refl
 not_listening_is None (Some l) a h = absurd (false≢true (sym h ∙ listening_wait (Some l)))
 not_listening_is (Some c) lo a h = a
 
-calling_wait : (co : Option Call) (lo : Option Listen) → is_calling (wait_of co lo) ≡ is_some co
-calling_wait None None = refl
-calling_wait None (Some l) = elim l.from as (λ f. is_calling (wait_from f) ≡ false) [ Any ↦ refl | One b ↦ refl | KernelOnly ↦ refl ]
-calling_wait (Some c) lo = elim c.phase as (λ p. is_calling (wait_in p c.number (id_of c.server.index c.server.birth)) ≡ true) [ Offered ↦ refl | Taken ↦ refl ]
+number_of_wait : (co : Option Call) (lo : Option Listen) → call_number (wait_of co lo) ≡ option_map (λ (c : Call). c.number) co
+number_of_wait None None = refl
+number_of_wait None (Some l) = elim l.from as (λ f. call_number (wait_from f) ≡ None) [ Any ↦ refl | One b ↦ refl | KernelOnly ↦ refl ]
+number_of_wait (Some c) lo = elim c.phase as (λ p. call_number (wait_in p c.number (id_of c.server.index c.server.birth)) ≡ Some c.number) [ Offered ↦ refl | Taken ↦ refl ]
 
 nothing_waits : (co : Option Call) (lo : Option Listen) → is_nothing (wait_of co lo) ≡ (is_none co && is_none lo)
 nothing_waits None None = refl
@@ -163,14 +158,29 @@ no_mask (Some l) h = absurd (no_some h)
     no_some : {A : Type 0} {a : A} → None ≡ Some a → ⊥
     no_some e = cc
 
-calls_or_not : (o : Option Call) (b : Bool) → is_some o ≡ b → IsCalling b o
-calls_or_not None true h = absurd (false≢true h)
-calls_or_not None false h = refl
-calls_or_not (Some c) true h = (c, refl)
-calls_or_not (Some c) false h = absurd (false≢true (sym h))
+number_kept : (s : State) (i : ℕ) (slot : Slot) → IsKept s i slot → call_number slot.wait ≡ option_map (λ (c : Call). c.number) (call_of s i)
+number_kept s i slot h = ap call_number (wait_kept s i slot h) ∙ number_of_wait (call_of s i) (listen_of s i)
 
-pub calls : (s : State) (i : ℕ) (slot : Slot) (b : Bool) → IsKept s i slot → is_calling slot.wait ≡ b → IsCalling b (call_of s i)
-calls s i slot b h e = calls_or_not (call_of s i) b (sym (calling_wait (call_of s i) (listen_of s i)) ∙ sym (ap is_calling (wait_kept s i slot h)) ∙ e)
+number_is : (co : Option Call) (n : ℕ) → option_map (λ (c : Call). c.number) co ≡ Some n → (c : Call) × (co ≡ Some c) × (c.number ≡ n)
+number_is None n h = absurd (no_some h)
+  where
+    no_some : {A : Type 0} {a : A} → None ≡ Some a → ⊥
+    no_some e = cc
+number_is (Some c) n h = (c, refl, cc)
+
+no_number_is : (co : Option Call) → option_map (λ (c : Call). c.number) co ≡ None → co ≡ None
+no_number_is None h = refl
+no_number_is (Some c) h = absurd (no_some h)
+  where
+    no_some : {A : Type 0} {a : A} → Some a ≡ None → ⊥
+    no_some e = cc
+
+-- the call by whose number a task waits, or that it has none
+pub some_call : (s : State) (i n : ℕ) (slot : Slot) → IsKept s i slot → Some n ≡ call_number slot.wait → (c : Call) × (call_of s i ≡ Some c) × (c.number ≡ n)
+some_call s i n slot h e = number_is (call_of s i) n (sym (number_kept s i slot h) ∙ sym e)
+
+pub no_call : (s : State) (i : ℕ) (slot : Slot) → IsKept s i slot → None ≡ call_number slot.wait → call_of s i ≡ None
+no_call s i slot h e = no_number_is (call_of s i) (sym (number_kept s i slot h) ∙ sym e)
 
 -- ## who is ready
 

@@ -1,6 +1,8 @@
 -- What happens to a state within a turn. Each effect takes what the turn has come to so far, and
 -- appends its own notes and writes. (Hubris Reference: tasks, syscalls, supervision.)
 use Rattle.std.specs.Prelude.{ℕ, ◌+◌, ◌-◌, ◌%◌, ◌^◌, not, List, [], ◌∷◌, ◌++◌, length, take, drop, filter, slice_set, slice_range, Option, None, Some, ◌==◌, if◌then◌else◌, bit_and, bit_or}
+use Rattle.kernel_abi.specs.declared.Ending.{Ending}
+use Rattle.kernel_abi.specs.declared.Ending.TheVariants.{Client}
 use Rattle.kernel_abi.specs.declared.Fault.{Fault}
 use Rattle.kernel_abi.specs.declared.Health.{Health}
 use Rattle.kernel_abi.specs.declared.Health.TheVariants.{Faulted}
@@ -10,8 +12,8 @@ use Rattle.kernel_abi.specs.declared.Timer.{Timer}
 use Rattle.words_core.specs.declared.Flags.{Flags}
 use Rattle.task_table.specs.declared.Line.{Line}
 use Rattle.task_table.specs.Memory.{with_bytes}
-use Rattle.task_table.specs.State.{TaskSetup, Task, Listen, State, Ground, Write, Turn}
-use Rattle.task_table.specs.Reading.{task_at, register, listen_of, no_flags}
+use Rattle.task_table.specs.State.{Setup, TaskSetup, Task, Call, Listen, State, Ground, Write, Turn}
+use Rattle.task_table.specs.Reading.{task_at, register, call_of, listen_of, no_flags}
 
 -- ## one part of a state changed
 
@@ -120,12 +122,26 @@ with_line k line t = changed (λ s. record s { lines = slice_set s.lines k line 
 
 -- ## a task faults
 
--- it is Faulted, its listen and the call of which it is the client are dropped. (The line of a
--- closed call joins with calls, and the post to the supervisor with notifications: until then task 0
--- alone runs, whose fault ends the run and posts nothing.)
-unfoldable pub faulted : ℕ → Fault → Turn → Turn
-faulted i fault t =
-    changed (without_call i) (noted (note.Fault i fault) (changed (without_listen i) (with_health i (Faulted fault) t)))
+-- the call of a client is closed, if it has one
+abbrev pub close_notes : Ending → Option Call → List Note
+close_notes ending None = []
+close_notes ending (Some c) = note.Close c.number ending ∷ []
+
+unfoldable pub closed : ℕ → Ending → Turn → Turn
+closed i ending t =
+    record t { state = without_call i t.state; notes = t.notes ++ close_notes ending (call_of t.state i) }
+
+-- it is Faulted, its listen is dropped, the call of which it is the client is closed, and task 0 is
+-- posted the fault bits; a fault of task 0 itself posts nothing. Calls of which it is the server stay
+unfoldable pub faulted_as : Setup → ℕ → Fault → Ending → Turn → Turn
+faulted_as g i fault ending t =
+    let stopped = changed (without_listen i) (with_health i (Faulted fault) t) in
+    let shut = closed i ending (noted (note.Fault i fault) stopped) in
+    if i == 0 then shut else posted 0 g.fault_bits shut
+
+-- the same where its server did not fault it
+abbrev pub faulted : Setup → ℕ → Fault → Turn → Turn
+faulted g i fault t = faulted_as g i fault Client t
 
 -- ## a task at birth
 

@@ -1,7 +1,7 @@
 -- The rows of the calls. Of the rows of a call the first applies whose condition holds.
 use Rattle.std.specs.Prelude.{ℕ, Bool, List, [], ◌∷◌, ◌==◌, cond, slice_range}
 use Rattle.kernel_abi.specs.declared.Note.TheVariants as note
-use Rattle.task_table.specs.State.{Turn}
+use Rattle.task_table.specs.State.{Setup, Turn}
 use Rattle.task_table.specs.Reading.{task_at, register}
 use Rattle.task_table.specs.Effects.{noted, given, returned, advanced, faulted}
 
@@ -12,8 +12,8 @@ first_row [] otherwise = otherwise
 first_row (row ∷ rows) otherwise = cond row.0 row.1 (first_row rows otherwise)
 
 -- the caller faults by its usage
-abbrev pub misused : ℕ → ℕ → Turn → Turn
-misused c usage t = faulted c record { number = 7; x = usage; y = 0 } t
+abbrev pub misused : Setup → ℕ → ℕ → Turn → Turn
+misused g c usage t = faulted g c record { number = 7; x = usage; y = 0 } t
 
 -- the caller goes on after its call, and with results from r4 on
 abbrev pub goes_on : ℕ → Turn → Turn
@@ -24,8 +24,8 @@ goes_on_with c values t = goes_on c (given c values t)
 
 -- ## PANIC: r4 and r5 are told, nothing is read
 
-unfoldable pub panicked : ℕ → Turn → Turn
-panicked c t = faulted c record { number = 8; x = register t.state c 4; y = register t.state c 5 } t
+unfoldable pub panicked : Setup → ℕ → Turn → Turn
+panicked g c t = faulted g c record { number = 8; x = register t.state c 4; y = register t.state c 5 } t
 
 -- ## a call
 
@@ -34,9 +34,9 @@ unfoldable pub call_noted : ℕ → Turn → Turn
 call_noted c t = noted (note.Call c (register t.state c 11) (slice_range (task_at t.state c).registers 4 11)) t
 
 -- the call whose number is in r11; a number that has no row is usage 1, BadCall
-unfoldable pub called : ℕ → Turn → Turn
-called c t =
+unfoldable pub called : Setup → ℕ → Turn → Turn
+called g c t =
     let n = register t.state c 11 in
     first_row (
-    (n == 8, panicked c t)
-    ∷ []) (misused c 1 t)
+    (n == 8, panicked g c t)
+    ∷ []) (misused g c 1 t)

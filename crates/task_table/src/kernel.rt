@@ -10,7 +10,7 @@ use crate::memory::Memory;
 use crate::slot::{Found, Slot, Wait};
 use crate::start::{LineStart, TaskStart, copies_of, first_slots};
 use arrayvec::ArrayVec;
-use kernel_abi::{Fault, Generation, Health, Note, TaskId, Timer, Usage};
+use kernel_abi::{Ending, Fault, Generation, Health, Note, TaskId, Timer, Usage};
 use region_check::Region;
 use std::alloc::{AllocError, Global};
 use words_core::Flags;
@@ -42,7 +42,7 @@ impl Kernel {
     ghost use Rattle.task_table.specs.State.{Setup, State, Turn, Own};
     ghost use Rattle.task_table.specs.Memory.{is_ram, byte_at, number_at, IsWithinRam};
     ghost use Rattle.task_table.specs.Reading.{task_at, setup_at, register, priority, is_ready, call_of, listen_of, IsSameBut, IsIdle};
-    ghost use Rattle.task_table.specs.Effects.{changed, noted, clocked, with_line, with_processor, with_health, without_call, without_listen, stored, faulted};
+    ghost use Rattle.task_table.specs.Effects.{changed, noted, clocked, with_line, with_processor, with_health, without_listen, stored, closed, faulted_as, faulted};
     ghost use Rattle.task_table.specs.Rows.{misused, call_noted, called};
     ghost use Rattle.task_table.specs.Start.{start as started_at, begun};
     ghost use Rattle.task_table.specs.Parts.{setup_of_parts, line_setup, IsSound};
@@ -391,30 +391,28 @@ impl Kernel {
         }
     }
 
-    /// Drops the call of a client, if it has one.
-    fn drop_call(&mut self, client: usize)
-        requires { client < task_count self.old }
-        ensures holds { (g : Setup) (t : Turn) → Holds g self.old t → Holds g self.new (changed (without_call client) t) }
-        ensures count { note_count self.new ≡ note_count self.old }
+    /// Closes the call of a client, if it has one.
+    fn close(&mut self, client: usize, ending: Ending)
+        requires there { client < task_count self.old }
+        requires room { note_count self.old < 1024 }
+        ensures holds { (g : Setup) (t : Turn) → Holds g self.old t → Holds g self.new (closed client ending t) }
+        ensures count { note_count self.new ≤ note_count self.old + 1 }
         ensures tasks { task_count self.new ≡ task_count self.old }
     {
         let mut slot = self.slot(client);
-        if slot.wait.is_calling() {
+        if let Some(call) = slot.wait.call() {
             slot.wait = Wait::Nothing;
             self.set_slot(client, slot);
+            self.note(Note::Close { call, ending });
         }
     }
 
-    /// A task faults: it is Faulted, and its listen and the call of which it is the client are
-    /// dropped.
-    pub fn fault(&mut self, task: usize, fault: Fault)
+    /// A task faults, and its call is closed as told.
+    fn fault_as(&mut self, task: usize, fault: Fault, ending: Ending)
         requires there { task < task_count self.old }
-        requires room { note_count self.old < 1024 }
-        requires from_one { 1 ≤ fault.number }
-        requires to_ten { fault.number ≤ 10 }
-        ensures holds { (g : Setup) (t : Turn) → Holds g self.old t → Holds g self.new (faulted task fault t) }
-        ensures stands { (g : Setup) (t : Turn) → Stands g self.old t → Stands g self.new (faulted task fault t) }
-        ensures count { note_count self.new ≡ note_count self.old + 1 }
+        requires room { note_count self.old + 4 ≤ 1024 }
+        ensures holds { (g : Setup) (t : Turn) → Holds g self.old t → Holds g self.new (faulted_as g task fault ending t) }
+        ensures count { note_count self.new ≤ note_count self.old + 4 }
         ensures tasks { task_count self.new ≡ task_count self.old }
     {
         self.set_health(task, Health::Faulted(fault));
@@ -423,16 +421,36 @@ impl Kernel {
             task: task as u16,
             fault,
         });
-        self.drop_call(task);
+        self.close(task, ending);
+        if task != 0 {
+            self.post(0, self.fault_bits);
+        }
+    }
+
+    /// A task faults: it is Faulted, its listen is dropped, the call of which it is the client is
+    /// closed, and the supervisor, which is task 0, is posted its fault bits. Calls of which the task
+    /// is the server go on waiting. A fault of the supervisor itself posts nothing (Hubris Reference,
+    /// on supervision).
+    pub fn fault(&mut self, task: usize, fault: Fault)
+        requires there { task < task_count self.old }
+        requires room { note_count self.old + 4 ≤ 1024 }
+        requires from_one { 1 ≤ fault.number }
+        requires to_ten { fault.number ≤ 10 }
+        ensures holds { (g : Setup) (t : Turn) → Holds g self.old t → Holds g self.new (faulted g task fault t) }
+        ensures stands { (g : Setup) (t : Turn) → Stands g self.old t → Stands g self.new (faulted g task fault t) }
+        ensures count { note_count self.new ≤ note_count self.old + 4 }
+        ensures tasks { task_count self.new ≡ task_count self.old }
+    {
+        self.fault_as(task, fault, Ending::Client);
     }
 
     /// A task faults since it misused a system call.
     pub fn misuse(&mut self, task: usize, usage: Usage)
         requires there { task < task_count self.old }
-        requires room { note_count self.old < 1024 }
-        ensures holds { (g : Setup) (t : Turn) → Holds g self.old t → Holds g self.new (misused task (usage_number usage) t) }
-        ensures stands { (g : Setup) (t : Turn) → Stands g self.old t → Stands g self.new (misused task (usage_number usage) t) }
-        ensures count { note_count self.new ≡ note_count self.old + 1 }
+        requires room { note_count self.old + 4 ≤ 1024 }
+        ensures holds { (g : Setup) (t : Turn) → Holds g self.old t → Holds g self.new (misused g task (usage_number usage) t) }
+        ensures stands { (g : Setup) (t : Turn) → Stands g self.old t → Stands g self.new (misused g task (usage_number usage) t) }
+        ensures count { note_count self.new ≤ note_count self.old + 4 }
         ensures tasks { task_count self.new ≡ task_count self.old }
     {
         self.fault(task, Fault::usage(usage));
@@ -459,10 +477,10 @@ impl Kernel {
     /// misuses the calls that there are. Either way the task faults.
     pub fn call(&mut self, task: usize)
         requires there { task < task_count self.old }
-        requires room { note_count self.old < 1024 }
-        ensures holds { (g : Setup) (t : Turn) → Holds g self.old t → Holds g self.new (called task t) }
-        ensures stands { (g : Setup) (t : Turn) → Stands g self.old t → Stands g self.new (called task t) }
-        ensures count { note_count self.new ≡ note_count self.old + 1 }
+        requires room { note_count self.old + 100 ≤ 1024 }
+        ensures holds { (g : Setup) (t : Turn) → Holds g self.old t → Holds g self.new (called g task t) }
+        ensures stands { (g : Setup) (t : Turn) → Stands g self.old t → Stands g self.new (called g task t) }
+        ensures count { note_count self.new ≤ note_count self.old + 100 }
         ensures tasks { task_count self.new ≡ task_count self.old }
     {
         if self.register(task, 11) == 8 {
