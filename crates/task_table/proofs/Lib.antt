@@ -4,6 +4,7 @@ pub mod Steps
 pub mod Keeps
 pub mod Posting
 pub mod Sanity
+pub mod Timing
 pub mod Starts
 pub mod Ranges
 pub mod Frames

@@ -41,7 +41,7 @@ impl Kernel {
     ghost use Rattle.kernel_abi.specs.declared.Health.TheVariants.{Faulted};
     ghost use Rattle.task_table.specs.State.{Setup, State, Turn, Own};
     ghost use Rattle.task_table.specs.Memory.{is_ram, byte_at, number_at, IsWithinRam};
-    ghost use Rattle.task_table.specs.Reading.{task_at, setup_at, register, priority, is_ready, call_of, listen_of, IsSameBut, IsIdle};
+    ghost use Rattle.task_table.specs.Reading.{task_at, setup_at, register, arguments, priority, is_ready, call_of, listen_of, IsSameBut, IsIdle};
     ghost use Rattle.task_table.specs.Effects.{changed, noted, clocked, with_line, with_processor, with_health, without_listen, stored, closed, faulted_as, faulted};
     ghost use Rattle.task_table.specs.Rows.{misused, call_noted, called};
     ghost use Rattle.task_table.specs.Start.{start as started_at, begun};
@@ -209,6 +209,15 @@ impl Kernel {
         ensures { (g : Setup) (t : Turn) → Holds g self.now t → result ≡ (task_at t.state task).registers }
     {
         self.slot(task).registers
+    }
+
+    /// The registers r4 to r11 of a task: the arguments of its call, and the call's number.
+    pub fn arguments(&self, task: usize) -> [u32; 8]
+        requires { task < task_count self.now }
+        ensures { (g : Setup) (t : Turn) → Holds g self.now t → result ≡ arguments t.state task }
+    {
+        let slot = self.slot(task);
+        words_in(&slot.registers)
     }
 
     /// One register of a task.
@@ -519,6 +528,15 @@ impl Kernel {
     {
         self.memory.store(addr, bytes);
     }
+}
+
+/// The registers r4 to r11.
+fn words_in(registers: &[u32; 16]) -> [u32; 8]
+    ensures { result ≡ slice_range registers.now 4 12 }
+{
+    let mut words = [0; 8];
+    words.copy_from_slice(&registers[4..12]);
+    words
 }
 
 /// The registers r4 to r10.

@@ -11,7 +11,8 @@ ghost use Rattle.task_table.specs.Memory.{Memory, IsWithin, IsWithinRam};
 ghost use Rattle.task_table.specs.State.{Setup, State, Turn, Ground};
 ghost use Rattle.task_table.specs.Reading.{setup_at, is_ready, IsIdle, IsSameAt};
 ghost use Rattle.task_table.specs.Effects.{changed, noted, with_processor, posted, stored, faulted};
-ghost use Rattle.task_table.specs.Rows.{misused, panicked, call_noted, called};
+ghost use Rattle.task_table.specs.Rows.{misused, panicked, timer_set, timer_told, irq_controlled, call_noted, called};
+ghost use Rattle.task_table.specs.Events.{ticked, interrupted};
 ghost use Rattle.task_table.specs.Placed.{ArePlaced};
 ghost use Rattle.task_table.specs.Sane.{Sane, IsCounted, AreAllBytes};
 ghost use Rattle.task_table.specs.Counts.{AreWhole, IsSameTime, IsNoted};
@@ -35,6 +36,9 @@ pub fn effects_keep_sane()
 pub fn rows_keep_sane()
     ensures misused { (g : Setup) (c : ℕ) (usage : ℕ) (t : Turn) → Sane g t.state → c < length t.state.tasks → Sane g (misused g c usage t).state }
     ensures panicked { (g : Setup) (c : ℕ) (t : Turn) → Sane g t.state → c < length t.state.tasks → Sane g (panicked g c t).state }
+    ensures timer_set { (g : Setup) (c : ℕ) (t : Turn) → Sane g t.state → c < length t.state.tasks → Sane g (timer_set c t).state }
+    ensures timer_told { (g : Setup) (c : ℕ) (t : Turn) → Sane g t.state → c < length t.state.tasks → Sane g (timer_told c t).state }
+    ensures irq_controlled { (g : Setup) (c : ℕ) (t : Turn) → Sane g t.state → c < length t.state.tasks → Sane g (irq_controlled g c t).state }
     ensures call_noted { (g : Setup) (c : ℕ) (t : Turn) → Sane g t.state → c < length t.state.tasks → Sane g (call_noted c t).state }
     ensures called { (g : Setup) (c : ℕ) (t : Turn) → Sane g t.state → c < length t.state.tasks → Sane g (called g c t).state }
 {}
@@ -43,6 +47,12 @@ pub fn rows_keep_sane()
 pub fn posts_and_faults_are_noted()
     ensures posted { (i bits : ℕ) (t : Turn) → IsNoted (posted i bits t) }
     ensures faulted { (g : Setup) (i : ℕ) (fault : Fault) (t : Turn) → IsNoted (faulted g i fault t) }
+{}
+
+/// A tick and an interrupt leave a sane state sane.
+pub fn events_keep_sane()
+    ensures ticked { (g : Setup) (t : Turn) → Sane g t.state → Sane g (ticked t).state }
+    ensures interrupted { (g : Setup) (k : ℕ) (t : Turn) → Sane g t.state → Sane g (interrupted g k t).state }
 {}
 
 /// The start of a run of a sound image is sane, and its counts are in order.
