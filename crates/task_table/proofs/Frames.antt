@@ -95,15 +95,19 @@ idle-woken_by i j (Some l) t h = go (eqb (bit_and (task_at t.state j).posted l.m
   where
     u : State
     u = without_listen j t.state
+
     v : Turn
     v = bits_cleared j l.mask (changed (without_listen j) t)
+
     w : Turn
     w = given j (0 ∷ 0xFFFF ∷ bit_and (task_at t.state j).posted l.mask ∷ 0 ∷ 0 ∷ 0 ∷ []) v
+
     taken : IsIdle w.state i
     taken = record {
       call = call_of-with_task v.state j i _ ∙ call_of-with_task u j i _ ∙ call_of-without_listen t.state j i ∙ h.call;
       listen = listen_of-with_task v.state j i _ ∙ listen_of-with_task u j i _ ∙ unlistened i j t.state h.listen;
     }
+
     go : (b : Bool) → IsIdle (cond b t (returned j w)).state i
     go true = h
     go false = taken
@@ -166,14 +170,17 @@ time-woken i (Some l) t = go (eqb (bit_and (task_at t.state i).posted l.mask) 0)
   where
     u : Turn
     u = bits_cleared i l.mask (changed (without_listen i) t)
+
     values : List ℕ
     values = 0 ∷ 0xFFFF ∷ bit_and (task_at t.state i).posted l.mask ∷ 0 ∷ 0 ∷ 0 ∷ []
+
     taken : IsSameTime t.state (returned i (given i values u)).state
     taken =
         time-joined t.state (given i values u).state (returned i (given i values u)).state
         (time-joined t.state u.state (given i values u).state
         (time-joined t.state (changed (without_listen i) t).state u.state (time-unlistened i t) (time-cleared i l.mask (changed (without_listen i) t)))
         (time-given i values u)) (time-returned i (given i values u))
+
     go : (b : Bool) → IsSameTime t.state (cond b t (returned i (given i values u))).state
     go true = record { count = refl; turn = refl; now = refl; next_call = refl }
     go false = taken
@@ -188,8 +195,10 @@ time-faulted g i fault t = go (eqb i 0)
   where
     shut : Turn
     shut = closed i Client (noted (note.Fault i fault) (changed (without_listen i) (with_health i (Faulted fault) t)))
+
     same : IsSameTime t.state shut.state
     same = record { count = length-set t.state.tasks i _; turn = refl; now = refl; next_call = refl }
+
     go : (b : Bool) → IsSameTime t.state (cond b shut (posted 0 g.fault_bits shut)).state
     go true = same
     go false = time-joined t.state shut.state (posted 0 g.fault_bits shut).state same (time-posted 0 g.fault_bits shut)
@@ -231,6 +240,7 @@ noted-woken i (Some l) t h = go (eqb (bit_and (task_at t.state i).posted l.mask)
   where
     u : Turn
     u = given i (0 ∷ 0xFFFF ∷ bit_and (task_at t.state i).posted l.mask ∷ 0 ∷ 0 ∷ 0 ∷ []) (bits_cleared i l.mask (changed (without_listen i) t))
+
     go : (b : Bool) → IsNoted (cond b t (returned i u))
     go true = h
     go false = some_note u.notes _
@@ -245,8 +255,10 @@ noted-faulted g i fault t = go (eqb i 0)
   where
     stopped : Turn
     stopped = changed (without_listen i) (with_health i (Faulted fault) t)
+
     shut : Turn
     shut = closed i Client (noted (note.Fault i fault) stopped)
+
     go : (b : Bool) → IsNoted (cond b shut (posted 0 g.fault_bits shut))
     go true = some_more (t.notes ++ note.Fault i fault ∷ []) (close_notes Client (call_of stopped.state i)) (some_note t.notes _)
     go false = noted-posted 0 g.fault_bits shut

@@ -111,8 +111,10 @@ module _ {g : Setup} where
     where
       shut : Turn
       shut = closed i ending (noted (note.Fault i fault) (changed (without_listen i) (with_health i (Faulted fault) t)))
+
       shut_sane : Sane g shut.state
       shut_sane = stopped i (Faulted fault) t.state h inside (low, high)
+
       by_zero : (b : Bool) → Sane g (cond b shut (posted 0 g.fault_bits shut)).state
       by_zero true = shut_sane
       by_zero false = sane-posted 0 g.fault_bits shut shut_sane (still h shut_sane (omega (arith, inside)))

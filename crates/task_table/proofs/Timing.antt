@@ -115,7 +115,7 @@ unfolding ticked Upto
 sane-ticked {g} t h =
     let n = length t.state.tasks in
     let all : IsSaneBut Every Every (Upto (0 + n)) Both g (ticked t).state =
-        fold_keeps (λ k u. IsSaneBut Every Every (Upto k) Both g u.state) expired 0 n (clocked t) (clock_started t h) (λ k u from below v. sane-expired k u (still h v (omega arith)) v) in
+    fold_keeps (λ k u. IsSaneBut Every Every (Upto k) Both g u.state) expired 0 n (clocked t) (clock_started t h) (λ k u from below v. sane-expired k u (still h v (omega arith)) v) in
     record {
       steady = all.steady;
       well = all.well;

@@ -1,8 +1,10 @@
 //! Laws of the abstract kernel, each the contract of a function that does nothing.
 
-ghost use Rattle.std.specs.Prelude.{◌≡◌, ◌+◌, ◌<◌, ◌≤◌, ℕ, true, List, length};
+ghost use Rattle.std.specs.Prelude.{◌≡◌, ◌+◌, ◌<◌, ◌≤◌, ℕ, true, List, Option, length};
 ghost use Rattle.kernel_abi.specs.declared.Fault.{Fault};
 ghost use Rattle.kernel_abi.specs.declared.Note.{Note};
+ghost use Rattle.kernel_abi.specs.declared.Timer.{Timer};
+ghost use Rattle.task_table.specs.declared.Line.{Line};
 ghost use Rattle.words_core.specs.declared.Flags.{Flags};
 ghost use Rattle.region_check.specs.declared.Right.{Right};
 ghost use Rattle.region_check.specs.declared.Right.TheVariants.{Write};
@@ -10,7 +12,7 @@ ghost use Rattle.region_check.specs.Rights.{may_copy};
 ghost use Rattle.task_table.specs.Memory.{Memory, IsWithin, IsWithinRam};
 ghost use Rattle.task_table.specs.State.{Setup, State, Turn, Ground};
 ghost use Rattle.task_table.specs.Reading.{setup_at, is_ready, IsIdle, IsSameAt};
-ghost use Rattle.task_table.specs.Effects.{changed, noted, with_processor, posted, stored, faulted};
+ghost use Rattle.task_table.specs.Effects.{changed, noted, with_processor, given, posted, with_timer, with_line, stored, faulted};
 ghost use Rattle.task_table.specs.Rows.{misused, panicked, timer_set, timer_told, irq_controlled, call_noted, called};
 ghost use Rattle.task_table.specs.Events.{ticked, interrupted};
 ghost use Rattle.task_table.specs.Placed.{ArePlaced};
@@ -77,7 +79,8 @@ pub fn counts_stay_in_order()
 {}
 
 /// A task that is ready waits for nothing, and stays so where neither it nor its waiting changes, as
-/// by a note, by a store and where another task becomes current.
+/// by a note, by a store and where another task becomes current. What waits for nothing does so after
+/// results are given, after a post, and where a timer or a line changes.
 pub fn ready_waits_for_nothing()
     ensures idle { (s : State) (i : ℕ) → is_ready s i ≡ true → IsIdle s i }
     ensures ready_same { (i : ℕ) (s u : State) → IsSameAt i s u → is_ready s i ≡ true → is_ready u i ≡ true }
@@ -85,6 +88,10 @@ pub fn ready_waits_for_nothing()
     ensures noted { (j : ℕ) (n : Note) (t : Turn) → IsSameAt j t.state (noted n t).state }
     ensures stored { (j : ℕ) (on : Ground) (at : ℕ) (bytes : List ℕ) (t : Turn) → IsSameAt j t.state (stored on at bytes t).state }
     ensures current { (j i : ℕ) (t : Turn) → IsSameAt j t.state (changed (λ s. record s { current = i }) t).state }
+    ensures given { (i j : ℕ) (values : List ℕ) (t : Turn) → IsIdle t.state i → IsIdle (given j values t).state i }
+    ensures posted { (i j bits : ℕ) (t : Turn) → IsIdle t.state i → IsIdle (posted j bits t).state i }
+    ensures timer { (i j : ℕ) (timer : Option Timer) (t : Turn) → IsIdle t.state i → IsIdle (with_timer j timer t).state i }
+    ensures line { (i k : ℕ) (line : Line) (t : Turn) → IsIdle t.state i → IsIdle (with_line k line t).state i }
 {}
 
 /// What a region gives that is no device lies in flash or RAM, and in RAM where it may be written;
