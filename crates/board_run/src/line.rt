@@ -299,17 +299,17 @@ pub fn irq_line(turn: u32, line: u8, handled: Handled, out: &mut ArrayString<160
     out.push_str("\n");
 }
 
-/// Bits that are posted to a task, and its posted bits then.
+/// Bits that are posted to a task, and all its posted bits then.
 #[tactic(auto, unfolding(crate::specs::Text::post_line))]
-pub fn post_line(turn: u32, task: u16, bits: u32, posted: u32, out: &mut ArrayString<160>)
+pub fn post_line(turn: u32, task: u16, bits: u32, all: u32, out: &mut ArrayString<160>)
     requires { out.old.bytes ≡ [] }
-    ensures { out.new.bytes ≡ post_line turn task bits posted }
+    ensures { out.new.bytes ≡ post_line turn task bits all }
 {
     push_decimal(out, u64::from(turn));
     out.push_str(" post ");
     push_decimal(out, u64::from(task));
     push_spaced_hex(out, bits);
-    push_spaced_hex(out, posted);
+    push_spaced_hex(out, all);
     out.push_str("\n");
 }
 

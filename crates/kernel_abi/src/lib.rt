@@ -384,9 +384,14 @@ pub enum Ending {
 #[derive(Clone, Copy, Debug, PartialEq, Eq)]
 pub enum Note {
     /// The time rose to this.
-    Tick { now: u64 },
+    Tick {
+        now: u64,
+    },
     /// An interrupt came on a line.
-    Irq { line: u8, handled: Handled },
+    Irq {
+        line: u8,
+        handled: Handled,
+    },
     /// Bits were posted to a task, whose posted bits these were then, before it took any.
     Post {
         task: u16,
@@ -405,7 +410,10 @@ pub enum Note {
         results: [u32; 6],
     },
     /// An open call was closed.
-    Close { call: u32, ending: Ending },
+    Close {
+        call: u32,
+        ending: Ending,
+    },
     /// A task faulted.
     Fault {
         task: u16,
