@@ -222,15 +222,15 @@ effect_lent g k cpu t insn h inside =
     let rest = rest_of h.saved t cpu h.is in
     effect_here g t k cpu insn h.holds.setup (h.holds.current ∙ sym rest.current) (h.holds.memory ∙ sym rest.memory) (lent_cpu g k cpu t h inside)
 
-pub next_lent : (g : Setup) (k : Kernel) (t : Turn) (c : ℕ) (e : Effect) (d cpu : Cpu) (ss : List Store) → e ≡ Next d ss → cpu ≡ d → IsLent g k cpu (with_processor c cpu.regs.words cpu.flags (fold put t ss)) → IsLent g k cpu (acted c e t)
+pub next_lent : (g : Setup) (k : Kernel) (t : Turn) (c : ℕ) (e : Effect) (d cpu : Cpu) (ss : List Store) → e ≡ Next d ss → cpu ≡ d → IsLent g k cpu (with_processor c cpu.regs.words cpu.flags (fold put t ss)) → IsLent g k cpu (acted g c e t)
 next_lent g k t c e d cpu ss is same h =
     let P : Cpu → Type 0 = λ x. IsLent g k cpu (with_processor c x.regs.words x.flags (fold put t ss)) in
-    let S : Effect → Type 0 = λ x. IsLent g k cpu (acted c x t) in
+    let S : Effect → Type 0 = λ x. IsLent g k cpu (acted g c x t) in
     subst S (sym is) (subst P same h)
 
-pub acted_as : (P : Turn → Type 0) (c : ℕ) (t : Turn) (e d : Effect) → e ≡ d → P (acted c d t) → P (acted c e t)
-acted_as P c t e d is h =
-    let S : Effect → Type 0 = λ x. P (acted c x t) in
+pub acted_as : (g : Setup) (P : Turn → Type 0) (c : ℕ) (t : Turn) (e d : Effect) → e ≡ d → P (acted g c d t) → P (acted g c e t)
+acted_as g P c t e d is h =
+    let S : Effect → Type 0 = λ x. P (acted g c x t) in
     subst S (sym is) h
 
 pub ready_same : (g : Setup) (m : Machine) (reach : Reach) (cpu : Cpu) (t : Turn) → reach ≡ m.reach → cpu ≡ m.processor → IsReady g m t → IsReady g record { reach = reach; processor = cpu; lent = m.lent } t
@@ -247,7 +247,7 @@ register_begun s c = refl
 
 wide_rows : Setup → ℕ → Turn → ℕ → ℕ → ℕ → Bool → Turn
 wide_rows g c t at first after text =
-    cond (not text) (faulted c record { number = 2; x = after; y = 0 } t) (decoded_as g c at (decoded_of first (Some (number_at t.state.memory after 2))) t)
+    cond (not text) (faulted g c record { number = 2; x = after; y = 0 } t) (decoded_as g c at (decoded_of first (Some (number_at t.state.memory after 2))) t)
 
 wide_by : (g : Setup) (c : ℕ) (t : Turn) (at first after : ℕ) (b : Bool) → after ≡ (at + 2) % 2 ^ 32 → b ≡ is_text g c after → wide_rows g c t at first after b ≡ stepped_wide g c at first t
 unfolding wide_rows
@@ -257,10 +257,10 @@ wide_by g c t at first after b e is =
     ap by is ∙ ap at_place e
 
 module _ (g : Setup) (t : Turn) (P : Turn → Type 0) (at first after : ℕ) (b : Bool) (e : after ≡ (at + 2) % 2 ^ 32) (is : b ≡ is_text g t.state.current after) where
-  pub second_refused : (f : Fault) → b ≡ false → f ≡ record { number = 2; x = after; y = 0 } → P (faulted t.state.current f t) → P (stepped_wide g t.state.current at first t)
+  pub second_refused : (f : Fault) → b ≡ false → f ≡ record { number = 2; x = after; y = 0 } → P (faulted g t.state.current f t) → P (stepped_wide g t.state.current at first t)
   unfolding wide_rows
   second_refused f refused fault h =
-      let F : Fault → Type 0 = λ x. P (faulted t.state.current x t) in
+      let F : Fault → Type 0 = λ x. P (faulted g t.state.current x t) in
       subst P (wide_by g t.state.current t at first after false e (sym refused ∙ is)) (subst F fault h)
 
   pub second_acted : (second : ℕ) (d : Decoded) → b ≡ true → second ≡ number_at t.state.memory after 2 → d ≡ decoded_of first (Some second) → P (decoded_as g t.state.current at d t) → P (stepped_wide g t.state.current at first t)

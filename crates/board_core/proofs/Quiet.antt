@@ -3,7 +3,6 @@ use Rattle.std.proofs.Common.{◌≡◌, ◌+◌, ◌-◌, ◌%◌, ◌^◌, ◌
 use Rattle.std.specs.Prelude.{find, fold}
 use Rattle.std.specs.List.{range_with_len, list_all}
 use Rattle.kernel_abi.specs.declared.Fault.{Fault}
-use Rattle.kernel_abi.specs.declared.Note.{Note}
 use Rattle.words_core.specs.declared.Flags.{Flags}
 use Rattle.thumb_insn.specs.declared.Decoded.{Decoded}
 use Rattle.thumb_insn.specs.declared.Decoded.TheVariants.{Narrow, Wide, Illegal, NeedsSecond}
@@ -12,8 +11,10 @@ use Rattle.thumb_exec.specs.Effect.{Effect, Next, Call, Trap, Store, effect}
 use Rattle.task_table.specs.Memory.{Memory, number_at}
 use Rattle.task_table.specs.State.{Setup, State, Task, Turn}
 use Rattle.task_table.specs.Reading.{task_at, call_of, listen_of, register, chosen, qualifies, around, is_ready, is_faulted, priority}
-use Rattle.task_table.specs.Effects.{noted, with_task, with_health, without_call, without_listen, with_processor, faulted}
+use Rattle.task_table.specs.Effects.{with_task, with_processor, faulted}
 use Rattle.task_table.specs.Rows.{called, call_noted, panicked}
+use Rattle.task_table.specs.Counts.{IsNoted}
+use Rattle.task_table.proofs.Frames.{noted-faulted}
 use Rattle.task_table.specs.Start.{begun}
 use Rattle.task_table.specs.Sane.{Sane}
 use Rattle.task_table.proofs.Changes.{call_of-with_task, listen_of-with_task, length-with_task}
@@ -81,31 +82,29 @@ row : (b : Bool) (u v : Turn) (s : State) → Quiet s u → Quiet s v → Quiet 
 row true u v s p q = p
 row false u v s p q = q
 
-some_note : (xs : List Note) (n : Note) → xs ++ n ∷ [] ≡ [] → ⊥
-some_note [] n e = cc
-some_note (x ∷ xs) n e = cc
+loud : (s : State) (t : Turn) → IsNoted t → Quiet s t
+loud s t noted none = absurd (noted none)
 
-loud-faulted : (s : State) (c : ℕ) (f : Fault) (t : Turn) → Quiet s (faulted c f t)
-unfolding faulted without_call noted without_listen with_health with_task
-loud-faulted s c f t e = absurd (some_note t.notes _ e)
+loud-faulted : (g : Setup) (s : State) (c : ℕ) (f : Fault) (t : Turn) → Quiet s (faulted g c f t)
+loud-faulted g s c f t = loud s (faulted g c f t) (noted-faulted g c f t)
 
-loud-called : (s : State) (c : ℕ) (t : Turn) → Quiet s (called c t)
+loud-called : (g : Setup) (s : State) (c : ℕ) (t : Turn) → Quiet s (called g c t)
 unfolding called panicked
-loud-called s c t = row (eqb (register t.state c 11) 8) _ _ s (loud-faulted s c _ t) (loud-faulted s c _ t)
+loud-called g s c t = row (eqb (register t.state c 11) 8) _ _ s (loud-faulted g s c _ t) (loud-faulted g s c _ t)
 
 module _ (g : Setup) (c : ℕ) (t : Turn) (inside : c < length t.state.tasks) where
-  quiet-acted : (e : Effect) → Quiet t.state (acted c e t)
+  quiet-acted : (e : Effect) → Quiet t.state (acted g c e t)
   quiet-acted (Next cpu stores) = λ none.
       let puts = ready-puts stores t in
       joined t.state (fold put t stores).state _ puts (ready-processor c cpu.regs.words cpu.flags (fold put t stores) (rw puts.count inside))
-  quiet-acted Call = loud-called t.state c (call_noted c t)
-  quiet-acted (Trap f) = loud-faulted t.state c f t
+  quiet-acted Call = loud-called g t.state c (call_noted c t)
+  quiet-acted (Trap f) = loud-faulted g t.state c f t
 
   quiet-decoded : (at : ℕ) (d : Decoded) → Quiet t.state (decoded_as g c at d t)
   quiet-decoded at (Narrow insn) = quiet-acted (effect (refusals g c) (number_at t.state.memory) (cpu_of (task_at t.state c)) insn)
   quiet-decoded at (Wide insn) = quiet-acted (effect (refusals g c) (number_at t.state.memory) (cpu_of (task_at t.state c)) insn)
-  quiet-decoded at Illegal = loud-faulted t.state c _ t
-  quiet-decoded at NeedsSecond = loud-faulted t.state c _ t
+  quiet-decoded at Illegal = loud-faulted g t.state c _ t
+  quiet-decoded at NeedsSecond = loud-faulted g t.state c _ t
 
   quiet-stepped : Quiet t.state (stepped g c t)
   unfolding stepped
@@ -113,9 +112,9 @@ module _ (g : Setup) (c : ℕ) (t : Turn) (inside : c < length t.state.tasks) wh
       let at = register t.state c 15 in
       let after = (at + 2) % 2 ^ 32 in
       let first = number_at t.state.memory at 2 in
-      row (not (is_text g c at)) _ _ t.state (loud-faulted t.state c _ t)
+      row (not (is_text g c at)) _ _ t.state (loud-faulted g t.state c _ t)
       (row (not (is_wide first)) _ _ t.state (quiet-decoded at (decoded_of first None))
-      (row (not (is_text g c after)) _ _ t.state (loud-faulted t.state c _ t)
+      (row (not (is_text g c after)) _ _ t.state (loud-faulted g t.state c _ t)
       (quiet-decoded at (decoded_of first (Some (number_at t.state.memory after 2))))))
 
 -- ## the choice

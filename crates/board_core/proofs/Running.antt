@@ -124,7 +124,7 @@ trap_known g t insn f sane coded is =
 -- what is carried out, by whether the first halfword is text and whether it begins a wide instruction
 rows : Setup → ℕ → Turn → ℕ → ℕ → Bool → Bool → Turn
 rows g c t at first text wide =
-    cond (not text) (faulted c record { number = 2; x = at; y = 0 } t)
+    cond (not text) (faulted g c record { number = 2; x = at; y = 0 } t)
     (cond (not wide) (decoded_as g c at (decoded_of first None) t) (stepped_wide g c at first t))
 
 stepped_by : (g : Setup) (c : ℕ) (t : Turn) (at first : ℕ) (text wide : Bool) → at ≡ register t.state c 15 → first ≡ number_at t.state.memory at 2 → text ≡ is_text g c at → wide ≡ is_wide first →
@@ -139,11 +139,11 @@ stepped_by g c t at first text wide same fetched is begins =
 
 module _ (g : Setup) (t : Turn) (P : Turn → Type 0) (at first : ℕ) (b : Bool)
     (same : at ≡ register t.state t.state.current 15) (is : b ≡ is_text g t.state.current at) where
-  pub text_refused : (f : Fault) → b ≡ false → f ≡ record { number = 2; x = at; y = 0 } → P (faulted t.state.current f t) → P (stepped g t.state.current t)
+  pub text_refused : (f : Fault) → b ≡ false → f ≡ record { number = 2; x = at; y = 0 } → P (faulted g t.state.current f t) → P (stepped g t.state.current t)
   unfolding rows
   text_refused f refused fault h =
       let e = stepped_by g t.state.current t at (number_at t.state.memory at 2) false (is_wide (number_at t.state.memory at 2)) same refl (sym refused ∙ is) refl in
-      let F : Fault → Type 0 = λ x. P (faulted t.state.current x t) in
+      let F : Fault → Type 0 = λ x. P (faulted g t.state.current x t) in
       subst P (sym e) (subst F fault h)
 
   pub narrow_acted : (d : Decoded) → b ≡ true → first ≡ number_at t.state.memory at 2 → is_wide first ≡ false → d ≡ decoded_of first None → P (decoded_as g t.state.current at d t) → P (stepped g t.state.current t)

@@ -82,7 +82,7 @@ still : {g : Setup} {s u : State} {c : ℕ} → Sane g s → Sane g u → c < le
 still h k lt = let a = h.steady.as_many in let b = k.steady.as_many in omega arith
 
 module _ {g : Setup} (c : ℕ) (t : Turn) (h : Sane g t.state) (inside : c < length t.state.tasks) where
-  acted-sane : (e : Effect) → Keeps (refusals g c) e → Sane g (acted c e t).state
+  acted-sane : (e : Effect) → Keeps (refusals g c) e → Sane g (acted g c e t).state
   acted-sane (Next cpu stores) k =
       let h1 = sane-puts (refusals g c) stores t h k.1 in
       sane-processor c cpu.regs.words cpu.flags (fold put t stores) h1 (still h h1 inside) record { sixteen = k.0.sixteen; even = k.0.even; aligned = k.0.aligned }

@@ -45,20 +45,20 @@ bytes_of v n = take n (v % 256 ∷ v / 2 ^ 8 % 256 ∷ v / 2 ^ 16 % 256 ∷ v / 
 abbrev pub put : Turn → Store → Turn
 put t x = if is_ram t.state.memory x.addr x.bytes then stored Own x.addr (bytes_of x.value x.bytes) t else t
 
-abbrev pub acted : ℕ → Effect → Turn → Turn
-acted c (Next cpu stores) t = with_processor c cpu.regs.words cpu.flags (fold put t stores)
-acted c Call t = called c (call_noted c t)
-acted c (Trap f) t = faulted c f t
+abbrev pub acted : Setup → ℕ → Effect → Turn → Turn
+acted g c (Next cpu stores) t = with_processor c cpu.regs.words cpu.flags (fold put t stores)
+acted g c Call t = called g c (call_noted c t)
+acted g c (Trap f) t = faulted g c f t
 
 abbrev pub executed : Setup → ℕ → Insn → Turn → Turn
 executed g c insn t =
-    acted c (effect (refusals g c) (number_at t.state.memory) (cpu_of (task_at t.state c)) insn) t
+    acted g c (effect (refusals g c) (number_at t.state.memory) (cpu_of (task_at t.state c)) insn) t
 
 abbrev pub decoded_as : Setup → ℕ → ℕ → Decoded → Turn → Turn
 decoded_as g c at (Narrow insn) t = executed g c insn t
 decoded_as g c at (Wide insn) t = executed g c insn t
-decoded_as g c at Illegal t = faulted c record { number = 1; x = at; y = 0 } t
-decoded_as g c at NeedsSecond t = faulted c record { number = 1; x = at; y = 0 } t
+decoded_as g c at Illegal t = faulted g c record { number = 1; x = at; y = 0 } t
+decoded_as g c at NeedsSecond t = faulted g c record { number = 1; x = at; y = 0 } t
 
 -- both bytes of a halfword may be executed
 abbrev pub is_text : Setup → ℕ → ℕ → Bool
@@ -69,7 +69,7 @@ abbrev pub stepped_wide : Setup → ℕ → ℕ → ℕ → Turn → Turn
 stepped_wide g c at first t =
     let after = (at + 2) % 2 ^ 32 in
     first_row (
-    (not (is_text g c after), faulted c record { number = 2; x = after; y = 0 } t)
+    (not (is_text g c after), faulted g c record { number = 2; x = after; y = 0 } t)
     ∷ []) (decoded_as g c at (decoded_of first (Some (number_at t.state.memory after 2))) t)
 
 -- fetched, decoded, carried out: the first halfword that may not be executed decides
@@ -78,7 +78,7 @@ stepped g c t =
     let at = register t.state c 15 in
     let first = number_at t.state.memory at 2 in
     first_row (
-    (not (is_text g c at), faulted c record { number = 2; x = at; y = 0 } t)
+    (not (is_text g c at), faulted g c record { number = 2; x = at; y = 0 } t)
     ∷ (not (is_wide first), decoded_as g c at (decoded_of first None) t)
     ∷ []) (stepped_wide g c at first t)
 

@@ -251,7 +251,7 @@ impl Machine {
     fn execute(&mut self, insn: &Insn)
         requires coded { IsCoded insn.now }
         requires ready { (g : Setup) × (t : Turn) × IsReady g self.old t }
-        requires room { note_count self.old.reach.kernel + 2 ≤ 1024 }
+        requires room { note_count self.old.reach.kernel + 101 ≤ 1024 }
         ensures { (g : Setup) (t : Turn) → IsReady g self.old t → MachineHolds g self.new (executed g t.state.current insn.now t) }
     {
         match exec(&mut self.processor, insn, &mut self.reach) {
@@ -264,8 +264,8 @@ impl Machine {
     /// The current task calls the kernel.
     fn call(&mut self)
         requires ready { (g : Setup) × (t : Turn) × IsReady g self.old t }
-        requires room { note_count self.old.reach.kernel + 2 ≤ 1024 }
-        ensures { (g : Setup) (t : Turn) → IsReady g self.old t → MachineHolds g self.new (called t.state.current (call_noted t.state.current t)) }
+        requires room { note_count self.old.reach.kernel + 101 ≤ 1024 }
+        ensures { (g : Setup) (t : Turn) → IsReady g self.old t → MachineHolds g self.new (called g t.state.current (call_noted t.state.current t)) }
     {
         self.settle();
         let task = self.reach.kernel.current();
@@ -278,8 +278,8 @@ impl Machine {
         requires ready { (g : Setup) × (t : Turn) × IsReady g self.old t }
         requires from_one { 1 ≤ fault.number }
         requires to_ten { fault.number ≤ 10 }
-        requires room { note_count self.old.reach.kernel < 1024 }
-        ensures { (g : Setup) (t : Turn) → IsReady g self.old t → MachineHolds g self.new (faulted t.state.current fault t) }
+        requires room { note_count self.old.reach.kernel + 4 ≤ 1024 }
+        ensures { (g : Setup) (t : Turn) → IsReady g self.old t → MachineHolds g self.new (faulted g t.state.current fault t) }
     {
         self.settle();
         let task = self.reach.kernel.current();
@@ -291,7 +291,7 @@ impl Machine {
     fn act(&mut self, decoded: &Decoded, at: u32)
         requires coded { GivesCoded decoded.now }
         requires ready { (g : Setup) × (t : Turn) × IsReady g self.old t }
-        requires room { note_count self.old.reach.kernel + 2 ≤ 1024 }
+        requires room { note_count self.old.reach.kernel + 101 ≤ 1024 }
         ensures { (g : Setup) (t : Turn) → IsReady g self.old t → MachineHolds g self.new (decoded_as g t.state.current at decoded.now t) }
     {
         match decoded {
@@ -305,7 +305,7 @@ impl Machine {
     /// One instruction of the current task: fetched, decoded, carried out.
     pub fn step(&mut self)
         requires ready { (g : Setup) × (t : Turn) × IsReady g self.old t }
-        requires room { note_count self.old.reach.kernel + 2 ≤ 1024 }
+        requires room { note_count self.old.reach.kernel + 101 ≤ 1024 }
         ensures { (g : Setup) (t : Turn) → IsReady g self.old t → MachineHolds g self.new (stepped g t.state.current t) }
     {
         let at = self.processor.regs.get(15);
@@ -325,7 +325,7 @@ impl Machine {
     /// The same where the first halfword begins a wide instruction.
     fn step_wide(&mut self, first: u16, at: u32)
         requires ready { (g : Setup) × (t : Turn) × IsReady g self.old t }
-        requires room { note_count self.old.reach.kernel + 2 ≤ 1024 }
+        requires room { note_count self.old.reach.kernel + 101 ≤ 1024 }
         ensures { (g : Setup) (t : Turn) → IsReady g self.old t → MachineHolds g self.new (stepped_wide g t.state.current at first t) }
     {
         let after = at.wrapping_add(2);

@@ -75,7 +75,7 @@ fn an_illegal_instruction_is_noted(rt: HostRuntime) -> Result<(), Fail> {
             assert_eq!(rt; fault.number, 1);
             assert_eq!(rt; fault.x, 0x0800_0000);
         }
-        Note::Call { .. } => assert!(rt; false),
+        _ => assert!(rt; false),
     }
     Ok(())
 }

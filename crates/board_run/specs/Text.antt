@@ -5,6 +5,10 @@ use Rattle.kernel_abi.specs.declared.Fault.{Fault}
 use Rattle.kernel_abi.specs.declared.Health.{Health}
 use Rattle.kernel_abi.specs.declared.Health.TheVariants.{Well, Stopped, Faulted}
 use Rattle.kernel_abi.specs.declared.Timer.{Timer}
+use Rattle.kernel_abi.specs.declared.Ending.{Ending}
+use Rattle.kernel_abi.specs.declared.Ending.TheVariants.{Reply, ReplyFault, Client, Restart}
+use Rattle.kernel_abi.specs.declared.Handled.{Handled}
+use Rattle.kernel_abi.specs.declared.Handled.TheVariants.{Posted, Held, Unowned}
 use Rattle.kernel_abi.specs.declared.Note.{Note}
 use Rattle.kernel_abi.specs.declared.Note.TheVariants as note
 use Rattle.words_core.specs.declared.Flags.{Flags}
@@ -41,9 +45,45 @@ fault_line turn task fault = decimal turn ++ codes " fault " ++ decimal task ++ 
 unfoldable pub call_line : ℕ → ℕ → ℕ → List ℕ → List ℕ
 call_line turn task number arguments = decimal turn ++ codes " call " ++ decimal task ++ codes " " ++ decimal number ++ flat_map spaced_hex arguments ++ codes "\n"
 
+-- `<turn> tick <now>`
+unfoldable pub tick_line : ℕ → ℕ → List ℕ
+tick_line turn now = decimal turn ++ codes " tick " ++ decimal now ++ codes "\n"
+
+-- `<turn> irq <line> <post, held or none>`
+abbrev pub handled_name : Handled → List ℕ
+handled_name Posted = codes "post"
+handled_name Held = codes "held"
+handled_name Unowned = codes "none"
+
+unfoldable pub irq_line : ℕ → ℕ → Handled → List ℕ
+irq_line turn line handled = decimal turn ++ codes " irq " ++ decimal line ++ codes " " ++ handled_name handled ++ codes "\n"
+
+-- `<turn> post <task> <bits h> <posted h>`
+unfoldable pub post_line : ℕ → ℕ → ℕ → ℕ → List ℕ
+post_line turn task bits posted = decimal turn ++ codes " post " ++ decimal task ++ spaced_hex bits ++ spaced_hex posted ++ codes "\n"
+
+-- `<turn> ret <task> <r4 h> .. <r9 h>`
+unfoldable pub ret_line : ℕ → ℕ → List ℕ → List ℕ
+ret_line turn task results = decimal turn ++ codes " ret " ++ decimal task ++ flat_map spaced_hex results ++ codes "\n"
+
+-- `<turn> close <call> <reply, replyfault, client or restart>`
+abbrev pub ending_name : Ending → List ℕ
+ending_name Reply = codes "reply"
+ending_name ReplyFault = codes "replyfault"
+ending_name Client = codes "client"
+ending_name Restart = codes "restart"
+
+unfoldable pub close_line : ℕ → ℕ → Ending → List ℕ
+close_line turn call ending = decimal turn ++ codes " close " ++ decimal call ++ codes " " ++ ending_name ending ++ codes "\n"
+
 -- the line of a note and its turn
 abbrev pub line_of : ℕ × Note → List ℕ
+line_of (turn, note.Tick now) = tick_line turn now
+line_of (turn, note.Irq line handled) = irq_line turn line handled
+line_of (turn, note.Post task bits posted) = post_line turn task bits posted
 line_of (turn, note.Call task number arguments) = call_line turn task number arguments
+line_of (turn, note.Ret task results) = ret_line turn task results
+line_of (turn, note.Close call ending) = close_line turn call ending
 line_of (turn, note.Fault task fault) = fault_line turn task fault
 
 abbrev pub notes_text : List (ℕ × Note) → List ℕ

@@ -2,14 +2,14 @@
 ghost use Rattle.std.specs.Prelude.{◌≡◌, ◌≤◌, ◌<◌, ◌+◌, ◌*◌, length, ◌∷◌, ◌++◌, [], codes, decimal};
 ghost use Rattle.std.specs.List.{flat_map};
 ghost use Rattle.arrayvec.specs.ArrayString.{array_string_len};
-ghost use Rattle.board_run.specs.Text.{glyph, hex, spaced_hex, bit, call_line, fault_line, health_text, timer_text, task_line, low_line, high_line, end_name, end_line};
+ghost use Rattle.board_run.specs.Text.{glyph, hex, spaced_hex, bit, tick_line, handled_name, irq_line, post_line, call_line, ret_line, ending_name, close_line, fault_line, health_text, timer_text, task_line, low_line, high_line, end_name, end_line};
 ghost use Rattle.board_run.specs.ViewText.{wait_words};
 ghost use Rattle.board_run.specs.MemoryText.{byte_hex, region_line};
 
 use arrayvec::ArrayString;
 use board_core::End;
 use itoa::Buffer;
-use kernel_abi::{Fault, Health, Timer};
+use kernel_abi::{Ending, Fault, Handled, Health, Timer};
 use region_check::Region;
 use task_table::Wait;
 use words_core::Flags;
@@ -259,6 +259,96 @@ pub fn call_line(
     out.push_str(" ");
     push_decimal(out, u64::from(number));
     push_regs(out, arguments);
+    out.push_str("\n");
+}
+
+/// The time after it rose.
+#[tactic(auto, unfolding(crate::specs::Text::tick_line))]
+pub fn tick_line(turn: u32, now: u64, out: &mut ArrayString<160>)
+    requires { out.old.bytes ≡ [] }
+    ensures { out.new.bytes ≡ tick_line turn now }
+{
+    push_decimal(out, u64::from(turn));
+    out.push_str(" tick ");
+    push_decimal(out, now);
+    out.push_str("\n");
+}
+
+fn handled_name(handled: Handled) -> &'static str
+    ensures name { result.now ≡ handled_name handled }
+    ensures short { length result.now ≤ 10 }
+{
+    match handled {
+        Handled::Posted => "post",
+        Handled::Held => "held",
+        Handled::Unowned => "none",
+    }
+}
+
+/// An interrupt on a line, and what it did.
+#[tactic(auto, unfolding(crate::specs::Text::irq_line))]
+pub fn irq_line(turn: u32, line: u8, handled: Handled, out: &mut ArrayString<160>)
+    requires { out.old.bytes ≡ [] }
+    ensures { out.new.bytes ≡ irq_line turn line handled }
+{
+    push_decimal(out, u64::from(turn));
+    out.push_str(" irq ");
+    push_decimal(out, u64::from(line));
+    out.push_str(" ");
+    out.push_str(handled_name(handled));
+    out.push_str("\n");
+}
+
+/// Bits that are posted to a task, and all its posted bits then.
+#[tactic(auto, unfolding(crate::specs::Text::post_line))]
+pub fn post_line(turn: u32, task: u16, bits: u32, all: u32, out: &mut ArrayString<160>)
+    requires { out.old.bytes ≡ [] }
+    ensures { out.new.bytes ≡ post_line turn task bits all }
+{
+    push_decimal(out, u64::from(turn));
+    out.push_str(" post ");
+    push_decimal(out, u64::from(task));
+    push_spaced_hex(out, bits);
+    push_spaced_hex(out, all);
+    out.push_str("\n");
+}
+
+/// The end of a call, with r4 to r9.
+#[tactic(auto, unfolding(crate::specs::Text::ret_line))]
+pub fn ret_line(turn: u32, task: u16, results: &[u32; 6], out: &mut ArrayString<160>)
+    requires { out.old.bytes ≡ [] }
+    ensures { out.new.bytes ≡ ret_line turn task results.now }
+{
+    push_decimal(out, u64::from(turn));
+    out.push_str(" ret ");
+    push_decimal(out, u64::from(task));
+    push_regs(out, results);
+    out.push_str("\n");
+}
+
+fn ending_name(ending: Ending) -> &'static str
+    ensures name { result.now ≡ ending_name ending }
+    ensures short { length result.now ≤ 10 }
+{
+    match ending {
+        Ending::Reply => "reply",
+        Ending::ReplyFault => "replyfault",
+        Ending::Client => "client",
+        Ending::Restart => "restart",
+    }
+}
+
+/// An open call that is closed, and why.
+#[tactic(auto, unfolding(crate::specs::Text::close_line))]
+pub fn close_line(turn: u32, call: u32, ending: Ending, out: &mut ArrayString<160>)
+    requires { out.old.bytes ≡ [] }
+    ensures { out.new.bytes ≡ close_line turn call ending }
+{
+    push_decimal(out, u64::from(turn));
+    out.push_str(" close ");
+    push_decimal(out, u64::from(call));
+    out.push_str(" ");
+    out.push_str(ending_name(ending));
     out.push_str("\n");
 }
 

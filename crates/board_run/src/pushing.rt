@@ -6,8 +6,8 @@ ghost use Rattle.board_run.specs.Text.{line_of, notes_text, task_line, low_line,
 ghost use Rattle.board_run.specs.ViewText.{view_text, wait_words};
 
 use crate::line::{
-    Line, call_line, end_line as put_end_line, fault_line, high_line as put_high_line,
-    low_line as put_low_line, task_line as put_task_line,
+    Line, call_line, close_line, end_line as put_end_line, fault_line, high_line as put_high_line,
+    irq_line, low_line as put_low_line, post_line, ret_line, task_line as put_task_line, tick_line,
 };
 use board_core::{Board, End, TaskView};
 use kernel_abi::Note;
@@ -20,11 +20,19 @@ fn push_note<S: Sink>(turn: u32, note: &Note, out: &mut S) -> Result<(), Failed>
 {
     let mut line = Line::new();
     match note {
+        Note::Tick { now } => tick_line(turn, *now, &mut line),
+        Note::Irq {
+            line: number,
+            handled,
+        } => irq_line(turn, *number, *handled, &mut line),
+        Note::Post { task, bits, posted } => post_line(turn, *task, *bits, *posted, &mut line),
         Note::Call {
             task,
             number,
             arguments,
         } => call_line(turn, *task, *number, arguments, &mut line),
+        Note::Ret { task, results } => ret_line(turn, *task, results, &mut line),
+        Note::Close { call, ending } => close_line(turn, *call, *ending, &mut line),
         Note::Fault { task, fault } => fault_line(turn, *task, fault, &mut line),
     }
     out.push(line.as_str().as_bytes())

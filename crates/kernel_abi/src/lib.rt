@@ -356,14 +356,63 @@ impl LeaseEntry {
     }
 }
 
+/// What an interrupt did.
+#[derive(Clone, Copy, Debug, PartialEq, Eq)]
+pub enum Handled {
+    /// Its line was enabled: the owner was posted.
+    Posted,
+    /// Its line was disabled: it is pending.
+    Held,
+    /// No task owns its line.
+    Unowned,
+}
+
+/// Why an open call was closed.
+#[derive(Clone, Copy, Debug, PartialEq, Eq)]
+pub enum Ending {
+    /// By its server's REPLY.
+    Reply,
+    /// By its server's REPLY_FAULT.
+    ReplyFault,
+    /// Its client faulted otherwise.
+    Client,
+    /// Its client or its server was restarted.
+    Restart,
+}
+
 /// A line of the trace without its turn.
 #[derive(Clone, Copy, Debug, PartialEq, Eq)]
 pub enum Note {
+    /// The time rose to this.
+    Tick {
+        now: u64,
+    },
+    /// An interrupt came on a line.
+    Irq {
+        line: u8,
+        handled: Handled,
+    },
+    /// Bits were posted to a task, whose posted bits these were then, before it took any.
+    Post {
+        task: u16,
+        bits: u32,
+        posted: u32,
+    },
     /// A task made a system call, with its r11 and its r4 to r10.
     Call {
         task: u16,
         number: u32,
         arguments: [u32; 7],
+    },
+    /// A system call of a task ended, with its r4 to r9.
+    Ret {
+        task: u16,
+        results: [u32; 6],
+    },
+    /// An open call was closed.
+    Close {
+        call: u32,
+        ending: Ending,
     },
     /// A task faulted.
     Fault {

@@ -2,10 +2,12 @@
 use Rattle.std.proofs.Common.{◌≡◌, ◌≢◌, ◌<◌, ℕ, false, cond, not, List, [], ◌∷◌, length, Some, None, inl, inr, refl, sym, ◌∙◌, ap, eqb, get_or-set_same, get_or-set_other, length-set}
 use Rattle.std.specs.Prelude.{find, filter}
 use Rattle.std.proofs.lemmas.Bool.{ne_eqb}
+use Rattle.std.proofs.lemmas.List.{append-nil}
 use Rattle.std.proofs.lemmas.Bool.Decides.{eqb_tells}
-use Rattle.task_table.specs.State.{Task, State}
+use Rattle.task_table.specs.State.{Task, State, Turn}
 use Rattle.task_table.specs.Reading.{task_at, call_of, listen_of, no_task, IsSameBut}
-use Rattle.task_table.specs.Effects.{with_task, without_call, without_listen}
+use Rattle.kernel_abi.specs.declared.Ending.{Ending}
+use Rattle.task_table.specs.Effects.{with_task, without_call, without_listen, closed}
 
 -- ## a task changed
 
@@ -146,3 +148,7 @@ without_listen_none s i h = ap (λ ls. record s { listens = ls }) (filter_none (
 pub without_call_none : (s : State) (i : ℕ) → call_of s i ≡ None → without_call i s ≡ s
 unfolding without_call call_of
 without_call_none s i h = ap (λ cs. record s { calls = cs }) (filter_none (λ c. c.client.index) i s.calls h)
+
+pub closed_none : (i : ℕ) (ending : Ending) (t : Turn) → call_of t.state i ≡ None → closed i ending t ≡ t
+unfolding closed
+closed_none i ending t h = rw (h, without_call_none t.state i h, append-nil) refl

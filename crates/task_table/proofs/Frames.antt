@@ -1,15 +1,22 @@
 -- What effects leave alone: who waits, and the time.
-use Rattle.std.proofs.Common.{◌≡◌, ◌+◌, ℕ, Bool, true, false, ◌&&◌, List, Option, Some, None, refl, ◌∙◌, arith, eqb, cond, is_none, length-set}
+use Rattle.std.proofs.Common.{◌≡◌, ◌≢◌, ◌+◌, ℕ, Bool, true, false, ◌&&◌, List, [], ◌∷◌, ◌++◌, Option, Some, None, inl, inr, refl, ◌∙◌, arith, eqb, bit_and, cond, is_none, length-set}
+use Rattle.std.proofs.lemmas.Bool.Decides.{eqb_tells}
 use Rattle.std.proofs.lemmas.Bool.{false≢true}
 use Rattle.kernel_abi.specs.declared.Fault.{Fault}
 use Rattle.kernel_abi.specs.declared.Note.{Note}
+use Rattle.kernel_abi.specs.declared.Note.TheVariants as note
+use Rattle.kernel_abi.specs.declared.Ending.TheVariants.{Client}
+use Rattle.kernel_abi.specs.declared.Health.TheVariants.{Faulted}
+use Rattle.kernel_abi.specs.declared.Timer.{Timer}
 use Rattle.words_core.specs.declared.Flags.{Flags}
-use Rattle.task_table.specs.State.{State, Turn, Ground}
+use Rattle.task_table.specs.declared.Line.{Line}
+use Rattle.task_table.specs.State.{Setup, State, Listen, Turn, Ground}
 use Rattle.task_table.specs.Reading.{task_at, register, call_of, listen_of, is_ready, is_well, IsIdle, IsSameAt}
-use Rattle.task_table.specs.Effects.{with_task, without_call, without_listen, changed, noted, with_processor, with_health, stored, faulted}
+use Rattle.task_table.specs.Effects.{with_task, without_call, without_listen, changed, noted, with_processor, with_health, given, returned, bits_added, bits_cleared, woken_by, woken, posted, with_timer, with_line, stored, close_notes, closed, faulted_as, faulted}
 use Rattle.task_table.specs.Rows.{call_noted, called, misused, panicked}
 use Rattle.task_table.specs.Sane.{IsCounted}
-use Rattle.task_table.specs.Counts.{IsSameTime}
+use Rattle.task_table.specs.Counts.{IsSameTime, IsNoted}
+use Rattle.task_table.proofs.Changes.{call_of-with_task, listen_of-with_task, call_of-without_listen, listen_of-without_listen, listen_of-without_listen_other}
 
 -- ## who waits
 
@@ -48,7 +55,71 @@ ready-same i s u same h = rw (same.task, same.call, same.listen) h
 pub idle-same : (i : ℕ) (s u : State) → IsSameAt i s u → IsIdle s i → IsIdle u i
 idle-same i s u same h = record { call = same.call ∙ h.call; listen = same.listen ∙ h.listen }
 
+-- a task that waits for nothing does so after results are given to it, and once it has taken bits
+pub idle-given : (i j : ℕ) (values : List ℕ) (t : Turn) → IsIdle t.state i → IsIdle (given j values t).state i
+unfolding given
+idle-given i j values t h = record { call = call_of-with_task t.state j i _ ∙ h.call; listen = listen_of-with_task t.state j i _ ∙ h.listen }
+
+pub idle-timer : (i j : ℕ) (timer : Option Timer) (t : Turn) → IsIdle t.state i → IsIdle (with_timer j timer t).state i
+unfolding with_timer
+idle-timer i j timer t h = record { call = call_of-with_task t.state j i _ ∙ h.call; listen = listen_of-with_task t.state j i _ ∙ h.listen }
+
+pub idle-line : (i k : ℕ) (line : Line) (t : Turn) → IsIdle t.state i → IsIdle (with_line k line t).state i
+unfolding with_line call_of listen_of
+idle-line i k line t h = record { call = h.call; listen = h.listen }
+
+pub idle-woken : (i mask : ℕ) (t : Turn) → call_of t.state i ≡ None → IsIdle (bits_cleared i mask (changed (without_listen i) t)).state i
+unfolding bits_cleared
+idle-woken i mask t none =
+    let u = without_listen i t.state in
+    record {
+      call = call_of-with_task u i i _ ∙ call_of-without_listen t.state i i ∙ none;
+      listen = listen_of-with_task u i i _ ∙ listen_of-without_listen t.state i;
+    }
+
+-- a post does not make a task wait
+idle-added : (i j bits : ℕ) (t : Turn) → IsIdle t.state i → IsIdle (bits_added j bits t).state i
+unfolding bits_added noted
+idle-added i j bits t h = record { call = call_of-with_task t.state j i _ ∙ h.call; listen = listen_of-with_task t.state j i _ ∙ h.listen }
+
+unlistened : (i j : ℕ) (s : State) → listen_of s i ≡ None → listen_of (without_listen j s) i ≡ None
+unlistened i j s none = elim (eqb_tells i j) [
+  | inl same ↦ rw same.1 (listen_of-without_listen s j)
+  | inr other ↦ listen_of-without_listen_other s j i other.1 ∙ none
+]
+
+idle-woken_by : (i j : ℕ) (lo : Option Listen) (t : Turn) → IsIdle t.state i → IsIdle (woken_by j lo t).state i
+unfolding returned noted given bits_cleared
+idle-woken_by i j None t h = h
+idle-woken_by i j (Some l) t h = go (eqb (bit_and (task_at t.state j).posted l.mask) 0)
+  where
+    u : State
+    u = without_listen j t.state
+
+    v : Turn
+    v = bits_cleared j l.mask (changed (without_listen j) t)
+
+    w : Turn
+    w = given j (0 ∷ 0xFFFF ∷ bit_and (task_at t.state j).posted l.mask ∷ 0 ∷ 0 ∷ 0 ∷ []) v
+
+    taken : IsIdle w.state i
+    taken = record {
+      call = call_of-with_task v.state j i _ ∙ call_of-with_task u j i _ ∙ call_of-without_listen t.state j i ∙ h.call;
+      listen = listen_of-with_task v.state j i _ ∙ listen_of-with_task u j i _ ∙ unlistened i j t.state h.listen;
+    }
+
+    go : (b : Bool) → IsIdle (cond b t (returned j w)).state i
+    go true = h
+    go false = taken
+
+pub idle-posted : (i j bits : ℕ) (t : Turn) → IsIdle t.state i → IsIdle (posted j bits t).state i
+unfolding posted woken
+idle-posted i j bits t h = idle-woken_by i j (listen_of (bits_added j bits t).state j) (bits_added j bits t) (idle-added i j bits t h)
+
 -- ## the time
+
+pub time-joined : (s u v : State) → IsSameTime s u → IsSameTime u v → IsSameTime s v
+time-joined s u v a b = record { count = b.count ∙ a.count; turn = b.turn ∙ a.turn; now = b.now ∙ a.now; next_call = b.next_call ∙ a.next_call }
 
 pub time-noted : (n : Note) (t : Turn) → IsSameTime t.state (noted n t).state
 unfolding noted
@@ -65,24 +136,84 @@ time-stored on a bytes t = record { count = refl; turn = refl; now = refl; next_
 pub time-current : (i : ℕ) (t : Turn) → IsSameTime t.state (changed (λ s. record s { current = i }) t).state
 time-current i t = record { count = refl; turn = refl; now = refl; next_call = refl }
 
-pub time-faulted : (i : ℕ) (fault : Fault) (t : Turn) → IsSameTime t.state (faulted i fault t).state
-unfolding faulted noted with_health with_task without_call without_listen
-time-faulted i fault t = record { count = length-set t.state.tasks i _; turn = refl; now = refl; next_call = refl }
+pub time-returned : (i : ℕ) (t : Turn) → IsSameTime t.state (returned i t).state
+unfolding returned noted
+time-returned i t = record { count = refl; turn = refl; now = refl; next_call = refl }
 
-pub time-called : (c : ℕ) (t : Turn) → IsSameTime t.state (called c t).state
-unfolding called panicked
-time-called c t = go (eqb (register t.state c 11) 8)
+pub time-given : (i : ℕ) (values : List ℕ) (t : Turn) → IsSameTime t.state (given i values t).state
+unfolding given with_task
+time-given i values t = record { count = length-set t.state.tasks i _; turn = refl; now = refl; next_call = refl }
+
+time-cleared : (i mask : ℕ) (t : Turn) → IsSameTime t.state (bits_cleared i mask t).state
+unfolding bits_cleared with_task
+time-cleared i mask t = record { count = length-set t.state.tasks i _; turn = refl; now = refl; next_call = refl }
+
+time-added : (i bits : ℕ) (t : Turn) → IsSameTime t.state (bits_added i bits t).state
+unfolding bits_added noted with_task
+time-added i bits t = record { count = length-set t.state.tasks i _; turn = refl; now = refl; next_call = refl }
+
+time-unlistened : (i : ℕ) (t : Turn) → IsSameTime t.state (changed (without_listen i) t).state
+unfolding without_listen
+time-unlistened i t = record { count = refl; turn = refl; now = refl; next_call = refl }
+
+pub time-timer : (i : ℕ) (timer : Option Timer) (t : Turn) → IsSameTime t.state (with_timer i timer t).state
+unfolding with_timer with_task
+time-timer i timer t = record { count = length-set t.state.tasks i _; turn = refl; now = refl; next_call = refl }
+
+pub time-line : (k : ℕ) (line : Line) (t : Turn) → IsSameTime t.state (with_line k line t).state
+unfolding with_line
+time-line k line t = record { count = refl; turn = refl; now = refl; next_call = refl }
+
+time-woken : (i : ℕ) (lo : Option Listen) (t : Turn) → IsSameTime t.state (woken_by i lo t).state
+time-woken i None t = record { count = refl; turn = refl; now = refl; next_call = refl }
+time-woken i (Some l) t = go (eqb (bit_and (task_at t.state i).posted l.mask) 0)
   where
-    go : (b : Bool) → IsSameTime t.state (cond b (panicked c t) (misused c 1 t)).state
-    go true = time-faulted c _ t
-    go false = time-faulted c _ t
+    u : Turn
+    u = bits_cleared i l.mask (changed (without_listen i) t)
+
+    values : List ℕ
+    values = 0 ∷ 0xFFFF ∷ bit_and (task_at t.state i).posted l.mask ∷ 0 ∷ 0 ∷ 0 ∷ []
+
+    taken : IsSameTime t.state (returned i (given i values u)).state
+    taken =
+        time-joined t.state (given i values u).state (returned i (given i values u)).state
+        (time-joined t.state u.state (given i values u).state
+        (time-joined t.state (changed (without_listen i) t).state u.state (time-unlistened i t) (time-cleared i l.mask (changed (without_listen i) t)))
+        (time-given i values u)) (time-returned i (given i values u))
+
+    go : (b : Bool) → IsSameTime t.state (cond b t (returned i (given i values u))).state
+    go true = record { count = refl; turn = refl; now = refl; next_call = refl }
+    go false = taken
+
+pub time-posted : (i bits : ℕ) (t : Turn) → IsSameTime t.state (posted i bits t).state
+unfolding posted woken
+time-posted i bits t = time-joined t.state (bits_added i bits t).state (posted i bits t).state (time-added i bits t) (time-woken i (listen_of (bits_added i bits t).state i) (bits_added i bits t))
+
+pub time-faulted : (g : Setup) (i : ℕ) (fault : Fault) (t : Turn) → IsSameTime t.state (faulted g i fault t).state
+unfolding faulted_as closed noted with_health with_task without_call without_listen
+time-faulted g i fault t = go (eqb i 0)
+  where
+    shut : Turn
+    shut = closed i Client (noted (note.Fault i fault) (changed (without_listen i) (with_health i (Faulted fault) t)))
+
+    same : IsSameTime t.state shut.state
+    same = record { count = length-set t.state.tasks i _; turn = refl; now = refl; next_call = refl }
+
+    go : (b : Bool) → IsSameTime t.state (cond b shut (posted 0 g.fault_bits shut)).state
+    go true = same
+    go false = time-joined t.state shut.state (posted 0 g.fault_bits shut).state same (time-posted 0 g.fault_bits shut)
+
+pub time-called : (g : Setup) (c : ℕ) (t : Turn) → IsSameTime t.state (called g c t).state
+unfolding called panicked
+time-called g c t = go (eqb (register t.state c 11) 8)
+  where
+    go : (b : Bool) → IsSameTime t.state (cond b (panicked g c t) (misused g c 1 t)).state
+    go true = time-faulted g c _ t
+    go false = time-faulted g c _ t
 
 pub time-call_noted : (c : ℕ) (t : Turn) → IsSameTime t.state (call_noted c t).state
 unfolding call_noted
 time-call_noted c t = time-noted _ t
-
-pub time-joined : (s u v : State) → IsSameTime s u → IsSameTime u v → IsSameTime s v
-time-joined s u v a b = record { count = b.count ∙ a.count; turn = b.turn ∙ a.turn; now = b.now ∙ a.now; next_call = b.next_call ∙ a.next_call }
 
 -- the counts are kept from one turn to the next
 pub counted-turn : (s u : State) → IsCounted s → IsSameTime s u → IsCounted record u { turn = u.turn + 1 }
@@ -91,3 +222,43 @@ counted-turn s u h same = record {
   calls = rw (same.next_call, same.turn) (omega (arith, h.calls));
   now = rw (same.now, same.turn) (omega (arith, h.now));
 }
+
+-- ## what is noted
+
+some_note : (xs : List Note) (n : Note) → xs ++ n ∷ [] ≢ []
+some_note [] n e = cc
+some_note (x ∷ xs) n e = cc
+
+some_more : (xs ys : List Note) → xs ≢ [] → xs ++ ys ≢ []
+some_more [] ys h e = h refl
+some_more (x ∷ xs) ys h e = cc
+
+noted-woken : (i : ℕ) (lo : Option Listen) (t : Turn) → IsNoted t → IsNoted (woken_by i lo t)
+unfolding returned noted
+noted-woken i None t h = h
+noted-woken i (Some l) t h = go (eqb (bit_and (task_at t.state i).posted l.mask) 0)
+  where
+    u : Turn
+    u = given i (0 ∷ 0xFFFF ∷ bit_and (task_at t.state i).posted l.mask ∷ 0 ∷ 0 ∷ 0 ∷ []) (bits_cleared i l.mask (changed (without_listen i) t))
+
+    go : (b : Bool) → IsNoted (cond b t (returned i u))
+    go true = h
+    go false = some_note u.notes _
+
+pub noted-posted : (i bits : ℕ) (t : Turn) → IsNoted (posted i bits t)
+unfolding posted woken bits_added noted
+noted-posted i bits t = noted-woken i (listen_of (bits_added i bits t).state i) (bits_added i bits t) (some_note t.notes _)
+
+pub noted-faulted : (g : Setup) (i : ℕ) (fault : Fault) (t : Turn) → IsNoted (faulted g i fault t)
+unfolding faulted_as closed noted with_health
+noted-faulted g i fault t = go (eqb i 0)
+  where
+    stopped : Turn
+    stopped = changed (without_listen i) (with_health i (Faulted fault) t)
+
+    shut : Turn
+    shut = closed i Client (noted (note.Fault i fault) stopped)
+
+    go : (b : Bool) → IsNoted (cond b shut (posted 0 g.fault_bits shut))
+    go true = some_more (t.notes ++ note.Fault i fault ∷ []) (close_notes Client (call_of stopped.state i)) (some_note t.notes _)
+    go false = noted-posted 0 g.fault_bits shut

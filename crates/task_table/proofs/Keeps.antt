@@ -4,12 +4,13 @@ use Rattle.std.specs.Prelude.{Contains, filter, find}
 use Rattle.std.proofs.lemmas.Bool.{eq-eqb, false≢true}
 use Rattle.std.proofs.lemmas.Bool.Decides.{eqb_tells}
 use Rattle.kernel_abi.specs.declared.Health.TheVariants.{Well}
+use Rattle.task_table.specs.declared.Line.{Line}
 use Rattle.task_table.specs.Memory.{Memory}
 use Rattle.task_table.specs.State.{Setup, Task, Call, Listen, State}
 use Rattle.task_table.specs.Reading.{task_at, line_at, call_of, listen_of, IsIdle}
 use Rattle.task_table.specs.Effects.{with_task, without_call, without_listen}
 use Rattle.task_table.specs.Placed.{ArePlaced}
-use Rattle.task_table.specs.Sane.{IsSaneBut, IsSaneTask, AreAllBytes}
+use Rattle.task_table.specs.Sane.{IsSaneBut, IsSaneTask, IsOwned, AreAllBytes}
 use Rattle.task_table.proofs.Changes.{task_at-with_task, task_at-with_task_other, length-with_task}
 
 no_some : {A P : Type 0} {a : A} → None ≡ Some a → P
@@ -32,6 +33,17 @@ not_found p (y ∷ ys) x h (suc k, lt, e) t =
 
 contains_more : {X : Type 0} (x y : X) (xs : List X) → Contains xs y → Contains (x ∷ xs) y
 contains_more x y xs h = (suc h.0, omega arith, h.2)
+
+same_some : {A : Type 0} {a b : A} → Some a ≡ Some b → a ≡ b
+same_some e = cc
+
+-- what is found is in the list, and passes
+pub found_in : {X : Type 0} (p : X → Bool) (xs : List X) (x : X) → find p xs ≡ Some x → Contains xs x × (p x ≡ true)
+found_in p [] x h = no_some h
+found_in p (y ∷ ys) x h = elim (bool_cases (p y)) [
+  | inl e ↦ let s : y ≡ x = same_some (rw e at h) in ((zero, omega arith, s), rw (← s) e)
+  | inr e ↦ let r = found_in p ys x (rw e at h) in (contains_more y x ys r.0, r.1)
+]
 
 -- what a filter leaves was there, and passes
 pub filter_in : {X : Type 0} (p : X → Bool) (xs : List X) (x : X) → Contains (filter p xs) x → Contains xs x × (p x ≡ true)
@@ -188,6 +200,30 @@ keeps-current i h inside = record {
   unmet = h.unmet;
   unfit = h.unfit;
   ahead = h.ahead;
+}
+
+-- a pending line is disabled and owned
+pub keeps-lines : {M F T : ℕ → Type 0} {W : ℕ → ℕ → Type 0} {g : Setup} {s : State} (lines : List Line) → IsSaneBut M F T W g s → ((k : ℕ) → (line_at record s { lines = lines } k).pending ≡ true → ((line_at record s { lines = lines } k).enabled ≡ false) × IsOwned g k) → IsSaneBut M F T W g record s { lines = lines }
+unfolding task_at
+keeps-lines lines h owned = record {
+  steady = record { calls = h.steady.calls; listens = h.steady.listens; tasks = h.steady.tasks; lines = owned; as_many = h.steady.as_many; current = h.steady.current; flash = h.steady.flash; text = h.steady.text; bytes = h.steady.bytes; placed = h.steady.placed };
+  well = record { client = h.well.client; listener = h.well.listener; alone = h.well.alone };
+  present = record { client = h.present.client; server = h.present.server; named = h.present.named };
+  unmet = h.unmet;
+  unfit = h.unfit;
+  ahead = h.ahead;
+}
+
+-- the time goes on; then nothing is said of timers
+pub keeps-now : {M F T : ℕ → Type 0} {W : ℕ → ℕ → Type 0} {g : Setup} {s : State} (now : ℕ) → IsSaneBut M F T W g s → IsSaneBut M F (λ i. ⊥) W g record s { now = now }
+unfolding task_at line_at
+keeps-now now h = record {
+  steady = record { calls = h.steady.calls; listens = h.steady.listens; tasks = h.steady.tasks; lines = h.steady.lines; as_many = h.steady.as_many; current = h.steady.current; flash = h.steady.flash; text = h.steady.text; bytes = h.steady.bytes; placed = h.steady.placed };
+  well = record { client = h.well.client; listener = h.well.listener; alone = h.well.alone };
+  present = record { client = h.present.client; server = h.present.server; named = h.present.named };
+  unmet = h.unmet;
+  unfit = h.unfit;
+  ahead = λ i below none. absurd none;
 }
 
 pub keeps-turn : {M F T : ℕ → Type 0} {W : ℕ → ℕ → Type 0} {g : Setup} {s : State} (turn : ℕ) → IsSaneBut M F T W g s → IsSaneBut M F T W g record s { turn = turn }

@@ -2,7 +2,9 @@ pub mod Copies
 pub mod Changes
 pub mod Steps
 pub mod Keeps
+pub mod Posting
 pub mod Sanity
+pub mod Timing
 pub mod Starts
 pub mod Ranges
 pub mod Frames

@@ -6,17 +6,21 @@ use Rattle.kernel_abi.specs.declared.Fault.{Fault}
 use Rattle.kernel_abi.specs.declared.Health.{Health}
 use Rattle.kernel_abi.specs.declared.Health.TheVariants.{Faulted}
 use Rattle.kernel_abi.specs.declared.Note.{Note}
+use Rattle.kernel_abi.specs.declared.Note.TheVariants as note
+use Rattle.kernel_abi.specs.declared.Ending.{Ending}
+use Rattle.kernel_abi.specs.declared.Ending.TheVariants.{Client}
 use Rattle.words_core.specs.declared.Flags.{Flags}
 use Rattle.task_table.specs.Memory.{Memory, with_bytes, IsWithinRam}
 use Rattle.task_table.specs.State.{Setup, State, Turn, Ground}
 use Rattle.task_table.specs.Reading.{task_at, register}
-use Rattle.task_table.specs.Effects.{with_task, without_call, without_listen, changed, noted, with_processor, with_health, stored, faulted}
+use Rattle.task_table.specs.Effects.{with_task, without_call, without_listen, changed, noted, with_processor, with_health, stored, posted, closed, faulted_as, faulted}
 use Rattle.task_table.specs.Rows.{misused, panicked, call_noted, called}
 use Rattle.task_table.specs.Placed.{ArePlaced}
 use Rattle.task_table.specs.Sane.{Sane, IsFaultKnown, AreAllBytes}
 use Rattle.task_table.specs.Counts.{AreWhole}
 use Rattle.task_table.proofs.Changes.{call_of-without_call, listen_of-without_listen, listen_of-without_call}
 use Rattle.task_table.proofs.Keeps.{idle_listen, keeps-with_task, keeps-without_call, keeps-without_listen, keeps-memory, keeps-current, keeps-turn}
+use Rattle.task_table.proofs.Posting.{still, sane-posted}
 use Rattle.task_table.proofs.Steps.{flash-with_bytes, length-with_bytes}
 
 -- ## memory
@@ -101,17 +105,30 @@ module _ {g : Setup} where
         unmet = λ l here m same. absurd (idle_listen u i l (listen_of-without_call (without_listen i s) i i ∙ listen_of-without_listen s i) here same);
       }
 
-  pub sane-faulted : (i : ℕ) (fault : Fault) (t : Turn) → Sane g t.state → i < length t.state.tasks → 1 ≤ fault.number → fault.number ≤ 10 → Sane g (faulted i fault t).state
-  unfolding faulted noted with_health with_task without_call without_listen
-  sane-faulted i fault t h inside low high = stopped i (Faulted fault) t.state h inside (low, high)
+  pub sane-faulted_as : (i : ℕ) (fault : Fault) (ending : Ending) (t : Turn) → Sane g t.state → i < length t.state.tasks → 1 ≤ fault.number → fault.number ≤ 10 → Sane g (faulted_as g i fault ending t).state
+  unfolding faulted_as closed noted with_health with_task without_call without_listen
+  sane-faulted_as i fault ending t h inside low high = by_zero (eqb i 0)
+    where
+      shut : Turn
+      shut = closed i ending (noted (note.Fault i fault) (changed (without_listen i) (with_health i (Faulted fault) t)))
+
+      shut_sane : Sane g shut.state
+      shut_sane = stopped i (Faulted fault) t.state h inside (low, high)
+
+      by_zero : (b : Bool) → Sane g (cond b shut (posted 0 g.fault_bits shut)).state
+      by_zero true = shut_sane
+      by_zero false = sane-posted 0 g.fault_bits shut shut_sane (still h shut_sane (omega (arith, inside)))
+
+  pub sane-faulted : (i : ℕ) (fault : Fault) (t : Turn) → Sane g t.state → i < length t.state.tasks → 1 ≤ fault.number → fault.number ≤ 10 → Sane g (faulted g i fault t).state
+  sane-faulted i fault t h inside low high = sane-faulted_as i fault Client t h inside low high
 
 -- ## rows
 
 module _ {g : Setup} (c : ℕ) (t : Turn) (h : Sane g t.state) (inside : c < length t.state.tasks) where
-  pub sane-misused : (usage : ℕ) → Sane g (misused c usage t).state
+  pub sane-misused : (usage : ℕ) → Sane g (misused g c usage t).state
   sane-misused usage = sane-faulted c record { number = 7; x = usage; y = 0 } t h inside (omega arith) (omega arith)
 
-  pub sane-panicked : Sane g (panicked c t).state
+  pub sane-panicked : Sane g (panicked g c t).state
   unfolding panicked
   sane-panicked = sane-faulted c _ t h inside (omega arith) (omega arith)
 
@@ -119,10 +136,10 @@ module _ {g : Setup} (c : ℕ) (t : Turn) (h : Sane g t.state) (inside : c < len
   unfolding call_noted
   sane-call_noted = sane-noted _ t h
 
-  pub sane-called : Sane g (called c t).state
+  pub sane-called : Sane g (called g c t).state
   unfolding called
   sane-called = go (eqb (register t.state c 11) 8)
     where
-      go : (b : Bool) → Sane g (cond b (panicked c t) (misused c 1 t)).state
+      go : (b : Bool) → Sane g (cond b (panicked g c t) (misused g c 1 t)).state
       go true = sane-panicked
       go false = sane-misused 1

@@ -1,5 +1,6 @@
 -- How a change of the code's kernel follows one of the turn.
-use Rattle.std.proofs.Common.{◌≡◌, ◌≢◌, ◌<◌, ℕ, Bool, true, false, ◌&&◌, List, [], ◌∷◌, ◌++◌, length, Option, Some, None, inl, inr, refl, sym, ◌∙◌, ap, arith, get_or, set, get_or-set_same, get_or-set_other, length-set, IfSome, is_some, is_none}
+use Rattle.std.proofs.Common.{◌≡◌, ◌≢◌, ◌<◌, ◌≤◌, ◌+◌, ℕ, zero, suc, Bool, true, false, ◌&&◌, List, [], ◌∷◌, ◌++◌, length, Option, Some, None, inl, inr, refl, sym, ◌∙◌, ap, arith, get_or, set, get_or-set_same, get_or-set_other, length-set, IfSome, is_some, is_none}
+use Rattle.std.specs.Option.{option_map}
 use Rattle.std.proofs.lemmas.Bool.Decides.{eqb_tells}
 use Rattle.std.proofs.lemmas.Bool.{false≢true}
 use Rattle.std.proofs.lemmas.List.{length-append, length-take, length-drop}
@@ -8,17 +9,13 @@ use Rattle.kernel_abi.specs.Ids.{id_of}
 use Rattle.task_table.specs.Memory.{Memory, with_bytes, IsWithinRam}
 use Rattle.task_table.specs.State.{Setup, Task, Call, Listen, State, Turn, Ground, Offered, Taken, Any, One, KernelOnly}
 use Rattle.task_table.specs.Reading.{task_at, call_of, listen_of, is_ready, is_well, IsSameBut, IsIdle}
-use Rattle.task_table.specs.Effects.{with_task, without_call, without_listen, noted, stored}
+use Rattle.task_table.specs.declared.Line.{Line}
+use Rattle.task_table.specs.Effects.{with_task, without_call, without_listen, noted, with_line, stored}
 use Rattle.task_table.specs.Start.{begun}
-use Rattle.task_table.specs.Holds.{Shows, Kept, IsKept, IsSavedCall, IsSavedListen, packed, packed_task, wait_of, wait_in, wait_from, is_nothing, is_free, is_listening, is_calling}
+use Rattle.task_table.specs.Holds.{Shows, Kept, IsKept, IsSavedCall, IsSavedListen, packed, packed_task, wait_of, wait_in, wait_from, is_nothing, is_free, is_listening, call_number}
 use Rattle.task_table.specs.declared.slot.Slot.{Slot}
 use Rattle.task_table.specs.declared.slot.Wait.TheVariants as wait
 use Rattle.task_table.proofs.Changes.{task_at-with_task, call_of-with_task, listen_of-with_task, call_of-without_call, listen_of-without_call, task_at-without_call, call_of-without_listen, listen_of-without_listen, task_at-without_listen}
-
--- the task is client of a call, or of none
-abbrev pub IsCalling : Bool → Option Call → Type 0
-IsCalling true o = (c : Call) × (o ≡ Some c)
-IsCalling false o = o ≡ None
 
 -- what is kept of a task depends on that task, its call and its listen alone
 packed_by : (u s : State) (i : ℕ) → task_at u i ≡ task_at s i → call_of u i ≡ call_of s i → listen_of u i ≡ listen_of s i → packed u i ≡ packed s i
@@ -108,10 +105,10 @@ not_listening_is None None a h = refl
 not_listening_is None (Some l) a h = absurd (false≢true (sym h ∙ listening_wait (Some l)))
 not_listening_is (Some c) lo a h = a
 
-calling_wait : (co : Option Call) (lo : Option Listen) → is_calling (wait_of co lo) ≡ is_some co
-calling_wait None None = refl
-calling_wait None (Some l) = elim l.from as (λ f. is_calling (wait_from f) ≡ false) [ Any ↦ refl | One b ↦ refl | KernelOnly ↦ refl ]
-calling_wait (Some c) lo = elim c.phase as (λ p. is_calling (wait_in p c.number (id_of c.server.index c.server.birth)) ≡ true) [ Offered ↦ refl | Taken ↦ refl ]
+number_of_wait : (co : Option Call) (lo : Option Listen) → call_number (wait_of co lo) ≡ option_map (λ (c : Call). c.number) co
+number_of_wait None None = refl
+number_of_wait None (Some l) = elim l.from as (λ f. call_number (wait_from f) ≡ None) [ Any ↦ refl | One b ↦ refl | KernelOnly ↦ refl ]
+number_of_wait (Some c) lo = elim c.phase as (λ p. call_number (wait_in p c.number (id_of c.server.index c.server.birth)) ≡ Some c.number) [ Offered ↦ refl | Taken ↦ refl ]
 
 nothing_waits : (co : Option Call) (lo : Option Listen) → is_nothing (wait_of co lo) ≡ (is_none co && is_none lo)
 nothing_waits None None = refl
@@ -127,14 +124,63 @@ some_listens s i slot h e = listening_is (call_of s i) (listen_of s i) (sym (ap 
 pub none_listens : (s : State) (i : ℕ) (slot : Slot) → IsKept s i slot → is_listening slot.wait ≡ false → listen_of s i ≡ None
 none_listens s i slot h e = not_listening_is (call_of s i) (listen_of s i) h.alone (sym (ap is_listening (wait_kept s i slot h)) ∙ e)
 
-calls_or_not : (o : Option Call) (b : Bool) → is_some o ≡ b → IsCalling b o
-calls_or_not None true h = absurd (false≢true h)
-calls_or_not None false h = refl
-calls_or_not (Some c) true h = (c, refl)
-calls_or_not (Some c) false h = absurd (false≢true (sym h))
+-- a task that listens is client of no call, and its mask is in r6
+pub record Listens (s : State) (i : ℕ) (slot : Slot) : Type 0 where
+  pub no_call : call_of s i ≡ None
+  pub what : Listen
+  pub is : listen_of s i ≡ Some what
+  pub mask : what.mask ≡ get_or slot.registers 6 0
 
-pub calls : (s : State) (i : ℕ) (slot : Slot) (b : Bool) → IsKept s i slot → is_calling slot.wait ≡ b → IsCalling b (call_of s i)
-calls s i slot b h e = calls_or_not (call_of s i) b (sym (calling_wait (call_of s i) (listen_of s i)) ∙ sym (ap is_calling (wait_kept s i slot h)) ∙ e)
+listen_there : (lo : Option Listen) → is_some lo ≡ true → (l : Listen) × (lo ≡ Some l)
+listen_there None h = absurd (false≢true h)
+listen_there (Some l) h = (l, refl)
+
+pub listens : (s : State) (i : ℕ) (slot : Slot) → IsKept s i slot → is_listening slot.wait ≡ true → Listens s i slot
+listens s i slot h e =
+    let none = some_listens s i slot h e in
+    let told : is_listening (wait_of None (listen_of s i)) ≡ true = ap (λ (co : Option Call). is_listening (wait_of co (listen_of s i))) (sym none) ∙ sym (ap is_listening (wait_kept s i slot h)) ∙ e in
+    let l = listen_there (listen_of s i) (sym (listening_wait (listen_of s i)) ∙ told) in
+    let saved : IsSavedListen (task_at s i).registers l.0 = rw l.1 at h.listen in
+    let registers : slot.registers ≡ (task_at s i).registers = ap (λ (o : Slot). o.registers) h.is in
+    record { no_call = none; what = l.0; is = l.1; mask = saved.mask ∙ ap (λ rs. get_or rs 6 0) (sym registers) }
+
+pub some_mask : (lo : Option Listen) (n : ℕ) → Some n ≡ option_map (λ (l : Listen). l.mask) lo → (l : Listen) × (lo ≡ Some l) × (l.mask ≡ n)
+some_mask None n h = absurd (no_some h)
+  where
+    no_some : {A : Type 0} {a : A} → Some a ≡ None → ⊥
+    no_some e = cc
+some_mask (Some l) n h = (l, refl, cc)
+
+pub no_mask : (lo : Option Listen) → None ≡ option_map (λ (l : Listen). l.mask) lo → lo ≡ None
+no_mask None h = refl
+no_mask (Some l) h = absurd (no_some h)
+  where
+    no_some : {A : Type 0} {a : A} → None ≡ Some a → ⊥
+    no_some e = cc
+
+number_kept : (s : State) (i : ℕ) (slot : Slot) → IsKept s i slot → call_number slot.wait ≡ option_map (λ (c : Call). c.number) (call_of s i)
+number_kept s i slot h = ap call_number (wait_kept s i slot h) ∙ number_of_wait (call_of s i) (listen_of s i)
+
+number_is : (co : Option Call) (n : ℕ) → option_map (λ (c : Call). c.number) co ≡ Some n → (c : Call) × (co ≡ Some c) × (c.number ≡ n)
+number_is None n h = absurd (no_some h)
+  where
+    no_some : {A : Type 0} {a : A} → None ≡ Some a → ⊥
+    no_some e = cc
+number_is (Some c) n h = (c, refl, cc)
+
+no_number_is : (co : Option Call) → option_map (λ (c : Call). c.number) co ≡ None → co ≡ None
+no_number_is None h = refl
+no_number_is (Some c) h = absurd (no_some h)
+  where
+    no_some : {A : Type 0} {a : A} → Some a ≡ None → ⊥
+    no_some e = cc
+
+-- the call by whose number a task waits, or that it has none
+pub some_call : (s : State) (i n : ℕ) (slot : Slot) → IsKept s i slot → Some n ≡ call_number slot.wait → (c : Call) × (call_of s i ≡ Some c) × (c.number ≡ n)
+some_call s i n slot h e = number_is (call_of s i) n (sym (number_kept s i slot h) ∙ sym e)
+
+pub no_call : (s : State) (i : ℕ) (slot : Slot) → IsKept s i slot → None ≡ call_number slot.wait → call_of s i ≡ None
+no_call s i slot h e = no_number_is (call_of s i) (sym (number_kept s i slot h) ∙ sym e)
 
 -- ## who is ready
 
@@ -201,6 +247,48 @@ holds_current g k t i h = record {
   tasks = λ j below d. kept_same t.state _ j _ refl refl refl (h.tasks j below d);
   current = refl;
 }
+
+-- the time goes on, before it is noted
+pub holds_now : (g : Setup) (k : Kept) (t : Turn) (n : ℕ) → Shows g k t → n ≡ t.state.now → Shows g record k { clock = n + 1 } record t { state = record t.state { now = t.state.now + 1 } }
+unfolding task_at call_of listen_of
+holds_now g k t n h e = record {
+  setup = h.setup;
+  count = h.count;
+  many = h.many;
+  notes = h.notes;
+  memory = h.memory;
+  lines = h.lines;
+  current = h.current;
+  next_call = h.next_call;
+  tasks = λ j below d. kept_same t.state _ j _ refl refl refl (h.tasks j below d);
+  now = ap (λ (x : ℕ). x + 1) e;
+}
+
+-- a line changes; the setup knows only how many there are
+pub holds_line : (g : Setup) (k : Kept) (t : Turn) (n : ℕ) (line : Line) (setup : Setup) → Shows g k t → setup ≡ k.setup → Shows g record k { setup = setup; lines = set k.lines n line } (with_line n line t)
+unfolding with_line task_at call_of listen_of
+holds_line g k t n line setup h e = record {
+  setup = e ∙ h.setup;
+  count = h.count;
+  many = h.many;
+  notes = h.notes;
+  memory = h.memory;
+  now = h.now;
+  current = h.current;
+  next_call = h.next_call;
+  tasks = λ j below d. kept_same t.state _ j _ refl refl refl (h.tasks j below d);
+  lines = ap (λ xs. set xs n line) h.lines;
+}
+
+set_away : {X : Type 0} (xs : List X) (n : ℕ) (x : X) → length xs ≤ n → set xs n x ≡ xs
+set_away [] n x h = refl
+set_away (y ∷ ys) zero x h = absurd (omega arith)
+set_away (y ∷ ys) (suc n) x h = ap (λ zs. y ∷ zs) (set_away ys n x (omega arith))
+
+-- a line that is not there stays away
+pub line_away : (t : Turn) (n : ℕ) (line : Line) → length t.state.lines ≤ n → with_line n line t ≡ t
+unfolding with_line
+line_away t n line h = ap (λ xs. record t { state = record t.state { lines = xs } }) (set_away t.state.lines n line h)
 
 -- the turn's number is kept by the board
 pub holds_turn : (g : Setup) (k : Kept) (t : Turn) (n : ℕ) → Shows g k t → Shows g k record t { state = record t.state { turn = n } }

@@ -1,15 +1,19 @@
 -- What happens to a state within a turn. Each effect takes what the turn has come to so far, and
 -- appends its own notes and writes. (Hubris Reference: tasks, syscalls, supervision.)
-use Rattle.std.specs.Prelude.{ℕ, ◌+◌, ◌-◌, ◌%◌, not, List, [], ◌∷◌, ◌++◌, filter, slice_set, None, ◌==◌}
+use Rattle.std.specs.Prelude.{ℕ, ◌+◌, ◌-◌, ◌%◌, ◌^◌, not, List, [], ◌∷◌, ◌++◌, length, take, drop, filter, slice_set, slice_range, Option, None, Some, ◌==◌, if◌then◌else◌, bit_and, bit_or}
+use Rattle.kernel_abi.specs.declared.Ending.{Ending}
+use Rattle.kernel_abi.specs.declared.Ending.TheVariants.{Client}
 use Rattle.kernel_abi.specs.declared.Fault.{Fault}
 use Rattle.kernel_abi.specs.declared.Health.{Health}
 use Rattle.kernel_abi.specs.declared.Health.TheVariants.{Faulted}
 use Rattle.kernel_abi.specs.declared.Note.{Note}
 use Rattle.kernel_abi.specs.declared.Note.TheVariants as note
+use Rattle.kernel_abi.specs.declared.Timer.{Timer}
 use Rattle.words_core.specs.declared.Flags.{Flags}
+use Rattle.task_table.specs.declared.Line.{Line}
 use Rattle.task_table.specs.Memory.{with_bytes}
-use Rattle.task_table.specs.State.{TaskSetup, Task, State, Ground, Write, Turn}
-use Rattle.task_table.specs.Reading.{task_at, no_flags}
+use Rattle.task_table.specs.State.{Setup, TaskSetup, Task, Call, Listen, State, Ground, Write, Turn}
+use Rattle.task_table.specs.Reading.{task_at, register, call_of, listen_of, no_flags}
 
 -- ## one part of a state changed
 
@@ -54,14 +58,90 @@ stored on at bytes t =
       reads = t.reads;
     }
 
+-- ## a call ends
+
+-- these registers with values from r4 on
+abbrev pub with_results : List ℕ → List ℕ → List ℕ
+with_results values registers = take 4 registers ++ values ++ drop (4 + length values) registers
+
+-- results are given to a task, from r4 on
+unfoldable pub given : ℕ → List ℕ → Turn → Turn
+given i values t =
+    changed (with_task i record (task_at t.state i) { registers = with_results values (task_at t.state i).registers }) t
+
+-- a call of the task has ended, with its r4 to r9
+unfoldable pub returned : ℕ → Turn → Turn
+returned i t = noted (note.Ret i (slice_range (task_at t.state i).registers 4 10)) t
+
+-- the program counter goes past the call
+unfoldable pub advanced : ℕ → Turn → Turn
+advanced i t =
+    changed (with_task i record (task_at t.state i) { registers = slice_set (task_at t.state i).registers 15 ((register t.state i 15 + 2) % 2 ^ 32) }) t
+
+-- ## bits are posted
+
+-- bits are added to those of a task
+unfoldable pub bits_added : ℕ → ℕ → Turn → Turn
+bits_added i bits t =
+    let posted = bit_or (task_at t.state i).posted bits in
+    noted (note.Post i bits posted) (changed (with_task i record (task_at t.state i) { posted = posted }) t)
+
+-- the bits of a task that are in a mask are cleared
+unfoldable pub bits_cleared : ℕ → ℕ → Turn → Turn
+bits_cleared i mask t =
+    changed (with_task i record (task_at t.state i) { posted = bit_and (task_at t.state i).posted (2 ^ 32 - 1 - mask) }) t
+
+-- a task that listens takes its posted bits under its mask, where there are any, and listens no more
+abbrev pub woken_by : ℕ → Option Listen → Turn → Turn
+woken_by i None t = t
+woken_by i (Some l) t =
+    let under = bit_and (task_at t.state i).posted l.mask in
+    if under == 0 then t
+    else returned i (given i (0 ∷ 0xFFFF ∷ under ∷ 0 ∷ 0 ∷ 0 ∷ []) (bits_cleared i l.mask (changed (without_listen i) t)))
+
+unfoldable pub woken : ℕ → Turn → Turn
+woken i t = woken_by i (listen_of t.state i) t
+
+-- bits are posted to a task, of any health: they are added, and may wake it
+unfoldable pub posted : ℕ → ℕ → Turn → Turn
+posted i bits t = woken i (bits_added i bits t)
+
+-- ## timers, time and lines
+
+-- the timer of a task is set, or off
+unfoldable pub with_timer : ℕ → Option Timer → Turn → Turn
+with_timer i timer t = changed (with_task i record (task_at t.state i) { timer = timer }) t
+
+-- the time goes on by one
+unfoldable pub clocked : Turn → Turn
+clocked t = noted (note.Tick (t.state.now + 1)) (changed (λ s. record s { now = s.now + 1 }) t)
+
+-- an interrupt line is so from now on; a line that is not there stays away
+unfoldable pub with_line : ℕ → Line → Turn → Turn
+with_line k line t = changed (λ s. record s { lines = slice_set s.lines k line }) t
+
 -- ## a task faults
 
--- it is Faulted, its listen and the call of which it is the client are dropped. (The line of a
--- closed call joins with calls, and the post to the supervisor with notifications: until then task 0
--- alone runs, whose fault ends the run and posts nothing.)
-unfoldable pub faulted : ℕ → Fault → Turn → Turn
-faulted i fault t =
-    changed (without_call i) (noted (note.Fault i fault) (changed (without_listen i) (with_health i (Faulted fault) t)))
+-- the call of a client is closed, if it has one
+abbrev pub close_notes : Ending → Option Call → List Note
+close_notes ending None = []
+close_notes ending (Some c) = note.Close c.number ending ∷ []
+
+unfoldable pub closed : ℕ → Ending → Turn → Turn
+closed i ending t =
+    record t { state = without_call i t.state; notes = t.notes ++ close_notes ending (call_of t.state i) }
+
+-- it is Faulted, its listen is dropped, the call of which it is the client is closed, and task 0 is
+-- posted the fault bits; a fault of task 0 itself posts nothing. Calls of which it is the server stay
+unfoldable pub faulted_as : Setup → ℕ → Fault → Ending → Turn → Turn
+faulted_as g i fault ending t =
+    let stopped = changed (without_listen i) (with_health i (Faulted fault) t) in
+    let shut = closed i ending (noted (note.Fault i fault) stopped) in
+    if i == 0 then shut else posted 0 g.fault_bits shut
+
+-- the same where its server did not fault it
+abbrev pub faulted : Setup → ℕ → Fault → Turn → Turn
+faulted g i fault t = faulted_as g i fault Client t
 
 -- ## a task at birth
 

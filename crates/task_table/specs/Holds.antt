@@ -74,14 +74,14 @@ is_nothing wait.Kernel = false
 is_nothing (wait.One id) = false
 is_nothing wait.Nothing = true
 
--- whether it waits for the end of a call
-abbrev pub is_calling : Wait → Bool
-is_calling (wait.Offered number id) = true
-is_calling (wait.Taken number id) = true
-is_calling wait.Any = false
-is_calling wait.Kernel = false
-is_calling (wait.One id) = false
-is_calling wait.Nothing = false
+-- the number of the call whose end it waits for
+abbrev pub call_number : Wait → Option ℕ
+call_number (wait.Offered number id) = Some number
+call_number (wait.Taken number id) = Some number
+call_number wait.Any = None
+call_number wait.Kernel = None
+call_number (wait.One id) = None
+call_number wait.Nothing = None
 
 abbrev pub is_listening : Wait → Bool
 is_listening (wait.Offered number id) = false
@@ -107,6 +107,9 @@ notes_of k = k.notes.items
 
 abbrev pub current_of : Kernel → ℕ
 current_of k = k.current
+
+abbrev pub clock_of : Kernel → ℕ
+clock_of k = k.clock
 
 abbrev pub memory_of : Kernel → Memory
 memory_of k = k.memory

@@ -3,6 +3,7 @@ pub mod State
 pub mod Reading
 pub mod Effects
 pub mod Rows
+pub mod Events
 pub mod Placed
 pub mod Sane
 pub mod Start

@@ -1,5 +1,5 @@
 -- What is read off a state of the abstract kernel.
-use Rattle.std.specs.Prelude.{ℕ, ◌≡◌, ◌≢◌, ◌+◌, ◌^◌, ◌-◌, ◌%◌, Bool, true, false, ◌&&◌, ◌||◌, not, List, [], ◌++◌, length, Option, None, slice_index, slice_index_or, find, nat_le, ◌==◌, is_none}
+use Rattle.std.specs.Prelude.{ℕ, ◌≡◌, ◌≢◌, ◌+◌, ◌^◌, ◌-◌, ◌%◌, Bool, true, false, ◌&&◌, ◌||◌, not, List, [], ◌++◌, length, Option, None, slice_index, slice_index_or, slice_range, find, nat_le, ◌==◌, is_none}
 use Rattle.std.specs.List.{range_with_len, list_all}
 use Rattle.kernel_abi.specs.Ids.{index_of, generation_of}
 use Rattle.kernel_abi.specs.declared.Health.TheVariants.{Well, Stopped, Faulted}
@@ -27,12 +27,23 @@ setup_at g i = slice_index_or g.tasks i record { priority = 0; entry = 0; stack 
 abbrev pub no_line : Line
 no_line = record { enabled = false; pending = false }
 
+-- a disabled line, and one that is enabled, of which nothing is pending
+abbrev pub line_off : Bool → Line
+line_off pending = record { enabled = false; pending = pending }
+
+abbrev pub line_on : Line
+line_on = record { enabled = true; pending = false }
+
 unfoldable pub line_at : State → ℕ → Line
 line_at s k = slice_index_or s.lines k no_line
 
 -- a register of a task
 unfoldable pub register : State → ℕ → ℕ → ℕ
 register s i r = slice_index (task_at s i).registers r
+
+-- the registers r4 to r11 of a task: the arguments of its call, and the call's number
+unfoldable pub arguments : State → ℕ → List ℕ
+arguments s c = slice_range (task_at s c).registers 4 12
 
 -- the open call of a client, and the listen of a task
 unfoldable pub call_of : State → ℕ → Option Call

@@ -10,7 +10,7 @@ use crate::memory::Memory;
 use crate::slot::{Found, Slot, Wait};
 use crate::start::{LineStart, TaskStart, copies_of, first_slots};
 use arrayvec::ArrayVec;
-use kernel_abi::{Fault, Generation, Health, Note, TaskId, Timer, Usage};
+use kernel_abi::{Ending, Fault, Generation, Health, Note, TaskId, Timer, Usage};
 use region_check::Region;
 use std::alloc::{AllocError, Global};
 use words_core::Flags;
@@ -30,21 +30,23 @@ pub struct Kernel {
     current: usize,
     next_call: u32,
     ghost few: { length slots.items ≤ 32 },
+    ghost all_lines: { length lines ≡ 32 },
+    ghost few_owners: { length owners.items ≤ 32 },
     ghost many: { length tasks.items ≡ length slots.items },
 }
 
 impl Kernel {
-    ghost use Rattle.std.specs.Prelude.{◌≡◌, ◌+◌, ◌-◌, ◌%◌, ◌<◌, ◌≤◌, ◌^◌, ◌⊎◌, ℕ, length, replicate, Option, IfOk, slice_get};
+    ghost use Rattle.std.specs.Prelude.{◌≡◌, ◌+◌, ◌-◌, ◌%◌, ◌<◌, ◌≤◌, ◌^◌, ◌⊎◌, ℕ, length, map, replicate, Option, IfOk, slice_get};
     ghost use Rattle.kernel_abi.specs.Faults.{usage_number};
     ghost use Rattle.kernel_abi.specs.declared.Health.TheVariants.{Faulted};
     ghost use Rattle.task_table.specs.State.{Setup, State, Turn, Own};
     ghost use Rattle.task_table.specs.Memory.{is_ram, byte_at, number_at, IsWithinRam};
-    ghost use Rattle.task_table.specs.Reading.{task_at, setup_at, register, priority, is_ready, call_of, listen_of, IsSameBut, IsIdle};
-    ghost use Rattle.task_table.specs.Effects.{changed, noted, with_processor, with_health, without_call, without_listen, stored, faulted};
+    ghost use Rattle.task_table.specs.Reading.{task_at, setup_at, register, arguments, priority, is_ready, call_of, listen_of, IsSameBut, IsIdle};
+    ghost use Rattle.task_table.specs.Effects.{changed, noted, clocked, with_line, with_processor, with_health, without_listen, stored, closed, faulted_as, faulted};
     ghost use Rattle.task_table.specs.Rows.{misused, call_noted, called};
     ghost use Rattle.task_table.specs.Start.{start as started_at, begun};
-    ghost use Rattle.task_table.specs.Parts.{setup_of_parts, IsSound};
-    ghost use Rattle.task_table.specs.Holds.{Holds, Stands, IsKept, wait_of, task_count, note_count, memory_of, setup_of, current_of, notes_of};
+    ghost use Rattle.task_table.specs.Parts.{setup_of_parts, line_setup, IsSound};
+    ghost use Rattle.task_table.specs.Holds.{Holds, Stands, IsKept, wait_of, task_count, note_count, clock_of, memory_of, setup_of, current_of, notes_of};
     ghost use Rattle.task_table.specs.Found.{IsFound, IsInRange};
 
     /// The kernel at the start of a run: each task as at its first birth, and the memory as it is
@@ -62,6 +64,7 @@ impl Kernel {
         lines: &[LineStart],
     ) -> Result<Kernel, AllocError>
         requires few { length tasks.now ≤ 32 }
+        requires few_owners { length lines.now ≤ 32 }
         requires zeros { memory.ram ≡ replicate (length memory.ram) 0 }
         ensures holds { let g = setup_of_parts memory fault_bits tasks.now lines.now in IfOk result (λ k. Holds g k (begun (started_at g))) }
         ensures stands { let g = setup_of_parts memory fault_bits tasks.now lines.now in IsSound g → IfOk result (λ k. Stands g k (begun (started_at g))) }
@@ -112,7 +115,8 @@ impl Kernel {
 
     /// The time, in ticks since the start.
     pub fn now(&self) -> u64
-        ensures { (g : Setup) (t : Turn) → Holds g self.now t → result ≡ t.state.now }
+        ensures value { result ≡ clock_of self.now }
+        ensures holds { (g : Setup) (t : Turn) → Holds g self.now t → result ≡ t.state.now }
     {
         self.clock
     }
@@ -129,6 +133,15 @@ impl Kernel {
         ensures { (g : Setup) (t : Turn) → Holds g self.now t → result ≡ slice_get t.state.lines number }
     {
         self.lines.get(number).copied()
+    }
+
+    /// The owners of the interrupt lines that have one, in the order of the image; a board has 32
+    /// lines.
+    pub fn owners(&self) -> &[LineStart]
+        ensures few { length result.now ≤ 32 }
+        ensures holds { (g : Setup) (t : Turn) → Holds g self.now t → map line_setup result.now ≡ g.lines }
+    {
+        &self.owners
     }
 
     /// The bits that task 0 is posted where another task faults.
@@ -158,7 +171,7 @@ impl Kernel {
     }
 
     /// What is kept of a task.
-    fn slot(&self, task: usize) -> Slot
+    pub(crate) fn slot(&self, task: usize) -> Slot
         requires { task < task_count self.now }
         ensures { (g : Setup) (t : Turn) → Holds g self.now t → IsKept t.state task result }
     {
@@ -196,6 +209,15 @@ impl Kernel {
         ensures { (g : Setup) (t : Turn) → Holds g self.now t → result ≡ (task_at t.state task).registers }
     {
         self.slot(task).registers
+    }
+
+    /// The registers r4 to r11 of a task: the arguments of its call, and the call's number.
+    pub fn arguments(&self, task: usize) -> [u32; 8]
+        requires { task < task_count self.now }
+        ensures { (g : Setup) (t : Turn) → Holds g self.now t → result ≡ arguments t.state task }
+    {
+        let slot = self.slot(task);
+        words_in(&slot.registers)
     }
 
     /// One register of a task.
@@ -305,8 +327,31 @@ impl Kernel {
         self.notes.push(note);
     }
 
+    /// The time goes on by one tick, which is noted.
+    pub fn step_clock(&mut self)
+        requires room { note_count self.old < 1024 }
+        requires small { clock_of self.old + 1 < 2 ^ 64 }
+        ensures holds { (g : Setup) (t : Turn) → Holds g self.old t → Holds g self.new (clocked t) }
+        ensures count { note_count self.new ≡ note_count self.old + 1 }
+        ensures tasks { task_count self.new ≡ task_count self.old }
+    {
+        self.clock += 1;
+        self.note(Note::Tick { now: self.clock });
+    }
+
+    /// An interrupt line is so from now on; where there is none with this number, nothing changes.
+    pub fn set_line(&mut self, number: usize, line: Line)
+        ensures holds { (g : Setup) (t : Turn) → Holds g self.old t → Holds g self.new (with_line number line t) }
+        ensures count { note_count self.new ≡ note_count self.old }
+        ensures tasks { task_count self.new ≡ task_count self.old }
+    {
+        if number < 32 {
+            self.lines[number] = line;
+        }
+    }
+
     /// Keeps this of a task.
-    fn set_slot(&mut self, task: usize, slot: Slot)
+    pub(crate) fn set_slot(&mut self, task: usize, slot: Slot)
         requires { task < task_count self.old }
         ensures holds { (g : Setup) (t : Turn) (u : State) → Holds g self.old t → IsKept u task slot → IsSameBut task t.state u → Holds g self.new record t { state = u } }
         ensures count { note_count self.new ≡ note_count self.old }
@@ -342,7 +387,7 @@ impl Kernel {
     }
 
     /// Drops the listen of a task, if it has one.
-    fn stop_listening(&mut self, task: usize)
+    pub(crate) fn stop_listening(&mut self, task: usize)
         requires { task < task_count self.old }
         ensures holds { (g : Setup) (t : Turn) → Holds g self.old t → Holds g self.new (changed (without_listen task) t) }
         ensures count { note_count self.new ≡ note_count self.old }
@@ -355,30 +400,28 @@ impl Kernel {
         }
     }
 
-    /// Drops the call of a client, if it has one.
-    fn drop_call(&mut self, client: usize)
-        requires { client < task_count self.old }
-        ensures holds { (g : Setup) (t : Turn) → Holds g self.old t → Holds g self.new (changed (without_call client) t) }
-        ensures count { note_count self.new ≡ note_count self.old }
+    /// Closes the call of a client, if it has one.
+    fn close(&mut self, client: usize, ending: Ending)
+        requires there { client < task_count self.old }
+        requires room { note_count self.old < 1024 }
+        ensures holds { (g : Setup) (t : Turn) → Holds g self.old t → Holds g self.new (closed client ending t) }
+        ensures count { note_count self.new ≤ note_count self.old + 1 }
         ensures tasks { task_count self.new ≡ task_count self.old }
     {
         let mut slot = self.slot(client);
-        if slot.wait.is_calling() {
+        if let Some(call) = slot.wait.call() {
             slot.wait = Wait::Nothing;
             self.set_slot(client, slot);
+            self.note(Note::Close { call, ending });
         }
     }
 
-    /// A task faults: it is Faulted, and its listen and the call of which it is the client are
-    /// dropped.
-    pub fn fault(&mut self, task: usize, fault: Fault)
+    /// A task faults, and its call is closed as told.
+    fn fault_as(&mut self, task: usize, fault: Fault, ending: Ending)
         requires there { task < task_count self.old }
-        requires room { note_count self.old < 1024 }
-        requires from_one { 1 ≤ fault.number }
-        requires to_ten { fault.number ≤ 10 }
-        ensures holds { (g : Setup) (t : Turn) → Holds g self.old t → Holds g self.new (faulted task fault t) }
-        ensures stands { (g : Setup) (t : Turn) → Stands g self.old t → Stands g self.new (faulted task fault t) }
-        ensures count { note_count self.new ≡ note_count self.old + 1 }
+        requires room { note_count self.old + 4 ≤ 1024 }
+        ensures holds { (g : Setup) (t : Turn) → Holds g self.old t → Holds g self.new (faulted_as g task fault ending t) }
+        ensures count { note_count self.new ≤ note_count self.old + 4 }
         ensures tasks { task_count self.new ≡ task_count self.old }
     {
         self.set_health(task, Health::Faulted(fault));
@@ -387,16 +430,36 @@ impl Kernel {
             task: task as u16,
             fault,
         });
-        self.drop_call(task);
+        self.close(task, ending);
+        if task != 0 {
+            self.post(0, self.fault_bits);
+        }
+    }
+
+    /// A task faults: it is Faulted, its listen is dropped, the call of which it is the client is
+    /// closed, and the supervisor, which is task 0, is posted its fault bits. Calls of which the task
+    /// is the server go on waiting. A fault of the supervisor itself posts nothing (Hubris Reference,
+    /// on supervision).
+    pub fn fault(&mut self, task: usize, fault: Fault)
+        requires there { task < task_count self.old }
+        requires room { note_count self.old + 4 ≤ 1024 }
+        requires from_one { 1 ≤ fault.number }
+        requires to_ten { fault.number ≤ 10 }
+        ensures holds { (g : Setup) (t : Turn) → Holds g self.old t → Holds g self.new (faulted g task fault t) }
+        ensures stands { (g : Setup) (t : Turn) → Stands g self.old t → Stands g self.new (faulted g task fault t) }
+        ensures count { note_count self.new ≤ note_count self.old + 4 }
+        ensures tasks { task_count self.new ≡ task_count self.old }
+    {
+        self.fault_as(task, fault, Ending::Client);
     }
 
     /// A task faults since it misused a system call.
     pub fn misuse(&mut self, task: usize, usage: Usage)
         requires there { task < task_count self.old }
-        requires room { note_count self.old < 1024 }
-        ensures holds { (g : Setup) (t : Turn) → Holds g self.old t → Holds g self.new (misused task (usage_number usage) t) }
-        ensures stands { (g : Setup) (t : Turn) → Stands g self.old t → Stands g self.new (misused task (usage_number usage) t) }
-        ensures count { note_count self.new ≡ note_count self.old + 1 }
+        requires room { note_count self.old + 4 ≤ 1024 }
+        ensures holds { (g : Setup) (t : Turn) → Holds g self.old t → Holds g self.new (misused g task (usage_number usage) t) }
+        ensures stands { (g : Setup) (t : Turn) → Stands g self.old t → Stands g self.new (misused g task (usage_number usage) t) }
+        ensures count { note_count self.new ≤ note_count self.old + 4 }
         ensures tasks { task_count self.new ≡ task_count self.old }
     {
         self.fault(task, Fault::usage(usage));
@@ -423,10 +486,10 @@ impl Kernel {
     /// misuses the calls that there are. Either way the task faults.
     pub fn call(&mut self, task: usize)
         requires there { task < task_count self.old }
-        requires room { note_count self.old < 1024 }
-        ensures holds { (g : Setup) (t : Turn) → Holds g self.old t → Holds g self.new (called task t) }
-        ensures stands { (g : Setup) (t : Turn) → Stands g self.old t → Stands g self.new (called task t) }
-        ensures count { note_count self.new ≡ note_count self.old + 1 }
+        requires room { note_count self.old + 100 ≤ 1024 }
+        ensures holds { (g : Setup) (t : Turn) → Holds g self.old t → Holds g self.new (called g task t) }
+        ensures stands { (g : Setup) (t : Turn) → Stands g self.old t → Stands g self.new (called g task t) }
+        ensures count { note_count self.new ≤ note_count self.old + 100 }
         ensures tasks { task_count self.new ≡ task_count self.old }
     {
         if self.register(task, 11) == 8 {
@@ -465,6 +528,15 @@ impl Kernel {
     {
         self.memory.store(addr, bytes);
     }
+}
+
+/// The registers r4 to r11.
+fn words_in(registers: &[u32; 16]) -> [u32; 8]
+    ensures { result ≡ slice_range registers.now 4 12 }
+{
+    let mut words = [0; 8];
+    words.copy_from_slice(&registers[4..12]);
+    words
 }
 
 /// The registers r4 to r10.

@@ -1,8 +1,10 @@
 //! Laws of the abstract kernel, each the contract of a function that does nothing.
 
-ghost use Rattle.std.specs.Prelude.{◌≡◌, ◌+◌, ◌<◌, ◌≤◌, ℕ, true, List, length};
+ghost use Rattle.std.specs.Prelude.{◌≡◌, ◌+◌, ◌<◌, ◌≤◌, ℕ, true, List, Option, length};
 ghost use Rattle.kernel_abi.specs.declared.Fault.{Fault};
 ghost use Rattle.kernel_abi.specs.declared.Note.{Note};
+ghost use Rattle.kernel_abi.specs.declared.Timer.{Timer};
+ghost use Rattle.task_table.specs.declared.Line.{Line};
 ghost use Rattle.words_core.specs.declared.Flags.{Flags};
 ghost use Rattle.region_check.specs.declared.Right.{Right};
 ghost use Rattle.region_check.specs.declared.Right.TheVariants.{Write};
@@ -10,32 +12,49 @@ ghost use Rattle.region_check.specs.Rights.{may_copy};
 ghost use Rattle.task_table.specs.Memory.{Memory, IsWithin, IsWithinRam};
 ghost use Rattle.task_table.specs.State.{Setup, State, Turn, Ground};
 ghost use Rattle.task_table.specs.Reading.{setup_at, is_ready, IsIdle, IsSameAt};
-ghost use Rattle.task_table.specs.Effects.{changed, noted, with_processor, stored, faulted};
-ghost use Rattle.task_table.specs.Rows.{misused, panicked, call_noted, called};
+ghost use Rattle.task_table.specs.Effects.{changed, noted, with_processor, given, posted, with_timer, with_line, stored, faulted};
+ghost use Rattle.task_table.specs.Rows.{misused, panicked, timer_set, timer_told, irq_controlled, call_noted, called};
+ghost use Rattle.task_table.specs.Events.{ticked, interrupted};
 ghost use Rattle.task_table.specs.Placed.{ArePlaced};
 ghost use Rattle.task_table.specs.Sane.{Sane, IsCounted, AreAllBytes};
-ghost use Rattle.task_table.specs.Counts.{AreWhole, IsSameTime};
+ghost use Rattle.task_table.specs.Counts.{AreWhole, IsSameTime, IsNoted};
 ghost use Rattle.task_table.specs.Parts.{IsSound};
 ghost use Rattle.task_table.specs.Start.{start};
 ghost use Rattle.task_table.specs.Holds.{Holds};
 ghost use Rattle.task_table.specs.declared.kernel.Kernel.{Kernel};
 
-/// Each effect of an instruction leaves a sane state sane.
+/// Each effect leaves a sane state sane.
 pub fn effects_keep_sane()
     ensures noted { (g : Setup) (n : Note) (t : Turn) → Sane g t.state → Sane g (noted n t).state }
     ensures processor { (g : Setup) (i : ℕ) (registers : List ℕ) (flags : Flags) (t : Turn) → Sane g t.state → i < length t.state.tasks → AreWhole registers → Sane g (with_processor i registers flags t).state }
     ensures stored { (g : Setup) (on : Ground) (at : ℕ) (bytes : List ℕ) (t : Turn) → Sane g t.state → AreAllBytes bytes → IsWithinRam t.state.memory at (length bytes) → Sane g (stored on at bytes t).state }
     ensures current { (g : Setup) (i : ℕ) (t : Turn) → Sane g t.state → i < length t.state.tasks → Sane g (changed (λ s. record s { current = i }) t).state }
     ensures turn { (g : Setup) (n : ℕ) (t : Turn) → Sane g t.state → Sane g (changed (λ s. record s { turn = n }) t).state }
-    ensures faulted { (g : Setup) (i : ℕ) (fault : Fault) (t : Turn) → Sane g t.state → i < length t.state.tasks → 1 ≤ fault.number → fault.number ≤ 10 → Sane g (faulted i fault t).state }
+    ensures posted { (g : Setup) (i bits : ℕ) (t : Turn) → Sane g t.state → i < length t.state.tasks → Sane g (posted i bits t).state }
+    ensures faulted { (g : Setup) (i : ℕ) (fault : Fault) (t : Turn) → Sane g t.state → i < length t.state.tasks → 1 ≤ fault.number → fault.number ≤ 10 → Sane g (faulted g i fault t).state }
 {}
 
 /// Each row of a call leaves a sane state sane.
 pub fn rows_keep_sane()
-    ensures misused { (g : Setup) (c : ℕ) (usage : ℕ) (t : Turn) → Sane g t.state → c < length t.state.tasks → Sane g (misused c usage t).state }
-    ensures panicked { (g : Setup) (c : ℕ) (t : Turn) → Sane g t.state → c < length t.state.tasks → Sane g (panicked c t).state }
+    ensures misused { (g : Setup) (c : ℕ) (usage : ℕ) (t : Turn) → Sane g t.state → c < length t.state.tasks → Sane g (misused g c usage t).state }
+    ensures panicked { (g : Setup) (c : ℕ) (t : Turn) → Sane g t.state → c < length t.state.tasks → Sane g (panicked g c t).state }
+    ensures timer_set { (g : Setup) (c : ℕ) (t : Turn) → Sane g t.state → c < length t.state.tasks → Sane g (timer_set c t).state }
+    ensures timer_told { (g : Setup) (c : ℕ) (t : Turn) → Sane g t.state → c < length t.state.tasks → Sane g (timer_told c t).state }
+    ensures irq_controlled { (g : Setup) (c : ℕ) (t : Turn) → Sane g t.state → c < length t.state.tasks → Sane g (irq_controlled g c t).state }
     ensures call_noted { (g : Setup) (c : ℕ) (t : Turn) → Sane g t.state → c < length t.state.tasks → Sane g (call_noted c t).state }
-    ensures called { (g : Setup) (c : ℕ) (t : Turn) → Sane g t.state → c < length t.state.tasks → Sane g (called c t).state }
+    ensures called { (g : Setup) (c : ℕ) (t : Turn) → Sane g t.state → c < length t.state.tasks → Sane g (called g c t).state }
+{}
+
+/// A post and a fault are noted.
+pub fn posts_and_faults_are_noted()
+    ensures posted { (i bits : ℕ) (t : Turn) → IsNoted (posted i bits t) }
+    ensures faulted { (g : Setup) (i : ℕ) (fault : Fault) (t : Turn) → IsNoted (faulted g i fault t) }
+{}
+
+/// A tick and an interrupt leave a sane state sane.
+pub fn events_keep_sane()
+    ensures ticked { (g : Setup) (t : Turn) → Sane g t.state → Sane g (ticked t).state }
+    ensures interrupted { (g : Setup) (k : ℕ) (t : Turn) → Sane g t.state → Sane g (interrupted g k t).state }
 {}
 
 /// The start of a run of a sound image is sane, and its counts are in order.
@@ -51,15 +70,17 @@ pub fn counts_stay_in_order()
     ensures processor { (i : ℕ) (registers : List ℕ) (flags : Flags) (t : Turn) → IsSameTime t.state (with_processor i registers flags t).state }
     ensures stored { (on : Ground) (at : ℕ) (bytes : List ℕ) (t : Turn) → IsSameTime t.state (stored on at bytes t).state }
     ensures current { (i : ℕ) (t : Turn) → IsSameTime t.state (changed (λ s. record s { current = i }) t).state }
-    ensures faulted { (i : ℕ) (fault : Fault) (t : Turn) → IsSameTime t.state (faulted i fault t).state }
+    ensures posted { (i bits : ℕ) (t : Turn) → IsSameTime t.state (posted i bits t).state }
+    ensures faulted { (g : Setup) (i : ℕ) (fault : Fault) (t : Turn) → IsSameTime t.state (faulted g i fault t).state }
     ensures call_noted { (c : ℕ) (t : Turn) → IsSameTime t.state (call_noted c t).state }
-    ensures called { (c : ℕ) (t : Turn) → IsSameTime t.state (called c t).state }
+    ensures called { (g : Setup) (c : ℕ) (t : Turn) → IsSameTime t.state (called g c t).state }
     ensures joined { (s u v : State) → IsSameTime s u → IsSameTime u v → IsSameTime s v }
     ensures turn { (s u : State) → IsCounted s → IsSameTime s u → IsCounted record u { turn = u.turn + 1 } }
 {}
 
 /// A task that is ready waits for nothing, and stays so where neither it nor its waiting changes, as
-/// by a note, by a store and where another task becomes current.
+/// by a note, by a store and where another task becomes current. What waits for nothing does so after
+/// results are given, after a post, and where a timer or a line changes.
 pub fn ready_waits_for_nothing()
     ensures idle { (s : State) (i : ℕ) → is_ready s i ≡ true → IsIdle s i }
     ensures ready_same { (i : ℕ) (s u : State) → IsSameAt i s u → is_ready s i ≡ true → is_ready u i ≡ true }
@@ -67,6 +88,10 @@ pub fn ready_waits_for_nothing()
     ensures noted { (j : ℕ) (n : Note) (t : Turn) → IsSameAt j t.state (noted n t).state }
     ensures stored { (j : ℕ) (on : Ground) (at : ℕ) (bytes : List ℕ) (t : Turn) → IsSameAt j t.state (stored on at bytes t).state }
     ensures current { (j i : ℕ) (t : Turn) → IsSameAt j t.state (changed (λ s. record s { current = i }) t).state }
+    ensures given { (i j : ℕ) (values : List ℕ) (t : Turn) → IsIdle t.state i → IsIdle (given j values t).state i }
+    ensures posted { (i j bits : ℕ) (t : Turn) → IsIdle t.state i → IsIdle (posted j bits t).state i }
+    ensures timer { (i j : ℕ) (timer : Option Timer) (t : Turn) → IsIdle t.state i → IsIdle (with_timer j timer t).state i }
+    ensures line { (i k : ℕ) (line : Line) (t : Turn) → IsIdle t.state i → IsIdle (with_line k line t).state i }
 {}
 
 /// What a region gives that is no device lies in flash or RAM, and in RAM where it may be written;

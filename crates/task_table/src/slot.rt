@@ -25,16 +25,16 @@ pub enum Wait {
 
 impl Wait {
     ghost use Rattle.std.specs.Prelude.{◌≡◌};
-    ghost use Rattle.task_table.specs.Holds.{is_calling, is_listening};
+    ghost use Rattle.task_table.specs.Holds.{call_number, is_listening};
 
-    /// Whether it is for the end of a call.
-    pub fn is_calling(&self) -> bool
-        ensures { result ≡ is_calling self.now }
+    /// The number of the call for whose end it is.
+    pub fn call(&self) -> Option<u32>
+        ensures { result ≡ call_number self.now }
     {
         match *self {
-            Wait::Offered { .. } => true,
-            Wait::Taken { .. } => true,
-            _ => false,
+            Wait::Offered { call, .. } => Some(call),
+            Wait::Taken { call, .. } => Some(call),
+            _ => None,
         }
     }
 

@@ -188,7 +188,14 @@ fn a_call_is_misused(rt: HostRuntime) -> Result<(), Fail> {
         kernel.health(1),
         Health::Faulted(Fault::usage(Usage::BadReason))
     );
-    assert_eq!(rt; kernel.notes().len(), 1);
+    let told = Note::Post {
+        task: 0,
+        bits: 0x8000_0000,
+        posted: 0x8000_0000,
+    };
+    assert_eq!(rt; kernel.notes().len(), 2);
+    assert_eq!(rt; kernel.notes()[1], told);
+    assert_eq!(rt; kernel.posted_bits(0), 0x8000_0000);
     kernel.clear_notes();
     assert_eq!(rt; kernel.notes().len(), 0);
     Ok(())

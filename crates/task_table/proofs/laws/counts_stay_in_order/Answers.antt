@@ -14,13 +14,16 @@ pub returns-clause-current : goal.returns-clause-current
 returns-clause-current c = λ i t. frames.time-current i t
 
 pub returns-clause-faulted : goal.returns-clause-faulted
-returns-clause-faulted c = λ i fault t. frames.time-faulted i fault t
+returns-clause-faulted c = λ g i fault t. frames.time-faulted g i fault t
+
+pub returns-clause-posted : goal.returns-clause-posted
+returns-clause-posted c = λ i bits t. frames.time-posted i bits t
 
 pub returns-clause-call_noted : goal.returns-clause-call_noted
 returns-clause-call_noted c = λ c t. frames.time-call_noted c t
 
 pub returns-clause-called : goal.returns-clause-called
-returns-clause-called c = λ c t. frames.time-called c t
+returns-clause-called c = λ g c t. frames.time-called g c t
 
 pub returns-clause-joined : goal.returns-clause-joined
 returns-clause-joined c = λ s u v a b. frames.time-joined s u v a b

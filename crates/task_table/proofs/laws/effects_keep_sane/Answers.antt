@@ -1,4 +1,5 @@
 use Rattle.task_table.proofs.Sanity.{sane-noted, sane-processor, sane-stored, sane-current, sane-turn, sane-faulted}
+use Rattle.task_table.proofs.Posting.{sane-posted}
 use Rattle.task_table.proofs.laws.effects_keep_sane.Goals as goal
 
 pub returns-clause-noted : goal.returns-clause-noted
@@ -18,3 +19,6 @@ returns-clause-turn c = λ g n t h. sane-turn n t h
 
 pub returns-clause-faulted : goal.returns-clause-faulted
 returns-clause-faulted c = λ g i fault t h inside low high. sane-faulted i fault t h inside low high
+
+pub returns-clause-posted : goal.returns-clause-posted
+returns-clause-posted c = λ g i bits t h inside. sane-posted i bits t h inside

@@ -18,3 +18,15 @@ returns-clause-stored c = λ j on at bytes t. frames.same_at-stored j on at byte
 
 pub returns-clause-current : goal.returns-clause-current
 returns-clause-current c = λ j i t. frames.same_at-current j i t
+
+pub returns-clause-given : goal.returns-clause-given
+returns-clause-given c = λ i j values t h. frames.idle-given i j values t h
+
+pub returns-clause-posted : goal.returns-clause-posted
+returns-clause-posted c = λ i j bits t h. frames.idle-posted i j bits t h
+
+pub returns-clause-timer : goal.returns-clause-timer
+returns-clause-timer c = λ i j timer t h. frames.idle-timer i j timer t h
+
+pub returns-clause-line : goal.returns-clause-line
+returns-clause-line c = λ i k line t h. frames.idle-line i k line t h

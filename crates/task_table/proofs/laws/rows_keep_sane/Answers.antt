@@ -1,4 +1,5 @@
 use Rattle.task_table.proofs.Sanity.{sane-misused, sane-panicked, sane-call_noted, sane-called}
+use Rattle.task_table.proofs.Timing.{sane-timer_set, sane-timer_told, sane-irq_controlled}
 use Rattle.task_table.proofs.laws.rows_keep_sane.Goals as goal
 
 pub returns-clause-misused : goal.returns-clause-misused
@@ -12,3 +13,12 @@ returns-clause-call_noted c = λ g c t h inside. sane-call_noted c t h inside
 
 pub returns-clause-called : goal.returns-clause-called
 returns-clause-called c = λ g c t h inside. sane-called c t h inside
+
+pub returns-clause-timer_set : goal.returns-clause-timer_set
+returns-clause-timer_set c = λ g c t h inside. sane-timer_set c t h inside
+
+pub returns-clause-timer_told : goal.returns-clause-timer_told
+returns-clause-timer_told c = λ g c t h inside. sane-timer_told c t h inside
+
+pub returns-clause-irq_controlled : goal.returns-clause-irq_controlled
+returns-clause-irq_controlled c = λ g c t h inside. sane-irq_controlled c t h inside

@@ -5,4 +5,4 @@ use Rattle.board_core.proofs.board.Board.now.Goals as goal
 pub returns : goal.returns
 returns c = λ x s st.
     let w = told_by _ x.setup _ _ _ st.holds.machine in
-    c.now.ensures x.setup w.saved w.holds ∙ sym w.rest.time
+    c.now.ensures.holds x.setup w.saved w.holds ∙ sym w.rest.time

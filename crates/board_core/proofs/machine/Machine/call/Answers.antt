@@ -20,5 +20,5 @@ pub returns : goal.returns
 returns c = λ g t r.
     let h = c.settle.ensures.holds g t (stands_of _ _ _ r).holds in
     let task = c.current-task.ensures.holds g t h in
-    let P : ℕ → Type 0 = λ i. Holds g c.call.new.self (called i (call_noted i t)) in
+    let P : ℕ → Type 0 = λ i. Holds g c.call.new.self (called g i (call_noted i t)) in
     settled_by _ g _ _ _ c.settle.ensures.settled (subst P task (c.call.ensures.holds g (call_noted c.current-task.result t) (c.note_call.ensures.holds g t h)))

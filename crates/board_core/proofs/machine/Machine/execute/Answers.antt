@@ -44,10 +44,10 @@ pub returns-in-Call : goal.returns-in-Call
 returns-in-Call c = λ g t r.
     let w = was_call _ _ _ _ _ _ c.exec.ensures c.in-Call.is in
     let here = effect_lent g _ _ t c.args.insn.now r.holds r.sane.steady.current in
-    acted_as (MachineHolds g c.call.new.self) t.state.current t _ _ (sym here ∙ w.0) (c.call.ensures g t (ready_same _ _ _ _ _ w.1 w.2 r))
+    acted_as g (MachineHolds g c.call.new.self) t.state.current t _ _ (sym here ∙ w.0) (c.call.ensures g t (ready_same _ _ _ _ _ w.1 w.2 r))
 
 pub returns-in-Trap : goal.returns-in-Trap
 returns-in-Trap c = λ g t r.
     let w = was_trap _ _ _ _ _ _ _ c.exec.ensures c.in-Trap.is in
     let here = effect_lent g _ _ t c.args.insn.now r.holds r.sane.steady.current in
-    acted_as (MachineHolds g c.fault.new.self) t.state.current t _ _ (sym here ∙ w.0) (c.fault.ensures g t (ready_same _ _ _ _ _ w.1 w.2 r))
+    acted_as g (MachineHolds g c.fault.new.self) t.state.current t _ _ (sym here ∙ w.0) (c.fault.ensures g t (ready_same _ _ _ _ _ w.1 w.2 r))

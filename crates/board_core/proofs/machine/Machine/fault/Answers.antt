@@ -14,5 +14,5 @@ pub returns : goal.returns
 returns c = λ g t r.
     let h = c.settle.ensures.holds g t (stands_of _ _ _ r).holds in
     let task = c.current-task.ensures.holds g t h in
-    let P : ℕ → Type 0 = λ i. Holds g c.fault.new.self (faulted i c.args.fault t) in
+    let P : ℕ → Type 0 = λ i. Holds g c.fault.new.self (faulted g i c.args.fault t) in
     settled_by _ g _ _ _ c.settle.ensures.settled (subst P task (c.fault.ensures.holds g t h))

@@ -1,0 +1,8 @@
+use Rattle.task_table.proofs.Timing.{sane-ticked, sane-interrupted}
+use Rattle.task_table.proofs.laws.events_keep_sane.Goals as goal
+
+pub returns-clause-ticked : goal.returns-clause-ticked
+returns-clause-ticked c = λ g t h. sane-ticked t h
+
+pub returns-clause-interrupted : goal.returns-clause-interrupted
+returns-clause-interrupted c = λ g k t h. sane-interrupted k t h

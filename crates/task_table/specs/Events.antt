@@ -1,0 +1,42 @@
+-- What comes from outside within a turn: ticks of the clock and interrupts. (Hubris Reference: timers,
+-- interrupts; a timer is due at its deadline, and an interrupt on a disabled line is held once.)
+use Rattle.std.specs.Prelude.{ℕ, length, Option, None, Some, true, false, ◌==◌, nat_le, if◌then◌else◌, find, fold}
+use Rattle.std.specs.List.{range_with_len}
+use Rattle.kernel_abi.specs.declared.Handled.TheVariants.{Posted, Held, Unowned}
+use Rattle.kernel_abi.specs.declared.Note.TheVariants as note
+use Rattle.kernel_abi.specs.declared.Timer.{Timer}
+use Rattle.task_table.specs.State.{Setup, LineSetup, Turn}
+use Rattle.task_table.specs.Reading.{task_at, line_at, line_off}
+use Rattle.task_table.specs.Effects.{noted, posted, with_timer, clocked, with_line}
+
+-- ## a tick
+
+-- the timer of a task that is due is off, and its bits are posted
+abbrev pub expired_by : ℕ → Option Timer → Turn → Turn
+expired_by i None t = t
+expired_by i (Some x) t =
+    if nat_le x.deadline t.state.now then posted i x.bits (with_timer i None t) else t
+
+abbrev pub expired : Turn → ℕ → Turn
+expired t i = expired_by i (task_at t.state i).timer t
+
+-- the time goes on by one, then each task in order whose timer is due is posted
+unfoldable pub ticked : Turn → Turn
+ticked t = fold expired (clocked t) (range_with_len 0 (length t.state.tasks))
+
+-- ## an interrupt
+
+-- the owner of a line
+unfoldable pub owner_of : Setup → ℕ → Option LineSetup
+owner_of g k = find (λ o. o.line == k) g.lines
+
+-- an enabled line posts and is disabled; a disabled one is pending, once; one without an owner does nothing
+abbrev pub interrupted_by : ℕ → Option LineSetup → Turn → Turn
+interrupted_by k None t = noted (note.Irq k Unowned) t
+interrupted_by k (Some o) t =
+    if (line_at t.state k).enabled
+    then posted o.owner o.bits (with_line k (line_off false) (noted (note.Irq k Posted) t))
+    else with_line k (line_off true) (noted (note.Irq k Held) t)
+
+unfoldable pub interrupted : Setup → ℕ → Turn → Turn
+interrupted g k t = interrupted_by k (owner_of g k) t

@@ -1,0 +1,191 @@
+//! What may be done to one task: results of its calls, posts, its timer.
+
+use crate::kernel::Kernel;
+use kernel_abi::{Note, Timer};
+
+impl Kernel {
+    ghost use Rattle.std.specs.Prelude.{◌≡◌, ◌+◌, ◌<◌, ◌≤◌, length, Option, IfSome, None};
+    ghost use Rattle.std.specs.Option.{option_map};
+    ghost use Rattle.task_table.specs.State.{Setup, Turn};
+    ghost use Rattle.task_table.specs.Reading.{call_of, listen_of, IsIdle};
+    ghost use Rattle.task_table.specs.Effects.{given, returned, advanced, bits_added, bits_cleared, woken, posted, with_timer};
+    ghost use Rattle.task_table.specs.Rows.{goes_on, goes_on_with};
+    ghost use Rattle.task_table.specs.Holds.{Holds, Stands, task_count, note_count};
+
+    /// Gives results to a task that waits for nothing, from r4 on. (The registers of a task that
+    /// waits are the arguments of its call.)
+    fn give(&mut self, task: usize, values: &[u32])
+        requires there { task < task_count self.old }
+        requires few { length values.now ≤ 6 }
+        ensures holds { (g : Setup) (t : Turn) → Holds g self.old t → IsIdle t.state task → Holds g self.new (given task values.now t) }
+        ensures count { note_count self.new ≡ note_count self.old }
+        ensures tasks { task_count self.new ≡ task_count self.old }
+    {
+        let mut slot = self.slot(task);
+        write_results(&mut slot.registers, values);
+        self.set_slot(task, slot);
+    }
+
+    /// Notes that a call of a task has ended.
+    fn note_return(&mut self, task: usize)
+        requires there { task < task_count self.old }
+        requires room { note_count self.old < 1024 }
+        ensures holds { (g : Setup) (t : Turn) → Holds g self.old t → Holds g self.new (returned task t) }
+        ensures count { note_count self.new ≡ note_count self.old + 1 }
+        ensures tasks { task_count self.new ≡ task_count self.old }
+    {
+        let slot = self.slot(task);
+        let results = results_in(&slot.registers);
+        self.note(Note::Ret {
+            task: task as u16,
+            results,
+        });
+    }
+
+    /// The program counter of a task that waits for nothing goes past its call.
+    fn advance(&mut self, task: usize)
+        requires { task < task_count self.old }
+        ensures holds { (g : Setup) (t : Turn) → Holds g self.old t → IsIdle t.state task → Holds g self.new (advanced task t) }
+        ensures count { note_count self.new ≡ note_count self.old }
+        ensures tasks { task_count self.new ≡ task_count self.old }
+    {
+        let mut slot = self.slot(task);
+        slot.registers[15] = slot.registers[15].wrapping_add(2);
+        self.set_slot(task, slot);
+    }
+
+    /// A caller that waits for nothing goes on after its call.
+    pub fn go_on(&mut self, task: usize)
+        requires there { task < task_count self.old }
+        requires room { note_count self.old < 1024 }
+        ensures holds { (g : Setup) (t : Turn) → Holds g self.old t → IsIdle t.state task → Holds g self.new (goes_on task t) }
+        ensures count { note_count self.new ≡ note_count self.old + 1 }
+        ensures tasks { task_count self.new ≡ task_count self.old }
+    {
+        self.advance(task);
+        self.note_return(task);
+    }
+
+    /// A caller that waits for nothing goes on after its call, with results from r4 on.
+    pub fn answer(&mut self, task: usize, values: &[u32])
+        requires there { task < task_count self.old }
+        requires few { length values.now ≤ 6 }
+        requires room { note_count self.old < 1024 }
+        ensures holds { (g : Setup) (t : Turn) → Holds g self.old t → IsIdle t.state task → Holds g self.new (goes_on_with task values.now t) }
+        ensures count { note_count self.new ≡ note_count self.old + 1 }
+        ensures tasks { task_count self.new ≡ task_count self.old }
+    {
+        self.give(task, values);
+        self.go_on(task);
+    }
+
+    /// Adds bits to those that are posted to a task, and notes it.
+    fn add_bits(&mut self, task: usize, bits: u32)
+        requires there { task < task_count self.old }
+        requires room { note_count self.old < 1024 }
+        ensures holds { (g : Setup) (t : Turn) → Holds g self.old t → Holds g self.new (bits_added task bits t) }
+        ensures count { note_count self.new ≡ note_count self.old + 1 }
+        ensures tasks { task_count self.new ≡ task_count self.old }
+    {
+        let mut slot = self.slot(task);
+        slot.posted |= bits;
+        self.set_slot(task, slot);
+        self.note(Note::Post {
+            task: task as u16,
+            bits,
+            posted: slot.posted,
+        });
+    }
+
+    /// Clears the posted bits of a task that are in a mask.
+    fn clear_bits(&mut self, task: usize, mask: u32)
+        requires { task < task_count self.old }
+        ensures holds { (g : Setup) (t : Turn) → Holds g self.old t → Holds g self.new (bits_cleared task mask t) }
+        ensures count { note_count self.new ≡ note_count self.old }
+        ensures tasks { task_count self.new ≡ task_count self.old }
+    {
+        let mut slot = self.slot(task);
+        slot.posted &= !mask;
+        self.set_slot(task, slot);
+    }
+
+    /// The mask of a task that listens.
+    fn mask(&self, task: usize) -> Option<u32>
+        requires { task < task_count self.now }
+        ensures mask { (g : Setup) (t : Turn) → Holds g self.now t → result ≡ option_map (λ l. l.mask) (listen_of t.state task) }
+        ensures alone { (g : Setup) (t : Turn) → Holds g self.now t → IfSome result (λ m. call_of t.state task ≡ None) }
+    {
+        let slot = self.slot(task);
+        if slot.wait.is_listening() {
+            Some(slot.registers[6])
+        } else {
+            None
+        }
+    }
+
+    /// A task that listens takes its posted bits under its mask, where there are any.
+    fn wake(&mut self, task: usize)
+        requires there { task < task_count self.old }
+        requires room { note_count self.old < 1024 }
+        ensures holds { (g : Setup) (t : Turn) → Holds g self.old t → Holds g self.new (woken task t) }
+        ensures count { note_count self.new ≤ note_count self.old + 1 }
+        ensures tasks { task_count self.new ≡ task_count self.old }
+    {
+        if let Some(mask) = self.mask(task) {
+            let under = self.posted_bits(task) & mask;
+            if under != 0 {
+                self.stop_listening(task);
+                self.clear_bits(task, mask);
+                self.give(task, &[0, 0xFFFF, under, 0, 0, 0]);
+                self.note_return(task);
+            }
+        }
+    }
+
+    /// Posts bits to a task, of any health. Where it listens and its mask meets the posted bits, it
+    /// takes them: r4 is 0, r5 0xFFFF, r6 the posted bits under the mask, r7 to r9 are 0; those bits
+    /// are cleared and it listens no more (Hubris Reference, on notifications).
+    pub fn post(&mut self, task: usize, bits: u32)
+        requires there { task < task_count self.old }
+        requires room { note_count self.old + 2 ≤ 1024 }
+        ensures holds { (g : Setup) (t : Turn) → Holds g self.old t → Holds g self.new (posted task bits t) }
+        ensures stands { (g : Setup) (t : Turn) → Stands g self.old t → Stands g self.new (posted task bits t) }
+        ensures count { note_count self.new ≤ note_count self.old + 2 }
+        ensures tasks { task_count self.new ≡ task_count self.old }
+    {
+        self.add_bits(task, bits);
+        self.wake(task);
+    }
+
+    /// The timer of a task is set from now on, or off.
+    pub fn set_timer(&mut self, task: usize, timer: Option<Timer>)
+        requires { task < task_count self.old }
+        ensures holds { (g : Setup) (t : Turn) → Holds g self.old t → Holds g self.new (with_timer task timer t) }
+        ensures count { note_count self.new ≡ note_count self.old }
+        ensures tasks { task_count self.new ≡ task_count self.old }
+    {
+        let mut slot = self.slot(task);
+        slot.timer = timer;
+        self.set_slot(task, slot);
+    }
+}
+
+ghost use Rattle.std.specs.Prelude.{◌≡◌, ◌≤◌, length, slice_range};
+ghost use Rattle.task_table.specs.Effects.{with_results};
+
+/// Writes results from r4 on.
+fn write_results(registers: &mut [u32; 16], values: &[u32])
+    requires { length values.now ≤ 6 }
+    ensures { registers.new ≡ with_results values.now registers.old }
+{
+    registers[4..4 + values.len()].copy_from_slice(values);
+}
+
+/// The registers r4 to r9.
+fn results_in(registers: &[u32; 16]) -> [u32; 6]
+    ensures { result ≡ slice_range registers.now 4 10 }
+{
+    let mut results = [0; 6];
+    results.copy_from_slice(&registers[4..10]);
+    results
+}

@@ -1,0 +1,17 @@
+use Rattle.std.proofs.Common.{◌≡◌, length, arith, ◌∙◌}
+use Rattle.task_table.specs.Events.{ticked}
+use Rattle.timer_irq.proofs.Lines.{fold_range_more}
+use Rattle.timer_irq.proofs.tick_all.Goals as goal
+
+pub loop-i-preserved : goal.loop-i-preserved
+loop-i-preserved c = record {
+  tasks = c.expire.ensures.tasks ∙ c.loop-i.invariant.tasks;
+  room = omega (arith, c.expire.ensures.count, c.loop-i.invariant.room);
+  holds = λ g t h. rw fold_range_more (c.expire.ensures.holds g _ (c.loop-i.invariant.holds g t h));
+}
+
+pub returns-clause-holds : goal.returns-clause-holds
+unfolding ticked
+returns-clause-holds c = λ g t h.
+    let all : c.loop-i.i ≡ length t.state.tasks = omega (arith, c.task_count-i-end.ensures.value, c.loop-i.auto.i-end, c.loop-i-test.false, c.step_clock.ensures.tasks, h.count) in
+    rw all at (c.loop-i.invariant.holds g _ (c.step_clock.ensures.holds g t h))
