@@ -6,7 +6,8 @@ use Rattle.image_build.specs.Built.{Built}
 use Rattle.task_table.specs.Start.{start}
 use Rattle.board_core.specs.declared.board.Board.{Board}
 use Rattle.board_core.specs.Script.{Scenario}
-use Rattle.board_core.specs.Stands.{Stands}
+use Rattle.board_core.specs.Stands.{Stands, Stood, turns_of}
+use Rattle.outside_io.specs.Outside.{Rose}
 use Rattle.command_line.specs.CommandLine.{Asked, build, run, go, list}
 use Rattle.trace_cli.specs.declared.stops.Halt.{Halt}
 use Rattle.trace_cli.specs.declared.stops.Halt.TheVariants as halts
@@ -19,7 +20,7 @@ use Rattle.trace_cli.specs.Ready.{IsImageFile, IsSet, IsReady, Halts}
 use Rattle.trace_cli.specs.Told.{Pushed, whole, cut, Says, pushed, silent, IsSilent, SaysHalt}
 use Rattle.trace_cli.specs.Verdict.{Verdict, runs, lists, builds, refused, unread, ran, listed, built}
 use Rattle.trace_cli.specs.Answer as answer
-use Rattle.trace_cli.specs.Answer.{Reason, cannot_read, refuses, does, IsShort, HasPut, Tells, AnswersJob}
+use Rattle.trace_cli.specs.Answer.{Reason, cannot_read, refuses, does, IsShort, HasPut, HasSpoiled, Tells, AnswersJob}
 use Rattle.trace_cli.proofs.Lists.{takes_none, takes_first, takes_wider, takes_last, get_more, get_last}
 use Rattle.trace_cli.proofs.Stopping.{halts_earlier}
 use Rattle.trace_cli.proofs.Taking.{as_many_sources}
@@ -193,3 +194,23 @@ pub answers_run : (job : Asked) (a b : FilesSeen) (w w' : SinkSeen) (n : ℕ) (m
     → ((x : Scenario) → Stands x bd (start x.setup) → Pushed w w' (ran n mem x) r) → AnswersJob job a b w w' r
 answers_run job a b w w' n mem bd r same ready tells =
     answers_pushed job a b w w' (ran n mem ready.scenario) r same refl (does ready.contents ready.accepted (runs n mem ready.scenario ready.is refl)) (tells ready.scenario ready.stands)
+
+pub ready_stood : (job : Asked) (told : List ℕ → Option (List ℕ)) (n : ℕ) (mem : Bool) (bd : Board) → IsReady job told n mem bd → Stood bd × (turns_of bd ≡ 0)
+ready_stood job told n mem bd h = ((h.scenario, start h.scenario.setup, h.stands), h.turns)
+
+-- ## what an image is put under
+
+earlier_puts : (a b c : FilesSeen) (v : Verdict) → b.told ≡ a.told → HasPut b.told c.told v.put → HasPut a.told c.told v.put
+earlier_puts a b c v same p = subst (λ (t : List ℕ → Option (List ℕ)). HasPut t c.told v.put) same p
+
+tells_earlier : (a b c : FilesSeen) (w w' : SinkSeen) (v : Verdict) (r : ℕ) → b.told ≡ a.told → b.put_faults ≡ a.put_faults → Tells b c w w' v r → Tells a c w w' v r
+tells_earlier a b c w w' v r same puts (answer.whole is put text) = answer.whole is (earlier_puts a b c v same put) text
+tells_earlier a b c w w' v r same puts (answer.cut is rose put front) = answer.cut is rose (earlier_puts a b c v same put) front
+tells_earlier a b c w w' v r same puts (answer.spoiled is rose left none) =
+    answer.spoiled is (subst (λ (n : ℕ). Rose n c.put_faults) puts rose) (subst (λ (t : List ℕ → Option (List ℕ)). HasSpoiled t c.told v.put) same left) none
+tells_earlier a b c w w' v r same puts (answer.short s) =
+    answer.short (record { status = s.status; written = s.written; faults = s.faults; files = s.files ∙ same })
+
+pub answers_built : (a b c : FilesSeen) (w w' : SinkSeen) (app out : List ℕ) (image : Picture) (r : ℕ) → b.told ≡ a.told → b.put_faults ≡ a.put_faults → IsImage a.told app image
+    → Tells b c w w' (built out image) r → AnswersJob (build app out) a c w w' r
+answers_built a b c w w' app out image r same puts i t = inr (built out image, build_reason a c app out image i, tells_earlier a b c w w' (built out image) r same puts t)
