@@ -107,18 +107,15 @@ no_refusal f c why e d = let both : Some why ≡ None = sym e ∙ d in absurd (c
 -- a file that is refused where it is told is none that told contents of it were accepted
 not_accepted : (told : List ℕ → Option (List ℕ)) (f g : File) (why : Why) (c : List ℕ) → f ≡ g → WhereTold (told f.name) (λ all. f.refusal all ≡ Some why)
     → told g.name ≡ Some c → g.refusal c ≡ None → ⊥
-not_accepted told f g why c same refused is none =
-    no_refusal g c why (subst (λ (h : File). WhereTold (told h.name) (λ all. h.refusal all ≡ Some why)) same refused c is) none
+not_accepted told f g why c alike where_told is none =
+    no_refusal g c why (subst (λ (h : File). WhereTold (told h.name) (λ all. h.refusal all ≡ Some why)) alike where_told c is) none
 
 -- the other way
 not_refused : (told : List ℕ → Option (List ℕ)) (f g : File) (why : Why) (c d : List ℕ) → f ≡ g → told f.name ≡ Some c → f.refusal c ≡ Some why
     → MayBe told g.name d → g.refusal d ≡ None → ⊥
-not_refused told f g why c d same is refused may none =
-    let held : d ≡ c = subst (λ (h : File). MayBe told h.name d) (sym same) may c is in
-    no_refusal f c why refused (subst (λ (b : List ℕ). f.refusal b ≡ None) held (subst (λ (h : File). h.refusal d ≡ None) (sym same) none))
-
-file_next : (f g : File) (o p : Option File) → o ≡ Some f → p ≡ Some g → o ≡ p → f ≡ g
-file_next f g o p e d same = same_Some f g (sym e ∙ same ∙ d)
+not_refused told f g why c d alike is refusal may none =
+    let held : d ≡ c = subst (λ (h : File). MayBe told h.name d) (sym alike) may c is in
+    no_refusal f c why refusal (subst (λ (b : List ℕ). f.refusal b ≡ None) held (subst (λ (h : File). h.refusal d ≡ None) (sym alike) none))
 
 -- at the end there is no file
 no_file : (files : List File) (k : ℕ) (f : File) → length files ≡ k → slice_get files k ≡ Some f → ⊥
@@ -187,7 +184,7 @@ all_same told job cs ds u v are may p q = by_length (meets (length cs) (length d
 
 -- ## the verdict
 
-CannotRead : Asked → FilesSeen → FilesSeen → Verdict → Type 0
+abbrev CannotRead : Asked → FilesSeen → FilesSeen → Verdict → Type 0
 CannotRead job before after v = (f : File) × IsUnread job before after f × (v ≡ unread f.name)
 
 on_refusal : (job : Asked) (before after : FilesSeen) (v u : Verdict) (cs : List (List ℕ)) (g : File) (c : List ℕ) (why : Why) → Reason job before after v
@@ -212,11 +209,11 @@ on_job : (words : List (List ℕ)) (job : Asked) (before after : FilesSeen) (v u
     → (v ≡ u) ⊎ CannotRead job before after v
 on_job words job before after v u is why (verdict.no_job none e) = absurd (no_job_of words job none is)
 on_job words job before after v u is why (verdict.refuses job' cs g c reason is' r held refusal e) =
-    let same : job' ≡ job = same_Some job' job (sym is' ∙ is) in
-    on_refusal job before after v u cs g c reason why (subst (λ (j : Asked). Reaches (Are before.told) j cs g) same r) held refusal e
+    let alike : job' ≡ job = same_Some job' job (sym is' ∙ is) in
+    on_refusal job before after v u cs g c reason why (subst (λ (j : Asked). Reaches (Are before.told) j cs g) alike r) held refusal e
 on_job words job before after v u is why (verdict.does job' cs is' all p) =
-    let same : job' ≡ job = same_Some job' job (sym is' ∙ is) in
-    on_done job before after v u cs why (subst (λ (j : Asked). TakesAll (Are before.told) j cs) same all) (subst (λ (j : Asked). Does j cs u) same p)
+    let alike : job' ≡ job = same_Some job' job (sym is' ∙ is) in
+    on_done job before after v u cs why (subst (λ (j : Asked). TakesAll (Are before.told) j cs) alike all) (subst (λ (j : Asked). Does j cs u) alike p)
 
 on_no_job : (words : List (List ℕ)) (told : List ℕ → Option (List ℕ)) (v u : Verdict) → is_taken words ≡ false → v ≡ usage → IsVerdict words told u → v ≡ u
 on_no_job words told v u none e (verdict.no_job none' d) = e ∙ sym d

@@ -1,6 +1,7 @@
 pub mod Agreeing
 pub mod Deciding
 pub mod Lists
+pub mod Readying
 pub mod Refusals
 pub mod Starting
 pub mod Statuses

@@ -13,6 +13,8 @@ use Rattle.trace_cli.specs.Words.{job_in, out_of}
 use Rattle.trace_cli.specs.Sources.{IsBuild}
 use Rattle.trace_cli.specs.Verdict.{Verdict, IsVerdict, Does, runs, lists, builds, usage, usage_line, refused, unread, ran, listed, built, run_of, status_of}
 use Rattle.trace_cli.specs.Answer.{Reason, cannot_read, refuses, does, Ground, no_job, of_job, HasPut, HasSpoiled, IsShort, Tells, whole, cut, spoiled, short, AnswersJob, Answers, HasRun, HasListed, HasBuilt, HasDone, HasRefused, HasUnread, HasFront, Answered, IsComplete}
+use Rattle.trace_cli.specs.Told as told
+use Rattle.trace_cli.specs.Told.{Pushed, Says, pushed, silent}
 use Rattle.trace_cli.proofs.Deciding.{Decided, agreed, not_read, decided, no_job_in}
 
 -- ## where the contents are told
@@ -311,3 +313,13 @@ kept_by words a b w w' v r not0 not4 g (short s) = s.files
 pub kept : (words : List (List ℕ)) (a b : FilesSeen) (w w' : SinkSeen) (r : ℕ) → Answers words a b w w' r → r ≢ 0 → r ≢ 4 → b.told ≡ a.told
 kept words a b w w' r (inl s) not0 not4 = s.files
 kept words a b w w' r (inr h) not0 not4 = kept_by words a b w w' h.0 r not0 not4 (ground_puts words a b h.0 h.1) h.2
+
+-- ## words that are not taken
+
+usage_said : (words : List (List ℕ)) (a : FilesSeen) (w w' : SinkSeen) (r : ℕ) → is_taken words ≡ false → Pushed w w' usage r → Tells a a w w' usage r
+usage_said words a w w' r none (told.whole is text) = whole is refl text
+usage_said words a w w' r none (told.cut is rose front) = cut is rose refl front
+
+pub answers_usage : (words : List (List ℕ)) (a : FilesSeen) (w w' : SinkSeen) (r : ℕ) → is_taken words ≡ false → Says w w' usage r → Answers words a a w w' r
+answers_usage words a w w' r none (pushed p) = inr (usage, no_job none refl, usage_said words a w w' r none p)
+answers_usage words a w w' r none (silent s) = inl (record { status = s.status; written = s.written; faults = s.faults; files = refl })

@@ -1,5 +1,5 @@
 -- The sources that a builder has taken, as files of its application.
-use Rattle.std.proofs.Common.{◌≡◌, ℕ, zero, suc, ◌+◌, ◌<◌, ◌≤◌, List, [], ◌∷◌, ◌++◌, length, get_or, map, Option, Some, None, refl, sym, ap, subst, ◌∙◌, arith}
+use Rattle.std.proofs.Common.{◌≡◌, ℕ, zero, suc, ◌+◌, ◌<◌, ◌≤◌, List, [], ◌∷◌, ◌++◌, length, get_or, map, Option, Some, None, refl, sym, ap, subst, ◌∙◌, arith, ◌⊎◌, inl, inr}
 use Rattle.std.specs.Prelude.{slice_get, slice_index_or, Ok}
 use Rattle.std.proofs.lemmas.Option.{same_Some}
 use Rattle.app_toml.specs.Apps.{AppData, TaskData}
@@ -9,13 +9,14 @@ use Rattle.image_build.specs.Layout.{no_task, task_at}
 use Rattle.image_build.specs.Taken.{HasTaken, described, next_task}
 use Rattle.image_build.specs.declared.builder.Builder.{Builder}
 use Rattle.app_toml.specs.Reading.{read_app}
-use Rattle.image_format.specs.Picture.{Picture}
+use Rattle.image_format.specs.Picture.{Picture, Sound}
 use Rattle.trace_cli.specs.Contents.{Why, source_refusal, app_refusal, application_of, room_refusal}
 use Rattle.trace_cli.specs.Seen.{FilesSeen}
 use Rattle.trace_cli.specs.Sources.{File, source_file, sources_from, source_files, files_to_build, app_file, first_of, MayBe, Takes}
 use Rattle.trace_cli.specs.Stops.{HaltsAt}
 use Rattle.trace_cli.specs.Building.{TakesEach, HaltsAfter, HasNext, HasAll, IsImageOf, IsImage, HaltsInSources, HaltsInApp}
 use Rattle.trace_cli.specs.declared.stops.Halt.{Halt}
+use Rattle.trace_cli.specs.declared.stops.Halt.TheVariants as halts
 use Rattle.trace_cli.proofs.Lists.{takes_none, takes_last, takes_first, get_below, is_below}
 use Rattle.trace_cli.proofs.Refusals.{is_application, app_by_room}
 use Rattle.trace_cli.proofs.Stopping.{halts_earlier}
@@ -53,7 +54,10 @@ get_source app i (u ∷ us) (suc k) t e =
     get_source app (i + 1) us k t e ∙ ap file same
 
 pub source_at_index : (app : AppData) (k : ℕ) (t : TaskData) → slice_get app.tasks k ≡ Some t → slice_get (source_files app) k ≡ Some (source_file app k t)
-source_at_index app k t e = get_source app 0 app.tasks k t e
+source_at_index app k t e =
+    let same : 0 + k ≡ k = omega arith in
+    let file : ℕ → Option File = λ n. Some (source_file app n t) in
+    get_source app 0 app.tasks k t e ∙ ap file same
 
 as_many : (app : AppData) (i : ℕ) (ts : List TaskData) → length (sources_from app i ts) ≡ length ts
 as_many app i [] = refl
@@ -75,7 +79,7 @@ pub none_yet : (told : List ℕ → Option (List ℕ)) (app : AppData) (builder 
 none_yet told app builder h = record { sources = []; count = refl; takes = takes_none (MayBe told) (source_files app); taken = h }
 
 pub one_more : (told : List ℕ → Option (List ℕ)) (app : AppData) (old new : Builder) (k : ℕ) (t : TaskData) (h : HasFirst told app old k) → described old ≡ app
-    → slice_get app.tasks k ≡ Some t → HasNext told t.source h.sources old new → HasFirst told app new (suc k)
+    → slice_get app.tasks k ≡ Some t → HasNext told t.source h.sources old new → HasFirst told app new (k + 1)
 one_more told app old new k t h same at next =
     let index : next_task old ≡ k = h.taken.next ∙ h.count in
     let file : slice_get (source_files app) (length h.sources) ≡ Some (source_file app k t) = ap (λ n. slice_get (source_files app) n) h.count ∙ source_at_index app k t at in
@@ -83,7 +87,7 @@ one_more told app old new k t h same at next =
     let accepted : source_refusal app k next.bytes ≡ None = subst (λ (i : ℕ). source_refusal app i next.bytes ≡ None) index mine in
     record {
       sources = h.sources ++ next.bytes ∷ [];
-      count = longer h.sources next.bytes ∙ ap suc h.count;
+      count = (let more = longer h.sources next.bytes in let count = h.count in omega arith);
       takes = takes_last (MayBe told) (source_files app) h.sources (source_file app k t) next.bytes h.takes file next.held accepted;
       taken = next.taken;
     }
@@ -176,3 +180,22 @@ halts_at_app a c name halt h = record {
     halts = h;
   };
 }
+
+pub image_of_all : (told : List ℕ → Option (List ℕ)) (app : AppData) (builder : Builder) (image : Picture) → described builder ≡ app → HasAll told app builder
+    → ((sources : List (List ℕ)) → HasTaken sources builder → Built (described builder) sources image) → Sound image → IsImageOf told app image
+image_of_all told app builder image same all built sound =
+    record { sources = all.sources; each = all.each; built = subst (λ (a : AppData). Built a all.sources image) same (built all.sources all.taken); sound = sound }
+
+pub memory_in_app : (a c : FilesSeen) (name : List ℕ) (halt : Halt) → halt ≡ halts.Memory → HaltsInApp a c name halt
+memory_in_app a c name halt is = subst (λ (h : Halt). HaltsInApp a c name h) (sym is) (halts_at_app a c name halts.Memory tt)
+
+pub all_next : (told : List ℕ → Option (List ℕ)) (app : AppData) (builder : Builder) → described builder ≡ app → HasAll told app builder → next_task builder ≡ length (described builder).tasks
+all_next told app builder same all =
+    let count : length app.tasks ≡ length all.sources = sym (as_many_sources app) ∙ all.each.all in
+    all.taken.next ∙ sym count ∙ ap (λ (a : AppData). length a.tasks) (sym same)
+
+-- memory is short, or a source is not taken
+pub halts_later : (a b c : FilesSeen) (name bytes : List ℕ) (app : AppData) (halt : Halt) → length bytes ≤ 2097152 → read_app bytes ≡ Ok app → room_refusal app ≡ None
+    → MayBe a.told name bytes → b.told ≡ a.told → a.read_faults ≤ b.read_faults → (halt ≡ halts.Memory) ⊎ HaltsInSources b c app halt → HaltsInApp a c name halt
+halts_later a b c name bytes app halt le is room held told later (inl memory) = memory_in_app a c name halt memory
+halts_later a b c name bytes app halt le is room held told later (inr h) = halts_in_app a b c name bytes app halt le is room held told later h

@@ -92,7 +92,7 @@ abbrev pub sources_in : List (List ℕ) → List (List ℕ)
 sources_in contents = take (task_count contents) (drop 1 contents)
 
 abbrev pub script_in : List (List ℕ) → List ℕ
-script_in contents = slice_index_or contents (1 + task_count contents) []
+script_in contents = slice_index_or (drop 1 contents) (task_count contents) []
 
 -- the image that is built of them
 pub record IsBuilt (contents : List (List ℕ)) (image : Picture) : Type 0 where

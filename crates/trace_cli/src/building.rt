@@ -1,5 +1,5 @@
 //! From the files of an application to its image.
-ghost use Rattle.std.specs.Prelude.{◌≡◌, ◌≤◌, ◌<◌, ◌++◌, ◌∷◌, [], ℕ, List, length, None, Some, IfOk, OnOk, IfErr, string_bytes};
+ghost use Rattle.std.specs.Prelude.{◌≡◌, ◌≤◌, ◌<◌, ◌⊎◌, ◌++◌, ◌∷◌, [], ℕ, List, length, None, Some, IfOk, OnOk, IfErr, string_bytes};
 ghost use Rattle.app_toml.specs.Held.{app_of};
 ghost use Rattle.image_format.specs.Images.{picture};
 ghost use Rattle.image_build.specs.Taken.{HasTaken, described, next_task};
@@ -100,7 +100,7 @@ fn image_of<F: Files>(alloc: Global, files: &mut F, app: &App, builder: Builder<
     requires described { described builder ≡ app_of app.now }
     requires none { HasTaken [] builder }
     ensures image { IfOk result (λ i. IsImageOf (F.told files.old) (app_of app.now) (picture i)) }
-    ensures halt { IfErr result (HaltsInSources (files_seen (F.told files.old) (F.read_faults files.old) (F.put_faults files.old) (F.last_failing files.old)) (files_seen (F.told files.new) (F.read_faults files.new) (F.put_faults files.new) (F.last_failing files.new)) (app_of app.now)) }
+    ensures halt { IfErr result (λ h. (h ≡ Halt.Memory) ⊎ HaltsInSources (files_seen (F.told files.old) (F.read_faults files.old) (F.put_faults files.old) (F.last_failing files.old)) (files_seen (F.told files.new) (F.read_faults files.new) (F.put_faults files.new) (F.last_failing files.new)) (app_of app.now) h) }
     ensures later { F.read_faults files.old ≤ F.read_faults files.new }
     ensures contents { F.told files.new ≡ F.told files.old }
     ensures puts { F.put_faults files.new ≡ F.put_faults files.old }

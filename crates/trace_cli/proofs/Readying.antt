@@ -1,0 +1,216 @@
+-- From the files of a job to its answer.
+use Rattle.std.proofs.Common.{◌≡◌, ℕ, zero, suc, ◌<◌, ◌≤◌, Bool, List, [], ◌∷◌, ◌++◌, length, take, drop, get_or, Option, Some, None, refl, sym, ap, subst, ◌∙◌, arith, inl, inr, string_bytes}
+use Rattle.std.specs.Prelude.{slice_get, slice_index_or}
+use Rattle.image_format.specs.Picture.{Picture}
+use Rattle.image_build.specs.Built.{Built}
+use Rattle.task_table.specs.Start.{start}
+use Rattle.board_core.specs.declared.board.Board.{Board}
+use Rattle.board_core.specs.Script.{Scenario}
+use Rattle.board_core.specs.Stands.{Stands, Stood, turns_of}
+use Rattle.outside_io.specs.Outside.{Rose}
+use Rattle.command_line.specs.CommandLine.{Asked, build, run, go, list}
+use Rattle.trace_cli.specs.declared.stops.Halt.{Halt}
+use Rattle.trace_cli.specs.declared.stops.Halt.TheVariants as halts
+use Rattle.trace_cli.specs.Contents.{Why, scenario_of, picture_of, application_of}
+use Rattle.trace_cli.specs.Seen.{FilesSeen, SinkSeen}
+use Rattle.trace_cli.specs.Sources.{File, image_file, script_file, files_to_build, files_by, first_of, MayBe, Takes, TakesAll, IsBuilt, IsRun, described, sources_in, script_in, task_count}
+use Rattle.trace_cli.specs.Stops.{HaltsAt}
+use Rattle.trace_cli.specs.Building.{TakesEach, HaltsAfter, IsImage, HaltsInApp}
+use Rattle.trace_cli.specs.Ready.{IsImageFile, IsSet, IsReady, Halts}
+use Rattle.trace_cli.specs.Told.{Pushed, whole, cut, Says, pushed, silent, IsSilent, SaysHalt}
+use Rattle.trace_cli.specs.Verdict.{Verdict, runs, lists, builds, refused, unread, ran, listed, built}
+use Rattle.trace_cli.specs.Answer as answer
+use Rattle.trace_cli.specs.Answer.{Reason, cannot_read, refuses, does, IsShort, HasPut, HasSpoiled, Tells, AnswersJob}
+use Rattle.trace_cli.proofs.Lists.{takes_none, takes_first, takes_wider, takes_last, get_more, get_last}
+use Rattle.trace_cli.proofs.Stopping.{halts_earlier}
+use Rattle.trace_cli.proofs.Taking.{as_many_sources}
+
+-- ## `run`
+
+one_file : (told : List ℕ → Option (List ℕ)) (name : List ℕ) (image : Picture) (more : List File) (h : IsImageFile told name image) → Takes (MayBe told) (image_file name ∷ more) (h.bytes ∷ [])
+one_file told name image more h = takes_first (MayBe told) (image_file name) more h.bytes [] h.held h.accepted (takes_none (MayBe told) more)
+
+pub run_ready : (told : List ℕ → Option (List ℕ)) (image script : List ℕ) (n : ℕ) (mem : Bool) (picture : Picture) (b : Board) → IsImageFile told image picture → IsSet told picture script b
+    → IsReady (run image script n mem) told n mem b
+run_ready told image script n mem picture b i s = record {
+  contents = i.bytes ∷ s.script ∷ [];
+  accepted = record {
+    takes = takes_first (MayBe told) (image_file image) (script_file script ∷ []) i.bytes (s.script ∷ []) i.held i.accepted
+    (takes_first (MayBe told) (script_file script) [] s.script [] s.held s.accepted (takes_none (MayBe told) []));
+    all = refl;
+  };
+  scenario = scenario_of picture s.script;
+  is = (refl, refl, ap (λ (p : Picture). scenario_of p s.script) i.is);
+  stands = s.stands;
+  turns = s.turns;
+}
+
+pub run_image_halts : (a c : FilesSeen) (image script : List ℕ) (n : ℕ) (mem : Bool) (h : Halt) → HaltsAt a c (image_file image) h → Halts (run image script n mem) a c h
+run_image_halts a c image script n mem h halts = record {
+  contents = [];
+  at = record { takes = takes_none (MayBe a.told) (image_file image ∷ script_file script ∷ []); file = image_file image; next = refl; halts = halts };
+}
+
+pub run_script_halts : (a b c : FilesSeen) (image script : List ℕ) (n : ℕ) (mem : Bool) (picture : Picture) (h : Halt) → IsImageFile a.told image picture → b.told ≡ a.told
+    → a.read_faults ≤ b.read_faults → HaltsAt b c (script_file script) h → Halts (run image script n mem) a c h
+run_script_halts a b c image script n mem picture h i told later halts = record {
+  contents = i.bytes ∷ [];
+  at = record {
+    takes = one_file a.told image picture (script_file script ∷ []) i;
+    file = script_file script;
+    next = refl;
+    halts = halts_earlier a b c (script_file script) h told later halts;
+  };
+}
+
+-- ## `list`
+
+pub list_halts : (a c : FilesSeen) (image : List ℕ) (h : Halt) → HaltsAt a c (image_file image) h → Halts (list image) a c h
+list_halts a c image h halts = record {
+  contents = [];
+  at = record { takes = takes_none (MayBe a.told) (image_file image ∷ []); file = image_file image; next = refl; halts = halts };
+}
+
+pub list_reason : (a b : FilesSeen) (image : List ℕ) (picture : Picture) → IsImageFile a.told image picture → Reason (list image) a b (listed picture)
+list_reason a b image picture i = does (i.bytes ∷ []) (record { takes = one_file a.told image picture [] i; all = refl }) (lists picture i.is refl)
+
+-- ## `build`
+
+pub build_reason : (a b : FilesSeen) (app out : List ℕ) (picture : Picture) → IsImage a.told app picture → Reason (build app out) a b (built out picture)
+build_reason a b app out picture i =
+    does (i.bytes ∷ i.sources) (record { takes = i.each.takes; all = i.each.all }) (builds out picture (refl, i.is) refl)
+
+pub build_halts : (a c : FilesSeen) (app out : List ℕ) (h : Halt) → HaltsInApp a c app h → Halts (build app out) a c h
+build_halts a c app out h i = record { contents = i.contents; at = i.at }
+
+-- ## `go`
+
+longer : {A : Type 0} (xs : List A) (y : A) → length (xs ++ y ∷ []) ≡ suc (length xs)
+longer [] y = refl
+longer (x ∷ xs) y = ap suc (longer xs y)
+
+take_front : {A : Type 0} (xs ys : List A) → take (length xs) (xs ++ ys) ≡ take (length xs) xs
+take_front [] ys = refl
+take_front (x ∷ xs) ys = ap (λ zs. x ∷ zs) (take_front xs ys)
+
+at_end : {A : Type 0} (xs : List A) (y d : A) → get_or (xs ++ y ∷ []) (length xs) d ≡ y
+at_end [] y d = refl
+at_end (x ∷ xs) y d = at_end xs y d
+
+files_then : {A : Type 0} (files : List A) (f : A) (n : ℕ) → length files ≡ n → slice_get (files ++ f ∷ []) n ≡ Some f
+files_then files f n e = ap (λ k. slice_get (files ++ f ∷ []) k) (sym e) ∙ get_last files f
+
+-- the sources and the script, apart
+go_image : (bytes : List ℕ) (sources : List (List ℕ)) (script : List ℕ) (picture : Picture) → length (application_of bytes).tasks ≡ length sources
+    → IsBuilt (bytes ∷ sources) picture → IsBuilt (bytes ∷ (sources ++ script ∷ [])) picture
+go_image bytes sources script picture count h =
+    let fewer : take (length (application_of bytes).tasks) sources ≡ take (length (application_of bytes).tasks) (sources ++ script ∷ []) =
+    ap (λ n. take n sources) count ∙ sym (take_front sources (script ∷ [])) ∙ ap (λ n. take n (sources ++ script ∷ [])) (sym count) in
+    record { built = subst (λ (ss : List (List ℕ)). Built (application_of bytes) ss picture) fewer h.built; sound = h.sound }
+
+go_script : (bytes : List ℕ) (sources : List (List ℕ)) (script : List ℕ) → length (application_of bytes).tasks ≡ length sources → script_in (bytes ∷ (sources ++ script ∷ [])) ≡ script
+go_script bytes sources script count = ap (λ n. get_or (sources ++ script ∷ []) n []) count ∙ at_end sources script []
+
+pub go_ready : (told : List ℕ → Option (List ℕ)) (app script : List ℕ) (n : ℕ) (mem : Bool) (picture : Picture) (b : Board) → IsImage told app picture → IsSet told picture script b
+    → IsReady (go app script n mem) told n mem b
+go_ready told app script n mem picture b i s =
+    let files = files_to_build app i.bytes in
+    let count : length (application_of i.bytes).tasks ≡ length i.sources = (let all = i.each.all in let many = as_many_sources (application_of i.bytes) in omega arith) in
+    record {
+      contents = i.bytes ∷ (i.sources ++ s.script ∷ []);
+      accepted = record {
+        takes = takes_last (MayBe told) (files ++ script_file script ∷ []) (i.bytes ∷ i.sources) (script_file script) s.script
+        (takes_wider (MayBe told) files (script_file script ∷ []) (i.bytes ∷ i.sources) i.each.takes)
+        (files_then files (script_file script) (length (i.bytes ∷ i.sources)) i.each.all) s.held s.accepted;
+        all = longer files (script_file script) ∙ ap suc i.each.all ∙ sym (longer (i.bytes ∷ i.sources) s.script);
+      };
+      scenario = scenario_of picture s.script;
+      is = (refl, refl, (picture, go_image i.bytes i.sources s.script picture count i.is, ap (λ (t : List ℕ). scenario_of picture t) (sym (go_script i.bytes i.sources s.script count))));
+      stands = s.stands;
+      turns = s.turns;
+    }
+
+pub go_app_halts : (a c : FilesSeen) (app script : List ℕ) (n : ℕ) (mem : Bool) (h : Halt) → HaltsInApp a c app h → Halts (go app script n mem) a c h
+go_app_halts a c app script n mem h i =
+    let files = files_to_build app (first_of i.contents) in
+    record {
+      contents = i.contents;
+      at = record {
+        takes = takes_wider (MayBe a.told) files (script_file script ∷ []) i.contents i.at.takes;
+        file = i.at.file;
+        next = get_more files (script_file script ∷ []) (length i.contents) i.at.file i.at.next;
+        halts = i.at.halts;
+      };
+    }
+
+pub go_script_halts : (a b c : FilesSeen) (app script : List ℕ) (n : ℕ) (mem : Bool) (picture : Picture) (h : Halt) → IsImage a.told app picture → b.told ≡ a.told
+    → a.read_faults ≤ b.read_faults → HaltsAt b c (script_file script) h → Halts (go app script n mem) a c h
+go_script_halts a b c app script n mem picture h i told later halts =
+    let files = files_to_build app i.bytes in
+    record {
+      contents = i.bytes ∷ i.sources;
+      at = record {
+        takes = takes_wider (MayBe a.told) files (script_file script ∷ []) (i.bytes ∷ i.sources) i.each.takes;
+        file = script_file script;
+        next = files_then files (script_file script) (length (i.bytes ∷ i.sources)) i.each.all;
+        halts = halts_earlier a b c (script_file script) h told later halts;
+      };
+    }
+
+-- ## the answer
+
+silent_short : (a b : FilesSeen) (w w' : SinkSeen) (r : ℕ) → b.told ≡ a.told → IsSilent w w' r → IsShort a b w w' r
+silent_short a b w w' r same s = record { status = s.status; written = s.written; faults = s.faults; files = same }
+
+put_nothing : (a b : FilesSeen) (v : Verdict) → b.told ≡ a.told → v.put ≡ None → HasPut a.told b.told v.put
+put_nothing a b v same none = let P : Option (List ℕ × List ℕ) → Type 0 = HasPut a.told b.told in subst P (sym none) same
+
+pub tells_pushed : (a b : FilesSeen) (w w' : SinkSeen) (v : Verdict) (r : ℕ) → HasPut a.told b.told v.put → Pushed w w' v r → Tells a b w w' v r
+tells_pushed a b w w' v r put (whole is text) = answer.whole is put text
+tells_pushed a b w w' v r put (cut is rose front) = answer.cut is rose put front
+
+pub answers_pushed : (job : Asked) (a b : FilesSeen) (w w' : SinkSeen) (v : Verdict) (r : ℕ) → b.told ≡ a.told → v.put ≡ None → Reason job a b v → Pushed w w' v r → AnswersJob job a b w w' r
+answers_pushed job a b w w' v r same none why p = inr (v, why, tells_pushed a b w w' v r (put_nothing a b v same none) p)
+
+pub answers_said : (job : Asked) (a b : FilesSeen) (w w' : SinkSeen) (v : Verdict) (r : ℕ) → b.told ≡ a.told → v.put ≡ None → Reason job a b v → Says w w' v r → AnswersJob job a b w w' r
+answers_said job a b w w' v r same none why (pushed p) = answers_pushed job a b w w' v r same none why p
+answers_said job a b w w' v r same none why (silent s) = inl (silent_short a b w w' r same s)
+
+pub answers_halt : (job : Asked) (a b : FilesSeen) (w w' : SinkSeen) (h : Halt) (r : ℕ) → b.told ≡ a.told → Halts job a b h → SaysHalt w w' h r → AnswersJob job a b w w' r
+answers_halt job a b w w' halts.Memory r same h s = inl (silent_short a b w w' r same s)
+answers_halt job a b w w' (halts.CannotRead name) r same h s =
+    let at = h.at.halts in
+    let file = h.at.file in
+    let why = cannot_read file (record { contents = h.contents; reached = record { takes = h.at.takes; next = h.at.next }; rose = at.1.rose; named = at.1.named }) (ap unread at.0) in
+    answers_said job a b w w' (unread (string_bytes name)) r same refl why s
+answers_halt job a b w w' (halts.Refused name cause place) r same h s =
+    let at = h.at.halts in
+    let file = h.at.file in
+    let reason : Why = (cause, string_bytes place) in
+    let why = refuses file reason (record { contents = h.contents; reached = record { takes = h.at.takes; next = h.at.next }; refused = at.1 }) (ap (λ (n : List ℕ). refused n reason) at.0) in
+    answers_said job a b w w' (refused (string_bytes name) reason) r same refl why s
+
+pub answers_run : (job : Asked) (a b : FilesSeen) (w w' : SinkSeen) (n : ℕ) (mem : Bool) (bd : Board) (r : ℕ) → b.told ≡ a.told → IsReady job a.told n mem bd
+    → ((x : Scenario) → Stands x bd (start x.setup) → Pushed w w' (ran n mem x) r) → AnswersJob job a b w w' r
+answers_run job a b w w' n mem bd r same ready tells =
+    answers_pushed job a b w w' (ran n mem ready.scenario) r same refl (does ready.contents ready.accepted (runs n mem ready.scenario ready.is refl)) (tells ready.scenario ready.stands)
+
+pub ready_stood : (job : Asked) (told : List ℕ → Option (List ℕ)) (n : ℕ) (mem : Bool) (bd : Board) → IsReady job told n mem bd → Stood bd × (turns_of bd ≡ 0)
+ready_stood job told n mem bd h = ((h.scenario, start h.scenario.setup, h.stands), h.turns)
+
+-- ## what an image is put under
+
+earlier_puts : (a b c : FilesSeen) (v : Verdict) → b.told ≡ a.told → HasPut b.told c.told v.put → HasPut a.told c.told v.put
+earlier_puts a b c v same p = subst (λ (t : List ℕ → Option (List ℕ)). HasPut t c.told v.put) same p
+
+tells_earlier : (a b c : FilesSeen) (w w' : SinkSeen) (v : Verdict) (r : ℕ) → b.told ≡ a.told → b.put_faults ≡ a.put_faults → Tells b c w w' v r → Tells a c w w' v r
+tells_earlier a b c w w' v r same puts (answer.whole is put text) = answer.whole is (earlier_puts a b c v same put) text
+tells_earlier a b c w w' v r same puts (answer.cut is rose put front) = answer.cut is rose (earlier_puts a b c v same put) front
+tells_earlier a b c w w' v r same puts (answer.spoiled is rose left none) =
+    answer.spoiled is (subst (λ (n : ℕ). Rose n c.put_faults) puts rose) (subst (λ (t : List ℕ → Option (List ℕ)). HasSpoiled t c.told v.put) same left) none
+tells_earlier a b c w w' v r same puts (answer.short s) =
+    answer.short (record { status = s.status; written = s.written; faults = s.faults; files = s.files ∙ same })
+
+pub answers_built : (a b c : FilesSeen) (w w' : SinkSeen) (app out : List ℕ) (image : Picture) (r : ℕ) → b.told ≡ a.told → b.put_faults ≡ a.put_faults → IsImage a.told app image
+    → Tells b c w w' (built out image) r → AnswersJob (build app out) a c w w' r
+answers_built a b c w w' app out image r same puts i t = inr (built out image, build_reason a c app out image i, tells_earlier a b c w w' (built out image) r same puts t)
