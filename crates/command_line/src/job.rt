@@ -11,7 +11,10 @@ use clap::ArgMatches;
 #[derive(Clone, Copy, Drop)]
 pub enum Job<'a> {
     /// Build APP, and put the image under OUT.
-    Build { app: &'a str, out: &'a str },
+    Build {
+        app: &'a str,
+        out: &'a str,
+    },
     /// Run IMAGE with SCRIPT for at most `steps` turns; with `mem`, write the memory after it.
     Run {
         image: &'a str,

@@ -189,9 +189,27 @@ fn a_build_is_of_an_application_to_a_file(rt: HostRuntime) -> Result<(), Fail> {
 #[test]
 fn an_application_is_run_as_an_image_is(rt: HostRuntime) -> Result<(), Fail> {
     let alloc = rt.alloc();
-    assert!(rt; goes(alloc, &["go", "a", "e", "--steps", "3"], ("a", "e", 3, false))?);
-    assert!(rt; goes(alloc, &["go", "--mem", "--steps=+07", "a", "e"], ("a", "e", 7, true))?);
-    assert!(rt; goes(alloc, &["go", "a", "--steps=-0", "--", "-e"], ("a", "-e", 0, false))?);
+    assert!(rt;
+        goes(
+            alloc,
+            &["go", "a", "e", "--steps", "3"],
+            ("a", "e", 3, false)
+        )?
+    );
+    assert!(rt;
+        goes(
+            alloc,
+            &["go", "--mem", "--steps=+07", "a", "e"],
+            ("a", "e", 7, true)
+        )?
+    );
+    assert!(rt;
+        goes(
+            alloc,
+            &["go", "a", "--steps=-0", "--", "-e"],
+            ("a", "-e", 0, false)
+        )?
+    );
     for (i, words) in [
         &["go", "a", "--steps=3"] as &[&str],
         &["go", "a", "e", "f", "--steps=3"],

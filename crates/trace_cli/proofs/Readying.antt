@@ -36,7 +36,7 @@ run_ready told image script n mem picture b i s = record {
   contents = i.bytes ∷ s.script ∷ [];
   accepted = record {
     takes = takes_first (MayBe told) (image_file image) (script_file script ∷ []) i.bytes (s.script ∷ []) i.held i.accepted
-    (takes_first (MayBe told) (script_file script) [] s.script [] s.held s.accepted (takes_none (MayBe told) []));
+        (takes_first (MayBe told) (script_file script) [] s.script [] s.held s.accepted (takes_none (MayBe told) []));
     all = refl;
   };
   scenario = scenario_of picture s.script;
@@ -120,8 +120,8 @@ go_ready told app script n mem picture b i s =
       contents = i.bytes ∷ (i.sources ++ s.script ∷ []);
       accepted = record {
         takes = takes_last (MayBe told) (files ++ script_file script ∷ []) (i.bytes ∷ i.sources) (script_file script) s.script
-        (takes_wider (MayBe told) files (script_file script ∷ []) (i.bytes ∷ i.sources) i.each.takes)
-        (files_then files (script_file script) (length (i.bytes ∷ i.sources)) i.each.all) s.held s.accepted;
+            (takes_wider (MayBe told) files (script_file script ∷ []) (i.bytes ∷ i.sources) i.each.takes)
+            (files_then files (script_file script) (length (i.bytes ∷ i.sources)) i.each.all) s.held s.accepted;
         all = longer files (script_file script) ∙ ap suc i.each.all ∙ sym (longer (i.bytes ∷ i.sources) s.script);
       };
       scenario = scenario_of picture s.script;

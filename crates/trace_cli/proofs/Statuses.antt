@@ -62,6 +62,7 @@ done_status : (job : Asked) (cs : List (List ℕ)) (v : Verdict) → Does job cs
 done_status job cs v (runs n m x p e) = by_end (end_zero_or_six (run_of n x).end) where
   status : v.status ≡ status_of (run_of n x).end
   status = ap (λ (u : Verdict). u.status) e
+
   by_end : (status_of (run_of n x).end ≡ 0) ⊎ (status_of (run_of n x).end ≡ 6) → (v.status ≡ 0) ⊎ (v.status ≡ 6)
   by_end (inl z) = inl (status ∙ z)
   by_end (inr s) = inr (status ∙ s)

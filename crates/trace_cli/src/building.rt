@@ -96,7 +96,12 @@ fn take_sources<F: Files>(
 }
 
 // The image of an application, of which the sources of the tasks are read here.
-fn image_of<F: Files>(alloc: Global, files: &mut F, app: &App, builder: Builder<'_>) -> Result<Image, Halt>
+fn image_of<F: Files>(
+    alloc: Global,
+    files: &mut F,
+    app: &App,
+    builder: Builder<'_>,
+) -> Result<Image, Halt>
     requires described { described builder ≡ app_of app.now }
     requires none { HasTaken [] builder }
     ensures image { IfOk result (λ i. IsImageOf (F.told files.old) (app_of app.now) (picture i)) }

@@ -19,9 +19,12 @@ fn app_of(
 }
 
 const BOARD: (u32, u32) = (65536, 16384);
+
 const TASK: (u32, u32) = (256, 256);
+
 const OTHER: &str =
     "[[task]]\nname = \"b\"\nsource = \"b.s\"\npriority = 1\nflash = 256\nram = 256\nstack = 64\n";
+
 const LOOP: &str = " movs r0, #1\nhere: b here\n";
 
 fn hold(files: &mut MemFiles, name: &str, bytes: &[u8]) -> Result<(), AllocError> {
@@ -74,8 +77,11 @@ fn main_of(
 }
 
 const BUILD: [&str; 4] = ["hubris", "build", "app.toml", "app.img"];
+
 const GO: [&str; 6] = ["hubris", "go", "app.toml", "e.txt", "--steps", "3"];
+
 const GO_MEM: [&str; 7] = ["hubris", "go", "app.toml", "e.txt", "--steps", "3", "--mem"];
+
 const RUN_MEM: [&str; 7] = ["hubris", "run", "app.img", "e.txt", "--steps", "3", "--mem"];
 
 const TRACE: &str = "end bound 3 0
@@ -83,6 +89,7 @@ task 0 0 well - 00000000 -
 low 00000001 00000000 00000000 00000000 00000000 00000000 00000000 00000000
 high 00000000 00000000 00000000 00000000 00000000 20000040 ffffffff 08000002 0000
 ";
+
 const MEMORY: &str = "mem 20000000 256\n";
 
 // Whether `app.img` begins with these bytes and has so many in all.
@@ -108,7 +115,7 @@ fn an_image_that_is_built_runs_as_its_application(rt: HostRuntime) -> Result<(),
     let mut files = files_of(alloc, &app, (Some(LOOP), None), Some(""), &[])?;
     let (status, out) = main_of(alloc, &BUILD, &mut files, &[])?;
     assert_eq!(rt; status, 0);
-    assert_eq!(rt; out.text(), b"built 312 bytes\n");
+    assert_eq!(rt; out.text(), "built 312 bytes\n".as_bytes());
     assert!(rt; holds(&mut files, &IMAGE, 312));
     let (status, out) = main_of(alloc, &RUN_MEM, &mut files, &[])?;
     assert_eq!(rt; status, 0);
@@ -147,9 +154,24 @@ fn both_answer(
 fn applications_that_are_refused(rt: HostRuntime) -> Result<(), Fail> {
     let alloc = rt.alloc();
     let apps = [
-        (BOARD, TASK, "prio = 1\n", "refused app.toml 2 task[0].prio\n"),
-        ((256, 16384), (257, 256), "", "refused app.toml 21 flash:512\n"),
-        ((65536, 256), (256, 257), "", "refused app.toml 21 ram:512\n"),
+        (
+            BOARD,
+            TASK,
+            "prio = 1\n",
+            "refused app.toml 2 task[0].prio\n",
+        ),
+        (
+            (256, 16384),
+            (257, 256),
+            "",
+            "refused app.toml 21 flash:512\n",
+        ),
+        (
+            (65536, 256),
+            (256, 257),
+            "",
+            "refused app.toml 21 ram:512\n",
+        ),
         ((511, 511), TASK, OTHER, "refused app.toml 21 flash:512\n"),
         ((512, 511), TASK, OTHER, "refused app.toml 21 ram:512\n"),
     ];
@@ -157,8 +179,22 @@ fn applications_that_are_refused(rt: HostRuntime) -> Result<(), Fail> {
         let app = app_of(alloc, board, task, more)?;
         both_answer(&rt, alloc, &app, (None, None), 1, text)?;
     }
-    both_answer(&rt, alloc, "", (None, None), 1, "refused app.toml 3 board\n")?;
-    both_answer(&rt, alloc, "[board", (None, None), 1, "refused app.toml 1 -\n")?;
+    both_answer(
+        &rt,
+        alloc,
+        "",
+        (None, None),
+        1,
+        "refused app.toml 3 board\n",
+    )?;
+    both_answer(
+        &rt,
+        alloc,
+        "[board",
+        (None, None),
+        1,
+        "refused app.toml 1 -\n",
+    )?;
     Ok(())
 }
 
@@ -174,8 +210,22 @@ fn sources_that_are_refused_or_missing(rt: HostRuntime) -> Result<(), Fail> {
     both_answer(&rt, alloc, &alone, (wide, None), 1, "refused sup.s 9 1\n")?;
     both_answer(&rt, alloc, &two, (unknown, None), 1, "refused sup.s 4 2\n")?;
     both_answer(&rt, alloc, &two, (fine, unknown), 1, "refused b.s 4 2\n")?;
-    both_answer(&rt, alloc, &small, (fine, unknown), 1, "refused sup.s 15 4\n")?;
-    both_answer(&rt, alloc, &two, (fine, Some(" .space 257\n")), 1, "refused b.s 15 257\n")?;
+    both_answer(
+        &rt,
+        alloc,
+        &small,
+        (fine, unknown),
+        1,
+        "refused sup.s 15 4\n",
+    )?;
+    both_answer(
+        &rt,
+        alloc,
+        &two,
+        (fine, Some(" .space 257\n")),
+        1,
+        "refused b.s 15 257\n",
+    )?;
     both_answer(&rt, alloc, &two, (None, unknown), 3, "cannot read sup.s\n")?;
     both_answer(&rt, alloc, &two, (fine, None), 3, "cannot read b.s\n")?;
     Ok(())

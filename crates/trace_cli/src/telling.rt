@@ -57,12 +57,7 @@ fn front_of_refused(alloc: Global, name: &str, cause: u8) -> Result<String, Allo
 }
 
 #[tactic(auto, unfolding(crate::specs::Verdict::refused_line))]
-fn line_of_refused(
-    alloc: Global,
-    name: &str,
-    cause: u8,
-    place: &str,
-) -> Result<String, AllocError>
+fn line_of_refused(alloc: Global, name: &str, cause: u8, place: &str) -> Result<String, AllocError>
     ensures { IfOk result (λ line. string_bytes line ≡ refused_line name.now cause place.now) }
 {
     let mut line = front_of_refused(alloc, name, cause)?;
