@@ -1,0 +1,23 @@
+#!/usr/bin/env bash
+# Builds each example and compares what is built, listed and run with what stands beside it. It needs the built program
+# (crates/hubris/out/hubris, made by `rt ci` or `rt run`). Of the runs only that of one-task can be made yet.
+set -eu
+cd "$(dirname "$0")/.."
+program=crates/hubris/out/hubris
+[ -x "$program" ] || { echo "build the program first: (cd crates/hubris && rt run)"; exit 1; }
+made=$(mktemp -d)
+trap 'rm -r "$made"' EXIT
+same() { cmp -s "$1" "$2" || { echo "$3: differs from $2"; exit 1; }; echo "$3: as expected"; }
+for example in one-task client-server blinker; do
+    "$program" build "examples/$example/app.toml" "$made/$example.img"
+    "$program" list "$made/$example.img" > "$made/listing.txt"
+    same "$made/listing.txt" "examples/$example/listing.txt" "$example, listing"
+done
+task=examples/one-task
+"$program" go "$task/app.toml" "$task/empty.txt" --steps 100 > "$made/go.txt" && status=0 || status=$?
+[ "$status" = 6 ] || { echo "one-task: status $status"; exit 1; }
+same "$made/go.txt" "$task/expected.txt" "one-task, go"
+"$program" go "$task/app.toml" "$task/empty.txt" --steps 100 --mem > "$made/mem.txt" || true
+same "$made/mem.txt" "$task/expected-mem.txt" "one-task, go with its memory"
+"$program" run "$made/one-task.img" "$task/empty.txt" --steps 100 --mem > "$made/run.txt" || true
+same "$made/run.txt" "$task/expected-mem.txt" "one-task, build and then run"
