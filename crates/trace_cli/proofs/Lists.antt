@@ -1,5 +1,5 @@
 -- Files and contents as lists.
-use Rattle.std.proofs.Common.{◌≡◌, ℕ, zero, suc, ◌<◌, ◌≤◌, ◌⊎◌, List, [], ◌∷◌, ◌++◌, length, Option, Some, None, refl, sym, ap, subst, ◌∙◌, inl, inr, arith}
+use Rattle.std.proofs.Common.{◌≡◌, ℕ, zero, suc, ◌<◌, ◌≤◌, ◌⊎◌, List, [], ◌∷◌, ◌++◌, length, get_or, Option, Some, None, refl, sym, ap, subst, ◌∙◌, inl, inr, arith}
 use Rattle.std.specs.Prelude.{slice_get}
 use Rattle.std.proofs.lemmas.Option.{same_Some}
 use Rattle.trace_cli.specs.Sources.{File, Takes}
@@ -22,6 +22,14 @@ get_more (z ∷ zs) ys (suc k) x e = get_more zs ys k x e
 pub get_last : {A : Type 0} (xs : List A) (y : A) → slice_get (xs ++ y ∷ []) (length xs) ≡ Some y
 get_last [] y = refl
 get_last (x ∷ xs) y = get_last xs y
+
+pub longer : {A : Type 0} (xs : List A) (y : A) → length (xs ++ y ∷ []) ≡ suc (length xs)
+longer [] y = refl
+longer (x ∷ xs) y = ap suc (longer xs y)
+
+pub at_end : {A : Type 0} (xs : List A) (y d : A) → get_or (xs ++ y ∷ []) (length xs) d ≡ y
+at_end [] y d = refl
+at_end (x ∷ xs) y d = at_end xs y d
 
 later : {A : Type 0} (xs : List A) (z y : A) (k : ℕ) (x : A) → (slice_get xs k ≡ Some x) ⊎ ((k ≡ length xs) × (x ≡ y))
     → (slice_get (z ∷ xs) (suc k) ≡ Some x) ⊎ ((suc k ≡ length (z ∷ xs)) × (x ≡ y))

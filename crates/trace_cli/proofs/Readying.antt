@@ -21,7 +21,7 @@ use Rattle.trace_cli.specs.Told.{Pushed, whole, cut, Says, pushed, silent, IsSil
 use Rattle.trace_cli.specs.Verdict.{Verdict, runs, lists, builds, refused, unread, ran, listed, built}
 use Rattle.trace_cli.specs.Answer as answer
 use Rattle.trace_cli.specs.Answer.{Reason, cannot_read, refuses, does, IsShort, HasPut, HasSpoiled, Tells, AnswersJob}
-use Rattle.trace_cli.proofs.Lists.{takes_none, takes_first, takes_wider, takes_last, get_more, get_last}
+use Rattle.trace_cli.proofs.Lists.{at_end, longer, takes_none, takes_first, takes_wider, takes_last, get_more, get_last}
 use Rattle.trace_cli.proofs.Stopping.{halts_earlier}
 use Rattle.trace_cli.proofs.Taking.{as_many_sources}
 
@@ -85,17 +85,9 @@ build_halts a c app out h i = record { contents = i.contents; at = i.at }
 
 -- ## `go`
 
-longer : {A : Type 0} (xs : List A) (y : A) → length (xs ++ y ∷ []) ≡ suc (length xs)
-longer [] y = refl
-longer (x ∷ xs) y = ap suc (longer xs y)
-
 take_front : {A : Type 0} (xs ys : List A) → take (length xs) (xs ++ ys) ≡ take (length xs) xs
 take_front [] ys = refl
 take_front (x ∷ xs) ys = ap (λ zs. x ∷ zs) (take_front xs ys)
-
-at_end : {A : Type 0} (xs : List A) (y d : A) → get_or (xs ++ y ∷ []) (length xs) d ≡ y
-at_end [] y d = refl
-at_end (x ∷ xs) y d = at_end xs y d
 
 files_then : {A : Type 0} (files : List A) (f : A) (n : ℕ) → length files ≡ n → slice_get (files ++ f ∷ []) n ≡ Some f
 files_then files f n e = ap (λ k. slice_get (files ++ f ∷ []) k) (sym e) ∙ get_last files f

@@ -17,18 +17,10 @@ use Rattle.trace_cli.specs.Stops.{HaltsAt}
 use Rattle.trace_cli.specs.Building.{TakesEach, HaltsAfter, HasNext, HasAll, IsImageOf, IsImage, HaltsInSources, HaltsInApp}
 use Rattle.trace_cli.specs.declared.stops.Halt.{Halt}
 use Rattle.trace_cli.specs.declared.stops.Halt.TheVariants as halts
-use Rattle.trace_cli.proofs.Lists.{takes_none, takes_last, takes_first, get_below, is_below}
+use Rattle.trace_cli.proofs.Lists.{at_end, longer, takes_none, takes_last, takes_first, get_below, is_below}
 use Rattle.trace_cli.proofs.Refusals.{is_application, app_by_room}
 use Rattle.trace_cli.proofs.Stopping.{halts_earlier}
 use Rattle.std.proofs.lemmas.List.{take_all}
-
-at_end : (sources : List (List ℕ)) (bytes : List ℕ) → source_at (sources ++ bytes ∷ []) (length sources) ≡ bytes
-at_end [] bytes = refl
-at_end (s ∷ ss) bytes = at_end ss bytes
-
-longer : (sources : List (List ℕ)) (bytes : List ℕ) → length (sources ++ bytes ∷ []) ≡ suc (length sources)
-longer [] bytes = refl
-longer (s ∷ ss) bytes = ap suc (longer ss bytes)
 
 -- the source that was taken last is accepted
 pub taken_last : (old new : Builder) (sources : List (List ℕ)) (bytes : List ℕ) → described new ≡ described old → HasTaken sources old → HasTaken (sources ++ bytes ∷ []) new
@@ -38,7 +30,7 @@ taken_last old new sources bytes same before after =
     let last : IsTaken (described new) (length sources) (source_at (sources ++ bytes ∷ []) (length sources)) = after.holds.taken (length sources) (omega arith) in
     let app : IsTaken (described old) (length sources) (source_at (sources ++ bytes ∷ []) (length sources)) =
     subst (λ (a : AppData). IsTaken a (length sources) (source_at (sources ++ bytes ∷ []) (length sources))) same last in
-    let at : IsTaken (described old) (length sources) bytes = subst (λ (s : List ℕ). IsTaken (described old) (length sources) s) (at_end sources bytes) app in
+    let at : IsTaken (described old) (length sources) bytes = subst (λ (s : List ℕ). IsTaken (described old) (length sources) s) (at_end sources bytes []) app in
     subst (λ (i : ℕ). IsTaken (described old) i bytes) (sym before.next) at
 
 -- ## the files of tasks
