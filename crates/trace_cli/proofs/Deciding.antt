@@ -101,7 +101,7 @@ meets (suc m) (suc n) = meets_more m n (meets m n)
 
 -- ## a refusal by told contents, and one by contents that may be
 
-no_refusal : (f : File) (c : List ℕ) (why : Why) → f.refusal c ≡ Some why → f.refusal c ≡ None → ⊥
+pub no_refusal : (f : File) (c : List ℕ) (why : Why) → f.refusal c ≡ Some why → f.refusal c ≡ None → ⊥
 no_refusal f c why e d = let both : Some why ≡ None = sym e ∙ d in absurd (cc)
 
 -- a file that is refused where it is told is none that told contents of it were accepted
@@ -202,7 +202,7 @@ on_done job before after v u cs (does ds may q) all p = inl (all_same before.tol
 pub no_job_in : (words : List (List ℕ)) → is_taken words ≡ false → job_in words ≡ None
 no_job_in words e = ap (λ (b : Bool). cond b (job_of words) None) e
 
-no_job_of : (words : List (List ℕ)) (job : Asked) → is_taken words ≡ false → job_in words ≡ Some job → ⊥
+pub no_job_of : (words : List (List ℕ)) (job : Asked) → is_taken words ≡ false → job_in words ≡ Some job → ⊥
 no_job_of words job e d = let none : None ≡ Some job = sym (no_job_in words e) ∙ d in absurd (cc)
 
 on_job : (words : List (List ℕ)) (job : Asked) (before after : FilesSeen) (v u : Verdict) → job_in words ≡ Some job → Reason job before after v → IsVerdict words before.told u

@@ -1,8 +1,11 @@
 pub mod Agreeing
 pub mod Deciding
 pub mod Lists
+pub mod OneVerdict
 pub mod Readying
 pub mod Refusals
+pub mod Rerunning
+pub mod Spelling
 pub mod Starting
 pub mod Statuses
 pub mod Stopping

@@ -89,18 +89,18 @@ take_front : {A : Type 0} (xs ys : List A) → take (length xs) (xs ++ ys) ≡ t
 take_front [] ys = refl
 take_front (x ∷ xs) ys = ap (λ zs. x ∷ zs) (take_front xs ys)
 
-files_then : {A : Type 0} (files : List A) (f : A) (n : ℕ) → length files ≡ n → slice_get (files ++ f ∷ []) n ≡ Some f
+pub files_then : {A : Type 0} (files : List A) (f : A) (n : ℕ) → length files ≡ n → slice_get (files ++ f ∷ []) n ≡ Some f
 files_then files f n e = ap (λ k. slice_get (files ++ f ∷ []) k) (sym e) ∙ get_last files f
 
 -- the sources and the script, apart
-go_image : (bytes : List ℕ) (sources : List (List ℕ)) (script : List ℕ) (picture : Picture) → length (application_of bytes).tasks ≡ length sources
+pub go_image : (bytes : List ℕ) (sources : List (List ℕ)) (script : List ℕ) (picture : Picture) → length (application_of bytes).tasks ≡ length sources
     → IsBuilt (bytes ∷ sources) picture → IsBuilt (bytes ∷ (sources ++ script ∷ [])) picture
 go_image bytes sources script picture count h =
     let fewer : take (length (application_of bytes).tasks) sources ≡ take (length (application_of bytes).tasks) (sources ++ script ∷ []) =
     ap (λ n. take n sources) count ∙ sym (take_front sources (script ∷ [])) ∙ ap (λ n. take n (sources ++ script ∷ [])) (sym count) in
     record { built = subst (λ (ss : List (List ℕ)). Built (application_of bytes) ss picture) fewer h.built; sound = h.sound }
 
-go_script : (bytes : List ℕ) (sources : List (List ℕ)) (script : List ℕ) → length (application_of bytes).tasks ≡ length sources → script_in (bytes ∷ (sources ++ script ∷ [])) ≡ script
+pub go_script : (bytes : List ℕ) (sources : List (List ℕ)) (script : List ℕ) → length (application_of bytes).tasks ≡ length sources → script_in (bytes ∷ (sources ++ script ∷ [])) ≡ script
 go_script bytes sources script count = ap (λ n. get_or (sources ++ script ∷ []) n []) count ∙ at_end sources script []
 
 pub go_ready : (told : List ℕ → Option (List ℕ)) (app script : List ℕ) (n : ℕ) (mem : Bool) (picture : Picture) (b : Board) → IsImage told app picture → IsSet told picture script b

@@ -1,0 +1,40 @@
+-- There is at most one verdict.
+use Rattle.std.proofs.Common.{◌≡◌, ℕ, List, Option, None, sym, ap, ◌∙◌, arith}
+use Rattle.std.proofs.lemmas.Option.{same_Some}
+use Rattle.outside_io.specs.Outside.{Rose}
+use Rattle.trace_cli.specs.Seen.{FilesSeen, files_seen}
+use Rattle.trace_cli.specs.Sources.{File, MayBe, Are, Takes}
+use Rattle.trace_cli.specs.Verdict as verdict
+use Rattle.trace_cli.specs.Verdict.{Verdict, IsVerdict}
+use Rattle.trace_cli.specs.Answer.{refuses, does, Ground, no_job, of_job}
+use Rattle.trace_cli.proofs.Deciding.{Decided, agreed, not_read, decided}
+
+-- what is told may be
+held_may : (told : List ℕ → Option (List ℕ)) (name bytes : List ℕ) → Are told name bytes → MayBe told name bytes
+held_may told name bytes is = λ all at. same_Some bytes all (sym is ∙ at)
+
+takes_may : (told : List ℕ → Option (List ℕ)) (files : List File) (cs : List (List ℕ)) → Takes (Are told) files cs → Takes (MayBe told) files cs
+takes_may told files cs takes = λ k bytes e. let t = takes k bytes e in (t.0, t.1, held_may told t.0.name bytes t.2, t.3)
+
+-- files of which no call has failed
+abbrev seen : (List ℕ → Option (List ℕ)) → FilesSeen
+seen told = files_seen told 0 0 None
+
+grounded : (words : List (List ℕ)) (told : List ℕ → Option (List ℕ)) (v : Verdict) → IsVerdict words told v → Ground words (seen told) (seen told) v
+grounded words told v (verdict.no_job none e) = no_job none e
+grounded words told v (verdict.refuses job cs f c why at r held refusal e) = of_job job at (refuses f why (record {
+  contents = cs;
+  reached = record { takes = takes_may told _ cs r.takes; next = r.next };
+  refused = λ all is. ap f.refusal (same_Some all c (sym is ∙ held)) ∙ refusal;
+}) e)
+grounded words told v (verdict.does job cs at all p) = of_job job at (does cs (record { takes = takes_may told _ cs all.takes; all = all.all }) p)
+
+none_rose : Rose 0 0 → ⊥
+none_rose rose = absurd (omega arith)
+
+when_decided : (words : List (List ℕ)) (told : List ℕ → Option (List ℕ)) (u v : Verdict) → Decided words (seen told) (seen told) u v → u ≡ v
+when_decided words told u v (agreed e) = e
+when_decided words told u v (not_read job f at h e) = absurd (none_rose h.rose)
+
+pub one_verdict : (words : List (List ℕ)) (told : List ℕ → Option (List ℕ)) (u v : Verdict) → IsVerdict words told u → IsVerdict words told v → u ≡ v
+one_verdict words told u v p q = when_decided words told u v (decided words (seen told) (seen told) u v (grounded words told u p) q)
