@@ -175,6 +175,7 @@ fn a_task_panics(rt: HostRuntime) -> Result<(), Fail> {
         number: 8,
         arguments: [4, 5, 6, 7, 8, 9, 10],
     };
+    assert_eq!(rt; kernel.notes().len(), 2);
     assert_eq!(rt; kernel.notes()[0], call);
     assert_eq!(rt; kernel.notes()[1], Note::Fault { task: 0, fault });
     Ok(())
