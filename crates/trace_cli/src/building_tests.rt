@@ -280,6 +280,35 @@ fn each_read_fails_in_turn(rt: HostRuntime) -> Result<(), Fail> {
     Ok(())
 }
 
+// The lines before the push that fails.
+#[test]
+fn each_push_fails_in_turn(rt: HostRuntime) -> Result<(), Fail> {
+    let alloc = rt.alloc();
+    let app = app_of(alloc, BOARD, TASK, "")?;
+    let rows = [
+        (1u64, "end bound 3 0\n"),
+        (2, "task 0 0 well - 00000000 -\n"),
+        (
+            3,
+            "low 00000001 00000000 00000000 00000000 00000000 00000000 00000000 00000000\n",
+        ),
+        (
+            4,
+            "high 00000000 00000000 00000000 00000000 00000000 20000040 ffffffff 08000002 0000\n",
+        ),
+        (5, MEMORY),
+    ];
+    let mut before = String::from_str(alloc, "")?;
+    for (push, line) in rows {
+        let mut files = files_of(alloc, &app, (Some(LOOP), None), Some(""), &[])?;
+        let (status, out) = main_of(alloc, &GO_MEM, &mut files, &[push])?;
+        assert_eq!(rt; status, 4, "{line}");
+        assert_eq!(rt; out.text(), before.as_bytes());
+        before.push_str(line)?;
+    }
+    Ok(())
+}
+
 // The fifth call of `build` is its put.
 #[test]
 fn a_put_or_a_push_that_fails(rt: HostRuntime) -> Result<(), Fail> {
