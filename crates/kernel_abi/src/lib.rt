@@ -380,7 +380,18 @@ pub enum Ending {
     Restart,
 }
 
-/// A line of the trace without its turn.
+/// Whose message a task listens for.
+#[derive(Clone, Copy, Debug, PartialEq, Eq)]
+pub enum Listened {
+    /// Any task's.
+    Any,
+    /// None: for notifications alone.
+    Kernel,
+    /// That of the task with this index.
+    One(u16),
+}
+
+/// A line of the trace without its turn. The last four are told with `--all` alone.
 #[derive(Clone, Copy, Debug, PartialEq, Eq)]
 pub enum Note {
     /// The time rose to this.
@@ -418,6 +429,38 @@ pub enum Note {
     Fault {
         task: u16,
         fault: Fault,
+    },
+    /// A task listens, with a mask of notifications.
+    Listen {
+        task: u16,
+        from: Listened,
+        mask: u32,
+    },
+    /// An open call was taken by its server, to which so many bytes were copied.
+    Take {
+        call: u32,
+        copied: u32,
+    },
+    /// A task runs the instruction at an address, of one halfword or of two; the first of two is in
+    /// the high half.
+    Insn {
+        task: u16,
+        at: u32,
+        code: u32,
+    },
+    /// No task ran.
+    Idle,
+    /// The registers r0 to r7 of the task that ran.
+    Low {
+        registers: [u32; 8],
+    },
+    /// Its registers r8 to r15, and its flags.
+    High {
+        registers: [u32; 8],
+        n: bool,
+        z: bool,
+        c: bool,
+        v: bool,
     },
 }
 
