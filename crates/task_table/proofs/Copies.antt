@@ -1,7 +1,9 @@
 -- What reads of memory give, and what stores leave.
-use Rattle.std.proofs.Common.{◌≡◌, ◌+◌, ◌*◌, ◌<◌, ℕ, zero, suc, List, [], ◌∷◌, take, drop, get_or, refl, sym, ap, add-zero, arith}
+use Rattle.std.proofs.Common.{◌≡◌, ◌+◌, ◌-◌, ◌*◌, ◌<◌, ◌≤◌, inl, inr, ℕ, zero, suc, Bool, true, false, cond, leb, List, [], ◌∷◌, ◌++◌, length, take, drop, get_or, refl, sym, ap, add-zero, arith, length-take, length-drop}
+use Rattle.std.proofs.lemmas.Bool.{le-leb, lt-leb}
 use Rattle.std.proofs.lemmas.List.{take-append-drop, append-nil}
-use Rattle.task_table.specs.Memory.{Memory, with_bytes, number_of}
+use lib.Seq.{paste}
+use Rattle.task_table.specs.Memory.{Memory, bytes_at, with_bytes, copied, number_of, IsWithin}
 use Rattle.task_table.specs.Sane.{AreAllBytes}
 
 -- no bytes change nothing
@@ -50,3 +52,47 @@ pub all_bytes : (xs : List ℕ) → ((k : ℕ) → get_or xs k 0 < 256) → AreA
 all_bytes [] small b h = absurd (omega (arith, h.1))
 all_bytes (x ∷ xs) small b (zero, lt, same) = let e : x ≡ b = same in let h : x < 256 = small 0 in omega arith
 all_bytes (x ∷ xs) small b (suc i, lt, same) = all_bytes xs (λ k. small (suc k)) b (i, omega arith, same)
+
+-- ## a copy
+
+cond_same : (b : Bool) (xs : List ℕ) → cond b xs xs ≡ xs
+cond_same true xs = refl
+cond_same false xs = refl
+
+cond_three : (a b : Bool) (xs : List ℕ) → cond a xs (cond b xs xs) ≡ xs
+cond_three true b xs = refl
+cond_three false b xs = cond_same b xs
+
+-- of no bytes nothing
+pub copied_none : (m : Memory) (from to n : ℕ) → n ≡ 0 → m ≡ copied m from to n
+unfolding copied bytes_at
+copied_none m from to n e = with_bytes_none m to (bytes_at m from n) (rw e (cond_three (leb 0x20000000 from) (leb 0x08000000 from) []))
+
+length_part : (xs : List ℕ) (i n : ℕ) → i + n ≤ length xs → length (take n (drop i xs)) ≡ n
+length_part xs i n h = simp (length-take, length-drop) (omega arith)
+
+pub copied_in_ram : (m : Memory) (from to n : ℕ) → 0x20000000 ≤ from → from - 0x20000000 + n ≤ length m.ram → record m { ram = paste m.ram (to - 0x20000000) (drop (from - 0x20000000) m.ram) (from - 0x20000000 + n - (from - 0x20000000)) } ≡ copied m from to n
+unfolding copied bytes_at with_bytes
+copied_in_ram m from to n h fits =
+    let t : leb 0x20000000 from ≡ true = le-leb _ _ h in
+    let k : from - 0x20000000 + n - (from - 0x20000000) ≡ n = omega arith in
+    let l : length (take n (drop (from - 0x20000000) m.ram)) ≡ n = length_part m.ram (from - 0x20000000) n fits in
+    rw (t, k, l)
+
+pub copied_from_flash : (m : Memory) (from to n : ℕ) (bytes : List ℕ) → from < 0x20000000 → 0x08000000 ≤ from → bytes ≡ take n (drop (from - 0x08000000) m.flash) → record m { ram = take (to - 0x20000000) m.ram ++ bytes ++ drop (to - 0x20000000 + length bytes) m.ram } ≡ copied m from to n
+unfolding copied bytes_at with_bytes
+copied_from_flash m from to n bytes h above e =
+    let t : leb 0x20000000 from ≡ false = lt-leb _ _ h in
+    let u : leb 0x08000000 from ≡ true = le-leb _ _ above in
+    rw (t, u, e)
+
+-- where bytes lie
+pub range_in_ram : (m v : Memory) (a n : ℕ) → m ≡ v → IsWithin v a n → (n ≡ 0 → ⊥) → 0x20000000 ≤ a → length m.flash ≤ 1048576 → a - 0x20000000 + n ≤ length m.ram
+range_in_ram m v a n e w some h small =
+    let here = rw (← e) at w in
+    elim here [ inl r ↦ elim r [ inl none ↦ absurd (some none) | inr x ↦ omega arith ] | inr x ↦ omega arith ]
+
+pub range_in_flash : (m v : Memory) (a n : ℕ) → m ≡ v → IsWithin v a n → (n ≡ 0 → ⊥) → a < 0x20000000 → (0x08000000 ≤ a) × (a - 0x08000000 + n ≤ length m.flash)
+range_in_flash m v a n e w some h =
+    let here = rw (← e) at w in
+    elim here [ inl r ↦ elim r [ inl none ↦ absurd (some none) | inr x ↦ absurd (omega arith) ] | inr x ↦ (x.0, omega arith) ]

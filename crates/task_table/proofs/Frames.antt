@@ -1,22 +1,29 @@
 -- What effects leave alone: who waits, and the time.
-use Rattle.std.proofs.Common.{◌≡◌, ◌≢◌, ◌+◌, ℕ, Bool, true, false, ◌&&◌, List, [], ◌∷◌, ◌++◌, Option, Some, None, inl, inr, refl, ◌∙◌, arith, eqb, bit_and, cond, is_none, length-set}
+use Rattle.std.proofs.Common.{◌≡◌, ◌≢◌, ◌+◌, ℕ, Bool, true, false, ◌&&◌, ◌||◌, not, leb, is_some, List, [], ◌∷◌, ◌++◌, Option, Some, None, inl, inr, refl, ◌∙◌, arith, eqb, bit_and, cond, is_none, length-set}
+use Rattle.std.specs.Prelude.{filter, fold}
+use Rattle.std.specs.List.{list_any}
 use Rattle.std.proofs.lemmas.Bool.Decides.{eqb_tells}
 use Rattle.std.proofs.lemmas.Bool.{false≢true}
+use Rattle.kernel_abi.specs.Arguments.{recv_args, timer_args, irq_args}
+use Rattle.kernel_abi.specs.Ids.{index_of}
+use Rattle.kernel_abi.specs.declared.arguments.RecvArgs.{RecvArgs}
 use Rattle.kernel_abi.specs.declared.Fault.{Fault}
 use Rattle.kernel_abi.specs.declared.Note.{Note}
 use Rattle.kernel_abi.specs.declared.Note.TheVariants as note
 use Rattle.kernel_abi.specs.declared.Ending.TheVariants.{Client}
 use Rattle.kernel_abi.specs.declared.Health.TheVariants.{Faulted}
 use Rattle.kernel_abi.specs.declared.Timer.{Timer}
+use Rattle.region_check.specs.declared.Right.TheVariants.{Write}
 use Rattle.words_core.specs.declared.Flags.{Flags}
 use Rattle.task_table.specs.declared.Line.{Line}
-use Rattle.task_table.specs.State.{Setup, State, Listen, Turn, Ground}
-use Rattle.task_table.specs.Reading.{task_at, register, call_of, listen_of, is_ready, is_well, IsIdle, IsSameAt}
-use Rattle.task_table.specs.Effects.{with_task, without_call, without_listen, changed, noted, with_processor, with_health, given, returned, bits_added, bits_cleared, woken_by, woken, posted, with_timer, with_line, stored, close_notes, closed, faulted_as, faulted}
-use Rattle.task_table.specs.Rows.{call_noted, called, misused, panicked}
+use Rattle.task_table.specs.State.{Setup, LineSetup, State, Call, Listen, From, Any, One, KernelOnly, Range, Turn, Ground, Own}
+use Rattle.task_table.specs.Reading.{task_at, line_at, line_off, line_on, register, arguments, call_of, listen_of, is_ready, is_well, is_out, is_dead, present, is_valid, bad_byte, offer_by, best_sender, IsIdle, IsSameAt}
+use Rattle.task_table.specs.Effects.{with_task, without_call, without_listen, with_listen, with_taken, changed, noted, with_processor, with_health, given, returned, advanced, looked, copied, handed, bits_added, bits_cleared, woken_by, woken, posted, with_timer, with_line, stored, close_notes, closed, faulted_as, faulted}
+use Rattle.task_table.specs.Rows.{goes_on, goes_on_with, timer_set, timer_told, owns_with, line_controlled, irq_controlled, buffer_of, listens, receives, receives_or_listens, takes_bits, offer_of, received, panicked, call_noted, called}
 use Rattle.task_table.specs.Sane.{IsCounted}
 use Rattle.task_table.specs.Counts.{IsSameTime, IsNoted}
 use Rattle.task_table.proofs.Changes.{call_of-with_task, listen_of-with_task, call_of-without_listen, listen_of-without_listen, listen_of-without_listen_other}
+use Rattle.task_table.proofs.Walks.{Of, by_row, fold_all}
 
 -- ## who waits
 
@@ -118,6 +125,9 @@ idle-posted i j bits t h = idle-woken_by i j (listen_of (bits_added j bits t).st
 
 -- ## the time
 
+pub time-same : (s : State) → IsSameTime s s
+time-same s = record { count = refl; turn = refl; now = refl; next_call = refl }
+
 pub time-joined : (s u v : State) → IsSameTime s u → IsSameTime u v → IsSameTime s v
 time-joined s u v a b = record { count = b.count ∙ a.count; turn = b.turn ∙ a.turn; now = b.now ∙ a.now; next_call = b.next_call ∙ a.next_call }
 
@@ -144,7 +154,7 @@ pub time-given : (i : ℕ) (values : List ℕ) (t : Turn) → IsSameTime t.state
 unfolding given with_task
 time-given i values t = record { count = length-set t.state.tasks i _; turn = refl; now = refl; next_call = refl }
 
-time-cleared : (i mask : ℕ) (t : Turn) → IsSameTime t.state (bits_cleared i mask t).state
+pub time-cleared : (i mask : ℕ) (t : Turn) → IsSameTime t.state (bits_cleared i mask t).state
 unfolding bits_cleared with_task
 time-cleared i mask t = record { count = length-set t.state.tasks i _; turn = refl; now = refl; next_call = refl }
 
@@ -203,17 +213,132 @@ time-faulted g i fault t = go (eqb i 0)
     go true = same
     go false = time-joined t.state shut.state (posted 0 g.fault_bits shut).state same (time-posted 0 g.fault_bits shut)
 
-pub time-called : (g : Setup) (c : ℕ) (t : Turn) → IsSameTime t.state (called g c t).state
-unfolding called panicked
-time-called g c t = go (eqb (register t.state c 11) 8)
-  where
-    go : (b : Bool) → IsSameTime t.state (cond b (panicked g c t) (misused g c 1 t)).state
-    go true = time-faulted g c _ t
-    go false = time-faulted g c _ t
-
 pub time-call_noted : (c : ℕ) (t : Turn) → IsSameTime t.state (call_noted c t).state
 unfolding call_noted
 time-call_noted c t = time-noted _ t
+
+pub time-advanced : (i : ℕ) (t : Turn) → IsSameTime t.state (advanced i t).state
+unfolding advanced with_task
+time-advanced i t = record { count = length-set t.state.tasks i _; turn = refl; now = refl; next_call = refl }
+
+pub time-listening : (l : Listen) (t : Turn) → IsSameTime t.state (changed (with_listen l) t).state
+unfolding with_listen
+time-listening l t = record { count = refl; turn = refl; now = refl; next_call = refl }
+
+pub time-handed : (on : Ground) (k : Call) (buffer : Range) (t : Turn) → IsSameTime t.state (handed on k buffer t).state
+unfolding handed looked copied with_taken noted without_listen given with_task
+time-handed on k buffer t = record { count = length-set t.state.tasks k.server.index _; turn = refl; now = refl; next_call = refl }
+
+-- ## the time over the rows of the calls
+
+pub time-goes_on : (c : ℕ) (t : Turn) → IsSameTime t.state (goes_on c t).state
+time-goes_on c t = time-joined t.state (advanced c t).state (goes_on c t).state (time-advanced c t) (time-returned c (advanced c t))
+
+pub time-goes_on_with : (c : ℕ) (values : List ℕ) (t : Turn) → IsSameTime t.state (goes_on_with c values t).state
+time-goes_on_with c values t = time-joined t.state (given c values t).state (goes_on_with c values t).state (time-given c values t) (time-goes_on c (given c values t))
+
+-- a caller goes on after what leaves the time alone
+then_goes_on : (c : ℕ) (t u : Turn) → IsSameTime t.state u.state → IsSameTime t.state (goes_on c u).state
+then_goes_on c t u same = time-joined t.state u.state (goes_on c u).state same (time-goes_on c u)
+
+-- that time and number of tasks are those of a state
+abbrev IsTurnOf : State → Turn → Type 0
+IsTurnOf s u = IsSameTime s u.state
+
+by_set : (c : ℕ) (t : Turn) → Of (IsTurnOf t.state) (timer_set c t)
+unfolding timer_set
+by_set c t =
+    let x = timer_args (arguments t.state c) in
+    let off = with_timer c None t in
+    let timer : Timer = record { deadline = x.deadline; bits = x.bits } in
+    by_row (not x.set) (λ unset. record { holds = then_goes_on c t off (time-timer c None t) }) (λ set.
+    by_row (leb x.deadline t.state.now)
+    (λ due. record { holds = then_goes_on c t (posted c x.bits off) (time-joined t.state off.state (posted c x.bits off).state (time-timer c None t) (time-posted c x.bits off)) })
+    (λ ahead. record { holds = then_goes_on c t (with_timer c (Some timer) t) (time-timer c (Some timer) t) }))
+
+pub time-timer_set : (c : ℕ) (t : Turn) → IsSameTime t.state (timer_set c t).state
+time-timer_set c t = (by_set c t).holds
+
+pub time-timer_told : (c : ℕ) (t : Turn) → IsSameTime t.state (timer_told c t).state
+unfolding timer_told
+time-timer_told c t = time-goes_on_with c _ t
+
+time-line_controlled : (c bits : ℕ) (enable : Bool) (k : ℕ) (t : Turn) → IsSameTime t.state (line_controlled c bits enable k t).state
+time-line_controlled c bits enable k t = by_tests enable (line_at t.state k).pending
+  where
+    by_tests : (b p : Bool) → IsSameTime t.state (cond (not b) (with_line k (line_off p) t) (cond p (posted c bits (with_line k (line_off false) t)) (with_line k line_on t))).state
+    by_tests false p = time-line k (line_off p) t
+    by_tests true true = let off = with_line k (line_off false) t in time-joined t.state off.state (posted c bits off).state (time-line k (line_off false) t) (time-posted c bits off)
+    by_tests true false = time-line k line_on t
+
+by_lines : (g : Setup) (c : ℕ) (t : Turn) → Of (IsTurnOf t.state) (irq_controlled g c t)
+unfolding irq_controlled
+by_lines g c t =
+    let x = irq_args (arguments t.state c) in
+    let f : Turn → LineSetup → Turn = λ u o. line_controlled c x.bits x.enable o.line u in
+    let lines = filter (owns_with c x.bits) g.lines in
+    by_row (not (list_any (owns_with c x.bits) g.lines)) (λ none. record { holds = time-faulted g c _ t }) (λ some.
+    let all : IsTurnOf t.state (fold f t lines) = fold_all (IsTurnOf t.state) f lines t (time-same t.state) (λ o u same. time-joined t.state u.state (f u o).state same (time-line_controlled c x.bits x.enable o.line u)) in
+    record { holds = then_goes_on c t (fold f t lines) all })
+
+pub time-irq_controlled : (g : Setup) (c : ℕ) (t : Turn) → IsSameTime t.state (irq_controlled g c t).state
+time-irq_controlled g c t = (by_lines g c t).holds
+
+module _ (g : Setup) (c : ℕ) (t : Turn) where
+  time-listens : (x : RecvArgs) (from : From) → IsSameTime t.state (listens c x from t).state
+  unfolding noted
+  time-listens x from =
+      let l : Listen = record { task = c; from = from; mask = x.mask; buffer = buffer_of x } in
+      time-joined t.state (advanced c t).state (changed (with_listen l) (advanced c t)).state (time-advanced c t) (time-listening l (advanced c t))
+
+  time-receives : (x : RecvArgs) (k : Call) → IsSameTime t.state (receives c x k t).state
+  time-receives x k =
+      let u = advanced c t in
+      let v = handed Own k (buffer_of x) u in
+      time-joined t.state v.state (returned c v).state (time-joined t.state u.state v.state (time-advanced c t) (time-handed Own k (buffer_of x) u)) (time-returned c v)
+
+  time-receives_or_listens : (x : RecvArgs) (from : From) (o : Option Call) → IsSameTime t.state (receives_or_listens c x from o t).state
+  time-receives_or_listens x from None = time-listens x from
+  time-receives_or_listens x from (Some k) = time-receives x k
+
+  time-takes_bits : (mask : ℕ) → IsSameTime t.state (takes_bits c mask t).state
+  time-takes_bits mask =
+      let values : List ℕ = 0 ∷ 0xFFFF ∷ bit_and (task_at t.state c).posted mask ∷ 0 ∷ 0 ∷ 0 ∷ [] in
+      let u = bits_cleared c mask t in
+      time-joined t.state u.state (goes_on_with c values u).state (time-cleared c mask t) (time-goes_on_with c values u)
+
+  by_input : (best : Option ℕ) → Of (IsTurnOf t.state) (received g c best t)
+  unfolding received
+  by_input best =
+      let s = t.state in
+      let x = recv_args (arguments s c) in
+      let id = x.sender.number in
+      let bad = bad_byte g c Write (buffer_of x) in
+      by_row (not (is_valid (buffer_of x))) (λ is. record { holds = time-faulted g c _ t }) (λ other.
+      by_row (is_some bad) (λ is. record { holds = time-faulted g c _ t }) (λ other.
+      by_row (x.closed && not (eqb id 0xFFFF) && (is_out s id || eqb (index_of id) c)) (λ is. record { holds = time-faulted g c _ t }) (λ other.
+      by_row (not (eqb (bit_and (task_at s c).posted x.mask) 0)) (λ is. record { holds = time-takes_bits x.mask }) (λ other.
+      by_row (x.closed && eqb id 0xFFFF) (λ is. record { holds = time-listens x KernelOnly }) (λ other.
+      by_row (x.closed && is_dead s id) (λ is. record { holds = time-goes_on_with c _ t }) (λ other.
+      by_row x.closed (λ is. record { holds = time-receives_or_listens x (One (present s (index_of id))) (offer_by s (index_of id) c) }) (λ other.
+      record { holds = time-receives_or_listens x Any (offer_of s c best) })))))))
+
+  pub time-received : (best : Option ℕ) → IsSameTime t.state (received g c best t).state
+  time-received best = (by_input best).holds
+
+  by_number : Of (IsTurnOf t.state) (called g c t)
+  unfolding called panicked
+  by_number =
+      let n = register t.state c 11 in
+      by_row (eqb n 1) (λ is. record { holds = time-received (best_sender g t.state c) }) (λ other.
+      by_row (eqb n 3) (λ is. record { holds = time-timer_set c t }) (λ other.
+      by_row (eqb n 7) (λ is. record { holds = time-irq_controlled g c t }) (λ other.
+      by_row (eqb n 8) (λ is. record { holds = time-faulted g c _ t }) (λ other.
+      by_row (eqb n 9) (λ is. record { holds = time-timer_told c t }) (λ other.
+      record { holds = time-faulted g c _ t })))))
+
+  pub time-called : IsSameTime t.state (called g c t).state
+  time-called = by_number.holds
 
 -- the counts are kept from one turn to the next
 pub counted-turn : (s u : State) → IsCounted s → IsSameTime s u → IsCounted record u { turn = u.turn + 1 }

@@ -1,16 +1,17 @@
 -- Each change of a state keeps it sane.
-use Rattle.std.proofs.Common.{◌≡◌, ◌≢◌, ◌<◌, ◌⊎◌, inl, inr, ℕ, zero, suc, Bool, true, false, cond, not, List, [], ◌∷◌, length, Some, None, refl, sym, subst, ◌∙◌, ap, arith, eqb, bit_and, IfSome}
-use Rattle.std.specs.Prelude.{Contains, filter, find}
+use Rattle.std.proofs.Common.{◌≡◌, ◌≢◌, ◌<◌, ◌⊎◌, inl, inr, ℕ, zero, suc, Bool, true, false, cond, not, List, [], ◌∷◌, ◌++◌, length, Some, None, refl, sym, subst, ◌∙◌, ap, arith, eqb, bit_and, IfSome}
+use Rattle.std.specs.Prelude.{Contains, filter, find, map}
 use Rattle.std.proofs.lemmas.Bool.{eq-eqb, false≢true}
 use Rattle.std.proofs.lemmas.Bool.Decides.{eqb_tells}
+use Rattle.std.proofs.lemmas.List.Elements.{Contains-append_cases}
 use Rattle.kernel_abi.specs.declared.Health.TheVariants.{Well}
 use Rattle.task_table.specs.declared.Line.{Line}
 use Rattle.task_table.specs.Memory.{Memory}
-use Rattle.task_table.specs.State.{Setup, Task, Call, Listen, State}
-use Rattle.task_table.specs.Reading.{task_at, line_at, call_of, listen_of, IsIdle}
-use Rattle.task_table.specs.Effects.{with_task, without_call, without_listen}
+use Rattle.task_table.specs.State.{Setup, Task, Call, Listen, State, Birth, Offered, Taken, One}
+use Rattle.task_table.specs.Reading.{task_at, line_at, call_of, listen_of, admits, IsIdle}
+use Rattle.task_table.specs.Effects.{with_task, without_call, without_listen, with_listen, taken_from, with_taken}
 use Rattle.task_table.specs.Placed.{ArePlaced}
-use Rattle.task_table.specs.Sane.{IsSaneBut, IsSaneTask, IsOwned, AreAllBytes}
+use Rattle.task_table.specs.Sane.{IsSaneBut, Every, IsFitListen, IsSaneTask, IsOwned, AreAllBytes}
 use Rattle.task_table.proofs.Changes.{task_at-with_task, task_at-with_task_other, length-with_task}
 
 no_some : {A P : Type 0} {a : A} → None ≡ Some a → P
@@ -54,6 +55,20 @@ filter_in p (y ∷ ys) x h = go (p y) refl h (λ c. filter_in p ys x c)
     go true e (zero, lt, same) rest = let e' : y ≡ x = same in ((zero, omega arith, same), rw e' at e)
     go true e (suc k, lt, same) rest = let r = rest (k, omega arith, same) in (contains_more y x ys r.0, r.1)
     go false e h rest = let r = rest h in (contains_more y x ys r.0, r.1)
+
+-- what a map gives comes from there
+pub map_in : {X : Type 0} (f : X → X) (xs : List X) (y : X) → Contains (map f xs) y → (x : X) × Contains xs x × (y ≡ f x)
+map_in f [] y h = absurd (omega (arith, h.1))
+map_in f (x ∷ xs) y (zero, lt, same) = let e : f x ≡ y = same in (x, (zero, omega arith, refl), sym e)
+map_in f (x ∷ xs) y (suc k, lt, same) = let r = map_in f xs y (k, omega arith, same) in (r.0, contains_more x r.0 xs r.1, r.2)
+
+one_in : {X : Type 0} (y x : X) → Contains (y ∷ []) x → x ≡ y
+one_in y x (zero, lt, same) = let e : y ≡ x = same in sym e
+one_in y x (suc k, lt, same) = absurd (omega arith)
+
+-- what stands in a list with one more stood there, or is that one
+pub added_in : {X : Type 0} (xs : List X) (y x : X) → Contains (xs ++ y ∷ []) x → Contains xs x ⊎ (x ≡ y)
+added_in xs y x h = elim (Contains-append_cases xs (y ∷ []) x h) [ inl a ↦ inl a | inr b ↦ inr (one_in y x b) ]
 
 -- ## one task changes
 
@@ -177,6 +192,88 @@ keeps-without_call {s = s} i h = keeps-fewer (without_call i s).calls s.listens 
 pub keeps-without_listen : {M F T : ℕ → Type 0} {W : ℕ → ℕ → Type 0} {g : Setup} {s : State} (i : ℕ) → IsSaneBut M F T W g s → IsSaneBut M F T W g (without_listen i s)
 unfolding without_listen
 keeps-without_listen {s = s} i h = keeps-fewer s.calls (without_listen i s).listens h (λ c here. here) (λ l here. (dropped_listen s i l here).0)
+
+-- ## a task listens
+
+pub keeps-with_listen : {T : ℕ → Type 0} {W : ℕ → ℕ → Type 0} {g : Setup} {s : State} (l : Listen) → IsSaneBut Every Every T W g s → IsFitListen g l → (task_at s l.task).health ≡ Well → IsIdle s l.task → ((b : Birth) → l.from ≡ One b → (task_at s b.index).births ≡ b.birth) → bit_and (task_at s l.task).posted l.mask ≡ 0 → ((c : Call) → Contains s.calls c → c.phase ≡ Offered → c.server.index ≡ l.task → admits l.from c.client ≡ false) → IsSaneBut Every Every T W g (with_listen l s)
+unfolding with_listen task_at line_at
+keeps-with_listen {s = s} l h fit well idle named unmet unfit = record {
+  steady = record {
+    calls = h.steady.calls;
+    listens = record {
+      fit = λ m here. elim (added_in s.listens l m here) [ inl old ↦ h.steady.listens.fit m old | inr new ↦ rw new fit ];
+      task = λ m n x y same. elim (added_in s.listens l m x) [
+        | inl old ↦ elim (added_in s.listens l n y) [ inl old2 ↦ h.steady.listens.task m n old old2 same | inr new2 ↦ absurd (idle_listen s l.task m idle.listen old (same ∙ ap (λ (k : Listen). k.task) new2)) ]
+        | inr new ↦ elim (added_in s.listens l n y) [ inl old2 ↦ absurd (idle_listen s l.task n idle.listen old2 (sym same ∙ ap (λ (k : Listen). k.task) new)) | inr new2 ↦ new ∙ sym new2 ]
+      ];
+    };
+    tasks = h.steady.tasks;
+    lines = h.steady.lines;
+    as_many = h.steady.as_many;
+    current = h.steady.current;
+    flash = h.steady.flash;
+    text = h.steady.text;
+    bytes = h.steady.bytes;
+    placed = h.steady.placed;
+  };
+  well = record {
+    client = h.well.client;
+    listener = λ m here. elim (added_in s.listens l m here) [ inl old ↦ h.well.listener m old | inr new ↦ rw new well ];
+    alone = λ d m x y. elim (added_in s.listens l m y) [ inl old ↦ h.well.alone d m x old | inr new ↦ rw new (λ e. absurd (idle_call s l.task d idle.call x e)) ];
+  };
+  present = record {
+    client = h.present.client;
+    server = h.present.server;
+    named = λ m b here e w. elim (added_in s.listens l m here) [ inl old ↦ h.present.named m b old e w | inr new ↦ named b (rw new at e) ];
+  };
+  unmet = λ m here w. elim (added_in s.listens l m here) [ inl old ↦ h.unmet m old w | inr new ↦ rw new unmet ];
+  unfit = λ d m x y o e f. elim (added_in s.listens l m y) [ inl old ↦ h.unfit d m x old o e f | inr new ↦ rw new (unfit d x o (rw new at e)) ];
+  ahead = h.ahead;
+}
+
+-- ## a call is taken
+
+-- F: it is said of all clients, or of all but this one; then it is said of all
+pub keeps-with_taken : {M F T : ℕ → Type 0} {W : ℕ → ℕ → Type 0} {g : Setup} {s : State} (i : ℕ) → IsSaneBut M F T W g s → ((j : ℕ) → j ≢ i → F j) → IsSaneBut M Every T W g (with_taken i s)
+unfolding with_taken task_at line_at
+keeps-with_taken {s = s} i h but = record {
+  steady = record {
+    calls = record {
+      fit = λ d here. let r = map_in (taken_from i) s.calls d here in let f = h.steady.calls.fit r.0 r.1 in rw r.2 record { client = f.client; server = f.server; apart = f.apart; valid = f.valid; readable = f.readable; writable = f.writable };
+      below = λ d here. let r = map_in (taken_from i) s.calls d here in rw r.2 (h.steady.calls.below r.0 r.1);
+      client = λ d e x y same. let r = map_in (taken_from i) s.calls d x in let q = map_in (taken_from i) s.calls e y in r.2 ∙ ap (taken_from i) (h.steady.calls.client r.0 q.0 r.1 q.1 (sym (ap (λ (k : Call). k.client.index) r.2) ∙ same ∙ ap (λ (k : Call). k.client.index) q.2)) ∙ sym q.2;
+      number = λ d e x y same. let r = map_in (taken_from i) s.calls d x in let q = map_in (taken_from i) s.calls e y in r.2 ∙ ap (taken_from i) (h.steady.calls.number r.0 q.0 r.1 q.1 (sym (ap (λ (k : Call). k.number) r.2) ∙ same ∙ ap (λ (k : Call). k.number) q.2)) ∙ sym q.2;
+    };
+    listens = h.steady.listens;
+    tasks = h.steady.tasks;
+    lines = h.steady.lines;
+    as_many = h.steady.as_many;
+    current = h.steady.current;
+    flash = h.steady.flash;
+    text = h.steady.text;
+    bytes = h.steady.bytes;
+    placed = h.steady.placed;
+  };
+  well = record {
+    client = λ d here. let r = map_in (taken_from i) s.calls d here in rw r.2 (h.well.client r.0 r.1);
+    listener = h.well.listener;
+    alone = λ d l x y. let r = map_in (taken_from i) s.calls d x in rw r.2 (h.well.alone r.0 l r.1 y);
+  };
+  present = record {
+    client = λ d here. let r = map_in (taken_from i) s.calls d here in rw r.2 (h.present.client r.0 r.1);
+    server = λ d here w. let r = map_in (taken_from i) s.calls d here in rw r.2 (h.present.server r.0 r.1 (rw r.2 at w));
+    named = h.present.named;
+  };
+  unmet = h.unmet;
+  unfit = λ d l x y o e f. let r = map_in (taken_from i) s.calls d x in rw r.2 (elim (eqb_tells r.0.client.index i) [
+    | inl mine ↦ absurd (taken_not_offered (sym (ap (λ (k : Call). k.phase) r.2 ∙ rw mine.0) ∙ o))
+    | inr other ↦ h.unfit r.0 l r.1 y (sym (ap (λ (k : Call). k.phase) r.2 ∙ rw other.0) ∙ o) (sym (ap (λ (k : Call). k.server.index) r.2) ∙ e) (but r.0.client.index other.1)
+  ]);
+  ahead = h.ahead;
+}
+  where
+    taken_not_offered : Taken ≡ Offered → ⊥
+    taken_not_offered e = cc
 
 -- ## memory, who is current, the turn
 

@@ -54,15 +54,15 @@ module _ {M F T : ℕ → Type 0} {W : ℕ → ℕ → Type 0} {g : Setup} where
   unfolding noted
   keeps-noted n t h = h
 
-  keeps-returned : (i : ℕ) (t : Turn) → IsSaneBut M F T W g t.state → IsSaneBut M F T W g (returned i t).state
+  pub keeps-returned : (i : ℕ) (t : Turn) → IsSaneBut M F T W g t.state → IsSaneBut M F T W g (returned i t).state
   unfolding returned noted
   keeps-returned i t h = h
 
-  keeps-given : (i : ℕ) (values : List ℕ) (t : Turn) → IsSaneBut M F T W g t.state → i < length t.state.tasks → length values ≤ 6 → IsSaneBut M F T W g (given i values t).state
+  pub keeps-given : (i : ℕ) (values : List ℕ) (t : Turn) → IsSaneBut M F T W g t.state → i < length t.state.tasks → length values ≤ 6 → IsSaneBut M F T W g (given i values t).state
   unfolding given
   keeps-given i values t h inside six = keeps-registers i _ h inside (results_sane (task_at t.state i) values six (h.steady.tasks i inside))
 
-  keeps-advanced : (i : ℕ) (t : Turn) → IsSaneBut M F T W g t.state → i < length t.state.tasks → IsSaneBut M F T W g (advanced i t).state
+  pub keeps-advanced : (i : ℕ) (t : Turn) → IsSaneBut M F T W g t.state → i < length t.state.tasks → IsSaneBut M F T W g (advanced i t).state
   unfolding advanced register
   keeps-advanced i t h inside =
       let x = h.steady.tasks i inside in
@@ -87,7 +87,7 @@ module _ {M F T : ℕ → Type 0} {W : ℕ → ℕ → Type 0} {g : Setup} where
         unmet = λ l here m same. rw same at (h.unmet l here m);
       }
 
-  keeps-cleared : (i mask : ℕ) (t : Turn) → IsSaneBut M F T W g t.state → i < length t.state.tasks → listen_of t.state i ≡ None → IsSaneBut M F T W g (bits_cleared i mask t).state
+  pub keeps-cleared : (i mask : ℕ) (t : Turn) → IsSaneBut M F T W g t.state → i < length t.state.tasks → listen_of t.state i ≡ None → IsSaneBut M F T W g (bits_cleared i mask t).state
   unfolding bits_cleared
   keeps-cleared i mask t h inside none =
       let x = h.steady.tasks i inside in
@@ -112,7 +112,7 @@ but : ℕ → ℕ → Type 0
 but i j = j ≢ i
 
 -- the one listen of a task
-found_listen : (s : State) (i : ℕ) (l : Listen) → listen_of s i ≡ Some l → Contains s.listens l × (l.task ≡ i)
+pub found_listen : (s : State) (i : ℕ) (l : Listen) → listen_of s i ≡ Some l → Contains s.listens l × (l.task ≡ i)
 unfolding listen_of
 found_listen s i l h = let r = found_in (λ (m : Listen). eqb m.task i) s.listens l h in (r.0, eqb-true _ _ r.1)
 

@@ -1,14 +1,15 @@
 -- Bytes that a task may use lie in memory.
-use Rattle.std.proofs.Common.{◌≡◌, ◌+◌, ◌<◌, ◌≤◌, ◌⊎◌, inl, inr, ℕ, zero, suc, Bool, true, false, not, ◌&&◌, length, refl, arith, leb, ltb}
+use Rattle.std.proofs.Common.{◌≡◌, ◌+◌, ◌<◌, ◌≤◌, ◌⊎◌, inl, inr, ℕ, zero, suc, Bool, true, false, not, ◌&&◌, length, None, refl, arith, leb, ltb}
 use Rattle.std.proofs.lemmas.Bool.{leb-true, ltb-true, false≢true}
 use Rattle.std.proofs.lemmas.List.Folds.{Any-from_list_any}
 use Rattle.region_check.specs.declared.Region.{Region}
 use Rattle.region_check.specs.declared.Right.{Right}
 use Rattle.region_check.specs.declared.Right.TheVariants.{Write}
 use Rattle.region_check.specs.Rights.{may_copy, gives_copy, is_inside, has_right}
+use Rattle.region_check.proofs.FirstBad.{first_bad_none}
 use Rattle.task_table.specs.Memory.{Memory, IsWithin, IsWithinRam}
-use Rattle.task_table.specs.State.{Setup}
-use Rattle.task_table.specs.Reading.{setup_at}
+use Rattle.task_table.specs.State.{Setup, Range}
+use Rattle.task_table.specs.Reading.{setup_at, bad_byte}
 use Rattle.task_table.specs.Placed.{ArePlaced}
 
 both_true : (a b : Bool) → (a && b) ≡ true → (a ≡ true) × (b ≡ true)
@@ -80,3 +81,16 @@ within_ram-bytes m base (suc n) h =
     let first = one_in_ram m base (h base (omega arith) (omega arith)) in
     let last = one_in_ram m (base + n) (h (base + n) (omega arith) (omega arith)) in
     inr (first.0, omega arith)
+
+-- a range without a bad byte lies in memory, and in RAM where it may be written
+pub within-good : (g : Setup) (m : Memory) (i : ℕ) (right : Right) (r : Range) → ArePlaced g m → bad_byte g i right r ≡ None → IsWithin m r.base r.length
+unfolding bad_byte
+within-good g m i right r placed h = within-bytes m r.base r.length placed.flash (λ a from below. within-given g m i right a placed (first_bad_none (setup_at g i).regions right r.base r.length a h from below))
+
+pub within_ram-good : (g : Setup) (m : Memory) (i : ℕ) (r : Range) → ArePlaced g m → bad_byte g i Write r ≡ None → IsWithinRam m r.base r.length
+unfolding bad_byte
+within_ram-good g m i r placed h = within_ram-bytes m r.base r.length (λ a from below. within_ram-given g m i a placed (first_bad_none (setup_at g i).regions Write r.base r.length a h from below))
+
+-- the front of a range in RAM
+pub within_ram-front : (m : Memory) (a n k : ℕ) → IsWithinRam m a n → k ≤ n → IsWithinRam m a k
+within_ram-front m a n k h le = elim h [ inl none ↦ inl (omega arith) | inr x ↦ inr (x.0, omega arith) ]

@@ -1,5 +1,5 @@
 -- Each effect and each row keeps a state sane.
-use Rattle.std.proofs.Common.{◌≡◌, ◌+◌, ◌-◌, ◌<◌, ◌≤◌, inl, inr, ℕ, zero, suc, Bool, true, false, cond, List, [], ◌∷◌, ◌++◌, length, take, drop, refl, ◌∙◌, arith, eqb}
+use Rattle.std.proofs.Common.{◌≡◌, ◌+◌, ◌-◌, ◌<◌, ◌≤◌, inl, inr, ℕ, zero, suc, Bool, true, false, cond, List, [], ◌∷◌, ◌++◌, length, take, drop, Option, refl, ◌∙◌, arith, eqb}
 use Rattle.std.specs.Prelude.{Contains}
 use Rattle.std.proofs.lemmas.List.Elements.{Contains-append_cases}
 use Rattle.kernel_abi.specs.declared.Fault.{Fault}
@@ -12,9 +12,9 @@ use Rattle.kernel_abi.specs.declared.Ending.TheVariants.{Client}
 use Rattle.words_core.specs.declared.Flags.{Flags}
 use Rattle.task_table.specs.Memory.{Memory, with_bytes, IsWithinRam}
 use Rattle.task_table.specs.State.{Setup, State, Turn, Ground}
-use Rattle.task_table.specs.Reading.{task_at, register}
+use Rattle.task_table.specs.Reading.{task_at}
 use Rattle.task_table.specs.Effects.{with_task, without_call, without_listen, changed, noted, with_processor, with_health, stored, posted, closed, faulted_as, faulted}
-use Rattle.task_table.specs.Rows.{misused, panicked, call_noted, called}
+use Rattle.task_table.specs.Rows.{misused, denied, panicked, call_noted}
 use Rattle.task_table.specs.Placed.{ArePlaced}
 use Rattle.task_table.specs.Sane.{Sane, IsFaultKnown, AreAllBytes}
 use Rattle.task_table.specs.Counts.{AreWhole}
@@ -25,7 +25,7 @@ use Rattle.task_table.proofs.Steps.{flash-with_bytes, length-with_bytes}
 
 -- ## memory
 
-placed_same : (g : Setup) (m v : Memory) → ArePlaced g m → v.flash ≡ m.flash → length v.ram ≡ length m.ram → ArePlaced g v
+pub placed_same : (g : Setup) (m v : Memory) → ArePlaced g m → v.flash ≡ m.flash → length v.ram ≡ length m.ram → ArePlaced g v
 placed_same g m v h f r = record {
   within = λ i x here none. rw (r, f) (h.within i x here none);
   writable = λ i x here none w. rw r (h.writable i x here none w);
@@ -36,19 +36,19 @@ placed_same g m v h f r = record {
   below = rw r h.below;
 }
 
-take_in : (n : ℕ) (xs : List ℕ) (b : ℕ) → Contains (take n xs) b → Contains xs b
+pub take_in : (n : ℕ) (xs : List ℕ) (b : ℕ) → Contains (take n xs) b → Contains xs b
 take_in zero xs b h = absurd (omega (arith, h.1))
 take_in (suc n) [] b h = absurd (omega (arith, h.1))
 take_in (suc n) (x ∷ xs) b (zero, lt, same) = (zero, omega arith, same)
 take_in (suc n) (x ∷ xs) b (suc i, lt, same) = let r = take_in n xs b (i, omega arith, same) in (suc r.0, omega (arith, r.1), r.2)
 
-drop_in : (n : ℕ) (xs : List ℕ) (b : ℕ) → Contains (drop n xs) b → Contains xs b
+pub drop_in : (n : ℕ) (xs : List ℕ) (b : ℕ) → Contains (drop n xs) b → Contains xs b
 drop_in zero xs b h = h
 drop_in (suc n) [] b h = h
 drop_in (suc n) (x ∷ xs) b h = let r = drop_in n xs b h in (suc r.0, omega (arith, r.1), r.2)
 
 -- bytes written over bytes
-written_bytes : (m : Memory) (a : ℕ) (bytes : List ℕ) → AreAllBytes m.ram → AreAllBytes bytes → AreAllBytes (with_bytes m a bytes).ram
+pub written_bytes : (m : Memory) (a : ℕ) (bytes : List ℕ) → AreAllBytes m.ram → AreAllBytes bytes → AreAllBytes (with_bytes m a bytes).ram
 unfolding with_bytes
 written_bytes m a bytes old new = λ b here. elim (Contains-append_cases (take (a - 0x20000000) m.ram ++ bytes) (drop (a - 0x20000000 + length bytes) m.ram) b here) [
   | inl y ↦ elim (Contains-append_cases (take (a - 0x20000000) m.ram) bytes b y) [
@@ -124,9 +124,16 @@ module _ {g : Setup} where
 
 -- ## rows
 
+-- the state of a turn is sane
+abbrev pub IsSaneTurn : Setup → Turn → Type 0
+IsSaneTurn g u = Sane g u.state
+
 module _ {g : Setup} (c : ℕ) (t : Turn) (h : Sane g t.state) (inside : c < length t.state.tasks) where
   pub sane-misused : (usage : ℕ) → Sane g (misused g c usage t).state
   sane-misused usage = sane-faulted c record { number = 7; x = usage; y = 0 } t h inside (omega arith) (omega arith)
+
+  pub sane-denied : (y : ℕ) (bad : Option ℕ) → Sane g (denied g c y bad t).state
+  sane-denied y bad = sane-faulted c _ t h inside (omega arith) (omega arith)
 
   pub sane-panicked : Sane g (panicked g c t).state
   unfolding panicked
@@ -135,11 +142,3 @@ module _ {g : Setup} (c : ℕ) (t : Turn) (h : Sane g t.state) (inside : c < len
   pub sane-call_noted : Sane g (call_noted c t).state
   unfolding call_noted
   sane-call_noted = sane-noted _ t h
-
-  pub sane-called : Sane g (called g c t).state
-  unfolding called
-  sane-called = go (eqb (register t.state c 11) 8)
-    where
-      go : (b : Bool) → Sane g (cond b (panicked g c t) (misused g c 1 t)).state
-      go true = sane-panicked
-      go false = sane-misused 1

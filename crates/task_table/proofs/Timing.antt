@@ -2,7 +2,7 @@
 use Rattle.std.proofs.Common.{◌≡◌, ◌≢◌, ◌+◌, ◌<◌, ◌≤◌, ◌%◌, ◌/◌, ◌^◌, ◌⊎◌, inl, inr, ℕ, zero, suc, Bool, true, false, cond, not, List, [], ◌∷◌, length, Option, Some, None, refl, sym, ◌∙◌, ap, arith, eqb, leb, get_or, set, IfSome}
 use Rattle.std.specs.Prelude.{Contains, filter, fold}
 use Rattle.std.specs.List.{range_with_len, list_any}
-use Rattle.std.proofs.lemmas.Bool.{false≢true, eqb-true, le-leb}
+use Rattle.std.proofs.lemmas.Bool.{false≢true, eqb-true, leb-false}
 use Rattle.std.proofs.lemmas.Bool.Decides.{eqb_tells}
 use Rattle.kernel_abi.specs.Arguments.{timer_args, irq_args}
 use Rattle.kernel_abi.specs.declared.Handled.TheVariants.{Posted, Held}
@@ -18,18 +18,8 @@ use Rattle.task_table.specs.Sane.{Sane, IsSaneBut, Every, Both, IsOwned}
 use Rattle.task_table.proofs.Changes.{task_at-with_task}
 use Rattle.task_table.proofs.Keeps.{found_in, keeps-lines, keeps-now}
 use Rattle.task_table.proofs.Posting.{still, keeps-noted, keeps-timer, keeps-goes_on, keeps-goes_on_with, sane-posted}
-use Rattle.task_table.proofs.Sanity.{sane-misused}
-
-leb_false : (a b : ℕ) → leb a b ≡ false → b < a
-leb_false a b h = elim (eqb_tells 0 0) [ inl x ↦ grind (arith, le-leb, false≢true) | inr x ↦ grind (arith, le-leb, false≢true) ]
-
--- a turn that is sane, as a record, so that rows can be found in it
-record Good (g : Setup) (t : Turn) : Type 0 where
-  sane : Sane g t.state
-
-by_row : {g : Setup} (b : Bool) {u v : Turn} → (b ≡ true → Good g u) → (b ≡ false → Good g v) → Good g (cond b u v)
-by_row true f h = f refl
-by_row false f h = h refl
+use Rattle.task_table.proofs.Sanity.{IsSaneTurn, sane-misused}
+use Rattle.task_table.proofs.Walks.{Of, by_row, fold_all}
 
 -- ## the calls of timers
 
@@ -37,18 +27,18 @@ module _ {g : Setup} (c : ℕ) (t : Turn) (h : Sane g t.state) (inside : c < len
   timer_off : Sane g (with_timer c None t).state
   timer_off = keeps-timer c None t h inside (λ x. tt)
 
-  timer_set-good : Good g (timer_set c t)
+  by_set : Of (IsSaneTurn g) (timer_set c t)
   unfolding timer_set
-  timer_set-good =
+  by_set =
       let x = timer_args (arguments t.state c) in
-      by_row (not x.set) (λ off. record { sane = keeps-goes_on c (with_timer c None t) timer_off (still h timer_off inside) }) (λ set.
-      by_row (leb x.deadline t.state.now) (λ due. let h1 = sane-posted c x.bits (with_timer c None t) timer_off (still h timer_off inside) in record { sane = keeps-goes_on c (posted c x.bits (with_timer c None t)) h1 (still h h1 inside) }) (λ ahead.
+      by_row (not x.set) (λ off. record { holds = keeps-goes_on c (with_timer c None t) timer_off (still h timer_off inside) }) (λ set.
+      by_row (leb x.deadline t.state.now) (λ due. let h1 = sane-posted c x.bits (with_timer c None t) timer_off (still h timer_off inside) in record { holds = keeps-goes_on c (posted c x.bits (with_timer c None t)) h1 (still h h1 inside) }) (λ ahead.
       let timer : Option Timer = Some record { deadline = x.deadline; bits = x.bits } in
-      let h1 = keeps-timer c timer t h inside (λ y. leb_false x.deadline t.state.now ahead) in
-      record { sane = keeps-goes_on c (with_timer c timer t) h1 (still h h1 inside) }))
+      let h1 = keeps-timer c timer t h inside (λ y. leb-false x.deadline t.state.now ahead) in
+      record { holds = keeps-goes_on c (with_timer c timer t) h1 (still h h1 inside) }))
 
   pub sane-timer_set : Sane g (timer_set c t).state
-  sane-timer_set = timer_set-good.sane
+  sane-timer_set = by_set.holds
 
   pub sane-timer_told : Sane g (timer_told c t).state
   unfolding timer_told
@@ -95,7 +85,7 @@ sane-expired {g} k t inside h = by_timer (task_at t.state k).timer refl
             let h1 = keeps-timer k None t h inside (λ lt. tt) in
             let h2 = one_more k h1 (none_ahead _ _ (timer_gone k t inside)) in
             sane-posted k x.bits (with_timer k None t) h2 (still h h2 inside)
-        by_due false later = one_more k h (rw e (leb_false _ _ later))
+        by_due false later = one_more k h (rw e (leb-false _ _ later))
 
 -- what holds at every step holds of a fold
 fold_keeps : {B : Type 0} (P : ℕ → B → Type 0) (f : B → ℕ → B) (a n : ℕ) (b : B) → P a b → ((k : ℕ) (x : B) → a ≤ k → k < a + n → P k x → P (k + 1) (f x k)) → P (a + n) (fold f b (range_with_len a n))
@@ -187,20 +177,16 @@ sane-line_controlled {g} c bits enable k t h inside = by_tests enable (line_at t
     by_tests true true e = let h1 = keeps-line k (line_off false) t h no_true in sane-posted c bits (with_line k (line_off false) t) h1 (still h h1 inside)
     by_tests true false e = keeps-line k line_on t h no_true
 
-fold_all : {A B : Type 0} (P : B → Type 0) (f : B → A → B) (xs : List A) (b : B) → P b → ((x : A) (y : B) → P y → P (f y x)) → P (fold f b xs)
-fold_all P f [] b h step = h
-fold_all P f (x ∷ xs) b h step = fold_all P f xs (f b x) (step x b h) step
-
 module _ {g : Setup} (c : ℕ) (t : Turn) (h : Sane g t.state) (inside : c < length t.state.tasks) where
-  irq_controlled-good : Good g (irq_controlled g c t)
+  by_lines : Of (IsSaneTurn g) (irq_controlled g c t)
   unfolding irq_controlled
-  irq_controlled-good =
+  by_lines =
       let x = irq_args (arguments t.state c) in
       let f : Turn → LineSetup → Turn = λ u o. line_controlled c x.bits x.enable o.line u in
       let lines = filter (owns_with c x.bits) g.lines in
-      by_row (not (list_any (owns_with c x.bits) g.lines)) (λ none. record { sane = sane-misused c t h inside 6 }) (λ some.
+      by_row (not (list_any (owns_with c x.bits) g.lines)) (λ none. record { holds = sane-misused c t h inside 6 }) (λ some.
       let h1 : Sane g (fold f t lines).state = fold_all (λ u. Sane g u.state) f lines t h (λ o u v. sane-line_controlled c x.bits x.enable o.line u v (still h v inside)) in
-      record { sane = keeps-goes_on c (fold f t lines) h1 (still h h1 inside) })
+      record { holds = keeps-goes_on c (fold f t lines) h1 (still h h1 inside) })
 
   pub sane-irq_controlled : Sane g (irq_controlled g c t).state
-  sane-irq_controlled = irq_controlled-good.sane
+  sane-irq_controlled = by_lines.holds

@@ -1,6 +1,7 @@
 -- What happens to a state within a turn. Each effect takes what the turn has come to so far, and
 -- appends its own notes and writes. (Hubris Reference: tasks, syscalls, supervision.)
-use Rattle.std.specs.Prelude.{ℕ, ◌+◌, ◌-◌, ◌%◌, ◌^◌, not, List, [], ◌∷◌, ◌++◌, length, take, drop, filter, slice_set, slice_range, Option, None, Some, ◌==◌, if◌then◌else◌, bit_and, bit_or}
+use Rattle.std.specs.Prelude.{ℕ, ◌+◌, ◌-◌, ◌%◌, ◌^◌, not, List, [], ◌∷◌, ◌++◌, length, take, drop, filter, map, min, slice_set, slice_range, Option, None, Some, ◌==◌, if◌then◌else◌, bit_and, bit_or}
+use Rattle.kernel_abi.specs.Ids.{id_of}
 use Rattle.kernel_abi.specs.declared.Ending.{Ending}
 use Rattle.kernel_abi.specs.declared.Ending.TheVariants.{Client}
 use Rattle.kernel_abi.specs.declared.Fault.{Fault}
@@ -11,8 +12,8 @@ use Rattle.kernel_abi.specs.declared.Note.TheVariants as note
 use Rattle.kernel_abi.specs.declared.Timer.{Timer}
 use Rattle.words_core.specs.declared.Flags.{Flags}
 use Rattle.task_table.specs.declared.Line.{Line}
-use Rattle.task_table.specs.Memory.{with_bytes}
-use Rattle.task_table.specs.State.{Setup, TaskSetup, Task, Call, Listen, State, Ground, Write, Turn}
+use Rattle.task_table.specs.Memory.{with_bytes, bytes_at, copied as copied_memory}
+use Rattle.task_table.specs.State.{Setup, TaskSetup, Task, Call, Taken, Listen, Range, State, Ground, Write, Read, MessageFront, Turn}
 use Rattle.task_table.specs.Reading.{task_at, register, call_of, listen_of, no_flags}
 
 -- ## one part of a state changed
@@ -26,6 +27,16 @@ without_call i s = record s { calls = filter (λ c. not (c.client.index == i)) s
 
 unfoldable pub without_listen : ℕ → State → State
 without_listen i s = record s { listens = filter (λ l. not (l.task == i)) s.listens }
+
+unfoldable pub with_listen : Listen → State → State
+with_listen l s = record s { listens = s.listens ++ l ∷ [] }
+
+-- the call of a client is taken
+abbrev pub taken_from : ℕ → Call → Call
+taken_from i c = record c { phase = if c.client.index == i then Taken else c.phase }
+
+unfoldable pub with_taken : ℕ → State → State
+with_taken i s = record s { calls = map (taken_from i) s.calls }
 
 -- ## the same, in a turn
 
@@ -57,6 +68,20 @@ stored on at bytes t =
       writes = t.writes ++ writes_on on at bytes;
       reads = t.reads;
     }
+
+-- bytes are copied, on this ground
+unfoldable pub copied : Ground → ℕ → ℕ → ℕ → Turn → Turn
+copied on from to n t =
+    record {
+      state = record t.state { memory = copied_memory t.state.memory from to n };
+      notes = t.notes;
+      writes = t.writes ++ writes_on on to (bytes_at t.state.memory from n);
+      reads = t.reads;
+    }
+
+-- another task's bytes are read
+unfoldable pub looked : Read → Turn → Turn
+looked r t = record t { reads = t.reads ++ r ∷ [] }
 
 -- ## a call ends
 
@@ -142,6 +167,19 @@ faulted_as g i fault ending t =
 -- the same where its server did not fault it
 abbrev pub faulted : Setup → ℕ → Fault → Turn → Turn
 faulted g i fault t = faulted_as g i fault Client t
+
+-- ## a call is handed over
+
+-- the open call of a client goes to its server, with as much of its message as fits into a buffer
+unfoldable pub handed : Ground → Call → Range → Turn → Turn
+handed on c buffer t =
+    let n = min c.message.length buffer.length in
+    given c.server.index (0 ∷ id_of c.client.index c.client.birth ∷ c.operation ∷ c.message.length ∷ c.reply.length ∷ c.leases ∷ [])
+    (changed (without_listen c.server.index)
+    (noted (note.Take c.number n)
+    (changed (with_taken c.client.index)
+    (copied on c.message.base buffer.base n
+    (looked record { call = c.number; part = MessageFront; base = c.message.base; length = n } t)))))
 
 -- ## a task at birth
 

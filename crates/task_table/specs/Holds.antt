@@ -1,6 +1,6 @@
 -- When the code's kernel stands for what a turn has come to.
-use Rattle.std.specs.Prelude.{ℕ, ◌%◌, ◌<◌, ◌≡◌, ◌^◌, Bool, true, false, ◌&&◌, List, length, map, Option, Some, None, IfSome, slice_index, slice_index_or}
-use Rattle.kernel_abi.specs.Ids.{id_of}
+use Rattle.std.specs.Prelude.{ℕ, ◌%◌, ◌<◌, ◌≡◌, ◌^◌, Bool, true, false, ◌&&◌, List, length, map, Option, Some, None, IfSome, slice_index, slice_index_or, ◌==◌, if◌then◌else◌}
+use Rattle.kernel_abi.specs.Ids.{id_of, index_of}
 use Rattle.kernel_abi.specs.declared.Note.{Note}
 use Rattle.task_table.specs.declared.Line.{Line}
 use Rattle.task_table.specs.declared.kernel.Kernel.{Kernel}
@@ -82,6 +82,24 @@ call_number wait.Any = None
 call_number wait.Kernel = None
 call_number (wait.One id) = None
 call_number wait.Nothing = None
+
+-- the number of the call that is offered to the server with an index
+abbrev pub offered_in : Wait → ℕ → Option ℕ
+offered_in (wait.Offered number id) server = if index_of id.number == server then Some number else None
+offered_in (wait.Taken number id) server = None
+offered_in wait.Any server = None
+offered_in wait.Kernel server = None
+offered_in (wait.One id) server = None
+offered_in wait.Nothing server = None
+
+-- the wait once its call is taken
+abbrev pub taken_wait : Wait → Wait
+taken_wait (wait.Offered number id) = wait.Taken number id
+taken_wait (wait.Taken number id) = wait.Taken number id
+taken_wait wait.Any = wait.Any
+taken_wait wait.Kernel = wait.Kernel
+taken_wait (wait.One id) = wait.One id
+taken_wait wait.Nothing = wait.Nothing
 
 abbrev pub is_listening : Wait → Bool
 is_listening (wait.Offered number id) = false

@@ -31,6 +31,10 @@ unfoldable pub with_bytes : Memory → ℕ → List ℕ → Memory
 with_bytes m a bytes =
     record m { ram = take (a - 0x20000000) m.ram ++ bytes ++ drop (a - 0x20000000 + length bytes) m.ram }
 
+-- the memory with n bytes copied, all read before the first is written
+unfoldable pub copied : Memory → ℕ → ℕ → ℕ → Memory
+copied m from to n = with_bytes m to (bytes_at m from n)
+
 -- whether n bytes from an address lie in the RAM
 abbrev pub is_ram : Memory → ℕ → ℕ → Bool
 is_ram m a n = nat_le 0x20000000 a && nat_le (a + n) (0x20000000 + length m.ram)

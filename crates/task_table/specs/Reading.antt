@@ -1,14 +1,14 @@
 -- What is read off a state of the abstract kernel.
-use Rattle.std.specs.Prelude.{ℕ, ◌≡◌, ◌≢◌, ◌+◌, ◌^◌, ◌-◌, ◌%◌, Bool, true, false, ◌&&◌, ◌||◌, not, List, [], ◌++◌, length, Option, None, slice_index, slice_index_or, slice_range, find, nat_le, ◌==◌, is_none}
+use Rattle.std.specs.Prelude.{ℕ, ◌≡◌, ◌≢◌, ◌+◌, ◌^◌, ◌-◌, ◌%◌, Bool, true, false, ◌&&◌, ◌||◌, not, List, [], ◌++◌, length, Option, None, slice_index, slice_index_or, slice_range, find, nat_le, ◌==◌, is_none, is_some}
 use Rattle.std.specs.List.{range_with_len, list_all}
-use Rattle.kernel_abi.specs.Ids.{index_of, generation_of}
+use Rattle.kernel_abi.specs.Ids.{index_of, generation_of, dead_code_of}
 use Rattle.kernel_abi.specs.declared.Health.TheVariants.{Well, Stopped, Faulted}
 use Rattle.kernel_abi.specs.declared.Health.{Health}
 use Rattle.words_core.specs.declared.Flags.{Flags}
 use Rattle.region_check.specs.Rights.{first_bad}
 use Rattle.region_check.specs.declared.Right.{Right}
 use Rattle.task_table.specs.declared.Line.{Line}
-use Rattle.task_table.specs.State.{Setup, TaskSetup, Task, Call, Listen, State, Birth, From, Any, One, KernelOnly, Range}
+use Rattle.task_table.specs.State.{Setup, TaskSetup, Task, Call, Listen, State, Birth, Phase, Offered, Taken, From, Any, One, KernelOnly, Range}
 
 abbrev pub no_flags : Flags
 no_flags = record { n = false; z = false; c = false; v = false }
@@ -69,6 +69,14 @@ is_out s id = nat_le (length s.tasks) (index_of id)
 unfoldable pub is_dead : State → ℕ → Bool
 is_dead s id = not (generation_of id == (task_at s (index_of id)).births % 64)
 
+-- the birth that a task is in
+abbrev pub present : State → ℕ → Birth
+present s i = record { index = i; birth = (task_at s i).births }
+
+-- what a caller is told of an id of an earlier birth, with the present generation
+unfoldable pub dead_code_for : State → ℕ → ℕ
+dead_code_for s id = dead_code_of ((task_at s (index_of id)).births % 64)
+
 -- ready: well, client of no open call, and not listening
 unfoldable pub is_ready : State → ℕ → Bool
 is_ready s i = is_well (task_at s i).health && is_none (call_of s i) && is_none (listen_of s i)
@@ -106,6 +114,27 @@ around n i = range_with_len i (n - i) ++ range_with_len 0 i
 -- the current task where it qualifies, else the first that does after it, cyclically
 unfoldable pub chosen : Setup → State → Option ℕ
 chosen g s = find (qualifies g s) (around (length s.tasks) s.current)
+
+-- ## whose message is received
+
+abbrev pub is_offered : Phase → Bool
+is_offered Offered = true
+is_offered Taken = false
+
+-- the offered call of a client to a server
+unfoldable pub offer_by : State → ℕ → ℕ → Option Call
+offer_by s client server = find (λ k. (k.client.index == client) && (k.server.index == server) && is_offered k.phase) s.calls
+
+abbrev pub offers : State → ℕ → ℕ → Bool
+offers s server client = is_some (offer_by s client server)
+
+-- it offers to the server, and no task that does has a lower priority number
+abbrev pub is_best : Setup → State → ℕ → ℕ → Bool
+is_best g s server i = offers s server i && list_all (λ j. not (offers s server j) || nat_le (priority g i) (priority g j)) (range_with_len 0 (length s.tasks))
+
+-- the best sender: the first after the receiver, cyclically
+unfoldable pub best_sender : Setup → State → ℕ → Option ℕ
+best_sender g s server = find (is_best g s server) (around (length s.tasks) (server + 1))
 
 -- u is s but for task i, its call and its listen
 pub record IsSameBut (i : ℕ) (s u : State) : Type 0 where

@@ -1,12 +1,17 @@
 -- The rows of the calls. Of the rows of a call the first applies whose condition holds.
-use Rattle.std.specs.Prelude.{ℕ, ◌/◌, ◌%◌, ◌^◌, Bool, ◌&&◌, not, false, List, [], ◌∷◌, Option, None, Some, ◌==◌, nat_le, cond, if◌then◌else◌, filter, fold, slice_range}
+use Rattle.std.specs.Prelude.{ℕ, ◌/◌, ◌%◌, ◌^◌, Bool, ◌&&◌, ◌||◌, not, false, List, [], ◌∷◌, Option, None, Some, is_some, unwrap_or, ◌==◌, nat_le, bit_and, cond, if◌then◌else◌, filter, fold, slice_range}
 use Rattle.std.specs.List.{list_any}
-use Rattle.kernel_abi.specs.Arguments.{timer_args, irq_args}
+use Rattle.kernel_abi.specs.Arguments.{recv_args, timer_args, irq_args}
+use Rattle.kernel_abi.specs.Ids.{index_of}
+use Rattle.kernel_abi.specs.declared.Listened.{Listened}
+use Rattle.kernel_abi.specs.declared.Listened.TheVariants as listened
+use Rattle.kernel_abi.specs.declared.arguments.RecvArgs.{RecvArgs}
 use Rattle.kernel_abi.specs.declared.Note.TheVariants as note
 use Rattle.kernel_abi.specs.declared.Timer.{Timer}
-use Rattle.task_table.specs.State.{Setup, LineSetup, Turn}
-use Rattle.task_table.specs.Reading.{task_at, line_at, line_off, line_on, register, arguments}
-use Rattle.task_table.specs.Effects.{noted, given, returned, advanced, posted, with_timer, with_line, faulted}
+use Rattle.region_check.specs.declared.Right.TheVariants.{Write}
+use Rattle.task_table.specs.State.{Setup, LineSetup, State, Call, From, Any, One, KernelOnly, Range, Own, Turn}
+use Rattle.task_table.specs.Reading.{task_at, line_at, line_off, line_on, register, arguments, present, is_out, is_dead, dead_code_for, is_valid, bad_byte, offer_by, best_sender}
+use Rattle.task_table.specs.Effects.{changed, noted, given, returned, advanced, bits_cleared, posted, with_listen, with_timer, with_line, handed, faulted}
 
 -- ## how rows are written
 
@@ -17,6 +22,10 @@ first_row (row ∷ rows) otherwise = cond row.0 row.1 (first_row rows otherwise)
 -- the caller faults by its usage
 abbrev pub misused : Setup → ℕ → ℕ → Turn → Turn
 misused g c usage t = faulted g c record { number = 7; x = usage; y = 0 } t
+
+-- the caller faults at a byte that it may not read (y 2) or write (y 3)
+abbrev pub denied : Setup → ℕ → ℕ → Option ℕ → Turn → Turn
+denied g c y bad t = faulted g c record { number = 3; x = unwrap_or bad 0; y = y } t
 
 -- the caller goes on after its call, and with results from r4 on
 abbrev pub goes_on : ℕ → Turn → Turn
@@ -73,6 +82,75 @@ irq_controlled g c t =
     (not (list_any (owns_with c x.bits) g.lines), misused g c 6 t)
     ∷ []) (goes_on c (fold (λ u o. line_controlled c x.bits x.enable o.line u) t (filter (owns_with c x.bits) g.lines)))
 
+-- ## RECV: r4 and r5 buffer, r6 mask, r7 bit 31 whether it is closed, bits 15 to 0 to whom
+
+abbrev pub listened_from : From → Listened
+listened_from Any = listened.Any
+listened_from (One b) = listened.One b.index
+listened_from KernelOnly = listened.Kernel
+
+abbrev pub buffer_of : RecvArgs → Range
+buffer_of x = record { base = x.buffer_base; length = x.buffer_length }
+
+-- the caller listens, and goes past its call
+abbrev pub listens : ℕ → RecvArgs → From → Turn → Turn
+listens c x from t =
+    noted (note.Listen c (listened_from from) x.mask)
+    (changed (with_listen record { task = c; from = from; mask = x.mask; buffer = buffer_of x }) (advanced c t))
+
+-- the caller takes an offered call
+abbrev pub receives : ℕ → RecvArgs → Call → Turn → Turn
+receives c x k t = returned c (handed Own k (buffer_of x) (advanced c t))
+
+-- it takes the call that is offered, where one is; else it listens
+abbrev pub receives_or_listens : ℕ → RecvArgs → From → Option Call → Turn → Turn
+receives_or_listens c x from None t = listens c x from t
+receives_or_listens c x from (Some k) t = receives c x k t
+
+-- it takes its posted bits under its mask
+abbrev pub takes_bits : ℕ → ℕ → Turn → Turn
+takes_bits c mask t =
+    let under = bit_and (task_at t.state c).posted mask in
+    goes_on_with c (0 ∷ 0xFFFF ∷ under ∷ 0 ∷ 0 ∷ 0 ∷ []) (bits_cleared c mask t)
+
+-- the offered call of a sender, where there is one
+abbrev pub offer_of : State → ℕ → Option ℕ → Option Call
+offer_of s c None = None
+offer_of s c (Some i) = offer_by s i c
+
+-- a message, once no posted bit is under the mask: from the kernel alone, from a dead task, from one task, from any
+abbrev pub message_received : ℕ → Option ℕ → Turn → Turn
+message_received c best t =
+    let s = t.state in
+    let x = recv_args (arguments s c) in
+    let id = x.sender.number in
+    first_row (
+    (x.closed && (id == 0xFFFF), listens c x KernelOnly t)
+    ∷ (x.closed && is_dead s id, goes_on_with c (dead_code_for s id ∷ 0 ∷ 0 ∷ 0 ∷ 0 ∷ 0 ∷ []) t)
+    ∷ (x.closed, receives_or_listens c x (One (present s (index_of id))) (offer_by s (index_of id) c) t)
+    ∷ []) (receives_or_listens c x Any (offer_of s c best) t)
+
+-- bits or a message, once the buffer and the sender are checked
+abbrev pub input_received : ℕ → Option ℕ → Turn → Turn
+input_received c best t =
+    let mask = (recv_args (arguments t.state c)).mask in
+    first_row (
+    (not (bit_and (task_at t.state c).posted mask == 0), takes_bits c mask t)
+    ∷ []) (message_received c best t)
+
+-- best: the best sender to the caller
+unfoldable pub received : Setup → ℕ → Option ℕ → Turn → Turn
+received g c best t =
+    let s = t.state in
+    let x = recv_args (arguments s c) in
+    let buffer = buffer_of x in
+    let id = x.sender.number in
+    first_row (
+    (not (is_valid buffer), misused g c 3 t)
+    ∷ (is_some (bad_byte g c Write buffer), denied g c 3 (bad_byte g c Write buffer) t)
+    ∷ (x.closed && not (id == 0xFFFF) && (is_out s id || (index_of id == c)), misused g c 2 t)
+    ∷ []) (input_received c best t)
+
 -- ## a call
 
 -- the line of a call: its number in r11, its arguments in r4 to r10
@@ -84,5 +162,9 @@ unfoldable pub called : Setup → ℕ → Turn → Turn
 called g c t =
     let n = register t.state c 11 in
     first_row (
-    (n == 8, panicked g c t)
+    (n == 1, received g c (best_sender g t.state c) t)
+    ∷ (n == 3, timer_set c t)
+    ∷ (n == 7, irq_controlled g c t)
+    ∷ (n == 8, panicked g c t)
+    ∷ (n == 9, timer_told c t)
     ∷ []) (misused g c 1 t)

@@ -14,7 +14,7 @@ impl Kernel {
 
     /// Gives results to a task that waits for nothing, from r4 on. (The registers of a task that
     /// waits are the arguments of its call.)
-    fn give(&mut self, task: usize, values: &[u32])
+    pub(crate) fn give(&mut self, task: usize, values: &[u32])
         requires there { task < task_count self.old }
         requires few { length values.now ≤ 6 }
         ensures holds { (g : Setup) (t : Turn) → Holds g self.old t → IsIdle t.state task → Holds g self.new (given task values.now t) }
@@ -27,7 +27,7 @@ impl Kernel {
     }
 
     /// Notes that a call of a task has ended.
-    fn note_return(&mut self, task: usize)
+    pub(crate) fn note_return(&mut self, task: usize)
         requires there { task < task_count self.old }
         requires room { note_count self.old < 1024 }
         ensures holds { (g : Setup) (t : Turn) → Holds g self.old t → Holds g self.new (returned task t) }
@@ -43,7 +43,7 @@ impl Kernel {
     }
 
     /// The program counter of a task that waits for nothing goes past its call.
-    fn advance(&mut self, task: usize)
+    pub(crate) fn advance(&mut self, task: usize)
         requires { task < task_count self.old }
         ensures holds { (g : Setup) (t : Turn) → Holds g self.old t → IsIdle t.state task → Holds g self.new (advanced task t) }
         ensures count { note_count self.new ≡ note_count self.old }
@@ -98,7 +98,7 @@ impl Kernel {
     }
 
     /// Clears the posted bits of a task that are in a mask.
-    fn clear_bits(&mut self, task: usize, mask: u32)
+    pub(crate) fn clear_bits(&mut self, task: usize, mask: u32)
         requires { task < task_count self.old }
         ensures holds { (g : Setup) (t : Turn) → Holds g self.old t → Holds g self.new (bits_cleared task mask t) }
         ensures count { note_count self.new ≡ note_count self.old }

@@ -39,11 +39,11 @@ impl Kernel {
     ghost use Rattle.std.specs.Prelude.{◌≡◌, ◌+◌, ◌-◌, ◌%◌, ◌<◌, ◌≤◌, ◌^◌, ◌⊎◌, ℕ, length, map, replicate, Option, IfOk, slice_get};
     ghost use Rattle.kernel_abi.specs.Faults.{usage_number};
     ghost use Rattle.kernel_abi.specs.declared.Health.TheVariants.{Faulted};
-    ghost use Rattle.task_table.specs.State.{Setup, State, Turn, Own};
-    ghost use Rattle.task_table.specs.Memory.{is_ram, byte_at, number_at, IsWithinRam};
+    ghost use Rattle.task_table.specs.State.{Setup, State, Turn, Ground, Own};
+    ghost use Rattle.task_table.specs.Memory.{is_ram, byte_at, number_at, IsWithin, IsWithinRam};
     ghost use Rattle.task_table.specs.Reading.{task_at, setup_at, register, arguments, priority, is_ready, call_of, listen_of, IsSameBut, IsIdle};
-    ghost use Rattle.task_table.specs.Effects.{changed, noted, clocked, with_line, with_processor, with_health, without_listen, stored, closed, faulted_as, faulted};
-    ghost use Rattle.task_table.specs.Rows.{misused, call_noted, called};
+    ghost use Rattle.task_table.specs.Effects.{changed, noted, clocked, with_line, with_processor, with_health, without_listen, stored, copied, closed, faulted_as, faulted};
+    ghost use Rattle.task_table.specs.Rows.{misused, panicked, call_noted};
     ghost use Rattle.task_table.specs.Start.{start as started_at, begun};
     ghost use Rattle.task_table.specs.Parts.{setup_of_parts, line_setup, IsSound};
     ghost use Rattle.task_table.specs.Holds.{Holds, Stands, IsKept, wait_of, task_count, note_count, clock_of, memory_of, setup_of, current_of, notes_of};
@@ -482,23 +482,17 @@ impl Kernel {
         });
     }
 
-    /// A task makes the system call whose number is in its r11: 8 is PANIC, and any other number
-    /// misuses the calls that there are. Either way the task faults.
-    pub fn call(&mut self, task: usize)
-        requires there { task < task_count self.old }
-        requires room { note_count self.old + 100 ≤ 1024 }
-        ensures holds { (g : Setup) (t : Turn) → Holds g self.old t → Holds g self.new (called g task t) }
-        ensures stands { (g : Setup) (t : Turn) → Stands g self.old t → Stands g self.new (called g task t) }
-        ensures count { note_count self.new ≤ note_count self.old + 100 }
+    /// PANIC: the caller faults, and its r4 and r5 are told (Hubris Reference, on PANIC).
+    pub fn panic(&mut self, caller: usize)
+        requires there { caller < task_count self.old }
+        requires room { note_count self.old + 4 ≤ 1024 }
+        ensures stands { (g : Setup) (t : Turn) → Stands g self.old t → Stands g self.new (panicked g caller t) }
+        ensures count { note_count self.new ≤ note_count self.old + 4 }
         ensures tasks { task_count self.new ≡ task_count self.old }
     {
-        if self.register(task, 11) == 8 {
-            let r4 = self.register(task, 4);
-            let r5 = self.register(task, 5);
-            self.fault(task, Fault::panic(r4, r5));
-        } else {
-            self.misuse(task, Usage::BadCall);
-        }
+        let r4 = self.register(caller, 4);
+        let r5 = self.register(caller, 5);
+        self.fault(caller, Fault::panic(r4, r5));
     }
 
     /// The number that the two bytes from an address on spell, the lowest first. Where there is no
@@ -515,6 +509,17 @@ impl Kernel {
         ensures { result ≡ is_ram (memory_of self.now) addr count }
     {
         self.memory.is_ram(addr, count)
+    }
+
+    /// Copies so many bytes into the RAM, as if all were read before the first is written.
+    pub(crate) fn copy(&mut self, from: u32, to: u32, count: u32)
+        requires source { IsWithin (memory_of self.old) from count }
+        requires target { IsWithinRam (memory_of self.old) to count }
+        ensures holds { (g : Setup) (t : Turn) (on : Ground) → Holds g self.old t → Holds g self.new (copied on from to count t) }
+        ensures count { note_count self.new ≡ note_count self.old }
+        ensures tasks { task_count self.new ≡ task_count self.old }
+    {
+        self.memory.copy(from, to, count);
     }
 
     /// Writes bytes into the RAM for the task that runs, on its own ground.

@@ -5,6 +5,7 @@ mod effect;
 mod kernel;
 pub mod laws;
 mod memory;
+mod message;
 mod slot;
 mod start;
 #[cfg(test)]

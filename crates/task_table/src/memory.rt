@@ -1,7 +1,7 @@
 //! The bytes of flash and RAM, as one map from addresses to bytes.
 
 ghost use Rattle.std.specs.Prelude.{◌≡◌, ◌+◌, ◌-◌, ◌*◌, ◌<◌, ◌≤◌, ◌⊎◌, ◌++◌, ◌^◌, slice_index_or, length, take, drop, vec_len, IfOk, Some, None, replicate};
-ghost use Rattle.task_table.specs.Memory.{is_ram, byte_at, number_at, number_of, with_bytes, IsWithinRam};
+ghost use Rattle.task_table.specs.Memory.{is_ram, byte_at, number_at, number_of, with_bytes, copied, IsWithin, IsWithinRam};
 ghost use Rattle.task_table.specs.Sane.{AreAllBytes};
 
 use std::alloc::{AllocError, Global};
@@ -122,6 +122,26 @@ impl Memory {
         ensures { result ≡ is_ram self.now addr count }
     {
         addr >= RAM && u64::from(addr - RAM) + u64::from(count) <= self.ram.len() as u64
+    }
+
+    /// Copies so many bytes into the RAM, as if all were read before the first is written.
+    pub fn copy(&mut self, from: u32, to: u32, count: u32)
+        requires source { IsWithin self.old from count }
+        requires target { IsWithinRam self.old to count }
+        ensures { self.new ≡ copied self.old from to count }
+    {
+        let count = count as usize;
+        if count == 0 {
+            return;
+        }
+        let at = (to - RAM) as usize;
+        if from >= RAM {
+            let start = (from - RAM) as usize;
+            self.ram.copy_within(start..start + count, at);
+        } else {
+            let start = (from - FLASH) as usize;
+            put(&mut self.ram, at, &self.flash[start..start + count]);
+        }
     }
 
     /// Writes bytes over those of the RAM from an address on.

@@ -25,7 +25,7 @@ pub enum Wait {
 
 impl Wait {
     ghost use Rattle.std.specs.Prelude.{◌≡◌};
-    ghost use Rattle.task_table.specs.Holds.{call_number, is_listening};
+    ghost use Rattle.task_table.specs.Holds.{call_number, offered_in, taken_wait, is_listening};
 
     /// The number of the call for whose end it is.
     pub fn call(&self) -> Option<u32>
@@ -35,6 +35,32 @@ impl Wait {
             Wait::Offered { call, .. } => Some(call),
             Wait::Taken { call, .. } => Some(call),
             _ => None,
+        }
+    }
+
+    /// The number of the call, where it is offered to the server with this index.
+    pub fn offered_to(&self, index: usize) -> Option<u32>
+        ensures { result ≡ offered_in self.now index }
+    {
+        match *self {
+            Wait::Offered { call, server } => {
+                if usize::from(server.index()) == index {
+                    Some(call)
+                } else {
+                    None
+                }
+            }
+            _ => None,
+        }
+    }
+
+    /// The same once its call is taken.
+    pub fn once_taken(self) -> Wait
+        ensures { result ≡ taken_wait self }
+    {
+        match self {
+            Wait::Offered { call, server } => Wait::Taken { call, server },
+            other => other,
         }
     }
 

@@ -163,7 +163,7 @@ fn a_task_panics(rt: HostRuntime) -> Result<(), Fail> {
     );
     assert_eq!(rt; kernel.flags(0), flags);
     kernel.note_call(0);
-    kernel.call(0);
+    kernel.panic(0);
     let fault = Fault {
         number: 8,
         x: 4,

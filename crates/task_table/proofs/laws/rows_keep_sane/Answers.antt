@@ -1,5 +1,6 @@
-use Rattle.task_table.proofs.Sanity.{sane-misused, sane-panicked, sane-call_noted, sane-called}
+use Rattle.task_table.proofs.Sanity.{sane-misused, sane-panicked, sane-call_noted}
 use Rattle.task_table.proofs.Timing.{sane-timer_set, sane-timer_told, sane-irq_controlled}
+use Rattle.task_table.proofs.Calling.{sane-received, sane-called}
 use Rattle.task_table.proofs.laws.rows_keep_sane.Goals as goal
 
 pub returns-clause-misused : goal.returns-clause-misused
@@ -12,7 +13,7 @@ pub returns-clause-call_noted : goal.returns-clause-call_noted
 returns-clause-call_noted c = λ g c t h inside. sane-call_noted c t h inside
 
 pub returns-clause-called : goal.returns-clause-called
-returns-clause-called c = λ g c t h inside. sane-called c t h inside
+returns-clause-called c = λ g c t h inside ready. sane-called c t h inside ready
 
 pub returns-clause-timer_set : goal.returns-clause-timer_set
 returns-clause-timer_set c = λ g c t h inside. sane-timer_set c t h inside
@@ -22,3 +23,6 @@ returns-clause-timer_told c = λ g c t h inside. sane-timer_told c t h inside
 
 pub returns-clause-irq_controlled : goal.returns-clause-irq_controlled
 returns-clause-irq_controlled c = λ g c t h inside. sane-irq_controlled c t h inside
+
+pub returns-clause-received : goal.returns-clause-received
+returns-clause-received c = λ g c best t h inside ready is. sane-received c t h inside ready best is

@@ -1,0 +1,9 @@
+use Rattle.task_table.specs.Holds.{kept_of, setup_of}
+use Rattle.task_table.proofs.Messages.{holds_copied, setup_copied}
+use Rattle.task_table.proofs.kernel.Kernel.copy.Goals as goal
+
+pub returns-clause-holds : goal.returns-clause-holds
+returns-clause-holds c = λ g t on h.
+    let a = c.args in
+    let same = setup_copied (λ flash ram. record (setup_of a.self.now) { flash = flash; ram = ram }) a.self.now.memory c.copy.new.self a.from a.to a.count c.requires.target c.copy.ensures in
+    holds_copied g (kept_of a.self.now) t on a.from a.to a.count _ _ h same c.copy.ensures

@@ -1,0 +1,181 @@
+//! What RECV does to a task: it takes its posted bits, listens, or takes a call that is offered to it.
+
+use crate::kernel::Kernel;
+use crate::slot::Wait;
+use kernel_abi::{Access, Fault, Listened, Note, RecvArgs, SendArgs, TaskId};
+use region_check::{Right, may_range};
+
+impl Kernel {
+    ghost use Rattle.std.specs.Prelude.{◌≡◌, ◌≢◌, ◌+◌, ◌<◌, ◌≤◌, ◌^◌, Option, Some, None};
+    ghost use Rattle.std.specs.Option.{option_map};
+    ghost use Rattle.kernel_abi.specs.Arguments.{recv_args};
+    ghost use Rattle.kernel_abi.specs.Faults.{access_number};
+    ghost use Rattle.kernel_abi.specs.Ids.{id_of};
+    ghost use Rattle.task_table.specs.Memory.{IsWithinRam};
+    ghost use Rattle.task_table.specs.State.{Setup, Turn, Call, Ground};
+    ghost use Rattle.task_table.specs.Reading.{task_at, arguments, present, call_of, bad_byte, offer_by, IsIdle};
+    ghost use Rattle.task_table.specs.Effects.{changed, with_taken, handed};
+    ghost use Rattle.task_table.specs.Rows.{denied, takes_bits, listens, receives};
+    ghost use Rattle.task_table.specs.Holds.{Holds, Stands, wait_from, task_count, note_count, memory_of};
+    ghost use Rattle.task_table.specs.Messages.{from_of, listening, IsListened, IsReadable, IsReceivable};
+
+    /// The number of the call that a client offers to a server, where it does.
+    pub fn offered(&self, client: usize, server: usize) -> Option<u32>
+        requires { client < task_count self.now }
+        ensures { (g : Setup) (t : Turn) → Stands g self.now t → result ≡ option_map (λ k. k.number) (offer_by t.state client server) }
+    {
+        let slot = self.slot(client);
+        slot.wait.offered_to(server)
+    }
+
+    /// The first byte of a range that may not be copied for a task, where there is one.
+    pub fn bad_byte(&self, task: usize, right: Right, base: u32, len: u32) -> Option<u32>
+        requires { base + len ≤ 2 ^ 32 }
+        ensures { (g : Setup) (t : Turn) → Holds g self.now t → result ≡ bad_byte g task right record { base = base; length = len } }
+    {
+        may_range(self.regions(task), base, len, right)
+    }
+
+    /// A task faults at a byte that the kernel may not read or write for its call.
+    pub fn deny(&mut self, task: usize, at: u32, access: Access)
+        requires there { task < task_count self.old }
+        requires room { note_count self.old + 4 ≤ 1024 }
+        ensures holds { (g : Setup) (t : Turn) → Holds g self.old t → Holds g self.new (denied g task (access_number access) (Some at) t) }
+        ensures stands { (g : Setup) (t : Turn) → Stands g self.old t → Stands g self.new (denied g task (access_number access) (Some at) t) }
+        ensures count { note_count self.new ≤ note_count self.old + 4 }
+        ensures tasks { task_count self.new ≡ task_count self.old }
+    {
+        self.fault(task, Fault::access(at, access));
+    }
+
+    /// A caller that waits for nothing takes its posted bits under a mask, which are cleared, and goes
+    /// on: r4 is 0, r5 0xFFFF, r6 those bits, r7 to r9 are 0 (Hubris Reference, on notifications).
+    pub fn take_bits(&mut self, task: usize, mask: u32)
+        requires there { task < task_count self.old }
+        requires room { note_count self.old < 1024 }
+        ensures holds { (g : Setup) (t : Turn) → Holds g self.old t → IsIdle t.state task → Holds g self.new (takes_bits task mask t) }
+        ensures count { note_count self.new ≡ note_count self.old + 1 }
+        ensures tasks { task_count self.new ≡ task_count self.old }
+    {
+        let under = self.posted_bits(task) & mask;
+        self.clear_bits(task, mask);
+        self.answer(task, &[0, 0xFFFF, under, 0, 0, 0]);
+    }
+
+    /// The present id of a task.
+    fn id(&self, task: usize) -> TaskId
+        requires { task < task_count self.now }
+        ensures { (g : Setup) (t : Turn) → Holds g self.now t → result.number ≡ id_of task (task_at t.state task).births }
+    {
+        TaskId::new(task as u16, self.generation(task))
+    }
+
+    /// How a task waits that listens so.
+    fn wait_for(&self, from: Listened) -> Wait
+        requires { IsListened (task_count self.now) from }
+        ensures { (g : Setup) (t : Turn) → Holds g self.now t → result ≡ wait_from (from_of t.state from) }
+    {
+        match from {
+            Listened::Any => Wait::Any,
+            Listened::Kernel => Wait::Kernel,
+            Listened::One(index) => Wait::One(self.id(usize::from(index))),
+        }
+    }
+
+    /// A task that waits for nothing listens by its registers.
+    fn start_listening(&mut self, task: usize, from: Listened)
+        requires there { task < task_count self.old }
+        requires whom { IsListened (task_count self.old) from }
+        requires room { note_count self.old < 1024 }
+        ensures holds { (g : Setup) (t : Turn) → Holds g self.old t → IsIdle t.state task → Holds g self.new (listening task (recv_args (arguments t.state task)) (from_of t.state from) t) }
+        ensures count { note_count self.new ≡ note_count self.old + 1 }
+        ensures tasks { task_count self.new ≡ task_count self.old }
+    {
+        let args = RecvArgs::of(&self.arguments(task));
+        let mut slot = self.slot(task);
+        slot.wait = self.wait_for(from);
+        self.set_slot(task, slot);
+        self.note(Note::Listen {
+            task: task as u16,
+            from,
+            mask: args.mask,
+        });
+    }
+
+    /// A caller that waits for nothing goes past its call and listens, with the buffer and the mask of
+    /// its registers r4 to r6 (Hubris Reference, on RECV).
+    pub fn listen(&mut self, task: usize, from: Listened)
+        requires there { task < task_count self.old }
+        requires whom { IsListened (task_count self.old) from }
+        requires room { note_count self.old < 1024 }
+        ensures holds { (g : Setup) (t : Turn) → Holds g self.old t → IsIdle t.state task → Holds g self.new (listens task (recv_args (arguments t.state task)) (from_of t.state from) t) }
+        ensures count { note_count self.new ≡ note_count self.old + 1 }
+        ensures tasks { task_count self.new ≡ task_count self.old }
+    {
+        self.advance(task);
+        self.start_listening(task, from);
+    }
+
+    /// The call of a client is taken from now on, if it has one.
+    fn take(&mut self, client: usize)
+        requires { client < task_count self.old }
+        ensures holds { (g : Setup) (t : Turn) → Holds g self.old t → Holds g self.new (changed (with_taken client) t) }
+        ensures count { note_count self.new ≡ note_count self.old }
+        ensures tasks { task_count self.new ≡ task_count self.old }
+    {
+        let mut slot = self.slot(client);
+        slot.wait = slot.wait.once_taken();
+        self.set_slot(client, slot);
+    }
+
+    /// The open call of a client goes to its server, which makes none itself, with as much of the
+    /// message as fits into a buffer.
+    fn hand_over(&mut self, client: usize, server: usize, call: u32, base: u32, len: u32)
+        requires client { client < task_count self.old }
+        requires server { server < task_count self.old }
+        requires room { note_count self.old < 1024 }
+        requires source { IsReadable self.old client }
+        requires target { IsWithinRam (memory_of self.old) base len }
+        ensures holds { (g : Setup) (t : Turn) (on : Ground) (c : Call) → Holds g self.old t → call_of t.state client ≡ Some c → c.number ≡ call → c.client ≡ present t.state client → c.server.index ≡ server → client ≢ server → call_of t.state server ≡ None → Holds g self.new (handed on c record { base = base; length = len } t) }
+        ensures count { note_count self.new ≡ note_count self.old + 1 }
+        ensures tasks { task_count self.new ≡ task_count self.old }
+    {
+        let asked = SendArgs::of(&self.arguments(client));
+        let sender = self.id(client);
+        let copied = asked.message_length.min(len);
+        self.copy(asked.message_base, base, copied);
+        self.take(client);
+        self.note(Note::Take { call, copied });
+        self.stop_listening(server);
+        self.give(
+            server,
+            &[
+                0,
+                u32::from(sender.number),
+                u32::from(asked.operation),
+                asked.message_length,
+                asked.reply_capacity,
+                asked.leases,
+            ],
+        );
+    }
+
+    /// A caller that waits for nothing goes past its call and takes the call that a client offers to
+    /// it, with as much of the message as fits into the buffer of its registers r4 and r5: r4 is 0, r5
+    /// the client's id, r6 the operation, r7 the message's length, r8 the room for a reply, r9 the
+    /// number of leases (Hubris Reference, on RECV).
+    pub fn receive(&mut self, server: usize, client: usize, call: u32)
+        requires there { server < task_count self.old }
+        requires client { client < task_count self.old }
+        requires room { note_count self.old + 2 ≤ 1024 }
+        requires receivable { IsReceivable self.old server client }
+        ensures holds { (g : Setup) (t : Turn) (c : Call) → Stands g self.old t → IsIdle t.state server → offer_by t.state client server ≡ Some c → c.number ≡ call → Holds g self.new (receives server (recv_args (arguments t.state server)) c t) }
+        ensures count { note_count self.new ≡ note_count self.old + 2 }
+        ensures tasks { task_count self.new ≡ task_count self.old }
+    {
+        let args = RecvArgs::of(&self.arguments(server));
+        self.advance(server);
+        self.hand_over(client, server, call, args.buffer_base, args.buffer_length);
+        self.note_return(server);
+    }
+}
