@@ -1,14 +1,14 @@
--- The chosen task, by the lowest priority number.
+-- The first task of the lowest priority number.
 use Rattle.std.proofs.Common.{◌≡◌, ◌+◌, ◌-◌, ◌<◌, ◌≤◌, ◌⊎◌, inl, inr, ℕ, zero, suc, Bool, true, false, cond, not, ◌&&◌, ◌||◌, List, [], ◌∷◌, ◌++◌, length, Option, Some, None, refl, sym, ◌∙◌, ap, arith, eqb, leb}
-use Rattle.std.specs.Prelude.{find, IfSome, IsSomeAnd, is_none}
-use Rattle.region_check.proofs.FirstBad.{find_range_none_at}
+use Rattle.std.specs.Prelude.{find, IfSome, IsSomeAnd}
 use Rattle.std.specs.List.{range_with_len, list_all}
 use Rattle.std.specs.Option.{option_eq}
 use Rattle.std.proofs.lemmas.Bool.{cases_lt, eqb-true, eq-eqb, leb-true, le-leb, false≢true}
 use Rattle.std.proofs.lemmas.Bool.Decides.{leb_tells}
 use Rattle.task_table.specs.State.{Setup, State}
-use Rattle.task_table.specs.Reading.{is_ready, priority, qualifies, chosen}
-use Rattle.dispatch.specs.Lowest.{IsLowest, has_rank, lower_of, is_rank, rank_of}
+use Rattle.task_table.specs.Reading.{priority}
+use Rattle.dispatch.specs.Lowest.{IsLowest, is_among, has_rank, lower_of, is_rank, rank_of, is_lowest, first_around}
+use Rattle.dispatch.specs.declared.Among.{Among}
 
 no_some : {A P : Type 0} {a : A} → None ≡ Some a → P
 no_some e = cc
@@ -42,14 +42,14 @@ weaker : (o : Option ℕ) (P Q : ℕ → Type 0) → ((p : ℕ) → P p → Q p)
 weaker None P Q f h = tt
 weaker (Some p) P Q f h = f p h
 
-pub lowest_none : (g : Setup) (s : State) → IsLowest g s 0 None
-lowest_none g s = record { least = λ j p below e. absurd (omega arith); there = tt }
+pub lowest_none : (g : Setup) (s : State) (among : Among) → IsLowest g s among 0 None
+lowest_none g s among = record { least = λ j p below e. absurd (omega arith); there = tt }
 
-pub lowest_more : (g : Setup) (s : State) (i : ℕ) (best rank : Option ℕ) → IsLowest g s i best → rank ≡ rank_of g s i → IsLowest g s (i + 1) (lower_of best rank)
-lowest_more g s i best rank h e = record {
+pub lowest_more : (g : Setup) (s : State) (among : Among) (i : ℕ) (best rank : Option ℕ) → IsLowest g s among i best → rank ≡ rank_of g s among i → IsLowest g s among (i + 1) (lower_of best rank)
+lowest_more g s among i best rank h e = record {
   least = λ j p below is. elim (cases_lt j i) [
     | inl lt ↦ at_most_best p best rank (h.least j p lt is)
-    | inr ge ↦ let same : j ≡ i = omega arith in let r : rank ≡ Some p = e ∙ sym (ap (rank_of g s) same) ∙ is in rw r (at_most_rank p best)
+    | inr ge ↦ let same : j ≡ i = omega arith in let r : rank ≡ Some p = e ∙ sym (ap (rank_of g s among) same) ∙ is in rw r (at_most_rank p best)
   ];
   there = one_of_two _ best rank
       (weaker best _ _ (λ p w. (w.0, omega (arith, w.1), w.2)) h.there)
@@ -96,15 +96,15 @@ bool_same true b f h = sym (f refl)
 bool_same false true f h = h refl
 bool_same false false f h = refl
 
--- ## the lowest priority number and the choice
+-- ## the lowest priority number and the first that has it
 
-rank_ready : (g : Setup) (s : State) (i : ℕ) → is_ready s i ≡ true → rank_of g s i ≡ Some (priority g i)
+rank_among : (g : Setup) (s : State) (among : Among) (i : ℕ) → is_among s among i ≡ true → rank_of g s among i ≡ Some (priority g i)
 unfolding rank_of
-rank_ready g s i h = rw h
+rank_among g s among i h = rw h
 
-rank_is : (g : Setup) (s : State) (i p : ℕ) → rank_of g s i ≡ Some p → (is_ready s i ≡ true) × (p ≡ priority g i)
+rank_is : (g : Setup) (s : State) (among : Among) (i p : ℕ) → rank_of g s among i ≡ Some p → (is_among s among i ≡ true) × (p ≡ priority g i)
 unfolding rank_of
-rank_is g s i p h = elim (bool_cases (is_ready s i)) [ inl t ↦ (t, sym (same_some (rw t at h))) | inr f ↦ no_some (rw f at h) ]
+rank_is g s among i p h = elim (bool_cases (is_among s among i)) [ inl t ↦ (t, sym (same_some (rw t at h))) | inr f ↦ no_some (rw f at h) ]
 
 rank_true : (p : ℕ) (o : Option ℕ) → is_rank p o ≡ true → o ≡ Some p
 rank_true p None h = absurd (false≢true h)
@@ -125,52 +125,52 @@ pass : (a : Bool) (x y : ℕ) → (a ≡ true → x ≤ y) → (not a || leb x y
 pass true x y h = le-leb _ _ (h refl)
 pass false x y h = refl
 
-qualifies_is : (g : Setup) (s : State) (p i : ℕ) → IsLowest g s (length s.tasks) (Some p) → i < length s.tasks → qualifies g s i ≡ has_rank g s p i
-qualifies_is g s p i low below = bool_same (qualifies g s i) (has_rank g s p i) there back
+lowest_is : (g : Setup) (s : State) (among : Among) (p i : ℕ) → IsLowest g s among (length s.tasks) (Some p) → i < length s.tasks → is_lowest g s among i ≡ has_rank g s among p i
+lowest_is g s among p i low below = bool_same (is_lowest g s among i) (has_rank g s among p i) there back
   where
-    there : qualifies g s i ≡ true → has_rank g s p i ≡ true
+    there : is_lowest g s among i ≡ true → has_rank g s among p i ≡ true
     there q =
-        let both = both_true (is_ready s i) (list_all (λ j. not (is_ready s j) || leb (priority g i) (priority g j)) (range_with_len 0 (length s.tasks))) q in
+        let both = both_true (is_among s among i) (list_all (λ j. not (is_among s among j) || leb (priority g i) (priority g j)) (range_with_len 0 (length s.tasks))) q in
         let j = low.there.0 in
-        let at_j = rank_is g s j p low.there.2 in
-        let least = low.least i (priority g i) below (rank_ready g s i both.0) in
-        let most = passes (is_ready s j) (priority g i) (priority g j) (all_at _ 0 (length s.tasks) j both.1 (omega arith) (omega (arith, low.there.1))) at_j.0 in
+        let at_j = rank_is g s among j p low.there.2 in
+        let least = low.least i (priority g i) below (rank_among g s among i both.0) in
+        let most = passes (is_among s among j) (priority g i) (priority g j) (all_at _ 0 (length s.tasks) j both.1 (omega arith) (omega (arith, low.there.1))) at_j.0 in
         let same : priority g i ≡ p = omega (arith, least, most, at_j.1) in
-        rw (rank_ready g s i both.0) (eq-eqb _ _ same)
+        rw (rank_among g s among i both.0) (eq-eqb _ _ same)
       where
         both_true : (a b : Bool) → (a && b) ≡ true → (a ≡ true) × (b ≡ true)
         both_true true b h = (refl, h)
         both_true false b h = absurd (false≢true h)
 
-    back : has_rank g s p i ≡ true → qualifies g s i ≡ true
+    back : has_rank g s among p i ≡ true → is_lowest g s among i ≡ true
     back r =
-        let mine = rank_is g s i p (rank_true p _ r) in
-        and_true _ _ mine.0 (all_by _ 0 (length s.tasks) (λ j a b. pass (is_ready s j) (priority g i) (priority g j) (λ t. omega (arith, mine.1, low.least j (priority g j) (omega arith) (rank_ready g s j t)))))
+        let mine = rank_is g s among i p (rank_true p _ r) in
+        and_true _ _ mine.0 (all_by _ 0 (length s.tasks) (λ j a b. pass (is_among s among j) (priority g i) (priority g j) (λ t. omega (arith, mine.1, low.least j (priority g j) (omega arith) (rank_among g s among j t)))))
 
-pub chosen_some : (g : Setup) (s : State) (p : ℕ) → IsLowest g s (length s.tasks) (Some p) → s.current < length s.tasks → chosen g s ≡ or_else (find (has_rank g s p) (range_with_len s.current (length s.tasks - s.current))) (find (has_rank g s p) (range_with_len 0 s.current))
-unfolding chosen
-chosen_some g s p low inside =
-    find_append (qualifies g s) (range_with_len s.current (length s.tasks - s.current)) (range_with_len 0 s.current)
-    ∙ ap (λ o. or_else o (find (qualifies g s) (range_with_len 0 s.current))) (find_same (qualifies g s) (has_rank g s p) s.current (length s.tasks - s.current) (λ i a b. qualifies_is g s p i low (omega arith)))
-    ∙ ap (or_else (find (has_rank g s p) (range_with_len s.current (length s.tasks - s.current)))) (find_same (qualifies g s) (has_rank g s p) 0 s.current (λ i a b. qualifies_is g s p i low (omega arith)))
+pub first_some : (g : Setup) (s : State) (among : Among) (p from : ℕ) → IsLowest g s among (length s.tasks) (Some p) → from ≤ length s.tasks → first_around g s among from ≡ or_else (find (has_rank g s among p) (range_with_len from (length s.tasks - from))) (find (has_rank g s among p) (range_with_len 0 from))
+unfolding first_around
+first_some g s among p from low inside =
+    find_append (is_lowest g s among) (range_with_len from (length s.tasks - from)) (range_with_len 0 from)
+    ∙ ap (λ o. or_else o (find (is_lowest g s among) (range_with_len 0 from))) (find_same (is_lowest g s among) (has_rank g s among p) from (length s.tasks - from) (λ i a b. lowest_is g s among p i low (omega arith)))
+    ∙ ap (or_else (find (has_rank g s among p) (range_with_len from (length s.tasks - from)))) (find_same (is_lowest g s among) (has_rank g s among p) 0 from (λ i a b. lowest_is g s among p i low (omega arith)))
 
 find_nothing : (p : ℕ → Bool) (from n : ℕ) → ((i : ℕ) → from ≤ i → i < from + n → p i ≡ false) → find p (range_with_len from n) ≡ None
 find_nothing p from zero h = refl
 find_nothing p from (suc n) h = let here : p from ≡ false = h from (omega arith) (omega arith) in rw here (find_nothing p (from + 1) n (λ i a b. h i (omega arith) (omega arith)))
 
-none_qualifies : (g : Setup) (s : State) (i : ℕ) → IsLowest g s (length s.tasks) None → i < length s.tasks → qualifies g s i ≡ false
-none_qualifies g s i low below =
-    elim (bool_cases (is_ready s i)) [
-      | inl t ↦ absurd (low.least i (priority g i) below (rank_ready g s i t))
+none_lowest : (g : Setup) (s : State) (among : Among) (i : ℕ) → IsLowest g s among (length s.tasks) None → i < length s.tasks → is_lowest g s among i ≡ false
+none_lowest g s among i low below =
+    elim (bool_cases (is_among s among i)) [
+      | inl t ↦ absurd (low.least i (priority g i) below (rank_among g s among i t))
       | inr f ↦ rw f
     ]
 
-pub chosen_none : (g : Setup) (s : State) → IsLowest g s (length s.tasks) None → s.current < length s.tasks → chosen g s ≡ None
-unfolding chosen
-chosen_none g s low inside =
-    find_append (qualifies g s) (range_with_len s.current (length s.tasks - s.current)) (range_with_len 0 s.current)
-    ∙ ap (λ o. or_else o (find (qualifies g s) (range_with_len 0 s.current))) (find_nothing (qualifies g s) s.current (length s.tasks - s.current) (λ i a b. none_qualifies g s i low (omega arith)))
-    ∙ find_nothing (qualifies g s) 0 s.current (λ i a b. none_qualifies g s i low (omega arith))
+pub first_none : (g : Setup) (s : State) (among : Among) (from : ℕ) → IsLowest g s among (length s.tasks) None → from ≤ length s.tasks → first_around g s among from ≡ None
+unfolding first_around
+first_none g s among from low inside =
+    find_append (is_lowest g s among) (range_with_len from (length s.tasks - from)) (range_with_len 0 from)
+    ∙ ap (λ o. or_else o (find (is_lowest g s among) (range_with_len 0 from))) (find_nothing (is_lowest g s among) from (length s.tasks - from) (λ i a b. none_lowest g s among i low (omega arith)))
+    ∙ find_nothing (is_lowest g s among) 0 from (λ i a b. none_lowest g s among i low (omega arith))
 
 pub rank_test : (o : Option ℕ) (p : ℕ) → option_eq eqb o (Some p) ≡ is_rank p o
 rank_test None p = refl

@@ -4,7 +4,7 @@ use Rattle.task_table.specs.Holds.{task_count}
 use Rattle.dispatch.proofs.lowest.Goals as goal
 
 pub loop-i-preserved : goal.loop-i-preserved
-loop-i-preserved c = λ g t h. rw c.lower-best.ensures (choices.lowest_more g t.state c.loop-i.i c.loop-i.best c.rank.result (c.loop-i.invariant g t h) (c.rank.ensures g t h))
+loop-i-preserved c = λ g t h. rw c.lower-best.ensures (choices.lowest_more g t.state c.args.among c.loop-i.i c.loop-i.best c.rank.result (c.loop-i.invariant g t h) (c.rank.ensures g t h))
 
 pub returns : goal.returns
 returns c = λ g t h.
