@@ -5,3 +5,4 @@ pub mod Walk
 pub mod Picks
 pub mod Known
 pub mod Each
+pub mod Coming

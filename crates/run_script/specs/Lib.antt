@@ -4,3 +4,4 @@ pub mod Drafts
 pub mod Scripts
 pub mod Statements
 pub mod Words
+pub mod Next

@@ -1,6 +1,6 @@
 -- A script: what happens from outside, turn by turn, and the script that a text is.
 -- docs/FORMATS.md, Script, has the grammar and the table of causes.
-use Rattle.std.specs.Prelude.{ℕ, Bool, ◌+◌, ◌%◌, ◌==◌, ◌&&◌, ◌||◌, nat_lt, nat_le, if◌then◌else◌, List, [], ◌∷◌, ◌++◌, length, map, filter, Option, Some, None, is_some, Result, Ok, Err}
+use Rattle.std.specs.Prelude.{ℕ, ◌≡◌, ◌≢◌, ◌≤◌, ◌<◌, Bool, ◌+◌, ◌%◌, ◌==◌, ◌&&◌, ◌||◌, nat_lt, nat_le, if◌then◌else◌, List, [], ◌∷◌, ◌++◌, length, map, filter, Option, Some, None, is_some, Result, Ok, Err}
 use Rattle.std.specs.List.{count_by, list_any}
 use Rattle.text_lines.specs.Text.{lines_of}
 use Rattle.run_script.specs.declared.events.Event.{Event}
@@ -40,6 +40,11 @@ events_of script turn = ticks_of script.every turn ++ listed_of turn script.even
 -- something happens in a turn from this one on
 abbrev pub lasts : ScriptData → ℕ → Bool
 lasts script from = is_some script.every || list_any (λ listed. nat_le from listed.0) script.events
+
+-- the next turn, from this one on, in which something happens; a run has less than 1,000,000,000 turns
+abbrev pub IsNext : ScriptData → ℕ → Option ℕ → Type 0
+IsNext script from None = (turn : ℕ) → from ≤ turn → turn < 1000000000 → events_of script turn ≡ []
+IsNext script from (Some next) = (from ≤ next) × (next < 1000000000) × (events_of script next ≢ []) × ((turn : ℕ) → from ≤ turn → turn < next → events_of script turn ≡ [])
 
 -- ---- reading
 

@@ -206,3 +206,50 @@ fn the_empty_script_has_no_events(rt: HostRuntime) -> Result<(), Fail> {
     assert_eq!(rt; script.event_at(u32::MAX, 0), None);
     Ok(())
 }
+
+#[test]
+fn the_next_turn_with_an_event(rt: HostRuntime) -> Result<(), Fail> {
+    let script = Script::read(
+        rt.alloc(),
+        b"every 5 tick\nat 0 irq 1\nat 5 irq 2\nat 7 tick\nat 11 irq 0\n",
+    )?;
+    assert_eq!(rt; script.next(0), Some(0));
+    assert_eq!(rt; script.next(1), Some(5));
+    assert_eq!(rt; script.next(5), Some(5));
+    assert_eq!(rt; script.next(6), Some(7));
+    assert_eq!(rt; script.next(8), Some(10));
+    assert_eq!(rt; script.next(11), Some(11));
+    assert_eq!(rt; script.next(12), Some(15));
+    assert_eq!(rt; script.next(999_999_995), Some(999_999_995));
+    assert_eq!(rt; script.next(999_999_996), None);
+    assert_eq!(rt; script.next(u32::MAX), None);
+    Ok(())
+}
+
+#[test]
+fn the_next_tick_is_above_0(rt: HostRuntime) -> Result<(), Fail> {
+    let script = Script::read(rt.alloc(), b"every 999999999 tick\n")?;
+    assert_eq!(rt; script.next(0), Some(999_999_999));
+    assert_eq!(rt; script.next(999_999_999), Some(999_999_999));
+    assert_eq!(rt; script.next(1_000_000_000), None);
+    Ok(())
+}
+
+#[test]
+fn nothing_comes_after_the_last_event(rt: HostRuntime) -> Result<(), Fail> {
+    let script = Script::read(rt.alloc(), b"at 3 irq 1\nat 9 tick\n")?;
+    assert_eq!(rt; script.next(0), Some(3));
+    assert_eq!(rt; script.next(4), Some(9));
+    assert_eq!(rt; script.next(10), None);
+    Ok(())
+}
+
+#[test]
+fn a_copy_has_the_same_events(rt: HostRuntime) -> Result<(), Fail> {
+    let script = Script::read(rt.alloc(), b"every 4 tick\nat 6 irq 3\n")?;
+    let copy = script.copy(rt.alloc())?;
+    assert_eq!(rt; copy.next(1), Some(4));
+    assert_eq!(rt; copy.event_at(6, 0), Some(Event::Irq { line: 3 }));
+    assert_eq!(rt; copy.next(7), Some(8));
+    Ok(())
+}

@@ -1,14 +1,16 @@
 //! The events of a script, turn by turn.
 
-ghost use Rattle.std.specs.Prelude.{◌≡◌, ◌≤◌, ◌+◌, ◌<◌, ◌==◌, ◌&&◌, length, nat_lt, nat_le, IfSome, OnSome, slice_get, ℕ, slice_index_or, ◌∷◌, [], true, false, if◌then◌else◌};
+ghost use Rattle.std.specs.Prelude.{◌≡◌, ◌≤◌, ◌+◌, ◌<◌, ◌==◌, ◌&&◌, ◌++◌, length, nat_lt, nat_le, IfOk, IfSome, OnSome, slice_get, ℕ, slice_index_or, List, ◌∷◌, [], Some, true, false, if◌then◌else◌};
 ghost use Rattle.std.specs.List.{list_any};
 ghost use Rattle.std.specs.List.Sorted.{IsNonDecreasingBy};
 ghost use Rattle.run_script.specs.Events.{script_data};
-ghost use Rattle.run_script.specs.Facts.{Facts, HasLine, IsTurn};
-ghost use Rattle.run_script.specs.Scripts.{Listed, events_of, lasts, listed_of, ticks_of};
+ghost use Rattle.run_script.specs.Facts.{Facts, HasLine, IsListed, IsPeriod, IsTurn};
+ghost use Rattle.run_script.specs.Next.{IsNextBy};
+ghost use Rattle.run_script.specs.Scripts.{Listed, IsNext, events_of, lasts, listed_of, ticks_of};
 
 use crate::events::Event;
 use crate::script::Script;
+use std::alloc::{AllocError, Global};
 
 /// Where the first listed event of this turn or a later one stands, or how many there are.
 fn first_of(script: &Script, turn: u32) -> usize
@@ -62,6 +64,73 @@ fn event_of(script: &Script, turn: u32, k: u32) -> Option<Event>
     }
 }
 
+/// A run has fewer turns.
+const TURNS: u32 = 1_000_000_000;
+
+/// The turn, but 1 for turn 0.
+fn from_1(turn: u32) -> u32
+    ensures same { turn ≤ result }
+    ensures some { 0 < result }
+    ensures least { (t : ℕ) → turn ≤ t → 0 < t → result ≤ t }
+    ensures small { result ≤ turn + 1 }
+    ensures run { turn < 1000000000 → result < 1000000000 }
+{
+    if turn == 0 { 1 } else { turn }
+}
+
+/// The next multiple of a period above 0 and from turn `from` on.
+fn next_multiple(period: u32, from: u32) -> Option<u32>
+    requires { IsPeriod period }
+    ensures { IsNextBy (ticks_of (Some period)) from result }
+{
+    if from >= TURNS {
+        return None;
+    }
+    let turn = (from_1(from) + (period - 1)) / period * period;
+    if turn < TURNS { Some(turn) } else { None }
+}
+
+/// The next tick of `every` from turn `from` on.
+fn next_tick(script: &Script, from: u32) -> Option<u32>
+    ensures { IsNextBy (ticks_of (script_data script.now).every) from result }
+{
+    match script.every {
+        None => None,
+        Some(period) => next_multiple(period, from),
+    }
+}
+
+/// The turn of the next listed event from turn `from` on.
+fn next_listed(script: &Script, from: u32) -> Option<u32>
+    ensures { IsNextBy (λ turn. listed_of turn (script_data script.now).events) from result }
+{
+    let at = first_of(script, from);
+    let events = script.events.as_slice();
+    if at < events.len() {
+        Some(events[at].0)
+    } else {
+        None
+    }
+}
+
+/// The turn that comes first, where there is one.
+fn lesser(one: Option<u32>, other: Option<u32>) -> Option<u32>
+    ensures { (happens too : ℕ → List Event) (from : ℕ) → IsNextBy happens from one → IsNextBy too from other → IsNextBy (λ turn. happens turn ++ too turn) from result }
+{
+    match (one, other) {
+        (None, other) => other,
+        (Some(turn), None) => Some(turn),
+        (Some(turn), Some(next)) => Some(if turn < next { turn } else { next }),
+    }
+}
+
+/// The next turn, from turn `from` on, in which anything happens.
+fn next_of(script: &Script, from: u32) -> Option<u32>
+    ensures { IsNext (script_data script.now) from result }
+{
+    lesser(next_tick(script, from), next_listed(script, from))
+}
+
 /// Whether the last event is of turn `from` or later.
 fn lists_from(events: &[(u32, Event)], from: u32) -> bool
     requires { IsNonDecreasingBy (λ (listed : Listed). listed.0) events.now }
@@ -86,6 +155,28 @@ impl Script {
         ensures line { IfSome result HasLine }
     {
         event_of(self, turn, k)
+    }
+
+    /// The next turn, from turn `from` on and below 1,000,000,000, in which anything happens; `None`
+    /// where there is none.
+    pub fn next(&self, from: u32) -> Option<u32>
+        ensures { IsNext (script_data self.now) from result }
+    {
+        next_of(self, from)
+    }
+
+    /// The same script once more.
+    ///
+    /// # Errors
+    ///
+    /// Only want of memory.
+    pub fn copy(&self, alloc: Global) -> Result<Script, AllocError>
+        ensures { IfOk result (λ copy. script_data copy ≡ script_data self.now) }
+    {
+        Ok(Script {
+            every: self.every,
+            events: Vec::from_slice(alloc, &self.events)?,
+        })
     }
 
     /// Whether anything happens in turn `from` or later: a listed event, or an `every`.
