@@ -1,0 +1,12 @@
+#![tactic(auto)]
+//! The lines of a trace, one of each note (docs/FORMATS.md, Trace), and the words of which they are made.
+
+mod lines;
+#[cfg(test)]
+mod tests;
+mod words;
+
+pub use lines::line;
+pub use words::{
+    push_decimal, push_digit, push_hex, push_high, push_low, push_registers, push_spaced_hex,
+};
