@@ -1,5 +1,5 @@
 -- A machine whose processor is lent to the current task.
-use Rattle.std.proofs.Common.{◌≡◌, ◌+◌, ◌%◌, ◌^◌, ◌<◌, ℕ, Bool, true, false, cond, not, List, [], ◌∷◌, length, Some, refl, sym, ◌∙◌, ap, subst, arith, length-set}
+use Rattle.std.proofs.Common.{◌≡◌, ◌+◌, ◌*◌, ◌%◌, ◌^◌, ◌<◌, ℕ, Bool, true, false, cond, not, List, [], ◌∷◌, length, Some, refl, sym, ◌∙◌, ap, subst, arith, length-set}
 use Rattle.std.specs.Prelude.{fold, slice_index}
 use Rattle.std.proofs.lemmas.List.{set-set, set-get_or}
 use Rattle.words_core.specs.declared.Flags.{Flags}
@@ -9,16 +9,18 @@ use Rattle.thumb_insn.specs.declared.Insn.{Insn}
 use Rattle.thumb_insn.specs.declared.Decoded.{Decoded}
 use Rattle.thumb_insn.specs.Table.{decoded_of}
 use Rattle.kernel_abi.specs.declared.Fault.{Fault}
+use Rattle.kernel_abi.specs.declared.Note.{Note}
 use Rattle.task_table.specs.declared.kernel.Kernel.{Kernel}
 use Rattle.task_table.specs.Memory.{Memory, is_ram, number_at}
 use Rattle.task_table.specs.State.{Setup, State, Task, Own, Turn}
 use Rattle.task_table.specs.Reading.{register, task_at, call_of, listen_of, is_ready, no_task}
-use Rattle.task_table.specs.Effects.{with_task, stored, with_processor, faulted}
-use Rattle.task_table.specs.Holds.{Holds, notes_of, setup_of, current_of, memory_of, task_count}
+use Rattle.task_table.specs.Effects.{with_task, noted, stored, with_processor, faulted}
+use Rattle.task_table.specs.Holds.{Holds, Stands, notes_of, setup_of, current_of, memory_of, task_count}
 use Rattle.task_table.specs.Start.{begun}
 use Rattle.task_table.proofs.Changes.{task_at-with_task}
 use Rattle.board_core.specs.Turn.{refusals, cpu_of, bytes_of, put, acted, is_text, decoded_as, stepped_wide, with_current}
 use Rattle.board_core.specs.Machine.{with_cpu, IsLent, HoldsBy, IsReady, MachineStands}
+use Rattle.board_core.specs.declared.told.Level.{Level}
 use Rattle.board_core.specs.declared.machine.Machine.{Machine}
 use Rattle.board_core.specs.declared.machine.Reach.{Reach}
 use Rattle.board_core.proofs.Running.{between, puts_state, effect_here}
@@ -239,38 +241,61 @@ ready_same g m reach cpu t e f r =
     let Q : Cpu → Type 0 = λ x. IsLent g reach.kernel x t in
     record { lent = r.lent; holds = subst Q (sym f) (subst P (sym e) r.holds); sane = r.sane }
 
-pub register_begun : (s : State) (c : ℕ) → register (with_current c (begun s)).state c 15 ≡ register s c 15
-unfolding register task_at begun
-register_begun s c = refl
+pub register_current : (t : Turn) (c : ℕ) → register (with_current c t).state c 15 ≡ register t.state c 15
+unfolding register task_at
+register_current t c = refl
 
 -- ## a wide instruction
 
-wide_rows : Setup → ℕ → Turn → ℕ → ℕ → ℕ → Bool → Turn
-wide_rows g c t at first after text =
-    cond (not text) (faulted g c record { number = 2; x = after; y = 0 } t) (decoded_as g c at (decoded_of first (Some (number_at t.state.memory after 2))) t)
+wide_rows : Level → Setup → ℕ → Turn → ℕ → ℕ → ℕ → Bool → Turn
+wide_rows level g c t at first after text =
+    cond (not text) (faulted g c record { number = 2; x = after; y = 0 } t)
+    (decoded_as level g c at (first * 2 ^ 16 + number_at t.state.memory after 2) (decoded_of first (Some (number_at t.state.memory after 2))) t)
 
-wide_by : (g : Setup) (c : ℕ) (t : Turn) (at first after : ℕ) (b : Bool) → after ≡ (at + 2) % 2 ^ 32 → b ≡ is_text g c after → wide_rows g c t at first after b ≡ stepped_wide g c at first t
+wide_by : (level : Level) (g : Setup) (c : ℕ) (t : Turn) (at first after : ℕ) (b : Bool) → after ≡ (at + 2) % 2 ^ 32 → b ≡ is_text g c after → wide_rows level g c t at first after b ≡ stepped_wide level g c at first t
 unfolding wide_rows
-wide_by g c t at first after b e is =
-    let by : Bool → Turn = λ x. wide_rows g c t at first after x in
-    let at_place : ℕ → Turn = λ a. wide_rows g c t at first a (is_text g c a) in
+wide_by level g c t at first after b e is =
+    let by : Bool → Turn = λ x. wide_rows level g c t at first after x in
+    let at_place : ℕ → Turn = λ a. wide_rows level g c t at first a (is_text g c a) in
     ap by is ∙ ap at_place e
 
-module _ (g : Setup) (t : Turn) (P : Turn → Type 0) (at first after : ℕ) (b : Bool) (e : after ≡ (at + 2) % 2 ^ 32) (is : b ≡ is_text g t.state.current after) where
-  pub second_refused : (f : Fault) → b ≡ false → f ≡ record { number = 2; x = after; y = 0 } → P (faulted g t.state.current f t) → P (stepped_wide g t.state.current at first t)
+module _ (level : Level) (g : Setup) (t : Turn) (P : Turn → Type 0) (at first after : ℕ) (b : Bool) (e : after ≡ (at + 2) % 2 ^ 32) (is : b ≡ is_text g t.state.current after) where
+  pub second_refused : (f : Fault) → b ≡ false → f ≡ record { number = 2; x = after; y = 0 } → P (faulted g t.state.current f t) → P (stepped_wide level g t.state.current at first t)
   unfolding wide_rows
   second_refused f refused fault h =
       let F : Fault → Type 0 = λ x. P (faulted g t.state.current x t) in
-      subst P (wide_by g t.state.current t at first after false e (sym refused ∙ is)) (subst F fault h)
+      subst P (wide_by level g t.state.current t at first after false e (sym refused ∙ is)) (subst F fault h)
 
-  pub second_acted : (second : ℕ) (d : Decoded) → b ≡ true → second ≡ number_at t.state.memory after 2 → d ≡ decoded_of first (Some second) → P (decoded_as g t.state.current at d t) → P (stepped_wide g t.state.current at first t)
+  pub second_acted : (second : ℕ) (d : Decoded) → b ≡ true → second ≡ number_at t.state.memory after 2 → d ≡ decoded_of first (Some second) → P (decoded_as level g t.state.current at (first * 2 ^ 16 + second) d t) → P (stepped_wide level g t.state.current at first t)
   unfolding wide_rows
   second_acted second d granted fetched decoded h =
-      let F : Decoded → Type 0 = λ x. P (decoded_as g t.state.current at x t) in
-      let all : d ≡ decoded_of first (Some (number_at t.state.memory after 2)) = decoded ∙ ap (λ (x : ℕ). decoded_of first (Some x)) fetched in
-      subst P (wide_by g t.state.current t at first after true e (sym granted ∙ is)) (subst F all h)
+      let fetch : ℕ = number_at t.state.memory after 2 in
+      let F : Decoded → Type 0 = λ x. P (decoded_as level g t.state.current at (first * 2 ^ 16 + second) x t) in
+      let S : ℕ → Type 0 = λ n. P (decoded_as level g t.state.current at (first * 2 ^ 16 + n) (decoded_of first (Some n)) t) in
+      subst P (wide_by level g t.state.current t at first after true e (sym granted ∙ is)) (subst S fetched (subst F decoded h))
+
+-- ## something is told
+
+noted-with_cpu : (n : Note) (cpu : Cpu) (s : Turn) → noted n (with_cpu cpu s) ≡ with_cpu cpu (noted n s)
+unfolding noted with_processor with_task
+noted-with_cpu n cpu s = refl
+
+noted_ready : (n : Note) (s : Turn) → is_ready s.state s.state.current ≡ true → is_ready (noted n s).state (noted n s).state.current ≡ true
+unfolding noted
+noted_ready n s h = h
+
+pub lent_noted : (g : Setup) (k k' : Kernel) (cpu : Cpu) (n : Note) (t : Turn) → ((u : Turn) → Holds g k u → Holds g k' (noted n u)) → IsLent g k cpu t → IsLent g k' cpu (noted n t)
+lent_noted g k k' cpu n t f h = record { saved = noted n h.saved; holds = f h.saved h.holds; ready = noted_ready n h.saved h.ready; is = ap (noted n) h.is ∙ noted-with_cpu n cpu h.saved }
+
+pub noted_by : (lent : Bool) (g : Setup) (k k' : Kernel) (cpu : Cpu) (n : Note) (t : Turn) → ((u : Turn) → Holds g k u → Holds g k' (noted n u)) → HoldsBy lent g k cpu t → HoldsBy lent g k' cpu (noted n t)
+noted_by true g k k' cpu n t f h = lent_noted g k k' cpu n t f h
+noted_by false g k k' cpu n t f h = f t h
 
 pub opened_as : (g : Setup) (k : Kernel) (m : Machine) (s : State) → m.reach.kernel ≡ k → m.lent ≡ false → Holds g k record { state = s; notes = notes_of k; writes = []; reads = [] } → HoldsBy m.lent g m.reach.kernel m.processor record { state = s; notes = notes_of m.reach.kernel; writes = []; reads = [] }
 opened_as g k m s e lent h =
     let P : Kernel → Type 0 = λ x. Holds g x record { state = s; notes = notes_of x; writes = []; reads = [] } in
     settled_by m.lent g m.reach.kernel m.processor _ lent (subst P (sym e) h)
+
+-- a kernel that is settled stands for what its machine does
+pub settled_stands : (g : Setup) (m : Machine) (t : Turn) → m.lent ≡ false → Stands g m.reach.kernel t → MachineStands g m t
+settled_stands g m t lent h = record { holds = settled_by m.lent g m.reach.kernel m.processor t lent h.holds; sane = h.sane }

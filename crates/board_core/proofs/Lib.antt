@@ -11,3 +11,10 @@ pub mod Lending
 pub mod Views
 pub mod Quiet
 pub mod Turning
+pub mod FiveTasks
+pub mod Blinker
+pub mod AllTold
+pub mod Telling
+pub mod Outside
+pub mod CallRows
+pub mod Beside

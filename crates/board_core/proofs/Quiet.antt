@@ -1,9 +1,12 @@
 -- A turn that notes nothing leaves each task as ready as it was, so the choice stands.
-use Rattle.std.proofs.Common.{◌≡◌, ◌+◌, ◌-◌, ◌%◌, ◌^◌, ◌<◌, ℕ, suc, Bool, true, false, cond, not, ◌&&◌, ◌||◌, List, [], ◌∷◌, ◌++◌, length, Option, Some, None, refl, sym, ◌∙◌, ap, arith, eqb, leb}
+use Rattle.std.proofs.Common.{◌≡◌, ◌+◌, ◌-◌, ◌*◌, ◌%◌, ◌^◌, ◌<◌, ℕ, suc, Bool, true, false, cond, not, ◌&&◌, ◌||◌, List, [], ◌∷◌, ◌++◌, length, Option, Some, None, refl, sym, ◌∙◌, ap, subst, arith, leb}
 use Rattle.std.specs.Prelude.{find, fold}
 use Rattle.std.specs.List.{range_with_len, list_all}
 use Rattle.kernel_abi.specs.declared.Fault.{Fault}
+use Rattle.kernel_abi.specs.declared.Note.{Note}
+use Rattle.kernel_abi.specs.declared.Note.TheVariants as note
 use Rattle.words_core.specs.declared.Flags.{Flags}
+use Rattle.thumb_insn.specs.declared.Insn.{Insn}
 use Rattle.thumb_insn.specs.declared.Decoded.{Decoded}
 use Rattle.thumb_insn.specs.declared.Decoded.TheVariants.{Narrow, Wide, Illegal, NeedsSecond}
 use Rattle.thumb_insn.specs.Table.{decoded_of, is_wide}
@@ -11,21 +14,23 @@ use Rattle.thumb_exec.specs.Effect.{Effect, Next, Call, Trap, Store, effect}
 use Rattle.task_table.specs.Memory.{Memory, number_at}
 use Rattle.task_table.specs.State.{Setup, State, Task, Turn}
 use Rattle.task_table.specs.Reading.{task_at, call_of, listen_of, register, chosen, qualifies, around, is_ready, is_faulted, priority}
-use Rattle.task_table.specs.Effects.{with_task, with_processor, faulted}
-use Rattle.task_table.specs.Rows.{called, call_noted, panicked}
+use Rattle.task_table.specs.Effects.{with_task, noted, with_processor, faulted}
+use Rattle.task_table.specs.Rows.{called, call_noted}
 use Rattle.task_table.specs.Counts.{IsNoted}
 use Rattle.task_table.proofs.Frames.{noted-faulted}
-use Rattle.task_table.specs.Start.{begun}
+use Rattle.task_table.proofs.Clocking.{noted-noted, noted-called}
 use Rattle.task_table.specs.Sane.{Sane}
 use Rattle.task_table.proofs.Changes.{call_of-with_task, listen_of-with_task, length-with_task}
 use Rattle.task_table.proofs.Keeps.{task_rule}
 use Rattle.board_core.specs.declared.choice.Choice.{Choice}
+use Rattle.board_core.specs.declared.told.Level.{Level}
+use Rattle.board_core.specs.declared.told.Level.TheVariants.{Calls, All}
 use Rattle.board_core.specs.Script.{Scenario}
 use Rattle.board_core.specs.Run.{is_down}
 use Rattle.board_core.specs.Kept.{IsChoice}
-use Rattle.board_core.specs.Turn.{refusals, cpu_of, put, acted, decoded_as, is_text, stepped, turn_of, ended, turn}
+use Rattle.board_core.specs.Turn.{refusals, cpu_of, put, acted, executed, told, decoded_as, is_text, stepped, after_events, with_current, with_registers_told, turn_of, ended, turn}
 use Rattle.board_core.proofs.Running.{puts_state}
-use Rattle.board_core.proofs.TurnKeeps.{chosen_is, found_in}
+use Rattle.board_core.proofs.TurnKeeps.{chosen_is, found_in, told_state}
 
 -- as many tasks, each as ready; the same current one; the supervisor has faulted or not as before
 record IsAsReady (s u : State) : Type 0 where
@@ -70,6 +75,10 @@ ready-processor : (c : ℕ) (registers : List ℕ) (flags : Flags) (t : Turn) �
 unfolding with_processor
 ready-processor c registers flags t inside = ready-with_task t.state c record (task_at t.state c) { registers = registers; flags = flags } inside refl
 
+-- who gets a processor is as ready
+pub ready-with_processor : (c : ℕ) (registers : List ℕ) (flags : Flags) (t : Turn) → c < length t.state.tasks → is_ready (with_processor c registers flags t).state c ≡ is_ready t.state c
+ready-with_processor c registers flags t inside = (ready-processor c registers flags t inside).ready c
+
 ready-puts : (ss : List Store) (t : Turn) → IsAsReady t.state (fold put t ss).state
 ready-puts ss t = rw (puts_state ss t) (ready-memory t.state (fold put t ss).state.memory)
 
@@ -89,8 +98,12 @@ loud-faulted : (g : Setup) (s : State) (c : ℕ) (f : Fault) (t : Turn) → Quie
 loud-faulted g s c f t = loud s (faulted g c f t) (noted-faulted g c f t)
 
 loud-called : (g : Setup) (s : State) (c : ℕ) (t : Turn) → Quiet s (called g c t)
-unfolding called panicked
-loud-called g s c t = row (eqb (register t.state c 11) 8) _ _ s (loud-faulted g s c _ t) (loud-faulted g s c _ t)
+loud-called g s c t = loud s (called g c t) (noted-called g c t)
+
+-- what is told is noted
+quiet-told : (level : Level) (n : Note) (s : State) (t : Turn) → Quiet s t → Quiet s (told level n t)
+quiet-told Calls n s t h = h
+quiet-told All n s t h = loud s (noted n t) (noted-noted n t)
 
 module _ (g : Setup) (c : ℕ) (t : Turn) (inside : c < length t.state.tasks) where
   quiet-acted : (e : Effect) → Quiet t.state (acted g c e t)
@@ -100,22 +113,31 @@ module _ (g : Setup) (c : ℕ) (t : Turn) (inside : c < length t.state.tasks) wh
   quiet-acted Call = loud-called g t.state c (call_noted c t)
   quiet-acted (Trap f) = loud-faulted g t.state c f t
 
-  quiet-decoded : (at : ℕ) (d : Decoded) → Quiet t.state (decoded_as g c at d t)
-  quiet-decoded at (Narrow insn) = quiet-acted (effect (refusals g c) (number_at t.state.memory) (cpu_of (task_at t.state c)) insn)
-  quiet-decoded at (Wide insn) = quiet-acted (effect (refusals g c) (number_at t.state.memory) (cpu_of (task_at t.state c)) insn)
-  quiet-decoded at Illegal = loud-faulted g t.state c _ t
-  quiet-decoded at NeedsSecond = loud-faulted g t.state c _ t
+module _ (g : Setup) (c : ℕ) (t : Turn) (inside : c < length t.state.tasks) where
+  quiet-executed : (level : Level) (n : Note) (insn : Insn) → Quiet t.state (executed g c insn (told level n t))
+  quiet-executed level n insn =
+      let u = told level n t in
+      let same = told_state level n t in
+      let P : State → Type 0 = λ s. Quiet s (executed g c insn u) in
+      subst P same (quiet-acted g c u (rw same inside) (effect (refusals g c) (number_at u.state.memory) (cpu_of (task_at u.state c)) insn))
 
-  quiet-stepped : Quiet t.state (stepped g c t)
+  quiet-decoded : (level : Level) (at code : ℕ) (d : Decoded) → Quiet t.state (decoded_as level g c at code d t)
+  quiet-decoded level at code (Narrow insn) = quiet-executed level (note.Insn c at code) insn
+  quiet-decoded level at code (Wide insn) = quiet-executed level (note.Insn c at code) insn
+  quiet-decoded level at code Illegal = loud-faulted g t.state c _ t
+  quiet-decoded level at code NeedsSecond = loud-faulted g t.state c _ t
+
+  quiet-stepped : (level : Level) → Quiet t.state (stepped level g c t)
   unfolding stepped
-  quiet-stepped =
+  quiet-stepped level =
       let at = register t.state c 15 in
       let after = (at + 2) % 2 ^ 32 in
       let first = number_at t.state.memory at 2 in
+      let second = number_at t.state.memory after 2 in
       row (not (is_text g c at)) _ _ t.state (loud-faulted g t.state c _ t)
-      (row (not (is_wide first)) _ _ t.state (quiet-decoded at (decoded_of first None))
+      (row (not (is_wide first)) _ _ t.state (quiet-decoded level at first (decoded_of first None))
       (row (not (is_text g c after)) _ _ t.state (loud-faulted g t.state c _ t)
-      (quiet-decoded at (decoded_of first (Some (number_at t.state.memory after 2))))))
+      (quiet-decoded level at (first * 2 ^ 16 + second) (decoded_of first (Some second)))))
 
 -- ## the choice
 
@@ -161,21 +183,37 @@ current-down : (s : State) (c : ℕ) → is_down record s { current = c } ≡ is
 unfolding task_at
 current-down s c = refl
 
-pub quiet-turn : (x : Scenario) (s : State) (kept : Choice) → Sane x.setup s → (turn x s).notes ≡ [] → IsChoice x.setup s kept → IsChoice x.setup (turn x s).state kept
-unfolding turn ended begun
-quiet-turn x s kept h none is = by_choice (chosen x.setup s) refl none
+ready-same : (s : State) → IsAsReady s s
+ready-same s = record { count = refl; ready = λ i. refl; current = refl; down = refl }
+
+quiet-idle : (level : Level) (t : Turn) → Quiet t.state (told level note.Idle t)
+quiet-idle level t = quiet-told level note.Idle t.state t (λ none. ready-same t.state)
+
+quiet-ran : (level : Level) (g : Setup) (c : ℕ) (t : Turn) → c < length t.state.tasks → Quiet (with_current c t).state (with_registers_told level c (stepped level g c (with_current c t)))
+unfolding with_registers_told
+quiet-ran level g c t inside =
+    let u = with_current c t in
+    quiet-told level _ u.state _ (quiet-told level _ u.state (stepped level g c u) (quiet-stepped g c u inside level))
+
+-- the choice after the events is the one after the turn
+pub quiet-turn : (level : Level) (x : Scenario) (s : State) (kept : Choice) → Sane x.setup (after_events x s).state → (turn level x s).notes ≡ [] → IsChoice x.setup (after_events x s).state kept → IsChoice x.setup (turn level x s).state kept
+unfolding turn ended
+quiet-turn level x s kept h none is = by_choice (chosen x.setup t.state) refl none
   where
     t : Turn
-    t = record { state = s; notes = []; writes = []; reads = [] }
+    t = after_events x s
 
-    by_choice : (o : Option ℕ) → chosen x.setup s ≡ o → (turn_of x.setup o t).notes ≡ [] → IsChoice x.setup (record (turn_of x.setup o t).state { turn = (turn_of x.setup o t).state.turn + 1 }) kept
-    by_choice None e none = let same = ready-turn s (s.turn + 1) in record { next = is.next ∙ sym (chosen_same x.setup s _ same); down = is.down ∙ sym same.down }
+    by_choice : (o : Option ℕ) → chosen x.setup t.state ≡ o → (turn_of level x.setup o t).notes ≡ [] → IsChoice x.setup (record (turn_of level x.setup o t).state { turn = (turn_of level x.setup o t).state.turn + 1 }) kept
+    by_choice None e none =
+        let v : Turn = told level note.Idle t in
+        let same = joined t.state v.state _ (quiet-idle level t none) (ready-turn v.state (v.state.turn + 1)) in
+        record { next = is.next ∙ sym (chosen_same x.setup t.state _ same); down = is.down ∙ sym same.down }
     by_choice (Some c) e none =
-        let inside = (chosen_is s c h e).inside in
-        let u : Turn = record t { state = record s { current = c } } in
-        let v : Turn = stepped x.setup c u in
-        let same = joined u.state v.state _ (quiet-stepped x.setup c u inside none) (ready-turn v.state (v.state.turn + 1)) in
+        let inside = (chosen_is t.state c h e).inside in
+        let u : Turn = with_current c t in
+        let v : Turn = with_registers_told level c (stepped level x.setup c u) in
+        let same = joined u.state v.state _ (quiet-ran level x.setup c t inside none) (ready-turn v.state (v.state.turn + 1)) in
         record {
-          next = is.next ∙ e ∙ sym (chosen_stays s c h e) ∙ sym (chosen_same x.setup u.state _ same);
-          down = is.down ∙ sym (current-down s c) ∙ sym same.down;
+          next = is.next ∙ e ∙ sym (chosen_stays t.state c h e) ∙ sym (chosen_same x.setup u.state _ same);
+          down = is.down ∙ sym (current-down t.state c) ∙ sym same.down;
         }

@@ -22,6 +22,7 @@ use Rattle.task_table.specs.Sane.{Sane}
 use Rattle.task_table.proofs.Steps.{holds_turn}
 use Rattle.board_core.specs.declared.machine.Reach.{Reach}
 use Rattle.board_core.specs.Turn.{refusals, cpu_of, bytes_of, put, is_text, decoded_as, stepped, stepped_wide}
+use Rattle.board_core.specs.declared.told.Level.{Level}
 use Rattle.board_core.specs.Machine.{IsStored}
 use Rattle.board_core.specs.declared.choice.Choice.{Choice}
 use Rattle.board_core.specs.Kept.{IsChoice}
@@ -122,41 +123,41 @@ trap_known g t insn f sane coded is =
 -- ## the turn, by what was fetched
 
 -- what is carried out, by whether the first halfword is text and whether it begins a wide instruction
-rows : Setup → ℕ → Turn → ℕ → ℕ → Bool → Bool → Turn
-rows g c t at first text wide =
+rows : Level → Setup → ℕ → Turn → ℕ → ℕ → Bool → Bool → Turn
+rows level g c t at first text wide =
     cond (not text) (faulted g c record { number = 2; x = at; y = 0 } t)
-    (cond (not wide) (decoded_as g c at (decoded_of first None) t) (stepped_wide g c at first t))
+    (cond (not wide) (decoded_as level g c at first (decoded_of first None) t) (stepped_wide level g c at first t))
 
-stepped_by : (g : Setup) (c : ℕ) (t : Turn) (at first : ℕ) (text wide : Bool) → at ≡ register t.state c 15 → first ≡ number_at t.state.memory at 2 → text ≡ is_text g c at → wide ≡ is_wide first →
-    stepped g c t ≡ rows g c t at first text wide
+stepped_by : (level : Level) (g : Setup) (c : ℕ) (t : Turn) (at first : ℕ) (text wide : Bool) → at ≡ register t.state c 15 → first ≡ number_at t.state.memory at 2 → text ≡ is_text g c at → wide ≡ is_wide first →
+    stepped level g c t ≡ rows level g c t at first text wide
 unfolding stepped rows
-stepped_by g c t at first text wide same fetched is begins =
-    let at_place : ℕ → Turn = λ a. rows g c t a (number_at t.state.memory a 2) (is_text g c a) (is_wide (number_at t.state.memory a 2)) in
-    let by_first : ℕ → Turn = λ f. rows g c t at f (is_text g c at) (is_wide f) in
-    let by_text : Bool → Turn = λ b. rows g c t at first b (is_wide first) in
-    let by_wide : Bool → Turn = λ w. rows g c t at first text w in
+stepped_by level g c t at first text wide same fetched is begins =
+    let at_place : ℕ → Turn = λ a. rows level g c t a (number_at t.state.memory a 2) (is_text g c a) (is_wide (number_at t.state.memory a 2)) in
+    let by_first : ℕ → Turn = λ f. rows level g c t at f (is_text g c at) (is_wide f) in
+    let by_text : Bool → Turn = λ b. rows level g c t at first b (is_wide first) in
+    let by_wide : Bool → Turn = λ w. rows level g c t at first text w in
     ap at_place (sym same) ∙ ap by_first (sym fetched) ∙ ap by_text (sym is) ∙ ap by_wide (sym begins)
 
-module _ (g : Setup) (t : Turn) (P : Turn → Type 0) (at first : ℕ) (b : Bool)
+module _ (level : Level) (g : Setup) (t : Turn) (P : Turn → Type 0) (at first : ℕ) (b : Bool)
     (same : at ≡ register t.state t.state.current 15) (is : b ≡ is_text g t.state.current at) where
-  pub text_refused : (f : Fault) → b ≡ false → f ≡ record { number = 2; x = at; y = 0 } → P (faulted g t.state.current f t) → P (stepped g t.state.current t)
+  pub text_refused : (f : Fault) → b ≡ false → f ≡ record { number = 2; x = at; y = 0 } → P (faulted g t.state.current f t) → P (stepped level g t.state.current t)
   unfolding rows
   text_refused f refused fault h =
-      let e = stepped_by g t.state.current t at (number_at t.state.memory at 2) false (is_wide (number_at t.state.memory at 2)) same refl (sym refused ∙ is) refl in
+      let e = stepped_by level g t.state.current t at (number_at t.state.memory at 2) false (is_wide (number_at t.state.memory at 2)) same refl (sym refused ∙ is) refl in
       let F : Fault → Type 0 = λ x. P (faulted g t.state.current x t) in
       subst P (sym e) (subst F fault h)
 
-  pub narrow_acted : (d : Decoded) → b ≡ true → first ≡ number_at t.state.memory at 2 → is_wide first ≡ false → d ≡ decoded_of first None → P (decoded_as g t.state.current at d t) → P (stepped g t.state.current t)
+  pub narrow_acted : (d : Decoded) → b ≡ true → first ≡ number_at t.state.memory at 2 → is_wide first ≡ false → d ≡ decoded_of first None → P (decoded_as level g t.state.current at first d t) → P (stepped level g t.state.current t)
   unfolding rows
   narrow_acted d granted fetched narrow decoded h =
-      let e = stepped_by g t.state.current t at first true false same fetched (sym granted ∙ is) (sym narrow) in
-      let F : Decoded → Type 0 = λ x. P (decoded_as g t.state.current at x t) in
+      let e = stepped_by level g t.state.current t at first true false same fetched (sym granted ∙ is) (sym narrow) in
+      let F : Decoded → Type 0 = λ x. P (decoded_as level g t.state.current at first x t) in
       subst P (sym e) (subst F decoded h)
 
-  pub wide_stepped : b ≡ true → first ≡ number_at t.state.memory at 2 → is_wide first ≡ true → P (stepped_wide g t.state.current at first t) → P (stepped g t.state.current t)
+  pub wide_stepped : b ≡ true → first ≡ number_at t.state.memory at 2 → is_wide first ≡ true → P (stepped_wide level g t.state.current at first t) → P (stepped level g t.state.current t)
   unfolding rows
   wide_stepped granted fetched wide h =
-      let e = stepped_by g t.state.current t at first true true same fetched (sym granted ∙ is) (sym wide) in
+      let e = stepped_by level g t.state.current t at first true true same fetched (sym granted ∙ is) (sym wide) in
       subst P (sym e) h
 
 -- ## the turn
@@ -164,14 +165,6 @@ module _ (g : Setup) (t : Turn) (P : Turn → Type 0) (at first : ℕ) (b : Bool
 pub choice_begun : (g : Setup) (s : State) (c : Choice) → IsChoice g (begun s).state c → IsChoice g s c
 unfolding begun
 choice_begun g s c h = h
-
-pub begun_sane : (g : Setup) (s : State) → Sane g s → Sane g (begun s).state
-unfolding begun
-begun_sane g s h = h
-
-pub begun_state : (s : State) → (begun s).state ≡ s
-unfolding begun
-begun_state s = refl
 
 -- the kernel between turns: what the turn noted is still there
 pub between : (g : Setup) (k : Kernel) (u : Turn) (n : ℕ) → Holds g k u → Holds g k record { state = record u.state { turn = n }; notes = notes_of k; writes = []; reads = [] }

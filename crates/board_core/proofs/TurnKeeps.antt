@@ -1,9 +1,14 @@
 -- A turn keeps a state sane.
-use Rattle.std.proofs.Common.{◌≡◌, ◌+◌, ◌-◌, ◌/◌, ◌%◌, ◌^◌, ◌<◌, ◌≤◌, ◌⊎◌, inl, inr, ℕ, zero, suc, Bool, true, false, cond, not, ◌&&◌, List, [], ◌∷◌, length, take, drop, Option, Some, None, refl, sym, ◌∙◌, ap, arith, leb, IfSome}
+use Rattle.std.proofs.Common.{◌≡◌, ◌+◌, ◌-◌, ◌*◌, ◌/◌, ◌%◌, ◌^◌, ◌<◌, ◌≤◌, ◌⊎◌, inl, inr, ℕ, zero, suc, Bool, true, false, cond, not, ◌&&◌, List, [], ◌∷◌, length, take, drop, Option, Some, None, refl, sym, ◌∙◌, ap, subst, arith, leb, IfSome}
 use Rattle.std.specs.Prelude.{Contains, find, fold}
 use Rattle.std.specs.List.{range_with_len}
 use Rattle.std.proofs.lemmas.List.Elements.{Contains-append_cases}
 use Rattle.std.proofs.lemmas.Bool.{leb-true}
+use Rattle.kernel_abi.specs.declared.Note.{Note}
+use Rattle.kernel_abi.specs.declared.Note.TheVariants as note
+use Rattle.run_script.specs.declared.events.Event.{Event}
+use Rattle.run_script.specs.declared.events.Event.TheVariants.{Tick, Irq}
+use Rattle.run_script.specs.Scripts.{events_of}
 use Rattle.thumb_insn.specs.declared.Insn.{Insn}
 use Rattle.thumb_insn.specs.declared.Decoded.{Decoded}
 use Rattle.thumb_insn.specs.declared.Decoded.TheVariants.{Narrow, Wide, Illegal, NeedsSecond}
@@ -12,13 +17,18 @@ use Rattle.thumb_exec.specs.Effect.{Effect, Next, Call, Trap, Store, Refusals, e
 use Rattle.task_table.specs.Memory.{Memory, number_at, number_of, bytes_at, is_ram}
 use Rattle.task_table.specs.State.{Setup, State, Own, Turn}
 use Rattle.task_table.specs.Reading.{task_at, register, call_of, listen_of, chosen, qualifies, around, is_ready}
-use Rattle.task_table.specs.Effects.{changed, stored}
+use Rattle.task_table.specs.Effects.{noted, stored}
+use Rattle.task_table.specs.Events.{ticked, interrupted}
 use Rattle.task_table.specs.Rows.{call_noted}
 use Rattle.task_table.specs.Start.{begun}
 use Rattle.task_table.specs.Sane.{Sane, AreAllBytes}
-use Rattle.task_table.proofs.Sanity.{sane-processor, sane-stored, sane-current, sane-turn, sane-faulted, sane-call_noted, sane-called}
+use Rattle.task_table.proofs.Sanity.{sane-processor, sane-stored, sane-current, sane-turn, sane-faulted, sane-call_noted}
+use Rattle.task_table.proofs.Calling.{sane-called}
+use Rattle.task_table.proofs.Timing.{sane-ticked, sane-interrupted}
+use Rattle.board_core.specs.declared.told.Level.{Level}
+use Rattle.board_core.specs.declared.told.Level.TheVariants.{Calls, All}
 use Rattle.board_core.specs.Script.{Scenario}
-use Rattle.board_core.specs.Turn.{refusals, cpu_of, bytes_of, put, acted, decoded_as, is_text, stepped, turn_of, ended, turn}
+use Rattle.board_core.specs.Turn.{refusals, cpu_of, bytes_of, put, acted, executed, told, decoded_as, is_text, stepped, happened, after_events, with_current, with_registers_told, turn_of, ended, turn}
 use Rattle.board_core.proofs.Whole.{IsWholeCpu, IsPermitted, Keeps, Effects}
 use Rattle.board_core.proofs.TableKeeps.{effects}
 
@@ -81,13 +91,17 @@ sane-puts refuses (x ∷ xs) t h ok = sane-puts refuses xs (put t x) (sane-put t
 still : {g : Setup} {s u : State} {c : ℕ} → Sane g s → Sane g u → c < length s.tasks → c < length u.tasks
 still h k lt = let a = h.steady.as_many in let b = k.steady.as_many in omega arith
 
+pub ready-call_noted : (c : ℕ) (t : Turn) → is_ready t.state c ≡ true → is_ready (call_noted c t).state c ≡ true
+unfolding call_noted noted
+ready-call_noted c t h = h
+
 module _ {g : Setup} (c : ℕ) (t : Turn) (h : Sane g t.state) (inside : c < length t.state.tasks) where
-  acted-sane : (e : Effect) → Keeps (refusals g c) e → Sane g (acted g c e t).state
-  acted-sane (Next cpu stores) k =
+  acted-sane : is_ready t.state c ≡ true → (e : Effect) → Keeps (refusals g c) e → Sane g (acted g c e t).state
+  acted-sane ready (Next cpu stores) k =
       let h1 = sane-puts (refusals g c) stores t h k.1 in
       sane-processor c cpu.regs.words cpu.flags (fold put t stores) h1 (still h h1 inside) record { sixteen = k.0.sixteen; even = k.0.even; aligned = k.0.aligned }
-  acted-sane Call k = let h1 = sane-call_noted c t h inside in sane-called c (call_noted c t) h1 (still h h1 inside)
-  acted-sane (Trap f) k = sane-faulted c f t h inside k.0 k.1
+  acted-sane ready Call k = let h1 = sane-call_noted c t h inside in sane-called c (call_noted c t) h1 (still h h1 inside) (ready-call_noted c t ready)
+  acted-sane ready (Trap f) k = sane-faulted c f t h inside k.0 k.1
 
   pub whole_cpu : IsWholeCpu (cpu_of (task_at t.state c))
   whole_cpu = let x = h.steady.tasks c inside in record { sixteen = x.sixteen; even = x.even; aligned = x.aligned }
@@ -115,19 +129,35 @@ half_small m a flash ram = by_ram (leb 0x20000000 a)
     by_ram true = number_small (drop (a - 0x20000000) m.ram) (λ b here. ram b (drop_in _ m.ram b here))
     by_ram false = by_flash (leb 0x08000000 a)
 
-module _ {g : Setup} (c : ℕ) (t : Turn) (h : Sane g t.state) (inside : c < length t.state.tasks) where
-  keeps-here : (first : ℕ) (two : Option ℕ) (insn : Insn) → first < 65536 → IfSome two (λ x. x < 65536) → (decoded_of first two ≡ Narrow insn) ⊎ (decoded_of first two ≡ Wide insn) →
-      Keeps (refusals g c) (effect (refusals g c) (number_at t.state.memory) (cpu_of (task_at t.state c)) insn)
-  unfolding Effects
-  keeps-here first two insn f1 f2 e = effects (refusals g c) (number_at t.state.memory) (cpu_of (task_at t.state c)) first two insn f1 f2 e (whole_cpu c t h inside)
+keeps-here : {g : Setup} (c : ℕ) (t : Turn) (h : Sane g t.state) (inside : c < length t.state.tasks) (first : ℕ) (two : Option ℕ) (insn : Insn) → first < 65536 → IfSome two (λ x. x < 65536) → (decoded_of first two ≡ Narrow insn) ⊎ (decoded_of first two ≡ Wide insn) →
+    Keeps (refusals g c) (effect (refusals g c) (number_at t.state.memory) (cpu_of (task_at t.state c)) insn)
+unfolding Effects
+keeps-here {g} c t h inside first two insn f1 f2 e = effects (refusals g c) (number_at t.state.memory) (cpu_of (task_at t.state c)) first two insn f1 f2 e (whole_cpu c t h inside)
 
-  decoded-good : (at first : ℕ) (two : Option ℕ) (d : Decoded) → first < 65536 → IfSome two (λ x. x < 65536) → decoded_of first two ≡ d → Good g (decoded_as g c at d t)
-  decoded-good at first two (Narrow insn) f1 f2 e = record { sane = acted-sane c t h inside _ (keeps-here first two insn f1 f2 (inl e)) }
-  decoded-good at first two (Wide insn) f1 f2 e = record { sane = acted-sane c t h inside _ (keeps-here first two insn f1 f2 (inr e)) }
-  decoded-good at first two Illegal f1 f2 e = record { sane = sane-faulted c _ t h inside (omega arith) (omega arith) }
-  decoded-good at first two NeedsSecond f1 f2 e = record { sane = sane-faulted c _ t h inside (omega arith) (omega arith) }
+-- what is told changes no state
+pub told_state : (level : Level) (n : Note) (t : Turn) → (told level n t).state ≡ t.state
+unfolding noted
+told_state Calls n t = refl
+told_state All n t = refl
 
-  pub sane-stepped : Good g (stepped g c t)
+module _ {g : Setup} (level : Level) (c : ℕ) (t : Turn) (h : Sane g t.state) (inside : c < length t.state.tasks) (ready : is_ready t.state c ≡ true) where
+  -- an instruction that is told, and carried out
+  executed-sane : (n : Note) (first : ℕ) (two : Option ℕ) (insn : Insn) → first < 65536 → IfSome two (λ x. x < 65536) → (decoded_of first two ≡ Narrow insn) ⊎ (decoded_of first two ≡ Wide insn) → Sane g (executed g c insn (told level n t)).state
+  executed-sane n first two insn f1 f2 e =
+      let u = told level n t in
+      let same = told_state level n t in
+      let hu : Sane g u.state = rw same h in
+      let iu : c < length u.state.tasks = rw same inside in
+      let ru : is_ready u.state c ≡ true = rw same ready in
+      acted-sane c u hu iu ru _ (keeps-here c u hu iu first two insn f1 f2 e)
+
+  decoded-good : (at code first : ℕ) (two : Option ℕ) (d : Decoded) → first < 65536 → IfSome two (λ x. x < 65536) → decoded_of first two ≡ d → Good g (decoded_as level g c at code d t)
+  decoded-good at code first two (Narrow insn) f1 f2 e = record { sane = executed-sane (note.Insn c at code) first two insn f1 f2 (inl e) }
+  decoded-good at code first two (Wide insn) f1 f2 e = record { sane = executed-sane (note.Insn c at code) first two insn f1 f2 (inr e) }
+  decoded-good at code first two Illegal f1 f2 e = record { sane = sane-faulted c _ t h inside (omega arith) (omega arith) }
+  decoded-good at code first two NeedsSecond f1 f2 e = record { sane = sane-faulted c _ t h inside (omega arith) (omega arith) }
+
+  pub sane-stepped : Good g (stepped level g c t)
   unfolding stepped
   sane-stepped =
       let m = t.state.memory in
@@ -138,9 +168,9 @@ module _ {g : Setup} (c : ℕ) (t : Turn) (h : Sane g t.state) (inside : c < len
       let small1 = half_small m at h.steady.text h.steady.bytes in
       let small2 = half_small m after h.steady.text h.steady.bytes in
       by_row (not (is_text g c at)) (λ bad. record { sane = sane-faulted c _ t h inside (omega arith) (omega arith) }) (λ ok.
-      by_row (not (is_wide first)) (λ narrow. decoded-good at first None (decoded_of first None) small1 tt refl) (λ wide.
+      by_row (not (is_wide first)) (λ narrow. decoded-good at first first None (decoded_of first None) small1 tt refl) (λ wide.
       by_row (not (is_text g c after)) (λ bad. record { sane = sane-faulted c _ t h inside (omega arith) (omega arith) }) (λ ok2.
-      decoded-good at first (Some second) (decoded_of first (Some second)) small1 small2 refl)))
+      decoded-good at (first * 2 ^ 16 + second) first (Some second) (decoded_of first (Some second)) small1 small2 refl)))
 
 -- ## the turn
 
@@ -185,17 +215,38 @@ pub as_current : (c i : ℕ) (s : State) → is_ready s c ≡ true → is_ready 
 unfolding is_ready task_at call_of listen_of
 as_current c i s h = h
 
+-- what happens from outside
+pub sane-events : (g : Setup) (events : List Event) (t : Turn) → Sane g t.state → Sane g (fold (happened g) t events).state
+sane-events g [] t h = h
+sane-events g (Tick ∷ events) t h = sane-events g events (ticked t) (sane-ticked t h)
+sane-events g (Irq line ∷ events) t h = sane-events g events (interrupted g line t) (sane-interrupted line t h)
+
+pub begun_sane : (g : Setup) (s : State) → Sane g s → Sane g (begun s).state
+unfolding begun
+begun_sane g s h = h
+
+pub sane-after_events : (x : Scenario) (s : State) → Sane x.setup s → Sane x.setup (after_events x s).state
+unfolding after_events
+sane-after_events x s h = sane-events x.setup (events_of x.script s.turn) (begun s) (begun_sane x.setup s h)
+
+pub sane-told : {g : Setup} (level : Level) (n : Note) (t : Turn) → Sane g t.state → Sane g (told level n t).state
+sane-told {g} level n t h = subst (Sane g) (sym (told_state level n t)) h
+
+sane-registers_told : {g : Setup} (level : Level) (c : ℕ) (t : Turn) → Sane g t.state → Sane g (with_registers_told level c t).state
+unfolding with_registers_told
+sane-registers_told level c t h = sane-told level _ _ (sane-told level _ t h)
+
 -- the turn of the chosen task, and an idle one
-pub sane-ran : {g : Setup} (c : ℕ) (t : Turn) → Sane g t.state → c < length t.state.tasks → Sane g (turn_of g (Some c) t).state
-sane-ran c t h inside = (sane-stepped c (changed (λ s. record s { current = c }) t) (sane-current c t h inside) inside).sane
+pub sane-ran : {g : Setup} (level : Level) (c : ℕ) (t : Turn) → Sane g t.state → IsChosen t.state c → Sane g (stepped level g c (with_current c t)).state
+sane-ran level c t h is = (sane-stepped level c (with_current c t) (sane-current c t h is.inside) is.inside (as_current c c t.state is.ready)).sane
 
-pub sane-after : (x : Scenario) (s : State) → Sane x.setup s → Sane x.setup (turn x s).state
-unfolding turn ended begun
-sane-after x s h = sane-turn ((turn_of x.setup (chosen x.setup s) t).state.turn + 1) (turn_of x.setup (chosen x.setup s) t) (by_choice (chosen x.setup s) refl)
-  where
-    t : Turn
-    t = record { state = s; notes = []; writes = []; reads = [] }
+pub sane-turned : {g : Setup} (level : Level) (t : Turn) (o : Option ℕ) → Sane g t.state → chosen g t.state ≡ o → Sane g (turn_of level g o t).state
+sane-turned level t None h e = sane-told level note.Idle t h
+sane-turned level t (Some c) h e = sane-registers_told level c _ (sane-ran level c t h (chosen_is t.state c h e))
 
-    by_choice : (o : Option ℕ) → chosen x.setup s ≡ o → Sane x.setup (turn_of x.setup o t).state
-    by_choice None e = h
-    by_choice (Some c) e = let is = chosen_is s c h e in sane-ran c t h is.inside
+pub sane-after : (level : Level) (x : Scenario) (s : State) → Sane x.setup s → Sane x.setup (turn level x s).state
+unfolding turn ended
+sane-after level x s h =
+    let t = after_events x s in
+    let u = turn_of level x.setup (chosen x.setup t.state) t in
+    sane-turn (u.state.turn + 1) u (sane-turned level t (chosen x.setup t.state) (sane-after_events x s h) refl)

@@ -4,19 +4,19 @@ use Rattle.std.proofs.lemmas.Bool.{eqb-true}
 use Rattle.kernel_abi.specs.declared.Note.{Note}
 use Rattle.task_table.specs.State.{Setup, State, Turn}
 use Rattle.task_table.specs.Reading.{chosen}
-use Rattle.task_table.specs.Start.{begun}
 use Rattle.task_table.specs.Holds.{notes_of}
 use Rattle.task_table.specs.Sane.{Sane}
 use Rattle.board_core.specs.declared.machine.Machine.{Machine}
 use Rattle.board_core.specs.declared.choice.Choice.{Choice}
 use Rattle.board_core.specs.declared.board.Board.{Board}
 use Rattle.board_core.specs.Machine.{IsNext, MachineHolds, MachineStands}
-use Rattle.board_core.specs.Stands.{Stands}
+use Rattle.board_core.specs.declared.told.Level.{Level}
+use Rattle.board_core.specs.Midway.{IsMidway}
 use Rattle.board_core.specs.Script.{Scenario}
 use Rattle.board_core.specs.Kept.{IsChoice}
-use Rattle.board_core.specs.Turn.{turn, ended, turn_of}
+use Rattle.board_core.specs.Turn.{turn, ended, turn_of, after_events}
 use Rattle.board_core.proofs.Lending.{told_by, between_by}
-use Rattle.board_core.proofs.TurnKeeps.{sane-after}
+use Rattle.board_core.proofs.TurnKeeps.{sane-after, sane-after_events}
 use Rattle.board_core.proofs.Quiet.{quiet-turn}
 
 -- a machine between turns
@@ -33,29 +33,35 @@ pub empty_of : (xs : List Note) → eqb (length xs) 0 ≡ true → xs ≡ []
 empty_of [] h = refl
 empty_of (x ∷ xs) h = absurd (some_left x xs (eqb-true _ _ h))
 
-pub next_of : (x : Scenario) (s : State) (b : Board) → Stands x b s → IsNext x.setup b.machine (rested b.machine s) b.choice.next
-next_of x s b st = record { stands = record { holds = st.holds.machine; sane = st.sane }; is = st.holds.choice.next }
+pub next_of : (x : Scenario) (s : State) (b : Board) → IsMidway x b s → IsNext x.setup b.machine (after_events x s) b.choice.next
+next_of x s b mid = record { stands = mid.machine; is = mid.choice.next }
 
--- the machine's turn of the kept choice is the turn of the chosen task
-pub as_chosen : (x : Scenario) (s : State) (m : Machine) (kept : Choice) → IsChoice x.setup s kept → MachineHolds x.setup m (turn_of x.setup kept.next (begun s)) → MachineHolds x.setup m (turn_of x.setup (chosen x.setup s) (begun s))
-as_chosen x s m kept is h =
-    let P : Option ℕ → Type 0 = λ o. MachineHolds x.setup m (turn_of x.setup o (begun s)) in
-    subst P is.next h
+module _ (level : Level) (x : Scenario) (s : State) (m : Machine) where
+  -- the chosen task's turn, as the machine has it
+  abbrev pub HasTurned : Type 0
+  HasTurned = MachineHolds x.setup m (turn_of level x.setup (chosen x.setup (after_events x s).state) (after_events x s))
 
--- a machine that holds what a turn has come to stands for the state after it
-pub stands_after : (x : Scenario) (s : State) (m : Machine) → Sane x.setup s → MachineHolds x.setup m (turn_of x.setup (chosen x.setup s) (begun s)) → MachineStands x.setup m (rested m (turn x s).state)
-unfolding turn ended
-stands_after x s m sane h =
-    let u : Turn = turn_of x.setup (chosen x.setup s) (begun s) in
-    record { holds = between_by m.lent x.setup m.reach.kernel m.processor u (u.state.turn + 1) h; sane = sane-after x s sane }
+  -- the machine's turn of the kept choice is the turn of the chosen task
+  pub as_chosen : (kept : Choice) → IsChoice x.setup (after_events x s).state kept → MachineHolds x.setup m (turn_of level x.setup kept.next (after_events x s)) → HasTurned
+  as_chosen kept is h =
+      let P : Option ℕ → Type 0 = λ o. MachineHolds x.setup m (turn_of level x.setup o (after_events x s)) in
+      subst P is.next h
 
-pub turn_notes : (x : Scenario) (s : State) (m : Machine) → MachineHolds x.setup m (turn_of x.setup (chosen x.setup s) (begun s)) → notes_of m.reach.kernel ≡ (turn x s).notes
-unfolding turn ended
-turn_notes x s m h = noted_in x.setup m (turn_of x.setup (chosen x.setup s) (begun s)) h
+  -- a machine that holds what a turn has come to stands for the state after it
+  pub stands_after : Sane x.setup s → HasTurned → MachineStands x.setup m (rested m (turn level x s).state)
+  unfolding turn ended
+  stands_after sane h =
+      let t = after_events x s in
+      let u : Turn = turn_of level x.setup (chosen x.setup t.state) t in
+      record { holds = between_by m.lent x.setup m.reach.kernel m.processor u (u.state.turn + 1) h; sane = sane-after level x s sane }
 
--- where it noted nothing, the choice from before is the one after
-pub choice_kept : (x : Scenario) (s : State) (m : Machine) (kept : Choice) → Sane x.setup s → MachineHolds x.setup m (turn_of x.setup (chosen x.setup s) (begun s)) → IsChoice x.setup s kept → notes_of m.reach.kernel ≡ [] → IsChoice x.setup (turn x s).state kept
-choice_kept x s m kept sane h is none = quiet-turn x s kept sane (sym (turn_notes x s m h) ∙ none) is
+  pub turn_notes : HasTurned → notes_of m.reach.kernel ≡ (turn level x s).notes
+  unfolding turn ended
+  turn_notes h = noted_in x.setup m (turn_of level x.setup (chosen x.setup (after_events x s).state) (after_events x s)) h
+
+  -- where it noted nothing, the choice after the events is the one after the turn
+  pub choice_kept : (kept : Choice) → Sane x.setup s → HasTurned → IsChoice x.setup (after_events x s).state kept → notes_of m.reach.kernel ≡ [] → IsChoice x.setup (turn level x s).state kept
+  choice_kept kept sane h is none = quiet-turn level x s kept (sane-after_events x s sane) (sym (turn_notes h) ∙ none) is
 
 -- the notes that another machine has of the same turn are the same
 pub rested_as : (g : Setup) (m m' : Machine) (s : State) → MachineHolds g m' (rested m s) → MachineHolds g m' (rested m' s)

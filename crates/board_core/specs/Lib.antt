@@ -2,8 +2,10 @@ pub mod Script
 pub mod Spans
 pub mod Turn
 pub mod Run
+pub mod Levels
 pub mod Kept
 pub mod Machine
 pub mod Opened
+pub mod Midway
 pub mod Stands
 pub mod Told

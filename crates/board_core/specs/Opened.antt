@@ -2,7 +2,8 @@
 use Rattle.std.specs.Prelude.{map}
 use Rattle.image_format.specs.Picture.{Picture, TaskPicture, LinePicture}
 use Rattle.task_table.specs.State.{Setup, TaskSetup, LineSetup}
-use Rattle.board_core.specs.Script.{Scenario, Empty}
+use Rattle.run_script.specs.Scripts.{ScriptData}
+use Rattle.board_core.specs.Script.{Scenario}
 
 abbrev pub setup_of_task : TaskPicture → TaskSetup
 setup_of_task t = record { priority = t.priority; entry = t.entry; stack = t.sp; regions = t.regions; start = t.started }
@@ -21,5 +22,5 @@ setup_of p = record {
   line_count = 32;
 }
 
-abbrev pub scenario_of : Picture → Scenario
-scenario_of p = record { setup = setup_of p; script = Empty }
+abbrev pub scenario_of : Picture → ScriptData → Scenario
+scenario_of p script = record { setup = setup_of p; script = script }

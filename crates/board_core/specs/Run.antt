@@ -5,7 +5,9 @@ use Rattle.task_table.specs.State.{State}
 use Rattle.task_table.specs.Reading.{task_at, is_faulted, chosen}
 use Rattle.board_core.specs.declared.told.End.{End}
 use Rattle.board_core.specs.declared.told.End.TheVariants.{Bound, Still, Supervisor}
-use Rattle.board_core.specs.Script.{Scenario, lasts}
+use Rattle.run_script.specs.Scripts.{lasts}
+use Rattle.board_core.specs.declared.told.Level.{Level}
+use Rattle.board_core.specs.Script.{Scenario}
 use Rattle.board_core.specs.Turn.{turn}
 
 -- the supervisor has faulted
@@ -43,8 +45,8 @@ abbrev pub at_turn : ℕ → List Note → List (ℕ × Note)
 at_turn n notes = map (λ note. (n, note)) notes
 
 -- the run from a state, with at most so many turns
-unfoldable pub run : Scenario → ℕ → State → Run
-run x zero s = unless s (ending x 0 s) (ended_at s Bound)
-run x (suc left) s =
+unfoldable pub run : Level → Scenario → ℕ → State → Run
+run level x zero s = unless s (ending x 0 s) (ended_at s Bound)
+run level x (suc left) s =
     unless s (ending x (suc left) s)
-    (with_front (at_turn s.turn (turn x s).notes) (run x left (turn x s).state))
+    (with_front (at_turn s.turn (turn level x s).notes) (run level x left (turn level x s).state))

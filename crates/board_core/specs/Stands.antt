@@ -4,6 +4,8 @@ use Rattle.kernel_abi.specs.declared.Note.{Note}
 use Rattle.task_table.specs.State.{State}
 use Rattle.task_table.specs.Sane.{Sane, IsCounted}
 use Rattle.task_table.specs.Holds.{notes_of as kernel_notes, task_count}
+use Rattle.run_script.specs.Events.{script_data}
+use Rattle.run_script.specs.Scripts.{IsNext}
 use Rattle.board_core.specs.declared.board.Board.{Board}
 use Rattle.board_core.specs.Script.{Scenario}
 use Rattle.board_core.specs.Kept.{IsChoice}
@@ -20,11 +22,14 @@ turns_of b = b.turns
 abbrev pub count_of : Board → ℕ
 count_of b = task_count b.machine.reach.kernel
 
--- its parts are those of the state: its machine's, its turn number and its choice
+-- its parts are those of the state: its machine's, its turn number and its choice; its script is the
+-- run's, and it knows when something happens next
 pub record Holds (x : Scenario) (b : Board) (s : State) : Type 0 where
   pub machine : MachineHolds x.setup b.machine record { state = s; notes = notes_of b; writes = []; reads = [] }
   pub turns : b.turns ≡ s.turn
   pub choice : IsChoice x.setup s b.choice
+  pub script : script_data b.script ≡ x.script
+  pub due : IsNext x.script s.turn b.due
 
 -- and the state is sane, and its counts are those that a run can reach
 pub record Stands (x : Scenario) (b : Board) (s : State) : Type 0 where

@@ -1,6 +1,8 @@
--- One turn of the board: one instruction of the chosen task, or an idle turn.
-use Rattle.std.specs.Prelude.{ℕ, ◌+◌, ◌/◌, ◌%◌, ◌^◌, Bool, ◌&&◌, not, List, [], ◌∷◌, Option, Some, None, find, fold, take, if◌then◌else◌}
+-- One turn of the board: what happens from outside, then one instruction of the chosen task, or an idle turn.
+use Rattle.std.specs.Prelude.{ℕ, ◌+◌, ◌*◌, ◌/◌, ◌%◌, ◌^◌, Bool, ◌&&◌, not, List, [], ◌∷◌, Option, Some, None, find, fold, take, drop, if◌then◌else◌}
 use Rattle.std.specs.List.{range_with_len}
+use Rattle.kernel_abi.specs.declared.Note.{Note}
+use Rattle.kernel_abi.specs.declared.Note.TheVariants as note
 use Rattle.region_check.specs.declared.Right.{Right}
 use Rattle.region_check.specs.declared.Right.TheVariants.{Execute}
 use Rattle.region_check.specs.Rights.{may_use}
@@ -13,9 +15,15 @@ use Rattle.thumb_exec.specs.Effect.{Effect, Next, Call, Trap, Store, Refusals, e
 use Rattle.task_table.specs.Memory.{number_at, is_ram}
 use Rattle.task_table.specs.State.{Setup, Task, State, Own, Turn}
 use Rattle.task_table.specs.Reading.{task_at, setup_at, register, chosen}
-use Rattle.task_table.specs.Effects.{changed, with_processor, stored, faulted}
+use Rattle.task_table.specs.Effects.{changed, noted, with_processor, stored, faulted}
+use Rattle.task_table.specs.Events.{ticked, interrupted}
 use Rattle.task_table.specs.Rows.{first_row, called, call_noted}
 use Rattle.task_table.specs.Start.{begun}
+use Rattle.run_script.specs.declared.events.Event.{Event}
+use Rattle.run_script.specs.declared.events.Event.TheVariants.{Tick, Irq}
+use Rattle.run_script.specs.Scripts.{events_of}
+use Rattle.board_core.specs.declared.told.Level.{Level}
+use Rattle.board_core.specs.declared.told.Level.TheVariants.{Calls, All}
 use Rattle.board_core.specs.declared.told.Turned.{Turned}
 use Rattle.board_core.specs.declared.told.Turned.TheVariants.{Idle, Ran}
 use Rattle.board_core.specs.Script.{Scenario}
@@ -54,50 +62,80 @@ abbrev pub executed : Setup → ℕ → Insn → Turn → Turn
 executed g c insn t =
     acted g c (effect (refusals g c) (number_at t.state.memory) (cpu_of (task_at t.state c)) insn) t
 
-abbrev pub decoded_as : Setup → ℕ → ℕ → Decoded → Turn → Turn
-decoded_as g c at (Narrow insn) t = executed g c insn t
-decoded_as g c at (Wide insn) t = executed g c insn t
-decoded_as g c at Illegal t = faulted g c record { number = 1; x = at; y = 0 } t
-decoded_as g c at NeedsSecond t = faulted g c record { number = 1; x = at; y = 0 } t
+-- what is told with all instructions alone
+abbrev pub told : Level → Note → Turn → Turn
+told Calls note t = t
+told All note t = noted note t
+
+-- a code that is an instruction is told and executed (code: the halfword, or two, the first in the high half)
+abbrev pub decoded_as : Level → Setup → ℕ → ℕ → ℕ → Decoded → Turn → Turn
+decoded_as level g c at code (Narrow insn) t = executed g c insn (told level (note.Insn c at code) t)
+decoded_as level g c at code (Wide insn) t = executed g c insn (told level (note.Insn c at code) t)
+decoded_as level g c at code Illegal t = faulted g c record { number = 1; x = at; y = 0 } t
+decoded_as level g c at code NeedsSecond t = faulted g c record { number = 1; x = at; y = 0 } t
 
 -- both bytes of a halfword may be executed
 abbrev pub is_text : Setup → ℕ → ℕ → Bool
 is_text g c a = may g c Execute a && may g c Execute ((a + 1) % 2 ^ 32)
 
 -- a wide instruction, whose second halfword is fetched too
-abbrev pub stepped_wide : Setup → ℕ → ℕ → ℕ → Turn → Turn
-stepped_wide g c at first t =
+abbrev pub stepped_wide : Level → Setup → ℕ → ℕ → ℕ → Turn → Turn
+stepped_wide level g c at first t =
     let after = (at + 2) % 2 ^ 32 in
+    let second = number_at t.state.memory after 2 in
     first_row (
     (not (is_text g c after), faulted g c record { number = 2; x = after; y = 0 } t)
-    ∷ []) (decoded_as g c at (decoded_of first (Some (number_at t.state.memory after 2))) t)
+    ∷ []) (decoded_as level g c at (first * 2 ^ 16 + second) (decoded_of first (Some second)) t)
 
 -- fetched, decoded, carried out: the first halfword that may not be executed decides
-unfoldable pub stepped : Setup → ℕ → Turn → Turn
-stepped g c t =
+unfoldable pub stepped : Level → Setup → ℕ → Turn → Turn
+stepped level g c t =
     let at = register t.state c 15 in
     let first = number_at t.state.memory at 2 in
     first_row (
     (not (is_text g c at), faulted g c record { number = 2; x = at; y = 0 } t)
-    ∷ (not (is_wide first), decoded_as g c at (decoded_of first None) t)
-    ∷ []) (stepped_wide g c at first t)
+    ∷ (not (is_wide first), decoded_as level g c at first (decoded_of first None) t)
+    ∷ []) (stepped_wide level g c at first t)
 
 -- ## the turn
+
+-- what happens from outside, in the order of the script
+abbrev pub happened : Setup → Turn → Event → Turn
+happened g t Tick = ticked t
+happened g t (Irq line) = interrupted g line t
+
+-- a turn after the events of it
+unfoldable pub after_events : Scenario → State → Turn
+after_events x s = fold (happened x.setup) (begun s) (events_of x.script s.turn)
 
 -- a task is the current one from now on
 abbrev pub with_current : ℕ → Turn → Turn
 with_current c t = changed (λ s. record s { current = c }) t
 
--- the chosen task runs; where there is none, nothing does
-abbrev pub turn_of : Setup → Option ℕ → Turn → Turn
-turn_of g None t = t
-turn_of g (Some c) t = stepped g c (with_current c t)
+abbrev pub low_note : Task → Note
+low_note x = note.Low (take 8 x.registers)
+
+abbrev pub high_note : Task → Note
+high_note x = note.High (drop 8 x.registers) x.flags.n x.flags.z x.flags.c x.flags.v
+
+-- the registers and flags of the task that ran are told
+unfoldable pub with_registers_told : Level → ℕ → Turn → Turn
+with_registers_told level c t =
+    told level (high_note (task_at t.state c)) (told level (low_note (task_at t.state c)) t)
+
+-- the chosen task runs; where there is none, the turn is idle
+abbrev pub turn_of : Level → Setup → Option ℕ → Turn → Turn
+turn_of level g None t = told level note.Idle t
+turn_of level g (Some c) t = with_registers_told level c (stepped level g c (with_current c t))
 
 unfoldable pub ended : Turn → Turn
 ended t = changed (λ s. record s { turn = s.turn + 1 }) t
 
-unfoldable pub turn : Scenario → State → Turn
-turn x s = ended (turn_of x.setup (chosen x.setup s) (begun s))
+-- the task is chosen after the events
+unfoldable pub turn : Level → Scenario → State → Turn
+turn level x s =
+    let t = after_events x s in
+    ended (turn_of level x.setup (chosen x.setup t.state) t)
 
 -- what is told of a turn: the chosen task and its PC before
 abbrev pub turned_of : State → Option ℕ → Turned
@@ -105,4 +143,4 @@ turned_of s None = Idle
 turned_of s (Some c) = Ran c (register s c 15)
 
 unfoldable pub turned : Scenario → State → Turned
-turned x s = turned_of s (chosen x.setup s)
+turned x s = let u = (after_events x s).state in turned_of u (chosen x.setup u)

@@ -1,5 +1,5 @@
 //! The board and one turn of it.
-ghost use Rattle.std.specs.Prelude.{ℕ, ◌≡◌, ◌<◌, ◌≤◌, ◌+◌, ◌↔◌, [], Option, Some, None, length, map, IfOk, IfSome, IsNone, IsSome, slice_get};
+ghost use Rattle.std.specs.Prelude.{ℕ, ◌≡◌, ◌≢◌, ◌<◌, ◌≤◌, ◌+◌, ◌&&◌, ◌↔◌, not, [], Option, Some, None, is_none, length, map, true, false, IfOk, IfSome, IsNone, IsSome, slice_get};
 ghost use Rattle.std.specs.Option.{option_map};
 ghost use Rattle.image_format.specs.Images.{picture};
 ghost use Rattle.image_format.specs.Picture.{task_in, line_in};
@@ -10,6 +10,9 @@ ghost use Rattle.task_table.specs.Start.{start};
 ghost use Rattle.task_table.specs.Parts.{task_setup, line_setup};
 ghost use Rattle.task_table.specs.declared.Line.{Line};
 ghost use Rattle.task_table.specs.Holds.{Holds as KernelHolds, task_count};
+ghost use Rattle.run_script.specs.Events.{script_data};
+ghost use Rattle.run_script.specs.Scripts.{lasts};
+ghost use Rattle.board_core.specs.declared.told.Level.TheVariants.{All};
 ghost use Rattle.board_core.specs.Script.{Scenario};
 ghost use Rattle.board_core.specs.Turn.{turn, turned};
 ghost use Rattle.board_core.specs.Run.{ending};
@@ -18,23 +21,27 @@ ghost use Rattle.board_core.specs.Stands.{Stands, Stood, notes_of, turns_of, cou
 ghost use Rattle.board_core.specs.Told.{IsTask, IsView, end_at, end_in};
 ghost use Rattle.board_core.specs.Machine.{IsStarted, MachineHolds, MachineStands};
 ghost use Rattle.board_core.specs.Kept.{IsChoice};
+ghost use Rattle.board_core.specs.Midway.{IsDue, IsMidway};
 
 use crate::choice::{Choice, choice_of};
 use crate::machine::Machine;
-use crate::{End, TaskView, Turned};
+use crate::{End, Level, TaskView, Turned};
 use image_format::Image;
 use kernel_abi::Note;
 use region_check::Region;
+use run_script::Script;
 use std::alloc::{AllocError, Global};
 use task_table::{Kernel, LineStart, Memory, TaskStart};
 
-/// A board with an image: what its kernel keeps, how many turns it made, and the choice of the task
-/// that runs next.
+/// A board with an image and a script: what its kernel keeps, how many turns it made, the choice of the
+/// task that runs next, and the turn in which something happens next.
 #[derive(Drop)]
 pub struct Board {
     machine: Machine,
     turns: u32,
     choice: Choice,
+    script: Script,
+    due: Option<u32>,
 }
 
 /// What the image says of a task.
@@ -98,37 +105,86 @@ fn kernel(alloc: Global, image: &Image) -> Result<Kernel, AllocError>
 }
 
 impl Board {
-    /// The board at the start of a run of an image.
+    /// The board at the start of a run of an image with a script.
     ///
     /// # Errors
     ///
     /// Only want of memory.
-    pub fn open(alloc: Global, image: &Image) -> Result<Board, AllocError>
-        ensures stands { IfOk result (λ b. Stands (scenario_of (picture image.now)) b (start (setup_of (picture image.now)))) }
+    pub fn open(alloc: Global, image: &Image, script: &Script) -> Result<Board, AllocError>
+        ensures stands { IfOk result (λ b. Stands (scenario_of (picture image.now) (script_data script.now)) b (start (setup_of (picture image.now)))) }
         ensures turns { IfOk result (λ b. turns_of b ≡ 0) }
     {
         let kernel = kernel(alloc, image)?;
+        let script = script.copy(alloc)?;
         let choice = choice_of(&kernel);
+        let due = script.next(0);
         Ok(Board {
             machine: Machine::of(kernel),
             turns: 0,
             choice,
+            script,
+            due,
         })
     }
 
-    /// One turn: one instruction of the chosen task, or nothing where none is ready.
+    /// One turn: the events of this turn, then one instruction of the chosen task, or nothing where none
+    /// is ready. What `Level::All` tells is among the notes.
     pub fn turn(&mut self) -> Turned
         requires few { turns_of self.old < 1000000000 }
         requires stood { Stood self.old }
-        ensures model { (x : Scenario) (s : State) → Stands x self.old s → Stands x self.new (turn x s).state }
-        ensures notes { (x : Scenario) (s : State) → Stands x self.old s → notes_of self.new ≡ (turn x s).notes }
+        ensures model { (x : Scenario) (s : State) → Stands x self.old s → Stands x self.new (turn All x s).state }
+        ensures notes { (x : Scenario) (s : State) → Stands x self.old s → notes_of self.new ≡ (turn All x s).notes }
         ensures turned { (x : Scenario) (s : State) → Stands x self.old s → result ≡ turned x s }
         ensures turns { turns_of self.new ≡ turns_of self.old + 1 }
     {
+        self.turn_at(Level::All)
+    }
+
+    /// One turn as `turn`, of which only so much is noted.
+    pub fn turn_at(&mut self, level: Level) -> Turned
+        requires few { turns_of self.old < 1000000000 }
+        requires stood { Stood self.old }
+        ensures model { (x : Scenario) (s : State) → Stands x self.old s → Stands x self.new (turn level x s).state }
+        ensures notes { (x : Scenario) (s : State) → Stands x self.old s → notes_of self.new ≡ (turn level x s).notes }
+        ensures turned { (x : Scenario) (s : State) → Stands x self.old s → result ≡ turned x s }
+        ensures few { length (notes_of self.new) ≤ 1024 }
+        ensures turns { turns_of self.new ≡ turns_of self.old + 1 }
+    {
+        self.begin();
         self.turns += 1;
-        let turned = self.machine.turn(self.choice.next);
+        let turned = self.machine.turn(level, self.choice.next);
         self.renew();
         turned
+    }
+
+    /// A turn begins, with its events.
+    #[inline(always)]
+    fn begin(&mut self)
+        requires few { turns_of self.old < 1000000000 }
+        requires stood { Stood self.old }
+        ensures midway { (x : Scenario) (s : State) → Stands x self.old s → IsMidway x self.new s }
+        ensures few { length (notes_of self.new) ≤ 900 }
+        ensures turns { turns_of self.new ≡ turns_of self.old }
+    {
+        self.machine.begin();
+        if is_due(self.due, self.turns) {
+            self.happen();
+        }
+    }
+
+    /// The events of this turn happen; then the choice is made anew, and the next turn with an event is
+    /// looked up.
+    fn happen(&mut self)
+        requires few { turns_of self.old < 1000000000 }
+        requires stands { (x : Scenario) × (s : State) × IsDue x self.old s }
+        ensures midway { (x : Scenario) (s : State) → IsDue x self.old s → IsMidway x self.new s }
+        ensures few { length (notes_of self.new) ≤ 900 }
+        ensures turns { turns_of self.new ≡ turns_of self.old }
+    {
+        self.machine.happen_all(&self.script, self.turns);
+        self.machine.settle();
+        self.choice = choice_of(&self.machine.reach.kernel);
+        self.due = self.script.next(self.turns + 1);
     }
 
     /// The choice is made anew where the last turn noted something: a turn that notes nothing leaves
@@ -137,7 +193,10 @@ impl Board {
         requires { (g : Setup) × (t : Turn) × MachineStands g self.old.machine t }
         ensures holds { (g : Setup) (t : Turn) → MachineHolds g self.old.machine t → MachineHolds g self.new.machine t }
         ensures choice { (g : Setup) (t : Turn) → MachineStands g self.old.machine t → (t.notes ≡ [] → IsChoice g t.state self.old.choice) → IsChoice g t.state self.new.choice }
+        ensures count { length (notes_of self.new) ≡ length (notes_of self.old) }
         ensures turns { turns_of self.new ≡ turns_of self.old }
+        ensures script { self.new.script ≡ self.old.script }
+        ensures due { self.new.due ≡ self.old.due }
     {
         if !self.notes().is_empty() {
             self.machine.settle();
@@ -161,7 +220,14 @@ impl Board {
         ensures end { (x : Scenario) (s : State) → Stands x self.now s → result ≡ end_at x s }
         ensures before { (x : Scenario) (s : State) (left : ℕ) → Stands x self.now s → 0 < left → result ≡ ending x left s }
     {
-        end_by(self.choice.down, self.choice.next.is_none())
+        end_by(self.choice.down, self.is_still())
+    }
+
+    /// No task is chosen, and nothing more comes from outside.
+    fn is_still(&self) -> bool
+        ensures { result ≡ (is_none self.now.choice.next && not (lasts (script_data self.now.script) self.now.turns)) }
+    {
+        self.choice.next.is_none() && !self.script.lasts(self.turns)
     }
 
     /// How many turns were made; the turn number of each state that the board stands for.
@@ -241,6 +307,14 @@ impl Board {
     {
         self.machine.reach.kernel.regions(i).get(k).copied()
     }
+}
+
+/// Whether something happens in this turn, by when it happens next.
+fn is_due(due: Option<u32>, turn: u32) -> bool
+    ensures due { result ≡ true → due ≡ Some turn }
+    ensures later { result ≡ false → due ≢ Some turn }
+{
+    due == Some(turn)
 }
 
 /// The end by the tests in their order, the bound aside.

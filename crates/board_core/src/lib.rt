@@ -2,11 +2,14 @@
 #![tactic(auto)]
 
 mod board;
+mod calls;
 mod choice;
+mod laws;
 mod machine;
 #[cfg(test)]
 mod tests;
 mod told;
 
 pub use board::Board;
-pub use told::{End, TaskView, Turned};
+pub use laws::instructions_are_told_beside;
+pub use told::{End, Level, TaskView, Turned};

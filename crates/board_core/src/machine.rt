@@ -1,5 +1,7 @@
 //! The kernel as the bus of its current task, and one instruction of that task.
-ghost use Rattle.std.specs.Prelude.{◌≡◌, ◌≢◌, ◌⊎◌, ◌&&◌, ◌+◌, ◌≤◌, ◌<◌, ◌%◌, ◌^◌, ◌/◌, ◌∷◌, [], ℕ, Option, true, false};
+ghost use Rattle.std.specs.Prelude.{◌≡◌, ◌≢◌, ◌⊎◌, ◌&&◌, ◌+◌, ◌*◌, ◌≤◌, ◌<◌, ◌%◌, ◌^◌, ◌/◌, ◌∷◌, [], ℕ, Option, true, false, fold, take, drop, slice_get};
+ghost use Rattle.run_script.specs.Events.{script_data};
+ghost use Rattle.run_script.specs.Scripts.{events_of};
 ghost use Rattle.region_check.specs.Rights.{may_use, has_right};
 ghost use Rattle.region_check.specs.declared.Right.TheVariants.{Execute};
 ghost use Rattle.board_core.specs.Spans.{spans, one_gives};
@@ -13,18 +15,22 @@ ghost use Rattle.task_table.specs.Holds.{Holds, task_count, note_count, memory_o
 ghost use Rattle.thumb_insn.specs.Range.{IsCoded, GivesCoded};
 ghost use Rattle.thumb_insn.specs.Table.{is_wide};
 ghost use Rattle.thumb_exec.specs.Sizes.{IsSize};
-ghost use Rattle.board_core.specs.Turn.{first_lacking, with_current, refusals, is_text, put, stepped, stepped_wide, decoded_as, executed, cpu_of, turn_of, turned_of};
+ghost use Rattle.board_core.specs.Turn.{first_lacking, with_current, refusals, is_text, put, told, happened, stepped, stepped_wide, decoded_as, executed, cpu_of, with_registers_told, turn_of, turned_of};
+ghost use Rattle.board_core.specs.Midway.{happened_next};
 ghost use Rattle.board_core.specs.Machine.{IsStored, IsReady, IsNext, MachineHolds, MachineStands, IsLent};
 
-use crate::Turned;
-use kernel_abi::Fault;
+use crate::calls::call;
+use crate::{Level, Turned};
+use kernel_abi::{Fault, Note};
 use region_check::{Region, Right, Rights, may};
+use run_script::{Event, Script};
 use task_table::Kernel;
 use thumb_decode::decode;
 use thumb_exec::bus::Bus;
 use thumb_exec::cpu::{Cpu, Outcome};
 use thumb_exec::step::exec;
 use thumb_insn::{Decoded, Insn};
+use timer_irq::{interrupt, tick};
 use words_core::{Flags, Regs};
 
 /// The kernel, of whose memory the current task reaches as much as its regions permit.
@@ -247,12 +253,148 @@ impl Machine {
 }
 
 impl Machine {
+    /// A turn begins: what the last one noted is gone.
+    #[inline(always)]
+    pub fn begin(&mut self)
+        ensures holds { (g : Setup) (t : Turn) → MachineHolds g self.old t → MachineHolds g self.new (begun t.state) }
+        ensures count { note_count self.new.reach.kernel ≡ 0 }
+    {
+        self.reach.kernel.clear_notes();
+    }
+
+    /// Something happens from outside.
+    fn happen(&mut self, event: Event)
+        requires stands { (g : Setup) × (t : Turn) × MachineStands g self.old t × (t.state.now + 1 < 2 ^ 64) }
+        requires room { note_count self.old.reach.kernel + 100 ≤ 1024 }
+        ensures stands { (g : Setup) (t : Turn) → MachineStands g self.old t → MachineStands g self.new (happened g t event) }
+        ensures count { note_count self.new.reach.kernel ≤ note_count self.old.reach.kernel + 100 }
+    {
+        self.settle();
+        match event {
+            Event::Tick => tick(&mut self.reach.kernel),
+            Event::Irq { line } => interrupt(&mut self.reach.kernel, line),
+        }
+    }
+
+    /// The k-th event of a turn happens, where there is one.
+    fn happen_at(&mut self, script: &Script, turn: u32, k: u32)
+        requires stands { (g : Setup) × (t : Turn) × MachineStands g self.old t × (t.state.now + 1 < 2 ^ 64) }
+        requires room { note_count self.old.reach.kernel + 100 ≤ 1024 }
+        ensures stands { (g : Setup) (t : Turn) → MachineStands g self.old t → MachineStands g self.new (happened_next g (slice_get (events_of (script_data script.now) turn) k) t) }
+        ensures count { note_count self.new.reach.kernel ≤ note_count self.old.reach.kernel + 100 }
+    {
+        if let Some(event) = script.event_at(turn, k) {
+            self.happen(event);
+        }
+    }
+
+    /// What happens from outside in a turn, in the order of the script.
+    pub fn happen_all(&mut self, script: &Script, turn: u32)
+        requires stands { (g : Setup) × (t : Turn) × MachineStands g self.old t × (t.state.now + 9 < 2 ^ 64) }
+        requires room { note_count self.old.reach.kernel ≡ 0 }
+        ensures stands { (g : Setup) (t : Turn) → MachineStands g self.old t → MachineStands g self.new (fold (happened g) t (events_of (script_data script.now) turn)) }
+        ensures count { note_count self.new.reach.kernel ≤ 900 }
+    {
+        script.facts();
+        for k in 0..9 {
+            self.happen_at(script, turn, k);
+        }
+    }
+}
+
+/// What is told of the registers r0 to r7.
+fn low_note(registers: &[u32; 16]) -> Note
+    ensures { result ≡ Note.Low (take 8 registers.now) }
+{
+    let r = registers;
+    Note::Low {
+        registers: [r[0], r[1], r[2], r[3], r[4], r[5], r[6], r[7]],
+    }
+}
+
+/// What is told of the registers r8 to r15 and of the flags.
+fn high_note(registers: &[u32; 16], flags: Flags) -> Note
+    ensures { result ≡ Note.High (drop 8 registers.now) flags.n flags.z flags.c flags.v }
+{
+    let r = registers;
+    Note::High {
+        registers: [r[8], r[9], r[10], r[11], r[12], r[13], r[14], r[15]],
+        n: flags.n,
+        z: flags.z,
+        c: flags.c,
+        v: flags.v,
+    }
+}
+
+impl Machine {
+    /// With all instructions, that of the current task is told.
+    #[inline(always)]
+    fn tell_insn(&mut self, level: Level, at: u32, code: u32)
+        requires ready { (g : Setup) × (t : Turn) × IsReady g self.old t }
+        requires room { note_count self.old.reach.kernel < 1024 }
+        ensures ready { (g : Setup) (t : Turn) → IsReady g self.old t → IsReady g self.new (told level (Note.Insn t.state.current at code) t) }
+        ensures count { note_count self.new.reach.kernel ≤ note_count self.old.reach.kernel + 1 }
+    {
+        match level {
+            Level::Calls => {}
+            Level::All => {
+                let task = self.reach.kernel.current() as u16;
+                self.reach.kernel.note(Note::Insn { task, at, code });
+            }
+        }
+    }
+
+    /// With all instructions, an idle turn is told.
+    fn tell_idle(&mut self, level: Level)
+        requires room { note_count self.old.reach.kernel < 1024 }
+        ensures holds { (g : Setup) (t : Turn) → MachineHolds g self.old t → MachineHolds g self.new (told level Note.Idle t) }
+        ensures count { note_count self.new.reach.kernel ≤ note_count self.old.reach.kernel + 1 }
+    {
+        match level {
+            Level::Calls => {}
+            Level::All => self.reach.kernel.note(Note::Idle),
+        }
+    }
+
+    /// The registers and flags of a task are told.
+    fn tell_registers(&mut self, task: usize)
+        requires there { task < task_count self.old.reach.kernel }
+        requires stands { (g : Setup) × (t : Turn) × MachineStands g self.old t }
+        requires room { note_count self.old.reach.kernel + 2 ≤ 1024 }
+        ensures holds { (g : Setup) (t : Turn) → MachineHolds g self.old t → MachineHolds g self.new (with_registers_told Level.All task t) }
+        ensures count { note_count self.new.reach.kernel ≤ note_count self.old.reach.kernel + 2 }
+    {
+        self.settle();
+        let registers = self.reach.kernel.registers(task);
+        let flags = self.reach.kernel.flags(task);
+        self.reach.kernel.note(low_note(&registers));
+        self.reach.kernel.note(high_note(&registers, flags));
+    }
+
+    /// With all instructions, the registers and flags of the task that ran are told.
+    #[inline(always)]
+    fn tell_task(&mut self, level: Level, task: usize)
+        requires there { task < task_count self.old.reach.kernel }
+        requires stands { (g : Setup) × (t : Turn) × MachineStands g self.old t }
+        requires room { note_count self.old.reach.kernel + 2 ≤ 1024 }
+        ensures holds { (g : Setup) (t : Turn) → MachineHolds g self.old t → MachineHolds g self.new (with_registers_told level task t) }
+        ensures count { note_count self.new.reach.kernel ≤ note_count self.old.reach.kernel + 2 }
+    {
+        match level {
+            Level::Calls => {}
+            Level::All => self.tell_registers(task),
+        }
+    }
+}
+
+impl Machine {
     /// One instruction of the current task, with its effect on the task and on memory.
     fn execute(&mut self, insn: &Insn)
         requires coded { IsCoded insn.now }
         requires ready { (g : Setup) × (t : Turn) × IsReady g self.old t }
         requires room { note_count self.old.reach.kernel + 101 ≤ 1024 }
-        ensures { (g : Setup) (t : Turn) → IsReady g self.old t → MachineHolds g self.new (executed g t.state.current insn.now t) }
+        ensures holds { (g : Setup) (t : Turn) → IsReady g self.old t → MachineHolds g self.new (executed g t.state.current insn.now t) }
+        ensures count { note_count self.new.reach.kernel ≤ note_count self.old.reach.kernel + 101 }
     {
         match exec(&mut self.processor, insn, &mut self.reach) {
             Outcome::Next => {}
@@ -265,12 +407,13 @@ impl Machine {
     fn call(&mut self)
         requires ready { (g : Setup) × (t : Turn) × IsReady g self.old t }
         requires room { note_count self.old.reach.kernel + 101 ≤ 1024 }
-        ensures { (g : Setup) (t : Turn) → IsReady g self.old t → MachineHolds g self.new (called g t.state.current (call_noted t.state.current t)) }
+        ensures holds { (g : Setup) (t : Turn) → IsReady g self.old t → MachineHolds g self.new (called g t.state.current (call_noted t.state.current t)) }
+        ensures count { note_count self.new.reach.kernel ≤ note_count self.old.reach.kernel + 101 }
     {
         self.settle();
         let task = self.reach.kernel.current();
         self.reach.kernel.note_call(task);
-        self.reach.kernel.call(task);
+        call(&mut self.reach.kernel, task);
     }
 
     /// The current task faults.
@@ -279,34 +422,43 @@ impl Machine {
         requires from_one { 1 ≤ fault.number }
         requires to_ten { fault.number ≤ 10 }
         requires room { note_count self.old.reach.kernel + 4 ≤ 1024 }
-        ensures { (g : Setup) (t : Turn) → IsReady g self.old t → MachineHolds g self.new (faulted g t.state.current fault t) }
+        ensures holds { (g : Setup) (t : Turn) → IsReady g self.old t → MachineHolds g self.new (faulted g t.state.current fault t) }
+        ensures count { note_count self.new.reach.kernel ≤ note_count self.old.reach.kernel + 4 }
     {
         self.settle();
         let task = self.reach.kernel.current();
         self.reach.kernel.fault(task, fault);
     }
 
-    /// What was decoded at an address is carried out; what has no row in the table is Illegal.
+    /// What was decoded at an address is told and carried out; what has no row in the table is Illegal.
     #[inline(always)]
-    fn act(&mut self, decoded: &Decoded, at: u32)
+    fn act(&mut self, level: Level, decoded: &Decoded, at: u32, code: u32)
         requires coded { GivesCoded decoded.now }
         requires ready { (g : Setup) × (t : Turn) × IsReady g self.old t }
-        requires room { note_count self.old.reach.kernel + 101 ≤ 1024 }
-        ensures { (g : Setup) (t : Turn) → IsReady g self.old t → MachineHolds g self.new (decoded_as g t.state.current at decoded.now t) }
+        requires room { note_count self.old.reach.kernel + 102 ≤ 1024 }
+        ensures holds { (g : Setup) (t : Turn) → IsReady g self.old t → MachineHolds g self.new (decoded_as level g t.state.current at code decoded.now t) }
+        ensures count { note_count self.new.reach.kernel ≤ note_count self.old.reach.kernel + 102 }
     {
         match decoded {
-            Decoded::Narrow(insn) => self.execute(insn),
-            Decoded::Wide(insn) => self.execute(insn),
+            Decoded::Narrow(insn) => {
+                self.tell_insn(level, at, code);
+                self.execute(insn);
+            }
+            Decoded::Wide(insn) => {
+                self.tell_insn(level, at, code);
+                self.execute(insn);
+            }
             Decoded::Illegal => self.fault(Fault::illegal(at)),
             Decoded::NeedsSecond => self.fault(Fault::illegal(at)),
         }
     }
 
     /// One instruction of the current task: fetched, decoded, carried out.
-    pub fn step(&mut self)
+    pub fn step(&mut self, level: Level)
         requires ready { (g : Setup) × (t : Turn) × IsReady g self.old t }
-        requires room { note_count self.old.reach.kernel + 101 ≤ 1024 }
-        ensures { (g : Setup) (t : Turn) → IsReady g self.old t → MachineHolds g self.new (stepped g t.state.current t) }
+        requires room { note_count self.old.reach.kernel + 102 ≤ 1024 }
+        ensures holds { (g : Setup) (t : Turn) → IsReady g self.old t → MachineHolds g self.new (stepped level g t.state.current t) }
+        ensures count { note_count self.new.reach.kernel ≤ note_count self.old.reach.kernel + 102 }
     {
         let at = self.processor.regs.get(15);
         if !is_text(&self.reach.kernel, at) {
@@ -316,17 +468,18 @@ impl Machine {
         let first = self.reach.kernel.half(at);
         if first / 2048 < 29 {
             let decoded = decode(first, None);
-            self.act(&decoded, at);
+            self.act(level, &decoded, at, u32::from(first));
             return;
         }
-        self.step_wide(first, at);
+        self.step_wide(level, first, at);
     }
 
     /// The same where the first halfword begins a wide instruction.
-    fn step_wide(&mut self, first: u16, at: u32)
+    fn step_wide(&mut self, level: Level, first: u16, at: u32)
         requires ready { (g : Setup) × (t : Turn) × IsReady g self.old t }
-        requires room { note_count self.old.reach.kernel + 101 ≤ 1024 }
-        ensures { (g : Setup) (t : Turn) → IsReady g self.old t → MachineHolds g self.new (stepped_wide g t.state.current at first t) }
+        requires room { note_count self.old.reach.kernel + 102 ≤ 1024 }
+        ensures holds { (g : Setup) (t : Turn) → IsReady g self.old t → MachineHolds g self.new (stepped_wide level g t.state.current at first t) }
+        ensures count { note_count self.new.reach.kernel ≤ note_count self.old.reach.kernel + 102 }
     {
         let after = at.wrapping_add(2);
         if !is_text(&self.reach.kernel, after) {
@@ -335,24 +488,31 @@ impl Machine {
         }
         let second = self.reach.kernel.half(after);
         let decoded = decode(first, Some(second));
-        self.act(&decoded, at);
+        let code = u32::from(first) * 0x1_0000 + u32::from(second);
+        self.act(level, &decoded, at, code);
     }
 }
 
 impl Machine {
-    /// One turn: one instruction of the task that is chosen, or nothing where none is.
-    pub fn turn(&mut self, next: Option<usize>) -> Turned
-        requires { (g : Setup) × (t : Turn) × IsNext g self.old t next }
-        ensures holds { (g : Setup) (t : Turn) → IsNext g self.old t next → MachineHolds g self.new (turn_of g next (begun t.state)) }
+    /// What the task that is chosen does, once the events of the turn have happened: one instruction; or
+    /// nothing where none is chosen.
+    pub fn turn(&mut self, level: Level, next: Option<usize>) -> Turned
+        requires next { (g : Setup) × (t : Turn) × IsNext g self.old t next }
+        requires room { note_count self.old.reach.kernel + 104 ≤ 1024 }
+        ensures holds { (g : Setup) (t : Turn) → IsNext g self.old t next → MachineHolds g self.new (turn_of level g next t) }
         ensures turned { (g : Setup) (t : Turn) → IsNext g self.old t next → result ≡ turned_of t.state next }
+        ensures count { note_count self.new.reach.kernel ≤ note_count self.old.reach.kernel + 104 }
     {
-        self.reach.kernel.clear_notes();
         match next {
-            None => Turned::Idle,
+            None => {
+                self.tell_idle(level);
+                Turned::Idle
+            }
             Some(task) => {
                 self.lend(task);
                 let at = self.processor.regs.get(15);
-                self.step();
+                self.step(level);
+                self.tell_task(level, task);
                 Turned::Ran {
                     task: task as u16,
                     at,

@@ -1,15 +1,23 @@
-ghost use Rattle.std.specs.Prelude.{◌≡◌, IfOk};
+ghost use Rattle.std.specs.Prelude.{◌≡◌, ◌+◌, ◌≤◌, ◌<◌, length, IfOk};
 ghost use Rattle.board_core.specs.Stands.{Stood, turns_of};
 
-use crate::{Board, Turned};
+use crate::{Board, End, Level, Turned};
 use image_format::Image;
-use kernel_abi::Note;
+use kernel_abi::{Handled, Note};
+use run_script::Script;
 use std::alloc::{AllocError, Global};
 use std::process::Abort;
 use std::test::Fail;
 
-// One task with 256 bytes of flash that begin with these halfwords.
-fn board(rt: &impl Abort, alloc: Global, first: u16, second: u16) -> Result<Board, AllocError>
+// One task with 256 bytes of flash that begin with these halfwords, and a script.
+fn with_script(
+    rt: &impl Abort,
+    alloc: Global,
+    first: u16,
+    second: u16,
+    script: &[u8],
+) -> Result<Board, AllocError>
+    requires small { length script.now < 1000 }
     ensures stood { IfOk result (λ b. Stood b) }
     ensures turns { IfOk result (λ b. turns_of b ≡ 0) }
 {
@@ -26,7 +34,26 @@ fn board(rt: &impl Abort, alloc: Global, first: u16, second: u16) -> Result<Boar
         bytes.push(0)?;
     }
     let image = Image::read(alloc, &bytes).expect(rt, "the image is sound");
-    Board::open(alloc, &image)
+    let script = Script::read(alloc, script).expect(rt, "the script is taken");
+    Board::open(alloc, &image, &script)
+}
+
+// The same, with an empty script.
+fn board(rt: &impl Abort, alloc: Global, first: u16, second: u16) -> Result<Board, AllocError>
+    ensures stood { IfOk result (λ b. Stood b) }
+    ensures turns { IfOk result (λ b. turns_of b ≡ 0) }
+{
+    with_script(rt, alloc, first, second, b"")
+}
+
+// A turn, without its instruction.
+fn go_on(board: &mut Board) -> Turned
+    requires few { turns_of board.old < 1000 }
+    requires stood { Stood board.old }
+    ensures stood { Stood board.new }
+    ensures turns { turns_of board.new ≡ turns_of board.old + 1 }
+{
+    board.turn_at(Level::Calls)
 }
 
 #[test]
@@ -49,7 +76,7 @@ fn a_board_opens(rt: HostRuntime) -> Result<(), Fail> {
 #[test]
 fn a_turn_moves_the_task(rt: HostRuntime) -> Result<(), Fail> {
     let mut board = board(&rt, rt.alloc(), 0x2001, 0xe7fe)?;
-    let turned = board.turn();
+    let turned = board.turn_at(Level::Calls);
     assert_eq!(rt;
         turned,
         Turned::Ran {
@@ -65,10 +92,43 @@ fn a_turn_moves_the_task(rt: HostRuntime) -> Result<(), Fail> {
 }
 
 #[test]
+fn all_instructions_are_told_with_the_registers(rt: HostRuntime) -> Result<(), Fail> {
+    let mut board = board(&rt, rt.alloc(), 0x2001, 0xe7fe)?;
+    board.turn();
+    let notes = board.notes();
+    assert_eq!(rt; notes.len(), 3);
+    assert_eq!(rt;
+        notes.get(0).copied(),
+        Some(Note::Insn {
+            task: 0,
+            at: 0x0800_0000,
+            code: 0x2001,
+        })
+    );
+    assert_eq!(rt;
+        notes.get(1).copied(),
+        Some(Note::Low {
+            registers: [1, 0, 0, 0, 0, 0, 0, 0],
+        })
+    );
+    assert_eq!(rt;
+        notes.get(2).copied(),
+        Some(Note::High {
+            registers: [0, 0, 0, 0, 0, 0x2000_0000, 0xFFFF_FFFF, 0x0800_0002],
+            n: false,
+            z: false,
+            c: false,
+            v: false,
+        })
+    );
+    Ok(())
+}
+
+#[test]
 fn an_illegal_instruction_is_noted(rt: HostRuntime) -> Result<(), Fail> {
     let mut board = board(&rt, rt.alloc(), 0xde00, 0)?;
     board.turn();
-    assert_eq!(rt; board.notes().len(), 1);
+    assert_eq!(rt; board.notes().len(), 3);
     match board.notes()[0] {
         Note::Fault { task, fault } => {
             assert_eq!(rt; task, 0);
@@ -77,5 +137,67 @@ fn an_illegal_instruction_is_noted(rt: HostRuntime) -> Result<(), Fail> {
         }
         _ => assert!(rt; false),
     }
+    Ok(())
+}
+
+#[test]
+fn events_come_in_their_turn(rt: HostRuntime) -> Result<(), Fail> {
+    let script = b"at 2 tick\nat 2 irq 7\n";
+    let mut board = with_script(&rt, rt.alloc(), 0x2001, 0xe7fe, script)?;
+    go_on(&mut board);
+    go_on(&mut board);
+    assert_eq!(rt; board.notes().len(), 0);
+    assert_eq!(rt; board.now(), 0);
+    go_on(&mut board);
+    assert_eq!(rt; board.now(), 1);
+    let notes = board.notes();
+    assert_eq!(rt; notes.len(), 2);
+    assert_eq!(rt; notes.get(0).copied(), Some(Note::Tick { now: 1 }));
+    let irq = Note::Irq {
+        line: 7,
+        handled: Handled::Unowned,
+    };
+    assert_eq!(rt; notes.get(1).copied(), Some(irq));
+    go_on(&mut board);
+    assert_eq!(rt; board.notes().len(), 0);
+    assert_eq!(rt; board.now(), 1);
+    Ok(())
+}
+
+#[test]
+fn a_tick_comes_every_second_turn(rt: HostRuntime) -> Result<(), Fail> {
+    let mut board = with_script(&rt, rt.alloc(), 0xe7fe, 0, b"every 2 tick\n")?;
+    go_on(&mut board);
+    go_on(&mut board);
+    assert_eq!(rt; board.now(), 0);
+    go_on(&mut board);
+    assert_eq!(rt; board.now(), 1);
+    go_on(&mut board);
+    assert_eq!(rt; board.now(), 1);
+    go_on(&mut board);
+    assert_eq!(rt; board.now(), 2);
+    assert_eq!(rt; board.turns(), 5);
+    Ok(())
+}
+
+#[test]
+fn the_supervisor_ends_a_run(rt: HostRuntime) -> Result<(), Fail> {
+    let mut board = with_script(&rt, rt.alloc(), 0xde00, 0, b"at 1 tick\n")?;
+    assert_eq!(rt; board.ended(), None);
+    go_on(&mut board);
+    assert_eq!(rt; board.ended(), Some(End::Supervisor));
+    Ok(())
+}
+
+#[test]
+fn an_idle_turn_has_its_events(rt: HostRuntime) -> Result<(), Fail> {
+    let mut board = with_script(&rt, rt.alloc(), 0xde00, 0, b"at 1 tick\n")?;
+    go_on(&mut board);
+    let turned = board.turn();
+    assert_eq!(rt; turned, Turned::Idle);
+    let notes = board.notes();
+    assert_eq!(rt; notes.len(), 2);
+    assert_eq!(rt; notes.get(0).copied(), Some(Note::Tick { now: 1 }));
+    assert_eq!(rt; notes.get(1).copied(), Some(Note::Idle));
     Ok(())
 }

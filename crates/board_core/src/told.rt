@@ -4,6 +4,14 @@ use kernel_abi::{Health, Timer};
 use task_table::Wait;
 use words_core::Flags;
 
+/// How much of a run is told: what calls, events and faults did; or all instructions too, with the
+/// registers after each.
+#[derive(Clone, Copy, Debug, PartialEq, Eq)]
+pub enum Level {
+    Calls,
+    All,
+}
+
 /// How a run ended.
 #[derive(Clone, Copy, Debug, PartialEq, Eq)]
 pub enum End {

@@ -1,3 +1,6 @@
+use Rattle.std.proofs.Common.{ℕ, subst}
+use Rattle.run_script.specs.Events.{script_data}
+use Rattle.run_script.specs.Scripts.{ScriptData, IsNext}
 use Rattle.task_table.proofs.Starts.{counted-start}
 use Rattle.task_table.specs.Start.{start, begun}
 use Rattle.board_core.specs.Opened.{setup_of}
@@ -13,8 +16,10 @@ pub returns-clause-stands : goal.returns-clause-stands
 returns-clause-stands c =
     let g = setup_of (picture c.args.image.now) in
     let s = opened g c.in_ok-kernel.kernel c.in_ok-kernel.ensures.stands in
+    let N : ScriptData → Type 0 = λ script. IsNext script 0 c.next-due.result in
+    let M : ℕ → Type 0 = λ turn. IsNext (script_data c.args.script.now) turn c.next-due.result in
     record {
-      holds = record { machine = opened_as g _ c.of.result (start g) c.of.ensures.kernel c.of.ensures.lent s.0; turns = s.2; choice = choice_begun g (start g) _ (c.choice_of-choice.ensures g (begun (start g)) c.in_ok-kernel.ensures.stands) };
+      holds = record { machine = opened_as g _ c.of.result (start g) c.of.ensures.kernel c.of.ensures.lent s.0; turns = s.2; script = c.in_ok-script.ensures; due = subst M s.2 (subst N c.in_ok-script.ensures c.next-due.ensures); choice = choice_begun g (start g) _ (c.choice_of-choice.ensures g (begun (start g)) c.in_ok-kernel.ensures.stands) };
       sane = s.1;
       counted = counted-start g;
     }

@@ -1,81 +1,80 @@
-use Rattle.std.proofs.Common.{◌≡◌, ℕ, Option, sym, ◌∙◌, ap, arith, subst}
-use Rattle.task_table.specs.Reading.{chosen, register}
-use Rattle.task_table.specs.Start.{begun}
+use Rattle.std.proofs.Common.{◌≡◌, ◌<◌, ℕ, Option, length, sym, ◌∙◌, ap, arith, subst}
+use Rattle.task_table.specs.Reading.{register}
 use Rattle.task_table.proofs.Sanity.{sane-current}
 use Rattle.board_core.specs.declared.told.Turned.TheVariants.{Ran}
-use Rattle.board_core.specs.Machine.{MachineHolds}
-use Rattle.board_core.specs.Turn.{turn_of, turned_of, with_current}
-use Rattle.board_core.proofs.Running.{begun_sane, begun_state}
-use Rattle.board_core.proofs.TurnKeeps.{chosen_is}
-use Rattle.board_core.proofs.Lending.{begun_by, below, lent_register, register_begun}
+use Rattle.board_core.specs.Machine.{IsReady, MachineHolds}
+use Rattle.board_core.specs.Turn.{turn_of, turned_of, stepped, with_current}
+use Rattle.board_core.proofs.TurnKeeps.{chosen_is, sane-ran}
+use Rattle.board_core.proofs.Lending.{below, lent_register, register_current}
 use Rattle.board_core.proofs.machine.Machine.turn.Goals as goal
 
 pub lend-requires-clause-there : goal.lend-requires-clause-there
 lend-requires-clause-there c =
-    let g = c.requires.0 in
-    let t = c.requires.1 in
-    let n = c.requires.2 in
-    let h = begun_by _ g _ c.clear_notes.new.self _ t (λ u hu. c.clear_notes.ensures.holds g u hu) n.stands.holds in
-    let sane = begun_sane g t.state n.stands.sane in
-    let is = chosen_is (begun t.state).state c.in-Some.task sane (ap (chosen g) (begun_state t.state) ∙ sym n.is ∙ c.in-Some.is) in
-    below _ g c.clear_notes.new.self _ (begun t.state) c.in-Some.task h is.inside
-
-pub lend-requires-clause-stands : goal.lend-requires-clause-stands
-lend-requires-clause-stands c =
-    let g = c.requires.0 in
-    let t = c.requires.1 in
-    let n = c.requires.2 in (
-      g,
-      begun t.state,
-      record { holds = begun_by _ g _ c.clear_notes.new.self _ t (λ u hu. c.clear_notes.ensures.holds g u hu) n.stands.holds; sane = begun_sane g t.state n.stands.sane },
-    )
+    let g = c.requires.next.0 in
+    let t = c.requires.next.1 in
+    let n = c.requires.next.2 in
+    let is = chosen_is t.state c.in-Some.task n.stands.sane (sym n.is ∙ c.in-Some.is) in
+    below _ g c.args.self.now.reach.kernel _ t c.in-Some.task n.stands.holds is.inside
 
 pub step-requires-clause-ready : goal.step-requires-clause-ready
 step-requires-clause-ready c =
-    let g = c.requires.0 in
-    let t = c.requires.1 in
-    let n = c.requires.2 in
-    let h = begun_by _ g _ c.clear_notes.new.self _ t (λ u hu. c.clear_notes.ensures.holds g u hu) n.stands.holds in
-    let sane = begun_sane g t.state n.stands.sane in
-    let is = chosen_is (begun t.state).state c.in-Some.task sane (ap (chosen g) (begun_state t.state) ∙ sym n.is ∙ c.in-Some.is) in (
+    let g = c.requires.next.0 in
+    let t = c.requires.next.1 in
+    let n = c.requires.next.2 in
+    let is = chosen_is t.state c.in-Some.task n.stands.sane (sym n.is ∙ c.in-Some.is) in (
       g,
-      with_current c.in-Some.task (begun t.state),
-      record { lent = c.lend.ensures.lent; holds = c.lend.ensures.holds g (begun t.state) h is.ready; sane = sane-current c.in-Some.task (begun t.state) sane is.inside },
+      with_current c.in-Some.task t,
+      record { lent = c.lend.ensures.lent; holds = c.lend.ensures.holds g t n.stands.holds is.ready; sane = sane-current c.in-Some.task t n.stands.sane is.inside },
     )
+
+pub tell_task-requires-clause-there : goal.tell_task-requires-clause-there
+tell_task-requires-clause-there c =
+    let g = c.requires.next.0 in
+    let t = c.requires.next.1 in
+    let n = c.requires.next.2 in
+    let task = c.in-Some.task in
+    let is = chosen_is t.state task n.stands.sane (sym n.is ∙ c.in-Some.is) in
+    let ready : IsReady g c.lend.new.self (with_current task t) = record { lent = c.lend.ensures.lent; holds = c.lend.ensures.holds g t n.stands.holds is.ready; sane = sane-current task t n.stands.sane is.inside } in
+    let u = stepped c.args.level g task (with_current task t) in
+    let sane = sane-ran c.args.level task t n.stands.sane is in
+    let before = n.stands.sane.steady.as_many in
+    let many = sane.steady.as_many in
+    let there = is.inside in
+    let inside : task < length u.state.tasks = omega (arith, before, many, there) in
+    below _ g c.step.new.self.reach.kernel _ u task (c.step.ensures.holds g (with_current task t) ready) inside
+
+pub tell_task-requires-clause-stands : goal.tell_task-requires-clause-stands
+tell_task-requires-clause-stands c =
+    let g = c.requires.next.0 in
+    let t = c.requires.next.1 in
+    let n = c.requires.next.2 in
+    let task = c.in-Some.task in
+    let is = chosen_is t.state task n.stands.sane (sym n.is ∙ c.in-Some.is) in
+    let ready : IsReady g c.lend.new.self (with_current task t) = record { lent = c.lend.ensures.lent; holds = c.lend.ensures.holds g t n.stands.holds is.ready; sane = sane-current task t n.stands.sane is.inside } in
+    (g, stepped c.args.level g task (with_current task t), record { holds = c.step.ensures.holds g (with_current task t) ready; sane = sane-ran c.args.level task t n.stands.sane is })
 
 pub overflow_cast-result : goal.overflow_cast-result
 overflow_cast-result c =
-    let g = c.requires.0 in
-    let t = c.requires.1 in
-    let n = c.requires.2 in
-    let h = begun_by _ g _ c.clear_notes.new.self _ t (λ u hu. c.clear_notes.ensures.holds g u hu) n.stands.holds in
-    let sane = begun_sane g t.state n.stands.sane in
-    let is = chosen_is (begun t.state).state c.in-Some.task sane (ap (chosen g) (begun_state t.state) ∙ sym n.is ∙ c.in-Some.is) in
-    let there = below _ g c.clear_notes.new.self _ (begun t.state) c.in-Some.task h is.inside in
-    let few = c.clear_notes.new.self.few in
-    omega arith
-
-pub returns-in-None-clause-holds : goal.returns-in-None-clause-holds
-returns-in-None-clause-holds c = λ g t n.
-    let P : Option ℕ → Type 0 = λ o. MachineHolds g record { reach = record { kernel = c.clear_notes.new.self }; processor = c.args.self.now.processor; lent = c.args.self.now.lent } (turn_of g o (begun t.state)) in
-    subst P (sym c.in-None.is) (begun_by _ g _ c.clear_notes.new.self _ t (λ u hu. c.clear_notes.ensures.holds g u hu) n.stands.holds)
-
-pub returns-in-None-clause-turned : goal.returns-in-None-clause-turned
-returns-in-None-clause-turned c = λ g t n. ap (turned_of t.state) (sym c.in-None.is)
+    let g = c.requires.next.0 in
+    let t = c.requires.next.1 in
+    let n = c.requires.next.2 in
+    let is = chosen_is t.state c.in-Some.task n.stands.sane (sym n.is ∙ c.in-Some.is) in
+    let there = below _ g c.args.self.now.reach.kernel _ t c.in-Some.task n.stands.holds is.inside in
+    let few = c.args.self.now.reach.kernel.few in
+    omega (arith, there, few)
 
 pub returns-in-Some-clause-holds : goal.returns-in-Some-clause-holds
 returns-in-Some-clause-holds c = λ g t n.
-    let h = begun_by _ g _ c.clear_notes.new.self _ t (λ u hu. c.clear_notes.ensures.holds g u hu) n.stands.holds in
-    let sane = begun_sane g t.state n.stands.sane in
-    let is = chosen_is (begun t.state).state c.in-Some.task sane (ap (chosen g) (begun_state t.state) ∙ sym n.is ∙ c.in-Some.is) in
-    let P : Option ℕ → Type 0 = λ o. MachineHolds g c.step.new.self (turn_of g o (begun t.state)) in
-    subst P (sym c.in-Some.is) (c.step.ensures g (with_current c.in-Some.task (begun t.state)) record { lent = c.lend.ensures.lent; holds = c.lend.ensures.holds g (begun t.state) h is.ready; sane = sane-current c.in-Some.task (begun t.state) sane is.inside })
+    let task = c.in-Some.task in
+    let is = chosen_is t.state task n.stands.sane (sym n.is ∙ c.in-Some.is) in
+    let ready : IsReady g c.lend.new.self (with_current task t) = record { lent = c.lend.ensures.lent; holds = c.lend.ensures.holds g t n.stands.holds is.ready; sane = sane-current task t n.stands.sane is.inside } in
+    let P : Option ℕ → Type 0 = λ o. MachineHolds g c.tell_task.new.self (turn_of c.args.level g o t) in
+    subst P (sym c.in-Some.is) (c.tell_task.ensures.holds g _ (c.step.ensures.holds g (with_current task t) ready))
 
 pub returns-in-Some-clause-turned : goal.returns-in-Some-clause-turned
 returns-in-Some-clause-turned c = λ g t n.
-    let h = begun_by _ g _ c.clear_notes.new.self _ t (λ u hu. c.clear_notes.ensures.holds g u hu) n.stands.holds in
-    let sane = begun_sane g t.state n.stands.sane in
-    let is = chosen_is (begun t.state).state c.in-Some.task sane (ap (chosen g) (begun_state t.state) ∙ sym n.is ∙ c.in-Some.is) in
-    let lent = c.lend.ensures.holds g (begun t.state) h is.ready in
-    let at : c.get-at.result ≡ register t.state c.in-Some.task 15 = c.get-at.ensures ∙ lent_register g _ _ (with_current c.in-Some.task (begun t.state)) lent is.inside ∙ register_begun t.state c.in-Some.task in
-    ap (Ran c.in-Some.task) at ∙ ap (turned_of t.state) (sym c.in-Some.is)
+    let task = c.in-Some.task in
+    let is = chosen_is t.state task n.stands.sane (sym n.is ∙ c.in-Some.is) in
+    let lent = c.lend.ensures.holds g t n.stands.holds is.ready in
+    let at : c.get-at.result ≡ register t.state task 15 = c.get-at.ensures ∙ lent_register g _ _ (with_current task t) lent is.inside ∙ register_current t task in
+    ap (Ran task) at ∙ ap (turned_of t.state) (sym c.in-Some.is)

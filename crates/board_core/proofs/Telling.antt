@@ -1,0 +1,78 @@
+-- The current task while the processor is lent to it, and what is told of a turn.
+use Rattle.std.proofs.Common.{◌≡◌, ◌<◌, ◌≤◌, ℕ, zero, suc, true, List, [], ◌∷◌, length, get_or, drop, arith, refl, ◌∙◌, ap}
+use Rattle.kernel_abi.specs.declared.Note.{Note}
+use Rattle.thumb_exec.specs.declared.cpu.Cpu.{Cpu}
+use Rattle.task_table.specs.declared.kernel.Kernel.{Kernel}
+use Rattle.task_table.specs.State.{Setup, Turn}
+use Rattle.task_table.specs.Reading.{is_ready, task_at}
+use Rattle.task_table.specs.Effects.{noted}
+use Rattle.task_table.specs.Rows.{call_noted}
+use Rattle.task_table.specs.Holds.{Holds, Stands}
+use Rattle.task_table.proofs.Sanity.{sane-noted, sane-call_noted}
+use Rattle.board_core.specs.declared.machine.Machine.{Machine}
+use Rattle.board_core.specs.declared.told.Level.{Level}
+use Rattle.board_core.specs.declared.told.Level.TheVariants.{Calls, All}
+use Rattle.board_core.specs.Machine.{with_cpu, IsLent, IsReady}
+use Rattle.board_core.specs.Turn.{told, with_registers_told, high_note, low_note}
+use Rattle.board_core.proofs.Lending.{rest_of, lent_noted}
+use Rattle.board_core.proofs.Quiet.{ready-with_processor}
+use Rattle.board_core.proofs.TurnKeeps.{told_state, ready-call_noted}
+
+pub lent_ready : (g : Setup) (k : Kernel) (cpu : Cpu) (t : Turn) → IsLent g k cpu t → t.state.current < length t.state.tasks → is_ready t.state t.state.current ≡ true
+lent_ready g k cpu t h inside =
+    let s = h.saved in
+    let rest = rest_of s t cpu h.is in
+    let there : s.state.current < length s.state.tasks = rw (rest.current, rest.count) at inside in
+    let same : is_ready (with_cpu cpu s).state s.state.current ≡ true = ready-with_processor s.state.current cpu.regs.words cpu.flags s there ∙ h.ready in
+    ap (λ (i : ℕ). is_ready t.state i) rest.current ∙ ap (λ (u : Turn). is_ready u.state s.state.current) h.is ∙ same
+
+-- the kernel as a task calls: what it stands for, and that the caller is ready
+pub record IsCalling (g : Setup) (k : Kernel) (c : ℕ) (t : Turn) : Type 0 where
+  pub stands : Stands g k (call_noted c t)
+  pub ready : is_ready (call_noted c t).state c ≡ true
+
+pub calling : (g : Setup) (k k' : Kernel) (m : Machine) (c : ℕ) (t : Turn) → IsReady g m t → c ≡ t.state.current → Holds g k t → (Holds g k t → Holds g k' (call_noted c t)) → IsCalling g k' c t
+calling g k k' m c t r at h f =
+    let inside : c < length t.state.tasks = rw at r.sane.steady.current in
+    let ready : is_ready t.state c ≡ true = ap (λ (i : ℕ). is_ready t.state i) at ∙ lent_ready g m.reach.kernel m.processor t r.holds r.sane.steady.current in
+    record { stands = record { holds = f h; sane = sane-call_noted c t r.sane inside }; ready = ready-call_noted c t ready }
+
+-- ## what is told
+
+drop_at : (xs : List ℕ) (k : ℕ) → k < length xs → get_or xs k 0 ∷ drop (suc k) xs ≡ drop k xs
+drop_at [] k h = absurd (omega arith)
+drop_at (x ∷ xs) zero h = refl
+drop_at (x ∷ xs) (suc k) h = drop_at xs k (omega arith)
+
+drop_all : (xs : List ℕ) (n : ℕ) → length xs ≤ n → [] ≡ drop n xs
+drop_all [] zero h = refl
+drop_all [] (suc n) h = refl
+drop_all (x ∷ xs) zero h = absurd (omega arith)
+drop_all (x ∷ xs) (suc n) h = drop_all xs n (omega arith)
+
+-- the last eight of sixteen
+pub last_eight : (xs : List ℕ) → length xs ≡ 16 → get_or xs 8 0 ∷ get_or xs 9 0 ∷ get_or xs 10 0 ∷ get_or xs 11 0 ∷ get_or xs 12 0 ∷ get_or xs 13 0 ∷ get_or xs 14 0 ∷ get_or xs 15 0 ∷ [] ≡ drop 8 xs
+last_eight xs n =
+    let at15 = ap (λ (ys : List ℕ). get_or xs 15 0 ∷ ys) (drop_all xs 16 (omega arith)) ∙ drop_at xs 15 (omega arith) in
+    let at14 = ap (λ (ys : List ℕ). get_or xs 14 0 ∷ ys) at15 ∙ drop_at xs 14 (omega arith) in
+    let at13 = ap (λ (ys : List ℕ). get_or xs 13 0 ∷ ys) at14 ∙ drop_at xs 13 (omega arith) in
+    let at12 = ap (λ (ys : List ℕ). get_or xs 12 0 ∷ ys) at13 ∙ drop_at xs 12 (omega arith) in
+    let at11 = ap (λ (ys : List ℕ). get_or xs 11 0 ∷ ys) at12 ∙ drop_at xs 11 (omega arith) in
+    let at10 = ap (λ (ys : List ℕ). get_or xs 10 0 ∷ ys) at11 ∙ drop_at xs 10 (omega arith) in
+    let at9 = ap (λ (ys : List ℕ). get_or xs 9 0 ∷ ys) at10 ∙ drop_at xs 9 (omega arith) in
+    ap (λ (ys : List ℕ). get_or xs 8 0 ∷ ys) at9 ∙ drop_at xs 8 (omega arith)
+
+pub told_current : (level : Level) (n : Note) (t : Turn) → (told level n t).state.current ≡ t.state.current
+told_current level n t = ap (λ s. s.current) (told_state level n t)
+
+pub ready_noted : (g : Setup) (m : Machine) (k : Kernel) (n : Note) (t : Turn) → ((u : Turn) → Holds g m.reach.kernel u → Holds g k (noted n u)) → IsReady g m t → IsReady g record { reach = record { kernel = k }; processor = m.processor; lent = m.lent } (noted n t)
+ready_noted g m k n t f r = record { lent = r.lent; holds = lent_noted g m.reach.kernel k m.processor n t f r.holds; sane = sane-noted n t r.sane }
+
+-- both notes of the registers, one after the other
+pub registers_told : (c : ℕ) (t : Turn) → noted (high_note (task_at t.state c)) (noted (low_note (task_at t.state c)) t) ≡ with_registers_told All c t
+unfolding with_registers_told
+registers_told c t = refl
+
+pub no_registers_told : (c : ℕ) (t : Turn) → t ≡ with_registers_told Calls c t
+unfolding with_registers_told
+no_registers_told c t = refl

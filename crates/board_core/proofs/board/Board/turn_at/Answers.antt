@@ -1,0 +1,67 @@
+use Rattle.std.proofs.Common.{◌≤◌, ℕ, Option, length, sym, ◌∙◌, ap, subst, arith}
+use Rattle.run_script.specs.Events.{script_data}
+use Rattle.run_script.specs.Scripts.{ScriptData, IsNext, events_of}
+use Rattle.run_script.specs.declared.script.Script.{Script}
+use Rattle.run_script.proofs.Each.{each_turn}
+use Rattle.task_table.specs.State.{State}
+use Rattle.board_core.specs.declared.board.Board.{Board}
+use Rattle.board_core.specs.Script.{Scenario}
+use Rattle.board_core.specs.Stands.{Stands}
+use Rattle.board_core.specs.Turn.{turn, turned, turned_of, after_events}
+use Rattle.board_core.proofs.Turning.{rested, rested_as, next_of, noted_in, as_chosen, stands_after, turn_notes, choice_kept}
+use Rattle.board_core.proofs.Counts.{counted_turn, turn_more}
+use Rattle.board_core.proofs.board.Board.turn_at.Goals as goal
+
+-- a turn has nine events at most
+few_events : (x : Scenario) (s : State) (b : Board) → Stands x b s → length (events_of x.script s.turn) ≤ 9
+few_events x s b st =
+    let P : ScriptData → Type 0 = λ script. length (events_of script s.turn) ≤ 9 in
+    subst P st.holds.script (each_turn (script_data b.script) b.script.facts s.turn).few
+
+pub renew-requires : goal.renew-requires
+renew-requires c =
+    let x = c.requires.stood.0 in
+    let s = c.requires.stood.1 in
+    let st = c.requires.stood.2 in
+    let level = c.args.level in
+    let m = c.turn-turned.new.self in
+    let mid = c.begin.ensures.midway x s st in
+    let h = as_chosen level x s m _ mid.choice (c.turn-turned.ensures.holds x.setup _ (next_of x s c.begin.new.self mid)) in
+    (x.setup, rested m (turn level x s).state, stands_after level x s m st.sane h)
+
+pub returns-clause-model : goal.returns-clause-model
+returns-clause-model c = λ x s st.
+    let level = c.args.level in
+    let m = c.turn-turned.new.self in
+    let mid = c.begin.ensures.midway x s st in
+    let h = as_chosen level x s m _ mid.choice (c.turn-turned.ensures.holds x.setup _ (next_of x s c.begin.new.self mid)) in
+    let after = stands_after level x s m st.sane h in
+    let more = turn_more level x s in
+    let N : ℕ → Type 0 = λ from. IsNext x.script from c.begin.new.self.due in
+    let D : Option ℕ → Type 0 = λ due. IsNext x.script (turn level x s).state.turn due in
+    record {
+      holds = record {
+        machine = rested_as x.setup m c.renew.new.self.machine (turn level x s).state (c.renew.ensures.holds x.setup _ after.holds);
+        turns = let a = st.holds.turns in let b = c.begin.ensures.turns in let r = c.renew.ensures.turns in omega (arith, more, a, b, r);
+        choice = c.renew.ensures.choice x.setup (rested m (turn level x s).state) after (choice_kept level x s m _ st.sane h mid.choice);
+        script = ap (λ (script : Script). script_data script) c.renew.ensures.script ∙ mid.script;
+        due = subst D (sym c.renew.ensures.due) (subst N (sym more) mid.due);
+      };
+      sane = after.sane;
+      counted = counted_turn level x s (few_events x s c.args.self.now st) st.counted;
+    }
+
+pub returns-clause-notes : goal.returns-clause-notes
+returns-clause-notes c = λ x s st.
+    let level = c.args.level in
+    let m = c.turn-turned.new.self in
+    let mid = c.begin.ensures.midway x s st in
+    let h = as_chosen level x s m _ mid.choice (c.turn-turned.ensures.holds x.setup _ (next_of x s c.begin.new.self mid)) in
+    let after = stands_after level x s m st.sane h in
+    noted_in x.setup c.renew.new.self.machine _ (c.renew.ensures.holds x.setup _ after.holds) ∙ turn_notes level x s m h
+
+pub returns-clause-turned : goal.returns-clause-turned
+unfolding turned
+returns-clause-turned c = λ x s st.
+    let mid = c.begin.ensures.midway x s st in
+    c.turn-turned.ensures.turned x.setup _ (next_of x s c.begin.new.self mid) ∙ ap (turned_of (after_events x s).state) mid.choice.next

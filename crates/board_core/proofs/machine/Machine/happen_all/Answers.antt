@@ -1,0 +1,36 @@
+use Rattle.std.proofs.Common.{◌≤◌, List, length, take, subst, arith}
+use Rattle.std.specs.Prelude.{fold}
+use Rattle.run_script.specs.declared.events.Event.{Event}
+use Rattle.run_script.specs.Events.{script_data}
+use Rattle.run_script.specs.Scripts.{events_of}
+use Rattle.task_table.specs.State.{Turn}
+use Rattle.board_core.specs.Machine.{MachineStands}
+use Rattle.board_core.specs.Turn.{happened}
+use Rattle.board_core.proofs.Counts.{later-events}
+use Rattle.board_core.proofs.Outside.{one_more, take_whole, take_few}
+use Rattle.board_core.proofs.machine.Machine.happen_all.Goals as goal
+
+pub happen_at-requires-clause-stands : goal.happen_at-requires-clause-stands
+happen_at-requires-clause-stands c =
+    let g = c.requires.stands.0 in
+    let t = c.requires.stands.1 in
+    let events = take c.loop-k.k (events_of (script_data c.args.script.now) c.args.turn) in
+    let later = later-events g events t in
+    let few = take_few (events_of (script_data c.args.script.now) c.args.turn) c.loop-k.k in
+    let small = c.requires.stands.3 in
+    (g, fold (happened g) t events, c.loop-k.invariant.stands g t c.requires.stands.2, omega (arith, later.now, few, small, c.loop-k-test.true))
+
+pub loop-k-preserved : goal.loop-k-preserved
+loop-k-preserved c = record {
+  room = omega (arith, c.happen_at.ensures.count, c.loop-k.invariant.room);
+  stands = λ g t st.
+      let P : Turn → Type 0 = λ u. MachineStands g c.happen_at.new.self u in
+      subst P (one_more g t (events_of (script_data c.args.script.now) c.args.turn) c.loop-k.k) (c.happen_at.ensures.stands g _ (c.loop-k.invariant.stands g t st));
+}
+
+pub returns-clause-stands : goal.returns-clause-stands
+returns-clause-stands c = λ g t st.
+    let events = events_of (script_data c.args.script.now) c.args.turn in
+    let few : length events ≤ c.loop-k.k = omega (arith, (c.facts.ensures.turn c.args.turn).few, c.loop-k-test.false) in
+    let P : List Event → Type 0 = λ es. MachineStands g c.loop-k.self (fold (happened g) t es) in
+    subst P (take_whole events c.loop-k.k few) (c.loop-k.invariant.stands g t st)

@@ -1,0 +1,31 @@
+use Rattle.std.proofs.Common.{◌<◌, ℕ, sym, ◌∙◌, subst, arith}
+use Rattle.kernel_abi.specs.declared.Note.TheVariants as note
+use Rattle.task_table.specs.Effects.{noted}
+use Rattle.task_table.specs.Holds.{task_count, current_of}
+use Rattle.board_core.specs.declared.machine.Machine.{Machine}
+use Rattle.board_core.specs.declared.told.Level.{Level}
+use Rattle.board_core.specs.Machine.{IsReady}
+use Rattle.board_core.specs.Turn.{told}
+use Rattle.board_core.proofs.Lending.{current_below, rest_of, stands_of}
+use Rattle.board_core.proofs.Telling.{ready_noted}
+use Rattle.board_core.proofs.machine.Machine.tell_insn.Goals as goal
+
+pub overflow_cast-task : goal.overflow_cast-task
+overflow_cast-task c =
+    let g = c.requires.ready.0 in
+    let t = c.requires.ready.1 in
+    let r = c.requires.ready.2 in
+    let below : current_of c.args.self.now.reach.kernel < task_count c.args.self.now.reach.kernel = current_below _ g _ _ t (stands_of g c.args.self.now t r).holds r.sane.steady.current in
+    let few = c.args.self.now.reach.kernel.few in
+    let value = c.current-task.ensures.value in
+    omega (arith, below, few, value)
+
+pub returns-in-All-clause-ready : goal.returns-in-All-clause-ready
+returns-in-All-clause-ready c = λ g t r.
+    let m : Machine = record { reach = record { kernel = c.note.new.self }; processor = c.args.self.now.processor; lent = c.args.self.now.lent } in
+    let h = r.holds in
+    let rest = rest_of h.saved t _ h.is in
+    let task = c.current-task.ensures.holds g h.saved h.holds ∙ sym rest.current in
+    let P : Level → Type 0 = λ level. IsReady g m (told level (note.Insn t.state.current c.args.at c.args.code) t) in
+    let Q : ℕ → Type 0 = λ i. IsReady g m (noted (note.Insn i c.args.at c.args.code) t) in
+    subst P (sym c.in-All.is) (subst Q task (ready_noted g c.args.self.now c.note.new.self (note.Insn c.current-task.result c.args.at c.args.code) t (λ u hu. c.note.ensures.holds g u hu) r))

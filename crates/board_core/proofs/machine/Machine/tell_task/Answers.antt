@@ -1,0 +1,13 @@
+use Rattle.std.proofs.Common.{sym, subst}
+use Rattle.task_table.specs.State.{Turn}
+use Rattle.board_core.specs.declared.told.Level.{Level}
+use Rattle.board_core.specs.Machine.{MachineHolds}
+use Rattle.board_core.specs.Turn.{with_registers_told}
+use Rattle.board_core.proofs.Telling.{no_registers_told}
+use Rattle.board_core.proofs.machine.Machine.tell_task.Goals as goal
+
+pub returns-in-Calls-clause-holds : goal.returns-in-Calls-clause-holds
+returns-in-Calls-clause-holds c = λ g t h.
+    let P : Level → Type 0 = λ level. MachineHolds g c.args.self.now (with_registers_told level c.args.task t) in
+    let Q : Turn → Type 0 = λ u. MachineHolds g c.args.self.now u in
+    subst P (sym c.in-Calls.is) (subst Q (no_registers_told c.args.task t) h)

@@ -1,0 +1,9 @@
+use Rattle.board_core.specs.declared.told.Level.TheVariants.{Calls}
+use Rattle.board_core.specs.Turn.{turn}
+use Rattle.board_core.proofs.tests.go_on.Goals as goal
+
+pub returns-clause-stood : goal.returns-clause-stood
+returns-clause-stood c =
+    let x = c.requires.stood.0 in
+    let s = c.requires.stood.1 in
+    (x, (turn Calls x s).state, c.turn_at.ensures.model x s c.requires.stood.2)

@@ -1,0 +1,45 @@
+//! The calls of a task, by the number in its r11.
+ghost use Rattle.std.specs.Prelude.{◌≡◌, ◌+◌, ◌≤◌, ◌<◌, true};
+ghost use Rattle.task_table.specs.State.{Setup, Turn};
+ghost use Rattle.task_table.specs.Reading.{is_ready, best_sender};
+ghost use Rattle.task_table.specs.Rows.{received, called};
+ghost use Rattle.task_table.specs.Holds.{Stands, task_count, note_count};
+
+use dispatch::best_sender;
+use ipc_core::recv;
+use kernel_abi::Usage;
+use task_table::Kernel;
+use timer_irq::{get_timer, irq_control, set_timer};
+
+/// RECV, of the best sender to the caller.
+fn receive(k: &mut Kernel, caller: usize)
+    requires there { caller < task_count k.old }
+    requires ready { (g : Setup) × (t : Turn) × Stands g k.old t × (is_ready t.state caller ≡ true) }
+    requires room { note_count k.old + 100 ≤ 1024 }
+    ensures stands { (g : Setup) (t : Turn) → Stands g k.old t → is_ready t.state caller ≡ true → Stands g k.new (received g caller (best_sender g t.state caller) t) }
+    ensures count { note_count k.new ≤ note_count k.old + 100 }
+    ensures tasks { task_count k.new ≡ task_count k.old }
+{
+    let best = best_sender(k, caller);
+    recv(k, caller, best);
+}
+
+/// A task makes the system call whose number is in its r11; a number that no call has misuses the
+/// calls that there are.
+pub fn call(k: &mut Kernel, caller: usize)
+    requires there { caller < task_count k.old }
+    requires ready { (g : Setup) × (t : Turn) × Stands g k.old t × (is_ready t.state caller ≡ true) }
+    requires room { note_count k.old + 100 ≤ 1024 }
+    ensures stands { (g : Setup) (t : Turn) → Stands g k.old t → is_ready t.state caller ≡ true → Stands g k.new (called g caller t) }
+    ensures count { note_count k.new ≤ note_count k.old + 100 }
+    ensures tasks { task_count k.new ≡ task_count k.old }
+{
+    match k.register(caller, 11) {
+        1 => receive(k, caller),
+        3 => set_timer(k, caller),
+        7 => irq_control(k, caller),
+        8 => k.panic(caller),
+        9 => get_timer(k, caller),
+        _ => k.misuse(caller, Usage::BadCall),
+    }
+}
