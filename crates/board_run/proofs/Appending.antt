@@ -6,7 +6,8 @@ use Rattle.std.specs.Prelude.{Result, Ok, Err, take, drop, length, ◌<◌, ◌�
 use Rattle.std.specs.List.{flat_map, range_with_len}
 use Rattle.kernel_abi.specs.declared.Note.{Note}
 use Rattle.board_core.specs.Run.{at_turn}
-use Rattle.board_run.specs.Text.{line_of, notes_text}
+use Rattle.trace_text.specs.Text.{line_of}
+use Rattle.board_run.specs.Text.{notes_text}
 use Rattle.std.proofs.Common.{arith, get_or, suc, zero, add-one}
 use Rattle.outside_io.specs.Outside.{AppendsFront, Pushes}
 
@@ -47,13 +48,17 @@ flat_map_at f (x ∷ xs) zero d lt = refl
 flat_map_at f (x ∷ xs) (suc i) d lt =
     ap (λ (w : List ℕ). f x ++ w) (flat_map_at f xs i d (omega arith)) ∙ sym (append_assoc (f x) (flat_map f (take i xs)) (f (get_or xs i d) ++ flat_map f (drop (suc i) xs)))
 
+-- the line of a note with its turn
+abbrev pub line_at : ℕ × Note → List ℕ
+line_at n = line_of n.0 n.1
+
 pub notes_at : (turn : ℕ) (notes : List Note) (i : ℕ) (d : Note) → i < length notes →
-    notes_text (at_turn turn notes) ≡ notes_text (at_turn turn (take i notes)) ++ (line_of (turn, get_or notes i d) ++ notes_text (at_turn turn (drop (suc i) notes)))
+    notes_text (at_turn turn notes) ≡ notes_text (at_turn turn (take i notes)) ++ (line_of turn (get_or notes i d) ++ notes_text (at_turn turn (drop (suc i) notes)))
 notes_at turn [] i d lt = absurd (omega arith)
 notes_at turn (x ∷ xs) zero d lt = refl
 notes_at turn (x ∷ xs) (suc i) d lt =
-    ap (λ (w : List ℕ). line_of (turn, x) ++ w) (notes_at turn xs i d (omega arith))
-    ∙ sym (append_assoc (line_of (turn, x)) (notes_text (at_turn turn (take i xs))) (line_of (turn, get_or xs i d) ++ notes_text (at_turn turn (drop (suc i) xs))))
+    ap (λ (w : List ℕ). line_of turn x ++ w) (notes_at turn xs i d (omega arith))
+    ∙ sym (append_assoc (line_of turn x) (notes_text (at_turn turn (take i xs))) (line_of turn (get_or xs i d) ++ notes_text (at_turn turn (drop (suc i) xs))))
 
 -- the texts of one number more
 range_from : (f : ℕ → List ℕ) (n a j : ℕ) → a + n ≡ j → flat_map f (range_with_len a (suc n)) ≡ flat_map f (range_with_len a n) ++ f j

@@ -9,6 +9,7 @@ use Rattle.kernel_abi.specs.declared.Note.{Note}
 use Rattle.task_table.specs.State.{State}
 use Rattle.board_core.specs.declared.board.Board.{Board}
 use Rattle.board_core.specs.declared.told.End.{End}
+use Rattle.board_core.specs.declared.told.Level.{Level}
 use Rattle.board_core.specs.declared.told.End.TheVariants.{Bound, Still, Supervisor}
 use Rattle.board_core.specs.Script.{Scenario}
 use Rattle.board_core.specs.Turn.{turn}
@@ -16,10 +17,10 @@ use Rattle.board_core.specs.Stands.{Stands, turns_of}
 use Rattle.board_core.specs.Told.{end_at}
 use Rattle.board_core.specs.Run.{Run, run, ending, end_by, is_down, is_still, unless, ended_at, with_front, at_turn}
 use Rattle.outside_io.specs.Outside.{AppendsFront, Pushes}
-use Rattle.board_run.specs.Text.{line_of, notes_text, trace_text, end_text}
+use Rattle.board_run.specs.Text.{notes_text, trace_text, end_text}
 use Rattle.board_run.specs.Midway.{Midway}
 use Rattle.board_run.specs.Running.{StandsMidway, end_within}
-use Rattle.board_run.proofs.Appending.{appends_none, appends_more, part_fails, pushes_more}
+use Rattle.board_run.proofs.Appending.{line_at, appends_none, appends_more, part_fails, pushes_more}
 
 -- the turn number of a board is that of the states for which it stands
 pub turns_seen : (x : Scenario) (b : Board) (s : State) → Stands x b s → s.turn ≡ turns_of b
@@ -27,23 +28,23 @@ turns_seen x b s st = sym st.holds.turns
 
 -- ## a run by its first turn
 
-run_ends : (x : Scenario) (left : ℕ) (s : State) (e : End) → ending x left s ≡ Some e → run x left s ≡ ended_at s e
+run_ends : (level : Level) (x : Scenario) (left : ℕ) (s : State) (e : End) → ending x left s ≡ Some e → run level x left s ≡ ended_at s e
 unfolding run
-run_ends x zero s e is = ap (λ (o : Option End). unless s o (ended_at s Bound)) is
-run_ends x (suc left) s e is = ap (λ (o : Option End). unless s o (with_front (at_turn s.turn (turn x s).notes) (run x left (turn x s).state))) is
+run_ends level x zero s e is = ap (λ (o : Option End). unless s o (ended_at s Bound)) is
+run_ends level x (suc left) s e is = ap (λ (o : Option End). unless s o (with_front (at_turn s.turn (turn level x s).notes) (run level x left (turn level x s).state))) is
 
-run_goes : (x : Scenario) (left : ℕ) (s : State) → ending x (suc left) s ≡ None → run x (suc left) s ≡ with_front (at_turn s.turn (turn x s).notes) (run x left (turn x s).state)
+run_goes : (level : Level) (x : Scenario) (left : ℕ) (s : State) → ending x (suc left) s ≡ None → run level x (suc left) s ≡ with_front (at_turn s.turn (turn level x s).notes) (run level x left (turn level x s).state)
 unfolding run
-run_goes x left s is = ap (λ (o : Option End). unless s o (with_front (at_turn s.turn (turn x s).notes) (run x left (turn x s).state))) is
+run_goes level x left s is = ap (λ (o : Option End). unless s o (with_front (at_turn s.turn (turn level x s).notes) (run level x left (turn level x s).state))) is
 
 -- with no turn left it ends here
 kept_last : (s : State) (o : Option End) → (unless s o (ended_at s Bound)).last ≡ s
 kept_last s None = refl
 kept_last s (Some e) = refl
 
-run_stays : (x : Scenario) (s : State) → (run x 0 s).last ≡ s
+run_stays : (level : Level) (x : Scenario) (s : State) → (run level x 0 s).last ≡ s
 unfolding run
-run_stays x s = kept_last s (ending x 0 s)
+run_stays level x s = kept_last s (ending x 0 s)
 
 -- where a run goes on, it does so however many turns are left
 never : (b : Bool) → cond b (Some Bound) (Some Still) ≡ None → ⊥
@@ -74,32 +75,32 @@ end_within_is x s left = by_tests (is_down s) (is_still x s) left
 
 -- ## midway
 
-pub midway_start : (x : Scenario) (w : Option (List ℕ)) (s : State) (b : Board) → Stands x b s → Midway x w w s b
-midway_start x w s b st =
+pub midway_start : (level : Level) (x : Scenario) (w : Option (List ℕ)) (s : State) (b : Board) → Stands x b s → Midway level x w w s b
+midway_start level x w s b st =
     record {
       front = [];
       here = s;
       stands = st;
       after = omega arith;
       pushed = appends_none w;
-      rest = λ left. let e : s.turn - s.turn + left ≡ left = omega arith in ap (λ (k : ℕ). run x k s) e;
+      rest = λ left. let e : s.turn - s.turn + left ≡ left = omega arith in ap (λ (k : ℕ). run level x k s) e;
     }
 
 -- what is known of one more turn: it was to be made, the board stands for the state after it, and tells its notes
-pub record IsTurned (x : Scenario) (b b' : Board) (notes : List Note) : Type 0 where
+pub record IsTurned (level : Level) (x : Scenario) (b b' : Board) (notes : List Note) : Type 0 where
   pub goes : (t : State) → Stands x b t → ending x 1 t ≡ None
-  pub stands : (t : State) → Stands x b t → Stands x b' (turn x t).state
-  pub tells : (t : State) → Stands x b t → notes ≡ (turn x t).notes
+  pub stands : (t : State) → Stands x b t → Stands x b' (turn level x t).state
+  pub tells : (t : State) → Stands x b t → notes ≡ (turn level x t).notes
   pub turns : turns_of b' ≡ turns_of b + 1
 
 -- the run by the notes so far, those of this turn, and the rest
-turn_rest : (x : Scenario) (w w' : Option (List ℕ)) (s : State) (b b' : Board) (notes : List Note) → IsTurned x b b' notes → (m : Midway x w w' s b) →
+turn_rest : (level : Level) (x : Scenario) (w w' : Option (List ℕ)) (s : State) (b b' : Board) (notes : List Note) → IsTurned level x b b' notes → (m : Midway level x w w' s b) →
     let t : State = m.here in
-    let next : State = (turn x t).state in
-    (s.turn ≤ next.turn) × ((left : ℕ) → run x (next.turn - s.turn + left) s ≡ with_front (m.front ++ at_turn t.turn (turn x t).notes) (run x left next))
-turn_rest x w w' s b b' notes h m =
+    let next : State = (turn level x t).state in
+    (s.turn ≤ next.turn) × ((left : ℕ) → run level x (next.turn - s.turn + left) s ≡ with_front (m.front ++ at_turn t.turn (turn level x t).notes) (run level x left next))
+turn_rest level x w w' s b b' notes h m =
     let t : State = m.here in
-    let next : State = (turn x t).state in
+    let next : State = (turn level x t).state in
     let at : t.turn ≡ turns_of b = turns_seen x b t m.stands in
     let at' : next.turn ≡ turns_of b' = turns_seen x b' next (h.stands t m.stands) in
     let more : next.turn ≡ t.turn + 1 = omega (arith, h.turns) in
@@ -107,24 +108,24 @@ turn_rest x w w' s b b' notes h m =
       omega arith,
       λ left.
           let k : next.turn - s.turn + left ≡ t.turn - s.turn + suc left = omega arith in
-          ap (λ (n : ℕ). run x n s) k ∙ m.rest (suc left)
-          ∙ ap (with_front m.front) (run_goes x left t (goes_on x t 1 left (h.goes t m.stands)))
-          ∙ fronts m.front (at_turn t.turn (turn x t).notes) (run x left next),
+          ap (λ (n : ℕ). run level x n s) k ∙ m.rest (suc left)
+          ∙ ap (with_front m.front) (run_goes level x left t (goes_on x t 1 left (h.goes t m.stands)))
+          ∙ fronts m.front (at_turn t.turn (turn level x t).notes) (run level x left next),
     )
 
 -- the notes that a board tells are those of the turn
-told_notes : (x : Scenario) (w w' : Option (List ℕ)) (s : State) (b b' : Board) (notes : List Note) → IsTurned x b b' notes → (m : Midway x w w' s b) →
-    at_turn (turns_of b) notes ≡ at_turn m.here.turn (turn x m.here).notes
-told_notes x w w' s b b' notes h m =
+told_notes : (level : Level) (x : Scenario) (w w' : Option (List ℕ)) (s : State) (b b' : Board) (notes : List Note) → IsTurned level x b b' notes → (m : Midway level x w w' s b) →
+    at_turn (turns_of b) notes ≡ at_turn m.here.turn (turn level x m.here).notes
+told_notes level x w w' s b b' notes h m =
     ap (λ (n : ℕ). at_turn n notes) (sym (turns_seen x b m.here m.stands)) ∙ ap (at_turn m.here.turn) (h.tells m.here m.stands)
 
-pub midway_turn : (x : Scenario) (before now after : Option (List ℕ)) (s : State) (b b' : Board) (notes : List Note) → IsTurned x b b' notes →
-    Appends now after (notes_text (at_turn (turns_of b) notes)) → Midway x before now s b → Midway x before after s b'
-midway_turn x before now after s b b' notes h pushed m =
+pub midway_turn : (level : Level) (x : Scenario) (before now after : Option (List ℕ)) (s : State) (b b' : Board) (notes : List Note) → IsTurned level x b b' notes →
+    Appends now after (notes_text (at_turn (turns_of b) notes)) → Midway level x before now s b → Midway level x before after s b'
+midway_turn level x before now after s b b' notes h pushed m =
     let t : State = m.here in
-    let next : State = (turn x t).state in
-    let new : List (ℕ × Note) = at_turn t.turn (turn x t).notes in
-    let rest = turn_rest x before now s b b' notes h m in
+    let next : State = (turn level x t).state in
+    let new : List (ℕ × Note) = at_turn t.turn (turn level x t).notes in
+    let rest = turn_rest level x before now s b b' notes h m in
     let P : List (ℕ × Note) → Type 0 = λ ns. Appends now after (notes_text ns) in
     let Q : List ℕ → Type 0 = λ w. Appends before after w in
     record {
@@ -132,85 +133,85 @@ midway_turn x before now after s b b' notes h pushed m =
       here = next;
       stands = h.stands t m.stands;
       after = rest.0;
-      pushed = subst Q (sym (flat_map-append line_of m.front new)) (appends_more before now after (notes_text m.front) (notes_text new) m.pushed (subst P (told_notes x before now s b b' notes h m) pushed));
+      pushed = subst Q (sym (flat_map-append line_at m.front new)) (appends_more before now after (notes_text m.front) (notes_text new) m.pushed (subst P (told_notes level x before now s b b' notes h m) pushed));
       rest = rest.1;
     }
 
 -- the state after a turn is that of the run, too, though its notes are not pushed
-pub midway_board : (x : Scenario) (before now : Option (List ℕ)) (s : State) (b : Board) → Midway x before now s b → StandsMidway x b s
-midway_board x before now s b m =
+pub midway_board : (level : Level) (x : Scenario) (before now : Option (List ℕ)) (s : State) (b : Board) → Midway level x before now s b → StandsMidway level x b s
+midway_board level x before now s b m =
     let at : m.here.turn ≡ turns_of b = turns_seen x b m.here m.stands in
     let k : turns_of b - s.turn ≡ m.here.turn - s.turn + 0 = omega arith in
-    let is : (run x (turns_of b - s.turn) s).last ≡ m.here = ap (λ (n : ℕ). (run x n s).last) k ∙ ap (λ (r : Run). r.last) (m.rest 0) ∙ run_stays x m.here in
+    let is : (run level x (turns_of b - s.turn) s).last ≡ m.here = ap (λ (n : ℕ). (run level x n s).last) k ∙ ap (λ (r : Run). r.last) (m.rest 0) ∙ run_stays level x m.here in
     let P : State → Type 0 = λ t. Stands x b t in
     subst P (sym is) m.stands
 
-pub turned_board : (x : Scenario) (before now : Option (List ℕ)) (s : State) (b b' : Board) (notes : List Note) → IsTurned x b b' notes → Midway x before now s b → StandsMidway x b' s
-turned_board x before now s b b' notes h m =
+pub turned_board : (level : Level) (x : Scenario) (before now : Option (List ℕ)) (s : State) (b b' : Board) (notes : List Note) → IsTurned level x b b' notes → Midway level x before now s b → StandsMidway level x b' s
+turned_board level x before now s b b' notes h m =
     let t : State = m.here in
-    let next : State = (turn x t).state in
-    let rest = turn_rest x before now s b b' notes h m in
+    let next : State = (turn level x t).state in
+    let rest = turn_rest level x before now s b b' notes h m in
     let at : next.turn ≡ turns_of b' = turns_seen x b' next (h.stands t m.stands) in
     let k : turns_of b' - s.turn ≡ next.turn - s.turn + 0 = omega arith in
-    let is : (run x (turns_of b' - s.turn) s).last ≡ next = ap (λ (n : ℕ). (run x n s).last) k ∙ ap (λ (r : Run). r.last) (rest.1 0) ∙ run_stays x next in
+    let is : (run level x (turns_of b' - s.turn) s).last ≡ next = ap (λ (n : ℕ). (run level x n s).last) k ∙ ap (λ (r : Run). r.last) (rest.1 0) ∙ run_stays level x next in
     let P : State → Type 0 = λ u. Stands x b' u in
     subst P (sym is) (h.stands t m.stands)
 
 -- ## the end
 
 -- the whole run, where it ends here
-ended_run : (x : Scenario) (limit : ℕ) (before now : Option (List ℕ)) (s : State) (b : Board) (e : End) (m : Midway x before now s b) → turns_of b ≤ limit →
+ended_run : (level : Level) (x : Scenario) (limit : ℕ) (before now : Option (List ℕ)) (s : State) (b : Board) (e : End) (m : Midway level x before now s b) → turns_of b ≤ limit →
     ((t : State) → Stands x b t → ending x (limit - t.turn) t ≡ Some e) →
-    run x (limit - s.turn) s ≡ with_front m.front (ended_at m.here e)
-ended_run x limit before now s b e m le ends =
+    run level x (limit - s.turn) s ≡ with_front m.front (ended_at m.here e)
+ended_run level x limit before now s b e m le ends =
     let at : m.here.turn ≡ turns_of b = turns_seen x b m.here m.stands in
     let from : s.turn ≤ m.here.turn = m.after in
     let k : limit - s.turn ≡ m.here.turn - s.turn + (limit - m.here.turn) = omega arith in
-    ap (λ (n : ℕ). run x n s) k ∙ m.rest (limit - m.here.turn) ∙ ap (with_front m.front) (run_ends x (limit - m.here.turn) m.here e (ends m.here m.stands))
+    ap (λ (n : ℕ). run level x n s) k ∙ m.rest (limit - m.here.turn) ∙ ap (with_front m.front) (run_ends level x (limit - m.here.turn) m.here e (ends m.here m.stands))
 
 -- the text of the rest, where the run ends here
-pub midway_end : {T E : Type 0} (x : Scenario) (limit : ℕ) (before now after : Option (List ℕ)) (s : State) (b : Board) (e : End) (r : Result T E) → turns_of b ≤ limit →
+pub midway_end : {T E : Type 0} (level : Level) (x : Scenario) (limit : ℕ) (before now after : Option (List ℕ)) (s : State) (b : Board) (e : End) (r : Result T E) → turns_of b ≤ limit →
     ((t : State) → Stands x b t → ending x (limit - t.turn) t ≡ Some e) →
     ((t : State) → Stands x b t → Pushes now after (end_text e t) r) →
-    Midway x before now s b → Pushes before after (trace_text (run x (limit - s.turn) s)) r
-midway_end {T} {E} x limit before now after s b e r le ends pushed m =
-    let is : trace_text (run x (limit - s.turn) s) ≡ notes_text m.front ++ end_text e m.here =
-    ap trace_text (ended_run x limit before now s b e m le ends)
+    Midway level x before now s b → Pushes before after (trace_text (run level x (limit - s.turn) s)) r
+midway_end {T} {E} level x limit before now after s b e r le ends pushed m =
+    let is : trace_text (run level x (limit - s.turn) s) ≡ notes_text m.front ++ end_text e m.here =
+    ap trace_text (ended_run level x limit before now s b e m le ends)
     ∙ ap (λ (ns : List (ℕ × Note)). notes_text ns ++ end_text e m.here) (append-nil m.front) in
     let P : List ℕ → Type 0 = λ w. Pushes before after w r in
     subst P (sym is) (pushes_more before now after (notes_text m.front) (end_text e m.here) r m.pushed (pushed m.here m.stands))
 
-pub end_is : (x : Scenario) (limit : ℕ) (before now : Option (List ℕ)) (s : State) (b : Board) (e : End) → turns_of b ≤ limit →
-    ((t : State) → Stands x b t → ending x (limit - t.turn) t ≡ Some e) → Midway x before now s b →
-    (e ≡ (run x (limit - s.turn) s).end) × Stands x b (run x (limit - s.turn) s).last
-end_is x limit before now s b e le ends m =
-    let is = ended_run x limit before now s b e m le ends in
+pub end_is : (level : Level) (x : Scenario) (limit : ℕ) (before now : Option (List ℕ)) (s : State) (b : Board) (e : End) → turns_of b ≤ limit →
+    ((t : State) → Stands x b t → ending x (limit - t.turn) t ≡ Some e) → Midway level x before now s b →
+    (e ≡ (run level x (limit - s.turn) s).end) × Stands x b (run level x (limit - s.turn) s).last
+end_is level x limit before now s b e le ends m =
+    let is = ended_run level x limit before now s b e m le ends in
     let P : State → Type 0 = λ t. Stands x b t in
     (sym (ap (λ (r : Run). r.end) is), subst P (sym (ap (λ (r : Run). r.last) is)) m.stands)
 
 split : (a b : List (ℕ × Note)) (r : Run) → trace_text (with_front (a ++ b) r) ≡ notes_text a ++ (notes_text b ++ trace_text r)
 split a b r =
     ap (λ (ns : List (ℕ × Note)). notes_text ns ++ end_text r.end r.last) (append_assoc a b r.notes)
-    ∙ ap (λ (w : List ℕ). w ++ end_text r.end r.last) (flat_map-append line_of a (b ++ r.notes))
+    ∙ ap (λ (w : List ℕ). w ++ end_text r.end r.last) (flat_map-append line_at a (b ++ r.notes))
     ∙ append_assoc (notes_text a) (notes_text (b ++ r.notes)) (end_text r.end r.last)
-    ∙ ap (λ (w : List ℕ). notes_text a ++ (w ++ end_text r.end r.last)) (flat_map-append line_of b r.notes)
+    ∙ ap (λ (w : List ℕ). notes_text a ++ (w ++ end_text r.end r.last)) (flat_map-append line_at b r.notes)
     ∙ ap (λ (w : List ℕ). notes_text a ++ w) (append_assoc (notes_text b) (notes_text r.notes) (end_text r.end r.last))
 
 -- a failure among the notes of a turn
-pub midway_fails : {T E : Type 0} (x : Scenario) (limit : ℕ) (before now after : Option (List ℕ)) (s : State) (b b' : Board) (notes : List Note) (r : Result T E) (d : E) → r ≡ Err d →
-    turns_of b < limit → IsTurned x b b' notes → AppendsFront now after (notes_text (at_turn (turns_of b) notes)) →
-    Midway x before now s b → Pushes before after (trace_text (run x (limit - s.turn) s)) r
-midway_fails {T} {E} x limit before now after s b b' notes r d failed lt h pushed m =
+pub midway_fails : {T E : Type 0} (level : Level) (x : Scenario) (limit : ℕ) (before now after : Option (List ℕ)) (s : State) (b b' : Board) (notes : List Note) (r : Result T E) (d : E) → r ≡ Err d →
+    turns_of b < limit → IsTurned level x b b' notes → AppendsFront now after (notes_text (at_turn (turns_of b) notes)) →
+    Midway level x before now s b → Pushes before after (trace_text (run level x (limit - s.turn) s)) r
+midway_fails {T} {E} level x limit before now after s b b' notes r d failed lt h pushed m =
     let t : State = m.here in
-    let next : State = (turn x t).state in
-    let new : List (ℕ × Note) = at_turn t.turn (turn x t).notes in
-    let rest = turn_rest x before now s b b' notes h m in
+    let next : State = (turn level x t).state in
+    let new : List (ℕ × Note) = at_turn t.turn (turn level x t).notes in
+    let rest = turn_rest level x before now s b b' notes h m in
     let at : next.turn ≡ turns_of b' = turns_seen x b' next (h.stands t m.stands) in
     let more : turns_of b' ≡ turns_of b + 1 = h.turns in
     let from : s.turn ≤ next.turn = rest.0 in
     let k : limit - s.turn ≡ next.turn - s.turn + (limit - next.turn) = omega arith in
-    let is : trace_text (run x (limit - s.turn) s) ≡ notes_text m.front ++ (notes_text new ++ trace_text (run x (limit - next.turn) next)) =
-    ap (λ (n : ℕ). trace_text (run x n s)) k ∙ ap trace_text (rest.1 (limit - next.turn)) ∙ split m.front new (run x (limit - next.turn) next) in
+    let is : trace_text (run level x (limit - s.turn) s) ≡ notes_text m.front ++ (notes_text new ++ trace_text (run level x (limit - next.turn) next)) =
+    ap (λ (n : ℕ). trace_text (run level x n s)) k ∙ ap trace_text (rest.1 (limit - next.turn)) ∙ split m.front new (run level x (limit - next.turn) next) in
     let P : List (ℕ × Note) → Type 0 = λ ns. AppendsFront now after (notes_text ns) in
-    part_fails before now after (notes_text m.front) (notes_text new) (trace_text (run x (limit - next.turn) next)) (trace_text (run x (limit - s.turn) s)) r d failed is m.pushed
-    (subst P (told_notes x before now s b b' notes h m) pushed)
+    part_fails before now after (notes_text m.front) (notes_text new) (trace_text (run level x (limit - next.turn) next)) (trace_text (run level x (limit - s.turn) s)) r d failed is m.pushed
+    (subst P (told_notes level x before now s b b' notes h m) pushed)

@@ -1,8 +1,7 @@
 -- The text of the tasks, one more at a time.
-use Rattle.std.proofs.Common.{◌≡◌, ℕ, ◌+◌, List, ◌++◌, Option, Some, None, refl, sym, ap, subst, ◌∙◌, arith, length, zero, suc, ◌≤◌, append_assoc, ◌%◌}
+use Rattle.std.proofs.Common.{◌≡◌, ℕ, ◌+◌, List, ◌++◌, Option, Some, None, refl, sym, ap, subst, ◌∙◌, length, ◌%◌}
 use Rattle.std.specs.Prelude.{Result, Err, codes}
 use Rattle.std.specs.Io.KnownBytes.{Appends}
-use Rattle.std.specs.List.{flat_map, range_with_len}
 use Rattle.outside_io.specs.Outside.{Pushes, AppendsFront}
 use Rattle.kernel_abi.specs.declared.Health.{Health}
 use Rattle.kernel_abi.specs.declared.Timer.{Timer}
@@ -13,7 +12,7 @@ use Rattle.task_table.specs.Holds.{wait_in, wait_from, wait_of}
 use Rattle.task_table.specs.Reading.{task_at, call_of, listen_of}
 use Rattle.board_core.specs.declared.told.TaskView.{TaskView}
 use Rattle.board_core.specs.Told.{IsTask}
-use Rattle.board_run.specs.Text.{task_line, low_line, high_line, task_lines, task_text, tasks_text, wait_text, call_text}
+use Rattle.board_run.specs.Text.{task_line, low_text, high_text, task_lines, task_text, tasks_text, wait_text, call_text}
 use Rattle.board_run.specs.ViewText.{view_text, wait_words}
 use Rattle.board_run.proofs.Appending.{appends_more, range_more, range_fails}
 
@@ -36,7 +35,7 @@ words_are None None = refl
 pub view_is : (s : State) (i : ℕ) (v : TaskView) → IsTask s i v → view_text i v ≡ task_text s i
 unfolding view_text task_text task_lines
 view_is s i v t =
-    let head : ℕ → Health → List ℕ → ℕ → Option Timer → List ℕ → Flags → List ℕ = λ g h w p d rs f. task_line i g h w p d ++ low_line rs ++ high_line rs f in
+    let head : ℕ → Health → List ℕ → ℕ → Option Timer → List ℕ → Flags → List ℕ = λ g h w p d rs f. task_line i g h w p d ++ low_text rs ++ high_text rs f in
     let waits : wait_words v.wait ≡ wait_text (call_of s i) (listen_of s i) = ap wait_words t.wait ∙ words_are (call_of s i) (listen_of s i) in
     rw (t.generation, t.registers, t.flags, t.health, t.posted, t.timer) (ap (λ (w : List ℕ). head ((task_at s i).births % 64) (task_at s i).health w (task_at s i).posted (task_at s i).timer (task_at s i).registers (task_at s i).flags) waits)
 

@@ -5,7 +5,7 @@ use Rattle.std.specs.Option.{option_map_or}
 use Rattle.region_check.specs.declared.Region.{Region}
 use Rattle.task_table.specs.Memory.{Memory, byte_at}
 use Rattle.task_table.specs.State.{Setup, State}
-use Rattle.board_run.specs.Text.{glyph, hex}
+use Rattle.trace_text.specs.Text.{glyph, hex}
 
 -- ## sixteen bytes
 

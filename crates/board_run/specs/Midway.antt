@@ -4,16 +4,17 @@ use Rattle.std.specs.Io.KnownBytes.{Appends}
 use Rattle.kernel_abi.specs.declared.Note.{Note}
 use Rattle.task_table.specs.State.{State}
 use Rattle.board_core.specs.declared.board.Board.{Board}
+use Rattle.board_core.specs.declared.told.Level.{Level}
 use Rattle.board_core.specs.Script.{Scenario}
 use Rattle.board_core.specs.Stands.{Stands}
 use Rattle.board_core.specs.Run.{run, with_front}
 use Rattle.board_run.specs.Text.{notes_text}
 
-pub record Midway (x : Scenario) (w w' : Option (List ℕ)) (s : State) (b : Board) : Type 0 where
+pub record Midway (level : Level) (x : Scenario) (w w' : Option (List ℕ)) (s : State) (b : Board) : Type 0 where
   pub front : List (ℕ × Note)
   pub here : State
   pub stands : Stands x b here
   pub after : s.turn ≤ here.turn
   pub pushed : Appends w w' (notes_text front)
   -- however many turns are left
-  pub rest : (left : ℕ) → run x (here.turn - s.turn + left) s ≡ with_front front (run x left here)
+  pub rest : (left : ℕ) → run level x (here.turn - s.turn + left) s ≡ with_front front (run level x left here)

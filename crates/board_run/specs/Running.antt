@@ -4,6 +4,7 @@ use Rattle.board_core.specs.declared.told.End.{End}
 use Rattle.board_core.specs.declared.told.End.TheVariants.{Bound, Still, Supervisor}
 use Rattle.task_table.specs.State.{State}
 use Rattle.board_core.specs.declared.board.Board.{Board}
+use Rattle.board_core.specs.declared.told.Level.{Level}
 use Rattle.board_core.specs.Script.{Scenario}
 use Rattle.board_core.specs.Stands.{Stands, turns_of}
 use Rattle.board_core.specs.Run.{run}
@@ -16,5 +17,5 @@ end_within (Some Still) left = if left == 0 then Some Bound else Some Still
 end_within None left = if left == 0 then Some Bound else None
 
 -- the board stands for the state that the run from s has at the board's turn number
-abbrev pub StandsMidway : Scenario → Board → State → Type 0
-StandsMidway x b s = Stands x b (run x (turns_of b - s.turn) s).last
+abbrev pub StandsMidway : Level → Scenario → Board → State → Type 0
+StandsMidway level x b s = Stands x b (run level x (turns_of b - s.turn) s).last

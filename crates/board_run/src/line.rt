@@ -1,34 +1,20 @@
-//! Lines of the trace (docs/FORMATS.md, Trace), each built in a buffer of 160 bytes that is empty before.
-ghost use Rattle.std.specs.Prelude.{◌≡◌, ◌≤◌, ◌<◌, ◌+◌, ◌*◌, length, ◌∷◌, ◌++◌, [], codes, decimal};
-ghost use Rattle.std.specs.List.{flat_map};
+//! Lines of the last state (docs/FORMATS.md, Trace and Memories), each built in a buffer of 160 bytes that is
+//! empty before.
+ghost use Rattle.std.specs.Prelude.{◌≡◌, ◌≤◌, ◌+◌, length, ◌++◌, []};
 ghost use Rattle.arrayvec.specs.ArrayString.{array_string_len};
-ghost use Rattle.board_run.specs.Text.{glyph, hex, spaced_hex, bit, tick_line, handled_name, irq_line, post_line, call_line, ret_line, ending_name, close_line, fault_line, health_text, timer_text, task_line, low_line, high_line, end_name, end_line};
+ghost use Rattle.board_run.specs.Text.{health_text, timer_text, task_line, low_text, high_text, end_name, end_line};
 ghost use Rattle.board_run.specs.ViewText.{wait_words};
 ghost use Rattle.board_run.specs.MemoryText.{byte_hex, region_line};
 
 use arrayvec::ArrayString;
 use board_core::End;
-use itoa::Buffer;
-use kernel_abi::{Ending, Fault, Handled, Health, Timer};
+use kernel_abi::{Health, Timer};
 use region_check::Region;
 use task_table::Wait;
+use trace_text::{push_decimal, push_digit, push_hex, push_high, push_low, push_spaced_hex};
 use words_core::Flags;
 
 pub type Line = ArrayString<160>;
-
-fn push_glyph(out: &mut ArrayString<160>, d: u32)
-    requires digit { d < 16 }
-    requires room { array_string_len out.old < 160 }
-    ensures bytes { out.new.bytes ≡ out.old.bytes ++ glyph d ∷ [] }
-    ensures len { array_string_len out.new ≡ array_string_len out.old + 1 }
-{
-    let byte = if d < 10 {
-        b'0' + d as u8
-    } else {
-        b'a' + (d as u8 - 10)
-    };
-    out.push(byte as char);
-}
 
 /// Two hexadecimal digits.
 pub fn push_byte(out: &mut ArrayString<160>, byte: u8)
@@ -36,90 +22,26 @@ pub fn push_byte(out: &mut ArrayString<160>, byte: u8)
     ensures bytes { out.new.bytes ≡ out.old.bytes ++ byte_hex byte }
     ensures len { array_string_len out.new ≡ array_string_len out.old + 2 }
 {
-    push_glyph(out, u32::from(byte / 16 % 16));
-    push_glyph(out, u32::from(byte % 16));
+    push_digit(out, u32::from(byte / 16 % 16));
+    push_digit(out, u32::from(byte % 16));
 }
 
-/// Eight hexadecimal digits.
-#[tactic(auto, unfolding(crate::specs::Text::hex))]
-pub fn push_hex(out: &mut ArrayString<160>, n: u32)
-    requires { array_string_len out.old + 8 ≤ 160 }
-    ensures bytes { out.new.bytes ≡ out.old.bytes ++ hex n }
-    ensures len { array_string_len out.new ≡ array_string_len out.old + 8 }
-{
-    push_glyph(out, n / 0x1000_0000 % 16);
-    push_glyph(out, n / 0x0100_0000 % 16);
-    push_glyph(out, n / 0x0010_0000 % 16);
-    push_glyph(out, n / 0x0001_0000 % 16);
-    push_glyph(out, n / 0x1000 % 16);
-    push_glyph(out, n / 0x0100 % 16);
-    push_glyph(out, n / 0x10 % 16);
-    push_glyph(out, n % 16);
-}
-
-fn push_decimal(out: &mut ArrayString<160>, n: u64)
-    requires { array_string_len out.old + 20 ≤ 160 }
-    ensures bytes { out.new.bytes ≡ out.old.bytes ++ decimal n }
-    ensures len { array_string_len out.new ≤ array_string_len out.old + 20 }
-{
-    let mut digits = Buffer::new();
-    out.push_str(digits.format(n));
-}
-
-fn push_spaced_hex(out: &mut ArrayString<160>, n: u32)
-    requires { array_string_len out.old + 9 ≤ 160 }
-    ensures bytes { out.new.bytes ≡ out.old.bytes ++ spaced_hex n }
-    ensures len { array_string_len out.new ≡ array_string_len out.old + 9 }
-{
-    out.push_str(" ");
-    push_hex(out, n);
-}
-
-/// Registers, each behind a space.
-fn push_regs(out: &mut ArrayString<160>, regs: &[u32])
-    requires few { length regs.now ≤ 8 }
-    requires room { array_string_len out.old + 72 ≤ 160 }
-    ensures bytes { out.new.bytes ≡ out.old.bytes ++ flat_map spaced_hex regs.now }
-    ensures len { array_string_len out.new ≤ array_string_len out.old + 72 }
-{
-    for r in regs {
-        push_spaced_hex(out, *r);
-    }
-}
-
-#[tactic(auto, unfolding(crate::specs::Text::low_line))]
-pub fn low_line(regs: &[u32], out: &mut ArrayString<160>)
+/// The registers r0 to r7.
+pub fn low_line(registers: &[u32], out: &mut ArrayString<160>)
     requires empty { out.old.bytes ≡ [] }
-    requires all { length regs.now ≡ 16 }
-    ensures { out.new.bytes ≡ low_line regs.now }
+    requires all { length registers.now ≡ 16 }
+    ensures { out.new.bytes ≡ low_text registers.now }
 {
-    out.push_str("low");
-    push_regs(out, &regs[..8]);
-    out.push_str("\n");
+    push_low(out, &registers[..8]);
 }
 
-fn push_bit(out: &mut ArrayString<160>, b: bool)
-    requires { array_string_len out.old < 160 }
-    ensures bytes { out.new.bytes ≡ out.old.bytes ++ bit b ∷ [] }
-    ensures len { array_string_len out.new ≡ array_string_len out.old + 1 }
-{
-    out.push_str(if b { "1" } else { "0" });
-}
-
-#[tactic(auto, unfolding(crate::specs::Text::high_line))]
-pub fn high_line(regs: &[u32], flags: Flags, out: &mut ArrayString<160>)
+/// The registers r8 to r15, and the flags.
+pub fn high_line(registers: &[u32], flags: Flags, out: &mut ArrayString<160>)
     requires empty { out.old.bytes ≡ [] }
-    requires all { length regs.now ≡ 16 }
-    ensures { out.new.bytes ≡ high_line regs.now flags }
+    requires all { length registers.now ≡ 16 }
+    ensures { out.new.bytes ≡ high_text registers.now flags }
 {
-    out.push_str("high");
-    push_regs(out, &regs[8..]);
-    out.push_str(" ");
-    push_bit(out, flags.n);
-    push_bit(out, flags.z);
-    push_bit(out, flags.c);
-    push_bit(out, flags.v);
-    out.push_str("\n");
+    push_high(out, &registers[8..], flags.n, flags.z, flags.c, flags.v);
 }
 
 fn push_health(out: &mut ArrayString<160>, health: Health)
@@ -223,132 +145,6 @@ pub fn end_line(end: End, turns: u32, now: u64, out: &mut ArrayString<160>)
     push_decimal(out, u64::from(turns));
     out.push_str(" ");
     push_decimal(out, now);
-    out.push_str("\n");
-}
-
-#[tactic(auto, unfolding(crate::specs::Text::fault_line))]
-pub fn fault_line(turn: u32, task: u16, fault: &Fault, out: &mut ArrayString<160>)
-    requires { out.old.bytes ≡ [] }
-    ensures { out.new.bytes ≡ fault_line turn task fault.now }
-{
-    push_decimal(out, u64::from(turn));
-    out.push_str(" fault ");
-    push_decimal(out, u64::from(task));
-    out.push_str(" ");
-    push_decimal(out, u64::from(fault.number));
-    push_spaced_hex(out, fault.x);
-    push_spaced_hex(out, fault.y);
-    out.push_str("\n");
-}
-
-/// A call's number from r11, and its arguments from r4 to r10.
-#[tactic(auto, unfolding(crate::specs::Text::call_line))]
-pub fn call_line(
-    turn: u32,
-    task: u16,
-    number: u32,
-    arguments: &[u32; 7],
-    out: &mut ArrayString<160>,
-)
-    requires { out.old.bytes ≡ [] }
-    ensures { out.new.bytes ≡ call_line turn task number arguments.now }
-{
-    push_decimal(out, u64::from(turn));
-    out.push_str(" call ");
-    push_decimal(out, u64::from(task));
-    out.push_str(" ");
-    push_decimal(out, u64::from(number));
-    push_regs(out, arguments);
-    out.push_str("\n");
-}
-
-/// The time after it rose.
-#[tactic(auto, unfolding(crate::specs::Text::tick_line))]
-pub fn tick_line(turn: u32, now: u64, out: &mut ArrayString<160>)
-    requires { out.old.bytes ≡ [] }
-    ensures { out.new.bytes ≡ tick_line turn now }
-{
-    push_decimal(out, u64::from(turn));
-    out.push_str(" tick ");
-    push_decimal(out, now);
-    out.push_str("\n");
-}
-
-fn handled_name(handled: Handled) -> &'static str
-    ensures name { result.now ≡ handled_name handled }
-    ensures short { length result.now ≤ 10 }
-{
-    match handled {
-        Handled::Posted => "post",
-        Handled::Held => "held",
-        Handled::Unowned => "none",
-    }
-}
-
-/// An interrupt on a line, and what it did.
-#[tactic(auto, unfolding(crate::specs::Text::irq_line))]
-pub fn irq_line(turn: u32, line: u8, handled: Handled, out: &mut ArrayString<160>)
-    requires { out.old.bytes ≡ [] }
-    ensures { out.new.bytes ≡ irq_line turn line handled }
-{
-    push_decimal(out, u64::from(turn));
-    out.push_str(" irq ");
-    push_decimal(out, u64::from(line));
-    out.push_str(" ");
-    out.push_str(handled_name(handled));
-    out.push_str("\n");
-}
-
-/// Bits that are posted to a task, and all its posted bits then.
-#[tactic(auto, unfolding(crate::specs::Text::post_line))]
-pub fn post_line(turn: u32, task: u16, bits: u32, all: u32, out: &mut ArrayString<160>)
-    requires { out.old.bytes ≡ [] }
-    ensures { out.new.bytes ≡ post_line turn task bits all }
-{
-    push_decimal(out, u64::from(turn));
-    out.push_str(" post ");
-    push_decimal(out, u64::from(task));
-    push_spaced_hex(out, bits);
-    push_spaced_hex(out, all);
-    out.push_str("\n");
-}
-
-/// The end of a call, with r4 to r9.
-#[tactic(auto, unfolding(crate::specs::Text::ret_line))]
-pub fn ret_line(turn: u32, task: u16, results: &[u32; 6], out: &mut ArrayString<160>)
-    requires { out.old.bytes ≡ [] }
-    ensures { out.new.bytes ≡ ret_line turn task results.now }
-{
-    push_decimal(out, u64::from(turn));
-    out.push_str(" ret ");
-    push_decimal(out, u64::from(task));
-    push_regs(out, results);
-    out.push_str("\n");
-}
-
-fn ending_name(ending: Ending) -> &'static str
-    ensures name { result.now ≡ ending_name ending }
-    ensures short { length result.now ≤ 10 }
-{
-    match ending {
-        Ending::Reply => "reply",
-        Ending::ReplyFault => "replyfault",
-        Ending::Client => "client",
-        Ending::Restart => "restart",
-    }
-}
-
-/// An open call that is closed, and why.
-#[tactic(auto, unfolding(crate::specs::Text::close_line))]
-pub fn close_line(turn: u32, call: u32, ending: Ending, out: &mut ArrayString<160>)
-    requires { out.old.bytes ≡ [] }
-    ensures { out.new.bytes ≡ close_line turn call ending }
-{
-    push_decimal(out, u64::from(turn));
-    out.push_str(" close ");
-    push_decimal(out, u64::from(call));
-    out.push_str(" ");
-    out.push_str(ending_name(ending));
     out.push_str("\n");
 }
 

@@ -7,10 +7,11 @@ ghost use Rattle.board_core.specs.Script.{Scenario};
 ghost use Rattle.board_core.specs.Stands.{Stands};
 ghost use Rattle.board_run.specs.MemoryText.{are_zeros, begins_at, byte_of, bytes_hex, memory_text, place_text, region_at, region_line, region_text, row_count, row_line, row_text, rows_text};
 
-use crate::line::{Line, push_byte, push_hex, region_line as put_region_line};
+use crate::line::{Line, push_byte, region_line as put_region_line};
 use board_core::Board;
 use outside_io::{Failed, Sink};
 use region_check::Region;
+use trace_text::push_hex;
 
 /// Where RAM begins.
 const RAM: u32 = 0x2000_0000;

@@ -2,39 +2,25 @@
 ghost use Rattle.std.specs.Prelude.{◌≡◌, ◌≤◌, length};
 ghost use Rattle.outside_io.specs.Outside.{Pushes, HasCause};
 ghost use Rattle.board_core.specs.Run.{at_turn};
-ghost use Rattle.board_run.specs.Text.{line_of, notes_text, task_line, low_line, high_line, end_line};
+ghost use Rattle.trace_text.specs.Text.{line_of};
+ghost use Rattle.board_run.specs.Text.{notes_text, task_line, low_text, high_text, end_line};
 ghost use Rattle.board_run.specs.ViewText.{view_text, wait_words};
 
 use crate::line::{
-    Line, call_line, close_line, end_line as put_end_line, fault_line, high_line as put_high_line,
-    irq_line, low_line as put_low_line, post_line, ret_line, task_line as put_task_line, tick_line,
+    Line, end_line as put_end_line, high_line, low_line, task_line as put_task_line,
 };
 use board_core::{Board, End, TaskView};
 use kernel_abi::Note;
 use outside_io::{Failed, Sink};
+use trace_text::line as put_line;
 use words_core::Flags;
 
 fn push_note<S: Sink>(turn: u32, note: &Note, out: &mut S) -> Result<(), Failed>
-    ensures bytes { Pushes (S.written out.old) (S.written out.new) (line_of (turn, note.now)) result }
+    ensures bytes { Pushes (S.written out.old) (S.written out.new) (line_of turn note.now) result }
     ensures cause { HasCause (S.faults out.old) (S.faults out.new) result }
 {
     let mut line = Line::new();
-    match note {
-        Note::Tick { now } => tick_line(turn, *now, &mut line),
-        Note::Irq {
-            line: number,
-            handled,
-        } => irq_line(turn, *number, *handled, &mut line),
-        Note::Post { task, bits, posted } => post_line(turn, *task, *bits, *posted, &mut line),
-        Note::Call {
-            task,
-            number,
-            arguments,
-        } => call_line(turn, *task, *number, arguments, &mut line),
-        Note::Ret { task, results } => ret_line(turn, *task, results, &mut line),
-        Note::Close { call, ending } => close_line(turn, *call, *ending, &mut line),
-        Note::Fault { task, fault } => fault_line(turn, *task, fault, &mut line),
-    }
+    put_line(turn, note, &mut line);
     out.push(line.as_str().as_bytes())
 }
 
@@ -68,20 +54,20 @@ fn push_task_line<S: Sink>(i: u64, task: &TaskView, out: &mut S) -> Result<(), F
 }
 
 fn push_low<S: Sink>(registers: &[u32; 16], out: &mut S) -> Result<(), Failed>
-    ensures bytes { Pushes (S.written out.old) (S.written out.new) (low_line registers.now) result }
+    ensures bytes { Pushes (S.written out.old) (S.written out.new) (low_text registers.now) result }
     ensures cause { HasCause (S.faults out.old) (S.faults out.new) result }
 {
     let mut line = Line::new();
-    put_low_line(registers, &mut line);
+    low_line(registers, &mut line);
     out.push(line.as_str().as_bytes())
 }
 
 fn push_high<S: Sink>(registers: &[u32; 16], flags: Flags, out: &mut S) -> Result<(), Failed>
-    ensures bytes { Pushes (S.written out.old) (S.written out.new) (high_line registers.now flags) result }
+    ensures bytes { Pushes (S.written out.old) (S.written out.new) (high_text registers.now flags) result }
     ensures cause { HasCause (S.faults out.old) (S.faults out.new) result }
 {
     let mut line = Line::new();
-    put_high_line(registers, flags, &mut line);
+    high_line(registers, flags, &mut line);
     out.push(line.as_str().as_bytes())
 }
 

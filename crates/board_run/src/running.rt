@@ -9,7 +9,7 @@ ghost use Rattle.board_run.specs.Text.{trace_text};
 ghost use Rattle.board_run.specs.Running.{StandsMidway, end_within};
 
 use crate::pushing::{push_end, push_notes};
-use board_core::{Board, End};
+use board_core::{Board, End, Level};
 use outside_io::{Failed, Sink};
 
 // The supervisor's fault ends a run before its bound does, the bound before standing still.
@@ -42,22 +42,22 @@ fn ending(board: &Board, limit: u32) -> Option<End>
     end_within(board.ended(), limit - board.turns())
 }
 
-/// Turns up to the end of the run, and its text. After a failing push nothing more is pushed, and no
-/// further turn is made.
-pub fn run<S: Sink>(board: &mut Board, limit: u32, out: &mut S) -> Result<End, Failed>
+/// Turns up to the end of the run, and its text, which tells each turn at a level. After a failing push
+/// nothing more is pushed, and no further turn is made.
+pub fn run<S: Sink>(board: &mut Board, limit: u32, level: Level, out: &mut S) -> Result<End, Failed>
     requires stood { Stood board.old }
     requires from { turns_of board.old ≤ limit }
     requires few { limit ≤ 1000000000 }
 
     ensures text { (x : Scenario) (s : State) → Stands x board.old s →
-        Pushes (S.written out.old) (S.written out.new) (trace_text (run x (limit - s.turn) s)) result }
+        Pushes (S.written out.old) (S.written out.new) (trace_text (run level x (limit - s.turn) s)) result }
     ensures end { (x : Scenario) (s : State) → Stands x board.old s →
-        IfOk result (λ e. e ≡ (run x (limit - s.turn) s).end) }
+        IfOk result (λ e. e ≡ (run level x (limit - s.turn) s).end) }
     ensures last { (x : Scenario) (s : State) → Stands x board.old s →
-        IfOk result (λ _. Stands x board.new (run x (limit - s.turn) s).last) }
+        IfOk result (λ _. Stands x board.new (run level x (limit - s.turn) s).last) }
 
     // Also where a push failed.
-    ensures midway { (x : Scenario) (s : State) → Stands x board.old s → StandsMidway x board.new s }
+    ensures midway { (x : Scenario) (s : State) → Stands x board.old s → StandsMidway level x board.new s }
     ensures within { turns_of board.new ≤ limit }
     ensures cause { HasCause (S.faults out.old) (S.faults out.new) result }
 {
@@ -70,7 +70,7 @@ pub fn run<S: Sink>(board: &mut Board, limit: u32, out: &mut S) -> Result<End, F
             None => {}
         }
         let turn = board.turns();
-        board.turn();
+        board.turn_at(level);
         push_notes(turn, board.notes(), out)?;
     }
 }

@@ -1,4 +1,4 @@
-use Rattle.std.proofs.Common.{◌≡◌, ◌∙◌, ◌++◌, ap, sym, arith, append_assoc}
+use Rattle.std.proofs.Common.{◌∙◌, ◌++◌, ap, sym, arith, append_assoc}
 use Rattle.std.proofs.lemmas.List.{append-nil}
 use Rattle.std.specs.List.{flat_map, range_with_len}
 use Rattle.board_run.specs.MemoryText.{bytes_hex, byte_hex, hex_at}

@@ -1,4 +1,3 @@
-use Rattle.std.proofs.Common.{arith}
 use Rattle.std.proofs.lemmas.Result.{err_from_is_err_and}
 use Rattle.board_run.specs.MemoryText.{region_text, region_line, rows_text, row_count}
 use Rattle.board_run.proofs.Appending.{pushes_more, front_wider}

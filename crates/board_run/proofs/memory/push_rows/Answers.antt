@@ -1,4 +1,4 @@
-use Rattle.std.proofs.Common.{arith, ◌+◌, ◌*◌, ◌<◌}
+use Rattle.std.proofs.Common.{arith}
 use Rattle.std.proofs.lemmas.Result.{err_from_is_err_and}
 use Rattle.board_run.specs.MemoryText.{rows_text, row_at}
 use Rattle.board_run.proofs.Appending.{appends_none, range_pushed, range_fails}

@@ -1,6 +1,5 @@
-use Rattle.std.proofs.Common.{arith, ◌≡◌, ℕ, List, subst, ◌<◌, Option}
+use Rattle.std.proofs.Common.{arith, ◌≡◌}
 use Rattle.std.proofs.lemmas.Result.{err_from_is_err_and}
-use Rattle.std.specs.Io.KnownBytes.{Appends}
 use Rattle.board_run.specs.MemoryText.{memory_text, places_text, place_text}
 use Rattle.board_run.proofs.Appending.{appends_none, range_pushed, range_fails}
 use Rattle.board_run.proofs.memory.write_memory.Goals as goal

@@ -10,7 +10,7 @@ use Rattle.board_run.proofs.running.run.Goals as goal
 pub turns-init : goal.turns-init
 turns-init g c =
     record {
-      midway = λ x s st. midway_start x _ s _ st;
+      midway = λ x s st. midway_start c.args.level x _ s _ st;
       stood = c.requires.stood;
       turns = omega arith;
       later = omega arith;
@@ -19,44 +19,44 @@ turns-init g c =
 pub returns-in_err-push_end-in-Some-clause-text : goal.returns-in_err-push_end-in-Some-clause-text
 returns-in_err-push_end-in-Some-clause-text g c = λ x s st.
     let p = err_from_is_err_and c.from_residual.result c.from_residual.ensures.1 in
-    rw (p.1) (midway_end {T = End} {E = Failed} x c.args.limit _ _ _ s c.turns.board c.in-Some.end (Err p.0) c.turns.invariant.turns (λ t u. sym (c.in-Some.ensures.end x t u)) (c.in_err-push_end-in-Some.ensures.bytes x) (c.turns.invariant.midway x s st))
+    rw (p.1) (midway_end {T = End} {E = Failed} c.args.level x c.args.limit _ _ _ s c.turns.board c.in-Some.end (Err p.0) c.turns.invariant.turns (λ t u. sym (c.in-Some.ensures.end x t u)) (c.in_err-push_end-in-Some.ensures.bytes x) (c.turns.invariant.midway x s st))
 
 pub returns-in_err-push_end-in-Some-clause-midway : goal.returns-in_err-push_end-in-Some-clause-midway
-returns-in_err-push_end-in-Some-clause-midway g c = λ x s st. midway_board x _ _ s c.turns.board (c.turns.invariant.midway x s st)
+returns-in_err-push_end-in-Some-clause-midway g c = λ x s st. midway_board c.args.level x _ _ s c.turns.board (c.turns.invariant.midway x s st)
 
 pub returns-in-Some-clause-text : goal.returns-in-Some-clause-text
 returns-in-Some-clause-text g c = λ x s st.
-    midway_end {T = End} {E = Failed} x c.args.limit _ _ _ s c.turns.board c.in-Some.end (Ok c.in-Some.end) c.turns.invariant.turns (λ t u. sym (c.in-Some.ensures.end x t u)) (c.in_ok-push_end-in-Some.ensures.bytes x) (c.turns.invariant.midway x s st)
+    midway_end {T = End} {E = Failed} c.args.level x c.args.limit _ _ _ s c.turns.board c.in-Some.end (Ok c.in-Some.end) c.turns.invariant.turns (λ t u. sym (c.in-Some.ensures.end x t u)) (c.in_ok-push_end-in-Some.ensures.bytes x) (c.turns.invariant.midway x s st)
 
 pub returns-in-Some-clause-end : goal.returns-in-Some-clause-end
 returns-in-Some-clause-end g c = λ x s st.
-    (end_is x c.args.limit _ _ s c.turns.board c.in-Some.end c.turns.invariant.turns (λ t u. sym (c.in-Some.ensures.end x t u)) (c.turns.invariant.midway x s st)).0
+    (end_is c.args.level x c.args.limit _ _ s c.turns.board c.in-Some.end c.turns.invariant.turns (λ t u. sym (c.in-Some.ensures.end x t u)) (c.turns.invariant.midway x s st)).0
 
 pub returns-in-Some-clause-last : goal.returns-in-Some-clause-last
 returns-in-Some-clause-last g c = λ x s st.
-    (end_is x c.args.limit _ _ s c.turns.board c.in-Some.end c.turns.invariant.turns (λ t u. sym (c.in-Some.ensures.end x t u)) (c.turns.invariant.midway x s st)).1
+    (end_is c.args.level x c.args.limit _ _ s c.turns.board c.in-Some.end c.turns.invariant.turns (λ t u. sym (c.in-Some.ensures.end x t u)) (c.turns.invariant.midway x s st)).1
 
 pub returns-in-Some-clause-midway : goal.returns-in-Some-clause-midway
-returns-in-Some-clause-midway g c = λ x s st. midway_board x _ _ s c.turns.board (c.turns.invariant.midway x s st)
+returns-in-Some-clause-midway g c = λ x s st. midway_board c.args.level x _ _ s c.turns.board (c.turns.invariant.midway x s st)
 
 pub turns-preserved : goal.turns-preserved
 turns-preserved g c =
     let b = c.turns.board in
-    let b' = c.turn.new.self in
+    let b' = c.turn_at.new.self in
     let lt : turns_of b < c.args.limit = c.in-None.ensures.left refl in
     let stood = c.turns.invariant.stood in
     let pushed = rw (c.turns-turn.ensures, c.notes.ensures) at c.in_ok-push_notes.ensures.bytes in
     record {
       midway = λ x s st.
-          let h : IsTurned x b b' (notes_of b') = record {
+          let h : IsTurned c.args.level x b b' (notes_of b') = record {
             goes = λ t u. c.in-None.ensures.goes refl x t u;
-            stands = λ t u. c.turn.ensures.model x t u;
-            tells = λ t u. c.turn.ensures.notes x t u;
-            turns = c.turn.ensures.turns;
+            stands = λ t u. c.turn_at.ensures.model x t u;
+            tells = λ t u. c.turn_at.ensures.notes x t u;
+            turns = c.turn_at.ensures.turns;
           } in
-          midway_turn x _ _ _ s b b' (notes_of b') h pushed (c.turns.invariant.midway x s st);
-      stood = (stood.0, (turn stood.0 stood.1).state, c.turn.ensures.model stood.0 stood.1 stood.2);
-      turns = omega (arith, lt, c.turn.ensures.turns);
+          midway_turn c.args.level x _ _ _ s b b' (notes_of b') h pushed (c.turns.invariant.midway x s st);
+      stood = (stood.0, (turn c.args.level stood.0 stood.1).state, c.turn_at.ensures.model stood.0 stood.1 stood.2);
+      turns = omega (arith, lt, c.turn_at.ensures.turns);
       later = omega (arith, c.turns.invariant.later, c.in_ok-push_notes.ensures.cause.later);
     }
 
@@ -64,25 +64,25 @@ pub returns-in_err-push_notes-clause-text : goal.returns-in_err-push_notes-claus
 returns-in_err-push_notes-clause-text g c = λ x s st.
     let p = err_from_is_err_and c.from_residual-in_err-push_notes.result c.from_residual-in_err-push_notes.ensures.1 in
     let b = c.turns.board in
-    let b' = c.turn.new.self in
+    let b' = c.turn_at.new.self in
     let lt : turns_of b < c.args.limit = c.in-None.ensures.left refl in
     let pushed = rw (c.turns-turn.ensures, c.notes.ensures) at c.in_err-push_notes.ensures.bytes in
-    let h : IsTurned x b b' (notes_of b') = record {
+    let h : IsTurned c.args.level x b b' (notes_of b') = record {
       goes = λ t u. c.in-None.ensures.goes refl x t u;
-      stands = λ t u. c.turn.ensures.model x t u;
-      tells = λ t u. c.turn.ensures.notes x t u;
-      turns = c.turn.ensures.turns;
+      stands = λ t u. c.turn_at.ensures.model x t u;
+      tells = λ t u. c.turn_at.ensures.notes x t u;
+      turns = c.turn_at.ensures.turns;
     } in
-    midway_fails x c.args.limit _ _ _ s b b' (notes_of b') c.from_residual-in_err-push_notes.result p.0 p.1 lt h pushed (c.turns.invariant.midway x s st)
+    midway_fails c.args.level x c.args.limit _ _ _ s b b' (notes_of b') c.from_residual-in_err-push_notes.result p.0 p.1 lt h pushed (c.turns.invariant.midway x s st)
 
 pub returns-in_err-push_notes-clause-midway : goal.returns-in_err-push_notes-clause-midway
 returns-in_err-push_notes-clause-midway g c = λ x s st.
     let b = c.turns.board in
-    let b' = c.turn.new.self in
-    let h : IsTurned x b b' (notes_of b') = record {
+    let b' = c.turn_at.new.self in
+    let h : IsTurned c.args.level x b b' (notes_of b') = record {
       goes = λ t u. c.in-None.ensures.goes refl x t u;
-      stands = λ t u. c.turn.ensures.model x t u;
-      tells = λ t u. c.turn.ensures.notes x t u;
-      turns = c.turn.ensures.turns;
+      stands = λ t u. c.turn_at.ensures.model x t u;
+      tells = λ t u. c.turn_at.ensures.notes x t u;
+      turns = c.turn_at.ensures.turns;
     } in
-    turned_board x _ _ s b b' (notes_of b') h (c.turns.invariant.midway x s st)
+    turned_board c.args.level x _ _ s b b' (notes_of b') h (c.turns.invariant.midway x s st)

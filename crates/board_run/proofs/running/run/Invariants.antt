@@ -7,7 +7,7 @@ use Rattle.board_run.proofs.running.run.Given as goal
 
 abbrev pub invariant-turns : goal.invariant-turns
 invariant-turns g l = record {
-  midway : (x : Scenario) (s : State) → Stands x l.fn.board s → Midway x (g.S.Sink.written l.fn.out) (g.S.Sink.written l.out) s l.board;
+  midway : (x : Scenario) (s : State) → Stands x l.fn.board s → Midway l.level x (g.S.Sink.written l.fn.out) (g.S.Sink.written l.out) s l.board;
   stood : Stood l.board;
   turns : turns_of l.board ≤ l.limit;
   later : g.S.Sink.faults l.fn.out ≤ g.S.Sink.faults l.out;
