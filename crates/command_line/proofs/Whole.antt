@@ -113,7 +113,7 @@ build_whole words e =
     )
 
 run_sure : Each (Sure (shape_at 1).rules) (shape_at 1).rules
-run_sure = (record { known = refl; sure = refl }, (record { known = refl; sure = refl }, (record { known = refl; sure = refl }, (record { known = refl; sure = refl }, (record { known = refl; sure = refl }, tt)))))
+run_sure = (record { known = refl; sure = refl }, (record { known = refl; sure = refl }, (record { known = refl; sure = refl }, (record { known = refl; sure = refl }, (record { known = refl; sure = refl }, (record { known = refl; sure = refl }, tt))))))
 
 run_whole : (words : List Text) → entered_fault app (Some (codes "run", words)) ≡ [] → IsWhole (entered app (Some (codes "run", words)))
 run_whole words e =
@@ -126,12 +126,13 @@ run_whole words e =
         image = text (rule_at s 0) rows (has_given s.rules (rule_at s 0) rows d.good refl (d.given.0 refl));
         script = text (rule_at s 1) rows (has_given s.rules (rule_at s 1) rows d.good refl (d.given.1.0 refl));
         steps = steps (rule_at s 2) rows refl (has_given s.rules (rule_at s 2) rows d.good refl (d.given.1.1.0 refl));
-        mem = switch (rule_at s 3) rows refl (has_default s.rules (rule_at s 3) rows d.good refl (d.filled.1.1.1.0 (omega arith)));
+        all = switch (rule_at s 3) rows refl (has_default s.rules (rule_at s 3) rows d.good refl (d.filled.1.1.1.0 (omega arith)));
+        mem = switch (rule_at s 4) rows refl (has_default s.rules (rule_at s 4) rows d.good refl (d.filled.1.1.1.1.0 (omega arith)));
       },
     ))
 
 go_sure : Each (Sure (shape_at 2).rules) (shape_at 2).rules
-go_sure = (record { known = refl; sure = refl }, (record { known = refl; sure = refl }, (record { known = refl; sure = refl }, (record { known = refl; sure = refl }, (record { known = refl; sure = refl }, tt)))))
+go_sure = (record { known = refl; sure = refl }, (record { known = refl; sure = refl }, (record { known = refl; sure = refl }, (record { known = refl; sure = refl }, (record { known = refl; sure = refl }, (record { known = refl; sure = refl }, tt))))))
 
 go_whole : (words : List Text) → entered_fault app (Some (codes "go", words)) ≡ [] → IsWhole (entered app (Some (codes "go", words)))
 go_whole words e =
@@ -144,7 +145,8 @@ go_whole words e =
         app = text (rule_at s 0) rows (has_given s.rules (rule_at s 0) rows d.good refl (d.given.0 refl));
         script = text (rule_at s 1) rows (has_given s.rules (rule_at s 1) rows d.good refl (d.given.1.0 refl));
         steps = steps (rule_at s 2) rows refl (has_given s.rules (rule_at s 2) rows d.good refl (d.given.1.1.0 refl));
-        mem = switch (rule_at s 3) rows refl (has_default s.rules (rule_at s 3) rows d.good refl (d.filled.1.1.1.0 (omega arith)));
+        all = switch (rule_at s 3) rows refl (has_default s.rules (rule_at s 3) rows d.good refl (d.filled.1.1.1.0 (omega arith)));
+        mem = switch (rule_at s 4) rows refl (has_default s.rules (rule_at s 4) rows d.good refl (d.filled.1.1.1.1.0 (omega arith)));
       },
     )))
 

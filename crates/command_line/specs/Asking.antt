@@ -6,13 +6,13 @@ use Rattle.command_line.specs.declared.job.Job.TheVariants as job
 
 abbrev pub asked : Job → Asked
 asked (job.Build app out) = build app.now out.now
-asked (job.Run image script steps mem) = run image.now script.now steps mem
-asked (job.Go app script steps mem) = go app.now script.now steps mem
+asked (job.Run image script steps detail) = run image.now script.now steps detail
+asked (job.Go app script steps detail) = go app.now script.now steps detail
 asked (job.List image) = list image.now
 
 -- how many turns it may take
 abbrev pub steps_of : Job → ℕ
 steps_of (job.Build app out) = 0
-steps_of (job.Run image script steps mem) = steps
-steps_of (job.Go app script steps mem) = steps
+steps_of (job.Run image script steps detail) = steps
+steps_of (job.Go app script steps detail) = steps
 steps_of (job.List image) = 0

@@ -12,6 +12,7 @@ use Rattle.clap.specs.Kinds.{Kinds}
 use Rattle.clap.specs.declared.builder.action.ArgAction.TheVariants.{SetTrue}
 use Rattle.clap.specs.declared.builder.value_parser.ValueParser.{ValueParser}
 use Rattle.clap.specs.declared.builder.value_parser.ValueParser.TheVariants as parser
+use Rattle.command_line.specs.declared.job.Detail.{Detail}
 
 -- ---- what clap is told
 
@@ -56,13 +57,17 @@ number_in id rows = number_of (unwrap_or (one_of id rows) [])
 -- ---- the commands
 
 -- What the program may be asked for: to build an application, and the name of the image; a run of an
--- image with a script, for so many turns at most, and whether the memory is to be written; the same of an
+-- image with a script, for so many turns at most, and in which detail it is told; the same of an
 -- application; a list of an image.
 pub data Asked : Type 0 where
   build : Text → Text → Asked
-  run : Text → Text → ℕ → Bool → Asked
-  go : Text → Text → ℕ → Bool → Asked
+  run : Text → Text → ℕ → Detail → Asked
+  go : Text → Text → ℕ → Detail → Asked
   list : Text → Asked
+
+-- `--all` and `--mem`
+abbrev pub detail_in : List Row → Detail
+detail_in rows = record { instructions = is_set (codes "all") rows; memory = is_set (codes "mem") rows }
 
 -- the form of a command: its name, its arguments, and what they ask for
 pub record Form : Type 0 where
@@ -78,20 +83,20 @@ build_form = record {
   asks = λ rows. build (text_in (codes "app") rows) (text_in (codes "out") rows);
 }
 
--- `run IMAGE SCRIPT --steps N [--mem]`
+-- `run IMAGE SCRIPT --steps N [--all] [--mem]`
 abbrev pub run_form : Form
 run_form = record {
   name = codes "run";
-  rules = positional_rule (codes "image") ∷ positional_rule (codes "script") ∷ steps_rule ∷ flag_rule (codes "mem") ∷ [];
-  asks = λ rows. run (text_in (codes "image") rows) (text_in (codes "script") rows) (number_in (codes "steps") rows) (is_set (codes "mem") rows);
+  rules = positional_rule (codes "image") ∷ positional_rule (codes "script") ∷ steps_rule ∷ flag_rule (codes "all") ∷ flag_rule (codes "mem") ∷ [];
+  asks = λ rows. run (text_in (codes "image") rows) (text_in (codes "script") rows) (number_in (codes "steps") rows) (detail_in rows);
 }
 
--- `go APP SCRIPT --steps N [--mem]`
+-- `go APP SCRIPT --steps N [--all] [--mem]`
 abbrev pub go_form : Form
 go_form = record {
   name = codes "go";
-  rules = positional_rule (codes "app") ∷ positional_rule (codes "script") ∷ steps_rule ∷ flag_rule (codes "mem") ∷ [];
-  asks = λ rows. go (text_in (codes "app") rows) (text_in (codes "script") rows) (number_in (codes "steps") rows) (is_set (codes "mem") rows);
+  rules = positional_rule (codes "app") ∷ positional_rule (codes "script") ∷ steps_rule ∷ flag_rule (codes "all") ∷ flag_rule (codes "mem") ∷ [];
+  asks = λ rows. go (text_in (codes "app") rows) (text_in (codes "script") rows) (number_in (codes "steps") rows) (detail_in rows);
 }
 
 -- `list IMAGE`

@@ -30,12 +30,14 @@ pub record IsWholeRun (rows : List Row) : Type 0 where
   pub image : HasText (codes "image") rows
   pub script : HasText (codes "script") rows
   pub steps : IsSteps (one_of (codes "steps") rows)
+  pub all : IsSwitch (first_of (codes "all") rows)
   pub mem : IsSwitch (first_of (codes "mem") rows)
 
 pub record IsWholeGo (rows : List Row) : Type 0 where
   pub app : HasText (codes "app") rows
   pub script : HasText (codes "script") rows
   pub steps : IsSteps (one_of (codes "steps") rows)
+  pub all : IsSwitch (first_of (codes "all") rows)
   pub mem : IsSwitch (first_of (codes "mem") rows)
 
 pub record IsWholeList (rows : List Row) : Type 0 where

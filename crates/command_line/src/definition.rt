@@ -1,6 +1,6 @@
 //! What `clap` is told: the program, a function for each command and for each kind of argument.
-ghost use Rattle.std.specs.Prelude.{◌≡◌, IfOk, false, map, [], ◌∷◌};
-ghost use Rattle.clap.specs.Words.{app_of, rule_of};
+ghost use Rattle.std.specs.Prelude.{◌≡◌, IfOk, false, map, [], ◌∷◌, codes};
+ghost use Rattle.clap.specs.Words.{app_of, rule_of, with_rule};
 ghost use Rattle.clap.specs.declared.builder.command.Command.TheViews.{out-Command as fields_of};
 ghost use Rattle.command_line.specs.CommandLine.{hubris_app, positional_rule, steps_rule, flag_rule, app_of_form, shape_of_form, build_form, run_form, go_form, list_form};
 
@@ -40,26 +40,38 @@ fn build_command<'a>(alloc: Global) -> Result<Command<'a>, AllocError>
         .arg(positional(alloc, "out"))
 }
 
+// A command with what may be told of a run besides: its instructions, its memory.
+fn with_flags<'a>(alloc: Global, command: Command<'a>) -> Result<Command<'a>, AllocError>
+    ensures shape { IfOk result (λ c. app_of c ≡ with_rule (with_rule (app_of command.entry) (flag_rule (codes "all"))) (flag_rule (codes "mem"))) }
+    ensures local { (fields_of command.entry).has_globals ≡ false → IfOk result (λ c. (fields_of c).has_globals ≡ false) }
+{
+    command.arg(flag(alloc, "all"))?.arg(flag(alloc, "mem"))
+}
+
 fn run_command<'a>(alloc: Global) -> Result<Command<'a>, AllocError>
     ensures shape { IfOk result (λ c. app_of c ≡ app_of_form run_form) }
     ensures local { IfOk result (λ c. (fields_of c).has_globals ≡ false) }
 {
-    Command::new(alloc, "run")
-        .arg(positional(alloc, "image"))?
-        .arg(positional(alloc, "script"))?
-        .arg(steps(alloc))?
-        .arg(flag(alloc, "mem"))
+    with_flags(
+        alloc,
+        Command::new(alloc, "run")
+            .arg(positional(alloc, "image"))?
+            .arg(positional(alloc, "script"))?
+            .arg(steps(alloc))?,
+    )
 }
 
 fn go_command<'a>(alloc: Global) -> Result<Command<'a>, AllocError>
     ensures shape { IfOk result (λ c. app_of c ≡ app_of_form go_form) }
     ensures local { IfOk result (λ c. (fields_of c).has_globals ≡ false) }
 {
-    Command::new(alloc, "go")
-        .arg(positional(alloc, "app"))?
-        .arg(positional(alloc, "script"))?
-        .arg(steps(alloc))?
-        .arg(flag(alloc, "mem"))
+    with_flags(
+        alloc,
+        Command::new(alloc, "go")
+            .arg(positional(alloc, "app"))?
+            .arg(positional(alloc, "script"))?
+            .arg(steps(alloc))?,
+    )
 }
 
 fn list_command<'a>(alloc: Global) -> Result<Command<'a>, AllocError>

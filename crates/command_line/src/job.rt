@@ -1,11 +1,19 @@
 //! What the matches of a command ask for.
 ghost use Rattle.std.specs.Prelude.{◌≡◌, ◌≤◌, Some, codes};
 ghost use Rattle.clap.specs.Words.{rows_of, found_of, one_of};
-ghost use Rattle.command_line.specs.CommandLine.{asked_by, build_form, run_form, go_form, list_form, text_in, is_set, number_in, most_steps};
+ghost use Rattle.command_line.specs.CommandLine.{asked_by, build_form, run_form, go_form, list_form, text_in, is_set, detail_in, number_in, most_steps};
 ghost use Rattle.command_line.specs.Required.{IsSteps, IsWhole};
 ghost use Rattle.command_line.specs.Asking.{asked, steps_of};
 
 use clap::ArgMatches;
+
+/// What is told of a run besides calls, events and faults: each instruction and the registers after it;
+/// the memory after the run.
+#[derive(Clone, Copy, Debug, PartialEq, Eq)]
+pub struct Detail {
+    pub instructions: bool,
+    pub memory: bool,
+}
 
 /// What the program is asked to do; names are those of files, `steps` is at most 1,000,000,000.
 #[derive(Clone, Copy, Drop)]
@@ -15,19 +23,19 @@ pub enum Job<'a> {
         app: &'a str,
         out: &'a str,
     },
-    /// Run IMAGE with SCRIPT for at most `steps` turns; with `mem`, write the memory after it.
+    /// Run IMAGE with SCRIPT for at most `steps` turns.
     Run {
         image: &'a str,
         script: &'a str,
         steps: u32,
-        mem: bool,
+        detail: Detail,
     },
     /// Build APP and run it as `Run` runs an image.
     Go {
         app: &'a str,
         script: &'a str,
         steps: u32,
-        mem: bool,
+        detail: Detail,
     },
     /// List what IMAGE says.
     List {
@@ -48,6 +56,15 @@ fn flag_of(matches: &ArgMatches<'_>, id: &str) -> bool
     ensures { result ≡ is_set id.now (rows_of (found_of matches.now)) }
 {
     text_of(matches, id) == "true"
+}
+
+fn detail_of(matches: &ArgMatches<'_>) -> Detail
+    ensures { result ≡ detail_in (rows_of (found_of matches.now)) }
+{
+    Detail {
+        instructions: flag_of(matches, "all"),
+        memory: flag_of(matches, "mem"),
+    }
 }
 
 fn number_of(matches: &ArgMatches<'_>, id: &str) -> u32
@@ -78,7 +95,7 @@ fn run_by<'a>(matches: &ArgMatches<'a>) -> Job<'a>
         image: text_of(matches, "image"),
         script: text_of(matches, "script"),
         steps: number_of(matches, "steps"),
-        mem: flag_of(matches, "mem"),
+        detail: detail_of(matches),
     }
 }
 
@@ -90,7 +107,7 @@ fn go_by<'a>(matches: &ArgMatches<'a>) -> Job<'a>
         app: text_of(matches, "app"),
         script: text_of(matches, "script"),
         steps: number_of(matches, "steps"),
-        mem: flag_of(matches, "mem"),
+        detail: detail_of(matches),
     }
 }
 

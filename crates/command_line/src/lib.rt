@@ -8,6 +8,6 @@ mod reading;
 #[cfg(test)]
 mod tests;
 
-pub use job::Job;
+pub use job::{Detail, Job};
 pub use laws::every_taken_command_is_whole;
 pub use reading::{Refusal, read_words};

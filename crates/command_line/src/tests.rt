@@ -1,4 +1,4 @@
-use crate::{Job, Refusal, read_words};
+use crate::{Detail, Job, Refusal, read_words};
 use std::alloc::{AllocError, Global};
 use std::test::Fail;
 
@@ -12,14 +12,14 @@ fn after_name(alloc: Global, words: &[&str]) -> Result<Vec<String>, AllocError> 
     Ok(all)
 }
 
-// A run that is asked for: image, script, steps and whether the memory is to be written.
-type Asked = (&'static str, &'static str, u32, bool);
+// A run that is asked for: image, script, steps, whether all instructions are told and the memory is written.
+type Asked = (&'static str, &'static str, u32, bool, bool);
 
 // Whether the words ask for this run.
 fn asks(
     alloc: Global,
     words: &[&str],
-    (image, script, steps, mem): Asked,
+    (image, script, steps, every, mem): Asked,
 ) -> Result<bool, AllocError> {
     let all = after_name(alloc, words)?;
     match read_words(alloc, &all) {
@@ -28,9 +28,18 @@ fn asks(
                 image: i,
                 script: s,
                 steps: n,
-                mem: m,
+                detail,
             },
-        ) => Ok(i == image && s == script && n == steps && m == mem),
+        ) => Ok(
+            i == image
+                && s == script
+                && n == steps
+                && detail
+                    == (Detail {
+                        instructions: every,
+                        memory: mem,
+                    }),
+        ),
         _ => Ok(false),
     }
 }
@@ -55,7 +64,7 @@ fn builds(alloc: Global, words: &[&str], app: &str, out: &str) -> Result<bool, A
 fn goes(
     alloc: Global,
     words: &[&str],
-    (app, script, steps, mem): Asked,
+    (app, script, steps, every, mem): Asked,
 ) -> Result<bool, AllocError> {
     let all = after_name(alloc, words)?;
     match read_words(alloc, &all) {
@@ -64,9 +73,18 @@ fn goes(
                 app: a,
                 script: s,
                 steps: n,
-                mem: m,
+                detail,
             },
-        ) => Ok(a == app && s == script && n == steps && m == mem),
+        ) => Ok(
+            a == app
+                && s == script
+                && n == steps
+                && detail
+                    == (Detail {
+                        instructions: every,
+                        memory: mem,
+                    }),
+        ),
         _ => Ok(false),
     }
 }
@@ -93,7 +111,7 @@ fn the_bound_is_written_in_several_ways(rt: HostRuntime) -> Result<(), Fail> {
     ];
     for (words, steps) in ways {
         assert!(rt;
-            asks(rt.alloc(), words, ("a", "e", steps, false))?,
+            asks(rt.alloc(), words, ("a", "e", steps, false, false))?,
             "at {steps}"
         );
     }
@@ -111,34 +129,57 @@ fn options_stand_anywhere_after_the_command(rt: HostRuntime) -> Result<(), Fail>
         &["run", "a", "--mem", "--steps=3", "--", "e"],
     ];
     for (i, words) in orders.into_iter().enumerate() {
-        assert!(rt; asks(rt.alloc(), words, ("a", "e", 3, true))?, "at {i}");
+        assert!(rt;
+            asks(rt.alloc(), words, ("a", "e", 3, false, true))?,
+            "at {i}"
+        );
     }
+    Ok(())
+}
+
+#[test]
+fn each_option_is_its_own(rt: HostRuntime) -> Result<(), Fail> {
+    let alloc = rt.alloc();
+    let both = ["run", "a", "e", "--mem", "--steps=3", "--all"];
+    assert!(rt; asks(alloc, &both, ("a", "e", 3, true, true))?);
+    let instructions = ["run", "a", "e", "--all", "--steps=3"];
+    assert!(rt; asks(alloc, &instructions, ("a", "e", 3, true, false))?);
+    let of_an_app = ["go", "a", "e", "--all", "--steps=3"];
+    assert!(rt; goes(alloc, &of_an_app, ("a", "e", 3, true, false))?);
+    assert!(rt; is_refused(alloc, &["run", "a", "e", "--all", "--all", "--steps=3"])?);
+    assert!(rt; is_refused(alloc, &["list", "a", "--all"])?);
     Ok(())
 }
 
 #[test]
 fn any_word_is_a_name(rt: HostRuntime) -> Result<(), Fail> {
     let alloc = rt.alloc();
-    assert!(rt; asks(alloc, &["run", "", "-", "--steps=3"], ("", "-", 3, false))?);
+    assert!(rt;
+        asks(
+            alloc,
+            &["run", "", "-", "--steps=3"],
+            ("", "-", 3, false, false)
+        )?
+    );
     assert!(rt;
         asks(
             alloc,
             &["run", "run", "list", "--steps=3"],
-            ("run", "list", 3, false)
+            ("run", "list", 3, false, false)
         )?
     );
     assert!(rt;
         asks(
             alloc,
             &["run", "--steps=3", "--", "--mem", "-x"],
-            ("--mem", "-x", 3, false)
+            ("--mem", "-x", 3, false, false)
         )?
     );
     assert!(rt;
         asks(
             alloc,
             &["run", "--steps=3", "--", "--", "ü.txt"],
-            ("--", "ü.txt", 3, false)
+            ("--", "ü.txt", 3, false, false)
         )?
     );
     Ok(())
@@ -193,21 +234,21 @@ fn an_application_is_run_as_an_image_is(rt: HostRuntime) -> Result<(), Fail> {
         goes(
             alloc,
             &["go", "a", "e", "--steps", "3"],
-            ("a", "e", 3, false)
+            ("a", "e", 3, false, false)
         )?
     );
     assert!(rt;
         goes(
             alloc,
             &["go", "--mem", "--steps=+07", "a", "e"],
-            ("a", "e", 7, true)
+            ("a", "e", 7, false, true)
         )?
     );
     assert!(rt;
         goes(
             alloc,
             &["go", "a", "--steps=-0", "--", "-e"],
-            ("a", "-e", 0, false)
+            ("a", "-e", 0, false, false)
         )?
     );
     for (i, words) in [
