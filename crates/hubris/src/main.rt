@@ -4,7 +4,7 @@
 
 use outside_io::{HostFiles, HostSink};
 use std::alloc::AllocError;
-use std::io::ErrorKind;
+use std::io::{BufWriter, ErrorKind};
 use std::process::ExitCode;
 use std::{env, io};
 use trace_cli::hubris_main;
@@ -32,7 +32,15 @@ fn main(rt: HostRuntime) -> ExitCode {
     let Ok(words) = words(&rt) else {
         return ExitCode::from(5);
     };
-    let mut out = HostSink::new(io::writer(&rt));
+    // Lines go out together, since a call of the system for each would be most of the time of `--all`.
+    let Ok(writer) = BufWriter::with_capacity(rt.alloc(), 65_536, io::writer(&rt)) else {
+        return ExitCode::from(5);
+    };
+    let mut out = HostSink::new(writer);
     let mut files = HostFiles::new(&rt);
-    ExitCode::from(hubris_main(rt.alloc(), &words, &mut files, &mut out))
+    let status = hubris_main(rt.alloc(), &words, &mut files, &mut out);
+    match out.flush() {
+        Ok(()) => ExitCode::from(status),
+        Err(_) => ExitCode::from(4),
+    }
 }

@@ -1,5 +1,6 @@
 //! Real files and a real output. They tell no contents and no failing name.
 ghost use Rattle.std.specs.Prelude.{◌≡◌, ◌≢◌, ℕ, List, None, IfOk, MatchResult, OnErr, OnOk, ◌≤◌, length};
+ghost use Rattle.std.specs.Io.KnownBytes.{Keeps};
 ghost use Rattle.outside_io.specs.Outside.{CountsFailure, Gives, HasCause, Puts, Pushes, Reads, WhereTold, short_name};
 ghost use Rattle.outside_io.specs.Host.{counts_of, out_of, faults_of};
 
@@ -104,6 +105,21 @@ impl<W: Write> HostSink<W> {
         ensures faults { faults_of result ≡ 0 }
     {
         HostSink { out, faults: 0 }
+    }
+
+    /// Passes on what the output holds back of the pieces that it has taken. A failure is counted as that of
+    /// a push.
+    pub fn flush(&mut self) -> Result<(), Failed>
+        ensures output { Keeps (W.contents (out_of self.old)) (W.contents (out_of self.new)) }
+        ensures counted { CountsFailure (faults_of self.old) (faults_of self.new) result }
+    {
+        match self.out.flush() {
+            Ok(()) => Ok(()),
+            Err(_) => {
+                self.faults = self.faults.saturating_add(1);
+                Err(Failed)
+            }
+        }
     }
 }
 

@@ -2,7 +2,7 @@
 use crate::{Failed, Files, HostFiles, HostSink, MemFiles, MemSink, ReadAll, Sink, read_all};
 use std::alloc::{AllocError, Global};
 use std::fs;
-use std::io::Cursor;
+use std::io::{BufWriter, Cursor};
 use std::test::Fail;
 
 // "a.img" with the bytes `abcde` and room for eight.
@@ -145,6 +145,21 @@ fn writes_to_an_output_until_it_takes_nothing(rt: HostRuntime) -> Result<(), Fai
     assert_eq!(rt; sink.push(b"def"), Err(Failed));
     assert_eq!(rt; sink.push(b"g"), Err(Failed));
     assert_eq!(rt; sink.push(b""), Ok(()));
+    assert_eq!(rt; taken.as_slice(), b"abcde".as_slice());
+    Ok(())
+}
+
+#[test]
+fn a_flush_passes_on_what_is_held_back(rt: HostRuntime) -> Result<(), Fail> {
+    let mut taken = *b"_____";
+    let output = Cursor::new(taken.as_mut_slice());
+    let held = BufWriter::with_capacity(rt.alloc(), 16, output).expect(&rt, "there is memory");
+    let mut sink = HostSink::new(held);
+    assert_eq!(rt; sink.push(b"abc"), Ok(()));
+    assert_eq!(rt; sink.flush(), Ok(()));
+    assert_eq!(rt; sink.push(b"def"), Ok(()));
+    assert_eq!(rt; sink.flush(), Err(Failed));
+    drop(sink);
     assert_eq!(rt; taken.as_slice(), b"abcde".as_slice());
     Ok(())
 }
