@@ -9,8 +9,8 @@ use Rattle.trace_cli.proofs.Lists.{get_below, is_below, same_lists}
 -- the first file of a job does not depend on contents
 first_file : (job : Asked) (a b : List ℕ) → slice_get (files_of job a) 0 ≡ slice_get (files_of job b) 0
 first_file (build app out) a b = refl
-first_file (run image script steps mem) a b = refl
-first_file (go app script steps mem) a b = refl
+first_file (run image script steps detail) a b = refl
+first_file (go app script steps detail) a b = refl
 first_file (list image) a b = refl
 
 pub same_held : (told : List ℕ → Option (List ℕ)) (name c d : List ℕ) → told name ≡ Some c → MayBe told name d → d ≡ c

@@ -6,6 +6,7 @@ use Rattle.outside_io.specs.Outside.{WhereTold}
 use Rattle.image_format.specs.Picture.{Picture}
 use Rattle.board_core.specs.Script.{Scenario}
 use Rattle.command_line.specs.CommandLine.{Asked, build, run, go, list, is_taken, job_of}
+use Rattle.command_line.specs.declared.job.Detail.{Detail}
 use Rattle.build_laws.proofs.OnePicture.{one_picture}
 use Rattle.trace_cli.specs.Contents.{Why, scenario_of}
 use Rattle.trace_cli.specs.Seen.{FilesSeen}
@@ -22,51 +23,51 @@ use Rattle.trace_cli.proofs.Agreeing.{same_files, told_further, may_further, sam
 same_image : (cs : List (List ℕ)) (a b : Picture) → IsBuilt cs a → IsBuilt cs b → a ≡ b
 same_image cs a b p q = one_picture (described cs) (sources_in cs) a b p.built q.built
 
-same_run : (job : Asked) (cs : List (List ℕ)) (n n' : ℕ) (m m' : Bool) (x y : Scenario) → IsRun job cs n m x → IsRun job cs n' m' y → ran n m x ≡ ran n' m' y
-same_run (run image script steps mem) cs n n' m m' x y p q =
+same_run : (job : Asked) (cs : List (List ℕ)) (n n' : ℕ) (m m' : Detail) (x y : Scenario) → IsRun job cs n m x → IsRun job cs n' m' y → ran n m x ≡ ran n' m' y
+same_run (run image script steps detail) cs n n' m m' x y p q =
     let bound : n ≡ n' = p.0 ∙ sym q.0 in
-    let memory : m ≡ m' = p.1 ∙ sym q.1 in
+    let told : m ≡ m' = p.1 ∙ sym q.1 in
     let scenario : x ≡ y = p.2 ∙ sym q.2 in
-    ap (λ (k : ℕ). ran k m x) bound ∙ ap (λ (b : Bool). ran n' b x) memory ∙ ap (ran n' m') scenario
-same_run (go app script steps mem) cs n n' m m' x y p q =
+    ap (λ (k : ℕ). ran k m x) bound ∙ ap (λ (d : Detail). ran n' d x) told ∙ ap (ran n' m') scenario
+same_run (go app script steps detail) cs n n' m m' x y p q =
     let bound : n ≡ n' = p.0 ∙ sym q.0 in
-    let memory : m ≡ m' = p.1 ∙ sym q.1 in
+    let told : m ≡ m' = p.1 ∙ sym q.1 in
     let image : p.2.0 ≡ q.2.0 = same_image cs p.2.0 q.2.0 p.2.1 q.2.1 in
     let scenario : x ≡ y = p.2.2 ∙ ap (λ (i : Picture). scenario_of i (script_in cs)) image ∙ sym q.2.2 in
-    ap (λ (k : ℕ). ran k m x) bound ∙ ap (λ (b : Bool). ran n' b x) memory ∙ ap (ran n' m') scenario
+    ap (λ (k : ℕ). ran k m x) bound ∙ ap (λ (d : Detail). ran n' d x) told ∙ ap (ran n' m') scenario
 same_run (build app out) cs n n' m m' x y p q = absurd p
 same_run (list image) cs n n' m m' x y p q = absurd p
 
 same_listing : (job : Asked) (cs : List (List ℕ)) (a b : Picture) → IsListing job cs a → IsListing job cs b → listed a ≡ listed b
 same_listing (list image) cs a b p q = ap listed (p ∙ sym q)
 same_listing (build app out) cs a b p q = absurd p
-same_listing (run image script steps mem) cs a b p q = absurd p
-same_listing (go app script steps mem) cs a b p q = absurd p
+same_listing (run image script steps detail) cs a b p q = absurd p
+same_listing (go app script steps detail) cs a b p q = absurd p
 
 same_build : (job : Asked) (cs : List (List ℕ)) (o o' : List ℕ) (a b : Picture) → IsBuild job cs o a → IsBuild job cs o' b → built o a ≡ built o' b
 same_build (build app out) cs o o' a b p q =
     let name : o ≡ o' = p.0 ∙ sym q.0 in
     let image : a ≡ b = same_image cs a b p.1 q.1 in
     ap (λ (n : List ℕ). built n a) name ∙ ap (built o') image
-same_build (run image script steps mem) cs o o' a b p q = absurd p
-same_build (go app script steps mem) cs o o' a b p q = absurd p
+same_build (run image script steps detail) cs o o' a b p q = absurd p
+same_build (go app script steps detail) cs o o' a b p q = absurd p
 same_build (list image) cs o o' a b p q = absurd p
 
-run_or_listing : (job : Asked) (cs : List (List ℕ)) (n : ℕ) (m : Bool) (x : Scenario) (a : Picture) → IsRun job cs n m x → IsListing job cs a → ⊥
-run_or_listing (run image script steps mem) cs n m x a p q = q
-run_or_listing (go app script steps mem) cs n m x a p q = q
+run_or_listing : (job : Asked) (cs : List (List ℕ)) (n : ℕ) (m : Detail) (x : Scenario) (a : Picture) → IsRun job cs n m x → IsListing job cs a → ⊥
+run_or_listing (run image script steps detail) cs n m x a p q = q
+run_or_listing (go app script steps detail) cs n m x a p q = q
 run_or_listing (build app out) cs n m x a p q = q
 run_or_listing (list image) cs n m x a p q = p
 
-run_or_build : (job : Asked) (cs : List (List ℕ)) (n : ℕ) (m : Bool) (x : Scenario) (o : List ℕ) (a : Picture) → IsRun job cs n m x → IsBuild job cs o a → ⊥
-run_or_build (run image script steps mem) cs n m x o a p q = q
-run_or_build (go app script steps mem) cs n m x o a p q = q
+run_or_build : (job : Asked) (cs : List (List ℕ)) (n : ℕ) (m : Detail) (x : Scenario) (o : List ℕ) (a : Picture) → IsRun job cs n m x → IsBuild job cs o a → ⊥
+run_or_build (run image script steps detail) cs n m x o a p q = q
+run_or_build (go app script steps detail) cs n m x o a p q = q
 run_or_build (build app out) cs n m x o a p q = p
 run_or_build (list image) cs n m x o a p q = p
 
 listing_or_build : (job : Asked) (cs : List (List ℕ)) (a : Picture) (o : List ℕ) (b : Picture) → IsListing job cs a → IsBuild job cs o b → ⊥
-listing_or_build (run image script steps mem) cs a o b p q = q
-listing_or_build (go app script steps mem) cs a o b p q = q
+listing_or_build (run image script steps detail) cs a o b p q = q
+listing_or_build (go app script steps detail) cs a o b p q = q
 listing_or_build (build app out) cs a o b p q = p
 listing_or_build (list image) cs a o b p q = q
 

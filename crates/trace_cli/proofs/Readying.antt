@@ -9,6 +9,7 @@ use Rattle.board_core.specs.Script.{Scenario}
 use Rattle.board_core.specs.Stands.{Stands, Stood, turns_of}
 use Rattle.outside_io.specs.Outside.{Rose}
 use Rattle.command_line.specs.CommandLine.{Asked, build, run, go, list}
+use Rattle.command_line.specs.declared.job.Detail.{Detail}
 use Rattle.trace_cli.specs.declared.stops.Halt.{Halt}
 use Rattle.trace_cli.specs.declared.stops.Halt.TheVariants as halts
 use Rattle.trace_cli.specs.Contents.{Why, scenario_of, picture_of, application_of}
@@ -30,9 +31,9 @@ use Rattle.trace_cli.proofs.Taking.{as_many_sources}
 one_file : (told : List ℕ → Option (List ℕ)) (name : List ℕ) (image : Picture) (more : List File) (h : IsImageFile told name image) → Takes (MayBe told) (image_file name ∷ more) (h.bytes ∷ [])
 one_file told name image more h = takes_first (MayBe told) (image_file name) more h.bytes [] h.held h.accepted (takes_none (MayBe told) more)
 
-pub run_ready : (told : List ℕ → Option (List ℕ)) (image script : List ℕ) (n : ℕ) (mem : Bool) (picture : Picture) (b : Board) → IsImageFile told image picture → IsSet told picture script b
-    → IsReady (run image script n mem) told n mem b
-run_ready told image script n mem picture b i s = record {
+pub run_ready : (told : List ℕ → Option (List ℕ)) (image script : List ℕ) (n : ℕ) (detail : Detail) (picture : Picture) (b : Board) → IsImageFile told image picture → IsSet told picture script b
+    → IsReady (run image script n detail) told n detail b
+run_ready told image script n detail picture b i s = record {
   contents = i.bytes ∷ s.script ∷ [];
   accepted = record {
     takes = takes_first (MayBe told) (image_file image) (script_file script ∷ []) i.bytes (s.script ∷ []) i.held i.accepted
@@ -45,15 +46,15 @@ run_ready told image script n mem picture b i s = record {
   turns = s.turns;
 }
 
-pub run_image_halts : (a c : FilesSeen) (image script : List ℕ) (n : ℕ) (mem : Bool) (h : Halt) → HaltsAt a c (image_file image) h → Halts (run image script n mem) a c h
-run_image_halts a c image script n mem h halts = record {
+pub run_image_halts : (a c : FilesSeen) (image script : List ℕ) (n : ℕ) (detail : Detail) (h : Halt) → HaltsAt a c (image_file image) h → Halts (run image script n detail) a c h
+run_image_halts a c image script n detail h halts = record {
   contents = [];
   at = record { takes = takes_none (MayBe a.told) (image_file image ∷ script_file script ∷ []); file = image_file image; next = refl; halts = halts };
 }
 
-pub run_script_halts : (a b c : FilesSeen) (image script : List ℕ) (n : ℕ) (mem : Bool) (picture : Picture) (h : Halt) → IsImageFile a.told image picture → b.told ≡ a.told
-    → a.read_faults ≤ b.read_faults → HaltsAt b c (script_file script) h → Halts (run image script n mem) a c h
-run_script_halts a b c image script n mem picture h i told later halts = record {
+pub run_script_halts : (a b c : FilesSeen) (image script : List ℕ) (n : ℕ) (detail : Detail) (picture : Picture) (h : Halt) → IsImageFile a.told image picture → b.told ≡ a.told
+    → a.read_faults ≤ b.read_faults → HaltsAt b c (script_file script) h → Halts (run image script n detail) a c h
+run_script_halts a b c image script n detail picture h i told later halts = record {
   contents = i.bytes ∷ [];
   at = record {
     takes = one_file a.told image picture (script_file script ∷ []) i;
@@ -103,9 +104,9 @@ go_image bytes sources script picture count h =
 pub go_script : (bytes : List ℕ) (sources : List (List ℕ)) (script : List ℕ) → length (application_of bytes).tasks ≡ length sources → script_in (bytes ∷ (sources ++ script ∷ [])) ≡ script
 go_script bytes sources script count = ap (λ n. get_or (sources ++ script ∷ []) n []) count ∙ at_end sources script []
 
-pub go_ready : (told : List ℕ → Option (List ℕ)) (app script : List ℕ) (n : ℕ) (mem : Bool) (picture : Picture) (b : Board) → IsImage told app picture → IsSet told picture script b
-    → IsReady (go app script n mem) told n mem b
-go_ready told app script n mem picture b i s =
+pub go_ready : (told : List ℕ → Option (List ℕ)) (app script : List ℕ) (n : ℕ) (detail : Detail) (picture : Picture) (b : Board) → IsImage told app picture → IsSet told picture script b
+    → IsReady (go app script n detail) told n detail b
+go_ready told app script n detail picture b i s =
     let files = files_to_build app i.bytes in
     let count : length (application_of i.bytes).tasks ≡ length i.sources = (let all = i.each.all in let many = as_many_sources (application_of i.bytes) in omega arith) in
     record {
@@ -122,8 +123,8 @@ go_ready told app script n mem picture b i s =
       turns = s.turns;
     }
 
-pub go_app_halts : (a c : FilesSeen) (app script : List ℕ) (n : ℕ) (mem : Bool) (h : Halt) → HaltsInApp a c app h → Halts (go app script n mem) a c h
-go_app_halts a c app script n mem h i =
+pub go_app_halts : (a c : FilesSeen) (app script : List ℕ) (n : ℕ) (detail : Detail) (h : Halt) → HaltsInApp a c app h → Halts (go app script n detail) a c h
+go_app_halts a c app script n detail h i =
     let files = files_to_build app (first_of i.contents) in
     record {
       contents = i.contents;
@@ -135,9 +136,9 @@ go_app_halts a c app script n mem h i =
       };
     }
 
-pub go_script_halts : (a b c : FilesSeen) (app script : List ℕ) (n : ℕ) (mem : Bool) (picture : Picture) (h : Halt) → IsImage a.told app picture → b.told ≡ a.told
-    → a.read_faults ≤ b.read_faults → HaltsAt b c (script_file script) h → Halts (go app script n mem) a c h
-go_script_halts a b c app script n mem picture h i told later halts =
+pub go_script_halts : (a b c : FilesSeen) (app script : List ℕ) (n : ℕ) (detail : Detail) (picture : Picture) (h : Halt) → IsImage a.told app picture → b.told ≡ a.told
+    → a.read_faults ≤ b.read_faults → HaltsAt b c (script_file script) h → Halts (go app script n detail) a c h
+go_script_halts a b c app script n detail picture h i told later halts =
     let files = files_to_build app i.bytes in
     record {
       contents = i.bytes ∷ i.sources;
@@ -182,13 +183,13 @@ answers_halt job a b w w' (halts.Refused name cause place) r same h s =
     let why = refuses file reason (record { contents = h.contents; reached = record { takes = h.at.takes; next = h.at.next }; refused = at.1 }) (ap (λ (n : List ℕ). refused n reason) at.0) in
     answers_said job a b w w' (refused (string_bytes name) reason) r same refl why s
 
-pub answers_run : (job : Asked) (a b : FilesSeen) (w w' : SinkSeen) (n : ℕ) (mem : Bool) (bd : Board) (r : ℕ) → b.told ≡ a.told → IsReady job a.told n mem bd
-    → ((x : Scenario) → Stands x bd (start x.setup) → Pushed w w' (ran n mem x) r) → AnswersJob job a b w w' r
-answers_run job a b w w' n mem bd r same ready tells =
-    answers_pushed job a b w w' (ran n mem ready.scenario) r same refl (does ready.contents ready.accepted (runs n mem ready.scenario ready.is refl)) (tells ready.scenario ready.stands)
+pub answers_run : (job : Asked) (a b : FilesSeen) (w w' : SinkSeen) (n : ℕ) (detail : Detail) (bd : Board) (r : ℕ) → b.told ≡ a.told → IsReady job a.told n detail bd
+    → ((x : Scenario) → Stands x bd (start x.setup) → Pushed w w' (ran n detail x) r) → AnswersJob job a b w w' r
+answers_run job a b w w' n detail bd r same ready tells =
+    answers_pushed job a b w w' (ran n detail ready.scenario) r same refl (does ready.contents ready.accepted (runs n detail ready.scenario ready.is refl)) (tells ready.scenario ready.stands)
 
-pub ready_stood : (job : Asked) (told : List ℕ → Option (List ℕ)) (n : ℕ) (mem : Bool) (bd : Board) → IsReady job told n mem bd → Stood bd × (turns_of bd ≡ 0)
-ready_stood job told n mem bd h = ((h.scenario, start h.scenario.setup, h.stands), h.turns)
+pub ready_stood : (job : Asked) (told : List ℕ → Option (List ℕ)) (n : ℕ) (detail : Detail) (bd : Board) → IsReady job told n detail bd → Stood bd × (turns_of bd ≡ 0)
+ready_stood job told n detail bd h = ((h.scenario, start h.scenario.setup, h.stands), h.turns)
 
 -- ## what an image is put under
 

@@ -12,7 +12,8 @@ use Rattle.image_build.specs.Built.{given}
 use Rattle.image_build.specs.Building.{HasRoom, LacksRoom, RefusesSource, IsTaken, IsTooLong, source_cause}
 use Rattle.image_build.specs.declared.fault.BuildFault.TheVariants as fault
 use Rattle.image_format.specs.Picture.{Picture, image_or_fault}
-use Rattle.trace_cli.specs.Contents.{Why, or_later, at_number, at_line, fault_in, app_in, image_in, unless_long, image_refusal, picture_of, application_of, app_refusal, room_refusal, told_need, source_refusal, code_refusal, code_length}
+use Rattle.run_script.specs.Scripts.{ScriptData, script_or_fault}
+use Rattle.trace_cli.specs.Contents.{Why, or_later, at_number, script_in, script_refusal, script_of, at_line, fault_in, app_in, image_in, unless_long, image_refusal, picture_of, application_of, app_refusal, room_refusal, told_need, source_refusal, code_refusal, code_length}
 use Rattle.trace_cli.proofs.Stopping.{short}
 
 -- ## an image
@@ -24,6 +25,16 @@ image_taken bytes p le is = (short bytes _ le ∙ ap (λ r. option_map at_number
 pub image_refused : (bytes : List ℕ) (why : ℕ × ℕ) → length bytes ≤ 2097152 → image_or_fault bytes ≡ Err why → image_refusal bytes ≡ Some (at_number why)
 unfolding image_refusal
 image_refused bytes why le is = short bytes _ le ∙ ap (λ r. option_map at_number (fault_in r)) is
+
+-- ## a script
+
+pub script_taken : (bytes : List ℕ) (x : ScriptData) → length bytes ≤ 2097152 → script_or_fault bytes ≡ Ok x → (script_refusal bytes ≡ None) × (x ≡ script_of bytes)
+unfolding script_refusal script_of
+script_taken bytes x le is = (short bytes _ le ∙ ap (λ r. option_map at_number (fault_in r)) is, ap script_in (sym is))
+
+pub script_refused : (bytes : List ℕ) (why : ℕ × ℕ) → length bytes ≤ 2097152 → script_or_fault bytes ≡ Err why → script_refusal bytes ≡ Some (at_number why)
+unfolding script_refusal
+script_refused bytes why le is = short bytes _ le ∙ ap (λ r. option_map at_number (fault_in r)) is
 
 -- ## an application
 

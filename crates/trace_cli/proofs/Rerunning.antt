@@ -5,6 +5,7 @@ use Rattle.std.proofs.lemmas.Option.{same_Some}
 use Rattle.outside_io.specs.Outside.{WhereTold}
 use Rattle.image_format.specs.Picture.{Picture, spelling}
 use Rattle.command_line.specs.CommandLine.{Asked, build, run, go}
+use Rattle.command_line.specs.declared.job.Detail.{Detail}
 use Rattle.trace_cli.specs.Contents.{Why, image_refusal, script_refusal, picture_of, application_of, scenario_of}
 use Rattle.trace_cli.specs.Words.{job_in}
 use Rattle.trace_cli.specs.Sources.{File, image_file, script_file, files_to_build, Are, Takes, Reaches, TakesAll, IsBuilt, script_in}
@@ -55,28 +56,28 @@ made words told app out b at (does job cs is all p) zero =
 
 -- ## the verdicts of `go`
 
-go_refuses : (words : List (List ℕ)) (told : List ℕ → Option (List ℕ)) (app script : List ℕ) (n : ℕ) (mem : Bool) (image : Picture) (bytes : List ℕ) (why : Why) (w : Verdict)
-    → job_in words ≡ Some (go app script n mem) → HasImage told app image → told script ≡ Some bytes → script_refusal bytes ≡ Some why → w ≡ refused script why → IsVerdict words told w
-go_refuses words told app script n mem image bytes why w at h held refusal e =
+go_refuses : (words : List (List ℕ)) (told : List ℕ → Option (List ℕ)) (app script : List ℕ) (n : ℕ) (detail : Detail) (image : Picture) (bytes : List ℕ) (why : Why) (w : Verdict)
+    → job_in words ≡ Some (go app script n detail) → HasImage told app image → told script ≡ Some bytes → script_refusal bytes ≡ Some why → w ≡ refused script why → IsVerdict words told w
+go_refuses words told app script n detail image bytes why w at h held refusal e =
     let files = files_to_build app h.bytes in
-    refuses (go app script n mem) (h.bytes ∷ h.sources) (script_file script) bytes why at (record {
+    refuses (go app script n detail) (h.bytes ∷ h.sources) (script_file script) bytes why at (record {
       takes = takes_wider (Are told) files (script_file script ∷ []) (h.bytes ∷ h.sources) h.takes;
       next = files_then files (script_file script) (length (h.bytes ∷ h.sources)) h.all;
     }) held refusal e
 
-go_runs : (words : List (List ℕ)) (told : List ℕ → Option (List ℕ)) (app script : List ℕ) (n : ℕ) (mem : Bool) (image : Picture) (bytes : List ℕ) (w : Verdict)
-    → job_in words ≡ Some (go app script n mem) → HasImage told app image → told script ≡ Some bytes → script_refusal bytes ≡ None → w ≡ ran n mem (scenario_of image bytes) → IsVerdict words told w
-go_runs words told app script n mem image bytes w at h held accepted e =
+go_runs : (words : List (List ℕ)) (told : List ℕ → Option (List ℕ)) (app script : List ℕ) (n : ℕ) (detail : Detail) (image : Picture) (bytes : List ℕ) (w : Verdict)
+    → job_in words ≡ Some (go app script n detail) → HasImage told app image → told script ≡ Some bytes → script_refusal bytes ≡ None → w ≡ ran n detail (scenario_of image bytes) → IsVerdict words told w
+go_runs words told app script n detail image bytes w at h held accepted e =
     let files = files_to_build app h.bytes in
     let count : length (application_of h.bytes).tasks ≡ length h.sources = (let all = h.all in let many = as_many_sources (application_of h.bytes) in omega arith) in
     let contents = h.bytes ∷ (h.sources ++ bytes ∷ []) in
     let scenario : scenario_of image bytes ≡ scenario_of image (script_in contents) = ap (λ (t : List ℕ). scenario_of image t) (sym (go_script h.bytes h.sources bytes count)) in
-    does (go app script n mem) contents at (record {
+    does (go app script n detail) contents at (record {
       takes = takes_last (Are told) (files ++ script_file script ∷ []) (h.bytes ∷ h.sources) (script_file script) bytes
           (takes_wider (Are told) files (script_file script ∷ []) (h.bytes ∷ h.sources) h.takes)
           (files_then files (script_file script) (length (h.bytes ∷ h.sources)) h.all) held accepted;
       all = longer files (script_file script) ∙ ap suc h.all ∙ sym (longer (h.bytes ∷ h.sources) bytes);
-    }) (runs n mem (scenario_of image bytes) (refl, refl, (image, go_image h.bytes h.sources bytes image count h.is, scenario)) e)
+    }) (runs n detail (scenario_of image bytes) (refl, refl, (image, go_image h.bytes h.sources bytes image count h.is, scenario)) e)
 
 -- ## from the verdict of `run` to that of `go`
 
@@ -103,17 +104,17 @@ not_the_image told told' app out script f c why r same held refusal =
     let taken = spelling_taken r.image r.has.is.sound in
     no_refusal (image_file out) c why mine (ap image_refusal bytes ∙ taken.0)
 
-after_refusal : (words : List (List ℕ)) (told told' : List ℕ → Option (List ℕ)) (app out script : List ℕ) (n : ℕ) (mem : Bool) (cs : List (List ℕ)) (f : File) (c : List ℕ) (why : Why) (w : Verdict)
-    → job_in words ≡ Some (go app script n mem) → Rebuilt told told' app out script → slice_get (image_file out ∷ script_file script ∷ []) (length cs) ≡ Some f
+after_refusal : (words : List (List ℕ)) (told told' : List ℕ → Option (List ℕ)) (app out script : List ℕ) (n : ℕ) (detail : Detail) (cs : List (List ℕ)) (f : File) (c : List ℕ) (why : Why) (w : Verdict)
+    → job_in words ≡ Some (go app script n detail) → Rebuilt told told' app out script → slice_get (image_file out ∷ script_file script ∷ []) (length cs) ≡ Some f
     → told' f.name ≡ Some c → f.refusal c ≡ Some why → w ≡ refused f.name why → IsVerdict words told w
-after_refusal words told told' app out script n mem [] f c why w at r next held refusal e =
+after_refusal words told told' app out script n detail [] f c why w at r next held refusal e =
     absurd (not_the_image told told' app out script f c why r (same_Some (image_file out) f next) held refusal)
-after_refusal words told told' app out script n mem (d ∷ []) f c why w at r next held refusal e =
+after_refusal words told told' app out script n detail (d ∷ []) f c why w at r next held refusal e =
     let file : f ≡ script_file script = sym (same_Some (script_file script) f next) in
     let there : told' script ≡ Some c = subst (λ (g : File). told' g.name ≡ Some c) file held in
     let mine : script_refusal c ≡ Some why = subst (λ (g : File). g.refusal c ≡ Some why) file refusal in
-    go_refuses words told app script n mem r.image c why w at r.has (sym r.script_stays ∙ there) mine (e ∙ ap (λ (g : File). refused g.name why) file)
-after_refusal words told told' app out script n mem (d ∷ d' ∷ ds) f c why w at r next held refusal e =
+    go_refuses words told app script n detail r.image c why w at r.has (sym r.script_stays ∙ there) mine (e ∙ ap (λ (g : File). refused g.name why) file)
+after_refusal words told told' app out script n detail (d ∷ d' ∷ ds) f c why w at r next held refusal e =
     let below = is_below (image_file out ∷ script_file script ∷ []) (length (d ∷ d' ∷ ds)) f next in absurd (omega arith)
 
 -- the contents of a file that is known
@@ -123,42 +124,42 @@ held_of told f g c e held = subst (λ (h : File). told h.name ≡ Some c) (sym (
 accepted_of : (f g : File) (c : List ℕ) → Some f ≡ Some g → g.refusal c ≡ None → f.refusal c ≡ None
 accepted_of f g c e accepted = subst (λ (h : File). h.refusal c ≡ None) (sym (same_Some f g e)) accepted
 
-ran_of : (out script : List ℕ) (n : ℕ) (mem : Bool) (image : Picture) (c s : List ℕ) (w : Verdict) → picture_of c ≡ image → Does (run out script n mem) (c ∷ s ∷ []) w → w ≡ ran n mem (scenario_of image s)
-ran_of out script n mem image c s w same (runs k m x is e) =
+ran_of : (out script : List ℕ) (n : ℕ) (detail : Detail) (image : Picture) (c s : List ℕ) (w : Verdict) → picture_of c ≡ image → Does (run out script n detail) (c ∷ s ∷ []) w → w ≡ ran n detail (scenario_of image s)
+ran_of out script n detail image c s w same (runs k m x is e) =
     let scenario : x ≡ scenario_of image s = is.2 ∙ ap (λ (i : Picture). scenario_of i s) same in
-    e ∙ ap (λ (i : ℕ). ran i m x) is.0 ∙ ap (λ (a : Bool). ran n a x) is.1 ∙ ap (ran n mem) scenario
-ran_of out script n mem image c s w same (lists i is e) = absurd is
-ran_of out script n mem image c s w same (builds o i is e) = absurd is
+    e ∙ ap (λ (i : ℕ). ran i m x) is.0 ∙ ap (λ (a : Detail). ran n a x) is.1 ∙ ap (ran n detail) scenario
+ran_of out script n detail image c s w same (lists i is e) = absurd is
+ran_of out script n detail image c s w same (builds o i is e) = absurd is
 
-after_run : (words : List (List ℕ)) (told told' : List ℕ → Option (List ℕ)) (app out script : List ℕ) (n : ℕ) (mem : Bool) (cs : List (List ℕ)) (w : Verdict)
-    → job_in words ≡ Some (go app script n mem) → Rebuilt told told' app out script → TakesAll (Are told') (run out script n mem) cs → Does (run out script n mem) cs w → IsVerdict words told w
-after_run words told told' app out script n mem [] w at r all p = let two = all.all in absurd (omega arith)
-after_run words told told' app out script n mem (c ∷ []) w at r all p = let two = all.all in absurd (omega arith)
-after_run words told told' app out script n mem (c ∷ s ∷ []) w at r all p =
+after_run : (words : List (List ℕ)) (told told' : List ℕ → Option (List ℕ)) (app out script : List ℕ) (n : ℕ) (detail : Detail) (cs : List (List ℕ)) (w : Verdict)
+    → job_in words ≡ Some (go app script n detail) → Rebuilt told told' app out script → TakesAll (Are told') (run out script n detail) cs → Does (run out script n detail) cs w → IsVerdict words told w
+after_run words told told' app out script n detail [] w at r all p = let two = all.all in absurd (omega arith)
+after_run words told told' app out script n detail (c ∷ []) w at r all p = let two = all.all in absurd (omega arith)
+after_run words told told' app out script n detail (c ∷ s ∷ []) w at r all p =
     let first = all.takes 0 c refl in
     let second = all.takes 1 s refl in
     let bytes : c ≡ spelling r.image = r.put c (held_of told' (image_file out) first.0 c first.1 first.2) in
     let taken = spelling_taken r.image r.has.is.sound in
     let image : picture_of c ≡ r.image = ap picture_of bytes ∙ sym taken.1 in
     let held : told script ≡ Some s = sym r.script_stays ∙ held_of told' (script_file script) second.0 s second.1 second.2 in
-    go_runs words told app script n mem r.image s w at r.has held (accepted_of (script_file script) second.0 s second.1 second.3) (ran_of out script n mem r.image c s w image p)
-after_run words told told' app out script n mem (c ∷ s ∷ t ∷ more) w at r all p = let two = all.all in absurd (omega arith)
+    go_runs words told app script n detail r.image s w at r.has held (accepted_of (script_file script) second.0 s second.1 second.3) (ran_of out script n detail r.image c s w image p)
+after_run words told told' app out script n detail (c ∷ s ∷ t ∷ more) w at r all p = let two = all.all in absurd (omega arith)
 
-go_by_run : (go_words run_words : List (List ℕ)) (told told' : List ℕ → Option (List ℕ)) (app out script : List ℕ) (n : ℕ) (mem : Bool) (w : Verdict)
-    → job_in go_words ≡ Some (go app script n mem) → job_in run_words ≡ Some (run out script n mem) → Rebuilt told told' app out script → IsVerdict run_words told' w → IsVerdict go_words told w
-go_by_run go_words run_words told told' app out script n mem w at too r (no_job none e) = absurd (no_job_of run_words (run out script n mem) none too)
-go_by_run go_words run_words told told' app out script n mem w at too r (refuses job cs f c why is reached held refusal e) =
-    let alike : job ≡ run out script n mem = same_Some job (run out script n mem) (sym is ∙ too) in
-    let mine : Reaches (Are told') (run out script n mem) cs f = subst (λ (j : Asked). Reaches (Are told') j cs f) alike reached in
-    after_refusal go_words told told' app out script n mem cs f c why w at r mine.next held refusal e
-go_by_run go_words run_words told told' app out script n mem w at too r (does job cs is all p) =
-    let alike : job ≡ run out script n mem = same_Some job (run out script n mem) (sym is ∙ too) in
-    after_run go_words told told' app out script n mem cs w at r (subst (λ (j : Asked). TakesAll (Are told') j cs) alike all) (subst (λ (j : Asked). Does j cs w) alike p)
+go_by_run : (go_words run_words : List (List ℕ)) (told told' : List ℕ → Option (List ℕ)) (app out script : List ℕ) (n : ℕ) (detail : Detail) (w : Verdict)
+    → job_in go_words ≡ Some (go app script n detail) → job_in run_words ≡ Some (run out script n detail) → Rebuilt told told' app out script → IsVerdict run_words told' w → IsVerdict go_words told w
+go_by_run go_words run_words told told' app out script n detail w at too r (no_job none e) = absurd (no_job_of run_words (run out script n detail) none too)
+go_by_run go_words run_words told told' app out script n detail w at too r (refuses job cs f c why is reached held refusal e) =
+    let alike : job ≡ run out script n detail = same_Some job (run out script n detail) (sym is ∙ too) in
+    let mine : Reaches (Are told') (run out script n detail) cs f = subst (λ (j : Asked). Reaches (Are told') j cs f) alike reached in
+    after_refusal go_words told told' app out script n detail cs f c why w at r mine.next held refusal e
+go_by_run go_words run_words told told' app out script n detail w at too r (does job cs is all p) =
+    let alike : job ≡ run out script n detail = same_Some job (run out script n detail) (sym is ∙ too) in
+    after_run go_words told told' app out script n detail cs w at r (subst (λ (j : Asked). TakesAll (Are told') j cs) alike all) (subst (λ (j : Asked). Does j cs w) alike p)
 
-pub build_then_run : (build_words go_words run_words : List (List ℕ)) (told told' : List ℕ → Option (List ℕ)) (app out script : List ℕ) (n : ℕ) (mem : Bool) (b v w : Verdict)
-    → job_in build_words ≡ Some (build app out) → job_in go_words ≡ Some (go app script n mem) → job_in run_words ≡ Some (run out script n mem)
+pub build_then_run : (build_words go_words run_words : List (List ℕ)) (told told' : List ℕ → Option (List ℕ)) (app out script : List ℕ) (n : ℕ) (detail : Detail) (b v w : Verdict)
+    → job_in build_words ≡ Some (build app out) → job_in go_words ≡ Some (go app script n detail) → job_in run_words ≡ Some (run out script n detail)
     → script ≢ out → IsVerdict build_words told b → b.status ≡ 0 → HasPut told told' b.put
     → IsVerdict go_words told v → IsVerdict run_words told' w → v ≡ w
-build_then_run build_words go_words run_words told told' app out script n mem b v w first second third other built zero put going running =
+build_then_run build_words go_words run_words told told' app out script n detail b v w first second third other built zero put going running =
     let r = rebuilt told told' app out script b (made build_words told app out b first built zero) other put in
-    one_verdict go_words told v w going (go_by_run go_words run_words told told' app out script n mem w second third r running)
+    one_verdict go_words told v w going (go_by_run go_words run_words told told' app out script n detail w second third r running)

@@ -2,13 +2,14 @@
 use Rattle.std.proofs.Common.{◌≡◌, ℕ, ◌-◌, ap, arith}
 use Rattle.task_table.specs.Start.{start}
 use Rattle.board_core.specs.declared.board.Board.{Board}
+use Rattle.board_core.specs.declared.told.Level.{Level}
 use Rattle.board_core.specs.Run as board
 use Rattle.board_core.specs.Script.{Scenario}
 use Rattle.board_core.specs.Stands.{Stands, turns_of}
 use Rattle.trace_cli.specs.Verdict.{run_of}
 
-pub from_start : (x : Scenario) (b : Board) (n : ℕ) → Stands x b (start x.setup) → turns_of b ≡ 0 → board.run x (n - (start x.setup).turn) (start x.setup) ≡ run_of n x
-from_start x b n st none =
+pub from_start : (level : Level) (x : Scenario) (b : Board) (n : ℕ) → Stands x b (start x.setup) → turns_of b ≡ 0 → board.run level x (n - (start x.setup).turn) (start x.setup) ≡ run_of level n x
+from_start level x b n st none =
     let at : turns_of b ≡ (start x.setup).turn = st.holds.turns in
     let e : n - (start x.setup).turn ≡ n = omega arith in
-    ap (λ (k : ℕ). board.run x k (start x.setup)) e
+    ap (λ (k : ℕ). board.run level x k (start x.setup)) e

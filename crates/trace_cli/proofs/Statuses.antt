@@ -11,7 +11,7 @@ use Rattle.command_line.specs.CommandLine.{Asked, build, run, go, list, is_taken
 use Rattle.trace_cli.specs.Seen.{FilesSeen, SinkSeen}
 use Rattle.trace_cli.specs.Words.{job_in, out_of}
 use Rattle.trace_cli.specs.Sources.{IsBuild}
-use Rattle.trace_cli.specs.Verdict.{Verdict, IsVerdict, Does, runs, lists, builds, usage, usage_line, refused, unread, ran, listed, built, run_of, status_of}
+use Rattle.trace_cli.specs.Verdict.{Verdict, IsVerdict, Does, runs, lists, builds, usage, usage_line, refused, unread, ran, listed, built, run_of, level_of, status_of}
 use Rattle.trace_cli.specs.Answer.{Reason, cannot_read, refuses, does, Ground, no_job, of_job, HasPut, HasSpoiled, IsShort, Tells, whole, cut, spoiled, short, AnswersJob, Answers, HasRun, HasListed, HasBuilt, HasDone, HasRefused, HasUnread, HasFront, Answered, IsComplete}
 use Rattle.trace_cli.specs.Told as told
 use Rattle.trace_cli.specs.Told.{Pushed, Says, pushed, silent}
@@ -59,11 +59,11 @@ end_zero_or_six Supervisor = inr refl
 
 -- of what is done with files
 done_status : (job : Asked) (cs : List (List ℕ)) (v : Verdict) → Does job cs v → (v.status ≡ 0) ⊎ (v.status ≡ 6)
-done_status job cs v (runs n m x p e) = by_end (end_zero_or_six (run_of n x).end) where
-  status : v.status ≡ status_of (run_of n x).end
+done_status job cs v (runs n m x p e) = by_end (end_zero_or_six (run_of (level_of m) n x).end) where
+  status : v.status ≡ status_of (run_of (level_of m) n x).end
   status = ap (λ (u : Verdict). u.status) e
 
-  by_end : (status_of (run_of n x).end ≡ 0) ⊎ (status_of (run_of n x).end ≡ 6) → (v.status ≡ 0) ⊎ (v.status ≡ 6)
+  by_end : (status_of (run_of (level_of m) n x).end ≡ 0) ⊎ (status_of (run_of (level_of m) n x).end ≡ 6) → (v.status ≡ 0) ⊎ (v.status ≡ 6)
   by_end (inl z) = inl (status ∙ z)
   by_end (inr s) = inr (status ∙ s)
 done_status job cs v (lists i p e) = inl (ap (λ (u : Verdict). u.status) e)
@@ -198,7 +198,7 @@ done_by words a b w w' v e p t (of_job job at (does cs all (runs n m x h is))) =
   contents = cs;
   accepted = all;
   bound = n;
-  mem = m;
+  detail = m;
   scenario = x;
   is = h;
   status = sym (ap (λ (u : Verdict). u.status) is) ∙ e;
@@ -233,7 +233,7 @@ ran_by words a b w w' v e t (of_job job at (does cs all (runs n m x h is))) = re
   contents = cs;
   accepted = all;
   bound = n;
-  mem = m;
+  detail = m;
   scenario = x;
   is = h;
   status = sym (ap (λ (u : Verdict). u.status) is) ∙ e;
@@ -256,8 +256,8 @@ data Puts (words : List (List ℕ)) (v : Verdict) : Type 0 where
 
 built_out : (job : Asked) (cs : List (List ℕ)) (o : List ℕ) (i : Picture) → IsBuild job cs o i → out_of (Some job) ≡ Some o
 built_out (build app out) cs o i p = ap Some (sym p.0)
-built_out (run image script steps mem) cs o i p = absurd p
-built_out (go app script steps mem) cs o i p = absurd p
+built_out (run image script steps detail) cs o i p = absurd p
+built_out (go app script steps detail) cs o i p = absurd p
 built_out (list image) cs o i p = absurd p
 
 ground_puts : (words : List (List ℕ)) (a b : FilesSeen) (v : Verdict) → Ground words a b v → Puts words v

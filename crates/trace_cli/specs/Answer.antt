@@ -5,6 +5,7 @@ use Rattle.outside_io.specs.Outside.{WhereTold, Rose, AppendsFront, IsFront, sho
 use Rattle.image_format.specs.Picture.{Picture, spelling}
 use Rattle.board_core.specs.Script.{Scenario}
 use Rattle.command_line.specs.CommandLine.{Asked, is_taken}
+use Rattle.command_line.specs.declared.job.Detail.{Detail}
 use Rattle.trace_cli.specs.Contents.{Why}
 use Rattle.trace_cli.specs.Seen.{FilesSeen, SinkSeen}
 use Rattle.trace_cli.specs.Words.{job_in}
@@ -88,11 +89,11 @@ pub record HasRun (words : List (List ℕ)) (told : List ℕ → Option (List �
   pub contents : List (List ℕ)
   pub accepted : IsAccepted job told contents
   pub bound : ℕ
-  pub mem : Bool
+  pub detail : Detail
   pub scenario : Scenario
-  pub is : IsRun job contents bound mem scenario
-  pub status : (ran bound mem scenario).status ≡ r
-  pub text : Appends w.written w'.written (ran bound mem scenario).text
+  pub is : IsRun job contents bound detail scenario
+  pub status : (ran bound detail scenario).status ≡ r
+  pub text : Appends w.written w'.written (ran bound detail scenario).text
 
 -- the line of a listing
 pub record HasListed (words : List (List ℕ)) (told : List ℕ → Option (List ℕ)) (w w' : SinkSeen) : Type 0 where

@@ -11,7 +11,8 @@ use Rattle.image_build.specs.Layout.{flash_base, flash_needed, ram_needed, task_
 use Rattle.image_build.specs.Building.{source_cause}
 use Rattle.task_table.specs.State.{Setup}
 use Rattle.board_core.specs.Opened as opened
-use Rattle.board_core.specs.Script.{Scenario, Script, Empty}
+use Rattle.run_script.specs.Scripts.{ScriptData, script_or_fault}
+use Rattle.board_core.specs.Script.{Scenario}
 
 -- the number of a cause, and the place as it is told
 abbrev pub Why : Type 0
@@ -53,13 +54,21 @@ picture_of bytes = image_in (image_or_fault bytes)
 
 -- ## a script
 
--- why a script is refused, if it is (docs/FORMATS.md, Script): as yet only the empty one is accepted
-unfoldable pub script_refusal : List ℕ → Option Why
-script_refusal bytes = unless_long bytes (if length bytes == 0 then None else Some (at_number (2, 1)))
+-- where there is no script
+abbrev pub no_script : ScriptData
+no_script = record { every = None; events = [] }
 
--- what an accepted script says
-abbrev pub script_of : List ℕ → Script
-script_of bytes = Empty
+abbrev pub script_in : Result ScriptData (ℕ × ℕ) → ScriptData
+script_in (Ok script) = script
+script_in (Err why) = no_script
+
+-- why a script is refused, if it is (docs/FORMATS.md, Script)
+unfoldable pub script_refusal : List ℕ → Option Why
+script_refusal bytes = unless_long bytes (option_map at_number (fault_in (script_or_fault bytes)))
+
+-- what accepted bytes say
+unfoldable pub script_of : List ℕ → ScriptData
+script_of bytes = script_in (script_or_fault bytes)
 
 -- ## an application
 

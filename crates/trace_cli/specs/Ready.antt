@@ -1,11 +1,12 @@
 -- A board at the start of a job's run, or the file that is not taken.
-use Rattle.std.specs.Prelude.{◌≡◌, ℕ, Bool, List, Option, None}
+use Rattle.std.specs.Prelude.{◌≡◌, ℕ, List, Option, None}
 use Rattle.task_table.specs.Start.{start}
 use Rattle.image_format.specs.Picture.{Picture}
 use Rattle.board_core.specs.declared.board.Board.{Board}
 use Rattle.board_core.specs.Script.{Scenario}
 use Rattle.board_core.specs.Stands.{Stands, turns_of}
 use Rattle.command_line.specs.CommandLine.{Asked}
+use Rattle.command_line.specs.declared.job.Detail.{Detail}
 use Rattle.trace_cli.specs.declared.stops.Halt.{Halt}
 use Rattle.trace_cli.specs.Contents.{image_refusal, script_refusal, picture_of, scenario_of}
 use Rattle.trace_cli.specs.Seen.{FilesSeen}
@@ -28,11 +29,11 @@ pub record IsSet (told : List ℕ → Option (List ℕ)) (image : Picture) (name
   pub turns : turns_of b ≡ 0
 
 -- each file of the job is accepted, and the board stands for the start of its run
-pub record IsReady (job : Asked) (told : List ℕ → Option (List ℕ)) (n : ℕ) (mem : Bool) (b : Board) : Type 0 where
+pub record IsReady (job : Asked) (told : List ℕ → Option (List ℕ)) (n : ℕ) (detail : Detail) (b : Board) : Type 0 where
   pub contents : List (List ℕ)
   pub accepted : TakesAll (MayBe told) job contents
   pub scenario : Scenario
-  pub is : IsRun job contents n mem scenario
+  pub is : IsRun job contents n detail scenario
   pub stands : Stands scenario b (start scenario.setup)
   pub turns : turns_of b ≡ 0
 

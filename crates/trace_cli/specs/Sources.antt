@@ -6,6 +6,7 @@ use Rattle.image_format.specs.Picture.{Picture, Sound}
 use Rattle.image_build.specs.Built.{Built}
 use Rattle.board_core.specs.Script.{Scenario}
 use Rattle.command_line.specs.CommandLine.{Asked, build, run, go, list}
+use Rattle.command_line.specs.declared.job.Detail.{Detail}
 use Rattle.trace_cli.specs.Contents.{Why, image_refusal, script_refusal, app_refusal, source_refusal, picture_of, application_of, scenario_of}
 
 -- a file, and why contents of it are refused
@@ -42,8 +43,8 @@ files_to_build app first = app_file app ∷ source_files (application_of first)
 -- its script; `run` takes its image and then its script, `list` its image.
 abbrev pub files_of : Asked → List ℕ → List File
 files_of (build app out) first = files_to_build app first
-files_of (run image script steps mem) first = image_file image ∷ script_file script ∷ []
-files_of (go app script steps mem) first = files_to_build app first ++ script_file script ∷ []
+files_of (run image script steps detail) first = image_file image ∷ script_file script ∷ []
+files_of (go app script steps detail) first = files_to_build app first ++ script_file script ∷ []
 files_of (list image) first = image_file image ∷ []
 
 abbrev pub first_of : List (List ℕ) → List ℕ
@@ -99,25 +100,25 @@ pub record IsBuilt (contents : List (List ℕ)) (image : Picture) : Type 0 where
   pub built : Built (described contents) (sources_in contents) image
   pub sound : Sound image
 
--- the job is a run of this scenario up to this bound, with the memory after it or without
-abbrev pub IsRun : Asked → List (List ℕ) → ℕ → Bool → Scenario → Type 0
-IsRun (run image script steps mem) contents n m x =
-    (n ≡ steps) × (m ≡ mem) × (x ≡ scenario_of (picture_of (first_of contents)) (slice_index_or contents 1 []))
-IsRun (go app script steps mem) contents n m x =
-    (n ≡ steps) × (m ≡ mem) × ((image : Picture) × IsBuilt contents image × (x ≡ scenario_of image (script_in contents)))
-IsRun (build app out) contents n m x = ⊥
-IsRun (list image) contents n m x = ⊥
+-- the job is a run of this scenario up to this bound, told in this detail
+abbrev pub IsRun : Asked → List (List ℕ) → ℕ → Detail → Scenario → Type 0
+IsRun (run image script steps detail) contents n d x =
+    (n ≡ steps) × (d ≡ detail) × (x ≡ scenario_of (picture_of (first_of contents)) (slice_index_or contents 1 []))
+IsRun (go app script steps detail) contents n d x =
+    (n ≡ steps) × (d ≡ detail) × ((image : Picture) × IsBuilt contents image × (x ≡ scenario_of image (script_in contents)))
+IsRun (build app out) contents n d x = ⊥
+IsRun (list image) contents n d x = ⊥
 
 -- the job is a listing of this image
 abbrev pub IsListing : Asked → List (List ℕ) → Picture → Type 0
 IsListing (list name) contents image = image ≡ picture_of (first_of contents)
 IsListing (build app out) contents image = ⊥
-IsListing (run name script steps mem) contents image = ⊥
-IsListing (go app script steps mem) contents image = ⊥
+IsListing (run name script steps detail) contents image = ⊥
+IsListing (go app script steps detail) contents image = ⊥
 
 -- the job is to build this image and to put it under this name
 abbrev pub IsBuild : Asked → List (List ℕ) → List ℕ → Picture → Type 0
 IsBuild (build app out) contents name image = (name ≡ out) × IsBuilt contents image
-IsBuild (run file script steps mem) contents name image = ⊥
-IsBuild (go app script steps mem) contents name image = ⊥
+IsBuild (run file script steps detail) contents name image = ⊥
+IsBuild (go app script steps detail) contents name image = ⊥
 IsBuild (list file) contents name image = ⊥

@@ -7,11 +7,14 @@ use Rattle.board_core.specs.declared.told.End.{End}
 use Rattle.board_core.specs.declared.told.End.TheVariants.{Bound, Still, Supervisor}
 use Rattle.task_table.specs.Start.{start}
 use Rattle.task_table.specs.State.{Setup, State}
+use Rattle.board_core.specs.declared.told.Level.{Level}
+use Rattle.board_core.specs.declared.told.Level.TheVariants.{Calls, All}
 use Rattle.board_core.specs.Script.{Scenario}
 use Rattle.board_core.specs.Run as board
 use Rattle.board_run.specs.Text.{trace_text}
 use Rattle.board_run.specs.MemoryText.{memory_text}
 use Rattle.command_line.specs.CommandLine.{Asked, is_taken}
+use Rattle.command_line.specs.declared.job.Detail.{Detail}
 use Rattle.trace_cli.specs.Contents.{Why}
 use Rattle.trace_cli.specs.Words.{job_in}
 use Rattle.trace_cli.specs.Sources.{File, Are, Reaches, TakesAll, IsRun, IsListing, IsBuild}
@@ -61,17 +64,23 @@ status_of Bound = 0
 status_of Still = 0
 status_of Supervisor = 6
 
+-- all instructions are told, or not
+abbrev pub level_of : Detail → Level
+level_of detail = if detail.instructions then All else Calls
+
 -- the run of a scenario from its start, of at most n turns
-abbrev pub run_of : ℕ → Scenario → board.Run
-run_of n x = board.run x n (start x.setup)
+abbrev pub run_of : Level → ℕ → Scenario → board.Run
+run_of level n x = board.run level x n (start x.setup)
 
 -- the memory of its last state, where it is asked for
 abbrev pub memory_if : Bool → Setup → State → List ℕ
 memory_if mem g s = if mem then memory_text g s else []
 
 -- a run was done
-abbrev pub ran : ℕ → Bool → Scenario → Verdict
-ran n mem x = line_alone (status_of (run_of n x).end) (trace_text (run_of n x) ++ memory_if mem x.setup (run_of n x).last)
+abbrev pub ran : ℕ → Detail → Scenario → Verdict
+ran n detail x =
+    let r = run_of (level_of detail) n x in
+    line_alone (status_of r.end) (trace_text r ++ memory_if detail.memory x.setup r.last)
 
 -- an image was listed
 abbrev pub listing_line : Picture → List ℕ
@@ -87,7 +96,7 @@ built out image = record { status = 0; text = built_line (length (spelling image
 -- ## what comes of accepted files with these contents
 
 pub data Does (job : Asked) (contents : List (List ℕ)) (v : Verdict) : Type 0 where
-  runs : (n : ℕ) (mem : Bool) (x : Scenario) → IsRun job contents n mem x → v ≡ ran n mem x → Does job contents v
+  runs : (n : ℕ) (detail : Detail) (x : Scenario) → IsRun job contents n detail x → v ≡ ran n detail x → Does job contents v
   lists : (image : Picture) → IsListing job contents image → v ≡ listed image → Does job contents v
   builds : (out : List ℕ) (image : Picture) → IsBuild job contents out image → v ≡ built out image → Does job contents v
 

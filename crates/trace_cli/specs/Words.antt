@@ -15,6 +15,6 @@ job_in words = if is_taken words then job_of words else None
 abbrev pub out_of : Option Asked → Option (List ℕ)
 out_of None = None
 out_of (Some (build app out)) = Some out
-out_of (Some (run image script steps mem)) = None
-out_of (Some (go app script steps mem)) = None
+out_of (Some (run image script steps detail)) = None
+out_of (Some (go app script steps detail)) = None
 out_of (Some (list image)) = None

@@ -1,7 +1,8 @@
 //! From the files of a job to the board of its run.
-ghost use Rattle.std.specs.Prelude.{◌≡◌, ◌≤◌, ℕ, Bool, IfOk, IfErr};
+ghost use Rattle.std.specs.Prelude.{◌≡◌, ◌≤◌, ℕ, IfOk, IfErr};
 ghost use Rattle.image_format.specs.Images.{picture};
 ghost use Rattle.command_line.specs.CommandLine.{run as run_job, go as go_job};
+ghost use Rattle.command_line.specs.declared.job.Detail.{Detail};
 ghost use Rattle.trace_cli.specs.Seen.{files_seen};
 ghost use Rattle.trace_cli.specs.Sources.{image_file, script_file};
 ghost use Rattle.trace_cli.specs.Stops.{HaltsAt};
@@ -50,11 +51,11 @@ fn set_up<F: Files>(
         Ok(bytes) => bytes,
         Err(stop) => return Err(halted(alloc, script, stop)),
     };
-    match script_in(alloc, &bytes) {
-        Ok(()) => {}
+    let script = match script_in(alloc, &bytes) {
+        Ok(script) => script,
         Err(stop) => return Err(halted(alloc, script, stop)),
-    }
-    match Board::open(alloc, image) {
+    };
+    match Board::open(alloc, image, &script) {
         Ok(board) => Ok(board),
         Err(_) => Err(Halt::Memory),
     }
@@ -67,8 +68,8 @@ pub fn prepare_run<F: Files>(
     image: &str,
     script: &str,
 ) -> Result<Board, Halt>
-    ensures ready { (n : ℕ) (mem : Bool) → IfOk result (IsReady (run_job image.now script.now n mem) (F.told files.old) n mem) }
-    ensures halt { (n : ℕ) (mem : Bool) → IfErr result (Halts (run_job image.now script.now n mem) (files_seen (F.told files.old) (F.read_faults files.old) (F.put_faults files.old) (F.last_failing files.old)) (files_seen (F.told files.new) (F.read_faults files.new) (F.put_faults files.new) (F.last_failing files.new))) }
+    ensures ready { (n : ℕ) (detail : Detail) → IfOk result (IsReady (run_job image.now script.now n detail) (F.told files.old) n detail) }
+    ensures halt { (n : ℕ) (detail : Detail) → IfErr result (Halts (run_job image.now script.now n detail) (files_seen (F.told files.old) (F.read_faults files.old) (F.put_faults files.old) (F.last_failing files.old)) (files_seen (F.told files.new) (F.read_faults files.new) (F.put_faults files.new) (F.last_failing files.new))) }
     ensures later { F.read_faults files.old ≤ F.read_faults files.new }
     ensures contents { F.told files.new ≡ F.told files.old }
     ensures puts { F.put_faults files.new ≡ F.put_faults files.old }
@@ -86,8 +87,8 @@ pub fn prepare_go<F: Files>(
     app: &str,
     script: &str,
 ) -> Result<Board, Halt>
-    ensures ready { (n : ℕ) (mem : Bool) → IfOk result (IsReady (go_job app.now script.now n mem) (F.told files.old) n mem) }
-    ensures halt { (n : ℕ) (mem : Bool) → IfErr result (Halts (go_job app.now script.now n mem) (files_seen (F.told files.old) (F.read_faults files.old) (F.put_faults files.old) (F.last_failing files.old)) (files_seen (F.told files.new) (F.read_faults files.new) (F.put_faults files.new) (F.last_failing files.new))) }
+    ensures ready { (n : ℕ) (detail : Detail) → IfOk result (IsReady (go_job app.now script.now n detail) (F.told files.old) n detail) }
+    ensures halt { (n : ℕ) (detail : Detail) → IfErr result (Halts (go_job app.now script.now n detail) (files_seen (F.told files.old) (F.read_faults files.old) (F.put_faults files.old) (F.last_failing files.old)) (files_seen (F.told files.new) (F.read_faults files.new) (F.put_faults files.new) (F.last_failing files.new))) }
     ensures later { F.read_faults files.old ≤ F.read_faults files.new }
     ensures contents { F.told files.new ≡ F.told files.old }
     ensures puts { F.put_faults files.new ≡ F.put_faults files.old }

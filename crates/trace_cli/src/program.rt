@@ -9,7 +9,7 @@ ghost use Rattle.task_table.specs.Start.{start};
 ghost use Rattle.command_line.specs.CommandLine.{Asked, is_taken, build as build_job, run as run_job, go as go_job, list as list_job};
 ghost use Rattle.trace_cli.specs.Seen.{FilesSeen, files_seen, sink_seen};
 ghost use Rattle.trace_cli.specs.Words.{texts_of, job_in, out_of};
-ghost use Rattle.trace_cli.specs.Verdict.{Verdict, IsVerdict, usage_line, ran, built, run_of, status_of};
+ghost use Rattle.trace_cli.specs.Verdict.{Verdict, IsVerdict, usage_line, ran, built, level_of, run_of, status_of};
 ghost use Rattle.trace_cli.specs.Told.{Pushed, Says, SaysHalt};
 ghost use Rattle.trace_cli.specs.Ready.{IsReady, Halts};
 ghost use Rattle.trace_cli.specs.Answer.{Tells, AnswersJob, Answers, Answered, IsComplete, HasRun, HasDone, HasRefused, HasUnread, HasFront};
@@ -18,9 +18,9 @@ use crate::building::built_image;
 use crate::preparing::{prepare_go, prepare_run, read_image};
 use crate::stops::Halt;
 use crate::telling::{line_of_built, tell, tell_halt, tell_listing, tell_usage};
-use board_core::{Board, End};
+use board_core::{Board, End, Level};
 use board_run::{run, write_memory};
-use command_line::{Job, Refusal, read_words};
+use command_line::{Detail, Job, Refusal, read_words};
 use image_format::Image;
 use outside_io::{Failed, Files, Sink};
 use std::alloc::Global;
@@ -34,30 +34,45 @@ fn status_by(end: End) -> u8
     }
 }
 
+fn level_of(detail: Detail) -> Level
+    ensures { result ≡ level_of detail }
+{
+    if detail.instructions {
+        Level::All
+    } else {
+        Level::Calls
+    }
+}
+
 // A run's trace, and then maybe its memory.
-fn push_run<S: Sink>(board: &mut Board, steps: u32, mem: bool, out: &mut S) -> Result<End, Failed>
+fn push_run<S: Sink>(
+    board: &mut Board,
+    steps: u32,
+    detail: Detail,
+    out: &mut S,
+) -> Result<End, Failed>
     requires stood { Stood board.old }
     requires fresh { turns_of board.old ≡ 0 }
     requires few { steps ≤ 1000000000 }
-    ensures text { (x : Scenario) → Stands x board.old (start x.setup) → Pushes (S.written out.old) (S.written out.new) (ran steps mem x).text result }
-    ensures end { (x : Scenario) → Stands x board.old (start x.setup) → IfOk result (λ e. e ≡ (run_of steps x).end) }
+    ensures text { (x : Scenario) → Stands x board.old (start x.setup) → Pushes (S.written out.old) (S.written out.new) (ran steps detail x).text result }
+    ensures end { (x : Scenario) → Stands x board.old (start x.setup) → IfOk result (λ e. e ≡ (run_of (level_of detail) steps x).end) }
     ensures cause { HasCause (S.faults out.old) (S.faults out.new) result }
 {
-    let end = run(board, steps, out)?;
-    if mem {
+    let end = run(board, steps, level_of(detail), out)?;
+    if detail.memory {
         write_memory(board, out)?;
     }
     Ok(end)
 }
 
 // The run of a board from its start.
-fn tell_run<S: Sink>(board: &mut Board, steps: u32, mem: bool, out: &mut S) -> u8
+fn tell_run<S: Sink>(board: &mut Board, steps: u32, detail: Detail, out: &mut S) -> u8
     requires stood { Stood board.old }
     requires fresh { turns_of board.old ≡ 0 }
     requires few { steps ≤ 1000000000 }
-    ensures { (x : Scenario) → Stands x board.old (start x.setup) → Pushed (sink_seen (S.written out.old) (S.faults out.old)) (sink_seen (S.written out.new) (S.faults out.new)) (ran steps mem x) result }
+    ensures { (x : Scenario) → Stands x board.old (start x.setup) → Pushed (sink_seen (S.written out.old) (S.faults out.old)) (sink_seen (S.written out.new) (S.faults out.new)) (ran steps detail x) result }
 {
-    match push_run(board, steps, mem, out) {
+    match push_run(board, steps, detail, out) {
         Ok(end) => status_by(end),
         Err(_) => 4,
     }
@@ -68,62 +83,62 @@ fn play<S: Sink>(
     alloc: Global,
     prepared: Result<Board, Halt>,
     steps: u32,
-    mem: bool,
+    detail: Detail,
     out: &mut S,
 ) -> u8
     requires few { steps ≤ 1000000000 }
     requires ready { IfOk prepared (λ b. Stood b × (turns_of b ≡ 0)) }
     ensures { (job : Asked) (before after : FilesSeen) → after.told ≡ before.told
-        → IfOk prepared (IsReady job before.told steps mem) → IfErr prepared (Halts job before after)
+        → IfOk prepared (IsReady job before.told steps detail) → IfErr prepared (Halts job before after)
         → AnswersJob job before after (sink_seen (S.written out.old) (S.faults out.old)) (sink_seen (S.written out.new) (S.faults out.new)) result }
 {
     match prepared {
         Ok(board) => {
             let mut board = board;
-            tell_run(&mut board, steps, mem, out)
+            tell_run(&mut board, steps, detail, out)
         }
         Err(halt) => tell_halt(alloc, &halt, out),
     }
 }
 
-// `run IMAGE SCRIPT --steps N [--mem]`.
+// `run IMAGE SCRIPT --steps N [--all] [--mem]`.
 fn run_files<F: Files, S: Sink>(
     alloc: Global,
     image: &str,
     script: &str,
     steps: u32,
-    mem: bool,
+    detail: Detail,
     files: &mut F,
     out: &mut S,
 ) -> u8
     requires few { steps ≤ 1000000000 }
-    ensures answer { AnswersJob (run_job image.now script.now steps mem) (files_seen (F.told files.old) (F.read_faults files.old) (F.put_faults files.old) (F.last_failing files.old)) (files_seen (F.told files.new) (F.read_faults files.new) (F.put_faults files.new) (F.last_failing files.new)) (sink_seen (S.written out.old) (S.faults out.old)) (sink_seen (S.written out.new) (S.faults out.new)) result }
+    ensures answer { AnswersJob (run_job image.now script.now steps detail) (files_seen (F.told files.old) (F.read_faults files.old) (F.put_faults files.old) (F.last_failing files.old)) (files_seen (F.told files.new) (F.read_faults files.new) (F.put_faults files.new) (F.last_failing files.new)) (sink_seen (S.written out.old) (S.faults out.old)) (sink_seen (S.written out.new) (S.faults out.new)) result }
     ensures later { F.read_faults files.old ≤ F.read_faults files.new }
     ensures contents { F.told files.new ≡ F.told files.old }
     ensures puts { F.put_faults files.new ≡ F.put_faults files.old }
 {
     let prepared = prepare_run(alloc, files, image, script);
-    play(alloc, prepared, steps, mem, out)
+    play(alloc, prepared, steps, detail, out)
 }
 
-// `go APP SCRIPT --steps N [--mem]`.
+// `go APP SCRIPT --steps N [--all] [--mem]`.
 fn go_files<F: Files, S: Sink>(
     alloc: Global,
     app: &str,
     script: &str,
     steps: u32,
-    mem: bool,
+    detail: Detail,
     files: &mut F,
     out: &mut S,
 ) -> u8
     requires few { steps ≤ 1000000000 }
-    ensures answer { AnswersJob (go_job app.now script.now steps mem) (files_seen (F.told files.old) (F.read_faults files.old) (F.put_faults files.old) (F.last_failing files.old)) (files_seen (F.told files.new) (F.read_faults files.new) (F.put_faults files.new) (F.last_failing files.new)) (sink_seen (S.written out.old) (S.faults out.old)) (sink_seen (S.written out.new) (S.faults out.new)) result }
+    ensures answer { AnswersJob (go_job app.now script.now steps detail) (files_seen (F.told files.old) (F.read_faults files.old) (F.put_faults files.old) (F.last_failing files.old)) (files_seen (F.told files.new) (F.read_faults files.new) (F.put_faults files.new) (F.last_failing files.new)) (sink_seen (S.written out.old) (S.faults out.old)) (sink_seen (S.written out.new) (S.faults out.new)) result }
     ensures later { F.read_faults files.old ≤ F.read_faults files.new }
     ensures contents { F.told files.new ≡ F.told files.old }
     ensures puts { F.put_faults files.new ≡ F.put_faults files.old }
 {
     let prepared = prepare_go(alloc, files, app, script);
-    play(alloc, prepared, steps, mem, out)
+    play(alloc, prepared, steps, detail, out)
 }
 
 // `list IMAGE`.
@@ -196,17 +211,17 @@ fn answer<F: Files, S: Sink>(alloc: Global, words: &[String], files: &mut F, out
                 image,
                 script,
                 steps,
-                mem,
+                detail,
             },
-        ) => run_files(alloc, image, script, steps, mem, files, out),
+        ) => run_files(alloc, image, script, steps, detail, files, out),
         Ok(
             Job::Go {
                 app,
                 script,
                 steps,
-                mem,
+                detail,
             },
-        ) => go_files(alloc, app, script, steps, mem, files, out),
+        ) => go_files(alloc, app, script, steps, detail, files, out),
         Ok(Job::List { image }) => list_file(alloc, image, files, out),
         Err(Refusal::NotTaken) => tell_usage(out),
         Err(Refusal::Memory) => 5,
@@ -216,8 +231,8 @@ fn answer<F: Files, S: Sink>(alloc: Global, words: &[String], files: &mut F, out
 /// All that the program does. The words, the program's name first, and the files are handed in, and
 /// the lines go to the sink, one push each; the answer is the program's exit status.
 ///
-/// - 0: the trace of the run (docs/FORMATS.md, Trace), with `--mem` its last memory, or the listing of the
-///   image was written; or the image that was built is under OUT, and its line was written.
+/// - 0: the trace of the run (docs/FORMATS.md, Trace), with `--all` each of its instructions, with `--mem` its last
+///   memory, or the listing of the image was written; or the image that was built is under OUT, and its line was written.
 /// - 1: a file is refused, and `refused <name> <cause> <place>` was written.
 /// - 2: the words are not accepted (docs/FORMATS.md, Command line), and the usage line was written.
 /// - 3: a file cannot be read, and `cannot read <name>` was written.

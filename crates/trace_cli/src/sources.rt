@@ -3,7 +3,8 @@ ghost use Rattle.std.specs.Prelude.{◌≡◌, ◌≤◌, ◌<◌, ℕ, List, le
 ghost use Rattle.app_toml.specs.Held.{app_of};
 ghost use Rattle.app_toml.specs.Reading.{read_app};
 ghost use Rattle.image_format.specs.Images.{picture};
-ghost use Rattle.trace_cli.specs.Contents.{image_refusal, picture_of, script_refusal, app_refusal};
+ghost use Rattle.run_script.specs.Events.{script_data};
+ghost use Rattle.trace_cli.specs.Contents.{image_refusal, picture_of, script_refusal, script_of, app_refusal};
 ghost use Rattle.trace_cli.specs.Seen.{files_seen};
 ghost use Rattle.trace_cli.specs.Sources.{MayBe};
 ghost use Rattle.trace_cli.specs.Stops.{StopsAt, CannotTake};
@@ -12,6 +13,7 @@ use crate::stops::{Stop, refused_at_number};
 use app_toml::{App, AppFault};
 use image_format::{Image, ImageFault};
 use outside_io::{Files, ReadAll, read_all};
+use run_script::{Script, ScriptFault};
 use std::alloc::Global;
 
 /// The longest file that is read, in bytes.
@@ -50,17 +52,19 @@ pub fn image_in(alloc: Global, bytes: &[u8]) -> Result<Image, Stop>
     }
 }
 
-/// The script that the bytes of a file are. As yet only the empty one is accepted, and says nothing.
-#[tactic(auto, unfolding(crate::specs::Contents::script_refusal))]
-pub fn script_in(alloc: Global, bytes: &[u8]) -> Result<(), Stop>
+/// The script that the bytes of a file are.
+pub fn script_in(alloc: Global, bytes: &[u8]) -> Result<Script, Stop>
     requires { length bytes.now ≤ 2097152 }
-    ensures accepted { OnOk result (script_refusal bytes.now ≡ None) }
+    ensures accepted { IfOk result (λ s. script_refusal bytes.now ≡ None) }
+    ensures script { IfOk result (λ s. script_data s ≡ script_of bytes.now) }
     ensures stop { IfErr result (StopsAt (script_refusal bytes.now)) }
 {
-    if bytes.is_empty() {
-        Ok(())
-    } else {
-        Err(refused_at_number(alloc, 2, 1))
+    match Script::read(alloc, bytes) {
+        Ok(script) => Ok(script),
+        Err(ScriptFault::Refused { cause, line }) => {
+            Err(refused_at_number(alloc, cause, line as u64))
+        }
+        Err(ScriptFault::Memory) => Err(Stop::Memory),
     }
 }
 

@@ -106,6 +106,49 @@ high 00000000 00000000 00000000 00000000 00000000 20000000 ffffffff 08000002 000
 }
 
 #[test]
+fn each_instruction_of_a_loop(rt: HostRuntime) -> Result<(), Fail> {
+    let alloc = rt.alloc();
+    let image = looping(alloc)?;
+    let words = ["hubris", "run", "a.img", "e.txt", "--steps", "3", "--all"];
+    let (status, out) = main_of(alloc, &words, &image, Some(&[]), &[], &[])?;
+    assert_eq!(rt; status, 0);
+    let text = "0 insn 0 08000000 2001 movs r0, #1
+0 low 00000001 00000000 00000000 00000000 00000000 00000000 00000000 00000000
+0 high 00000000 00000000 00000000 00000000 00000000 20000000 ffffffff 08000002 0000
+1 insn 0 08000002 e7fe b 0x08000002
+1 low 00000001 00000000 00000000 00000000 00000000 00000000 00000000 00000000
+1 high 00000000 00000000 00000000 00000000 00000000 20000000 ffffffff 08000002 0000
+2 insn 0 08000002 e7fe b 0x08000002
+2 low 00000001 00000000 00000000 00000000 00000000 00000000 00000000 00000000
+2 high 00000000 00000000 00000000 00000000 00000000 20000000 ffffffff 08000002 0000
+end bound 3 0
+task 0 0 well - 00000000 -
+low 00000001 00000000 00000000 00000000 00000000 00000000 00000000 00000000
+high 00000000 00000000 00000000 00000000 00000000 20000000 ffffffff 08000002 0000
+";
+    assert_eq!(rt; out.text(), text.as_bytes());
+    Ok(())
+}
+
+#[test]
+fn events_of_a_script_come_first(rt: HostRuntime) -> Result<(), Fail> {
+    let alloc = rt.alloc();
+    let image = looping(alloc)?;
+    let script = b"at 2 tick\nat 2 irq 9\n";
+    let (status, out) = main_of(alloc, &RUN, &image, Some(script), &[], &[])?;
+    assert_eq!(rt; status, 0);
+    let text = "2 tick 1
+2 irq 9 none
+end bound 3 1
+task 0 0 well - 00000000 -
+low 00000001 00000000 00000000 00000000 00000000 00000000 00000000 00000000
+high 00000000 00000000 00000000 00000000 00000000 20000000 ffffffff 08000002 0000
+";
+    assert_eq!(rt; out.text(), text.as_bytes());
+    Ok(())
+}
+
+#[test]
 fn no_turns(rt: HostRuntime) -> Result<(), Fail> {
     let alloc = rt.alloc();
     let image = looping(alloc)?;

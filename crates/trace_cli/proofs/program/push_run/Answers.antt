@@ -1,49 +1,57 @@
 use Rattle.std.proofs.Common.{ap, subst, ◌∙◌}
+use Rattle.std.proofs.lemmas.List.{append-nil}
 use Rattle.std.proofs.lemmas.Result.{err_from_is_err_and}
 use Rattle.std.specs.Io.KnownBytes.{Appends}
 use Rattle.outside_io.specs.Outside.{AppendsFront}
 use Rattle.task_table.specs.State.{State}
 use Rattle.task_table.specs.Start.{start}
 use Rattle.board_core.specs.Run.{Run}
+use Rattle.board_core.specs.declared.told.Level.{Level}
 use Rattle.board_core.specs.Stands.{Stands}
 use Rattle.board_run.specs.Text.{trace_text}
 use Rattle.board_run.specs.MemoryText.{memory_text}
 use Rattle.board_run.proofs.Appending.{appends_more, front_more, front_wider}
-use Rattle.trace_cli.specs.Verdict.{memory_if, run_of}
+use Rattle.trace_cli.specs.Verdict.{memory_if, run_of, level_of}
 use Rattle.trace_cli.proofs.Starting.{from_start}
 use Rattle.trace_cli.proofs.program.push_run.Goals as goal
 
 pub returns-in_err-end-clause-text : goal.returns-in_err-end-clause-text
 returns-in_err-end-clause-text g c = λ x st.
     let p = err_from_is_err_and c.from_residual.result c.from_residual.ensures.1 in
-    let same = from_start x c.args.board.now c.args.steps st c.requires.fresh in
-    let whole = run_of c.args.steps x in
+    let same = from_start c.level_of.result x c.args.board.now c.args.steps st c.requires.fresh ∙ ap (λ (l : Level). run_of l c.args.steps x) c.level_of.ensures in
+    let whole = run_of (level_of c.args.detail) c.args.steps x in
     let P : Run → Type 0 = λ r. AppendsFront (g.S.Sink.written c.args.out.now) (g.S.Sink.written c.run.new.out) (trace_text r) in
-    rw (p.1) (front_wider _ _ (trace_text whole) (memory_if c.args.mem x.setup whole.last) (subst P same (c.in_err-end.ensures.text x (start x.setup) st)))
+    rw (p.1) (front_wider _ _ (trace_text whole) (memory_if c.args.detail.memory x.setup whole.last) (subst P same (c.in_err-end.ensures.text x (start x.setup) st)))
 
 pub returns-in_err-write_memory-clause-text : goal.returns-in_err-write_memory-clause-text
 returns-in_err-write_memory-clause-text g c = λ x st.
     let p = err_from_is_err_and c.from_residual-in_err-write_memory.result c.from_residual-in_err-write_memory.ensures.1 in
-    let same = from_start x c.args.board.now c.args.steps st c.requires.fresh in
-    let whole = run_of c.args.steps x in
+    let same = from_start c.level_of.result x c.args.board.now c.args.steps st c.requires.fresh ∙ ap (λ (l : Level). run_of l c.args.steps x) c.level_of.ensures in
+    let whole = run_of (level_of c.args.detail) c.args.steps x in
     let P : Run → Type 0 = λ r. Appends (g.S.Sink.written c.args.out.now) (g.S.Sink.written c.run.new.out) (trace_text r) in
     let L : Run → Type 0 = λ r. Stands x c.run.new.board r.last in
     let last = subst L same (c.in_ok-end.ensures.last x (start x.setup) st) in
-    rw (p.1, c.if-mem.true) (front_more _ _ _ (trace_text whole) (memory_text x.setup whole.last) (subst P same (c.in_ok-end.ensures.text x (start x.setup) st)) (c.in_err-write_memory.ensures.text x whole.last last))
+    rw (p.1, c.if-detail.true) (front_more _ _ _ (trace_text whole) (memory_text x.setup whole.last) (subst P same (c.in_ok-end.ensures.text x (start x.setup) st)) (c.in_err-write_memory.ensures.text x whole.last last))
 
 pub returns-in_ok-write_memory-clause-text : goal.returns-in_ok-write_memory-clause-text
 returns-in_ok-write_memory-clause-text g c = λ x st.
-    let same = from_start x c.args.board.now c.args.steps st c.requires.fresh in
-    let whole = run_of c.args.steps x in
+    let same = from_start c.level_of.result x c.args.board.now c.args.steps st c.requires.fresh ∙ ap (λ (l : Level). run_of l c.args.steps x) c.level_of.ensures in
+    let whole = run_of (level_of c.args.detail) c.args.steps x in
     let P : Run → Type 0 = λ r. Appends (g.S.Sink.written c.args.out.now) (g.S.Sink.written c.run.new.out) (trace_text r) in
     let L : Run → Type 0 = λ r. Stands x c.run.new.board r.last in
     let last = subst L same (c.in_ok-end.ensures.last x (start x.setup) st) in
-    rw c.if-mem.true (appends_more _ _ _ (trace_text whole) (memory_text x.setup whole.last) (subst P same (c.in_ok-end.ensures.text x (start x.setup) st)) (c.in_ok-write_memory.ensures.text x whole.last last))
+    rw c.if-detail.true (appends_more _ _ _ (trace_text whole) (memory_text x.setup whole.last) (subst P same (c.in_ok-end.ensures.text x (start x.setup) st)) (c.in_ok-write_memory.ensures.text x whole.last last))
 
 pub returns-in_ok-write_memory-clause-end : goal.returns-in_ok-write_memory-clause-end
 returns-in_ok-write_memory-clause-end g c = λ x st.
-    c.in_ok-end.ensures.end x (start x.setup) st ∙ ap (λ (r : Run). r.end) (from_start x c.args.board.now c.args.steps st c.requires.fresh)
+    c.in_ok-end.ensures.end x (start x.setup) st ∙ ap (λ (r : Run). r.end) (from_start c.level_of.result x c.args.board.now c.args.steps st c.requires.fresh ∙ ap (λ (l : Level). run_of l c.args.steps x) c.level_of.ensures)
 
-pub returns-else-mem-clause-end : goal.returns-else-mem-clause-end
-returns-else-mem-clause-end g c = λ x st.
-    c.in_ok-end.ensures.end x (start x.setup) st ∙ ap (λ (r : Run). r.end) (from_start x c.args.board.now c.args.steps st c.requires.fresh)
+pub returns-else-detail-clause-end : goal.returns-else-detail-clause-end
+returns-else-detail-clause-end g c = λ x st.
+    c.in_ok-end.ensures.end x (start x.setup) st ∙ ap (λ (r : Run). r.end) (from_start c.level_of.result x c.args.board.now c.args.steps st c.requires.fresh ∙ ap (λ (l : Level). run_of l c.args.steps x) c.level_of.ensures)
+
+pub returns-else-detail-clause-text : goal.returns-else-detail-clause-text
+returns-else-detail-clause-text g c = λ x st.
+    let same = from_start c.level_of.result x c.args.board.now c.args.steps st c.requires.fresh ∙ ap (λ (l : Level). run_of l c.args.steps x) c.level_of.ensures in
+    let P : Run → Type 0 = λ r. Appends (g.S.Sink.written c.args.out.now) (g.S.Sink.written c.run.new.out) (trace_text r) in
+    rw (c.if-detail.false, append-nil (trace_text (run_of (level_of c.args.detail) c.args.steps x))) (subst P same (c.in_ok-end.ensures.text x (start x.setup) st))
