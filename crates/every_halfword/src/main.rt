@@ -1,6 +1,6 @@
-//! Runs each of the 65,536 halfwords as the first instruction of an image, one turn each, and counts
-//! how the runs end. The numbers that it is to print come from a second, slow emulator in
-//! Python, whose reading of the rules is its own.
+//! Runs each of the 65,536 halfwords as the first instruction of an image, one turn each, with `--all`,
+//! and counts how the runs end and which instructions are told. The numbers that it is to print come
+//! from a second, slow emulator in Python, whose reading of the rules is its own.
 #![tactic(auto)]
 
 use outside_io::{MemFiles, MemSink};
@@ -44,16 +44,51 @@ fn ending_of(status: u8, text: &str) -> Option<Ending> {
     None
 }
 
+/// The lines of instructions so far: how many, their bytes, and a checksum of all these in their order.
+#[derive(Clone, Copy)]
+struct Told {
+    lines: u64,
+    bytes: u64,
+    sum: u64,
+}
+
+fn with_line(told: Told, line: &str) -> Told {
+    let mut sum = told.sum;
+    for byte in line.as_bytes() {
+        sum = sum.wrapping_mul(31).wrapping_add(u64::from(*byte));
+    }
+    Told {
+        lines: told.lines.saturating_add(1),
+        bytes: told.bytes.saturating_add(line.len() as u64),
+        sum,
+    }
+}
+
+/// With the line of the instruction of turn 0, where the text has one.
+fn with_text(told: Told, text: &str) -> Told {
+    for line in text.lines() {
+        if line.starts_with("0 insn ") {
+            return with_line(told, line);
+        }
+    }
+    told
+}
+
 fn words(alloc: Global) -> Result<Vec<String>, AllocError> {
     let mut words = Vec::new(alloc);
-    for word in ["hubris", "run", "a.img", "e.txt", "--steps", "1"] {
+    for word in ["hubris", "run", "a.img", "e.txt", "--steps", "1", "--all"] {
         words.push(String::from_str(alloc, word)?)?;
     }
     Ok(words)
 }
 
 /// The ending of the run of the halfword's image with the empty script, None where it tells none.
-fn run(alloc: Global, words: &[String], halfword: u16) -> Result<Option<Ending>, AllocError> {
+fn run(
+    alloc: Global,
+    words: &[String],
+    halfword: u16,
+    told: &mut Told,
+) -> Result<Option<Ending>, AllocError> {
     let image = image(halfword);
     let mut files = MemFiles::open(alloc, &[])?;
     if !files.is_held("a.img") {
@@ -65,7 +100,10 @@ fn run(alloc: Global, words: &[String], halfword: u16) -> Result<Option<Ending>,
     let mut out = MemSink::open(alloc, 1000, &[])?;
     let status = hubris_main(alloc, words, &mut files, &mut out);
     match str::from_utf8(out.text()) {
-        Ok(text) => Ok(ending_of(status, text)),
+        Ok(text) => {
+            *told = with_text(*told, text);
+            Ok(ending_of(status, text))
+        }
         Err(_) => Ok(None),
     }
 }
@@ -74,8 +112,13 @@ fn main(rt: HostRuntime) -> io::Result<()> {
     let alloc = rt.alloc();
     let words = words(alloc)?;
     let (mut bound, mut supervisor) = (0_u64, 0_u64);
+    let mut told = Told {
+        lines: 0,
+        bytes: 0,
+        sum: 0,
+    };
     for halfword in 0..=u16::MAX {
-        match run(alloc, &words, halfword)? {
+        match run(alloc, &words, halfword, &mut told)? {
             Some(Ending::Bound) => bound = bound.saturating_add(1),
             Some(Ending::Supervisor) => supervisor = supervisor.saturating_add(1),
             None => println!(rt; "neither: {halfword:04x}")?,
@@ -83,5 +126,9 @@ fn main(rt: HostRuntime) -> io::Result<()> {
     }
     println!(rt; "bound {bound}")?;
     println!(rt; "supervisor {supervisor}")?;
+    println!(rt;
+        "told {}, bytes {}, sum {:016x}",
+        told.lines, told.bytes, told.sum
+    )?;
     Ok(())
 }
