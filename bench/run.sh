@@ -1,31 +1,56 @@
 #!/usr/bin/env bash
 # Speed of `hubris run` against plain C in the same run: turns per second on the two-instruction image at 10^6, 10^7 and
-# 10^8 steps with peak memory, against loop.c; and the two images compiled by gcc, against interpreter.c.
+# 10^8 steps with peak memory, against loop.c; and against interpreter.c, which writes the same lines: turns per second of
+# the two images compiled by gcc and of the 32 tasks of timers/, and bytes per second of those images with --all.
 # It needs gcc and the built program (crates/hubris/out/hubris, made by `rt ci` or `rt run`).
+# usage: bench/run.sh [PROGRAM]
 set -eu
+program=${1:+$(realpath "$1")}
 cd "$(dirname "$0")"
-program=../crates/hubris/out/hubris
+program=${program:-$(realpath -m ../crates/hubris/out/hubris)}
 [ -x "$program" ] || { echo "build the program first: (cd crates/hubris && rt run)"; exit 1; }
 mkdir -p out
 gcc -O2 -Wall -o out/loop loop.c
-gcc -O2 -Wall -o out/interpreter interpreter.c
+gcc -O2 -Wall -o out/interpreter interpreter.c kernel.c processor.c text.c
 gcc -O2 -Wall -o out/measure measure.c
 data=../crates/hubris/data
 images=../crates/image_runs/data
 : > out/empty.txt
+awk -f timers/application.awk > out/timers.toml
+said=$(cd .. && "$program" build bench/out/timers.toml bench/out/timers.img) || { echo "timers not built: $said"; exit 1; }
 # seconds and peak KiB of a command, the best of three
 measure() { out/measure "$@"; }
-line() { awk -v n="$1" -v what="$2" -v a="$3" -v peak="$4" -v b="$5" 'BEGIN { printf "%-28s %11d steps %9.1f million/s  peak %6d KiB  %.2f of plain C\n", what, n, n / a / 1e6, peak, b / a }'; }
+line() { awk -v n="$1" -v what="$2" -v a="$3" -v peak="$4" -v b="$5" -v amount="$6" -v unit="$7" 'BEGIN { printf "%-28s %11d steps %9.1f %s  peak %6d KiB  %.2f of plain C\n", what, n, amount / a / 1e6, unit, peak, b / a }'; }
+# stops where the program and the interpreter write different lines
+same() {
+    local image=$1 script=$2 steps=$3
+    shift 3
+    "$program" run "$image" "$script" --steps "$steps" "$@" > out/ours.txt || { cat out/ours.txt; exit 1; }
+    out/interpreter "$image" "$script" "$steps" "$@" > out/plain.txt
+    cmp out/ours.txt out/plain.txt || { echo "different lines: $image $*"; exit 1; }
+}
+# the line of a run; with --all it counts the bytes that are written
+play() {
+    local what=$1 image=$2 script=$3 steps=$4 amount=$4 unit=million/s
+    shift 4
+    read -r took peak < <(measure "$program" run "$image" "$script" --steps "$steps" "$@")
+    read -r plain _ < <(measure out/interpreter "$image" "$script" "$steps" "$@")
+    if [ $# -gt 0 ]; then
+        amount=$(out/interpreter "$image" "$script" "$steps" "$@" | wc -c)
+        unit="MB/s"
+    fi
+    line "$steps" "$what" "$took" "$peak" "$plain" "$amount" "$unit"
+}
+same out/timers.img timers/script.txt 20000
+same out/timers.img timers/script.txt 20000 --all
+for image in crc32 bytecode; do same "$images/$image.img" out/empty.txt 20000 --all; done
 for steps in 1000000 10000000 100000000; do
     read -r took peak < <(measure "$program" run "$data/a.img" out/empty.txt --steps "$steps")
     read -r plain _ < <(measure out/loop "$steps")
-    line "$steps" "two instructions" "$took" "$peak" "$plain"
+    line "$steps" "two instructions" "$took" "$peak" "$plain" "$steps" million/s
 done
 for image in crc32 bytecode; do
-    [ -f "$images/$image.img" ] || continue
-    for steps in 10000000 100000000; do
-        read -r took peak < <(measure "$program" run "$images/$image.img" out/empty.txt --steps "$steps")
-        read -r plain _ < <(measure out/interpreter "$images/$image.img" "$steps")
-        line "$steps" "$image (gcc, Cortex-M0)" "$took" "$peak" "$plain"
-    done
+    for steps in 10000000 100000000; do play "$image (gcc, Cortex-M0)" "$images/$image.img" out/empty.txt "$steps"; done
 done
+for steps in 1000000 10000000; do play "32 tasks with timers" out/timers.img timers/script.txt "$steps"; done
+for image in crc32 bytecode; do play "$image, --all" "$images/$image.img" out/empty.txt 1000000 --all; done

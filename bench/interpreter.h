@@ -1,0 +1,74 @@
+/* What the parts of the interpreter share: the tasks of a board, what they do, and the lines that tell it. */
+#ifndef INTERPRETER_H
+#define INTERPRETER_H
+#include <stdbool.h>
+#include <stdint.h>
+
+typedef uint8_t u8;
+typedef uint32_t u32;
+typedef uint64_t u64;
+
+enum { READ = 1, WRITE = 2, EXECUTE = 4, DEVICE = 8 };
+enum { SP = 13, LR = 14, PC = 15 };
+enum fault { ILLEGAL = 1, ILLEGAL_TEXT, ACCESS, UNALIGNED, STATE, BREAKPOINT, USAGE, PANIC };
+enum usage { BAD_CALL = 1, BAD_TASK_INDEX = 2, INVALID_SLICE = 3, NO_IRQ = 6 };
+enum outcome { DONE, CALLS, WAITS, FAULTS };
+
+struct region { u32 base, size, rights; };
+struct task {
+    u32 r[16];
+    u32 n, z, c, v; /* each 0 or 1 */
+    struct region regions[8], *regions_end;
+    u32 index, priority;
+    u32 fault, x, y; /* 0 while it is well */
+    u32 posted, mask, timer_bits;
+    u64 deadline;
+    bool started, listens, timed;
+};
+struct line { struct task *owner; u32 bits; bool enabled, pending; };
+struct board {
+    struct task tasks[32];
+    struct line lines[32];
+    u32 count, fault_bits, turn;
+    u32 ready; /* bit k while task k can run */
+    u64 now;
+    u8 *flash, *ram;
+    u32 flash_size, ram_size;
+    bool all; /* whether instructions and registers are told */
+};
+extern struct board board;
+
+static inline enum outcome trap(struct task *t, u32 fault, u32 x, u32 y) {
+    t->fault = fault, t->x = x, t->y = y;
+    return FAULTS;
+}
+
+static inline u32 bl_target(u32 at, u32 h, u32 h2) {
+    u32 s = h >> 10 & 1, j1 = h2 >> 13 & 1, j2 = h2 >> 11 & 1;
+    u32 offset = (h2 & 2047) << 1 | (h & 1023) << 12 | !(j2 ^ s) << 22 | !(j1 ^ s) << 23 | s << 24;
+    return at + 4 + (u32)((int32_t)(offset << 7) >> 7);
+}
+
+/* processor.c: the turns of one task before turn `until`, or up to the one in which it calls or faults */
+enum outcome run_task(struct task *t, u32 until);
+
+/* kernel.c */
+void tick(void);
+void interrupt(u32 line);
+void call(struct task *t);
+void fault(struct task *t);
+
+/* text.c */
+enum { ANY = 32, KERNEL };
+void tell_tick(void);
+void tell_irq(u32 line, const char *handled);
+void tell_post(const struct task *t, u32 bits);
+void tell_call(const struct task *t);
+void tell_listen(const struct task *t, u32 source);
+void tell_ret(const struct task *t);
+void tell_fault(const struct task *t);
+void tell_idle(void);
+void tell_insn(const struct task *t, u32 at, u32 h, u32 h2);
+void tell_registers(const struct task *t);
+void tell_end(const char *why);
+#endif
