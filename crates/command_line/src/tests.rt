@@ -257,7 +257,7 @@ fn an_application_is_run_as_an_image_is(rt: HostRuntime) -> Result<(), Fail> {
         &["go", "a", "e", "--steps", "-0"],
         &["go", "a", "e", "--steps=1000000001"],
         &["go", "a", "e", "--steps=3", "--steps=3"],
-        &["go", "a", "e", "--steps=3", "--all"],
+        &["go", "a", "e", "--steps=3", "--every"],
         &["go", "a", "e", "--step=3"],
     ]
     .into_iter()
@@ -310,7 +310,7 @@ fn an_option_in_another_form(rt: HostRuntime) -> Result<(), Fail> {
         &["run", "a", "e", "--steps=3", "--mem", "--mem"],
         &["run", "a", "e", "--steps=3", "--me"],
         &["run", "a", "e", "--steps=3", "-m"],
-        &["run", "a", "e", "--steps=3", "--all"],
+        &["run", "a", "e", "--steps=3", "--every"],
         &["run", "a", "e", "--steps", "--mem", "3"],
         &["run", "a", "e", "--", "--steps", "3"],
         &["--steps", "3", "run", "a", "e"],
