@@ -57,12 +57,16 @@ IsStoreAll (Push list lr) = Unit {0}
 IsStoreAll (Stm n list) = Unit {0}
 IsStoreAll i = ⊥
 
--- branches
+-- branches that only move PC
+abbrev pub IsBranch : Insn → Type 0
+IsBranch (BranchIf cond offset) = Unit {0}
+IsBranch (Branch offset) = Unit {0}
+IsBranch i = ⊥
+
+-- branches to a register or with a link
 abbrev pub IsJump : Insn → Type 0
 IsJump (Bx m) = Unit {0}
 IsJump (Blx m) = Unit {0}
-IsJump (BranchIf cond offset) = Unit {0}
-IsJump (Branch offset) = Unit {0}
 IsJump (Bl offset) = Unit {0}
 IsJump i = ⊥
 
@@ -76,6 +80,31 @@ IsSystem (Hint i) = Unit {0}
 IsSystem (Fence barrier i) = Unit {0}
 IsSystem (Msr n) = Unit {0}
 IsSystem i = ⊥
+
+-- what may call or fault, or moves several words
+abbrev pub NeedsMore : Insn → Type 0
+NeedsMore (AddsReg d n m) = ⊥
+NeedsMore (SubsReg d n m) = ⊥
+NeedsMore (AddsImm3 d n i) = ⊥
+NeedsMore (SubsImm3 d n i) = ⊥
+NeedsMore (AddsImm8 d i) = ⊥
+NeedsMore (SubsImm8 d i) = ⊥
+NeedsMore (ShiftImm shift d m by) = ⊥
+NeedsMore (MovsImm d i) = ⊥
+NeedsMore (Data op d m) = ⊥
+NeedsMore (Change bytes d m) = ⊥
+NeedsMore (Mrs d) = ⊥
+NeedsMore (CmpImm n i) = ⊥
+NeedsMore (CmpHigh n m) = ⊥
+NeedsMore (AddHigh d m) = ⊥
+NeedsMore (MovHigh d m) = ⊥
+NeedsMore (Adr d i) = ⊥
+NeedsMore (AddSp d i) = ⊥
+NeedsMore (RaiseSp i) = ⊥
+NeedsMore (LowerSp i) = ⊥
+NeedsMore (BranchIf cond offset) = ⊥
+NeedsMore (Branch offset) = ⊥
+NeedsMore i = Unit {0}
 
 -- of two low registers, flags alone
 abbrev pub is_test : Op → Bool

@@ -1,6 +1,7 @@
 //! Loads and stores of one unit.
-ghost use Rattle.std.specs.Prelude.{◌≡◌, ◌<◌, ℕ, Bool, [], true, false};
-ghost use Rattle.thumb_exec.specs.Effect.{Acts, load_effect, store_effect, widened, load_size, size_of};
+ghost use Rattle.std.specs.Prelude.{◌≡◌, ◌<◌, ◌*◌, ◌%◌, ◌^◌, ℕ, Bool, [], true, false};
+ghost use Rattle.thumb_exec.specs.declared.cpu.Outcome.TheVariants as outcome;
+ghost use Rattle.thumb_exec.specs.Effect.{Next, Acts, load_effect, store_effect, widened, load_size, size_of};
 
 use crate::arith::{advance, get};
 use crate::bus::Bus;
@@ -42,6 +43,17 @@ fn widen(load: Load, value: u32) -> u32
     }
 }
 
+/// The low bytes of a word.
+fn low_part(word: u32, size: Size) -> u32
+    ensures { result ≡ word % 2 ^ (8 * size_of size) }
+{
+    match size {
+        Size::Word => word,
+        Size::Half => word % 0x1_0000,
+        Size::Byte => word % 0x100,
+    }
+}
+
 /// Loads a register and goes on.
 pub fn load<B: Bus>(cpu: &mut Cpu, bus: &mut B, kind: Load, t: Reg, addr: u32) -> Outcome
     requires { t.number < 16 }
@@ -70,17 +82,55 @@ pub fn store<B: Bus>(cpu: &mut Cpu, bus: &mut B, size: Size, t: Reg, addr: u32) 
     if addr % n != 0 {
         return Outcome::Trap(Fault::unaligned(addr, true));
     }
-    let word = get(cpu, t);
-    let value = match size {
-        Size::Word => word,
-        Size::Half => word % 0x1_0000,
-        Size::Byte => word % 0x100,
-    };
+    let value = low_part(get(cpu, t), size);
     match bus.store(addr, n, value) {
         Err(at) => Outcome::Trap(Fault::access(at, Access::Store)),
         Ok(()) => {
             advance(cpu, 2);
             Outcome::Next
+        }
+    }
+}
+
+/// Loads a register and goes on, where that is permitted; else nothing changes.
+#[inline(always)]
+pub fn try_load<B: Bus>(cpu: &mut Cpu, bus: &B, kind: Load, t: Reg, addr: u32) -> bool
+    requires { t.number < 16 }
+    ensures done { result ≡ true → load_effect (B.refuses bus.now) (B.holds bus.now) cpu.old kind t addr ≡ Next cpu.new [] }
+    ensures kept { result ≡ false → cpu.new ≡ cpu.old }
+{
+    let n = loaded_bytes(kind);
+    if addr % n != 0 {
+        return false;
+    }
+    match bus.load(addr, n) {
+        Err(_) => false,
+        Ok(value) => {
+            cpu.regs.set(usize::from(t.number), widen(kind, value));
+            advance(cpu, 2);
+            true
+        }
+    }
+}
+
+/// Stores a register's low bytes and goes on, where that is permitted; else nothing changes.
+#[inline(always)]
+pub fn try_store<B: Bus>(cpu: &mut Cpu, bus: &mut B, size: Size, t: Reg, addr: u32) -> bool
+    requires { t.number < 16 }
+    ensures done { result ≡ true → Acts B.stored cpu.old cpu.new bus.old bus.new outcome.Next (store_effect (B.refuses bus.old) cpu.old size t addr) }
+    ensures cpu { result ≡ false → cpu.new ≡ cpu.old }
+    ensures bus { result ≡ false → bus.new ≡ bus.old }
+{
+    let n = bytes_of(size);
+    if addr % n != 0 {
+        return false;
+    }
+    let value = low_part(get(cpu, t), size);
+    match bus.store(addr, n, value) {
+        Err(_) => false,
+        Ok(()) => {
+            advance(cpu, 2);
+            true
         }
     }
 }

@@ -1,8 +1,9 @@
 //! One instruction, row by row of the table, in families that each a function executes.
 ghost use Rattle.std.specs.Prelude.{◌≡◌, ◌<◌, ℕ, Bool, [], true, false};
 ghost use Rattle.thumb_exec.specs.Effect.{Acts, Effects, Next, Refusals, Contents, effect, load_effect, store_effect, store_all, sum_to, put, advance, shifted};
+ghost use Rattle.thumb_exec.specs.declared.cpu.Outcome.TheVariants as outcome;
 ghost use Rattle.words_core.specs.Words.{awc};
-ghost use Rattle.thumb_exec.specs.Families.{IsSum, IsData, IsAddress, IsJump, IsSystem, IsLoad, IsStore, IsStoreAll};
+ghost use Rattle.thumb_exec.specs.Families.{IsSum, IsData, IsAddress, IsBranch, IsJump, IsSystem, IsLoad, IsStore, IsStoreAll, NeedsMore};
 ghost use Rattle.thumb_insn.specs.Range.{InRange, IsCoded};
 
 use crate::arith::{advance, compare, data, finish_sum, get, set, with_nz, with_nzc};
@@ -11,7 +12,7 @@ use crate::control::{
     base, branch_to, change, flags_of, flags_word, holds, link, link_to, operand, put_any, target,
 };
 use crate::cpu::{Cpu, Outcome};
-use crate::memory::{load, store};
+use crate::memory::{load, store, try_load, try_store};
 use crate::several::{count_of, ldm, mask_of, pop, store_all};
 use kernel_abi::Fault;
 use thumb_insn::{Insn, Load, Reg, Shift, Size};
@@ -30,6 +31,7 @@ fn shift(by: Shift, x: u32, n: u8, c: bool) -> (u32, bool)
 
 /// What a sum adds, with a carry, and where it goes; a difference is a sum with the complement.
 #[tactic(auto, unfolding(crate::specs::Effect::effect))]
+#[inline(always)]
 fn adding(cpu: &Cpu, insn: Insn) -> (Reg, u32, u32, bool)
     requires family { IsSum insn }
     requires range { InRange insn }
@@ -47,8 +49,21 @@ fn adding(cpu: &Cpu, insn: Insn) -> (Reg, u32, u32, bool)
     }
 }
 
+/// Sums and differences.
+#[inline(always)]
+fn sum(cpu: &mut Cpu, insn: Insn)
+    requires family { IsSum insn }
+    requires range { InRange insn }
+    ensures { (refuses : Refusals) (holds : Contents) → effect refuses holds cpu.old insn ≡ Next cpu.new [] }
+{
+    let (d, x, y, carry) = adding(cpu, insn);
+    let sum = add_with_carry(x, y, carry);
+    finish_sum(cpu, d, sum);
+}
+
 /// What computes otherwise, of low registers, immediates or flags.
 #[tactic(auto, unfolding(crate::specs::Effect::effect))]
+#[inline(always)]
 fn compute(cpu: &mut Cpu, insn: Insn)
     requires family { IsData insn }
     requires range { InRange insn }
@@ -89,6 +104,7 @@ fn compute(cpu: &mut Cpu, insn: Insn)
 
 /// What reads or writes SP, PC or a high register, without flags.
 #[tactic(auto, unfolding(crate::specs::Effect::effect))]
+#[inline(always)]
 fn place(cpu: &mut Cpu, insn: Insn)
     requires family { IsAddress insn }
     requires range { InRange insn }
@@ -123,7 +139,32 @@ fn place(cpu: &mut Cpu, insn: Insn)
     }
 }
 
-/// Branches.
+/// Branches that only move PC.
+#[tactic(auto, unfolding(crate::specs::Effect::effect))]
+#[inline(always)]
+fn branch(cpu: &mut Cpu, insn: Insn)
+    requires family { IsBranch insn }
+    requires range { InRange insn }
+    ensures { (refuses : Refusals) (holds : Contents) → effect refuses holds cpu.old insn ≡ Next cpu.new [] }
+{
+    match insn {
+        Insn::BranchIf { cond, offset } => {
+            if holds(cond, cpu.flags) {
+                let to = target(cpu, offset);
+                cpu.regs.set(15, to);
+            } else {
+                advance(cpu, 2);
+            }
+        }
+        Insn::Branch { offset } => {
+            let to = target(cpu, offset);
+            cpu.regs.set(15, to);
+        }
+        _ => unreachable!(),
+    }
+}
+
+/// Branches to a register or with a link.
 #[tactic(auto, unfolding(crate::specs::Effect::effect))]
 fn jump(cpu: &mut Cpu, insn: Insn) -> Outcome
     requires family { IsJump insn }
@@ -138,20 +179,6 @@ fn jump(cpu: &mut Cpu, insn: Insn) -> Outcome
         Insn::Blx { m } => {
             let value = get(cpu, m);
             link_to(cpu, value)
-        }
-        Insn::BranchIf { cond, offset } => {
-            if holds(cond, cpu.flags) {
-                let to = target(cpu, offset);
-                cpu.regs.set(15, to);
-            } else {
-                advance(cpu, 2);
-            }
-            Outcome::Next
-        }
-        Insn::Branch { offset } => {
-            let to = target(cpu, offset);
-            cpu.regs.set(15, to);
-            Outcome::Next
         }
         Insn::Bl { offset } => {
             let to = target(cpu, offset);
@@ -192,6 +219,7 @@ fn system(cpu: &mut Cpu, insn: Insn) -> Outcome
 
 /// How a load of one unit loads, to which register and from where.
 #[tactic(auto, unfolding(crate::specs::Effect::effect))]
+#[inline(always)]
 fn loading(cpu: &Cpu, insn: Insn) -> (Load, Reg, u32)
     requires family { IsLoad insn }
     requires range { InRange insn }
@@ -221,6 +249,7 @@ fn loading(cpu: &Cpu, insn: Insn) -> (Load, Reg, u32)
 
 /// How much a store of one unit stores, of which register and where.
 #[tactic(auto, unfolding(crate::specs::Effect::effect))]
+#[inline(always)]
 fn storing(cpu: &Cpu, insn: Insn) -> (Size, Reg, u32)
     requires family { IsStore insn }
     requires range { InRange insn }
@@ -267,11 +296,16 @@ fn storing_all(cpu: &Cpu, insn: Insn) -> (u16, u32, Reg, u32)
     }
 }
 
-/// Executes an instruction whose fields are in range.
+/// Executes an instruction whose fields are in range, where it neither calls nor faults and moves at most one
+/// unit of memory; else nothing changes.
 #[tactic(auto, using(crate::proofs::Acting::acts_next, crate::proofs::Acting::acts_of))]
-fn step<B: Bus>(cpu: &mut Cpu, insn: Insn, bus: &mut B) -> Outcome
+#[inline(always)]
+fn proceed_with<B: Bus>(cpu: &mut Cpu, insn: Insn, bus: &mut B) -> bool
     requires { InRange insn }
-    ensures { Acts B.stored cpu.old cpu.new bus.old bus.new result (effect (B.refuses bus.old) (B.holds bus.old) cpu.old insn) }
+    ensures done { result ≡ true → Acts B.stored cpu.old cpu.new bus.old bus.new outcome.Next (effect (B.refuses bus.old) (B.holds bus.old) cpu.old insn) }
+    ensures more { result ≡ false → NeedsMore insn }
+    ensures cpu { result ≡ false → cpu.new ≡ cpu.old }
+    ensures bus { result ≡ false → bus.new ≡ bus.old }
 {
     match insn {
         Insn::AddsReg { .. }
@@ -280,10 +314,8 @@ fn step<B: Bus>(cpu: &mut Cpu, insn: Insn, bus: &mut B) -> Outcome
         | Insn::SubsImm3 { .. }
         | Insn::AddsImm8 { .. }
         | Insn::SubsImm8 { .. } => {
-            let (d, x, y, carry) = adding(cpu, insn);
-            let sum = add_with_carry(x, y, carry);
-            finish_sum(cpu, d, sum);
-            Outcome::Next
+            sum(cpu, insn);
+            true
         }
         Insn::ShiftImm { .. }
         | Insn::MovsImm { .. }
@@ -293,7 +325,7 @@ fn step<B: Bus>(cpu: &mut Cpu, insn: Insn, bus: &mut B) -> Outcome
         | Insn::Change { .. }
         | Insn::Mrs { .. } => {
             compute(cpu, insn);
-            Outcome::Next
+            true
         }
         Insn::AddHigh { .. }
         | Insn::MovHigh { .. }
@@ -302,8 +334,35 @@ fn step<B: Bus>(cpu: &mut Cpu, insn: Insn, bus: &mut B) -> Outcome
         | Insn::RaiseSp { .. }
         | Insn::LowerSp { .. } => {
             place(cpu, insn);
-            Outcome::Next
+            true
         }
+        Insn::BranchIf { .. } | Insn::Branch { .. } => {
+            branch(cpu, insn);
+            true
+        }
+        Insn::LdrLiteral { .. }
+        | Insn::LoadReg { .. }
+        | Insn::LoadImm { .. }
+        | Insn::LoadSp { .. } => {
+            let (kind, t, addr) = loading(cpu, insn);
+            try_load(cpu, bus, kind, t, addr)
+        }
+        Insn::StoreReg { .. } | Insn::StoreImm { .. } | Insn::StoreSp { .. } => {
+            let (size, t, addr) = storing(cpu, insn);
+            try_store(cpu, bus, size, t, addr)
+        }
+        _ => false,
+    }
+}
+
+/// Executes an instruction that may call or fault, or that moves several words.
+#[tactic(auto, using(crate::proofs::Acting::acts_next, crate::proofs::Acting::acts_of))]
+fn finish<B: Bus>(cpu: &mut Cpu, insn: Insn, bus: &mut B) -> Outcome
+    requires range { InRange insn }
+    requires more { NeedsMore insn }
+    ensures { Acts B.stored cpu.old cpu.new bus.old bus.new result (effect (B.refuses bus.old) (B.holds bus.old) cpu.old insn) }
+{
+    match insn {
         Insn::LdrLiteral { .. }
         | Insn::LoadReg { .. }
         | Insn::LoadImm { .. }
@@ -321,11 +380,7 @@ fn step<B: Bus>(cpu: &mut Cpu, insn: Insn, bus: &mut B) -> Outcome
         }
         Insn::Ldm { n, list } => ldm(cpu, bus, n, list),
         Insn::Pop { list, pc } => pop(cpu, bus, list, pc),
-        Insn::Bx { .. }
-        | Insn::Blx { .. }
-        | Insn::BranchIf { .. }
-        | Insn::Branch { .. }
-        | Insn::Bl { .. } => jump(cpu, insn),
+        Insn::Bx { .. } | Insn::Blx { .. } | Insn::Bl { .. } => jump(cpu, insn),
         Insn::Svc { .. }
         | Insn::Bkpt { .. }
         | Insn::Cpsie
@@ -333,7 +388,19 @@ fn step<B: Bus>(cpu: &mut Cpu, insn: Insn, bus: &mut B) -> Outcome
         | Insn::Hint { .. }
         | Insn::Fence { .. }
         | Insn::Msr { .. } => system(cpu, insn),
+        _ => unreachable!(),
     }
+}
+
+/// Executes an instruction whose fields are in range.
+fn step<B: Bus>(cpu: &mut Cpu, insn: Insn, bus: &mut B) -> Outcome
+    requires { InRange insn }
+    ensures { Acts B.stored cpu.old cpu.new bus.old bus.new result (effect (B.refuses bus.old) (B.holds bus.old) cpu.old insn) }
+{
+    if proceed_with(cpu, insn, bus) {
+        return Outcome::Next;
+    }
+    finish(cpu, insn, bus)
 }
 
 /// Executes an instruction at PC, one that some code means: exactly the effect that its row in the
@@ -348,4 +415,18 @@ pub fn exec<B: Bus>(cpu: &mut Cpu, insn: &Insn, bus: &mut B) -> Outcome
     ensures { Acts B.stored cpu.old cpu.new bus.old bus.new result (effect (B.refuses bus.old) (B.holds bus.old) cpu.old insn.now) }
 {
     step(cpu, *insn, bus)
+}
+
+/// Executes an instruction at PC, one that some code means, as `exec` does, where it needs no more than
+/// the processor and one unit of memory and neither calls nor faults; else nothing changes, and the
+/// answer is false. Most instructions of most programs proceed.
+#[tactic(auto, using(thumb_insn::proofs::InRange::coded_in_range))]
+#[inline(always)]
+pub fn proceed<B: Bus>(cpu: &mut Cpu, insn: &Insn, bus: &mut B) -> bool
+    requires { IsCoded insn.now }
+    ensures done { result ≡ true → Acts B.stored cpu.old cpu.new bus.old bus.new outcome.Next (effect (B.refuses bus.old) (B.holds bus.old) cpu.old insn.now) }
+    ensures cpu { result ≡ false → cpu.new ≡ cpu.old }
+    ensures bus { result ≡ false → bus.new ≡ bus.old }
+{
+    proceed_with(cpu, *insn, bus)
 }
