@@ -68,6 +68,11 @@ impl Memory {
     pub fn half(&self, addr: u32) -> u16
         ensures { result ≡ number_at self.now addr 2 }
     {
+        // Most are fetched from the flash, so it is asked first, and by one test.
+        let place = addr.wrapping_sub(FLASH) as usize;
+        if place + 1 < self.flash.len() {
+            return half_at(&self.flash, place);
+        }
         if addr >= RAM {
             half_at(&self.ram, (addr - RAM) as usize)
         } else if addr >= FLASH {
@@ -172,7 +177,20 @@ fn half_at(bytes: &[u8], at: usize) -> u16
     requires { at < 2 ^ 32 }
     ensures { result ≡ number_of (take 2 (drop at bytes.now)) }
 {
+    if at + 1 < bytes.len() {
+        return u16::from(bytes[at]) + 256 * u16::from(bytes[at + 1]);
+    }
     u16::from(byte_or_zero(bytes, at)) + 256 * u16::from(byte_or_zero(bytes, at + 1))
+}
+
+/// The number that four bytes from a place on spell where all of them are there.
+fn whole_word(bytes: &[u8], at: usize) -> u32
+    requires { at + 3 < length bytes.now }
+    ensures { result ≡ number_of (take 4 (drop at bytes.now)) }
+{
+    let low = u32::from(bytes[at]) + 256 * u32::from(bytes[at + 1]);
+    let high = u32::from(bytes[at + 2]) + 256 * u32::from(bytes[at + 3]);
+    low + 65536 * high
 }
 
 /// The number that four bytes from a place on spell, the lowest first.
@@ -180,6 +198,9 @@ fn word_at(bytes: &[u8], at: usize) -> u32
     requires { at < 2 ^ 32 }
     ensures { result ≡ number_of (take 4 (drop at bytes.now)) }
 {
+    if at + 3 < bytes.len() {
+        return whole_word(bytes, at);
+    }
     let low = u32::from(byte_or_zero(bytes, at)) + 256 * u32::from(byte_or_zero(bytes, at + 1));
     let high = u32::from(byte_or_zero(bytes, at + 2))
         + 256 * u32::from(byte_or_zero(bytes, at + 3));

@@ -1,4 +1,4 @@
-use Rattle.std.proofs.Common.{◌≡◌, ◌≤◌, length, arith, ◌∙◌}
+use Rattle.std.proofs.Common.{◌≤◌, length, arith, ◌∙◌}
 use Rattle.task_table.proofs.Messages.{offered_kept}
 use Rattle.task_table.proofs.kernel.Kernel.offered.Goals as goal
 
