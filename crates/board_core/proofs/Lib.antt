@@ -11,6 +11,7 @@ pub mod Lending
 pub mod Views
 pub mod Quiet
 pub mod Turning
+pub mod Gliding
 pub mod FiveTasks
 pub mod Blinker
 pub mod AllTold

@@ -1,10 +1,13 @@
 -- What a board stands for once its machine has made a turn.
-use Rattle.std.proofs.Common.{◌≡◌, ◌+◌, ℕ, true, List, [], ◌∷◌, length, eqb, Option, refl, sym, ◌∙◌, subst, arith}
+use Rattle.std.proofs.Common.{◌≡◌, ◌+◌, ◌≤◌, ℕ, true, List, [], ◌∷◌, length, eqb, Option, refl, sym, ◌∙◌, ap, subst, arith}
 use Rattle.std.proofs.lemmas.Bool.{eqb-true}
 use Rattle.kernel_abi.specs.declared.Note.{Note}
+use Rattle.run_script.specs.Events.{script_data}
+use Rattle.run_script.specs.Scripts.{ScriptData, events_of}
+use Rattle.run_script.proofs.Each.{each_turn}
 use Rattle.task_table.specs.State.{Setup, State, Turn}
 use Rattle.task_table.specs.Reading.{chosen}
-use Rattle.task_table.specs.Holds.{notes_of}
+use Rattle.task_table.specs.Holds.{notes_of, note_count}
 use Rattle.task_table.specs.Sane.{Sane}
 use Rattle.board_core.specs.declared.machine.Machine.{Machine}
 use Rattle.board_core.specs.declared.choice.Choice.{Choice}
@@ -13,6 +16,7 @@ use Rattle.board_core.specs.Machine.{IsNext, MachineHolds, MachineStands}
 use Rattle.board_core.specs.declared.told.Level.{Level}
 use Rattle.board_core.specs.Midway.{IsMidway}
 use Rattle.board_core.specs.Script.{Scenario}
+use Rattle.board_core.specs.Stands.{Stands}
 use Rattle.board_core.specs.Kept.{IsChoice}
 use Rattle.board_core.specs.Turn.{turn, ended, turn_of, after_events}
 use Rattle.board_core.proofs.Lending.{told_by, between_by}
@@ -68,3 +72,17 @@ pub rested_as : (g : Setup) (m m' : Machine) (s : State) → MachineHolds g m' (
 rested_as g m m' s h =
     let P : List Note → Type 0 = λ n. MachineHolds g m' record { state = s; notes = n; writes = []; reads = [] } in
     subst P (sym (noted_in g m' (rested m s) h)) h
+
+-- a turn has nine events at most
+pub few_events : (x : Scenario) (s : State) (b : Board) → Stands x b s → length (events_of x.script s.turn) ≤ 9
+few_events x s b st =
+    let P : ScriptData → Type 0 = λ script. length (events_of script s.turn) ≤ 9 in
+    subst P st.holds.script (each_turn (script_data b.script) b.script.facts s.turn).few
+
+-- where as many notes are there as there were, and none were, none are
+pub none_of : (m m' : Machine) → notes_of m.reach.kernel ≡ [] → note_count m'.reach.kernel ≡ note_count m.reach.kernel → notes_of m'.reach.kernel ≡ []
+none_of m m' none e = empty_by (notes_of m'.reach.kernel) (e ∙ ap (λ (xs : List Note). length xs) none)
+  where
+    empty_by : (xs : List Note) → length xs ≡ 0 → xs ≡ []
+    empty_by [] h = refl
+    empty_by (x ∷ xs) h = absurd (some_left x xs h)

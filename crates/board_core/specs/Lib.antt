@@ -1,5 +1,6 @@
 pub mod Script
 pub mod Spans
+pub mod Texts
 pub mod Turn
 pub mod Run
 pub mod Levels
@@ -8,4 +9,5 @@ pub mod Machine
 pub mod Opened
 pub mod Midway
 pub mod Stands
+pub mod Advanced
 pub mod Told

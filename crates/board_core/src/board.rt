@@ -1,5 +1,5 @@
 //! The board and one turn of it.
-ghost use Rattle.std.specs.Prelude.{ℕ, ◌≡◌, ◌≢◌, ◌<◌, ◌≤◌, ◌+◌, ◌&&◌, ◌↔◌, not, [], Option, Some, None, is_none, length, map, true, false, IfOk, IfSome, IsNone, IsSome, slice_get};
+ghost use Rattle.std.specs.Prelude.{ℕ, ◌≡◌, ◌≢◌, ◌<◌, ◌≤◌, ◌+◌, ◌-◌, ◌&&◌, ◌↔◌, not, [], Option, Some, None, is_none, length, map, true, false, IfOk, IfSome, IsNone, IsSome, slice_get};
 ghost use Rattle.std.specs.Option.{option_map};
 ghost use Rattle.image_format.specs.Images.{picture};
 ghost use Rattle.image_format.specs.Picture.{task_in, line_in};
@@ -12,7 +12,7 @@ ghost use Rattle.task_table.specs.declared.Line.{Line};
 ghost use Rattle.task_table.specs.Holds.{Holds as KernelHolds, task_count};
 ghost use Rattle.run_script.specs.Events.{script_data};
 ghost use Rattle.run_script.specs.Scripts.{lasts};
-ghost use Rattle.board_core.specs.declared.told.Level.TheVariants.{All};
+ghost use Rattle.board_core.specs.declared.told.Level.TheVariants.{All, Calls};
 ghost use Rattle.board_core.specs.Script.{Scenario};
 ghost use Rattle.board_core.specs.Turn.{turn, turned};
 ghost use Rattle.board_core.specs.Run.{ending};
@@ -21,6 +21,8 @@ ghost use Rattle.board_core.specs.Stands.{Stands, Stood, notes_of, turns_of, cou
 ghost use Rattle.board_core.specs.Told.{IsTask, IsView, end_at, end_in};
 ghost use Rattle.board_core.specs.Machine.{IsStarted, MachineHolds, MachineStands};
 ghost use Rattle.board_core.specs.Kept.{IsChoice};
+ghost use Rattle.board_core.specs.Texts.{IsText};
+ghost use Rattle.board_core.specs.Advanced.{IsAdvanced};
 ghost use Rattle.board_core.specs.Midway.{IsDue, IsMidway};
 
 use crate::choice::{Choice, choice_of};
@@ -157,6 +159,125 @@ impl Board {
         turned
     }
 
+    /// One turn, and further ones after it as long as each notes nothing, no event is due, the run goes
+    /// on and fewer than `limit` turns are made in all. With all instructions told each turn notes
+    /// something, so that it is one turn. The clauses ask for one turn at least: how far it goes is for
+    /// speed.
+    pub fn advance(&mut self, level: Level, limit: u32)
+        requires stood { Stood self.old }
+        requires left { turns_of self.old < limit }
+        requires few { limit ≤ 1000000000 }
+        ensures advanced { (x : Scenario) (s : State) → Stands x self.old s → IsAdvanced level x (turns_of self.new - turns_of self.old - 1) s self.new }
+        ensures more { turns_of self.old < turns_of self.new }
+        ensures within { turns_of self.new ≤ limit }
+    {
+        self.turn_at(level);
+        match level {
+            Level::Calls => self.glide(limit),
+            Level::All => {}
+        }
+    }
+
+    /// Further turns of the task that is chosen, as long as each notes nothing, no event is due and
+    /// fewer than `limit` turns are made in all.
+    fn glide(&mut self, limit: u32)
+        requires stood { Stood self.old }
+        requires left { turns_of self.old ≤ limit }
+        requires few { limit ≤ 1000000000 }
+        ensures advanced { (x : Scenario) (n : ℕ) (s : State) → IsAdvanced Calls x n s self.old → IsAdvanced Calls x (n + (turns_of self.new - turns_of self.old)) s self.new }
+        ensures more { turns_of self.old ≤ turns_of self.new }
+        ensures within { turns_of self.new ≤ limit }
+    {
+        if self.choice.down {
+            return;
+        }
+        if let Some(task) = self.choice.next {
+            self.glide_on(task, limit);
+        }
+    }
+
+    /// The same, where this task is chosen and the supervisor has not faulted.
+    fn glide_on(&mut self, task: usize, limit: u32)
+        requires stood { Stood self.old }
+        requires next { self.old.choice.next ≡ Some task }
+        requires up { self.old.choice.down ≡ false }
+        requires left { turns_of self.old ≤ limit }
+        requires few { limit ≤ 1000000000 }
+        ensures advanced { (x : Scenario) (n : ℕ) (s : State) → IsAdvanced Calls x n s self.old → IsAdvanced Calls x (n + (turns_of self.new - turns_of self.old)) s self.new }
+        ensures more { turns_of self.old ≤ turns_of self.new }
+        ensures within { turns_of self.new ≤ limit }
+    {
+        let until = quiet_until(self.due, limit);
+        let text = self.machine.text(task);
+        'turns: while self.turns < until && self.notes().is_empty() {
+            self.go_on(task, &text);
+        }
+    }
+
+    /// One turn of the task that is chosen, in which no event is due.
+    #[inline(always)]
+    fn go_on(&mut self, task: usize, text: &Region)
+        requires few { turns_of self.old < 1000000000 }
+        requires stood { Stood self.old }
+        requires nothing { notes_of self.old ≡ [] }
+        requires later { self.old.due ≢ Some (turns_of self.old) }
+        requires next { self.old.choice.next ≡ Some task }
+        requires text { IsText self.old.machine.reach.kernel task text.now }
+        ensures model { (x : Scenario) (s : State) → Stands x self.old s → Stands x self.new (turn Calls x s).state }
+        ensures notes { (x : Scenario) (s : State) → Stands x self.old s → notes_of self.new ≡ (turn Calls x s).notes }
+        ensures turns { turns_of self.new ≡ turns_of self.old + 1 }
+        ensures due { self.new.due ≡ self.old.due }
+        ensures kept { notes_of self.new ≡ [] → self.new.choice ≡ self.old.choice }
+    {
+        if !self.proceeds(task, text) {
+            self.turn_on();
+        }
+    }
+
+    /// The same, where its instruction proceeds; else nothing changes, and the answer is false.
+    #[inline(always)]
+    fn proceeds(&mut self, task: usize, text: &Region) -> bool
+        requires few { turns_of self.old < 1000000000 }
+        requires stood { Stood self.old }
+        requires nothing { notes_of self.old ≡ [] }
+        requires later { self.old.due ≢ Some (turns_of self.old) }
+        requires next { self.old.choice.next ≡ Some task }
+        requires text { IsText self.old.machine.reach.kernel task text.now }
+        ensures model { result ≡ true → (x : Scenario) (s : State) → Stands x self.old s → Stands x self.new (turn Calls x s).state }
+        ensures notes { result ≡ true → (x : Scenario) (s : State) → Stands x self.old s → notes_of self.new ≡ (turn Calls x s).notes }
+        ensures turns { result ≡ true → turns_of self.new ≡ turns_of self.old + 1 }
+        ensures due { result ≡ true → self.new.due ≡ self.old.due }
+        ensures kept { result ≡ true → self.new.choice ≡ self.old.choice }
+        ensures left { result ≡ false → self.new ≡ self.old }
+    {
+        if !self.machine.is_lent_to(task) {
+            return false;
+        }
+        if !self.machine.proceeds(text) {
+            return false;
+        }
+        self.turns += 1;
+        true
+    }
+
+    /// One turn of the task that is chosen, in which no event is due, whatever it does.
+    #[inline(never)]
+    fn turn_on(&mut self)
+        requires few { turns_of self.old < 1000000000 }
+        requires stood { Stood self.old }
+        requires nothing { notes_of self.old ≡ [] }
+        requires later { self.old.due ≢ Some (turns_of self.old) }
+        ensures model { (x : Scenario) (s : State) → Stands x self.old s → Stands x self.new (turn Calls x s).state }
+        ensures notes { (x : Scenario) (s : State) → Stands x self.old s → notes_of self.new ≡ (turn Calls x s).notes }
+        ensures turns { turns_of self.new ≡ turns_of self.old + 1 }
+        ensures due { self.new.due ≡ self.old.due }
+        ensures kept { notes_of self.new ≡ [] → self.new.choice ≡ self.old.choice }
+    {
+        self.turns += 1;
+        self.machine.turn(Level::Calls, self.choice.next);
+        self.renew();
+    }
+
     /// A turn begins, with its events.
     #[inline(always)]
     fn begin(&mut self)
@@ -197,6 +318,7 @@ impl Board {
         ensures turns { turns_of self.new ≡ turns_of self.old }
         ensures script { self.new.script ≡ self.old.script }
         ensures due { self.new.due ≡ self.old.due }
+        ensures kept { notes_of self.new ≡ [] → self.new.choice ≡ self.old.choice }
     {
         if !self.notes().is_empty() {
             self.machine.settle();
@@ -306,6 +428,17 @@ impl Board {
         ensures { (x : Scenario) (s : State) → Stands x self.now s → result ≡ slice_get (setup_at x.setup i).regions k }
     {
         self.machine.reach.kernel.regions(i).get(k).copied()
+    }
+}
+
+/// The turn before which nothing is due, at most the limit.
+fn quiet_until(due: Option<u32>, limit: u32) -> u32
+    ensures within { result ≤ limit }
+    ensures later { (turn : ℕ) → turn < result → due ≢ Some turn }
+{
+    match due {
+        None => limit,
+        Some(turn) => { if turn < limit { turn } else { limit } }
     }
 }
 

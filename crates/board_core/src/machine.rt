@@ -1,5 +1,5 @@
 //! The kernel as the bus of its current task, and one instruction of that task.
-ghost use Rattle.std.specs.Prelude.{◌≡◌, ◌≢◌, ◌⊎◌, ◌&&◌, ◌+◌, ◌*◌, ◌≤◌, ◌<◌, ◌%◌, ◌^◌, ◌/◌, ◌∷◌, [], ℕ, Option, true, false, fold, take, drop, slice_get};
+ghost use Rattle.std.specs.Prelude.{◌≡◌, ◌≢◌, ◌⊎◌, ◌&&◌, ◌+◌, ◌*◌, ◌≤◌, ◌<◌, ◌%◌, ◌^◌, ◌/◌, ◌∷◌, [], ℕ, Option, Some, true, false, fold, take, drop, slice_get};
 ghost use Rattle.run_script.specs.Events.{script_data};
 ghost use Rattle.run_script.specs.Scripts.{events_of};
 ghost use Rattle.region_check.specs.Rights.{may_use, has_right};
@@ -18,6 +18,8 @@ ghost use Rattle.thumb_exec.specs.Sizes.{IsSize};
 ghost use Rattle.board_core.specs.Turn.{first_lacking, with_current, refusals, is_text, put, told, happened, stepped, stepped_wide, decoded_as, executed, cpu_of, with_registers_told, turn_of, turned_of};
 ghost use Rattle.board_core.specs.Midway.{happened_next};
 ghost use Rattle.board_core.specs.Machine.{IsStored, IsReady, IsNext, MachineHolds, MachineStands, IsLent};
+ghost use Rattle.board_core.specs.Texts.{GivesText, IsText};
+ghost use Rattle.board_core.specs.declared.told.Level.TheVariants.{Calls};
 
 use crate::calls::call;
 use crate::{Level, Turned};
@@ -28,7 +30,7 @@ use task_table::Kernel;
 use thumb_decode::decode;
 use thumb_exec::bus::Bus;
 use thumb_exec::cpu::{Cpu, Outcome};
-use thumb_exec::step::exec;
+use thumb_exec::step::{exec, proceed};
 use thumb_insn::{Decoded, Insn};
 use timer_irq::{interrupt, tick};
 use words_core::{Flags, Regs};
@@ -172,6 +174,34 @@ fn may_execute(regions: &[Region], at: u32) -> bool
         }
     }
     may(regions, at, Right::Execute) && may(regions, at.wrapping_add(1), Right::Execute)
+}
+
+/// Whether a region ends within the address space.
+fn ends_within(region: &Region) -> bool
+    ensures { result ≡ true → region.now.base + region.now.size ≤ 2 ^ 32 }
+{
+    u64::from(region.base) + u64::from(region.size) <= 0x1_0000_0000
+}
+
+/// A region from which the halfword at an address may be fetched, and then each halfword that it has.
+fn text_around(regions: &[Region], at: u32) -> Region
+    ensures { GivesText regions.now result }
+{
+    for region in regions {
+        if spans(region, at, 2) && region.rights.execute && ends_within(region) {
+            return *region;
+        }
+    }
+    Region {
+        base: 0,
+        size: 0,
+        rights: Rights {
+            read: false,
+            write: false,
+            execute: false,
+            device: false,
+        },
+    }
 }
 
 /// Whether both bytes of a halfword may be executed by the current task.
@@ -454,6 +484,7 @@ impl Machine {
     }
 
     /// One instruction of the current task: fetched, decoded, carried out.
+    #[inline(never)]
     pub fn step(&mut self, level: Level)
         requires ready { (g : Setup) × (t : Turn) × IsReady g self.old t }
         requires room { note_count self.old.reach.kernel + 102 ≤ 1024 }
@@ -518,6 +549,41 @@ impl Machine {
                     at,
                 }
             }
+        }
+    }
+}
+
+impl Machine {
+    /// The region from which a task would fetch at its PC; an empty one where it has none, or one that
+    /// does not end within the address space.
+    pub fn text(&self, task: usize) -> Region
+        ensures { IsText self.now.reach.kernel task result }
+    {
+        text_around(self.reach.kernel.regions(task), self.processor.regs.get(15))
+    }
+
+    /// One instruction of the current task, told as calls, events and faults are, where it is fetched from
+    /// the task's text and needs no more than `proceed` does; else nothing changes, and the answer is
+    /// false.
+    #[inline(always)]
+    pub fn proceeds(&mut self, text: &Region) -> bool
+        requires ready { (g : Setup) × (t : Turn) × IsReady g self.old t }
+        requires text { IsText self.old.reach.kernel (current_of self.old.reach.kernel) text.now }
+        ensures done { result ≡ true → (g : Setup) (t : Turn) → IsReady g self.old t → MachineHolds g self.new (stepped Calls g t.state.current t) }
+        ensures kept { result ≡ false → self.new ≡ self.old }
+        ensures count { result ≡ true → note_count self.new.reach.kernel ≡ note_count self.old.reach.kernel }
+    {
+        let at = self.processor.regs.get(15);
+        if !spans(text, at, 2) {
+            return false;
+        }
+        let first = self.reach.kernel.half(at);
+        if first / 2048 >= 29 {
+            return false;
+        }
+        match decode(first, None) {
+            Decoded::Narrow(insn) => proceed(&mut self.processor, &insn, &mut self.reach),
+            _ => false,
         }
     }
 }

@@ -181,6 +181,49 @@ fn a_tick_comes_every_second_turn(rt: HostRuntime) -> Result<(), Fail> {
 }
 
 #[test]
+fn quiet_turns_are_made_up_to_the_limit(rt: HostRuntime) -> Result<(), Fail> {
+    let mut board = board(&rt, rt.alloc(), 0x2001, 0xe7fe)?;
+    board.advance(Level::Calls, 100);
+    assert_eq!(rt; board.turns(), 100);
+    assert_eq!(rt; board.notes().len(), 0);
+    let task = board.task(0).expect(&rt, "there is a task");
+    assert_eq!(rt; task.registers[0], 1);
+    assert_eq!(rt; task.registers[15], 0x0800_0002);
+    Ok(())
+}
+
+#[test]
+fn quiet_turns_end_before_an_event(rt: HostRuntime) -> Result<(), Fail> {
+    let mut board = with_script(&rt, rt.alloc(), 0x2001, 0xe7fe, b"at 7 tick\n")?;
+    board.advance(Level::Calls, 100);
+    assert_eq!(rt; board.turns(), 7);
+    assert_eq!(rt; board.now(), 0);
+    board.advance(Level::Calls, 200);
+    assert_eq!(rt; board.turns(), 8);
+    assert_eq!(rt; board.notes().get(0).copied(), Some(Note::Tick { now: 1 }));
+    Ok(())
+}
+
+#[test]
+fn quiet_turns_end_with_a_note(rt: HostRuntime) -> Result<(), Fail> {
+    let mut board = board(&rt, rt.alloc(), 0x2001, 0xde00)?;
+    board.advance(Level::Calls, 100);
+    assert_eq!(rt; board.turns(), 2);
+    assert_eq!(rt; board.notes().len(), 1);
+    assert_eq!(rt; board.ended(), Some(End::Supervisor));
+    Ok(())
+}
+
+#[test]
+fn turns_are_made_one_by_one_where_all_is_told(rt: HostRuntime) -> Result<(), Fail> {
+    let mut board = board(&rt, rt.alloc(), 0x2001, 0xe7fe)?;
+    board.advance(Level::All, 100);
+    assert_eq!(rt; board.turns(), 1);
+    assert_eq!(rt; board.notes().len(), 3);
+    Ok(())
+}
+
+#[test]
 fn the_supervisor_ends_a_run(rt: HostRuntime) -> Result<(), Fail> {
     let mut board = with_script(&rt, rt.alloc(), 0xde00, 0, b"at 1 tick\n")?;
     assert_eq!(rt; board.ended(), None);

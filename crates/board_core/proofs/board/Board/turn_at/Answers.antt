@@ -1,22 +1,11 @@
-use Rattle.std.proofs.Common.{◌≤◌, ℕ, Option, length, sym, ◌∙◌, ap, subst, arith}
+use Rattle.std.proofs.Common.{ℕ, Option, sym, ◌∙◌, ap, subst, arith}
 use Rattle.run_script.specs.Events.{script_data}
-use Rattle.run_script.specs.Scripts.{ScriptData, IsNext, events_of}
+use Rattle.run_script.specs.Scripts.{IsNext}
 use Rattle.run_script.specs.declared.script.Script.{Script}
-use Rattle.run_script.proofs.Each.{each_turn}
-use Rattle.task_table.specs.State.{State}
-use Rattle.board_core.specs.declared.board.Board.{Board}
-use Rattle.board_core.specs.Script.{Scenario}
-use Rattle.board_core.specs.Stands.{Stands}
 use Rattle.board_core.specs.Turn.{turn, turned, turned_of, after_events}
-use Rattle.board_core.proofs.Turning.{rested, rested_as, next_of, noted_in, as_chosen, stands_after, turn_notes, choice_kept}
+use Rattle.board_core.proofs.Turning.{rested, rested_as, next_of, noted_in, as_chosen, stands_after, turn_notes, choice_kept, few_events}
 use Rattle.board_core.proofs.Counts.{counted_turn, turn_more}
 use Rattle.board_core.proofs.board.Board.turn_at.Goals as goal
-
--- a turn has nine events at most
-few_events : (x : Scenario) (s : State) (b : Board) → Stands x b s → length (events_of x.script s.turn) ≤ 9
-few_events x s b st =
-    let P : ScriptData → Type 0 = λ script. length (events_of script s.turn) ≤ 9 in
-    subst P st.holds.script (each_turn (script_data b.script) b.script.facts s.turn).few
 
 pub renew-requires : goal.renew-requires
 renew-requires c =

@@ -1,0 +1,90 @@
+-- Turns on end of the task that runs.
+use Rattle.std.proofs.Common.{◌≡◌, ◌≢◌, ◌<◌, ℕ, suc, Bool, true, false, List, [], Some, None, refl, sym, ◌∙◌, ap, subst, arith, eqb}
+use Rattle.std.proofs.lemmas.Bool.{eqb-true, eqb-false}
+use Rattle.run_script.specs.Scripts.{events_of}
+use Rattle.kernel_abi.specs.declared.Note.{Note}
+use Rattle.task_table.specs.State.{Setup, State, Turn}
+use Rattle.task_table.specs.Reading.{chosen}
+use Rattle.task_table.specs.Holds.{setup_of, current_of}
+use Rattle.task_table.specs.Start.{begun}
+use Rattle.board_core.specs.declared.board.Board.{Board}
+use Rattle.board_core.specs.declared.machine.Machine.{Machine}
+use Rattle.board_core.specs.declared.choice.Choice.{Choice}
+use Rattle.board_core.specs.declared.told.Level.{Level}
+use Rattle.board_core.specs.Script.{Scenario}
+use Rattle.board_core.specs.Kept.{IsChoice}
+use Rattle.board_core.specs.Machine.{MachineHolds, MachineStands, IsReady}
+use Rattle.board_core.specs.Midway.{IsMidway}
+use Rattle.board_core.specs.Stands.{Stands, notes_of, turns_of}
+use Rattle.board_core.specs.Turn.{turn}
+use Rattle.board_core.specs.Run.{ending, is_down}
+use Rattle.board_core.specs.Advanced.{turn_after, IsAdvanced}
+use Rattle.board_core.proofs.TurnKeeps.{begun_sane}
+use Rattle.board_core.proofs.Lending.{told_by, rest_of}
+use Rattle.board_core.proofs.Outside.{nothing_due, due_later, no_event, begun_state}
+use Rattle.board_core.proofs.Turning.{rested}
+
+-- what a machine holds is of its kernel's setup
+pub setup_seen : (g : Setup) (m : Machine) (t : Turn) → MachineHolds g m t → setup_of m.reach.kernel ≡ g
+setup_seen g m t h = (told_by m.lent g m.reach.kernel m.processor t h).holds.setup
+
+pub current_seen : (g : Setup) (m : Machine) (t : Turn) → IsReady g m t → current_of m.reach.kernel ≡ t.state.current
+current_seen g m t r = let rest = rest_of r.holds.saved t m.processor r.holds.is in r.holds.holds.current ∙ sym rest.current
+
+-- ## a turn in which nothing is due
+
+rested_begun : (x : Scenario) (s : State) (b : Board) → notes_of b ≡ [] → MachineHolds x.setup b.machine (rested b.machine s) → MachineHolds x.setup b.machine (begun s)
+unfolding begun
+rested_begun x s b none h =
+    let P : List Note → Type 0 = λ ns. MachineHolds x.setup b.machine record { state = s; notes = ns; writes = []; reads = [] } in
+    subst P none h
+
+-- a board whose last turn noted nothing, and that has no event now, has begun its turn
+pub midway_now : (x : Scenario) (s : State) (b : Board) → Stands x b s → notes_of b ≡ [] → b.due ≢ Some (turns_of b) → turns_of b < 1000000000 → IsMidway x b s
+midway_now x s b st none ne few =
+    let at = st.holds.turns in
+    let later : b.due ≢ Some s.turn = λ e. ne (e ∙ ap Some (sym at)) in
+    let small : s.turn < 1000000000 = rw at at few in
+    let nothing : events_of x.script s.turn ≡ [] = nothing_due x.script s.turn b.due small st.holds.due later in
+    let A : Turn → Type 0 = λ t. MachineStands x.setup b.machine t in
+    let C : State → Type 0 = λ u. IsChoice x.setup u b.choice in
+    let same = sym (begun_state s) ∙ ap (λ (t : Turn). t.state) (no_event x s nothing) in
+    record {
+      machine = subst A (no_event x s nothing) record { holds = rested_begun x s b none st.holds.machine; sane = begun_sane x.setup s st.sane };
+      choice = subst C same st.holds.choice;
+      script = st.holds.script;
+      due = due_later x.script s.turn b.due st.holds.due later;
+    }
+
+-- ## several turns
+
+-- where a task is chosen and the supervisor has not faulted, the run goes on
+pub chosen_goes : (x : Scenario) (s : State) (c : Choice) (task : ℕ) → IsChoice x.setup s c → c.next ≡ Some task → c.down ≡ false → ending x 1 s ≡ None
+unfolding ending
+chosen_goes x s c task is next up =
+    let down : is_down s ≡ false = sym is.down ∙ up in
+    let some : chosen x.setup s ≡ Some task = sym is.next ∙ next in
+    rw (down, some) refl
+
+pub first_turn : (level : Level) (x : Scenario) (s : State) (b : Board) → Stands x b (turn level x s).state → notes_of b ≡ (turn level x s).notes → IsAdvanced level x 0 s b
+unfolding turn_after
+first_turn level x s b st notes = record { nothing = λ k lt. absurd (omega arith); goes_on = λ k lt. absurd (omega arith); stands = st; notes = notes }
+
+-- either below the last one, or the last one
+below_or : (P : ℕ → Type 0) (m k : ℕ) → ((j : ℕ) → j < m → P j) → P m → k < suc m → P k
+below_or P m k f last lt = by_last (eqb k m) refl
+  where
+    by_last : (b : Bool) → eqb k m ≡ b → P k
+    by_last true e = subst P (sym (eqb-true k m e)) last
+    by_last false e = f k (omega (arith, eqb-false k m e))
+
+pub one_more : (level : Level) (x : Scenario) (n : ℕ) (s : State) (b b' : Board) → IsAdvanced level x n s b → notes_of b ≡ [] → ending x 1 (turn_after level x n s).state ≡ None →
+    ((u : State) → Stands x b u → Stands x b' (turn level x u).state) → ((u : State) → Stands x b u → notes_of b' ≡ (turn level x u).notes) → IsAdvanced level x (suc n) s b'
+unfolding turn_after
+one_more level x n s b b' a none goes stands notes =
+    record {
+      nothing = λ k lt. below_or (λ j. (turn_after level x j s).notes ≡ []) n k a.nothing (sym a.notes ∙ none) lt;
+      goes_on = λ k lt. below_or (λ j. ending x 1 (turn_after level x j s).state ≡ None) n k a.goes_on goes lt;
+      stands = stands (turn_after level x n s).state a.stands;
+      notes = notes (turn_after level x n s).state a.stands;
+    }

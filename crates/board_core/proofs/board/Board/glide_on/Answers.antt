@@ -1,0 +1,56 @@
+use Rattle.std.proofs.Common.{◌≡◌, ◌+◌, ◌-◌, ℕ, suc, [], sym, refl, ◌∙◌, ap, subst, arith}
+use Rattle.task_table.specs.State.{Setup, State}
+use Rattle.task_table.specs.Reading.{setup_at}
+use Rattle.task_table.specs.Holds.{setup_of}
+use Rattle.board_core.specs.declared.choice.Choice.{Choice}
+use Rattle.board_core.specs.declared.told.Level.TheVariants.{Calls}
+use Rattle.board_core.specs.Script.{Scenario}
+use Rattle.board_core.specs.Stands.{notes_of, turns_of}
+use Rattle.board_core.specs.Texts.{GivesText}
+use Rattle.board_core.specs.Turn.{turn}
+use Rattle.board_core.specs.Advanced.{turn_after, IsAdvanced}
+use Rattle.board_core.proofs.Turning.{empty_of}
+use Rattle.board_core.proofs.Gliding.{setup_seen, chosen_goes, one_more}
+use Rattle.board_core.proofs.board.Board.glide_on.Goals as goal
+
+pub turns-init : goal.turns-init
+turns-init c =
+    record {
+      advanced = λ x n s a. let e : n ≡ n + (turns_of c.args.self.now - turns_of c.args.self.now) = omega arith in subst (λ (m : ℕ). IsAdvanced Calls x m s c.args.self.now) e a;
+      stood = c.requires.stood;
+      text = c.text-text.ensures;
+      from = omega arith;
+      within = c.requires.left;
+      due = refl;
+      kept = λ none. refl;
+    }
+
+pub turns-preserved : goal.turns-preserved
+turns-preserved c =
+    let inv = c.turns.invariant in
+    let b = c.turns.self in
+    let b' = c.go_on.new.self in
+    let none : notes_of b ≡ [] = sym c.notes.ensures ∙ empty_of c.notes.result.now (sym c.is_empty.ensures ∙ c.if-is_empty.true) in
+    let x0 : Scenario = inv.stood.0 in
+    let s0 : State = inv.stood.1 in
+    let st0 = inv.stood.2 in
+    let st1 = c.go_on.ensures.model x0 s0 st0 in
+    let setup : setup_of b.machine.reach.kernel ≡ setup_of b'.machine.reach.kernel = setup_seen x0.setup b.machine _ st0.holds.machine ∙ sym (setup_seen x0.setup b'.machine _ st1.holds.machine) in
+    let P : Setup → Type 0 = λ g. GivesText (setup_at g c.args.task).regions c.text-text.result in
+    let choice : b.choice ≡ c.args.self.now.choice = inv.kept none in
+    record {
+      advanced = λ x n s a.
+          let m : ℕ = n + (turns_of b - turns_of c.args.self.now) in
+          let before = inv.advanced x n s a in
+          let goes = chosen_goes x (turn_after Calls x m s).state b.choice c.args.task before.stands.holds.choice (ap (λ (k : Choice). k.next) choice ∙ c.requires.next) (ap (λ (k : Choice). k.down) choice ∙ c.requires.up) in
+          let from = inv.from in
+          let more = c.go_on.ensures.turns in
+          let e : suc m ≡ n + (turns_of b' - turns_of c.args.self.now) = omega (arith, from, more) in
+          subst (λ (k : ℕ). IsAdvanced Calls x k s b') e (one_more Calls x m s b b' before none goes (λ u st. c.go_on.ensures.model x u st) (λ u st. c.go_on.ensures.notes x u st));
+      stood = (x0, (turn Calls x0 s0).state, st1);
+      text = subst P setup inv.text;
+      from = omega (arith, inv.from, c.go_on.ensures.turns);
+      within = omega (arith, c.turns-test.true, c.quiet_until-until.ensures.within, c.go_on.ensures.turns);
+      due = c.go_on.ensures.due ∙ inv.due;
+      kept = λ after. c.go_on.ensures.kept after ∙ choice;
+    }

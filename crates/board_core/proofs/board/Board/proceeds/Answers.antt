@@ -1,0 +1,90 @@
+use Rattle.std.proofs.Common.{◌≡◌, ◌+◌, ℕ, true, [], Option, Some, refl, sym, ◌∙◌, subst, arith}
+use Rattle.run_script.specs.Scripts.{IsNext}
+use Rattle.task_table.specs.State.{Setup, State, Turn}
+use Rattle.task_table.specs.Holds.{current_of, notes_of}
+use Rattle.board_core.specs.declared.board.Board.{Board}
+use Rattle.board_core.specs.declared.machine.Machine.{Machine}
+use Rattle.board_core.specs.declared.told.Level.TheVariants.{Calls}
+use Rattle.board_core.specs.Machine.{MachineHolds, IsReady}
+use Rattle.board_core.specs.Midway.{IsMidway}
+use Rattle.board_core.specs.Script.{Scenario}
+use Rattle.board_core.specs.Stands.{Stands, turns_of}
+use Rattle.board_core.specs.Texts.{IsText}
+use Rattle.board_core.specs.Turn.{turn, turn_of, stepped, with_current, with_registers_told, after_events}
+use Rattle.board_core.proofs.Counts.{counted_turn, turn_more}
+use Rattle.board_core.proofs.Lending.{is_lent}
+use Rattle.board_core.proofs.Turning.{as_chosen, stands_after, turn_notes, choice_kept, few_events, HasTurned, none_of}
+use Rattle.board_core.proofs.Gliding.{midway_now, current_seen}
+use Rattle.board_core.proofs.board.Board.proceeds.Goals as goal
+
+-- where the processor is lent, the machine is ready for its task
+ready_now : (x : Scenario) (s : State) (b : Board) → IsMidway x b s → b.machine.lent ≡ true → IsReady x.setup b.machine (after_events x s)
+ready_now x s b mid lent = record { lent = lent; holds = is_lent _ x.setup _ _ (after_events x s) lent mid.machine.holds; sane = mid.machine.sane }
+
+-- the instruction of the current task is the turn of the chosen one, where these are the same
+stepped_so : (g : Setup) (m : Machine) (t : Turn) (task : ℕ) → t.state.current ≡ task → MachineHolds g m (stepped Calls g t.state.current t) → MachineHolds g m (turn_of Calls g (Some task) t)
+unfolding with_registers_told
+stepped_so g m t task e h =
+    let P : ℕ → Type 0 = λ i. MachineHolds g m (stepped Calls g i (with_current i t)) in
+    subst P e h
+
+turned_so : (x : Scenario) (s : State) (b : Board) (m : Machine) (task : ℕ) → IsMidway x b s → b.choice.next ≡ Some task → MachineHolds x.setup m (turn_of Calls x.setup (Some task) (after_events x s)) → HasTurned Calls x s m
+turned_so x s b m task mid e h =
+    let P : Option ℕ → Type 0 = λ o. MachineHolds x.setup m (turn_of Calls x.setup o (after_events x s)) in
+    as_chosen Calls x s m b.choice mid.choice (subst P (sym e) h)
+
+-- what a machine has come to that went on with the current task
+gone : (x : Scenario) (s : State) (b : Board) (m : Machine) (task : ℕ) → IsMidway x b s → b.machine.lent ≡ true → current_of b.machine.reach.kernel ≡ task → b.choice.next ≡ Some task →
+    ((g : Setup) (t : Turn) → IsReady g b.machine t → MachineHolds g m (stepped Calls g t.state.current t)) → HasTurned Calls x s m
+gone x s b m task mid lent current next done =
+    let ready = ready_now x s b mid lent in
+    let same : (after_events x s).state.current ≡ task = sym (current_seen x.setup b.machine (after_events x s) ready) ∙ current in
+    turned_so x s b m task mid next (stepped_so x.setup m (after_events x s) task same (done x.setup (after_events x s) ready))
+
+-- the board after such a turn, which noted nothing
+stands_so : (x : Scenario) (s : State) (b : Board) (m : Machine) (n : ℕ) → Stands x b s → IsMidway x b s → HasTurned Calls x s m → notes_of m.reach.kernel ≡ [] → n ≡ turns_of b + 1 →
+    Stands x record b { machine = m; turns = n } (turn Calls x s).state
+stands_so x s b m n st mid h none more =
+    let after = stands_after Calls x s m st.sane h in
+    let next = turn_more Calls x s in
+    let N : ℕ → Type 0 = λ from. IsNext x.script from b.due in
+    record {
+      holds = record {
+        machine = after.holds;
+        turns = let a = st.holds.turns in omega (arith, next, a, more);
+        choice = choice_kept Calls x s m b.choice st.sane h mid.choice none;
+        script = mid.script;
+        due = subst N (sym next) mid.due;
+      };
+      sane = after.sane;
+      counted = counted_turn Calls x s (few_events x s b st) st.counted;
+    }
+
+pub proceeds-requires-clause-ready : goal.proceeds-requires-clause-ready
+proceeds-requires-clause-ready c =
+    let x = c.requires.stood.0 in
+    let s = c.requires.stood.1 in
+    let b = c.args.self.now in
+    let mid = midway_now x s b c.requires.stood.2 c.requires.nothing c.requires.later c.requires.few in
+    (x.setup, after_events x s, ready_now x s b mid (c.is_lent_to.ensures.lent c.if-not-is_lent_to.false))
+
+pub proceeds-requires-clause-text : goal.proceeds-requires-clause-text
+proceeds-requires-clause-text c =
+    let k = c.args.self.now.machine.reach.kernel in
+    subst (λ (i : ℕ). IsText k i c.args.text.now) (sym (c.is_lent_to.ensures.current c.if-not-is_lent_to.false)) c.requires.text
+
+pub returns-clause-model : goal.returns-clause-model
+returns-clause-model c = λ done x s st.
+    let b = c.args.self.now in
+    let m = c.proceeds.new.self in
+    let mid = midway_now x s b st c.requires.nothing c.requires.later c.requires.few in
+    let h = gone x s b m c.args.task mid (c.is_lent_to.ensures.lent c.if-not-is_lent_to.false) (c.is_lent_to.ensures.current c.if-not-is_lent_to.false) c.requires.next (c.proceeds.ensures.done c.if-not-proceeds.false) in
+    stands_so x s b m (turns_of b + 1) st mid h (none_of b.machine m c.requires.nothing (c.proceeds.ensures.count c.if-not-proceeds.false)) refl
+
+pub returns-clause-notes : goal.returns-clause-notes
+returns-clause-notes c = λ done x s st.
+    let b = c.args.self.now in
+    let m = c.proceeds.new.self in
+    let mid = midway_now x s b st c.requires.nothing c.requires.later c.requires.few in
+    let h = gone x s b m c.args.task mid (c.is_lent_to.ensures.lent c.if-not-is_lent_to.false) (c.is_lent_to.ensures.current c.if-not-is_lent_to.false) c.requires.next (c.proceeds.ensures.done c.if-not-proceeds.false) in
+    turn_notes Calls x s m h
