@@ -13,7 +13,9 @@ use Rattle.board_core.specs.declared.told.Level.{Level}
 use Rattle.board_core.specs.declared.told.End.TheVariants.{Bound, Still, Supervisor}
 use Rattle.board_core.specs.Script.{Scenario}
 use Rattle.board_core.specs.Turn.{turn}
-use Rattle.board_core.specs.Stands.{Stands, turns_of}
+use Rattle.board_core.specs.Stands.{Stands, notes_of, turns_of}
+use Rattle.board_core.specs.Advanced.{turn_after, IsAdvanced}
+use Rattle.board_core.proofs.Counts.{turn_more}
 use Rattle.board_core.specs.Told.{end_at}
 use Rattle.board_core.specs.Run.{Run, run, ending, end_by, is_down, is_still, unless, ended_at, with_front, at_turn}
 use Rattle.outside_io.specs.Outside.{AppendsFront, Pushes}
@@ -60,6 +62,15 @@ goes_on : (x : Scenario) (s : State) (left more : ℕ) → ending x left s ≡ N
 unfolding ending
 goes_on x s left more is = goes_by (is_down s) (is_still x s) left more is
 
+-- the turn number after n turns and one more
+turns_after : (level : Level) (x : Scenario) (n : ℕ) (t : State) → (turn_after level x n t).state.turn ≡ t.turn + suc n
+unfolding turn_after
+turns_after level x zero t = let more = turn_more level x t in omega (arith, more)
+turns_after level x (suc n) t =
+    let more = turn_more level x (turn_after level x n t).state in
+    let before = turns_after level x n t in
+    omega (arith, more, before)
+
 fronts : (a b : List (ℕ × Note)) (r : Run) → with_front a (with_front b r) ≡ with_front (a ++ b) r
 fronts a b r = ap (λ (ns : List (ℕ × Note)). record r { notes = ns }) (sym (append_assoc a b r.notes))
 
@@ -86,54 +97,81 @@ midway_start level x w s b st =
       rest = λ left. let e : s.turn - s.turn + left ≡ left = omega arith in ap (λ (k : ℕ). run level x k s) e;
     }
 
--- what is known of one more turn: it was to be made, the board stands for the state after it, and tells its notes
-pub record IsTurned (level : Level) (x : Scenario) (b b' : Board) (notes : List Note) : Type 0 where
+-- with no notes before it, a run is itself
+no_front : (r : Run) → with_front [] r ≡ r
+no_front r = refl
+
+-- n turns that note nothing, and one more: the run goes on with the notes of that one
+run_advances : (level : Level) (x : Scenario) (left n : ℕ) (t : State) → ending x 1 t ≡ None → ((k : ℕ) → k < n → (turn_after level x k t).notes ≡ []) → ((k : ℕ) → k < n → ending x 1 (turn_after level x k t).state ≡ None) →
+    run level x (n + suc left) t ≡ with_front (at_turn (t.turn + n) (turn_after level x n t).notes) (run level x left (turn_after level x n t).state)
+unfolding turn_after
+run_advances level x left zero t goes none on =
+    let e : t.turn ≡ t.turn + 0 = omega arith in
+    let z : 0 + suc left ≡ suc left = omega arith in
+    ap (λ (m : ℕ). run level x m t) z ∙ run_goes level x left t (goes_on x t 1 left goes) ∙ ap (λ (k : ℕ). with_front (at_turn k (turn level x t).notes) (run level x left (turn level x t).state)) e
+run_advances level x left (suc n) t goes none on =
+    let u : State = (turn_after level x n t).state in
+    let k : suc n + suc left ≡ n + suc (suc left) = omega arith in
+    let at : u.turn ≡ t.turn + suc n = turns_after level x n t in
+    ap (λ (m : ℕ). run level x m t) k
+    ∙ run_advances level x (suc left) n t goes (λ k lt. none k (omega (arith, lt))) (λ k lt. on k (omega (arith, lt)))
+    ∙ ap (λ (ns : List Note). with_front (at_turn (t.turn + n) ns) (run level x (suc left) u)) (none n (omega arith))
+    ∙ no_front (run level x (suc left) u)
+    ∙ run_goes level x left u (goes_on x u 1 left (on n (omega arith)))
+    ∙ ap (λ (m : ℕ). with_front (at_turn m (turn level x u).notes) (run level x left (turn level x u).state)) at
+
+-- what is known of further turns: they were to be made, the board stands for the state after them, and tells the
+-- notes of the last, before which n noted nothing
+pub record IsTurned (level : Level) (x : Scenario) (n : ℕ) (b b' : Board) (notes : List Note) : Type 0 where
   pub goes : (t : State) → Stands x b t → ending x 1 t ≡ None
-  pub stands : (t : State) → Stands x b t → Stands x b' (turn level x t).state
-  pub tells : (t : State) → Stands x b t → notes ≡ (turn level x t).notes
-  pub turns : turns_of b' ≡ turns_of b + 1
+  pub advanced : (t : State) → Stands x b t → IsAdvanced level x n t b'
+  pub tells : notes ≡ notes_of b'
+  pub turns : turns_of b' ≡ turns_of b + n + 1
 
 -- the run by the notes so far, those of this turn, and the rest
-turn_rest : (level : Level) (x : Scenario) (w w' : Option (List ℕ)) (s : State) (b b' : Board) (notes : List Note) → IsTurned level x b b' notes → (m : Midway level x w w' s b) →
+turn_rest : (level : Level) (x : Scenario) (n : ℕ) (w w' : Option (List ℕ)) (s : State) (b b' : Board) (notes : List Note) → IsTurned level x n b b' notes → (m : Midway level x w w' s b) →
     let t : State = m.here in
-    let next : State = (turn level x t).state in
-    (s.turn ≤ next.turn) × ((left : ℕ) → run level x (next.turn - s.turn + left) s ≡ with_front (m.front ++ at_turn t.turn (turn level x t).notes) (run level x left next))
-turn_rest level x w w' s b b' notes h m =
+    let next : State = (turn_after level x n t).state in
+    (s.turn ≤ next.turn) × ((left : ℕ) → run level x (next.turn - s.turn + left) s ≡ with_front (m.front ++ at_turn (t.turn + n) (turn_after level x n t).notes) (run level x left next))
+turn_rest level x n w w' s b b' notes h m =
     let t : State = m.here in
-    let next : State = (turn level x t).state in
+    let a = h.advanced t m.stands in
+    let next : State = (turn_after level x n t).state in
     let at : t.turn ≡ turns_of b = turns_seen x b t m.stands in
-    let at' : next.turn ≡ turns_of b' = turns_seen x b' next (h.stands t m.stands) in
-    let more : next.turn ≡ t.turn + 1 = omega (arith, h.turns) in
+    let at' : next.turn ≡ turns_of b' = turns_seen x b' next a.stands in
+    let more : next.turn ≡ t.turn + n + 1 = omega (arith, h.turns) in
     let le : s.turn ≤ t.turn = m.after in (
       omega arith,
       λ left.
-          let k : next.turn - s.turn + left ≡ t.turn - s.turn + suc left = omega arith in
-          ap (λ (n : ℕ). run level x n s) k ∙ m.rest (suc left)
-          ∙ ap (with_front m.front) (run_goes level x left t (goes_on x t 1 left (h.goes t m.stands)))
-          ∙ fronts m.front (at_turn t.turn (turn level x t).notes) (run level x left next),
+          let k : next.turn - s.turn + left ≡ t.turn - s.turn + (n + suc left) = omega arith in
+          ap (λ (i : ℕ). run level x i s) k ∙ m.rest (n + suc left)
+          ∙ ap (with_front m.front) (run_advances level x left n t (h.goes t m.stands) a.nothing a.goes_on)
+          ∙ fronts m.front (at_turn (t.turn + n) (turn_after level x n t).notes) (run level x left next),
     )
 
 -- the notes that a board tells are those of the turn
-told_notes : (level : Level) (x : Scenario) (w w' : Option (List ℕ)) (s : State) (b b' : Board) (notes : List Note) → IsTurned level x b b' notes → (m : Midway level x w w' s b) →
-    at_turn (turns_of b) notes ≡ at_turn m.here.turn (turn level x m.here).notes
-told_notes level x w w' s b b' notes h m =
-    ap (λ (n : ℕ). at_turn n notes) (sym (turns_seen x b m.here m.stands)) ∙ ap (at_turn m.here.turn) (h.tells m.here m.stands)
+told_notes : (level : Level) (x : Scenario) (n at : ℕ) (w w' : Option (List ℕ)) (s : State) (b b' : Board) (notes : List Note) → IsTurned level x n b b' notes → at + 1 ≡ turns_of b' → (m : Midway level x w w' s b) →
+    at_turn at notes ≡ at_turn (m.here.turn + n) (turn_after level x n m.here).notes
+told_notes level x n at w w' s b b' notes h last m =
+    let here : m.here.turn ≡ turns_of b = turns_seen x b m.here m.stands in
+    let e : at ≡ m.here.turn + n = omega (arith, h.turns) in
+    ap (λ (i : ℕ). at_turn i notes) e ∙ ap (at_turn (m.here.turn + n)) (h.tells ∙ (h.advanced m.here m.stands).notes)
 
-pub midway_turn : (level : Level) (x : Scenario) (before now after : Option (List ℕ)) (s : State) (b b' : Board) (notes : List Note) → IsTurned level x b b' notes →
-    Appends now after (notes_text (at_turn (turns_of b) notes)) → Midway level x before now s b → Midway level x before after s b'
-midway_turn level x before now after s b b' notes h pushed m =
+pub midway_turn : (level : Level) (x : Scenario) (n at : ℕ) (before now after : Option (List ℕ)) (s : State) (b b' : Board) (notes : List Note) → IsTurned level x n b b' notes → at + 1 ≡ turns_of b' →
+    Appends now after (notes_text (at_turn at notes)) → Midway level x before now s b → Midway level x before after s b'
+midway_turn level x n at before now after s b b' notes h last pushed m =
     let t : State = m.here in
-    let next : State = (turn level x t).state in
-    let new : List (ℕ × Note) = at_turn t.turn (turn level x t).notes in
-    let rest = turn_rest level x before now s b b' notes h m in
+    let next : State = (turn_after level x n t).state in
+    let new : List (ℕ × Note) = at_turn (t.turn + n) (turn_after level x n t).notes in
+    let rest = turn_rest level x n before now s b b' notes h m in
     let P : List (ℕ × Note) → Type 0 = λ ns. Appends now after (notes_text ns) in
     let Q : List ℕ → Type 0 = λ w. Appends before after w in
     record {
       front = m.front ++ new;
       here = next;
-      stands = h.stands t m.stands;
+      stands = (h.advanced t m.stands).stands;
       after = rest.0;
-      pushed = subst Q (sym (flat_map-append line_at m.front new)) (appends_more before now after (notes_text m.front) (notes_text new) m.pushed (subst P (told_notes level x before now s b b' notes h m) pushed));
+      pushed = subst Q (sym (flat_map-append line_at m.front new)) (appends_more before now after (notes_text m.front) (notes_text new) m.pushed (subst P (told_notes level x n at before now s b b' notes h last m) pushed));
       rest = rest.1;
     }
 
@@ -146,16 +184,17 @@ midway_board level x before now s b m =
     let P : State → Type 0 = λ t. Stands x b t in
     subst P (sym is) m.stands
 
-pub turned_board : (level : Level) (x : Scenario) (before now : Option (List ℕ)) (s : State) (b b' : Board) (notes : List Note) → IsTurned level x b b' notes → Midway level x before now s b → StandsMidway level x b' s
-turned_board level x before now s b b' notes h m =
+pub turned_board : (level : Level) (x : Scenario) (n : ℕ) (before now : Option (List ℕ)) (s : State) (b b' : Board) (notes : List Note) → IsTurned level x n b b' notes → Midway level x before now s b → StandsMidway level x b' s
+turned_board level x n before now s b b' notes h m =
     let t : State = m.here in
-    let next : State = (turn level x t).state in
-    let rest = turn_rest level x before now s b b' notes h m in
-    let at : next.turn ≡ turns_of b' = turns_seen x b' next (h.stands t m.stands) in
+    let stands = (h.advanced t m.stands).stands in
+    let next : State = (turn_after level x n t).state in
+    let rest = turn_rest level x n before now s b b' notes h m in
+    let at : next.turn ≡ turns_of b' = turns_seen x b' next stands in
     let k : turns_of b' - s.turn ≡ next.turn - s.turn + 0 = omega arith in
-    let is : (run level x (turns_of b' - s.turn) s).last ≡ next = ap (λ (n : ℕ). (run level x n s).last) k ∙ ap (λ (r : Run). r.last) (rest.1 0) ∙ run_stays level x next in
+    let is : (run level x (turns_of b' - s.turn) s).last ≡ next = ap (λ (i : ℕ). (run level x i s).last) k ∙ ap (λ (r : Run). r.last) (rest.1 0) ∙ run_stays level x next in
     let P : State → Type 0 = λ u. Stands x b' u in
-    subst P (sym is) (h.stands t m.stands)
+    subst P (sym is) stands
 
 -- ## the end
 
@@ -198,20 +237,19 @@ split a b r =
     ∙ ap (λ (w : List ℕ). notes_text a ++ w) (append_assoc (notes_text b) (notes_text r.notes) (end_text r.end r.last))
 
 -- a failure among the notes of a turn
-pub midway_fails : {T E : Type 0} (level : Level) (x : Scenario) (limit : ℕ) (before now after : Option (List ℕ)) (s : State) (b b' : Board) (notes : List Note) (r : Result T E) (d : E) → r ≡ Err d →
-    turns_of b < limit → IsTurned level x b b' notes → AppendsFront now after (notes_text (at_turn (turns_of b) notes)) →
+pub midway_fails : {T E : Type 0} (level : Level) (x : Scenario) (n at limit : ℕ) (before now after : Option (List ℕ)) (s : State) (b b' : Board) (notes : List Note) (r : Result T E) (d : E) → r ≡ Err d →
+    turns_of b' ≤ limit → IsTurned level x n b b' notes → at + 1 ≡ turns_of b' → AppendsFront now after (notes_text (at_turn at notes)) →
     Midway level x before now s b → Pushes before after (trace_text (run level x (limit - s.turn) s)) r
-midway_fails {T} {E} level x limit before now after s b b' notes r d failed lt h pushed m =
+midway_fails {T} {E} level x n at limit before now after s b b' notes r d failed le h last pushed m =
     let t : State = m.here in
-    let next : State = (turn level x t).state in
-    let new : List (ℕ × Note) = at_turn t.turn (turn level x t).notes in
-    let rest = turn_rest level x before now s b b' notes h m in
-    let at : next.turn ≡ turns_of b' = turns_seen x b' next (h.stands t m.stands) in
-    let more : turns_of b' ≡ turns_of b + 1 = h.turns in
+    let next : State = (turn_after level x n t).state in
+    let new : List (ℕ × Note) = at_turn (t.turn + n) (turn_after level x n t).notes in
+    let rest = turn_rest level x n before now s b b' notes h m in
+    let there : next.turn ≡ turns_of b' = turns_seen x b' next (h.advanced t m.stands).stands in
     let from : s.turn ≤ next.turn = rest.0 in
     let k : limit - s.turn ≡ next.turn - s.turn + (limit - next.turn) = omega arith in
     let is : trace_text (run level x (limit - s.turn) s) ≡ notes_text m.front ++ (notes_text new ++ trace_text (run level x (limit - next.turn) next)) =
-    ap (λ (n : ℕ). trace_text (run level x n s)) k ∙ ap trace_text (rest.1 (limit - next.turn)) ∙ split m.front new (run level x (limit - next.turn) next) in
+    ap (λ (i : ℕ). trace_text (run level x i s)) k ∙ ap trace_text (rest.1 (limit - next.turn)) ∙ split m.front new (run level x (limit - next.turn) next) in
     let P : List (ℕ × Note) → Type 0 = λ ns. AppendsFront now after (notes_text ns) in
     part_fails before now after (notes_text m.front) (notes_text new) (trace_text (run level x (limit - next.turn) next)) (trace_text (run level x (limit - s.turn) s)) r d failed is m.pushed
-    (subst P (told_notes level x before now s b b' notes h m) pushed)
+    (subst P (told_notes level x n at before now s b b' notes h last m) pushed)

@@ -69,8 +69,7 @@ pub fn run<S: Sink>(board: &mut Board, limit: u32, level: Level, out: &mut S) ->
             }
             None => {}
         }
-        let turn = board.turns();
-        board.turn_at(level);
-        push_notes(turn, board.notes(), out)?;
+        board.advance(level, limit);
+        push_notes(board.turns() - 1, board.notes(), out)?;
     }
 }

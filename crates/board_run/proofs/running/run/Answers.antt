@@ -1,8 +1,8 @@
-use Rattle.std.proofs.Common.{sym, refl, arith, Ok, Err, ◌<◌}
+use Rattle.std.proofs.Common.{ℕ, ◌-◌, sym, refl, arith, Ok, Err}
 use Rattle.std.proofs.lemmas.Result.{err_from_is_err_and}
 use Rattle.outside_io.specs.declared.traits.Failed.{Failed}
 use Rattle.board_core.specs.declared.told.End.{End}
-use Rattle.board_core.specs.Turn.{turn}
+use Rattle.board_core.specs.Advanced.{turn_after}
 use Rattle.board_core.specs.Stands.{turns_of, notes_of}
 use Rattle.board_run.proofs.Going.{IsTurned, midway_start, midway_turn, midway_end, midway_fails, midway_board, turned_board, end_is}
 use Rattle.board_run.proofs.running.run.Goals as goal
@@ -42,21 +42,23 @@ returns-in-Some-clause-midway g c = λ x s st. midway_board c.args.level x _ _ s
 pub turns-preserved : goal.turns-preserved
 turns-preserved g c =
     let b = c.turns.board in
-    let b' = c.turn_at.new.self in
-    let lt : turns_of b < c.args.limit = c.in-None.ensures.left refl in
+    let b' = c.advance.new.self in
+    let n : ℕ = turns_of b' - turns_of b - 1 in
+    let more = c.advance.ensures.more in
     let stood = c.turns.invariant.stood in
-    let pushed = rw (c.turns-turn.ensures, c.notes.ensures) at c.in_ok-push_notes.ensures.bytes in
+    let a = c.advance.ensures.advanced stood.0 stood.1 stood.2 in
+    let pushed = rw (c.notes.ensures) at c.in_ok-push_notes.ensures.bytes in
     record {
       midway = λ x s st.
-          let h : IsTurned c.args.level x b b' (notes_of b') = record {
+          let h : IsTurned c.args.level x n b b' (notes_of b') = record {
             goes = λ t u. c.in-None.ensures.goes refl x t u;
-            stands = λ t u. c.turn_at.ensures.model x t u;
-            tells = λ t u. c.turn_at.ensures.notes x t u;
-            turns = c.turn_at.ensures.turns;
+            advanced = λ t u. c.advance.ensures.advanced x t u;
+            tells = refl;
+            turns = omega arith;
           } in
-          midway_turn c.args.level x _ _ _ s b b' (notes_of b') h pushed (c.turns.invariant.midway x s st);
-      stood = (stood.0, (turn c.args.level stood.0 stood.1).state, c.turn_at.ensures.model stood.0 stood.1 stood.2);
-      turns = omega (arith, lt, c.turn_at.ensures.turns);
+          midway_turn c.args.level x n _ _ _ _ s b b' (notes_of b') h (omega (arith, c.turns-in-turns.ensures)) pushed (c.turns.invariant.midway x s st);
+      stood = (stood.0, (turn_after c.args.level stood.0 n stood.1).state, a.stands);
+      turns = c.advance.ensures.within;
       later = omega (arith, c.turns.invariant.later, c.in_ok-push_notes.ensures.cause.later);
     }
 
@@ -64,25 +66,28 @@ pub returns-in_err-push_notes-clause-text : goal.returns-in_err-push_notes-claus
 returns-in_err-push_notes-clause-text g c = λ x s st.
     let p = err_from_is_err_and c.from_residual-in_err-push_notes.result c.from_residual-in_err-push_notes.ensures.1 in
     let b = c.turns.board in
-    let b' = c.turn_at.new.self in
-    let lt : turns_of b < c.args.limit = c.in-None.ensures.left refl in
-    let pushed = rw (c.turns-turn.ensures, c.notes.ensures) at c.in_err-push_notes.ensures.bytes in
-    let h : IsTurned c.args.level x b b' (notes_of b') = record {
+    let b' = c.advance.new.self in
+    let n : ℕ = turns_of b' - turns_of b - 1 in
+    let more = c.advance.ensures.more in
+    let pushed = rw (c.notes.ensures) at c.in_err-push_notes.ensures.bytes in
+    let h : IsTurned c.args.level x n b b' (notes_of b') = record {
       goes = λ t u. c.in-None.ensures.goes refl x t u;
-      stands = λ t u. c.turn_at.ensures.model x t u;
-      tells = λ t u. c.turn_at.ensures.notes x t u;
-      turns = c.turn_at.ensures.turns;
+      advanced = λ t u. c.advance.ensures.advanced x t u;
+      tells = refl;
+      turns = omega arith;
     } in
-    midway_fails c.args.level x c.args.limit _ _ _ s b b' (notes_of b') c.from_residual-in_err-push_notes.result p.0 p.1 lt h pushed (c.turns.invariant.midway x s st)
+    midway_fails c.args.level x n _ c.args.limit _ _ _ s b b' (notes_of b') c.from_residual-in_err-push_notes.result p.0 p.1 c.advance.ensures.within h (omega (arith, c.turns-in-turns.ensures)) pushed (c.turns.invariant.midway x s st)
 
 pub returns-in_err-push_notes-clause-midway : goal.returns-in_err-push_notes-clause-midway
 returns-in_err-push_notes-clause-midway g c = λ x s st.
     let b = c.turns.board in
-    let b' = c.turn_at.new.self in
-    let h : IsTurned c.args.level x b b' (notes_of b') = record {
+    let b' = c.advance.new.self in
+    let n : ℕ = turns_of b' - turns_of b - 1 in
+    let more = c.advance.ensures.more in
+    let h : IsTurned c.args.level x n b b' (notes_of b') = record {
       goes = λ t u. c.in-None.ensures.goes refl x t u;
-      stands = λ t u. c.turn_at.ensures.model x t u;
-      tells = λ t u. c.turn_at.ensures.notes x t u;
-      turns = c.turn_at.ensures.turns;
+      advanced = λ t u. c.advance.ensures.advanced x t u;
+      tells = refl;
+      turns = omega arith;
     } in
-    turned_board c.args.level x _ _ s b b' (notes_of b') h (c.turns.invariant.midway x s st)
+    turned_board c.args.level x n _ _ s b b' (notes_of b') h (c.turns.invariant.midway x s st)
