@@ -1,5 +1,5 @@
 -- Where the contents are told: a reason gives the one verdict, but that a file cannot be read.
-use Rattle.std.proofs.Common.{◌≡◌, ℕ, zero, suc, ◌<◌, ◌≤◌, ◌⊎◌, Bool, true, false, List, length, Option, Some, None, refl, sym, ap, subst, ◌∙◌, inl, inr, arith, cond}
+use Rattle.std.proofs.Common.{◌≡◌, ℕ, zero, suc, ◌<◌, ◌⊎◌, Bool, false, List, length, Option, Some, None, refl, sym, ap, subst, ◌∙◌, inl, inr, arith, cond}
 use Rattle.std.specs.Prelude.{slice_get}
 use Rattle.std.proofs.lemmas.Option.{same_Some}
 use Rattle.outside_io.specs.Outside.{WhereTold}
@@ -11,11 +11,11 @@ use Rattle.build_laws.proofs.OnePicture.{one_picture}
 use Rattle.trace_cli.specs.Contents.{Why, scenario_of}
 use Rattle.trace_cli.specs.Seen.{FilesSeen}
 use Rattle.trace_cli.specs.Words.{job_in}
-use Rattle.trace_cli.specs.Sources.{File, files_by, MayBe, Are, Takes, Reaches, TakesAll, IsBuilt, IsRun, IsListing, IsBuild, described, sources_in, script_in}
+use Rattle.trace_cli.specs.Sources.{File, files_by, MayBe, Are, Reaches, TakesAll, IsBuilt, IsRun, IsListing, IsBuild, described, sources_in, script_in}
 use Rattle.trace_cli.specs.Verdict as verdict
 use Rattle.trace_cli.specs.Verdict.{Verdict, IsVerdict, Does, runs, lists, builds, usage, refused, unread, ran, listed, built}
 use Rattle.trace_cli.specs.Answer.{Reason, cannot_read, refuses, does, IsUnread, IsRefused, Ground, no_job, of_job}
-use Rattle.trace_cli.proofs.Lists.{get_below, is_below}
+use Rattle.trace_cli.proofs.Lists.{is_below}
 use Rattle.trace_cli.proofs.Agreeing.{same_files, told_further, may_further, same_contents}
 
 -- ## what is done with files is one thing

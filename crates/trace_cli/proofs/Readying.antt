@@ -1,6 +1,6 @@
 -- From the files of a job to its answer.
-use Rattle.std.proofs.Common.{◌≡◌, ℕ, zero, suc, ◌<◌, ◌≤◌, Bool, List, [], ◌∷◌, ◌++◌, length, take, drop, get_or, Option, Some, None, refl, sym, ap, subst, ◌∙◌, arith, inl, inr, string_bytes}
-use Rattle.std.specs.Prelude.{slice_get, slice_index_or}
+use Rattle.std.proofs.Common.{◌≡◌, ℕ, suc, ◌≤◌, List, [], ◌∷◌, ◌++◌, length, take, get_or, Option, Some, None, refl, sym, ap, subst, ◌∙◌, arith, inl, inr, string_bytes}
+use Rattle.std.specs.Prelude.{slice_get}
 use Rattle.image_format.specs.Picture.{Picture}
 use Rattle.image_build.specs.Built.{Built}
 use Rattle.task_table.specs.Start.{start}
@@ -12,11 +12,11 @@ use Rattle.command_line.specs.CommandLine.{Asked, build, run, go, list}
 use Rattle.command_line.specs.declared.job.Detail.{Detail}
 use Rattle.trace_cli.specs.declared.stops.Halt.{Halt}
 use Rattle.trace_cli.specs.declared.stops.Halt.TheVariants as halts
-use Rattle.trace_cli.specs.Contents.{Why, scenario_of, picture_of, application_of}
+use Rattle.trace_cli.specs.Contents.{Why, scenario_of, application_of}
 use Rattle.trace_cli.specs.Seen.{FilesSeen, SinkSeen}
-use Rattle.trace_cli.specs.Sources.{File, image_file, script_file, files_to_build, files_by, first_of, MayBe, Takes, TakesAll, IsBuilt, IsRun, described, sources_in, script_in, task_count}
+use Rattle.trace_cli.specs.Sources.{File, image_file, script_file, files_to_build, first_of, MayBe, Takes, IsBuilt, script_in}
 use Rattle.trace_cli.specs.Stops.{HaltsAt}
-use Rattle.trace_cli.specs.Building.{TakesEach, HaltsAfter, IsImage, HaltsInApp}
+use Rattle.trace_cli.specs.Building.{IsImage, HaltsInApp}
 use Rattle.trace_cli.specs.Ready.{IsImageFile, IsSet, IsReady, Halts}
 use Rattle.trace_cli.specs.Told.{Pushed, whole, cut, Says, pushed, silent, IsSilent, SaysHalt}
 use Rattle.trace_cli.specs.Verdict.{Verdict, runs, lists, builds, refused, unread, ran, listed, built}

@@ -1,6 +1,6 @@
 -- Why an application or a source is refused, by what its builder says.
-use Rattle.std.proofs.Common.{◌≡◌, ℕ, ◌<◌, ◌≤◌, ◌++◌, Bool, true, false, List, length, Option, Some, None, refl, sym, ap, subst, ◌∙◌, arith, cond, nat_lt, ltb, codes}
-use Rattle.std.specs.Prelude.{decimal, option_map, Result, Ok, Err}
+use Rattle.std.proofs.Common.{◌≡◌, ℕ, ◌≤◌, ◌++◌, true, false, List, length, Option, Some, None, refl, sym, ap, ◌∙◌, arith, ltb, codes}
+use Rattle.std.specs.Prelude.{decimal, option_map, Ok, Err}
 use Rattle.std.proofs.lemmas.Bool.Decides.{nat_tests}
 use Rattle.app_toml.specs.Apps.{AppData}
 use Rattle.app_toml.specs.Reading.{read_app}
@@ -9,11 +9,11 @@ use Rattle.thumb_asm.specs.declared.Cause.{Cause}
 use Rattle.asm_laws.proofs.Sized.{image_sized}
 use Rattle.image_build.specs.Layout.{flash_base, flash_needed, ram_needed, task_at}
 use Rattle.image_build.specs.Built.{given}
-use Rattle.image_build.specs.Building.{HasRoom, LacksRoom, RefusesSource, IsTaken, IsTooLong, source_cause}
+use Rattle.image_build.specs.Building.{HasRoom, LacksRoom, RefusesSource, IsTaken, source_cause}
 use Rattle.image_build.specs.declared.fault.BuildFault.TheVariants as fault
 use Rattle.image_format.specs.Picture.{Picture, image_or_fault}
 use Rattle.run_script.specs.Scripts.{ScriptData, script_or_fault}
-use Rattle.trace_cli.specs.Contents.{Why, or_later, at_number, script_in, script_refusal, script_of, at_line, fault_in, app_in, image_in, unless_long, image_refusal, picture_of, application_of, app_refusal, room_refusal, told_need, source_refusal, code_refusal, code_length}
+use Rattle.trace_cli.specs.Contents.{Why, or_later, at_number, script_in, script_refusal, script_of, at_line, fault_in, app_in, image_in, image_refusal, picture_of, application_of, app_refusal, room_refusal, source_refusal, code_refusal, code_length}
 use Rattle.trace_cli.proofs.Stopping.{short}
 
 -- ## an image

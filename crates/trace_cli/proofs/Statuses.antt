@@ -1,21 +1,19 @@
 -- What each status says.
 use Rattle.std.proofs.Common.{◌≡◌, ◌≢◌, ℕ, ◌≤◌, ◌⊎◌, Bool, true, false, List, Option, Some, None, refl, sym, ap, subst, ◌∙◌, inl, inr, arith, cond}
 use Rattle.std.specs.Io.KnownBytes.{Appends}
-use Rattle.std.proofs.lemmas.Option.{same_Some}
-use Rattle.outside_io.specs.Outside.{WhereTold, Rose}
+use Rattle.outside_io.specs.Outside.{Rose}
 use Rattle.image_format.specs.Picture.{Picture, spelling}
 use Rattle.board_core.specs.declared.told.End.{End}
 use Rattle.board_core.specs.declared.told.End.TheVariants.{Bound, Still, Supervisor}
-use Rattle.board_core.specs.Script.{Scenario}
 use Rattle.command_line.specs.CommandLine.{Asked, build, run, go, list, is_taken, job_of}
 use Rattle.trace_cli.specs.Seen.{FilesSeen, SinkSeen}
 use Rattle.trace_cli.specs.Words.{job_in, out_of}
 use Rattle.trace_cli.specs.Sources.{IsBuild}
 use Rattle.trace_cli.specs.Verdict.{Verdict, IsVerdict, Does, runs, lists, builds, usage, usage_line, refused, unread, ran, listed, built, run_of, level_of, status_of}
-use Rattle.trace_cli.specs.Answer.{Reason, cannot_read, refuses, does, Ground, no_job, of_job, HasPut, HasSpoiled, IsShort, Tells, whole, cut, spoiled, short, AnswersJob, Answers, HasRun, HasListed, HasBuilt, HasDone, HasRefused, HasUnread, HasFront, Answered, IsComplete}
+use Rattle.trace_cli.specs.Answer.{Reason, cannot_read, refuses, does, Ground, no_job, of_job, HasPut, HasSpoiled, Tells, whole, cut, spoiled, short, AnswersJob, Answers, HasRun, HasDone, HasRefused, HasUnread, HasFront, Answered, IsComplete}
 use Rattle.trace_cli.specs.Told as told
 use Rattle.trace_cli.specs.Told.{Pushed, Says, pushed, silent}
-use Rattle.trace_cli.proofs.Deciding.{Decided, agreed, not_read, decided, no_job_in}
+use Rattle.trace_cli.proofs.Deciding.{Decided, agreed, not_read, decided}
 
 -- ## where the contents are told
 

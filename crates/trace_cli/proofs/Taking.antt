@@ -1,23 +1,22 @@
 -- The sources that a builder has taken, as files of its application.
 use Rattle.std.proofs.Common.{◌≡◌, ℕ, zero, suc, ◌+◌, ◌<◌, ◌≤◌, List, [], ◌∷◌, ◌++◌, length, get_or, map, Option, Some, None, refl, sym, ap, subst, ◌∙◌, arith, ◌⊎◌, inl, inr}
-use Rattle.std.specs.Prelude.{slice_get, slice_index_or, Ok}
+use Rattle.std.specs.Prelude.{slice_get, Ok}
 use Rattle.std.proofs.lemmas.Option.{same_Some}
 use Rattle.app_toml.specs.Apps.{AppData, TaskData}
 use Rattle.image_build.specs.Built.{Built, source_at}
 use Rattle.image_build.specs.Building.{IsTaken}
-use Rattle.image_build.specs.Layout.{no_task, task_at}
 use Rattle.image_build.specs.Taken.{HasTaken, described, next_task}
 use Rattle.image_build.specs.declared.builder.Builder.{Builder}
 use Rattle.app_toml.specs.Reading.{read_app}
 use Rattle.image_format.specs.Picture.{Picture, Sound}
-use Rattle.trace_cli.specs.Contents.{Why, source_refusal, app_refusal, application_of, room_refusal}
+use Rattle.trace_cli.specs.Contents.{source_refusal, app_refusal, application_of, room_refusal}
 use Rattle.trace_cli.specs.Seen.{FilesSeen}
 use Rattle.trace_cli.specs.Sources.{File, source_file, sources_from, source_files, files_to_build, app_file, first_of, MayBe, Takes}
 use Rattle.trace_cli.specs.Stops.{HaltsAt}
-use Rattle.trace_cli.specs.Building.{TakesEach, HaltsAfter, HasNext, HasAll, IsImageOf, IsImage, HaltsInSources, HaltsInApp}
+use Rattle.trace_cli.specs.Building.{HasNext, HasAll, IsImageOf, IsImage, HaltsInSources, HaltsInApp}
 use Rattle.trace_cli.specs.declared.stops.Halt.{Halt}
 use Rattle.trace_cli.specs.declared.stops.Halt.TheVariants as halts
-use Rattle.trace_cli.proofs.Lists.{at_end, longer, takes_none, takes_last, takes_first, get_below, is_below}
+use Rattle.trace_cli.proofs.Lists.{at_end, longer, takes_none, takes_last, takes_first}
 use Rattle.trace_cli.proofs.Refusals.{is_application, app_by_room}
 use Rattle.trace_cli.proofs.Stopping.{halts_earlier}
 use Rattle.std.proofs.lemmas.List.{take_all}

@@ -1,5 +1,5 @@
 -- The contents of a file: why they are refused, and what they say.
-use Rattle.std.specs.Prelude.{◌≡◌, ℕ, ◌^◌, ◌-◌, ◌==◌, min, nat_lt, if◌then◌else◌, List, [], ◌++◌, length, codes, decimal, Option, Some, None, option_map, Result, Ok, Err}
+use Rattle.std.specs.Prelude.{ℕ, ◌^◌, ◌-◌, min, nat_lt, if◌then◌else◌, List, [], ◌++◌, length, codes, decimal, Option, Some, None, option_map, Result, Ok, Err}
 use Rattle.app_toml.specs.Apps.{AppData}
 use Rattle.app_toml.specs.Reading.{read_app}
 use Rattle.text_lines.specs.Text.{lines_of}

@@ -1,5 +1,5 @@
 -- The files of a job, in the order in which they are taken.
-use Rattle.std.specs.Prelude.{◌≡◌, ℕ, ◌+◌, Bool, List, [], ◌∷◌, ◌++◌, length, drop, take, slice_get, slice_index_or, Option, Some, None}
+use Rattle.std.specs.Prelude.{◌≡◌, ℕ, ◌+◌, List, [], ◌∷◌, ◌++◌, length, drop, take, slice_get, slice_index_or, Option, Some, None}
 use Rattle.outside_io.specs.Outside.{WhereTold}
 use Rattle.app_toml.specs.Apps.{AppData, TaskData}
 use Rattle.image_format.specs.Picture.{Picture, Sound}

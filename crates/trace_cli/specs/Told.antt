@@ -1,5 +1,5 @@
 -- What is pushed of a verdict, and of a file that is not taken.
-use Rattle.std.specs.Prelude.{◌≡◌, ℕ, List, string_bytes}
+use Rattle.std.specs.Prelude.{◌≡◌, ℕ, string_bytes}
 use Rattle.std.specs.Io.KnownBytes.{Appends}
 use Rattle.outside_io.specs.Outside.{Rose, AppendsFront}
 use Rattle.trace_cli.specs.declared.stops.Halt.{Halt}

@@ -1,5 +1,5 @@
 -- What the program answers: a status, its text, and the file that it puts.
-use Rattle.std.specs.Prelude.{◌≡◌, ℕ, Bool, true, false, if◌then◌else◌, List, [], ◌∷◌, ◌++◌, length, codes, decimal, Option, Some, None}
+use Rattle.std.specs.Prelude.{◌≡◌, ℕ, Bool, false, if◌then◌else◌, List, [], ◌++◌, length, codes, decimal, Option, Some, None}
 use Rattle.serde_json.specs.Written.{compact_text}
 use Rattle.image_format.specs.Picture.{Picture, spelling}
 use Rattle.image_list.specs.Listing.{image_data}

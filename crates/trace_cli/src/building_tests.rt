@@ -1,37 +1,46 @@
 //! `build` and `go` over files in memory.
-use crate::hubris_main;
-use outside_io::{Files, MemFiles, MemSink};
+use crate::tests::{answers, hold};
+use outside_io::{Files, MemFiles};
 use std::alloc::{AllocError, Global};
 use std::process::Abort;
 use std::test::Fail;
 
-// An application of one task, with this board, this much of it for the task, and more after it.
-fn app_of(
-    alloc: Global,
-    (board_flash, board_ram): (u32, u32),
-    (flash, ram): (u32, u32),
-    more: &str,
-) -> Result<String, AllocError> {
-    let text = format!(in alloc;
-        "[board]\nflash = {board_flash}\nram = {board_ram}\n[supervisor]\nfault = \"fault\"\n[[task]]\nname = \"sup\"\nsource = \"sup.s\"\npriority = 0\nflash = {flash}\nram = {ram}\nstack = 64\nnotifications = [\"fault\"]\n{more}"
-    )?;
-    Ok(text)
-}
-
-const BOARD: (u32, u32) = (65536, 16384);
-
-const TASK: (u32, u32) = (256, 256);
-
-const OTHER: &str =
-    "[[task]]\nname = \"b\"\nsource = \"b.s\"\npriority = 1\nflash = 256\nram = 256\nstack = 64\n";
-
 const LOOP: &str = " movs r0, #1\nhere: b here\n";
 
-fn hold(files: &mut MemFiles, name: &str, bytes: &[u8]) -> Result<(), AllocError> {
-    if !files.is_held(name) {
-        files.hold(name, bytes, bytes.len())?;
+// An application of one task.
+const ALONE: &str =
+    "[board]\nflash = 65536\nram = 16384\n[supervisor]\nfault = \"fault\"\n[[task]]\nname = \"sup\"\nsource = \"sup.s\"\npriority = 0\nflash = 256\nram = 256\nstack = 64\nnotifications = [\"fault\"]\n";
+
+// The same, with more flash and more RAM for the task than the board has.
+const WIDE_FLASH: &str =
+    "[board]\nflash = 256\nram = 16384\n[supervisor]\nfault = \"fault\"\n[[task]]\nname = \"sup\"\nsource = \"sup.s\"\npriority = 0\nflash = 257\nram = 256\nstack = 64\nnotifications = [\"fault\"]\n";
+
+const WIDE_RAM: &str =
+    "[board]\nflash = 65536\nram = 256\n[supervisor]\nfault = \"fault\"\n[[task]]\nname = \"sup\"\nsource = \"sup.s\"\npriority = 0\nflash = 256\nram = 257\nstack = 64\nnotifications = [\"fault\"]\n";
+
+// The same with a key that is unknown.
+const UNKNOWN_KEY: &str =
+    "[board]\nflash = 65536\nram = 16384\n[supervisor]\nfault = \"fault\"\n[[task]]\nname = \"sup\"\nsource = \"sup.s\"\npriority = 0\nflash = 256\nram = 256\nstack = 64\nnotifications = [\"fault\"]\nprio = 1\n";
+
+// An application of two tasks, and the same on a board with a byte too little of flash and of RAM, and of RAM alone.
+const TWO: &str =
+    "[board]\nflash = 65536\nram = 16384\n[supervisor]\nfault = \"fault\"\n[[task]]\nname = \"sup\"\nsource = \"sup.s\"\npriority = 0\nflash = 256\nram = 256\nstack = 64\nnotifications = [\"fault\"]\n[[task]]\nname = \"b\"\nsource = \"b.s\"\npriority = 1\nflash = 256\nram = 256\nstack = 64\n";
+
+const LITTLE_FLASH: &str =
+    "[board]\nflash = 511\nram = 511\n[supervisor]\nfault = \"fault\"\n[[task]]\nname = \"sup\"\nsource = \"sup.s\"\npriority = 0\nflash = 256\nram = 256\nstack = 64\nnotifications = [\"fault\"]\n[[task]]\nname = \"b\"\nsource = \"b.s\"\npriority = 1\nflash = 256\nram = 256\nstack = 64\n";
+
+const LITTLE_RAM: &str =
+    "[board]\nflash = 512\nram = 511\n[supervisor]\nfault = \"fault\"\n[[task]]\nname = \"sup\"\nsource = \"sup.s\"\npriority = 0\nflash = 256\nram = 256\nstack = 64\nnotifications = [\"fault\"]\n[[task]]\nname = \"b\"\nsource = \"b.s\"\npriority = 1\nflash = 256\nram = 256\nstack = 64\n";
+
+// Two tasks, the first of which has three bytes of flash.
+const SMALL: &str =
+    "[board]\nflash = 65536\nram = 16384\n[supervisor]\nfault = \"fault\"\n[[task]]\nname = \"sup\"\nsource = \"sup.s\"\npriority = 0\nflash = 3\nram = 256\nstack = 64\nnotifications = [\"fault\"]\n[[task]]\nname = \"b\"\nsource = \"b.s\"\npriority = 1\nflash = 256\nram = 256\nstack = 64\n";
+
+fn hold_some(files: &mut MemFiles, name: &str, text: Option<&str>) -> Result<(), AllocError> {
+    match text {
+        Some(text) => hold(files, name, text.as_bytes()),
+        None => Ok(()),
     }
-    Ok(())
 }
 
 // The files of an application: its text, the sources of `sup` and `b` and a script, where there are any,
@@ -45,35 +54,13 @@ fn files_of(
 ) -> Result<MemFiles, AllocError> {
     let mut files = MemFiles::open(alloc, failing)?;
     hold(&mut files, "app.toml", app.as_bytes())?;
-    if let Some(text) = sources.0 {
-        hold(&mut files, "sup.s", text.as_bytes())?;
-    }
-    if let Some(text) = sources.1 {
-        hold(&mut files, "b.s", text.as_bytes())?;
-    }
-    if let Some(text) = script {
-        hold(&mut files, "e.txt", text.as_bytes())?;
-    }
+    hold_some(&mut files, "sup.s", sources.0)?;
+    hold_some(&mut files, "b.s", sources.1)?;
+    hold_some(&mut files, "e.txt", script)?;
     if !files.is_held("app.img") {
         files.hold("app.img", b"old", 600)?;
     }
     Ok(files)
-}
-
-// What the program answers and writes.
-fn main_of(
-    alloc: Global,
-    words: &[&str],
-    files: &mut MemFiles,
-    failing_pushes: &[u64],
-) -> Result<(u8, MemSink), AllocError> {
-    let mut owned = Vec::new(alloc);
-    for word in words {
-        owned.push(String::from_str(alloc, *word)?)?;
-    }
-    let mut out = MemSink::open(alloc, 1000, failing_pushes)?;
-    let status = hubris_main(alloc, &owned, files, &mut out);
-    Ok((status, out))
 }
 
 const BUILD: [&str; 4] = ["hubris", "build", "app.toml", "app.img"];
@@ -83,14 +70,6 @@ const GO: [&str; 6] = ["hubris", "go", "app.toml", "e.txt", "--steps", "3"];
 const GO_MEM: [&str; 7] = ["hubris", "go", "app.toml", "e.txt", "--steps", "3", "--mem"];
 
 const RUN_MEM: [&str; 7] = ["hubris", "run", "app.img", "e.txt", "--steps", "3", "--mem"];
-
-const TRACE: &str = "end bound 3 0
-task 0 0 well - 00000000 -
-low 00000001 00000000 00000000 00000000 00000000 00000000 00000000 00000000
-high 00000000 00000000 00000000 00000000 00000000 20000040 ffffffff 08000002 0000
-";
-
-const MEMORY: &str = "mem 20000000 256\n";
 
 // Whether `app.img` begins with these bytes and has so many in all.
 fn holds(files: &mut MemFiles, front: &[u8], length: usize) -> bool {
@@ -108,225 +87,484 @@ const IMAGE: [u8; 60] = [
     0x01, 0x20, 0xFE, 0xE7,
 ];
 
-#[test]
-fn an_image_that_is_built_runs_as_its_application(rt: HostRuntime) -> Result<(), Fail> {
-    let alloc = rt.alloc();
-    let app = app_of(alloc, BOARD, TASK, "")?;
-    let mut files = files_of(alloc, &app, (Some(LOOP), None), Some(""), &[])?;
-    let (status, out) = main_of(alloc, &BUILD, &mut files, &[])?;
-    assert_eq!(rt; status, 0);
-    assert_eq!(rt; out.text(), "built 312 bytes\n".as_bytes());
-    assert!(rt; holds(&mut files, &IMAGE, 312));
-    let (status, out) = main_of(alloc, &RUN_MEM, &mut files, &[])?;
-    assert_eq!(rt; status, 0);
-    assert!(rt; out.text().starts_with(TRACE.as_bytes()));
-    assert!(rt; out.text().ends_with(MEMORY.as_bytes()));
-    let (status, same) = main_of(alloc, &GO_MEM, &mut files, &[])?;
-    assert_eq!(rt; status, 0);
-    assert_eq!(rt; same.text(), out.text());
-    let (status, out) = main_of(alloc, &GO, &mut files, &[])?;
-    assert_eq!(rt; status, 0);
-    assert_eq!(rt; out.text(), TRACE.as_bytes());
-    assert!(rt; holds(&mut files, &IMAGE, 312));
-    Ok(())
+const FINE: Option<&str> = Some(LOOP);
+
+const UNKNOWN: Option<&str> = Some(" movs r0, #1\n foo\n");
+
+// An application and its sources, and what `build` and `go` both answer.
+#[derive(Clone, Copy)]
+struct Refused {
+    name: &'static str,
+    app: &'static str,
+    sources: (Option<&'static str>, Option<&'static str>),
+    status: u8,
+    text: &'static str,
 }
 
-// `build` and `go` both answer so.
-fn both_answer(
-    rt: &impl Abort,
-    alloc: Global,
-    app: &str,
-    sources: (Option<&str>, Option<&str>),
-    status: u8,
-    text: &str,
-) -> Result<(), AllocError> {
+const REFUSED: [Refused; 14] = [
+    Refused {
+        name: "an unknown key",
+        app: UNKNOWN_KEY,
+        sources: (None, None),
+        status: 1,
+        text: "refused app.toml 2 task[0].prio\n",
+    },
+    Refused {
+        name: "flash of more than the board",
+        app: WIDE_FLASH,
+        sources: (None, None),
+        status: 1,
+        text: "refused app.toml 21 flash:512\n",
+    },
+    Refused {
+        name: "ram of more than the board",
+        app: WIDE_RAM,
+        sources: (None, None),
+        status: 1,
+        text: "refused app.toml 21 ram:512\n",
+    },
+    Refused {
+        name: "flash of two tasks",
+        app: LITTLE_FLASH,
+        sources: (None, None),
+        status: 1,
+        text: "refused app.toml 21 flash:512\n",
+    },
+    Refused {
+        name: "ram of two tasks",
+        app: LITTLE_RAM,
+        sources: (None, None),
+        status: 1,
+        text: "refused app.toml 21 ram:512\n",
+    },
+    Refused {
+        name: "no board",
+        app: "",
+        sources: (None, None),
+        status: 1,
+        text: "refused app.toml 3 board\n",
+    },
+    Refused {
+        name: "no table",
+        app: "[board",
+        sources: (None, None),
+        status: 1,
+        text: "refused app.toml 1 -\n",
+    },
+    Refused {
+        name: "a number too wide",
+        app: ALONE,
+        sources: (Some(" movs r0, #256\n"), None),
+        status: 1,
+        text: "refused sup.s 9 1\n",
+    },
+    Refused {
+        name: "an unknown word",
+        app: TWO,
+        sources: (UNKNOWN, None),
+        status: 1,
+        text: "refused sup.s 4 2\n",
+    },
+    Refused {
+        name: "an unknown word of the other task",
+        app: TWO,
+        sources: (FINE, UNKNOWN),
+        status: 1,
+        text: "refused b.s 4 2\n",
+    },
+    Refused {
+        name: "a source too long before an unknown word",
+        app: SMALL,
+        sources: (FINE, UNKNOWN),
+        status: 1,
+        text: "refused sup.s 15 4\n",
+    },
+    Refused {
+        name: "too much space",
+        app: TWO,
+        sources: (FINE, Some(" .space 257\n")),
+        status: 1,
+        text: "refused b.s 15 257\n",
+    },
+    Refused {
+        name: "no source before an unknown word",
+        app: TWO,
+        sources: (None, UNKNOWN),
+        status: 3,
+        text: "cannot read sup.s\n",
+    },
+    Refused {
+        name: "no other source",
+        app: TWO,
+        sources: (FINE, None),
+        status: 3,
+        text: "cannot read b.s\n",
+    },
+];
+
+fn both_answer(rt: &impl Abort, alloc: Global, row: &Refused) -> Result<(), AllocError> {
     for words in [&BUILD as &[&str], &GO] {
-        let mut files = files_of(alloc, app, sources, Some(""), &[])?;
-        let (found, out) = main_of(alloc, words, &mut files, &[])?;
-        assert_eq!(rt; found, status, "{text}");
-        assert_eq!(rt; out.text(), text.as_bytes());
-        assert!(rt; holds(&mut files, b"old", 3), "{text}");
+        let mut files = files_of(alloc, row.app, row.sources, Some(""), &[])?;
+        answers(
+            rt,
+            alloc,
+            row.name,
+            words,
+            &mut files,
+            &[],
+            row.status,
+            row.text,
+        )?;
+        assert!(rt; holds(&mut files, b"old", 3), "{}", row.name);
     }
     Ok(())
 }
 
 #[test]
-fn applications_that_are_refused(rt: HostRuntime) -> Result<(), Fail> {
-    let alloc = rt.alloc();
-    let apps = [
-        (
-            BOARD,
-            TASK,
-            "prio = 1\n",
-            "refused app.toml 2 task[0].prio\n",
-        ),
-        (
-            (256, 16384),
-            (257, 256),
-            "",
-            "refused app.toml 21 flash:512\n",
-        ),
-        (
-            (65536, 256),
-            (256, 257),
-            "",
-            "refused app.toml 21 ram:512\n",
-        ),
-        ((511, 511), TASK, OTHER, "refused app.toml 21 flash:512\n"),
-        ((512, 511), TASK, OTHER, "refused app.toml 21 ram:512\n"),
-    ];
-    for (board, task, more, text) in apps {
-        let app = app_of(alloc, board, task, more)?;
-        both_answer(&rt, alloc, &app, (None, None), 1, text)?;
+fn applications_and_sources_that_are_refused(rt: HostRuntime) -> Result<(), Fail> {
+    for row in &REFUSED {
+        both_answer(&rt, rt.alloc(), row)?;
     }
-    both_answer(
-        &rt,
-        alloc,
-        "",
-        (None, None),
-        1,
-        "refused app.toml 3 board\n",
-    )?;
-    both_answer(
-        &rt,
-        alloc,
-        "[board",
-        (None, None),
-        1,
-        "refused app.toml 1 -\n",
-    )?;
     Ok(())
 }
 
-#[test]
-fn sources_that_are_refused_or_missing(rt: HostRuntime) -> Result<(), Fail> {
-    let alloc = rt.alloc();
-    let alone = app_of(alloc, BOARD, TASK, "")?;
-    let two = app_of(alloc, BOARD, TASK, OTHER)?;
-    let small = app_of(alloc, BOARD, (3, 256), OTHER)?;
-    let wide = Some(" movs r0, #256\n");
-    let unknown = Some(" movs r0, #1\n foo\n");
-    let fine = Some(LOOP);
-    both_answer(&rt, alloc, &alone, (wide, None), 1, "refused sup.s 9 1\n")?;
-    both_answer(&rt, alloc, &two, (unknown, None), 1, "refused sup.s 4 2\n")?;
-    both_answer(&rt, alloc, &two, (fine, unknown), 1, "refused b.s 4 2\n")?;
-    both_answer(
-        &rt,
-        alloc,
-        &small,
-        (fine, unknown),
-        1,
-        "refused sup.s 15 4\n",
-    )?;
-    both_answer(
-        &rt,
-        alloc,
-        &two,
-        (fine, Some(" .space 257\n")),
-        1,
-        "refused b.s 15 257\n",
-    )?;
-    both_answer(&rt, alloc, &two, (None, unknown), 3, "cannot read sup.s\n")?;
-    both_answer(&rt, alloc, &two, (fine, None), 3, "cannot read b.s\n")?;
-    Ok(())
-}
+const TRACE: &str = "end bound 3 0
+task 0 0 well - 00000000 -
+low 00000001 00000000 00000000 00000000 00000000 00000000 00000000 00000000
+high 00000000 00000000 00000000 00000000 00000000 20000040 ffffffff 08000002 0000
+";
 
-// `go` answers so, with this script.
-fn goes(
-    rt: &impl Abort,
-    alloc: Global,
-    source: &str,
-    script: Option<&str>,
+// The same and the memory after it.
+const TRACE_AND_MEMORY: &str = "end bound 3 0
+task 0 0 well - 00000000 -
+low 00000001 00000000 00000000 00000000 00000000 00000000 00000000 00000000
+high 00000000 00000000 00000000 00000000 00000000 20000040 ffffffff 08000002 0000
+mem 20000000 256
+";
+
+// What stands under `app.img`: how it begins, and its length.
+type Stored = (&'static [u8], usize);
+
+const OLD: Stored = (b"old", 3);
+
+const NEW: Stored = (&IMAGE, 312);
+
+// A call of the program, where these pushes fail, and what comes of it.
+#[derive(Clone, Copy)]
+struct Call {
+    words: &'static [&'static str],
+    failing_pushes: &'static [u64],
     status: u8,
-    text: &str,
-) -> Result<(), AllocError> {
-    let app = app_of(alloc, BOARD, TASK, "")?;
-    let mut files = files_of(alloc, &app, (Some(source), None), script, &[])?;
-    let (found, out) = main_of(alloc, &GO, &mut files, &[])?;
-    assert_eq!(rt; found, status, "{text}");
-    assert_eq!(rt; out.text(), text.as_bytes());
-    Ok(())
+    text: &'static str,
+    stored: Stored,
 }
 
-// The script comes after the sources.
-#[test]
-fn scripts_that_are_refused_or_missing(rt: HostRuntime) -> Result<(), Fail> {
-    let alloc = rt.alloc();
-    goes(&rt, alloc, LOOP, Some("x"), 1, "refused e.txt 2 1\n")?;
-    goes(&rt, alloc, LOOP, None, 3, "cannot read e.txt\n")?;
-    goes(&rt, alloc, " foo\n", Some("x"), 1, "refused sup.s 4 1\n")?;
-    goes(&rt, alloc, " foo\n", None, 1, "refused sup.s 4 1\n")?;
-    Ok(())
+// The application of one task with this source and maybe a script, and calls over its files one after the other,
+// where these reads and puts fail.
+#[derive(Clone, Copy)]
+struct Row {
+    name: &'static str,
+    source: &'static str,
+    script: Option<&'static str>,
+    failing: &'static [u64],
+    calls: &'static [Call],
 }
 
-// Two reads take the application, two its source, and one the empty script.
-#[test]
-fn each_read_fails_in_turn(rt: HostRuntime) -> Result<(), Fail> {
-    let alloc = rt.alloc();
-    let app = app_of(alloc, BOARD, TASK, "")?;
-    let rows = [
-        (1u64, "cannot read app.toml\n"),
-        (2, "cannot read app.toml\n"),
-        (3, "cannot read sup.s\n"),
-        (4, "cannot read sup.s\n"),
-        (5, "cannot read e.txt\n"),
-    ];
-    for (read, text) in rows {
-        let mut files = files_of(alloc, &app, (Some(LOOP), None), Some(""), &[read])?;
-        let (status, out) = main_of(alloc, &GO, &mut files, &[])?;
-        assert_eq!(rt; status, 3, "{text}");
-        assert_eq!(rt; out.text(), text.as_bytes());
+const ROWS: [Row; 17] = [
+    Row {
+        name: "an image that is built runs as its application",
+        source: LOOP,
+        script: Some(""),
+        failing: &[],
+        calls: &[
+            Call {
+                words: &BUILD,
+                failing_pushes: &[],
+                status: 0,
+                text: "built 312 bytes\n",
+                stored: NEW,
+            },
+            Call {
+                words: &RUN_MEM,
+                failing_pushes: &[],
+                status: 0,
+                text: TRACE_AND_MEMORY,
+                stored: NEW,
+            },
+            Call {
+                words: &GO_MEM,
+                failing_pushes: &[],
+                status: 0,
+                text: TRACE_AND_MEMORY,
+                stored: NEW,
+            },
+            Call {
+                words: &GO,
+                failing_pushes: &[],
+                status: 0,
+                text: TRACE,
+                stored: NEW,
+            },
+        ],
+    },
+    Row {
+        name: "a refused script",
+        source: LOOP,
+        script: Some("x"),
+        failing: &[],
+        calls: &[Call {
+            words: &GO,
+            failing_pushes: &[],
+            status: 1,
+            text: "refused e.txt 2 1\n",
+            stored: OLD,
+        }],
+    },
+    Row {
+        name: "no script",
+        source: LOOP,
+        script: None,
+        failing: &[],
+        calls: &[Call {
+            words: &GO,
+            failing_pushes: &[],
+            status: 3,
+            text: "cannot read e.txt\n",
+            stored: OLD,
+        }],
+    },
+    // The script comes after the sources.
+    Row {
+        name: "a refused source before a refused script",
+        source: " foo\n",
+        script: Some("x"),
+        failing: &[],
+        calls: &[Call {
+            words: &GO,
+            failing_pushes: &[],
+            status: 1,
+            text: "refused sup.s 4 1\n",
+            stored: OLD,
+        }],
+    },
+    Row {
+        name: "a refused source before no script",
+        source: " foo\n",
+        script: None,
+        failing: &[],
+        calls: &[Call {
+            words: &GO,
+            failing_pushes: &[],
+            status: 1,
+            text: "refused sup.s 4 1\n",
+            stored: OLD,
+        }],
+    },
+    // Two reads take the application, two its source, and one the empty script.
+    Row {
+        name: "the first read fails",
+        source: LOOP,
+        script: Some(""),
+        failing: &[1],
+        calls: &[Call {
+            words: &GO,
+            failing_pushes: &[],
+            status: 3,
+            text: "cannot read app.toml\n",
+            stored: OLD,
+        }],
+    },
+    Row {
+        name: "the second read fails",
+        source: LOOP,
+        script: Some(""),
+        failing: &[2],
+        calls: &[Call {
+            words: &GO,
+            failing_pushes: &[],
+            status: 3,
+            text: "cannot read app.toml\n",
+            stored: OLD,
+        }],
+    },
+    Row {
+        name: "the third read fails",
+        source: LOOP,
+        script: Some(""),
+        failing: &[3],
+        calls: &[Call {
+            words: &GO,
+            failing_pushes: &[],
+            status: 3,
+            text: "cannot read sup.s\n",
+            stored: OLD,
+        }],
+    },
+    Row {
+        name: "the fourth read fails",
+        source: LOOP,
+        script: Some(""),
+        failing: &[4],
+        calls: &[Call {
+            words: &GO,
+            failing_pushes: &[],
+            status: 3,
+            text: "cannot read sup.s\n",
+            stored: OLD,
+        }],
+    },
+    Row {
+        name: "the fifth read fails",
+        source: LOOP,
+        script: Some(""),
+        failing: &[5],
+        calls: &[Call {
+            words: &GO,
+            failing_pushes: &[],
+            status: 3,
+            text: "cannot read e.txt\n",
+            stored: OLD,
+        }],
+    },
+    // The lines before the push that fails.
+    Row {
+        name: "the first push fails",
+        source: LOOP,
+        script: Some(""),
+        failing: &[],
+        calls: &[Call {
+            words: &GO_MEM,
+            failing_pushes: &[1],
+            status: 4,
+            text: "",
+            stored: OLD,
+        }],
+    },
+    Row {
+        name: "the second push fails",
+        source: LOOP,
+        script: Some(""),
+        failing: &[],
+        calls: &[Call {
+            words: &GO_MEM,
+            failing_pushes: &[2],
+            status: 4,
+            text: "end bound 3 0\n",
+            stored: OLD,
+        }],
+    },
+    Row {
+        name: "the third push fails",
+        source: LOOP,
+        script: Some(""),
+        failing: &[],
+        calls: &[Call {
+            words: &GO_MEM,
+            failing_pushes: &[3],
+            status: 4,
+            text: "end bound 3 0\ntask 0 0 well - 00000000 -\n",
+            stored: OLD,
+        }],
+    },
+    Row {
+        name: "the fourth push fails",
+        source: LOOP,
+        script: Some(""),
+        failing: &[],
+        calls: &[Call {
+            words: &GO_MEM,
+            failing_pushes: &[4],
+            status: 4,
+            text: "end bound 3 0
+task 0 0 well - 00000000 -
+low 00000001 00000000 00000000 00000000 00000000 00000000 00000000 00000000
+",
+            stored: OLD,
+        }],
+    },
+    Row {
+        name: "the fifth push fails",
+        source: LOOP,
+        script: Some(""),
+        failing: &[],
+        calls: &[Call {
+            words: &GO_MEM,
+            failing_pushes: &[5],
+            status: 4,
+            text: TRACE,
+            stored: OLD,
+        }],
+    },
+    // The fifth call of `build` is its put.
+    Row {
+        name: "the put fails",
+        source: LOOP,
+        script: None,
+        failing: &[5],
+        calls: &[Call {
+            words: &BUILD,
+            failing_pushes: &[],
+            status: 4,
+            text: "",
+            stored: OLD,
+        }],
+    },
+    Row {
+        name: "the line of an image is not pushed, and an image has no room",
+        source: LOOP,
+        script: None,
+        failing: &[],
+        calls: &[
+            Call {
+                words: &BUILD,
+                failing_pushes: &[1],
+                status: 4,
+                text: "",
+                stored: NEW,
+            },
+            Call {
+                words: &["hubris", "build", "app.toml", "no.img"],
+                failing_pushes: &[],
+                status: 4,
+                text: "",
+                stored: NEW,
+            },
+        ],
+    },
+];
+
+fn goes(rt: &impl Abort, alloc: Global, row: &Row) -> Result<(), AllocError> {
+    let mut files = files_of(
+        alloc,
+        ALONE,
+        (Some(row.source), None),
+        row.script,
+        row.failing,
+    )?;
+    for call in row.calls {
+        answers(
+            rt,
+            alloc,
+            row.name,
+            call.words,
+            &mut files,
+            call.failing_pushes,
+            call.status,
+            call.text,
+        )?;
+        assert!(rt;
+            holds(&mut files, call.stored.0, call.stored.1),
+            "{}",
+            row.name
+        );
     }
     Ok(())
 }
 
-// The lines before the push that fails.
 #[test]
-fn each_push_fails_in_turn(rt: HostRuntime) -> Result<(), Fail> {
-    let alloc = rt.alloc();
-    let app = app_of(alloc, BOARD, TASK, "")?;
-    let rows = [
-        (1u64, "end bound 3 0\n"),
-        (2, "task 0 0 well - 00000000 -\n"),
-        (
-            3,
-            "low 00000001 00000000 00000000 00000000 00000000 00000000 00000000 00000000\n",
-        ),
-        (
-            4,
-            "high 00000000 00000000 00000000 00000000 00000000 20000040 ffffffff 08000002 0000\n",
-        ),
-        (5, MEMORY),
-    ];
-    let mut before = String::from_str(alloc, "")?;
-    for (push, line) in rows {
-        let mut files = files_of(alloc, &app, (Some(LOOP), None), Some(""), &[])?;
-        let (status, out) = main_of(alloc, &GO_MEM, &mut files, &[push])?;
-        assert_eq!(rt; status, 4, "{line}");
-        assert_eq!(rt; out.text(), before.as_bytes());
-        before.push_str(line)?;
+fn images_are_built_and_applications_go(rt: HostRuntime) -> Result<(), Fail> {
+    for row in &ROWS {
+        goes(&rt, rt.alloc(), row)?;
     }
-    Ok(())
-}
-
-// The fifth call of `build` is its put.
-#[test]
-fn a_put_or_a_push_that_fails(rt: HostRuntime) -> Result<(), Fail> {
-    let alloc = rt.alloc();
-    let app = app_of(alloc, BOARD, TASK, "")?;
-    let mut files = files_of(alloc, &app, (Some(LOOP), None), None, &[5])?;
-    let (status, out) = main_of(alloc, &BUILD, &mut files, &[])?;
-    assert_eq!(rt; status, 4);
-    assert_eq!(rt; out.text().len(), 0);
-    assert!(rt; holds(&mut files, b"old", 3));
-    let mut files = files_of(alloc, &app, (Some(LOOP), None), None, &[])?;
-    let (status, out) = main_of(alloc, &BUILD, &mut files, &[1])?;
-    assert_eq!(rt; status, 4);
-    assert_eq!(rt; out.text().len(), 0);
-    assert!(rt; holds(&mut files, &IMAGE, 312));
-    let words = ["hubris", "build", "app.toml", "no.img"];
-    let (status, out) = main_of(alloc, &words, &mut files, &[])?;
-    assert_eq!(rt; status, 4);
-    assert_eq!(rt; out.text().len(), 0);
     Ok(())
 }

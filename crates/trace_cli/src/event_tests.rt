@@ -1,7 +1,7 @@
 //! Scripts, timers, interrupts and priorities, over files in memory. The expected texts come from another program
 //! that follows the same rules.
-use crate::hubris_main;
-use outside_io::{MemFiles, MemSink};
+use crate::tests::{answers, hold};
+use outside_io::MemFiles;
 use std::alloc::{AllocError, Global};
 use std::process::Abort;
 use std::test::Fail;
@@ -22,64 +22,59 @@ const TWO: &str =
 const THREE: &str =
     "[board]\nflash = 65536\nram = 16384\n[supervisor]\nfault = \"fault\"\n[[task]]\nname = \"sup\"\nsource = \"sup.s\"\npriority = 0\nflash = 256\nram = 256\nstack = 64\nnotifications = [\"fault\"]\n[[task]]\nname = \"b\"\nsource = \"b.s\"\npriority = 3\nflash = 256\nram = 256\nstack = 64\n[[task]]\nname = \"c\"\nsource = \"c.s\"\npriority = 3\nflash = 256\nram = 256\nstack = 64\n";
 
-fn hold(files: &mut MemFiles, name: &str, text: &str) -> Result<(), AllocError> {
-    if !files.is_held(name) {
-        files.hold(name, text.as_bytes(), text.len())?;
-    }
-    Ok(())
-}
-
-// An application, the sources of its tasks, and a script.
+// An application, the sources of its tasks and a script; and how `go` with so many turns ends.
 #[derive(Clone, Copy)]
 struct Case {
+    name: &'static str,
     app: &'static str,
     sources: [&'static str; 3],
     script: &'static str,
+    steps: &'static str,
+    status: u8,
+    text: &'static str,
 }
 
-fn files_of(alloc: Global, case: Case) -> Result<MemFiles, AllocError> {
+fn files_of(alloc: Global, case: &Case) -> Result<MemFiles, AllocError> {
     let mut files = MemFiles::open(alloc, &[])?;
-    hold(&mut files, "app.toml", case.app)?;
-    hold(&mut files, "sup.s", case.sources[0])?;
-    hold(&mut files, "b.s", case.sources[1])?;
-    hold(&mut files, "c.s", case.sources[2])?;
-    hold(&mut files, "e.txt", case.script)?;
+    hold(&mut files, "app.toml", case.app.as_bytes())?;
+    hold(&mut files, "sup.s", case.sources[0].as_bytes())?;
+    hold(&mut files, "b.s", case.sources[1].as_bytes())?;
+    hold(&mut files, "c.s", case.sources[2].as_bytes())?;
+    hold(&mut files, "e.txt", case.script.as_bytes())?;
     Ok(files)
 }
 
-fn words_of(alloc: Global, words: &[&str]) -> Result<Vec<String>, AllocError> {
-    let mut owned = Vec::new(alloc);
-    for word in words {
-        owned.push(String::from_str(alloc, *word)?)?;
-    }
-    Ok(owned)
-}
-
-// The run of a case ends with this status and text.
-fn goes(
-    rt: &impl Abort,
-    alloc: Global,
-    case: Case,
-    options: &[&str],
-    status: u8,
-    text: &str,
-) -> Result<(), AllocError> {
-    let mut words = words_of(alloc, &["hubris", "go", "app.toml", "e.txt"])?;
-    for option in options {
-        words.push(String::from_str(alloc, *option)?)?;
-    }
+fn ends(rt: &impl Abort, alloc: Global, case: &Case, words: &[&str]) -> Result<(), AllocError> {
     let mut files = files_of(alloc, case)?;
-    let mut out = MemSink::open(alloc, 10000, &[])?;
-    let found = hubris_main(alloc, &words, &mut files, &mut out);
-    assert_eq!(rt; found, status, "{text}");
-    assert_eq!(rt; out.text(), text.as_bytes());
-    Ok(())
+    answers(
+        rt,
+        alloc,
+        case.name,
+        words,
+        &mut files,
+        &[],
+        case.status,
+        case.text,
+    )
 }
 
-// Two interrupts on a line that is disabled are pending once; IRQ_CONTROL posts them and leaves it disabled.
-#[test]
-fn an_interrupt_is_held_until_its_line_is_enabled(rt: HostRuntime) -> Result<(), Fail> {
-    let case = Case {
+fn goes(rt: &impl Abort, alloc: Global, case: &Case) -> Result<(), AllocError> {
+    let words = ["hubris", "go", "app.toml", "e.txt", "--steps", case.steps];
+    ends(rt, alloc, case, &words)
+}
+
+fn goes_with_all(rt: &impl Abort, alloc: Global, case: &Case) -> Result<(), AllocError> {
+    let words = [
+        "hubris", "go", "app.toml", "e.txt", "--steps", case.steps, "--all",
+    ];
+    ends(rt, alloc, case, &words)
+}
+
+// Interrupts and timers.
+const LINES_AND_TIMERS: [Case; 6] = [
+    // Two interrupts on a line that is disabled are pending once; IRQ_CONTROL posts them and leaves it disabled.
+    Case {
+        name: "an interrupt is held until its line is enabled",
         app: ONE_WITH_A_LINE,
         sources: [
             " movs r4, #2\n movs r5, #1\n movs r0, #7\n mov r11, r0\n svc #0\nloop: b loop\n",
@@ -87,8 +82,9 @@ fn an_interrupt_is_held_until_its_line_is_enabled(rt: HostRuntime) -> Result<(),
             "",
         ],
         script: "at 0 irq 3\nat 0 irq 3\nat 5 irq 3\n",
-    };
-    let text = "0 irq 3 held
+        steps: "6",
+        status: 0,
+        text: "0 irq 3 held
 0 irq 3 held
 4 call 0 7 00000002 00000001 00000000 00000000 00000000 00000000 00000000
 4 post 0 00000002 00000002
@@ -98,15 +94,11 @@ end bound 6 0
 task 0 0 well - 00000002 -
 low 00000007 00000000 00000000 00000000 00000002 00000001 00000000 00000000
 high 00000000 00000000 00000000 00000007 00000000 20000040 ffffffff 0800000a 0000
-";
-    goes(&rt, rt.alloc(), case, &["--steps", "6"], 0, text)?;
-    Ok(())
-}
-
-// An enabled line posts and is disabled; a second interrupt is held.
-#[test]
-fn an_enabled_line_posts_once(rt: HostRuntime) -> Result<(), Fail> {
-    let case = Case {
+",
+    },
+    // An enabled line posts and is disabled; a second interrupt is held.
+    Case {
+        name: "an enabled line posts once",
         app: ONE_WITH_A_LINE,
         sources: [
             " movs r4, #2\n movs r5, #1\n movs r0, #7\n mov r11, r0\n svc #0\nloop: b loop\n",
@@ -114,8 +106,9 @@ fn an_enabled_line_posts_once(rt: HostRuntime) -> Result<(), Fail> {
             "",
         ],
         script: "at 7 irq 3\nat 7 irq 3\n",
-    };
-    let text = "4 call 0 7 00000002 00000001 00000000 00000000 00000000 00000000 00000000
+        steps: "9",
+        status: 0,
+        text: "4 call 0 7 00000002 00000001 00000000 00000000 00000000 00000000 00000000
 4 ret 0 00000002 00000001 00000000 00000000 00000000 00000000
 7 irq 3 post
 7 post 0 00000002 00000002
@@ -124,15 +117,11 @@ end bound 9 0
 task 0 0 well - 00000002 -
 low 00000007 00000000 00000000 00000000 00000002 00000001 00000000 00000000
 high 00000000 00000000 00000000 00000007 00000000 20000040 ffffffff 0800000a 0000
-";
-    goes(&rt, rt.alloc(), case, &["--steps", "9"], 0, text)?;
-    Ok(())
-}
-
-// The caller owns no line with these bits.
-#[test]
-fn a_line_of_other_bits_is_a_misuse(rt: HostRuntime) -> Result<(), Fail> {
-    let case = Case {
+",
+    },
+    // The caller owns no line with these bits.
+    Case {
+        name: "a line of other bits is a misuse",
         app: ONE_WITH_A_LINE,
         sources: [
             " movs r4, #1\n movs r5, #1\n movs r0, #7\n mov r11, r0\n svc #0\nloop: b loop\n",
@@ -140,22 +129,19 @@ fn a_line_of_other_bits_is_a_misuse(rt: HostRuntime) -> Result<(), Fail> {
             "",
         ],
         script: "",
-    };
-    let text = "4 call 0 7 00000001 00000001 00000000 00000000 00000000 00000000 00000000
+        steps: "9",
+        status: 6,
+        text: "4 call 0 7 00000001 00000001 00000000 00000000 00000000 00000000 00000000
 4 fault 0 7 00000006 00000000
 end supervisor 5 0
 task 0 0 faulted:7 - 00000000 -
 low 00000007 00000000 00000000 00000000 00000001 00000001 00000000 00000000
 high 00000000 00000000 00000000 00000007 00000000 20000040 ffffffff 08000008 0000
-";
-    goes(&rt, rt.alloc(), case, &["--steps", "9"], 6, text)?;
-    Ok(())
-}
-
-// SET_TIMER with deadline 0 at time 0; GET_TIMER then tells no timer.
-#[test]
-fn a_deadline_that_is_over_posts_at_once(rt: HostRuntime) -> Result<(), Fail> {
-    let case = Case {
+",
+    },
+    // SET_TIMER with deadline 0 at time 0; GET_TIMER then tells no timer.
+    Case {
+        name: "a deadline that is over posts at once",
         app: ONE,
         sources: [
             " movs r4, #1\n movs r5, #0\n movs r6, #0\n movs r7, #4\n movs r0, #3\n mov r11, r0\n svc #0\n movs r0, #9\n mov r11, r0\n svc #0\nloop: b loop\n",
@@ -163,23 +149,20 @@ fn a_deadline_that_is_over_posts_at_once(rt: HostRuntime) -> Result<(), Fail> {
             "",
         ],
         script: "",
-    };
-    let text = "6 call 0 3 00000001 00000000 00000000 00000004 00000000 00000000 00000000
+        steps: "9",
+        status: 0,
+        text: "6 call 0 3 00000001 00000000 00000000 00000004 00000000 00000000 00000000
 6 post 0 00000004 00000004
 6 ret 0 00000001 00000000 00000000 00000004 00000000 00000000
 end bound 9 0
 task 0 0 well - 00000004 -
 low 00000009 00000000 00000000 00000000 00000001 00000000 00000000 00000004
 high 00000000 00000000 00000000 00000009 00000000 20000040 ffffffff 08000012 0000
-";
-    goes(&rt, rt.alloc(), case, &["--steps", "9"], 0, text)?;
-    Ok(())
-}
-
-// The tick at turn 15 wakes the supervisor, which runs in that turn.
-#[test]
-fn a_timer_wakes_its_task_at_its_deadline(rt: HostRuntime) -> Result<(), Fail> {
-    let case = Case {
+",
+    },
+    // The tick at turn 15 wakes the supervisor, which runs in that turn.
+    Case {
+        name: "a timer wakes its task at its deadline",
         app: TWO,
         sources: [
             " movs r4, #1\n movs r5, #1\n movs r7, #1\n movs r0, #3\n mov r11, r0\n svc #0\n movs r4, #0\n movs r5, #0\n movs r6, #1\n movs r7, #0\n movs r0, #1\n mov r11, r0\n svc #0\nloop: b loop\n",
@@ -187,8 +170,9 @@ fn a_timer_wakes_its_task_at_its_deadline(rt: HostRuntime) -> Result<(), Fail> {
             "",
         ],
         script: "at 15 tick\n",
-    };
-    let text = "5 call 0 3 00000001 00000001 00000000 00000001 00000000 00000000 00000000
+        steps: "17",
+        status: 0,
+        text: "5 call 0 3 00000001 00000001 00000000 00000001 00000000 00000000 00000000
 5 ret 0 00000001 00000001 00000000 00000001 00000000 00000000
 12 call 0 1 00000000 00000000 00000001 00000000 00000000 00000000 00000000
 12 listen 0 any 00000001
@@ -202,15 +186,11 @@ high 00000000 00000000 00000000 00000001 00000000 20000040 ffffffff 0800001a 000
 task 1 0 well - 00000000 -
 low 00000000 00000000 00000000 00000000 00000000 00000000 00000000 00000000
 high 00000000 00000000 00000000 00000000 00000000 20000140 ffffffff 08000100 0000
-";
-    goes(&rt, rt.alloc(), case, &["--steps", "17"], 0, text)?;
-    Ok(())
-}
-
-// Two ticks before the deadline, one at it, one after.
-#[test]
-fn a_timer_fires_once(rt: HostRuntime) -> Result<(), Fail> {
-    let case = Case {
+",
+    },
+    // Two ticks before the deadline, one at it, one after.
+    Case {
+        name: "a timer fires once",
         app: TWO,
         sources: [
             " movs r4, #1\n movs r5, #3\n movs r7, #1\n movs r0, #3\n mov r11, r0\n svc #0\n movs r4, #0\n movs r5, #0\n movs r6, #1\n movs r7, #0\n movs r0, #1\n mov r11, r0\n svc #0\n movs r4, #0\n movs r5, #0\n movs r6, #1\n movs r7, #0\n movs r0, #1\n mov r11, r0\n svc #0\nloop: b loop\n",
@@ -218,8 +198,9 @@ fn a_timer_fires_once(rt: HostRuntime) -> Result<(), Fail> {
             "",
         ],
         script: "every 8 tick\n",
-    };
-    let text = "5 call 0 3 00000001 00000003 00000000 00000001 00000000 00000000 00000000
+        steps: "60",
+        status: 0,
+        text: "5 call 0 3 00000001 00000003 00000000 00000001 00000000 00000000 00000000
 5 ret 0 00000001 00000003 00000000 00000001 00000000 00000000
 8 tick 1
 12 call 0 1 00000000 00000000 00000001 00000000 00000000 00000000 00000000
@@ -241,15 +222,15 @@ high 00000000 00000000 00000000 00000001 00000000 20000040 ffffffff 08000028 000
 task 1 0 well - 00000000 -
 low 00000000 00000000 00000000 00000000 00000000 00000000 00000000 00000000
 high 00000000 00000000 00000000 00000000 00000000 20000140 ffffffff 08000100 0000
-";
-    goes(&rt, rt.alloc(), case, &["--steps", "60"], 0, text)?;
-    Ok(())
-}
+",
+    },
+];
 
-// RECV into fffffffc, 4 bytes long; and 5 bytes long, which ends past the last address.
-#[test]
-fn a_buffer_that_may_not_be_written(rt: HostRuntime) -> Result<(), Fail> {
-    let case = Case {
+// What a receive may name, and what it waits for.
+const RECEIVES: [Case; 5] = [
+    // RECV into fffffffc, 4 bytes long; and 5 bytes long, which ends past the last address.
+    Case {
+        name: "a buffer that may not be written",
         app: ONE,
         sources: [
             " movs r4, #4\n rsbs r4, r4, #0\n movs r5, #4\n movs r0, #1\n mov r11, r0\n svc #0\n",
@@ -257,21 +238,18 @@ fn a_buffer_that_may_not_be_written(rt: HostRuntime) -> Result<(), Fail> {
             "",
         ],
         script: "",
-    };
-    let text = "5 call 0 1 fffffffc 00000004 00000000 00000000 00000000 00000000 00000000
+        steps: "9",
+        status: 6,
+        text: "5 call 0 1 fffffffc 00000004 00000000 00000000 00000000 00000000 00000000
 5 fault 0 3 fffffffc 00000003
 end supervisor 6 0
 task 0 0 faulted:3 - 00000000 -
 low 00000001 00000000 00000000 00000000 fffffffc 00000004 00000000 00000000
 high 00000000 00000000 00000000 00000001 00000000 20000040 ffffffff 0800000a 0000
-";
-    goes(&rt, rt.alloc(), case, &["--steps", "9"], 6, text)?;
-    Ok(())
-}
-
-#[test]
-fn a_buffer_that_ends_past_the_last_address(rt: HostRuntime) -> Result<(), Fail> {
-    let case = Case {
+",
+    },
+    Case {
+        name: "a buffer that ends past the last address",
         app: ONE,
         sources: [
             " movs r4, #4\n rsbs r4, r4, #0\n movs r5, #5\n movs r0, #1\n mov r11, r0\n svc #0\n",
@@ -279,22 +257,19 @@ fn a_buffer_that_ends_past_the_last_address(rt: HostRuntime) -> Result<(), Fail>
             "",
         ],
         script: "",
-    };
-    let text = "5 call 0 1 fffffffc 00000005 00000000 00000000 00000000 00000000 00000000
+        steps: "9",
+        status: 6,
+        text: "5 call 0 1 fffffffc 00000005 00000000 00000000 00000000 00000000 00000000
 5 fault 0 7 00000003 00000000
 end supervisor 6 0
 task 0 0 faulted:7 - 00000000 -
 low 00000001 00000000 00000000 00000000 fffffffc 00000005 00000000 00000000
 high 00000000 00000000 00000000 00000001 00000000 20000040 ffffffff 0800000a 0000
-";
-    goes(&rt, rt.alloc(), case, &["--steps", "9"], 6, text)?;
-    Ok(())
-}
-
-// Closed to the caller, task 0.
-#[test]
-fn a_receive_from_itself_is_a_misuse(rt: HostRuntime) -> Result<(), Fail> {
-    let case = Case {
+",
+    },
+    // Closed to the caller, task 0.
+    Case {
+        name: "a receive from itself is a misuse",
         app: ONE,
         sources: [
             " movs r7, #1\n lsls r7, r7, #31\n movs r0, #1\n mov r11, r0\n svc #0\n",
@@ -302,22 +277,19 @@ fn a_receive_from_itself_is_a_misuse(rt: HostRuntime) -> Result<(), Fail> {
             "",
         ],
         script: "",
-    };
-    let text = "4 call 0 1 00000000 00000000 00000000 80000000 00000000 00000000 00000000
+        steps: "9",
+        status: 6,
+        text: "4 call 0 1 00000000 00000000 00000000 80000000 00000000 00000000 00000000
 4 fault 0 7 00000002 00000000
 end supervisor 5 0
 task 0 0 faulted:7 - 00000000 -
 low 00000001 00000000 00000000 00000000 00000000 00000000 00000000 80000000
 high 00000000 00000000 00000000 00000001 00000000 20000040 ffffffff 08000008 0000
-";
-    goes(&rt, rt.alloc(), case, &["--steps", "9"], 6, text)?;
-    Ok(())
-}
-
-// Closed to the kernel, and to task 1.
-#[test]
-fn closed_receives_listen(rt: HostRuntime) -> Result<(), Fail> {
-    let case = Case {
+",
+    },
+    // Closed to the kernel, and to task 1.
+    Case {
+        name: "closed receives listen",
         app: TWO,
         sources: [
             " movs r7, #0\n mvns r7, r7\n movs r6, #1\n movs r0, #1\n mov r11, r0\n svc #0\n",
@@ -325,8 +297,9 @@ fn closed_receives_listen(rt: HostRuntime) -> Result<(), Fail> {
             "",
         ],
         script: "",
-    };
-    let text = "5 call 0 1 00000000 00000000 00000001 ffffffff 00000000 00000000 00000000
+        steps: "30",
+        status: 0,
+        text: "5 call 0 1 00000000 00000000 00000001 ffffffff 00000000 00000000 00000000
 5 listen 0 kernel 00000001
 11 call 1 1 00000000 00000000 00000002 80000000 00000000 00000000 00000000
 11 listen 1 0 00000002
@@ -337,15 +310,41 @@ high 00000000 00000000 00000000 00000001 00000000 20000040 ffffffff 0800000c 000
 task 1 0 well listen 00000000 -
 low 00000001 00000000 00000000 00000000 00000000 00000000 00000002 80000000
 high 00000000 00000000 00000000 00000001 00000000 20000140 ffffffff 0800010c 0000
-";
-    goes(&rt, rt.alloc(), case, &["--steps", "30"], 0, text)?;
-    Ok(())
-}
+",
+    },
+    // Bits that are posted before RECV are taken at once.
+    Case {
+        name: "notifications come before listening",
+        app: TWO,
+        sources: [
+            " movs r4, #1\n movs r5, #0\n movs r7, #1\n movs r0, #3\n mov r11, r0\n svc #0\n movs r6, #1\n movs r0, #1\n mov r11, r0\n svc #0\nloop: b loop\n",
+            "loop: b loop\n",
+            "",
+        ],
+        script: "",
+        steps: "14",
+        status: 0,
+        text: "5 call 0 3 00000001 00000000 00000000 00000001 00000000 00000000 00000000
+5 post 0 00000001 00000001
+5 ret 0 00000001 00000000 00000000 00000001 00000000 00000000
+9 call 0 1 00000001 00000000 00000001 00000001 00000000 00000000 00000000
+9 ret 0 00000000 0000ffff 00000001 00000000 00000000 00000000
+end bound 14 0
+task 0 0 well - 00000000 -
+low 00000001 00000000 00000000 00000000 00000000 0000ffff 00000001 00000000
+high 00000000 00000000 00000000 00000001 00000000 20000040 ffffffff 08000014 0000
+task 1 0 well - 00000000 -
+low 00000000 00000000 00000000 00000000 00000000 00000000 00000000 00000000
+high 00000000 00000000 00000000 00000000 00000000 20000140 ffffffff 08000100 0000
+",
+    },
+];
 
-// The supervisor listens and nothing is to come.
-#[test]
-fn a_run_stands_still(rt: HostRuntime) -> Result<(), Fail> {
-    let case = Case {
+// When a run stands still, and what comes first in a turn.
+const ORDERS: [Case; 6] = [
+    // The supervisor listens and nothing is to come.
+    Case {
+        name: "a run stands still",
         app: ONE,
         sources: [
             " movs r6, #1\n movs r0, #1\n mov r11, r0\n svc #0\n",
@@ -353,22 +352,19 @@ fn a_run_stands_still(rt: HostRuntime) -> Result<(), Fail> {
             "",
         ],
         script: "",
-    };
-    let text = "3 call 0 1 00000000 00000000 00000001 00000000 00000000 00000000 00000000
+        steps: "100",
+        status: 0,
+        text: "3 call 0 1 00000000 00000000 00000001 00000000 00000000 00000000 00000000
 3 listen 0 any 00000001
 end still 4 0
 task 0 0 well listen 00000000 -
 low 00000001 00000000 00000000 00000000 00000000 00000000 00000001 00000000
 high 00000000 00000000 00000000 00000001 00000000 20000040 ffffffff 08000008 0000
-";
-    goes(&rt, rt.alloc(), case, &["--steps", "100"], 0, text)?;
-    Ok(())
-}
-
-// The supervisor listens, and a tick is listed for turn 9.
-#[test]
-fn a_listed_event_keeps_a_run_from_standing_still(rt: HostRuntime) -> Result<(), Fail> {
-    let case = Case {
+",
+    },
+    // The supervisor listens, and a tick is listed for turn 9.
+    Case {
+        name: "a listed event keeps a run from standing still",
         app: ONE,
         sources: [
             " movs r6, #1\n movs r0, #1\n mov r11, r0\n svc #0\n",
@@ -376,23 +372,20 @@ fn a_listed_event_keeps_a_run_from_standing_still(rt: HostRuntime) -> Result<(),
             "",
         ],
         script: "at 9 tick\n",
-    };
-    let text = "3 call 0 1 00000000 00000000 00000001 00000000 00000000 00000000 00000000
+        steps: "100",
+        status: 0,
+        text: "3 call 0 1 00000000 00000000 00000001 00000000 00000000 00000000 00000000
 3 listen 0 any 00000001
 9 tick 1
 end still 10 1
 task 0 0 well listen 00000000 -
 low 00000001 00000000 00000000 00000000 00000000 00000000 00000001 00000000
 high 00000000 00000000 00000000 00000001 00000000 20000040 ffffffff 08000008 0000
-";
-    goes(&rt, rt.alloc(), case, &["--steps", "100"], 0, text)?;
-    Ok(())
-}
-
-// Each turn that is a multiple of 3, but not turn 0.
-#[test]
-fn a_repeated_tick_never_ends(rt: HostRuntime) -> Result<(), Fail> {
-    let case = Case {
+",
+    },
+    // Each turn that is a multiple of 3, but not turn 0.
+    Case {
+        name: "a repeated tick never ends",
         app: ONE,
         sources: [
             " movs r6, #1\n movs r0, #1\n mov r11, r0\n svc #0\n",
@@ -400,8 +393,9 @@ fn a_repeated_tick_never_ends(rt: HostRuntime) -> Result<(), Fail> {
             "",
         ],
         script: "every 3 tick\n",
-    };
-    let text = "3 tick 1
+        steps: "10",
+        status: 0,
+        text: "3 tick 1
 3 call 0 1 00000000 00000000 00000001 00000000 00000000 00000000 00000000
 3 listen 0 any 00000001
 6 tick 2
@@ -410,20 +404,17 @@ end bound 10 3
 task 0 0 well listen 00000000 -
 low 00000001 00000000 00000000 00000000 00000000 00000000 00000001 00000000
 high 00000000 00000000 00000000 00000001 00000000 20000040 ffffffff 08000008 0000
-";
-    goes(&rt, rt.alloc(), case, &["--steps", "10"], 0, text)?;
-    Ok(())
-}
-
-// The repeated tick first, then the listed ones.
-#[test]
-fn events_of_a_turn_in_the_order_of_the_script(rt: HostRuntime) -> Result<(), Fail> {
-    let case = Case {
+",
+    },
+    // The repeated tick first, then the listed ones.
+    Case {
+        name: "events of a turn in the order of the script",
         app: ONE_WITH_A_LINE,
         sources: ["loop: b loop\n", "", ""],
         script: "every 2 tick\nat 2 irq 3\nat 2 tick\nat 2 irq 4\n",
-    };
-    let text = "2 tick 1
+        steps: "3",
+        status: 0,
+        text: "2 tick 1
 2 irq 3 held
 2 tick 2
 2 irq 4 none
@@ -431,15 +422,11 @@ end bound 3 2
 task 0 0 well - 00000000 -
 low 00000000 00000000 00000000 00000000 00000000 00000000 00000000 00000000
 high 00000000 00000000 00000000 00000000 00000000 20000040 ffffffff 08000000 0000
-";
-    goes(&rt, rt.alloc(), case, &["--steps", "3"], 0, text)?;
-    Ok(())
-}
-
-// Tasks 1 and 2 have one priority number: 1 runs until it waits, then 2 runs on, also after 1 is woken.
-#[test]
-fn of_equals_the_current_one_goes_on(rt: HostRuntime) -> Result<(), Fail> {
-    let case = Case {
+",
+    },
+    // Tasks 1 and 2 have one priority number: 1 runs until it waits, then 2 runs on, also after 1 is woken.
+    Case {
+        name: "of equals the current one goes on",
         app: THREE,
         sources: [
             " movs r6, #1\n movs r0, #1\n mov r11, r0\n svc #0\nloop: b loop\n",
@@ -447,8 +434,9 @@ fn of_equals_the_current_one_goes_on(rt: HostRuntime) -> Result<(), Fail> {
             "here: b here\n",
         ],
         script: "at 20 tick\n",
-    };
-    let text = "3 call 0 1 00000000 00000000 00000001 00000000 00000000 00000000 00000000
+        steps: "24",
+        status: 0,
+        text: "3 call 0 1 00000000 00000000 00000001 00000000 00000000 00000000 00000000
 3 listen 0 any 00000001
 9 call 1 3 00000001 00000001 00000000 00000001 00000000 00000000 00000000
 9 ret 1 00000001 00000001 00000000 00000001 00000000 00000000
@@ -467,15 +455,11 @@ high 00000000 00000000 00000000 00000001 00000000 20000140 ffffffff 0800011a 000
 task 2 0 well - 00000000 -
 low 00000000 00000000 00000000 00000000 00000000 00000000 00000000 00000000
 high 00000000 00000000 00000000 00000000 00000000 20000240 ffffffff 08000200 0000
-";
-    goes(&rt, rt.alloc(), case, &["--steps", "24"], 0, text)?;
-    Ok(())
-}
-
-// Task 1 runs an undefined instruction.
-#[test]
-fn a_fault_of_another_task_wakes_the_supervisor(rt: HostRuntime) -> Result<(), Fail> {
-    let case = Case {
+",
+    },
+    // Task 1 runs an undefined instruction.
+    Case {
+        name: "a fault of another task wakes the supervisor",
         app: TWO,
         sources: [
             " movs r6, #1\n movs r0, #1\n mov r11, r0\n svc #0\nloop: b loop\n",
@@ -483,8 +467,9 @@ fn a_fault_of_another_task_wakes_the_supervisor(rt: HostRuntime) -> Result<(), F
             "",
         ],
         script: "",
-    };
-    let text = "3 call 0 1 00000000 00000000 00000001 00000000 00000000 00000000 00000000
+        steps: "9",
+        status: 0,
+        text: "3 call 0 1 00000000 00000000 00000001 00000000 00000000 00000000 00000000
 3 listen 0 any 00000001
 4 fault 1 1 08000100 00000000
 4 post 0 00000001 00000001
@@ -496,44 +481,15 @@ high 00000000 00000000 00000000 00000001 00000000 20000040 ffffffff 08000008 000
 task 1 0 faulted:1 - 00000000 -
 low 00000000 00000000 00000000 00000000 00000000 00000000 00000000 00000000
 high 00000000 00000000 00000000 00000000 00000000 20000140 ffffffff 08000100 0000
-";
-    goes(&rt, rt.alloc(), case, &["--steps", "9"], 0, text)?;
-    Ok(())
-}
+",
+    },
+];
 
-// Bits that are posted before RECV are taken at once.
-#[test]
-fn notifications_come_before_listening(rt: HostRuntime) -> Result<(), Fail> {
-    let case = Case {
-        app: TWO,
-        sources: [
-            " movs r4, #1\n movs r5, #0\n movs r7, #1\n movs r0, #3\n mov r11, r0\n svc #0\n movs r6, #1\n movs r0, #1\n mov r11, r0\n svc #0\nloop: b loop\n",
-            "loop: b loop\n",
-            "",
-        ],
-        script: "",
-    };
-    let text = "5 call 0 3 00000001 00000000 00000000 00000001 00000000 00000000 00000000
-5 post 0 00000001 00000001
-5 ret 0 00000001 00000000 00000000 00000001 00000000 00000000
-9 call 0 1 00000001 00000000 00000001 00000001 00000000 00000000 00000000
-9 ret 0 00000000 0000ffff 00000001 00000000 00000000 00000000
-end bound 14 0
-task 0 0 well - 00000000 -
-low 00000001 00000000 00000000 00000000 00000000 0000ffff 00000001 00000000
-high 00000000 00000000 00000000 00000001 00000000 20000040 ffffffff 08000014 0000
-task 1 0 well - 00000000 -
-low 00000000 00000000 00000000 00000000 00000000 00000000 00000000 00000000
-high 00000000 00000000 00000000 00000000 00000000 20000140 ffffffff 08000100 0000
-";
-    goes(&rt, rt.alloc(), case, &["--steps", "14"], 0, text)?;
-    Ok(())
-}
-
-// A move, a call that waits, and then nothing is ready.
-#[test]
-fn all_instructions_are_told(rt: HostRuntime) -> Result<(), Fail> {
-    let case = Case {
+// Runs of which each instruction is told.
+const INSTRUCTIONS: [Case; 3] = [
+    // A move, a call that waits, and then nothing is ready.
+    Case {
+        name: "all instructions are told",
         app: ONE,
         sources: [
             " movs r6, #1\n movs r0, #1\n mov r11, r0\n svc #0\n",
@@ -541,8 +497,9 @@ fn all_instructions_are_told(rt: HostRuntime) -> Result<(), Fail> {
             "",
         ],
         script: "at 4 tick\n",
-    };
-    let text = "0 insn 0 08000000 2601 movs r6, #1
+        steps: "9",
+        status: 0,
+        text: "0 insn 0 08000000 2601 movs r6, #1
 0 low 00000000 00000000 00000000 00000000 00000000 00000000 00000001 00000000
 0 high 00000000 00000000 00000000 00000000 00000000 20000040 ffffffff 08000002 0000
 1 insn 0 08000002 2001 movs r0, #1
@@ -562,15 +519,11 @@ end still 5 1
 task 0 0 well listen 00000000 -
 low 00000001 00000000 00000000 00000000 00000000 00000000 00000001 00000000
 high 00000000 00000000 00000000 00000001 00000000 20000040 ffffffff 08000008 0000
-";
-    goes(&rt, rt.alloc(), case, &["--steps", "9", "--all"], 0, text)?;
-    Ok(())
-}
-
-// A breakpoint; the illegal instruction has no line of its own.
-#[test]
-fn a_fault_is_followed_by_registers(rt: HostRuntime) -> Result<(), Fail> {
-    let case = Case {
+",
+    },
+    // A breakpoint; the illegal instruction has no line of its own.
+    Case {
+        name: "a fault is followed by registers",
         app: TWO,
         sources: [
             " movs r6, #1\n movs r0, #1\n mov r11, r0\n svc #0\nloop: b loop\n",
@@ -578,8 +531,9 @@ fn a_fault_is_followed_by_registers(rt: HostRuntime) -> Result<(), Fail> {
             "",
         ],
         script: "",
-    };
-    let text = "0 insn 0 08000000 2601 movs r6, #1
+        steps: "9",
+        status: 0,
+        text: "0 insn 0 08000000 2601 movs r6, #1
 0 low 00000000 00000000 00000000 00000000 00000000 00000000 00000001 00000000
 0 high 00000000 00000000 00000000 00000000 00000000 20000040 ffffffff 08000002 0000
 1 insn 0 08000002 2001 movs r0, #1
@@ -618,79 +572,109 @@ high 00000000 00000000 00000000 00000001 00000000 20000040 ffffffff 08000008 000
 task 1 0 faulted:6 - 00000000 -
 low 00000000 00000000 00000000 00000000 00000000 00000000 00000000 00000000
 high 00000000 00000000 00000000 00000000 00000000 20000140 08000105 08000104 0000
-";
-    goes(&rt, rt.alloc(), case, &["--steps", "9", "--all"], 0, text)?;
-    Ok(())
-}
-
-#[test]
-fn an_illegal_instruction_is_not_told(rt: HostRuntime) -> Result<(), Fail> {
-    let case = Case {
+",
+    },
+    Case {
+        name: "an illegal instruction is not told",
         app: ONE,
         sources: [" .byte 0, 0xb6\n", "", ""],
         script: "",
-    };
-    let text = "0 fault 0 1 08000000 00000000
+        steps: "3",
+        status: 6,
+        text: "0 fault 0 1 08000000 00000000
 0 low 00000000 00000000 00000000 00000000 00000000 00000000 00000000 00000000
 0 high 00000000 00000000 00000000 00000000 00000000 20000040 ffffffff 08000000 0000
 end supervisor 1 0
 task 0 0 faulted:1 - 00000000 -
 low 00000000 00000000 00000000 00000000 00000000 00000000 00000000 00000000
 high 00000000 00000000 00000000 00000000 00000000 20000040 ffffffff 08000000 0000
-";
-    goes(&rt, rt.alloc(), case, &["--steps", "3", "--all"], 6, text)?;
+",
+    },
+];
+
+#[test]
+fn lines_and_timers(rt: HostRuntime) -> Result<(), Fail> {
+    for case in &LINES_AND_TIMERS {
+        goes(&rt, rt.alloc(), case)?;
+    }
     Ok(())
 }
 
-// A script that is refused, with its cause and line.
+#[test]
+fn receives(rt: HostRuntime) -> Result<(), Fail> {
+    for case in &RECEIVES {
+        goes(&rt, rt.alloc(), case)?;
+    }
+    Ok(())
+}
+
+#[test]
+fn orders(rt: HostRuntime) -> Result<(), Fail> {
+    for case in &ORDERS {
+        goes(&rt, rt.alloc(), case)?;
+    }
+    Ok(())
+}
+
+#[test]
+fn instructions(rt: HostRuntime) -> Result<(), Fail> {
+    for case in &INSTRUCTIONS {
+        goes_with_all(&rt, rt.alloc(), case)?;
+    }
+    Ok(())
+}
+
+// Each cause, and pairs of which the first decides: by the line, and in a line by the number.
+const SCRIPTS: [(&str, &str); 16] = [
+    ("at 1 tick\u{1}\n", "refused e.txt 1 1\n"),
+    ("at x tick\n", "refused e.txt 3 1\n"),
+    ("\nat 5 irq 32\n", "refused e.txt 3 2\n"),
+    ("tick\n", "refused e.txt 2 1\n"),
+    ("at 2 tick\nat 1 tick\n", "refused e.txt 4 2\n"),
+    ("at 2 tick\nevery 3 tick\n", "refused e.txt 4 2\n"),
+    ("every 3 tick\nevery 3 tick\n", "refused e.txt 4 2\n"),
+    (
+        "at 1 tick\nat 1 tick\nat 1 tick\nat 1 tick\nat 1 tick\nat 1 tick\nat 1 tick\nat 1 tick\nat 1 tick\n",
+        "refused e.txt 5 9\n",
+    ),
+    ("every 0 tick\n", "refused e.txt 3 1\n"),
+    ("at 00000000001 tick\n", "refused e.txt 3 1\n"),
+    ("at 1 tick 2\n", "refused e.txt 2 1\n"),
+    ("foo \u{2}\n", "refused e.txt 1 1\n"),
+    ("at x foo\n", "refused e.txt 2 1\n"),
+    ("at 2 tick\nat 1 irq 32\n", "refused e.txt 3 2\n"),
+    (
+        "at 1 tick\nat 1 tick\nat 1 tick\nat 1 tick\nat 1 tick\nat 1 tick\nat 1 tick\nat 1 tick\nat 2 tick\nat 1 tick\n",
+        "refused e.txt 4 10\n",
+    ),
+    (
+        "every 3 tick\nat 2 tick\nevery 0 tick\n",
+        "refused e.txt 3 3\n",
+    ),
+];
+
 fn refuses(
     rt: &impl Abort,
     alloc: Global,
     script: &'static str,
-    cause: u8,
-    line: u32,
+    text: &'static str,
 ) -> Result<(), AllocError> {
     let case = Case {
+        name: script,
         app: ONE,
         sources: ["here: b here\n", "", ""],
         script,
+        steps: "3",
+        status: 1,
+        text,
     };
-    let text = format!(in alloc; "refused e.txt {cause} {line}\n")?;
-    goes(rt, alloc, case, &["--steps", "3"], 1, text.as_str())
+    goes(rt, alloc, &case)
 }
 
-// Each cause, and pairs of which the first decides: by the line, and in a line by the number.
 #[test]
 fn scripts_that_are_refused(rt: HostRuntime) -> Result<(), Fail> {
-    let alloc = rt.alloc();
-    let cases: [(&str, u8, u32); 16] = [
-        ("at 1 tick\u{1}\n", 1, 1),
-        ("at x tick\n", 3, 1),
-        ("\nat 5 irq 32\n", 3, 2),
-        ("tick\n", 2, 1),
-        ("at 2 tick\nat 1 tick\n", 4, 2),
-        ("at 2 tick\nevery 3 tick\n", 4, 2),
-        ("every 3 tick\nevery 3 tick\n", 4, 2),
-        (
-            "at 1 tick\nat 1 tick\nat 1 tick\nat 1 tick\nat 1 tick\nat 1 tick\nat 1 tick\nat 1 tick\nat 1 tick\n",
-            5,
-            9,
-        ),
-        ("every 0 tick\n", 3, 1),
-        ("at 00000000001 tick\n", 3, 1),
-        ("at 1 tick 2\n", 2, 1),
-        ("foo \u{2}\n", 1, 1),
-        ("at x foo\n", 2, 1),
-        ("at 2 tick\nat 1 irq 32\n", 3, 2),
-        (
-            "at 1 tick\nat 1 tick\nat 1 tick\nat 1 tick\nat 1 tick\nat 1 tick\nat 1 tick\nat 1 tick\nat 2 tick\nat 1 tick\n",
-            4,
-            10,
-        ),
-        ("every 3 tick\nat 2 tick\nevery 0 tick\n", 3, 3),
-    ];
-    for (script, cause, line) in cases {
-        refuses(&rt, alloc, script, cause, line)?;
+    for (script, text) in &SCRIPTS {
+        refuses(&rt, rt.alloc(), *script, *text)?;
     }
     Ok(())
 }

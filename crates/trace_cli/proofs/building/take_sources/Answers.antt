@@ -1,12 +1,12 @@
-use Rattle.std.proofs.Common.{◌≡◌, ◌<◌, ◌∙◌, ℕ, map, length, refl, sym, subst, ap, arith, List}
-use Rattle.std.specs.Prelude.{slice_get, string_bytes, Some}
+use Rattle.std.proofs.Common.{◌≡◌, ◌∙◌, ℕ, map, length, sym, subst, ap, arith, List}
+use Rattle.std.specs.Prelude.{slice_get, Some}
 use Rattle.std.proofs.lemmas.List.{length-map}
 use Rattle.app_toml.specs.Apps.{TaskData}
 use Rattle.app_toml.specs.Held.{app_of}
 use Rattle.app_toml.specs.Sites.{task_of}
 use Rattle.image_build.specs.Taken.{described, next_task}
 use Rattle.trace_cli.specs.Contents.{source_refusal}
-use Rattle.trace_cli.specs.Seen.{FilesSeen, files_seen}
+use Rattle.trace_cli.specs.Seen.{files_seen}
 use Rattle.trace_cli.specs.Sources.{File}
 use Rattle.trace_cli.specs.Stops.{HaltsAt}
 use Rattle.trace_cli.specs.Building.{HasNext}

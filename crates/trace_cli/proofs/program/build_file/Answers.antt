@@ -1,4 +1,3 @@
-use Rattle.std.proofs.Common.{refl}
 use Rattle.image_format.specs.Images.{picture}
 use Rattle.command_line.specs.CommandLine.{build}
 use Rattle.trace_cli.specs.Seen.{files_seen, sink_seen}

@@ -3,7 +3,6 @@ use Rattle.std.proofs.lemmas.List.{append-nil}
 use Rattle.std.proofs.lemmas.Result.{err_from_is_err_and}
 use Rattle.std.specs.Io.KnownBytes.{Appends}
 use Rattle.outside_io.specs.Outside.{AppendsFront}
-use Rattle.task_table.specs.State.{State}
 use Rattle.task_table.specs.Start.{start}
 use Rattle.board_core.specs.Run.{Run}
 use Rattle.board_core.specs.declared.told.Level.{Level}
