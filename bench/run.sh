@@ -1,7 +1,8 @@
 #!/usr/bin/env bash
 # Speed of `hubris run` against plain C in the same run: turns per second on the two-instruction image at 10^6, 10^7 and
 # 10^8 steps with peak memory, against loop.c; and against interpreter.c, which writes the same lines: turns per second of
-# the two images compiled by gcc and of the 32 tasks of timers/, and bytes per second of those images with --all.
+# the two images compiled by gcc and of the 32 tasks of timers/, and bytes per second of those images with --all. The
+# images compiled by gcc end in `b .` after their work; here they begin it anew instead.
 # It needs gcc and the built program (crates/hubris/out/hubris, made by `rt ci` or `rt run`).
 # usage: bench/run.sh [PROGRAM]
 set -eu
@@ -18,6 +19,17 @@ images=../crates/image_runs/data
 : > out/empty.txt
 awk -f timers/application.awk > out/timers.toml
 said=$(cd .. && "$program" build bench/out/timers.toml bench/out/timers.img) || { echo "timers not built: $said"; exit 1; }
+# an image compiled by gcc whose last instruction, `b .`, is a branch to its second one; its start and its end no
+# longer take stack, of which each round would take more
+endless() {
+    local code=56
+    cp "$images/$1.img" "out/$1.img"
+    patch() { printf "$2" | dd of="$1" bs=1 seek="$3" conv=notrunc status=none; }
+    patch "out/$1.img" '\000\277' $((code + 6))
+    patch "out/$1.img" '\000\277' $((code + 96))
+    patch "out/$1.img" '\314\347' $((code + 102))
+}
+for image in crc32 bytecode; do endless "$image"; done
 # seconds and peak KiB of a command, the best of three
 measure() { out/measure "$@"; }
 line() { awk -v n="$1" -v what="$2" -v a="$3" -v peak="$4" -v b="$5" -v amount="$6" -v unit="$7" 'BEGIN { printf "%-28s %11d steps %9.1f %s  peak %6d KiB  %.2f of plain C\n", what, n, amount / a / 1e6, unit, peak, b / a }'; }
@@ -43,14 +55,14 @@ play() {
 }
 same out/timers.img timers/script.txt 20000
 same out/timers.img timers/script.txt 20000 --all
-for image in crc32 bytecode; do same "$images/$image.img" out/empty.txt 20000 --all; done
+for image in crc32 bytecode; do same "out/$image.img" out/empty.txt 1000000 --all; done
 for steps in 1000000 10000000 100000000; do
     read -r took peak < <(measure "$program" run "$data/a.img" out/empty.txt --steps "$steps")
     read -r plain _ < <(measure out/loop "$steps")
     line "$steps" "two instructions" "$took" "$peak" "$plain" "$steps" million/s
 done
 for image in crc32 bytecode; do
-    for steps in 10000000 100000000; do play "$image (gcc, Cortex-M0)" "$images/$image.img" out/empty.txt "$steps"; done
+    for steps in 10000000 100000000; do play "$image (gcc, Cortex-M0)" "out/$image.img" out/empty.txt "$steps"; done
 done
 for steps in 1000000 10000000; do play "32 tasks with timers" out/timers.img timers/script.txt "$steps"; done
-for image in crc32 bytecode; do play "$image, --all" "$images/$image.img" out/empty.txt 1000000 --all; done
+for image in crc32 bytecode; do play "$image, --all" "out/$image.img" out/empty.txt 1000000 --all; done
