@@ -56,6 +56,17 @@ fn go_on(board: &mut Board) -> Turned
     board.turn_at(Level::Calls)
 }
 
+// Turns on end.
+fn advance(board: &mut Board, level: Level, limit: u32)
+    requires left { turns_of board.old < limit }
+    requires few { limit < 1000 }
+    requires stood { Stood board.old }
+    ensures stood { Stood board.new }
+    ensures turns { turns_of board.new ≤ limit }
+{
+    board.advance(level, limit);
+}
+
 #[test]
 fn a_board_opens(rt: HostRuntime) -> Result<(), Fail> {
     let board = board(&rt, rt.alloc(), 0x2001, 0xe7fe)?;
@@ -183,7 +194,7 @@ fn a_tick_comes_every_second_turn(rt: HostRuntime) -> Result<(), Fail> {
 #[test]
 fn quiet_turns_are_made_up_to_the_limit(rt: HostRuntime) -> Result<(), Fail> {
     let mut board = board(&rt, rt.alloc(), 0x2001, 0xe7fe)?;
-    board.advance(Level::Calls, 100);
+    advance(&mut board, Level::Calls, 100);
     assert_eq!(rt; board.turns(), 100);
     assert_eq!(rt; board.notes().len(), 0);
     let task = board.task(0).expect(&rt, "there is a task");
@@ -195,10 +206,10 @@ fn quiet_turns_are_made_up_to_the_limit(rt: HostRuntime) -> Result<(), Fail> {
 #[test]
 fn quiet_turns_end_before_an_event(rt: HostRuntime) -> Result<(), Fail> {
     let mut board = with_script(&rt, rt.alloc(), 0x2001, 0xe7fe, b"at 7 tick\n")?;
-    board.advance(Level::Calls, 100);
+    advance(&mut board, Level::Calls, 100);
     assert_eq!(rt; board.turns(), 7);
     assert_eq!(rt; board.now(), 0);
-    board.advance(Level::Calls, 200);
+    advance(&mut board, Level::Calls, 200);
     assert_eq!(rt; board.turns(), 8);
     assert_eq!(rt; board.notes().get(0).copied(), Some(Note::Tick { now: 1 }));
     Ok(())
@@ -207,7 +218,7 @@ fn quiet_turns_end_before_an_event(rt: HostRuntime) -> Result<(), Fail> {
 #[test]
 fn quiet_turns_end_with_a_note(rt: HostRuntime) -> Result<(), Fail> {
     let mut board = board(&rt, rt.alloc(), 0x2001, 0xde00)?;
-    board.advance(Level::Calls, 100);
+    advance(&mut board, Level::Calls, 100);
     assert_eq!(rt; board.turns(), 2);
     assert_eq!(rt; board.notes().len(), 1);
     assert_eq!(rt; board.ended(), Some(End::Supervisor));
@@ -217,7 +228,7 @@ fn quiet_turns_end_with_a_note(rt: HostRuntime) -> Result<(), Fail> {
 #[test]
 fn turns_are_made_one_by_one_where_all_is_told(rt: HostRuntime) -> Result<(), Fail> {
     let mut board = board(&rt, rt.alloc(), 0x2001, 0xe7fe)?;
-    board.advance(Level::All, 100);
+    advance(&mut board, Level::All, 100);
     assert_eq!(rt; board.turns(), 1);
     assert_eq!(rt; board.notes().len(), 3);
     Ok(())
