@@ -1,8 +1,10 @@
 #!/usr/bin/env bash
 # Speed of `hubris run` against plain C in the same run: turns per second on the two-instruction image at 10^6, 10^7 and
 # 10^8 steps with peak memory, against loop.c; and against interpreter.c, which writes the same lines: turns per second of
-# the two images compiled by gcc and of the 32 tasks of timers/, and bytes per second of those images with --all. The
-# images compiled by gcc end in `b .` after their work; here they begin it anew instead.
+# images compiled by gcc and of the 32 tasks of timers/, and bytes per second of two of those images with --all. crc32 and
+# bytecode end in `b .` after their work; here they begin it anew instead. The others (programs/) work for ever.
+# Where valgrind is there, the host's instructions a turn are counted too: they do not depend on the clock, and the script
+# ends with status 1 where one is above its limit, since an inlining that is lost is silent otherwise.
 # It needs gcc and the built program (crates/hubris/out/hubris, made by `rt ci` or `rt run`).
 # usage: bench/run.sh [PROGRAM]
 set -eu
@@ -30,6 +32,8 @@ endless() {
     patch "out/$1.img" '\314\347' $((code + 102))
 }
 for image in crc32 bytecode; do endless "$image"; done
+for image in sha256 quicksort softfloat; do cp "programs/$image.img" out/; done
+compiled="crc32 sha256 quicksort bytecode softfloat"
 # seconds and peak KiB of a command, the best of three
 measure() { out/measure "$@"; }
 line() { awk -v n="$1" -v what="$2" -v a="$3" -v peak="$4" -v b="$5" -v amount="$6" -v unit="$7" 'BEGIN { printf "%-28s %11d steps %9.1f %s  peak %6d KiB  %.2f of plain C\n", what, n, amount / a / 1e6, unit, peak, b / a }'; }
@@ -55,14 +59,31 @@ play() {
 }
 same out/timers.img timers/script.txt 20000
 same out/timers.img timers/script.txt 20000 --all
-for image in crc32 bytecode; do same "out/$image.img" out/empty.txt 1000000 --all; done
+for image in $compiled; do same "out/$image.img" out/empty.txt 1000000 --all; done
 for steps in 1000000 10000000 100000000; do
     read -r took peak < <(measure "$program" run "$data/a.img" out/empty.txt --steps "$steps")
     read -r plain _ < <(measure out/loop "$steps")
     line "$steps" "two instructions" "$took" "$peak" "$plain" "$steps" million/s
 done
-for image in crc32 bytecode; do
+for image in $compiled; do
     for steps in 10000000 100000000; do play "$image (gcc, Cortex-M0)" "out/$image.img" out/empty.txt "$steps"; done
 done
 for steps in 1000000 10000000; do play "32 tasks with timers" out/timers.img timers/script.txt "$steps"; done
 for image in crc32 bytecode; do play "$image, --all" "out/$image.img" out/empty.txt 1000000 --all; done
+command -v valgrind > out/valgrind.txt || { echo "host instructions a turn: not counted, there is no valgrind"; exit 0; }
+# the host's instructions of a run
+host() {
+    valgrind --tool=callgrind --callgrind-out-file=out/callgrind.txt "$program" run "$@" 2>&1 > out/ours.txt | awk '/Collected/ { print $4 }'
+}
+# those of 10^6 turns more, and the most that they may be for one turn
+short=0
+instructions() {
+    local what=$1 most=$2 few many
+    shift 2
+    few=$(host "$@" --steps 200000)
+    many=$(host "$@" --steps 1200000)
+    awk -v what="$what" -v n=$((many - few)) -v most="$most" 'BEGIN { printf "%-28s %7.1f host instructions a turn, at most %d\n", what, n / 1e6, most; exit n / 1e6 > most }' || short=1
+}
+for image in $compiled; do instructions "$image" 90 "out/$image.img" out/empty.txt; done
+instructions "32 tasks with timers" 720 out/timers.img timers/script.txt
+exit $short
