@@ -1,6 +1,3 @@
-pub mod Whole
-pub mod InsnKeeps
-pub mod TableKeeps
 pub mod Counts
 pub mod TurnKeeps
 pub mod Running
@@ -19,3 +16,4 @@ pub mod Telling
 pub mod Outside
 pub mod CallRows
 pub mod Beside
+pub mod Doing

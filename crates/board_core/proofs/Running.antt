@@ -1,5 +1,5 @@
 -- What the executor says over the bus is the turn's instruction.
-use Rattle.std.proofs.Common.{◌≡◌, ◌≤◌, ℕ, Bool, true, false, cond, not, List, [], ◌∷◌, ◌&&◌, Option, Some, None, is_none, refl, sym, subst, ◌∙◌, ap}
+use Rattle.std.proofs.Common.{arith, ◌≡◌, ◌≤◌, ℕ, Bool, true, false, cond, not, List, [], ◌∷◌, ◌&&◌, Option, Some, None, is_none, refl, sym, subst, ◌∙◌, ap}
 use Rattle.std.specs.Prelude.{fold}
 use Rattle.std.proofs.lemmas.Bool.{false≢true}
 use Rattle.kernel_abi.specs.declared.Fault.{Fault}
@@ -26,7 +26,8 @@ use Rattle.board_core.specs.declared.told.Level.{Level}
 use Rattle.board_core.specs.Machine.{IsStored}
 use Rattle.board_core.specs.declared.choice.Choice.{Choice}
 use Rattle.board_core.specs.Kept.{IsChoice}
-use Rattle.board_core.proofs.TableKeeps.{keeps_coded}
+use Rattle.thumb_exec.specs.Keeps.{IsRaised, Keeps}
+use Rattle.thumb_exec.proofs.Keeping.{keeps as keeps_coded}
 use Rattle.board_core.proofs.TurnKeeps.{whole_cpu}
 
 -- what the bus says of a store
@@ -118,7 +119,8 @@ pub trap_known : (g : Setup) (t : Turn) (insn : Insn) (f : Fault) → Sane g t.s
 trap_known g t insn f sane coded is =
     let whole = whole_cpu t.state.current t sane sane.steady.current in
     let keeps = keeps_coded (refusals g t.state.current) (number_at t.state.memory) (cpu_of (task_at t.state t.state.current)) insn coded whole in
-    rw is at keeps
+    let raised : IsRaised f = rw is at keeps in
+    (omega (arith, raised.0), omega (arith, raised.1))
 
 -- ## the turn, by what was fetched
 

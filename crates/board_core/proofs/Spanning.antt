@@ -1,10 +1,12 @@
 -- What one region gives to a range, it gives to each of its bytes.
-use Rattle.std.proofs.Common.{◌≡◌, ◌+◌, ◌<◌, ◌≤◌, ℕ, suc, Bool, true, false, ◌&&◌, ◌||◌, List, [], ◌∷◌, refl, arith, leb}
+use Rattle.std.proofs.Common.{◌≡◌, ◌+◌, ◌<◌, ◌≤◌, ℕ, suc, Bool, true, false, ◌&&◌, ◌||◌, List, [], ◌∷◌, None, not, ap, refl, arith, leb}
 use Rattle.std.proofs.lemmas.Bool.{false≢true, le-leb, leb-true}
 use Rattle.region_check.specs.declared.Region.{Region}
 use Rattle.region_check.specs.declared.Right.{Right}
 use Rattle.region_check.specs.Rights.{has_right, is_inside, gives, may_use}
+use Rattle.region_check.proofs.FirstBad.{find_range_none}
 use Rattle.board_core.specs.Spans.{spans, one_gives}
+use Rattle.board_core.specs.Turn.{first_lacking}
 
 both : (a b : Bool) → (a && b) ≡ true → (a ≡ true) × (b ≡ true)
 both true b h = (refl, h)
@@ -36,3 +38,9 @@ each_given (r ∷ rs) right a n x h from below = by_first (spans r a n && has_ri
         let two = both (spans r a n) (has_right r.rights right) e in
         or_left (gives right x r) (may_use rs right x) (and_true (is_inside r x) (has_right r.rights right) (inside r a n x two.0 from below) two.1)
     by_first false e h rest = or_right (gives right x r) (may_use rs right x) (rest h)
+
+-- and none of them is lacking
+pub given_none : (regions : List Region) (right : Right) (a n x m : ℕ) → one_gives right a n regions ≡ true → a ≤ x → x + m ≤ a + n → first_lacking (may_use regions) x m right ≡ None
+given_none regions right a n x m h from below =
+    let test : ℕ → Bool = λ b. not (may_use regions right b) in
+    find_range_none test x m (λ b f l. ap not (each_given regions right a n b h (omega (arith, from, f)) (omega (arith, below, l))))

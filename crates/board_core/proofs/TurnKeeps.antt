@@ -29,8 +29,11 @@ use Rattle.board_core.specs.declared.told.Level.{Level}
 use Rattle.board_core.specs.declared.told.Level.TheVariants.{Calls, All}
 use Rattle.board_core.specs.Script.{Scenario}
 use Rattle.board_core.specs.Turn.{refusals, cpu_of, bytes_of, put, acted, executed, told, decoded_as, is_text, stepped, happened, after_events, with_current, with_registers_told, turn_of, ended, turn}
-use Rattle.board_core.proofs.Whole.{IsWholeCpu, IsPermitted, Keeps, Effects}
-use Rattle.board_core.proofs.TableKeeps.{effects}
+use Rattle.thumb_exec.specs.Keeps.{IsWholeCpu, IsPermitted, Keeps}
+use Rattle.thumb_exec.proofs.Keeping.{keeps}
+use Rattle.thumb_insn.specs.Table.{narrow_of, wide_of, narrow_result, wide_result, with_second}
+use Rattle.thumb_insn.specs.Range.{IsCoded}
+use Rattle.thumb_insn.specs.declared.Code.TheVariants.{One, Two}
 
 -- ## small things
 
@@ -101,7 +104,7 @@ module _ {g : Setup} (c : ℕ) (t : Turn) (h : Sane g t.state) (inside : c < len
       let h1 = sane-puts (refusals g c) stores t h k.1 in
       sane-processor c cpu.regs.words cpu.flags (fold put t stores) h1 (still h h1 inside) record { sixteen = k.0.sixteen; even = k.0.even; aligned = k.0.aligned }
   acted-sane ready Call k = let h1 = sane-call_noted c t h inside in sane-called c (call_noted c t) h1 (still h h1 inside) (ready-call_noted c t ready)
-  acted-sane ready (Trap f) k = sane-faulted c f t h inside k.0 k.1
+  acted-sane ready (Trap f) k = sane-faulted c f t h inside (omega (arith, k.0)) (omega (arith, k.1))
 
   pub whole_cpu : IsWholeCpu (cpu_of (task_at t.state c))
   whole_cpu = let x = h.steady.tasks c inside in record { sixteen = x.sixteen; even = x.even; aligned = x.aligned }
@@ -129,10 +132,28 @@ half_small m a flash ram = by_ram (leb 0x20000000 a)
     by_ram true = number_small (drop (a - 0x20000000) m.ram) (λ b here. ram b (drop_in _ m.ram b here))
     by_ram false = by_flash (leb 0x08000000 a)
 
+narrow_coded : (h : ℕ) (o : Option Insn) (i : Insn) → narrow_of h ≡ o → h < 65536 → (narrow_result o ≡ Narrow i) ⊎ (narrow_result o ≡ Wide i) → IsCoded i
+narrow_coded h (Some j) i is f (inl e) = let same : j ≡ i = cc in (One h, f, is ∙ ap Some same)
+narrow_coded h (Some j) i is f (inr e) = absurd cc
+narrow_coded h None i is f (inl e) = absurd cc
+narrow_coded h None i is f (inr e) = absurd cc
+
+wide_coded : (first second : ℕ) (o : Option Insn) (i : Insn) → wide_of (first * 65536 + second) ≡ o → first < 65536 → second < 65536 → (wide_result o ≡ Narrow i) ⊎ (wide_result o ≡ Wide i) → IsCoded i
+wide_coded first second (Some j) i is f g (inr e) = let same : j ≡ i = cc in (Two first second, (f, g), is ∙ ap Some same)
+wide_coded first second (Some j) i is f g (inl e) = absurd cc
+wide_coded first second None i is f g (inl e) = absurd cc
+wide_coded first second None i is f g (inr e) = absurd cc
+
+-- what a code decodes to has that code
+decoded_coded : (first : ℕ) (two : Option ℕ) (i : Insn) → first < 65536 → IfSome two (λ x. x < 65536) → (b : Bool) → (cond b (with_second first two) (narrow_result (narrow_of first)) ≡ Narrow i) ⊎ (cond b (with_second first two) (narrow_result (narrow_of first)) ≡ Wide i) → IsCoded i
+decoded_coded first two i f g false e = narrow_coded first (narrow_of first) i refl f e
+decoded_coded first (Some second) i f g true e = wide_coded first second (wide_of (first * 65536 + second)) i refl f g e
+decoded_coded first None i f g true (inl e) = absurd cc
+decoded_coded first None i f g true (inr e) = absurd cc
+
 keeps-here : {g : Setup} (c : ℕ) (t : Turn) (h : Sane g t.state) (inside : c < length t.state.tasks) (first : ℕ) (two : Option ℕ) (insn : Insn) → first < 65536 → IfSome two (λ x. x < 65536) → (decoded_of first two ≡ Narrow insn) ⊎ (decoded_of first two ≡ Wide insn) →
     Keeps (refusals g c) (effect (refusals g c) (number_at t.state.memory) (cpu_of (task_at t.state c)) insn)
-unfolding Effects
-keeps-here {g} c t h inside first two insn f1 f2 e = effects (refusals g c) (number_at t.state.memory) (cpu_of (task_at t.state c)) first two insn f1 f2 e (whole_cpu c t h inside)
+keeps-here {g} c t h inside first two insn f1 f2 e = keeps (refusals g c) (number_at t.state.memory) (cpu_of (task_at t.state c)) insn (decoded_coded first two insn f1 f2 (is_wide first) e) (whole_cpu c t h inside)
 
 -- what is told changes no state
 pub told_state : (level : Level) (n : Note) (t : Turn) → (told level n t).state ≡ t.state

@@ -11,3 +11,4 @@ pub mod Midway
 pub mod Stands
 pub mod Advanced
 pub mod Told
+pub mod Did

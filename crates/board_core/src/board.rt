@@ -9,7 +9,7 @@ ghost use Rattle.task_table.specs.Reading.{setup_at};
 ghost use Rattle.task_table.specs.Start.{start};
 ghost use Rattle.task_table.specs.Parts.{task_setup, line_setup};
 ghost use Rattle.task_table.specs.declared.Line.{Line};
-ghost use Rattle.task_table.specs.Holds.{Holds as KernelHolds, task_count};
+ghost use Rattle.task_table.specs.Holds.{Holds as KernelHolds, task_count, current_of};
 ghost use Rattle.run_script.specs.Events.{script_data};
 ghost use Rattle.run_script.specs.Scripts.{lasts};
 ghost use Rattle.board_core.specs.declared.told.Level.TheVariants.{All, Calls};
@@ -210,31 +210,70 @@ impl Board {
         let until = quiet_until(self.due, limit);
         let text = self.machine.text(task);
         'turns: while self.turns < until && self.notes().is_empty() {
-            self.go_on(task, &text);
-        }
-    }
-
-    /// One turn of the task that is chosen, in which no event is due.
-    #[inline(always)]
-    fn go_on(&mut self, task: usize, text: &Region)
-        requires few { turns_of self.old < 1000000000 }
-        requires stood { Stood self.old }
-        requires nothing { notes_of self.old ≡ [] }
-        requires later { self.old.due ≢ Some (turns_of self.old) }
-        requires next { self.old.choice.next ≡ Some task }
-        requires text { IsText self.old.machine.reach.kernel task text.now }
-        ensures model { (x : Scenario) (s : State) → Stands x self.old s → Stands x self.new (turn Calls x s).state }
-        ensures notes { (x : Scenario) (s : State) → Stands x self.old s → notes_of self.new ≡ (turn Calls x s).notes }
-        ensures turns { turns_of self.new ≡ turns_of self.old + 1 }
-        ensures due { self.new.due ≡ self.old.due }
-        ensures kept { notes_of self.new ≡ [] → self.new.choice ≡ self.old.choice }
-    {
-        if !self.proceeds(task, text) {
+            self.go_on(task, &text, until);
+            if self.turns >= until {
+                return;
+            }
             self.turn_on();
         }
     }
 
-    /// The same, where its instruction proceeds; else nothing changes, and the answer is false.
+    /// Further turns of the task that is chosen, as long as each proceeds; none where the processor is not
+    /// lent to it.
+    fn go_on(&mut self, task: usize, text: &Region, until: u32)
+        requires few { until ≤ 1000000000 }
+        requires left { turns_of self.old ≤ until }
+        requires stood { Stood self.old }
+        requires nothing { notes_of self.old ≡ [] }
+        requires later { (turn : ℕ) → turn < until → self.old.due ≢ Some turn }
+        requires next { self.old.choice.next ≡ Some task }
+        requires up { self.old.choice.down ≡ false }
+        requires text { IsText self.old.machine.reach.kernel task text.now }
+        ensures advanced { (x : Scenario) (n : ℕ) (s : State) → IsAdvanced Calls x n s self.old → IsAdvanced Calls x (n + (turns_of self.new - turns_of self.old)) s self.new }
+        ensures more { turns_of self.old ≤ turns_of self.new }
+        ensures within { turns_of self.new ≤ until }
+        ensures stood { Stood self.new }
+        ensures nothing { notes_of self.new ≡ [] }
+        ensures due { self.new.due ≡ self.old.due }
+        ensures kept { self.new.choice ≡ self.old.choice }
+        ensures text { IsText self.new.machine.reach.kernel task text.now }
+    {
+        if self.machine.is_lent_to(task) {
+            self.proceed_on(task, text, until);
+        }
+    }
+
+    /// The same, where the processor is lent to it.
+    #[inline(never)]
+    fn proceed_on(&mut self, task: usize, text: &Region, until: u32)
+        requires few { until ≤ 1000000000 }
+        requires left { turns_of self.old ≤ until }
+        requires stood { Stood self.old }
+        requires nothing { notes_of self.old ≡ [] }
+        requires later { (turn : ℕ) → turn < until → self.old.due ≢ Some turn }
+        requires next { self.old.choice.next ≡ Some task }
+        requires up { self.old.choice.down ≡ false }
+        requires text { IsText self.old.machine.reach.kernel task text.now }
+        requires lent { self.old.machine.lent ≡ true }
+        requires current { current_of self.old.machine.reach.kernel ≡ task }
+        ensures advanced { (x : Scenario) (n : ℕ) (s : State) → IsAdvanced Calls x n s self.old → IsAdvanced Calls x (n + (turns_of self.new - turns_of self.old)) s self.new }
+        ensures more { turns_of self.old ≤ turns_of self.new }
+        ensures within { turns_of self.new ≤ until }
+        ensures stood { Stood self.new }
+        ensures nothing { notes_of self.new ≡ [] }
+        ensures due { self.new.due ≡ self.old.due }
+        ensures kept { self.new.choice ≡ self.old.choice }
+        ensures text { IsText self.new.machine.reach.kernel task text.now }
+    {
+        'quick: while self.turns < until {
+            if !self.proceeds(task, text) {
+                return;
+            }
+        }
+    }
+
+    /// One turn of the task that is chosen and to which the processor is lent, in which no event is due,
+    /// where its instruction proceeds; else nothing changes, and the answer is false.
     #[inline(always)]
     fn proceeds(&mut self, task: usize, text: &Region) -> bool
         requires few { turns_of self.old < 1000000000 }
@@ -242,17 +281,19 @@ impl Board {
         requires nothing { notes_of self.old ≡ [] }
         requires later { self.old.due ≢ Some (turns_of self.old) }
         requires next { self.old.choice.next ≡ Some task }
+        requires lent { self.old.machine.lent ≡ true }
+        requires current { current_of self.old.machine.reach.kernel ≡ task }
         requires text { IsText self.old.machine.reach.kernel task text.now }
         ensures model { result ≡ true → (x : Scenario) (s : State) → Stands x self.old s → Stands x self.new (turn Calls x s).state }
         ensures notes { result ≡ true → (x : Scenario) (s : State) → Stands x self.old s → notes_of self.new ≡ (turn Calls x s).notes }
+        ensures nothing { result ≡ true → notes_of self.new ≡ [] }
         ensures turns { result ≡ true → turns_of self.new ≡ turns_of self.old + 1 }
         ensures due { result ≡ true → self.new.due ≡ self.old.due }
         ensures kept { result ≡ true → self.new.choice ≡ self.old.choice }
+        ensures lent { result ≡ true → self.new.machine.lent ≡ true }
+        ensures current { result ≡ true → current_of self.new.machine.reach.kernel ≡ task }
         ensures left { result ≡ false → self.new ≡ self.old }
     {
-        if !self.machine.is_lent_to(task) {
-            return false;
-        }
         if !self.machine.proceeds(text) {
             return false;
         }

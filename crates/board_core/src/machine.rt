@@ -1,12 +1,12 @@
 //! The kernel as the bus of its current task, and one instruction of that task.
-ghost use Rattle.std.specs.Prelude.{◌≡◌, ◌≢◌, ◌⊎◌, ◌&&◌, ◌+◌, ◌*◌, ◌≤◌, ◌<◌, ◌%◌, ◌^◌, ◌/◌, ◌∷◌, [], ℕ, Option, Some, true, false, fold, take, drop, slice_get};
+ghost use Rattle.std.specs.Prelude.{◌≡◌, ◌≢◌, ◌⊎◌, ◌&&◌, ◌+◌, ◌*◌, ◌≤◌, ◌<◌, ◌%◌, ◌^◌, ◌/◌, ◌∷◌, [], ℕ, Option, Some, true, false, fold, take, drop, slice_get, None, MatchResult};
 ghost use Rattle.run_script.specs.Events.{script_data};
 ghost use Rattle.run_script.specs.Scripts.{events_of};
 ghost use Rattle.region_check.specs.Rights.{may_use, has_right};
-ghost use Rattle.region_check.specs.declared.Right.TheVariants.{Execute};
+ghost use Rattle.region_check.specs.declared.Right.TheVariants.{Execute, Read};
 ghost use Rattle.board_core.specs.Spans.{spans, one_gives};
 ghost use Rattle.task_table.specs.State.{Setup, Turn};
-ghost use Rattle.task_table.specs.Reading.{is_ready, task_at};
+ghost use Rattle.task_table.specs.Reading.{is_ready, task_at, setup_at, register};
 ghost use Rattle.task_table.specs.Start.{begun};
 ghost use Rattle.task_table.specs.Memory.{number_at};
 ghost use Rattle.task_table.specs.Effects.{faulted};
@@ -17,6 +17,7 @@ ghost use Rattle.thumb_insn.specs.Table.{is_wide};
 ghost use Rattle.thumb_exec.specs.Sizes.{IsSize};
 ghost use Rattle.board_core.specs.Turn.{first_lacking, with_current, refusals, is_text, put, told, happened, stepped, stepped_wide, decoded_as, executed, cpu_of, with_registers_told, turn_of, turned_of};
 ghost use Rattle.board_core.specs.Midway.{happened_next};
+ghost use Rattle.board_core.specs.Did.{Did};
 ghost use Rattle.board_core.specs.Machine.{IsStored, IsReady, IsNext, MachineHolds, MachineStands, IsLent};
 ghost use Rattle.board_core.specs.Texts.{GivesText, IsText};
 ghost use Rattle.board_core.specs.declared.told.Level.TheVariants.{Calls};
@@ -27,7 +28,7 @@ use kernel_abi::{Fault, Note};
 use region_check::{Region, Right, Rights, may};
 use run_script::{Event, Script};
 use task_table::Kernel;
-use thumb_decode::decode;
+use thumb_decode::{Taker, decode, narrow_to};
 use thumb_exec::bus::Bus;
 use thumb_exec::cpu::{Cpu, Outcome};
 use thumb_exec::step::{exec, proceed};
@@ -39,6 +40,10 @@ use words_core::{Flags, Regs};
 #[derive(Drop)]
 pub struct Reach {
     pub kernel: Kernel,
+
+    /// Which of the current task's regions are asked first. What is right does not hang on it.
+    pub data: usize,
+    pub text: usize,
 }
 
 /// A kernel and a processor. While the processor is lent to the current task, that task's registers
@@ -117,6 +122,46 @@ fn write(kernel: &mut Kernel, addr: u32, n: u32, value: u32)
     }
 }
 
+impl Reach {
+    /// Whether this one region of the current task gives the right to all of n bytes.
+    #[inline(always)]
+    fn region_gives(&self, k: usize, addr: u32, n: u32, right: Right) -> bool
+        ensures { result ≡ true → one_gives right addr n (setup_at (setup_of self.now.kernel) (current_of self.now.kernel)).regions ≡ true }
+    {
+        match self.kernel.regions(self.kernel.current()).get(k) {
+            Some(r) => spans(r, addr, n) && grants(&r.rights, right),
+            None => false,
+        }
+    }
+
+    /// The first of n bytes that lacks the right.
+    #[inline(never)]
+    fn lacks(&self, addr: u32, n: u32, right: Right) -> Option<u32>
+        requires { addr + n ≤ 2 ^ 32 }
+        ensures { result ≡ refusals (setup_of self.now.kernel) (current_of self.now.kernel) addr n right }
+    {
+        first_lacking(self.kernel.regions(self.kernel.current()), addr, n, right)
+    }
+}
+
+impl Reach {
+    /// A load from elsewhere than the region that is asked first.
+    #[inline(never)]
+    fn load_beyond(&self, addr: u32, n: u32) -> Result<u32, u32>
+        requires size { IsSize n }
+        requires end { addr + n ≤ 2 ^ 32 }
+        ensures { MatchResult result (λ value. (refusals (setup_of self.now.kernel) (current_of self.now.kernel) addr n Read ≡ None) × (value ≡ number_at (memory_of self.now.kernel) addr n)) (λ at. refusals (setup_of self.now.kernel) (current_of self.now.kernel) addr n Read ≡ Some at) }
+    {
+        if self.region_gives(self.text, addr, n, Right::Read) {
+            return Ok(self.kernel.number(addr, n));
+        }
+        match self.lacks(addr, n, Right::Read) {
+            Some(at) => Err(at),
+            None => Ok(self.kernel.number(addr, n)),
+        }
+    }
+}
+
 impl Bus for Reach {
     ghost refuses = { λ m a n r. refusals (setup_of m.kernel) (current_of m.kernel) a n r };
 
@@ -124,24 +169,30 @@ impl Bus for Reach {
 
     ghost stored = { λ m a n v m'. IsStored m.kernel a n v m'.kernel };
 
+    #[inline(always)]
     fn allows(&self, addr: u32, n: u32, right: Right) -> Option<u32> {
-        first_lacking(self.kernel.regions(self.kernel.current()), addr, n, right)
+        if self.region_gives(self.data, addr, n, right) {
+            return None;
+        }
+        self.lacks(addr, n, right)
     }
 
     fn fetch(&self, addr: u32) -> Result<u16, u32> {
-        match self.allows(addr, 2, Right::Execute) {
+        match self.lacks(addr, 2, Right::Execute) {
             Some(at) => Err(at),
             None => Ok(self.kernel.half(addr)),
         }
     }
 
+    #[inline(always)]
     fn load(&self, addr: u32, n: u32) -> Result<u32, u32> {
-        match self.allows(addr, n, Right::Read) {
-            Some(at) => Err(at),
-            None => Ok(self.kernel.number(addr, n)),
+        if self.region_gives(self.data, addr, n, Right::Read) {
+            return Ok(self.kernel.number(addr, n));
         }
+        self.load_beyond(addr, n)
     }
 
+    #[inline(always)]
     fn store(&mut self, addr: u32, n: u32, value: u32) -> Result<(), u32> {
         match self.allows(addr, n, Right::Write) {
             Some(at) => Err(at),
@@ -150,6 +201,14 @@ impl Bus for Reach {
                 Ok(())
             }
         }
+    }
+
+    #[inline(always)]
+    fn gives(&self, addr: u32, count: u32, right: Right) -> bool {
+        if 4 * count > 0xFFFF_FFFF - addr {
+            return false;
+        }
+        self.region_gives(self.data, addr, 4 * count, right)
     }
 }
 
@@ -224,7 +283,11 @@ impl Machine {
             v: false,
         };
         Machine {
-            reach: Reach { kernel },
+            reach: Reach {
+                kernel,
+                data: 0,
+                text: 0,
+            },
             processor: Cpu {
                 regs: Regs::of([0; 16]),
                 flags,
@@ -279,6 +342,11 @@ impl Machine {
         self.reach.kernel.set_current(task);
         self.processor = cpu(&self.reach.kernel, task);
         self.lent = true;
+        let regions = self.reach.kernel.regions(task);
+        let text = place_of(regions, self.processor.regs.get(15));
+        let data = place_of(regions, self.processor.regs.get(13));
+        self.reach.text = text;
+        self.reach.data = data;
     }
 }
 
@@ -563,8 +631,7 @@ impl Machine {
     }
 
     /// One instruction of the current task, told as calls, events and faults are, where it is fetched from
-    /// the task's text and needs no more than `proceed` does; else nothing changes, and the answer is
-    /// false.
+    /// the task's text and neither calls nor faults; else nothing changes, and the answer is false.
     #[inline(always)]
     pub fn proceeds(&mut self, text: &Region) -> bool
         requires ready { (g : Setup) × (t : Turn) × IsReady g self.old t }
@@ -572,6 +639,11 @@ impl Machine {
         ensures done { result ≡ true → (g : Setup) (t : Turn) → IsReady g self.old t → MachineHolds g self.new (stepped Calls g t.state.current t) }
         ensures kept { result ≡ false → self.new ≡ self.old }
         ensures count { result ≡ true → note_count self.new.reach.kernel ≡ note_count self.old.reach.kernel }
+        ensures lent { result ≡ true → self.new.lent ≡ self.old.lent }
+        ensures current { result ≡ true → current_of self.new.reach.kernel ≡ current_of self.old.reach.kernel }
+
+        // It declines a narrow instruction of the text only where the turn notes something: a call or a fault.
+        ensures goes { result ≡ false → (g : Setup) (t : Turn) → IsReady g self.old t → spans text.now (register t.state t.state.current 15) 2 ≡ true → is_wide (number_at t.state.memory (register t.state t.state.current 15) 2) ≡ false → (stepped Calls g t.state.current t).notes ≢ [] }
     {
         let at = self.processor.regs.get(15);
         if !spans(text, at, 2) {
@@ -579,11 +651,58 @@ impl Machine {
         }
         let first = self.reach.kernel.half(at);
         if first / 2048 >= 29 {
+            return self.proceeds_wide(text, first, at);
+        }
+        narrow_to(first, self)
+    }
+
+    /// The same where the first halfword begins a wide instruction.
+    #[inline(never)]
+    fn proceeds_wide(&mut self, text: &Region, first: u16, at: u32) -> bool
+        requires ready { (g : Setup) × (t : Turn) × IsReady g self.old t }
+        requires text { IsText self.old.reach.kernel (current_of self.old.reach.kernel) text.now }
+        ensures done { result ≡ true → (g : Setup) (t : Turn) → IsReady g self.old t → MachineHolds g self.new (stepped_wide Calls g t.state.current at first t) }
+        ensures kept { result ≡ false → self.new ≡ self.old }
+        ensures count { result ≡ true → note_count self.new.reach.kernel ≡ note_count self.old.reach.kernel }
+        ensures lent { result ≡ true → self.new.lent ≡ self.old.lent }
+        ensures current { result ≡ true → current_of self.new.reach.kernel ≡ current_of self.old.reach.kernel }
+    {
+        if at >= 0xFFFF_FFFE {
             return false;
         }
-        match decode(first, None) {
-            Decoded::Narrow(insn) => proceed(&mut self.processor, &insn, &mut self.reach),
+        let after = at + 2;
+        if !spans(text, after, 2) {
+            return false;
+        }
+        let second = self.reach.kernel.half(after);
+        match decode(first, Some(second)) {
+            Decoded::Wide(wide) => proceed(&mut self.processor, &wide, &mut self.reach),
             _ => false,
         }
     }
+}
+
+impl Taker for Machine {
+    ghost did = { λ a d r b. Did a d r b };
+
+    #[inline(always)]
+    fn take(&mut self, h: u16, insn: Insn) -> bool {
+        proceed(&mut self.processor, &insn, &mut self.reach)
+    }
+
+    #[inline(always)]
+    fn illegal(&mut self) -> bool {
+        false
+    }
+}
+
+/// Which region has an address or ends at it; how many there are where none does.
+fn place_of(regions: &[Region], at: u32) -> usize {
+    for k in 0..regions.len() {
+        let region = regions[k];
+        if region.base <= at && at - region.base <= region.size {
+            return k;
+        }
+    }
+    regions.len()
 }

@@ -83,4 +83,8 @@ impl Bus for Words {
             Err(addr)
         }
     }
+
+    fn gives(&self, _addr: u32, _count: u32, _right: Right) -> bool {
+        false
+    }
 }

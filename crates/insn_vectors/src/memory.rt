@@ -173,4 +173,8 @@ impl Bus for Memory {
         }
         Ok(())
     }
+
+    fn gives(&self, _addr: u32, _count: u32, _right: Right) -> bool {
+        false
+    }
 }

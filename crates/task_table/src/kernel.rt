@@ -106,6 +106,7 @@ impl Kernel {
     }
 
     /// The task that ran last.
+    #[inline(always)]
     pub fn current(&self) -> usize
         ensures value { result ≡ current_of self.now }
         ensures holds { (g : Setup) (t : Turn) → Holds g self.now t → result ≡ t.state.current }
@@ -152,6 +153,7 @@ impl Kernel {
     }
 
     /// The bytes that a task may use; none where there is no such task.
+    #[inline(always)]
     pub fn regions(&self, task: usize) -> &[Region]
         ensures value { result.now ≡ (setup_at (setup_of self.now) task).regions }
         ensures holds { (g : Setup) (t : Turn) → Holds g self.now t → result.now ≡ (setup_at g task).regions }
@@ -291,6 +293,7 @@ impl Kernel {
 
     /// The number that 1, 2 or 4 bytes from an address on spell, the lowest first. Where there is no
     /// memory a byte counts as 0.
+    #[inline(always)]
     pub fn number(&self, addr: u32, size: u32) -> u32
         requires { (size ≡ 1) ⊎ (size ≡ 2) ⊎ (size ≡ 4) }
         ensures value { result ≡ number_at (memory_of self.now) addr size }
@@ -497,6 +500,7 @@ impl Kernel {
 
     /// The number that the two bytes from an address on spell, the lowest first. Where there is no
     /// memory a byte counts as 0.
+    #[inline(always)]
     pub fn half(&self, addr: u32) -> u16
         ensures value { result ≡ number_at (memory_of self.now) addr 2 }
         ensures holds { (g : Setup) (t : Turn) → Holds g self.now t → result ≡ number_at t.state.memory addr 2 }
@@ -505,6 +509,7 @@ impl Kernel {
     }
 
     /// Whether so many bytes from an address on lie in the RAM.
+    #[inline(always)]
     pub fn is_ram(&self, addr: u32, count: u32) -> bool
         ensures { result ≡ is_ram (memory_of self.now) addr count }
     {

@@ -98,6 +98,7 @@ impl Memory {
 
     /// The number that 1, 2 or 4 bytes from an address on spell, the lowest first. Where there is no
     /// memory a byte counts as 0.
+    #[inline(always)]
     pub fn number(&self, addr: u32, size: u32) -> u32
         requires { (size ≡ 1) ⊎ (size ≡ 2) ⊎ (size ≡ 4) }
         ensures { result ≡ number_at self.now addr size }
@@ -123,6 +124,7 @@ impl Memory {
     }
 
     /// Whether so many bytes from an address on lie in the RAM.
+    #[inline(always)]
     pub fn is_ram(&self, addr: u32, count: u32) -> bool
         ensures { result ≡ is_ram self.now addr count }
     {

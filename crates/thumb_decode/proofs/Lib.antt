@@ -1,1 +1,1 @@
-mod Coded
+pub mod Coded

@@ -397,3 +397,9 @@ Effects c c' o (Next d []) = (o ≡ outcome.Next) × (c' ≡ d)
 Effects c c' o (Next d (s ∷ ss)) = ⊥
 Effects c c' o Call = (o ≡ outcome.Call) × (c' ≡ c)
 Effects c c' o (Trap f) = (o ≡ outcome.Trap f) × (c' ≡ c)
+
+-- An effect after which the instruction does not simply go on.
+abbrev pub Halts : Effect → Type 0
+Halts (Next d ss) = ⊥
+Halts Call = Unit {0}
+Halts (Trap f) = Unit {0}

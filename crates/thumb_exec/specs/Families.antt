@@ -3,7 +3,7 @@ use Rattle.std.specs.Prelude.{Bool, true, false}
 use Rattle.thumb_insn.specs.declared.Op.{Op}
 use Rattle.thumb_insn.specs.declared.Op.TheVariants as op
 use Rattle.thumb_insn.specs.declared.Insn.{Insn}
-use Rattle.thumb_insn.specs.declared.Insn.TheVariants.{AddsReg, SubsReg, AddsImm3, SubsImm3, AddsImm8, SubsImm8, CmpImm, CmpHigh, ShiftImm, MovsImm, Data, Change, Mrs, AddHigh, MovHigh, Adr, AddSp, RaiseSp, LowerSp, LdrLiteral, LoadReg, LoadImm, LoadSp, StoreReg, StoreImm, StoreSp, Push, Stm, Bx, Blx, BranchIf, Branch, Bl, Svc, Bkpt, Cpsie, Cpsid, Hint, Fence, Msr}
+use Rattle.thumb_insn.specs.declared.Insn.TheVariants.{AddsReg, SubsReg, AddsImm3, SubsImm3, AddsImm8, SubsImm8, CmpImm, CmpHigh, ShiftImm, MovsImm, Data, Change, Mrs, AddHigh, MovHigh, Adr, AddSp, RaiseSp, LowerSp, LdrLiteral, LoadReg, LoadImm, LoadSp, StoreReg, StoreImm, StoreSp, Push, Stm, Bx, Blx, BranchIf, Branch, Bl, Cpsie, Cpsid, Hint, Fence, Msr}
 
 -- sums and differences
 abbrev pub IsSum : Insn → Type 0
@@ -57,23 +57,21 @@ IsStoreAll (Push list lr) = Unit {0}
 IsStoreAll (Stm n list) = Unit {0}
 IsStoreAll i = ⊥
 
--- branches that only move PC
+-- branches by an offset, which always go on
 abbrev pub IsBranch : Insn → Type 0
 IsBranch (BranchIf cond offset) = Unit {0}
 IsBranch (Branch offset) = Unit {0}
+IsBranch (Bl offset) = Unit {0}
 IsBranch i = ⊥
 
--- branches to a register or with a link
+-- branches to a register
 abbrev pub IsJump : Insn → Type 0
 IsJump (Bx m) = Unit {0}
 IsJump (Blx m) = Unit {0}
-IsJump (Bl offset) = Unit {0}
 IsJump i = ⊥
 
--- calls, hints, barriers and the flags from a register
+-- hints, barriers and the flags from a register
 abbrev pub IsSystem : Insn → Type 0
-IsSystem (Svc i) = Unit {0}
-IsSystem (Bkpt i) = Unit {0}
 IsSystem Cpsie = Unit {0}
 IsSystem Cpsid = Unit {0}
 IsSystem (Hint i) = Unit {0}
@@ -81,30 +79,38 @@ IsSystem (Fence barrier i) = Unit {0}
 IsSystem (Msr n) = Unit {0}
 IsSystem i = ⊥
 
--- what may call or fault, or moves several words
-abbrev pub NeedsMore : Insn → Type 0
-NeedsMore (AddsReg d n m) = ⊥
-NeedsMore (SubsReg d n m) = ⊥
-NeedsMore (AddsImm3 d n i) = ⊥
-NeedsMore (SubsImm3 d n i) = ⊥
-NeedsMore (AddsImm8 d i) = ⊥
-NeedsMore (SubsImm8 d i) = ⊥
-NeedsMore (ShiftImm shift d m by) = ⊥
-NeedsMore (MovsImm d i) = ⊥
-NeedsMore (Data op d m) = ⊥
-NeedsMore (Change bytes d m) = ⊥
-NeedsMore (Mrs d) = ⊥
-NeedsMore (CmpImm n i) = ⊥
-NeedsMore (CmpHigh n m) = ⊥
-NeedsMore (AddHigh d m) = ⊥
-NeedsMore (MovHigh d m) = ⊥
-NeedsMore (Adr d i) = ⊥
-NeedsMore (AddSp d i) = ⊥
-NeedsMore (RaiseSp i) = ⊥
-NeedsMore (LowerSp i) = ⊥
-NeedsMore (BranchIf cond offset) = ⊥
-NeedsMore (Branch offset) = ⊥
-NeedsMore i = Unit {0}
+-- what moves several words, branches to a register, calls, or is rare
+abbrev pub IsRest : Insn → Type 0
+IsRest (AddsReg d n m) = ⊥
+IsRest (SubsReg d n m) = ⊥
+IsRest (AddsImm3 d n i) = ⊥
+IsRest (SubsImm3 d n i) = ⊥
+IsRest (AddsImm8 d i) = ⊥
+IsRest (SubsImm8 d i) = ⊥
+IsRest (ShiftImm shift d m by) = ⊥
+IsRest (MovsImm d i) = ⊥
+IsRest (Data op d m) = ⊥
+IsRest (Change bytes d m) = ⊥
+IsRest (Mrs d) = ⊥
+IsRest (CmpImm n i) = ⊥
+IsRest (CmpHigh n m) = ⊥
+IsRest (AddHigh d m) = ⊥
+IsRest (MovHigh d m) = ⊥
+IsRest (Adr d i) = ⊥
+IsRest (AddSp d i) = ⊥
+IsRest (RaiseSp i) = ⊥
+IsRest (LowerSp i) = ⊥
+IsRest (LdrLiteral t i) = ⊥
+IsRest (LoadReg k t n m) = ⊥
+IsRest (LoadImm s t n i) = ⊥
+IsRest (LoadSp t i) = ⊥
+IsRest (StoreReg s t n m) = ⊥
+IsRest (StoreImm s t n i) = ⊥
+IsRest (StoreSp t i) = ⊥
+IsRest (BranchIf cond offset) = ⊥
+IsRest (Branch offset) = ⊥
+IsRest (Bl offset) = ⊥
+IsRest i = Unit {0}
 
 -- of two low registers, flags alone
 abbrev pub is_test : Op → Bool

@@ -100,6 +100,7 @@ pub fn compare(cpu: &mut Cpu, n: Reg, y: u32)
 }
 
 /// What is computed of two low registers, with its flags.
+#[inline(always)]
 fn computed(cpu: &Cpu, op: Op, d: Reg, m: Reg) -> (u32, Flags)
     requires first { d.number < 8 }
     requires second { m.number < 8 }
@@ -128,6 +129,7 @@ fn computed(cpu: &Cpu, op: Op, d: Reg, m: Reg) -> (u32, Flags)
 }
 
 /// Computes of two low registers, and goes on.
+#[inline(always)]
 pub fn data(cpu: &mut Cpu, op: Op, d: Reg, m: Reg)
     requires first { d.number < 8 }
     requires second { m.number < 8 }

@@ -1,5 +1,5 @@
 //! What an instruction sees of memory.
-ghost use Rattle.std.specs.Prelude.{◌≡◌, ℕ, ◌<◌, ◌≤◌, ◌+◌, ◌%◌, ◌^◌, Option, Some, None, MatchOption, MatchResult, IfOk, IfErr};
+ghost use Rattle.std.specs.Prelude.{◌≡◌, ℕ, ◌<◌, ◌≤◌, ◌+◌, ◌%◌, ◌^◌, Option, Some, None, MatchOption, MatchResult, IfOk, IfErr, ◌*◌, true};
 ghost use Rattle.thumb_exec.specs.Sizes.{IsSize};
 ghost use Rattle.region_check.specs.declared.Right.{Right as Rights};
 ghost use Rattle.region_check.specs.declared.Right.TheVariants.{Read, Write, Execute};
@@ -46,4 +46,11 @@ pub trait Bus {
         ensures done { IfOk result (λ done. (refuses self.old addr n Write ≡ None) × stored self.old addr n value self.new) }
         ensures refused { IfErr result (λ at. (refuses self.old addr n Write ≡ Some at) × (self.new ≡ self.old)) }
         ensures rights { (a m : ℕ) (r : Rights) → refuses self.new a m r ≡ refuses self.old a m r };
+
+    /// Whether one test tells that each of so many words from an address on gives the right; false says
+    /// nothing.
+    fn gives(&self, addr: u32, count: u32, right: Right) -> bool
+        requires aligned { addr % 4 ≡ 0 }
+        requires few { count ≤ 16 }
+        ensures { result ≡ true → (k : ℕ) → k < count → refuses self.now ((addr + 4 * k) % 2 ^ 32) 4 right ≡ None };
 }

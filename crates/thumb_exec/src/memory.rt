@@ -55,6 +55,7 @@ fn low_part(word: u32, size: Size) -> u32
 }
 
 /// Loads a register and goes on.
+#[inline(always)]
 pub fn load<B: Bus>(cpu: &mut Cpu, bus: &mut B, kind: Load, t: Reg, addr: u32) -> Outcome
     requires { t.number < 16 }
     ensures { Acts B.stored cpu.old cpu.new bus.old bus.new result (load_effect (B.refuses bus.old) (B.holds bus.old) cpu.old kind t addr) }
@@ -74,6 +75,7 @@ pub fn load<B: Bus>(cpu: &mut Cpu, bus: &mut B, kind: Load, t: Reg, addr: u32) -
 }
 
 /// Stores a register's low bytes and goes on.
+#[inline(always)]
 pub fn store<B: Bus>(cpu: &mut Cpu, bus: &mut B, size: Size, t: Reg, addr: u32) -> Outcome
     requires { t.number < 16 }
     ensures { Acts B.stored cpu.old cpu.new bus.old bus.new result (store_effect (B.refuses bus.old) cpu.old size t addr) }
@@ -88,49 +90,6 @@ pub fn store<B: Bus>(cpu: &mut Cpu, bus: &mut B, size: Size, t: Reg, addr: u32) 
         Ok(()) => {
             advance(cpu, 2);
             Outcome::Next
-        }
-    }
-}
-
-/// Loads a register and goes on, where that is permitted; else nothing changes.
-#[inline(always)]
-pub fn try_load<B: Bus>(cpu: &mut Cpu, bus: &B, kind: Load, t: Reg, addr: u32) -> bool
-    requires { t.number < 16 }
-    ensures done { result ≡ true → load_effect (B.refuses bus.now) (B.holds bus.now) cpu.old kind t addr ≡ Next cpu.new [] }
-    ensures kept { result ≡ false → cpu.new ≡ cpu.old }
-{
-    let n = loaded_bytes(kind);
-    if addr % n != 0 {
-        return false;
-    }
-    match bus.load(addr, n) {
-        Err(_) => false,
-        Ok(value) => {
-            cpu.regs.set(usize::from(t.number), widen(kind, value));
-            advance(cpu, 2);
-            true
-        }
-    }
-}
-
-/// Stores a register's low bytes and goes on, where that is permitted; else nothing changes.
-#[inline(always)]
-pub fn try_store<B: Bus>(cpu: &mut Cpu, bus: &mut B, size: Size, t: Reg, addr: u32) -> bool
-    requires { t.number < 16 }
-    ensures done { result ≡ true → Acts B.stored cpu.old cpu.new bus.old bus.new outcome.Next (store_effect (B.refuses bus.old) cpu.old size t addr) }
-    ensures cpu { result ≡ false → cpu.new ≡ cpu.old }
-    ensures bus { result ≡ false → bus.new ≡ bus.old }
-{
-    let n = bytes_of(size);
-    if addr % n != 0 {
-        return false;
-    }
-    let value = low_part(get(cpu, t), size);
-    match bus.store(addr, n, value) {
-        Err(_) => false,
-        Ok(()) => {
-            advance(cpu, 2);
-            true
         }
     }
 }

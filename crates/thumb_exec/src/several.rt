@@ -33,6 +33,9 @@ fn refused<B: Bus>(bus: &B, mask: u16, addr: u32, right: Right) -> Option<u32>
     requires { addr % 4 ≡ 0 }
     ensures { result ≡ first_refused (B.refuses bus.now) right (transfers mask addr) }
 {
+    if bus.gives(addr, count_of(mask), right) {
+        return None;
+    }
     let mut at = addr;
     for k in 0..16_usize {
         if (mask >> k) % 2 == 1 {

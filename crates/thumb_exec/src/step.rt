@@ -1,9 +1,9 @@
 //! One instruction, row by row of the table, in families that each a function executes.
 ghost use Rattle.std.specs.Prelude.{◌≡◌, ◌<◌, ℕ, Bool, [], true, false};
-ghost use Rattle.thumb_exec.specs.Effect.{Acts, Effects, Next, Refusals, Contents, effect, load_effect, store_effect, store_all, sum_to, put, advance, shifted};
+ghost use Rattle.thumb_exec.specs.Effect.{Acts, Effects, Halts, Next, Refusals, Contents, effect, load_effect, store_effect, store_all, sum_to, put, advance, shifted};
 ghost use Rattle.thumb_exec.specs.declared.cpu.Outcome.TheVariants as outcome;
 ghost use Rattle.words_core.specs.Words.{awc};
-ghost use Rattle.thumb_exec.specs.Families.{IsSum, IsData, IsAddress, IsBranch, IsJump, IsSystem, IsLoad, IsStore, IsStoreAll, NeedsMore};
+ghost use Rattle.thumb_exec.specs.Families.{IsSum, IsData, IsAddress, IsBranch, IsJump, IsSystem, IsLoad, IsStore, IsStoreAll, IsRest};
 ghost use Rattle.thumb_insn.specs.Range.{InRange, IsCoded};
 
 use crate::arith::{advance, compare, data, finish_sum, get, set, with_nz, with_nzc};
@@ -12,13 +12,14 @@ use crate::control::{
     base, branch_to, change, flags_of, flags_word, holds, link, link_to, operand, put_any, target,
 };
 use crate::cpu::{Cpu, Outcome};
-use crate::memory::{load, store, try_load, try_store};
+use crate::memory::{load, store};
 use crate::several::{count_of, ldm, mask_of, pop, store_all};
 use kernel_abi::Fault;
 use thumb_insn::{Insn, Load, Reg, Shift, Size};
 use words_core::{add_with_carry, asr, lsl, lsr};
 
 /// A shift by a number of bits.
+#[inline(always)]
 fn shift(by: Shift, x: u32, n: u8, c: bool) -> (u32, bool)
     ensures { result ≡ shifted by x n c }
 {
@@ -139,7 +140,7 @@ fn place(cpu: &mut Cpu, insn: Insn)
     }
 }
 
-/// Branches that only move PC.
+/// Branches by an offset, which always go on.
 #[tactic(auto, unfolding(crate::specs::Effect::effect))]
 #[inline(always)]
 fn branch(cpu: &mut Cpu, insn: Insn)
@@ -160,12 +161,18 @@ fn branch(cpu: &mut Cpu, insn: Insn)
             let to = target(cpu, offset);
             cpu.regs.set(15, to);
         }
+        Insn::Bl { offset } => {
+            let to = target(cpu, offset);
+            link(cpu, 4);
+            cpu.regs.set(15, to);
+        }
         _ => unreachable!(),
     }
 }
 
-/// Branches to a register or with a link.
+/// Branches to a register.
 #[tactic(auto, unfolding(crate::specs::Effect::effect))]
+#[inline(always)]
 fn jump(cpu: &mut Cpu, insn: Insn) -> Outcome
     requires family { IsJump insn }
     requires range { InRange insn }
@@ -180,38 +187,24 @@ fn jump(cpu: &mut Cpu, insn: Insn) -> Outcome
             let value = get(cpu, m);
             link_to(cpu, value)
         }
-        Insn::Bl { offset } => {
-            let to = target(cpu, offset);
-            link(cpu, 4);
-            cpu.regs.set(15, to);
-            Outcome::Next
-        }
         _ => unreachable!(),
     }
 }
 
-/// Calls, hints, barriers and the flags' status.
+/// Hints, barriers and the flags from a register.
 #[tactic(auto, unfolding(crate::specs::Effect::effect))]
-fn system(cpu: &mut Cpu, insn: Insn) -> Outcome
+#[inline(always)]
+fn system(cpu: &mut Cpu, insn: Insn)
     requires family { IsSystem insn }
     requires range { InRange insn }
-    ensures { (refuses : Refusals) (holds : Contents) → Effects cpu.old cpu.new result (effect refuses holds cpu.old insn) }
+    ensures { (refuses : Refusals) (holds : Contents) → effect refuses holds cpu.old insn ≡ Next cpu.new [] }
 {
     match insn {
-        Insn::Svc { .. } => Outcome::Call,
-        Insn::Bkpt { value } => Outcome::Trap(Fault::breakpoint(value)),
-        Insn::Cpsie | Insn::Cpsid | Insn::Hint { .. } => {
-            advance(cpu, 2);
-            Outcome::Next
-        }
-        Insn::Fence { .. } => {
-            advance(cpu, 4);
-            Outcome::Next
-        }
+        Insn::Cpsie | Insn::Cpsid | Insn::Hint { .. } => advance(cpu, 2),
+        Insn::Fence { .. } => advance(cpu, 4),
         Insn::Msr { n } => {
             cpu.flags = flags_of(get(cpu, n));
             advance(cpu, 4);
-            Outcome::Next
         }
         _ => unreachable!(),
     }
@@ -275,6 +268,7 @@ fn storing(cpu: &Cpu, insn: Insn) -> (Size, Reg, u32)
 
 /// Which registers a store of several words stores and where, and which register then has which word.
 #[tactic(auto, unfolding(crate::specs::Effect::effect))]
+#[inline(always)]
 fn storing_all(cpu: &Cpu, insn: Insn) -> (u16, u32, Reg, u32)
     requires family { IsStoreAll insn }
     requires range { InRange insn }
@@ -296,16 +290,38 @@ fn storing_all(cpu: &Cpu, insn: Insn) -> (u16, u32, Reg, u32)
     }
 }
 
-/// Executes an instruction whose fields are in range, where it neither calls nor faults and moves at most one
-/// unit of memory; else nothing changes.
-#[tactic(auto, using(crate::proofs::Acting::acts_next, crate::proofs::Acting::acts_of))]
+/// Executes what moves several words, branches to a register, calls, or is rare.
+#[tactic(auto, using(crate::proofs::Acting::acts_next, crate::proofs::Acting::acts_of), unfolding(crate::specs::Effect::effect))]
+#[inline(never)]
+fn rest<B: Bus>(cpu: &mut Cpu, insn: Insn, bus: &mut B) -> Outcome
+    requires range { InRange insn }
+    requires rest { IsRest insn }
+    ensures { Acts B.stored cpu.old cpu.new bus.old bus.new result (effect (B.refuses bus.old) (B.holds bus.old) cpu.old insn) }
+{
+    match insn {
+        Insn::Push { .. } | Insn::Stm { .. } => {
+            let (mask, addr, d, value) = storing_all(cpu, insn);
+            store_all(cpu, bus, mask, addr, d, value)
+        }
+        Insn::Ldm { n, list } => ldm(cpu, bus, n, list),
+        Insn::Pop { list, pc } => pop(cpu, bus, list, pc),
+        Insn::Bx { .. } | Insn::Blx { .. } => jump(cpu, insn),
+        Insn::Svc { .. } => Outcome::Call,
+        Insn::Bkpt { value } => Outcome::Trap(Fault::breakpoint(value)),
+        Insn::Cpsie | Insn::Cpsid | Insn::Hint { .. } | Insn::Fence { .. } | Insn::Msr { .. } => {
+            system(cpu, insn);
+            Outcome::Next
+        }
+        _ => unreachable!(),
+    }
+}
+
+/// Executes an instruction whose fields are in range.
+#[tactic(auto, using(crate::proofs::Acting::acts_next, crate::proofs::Acting::acts_of), unfolding(crate::specs::Effect::effect))]
 #[inline(always)]
-fn proceed_with<B: Bus>(cpu: &mut Cpu, insn: Insn, bus: &mut B) -> bool
+fn step<B: Bus>(cpu: &mut Cpu, insn: Insn, bus: &mut B) -> Outcome
     requires { InRange insn }
-    ensures done { result ≡ true → Acts B.stored cpu.old cpu.new bus.old bus.new outcome.Next (effect (B.refuses bus.old) (B.holds bus.old) cpu.old insn) }
-    ensures more { result ≡ false → NeedsMore insn }
-    ensures cpu { result ≡ false → cpu.new ≡ cpu.old }
-    ensures bus { result ≡ false → bus.new ≡ bus.old }
+    ensures { Acts B.stored cpu.old cpu.new bus.old bus.new result (effect (B.refuses bus.old) (B.holds bus.old) cpu.old insn) }
 {
     match insn {
         Insn::AddsReg { .. }
@@ -315,7 +331,7 @@ fn proceed_with<B: Bus>(cpu: &mut Cpu, insn: Insn, bus: &mut B) -> bool
         | Insn::AddsImm8 { .. }
         | Insn::SubsImm8 { .. } => {
             sum(cpu, insn);
-            true
+            Outcome::Next
         }
         Insn::ShiftImm { .. }
         | Insn::MovsImm { .. }
@@ -325,7 +341,7 @@ fn proceed_with<B: Bus>(cpu: &mut Cpu, insn: Insn, bus: &mut B) -> bool
         | Insn::Change { .. }
         | Insn::Mrs { .. } => {
             compute(cpu, insn);
-            true
+            Outcome::Next
         }
         Insn::AddHigh { .. }
         | Insn::MovHigh { .. }
@@ -334,35 +350,12 @@ fn proceed_with<B: Bus>(cpu: &mut Cpu, insn: Insn, bus: &mut B) -> bool
         | Insn::RaiseSp { .. }
         | Insn::LowerSp { .. } => {
             place(cpu, insn);
-            true
+            Outcome::Next
         }
-        Insn::BranchIf { .. } | Insn::Branch { .. } => {
+        Insn::BranchIf { .. } | Insn::Branch { .. } | Insn::Bl { .. } => {
             branch(cpu, insn);
-            true
+            Outcome::Next
         }
-        Insn::LdrLiteral { .. }
-        | Insn::LoadReg { .. }
-        | Insn::LoadImm { .. }
-        | Insn::LoadSp { .. } => {
-            let (kind, t, addr) = loading(cpu, insn);
-            try_load(cpu, bus, kind, t, addr)
-        }
-        Insn::StoreReg { .. } | Insn::StoreImm { .. } | Insn::StoreSp { .. } => {
-            let (size, t, addr) = storing(cpu, insn);
-            try_store(cpu, bus, size, t, addr)
-        }
-        _ => false,
-    }
-}
-
-/// Executes an instruction that may call or fault, or that moves several words.
-#[tactic(auto, using(crate::proofs::Acting::acts_next, crate::proofs::Acting::acts_of))]
-fn finish<B: Bus>(cpu: &mut Cpu, insn: Insn, bus: &mut B) -> Outcome
-    requires range { InRange insn }
-    requires more { NeedsMore insn }
-    ensures { Acts B.stored cpu.old cpu.new bus.old bus.new result (effect (B.refuses bus.old) (B.holds bus.old) cpu.old insn) }
-{
-    match insn {
         Insn::LdrLiteral { .. }
         | Insn::LoadReg { .. }
         | Insn::LoadImm { .. }
@@ -374,33 +367,8 @@ fn finish<B: Bus>(cpu: &mut Cpu, insn: Insn, bus: &mut B) -> Outcome
             let (size, t, addr) = storing(cpu, insn);
             store(cpu, bus, size, t, addr)
         }
-        Insn::Push { .. } | Insn::Stm { .. } => {
-            let (mask, addr, d, value) = storing_all(cpu, insn);
-            store_all(cpu, bus, mask, addr, d, value)
-        }
-        Insn::Ldm { n, list } => ldm(cpu, bus, n, list),
-        Insn::Pop { list, pc } => pop(cpu, bus, list, pc),
-        Insn::Bx { .. } | Insn::Blx { .. } | Insn::Bl { .. } => jump(cpu, insn),
-        Insn::Svc { .. }
-        | Insn::Bkpt { .. }
-        | Insn::Cpsie
-        | Insn::Cpsid
-        | Insn::Hint { .. }
-        | Insn::Fence { .. }
-        | Insn::Msr { .. } => system(cpu, insn),
-        _ => unreachable!(),
+        _ => rest(cpu, insn, bus),
     }
-}
-
-/// Executes an instruction whose fields are in range.
-fn step<B: Bus>(cpu: &mut Cpu, insn: Insn, bus: &mut B) -> Outcome
-    requires { InRange insn }
-    ensures { Acts B.stored cpu.old cpu.new bus.old bus.new result (effect (B.refuses bus.old) (B.holds bus.old) cpu.old insn) }
-{
-    if proceed_with(cpu, insn, bus) {
-        return Outcome::Next;
-    }
-    finish(cpu, insn, bus)
 }
 
 /// Executes an instruction at PC, one that some code means: exactly the effect that its row in the
@@ -410,6 +378,7 @@ fn step<B: Bus>(cpu: &mut Cpu, insn: Insn, bus: &mut B) -> Outcome
 /// its right, State, Breakpoint. A fault and a call leave processor and bus as they are; the kernel
 /// advances PC after a call.
 #[tactic(auto, using(thumb_insn::proofs::InRange::coded_in_range))]
+#[inline(never)]
 pub fn exec<B: Bus>(cpu: &mut Cpu, insn: &Insn, bus: &mut B) -> Outcome
     requires { IsCoded insn.now }
     ensures { Acts B.stored cpu.old cpu.new bus.old bus.new result (effect (B.refuses bus.old) (B.holds bus.old) cpu.old insn.now) }
@@ -417,16 +386,19 @@ pub fn exec<B: Bus>(cpu: &mut Cpu, insn: &Insn, bus: &mut B) -> Outcome
     step(cpu, *insn, bus)
 }
 
-/// Executes an instruction at PC, one that some code means, as `exec` does, where it needs no more than
-/// the processor and one unit of memory and neither calls nor faults; else nothing changes, and the
-/// answer is false. Most instructions of most programs proceed.
-#[tactic(auto, using(thumb_insn::proofs::InRange::coded_in_range))]
+/// Executes an instruction at PC, one that some code means, as `exec` does, where it goes on. Where it calls
+/// or faults nothing changes, and the answer is false.
+#[tactic(auto, using(thumb_insn::proofs::InRange::coded_in_range, crate::proofs::Acting::acts_halted))]
 #[inline(always)]
 pub fn proceed<B: Bus>(cpu: &mut Cpu, insn: &Insn, bus: &mut B) -> bool
     requires { IsCoded insn.now }
     ensures done { result ≡ true → Acts B.stored cpu.old cpu.new bus.old bus.new outcome.Next (effect (B.refuses bus.old) (B.holds bus.old) cpu.old insn.now) }
+    ensures halts { result ≡ false → Halts (effect (B.refuses bus.old) (B.holds bus.old) cpu.old insn.now) }
     ensures cpu { result ≡ false → cpu.new ≡ cpu.old }
     ensures bus { result ≡ false → bus.new ≡ bus.old }
 {
-    proceed_with(cpu, *insn, bus)
+    match step(cpu, *insn, bus) {
+        Outcome::Next => true,
+        _ => false,
+    }
 }

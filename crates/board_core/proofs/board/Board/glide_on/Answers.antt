@@ -29,28 +29,41 @@ pub turns-preserved : goal.turns-preserved
 turns-preserved c =
     let inv = c.turns.invariant in
     let b = c.turns.self in
-    let b' = c.go_on.new.self in
+    let b1 = c.go_on.new.self in
+    let b' = c.turn_on.new.self in
     let none : notes_of b ≡ [] = sym c.notes.ensures ∙ empty_of c.notes.result.now (sym c.is_empty.ensures ∙ c.if-is_empty.true) in
-    let x0 : Scenario = inv.stood.0 in
-    let s0 : State = inv.stood.1 in
-    let st0 = inv.stood.2 in
-    let st1 = c.go_on.ensures.model x0 s0 st0 in
-    let setup : setup_of b.machine.reach.kernel ≡ setup_of b'.machine.reach.kernel = setup_seen x0.setup b.machine _ st0.holds.machine ∙ sym (setup_seen x0.setup b'.machine _ st1.holds.machine) in
+    let x0 : Scenario = c.go_on.ensures.stood.0 in
+    let s0 : State = c.go_on.ensures.stood.1 in
+    let st0 = c.go_on.ensures.stood.2 in
+    let st1 = c.turn_on.ensures.model x0 s0 st0 in
+    let setup : setup_of b1.machine.reach.kernel ≡ setup_of b'.machine.reach.kernel = setup_seen x0.setup b1.machine _ st0.holds.machine ∙ sym (setup_seen x0.setup b'.machine _ st1.holds.machine) in
     let P : Setup → Type 0 = λ g. GivesText (setup_at g c.args.task).regions c.text-text.result in
-    let choice : b.choice ≡ c.args.self.now.choice = inv.kept none in
+    let choice : b1.choice ≡ c.args.self.now.choice = c.go_on.ensures.kept ∙ inv.kept none in
+    let from = inv.from in
+    let gone = c.go_on.ensures.more in
+    let more = c.turn_on.ensures.turns in
     record {
       advanced = λ x n s a.
           let m : ℕ = n + (turns_of b - turns_of c.args.self.now) in
-          let before = inv.advanced x n s a in
-          let goes = chosen_goes x (turn_after Calls x m s).state b.choice c.args.task before.stands.holds.choice (ap (λ (k : Choice). k.next) choice ∙ c.requires.next) (ap (λ (k : Choice). k.down) choice ∙ c.requires.up) in
-          let from = inv.from in
-          let more = c.go_on.ensures.turns in
-          let e : suc m ≡ n + (turns_of b' - turns_of c.args.self.now) = omega (arith, from, more) in
-          subst (λ (k : ℕ). IsAdvanced Calls x k s b') e (one_more Calls x m s b b' before none goes (λ u st. c.go_on.ensures.model x u st) (λ u st. c.go_on.ensures.notes x u st));
+          let m1 : ℕ = m + (turns_of b1 - turns_of b) in
+          let before = c.go_on.ensures.advanced x m s (inv.advanced x n s a) in
+          let goes = chosen_goes x (turn_after Calls x m1 s).state b1.choice c.args.task before.stands.holds.choice (ap (λ (k : Choice). k.next) choice ∙ c.requires.next) (ap (λ (k : Choice). k.down) choice ∙ c.requires.up) in
+          let e : suc m1 ≡ n + (turns_of b' - turns_of c.args.self.now) = omega (arith, from, gone, more) in
+          subst (λ (k : ℕ). IsAdvanced Calls x k s b') e (one_more Calls x m1 s b1 b' before c.go_on.ensures.nothing goes (λ u st. c.turn_on.ensures.model x u st) (λ u st. c.turn_on.ensures.notes x u st));
       stood = (x0, (turn Calls x0 s0).state, st1);
-      text = subst P setup inv.text;
-      from = omega (arith, inv.from, c.go_on.ensures.turns);
-      within = omega (arith, c.turns-test.true, c.quiet_until-until.ensures.within, c.go_on.ensures.turns);
-      due = c.go_on.ensures.due ∙ inv.due;
-      kept = λ after. c.go_on.ensures.kept after ∙ choice;
+      text = subst P setup c.go_on.ensures.text;
+      from = omega (arith, from, gone, more);
+      within = omega (arith, c.if-self-until.false, c.quiet_until-until.ensures.within, more);
+      due = c.turn_on.ensures.due ∙ c.go_on.ensures.due ∙ inv.due;
+      kept = λ after. c.turn_on.ensures.kept after ∙ choice;
     }
+
+pub returns-then-self-until-clause-advanced : goal.returns-then-self-until-clause-advanced
+returns-then-self-until-clause-advanced c = λ x n s a.
+    let b = c.turns.self in
+    let b1 = c.go_on.new.self in
+    let m : ℕ = n + (turns_of b - turns_of c.args.self.now) in
+    let from = c.turns.invariant.from in
+    let gone = c.go_on.ensures.more in
+    let e : m + (turns_of b1 - turns_of b) ≡ n + (turns_of b1 - turns_of c.args.self.now) = omega (arith, from, gone) in
+    subst (λ (k : ℕ). IsAdvanced Calls x k s b1) e (c.go_on.ensures.advanced x m s (c.turns.invariant.advanced x n s a))

@@ -26,7 +26,7 @@ pub returns-clause-midway : goal.returns-clause-midway
 returns-clause-midway c = λ x s due.
     let g = x.setup in
     let b = c.args.self.now in
-    let m : Machine = record { reach = record { kernel = c.settle.new.self.reach.kernel }; processor = c.settle.new.self.processor; lent = c.settle.new.self.lent } in
+    let m : Machine = record { reach = c.settle.new.self.reach; processor = c.settle.new.self.processor; lent = c.settle.new.self.lent } in
     let S : ScriptData → Type 0 = λ script. MachineStands g c.happen_all.new.self (fold (happened g) (begun s) (events_of script b.turns)) in
     let T : ℕ → Type 0 = λ turn. MachineStands g c.happen_all.new.self (fold (happened g) (begun s) (events_of x.script turn)) in
     let A : Turn → Type 0 = λ t. MachineStands g c.happen_all.new.self t in

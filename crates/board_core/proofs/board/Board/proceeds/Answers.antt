@@ -66,19 +66,19 @@ proceeds-requires-clause-ready c =
     let s = c.requires.stood.1 in
     let b = c.args.self.now in
     let mid = midway_now x s b c.requires.stood.2 c.requires.nothing c.requires.later c.requires.few in
-    (x.setup, after_events x s, ready_now x s b mid (c.is_lent_to.ensures.lent c.if-not-is_lent_to.false))
+    (x.setup, after_events x s, ready_now x s b mid c.requires.lent)
 
 pub proceeds-requires-clause-text : goal.proceeds-requires-clause-text
 proceeds-requires-clause-text c =
     let k = c.args.self.now.machine.reach.kernel in
-    subst (λ (i : ℕ). IsText k i c.args.text.now) (sym (c.is_lent_to.ensures.current c.if-not-is_lent_to.false)) c.requires.text
+    subst (λ (i : ℕ). IsText k i c.args.text.now) (sym c.requires.current) c.requires.text
 
 pub returns-clause-model : goal.returns-clause-model
 returns-clause-model c = λ done x s st.
     let b = c.args.self.now in
     let m = c.proceeds.new.self in
     let mid = midway_now x s b st c.requires.nothing c.requires.later c.requires.few in
-    let h = gone x s b m c.args.task mid (c.is_lent_to.ensures.lent c.if-not-is_lent_to.false) (c.is_lent_to.ensures.current c.if-not-is_lent_to.false) c.requires.next (c.proceeds.ensures.done c.if-not-proceeds.false) in
+    let h = gone x s b m c.args.task mid c.requires.lent c.requires.current c.requires.next (c.proceeds.ensures.done c.if-not-proceeds.false) in
     stands_so x s b m (turns_of b + 1) st mid h (none_of b.machine m c.requires.nothing (c.proceeds.ensures.count c.if-not-proceeds.false)) refl
 
 pub returns-clause-notes : goal.returns-clause-notes
@@ -86,5 +86,14 @@ returns-clause-notes c = λ done x s st.
     let b = c.args.self.now in
     let m = c.proceeds.new.self in
     let mid = midway_now x s b st c.requires.nothing c.requires.later c.requires.few in
-    let h = gone x s b m c.args.task mid (c.is_lent_to.ensures.lent c.if-not-is_lent_to.false) (c.is_lent_to.ensures.current c.if-not-is_lent_to.false) c.requires.next (c.proceeds.ensures.done c.if-not-proceeds.false) in
+    let h = gone x s b m c.args.task mid c.requires.lent c.requires.current c.requires.next (c.proceeds.ensures.done c.if-not-proceeds.false) in
     turn_notes Calls x s m h
+
+pub returns-clause-nothing : goal.returns-clause-nothing
+returns-clause-nothing c = λ done. none_of c.args.self.now.machine c.proceeds.new.self c.requires.nothing (c.proceeds.ensures.count c.if-not-proceeds.false)
+
+pub returns-clause-lent : goal.returns-clause-lent
+returns-clause-lent c = λ done. c.proceeds.ensures.lent c.if-not-proceeds.false ∙ c.requires.lent
+
+pub returns-clause-current : goal.returns-clause-current
+returns-clause-current c = λ done. c.proceeds.ensures.current c.if-not-proceeds.false ∙ c.requires.current

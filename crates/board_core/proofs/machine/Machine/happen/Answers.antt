@@ -8,12 +8,12 @@ use Rattle.board_core.proofs.machine.Machine.happen.Goals as goal
 
 pub returns-in-Tick-clause-stands : goal.returns-in-Tick-clause-stands
 returns-in-Tick-clause-stands c = λ g t st.
-    let m : Machine = record { reach = record { kernel = c.tick.new.k }; processor = c.settle.new.self.processor; lent = c.settle.new.self.lent } in
+    let m : Machine = record { reach = record c.settle.new.self.reach { kernel = c.tick.new.k }; processor = c.settle.new.self.processor; lent = c.settle.new.self.lent } in
     let P : Event → Type 0 = λ event. MachineStands g m (happened g t event) in
     subst P (sym c.in-Tick.is) (settled_stands g m _ c.settle.ensures.settled (c.tick.ensures.stands g t record { holds = c.settle.ensures.holds g t st.holds; sane = st.sane }))
 
 pub returns-in-Irq-clause-stands : goal.returns-in-Irq-clause-stands
 returns-in-Irq-clause-stands c = λ g t st.
-    let m : Machine = record { reach = record { kernel = c.interrupt.new.k }; processor = c.settle.new.self.processor; lent = c.settle.new.self.lent } in
+    let m : Machine = record { reach = record c.settle.new.self.reach { kernel = c.interrupt.new.k }; processor = c.settle.new.self.processor; lent = c.settle.new.self.lent } in
     let P : Event → Type 0 = λ event. MachineStands g m (happened g t event) in
     subst P (sym c.in-Irq.is) (settled_stands g m _ c.settle.ensures.settled (c.interrupt.ensures.stands g t record { holds = c.settle.ensures.holds g t st.holds; sane = st.sane }))

@@ -1,6 +1,7 @@
-use Rattle.std.proofs.Common.{◌≡◌, ℕ, true, refl, sym, ◌∙◌, ap, subst}
-use Rattle.std.proofs.lemmas.Bool.{lt-leb}
+use Rattle.std.proofs.Common.{◌≢◌, [], ◌≡◌, ℕ, Bool, true, false, None, refl, sym, ◌∙◌, ap, subst}
+use Rattle.std.proofs.lemmas.Bool.{lt-leb, le-leb, false≢true}
 use Rattle.thumb_insn.specs.declared.Decoded.{Decoded}
+use Rattle.thumb_insn.specs.Table.{narrow_of, narrow_result, decoded_of, is_wide}
 use Rattle.task_table.specs.State.{Setup}
 use Rattle.task_table.specs.Reading.{setup_at}
 use Rattle.task_table.specs.Holds.{current_of}
@@ -9,40 +10,86 @@ use Rattle.board_core.specs.declared.machine.Machine.{Machine}
 use Rattle.board_core.specs.declared.told.Level.TheVariants.{Calls}
 use Rattle.region_check.specs.declared.Region.{Region}
 use Rattle.board_core.specs.Spans.{spans}
+use Rattle.board_core.specs.Did.{Did}
 use Rattle.board_core.specs.Machine.{MachineHolds, IsReady}
 use Rattle.board_core.specs.Texts.{GivesText, IsText}
 use Rattle.board_core.specs.Turn.{is_text, decoded_as}
 use Rattle.task_table.specs.State.{Turn}
-use Rattle.board_core.proofs.Running.{narrow_acted, was_next, stores_hold, stores_notes}
-use Rattle.board_core.proofs.Lending.{rest_of, lent_register, lent_by, effect_lent, goes_on, next_lent}
+use Rattle.board_core.proofs.Running.{narrow_acted, wide_stepped}
+use Rattle.board_core.proofs.Lending.{rest_of, lent_register}
 use Rattle.board_core.proofs.Gliding.{current_seen}
+use Rattle.task_table.specs.Reading.{register}
+use Rattle.board_core.proofs.Doing.{did_went, did_count, did_current, did_lent, did_left, did_loud, text_here}
 use Rattle.board_core.proofs.machine.Machine.proceeds.Goals as goal
 
--- what the kernel says of its current task's text is so for the turn
-text_here : (g : Setup) (m : Machine) (t : Turn) (text : Region) (at : ℕ) → IsReady g m t → IsText m.reach.kernel (current_of m.reach.kernel) text → spans text at 2 ≡ true → true ≡ is_text g t.state.current at
-text_here g m t text at r h within =
-    let S : Setup → Type 0 = λ x. GivesText (setup_at x (current_of m.reach.kernel)).regions text in
-    let C : ℕ → Type 0 = λ i. GivesText (setup_at g i).regions text in
-    sym (subst C (current_seen g m t r) (subst S r.holds.holds.setup h) at within)
+decoded_narrow : (first : ℕ) → is_wide first ≡ false → narrow_result (narrow_of first) ≡ decoded_of first None
+decoded_narrow first e = rw e refl
 
-pub returns-in-Narrow-clause-done : goal.returns-in-Narrow-clause-done
-returns-in-Narrow-clause-done c = λ done g t r.
+pub returns-clause-done : goal.returns-clause-done
+returns-clause-done c = λ done g t r.
     let h = r.holds in
     let rest = rest_of h.saved t _ h.is in
     let at = c.get-at.ensures ∙ lent_register g _ _ t h r.sane.steady.current in
     let text = text_here g c.args.self.now t c.args.text.now c.get-at.result r c.requires.text (sym c.spans.ensures ∙ c.if-not-spans.false) in
     let half = c.half-first.ensures.holds g h.saved h.holds ∙ ap (λ (m : Memory). number_at m c.get-at.result 2) (sym rest.memory) in
-    let m : Machine = record { reach = c.proceed.new.bus; processor = c.proceed.new.cpu; lent = c.args.self.now.lent } in
-    let went = was_next _ _ _ _ _ _ (c.proceed.ensures.done done) refl in
-    let here = effect_lent g _ _ t c.in-Narrow.insn r.holds r.sane.steady.current in
-    let D : Decoded → Type 0 = λ d. MachineHolds g m (decoded_as Calls g t.state.current c.get-at.result c.half-first.result d t) in
-    narrow_acted Calls g t (MachineHolds g m) c.get-at.result c.half-first.result true at text c.decode.result refl half (lt-leb _ _ c.if-first-ge29.false) c.decode.ensures.table
-    (subst D (sym c.in-Narrow.is)
-    (lent_by _ g _ _ _ r.lent
-    (next_lent g _ t t.state.current _ went.processor c.proceed.new.cpu went.stores (sym here ∙ went.is) went.after
-    (goes_on g _ _ _ c.proceed.new.cpu t went.stores r.holds r.sane.steady.current (λ u k. stores_hold went.stores _ _ went.bus g u k)))))
+    let m : Machine = c.narrow_to.new.to in
+    let narrow = lt-leb _ _ c.if-first-ge29.false in
+    let D : Bool → Type 0 = λ z. Did c.args.self.now (narrow_result (narrow_of c.half-first.result)) z m in
+    narrow_acted Calls g t (MachineHolds g m) c.get-at.result c.half-first.result true at text (narrow_result (narrow_of c.half-first.result)) refl half narrow (decoded_narrow c.half-first.result narrow)
+    (did_went g t c.args.self.now m c.get-at.result c.half-first.result _ r (subst D done c.narrow_to.ensures))
 
-pub returns-in-Narrow-clause-count : goal.returns-in-Narrow-clause-count
-returns-in-Narrow-clause-count c = λ done.
-    let went = was_next _ _ _ _ _ _ (c.proceed.ensures.done done) refl in
-    stores_notes went.stores _ _ went.bus
+pub returns-clause-kept : goal.returns-clause-kept
+returns-clause-kept c = λ left.
+    let D : Bool → Type 0 = λ z. Did c.args.self.now (narrow_result (narrow_of c.half-first.result)) z c.narrow_to.new.to in
+    did_left c.args.self.now c.narrow_to.new.to _ (subst D left c.narrow_to.ensures)
+
+pub returns-clause-count : goal.returns-clause-count
+returns-clause-count c = λ done.
+    let D : Bool → Type 0 = λ z. Did c.args.self.now (narrow_result (narrow_of c.half-first.result)) z c.narrow_to.new.to in
+    did_count c.args.self.now c.narrow_to.new.to _ (subst D done c.narrow_to.ensures)
+
+pub returns-clause-lent : goal.returns-clause-lent
+returns-clause-lent c = λ done.
+    let D : Bool → Type 0 = λ z. Did c.args.self.now (narrow_result (narrow_of c.half-first.result)) z c.narrow_to.new.to in
+    did_lent c.args.self.now c.narrow_to.new.to _ (subst D done c.narrow_to.ensures)
+
+pub returns-clause-current : goal.returns-clause-current
+returns-clause-current c = λ done.
+    let D : Bool → Type 0 = λ z. Did c.args.self.now (narrow_result (narrow_of c.half-first.result)) z c.narrow_to.new.to in
+    did_current c.args.self.now c.narrow_to.new.to _ (subst D done c.narrow_to.ensures)
+
+pub returns-then-first-ge29-clause-done : goal.returns-then-first-ge29-clause-done
+returns-then-first-ge29-clause-done c = λ done g t r.
+    let h = r.holds in
+    let rest = rest_of h.saved t _ h.is in
+    let at = c.get-at.ensures ∙ lent_register g _ _ t h r.sane.steady.current in
+    let text = text_here g c.args.self.now t c.args.text.now c.get-at.result r c.requires.text (sym c.spans.ensures ∙ c.if-not-spans.false) in
+    let half = c.half-first.ensures.holds g h.saved h.holds ∙ ap (λ (m : Memory). number_at m c.get-at.result 2) (sym rest.memory) in
+    wide_stepped Calls g t (MachineHolds g c.proceeds_wide.new.self) c.get-at.result c.half-first.result true at text refl half (le-leb _ _ c.if-first-ge29.true) (c.proceeds_wide.ensures.done done g t r)
+
+pub returns-then-first-ge29-clause-goes : goal.returns-then-first-ge29-clause-goes
+returns-then-first-ge29-clause-goes c = λ left g t r within narrow.
+    let h = r.holds in
+    let rest = rest_of h.saved t _ h.is in
+    let at = c.get-at.ensures ∙ lent_register g _ _ t h r.sane.steady.current in
+    let half = c.half-first.ensures.holds g h.saved h.holds ∙ ap (λ (m : Memory). number_at m c.get-at.result 2) (sym rest.memory) in
+    let same : c.half-first.result ≡ number_at t.state.memory (register t.state t.state.current 15) 2 = half ∙ ap (λ (a : ℕ). number_at t.state.memory a 2) at in
+    absurd (false≢true (sym narrow ∙ ap is_wide (sym same) ∙ le-leb _ _ c.if-first-ge29.true))
+
+pub returns-then-not-spans-clause-goes : goal.returns-then-not-spans-clause-goes
+returns-then-not-spans-clause-goes c = λ left g t r within narrow.
+    let at = c.get-at.ensures ∙ lent_register g _ _ t r.holds r.sane.steady.current in
+    absurd (false≢true (sym c.if-not-spans.true ∙ c.spans.ensures ∙ ap (λ (a : ℕ). spans c.args.text.now a 2) at ∙ within))
+
+pub returns-clause-goes : goal.returns-clause-goes
+returns-clause-goes c = λ left g t r within wide.
+    let h = r.holds in
+    let rest = rest_of h.saved t _ h.is in
+    let at = c.get-at.ensures ∙ lent_register g _ _ t h r.sane.steady.current in
+    let text = text_here g c.args.self.now t c.args.text.now c.get-at.result r c.requires.text (sym c.spans.ensures ∙ c.if-not-spans.false) in
+    let half = c.half-first.ensures.holds g h.saved h.holds ∙ ap (λ (m : Memory). number_at m c.get-at.result 2) (sym rest.memory) in
+    let m : Machine = c.narrow_to.new.to in
+    let narrow = lt-leb _ _ c.if-first-ge29.false in
+    let D : Bool → Type 0 = λ z. Did c.args.self.now (narrow_result (narrow_of c.half-first.result)) z m in
+    narrow_acted Calls g t (λ u. u.notes ≢ []) c.get-at.result c.half-first.result true at text (narrow_result (narrow_of c.half-first.result)) refl half narrow (decoded_narrow c.half-first.result narrow)
+    (did_loud g t c.args.self.now m c.get-at.result c.half-first.result _ r (subst D left c.narrow_to.ensures))

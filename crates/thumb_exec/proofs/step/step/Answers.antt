@@ -1,14 +1,14 @@
 use Rattle.std.proofs.Common.{◌≡◌, refl}
 use Rattle.thumb_insn.specs.declared.Insn.{Insn}
 use Rattle.thumb_insn.specs.declared.Insn.TheVariants as insn
-use Rattle.thumb_exec.specs.Families.{NeedsMore}
-use Rattle.thumb_exec.proofs.step.proceed_with.Goals as goal
+use Rattle.thumb_exec.specs.Families.{IsRest}
+use Rattle.thumb_exec.proofs.step.step.Goals as goal
 
-pub returns-in_default-clause-more : goal.returns-in_default-clause-more
-returns-in_default-clause-more g c = λ left. by_insn c.args.insn refl
+pub rest-requires-clause-rest : goal.rest-requires-clause-rest
+rest-requires-clause-rest g c = by_insn c.args.insn refl
   where
-    -- each is one of the above, or needs more
-    by_insn : (i : Insn) → c.args.insn ≡ i → NeedsMore i
+    -- each is one of the above, or of the rest
+    by_insn : (i : Insn) → c.args.insn ≡ i → IsRest i
     by_insn (insn.AddsReg d n m) e = absurd (c.in_default.not-AddsReg d n m e)
     by_insn (insn.SubsReg d n m) e = absurd (c.in_default.not-SubsReg d n m e)
     by_insn (insn.AddsImm3 d n i) e = absurd (c.in_default.not-AddsImm3 d n i e)
@@ -35,13 +35,13 @@ returns-in_default-clause-more g c = λ left. by_insn c.args.insn refl
     by_insn (insn.StoreReg s t n m) e = absurd (c.in_default.not-StoreReg s t n m e)
     by_insn (insn.StoreImm s t n i) e = absurd (c.in_default.not-StoreImm s t n i e)
     by_insn (insn.StoreSp t i) e = absurd (c.in_default.not-StoreSp t i e)
-    by_insn (insn.Push list lr) e = tt
-    by_insn (insn.Stm n list) e = tt
     by_insn (insn.BranchIf cond offset) e = absurd (c.in_default.not-BranchIf cond offset e)
     by_insn (insn.Branch offset) e = absurd (c.in_default.not-Branch offset e)
+    by_insn (insn.Bl offset) e = absurd (c.in_default.not-Bl offset e)
+    by_insn (insn.Push list lr) e = tt
+    by_insn (insn.Stm n list) e = tt
     by_insn (insn.Bx m) e = tt
     by_insn (insn.Blx m) e = tt
-    by_insn (insn.Bl offset) e = tt
     by_insn (insn.Svc i) e = tt
     by_insn (insn.Bkpt i) e = tt
     by_insn (insn.Hint i) e = tt
