@@ -17,3 +17,4 @@ pub mod Outside
 pub mod CallRows
 pub mod Beside
 pub mod Doing
+pub mod Fetching

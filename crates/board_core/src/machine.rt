@@ -32,6 +32,7 @@ use thumb_decode::{Taker, decode, narrow_to};
 use thumb_exec::bus::Bus;
 use thumb_exec::cpu::{Cpu, Outcome};
 use thumb_exec::step::{exec, proceed};
+use thumb_step::fetch;
 use thumb_insn::{Decoded, Insn};
 use timer_irq::{interrupt, tick};
 use words_core::{Flags, Regs};
@@ -223,18 +224,6 @@ fn cpu(kernel: &Kernel, task: usize) -> Cpu
     }
 }
 
-/// Whether both bytes of a halfword may be executed.
-fn may_execute(regions: &[Region], at: u32) -> bool
-    ensures { result ≡ (may_use regions.now Execute at && may_use regions.now Execute ((at + 1) % 2 ^ 32)) }
-{
-    if at < 0xFFFF_FFFF {
-        if one_gives(regions, at, 2, Right::Execute) {
-            return true;
-        }
-    }
-    may(regions, at, Right::Execute) && may(regions, at.wrapping_add(1), Right::Execute)
-}
-
 /// Whether a region ends within the address space.
 fn ends_within(region: &Region) -> bool
     ensures { result ≡ true → region.now.base + region.now.size ≤ 2 ^ 32 }
@@ -261,13 +250,6 @@ fn text_around(regions: &[Region], at: u32) -> Region
             device: false,
         },
     }
-}
-
-/// Whether both bytes of a halfword may be executed by the current task.
-fn is_text(kernel: &Kernel, at: u32) -> bool
-    ensures { (g : Setup) (t : Turn) → Holds g kernel.now t → result ≡ is_text g t.state.current at }
-{
-    may_execute(kernel.regions(kernel.current()), at)
 }
 
 impl Machine {
@@ -528,29 +510,6 @@ impl Machine {
         self.reach.kernel.fault(task, fault);
     }
 
-    /// What was decoded at an address is told and carried out; what has no row in the table is Illegal.
-    #[inline(always)]
-    fn act(&mut self, level: Level, decoded: &Decoded, at: u32, code: u32)
-        requires coded { GivesCoded decoded.now }
-        requires ready { (g : Setup) × (t : Turn) × IsReady g self.old t }
-        requires room { note_count self.old.reach.kernel + 102 ≤ 1024 }
-        ensures holds { (g : Setup) (t : Turn) → IsReady g self.old t → MachineHolds g self.new (decoded_as level g t.state.current at code decoded.now t) }
-        ensures count { note_count self.new.reach.kernel ≤ note_count self.old.reach.kernel + 102 }
-    {
-        match decoded {
-            Decoded::Narrow(insn) => {
-                self.tell_insn(level, at, code);
-                self.execute(insn);
-            }
-            Decoded::Wide(insn) => {
-                self.tell_insn(level, at, code);
-                self.execute(insn);
-            }
-            Decoded::Illegal => self.fault(Fault::illegal(at)),
-            Decoded::NeedsSecond => self.fault(Fault::illegal(at)),
-        }
-    }
-
     /// One instruction of the current task: fetched, decoded, carried out.
     #[inline(never)]
     pub fn step(&mut self, level: Level)
@@ -560,35 +519,13 @@ impl Machine {
         ensures count { note_count self.new.reach.kernel ≤ note_count self.old.reach.kernel + 102 }
     {
         let at = self.processor.regs.get(15);
-        if !is_text(&self.reach.kernel, at) {
-            self.fault(Fault::illegal_text(at));
-            return;
+        match fetch(&self.reach, at) {
+            Ok(fetched) => {
+                self.tell_insn(level, at, fetched.code);
+                self.execute(&fetched.insn);
+            }
+            Err(fault) => self.fault(fault),
         }
-        let first = self.reach.kernel.half(at);
-        if first / 2048 < 29 {
-            let decoded = decode(first, None);
-            self.act(level, &decoded, at, u32::from(first));
-            return;
-        }
-        self.step_wide(level, first, at);
-    }
-
-    /// The same where the first halfword begins a wide instruction.
-    fn step_wide(&mut self, level: Level, first: u16, at: u32)
-        requires ready { (g : Setup) × (t : Turn) × IsReady g self.old t }
-        requires room { note_count self.old.reach.kernel + 102 ≤ 1024 }
-        ensures holds { (g : Setup) (t : Turn) → IsReady g self.old t → MachineHolds g self.new (stepped_wide level g t.state.current at first t) }
-        ensures count { note_count self.new.reach.kernel ≤ note_count self.old.reach.kernel + 102 }
-    {
-        let after = at.wrapping_add(2);
-        if !is_text(&self.reach.kernel, after) {
-            self.fault(Fault::illegal_text(after));
-            return;
-        }
-        let second = self.reach.kernel.half(after);
-        let decoded = decode(first, Some(second));
-        let code = u32::from(first) * 0x1_0000 + u32::from(second);
-        self.act(level, &decoded, at, code);
     }
 }
 

@@ -44,7 +44,7 @@ kept_last : (s : State) (o : Option End) → (unless s o (ended_at s Bound)).las
 kept_last s None = refl
 kept_last s (Some e) = refl
 
-run_stays : (level : Level) (x : Scenario) (s : State) → (run level x 0 s).last ≡ s
+pub run_stays : (level : Level) (x : Scenario) (s : State) → (run level x 0 s).last ≡ s
 unfolding run
 run_stays level x s = kept_last s (ending x 0 s)
 
@@ -102,7 +102,7 @@ no_front : (r : Run) → with_front [] r ≡ r
 no_front r = refl
 
 -- n turns that note nothing, and one more: the run goes on with the notes of that one
-run_advances : (level : Level) (x : Scenario) (left n : ℕ) (t : State) → ending x 1 t ≡ None → ((k : ℕ) → k < n → (turn_after level x k t).notes ≡ []) → ((k : ℕ) → k < n → ending x 1 (turn_after level x k t).state ≡ None) →
+pub run_advances : (level : Level) (x : Scenario) (left n : ℕ) (t : State) → ending x 1 t ≡ None → ((k : ℕ) → k < n → (turn_after level x k t).notes ≡ []) → ((k : ℕ) → k < n → ending x 1 (turn_after level x k t).state ≡ None) →
     run level x (n + suc left) t ≡ with_front (at_turn (t.turn + n) (turn_after level x n t).notes) (run level x left (turn_after level x n t).state)
 unfolding turn_after
 run_advances level x left zero t goes none on =
@@ -129,7 +129,7 @@ pub record IsTurned (level : Level) (x : Scenario) (n : ℕ) (b b' : Board) (not
   pub turns : turns_of b' ≡ turns_of b + n + 1
 
 -- the run by the notes so far, those of this turn, and the rest
-turn_rest : (level : Level) (x : Scenario) (n : ℕ) (w w' : Option (List ℕ)) (s : State) (b b' : Board) (notes : List Note) → IsTurned level x n b b' notes → (m : Midway level x w w' s b) →
+pub turn_rest : (level : Level) (x : Scenario) (n : ℕ) (w w' : Option (List ℕ)) (s : State) (b b' : Board) (notes : List Note) → IsTurned level x n b b' notes → (m : Midway level x w w' s b) →
     let t : State = m.here in
     let next : State = (turn_after level x n t).state in
     (s.turn ≤ next.turn) × ((left : ℕ) → run level x (next.turn - s.turn + left) s ≡ with_front (m.front ++ at_turn (t.turn + n) (turn_after level x n t).notes) (run level x left next))
@@ -150,7 +150,7 @@ turn_rest level x n w w' s b b' notes h m =
     )
 
 -- the notes that a board tells are those of the turn
-told_notes : (level : Level) (x : Scenario) (n at : ℕ) (w w' : Option (List ℕ)) (s : State) (b b' : Board) (notes : List Note) → IsTurned level x n b b' notes → at + 1 ≡ turns_of b' → (m : Midway level x w w' s b) →
+pub told_notes : (level : Level) (x : Scenario) (n at : ℕ) (w w' : Option (List ℕ)) (s : State) (b b' : Board) (notes : List Note) → IsTurned level x n b b' notes → at + 1 ≡ turns_of b' → (m : Midway level x w w' s b) →
     at_turn at notes ≡ at_turn (m.here.turn + n) (turn_after level x n m.here).notes
 told_notes level x n at w w' s b b' notes h last m =
     let here : m.here.turn ≡ turns_of b = turns_seen x b m.here m.stands in

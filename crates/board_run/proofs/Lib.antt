@@ -2,3 +2,4 @@ pub mod Appending
 pub mod Going
 pub mod MemoryLines
 pub mod Tasks
+pub mod Breaking

@@ -1,5 +1,7 @@
 -- The end of a run under a bound, and what is kept of a board whose run was broken off.
-use Rattle.std.specs.Prelude.{ℕ, ◌-◌, ◌==◌, if◌then◌else◌, Option, Some, None}
+use Rattle.std.specs.Prelude.{ℕ, ◌-◌, ◌==◌, if◌then◌else◌, List, ◌++◌, Option, Some, None}
+use Rattle.std.specs.Io.KnownBytes.{Appends}
+use Rattle.outside_io.specs.Outside.{IsFront}
 use Rattle.board_core.specs.declared.told.End.{End}
 use Rattle.board_core.specs.declared.told.End.TheVariants.{Bound, Still, Supervisor}
 use Rattle.task_table.specs.State.{State}
@@ -8,6 +10,7 @@ use Rattle.board_core.specs.declared.told.Level.{Level}
 use Rattle.board_core.specs.Script.{Scenario}
 use Rattle.board_core.specs.Stands.{Stands, turns_of}
 use Rattle.board_core.specs.Run.{run}
+use Rattle.board_run.specs.Text.{notes_text, end_text}
 
 -- with so many turns left, where without a bound it would end so
 abbrev pub end_within : Option End → ℕ → Option End
@@ -19,3 +22,15 @@ end_within None left = if left == 0 then Some Bound else None
 -- the board stands for the state that the run from s has at the board's turn number
 abbrev pub StandsMidway : Level → Scenario → Board → State → Type 0
 StandsMidway level x b s = Stands x b (run level x (turns_of b - s.turn) s).last
+
+-- the lines of the first n turns
+abbrev pub turn_lines : Level → Scenario → ℕ → State → List ℕ
+turn_lines level x n s = notes_text (run level x n s).notes
+
+-- a run of at most so many turns that is broken off: pushed are at least the lines of all turns that were made but the
+-- last one, and at most the lines of that one too, and those of the end after it
+pub record BreaksOff (level : Level) (x : Scenario) (limit : ℕ) (w w' : Option (List ℕ)) (s : State) (b : Board) : Type 0 where
+  pub front : List ℕ
+  pub pushed : Appends w w' front
+  pub least : IsFront (turn_lines level x (turns_of b - s.turn - 1) s) front
+  pub most : IsFront front (turn_lines level x (turns_of b - s.turn) s ++ end_text (run level x limit s).end (run level x (turns_of b - s.turn) s).last)

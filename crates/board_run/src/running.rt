@@ -1,12 +1,12 @@
 //! The loop over turns.
-ghost use Rattle.std.specs.Prelude.{◌≡◌, ◌≤◌, ◌<◌, ◌-◌, IfOk, IsNone, None};
+ghost use Rattle.std.specs.Prelude.{◌≡◌, ◌≤◌, ◌<◌, ◌-◌, IfOk, OnErr, IsNone, None};
 ghost use Rattle.outside_io.specs.Outside.{Pushes, HasCause};
 ghost use Rattle.task_table.specs.State.{State};
 ghost use Rattle.board_core.specs.Script.{Scenario};
 ghost use Rattle.board_core.specs.Stands.{Stands, Stood, turns_of};
 ghost use Rattle.board_core.specs.Run.{run, ending};
 ghost use Rattle.board_run.specs.Text.{trace_text};
-ghost use Rattle.board_run.specs.Running.{StandsMidway, end_within};
+ghost use Rattle.board_run.specs.Running.{StandsMidway, BreaksOff, end_within};
 
 use crate::pushing::{push_end, push_notes};
 use board_core::{Board, End, Level};
@@ -56,7 +56,9 @@ pub fn run<S: Sink>(board: &mut Board, limit: u32, level: Level, out: &mut S) ->
     ensures last { (x : Scenario) (s : State) → Stands x board.old s →
         IfOk result (λ _. Stands x board.new (run level x (limit - s.turn) s).last) }
 
-    // Also where a push failed.
+    // Where a push failed, the lines of the turns before the last one are whole, and no further turn is made.
+    ensures broken { (x : Scenario) (s : State) → Stands x board.old s →
+        OnErr result (BreaksOff level x (limit - s.turn) (S.written out.old) (S.written out.new) s board.new) }
     ensures midway { (x : Scenario) (s : State) → Stands x board.old s → StandsMidway level x board.new s }
     ensures within { turns_of board.new ≤ limit }
     ensures cause { HasCause (S.faults out.old) (S.faults out.new) result }

@@ -9,26 +9,16 @@ ghost use Rattle.words_core.specs.Regs.{reg_at};
 
 use crate::words::Words;
 use std::{env, io};
-use thumb_decode::decode;
-use thumb_exec::bus::Bus;
 use thumb_exec::cpu::{Cpu, Outcome};
-use thumb_exec::step::exec;
-use thumb_insn::Decoded;
+use thumb_step::step;
 use words_core::{Flags, Regs};
 
-/// Fetches, decodes and executes a narrow instruction; false where it does not go on.
-fn step(cpu: &mut Cpu, bus: &mut Words) -> bool {
-    let at = cpu.regs.get(15);
-    if at % 2 != 0 {
+/// One instruction; false where it does not go on.
+fn goes_on(cpu: &mut Cpu, bus: &mut Words) -> bool {
+    if cpu.regs.get(15) % 2 != 0 {
         return false;
     }
-    let Ok(first) = bus.fetch(at) else {
-        return false;
-    };
-    match decode(first, None) {
-        Decoded::Narrow(insn) => exec(cpu, &insn, bus) == Outcome::Next,
-        _ => false,
-    }
+    step(cpu, bus) == Outcome::Next
 }
 
 /// A sum of the registers that tells whether each step was done.
@@ -59,7 +49,7 @@ fn main(rt: HostRuntime) -> io::Result<()> {
     let mut cpu = Cpu { regs, flags };
     let mut done = 0_u64;
     for _ in 0..steps {
-        if !step(&mut cpu, &mut bus) {
+        if !goes_on(&mut cpu, &mut bus) {
             break;
         }
         done = done.saturating_add(1);

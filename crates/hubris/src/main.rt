@@ -39,8 +39,10 @@ fn main(rt: HostRuntime) -> ExitCode {
     let mut out = HostSink::new(writer);
     let mut files = HostFiles::new(&rt);
     let status = hubris_main(rt.alloc(), &words, &mut files, &mut out);
-    match out.flush() {
-        Ok(()) => ExitCode::from(status),
-        Err(_) => ExitCode::from(4),
+    if status != 4 && out.flush().is_ok() {
+        return ExitCode::from(status);
     }
+    // A writer that is dropped tries again to write what it holds back: nothing is written after a failure.
+    let (_, _held) = out.into_output().into_parts();
+    ExitCode::from(4)
 }

@@ -1,61 +1,12 @@
-//! One instruction of a task: fetched, decoded and executed.
-ghost use Rattle.std.specs.Prelude.{◌≡◌, ◌%◌, true, IfOk};
-ghost use Rattle.words_core.specs.Regs.{reg_at};
-ghost use Rattle.thumb_insn.specs.Range.{GivesCoded};
-ghost use Rattle.thumb_exec.specs.Effect.{Acts};
-ghost use Rattle.insn_vectors.specs.Played.{decoded_effect, wide_effect, step_effect, Passes};
+//! Whether the instruction of a case does what is wanted.
+ghost use Rattle.std.specs.Prelude.{◌≡◌, true, IfOk};
+ghost use Rattle.insn_vectors.specs.Played.{Passes};
 
 use crate::case::{Case, fill};
 use crate::memory::Memory;
-use kernel_abi::Fault;
 use std::alloc::{AllocError, Global};
-use thumb_decode::decode;
-use thumb_exec::bus::Bus;
 use thumb_exec::cpu::{Cpu, Outcome};
-use thumb_exec::step::exec;
-use thumb_insn::Decoded;
-
-/// What was decoded at an address is executed; what has no row in the table is Illegal.
-fn act<B: Bus>(cpu: &mut Cpu, bus: &mut B, decoded: Decoded, at: u32) -> Outcome
-    requires { GivesCoded decoded }
-    ensures { Acts B.stored cpu.old cpu.new bus.old bus.new result (decoded_effect (B.refuses bus.old) (B.holds bus.old) cpu.old at decoded) }
-{
-    match decoded {
-        Decoded::Narrow(insn) => exec(cpu, &insn, bus),
-        Decoded::Wide(insn) => exec(cpu, &insn, bus),
-        Decoded::Illegal => Outcome::Trap(Fault::illegal(at)),
-        Decoded::NeedsSecond => Outcome::Trap(Fault::illegal(at)),
-    }
-}
-
-/// The instruction whose first halfword begins a wide one.
-fn step_wide<B: Bus>(cpu: &mut Cpu, bus: &mut B, first: u16, at: u32) -> Outcome
-    requires { at % 2 ≡ 0 }
-    ensures { Acts B.stored cpu.old cpu.new bus.old bus.new result (wide_effect (B.refuses bus.old) (B.holds bus.old) cpu.old at first) }
-{
-    let next = at.wrapping_add(2);
-    match bus.fetch(next) {
-        Ok(second) => act(cpu, bus, decode(first, Some(second)), at),
-        Err(_) => Outcome::Trap(Fault::illegal_text(next)),
-    }
-}
-
-/// Fetches, decodes and executes the instruction at PC. A halfword that may not be executed is a
-/// fault at its address, and a code with no row in the table one at PC.
-pub fn step<B: Bus>(cpu: &mut Cpu, bus: &mut B) -> Outcome
-    requires { reg_at cpu.old.regs 15 % 2 ≡ 0 }
-    ensures { Acts B.stored cpu.old cpu.new bus.old bus.new result (step_effect (B.refuses bus.old) (B.holds bus.old) cpu.old) }
-{
-    let at = cpu.regs.get(15);
-    match bus.fetch(at) {
-        Ok(first) => if first / 2048 < 29 {
-            act(cpu, bus, decode(first, None), at)
-        } else {
-            step_wide(cpu, bus, first, at)
-        },
-        Err(_) => Outcome::Trap(Fault::illegal_text(at)),
-    }
-}
+use thumb_step::step;
 
 /// A memory with a case's bytes and, at PC, its code.
 fn memory_of(alloc: Global, case: &Case) -> Result<Option<Memory>, AllocError> {

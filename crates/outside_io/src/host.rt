@@ -107,6 +107,13 @@ impl<W: Write> HostSink<W> {
         HostSink { out, faults: 0 }
     }
 
+    /// The output, with what it holds back of the pieces that it has taken.
+    pub fn into_output(self) -> W
+        ensures { result ≡ out_of self }
+    {
+        self.out
+    }
+
     /// Passes on what the output holds back of the pieces that it has taken. A failure is counted as that of
     /// a push.
     pub fn flush(&mut self) -> Result<(), Failed>

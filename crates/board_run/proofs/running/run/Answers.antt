@@ -5,6 +5,7 @@ use Rattle.board_core.specs.declared.told.End.{End}
 use Rattle.board_core.specs.Advanced.{turn_after}
 use Rattle.board_core.specs.Stands.{turns_of, notes_of}
 use Rattle.board_run.proofs.Going.{IsTurned, midway_start, midway_turn, midway_end, midway_fails, midway_board, turned_board, end_is}
+use Rattle.board_run.proofs.Breaking.{breaks_in_turn, breaks_at_end}
 use Rattle.board_run.proofs.running.run.Goals as goal
 
 pub turns-init : goal.turns-init
@@ -91,3 +92,24 @@ returns-in_err-push_notes-clause-midway g c = λ x s st.
       turns = omega arith;
     } in
     turned_board c.args.level x n _ _ s b b' (notes_of b') h (c.turns.invariant.midway x s st)
+
+pub returns-in_err-push_end-in-Some-clause-broken : goal.returns-in_err-push_end-in-Some-clause-broken
+returns-in_err-push_end-in-Some-clause-broken g c = λ x s st.
+    let p = err_from_is_err_and c.from_residual.result c.from_residual.ensures.1 in
+    rw (p.1) (breaks_at_end c.args.level x c.args.limit _ _ _ s c.turns.board c.in-Some.end c.turns.invariant.turns (λ t u. sym (c.in-Some.ensures.end x t u)) (c.in_err-push_end-in-Some.ensures.bytes x) (c.turns.invariant.midway x s st))
+
+pub returns-in_err-push_notes-clause-broken : goal.returns-in_err-push_notes-clause-broken
+returns-in_err-push_notes-clause-broken g c = λ x s st.
+    let p = err_from_is_err_and c.from_residual-in_err-push_notes.result c.from_residual-in_err-push_notes.ensures.1 in
+    let b = c.turns.board in
+    let b' = c.advance.new.self in
+    let n : ℕ = turns_of b' - turns_of b - 1 in
+    let more = c.advance.ensures.more in
+    let pushed = rw (c.notes.ensures) at c.in_err-push_notes.ensures.bytes in
+    let h : IsTurned c.args.level x n b b' (notes_of b') = record {
+      goes = λ t u. c.in-None.ensures.goes refl x t u;
+      advanced = λ t u. c.advance.ensures.advanced x t u;
+      tells = refl;
+      turns = omega arith;
+    } in
+    rw (p.1) (breaks_in_turn c.args.level x n _ (c.args.limit - s.turn) _ _ _ s b b' (notes_of b') h (omega (arith, c.turns-in-turns.ensures)) pushed (c.turns.invariant.midway x s st))

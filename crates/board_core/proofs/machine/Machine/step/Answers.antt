@@ -1,35 +1,37 @@
-use Rattle.std.proofs.Common.{ℕ, sym, ◌∙◌, ap, subst}
-use Rattle.std.proofs.lemmas.Bool.{le-leb, lt-leb}
-use Rattle.task_table.specs.Memory.{Memory, number_at}
+use Rattle.std.proofs.Common.{◌≡◌, ◌∙◌, ℕ, subst}
+use Rattle.kernel_abi.specs.declared.Note.TheVariants as note
+use Rattle.task_table.specs.State.{Turn}
 use Rattle.board_core.specs.Machine.{MachineHolds}
-use Rattle.board_core.specs.Turn.{is_text, decoded_as}
-use Rattle.board_core.proofs.Running.{text_refused, narrow_acted, wide_stepped}
-use Rattle.board_core.proofs.Lending.{rest_of, lent_register}
+use Rattle.board_core.specs.Turn.{told, executed}
+use Rattle.board_core.proofs.Fetching.{even_pc, fetched_stepped}
+use Rattle.board_core.proofs.Lending.{lent_register}
+use Rattle.board_core.proofs.Telling.{told_current}
 use Rattle.board_core.proofs.machine.Machine.step.Goals as goal
 
-pub returns-then-not-is_text-clause-holds : goal.returns-then-not-is_text-clause-holds
-returns-then-not-is_text-clause-holds c = λ g t r.
-    let h = r.holds in
-    let rest = rest_of h.saved t _ h.is in
-    let at = c.get-at.ensures ∙ lent_register g _ _ t h r.sane.steady.current in
-    let text = c.is_text.ensures g h.saved h.holds ∙ ap (λ (i : ℕ). is_text g i c.get-at.result) (sym rest.current) in
-    text_refused c.args.level g t (MachineHolds g c.fault.new.self) c.get-at.result 0 c.is_text.result at text c.illegal_text.result c.if-not-is_text.true c.illegal_text.ensures (c.fault.ensures.holds g t r)
+pub fetch-requires : goal.fetch-requires
+fetch-requires c =
+    let g = c.requires.ready.0 in
+    let t = c.requires.ready.1 in
+    let r = c.requires.ready.2 in
+    even_pc g c.args.self.now t r c.get-at.result (c.get-at.ensures ∙ lent_register g _ _ t r.holds r.sane.steady.current)
 
-pub returns-then-first-lt29-clause-holds : goal.returns-then-first-lt29-clause-holds
-returns-then-first-lt29-clause-holds c = λ g t r.
-    let h = r.holds in
-    let rest = rest_of h.saved t _ h.is in
-    let at = c.get-at.ensures ∙ lent_register g _ _ t h r.sane.steady.current in
-    let text = c.is_text.ensures g h.saved h.holds ∙ ap (λ (i : ℕ). is_text g i c.get-at.result) (sym rest.current) in
-    let half = c.half-first.ensures.holds g h.saved h.holds ∙ ap (λ (m : Memory). number_at m c.get-at.result 2) (sym rest.memory) in
-    let C : ℕ → Type 0 = λ code. MachineHolds g c.act.new.self (decoded_as c.args.level g t.state.current c.get-at.result code c.decode-decoded.result t) in
-    narrow_acted c.args.level g t (MachineHolds g c.act.new.self) c.get-at.result c.half-first.result c.is_text.result at text c.decode-decoded.result c.if-not-is_text.false half (lt-leb _ _ c.if-first-lt29.true) c.decode-decoded.ensures.table (subst C c.from.ensures (c.act.ensures.holds g t r))
+pub execute-requires-clause-ready : goal.execute-requires-clause-ready
+execute-requires-clause-ready c =
+    let g = c.requires.ready.0 in
+    let t = c.requires.ready.1 in
+    (g, told c.args.level (note.Insn t.state.current c.get-at.result c.in-Ok.fetched.code) t, c.tell_insn.ensures.ready g t c.requires.ready.2)
 
-pub returns-clause-holds : goal.returns-clause-holds
-returns-clause-holds c = λ g t r.
-    let h = r.holds in
-    let rest = rest_of h.saved t _ h.is in
-    let at = c.get-at.ensures ∙ lent_register g _ _ t h r.sane.steady.current in
-    let text = c.is_text.ensures g h.saved h.holds ∙ ap (λ (i : ℕ). is_text g i c.get-at.result) (sym rest.current) in
-    let half = c.half-first.ensures.holds g h.saved h.holds ∙ ap (λ (m : Memory). number_at m c.get-at.result 2) (sym rest.memory) in
-    wide_stepped c.args.level g t (MachineHolds g c.step_wide.new.self) c.get-at.result c.half-first.result c.is_text.result at text c.if-not-is_text.false half (le-leb _ _ c.if-first-lt29.false) (c.step_wide.ensures.holds g t r)
+pub returns-in-Ok-clause-holds : goal.returns-in-Ok-clause-holds
+returns-in-Ok-clause-holds c = λ g t r.
+    let at = c.get-at.ensures ∙ lent_register g _ _ t r.holds r.sane.steady.current in
+    let n = note.Insn t.state.current c.get-at.result c.in-Ok.fetched.code in
+    let u = told c.args.level n t in
+    let P : ℕ → Type 0 = λ i. MachineHolds g c.execute.new.self (executed g i c.in-Ok.fetched.insn u) in
+    let H : Turn → Type 0 = λ v. MachineHolds g c.execute.new.self v in
+    subst H (fetched_stepped g c.args.self.now t r c.args.level c.get-at.result c.fetch.result _ at ? c.fetch.ensures.is c.in-Ok.is) (subst P (told_current c.args.level n t) (c.execute.ensures.holds g u (c.tell_insn.ensures.ready g t r)))
+
+pub returns-in-Err-clause-holds : goal.returns-in-Err-clause-holds
+returns-in-Err-clause-holds c = λ g t r.
+    let at = c.get-at.ensures ∙ lent_register g _ _ t r.holds r.sane.steady.current in
+    let H : Turn → Type 0 = λ v. MachineHolds g c.fault.new.self v in
+    subst H (fetched_stepped g c.args.self.now t r c.args.level c.get-at.result c.fetch.result _ at ? c.fetch.ensures.is c.in-Err.is) (c.fault.ensures.holds g t r)
