@@ -391,6 +391,17 @@ pub enum Listened {
     One(u16),
 }
 
+/// What a server does with a lease of its client.
+#[derive(Clone, Copy, Debug, PartialEq, Eq)]
+pub enum Borrow {
+    /// It reads bytes of the lease.
+    Read,
+    /// It writes bytes of the lease.
+    Write,
+    /// It is told the attributes and the length.
+    Info,
+}
+
 /// A line of the trace without its turn. The last four are told with `--all` alone.
 #[derive(Clone, Copy, Debug, PartialEq, Eq)]
 pub enum Note {
@@ -440,6 +451,25 @@ pub enum Note {
     Take {
         call: u32,
         copied: u32,
+    },
+    /// A client offers a call to a server.
+    Offer {
+        call: u32,
+        client: u16,
+        server: u16,
+    },
+    /// The server of an open call used one of its leases, from an offset on, and so many bytes moved.
+    Borrow {
+        call: u32,
+        borrow: Borrow,
+        lease: u32,
+        offset: u32,
+        moved: u32,
+    },
+    /// A task was born again; its generation from now on.
+    Restart {
+        task: u16,
+        generation: u8,
     },
     /// A task runs the instruction at an address, of one halfword or of two; the first of two is in
     /// the high half.

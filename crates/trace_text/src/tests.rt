@@ -1,7 +1,7 @@
 //! A line of each note, and that the longest of each kind fits.
 use crate::line;
 use arrayvec::ArrayString;
-use kernel_abi::{Ending, Fault, Handled, Listened, Note};
+use kernel_abi::{Borrow, Ending, Fault, Handled, Listened, Note};
 
 fn text(turn: u32, note: Note) -> ArrayString<160> {
     let mut out = ArrayString::new();
@@ -86,6 +86,23 @@ fn calls_have_their_lines(rt: HostRuntime) {
             "2 fault 1 8 00000010 00000020\n",
         ),
         (14, Note::Take { call: 1, copied: 4 }, "14 take 1 4\n"),
+        (
+            5,
+            Note::Offer {
+                call: 7,
+                client: 2,
+                server: 1,
+            },
+            "5 offer 7 2 1\n",
+        ),
+        (
+            6,
+            Note::Restart {
+                task: 3,
+                generation: 63,
+            },
+            "6 restart 3 63\n",
+        ),
     ] {
         let text = text(turn, note);
         assert_eq!(rt; text.as_str(), want);
@@ -113,6 +130,25 @@ fn a_listen_has_its_sender_and_mask(rt: HostRuntime) {
         (5, 2, Listened::One(1), 0xffff, "5 listen 2 1 0000ffff\n"),
     ] {
         let text = text(turn, Note::Listen { task, from, mask });
+        assert_eq!(rt; text.as_str(), want);
+    }
+}
+
+#[test]
+fn a_borrow_has_its_name_and_what_moved(rt: HostRuntime) {
+    for (borrow, want) in [
+        (Borrow::Read, "8 borrow 7 read 1 20 300\n"),
+        (Borrow::Write, "8 borrow 7 write 1 20 300\n"),
+        (Borrow::Info, "8 borrow 7 info 1 20 300\n"),
+    ] {
+        let note = Note::Borrow {
+            call: 7,
+            borrow,
+            lease: 1,
+            offset: 20,
+            moved: 300,
+        };
+        let text = text(8, note);
         assert_eq!(rt; text.as_str(), want);
     }
 }
@@ -241,6 +277,31 @@ fn the_longest_lines_fit(rt: HostRuntime) {
             39,
         ),
         (Note::Take { call, copied: most }, 38),
+        (
+            Note::Offer {
+                call,
+                client: 65535,
+                server: 65535,
+            },
+            40,
+        ),
+        (
+            Note::Borrow {
+                call,
+                borrow: Borrow::Write,
+                lease: most,
+                offset: most,
+                moved: most,
+            },
+            68,
+        ),
+        (
+            Note::Restart {
+                task,
+                generation: 255,
+            },
+            29,
+        ),
         (
             Note::Insn {
                 task,
