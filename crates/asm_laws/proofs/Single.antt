@@ -5,7 +5,8 @@ use Rattle.thumb_asm.specs.Chars.{entry_at}
 use Rattle.thumb_asm.specs.Operands.{or_else}
 use Rattle.thumb_asm.specs.Parts.{parts}
 use Rattle.thumb_asm.specs.Sizes.{statement_of}
-use Rattle.thumb_asm.specs.Meaning.{Env, Names, env_of, own_label, Lays, Assembles}
+use Rattle.thumb_asm.specs.Meaning.{Env, Names, env_of, own_label, Lays}
+use Rattle.thumb_asm.specs.Assembly.{Assembles}
 use Rattle.asm_laws.proofs.Steady.{steady_statement}
 use Rattle.asm_laws.proofs.Lengths.{Alike, same_length, spells_one}
 
@@ -63,16 +64,16 @@ same_bytes (l ∷ ls) env at bytes bytes' names names' a b =
     let b' : Lays env (at + length a.0) ls b.1 b.2 = subst (λ o. Lays env (at + length o) ls b.1 b.2) (sym e) b.6 in
     a.3 ∙ ap (λ o. o ++ a.1) e ∙ ap (λ r. b.0 ++ r) (same_bytes ls env (at + length a.0) a.1 b.1 a.2 b.2 a.6 b') ∙ sym b.3
 
-laid_names : (lines : List (List ℕ)) (base : ℕ) (given : Env) (bytes bytes' : List ℕ) (labels labels' : Env) (a : Assembles lines base given bytes labels) (b : Assembles lines base given bytes' labels') → a.0 ≡ b.0
+laid_names : (lines : List (List ℕ)) (base : ℕ) (given : Env) (bytes bytes' : List ℕ) (labels labels' : Env) (a : Assembles lines base given bytes labels) (b : Assembles lines base given bytes' labels') → a.names ≡ b.names
 laid_names lines base given bytes bytes' labels labels' a b =
-    let env = env_of (entry_at a.0) given in
-    let env' = env_of (entry_at b.0) given in
-    same_names lines env env' base bytes bytes' a.0 b.0 (alike_env given (entry_at a.0) (entry_at b.0) (alike_names lines env env' base base bytes bytes' a.0 b.0 a.2 b.2)) a.2 b.2
+    let env = env_of (entry_at a.names) given in
+    let env' = env_of (entry_at b.names) given in
+    same_names lines env env' base bytes bytes' a.names b.names (alike_env given (entry_at a.names) (entry_at b.names) (alike_names lines env env' base base bytes bytes' a.names b.names a.laid b.laid)) a.laid b.laid
 
 pub one_bytes : (lines : List (List ℕ)) (base : ℕ) (given : Env) (bytes bytes' : List ℕ) (labels labels' : Env) → Assembles lines base given bytes labels → Assembles lines base given bytes' labels' → bytes ≡ bytes'
 one_bytes lines base given bytes bytes' labels labels' a b =
     let e = laid_names lines base given bytes bytes' labels labels' a b in
-    same_bytes lines (env_of (entry_at a.0) given) base bytes bytes' a.0 b.0 a.2 (subst (λ ns. Lays (env_of (entry_at ns) given) base lines bytes' b.0) (sym e) b.2)
+    same_bytes lines (env_of (entry_at a.names) given) base bytes bytes' a.names b.names a.laid (subst (λ ns. Lays (env_of (entry_at ns) given) base lines bytes' b.names) (sym e) b.laid)
 
 pub one_labels : (lines : List (List ℕ)) (base : ℕ) (given : Env) (bytes bytes' : List ℕ) (labels labels' : Env) → Assembles lines base given bytes labels → Assembles lines base given bytes' labels' → (name : List ℕ) → labels name ≡ labels' name
-one_labels lines base given bytes bytes' labels labels' a b name = a.1 name ∙ ap (λ ns. entry_at ns name) (laid_names lines base given bytes bytes' labels labels' a b) ∙ sym (b.1 name)
+one_labels lines base given bytes bytes' labels labels' a b name = a.labelled name ∙ ap (λ ns. entry_at ns name) (laid_names lines base given bytes bytes' labels labels' a b) ∙ sym (b.labelled name)

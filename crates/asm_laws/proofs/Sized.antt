@@ -1,4 +1,4 @@
--- An accepted source is assembled to as many bytes as its lines take.
+-- A source is assembled to as many bytes as its lines take.
 use Rattle.std.proofs.Common.{◌≡◌, ℕ, ◌+◌, ◌*◌, List, [], ◌∷◌, length, length-append, mul-zero, mul-suc, add_comm, refl, ap, ◌∙◌, sym, subst, Bool, true, false, Option, Some, None, Result, Ok, Err, ℤ}
 use Rattle.std.specs.Prelude.{is_some}
 use Rattle.std.specs.List.{list_any}
@@ -10,7 +10,8 @@ use Rattle.thumb_asm.specs.Operands.{or_else, signed}
 use Rattle.thumb_asm.specs.Parts.{parts}
 use Rattle.thumb_asm.specs.Syntax.{Shape, Fixed, Filled, Within, Aimed, Near, Misplaced, Listed, Block, Data, Text, Zeros, Padding}
 use Rattle.thumb_asm.specs.Sizes.{shape_size, statement_of, natural_part, padding}
-use Rattle.thumb_asm.specs.Meaning.{Env, Names, env_of, value, value_bytes, data_bytes, insn_at, Means, Spells, Lays, Assembles}
+use Rattle.thumb_asm.specs.Meaning.{Env, Names, env_of, value, value_bytes, data_bytes, insn_at, Means, Spells, Lays}
+use Rattle.thumb_asm.specs.Assembly.{Assembles}
 use Rattle.thumb_asm.specs.Causes.{when, is_unknown, shape_cause, second_group, second_in, at_line, size_by, line_size, labels_from, first_in, first_cause}
 use Rattle.thumb_asm.proofs.Bytes.{neither}
 use Rattle.thumb_asm.proofs.Values.{repeat_length}
@@ -115,10 +116,10 @@ alike_from (l ∷ ls) env at at' bytes names h = λ name.
     ap (λ ns. is_some (entry_at ns name)) h.4
     ∙ alike_label (parts l).label at at' h.2 (labels_from (at' + line_size at' l) ls) (alike_from ls env (at + length h.0) (at' + line_size at' l) h.1 h.2 h.6) name
 
-pub image_sized : (lines : List (List ℕ)) (base : ℕ) (given : Env) (bytes : List ℕ) (labels : Env) → first_cause lines base given ≡ None → Assembles lines base given bytes labels → length bytes ≡ size_from base lines
+pub image_sized : (lines : List (List ℕ)) (base : ℕ) (given : Env) (bytes : List ℕ) (labels : Env) → Assembles lines base given bytes labels → length bytes ≡ size_from base lines
 unfolding first_cause
-image_sized lines base given bytes labels c h =
-    let own = entry_at h.0 in
+image_sized lines base given bytes labels h =
+    let own = entry_at h.names in
     let from = entry_at (labels_from base lines) in
-    let alike = alike_env given own from (alike_from lines (env_of own given) base base bytes h.0 h.2) in
-    laid_sized lines (env_of own given) (env_of from given) base 1 bytes h.0 alike (latter (first_in given base [] 0 1 lines) _ c) h.2
+    let alike = alike_env given own from (alike_from lines (env_of own given) base base bytes h.names h.laid) in
+    laid_sized lines (env_of own given) (env_of from given) base 1 bytes h.names alike (latter (first_in given base [] 0 1 lines) _ h.accepted) h.laid

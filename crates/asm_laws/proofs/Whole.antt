@@ -9,7 +9,8 @@ use Rattle.thumb_asm.specs.Chars.{is_allowed, is_nil, entry_at, strip, strip_fro
 use Rattle.thumb_asm.specs.Parts.{parts, before, after}
 use Rattle.thumb_asm.specs.Syntax.{Shape, Fixed, Filled, Within, Aimed, Near, Misplaced, Listed, Block, Data, Text, Zeros, Padding}
 use Rattle.thumb_asm.specs.Sizes.{statement_of, shape_size}
-use Rattle.thumb_asm.specs.Meaning.{Env, Names, env_of, own_label, insn_at, Codes, Spells, Lays, Assembles}
+use Rattle.thumb_asm.specs.Meaning.{Env, Names, env_of, own_label, insn_at, Codes, Spells, Lays}
+use Rattle.thumb_asm.specs.Assembly.{Assembles}
 use Rattle.thumb_asm.specs.Causes.{second_group, first_group, first_in, second_in, labels_from, first_cause, line_size}
 use Rattle.thumb_asm.proofs.Bytes.{both}
 use Rattle.asm_laws.specs.Reading.{IsAssembled}
@@ -89,6 +90,11 @@ assembled i at p given h =
     let first = no_first given (entry_at []) at 0 (insn_text i at) s (not_over 255 (length (insn_text i at)) p.short) p.allowed p.read.0 e (not_over 1048576 (0 + line_size (at + 0) (insn_text i at)) (omega arith)) in
     let cause = no_cause given at (insn_text i at) first (λ env. accepted i at p.read env h) in (
       ap (λ ls. first_cause ls at given) lines ∙ cause,
-      λ own c. subst (λ ls. Assembles ls at given own (λ name. None)) (sym lines) ([], no_names, to_line (env_of (entry_at []) given) at (insn_text i at) own p.read.0 ((spelled i at p.read (env_of (entry_at []) given) own).0 c)),
-      λ bytes labels a. let b = subst (λ ls. Assembles ls at given bytes labels) lines a in of_line (env_of (entry_at b.0) given) at (insn_text i at) bytes b.0 i (λ own x. (spelled i at p.read (env_of (entry_at b.0) given) own).1 x) b.2,
+      λ own c. subst (λ ls. Assembles ls at given own (λ name. None)) (sym lines) (record {
+        accepted = cause;
+        names = [];
+        labelled = no_names;
+        laid = to_line (env_of (entry_at []) given) at (insn_text i at) own p.read.0 ((spelled i at p.read (env_of (entry_at []) given) own).0 c);
+      }),
+      λ bytes labels a. let b = subst (λ ls. Assembles ls at given bytes labels) lines a in of_line (env_of (entry_at b.names) given) at (insn_text i at) bytes b.names i (λ own x. (spelled i at p.read (env_of (entry_at b.names) given) own).1 x) b.laid,
     )

@@ -6,7 +6,8 @@ use Rattle.thumb_insn.specs.Text.{insn_text}
 use Rattle.thumb_asm.specs.Parts.{parts}
 use Rattle.thumb_asm.specs.Syntax.{Shape}
 use Rattle.thumb_asm.specs.Sizes.{statement_of}
-use Rattle.thumb_asm.specs.Meaning.{Env, insn_at, Codes, Spells, Assembles}
+use Rattle.thumb_asm.specs.Meaning.{Env, insn_at, Codes, Spells}
+use Rattle.thumb_asm.specs.Assembly.{Assembles}
 use Rattle.thumb_asm.specs.Causes.{second_group, first_cause}
 use Rattle.text_lines.specs.Text.{lines_of}
 

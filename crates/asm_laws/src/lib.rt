@@ -3,7 +3,7 @@
 //!
 //! - The text of an instruction is read as that instruction (`text_is_read`).
 //! - No source has two assemblies (`one_image`).
-//! - An accepted source is assembled to as many bytes as its lines take (`image_length`).
+//! - A source is assembled to as many bytes as its lines take (`image_length`).
 #![tactic(auto)]
 
 mod image;

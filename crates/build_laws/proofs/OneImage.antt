@@ -6,7 +6,8 @@ use Rattle.image_format.specs.Picture.{Picture}
 use Rattle.mem_plan.specs.Placing.{placed}
 use Rattle.mem_plan.specs.Sizes.{rounded}
 use Rattle.text_lines.specs.Text.{lines_of}
-use Rattle.thumb_asm.specs.Meaning.{Assembles, Env}
+use Rattle.thumb_asm.specs.Assembly.{Assembles}
+use Rattle.thumb_asm.specs.Meaning.{Env}
 use Rattle.image_build.specs.Built.{Built, HasProgram, flash_byte, given, picture_built, source_at}
 use Rattle.image_build.specs.Layout.{flash_base, flash_needed, flash_sizes, flash_wanted, no_task, task_at}
 use Rattle.build_laws.proofs.Filling.{filled}

@@ -5,8 +5,9 @@ use Rattle.std.proofs.lemmas.List.{get_or_append_left, get_or_past, get_or_push}
 use Rattle.app_toml.specs.Apps.{AppData}
 use Rattle.mem_plan.specs.Sizes.{doubled, rounded}
 use Rattle.text_lines.specs.Text.{lines_of}
-use Rattle.thumb_asm.specs.Meaning.{Assembles, Env}
-use Rattle.image_build.specs.Building.{Holds, IsLaid, IsTaken, source_cause}
+use Rattle.thumb_asm.specs.Assembly.{Assembles}
+use Rattle.thumb_asm.specs.Meaning.{Env}
+use Rattle.image_build.specs.Building.{Holds, IsLaid, IsTaken}
 use Rattle.image_build.specs.Built.{HasProgram, flash_byte, given, source_at}
 use Rattle.image_build.specs.Layout.{flash_base, flash_sizes, task_at}
 use Rattle.image_build.specs.declared.layout.Layout.{Layout}
@@ -59,7 +60,6 @@ beside app layout i n k at size l li ln other below is fits = elim (cases_lt (fl
 pub record Puts (app : AppData) (sources : List (List ℕ)) (n base : ℕ) (source code old flash : List ℕ) (labels : Env) : Type 0 where
   pub holds : Holds app sources old
   pub left : n < length app.tasks
-  pub accepted : source_cause app n source ≡ None
   pub assembled : Assembles (lines_of source) (flash_base app n) (given app n) code labels
   pub fits : length code ≤ (task_at app n).flash
   pub most : (task_at app n).flash ≤ 1048576
@@ -116,7 +116,6 @@ own app sources source code old flash labels p = record {
 own_taken : (app : AppData) (sources : List (List ℕ)) (source code old flash : List ℕ) (labels : Env) → PutsNext app sources source code old flash labels
     → IsTaken app (length sources) source
 own_taken app sources source code old flash labels p = record {
-  accepted = p.accepted;
   code = code;
   labels = labels;
   assembled = p.assembled;

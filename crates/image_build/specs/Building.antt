@@ -7,7 +7,8 @@ use Rattle.mem_plan.specs.Placing.{placed}
 use Rattle.mem_plan.specs.Sizes.{rounded, total}
 use Rattle.text_lines.specs.Text.{lines_of}
 use Rattle.thumb_asm.specs.Causes.{cause_number, first_cause}
-use Rattle.thumb_asm.specs.Meaning.{Assembles, Env}
+use Rattle.thumb_asm.specs.Assembly.{Assembles}
+use Rattle.thumb_asm.specs.Meaning.{Env}
 use Rattle.thumb_asm.specs.declared.Cause.{Cause}
 use Rattle.image_build.specs.Built.{HasProgram, flash_byte, given, source_at}
 use Rattle.image_build.specs.Layout.{flash_base, flash_needed, flash_sizes, ram_needed, ram_sizes, task_at}
@@ -50,7 +51,6 @@ source_cause app i source = first_cause (lines_of source) (flash_base app i) (gi
 
 -- it is assembled, and its bytes fit the task's flash
 pub record IsTaken (app : AppData) (i : ℕ) (source : List ℕ) : Type 0 where
-  pub accepted : source_cause app i source ≡ None
   pub code : List ℕ
   pub labels : Env
   pub assembled : Assembles (lines_of source) (flash_base app i) (given app i) code labels
@@ -58,7 +58,6 @@ pub record IsTaken (app : AppData) (i : ℕ) (source : List ℕ) : Type 0 where
 
 -- it is assembled to so many bytes, which are too many
 pub record IsTooLong (app : AppData) (i : ℕ) (source : List ℕ) (bytes : ℕ) : Type 0 where
-  pub accepted : source_cause app i source ≡ None
   pub code : List ℕ
   pub labels : Env
   pub assembled : Assembles (lines_of source) (flash_base app i) (given app i) code labels

@@ -8,7 +8,8 @@ use Rattle.image_format.specs.Picture.{LinePicture, Picture, TaskPicture}
 use Rattle.mem_plan.specs.Sizes.{rounded}
 use Rattle.text_lines.specs.Text.{lines_of}
 use Rattle.thumb_asm.specs.Chars.{entry_at}
-use Rattle.thumb_asm.specs.Meaning.{Assembles, Env}
+use Rattle.thumb_asm.specs.Assembly.{Assembles}
+use Rattle.thumb_asm.specs.Meaning.{Env}
 use Rattle.image_build.specs.Layout.{flash_base, flash_needed, index_of, ram_base, ram_needed, task_at, task_regions}
 use Rattle.image_build.specs.Symbols.{symbols}
 

@@ -4,8 +4,8 @@ ghost use Rattle.std.specs.Prelude.{◌≡◌, ◌≤◌, ◌<◌, ◌+◌, ◌+
 ghost use Rattle.std.specs.BTreeMap.{get_by_text};
 ghost use Rattle.app_toml.specs.Held.{app_of};
 ghost use Rattle.text_lines.specs.Text.{lines_of};
-ghost use Rattle.thumb_asm.specs.Meaning.{Assembles};
-ghost use Rattle.image_build.specs.Building.{LacksRoom, RefusesSource, source_cause};
+ghost use Rattle.thumb_asm.specs.Assembly.{Assembles};
+ghost use Rattle.image_build.specs.Building.{HasRoom, LacksRoom, RefusesSource};
 ghost use Rattle.image_build.specs.Built.{given};
 ghost use Rattle.image_build.specs.Layout.{flash_base};
 ghost use Rattle.image_build.specs.Taken.{HasTaken, described, next_task};
@@ -33,7 +33,6 @@ fn put(flash: &mut [u8], at: usize, code: &[u8])
 /// What the next task's source is assembled to.
 fn assembled(builder: &Builder<'_>, bytes: &[u8]) -> Result<Object, BuildFault>
     requires left { next_task builder.now < length (described builder.now).tasks }
-    ensures accepted { IfOk result (λ o. source_cause (described builder.now) (next_task builder.now) bytes.now ≡ None) }
     ensures assembled { IfOk result (λ o. Assembles (lines_of bytes.now) (flash_base (described builder.now) (next_task builder.now)) (given (described builder.now) (next_task builder.now)) o.bytes.items (get_by_text o.labels)) }
     ensures refused { IfErr result (RefusesSource (described builder.now) (next_task builder.now) bytes.now) }
 {
@@ -52,7 +51,7 @@ fn assembled(builder: &Builder<'_>, bytes: &[u8]) -> Result<Object, BuildFault>
 }
 
 impl<'a> Builder<'a> {
-    /// A builder of the application, which has taken no source yet.
+    /// A builder of the application, for which the board has room. It has taken no source yet.
     ///
     /// # Errors
     ///
@@ -61,6 +60,7 @@ impl<'a> Builder<'a> {
     pub fn open(alloc: Global, app: &'a App) -> Result<Builder<'a>, BuildFault>
         ensures described { IfOk result (λ b. described b ≡ app_of app.now) }
         ensures none { IfOk result (HasTaken []) }
+        ensures room { IfOk result (λ b. HasRoom (app_of app.now)) }
         ensures refused { IfErr result (LacksRoom (app_of app.now)) }
     {
         let layout = laid_out(alloc, app)?;

@@ -36,7 +36,7 @@ pub(crate) fn empty_draft(alloc: Global) -> Draft
     }
 }
 
-fn add_period(draft: &mut Draft, period: u32, line: u32) -> Result<(), ScriptFault>
+fn add_period(draft: &mut Draft, period: u32, line: usize) -> Result<(), ScriptFault>
     requires { Tracks draft.old.events.items draft.old.last draft.old.here }
     ensures ok { OnOk result (with_period (drafted draft.old) period ≡ Ok (drafted draft.new)) }
     ensures tracks { OnOk result (Tracks draft.new.events.items draft.new.last draft.new.here) }
@@ -49,7 +49,7 @@ fn add_period(draft: &mut Draft, period: u32, line: u32) -> Result<(), ScriptFau
     Ok(())
 }
 
-fn add_event(draft: &mut Draft, turn: u32, event: Event, line: u32) -> Result<(), ScriptFault>
+fn add_event(draft: &mut Draft, turn: u32, event: Event, line: usize) -> Result<(), ScriptFault>
     requires { Tracks draft.old.events.items draft.old.last draft.old.here }
     ensures ok { OnOk result (with_event (drafted draft.old) turn event ≡ Ok (drafted draft.new)) }
     ensures tracks { OnOk result (Tracks draft.new.events.items draft.new.last draft.new.here) }
@@ -73,7 +73,7 @@ fn add_event(draft: &mut Draft, turn: u32, event: Event, line: u32) -> Result<()
 }
 
 /// Takes what a line says, or tells why it is refused there.
-pub(crate) fn take(draft: &mut Draft, statement: Statement, line: u32) -> Result<(), ScriptFault>
+pub(crate) fn take(draft: &mut Draft, statement: Statement, line: usize) -> Result<(), ScriptFault>
     requires { Tracks draft.old.events.items draft.old.last draft.old.here }
     ensures ok { OnOk result (with_statement (drafted draft.old) statement ≡ Ok (drafted draft.new)) }
     ensures tracks { OnOk result (Tracks draft.new.events.items draft.new.last draft.new.here) }

@@ -16,7 +16,7 @@ pub enum Event {
 pub enum ScriptFault {
     /// A cause of docs/FORMATS.md, Script, and the line, from 1.
     #[error("refused with cause {cause} at line {line}")]
-    Refused { cause: u8, line: u32 },
+    Refused { cause: u8, line: usize },
     #[error("out of memory")]
     Memory,
 }

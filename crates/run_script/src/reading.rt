@@ -1,6 +1,6 @@
 //! Reading.
 
-ghost use Rattle.std.specs.Prelude.{◌≡◌, ◌<◌, ◌^◌, length, IfOk, IfErr, IfSome, Ok, Err};
+ghost use Rattle.std.specs.Prelude.{◌≡◌, IfOk, IfErr, IfSome, Ok, Err};
 ghost use Rattle.run_script.specs.Drafts.{drafted};
 ghost use Rattle.run_script.specs.Events.{script_data, told};
 ghost use Rattle.run_script.specs.Scripts.{script_or_fault};
@@ -13,13 +13,12 @@ use std::alloc::Global;
 use text_lines::Lines;
 
 fn draft_of(alloc: Global, bytes: &[u8]) -> Result<Draft, ScriptFault>
-    requires { length bytes.now < 2 ^ 32 }
     ensures ok { IfOk result (λ d. script_or_fault bytes.now ≡ Ok (drafted d)) }
     ensures refused { IfErr result (λ e.
         IfSome (told e) (λ t. script_or_fault bytes.now ≡ Err t)) }
 {
     let mut draft = empty_draft(alloc);
-    let mut number = 0u32;
+    let mut number = 0usize;
     let mut lines = Lines::of(bytes);
     'lines: while let Some(line) = lines.next() {
         number += 1;
@@ -33,10 +32,9 @@ fn draft_of(alloc: Global, bytes: &[u8]) -> Result<Draft, ScriptFault>
 
 impl Script {
     /// The script that the bytes say, or the first cause by which they are refused with its line, in
-    /// the order of docs/FORMATS.md, Script; `Memory` where memory ran out. Lines are counted in 32
-    /// bits, from 1.
+    /// the order of docs/FORMATS.md, Script; `Memory` where memory ran out. Lines are counted
+    /// from 1.
     pub fn read(alloc: Global, bytes: &[u8]) -> Result<Script, ScriptFault>
-        requires { length bytes.now < 2 ^ 32 }
         ensures ok { IfOk result (λ s. script_or_fault bytes.now ≡ Ok (script_data s)) }
         ensures refused { IfErr result (λ e.
             IfSome (told e) (λ t. script_or_fault bytes.now ≡ Err t)) }

@@ -6,7 +6,7 @@ use std::alloc::{AllocError, Global};
 use std::test::Fail;
 
 /// Texts with the cause and line of their refusal; 0 and 0 where they are taken.
-const ROWS: [(&[u8], u8, u32); 69] = [
+const ROWS: [(&[u8], u8, usize); 69] = [
     (b"", 0, 0),
     (b"\n\r\n", 0, 0),
     (b" \t\n# at 1 tock\n#\n \t#every\n", 0, 0),
@@ -110,14 +110,8 @@ const ROWS: [(&[u8], u8, u32); 69] = [
     ),
 ];
 
-/// The longest text that is tried.
-const MOST: usize = 2_097_152;
-
 /// The cause and line; 0 and 0 where the text is taken.
-fn answer(alloc: Global, text: &[u8]) -> (u8, u32) {
-    if text.len() > MOST {
-        return (254, 0);
-    }
+fn answer(alloc: Global, text: &[u8]) -> (u8, usize) {
     match Script::read(alloc, text) {
         Ok(_) => (0, 0),
         Err(ScriptFault::Refused { cause, line }) => (cause, line),

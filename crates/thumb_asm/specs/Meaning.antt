@@ -10,7 +10,6 @@ use Rattle.thumb_encode.specs.declared.Fit.{Fit}
 use Rattle.thumb_encode.specs.declared.Fit.TheVariants as fit
 use Rattle.thumb_asm.specs.declared.Cause.{Cause}
 use Rattle.thumb_asm.specs.declared.Cause.TheVariants as cause
-use Rattle.thumb_asm.specs.Chars.{entry_at}
 use Rattle.thumb_asm.specs.Parts.{parts}
 use Rattle.thumb_asm.specs.Operands.{Expr, expression, signed, or_else}
 use Rattle.thumb_asm.specs.Syntax.{Shape, Fixed, Filled, Within, Aimed, Near, Listed, Block, Data, Text, Zeros, Padding}
@@ -134,8 +133,3 @@ Lays env at [] bytes labels = (bytes ≡ []) × (labels ≡ [])
 Lays env at (l ∷ ls) bytes labels =
     (own : List ℕ) × (rest : List ℕ) × (more : Names) × (bytes ≡ own ++ rest) × (labels ≡ own_label at (parts l).label ++ more)
     × Spells env at (statement_of (parts l).statement) own × Lays env (at + length own) ls rest more
-
--- `labels` gives the labels of the lines with their addresses, and no other name; these and the given symbols are the
--- values of names; the first line stands at the base
-abbrev pub Assembles : List (List ℕ) → ℕ → Env → List ℕ → Env → Type 0
-Assembles lines base given bytes labels = (names : Names) × ((name : List ℕ) → labels name ≡ entry_at names name) × Lays (env_of (entry_at names) given) base lines bytes names

@@ -86,14 +86,14 @@ pub source_too_long : (app : AppData) (i : ℕ) (source : List ℕ) (task bytes 
     → source_refusal app i source ≡ Some (at_number (15, bytes))
 source_too_long app i source task bytes le h =
     let long = h.1 in
-    let size : length long.code ≡ code_length app i source = image_sized (lines_of source) (flash_base app i) (given app i) long.code long.labels long.accepted long.assembled in
+    let size : length long.code ≡ code_length app i source = image_sized (lines_of source) (flash_base app i) (given app i) long.code long.labels long.assembled in
     let above : ltb (task_at app i).flash (code_length app i source) ≡ true = let lt = long.above in grind (arith, nat_tests) in
     let code : code_refusal app i source ≡ Some (at_number (15, code_length app i source)) = rw above refl in
-    by_cause app i source None le long.accepted ∙ code ∙ ap (λ n. Some (at_number (15, n))) (sym (long.is ∙ size))
+    by_cause app i source None le long.assembled.accepted ∙ code ∙ ap (λ n. Some (at_number (15, n))) (sym (long.is ∙ size))
 
 pub source_taken : (app : AppData) (i : ℕ) (source : List ℕ) → length source ≤ 2097152 → IsTaken app i source → source_refusal app i source ≡ None
 source_taken app i source le h =
-    let size : length h.code ≡ code_length app i source = image_sized (lines_of source) (flash_base app i) (given app i) h.code h.labels h.accepted h.assembled in
+    let size : length h.code ≡ code_length app i source = image_sized (lines_of source) (flash_base app i) (given app i) h.code h.labels h.assembled in
     let fits : ltb (task_at app i).flash (code_length app i source) ≡ false = let at_most = h.fits in grind (arith, nat_tests) in
     let code : code_refusal app i source ≡ None = rw fits refl in
-    by_cause app i source None le h.accepted ∙ code
+    by_cause app i source None le h.assembled.accepted ∙ code

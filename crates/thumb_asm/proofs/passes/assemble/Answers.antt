@@ -1,7 +1,8 @@
 use Rattle.std.proofs.Common.{◌≡◌, subst, IfOk, IfErr, None}
 use Rattle.std.specs.BTreeMap.{get_by_text}
 use Rattle.text_lines.specs.Text.{lines_of}
-use Rattle.thumb_asm.specs.Meaning.{Env, Assembles}
+use Rattle.thumb_asm.specs.Assembly.{Assembles}
+use Rattle.thumb_asm.specs.Meaning.{Env}
 use Rattle.thumb_asm.specs.Causes.{first_cause}
 use Rattle.thumb_asm.specs.Passes.{names_of, Refuses}
 use Rattle.thumb_asm.proofs.Labels.{same_env}

@@ -1,6 +1,4 @@
 use Rattle.app_toml.specs.Held.{app_of}
-use Rattle.std.proofs.Common.{subst}
-use Rattle.image_build.specs.Building.{HasRoom}
 use Rattle.trace_cli.proofs.Refusals.{has_room}
 use Rattle.trace_cli.proofs.building.opened.Goals as goal
 
@@ -8,4 +6,4 @@ pub returns-in-Err-clause-stop : goal.returns-in-Err-clause-stop
 returns-in-Err-clause-stop c = c.stop_by_plan.ensures (app_of c.args.app.now) c.in-Err.ensures.refused
 
 pub returns-in-Ok-clause-room : goal.returns-in-Ok-clause-room
-returns-in-Ok-clause-room c = has_room _ (subst HasRoom c.in-Ok.ensures.described c.in-Ok.builder.laid.room)
+returns-in-Ok-clause-room c = has_room _ c.in-Ok.ensures.room

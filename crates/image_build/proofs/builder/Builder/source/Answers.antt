@@ -3,7 +3,7 @@ use Rattle.std.specs.BTreeMap.{get_by_text}
 use Rattle.std.specs.Vec.{with_items}
 use Rattle.std.proofs.lemmas.List.{with_items_is}
 use Rattle.text_lines.specs.Text.{lines_of}
-use Rattle.thumb_asm.specs.Meaning.{Assembles}
+use Rattle.thumb_asm.specs.Assembly.{Assembles}
 use Rattle.image_build.specs.Building.{Holds}
 use Rattle.image_build.specs.Built.{given}
 use Rattle.image_build.specs.Layout.{flash_base, task_at}
@@ -17,7 +17,6 @@ returns-then-task-length-clause-refused c =
     let is : c.len-length.result ≡ length c.in_ok-object.object.bytes.items = search rules in (
       refl,
       record {
-        accepted = c.in_ok-object.ensures.accepted;
         code = c.in_ok-object.object.bytes.items;
         labels = get_by_text c.in_ok-object.object.labels;
         assembled = c.in_ok-object.ensures.assembled;
@@ -60,7 +59,6 @@ holds c sources h =
     (get_by_text c.in_ok-object.object.labels) c.args.self.now.laid h.next c.flash_base.ensures.base (record {
       holds = h.holds;
       left = c.requires;
-      accepted = c.in_ok-object.ensures.accepted;
       assembled = subst (λ (bytes : List ℕ). Assembles (lines_of c.args.bytes.now) (flash_base app next) (given app next) bytes (get_by_text c.in_ok-object.object.labels)) (sym c.as_slice.ensures.value) c.in_ok-object.ensures.assembled;
       fits = omega (arith, code, flash, c.if-task-length.false);
       most = omega (arith, flash, c.task.ensures.flash);
