@@ -17,9 +17,9 @@ use Rattle.task_table.specs.Reading.{register}
 use Rattle.task_table.specs.State.{Setup, Turn}
 use Rattle.task_table.specs.Effects.{faulted}
 use Rattle.board_core.specs.declared.machine.Machine.{Machine}
-use Rattle.board_core.specs.declared.told.Level.{Level}
+use Rattle.board_model.specs.declared.told.Level.{Level}
 use Rattle.board_core.specs.Machine.{IsReady}
-use Rattle.board_core.specs.Turn.{may, first_lacking, refusals, is_text, told, executed, decoded_as, stepped_wide, stepped}
+use Rattle.board_model.specs.Turn.{may, first_lacking, refusals, is_text, told, executed, decoded_as, stepped_wide, stepped}
 use Rattle.board_core.proofs.Gliding.{current_seen}
 use Rattle.board_core.proofs.Lending.{rest_of}
 

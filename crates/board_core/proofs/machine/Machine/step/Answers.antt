@@ -1,8 +1,8 @@
-use Rattle.std.proofs.Common.{◌≡◌, ◌∙◌, ℕ, subst}
+use Rattle.std.proofs.Common.{◌≡◌, ◌∙◌, ℕ, subst, arith}
 use Rattle.kernel_abi.specs.declared.Note.TheVariants as note
 use Rattle.task_table.specs.State.{Turn}
 use Rattle.board_core.specs.Machine.{MachineHolds}
-use Rattle.board_core.specs.Turn.{told, executed}
+use Rattle.board_model.specs.Turn.{told, executed}
 use Rattle.board_core.proofs.Fetching.{even_pc, fetched_stepped}
 use Rattle.board_core.proofs.Lending.{lent_register}
 use Rattle.board_core.proofs.Telling.{told_current}
@@ -28,10 +28,10 @@ returns-in-Ok-clause-holds c = λ g t r.
     let u = told c.args.level n t in
     let P : ℕ → Type 0 = λ i. MachineHolds g c.execute.new.self (executed g i c.in-Ok.fetched.insn u) in
     let H : Turn → Type 0 = λ v. MachineHolds g c.execute.new.self v in
-    subst H (fetched_stepped g c.args.self.now t r c.args.level c.get-at.result c.fetch.result _ at ? c.fetch.ensures.is c.in-Ok.is) (subst P (told_current c.args.level n t) (c.execute.ensures.holds g u (c.tell_insn.ensures.ready g t r)))
+    subst H (fetched_stepped g c.args.self.now t r c.args.level c.get-at.result c.fetch.result _ at (omega arith) c.fetch.ensures.is c.in-Ok.is) (subst P (told_current c.args.level n t) (c.execute.ensures.holds g u (c.tell_insn.ensures.ready g t r)))
 
 pub returns-in-Err-clause-holds : goal.returns-in-Err-clause-holds
 returns-in-Err-clause-holds c = λ g t r.
     let at = c.get-at.ensures ∙ lent_register g _ _ t r.holds r.sane.steady.current in
     let H : Turn → Type 0 = λ v. MachineHolds g c.fault.new.self v in
-    subst H (fetched_stepped g c.args.self.now t r c.args.level c.get-at.result c.fetch.result _ at ? c.fetch.ensures.is c.in-Err.is) (c.fault.ensures.holds g t r)
+    subst H (fetched_stepped g c.args.self.now t r c.args.level c.get-at.result c.fetch.result _ at (omega arith) c.fetch.ensures.is c.in-Err.is) (c.fault.ensures.holds g t r)
