@@ -1,5 +1,5 @@
 -- The next source's code is put into the flash: the programs before it stand as they did, and what follows them is zero.
-use Rattle.std.proofs.Common.{◌≡◌, ◌∙◌, ℕ, suc, ◌+◌, ◌-◌, ◌*◌, ◌≤◌, ◌<◌, ◌⊎◌, List, [], ◌∷◌, ◌++◌, None, length, get_or, length-append, nat_le, refl, sym, ap, subst, arith, inl, inr}
+use Rattle.std.proofs.Common.{◌≡◌, ◌∙◌, ℕ, suc, ◌+◌, ◌-◌, ◌*◌, ◌≤◌, ◌<◌, ◌⊎◌, List, [], ◌∷◌, ◌++◌, length, get_or, length-append, nat_le, refl, sym, ap, subst, arith, inl, inr}
 use Rattle.std.proofs.lemmas.Bool.{cases_Bool, cases_lt, leb-true}
 use Rattle.std.proofs.lemmas.List.{get_or_append_left, get_or_past, get_or_push}
 use Rattle.app_toml.specs.Apps.{AppData}

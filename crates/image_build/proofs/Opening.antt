@@ -1,5 +1,5 @@
 -- A flash of zeros holds no source.
-use Rattle.std.proofs.Common.{◌≡◌, ◌∙◌, ℕ, zero, suc, ◌+◌, ◌-◌, ◌<◌, List, [], ap, arith, get_or, length, refl, replicate}
+use Rattle.std.proofs.Common.{◌≡◌, ◌∙◌, ℕ, zero, suc, ◌+◌, ◌-◌, List, [], ap, arith, get_or, length, refl, replicate}
 use Rattle.app_toml.specs.Apps.{AppData}
 use Rattle.image_build.specs.Building.{Holds}
 use Rattle.image_build.specs.Layout.{flash_base, flash_needed}

@@ -1,12 +1,12 @@
 -- What a plan says of the bases that it gives.
-use Rattle.std.proofs.Common.{◌≡◌, ◌∙◌, ℕ, ◌+◌, ◌*◌, ◌%◌, ◌≤◌, ◌<◌, ◌⊎◌, List, length, get_or, map, refl, sym, ap, subst, arith, inl, inr}
+use Rattle.std.proofs.Common.{◌≡◌, ◌∙◌, ℕ, ◌+◌, ◌*◌, ◌%◌, ◌≤◌, ◌<◌, ◌⊎◌, List, length, get_or, map, sym, ap, subst, arith, inl, inr}
 use Rattle.std.proofs.Math.Nat.{mul-add-mod_self_left}
 use Rattle.std.proofs.lemmas.List.{get_or-map, length-map}
 use Rattle.std.proofs.lemmas.List.Elements.{All-append}
 use Rattle.std.specs.List.{All}
 use Rattle.app_toml.specs.Accepted.{IsAccepted}
 use Rattle.app_toml.specs.Apps.{AppData, RegionData, TaskData}
-use Rattle.mem_plan.specs.Placing.{IsAligned, IsMultiple, IsPlan, KeepsApart, placed}
+use Rattle.mem_plan.specs.Placing.{IsAligned, IsPlan, KeepsApart, placed}
 use Rattle.mem_plan.specs.Sizes.{rounded, total}
 use Rattle.image_build.specs.Building.{IsLaid, IsPlanned}
 use Rattle.image_build.specs.Layout.{flash_base, flash_needed, flash_sizes, flash_wanted, no_region, no_task, ram_wanted, task_at}

@@ -1,5 +1,5 @@
 -- Why there is no image, and how far a builder has come.
-use Rattle.std.specs.Prelude.{ℕ, ⊤, ◌+◌, ◌-◌, ◌^◌, ◌≤◌, ◌<◌, ◌≡◌, ◌%◌, List, true, ◌||◌, Option, None, Some, length, map, min, slice_index, slice_index_or}
+use Rattle.std.specs.Prelude.{ℕ, ⊤, ◌+◌, ◌-◌, ◌^◌, ◌≤◌, ◌<◌, ◌≡◌, ◌%◌, List, true, ◌||◌, Option, Some, length, min, slice_index}
 use Rattle.app_toml.specs.Apps.{AppData, InterruptData}
 use Rattle.app_toml.specs.Crossed.{has_device, has_region, has_task, is_among, notifications_of}
 use Rattle.app_toml.specs.Places.{Text}

@@ -1,6 +1,6 @@
 -- Where an application's memory lies: flash planned over the tasks' flash, RAM over the tasks' RAM and
 -- then the application's regions.
-use Rattle.std.specs.Prelude.{ℕ, Bool, true, false, List, [], ◌∷◌, ◌++◌, ◌+◌, ◌*◌, ◌^◌, ◌≤◌, ◌<◌, ◌≡◌, ◌%◌, length, map, slice_index, slice_index_or, if◌then◌else◌}
+use Rattle.std.specs.Prelude.{ℕ, Bool, true, false, List, [], ◌∷◌, ◌++◌, ◌+◌, length, map, slice_index_or, if◌then◌else◌}
 use Rattle.std.specs.Str.{bytes_eq}
 use Rattle.app_toml.specs.Apps.{AppData, DeviceData, RegionData, TaskData}
 use Rattle.app_toml.specs.Crossed.{has_region}

@@ -4,7 +4,6 @@ use Rattle.std.proofs.lemmas.Result.{IfOk-weaker}
 use Rattle.app_toml.specs.Apps.{AppData}
 use Rattle.app_toml.specs.Held.{app_of}
 use Rattle.image_format.specs.Images.{picture}
-use Rattle.image_build.specs.Building.{IsAccepted, Refuses}
 use Rattle.image_build.specs.Built.{Built}
 use Rattle.image_build.specs.Taken.{HasTaken}
 use Rattle.image_build.proofs.Whole.{all_accepted, all_taken, one_more, refuses_next}
