@@ -5,6 +5,7 @@ use Rattle.std.proofs.lemmas.List.{length-map, length-replicate}
 use Rattle.region_check.specs.declared.Region.{Region}
 use Rattle.image_format.specs.Picture.{Picture, TaskPicture, LinePicture, no_task, no_line, task_in, regions_in}
 use Rattle.image_format.specs.Facts.{Facts}
+use Rattle.task_table.specs.Limits.{board_lines}
 use Rattle.task_table.specs.Memory.{Memory}
 use Rattle.task_table.specs.State.{Setup, TaskSetup, LineSetup}
 use Rattle.task_table.specs.Reading.{setup_at}
@@ -19,13 +20,13 @@ use Rattle.board_core.specs.Opened.{setup_of, setup_of_task, setup_of_line}
 pub parts_are : (p : Picture) (m : Memory) (bits : ℕ) (ts : List TaskStart) (ls : List LineStart) → m ≡ record { flash = p.flash; ram = replicate p.ram 0 } → bits ≡ p.fault_bits →
     map task_setup ts ≡ map setup_of_task p.tasks → map line_setup ls ≡ map setup_of_line p.lines → setup_of_parts m bits ts ls ≡ setup_of p
 parts_are p m bits ts ls memory faults tasks lines =
-    let of : Memory → ℕ → List TaskSetup → List LineSetup → Setup = λ m b t l. record { tasks = t; lines = l; fault_bits = b; flash = m.flash; ram = length m.ram; line_count = 32 } in
+    let of : Memory → ℕ → List TaskSetup → List LineSetup → Setup = λ m b t l. record { tasks = t; lines = l; fault_bits = b; flash = m.flash; ram = length m.ram; line_count = board_lines } in
     let zeros : Memory = record { flash = p.flash; ram = replicate p.ram 0 } in
     ap (λ (x : Memory). of x bits (map task_setup ts) (map line_setup ls)) memory
     ∙ ap (λ (x : ℕ). of zeros x (map task_setup ts) (map line_setup ls)) faults
     ∙ ap (λ (x : List TaskSetup). of zeros p.fault_bits x (map line_setup ls)) tasks
     ∙ ap (λ (x : List LineSetup). of zeros p.fault_bits (map setup_of_task p.tasks) x) lines
-    ∙ ap (λ (x : ℕ). record { tasks = map setup_of_task p.tasks; lines = map setup_of_line p.lines; fault_bits = p.fault_bits; flash = p.flash; ram = x; line_count = 32 }) (length-replicate p.ram 0)
+    ∙ ap (λ (x : ℕ). record { tasks = map setup_of_task p.tasks; lines = map setup_of_line p.lines; fault_bits = p.fault_bits; flash = p.flash; ram = x; line_count = board_lines }) (length-replicate p.ram 0)
 
 -- a task of the setup is that of the image
 map_at : (f : TaskPicture → TaskSetup) (xs : List TaskPicture) (i : ℕ) (d : TaskPicture) → get_or (map f xs) i (f d) ≡ f (get_or xs i d)

@@ -1,6 +1,7 @@
 -- What an image fixes for ever, and the run over it.
 use Rattle.std.specs.Prelude.{map}
 use Rattle.image_format.specs.Picture.{Picture, TaskPicture, LinePicture}
+use Rattle.task_table.specs.Limits.{board_lines}
 use Rattle.task_table.specs.State.{Setup, TaskSetup, LineSetup}
 use Rattle.run_script.specs.Scripts.{ScriptData}
 use Rattle.board_model.specs.Script.{Scenario}
@@ -11,7 +12,6 @@ setup_of_task t = record { priority = t.priority; entry = t.entry; stack = t.sp;
 abbrev pub setup_of_line : LinePicture → LineSetup
 setup_of_line l = record { line = l.line; owner = l.task; bits = l.bits }
 
--- the board has 32 interrupt lines
 abbrev pub setup_of : Picture → Setup
 setup_of p = record {
   tasks = map setup_of_task p.tasks;
@@ -19,7 +19,7 @@ setup_of p = record {
   fault_bits = p.fault_bits;
   flash = p.flash;
   ram = p.ram;
-  line_count = 32;
+  line_count = board_lines;
 }
 
 abbrev pub scenario_of : Picture → ScriptData → Scenario

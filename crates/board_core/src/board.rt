@@ -1,5 +1,5 @@
 //! The board and one turn of it.
-ghost use Rattle.std.specs.Prelude.{ℕ, ◌≡◌, ◌≢◌, ◌<◌, ◌≤◌, ◌+◌, ◌-◌, ◌&&◌, ◌↔◌, not, [], Option, Some, None, is_none, length, map, true, false, IfOk, IfSome, IsNone, IsSome, slice_get};
+ghost use Rattle.std.specs.Prelude.{ℕ, ◌≡◌, ◌≢◌, ◌<◌, ◌≤◌, ◌+◌, ◌-◌, ◌*◌, ◌&&◌, ◌↔◌, not, [], Option, Some, None, is_none, length, map, true, false, IfOk, IfSome, IsNone, IsSome, slice_get};
 ghost use Rattle.std.specs.Option.{option_map};
 ghost use Rattle.image_format.specs.Images.{picture};
 ghost use Rattle.image_format.specs.Picture.{task_in, line_in};
@@ -10,6 +10,7 @@ ghost use Rattle.task_table.specs.Start.{start};
 ghost use Rattle.task_table.specs.Parts.{task_setup, line_setup};
 ghost use Rattle.task_table.specs.declared.Line.{Line};
 ghost use Rattle.task_table.specs.Holds.{Holds as KernelHolds, task_count, current_of};
+ghost use Rattle.task_table.specs.Limits.{call_notes, turn_notes};
 ghost use Rattle.run_script.specs.Events.{script_data};
 ghost use Rattle.run_script.specs.Scripts.{lasts};
 ghost use Rattle.board_model.specs.declared.told.Level.TheVariants.{All, Calls};
@@ -150,7 +151,7 @@ impl Board {
         ensures model { (x : Scenario) (s : State) → Stands x self.old s → Stands x self.new (turn level x s).state }
         ensures notes { (x : Scenario) (s : State) → Stands x self.old s → notes_of self.new ≡ (turn level x s).notes }
         ensures turned { (x : Scenario) (s : State) → Stands x self.old s → result ≡ turned x s }
-        ensures few { length (notes_of self.new) ≤ 1024 }
+        ensures few { length (notes_of self.new) ≤ turn_notes }
         ensures turns { turns_of self.new ≡ turns_of self.old + 1 }
     {
         self.begin();
@@ -326,7 +327,7 @@ impl Board {
         requires few { turns_of self.old < 1000000000 }
         requires stood { Stood self.old }
         ensures midway { (x : Scenario) (s : State) → Stands x self.old s → IsMidway x self.new s }
-        ensures few { length (notes_of self.new) ≤ 900 }
+        ensures few { length (notes_of self.new) ≤ 9 * call_notes }
         ensures turns { turns_of self.new ≡ turns_of self.old }
     {
         self.machine.begin();
@@ -341,7 +342,7 @@ impl Board {
         requires few { turns_of self.old < 1000000000 }
         requires stands { (x : Scenario) × (s : State) × IsDue x self.old s }
         ensures midway { (x : Scenario) (s : State) → IsDue x self.old s → IsMidway x self.new s }
-        ensures few { length (notes_of self.new) ≤ 900 }
+        ensures few { length (notes_of self.new) ≤ 9 * call_notes }
         ensures turns { turns_of self.new ≡ turns_of self.old }
     {
         self.machine.happen_all(&self.script, self.turns);

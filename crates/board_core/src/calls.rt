@@ -4,6 +4,8 @@ ghost use Rattle.task_table.specs.State.{Setup, Turn};
 ghost use Rattle.task_table.specs.Reading.{is_ready, best_sender};
 ghost use Rattle.task_table.specs.Rows.{received, called};
 ghost use Rattle.task_table.specs.Holds.{Stands, task_count, note_count};
+ghost use Rattle.task_table.specs.Limits.{call_notes, turn_notes};
+ghost use Rattle.task_table.specs.Frames.{AddsAtMost};
 
 use dispatch::best_sender;
 use ipc_core::recv;
@@ -15,10 +17,9 @@ use timer_irq::{get_timer, irq_control, set_timer};
 fn receive(k: &mut Kernel, caller: usize)
     requires there { caller < task_count k.old }
     requires ready { (g : Setup) × (t : Turn) × Stands g k.old t × (is_ready t.state caller ≡ true) }
-    requires room { note_count k.old + 100 ≤ 1024 }
+    requires room { note_count k.old + call_notes ≤ turn_notes }
     ensures stands { (g : Setup) (t : Turn) → Stands g k.old t → is_ready t.state caller ≡ true → Stands g k.new (received g caller (best_sender g t.state caller) t) }
-    ensures count { note_count k.new ≤ note_count k.old + 100 }
-    ensures tasks { task_count k.new ≡ task_count k.old }
+    ensures frame { AddsAtMost k.old call_notes k.new }
 {
     let best = best_sender(k, caller);
     recv(k, caller, best);
@@ -29,10 +30,9 @@ fn receive(k: &mut Kernel, caller: usize)
 pub fn call(k: &mut Kernel, caller: usize)
     requires there { caller < task_count k.old }
     requires ready { (g : Setup) × (t : Turn) × Stands g k.old t × (is_ready t.state caller ≡ true) }
-    requires room { note_count k.old + 100 ≤ 1024 }
+    requires room { note_count k.old + call_notes ≤ turn_notes }
     ensures stands { (g : Setup) (t : Turn) → Stands g k.old t → is_ready t.state caller ≡ true → Stands g k.new (called g caller t) }
-    ensures count { note_count k.new ≤ note_count k.old + 100 }
-    ensures tasks { task_count k.new ≡ task_count k.old }
+    ensures frame { AddsAtMost k.old call_notes k.new }
 {
     match k.register(caller, 11) {
         1 => receive(k, caller),

@@ -12,6 +12,8 @@ ghost use Rattle.task_table.specs.Memory.{number_at};
 ghost use Rattle.task_table.specs.Effects.{faulted};
 ghost use Rattle.task_table.specs.Rows.{called, call_noted};
 ghost use Rattle.task_table.specs.Holds.{Holds, task_count, note_count, memory_of, setup_of, current_of};
+ghost use Rattle.task_table.specs.Limits.{call_notes, turn_notes};
+ghost use Rattle.task_table.specs.Frames.{AddsNotes};
 ghost use Rattle.thumb_insn.specs.Range.{IsCoded, GivesCoded};
 ghost use Rattle.thumb_insn.specs.Table.{is_wide};
 ghost use Rattle.thumb_exec.specs.Sizes.{IsSize};
@@ -282,8 +284,7 @@ impl Machine {
         requires { (g : Setup) × (t : Turn) × MachineStands g self.old t }
         ensures holds { (g : Setup) (t : Turn) → MachineHolds g self.old t → Holds g self.new.reach.kernel t }
         ensures settled { self.new.lent ≡ false }
-        ensures count { note_count self.new.reach.kernel ≡ note_count self.old.reach.kernel }
-        ensures tasks { task_count self.new.reach.kernel ≡ task_count self.old.reach.kernel }
+        ensures frame { AddsNotes self.old.reach.kernel 0 self.new.reach.kernel }
     {
         if self.lent {
             let task = self.reach.kernel.current();
@@ -344,9 +345,9 @@ impl Machine {
     /// Something happens from outside.
     fn happen(&mut self, event: Event)
         requires stands { (g : Setup) × (t : Turn) × MachineStands g self.old t × (t.state.now + 1 < 2 ^ 64) }
-        requires room { note_count self.old.reach.kernel + 100 ≤ 1024 }
+        requires room { note_count self.old.reach.kernel + call_notes ≤ turn_notes }
         ensures stands { (g : Setup) (t : Turn) → MachineStands g self.old t → MachineStands g self.new (happened g t event) }
-        ensures count { note_count self.new.reach.kernel ≤ note_count self.old.reach.kernel + 100 }
+        ensures count { note_count self.new.reach.kernel ≤ note_count self.old.reach.kernel + call_notes }
     {
         self.settle();
         match event {
@@ -358,9 +359,9 @@ impl Machine {
     /// The k-th event of a turn happens, where there is one.
     fn happen_at(&mut self, script: &Script, turn: u32, k: u32)
         requires stands { (g : Setup) × (t : Turn) × MachineStands g self.old t × (t.state.now + 1 < 2 ^ 64) }
-        requires room { note_count self.old.reach.kernel + 100 ≤ 1024 }
+        requires room { note_count self.old.reach.kernel + call_notes ≤ turn_notes }
         ensures stands { (g : Setup) (t : Turn) → MachineStands g self.old t → MachineStands g self.new (happened_next g (slice_get (events_of (script_data script.now) turn) k) t) }
-        ensures count { note_count self.new.reach.kernel ≤ note_count self.old.reach.kernel + 100 }
+        ensures count { note_count self.new.reach.kernel ≤ note_count self.old.reach.kernel + call_notes }
     {
         if let Some(event) = script.event_at(turn, k) {
             self.happen(event);
@@ -372,7 +373,7 @@ impl Machine {
         requires stands { (g : Setup) × (t : Turn) × MachineStands g self.old t × (t.state.now + 9 < 2 ^ 64) }
         requires room { note_count self.old.reach.kernel ≡ 0 }
         ensures stands { (g : Setup) (t : Turn) → MachineStands g self.old t → MachineStands g self.new (fold (happened g) t (events_of (script_data script.now) turn)) }
-        ensures count { note_count self.new.reach.kernel ≤ 900 }
+        ensures count { note_count self.new.reach.kernel ≤ 9 * call_notes }
     {
         script.facts();
         for k in 0..9 {
@@ -410,7 +411,7 @@ impl Machine {
     #[inline(always)]
     fn tell_insn(&mut self, level: Level, at: u32, code: u32)
         requires ready { (g : Setup) × (t : Turn) × IsReady g self.old t }
-        requires room { note_count self.old.reach.kernel < 1024 }
+        requires room { note_count self.old.reach.kernel < turn_notes }
         ensures ready { (g : Setup) (t : Turn) → IsReady g self.old t → IsReady g self.new (told level (Note.Insn t.state.current at code) t) }
         ensures count { note_count self.new.reach.kernel ≤ note_count self.old.reach.kernel + 1 }
     {
@@ -425,7 +426,7 @@ impl Machine {
 
     /// With all instructions, an idle turn is told.
     fn tell_idle(&mut self, level: Level)
-        requires room { note_count self.old.reach.kernel < 1024 }
+        requires room { note_count self.old.reach.kernel < turn_notes }
         ensures holds { (g : Setup) (t : Turn) → MachineHolds g self.old t → MachineHolds g self.new (told level Note.Idle t) }
         ensures count { note_count self.new.reach.kernel ≤ note_count self.old.reach.kernel + 1 }
     {
@@ -439,7 +440,7 @@ impl Machine {
     fn tell_registers(&mut self, task: usize)
         requires there { task < task_count self.old.reach.kernel }
         requires stands { (g : Setup) × (t : Turn) × MachineStands g self.old t }
-        requires room { note_count self.old.reach.kernel + 2 ≤ 1024 }
+        requires room { note_count self.old.reach.kernel + 2 ≤ turn_notes }
         ensures holds { (g : Setup) (t : Turn) → MachineHolds g self.old t → MachineHolds g self.new (with_registers_told Level.All task t) }
         ensures count { note_count self.new.reach.kernel ≤ note_count self.old.reach.kernel + 2 }
     {
@@ -455,7 +456,7 @@ impl Machine {
     fn tell_task(&mut self, level: Level, task: usize)
         requires there { task < task_count self.old.reach.kernel }
         requires stands { (g : Setup) × (t : Turn) × MachineStands g self.old t }
-        requires room { note_count self.old.reach.kernel + 2 ≤ 1024 }
+        requires room { note_count self.old.reach.kernel + 2 ≤ turn_notes }
         ensures holds { (g : Setup) (t : Turn) → MachineHolds g self.old t → MachineHolds g self.new (with_registers_told level task t) }
         ensures count { note_count self.new.reach.kernel ≤ note_count self.old.reach.kernel + 2 }
     {
@@ -471,9 +472,9 @@ impl Machine {
     fn execute(&mut self, insn: &Insn)
         requires coded { IsCoded insn.now }
         requires ready { (g : Setup) × (t : Turn) × IsReady g self.old t }
-        requires room { note_count self.old.reach.kernel + 101 ≤ 1024 }
+        requires room { note_count self.old.reach.kernel + call_notes + 1 ≤ turn_notes }
         ensures holds { (g : Setup) (t : Turn) → IsReady g self.old t → MachineHolds g self.new (executed g t.state.current insn.now t) }
-        ensures count { note_count self.new.reach.kernel ≤ note_count self.old.reach.kernel + 101 }
+        ensures count { note_count self.new.reach.kernel ≤ note_count self.old.reach.kernel + call_notes + 1 }
     {
         match exec(&mut self.processor, insn, &mut self.reach) {
             Outcome::Next => {}
@@ -485,9 +486,9 @@ impl Machine {
     /// The current task calls the kernel.
     fn call(&mut self)
         requires ready { (g : Setup) × (t : Turn) × IsReady g self.old t }
-        requires room { note_count self.old.reach.kernel + 101 ≤ 1024 }
+        requires room { note_count self.old.reach.kernel + call_notes + 1 ≤ turn_notes }
         ensures holds { (g : Setup) (t : Turn) → IsReady g self.old t → MachineHolds g self.new (called g t.state.current (call_noted t.state.current t)) }
-        ensures count { note_count self.new.reach.kernel ≤ note_count self.old.reach.kernel + 101 }
+        ensures count { note_count self.new.reach.kernel ≤ note_count self.old.reach.kernel + call_notes + 1 }
     {
         self.settle();
         let task = self.reach.kernel.current();
@@ -500,7 +501,7 @@ impl Machine {
         requires ready { (g : Setup) × (t : Turn) × IsReady g self.old t }
         requires from_one { 1 ≤ fault.number }
         requires to_ten { fault.number ≤ 10 }
-        requires room { note_count self.old.reach.kernel + 4 ≤ 1024 }
+        requires room { note_count self.old.reach.kernel + 4 ≤ turn_notes }
         ensures holds { (g : Setup) (t : Turn) → IsReady g self.old t → MachineHolds g self.new (faulted g t.state.current fault t) }
         ensures count { note_count self.new.reach.kernel ≤ note_count self.old.reach.kernel + 4 }
     {
@@ -513,9 +514,9 @@ impl Machine {
     #[inline(never)]
     pub fn step(&mut self, level: Level)
         requires ready { (g : Setup) × (t : Turn) × IsReady g self.old t }
-        requires room { note_count self.old.reach.kernel + 102 ≤ 1024 }
+        requires room { note_count self.old.reach.kernel + call_notes + 2 ≤ turn_notes }
         ensures holds { (g : Setup) (t : Turn) → IsReady g self.old t → MachineHolds g self.new (stepped level g t.state.current t) }
-        ensures count { note_count self.new.reach.kernel ≤ note_count self.old.reach.kernel + 102 }
+        ensures count { note_count self.new.reach.kernel ≤ note_count self.old.reach.kernel + call_notes + 2 }
     {
         let at = self.processor.regs.get(15);
         match fetch(&self.reach, at) {
@@ -533,10 +534,10 @@ impl Machine {
     /// nothing where none is chosen.
     pub fn turn(&mut self, level: Level, next: Option<usize>) -> Turned
         requires next { (g : Setup) × (t : Turn) × IsNext g self.old t next }
-        requires room { note_count self.old.reach.kernel + 104 ≤ 1024 }
+        requires room { note_count self.old.reach.kernel + call_notes + 4 ≤ turn_notes }
         ensures holds { (g : Setup) (t : Turn) → IsNext g self.old t next → MachineHolds g self.new (turn_of level g next t) }
         ensures turned { (g : Setup) (t : Turn) → IsNext g self.old t next → result ≡ turned_of t.state next }
-        ensures count { note_count self.new.reach.kernel ≤ note_count self.old.reach.kernel + 104 }
+        ensures count { note_count self.new.reach.kernel ≤ note_count self.old.reach.kernel + call_notes + 4 }
     {
         match next {
             None => {

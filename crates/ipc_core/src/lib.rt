@@ -10,6 +10,8 @@ ghost use Rattle.task_table.specs.State.{Setup, Turn};
 ghost use Rattle.task_table.specs.Reading.{arguments, is_ready, is_valid, best_sender, offer_by, IsIdle};
 ghost use Rattle.task_table.specs.Rows.{listened_from, receives_or_listens, message_received, input_received, received};
 ghost use Rattle.task_table.specs.Holds.{Holds, Stands, task_count, note_count};
+ghost use Rattle.task_table.specs.Limits.{call_notes, turn_notes};
+ghost use Rattle.task_table.specs.Frames.{AddsAtMost};
 ghost use Rattle.task_table.specs.Messages.{from_of, IsListened, IsReceiving};
 ghost use Rattle.ipc_core.specs.Named.{IsSender, IsNamed, IsInside};
 
@@ -56,11 +58,10 @@ fn receive_or_listen(k: &mut Kernel, caller: usize, client: usize, from: Listene
     requires there { caller < task_count k.old }
     requires client { client < task_count k.old }
     requires whom { IsListened (task_count k.old) from }
-    requires room { note_count k.old + 2 ≤ 1024 }
+    requires room { note_count k.old + 2 ≤ turn_notes }
     requires ready { IsReceiving k.old caller }
     ensures holds { (g : Setup) (t : Turn) → Stands g k.old t → IsIdle t.state caller → Holds g k.new (receives_or_listens caller (recv_args (arguments t.state caller)) (from_of t.state from) (offer_by t.state client caller) t) }
-    ensures count { note_count k.new ≤ note_count k.old + 2 }
-    ensures tasks { task_count k.new ≡ task_count k.old }
+    ensures frame { AddsAtMost k.old 2 k.new }
 {
     match k.offered(client, caller) {
         Some(call) => k.receive(caller, client, call),
@@ -73,11 +74,10 @@ fn receive_message(k: &mut Kernel, caller: usize, sender: Sender, best: Option<u
     requires there { caller < task_count k.old }
     requires sender { IsInside (task_count k.old) sender }
     requires best { IfSome best (λ i. i < task_count k.old) }
-    requires room { note_count k.old + 2 ≤ 1024 }
+    requires room { note_count k.old + 2 ≤ turn_notes }
     requires ready { IsReceiving k.old caller }
     ensures holds { (g : Setup) (t : Turn) → Stands g k.old t → IsIdle t.state caller → IsSender t.state caller (recv_args (arguments t.state caller)) sender → Holds g k.new (message_received caller best t) }
-    ensures count { note_count k.new ≤ note_count k.old + 2 }
-    ensures tasks { task_count k.new ≡ task_count k.old }
+    ensures frame { AddsAtMost k.old 2 k.new }
 {
     match sender {
         Sender::Any => match best {
@@ -97,11 +97,10 @@ fn receive_input(k: &mut Kernel, caller: usize, mask: u32, sender: Sender, best:
     requires there { caller < task_count k.old }
     requires sender { IsInside (task_count k.old) sender }
     requires best { IfSome best (λ i. i < task_count k.old) }
-    requires room { note_count k.old + 2 ≤ 1024 }
+    requires room { note_count k.old + 2 ≤ turn_notes }
     requires ready { IsReceiving k.old caller }
     ensures holds { (g : Setup) (t : Turn) → Stands g k.old t → IsIdle t.state caller → mask ≡ (recv_args (arguments t.state caller)).mask → IsSender t.state caller (recv_args (arguments t.state caller)) sender → Holds g k.new (input_received caller best t) }
-    ensures count { note_count k.new ≤ note_count k.old + 2 }
-    ensures tasks { task_count k.new ≡ task_count k.old }
+    ensures frame { AddsAtMost k.old 2 k.new }
 {
     if k.posted_bits(caller) & mask != 0 {
         k.take_bits(caller, mask);
@@ -121,11 +120,10 @@ fn is_valid(base: u32, len: u32) -> bool
 fn receive(k: &mut Kernel, caller: usize, best: Option<usize>)
     requires there { caller < task_count k.old }
     requires best { IfSome best (λ i. i < task_count k.old) }
-    requires room { note_count k.old + 100 ≤ 1024 }
+    requires room { note_count k.old + call_notes ≤ turn_notes }
     requires ready { (g : Setup) × (t : Turn) × Stands g k.old t × IsIdle t.state caller }
     ensures holds { (g : Setup) (t : Turn) → Stands g k.old t → IsIdle t.state caller → Holds g k.new (received g caller best t) }
-    ensures count { note_count k.new ≤ note_count k.old + 100 }
-    ensures tasks { task_count k.new ≡ task_count k.old }
+    ensures frame { AddsAtMost k.old call_notes k.new }
 {
     let args = RecvArgs::of(&k.arguments(caller));
     if !is_valid(args.buffer_base, args.buffer_length) {
@@ -149,10 +147,9 @@ pub fn recv(k: &mut Kernel, caller: usize, best: Option<usize>)
     requires there { caller < task_count k.old }
     requires best { IfSome best (λ i. i < task_count k.old) }
     requires ready { (g : Setup) × (t : Turn) × Stands g k.old t × (is_ready t.state caller ≡ true) }
-    requires room { note_count k.old + 100 ≤ 1024 }
+    requires room { note_count k.old + call_notes ≤ turn_notes }
     ensures stands { (g : Setup) (t : Turn) → Stands g k.old t → is_ready t.state caller ≡ true → best ≡ best_sender g t.state caller → Stands g k.new (received g caller best t) }
-    ensures count { note_count k.new ≤ note_count k.old + 100 }
-    ensures tasks { task_count k.new ≡ task_count k.old }
+    ensures frame { AddsAtMost k.old call_notes k.new }
 {
     receive(k, caller, best);
 }

@@ -9,6 +9,7 @@ use Rattle.task_table.specs.declared.start.TaskStart.{TaskStart}
 use Rattle.task_table.specs.declared.start.LineStart.{LineStart}
 use Rattle.task_table.specs.declared.slot.Slot.{Slot}
 use Rattle.task_table.specs.declared.slot.Wait.TheVariants.{Nothing}
+use Rattle.task_table.specs.Limits.{board_lines}
 use Rattle.task_table.specs.Memory.{Memory}
 use Rattle.task_table.specs.Holds.{Kept, Shows, packed_task}
 use Rattle.task_table.specs.State.{Setup, TaskSetup, Task}
@@ -81,7 +82,7 @@ first_kept [] i d lt = absurd (omega arith)
 first_kept (x ∷ xs) zero d lt = refl
 first_kept (x ∷ xs) (suc i) d lt = first_kept xs i d (omega arith)
 
-pub shows_start : (m : Memory) (bits : ℕ) (tasks : List TaskStart) (lines : List LineStart) (k : Kept) → m.ram ≡ replicate (length m.ram) 0 → k.setup ≡ setup_of_parts m bits tasks lines → k.slots ≡ map (λ x. packed_task (born (task_setup x)) Nothing) tasks → k.notes ≡ [] → k.memory ≡ m → k.clock ≡ 0 → k.lines ≡ replicate 32 no_line → k.current ≡ 0 → k.next_call ≡ 1 → Shows (setup_of_parts m bits tasks lines) k (begun (start (setup_of_parts m bits tasks lines)))
+pub shows_start : (m : Memory) (bits : ℕ) (tasks : List TaskStart) (lines : List LineStart) (k : Kept) → m.ram ≡ replicate (length m.ram) 0 → k.setup ≡ setup_of_parts m bits tasks lines → k.slots ≡ map (λ x. packed_task (born (task_setup x)) Nothing) tasks → k.notes ≡ [] → k.memory ≡ m → k.clock ≡ 0 → k.lines ≡ replicate board_lines no_line → k.current ≡ 0 → k.next_call ≡ 1 → Shows (setup_of_parts m bits tasks lines) k (begun (start (setup_of_parts m bits tasks lines)))
 unfolding begun start task_at call_of listen_of
 shows_start m bits tasks lines k zeros setup slots notes memory clock off current next_call =
     let many : length (map born (map task_setup tasks)) ≡ length tasks = length-map (map task_setup tasks) born ∙ length-map tasks task_setup in

@@ -1,3 +1,4 @@
+pub mod Limits
 pub mod Memory
 pub mod State
 pub mod Reading
@@ -9,6 +10,7 @@ pub mod Sane
 pub mod Start
 pub mod Parts
 pub mod Holds
+pub mod Frames
 pub mod Levels
 pub mod Found
 pub mod Messages

@@ -2,6 +2,7 @@
 use Rattle.std.specs.Prelude.{ℕ, ◌<◌, List, length, map}
 use Rattle.task_table.specs.declared.start.TaskStart.{TaskStart}
 use Rattle.task_table.specs.declared.start.LineStart.{LineStart}
+use Rattle.task_table.specs.Limits.{board_lines}
 use Rattle.task_table.specs.Memory.{Memory}
 use Rattle.task_table.specs.State.{Setup, TaskSetup, LineSetup}
 use Rattle.task_table.specs.Placed.{ArePlaced}
@@ -15,7 +16,6 @@ task_setup x = record { priority = x.priority; entry = x.entry; stack = x.sp; re
 abbrev pub line_setup : LineStart → LineSetup
 line_setup x = record { line = x.line; owner = x.task; bits = x.bits }
 
--- a board has 32 interrupt lines
 abbrev pub setup_of_parts : Memory → ℕ → List TaskStart → List LineStart → Setup
 setup_of_parts memory fault_bits tasks lines =
     record {
@@ -24,7 +24,7 @@ setup_of_parts memory fault_bits tasks lines =
       fault_bits = fault_bits;
       flash = memory.flash;
       ram = length memory.ram;
-      line_count = 32;
+      line_count = board_lines;
     }
 
 -- what a sound image gives: a task, regions and owners that are there, and bytes of flash

@@ -11,6 +11,8 @@ impl Kernel {
     ghost use Rattle.task_table.specs.Effects.{given, returned, advanced, bits_added, bits_cleared, woken, posted, with_timer};
     ghost use Rattle.task_table.specs.Rows.{goes_on, goes_on_with};
     ghost use Rattle.task_table.specs.Holds.{Holds, Stands, task_count, note_count};
+    ghost use Rattle.task_table.specs.Limits.{turn_notes};
+    ghost use Rattle.task_table.specs.Frames.{AddsNotes, AddsAtMost};
 
     /// Gives results to a task that waits for nothing, from r4 on. (The registers of a task that
     /// waits are the arguments of its call.)
@@ -18,8 +20,7 @@ impl Kernel {
         requires there { task < task_count self.old }
         requires few { length values.now ≤ 6 }
         ensures holds { (g : Setup) (t : Turn) → Holds g self.old t → IsIdle t.state task → Holds g self.new (given task values.now t) }
-        ensures count { note_count self.new ≡ note_count self.old }
-        ensures tasks { task_count self.new ≡ task_count self.old }
+        ensures frame { AddsNotes self.old 0 self.new }
     {
         let mut slot = self.slot(task);
         write_results(&mut slot.registers, values);
@@ -29,10 +30,9 @@ impl Kernel {
     /// Notes that a call of a task has ended.
     pub(crate) fn note_return(&mut self, task: usize)
         requires there { task < task_count self.old }
-        requires room { note_count self.old < 1024 }
+        requires room { note_count self.old < turn_notes }
         ensures holds { (g : Setup) (t : Turn) → Holds g self.old t → Holds g self.new (returned task t) }
-        ensures count { note_count self.new ≡ note_count self.old + 1 }
-        ensures tasks { task_count self.new ≡ task_count self.old }
+        ensures frame { AddsNotes self.old 1 self.new }
     {
         let slot = self.slot(task);
         let results = results_in(&slot.registers);
@@ -46,8 +46,7 @@ impl Kernel {
     pub(crate) fn advance(&mut self, task: usize)
         requires { task < task_count self.old }
         ensures holds { (g : Setup) (t : Turn) → Holds g self.old t → IsIdle t.state task → Holds g self.new (advanced task t) }
-        ensures count { note_count self.new ≡ note_count self.old }
-        ensures tasks { task_count self.new ≡ task_count self.old }
+        ensures frame { AddsNotes self.old 0 self.new }
     {
         let mut slot = self.slot(task);
         slot.registers[15] = slot.registers[15].wrapping_add(2);
@@ -57,10 +56,9 @@ impl Kernel {
     /// A caller that waits for nothing goes on after its call.
     pub fn go_on(&mut self, task: usize)
         requires there { task < task_count self.old }
-        requires room { note_count self.old < 1024 }
+        requires room { note_count self.old < turn_notes }
         ensures holds { (g : Setup) (t : Turn) → Holds g self.old t → IsIdle t.state task → Holds g self.new (goes_on task t) }
-        ensures count { note_count self.new ≡ note_count self.old + 1 }
-        ensures tasks { task_count self.new ≡ task_count self.old }
+        ensures frame { AddsNotes self.old 1 self.new }
     {
         self.advance(task);
         self.note_return(task);
@@ -70,10 +68,9 @@ impl Kernel {
     pub fn answer(&mut self, task: usize, values: &[u32])
         requires there { task < task_count self.old }
         requires few { length values.now ≤ 6 }
-        requires room { note_count self.old < 1024 }
+        requires room { note_count self.old < turn_notes }
         ensures holds { (g : Setup) (t : Turn) → Holds g self.old t → IsIdle t.state task → Holds g self.new (goes_on_with task values.now t) }
-        ensures count { note_count self.new ≡ note_count self.old + 1 }
-        ensures tasks { task_count self.new ≡ task_count self.old }
+        ensures frame { AddsNotes self.old 1 self.new }
     {
         self.give(task, values);
         self.go_on(task);
@@ -82,10 +79,9 @@ impl Kernel {
     /// Adds bits to those that are posted to a task, and notes it.
     fn add_bits(&mut self, task: usize, bits: u32)
         requires there { task < task_count self.old }
-        requires room { note_count self.old < 1024 }
+        requires room { note_count self.old < turn_notes }
         ensures holds { (g : Setup) (t : Turn) → Holds g self.old t → Holds g self.new (bits_added task bits t) }
-        ensures count { note_count self.new ≡ note_count self.old + 1 }
-        ensures tasks { task_count self.new ≡ task_count self.old }
+        ensures frame { AddsNotes self.old 1 self.new }
     {
         let mut slot = self.slot(task);
         slot.posted |= bits;
@@ -101,8 +97,7 @@ impl Kernel {
     pub(crate) fn clear_bits(&mut self, task: usize, mask: u32)
         requires { task < task_count self.old }
         ensures holds { (g : Setup) (t : Turn) → Holds g self.old t → Holds g self.new (bits_cleared task mask t) }
-        ensures count { note_count self.new ≡ note_count self.old }
-        ensures tasks { task_count self.new ≡ task_count self.old }
+        ensures frame { AddsNotes self.old 0 self.new }
     {
         let mut slot = self.slot(task);
         slot.posted &= !mask;
@@ -126,10 +121,9 @@ impl Kernel {
     /// A task that listens takes its posted bits under its mask, where there are any.
     fn wake(&mut self, task: usize)
         requires there { task < task_count self.old }
-        requires room { note_count self.old < 1024 }
+        requires room { note_count self.old < turn_notes }
         ensures holds { (g : Setup) (t : Turn) → Holds g self.old t → Holds g self.new (woken task t) }
-        ensures count { note_count self.new ≤ note_count self.old + 1 }
-        ensures tasks { task_count self.new ≡ task_count self.old }
+        ensures frame { AddsAtMost self.old 1 self.new }
     {
         if let Some(mask) = self.mask(task) {
             let under = self.posted_bits(task) & mask;
@@ -147,11 +141,10 @@ impl Kernel {
     /// are cleared and it listens no more (Hubris Reference, on notifications).
     pub fn post(&mut self, task: usize, bits: u32)
         requires there { task < task_count self.old }
-        requires room { note_count self.old + 2 ≤ 1024 }
+        requires room { note_count self.old + 2 ≤ turn_notes }
         ensures holds { (g : Setup) (t : Turn) → Holds g self.old t → Holds g self.new (posted task bits t) }
         ensures stands { (g : Setup) (t : Turn) → Stands g self.old t → Stands g self.new (posted task bits t) }
-        ensures count { note_count self.new ≤ note_count self.old + 2 }
-        ensures tasks { task_count self.new ≡ task_count self.old }
+        ensures frame { AddsAtMost self.old 2 self.new }
     {
         self.add_bits(task, bits);
         self.wake(task);
@@ -161,8 +154,7 @@ impl Kernel {
     pub fn set_timer(&mut self, task: usize, timer: Option<Timer>)
         requires { task < task_count self.old }
         ensures holds { (g : Setup) (t : Turn) → Holds g self.old t → Holds g self.new (with_timer task timer t) }
-        ensures count { note_count self.new ≡ note_count self.old }
-        ensures tasks { task_count self.new ≡ task_count self.old }
+        ensures frame { AddsNotes self.old 0 self.new }
     {
         let mut slot = self.slot(task);
         slot.timer = timer;

@@ -4,8 +4,10 @@
 //! what the answer is, or which turn the kernel holds afterwards.
 
 ghost use Rattle.std.specs.Prelude.{◌≡◌, ◌≤◌, length, slice_range};
+ghost use Rattle.task_table.specs.Limits.{most_tasks, board_lines};
 
 use crate::Line;
+use crate::limits::{LINES, TURN_NOTES};
 use crate::memory::Memory;
 use crate::slot::{Found, Slot, Wait};
 use crate::start::{LineStart, TaskStart, copies_of, first_slots};
@@ -15,23 +17,23 @@ use region_check::Region;
 use std::alloc::{AllocError, Global};
 use words_core::Flags;
 
-/// The tasks and all that they share: up to 32 tasks, 32 interrupt lines, and what a turn notes, at
-/// most 1,024 lines.
+/// The tasks and all that they share: at most `TASKS` tasks, the interrupt lines of the board, and what
+/// a turn notes, at most `TURN_NOTES` lines.
 #[derive(Drop)]
 pub struct Kernel {
     tasks: Vec<TaskStart>,
     owners: Vec<LineStart>,
     fault_bits: u32,
     slots: Vec<Slot>,
-    lines: [Line; 32],
-    notes: ArrayVec<Note, 1024>,
+    lines: [Line; LINES],
+    notes: ArrayVec<Note, TURN_NOTES>,
     memory: Memory,
     clock: u64,
     current: usize,
     next_call: u32,
-    ghost few: { length slots.items ≤ 32 },
-    ghost all_lines: { length lines ≡ 32 },
-    ghost few_owners: { length owners.items ≤ 32 },
+    ghost few: { length slots.items ≤ most_tasks },
+    ghost all_lines: { length lines ≡ board_lines },
+    ghost few_owners: { length owners.items ≤ board_lines },
     ghost many: { length tasks.items ≡ length slots.items },
 }
 
@@ -48,6 +50,8 @@ impl Kernel {
     ghost use Rattle.task_table.specs.Parts.{setup_of_parts, line_setup, IsSound};
     ghost use Rattle.task_table.specs.Holds.{Holds, Stands, IsKept, wait_of, task_count, note_count, clock_of, memory_of, setup_of, current_of, notes_of};
     ghost use Rattle.task_table.specs.Found.{IsFound, IsInRange};
+    ghost use Rattle.task_table.specs.Limits.{most_tasks, board_lines, turn_notes};
+    ghost use Rattle.task_table.specs.Frames.{AddsNotes, AddsAtMost};
 
     /// The kernel at the start of a run: each task as at its first birth, and the memory as it is
     /// handed in, with zeros in the RAM. The order of the tasks gives their indices. Where the parts
@@ -63,8 +67,8 @@ impl Kernel {
         tasks: &[TaskStart],
         lines: &[LineStart],
     ) -> Result<Kernel, AllocError>
-        requires few { length tasks.now ≤ 32 }
-        requires few_owners { length lines.now ≤ 32 }
+        requires few { length tasks.now ≤ most_tasks }
+        requires few_owners { length lines.now ≤ board_lines }
         requires zeros { memory.ram ≡ replicate (length memory.ram) 0 }
         ensures holds { let g = setup_of_parts memory fault_bits tasks.now lines.now in IfOk result (λ k. Holds g k (begun (started_at g))) }
         ensures stands { let g = setup_of_parts memory fault_bits tasks.now lines.now in IsSound g → IfOk result (λ k. Stands g k (begun (started_at g))) }
@@ -79,7 +83,7 @@ impl Kernel {
             lines: [Line {
                 enabled: false,
                 pending: false,
-            }; 32],
+            }; LINES],
             notes: ArrayVec::new(),
             memory,
             clock: 0,
@@ -91,7 +95,7 @@ impl Kernel {
     /// How many tasks there are.
     pub fn task_count(&self) -> usize
         ensures value { result ≡ task_count self.now }
-        ensures few { result ≤ 32 }
+        ensures few { result ≤ most_tasks }
         ensures holds { (g : Setup) (t : Turn) → Holds g self.now t → result ≡ length t.state.tasks }
     {
         self.slots.len()
@@ -136,10 +140,9 @@ impl Kernel {
         self.lines.get(number).copied()
     }
 
-    /// The owners of the interrupt lines that have one, in the order of the image; a board has 32
-    /// lines.
+    /// The owners of the interrupt lines that have one, in the order of the image.
     pub fn owners(&self) -> &[LineStart]
-        ensures few { length result.now ≤ 32 }
+        ensures few { length result.now ≤ board_lines }
         ensures holds { (g : Setup) (t : Turn) → Holds g self.now t → map line_setup result.now ≡ g.lines }
     {
         &self.owners
@@ -307,6 +310,7 @@ impl Kernel {
         ensures holds { (g : Setup) (t : Turn) → Holds g self.old t → Holds g self.new (begun t.state) }
         ensures count { note_count self.new ≡ 0 }
         ensures tasks { task_count self.new ≡ task_count self.old }
+        ensures setup { setup_of self.new ≡ setup_of self.old }
     {
         self.notes.clear();
     }
@@ -314,29 +318,26 @@ impl Kernel {
     /// This task runs.
     pub fn set_current(&mut self, task: usize)
         ensures holds { (g : Setup) (t : Turn) → Holds g self.old t → Holds g self.new (changed (λ s. record s { current = task }) t) }
-        ensures count { note_count self.new ≡ note_count self.old }
-        ensures tasks { task_count self.new ≡ task_count self.old }
+        ensures frame { AddsNotes self.old 0 self.new }
     {
         self.current = task;
     }
 
     /// Adds a note.
     pub fn note(&mut self, note: Note)
-        requires { note_count self.old < 1024 }
+        requires { note_count self.old < turn_notes }
         ensures holds { (g : Setup) (t : Turn) → Holds g self.old t → Holds g self.new (noted note t) }
-        ensures count { note_count self.new ≡ note_count self.old + 1 }
-        ensures tasks { task_count self.new ≡ task_count self.old }
+        ensures frame { AddsNotes self.old 1 self.new }
     {
         self.notes.push(note);
     }
 
     /// The time goes on by one tick, which is noted.
     pub fn step_clock(&mut self)
-        requires room { note_count self.old < 1024 }
+        requires room { note_count self.old < turn_notes }
         requires small { clock_of self.old + 1 < 2 ^ 64 }
         ensures holds { (g : Setup) (t : Turn) → Holds g self.old t → Holds g self.new (clocked t) }
-        ensures count { note_count self.new ≡ note_count self.old + 1 }
-        ensures tasks { task_count self.new ≡ task_count self.old }
+        ensures frame { AddsNotes self.old 1 self.new }
     {
         self.clock += 1;
         self.note(Note::Tick { now: self.clock });
@@ -345,10 +346,9 @@ impl Kernel {
     /// An interrupt line is so from now on; where there is none with this number, nothing changes.
     pub fn set_line(&mut self, number: usize, line: Line)
         ensures holds { (g : Setup) (t : Turn) → Holds g self.old t → Holds g self.new (with_line number line t) }
-        ensures count { note_count self.new ≡ note_count self.old }
-        ensures tasks { task_count self.new ≡ task_count self.old }
+        ensures frame { AddsNotes self.old 0 self.new }
     {
-        if number < 32 {
+        if number < LINES {
             self.lines[number] = line;
         }
     }
@@ -357,8 +357,7 @@ impl Kernel {
     pub(crate) fn set_slot(&mut self, task: usize, slot: Slot)
         requires { task < task_count self.old }
         ensures holds { (g : Setup) (t : Turn) (u : State) → Holds g self.old t → IsKept u task slot → IsSameBut task t.state u → Holds g self.new record t { state = u } }
-        ensures count { note_count self.new ≡ note_count self.old }
-        ensures tasks { task_count self.new ≡ task_count self.old }
+        ensures frame { AddsNotes self.old 0 self.new }
     {
         self.slots[task] = slot;
     }
@@ -368,8 +367,7 @@ impl Kernel {
     pub fn set_processor(&mut self, task: usize, registers: [u32; 16], flags: Flags)
         requires { task < task_count self.old }
         ensures holds { (g : Setup) (t : Turn) → Holds g self.old t → IsIdle t.state task → Holds g self.new (with_processor task registers flags t) }
-        ensures count { note_count self.new ≡ note_count self.old }
-        ensures tasks { task_count self.new ≡ task_count self.old }
+        ensures frame { AddsNotes self.old 0 self.new }
     {
         let mut slot = self.slot(task);
         slot.registers = registers;
@@ -381,8 +379,7 @@ impl Kernel {
     fn set_health(&mut self, task: usize, health: Health)
         requires { task < task_count self.old }
         ensures holds { (g : Setup) (t : Turn) → Holds g self.old t → Holds g self.new (with_health task health t) }
-        ensures count { note_count self.new ≡ note_count self.old }
-        ensures tasks { task_count self.new ≡ task_count self.old }
+        ensures frame { AddsNotes self.old 0 self.new }
     {
         let mut slot = self.slot(task);
         slot.health = health;
@@ -393,8 +390,7 @@ impl Kernel {
     pub(crate) fn stop_listening(&mut self, task: usize)
         requires { task < task_count self.old }
         ensures holds { (g : Setup) (t : Turn) → Holds g self.old t → Holds g self.new (changed (without_listen task) t) }
-        ensures count { note_count self.new ≡ note_count self.old }
-        ensures tasks { task_count self.new ≡ task_count self.old }
+        ensures frame { AddsNotes self.old 0 self.new }
     {
         let mut slot = self.slot(task);
         if slot.wait.is_listening() {
@@ -406,10 +402,9 @@ impl Kernel {
     /// Closes the call of a client, if it has one.
     fn close(&mut self, client: usize, ending: Ending)
         requires there { client < task_count self.old }
-        requires room { note_count self.old < 1024 }
+        requires room { note_count self.old < turn_notes }
         ensures holds { (g : Setup) (t : Turn) → Holds g self.old t → Holds g self.new (closed client ending t) }
-        ensures count { note_count self.new ≤ note_count self.old + 1 }
-        ensures tasks { task_count self.new ≡ task_count self.old }
+        ensures frame { AddsAtMost self.old 1 self.new }
     {
         let mut slot = self.slot(client);
         if let Some(call) = slot.wait.call() {
@@ -422,10 +417,9 @@ impl Kernel {
     /// A task faults, and its call is closed as told.
     fn fault_as(&mut self, task: usize, fault: Fault, ending: Ending)
         requires there { task < task_count self.old }
-        requires room { note_count self.old + 4 ≤ 1024 }
+        requires room { note_count self.old + 4 ≤ turn_notes }
         ensures holds { (g : Setup) (t : Turn) → Holds g self.old t → Holds g self.new (faulted_as g task fault ending t) }
-        ensures count { note_count self.new ≤ note_count self.old + 4 }
-        ensures tasks { task_count self.new ≡ task_count self.old }
+        ensures frame { AddsAtMost self.old 4 self.new }
     {
         self.set_health(task, Health::Faulted(fault));
         self.stop_listening(task);
@@ -445,13 +439,12 @@ impl Kernel {
     /// on supervision).
     pub fn fault(&mut self, task: usize, fault: Fault)
         requires there { task < task_count self.old }
-        requires room { note_count self.old + 4 ≤ 1024 }
+        requires room { note_count self.old + 4 ≤ turn_notes }
         requires from_one { 1 ≤ fault.number }
         requires to_ten { fault.number ≤ 10 }
         ensures holds { (g : Setup) (t : Turn) → Holds g self.old t → Holds g self.new (faulted g task fault t) }
         ensures stands { (g : Setup) (t : Turn) → Stands g self.old t → Stands g self.new (faulted g task fault t) }
-        ensures count { note_count self.new ≤ note_count self.old + 4 }
-        ensures tasks { task_count self.new ≡ task_count self.old }
+        ensures frame { AddsAtMost self.old 4 self.new }
     {
         self.fault_as(task, fault, Ending::Client);
     }
@@ -459,11 +452,10 @@ impl Kernel {
     /// A task faults since it misused a system call.
     pub fn misuse(&mut self, task: usize, usage: Usage)
         requires there { task < task_count self.old }
-        requires room { note_count self.old + 4 ≤ 1024 }
+        requires room { note_count self.old + 4 ≤ turn_notes }
         ensures holds { (g : Setup) (t : Turn) → Holds g self.old t → Holds g self.new (misused g task (usage_number usage) t) }
         ensures stands { (g : Setup) (t : Turn) → Stands g self.old t → Stands g self.new (misused g task (usage_number usage) t) }
-        ensures count { note_count self.new ≤ note_count self.old + 4 }
-        ensures tasks { task_count self.new ≡ task_count self.old }
+        ensures frame { AddsAtMost self.old 4 self.new }
     {
         self.fault(task, Fault::usage(usage));
     }
@@ -472,10 +464,9 @@ impl Kernel {
     /// r4 to r10.
     pub fn note_call(&mut self, task: usize)
         requires there { task < task_count self.old }
-        requires room { note_count self.old < 1024 }
+        requires room { note_count self.old < turn_notes }
         ensures holds { (g : Setup) (t : Turn) → Holds g self.old t → Holds g self.new (call_noted task t) }
-        ensures count { note_count self.new ≡ note_count self.old + 1 }
-        ensures tasks { task_count self.new ≡ task_count self.old }
+        ensures frame { AddsNotes self.old 1 self.new }
     {
         let slot = self.slot(task);
         self.note(Note::Call {
@@ -488,10 +479,9 @@ impl Kernel {
     /// PANIC: the caller faults, and its r4 and r5 are told (Hubris Reference, on PANIC).
     pub fn panic(&mut self, caller: usize)
         requires there { caller < task_count self.old }
-        requires room { note_count self.old + 4 ≤ 1024 }
+        requires room { note_count self.old + 4 ≤ turn_notes }
         ensures stands { (g : Setup) (t : Turn) → Stands g self.old t → Stands g self.new (panicked g caller t) }
-        ensures count { note_count self.new ≤ note_count self.old + 4 }
-        ensures tasks { task_count self.new ≡ task_count self.old }
+        ensures frame { AddsAtMost self.old 4 self.new }
     {
         let r4 = self.register(caller, 4);
         let r5 = self.register(caller, 5);
@@ -521,8 +511,7 @@ impl Kernel {
         requires source { IsWithin (memory_of self.old) from count }
         requires target { IsWithinRam (memory_of self.old) to count }
         ensures holds { (g : Setup) (t : Turn) (on : Ground) → Holds g self.old t → Holds g self.new (copied on from to count t) }
-        ensures count { note_count self.new ≡ note_count self.old }
-        ensures tasks { task_count self.new ≡ task_count self.old }
+        ensures frame { AddsNotes self.old 0 self.new }
     {
         self.memory.copy(from, to, count);
     }
@@ -531,10 +520,8 @@ impl Kernel {
     pub fn store(&mut self, addr: u32, bytes: &[u8])
         requires { IsWithinRam (memory_of self.old) addr (length bytes.now) }
         ensures holds { (g : Setup) (t : Turn) → Holds g self.old t → Holds g self.new (stored Own addr bytes.now t) }
-        ensures setup { setup_of self.new ≡ setup_of self.old }
         ensures current { current_of self.new ≡ current_of self.old }
-        ensures count { note_count self.new ≡ note_count self.old }
-        ensures tasks { task_count self.new ≡ task_count self.old }
+        ensures frame { AddsNotes self.old 0 self.new }
     {
         self.memory.store(addr, bytes);
     }

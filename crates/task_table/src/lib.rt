@@ -4,6 +4,7 @@
 mod effect;
 mod kernel;
 pub mod laws;
+pub mod limits;
 mod memory;
 mod message;
 mod slot;

@@ -17,6 +17,8 @@ impl Kernel {
     ghost use Rattle.task_table.specs.Effects.{changed, with_taken, handed};
     ghost use Rattle.task_table.specs.Rows.{denied, takes_bits, listens, receives};
     ghost use Rattle.task_table.specs.Holds.{Holds, Stands, wait_from, task_count, note_count, memory_of};
+    ghost use Rattle.task_table.specs.Limits.{turn_notes};
+    ghost use Rattle.task_table.specs.Frames.{AddsNotes, AddsAtMost};
     ghost use Rattle.task_table.specs.Messages.{from_of, listening, IsListened, IsReadable, IsReceivable};
 
     /// The number of the call that a client offers to a server, where it does.
@@ -39,11 +41,10 @@ impl Kernel {
     /// A task faults at a byte that the kernel may not read or write for its call.
     pub fn deny(&mut self, task: usize, at: u32, access: Access)
         requires there { task < task_count self.old }
-        requires room { note_count self.old + 4 ≤ 1024 }
+        requires room { note_count self.old + 4 ≤ turn_notes }
         ensures holds { (g : Setup) (t : Turn) → Holds g self.old t → Holds g self.new (denied g task (access_number access) (Some at) t) }
         ensures stands { (g : Setup) (t : Turn) → Stands g self.old t → Stands g self.new (denied g task (access_number access) (Some at) t) }
-        ensures count { note_count self.new ≤ note_count self.old + 4 }
-        ensures tasks { task_count self.new ≡ task_count self.old }
+        ensures frame { AddsAtMost self.old 4 self.new }
     {
         self.fault(task, Fault::access(at, access));
     }
@@ -52,10 +53,9 @@ impl Kernel {
     /// on: r4 is 0, r5 0xFFFF, r6 those bits, r7 to r9 are 0 (Hubris Reference, on notifications).
     pub fn take_bits(&mut self, task: usize, mask: u32)
         requires there { task < task_count self.old }
-        requires room { note_count self.old < 1024 }
+        requires room { note_count self.old < turn_notes }
         ensures holds { (g : Setup) (t : Turn) → Holds g self.old t → IsIdle t.state task → Holds g self.new (takes_bits task mask t) }
-        ensures count { note_count self.new ≡ note_count self.old + 1 }
-        ensures tasks { task_count self.new ≡ task_count self.old }
+        ensures frame { AddsNotes self.old 1 self.new }
     {
         let under = self.posted_bits(task) & mask;
         self.clear_bits(task, mask);
@@ -86,10 +86,9 @@ impl Kernel {
     fn start_listening(&mut self, task: usize, from: Listened)
         requires there { task < task_count self.old }
         requires whom { IsListened (task_count self.old) from }
-        requires room { note_count self.old < 1024 }
+        requires room { note_count self.old < turn_notes }
         ensures holds { (g : Setup) (t : Turn) → Holds g self.old t → IsIdle t.state task → Holds g self.new (listening task (recv_args (arguments t.state task)) (from_of t.state from) t) }
-        ensures count { note_count self.new ≡ note_count self.old + 1 }
-        ensures tasks { task_count self.new ≡ task_count self.old }
+        ensures frame { AddsNotes self.old 1 self.new }
     {
         let args = RecvArgs::of(&self.arguments(task));
         let mut slot = self.slot(task);
@@ -107,10 +106,9 @@ impl Kernel {
     pub fn listen(&mut self, task: usize, from: Listened)
         requires there { task < task_count self.old }
         requires whom { IsListened (task_count self.old) from }
-        requires room { note_count self.old < 1024 }
+        requires room { note_count self.old < turn_notes }
         ensures holds { (g : Setup) (t : Turn) → Holds g self.old t → IsIdle t.state task → Holds g self.new (listens task (recv_args (arguments t.state task)) (from_of t.state from) t) }
-        ensures count { note_count self.new ≡ note_count self.old + 1 }
-        ensures tasks { task_count self.new ≡ task_count self.old }
+        ensures frame { AddsNotes self.old 1 self.new }
     {
         self.advance(task);
         self.start_listening(task, from);
@@ -120,8 +118,7 @@ impl Kernel {
     fn take(&mut self, client: usize)
         requires { client < task_count self.old }
         ensures holds { (g : Setup) (t : Turn) → Holds g self.old t → Holds g self.new (changed (with_taken client) t) }
-        ensures count { note_count self.new ≡ note_count self.old }
-        ensures tasks { task_count self.new ≡ task_count self.old }
+        ensures frame { AddsNotes self.old 0 self.new }
     {
         let mut slot = self.slot(client);
         slot.wait = slot.wait.once_taken();
@@ -133,12 +130,11 @@ impl Kernel {
     fn hand_over(&mut self, client: usize, server: usize, call: u32, base: u32, len: u32)
         requires client { client < task_count self.old }
         requires server { server < task_count self.old }
-        requires room { note_count self.old < 1024 }
+        requires room { note_count self.old < turn_notes }
         requires source { IsReadable self.old client }
         requires target { IsWithinRam (memory_of self.old) base len }
         ensures holds { (g : Setup) (t : Turn) (on : Ground) (c : Call) → Holds g self.old t → call_of t.state client ≡ Some c → c.number ≡ call → c.client ≡ present t.state client → c.server.index ≡ server → client ≢ server → call_of t.state server ≡ None → Holds g self.new (handed on c record { base = base; length = len } t) }
-        ensures count { note_count self.new ≡ note_count self.old + 1 }
-        ensures tasks { task_count self.new ≡ task_count self.old }
+        ensures frame { AddsNotes self.old 1 self.new }
     {
         let asked = SendArgs::of(&self.arguments(client));
         let sender = self.id(client);
@@ -167,11 +163,10 @@ impl Kernel {
     pub fn receive(&mut self, server: usize, client: usize, call: u32)
         requires there { server < task_count self.old }
         requires client { client < task_count self.old }
-        requires room { note_count self.old + 2 ≤ 1024 }
+        requires room { note_count self.old + 2 ≤ turn_notes }
         requires receivable { IsReceivable self.old server client }
         ensures holds { (g : Setup) (t : Turn) (c : Call) → Stands g self.old t → IsIdle t.state server → offer_by t.state client server ≡ Some c → c.number ≡ call → Holds g self.new (receives server (recv_args (arguments t.state server)) c t) }
-        ensures count { note_count self.new ≡ note_count self.old + 2 }
-        ensures tasks { task_count self.new ≡ task_count self.old }
+        ensures frame { AddsNotes self.old 2 self.new }
     {
         let args = RecvArgs::of(&self.arguments(server));
         self.advance(server);

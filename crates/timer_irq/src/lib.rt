@@ -2,12 +2,12 @@
 //! Timers and interrupt lines: ticks and interrupts, which come from outside, and the system calls
 //! SET_TIMER, GET_TIMER and IRQ_CONTROL (Hubris Reference: timers, interrupts; docs/FORMATS.md, Script).
 //!
-//! Each event and each call asks for room for 100 notes and makes no more.
+//! Each event and each call asks for room for `CALL_NOTES` notes and makes no more.
 
 #[cfg(test)]
 mod tests;
 
-ghost use Rattle.std.specs.Prelude.{◌≡◌, ◌+◌, ◌<◌, ◌≤◌, ◌%◌, ◌/◌, ◌^◌, ◌∷◌, ◌==◌, ◌&&◌, true, Some, Option, ℕ, filter, fold, slice_get};
+ghost use Rattle.std.specs.Prelude.{◌≡◌, ◌+◌, ◌*◌, ◌<◌, ◌≤◌, ◌%◌, ◌/◌, ◌^◌, ◌∷◌, ◌==◌, ◌&&◌, true, Some, Option, ℕ, filter, fold, slice_get};
 ghost use Rattle.std.specs.Option.{option_map};
 ghost use Rattle.std.specs.List.{list_any};
 ghost use Rattle.task_table.specs.State.{Setup, Turn};
@@ -17,6 +17,8 @@ ghost use Rattle.task_table.specs.Rows.{timer_set, timer_words, timer_told, owns
 ghost use Rattle.task_table.specs.Events.{expired, ticked, owner_of, interrupted_by, interrupted};
 ghost use Rattle.task_table.specs.Parts.{line_setup};
 ghost use Rattle.task_table.specs.Holds.{Holds, Stands, Stood, task_count, note_count, clock_of};
+ghost use Rattle.task_table.specs.Limits.{board_lines, call_notes, turn_notes};
+ghost use Rattle.task_table.specs.Frames.{AddsNotes, AddsAtMost};
 ghost use Rattle.timer_irq.specs.Midway.{with_next};
 
 use kernel_abi::{Handled, IrqArgs, Note, Timer, TimerArgs, Usage};
@@ -25,10 +27,9 @@ use task_table::{Kernel, Line, LineStart};
 /// The timer of a task, where it is due, is off, and its bits are posted.
 fn expire(k: &mut Kernel, task: usize)
     requires there { task < task_count k.old }
-    requires room { note_count k.old + 2 ≤ 1024 }
+    requires room { note_count k.old + 2 ≤ turn_notes }
     ensures holds { (g : Setup) (t : Turn) → Holds g k.old t → Holds g k.new (expired t task) }
-    ensures count { note_count k.new ≤ note_count k.old + 2 }
-    ensures tasks { task_count k.new ≡ task_count k.old }
+    ensures frame { AddsAtMost k.old 2 k.new }
 {
     if let Some(timer) = k.timer(task) {
         if timer.deadline <= k.now() {
@@ -40,11 +41,10 @@ fn expire(k: &mut Kernel, task: usize)
 
 /// The time goes on, and each task whose timer is due is posted.
 fn tick_all(k: &mut Kernel)
-    requires room { note_count k.old + 100 ≤ 1024 }
+    requires room { note_count k.old + call_notes ≤ turn_notes }
     requires small { clock_of k.old + 1 < 2 ^ 64 }
     ensures holds { (g : Setup) (t : Turn) → Holds g k.old t → Holds g k.new (ticked t) }
-    ensures count { note_count k.new ≤ note_count k.old + 100 }
-    ensures tasks { task_count k.new ≡ task_count k.old }
+    ensures frame { AddsAtMost k.old call_notes k.new }
 {
     k.step_clock();
     for i in 0..k.task_count() {
@@ -55,11 +55,10 @@ fn tick_all(k: &mut Kernel)
 /// A tick: the time rises by one; then each task in order whose deadline is at most that time has its
 /// timer off and is posted the timer's bits.
 pub fn tick(k: &mut Kernel)
-    requires room { note_count k.old + 100 ≤ 1024 }
+    requires room { note_count k.old + call_notes ≤ turn_notes }
     requires small { clock_of k.old + 1 < 2 ^ 64 }
     ensures stands { (g : Setup) (t : Turn) → Stands g k.old t → Stands g k.new (ticked t) }
-    ensures count { note_count k.new ≤ note_count k.old + 100 }
-    ensures tasks { task_count k.new ≡ task_count k.old }
+    ensures frame { AddsAtMost k.old call_notes k.new }
 {
     tick_all(k);
 }
@@ -92,8 +91,7 @@ fn line_of(k: &Kernel, number: usize) -> Line
 /// A line is disabled, with something pending or not.
 fn disable(k: &mut Kernel, number: usize, pending: bool)
     ensures holds { (g : Setup) (t : Turn) → Holds g k.old t → Holds g k.new (with_line number (line_off pending) t) }
-    ensures count { note_count k.new ≡ note_count k.old }
-    ensures tasks { task_count k.new ≡ task_count k.old }
+    ensures frame { AddsNotes k.old 0 k.new }
 {
     k.set_line(
         number,
@@ -107,10 +105,9 @@ fn disable(k: &mut Kernel, number: usize, pending: bool)
 /// An interrupt on a line that has this owner.
 fn interrupt_owned(k: &mut Kernel, line: u8, owner: &LineStart)
     requires there { owner.now.task < task_count k.old }
-    requires room { note_count k.old + 100 ≤ 1024 }
+    requires room { note_count k.old + call_notes ≤ turn_notes }
     ensures holds { (g : Setup) (t : Turn) → Holds g k.old t → Holds g k.new (interrupted_by line (Some (line_setup owner.now)) t) }
-    ensures count { note_count k.new ≤ note_count k.old + 100 }
-    ensures tasks { task_count k.new ≡ task_count k.old }
+    ensures frame { AddsAtMost k.old call_notes k.new }
 {
     let number = usize::from(line);
     let before = line_of(k, number);
@@ -135,10 +132,9 @@ fn interrupt_owned(k: &mut Kernel, line: u8, owner: &LineStart)
 /// nothing happens.
 pub fn interrupt(k: &mut Kernel, line: u8)
     requires stood { Stood k.old }
-    requires room { note_count k.old + 100 ≤ 1024 }
+    requires room { note_count k.old + call_notes ≤ turn_notes }
     ensures stands { (g : Setup) (t : Turn) → Stands g k.old t → Stands g k.new (interrupted g line t) }
-    ensures count { note_count k.new ≤ note_count k.old + 100 }
-    ensures tasks { task_count k.new ≡ task_count k.old }
+    ensures frame { AddsAtMost k.old call_notes k.new }
 {
     match owner_of(k, line) {
         Some(owner) => interrupt_owned(k, line, &owner),
@@ -152,10 +148,9 @@ pub fn interrupt(k: &mut Kernel, line: u8)
 /// SET_TIMER of a caller that waits for nothing.
 fn start_timer(k: &mut Kernel, caller: usize)
     requires there { caller < task_count k.old }
-    requires room { note_count k.old + 100 ≤ 1024 }
+    requires room { note_count k.old + call_notes ≤ turn_notes }
     ensures holds { (g : Setup) (t : Turn) → Holds g k.old t → IsIdle t.state caller → Holds g k.new (timer_set caller t) }
-    ensures count { note_count k.new ≤ note_count k.old + 100 }
-    ensures tasks { task_count k.new ≡ task_count k.old }
+    ensures frame { AddsAtMost k.old call_notes k.new }
 {
     let args = TimerArgs::of(&k.arguments(caller));
     if !args.set {
@@ -182,10 +177,9 @@ fn start_timer(k: &mut Kernel, caller: usize)
 /// posted at once (Hubris Reference, on SET_TIMER).
 pub fn set_timer(k: &mut Kernel, caller: usize)
     requires there { caller < task_count k.old }
-    requires room { note_count k.old + 100 ≤ 1024 }
+    requires room { note_count k.old + call_notes ≤ turn_notes }
     ensures stands { (g : Setup) (t : Turn) → Stands g k.old t → is_ready t.state caller ≡ true → Stands g k.new (timer_set caller t) }
-    ensures count { note_count k.new ≤ note_count k.old + 100 }
-    ensures tasks { task_count k.new ≡ task_count k.old }
+    ensures frame { AddsAtMost k.old call_notes k.new }
 {
     start_timer(k, caller);
 }
@@ -213,10 +207,9 @@ fn told(now: u64, timer: Option<Timer>) -> [u32; 6]
 /// and r8 are then its deadline and r9 its bits, else r6 to r9 are 0 (the call is this project's own).
 pub fn get_timer(k: &mut Kernel, caller: usize)
     requires there { caller < task_count k.old }
-    requires room { note_count k.old + 100 ≤ 1024 }
+    requires room { note_count k.old + call_notes ≤ turn_notes }
     ensures stands { (g : Setup) (t : Turn) → Stands g k.old t → is_ready t.state caller ≡ true → Stands g k.new (timer_told caller t) }
-    ensures count { note_count k.new ≤ note_count k.old + 100 }
-    ensures tasks { task_count k.new ≡ task_count k.old }
+    ensures frame { AddsAtMost k.old call_notes k.new }
 {
     let words = told(k.now(), k.timer(caller));
     k.answer(caller, &words);
@@ -241,10 +234,9 @@ fn owns(k: &Kernel, caller: usize, bits: u32) -> bool
 /// One line of the caller is disabled, or enabled.
 fn control(k: &mut Kernel, caller: usize, bits: u32, enable: bool, line: u8)
     requires there { caller < task_count k.old }
-    requires room { note_count k.old + 2 ≤ 1024 }
+    requires room { note_count k.old + 2 ≤ turn_notes }
     ensures holds { (g : Setup) (t : Turn) → Holds g k.old t → Holds g k.new (line_controlled caller bits enable line t) }
-    ensures count { note_count k.new ≤ note_count k.old + 2 }
-    ensures tasks { task_count k.new ≡ task_count k.old }
+    ensures frame { AddsAtMost k.old 2 k.new }
 {
     let number = usize::from(line);
     let before = line_of(k, number);
@@ -267,10 +259,9 @@ fn control(k: &mut Kernel, caller: usize, bits: u32, enable: bool, line: u8)
 /// One line is disabled, or enabled, where the caller owns it with exactly these bits.
 fn control_if(k: &mut Kernel, caller: usize, bits: u32, enable: bool, owner: &LineStart)
     requires there { caller < task_count k.old }
-    requires room { note_count k.old + 2 ≤ 1024 }
+    requires room { note_count k.old + 2 ≤ turn_notes }
     ensures holds { (g : Setup) (t : Turn) → Holds g k.old t → Holds g k.new (with_next (λ u o. line_controlled caller bits enable o.line u) (owns_with caller bits) (Some (line_setup owner.now)) t) }
-    ensures count { note_count k.new ≤ note_count k.old + 2 }
-    ensures tasks { task_count k.new ≡ task_count k.old }
+    ensures frame { AddsAtMost k.old 2 k.new }
 {
     if is_owner(owner, caller, bits) {
         control(k, caller, bits, enable, owner.line);
@@ -301,10 +292,9 @@ fn owner_at(k: &Kernel, i: usize) -> Option<LineStart>
 /// The line of the i-th owner is disabled, or enabled, where the caller owns it with these bits.
 fn control_at(k: &mut Kernel, caller: usize, bits: u32, enable: bool, i: usize)
     requires there { caller < task_count k.old }
-    requires room { note_count k.old + 2 ≤ 1024 }
+    requires room { note_count k.old + 2 ≤ turn_notes }
     ensures holds { (g : Setup) (t : Turn) → Holds g k.old t → Holds g k.new (with_next (λ u o. line_controlled caller bits enable o.line u) (owns_with caller bits) (slice_get g.lines i) t) }
-    ensures count { note_count k.new ≤ note_count k.old + 2 }
-    ensures tasks { task_count k.new ≡ task_count k.old }
+    ensures frame { AddsAtMost k.old 2 k.new }
 {
     if let Some(owner) = owner_at(k, i) {
         control_if(k, caller, bits, enable, &owner);
@@ -314,10 +304,9 @@ fn control_at(k: &mut Kernel, caller: usize, bits: u32, enable: bool, i: usize)
 /// Each line that the caller owns with these bits is disabled, or enabled.
 fn control_all(k: &mut Kernel, caller: usize, bits: u32, enable: bool)
     requires there { caller < task_count k.old }
-    requires room { note_count k.old + 64 ≤ 1024 }
+    requires room { note_count k.old + 2 * board_lines ≤ turn_notes }
     ensures holds { (g : Setup) (t : Turn) → Holds g k.old t → Holds g k.new (fold (λ u o. line_controlled caller bits enable o.line u) t (filter (owns_with caller bits) g.lines)) }
-    ensures count { note_count k.new ≤ note_count k.old + 64 }
-    ensures tasks { task_count k.new ≡ task_count k.old }
+    ensures frame { AddsAtMost k.old (2 * board_lines) k.new }
 {
     for i in 0..k.owners().len() {
         control_at(k, caller, bits, enable, i);
@@ -327,10 +316,9 @@ fn control_all(k: &mut Kernel, caller: usize, bits: u32, enable: bool)
 /// IRQ_CONTROL of a caller that waits for nothing.
 fn control_lines(k: &mut Kernel, caller: usize)
     requires there { caller < task_count k.old }
-    requires room { note_count k.old + 100 ≤ 1024 }
+    requires room { note_count k.old + call_notes ≤ turn_notes }
     ensures holds { (g : Setup) (t : Turn) → Holds g k.old t → IsIdle t.state caller → Holds g k.new (irq_controlled g caller t) }
-    ensures count { note_count k.new ≤ note_count k.old + 100 }
-    ensures tasks { task_count k.new ≡ task_count k.old }
+    ensures frame { AddsAtMost k.old call_notes k.new }
 {
     let args = IrqArgs::of(&k.arguments(caller));
     if owns(k, caller, args.bits) {
@@ -347,10 +335,9 @@ fn control_lines(k: &mut Kernel, caller: usize)
 /// it faults by usage 6, NoIrq (Hubris Reference, on IRQ_CONTROL).
 pub fn irq_control(k: &mut Kernel, caller: usize)
     requires there { caller < task_count k.old }
-    requires room { note_count k.old + 100 ≤ 1024 }
+    requires room { note_count k.old + call_notes ≤ turn_notes }
     ensures stands { (g : Setup) (t : Turn) → Stands g k.old t → is_ready t.state caller ≡ true → Stands g k.new (irq_controlled g caller t) }
-    ensures count { note_count k.new ≤ note_count k.old + 100 }
-    ensures tasks { task_count k.new ≡ task_count k.old }
+    ensures frame { AddsAtMost k.old call_notes k.new }
 {
     control_lines(k, caller);
 }

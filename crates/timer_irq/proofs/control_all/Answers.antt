@@ -10,8 +10,11 @@ use Rattle.timer_irq.proofs.control_all.Goals as goal
 
 pub loop-i-preserved : goal.loop-i-preserved
 loop-i-preserved c = record {
-  tasks = c.control_at.ensures.tasks ∙ c.loop-i.invariant.tasks;
-  room = omega (arith, c.control_at.ensures.count, c.loop-i.invariant.room);
+  frame = record {
+    notes = omega (arith, c.control_at.ensures.frame.notes, c.loop-i.invariant.frame.notes);
+    tasks = c.control_at.ensures.frame.tasks ∙ c.loop-i.invariant.frame.tasks;
+    setup = c.control_at.ensures.frame.setup ∙ c.loop-i.invariant.frame.setup;
+  };
   holds = λ g t h.
       let f : Turn → LineSetup → Turn = λ u o. line_controlled c.args.caller c.args.bits c.args.enable o.line u in
       let P : Turn → Type 0 = λ u. Holds g c.control_at.new.k u in

@@ -1,4 +1,4 @@
-use Rattle.std.proofs.Common.{◌≡◌, ap, sym, ◌∙◌, true}
+use Rattle.std.proofs.Common.{◌≡◌, ap, arith, sym, ◌∙◌, true}
 use Rattle.task_table.specs.Memory.{Memory, is_ram}
 use Rattle.board_core.proofs.machine.write.Goals as goal
 
@@ -7,8 +7,8 @@ returns-then-is_ram c = record {
   holds = λ g t h.
       let e : is_ram t.state.memory c.args.addr c.args.n ≡ true = ap (λ (m : Memory). is_ram m c.args.addr c.args.n) (sym h.memory) ∙ sym c.is_ram.ensures ∙ c.if-is_ram.true in
       rw (e, ← c.bytes-bytes.ensures) (c.store.ensures.holds g t h);
-  setup = c.store.ensures.setup;
+  setup = c.store.ensures.frame.setup;
   current = c.store.ensures.current;
-  tasks = c.store.ensures.tasks;
-  notes = c.store.ensures.count;
+  tasks = c.store.ensures.frame.tasks;
+  notes = omega (arith, c.store.ensures.frame.notes);
 }

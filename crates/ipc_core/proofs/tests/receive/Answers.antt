@@ -44,7 +44,7 @@ recv-requires-clause-ready c =
     let whole : AreWhole _ = record { sixteen = refl; even = refl; aligned = refl } in
     let u : Turn = with_processor 0 _ _ t in
     let stands : Stands g c.set_processor.new.self u = record { holds = h1; sane = sane-processor 0 _ _ t h.sane inside whole } in
-    let many : 0 < length u.state.tasks = omega (arith, c.requires.count, c.set_processor.ensures.tasks, h1.count) in
+    let many : 0 < length u.state.tasks = omega (arith, c.requires.count, c.set_processor.ensures.frame.tasks, h1.count) in
     let ready = ready-processor 0 _ _ t inside r.3 in
     let h2 = c.post.ensures.stands g u stands in
     let v = posted 0 c.args.posted u in

@@ -15,7 +15,7 @@ pub call-requires-clause-there : goal.call-requires-clause-there
 call-requires-clause-there c =
     let r = c.requires.ready.2 in
     let h = c.settle.ensures.holds c.requires.ready.0 c.requires.ready.1 (stands_of _ _ _ r).holds in
-    rw (c.note_call.ensures.tasks, c.current-task.ensures.value) (current_below false c.requires.ready.0 c.settle.new.self.reach.kernel c.args.self.now.processor c.requires.ready.1 h r.sane.steady.current)
+    rw (c.note_call.ensures.frame.tasks, c.current-task.ensures.value) (current_below false c.requires.ready.0 c.settle.new.self.reach.kernel c.args.self.now.processor c.requires.ready.1 h r.sane.steady.current)
 
 pub call-requires-clause-ready : goal.call-requires-clause-ready
 call-requires-clause-ready c =

@@ -1,3 +1,4 @@
+use Rattle.std.proofs.Common.{arith, refl}
 use Rattle.task_table.specs.Holds.{kept_of, setup_of}
 use Rattle.task_table.proofs.Messages.{holds_copied, setup_copied}
 use Rattle.task_table.proofs.kernel.Kernel.copy.Goals as goal
@@ -7,3 +8,12 @@ returns-clause-holds c = λ g t on h.
     let a = c.args in
     let same = setup_copied (λ flash ram. record (setup_of a.self.now) { flash = flash; ram = ram }) a.self.now.memory c.copy.new.self a.from a.to a.count c.requires.target c.copy.ensures in
     holds_copied g (kept_of a.self.now) t on a.from a.to a.count _ _ h same c.copy.ensures
+
+pub returns-clause-frame : goal.returns-clause-frame
+returns-clause-frame c =
+    let a = c.args in
+    record {
+      notes = omega arith;
+      tasks = refl;
+      setup = setup_copied (λ flash ram. record (setup_of a.self.now) { flash = flash; ram = ram }) a.self.now.memory c.copy.new.self a.from a.to a.count c.requires.target c.copy.ensures;
+    }

@@ -1,9 +1,19 @@
+use Rattle.std.proofs.Common.{◌≡◌, arith, refl}
 use Rattle.task_table.specs.Holds.{kept_of, setup_of}
 use Rattle.task_table.proofs.Steps as steps
 use Rattle.task_table.proofs.kernel.Kernel.store.Goals as goal
 
 pub returns-clause-holds : goal.returns-clause-holds
-returns-clause-holds c = λ g t h. steps.holds_stored g (kept_of c.args.self.now) t _ c.args.addr c.args.bytes.now _ _ h (steps.setup_stored (λ flash ram. record (setup_of c.args.self.now) { flash = flash; ram = ram }) c.args.self.now.memory c.store.new.self c.args.addr c.args.bytes.now c.requires c.store.ensures) c.store.ensures
+returns-clause-holds c = λ g t h.
+    let a = c.args in
+    let same = steps.setup_stored (λ flash ram. record (setup_of a.self.now) { flash = flash; ram = ram }) a.self.now.memory c.store.new.self a.addr a.bytes.now c.requires c.store.ensures in
+    steps.holds_stored g (kept_of a.self.now) t _ a.addr a.bytes.now _ _ h same c.store.ensures
 
-pub returns-clause-setup : goal.returns-clause-setup
-returns-clause-setup c = steps.setup_stored (λ flash ram. record (setup_of c.args.self.now) { flash = flash; ram = ram }) c.args.self.now.memory c.store.new.self c.args.addr c.args.bytes.now c.requires c.store.ensures
+pub returns-clause-frame : goal.returns-clause-frame
+returns-clause-frame c =
+    let a = c.args in
+    record {
+      notes = omega arith;
+      tasks = refl;
+      setup = steps.setup_stored (λ flash ram. record (setup_of a.self.now) { flash = flash; ram = ram }) a.self.now.memory c.store.new.self a.addr a.bytes.now c.requires c.store.ensures;
+    }

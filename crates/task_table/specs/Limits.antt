@@ -1,0 +1,18 @@
+-- How many of each thing there may be.
+use Rattle.std.specs.Prelude.{ℕ}
+
+-- tasks of an application
+abbrev pub most_tasks : ℕ
+most_tasks = 32
+
+-- interrupt lines of a board
+abbrev pub board_lines : ℕ
+board_lines = 32
+
+-- notes of one system call, and of one event from outside
+abbrev pub call_notes : ℕ
+call_notes = 100
+
+-- notes of one turn
+abbrev pub turn_notes : ℕ
+turn_notes = 1024

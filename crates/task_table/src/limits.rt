@@ -1,0 +1,14 @@
+//! How many of each thing there may be; the same as in specs/Limits.
+
+/// Tasks of an application.
+pub const TASKS: usize = 32;
+
+/// Interrupt lines of a board.
+pub const LINES: usize = 32;
+
+/// Notes of one system call, and of one event from outside.
+pub const CALL_NOTES: usize = 100;
+
+/// Notes of one turn: of nine events at most, of one system call, and of four lines on the
+/// instruction itself.
+pub const TURN_NOTES: usize = 1024;
