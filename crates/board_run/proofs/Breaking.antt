@@ -13,8 +13,7 @@ use Rattle.board_model.specs.declared.told.Level.{Level}
 use Rattle.board_model.specs.Script.{Scenario}
 use Rattle.board_model.specs.Turn.{turn}
 use Rattle.board_core.specs.Stands.{Stands, turns_of}
-use Rattle.board_core.specs.Advanced.{turn_after}
-use Rattle.board_model.specs.Run.{Run, run, ending, end_by, is_down, is_still, unless, ended_at, with_front, at_turn}
+use Rattle.board_model.specs.Run.{turn_after, Run, run, ending, end_by, is_down, is_still, unless, ended_at, with_front, at_turn}
 use Rattle.outside_io.specs.Outside.{AppendsFront, IsFront}
 use Rattle.board_run.specs.Text.{notes_text, end_text}
 use Rattle.board_run.specs.Midway.{Midway}
@@ -58,7 +57,7 @@ module _ (level : Level) (x : Scenario) where
 
   run_shorter : (n : ℕ) (s : State) → (back : List (ℕ × Note)) × ((run level x n s).notes ≡ (run level x (n - 1) s).notes ++ back)
   run_shorter zero s = ([], sym (append-nil (run level x 0 s).notes))
-  run_shorter (suc n) s = run_longer n s
+  run_shorter (suc n) s = let e : suc n - 1 ≡ n = omega arith in rw e (run_longer n s)
 
   -- turns that note nothing write no lines
   silent : (n : ℕ) (t : State) → ending x 1 t ≡ None → ((k : ℕ) → k < n → (turn_after level x k t).notes ≡ []) → ((k : ℕ) → k < n → ending x 1 (turn_after level x k t).state ≡ None) → (run level x n t).notes ≡ []
