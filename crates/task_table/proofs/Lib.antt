@@ -16,5 +16,4 @@ pub mod Messages
 pub mod Receives
 pub mod Calling
 pub mod Starts
-pub mod Telling
 pub mod Clocking

@@ -11,7 +11,6 @@ pub mod Start
 pub mod Parts
 pub mod Holds
 pub mod Frames
-pub mod Levels
 pub mod Found
 pub mod Messages
 pub mod Counts
