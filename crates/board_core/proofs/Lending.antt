@@ -187,15 +187,6 @@ goes_on g k k' cpu cpu' t ss h inside f =
 pub stands_of : (g : Setup) (m : Machine) (t : Turn) → IsReady g m t → MachineStands g m t
 stands_of g m t r = record { holds = lent_by m.lent g m.reach.kernel m.processor t r.lent r.holds; sane = r.sane }
 
-pub current_below : (lent : Bool) (g : Setup) (k : Kernel) (cpu : Cpu) (t : Turn) → HoldsBy lent g k cpu t → t.state.current < length t.state.tasks → current_of k < task_count k
-current_below lent g k cpu t h inside =
-    let w = told_by lent g k cpu t h in
-    let a : current_of k ≡ w.saved.state.current = w.holds.current in
-    let b : task_count k ≡ length w.saved.state.tasks = w.holds.count in
-    let r : t.state.current ≡ w.saved.state.current = w.rest.current in
-    let n : length t.state.tasks ≡ length w.saved.state.tasks = w.rest.count in
-    omega arith
-
 pub below : (lent : Bool) (g : Setup) (k : Kernel) (cpu : Cpu) (t : Turn) (i : ℕ) → HoldsBy lent g k cpu t → i < length t.state.tasks → i < task_count k
 below lent g k cpu t i h inside =
     let w = told_by lent g k cpu t h in

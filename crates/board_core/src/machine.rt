@@ -281,7 +281,6 @@ impl Machine {
 
     /// The kernel has the registers and flags of the current task again: before it acts.
     pub fn settle(&mut self)
-        requires { (g : Setup) × (t : Turn) × MachineStands g self.old t }
         ensures holds { (g : Setup) (t : Turn) → MachineHolds g self.old t → Holds g self.new.reach.kernel t }
         ensures settled { self.new.lent ≡ false }
         ensures frame { AddsNotes self.old.reach.kernel 0 self.new.reach.kernel }
@@ -311,8 +310,7 @@ impl Machine {
 
     /// The task is the current one from now on, and the processor is lent to it.
     fn lend(&mut self, task: usize)
-        requires there { task < task_count self.old.reach.kernel }
-        requires stands { (g : Setup) × (t : Turn) × MachineStands g self.old t }
+        requires { task < task_count self.old.reach.kernel }
         ensures lent { self.new.lent ≡ true }
         ensures holds { (g : Setup) (t : Turn) → MachineHolds g self.old t → is_ready t.state task ≡ true → IsLent g self.new.reach.kernel self.new.processor (with_current task t) }
         ensures count { note_count self.new.reach.kernel ≡ note_count self.old.reach.kernel }
@@ -410,8 +408,7 @@ impl Machine {
     /// With all instructions, that of the current task is told.
     #[inline(always)]
     fn tell_insn(&mut self, level: Level, at: u32, code: u32)
-        requires ready { (g : Setup) × (t : Turn) × IsReady g self.old t }
-        requires room { note_count self.old.reach.kernel < turn_notes }
+        requires { note_count self.old.reach.kernel < turn_notes }
         ensures ready { (g : Setup) (t : Turn) → IsReady g self.old t → IsReady g self.new (told level (Note.Insn t.state.current at code) t) }
         ensures count { note_count self.new.reach.kernel ≤ note_count self.old.reach.kernel + 1 }
     {
@@ -439,7 +436,6 @@ impl Machine {
     /// The registers and flags of a task are told.
     fn tell_registers(&mut self, task: usize)
         requires there { task < task_count self.old.reach.kernel }
-        requires stands { (g : Setup) × (t : Turn) × MachineStands g self.old t }
         requires room { note_count self.old.reach.kernel + 2 ≤ turn_notes }
         ensures holds { (g : Setup) (t : Turn) → MachineHolds g self.old t → MachineHolds g self.new (with_registers_told Level.All task t) }
         ensures count { note_count self.new.reach.kernel ≤ note_count self.old.reach.kernel + 2 }
@@ -455,7 +451,6 @@ impl Machine {
     #[inline(always)]
     fn tell_task(&mut self, level: Level, task: usize)
         requires there { task < task_count self.old.reach.kernel }
-        requires stands { (g : Setup) × (t : Turn) × MachineStands g self.old t }
         requires room { note_count self.old.reach.kernel + 2 ≤ turn_notes }
         ensures holds { (g : Setup) (t : Turn) → MachineHolds g self.old t → MachineHolds g self.new (with_registers_told level task t) }
         ensures count { note_count self.new.reach.kernel ≤ note_count self.old.reach.kernel + 2 }
@@ -498,7 +493,6 @@ impl Machine {
 
     /// The current task faults.
     fn fault(&mut self, fault: Fault)
-        requires ready { (g : Setup) × (t : Turn) × IsReady g self.old t }
         requires from_one { 1 ≤ fault.number }
         requires to_ten { fault.number ≤ 10 }
         requires room { note_count self.old.reach.kernel + 4 ≤ turn_notes }

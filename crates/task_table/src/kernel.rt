@@ -3,7 +3,7 @@
 //! Most clauses say, for each setup and each turn of the abstract kernel that this kernel holds,
 //! what the answer is, or which turn the kernel holds afterwards.
 
-ghost use Rattle.std.specs.Prelude.{◌≡◌, ◌≤◌, length, slice_range};
+ghost use Rattle.std.specs.Prelude.{◌≡◌, ◌<◌, ◌≤◌, length, slice_range};
 ghost use Rattle.task_table.specs.Limits.{most_tasks, board_lines};
 
 use crate::Line;
@@ -35,6 +35,7 @@ pub struct Kernel {
     ghost all_lines: { length lines ≡ board_lines },
     ghost few_owners: { length owners.items ≤ board_lines },
     ghost many: { length tasks.items ≡ length slots.items },
+    ghost there: { current < length slots.items },
 }
 
 impl Kernel {
@@ -53,9 +54,9 @@ impl Kernel {
     ghost use Rattle.task_table.specs.Limits.{most_tasks, board_lines, turn_notes};
     ghost use Rattle.task_table.specs.Frames.{AddsNotes, AddsAtMost};
 
-    /// The kernel at the start of a run: each task as at its first birth, and the memory as it is
-    /// handed in, with zeros in the RAM. The order of the tasks gives their indices. Where the parts
-    /// are those of a sound image, the state is sane.
+    /// The kernel at the start of a run, of one task at least: each task as at its first birth, and the
+    /// memory as it is handed in, with zeros in the RAM. The order of the tasks gives their indices.
+    /// Where the parts are those of a sound image, the state is sane.
     ///
     /// # Errors
     ///
@@ -67,6 +68,7 @@ impl Kernel {
         tasks: &[TaskStart],
         lines: &[LineStart],
     ) -> Result<Kernel, AllocError>
+        requires some { 0 < length tasks.now }
         requires few { length tasks.now ≤ most_tasks }
         requires few_owners { length lines.now ≤ board_lines }
         requires zeros { memory.ram ≡ replicate (length memory.ram) 0 }
@@ -113,6 +115,7 @@ impl Kernel {
     #[inline(always)]
     pub fn current(&self) -> usize
         ensures value { result ≡ current_of self.now }
+        ensures there { result < task_count self.now }
         ensures holds { (g : Setup) (t : Turn) → Holds g self.now t → result ≡ t.state.current }
     {
         self.current
@@ -317,6 +320,7 @@ impl Kernel {
 
     /// This task runs.
     pub fn set_current(&mut self, task: usize)
+        requires { task < task_count self.old }
         ensures holds { (g : Setup) (t : Turn) → Holds g self.old t → Holds g self.new (changed (λ s. record s { current = task }) t) }
         ensures frame { AddsNotes self.old 0 self.new }
     {

@@ -1,21 +1,9 @@
-use Rattle.std.proofs.Common.{ℕ, false, subst}
+use Rattle.std.proofs.Common.{ℕ, subst}
 use Rattle.task_table.specs.Rows.{called, call_noted}
 use Rattle.task_table.specs.Holds.{Holds}
-use Rattle.board_core.proofs.Lending.{current_below, stands_of, settled_by}
+use Rattle.board_core.proofs.Lending.{stands_of, settled_by}
 use Rattle.board_core.proofs.Telling.{calling}
 use Rattle.board_core.proofs.machine.Machine.call.Goals as goal
-
-pub note_call-requires-clause-there : goal.note_call-requires-clause-there
-note_call-requires-clause-there c =
-    let r = c.requires.ready.2 in
-    let h = c.settle.ensures.holds c.requires.ready.0 c.requires.ready.1 (stands_of _ _ _ r).holds in
-    rw c.current-task.ensures.value (current_below false c.requires.ready.0 c.settle.new.self.reach.kernel c.args.self.now.processor c.requires.ready.1 h r.sane.steady.current)
-
-pub call-requires-clause-there : goal.call-requires-clause-there
-call-requires-clause-there c =
-    let r = c.requires.ready.2 in
-    let h = c.settle.ensures.holds c.requires.ready.0 c.requires.ready.1 (stands_of _ _ _ r).holds in
-    rw (c.note_call.ensures.frame.tasks, c.current-task.ensures.value) (current_below false c.requires.ready.0 c.settle.new.self.reach.kernel c.args.self.now.processor c.requires.ready.1 h r.sane.steady.current)
 
 pub call-requires-clause-ready : goal.call-requires-clause-ready
 call-requires-clause-ready c =

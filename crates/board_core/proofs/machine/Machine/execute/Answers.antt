@@ -28,11 +28,6 @@ call-requires-clause-ready c =
     let w = was_call _ _ _ _ _ _ c.exec.ensures c.in-Call.is in
     (c.requires.ready.0, c.requires.ready.1, ready_same _ _ _ _ _ w.1 w.2 c.requires.ready.2)
 
-pub fault-requires-clause-ready : goal.fault-requires-clause-ready
-fault-requires-clause-ready c =
-    let w = was_trap _ _ _ _ _ _ _ c.exec.ensures c.in-Trap.is in
-    (c.requires.ready.0, c.requires.ready.1, ready_same _ _ _ _ _ w.1 w.2 c.requires.ready.2)
-
 pub returns-in-Next-clause-holds : goal.returns-in-Next-clause-holds
 returns-in-Next-clause-holds c = λ g t r.
     let w = was_next _ _ _ _ _ _ c.exec.ensures c.in-Next.is in

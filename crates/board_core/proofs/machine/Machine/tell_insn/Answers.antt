@@ -1,24 +1,16 @@
-use Rattle.std.proofs.Common.{◌<◌, ℕ, sym, ◌∙◌, subst, arith}
+use Rattle.std.proofs.Common.{ℕ, sym, ◌∙◌, subst, arith}
 use Rattle.kernel_abi.specs.declared.Note.TheVariants as note
 use Rattle.task_table.specs.Effects.{noted}
-use Rattle.task_table.specs.Holds.{task_count, current_of}
 use Rattle.board_core.specs.declared.machine.Machine.{Machine}
 use Rattle.board_model.specs.declared.told.Level.{Level}
 use Rattle.board_core.specs.Machine.{IsReady}
 use Rattle.board_model.specs.Turn.{told}
-use Rattle.board_core.proofs.Lending.{current_below, rest_of, stands_of}
+use Rattle.board_core.proofs.Lending.{rest_of}
 use Rattle.board_core.proofs.Telling.{ready_noted}
 use Rattle.board_core.proofs.machine.Machine.tell_insn.Goals as goal
 
 pub overflow_cast-task : goal.overflow_cast-task
-overflow_cast-task c =
-    let g = c.requires.ready.0 in
-    let t = c.requires.ready.1 in
-    let r = c.requires.ready.2 in
-    let below : current_of c.args.self.now.reach.kernel < task_count c.args.self.now.reach.kernel = current_below _ g _ _ t (stands_of g c.args.self.now t r).holds r.sane.steady.current in
-    let few = c.args.self.now.reach.kernel.few in
-    let value = c.current-task.ensures.value in
-    omega (arith, below, few, value)
+overflow_cast-task c = let few = c.args.self.now.reach.kernel.few in omega (arith, few)
 
 pub returns-in-All-clause-ready : goal.returns-in-All-clause-ready
 returns-in-All-clause-ready c = λ g t r.

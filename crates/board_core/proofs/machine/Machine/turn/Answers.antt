@@ -8,8 +8,8 @@ use Rattle.board_model.proofs.TurnKeeps.{chosen_is, sane-ran}
 use Rattle.board_core.proofs.Lending.{below, lent_register, register_current}
 use Rattle.board_core.proofs.machine.Machine.turn.Goals as goal
 
-pub lend-requires-clause-there : goal.lend-requires-clause-there
-lend-requires-clause-there c =
+pub lend-requires : goal.lend-requires
+lend-requires c =
     let g = c.requires.next.0 in
     let t = c.requires.next.1 in
     let n = c.requires.next.2 in
@@ -42,16 +42,6 @@ tell_task-requires-clause-there c =
     let there = is.inside in
     let inside : task < length u.state.tasks = omega (arith, before, many, there) in
     below _ g c.step.new.self.reach.kernel _ u task (c.step.ensures.holds g (with_current task t) ready) inside
-
-pub tell_task-requires-clause-stands : goal.tell_task-requires-clause-stands
-tell_task-requires-clause-stands c =
-    let g = c.requires.next.0 in
-    let t = c.requires.next.1 in
-    let n = c.requires.next.2 in
-    let task = c.in-Some.task in
-    let is = chosen_is t.state task n.stands.sane (sym n.is ∙ c.in-Some.is) in
-    let ready : IsReady g c.lend.new.self (with_current task t) = record { lent = c.lend.ensures.lent; holds = c.lend.ensures.holds g t n.stands.holds is.ready; sane = sane-current task t n.stands.sane is.inside } in
-    (g, stepped c.args.level g task (with_current task t), record { holds = c.step.ensures.holds g (with_current task t) ready; sane = sane-ran c.args.level task t n.stands.sane is })
 
 pub overflow_cast-result : goal.overflow_cast-result
 overflow_cast-result c =
