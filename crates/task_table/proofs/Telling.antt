@@ -19,9 +19,11 @@ use Rattle.words_core.specs.declared.Flags.{Flags}
 use Rattle.task_table.specs.State.{Setup, LineSetup, State, Call, Listen, From, Any, One, KernelOnly, Range, Turn, Ground, Own}
 use Rattle.task_table.specs.Reading.{task_at, line_at, line_off, line_on, register, arguments, call_of, listen_of, is_out, is_dead, dead_code_for, present, is_valid, bad_byte, offer_by, best_sender}
 use Rattle.task_table.specs.Effects.{without_listen, with_listen, with_taken, changed, noted, with_processor, with_health, given, returned, advanced, looked, copied, handed, bits_added, bits_cleared, woken_by, woken, posted, with_timer, clocked, with_line, stored, close_notes, closed, faulted_as, faulted}
-use Rattle.task_table.specs.Rows.{goes_on, goes_on_with, panicked, timer_set, timer_words, timer_told, owns_with, line_controlled, irq_controlled, listened_from, buffer_of, listens, receives, receives_or_listens, takes_bits, offer_of, received, call_noted, called}
+use Rattle.task_table.specs.Rows.{goes_on, goes_on_with, panicked, timer_set, timer_words, timer_told, owns_with, line_controlled, irq_controlled, listened_from, buffer_of, listens, receives, receives_or_listens, takes_bits, offer_of, received, call_noted}
+use Rattle.task_table.specs.Calls.{Meaning, calls, meaning_among, called}
 use Rattle.task_table.specs.Events.{expired_by, expired, ticked, owner_of, interrupted_by, interrupted}
 use Rattle.task_table.specs.Levels.{is_told_always, IsLessTold}
+use Rattle.task_table.proofs.Meanings.{EachMeaning}
 
 -- ## what is told always
 
@@ -225,15 +227,13 @@ module _ (g : Setup) (c : ℕ) where
       by_test x.closed _ _ (passes-receives_or_listens c x (One (present s (index_of id))) (offer_by s (index_of id) c) u)
       (passes-receives_or_listens c x Any (offer_of s c best) u)))))))
 
+  passes-among : (list : List (ℕ × Meaning)) (n : ℕ) → EachMeaning (λ m. Passes (m g c)) list → Passes (meaning_among list n g c)
+  passes-among [] n each u = passes-faulted_as g c _ Client u
+  passes-among (call ∷ list) n each u = by_test (eqb n call.0) _ _ (each.0 u) (passes-among list n each.1 u)
+
   pub passes-called : Passes (called g c)
   unfolding called always_told
-  passes-called u =
-      let n = register u.state c 11 in
-      by_test (eqb n 1) _ _ (passes-received (best_sender g u.state c) u) (
-      by_test (eqb n 3) _ _ (passes-timer_set c u) (
-      by_test (eqb n 7) _ _ (passes-irq_controlled g c u) (
-      by_test (eqb n 8) _ _ (passes-panicked g c u) (
-      by_test (eqb n 9) _ _ (passes-timer_told c u) (passes-faulted_as g c _ Client u)))))
+  passes-called u = passes-among calls (register u.state c 11) (λ v. passes-received (best_sender g v.state c) v, (passes-timer_set c, (passes-irq_controlled g c, (passes-panicked g c, (passes-timer_told c, tt))))) u
 
 -- ## events
 

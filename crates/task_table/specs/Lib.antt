@@ -3,6 +3,7 @@ pub mod State
 pub mod Reading
 pub mod Effects
 pub mod Rows
+pub mod Calls
 pub mod Events
 pub mod Placed
 pub mod Sane
@@ -13,3 +14,6 @@ pub mod Levels
 pub mod Found
 pub mod Messages
 pub mod Counts
+pub mod Grounds
+pub mod Chain
+pub mod Step
