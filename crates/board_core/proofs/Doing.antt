@@ -1,6 +1,5 @@
 -- What a machine did with what was decoded is the turn's instruction.
-use Rattle.std.proofs.Common.{◌≡◌, ◌≢◌, ℕ, Bool, true, false, List, [], ◌∷◌, refl, sym, ◌∙◌, ap, subst}
-use Rattle.std.specs.Prelude.{fold}
+use Rattle.std.proofs.Common.{◌≡◌, ◌≢◌, ℕ, true, false, List, [], ◌∷◌, refl, sym, ◌∙◌, ap, subst}
 use Rattle.thumb_insn.specs.declared.Decoded.{Decoded}
 use Rattle.thumb_insn.specs.declared.Decoded.TheVariants.{Narrow, Wide, Illegal, NeedsSecond}
 use Rattle.thumb_exec.specs.Effect.{Effect, Next, Call, Trap, Store, Stores, Halts}
@@ -12,12 +11,12 @@ use Rattle.task_table.proofs.Clocking.{noted-called}
 use Rattle.board_core.specs.Spans.{spans}
 use Rattle.board_core.specs.Texts.{GivesText, IsText}
 use Rattle.task_table.specs.State.{Setup, Turn}
-use Rattle.task_table.specs.Holds.{current_of, note_count, setup_of}
+use Rattle.task_table.specs.Holds.{current_of, note_count}
 use Rattle.board_core.specs.declared.machine.Machine.{Machine}
 use Rattle.board_core.specs.declared.machine.Reach.{Reach}
-use Rattle.board_core.specs.declared.told.Level.TheVariants.{Calls}
+use Rattle.board_model.specs.declared.told.Level.TheVariants.{Calls}
 use Rattle.board_core.specs.Did.{Did}
-use Rattle.board_core.specs.Turn.{decoded_as, acted, is_text}
+use Rattle.board_model.specs.Turn.{decoded_as, acted, is_text}
 use Rattle.board_core.specs.Machine.{IsReady, MachineHolds}
 use Rattle.board_core.proofs.Running.{stored_by, was_next, stores_hold, stores_notes}
 use Rattle.board_core.proofs.Lending.{lent_by, effect_lent, next_lent, goes_on}

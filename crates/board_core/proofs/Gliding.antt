@@ -10,18 +10,18 @@ use Rattle.task_table.specs.Start.{begun}
 use Rattle.board_core.specs.declared.board.Board.{Board}
 use Rattle.board_core.specs.declared.machine.Machine.{Machine}
 use Rattle.board_core.specs.declared.choice.Choice.{Choice}
-use Rattle.board_core.specs.declared.told.Level.{Level}
-use Rattle.board_core.specs.Script.{Scenario}
+use Rattle.board_model.specs.declared.told.Level.{Level}
+use Rattle.board_model.specs.Script.{Scenario}
 use Rattle.board_core.specs.Kept.{IsChoice}
 use Rattle.board_core.specs.Machine.{MachineHolds, MachineStands, IsReady}
 use Rattle.board_core.specs.Midway.{IsMidway}
 use Rattle.board_core.specs.Stands.{Stands, notes_of, turns_of}
-use Rattle.board_core.specs.Turn.{turn}
-use Rattle.board_core.specs.Run.{ending, is_down}
-use Rattle.board_core.specs.Advanced.{turn_after, IsAdvanced}
-use Rattle.board_core.proofs.TurnKeeps.{begun_sane}
+use Rattle.board_model.specs.Turn.{turn}
+use Rattle.board_model.specs.Run.{ending, is_down, turn_after}
+use Rattle.board_core.specs.Advanced.{IsAdvanced}
+use Rattle.board_model.proofs.TurnKeeps.{begun_sane}
 use Rattle.board_core.proofs.Lending.{told_by, rest_of}
-use Rattle.board_core.proofs.Outside.{nothing_due, due_later, no_event, begun_state}
+use Rattle.board_model.proofs.Outside.{nothing_due, due_later, no_event, begun_state}
 use Rattle.board_core.proofs.Turning.{rested}
 
 -- what a machine holds is of its kernel's setup

@@ -1,29 +1,26 @@
 -- A machine whose processor is lent to the current task.
-use Rattle.std.proofs.Common.{◌≡◌, ◌+◌, ◌*◌, ◌%◌, ◌^◌, ◌<◌, ℕ, Bool, true, false, cond, not, List, [], ◌∷◌, length, Some, refl, sym, ◌∙◌, ap, subst, arith, length-set}
+use Rattle.std.proofs.Common.{◌≡◌, ◌<◌, ℕ, Bool, true, false, cond, List, [], ◌∷◌, length, refl, sym, ◌∙◌, ap, subst, arith, length-set}
 use Rattle.std.specs.Prelude.{fold, slice_index}
 use Rattle.std.proofs.lemmas.List.{set-set, set-get_or}
 use Rattle.words_core.specs.declared.Flags.{Flags}
 use Rattle.thumb_exec.specs.declared.cpu.Cpu.{Cpu}
 use Rattle.thumb_exec.specs.Effect.{Effect, Next, Store, effect}
 use Rattle.thumb_insn.specs.declared.Insn.{Insn}
-use Rattle.thumb_insn.specs.declared.Decoded.{Decoded}
-use Rattle.thumb_insn.specs.Table.{decoded_of}
-use Rattle.kernel_abi.specs.declared.Fault.{Fault}
 use Rattle.kernel_abi.specs.declared.Note.{Note}
 use Rattle.task_table.specs.declared.kernel.Kernel.{Kernel}
 use Rattle.task_table.specs.Memory.{Memory, is_ram, number_at}
 use Rattle.task_table.specs.State.{Setup, State, Task, Own, Turn}
 use Rattle.task_table.specs.Reading.{register, task_at, call_of, listen_of, is_ready, no_task}
-use Rattle.task_table.specs.Effects.{with_task, noted, stored, with_processor, faulted}
+use Rattle.task_table.specs.Effects.{with_task, noted, stored, with_processor}
 use Rattle.task_table.specs.Holds.{Holds, Stands, notes_of, setup_of, current_of, memory_of, task_count}
 use Rattle.task_table.specs.Start.{begun}
 use Rattle.task_table.proofs.Changes.{task_at-with_task}
-use Rattle.board_core.specs.Turn.{refusals, cpu_of, bytes_of, put, acted, is_text, decoded_as, stepped_wide, with_current}
+use Rattle.board_model.specs.Turn.{refusals, cpu_of, bytes_of, put, acted, with_current}
 use Rattle.board_core.specs.Machine.{with_cpu, IsLent, HoldsBy, IsReady, MachineStands}
-use Rattle.board_core.specs.declared.told.Level.{Level}
 use Rattle.board_core.specs.declared.machine.Machine.{Machine}
 use Rattle.board_core.specs.declared.machine.Reach.{Reach}
-use Rattle.board_core.proofs.Running.{between, puts_state, effect_here}
+use Rattle.board_core.proofs.Running.{between, effect_here}
+use Rattle.board_model.proofs.Stepping.{puts_state}
 
 -- ## what the kernel knows all the same
 
@@ -244,35 +241,6 @@ ready_same g m reach cpu t e f r =
 pub register_current : (t : Turn) (c : ℕ) → register (with_current c t).state c 15 ≡ register t.state c 15
 unfolding register task_at
 register_current t c = refl
-
--- ## a wide instruction
-
-wide_rows : Level → Setup → ℕ → Turn → ℕ → ℕ → ℕ → Bool → Turn
-wide_rows level g c t at first after text =
-    cond (not text) (faulted g c record { number = 2; x = after; y = 0 } t)
-    (decoded_as level g c at (first * 2 ^ 16 + number_at t.state.memory after 2) (decoded_of first (Some (number_at t.state.memory after 2))) t)
-
-wide_by : (level : Level) (g : Setup) (c : ℕ) (t : Turn) (at first after : ℕ) (b : Bool) → after ≡ (at + 2) % 2 ^ 32 → b ≡ is_text g c after → wide_rows level g c t at first after b ≡ stepped_wide level g c at first t
-unfolding wide_rows
-wide_by level g c t at first after b e is =
-    let by : Bool → Turn = λ x. wide_rows level g c t at first after x in
-    let at_place : ℕ → Turn = λ a. wide_rows level g c t at first a (is_text g c a) in
-    ap by is ∙ ap at_place e
-
-module _ (level : Level) (g : Setup) (t : Turn) (P : Turn → Type 0) (at first after : ℕ) (b : Bool) (e : after ≡ (at + 2) % 2 ^ 32) (is : b ≡ is_text g t.state.current after) where
-  pub second_refused : (f : Fault) → b ≡ false → f ≡ record { number = 2; x = after; y = 0 } → P (faulted g t.state.current f t) → P (stepped_wide level g t.state.current at first t)
-  unfolding wide_rows
-  second_refused f refused fault h =
-      let F : Fault → Type 0 = λ x. P (faulted g t.state.current x t) in
-      subst P (wide_by level g t.state.current t at first after false e (sym refused ∙ is)) (subst F fault h)
-
-  pub second_acted : (second : ℕ) (d : Decoded) → b ≡ true → second ≡ number_at t.state.memory after 2 → d ≡ decoded_of first (Some second) → P (decoded_as level g t.state.current at (first * 2 ^ 16 + second) d t) → P (stepped_wide level g t.state.current at first t)
-  unfolding wide_rows
-  second_acted second d granted fetched decoded h =
-      let fetch : ℕ = number_at t.state.memory after 2 in
-      let F : Decoded → Type 0 = λ x. P (decoded_as level g t.state.current at (first * 2 ^ 16 + second) x t) in
-      let S : ℕ → Type 0 = λ n. P (decoded_as level g t.state.current at (first * 2 ^ 16 + n) (decoded_of first (Some n)) t) in
-      subst P (wide_by level g t.state.current t at first after true e (sym granted ∙ is)) (subst S fetched (subst F decoded h))
 
 -- ## something is told
 

@@ -1,34 +1,25 @@
 -- What the executor says over the bus is the turn's instruction.
-use Rattle.std.proofs.Common.{arith, ◌≡◌, ◌≤◌, ℕ, Bool, true, false, cond, not, List, [], ◌∷◌, ◌&&◌, Option, Some, None, is_none, refl, sym, subst, ◌∙◌, ap}
+use Rattle.std.proofs.Common.{◌≡◌, ℕ, List, [], ◌∷◌, refl, ◌∙◌, ap}
 use Rattle.std.specs.Prelude.{fold}
-use Rattle.std.proofs.lemmas.Bool.{false≢true}
 use Rattle.kernel_abi.specs.declared.Fault.{Fault}
 use Rattle.thumb_insn.specs.declared.Insn.{Insn}
-use Rattle.thumb_insn.specs.declared.Decoded.{Decoded}
-use Rattle.thumb_insn.specs.Table.{decoded_of, is_wide}
-use Rattle.thumb_insn.specs.Range.{IsCoded}
 use Rattle.thumb_exec.specs.declared.cpu.Cpu.{Cpu}
 use Rattle.thumb_exec.specs.declared.cpu.Outcome.{Outcome}
 use Rattle.thumb_exec.specs.declared.cpu.Outcome.TheVariants as outcome
 use Rattle.thumb_exec.specs.Effect.{Effect, Next, Call, Trap, Store, Stores, Acts, effect}
 use Rattle.task_table.specs.declared.kernel.Kernel.{Kernel}
-use Rattle.task_table.specs.Memory.{Memory, number_at, is_ram}
-use Rattle.task_table.specs.State.{Setup, State, Own, Turn, Call as OpenCall, Listen}
-use Rattle.task_table.specs.Reading.{register, task_at, call_of, listen_of, is_ready, is_well, IsIdle}
-use Rattle.task_table.specs.Effects.{stored, faulted}
+use Rattle.task_table.specs.Memory.{Memory, number_at}
+use Rattle.task_table.specs.State.{Setup, State, Turn}
+use Rattle.task_table.specs.Reading.{task_at}
 use Rattle.task_table.specs.Holds.{Holds, Stands, setup_of, current_of, memory_of, notes_of, kept_of, task_count, note_count}
 use Rattle.task_table.specs.Start.{begun, start}
 use Rattle.task_table.specs.Sane.{Sane}
 use Rattle.task_table.proofs.Steps.{holds_turn}
 use Rattle.board_core.specs.declared.machine.Reach.{Reach}
-use Rattle.board_core.specs.Turn.{refusals, cpu_of, bytes_of, put, is_text, decoded_as, stepped, stepped_wide}
-use Rattle.board_core.specs.declared.told.Level.{Level}
+use Rattle.board_model.specs.Turn.{refusals, cpu_of, put}
 use Rattle.board_core.specs.Machine.{IsStored}
 use Rattle.board_core.specs.declared.choice.Choice.{Choice}
 use Rattle.board_core.specs.Kept.{IsChoice}
-use Rattle.thumb_exec.specs.Keeps.{IsRaised, Keeps}
-use Rattle.thumb_exec.proofs.Keeping.{keeps as keeps_coded}
-use Rattle.board_core.proofs.TurnKeeps.{whole_cpu}
 
 -- what the bus says of a store
 abbrev pub stored_by : Reach → ℕ → ℕ → ℕ → Reach → Type 0
@@ -47,38 +38,6 @@ stores_count (x ∷ xs) m m' e = stores_count xs e.0 m' e.2 ∙ e.1.tasks
 pub stores_notes : (ss : List Store) (m m' : Reach) → Stores stored_by m ss m' → note_count m'.kernel ≡ note_count m.kernel
 stores_notes [] m m' e = ap (λ (n : Reach). note_count n.kernel) e
 stores_notes (x ∷ xs) m m' e = stores_notes xs e.0 m' e.2 ∙ e.1.notes
-
--- they change nothing of a state but its memory
-put_state : (t : Turn) (x : Store) → (put t x).state ≡ record t.state { memory = (put t x).state.memory }
-unfolding stored
-put_state t x = by_ram (is_ram t.state.memory x.addr x.bytes)
-  where
-    by_ram : (b : Bool) → (cond b (stored Own x.addr (bytes_of x.value x.bytes) t) t).state ≡ record t.state { memory = (cond b (stored Own x.addr (bytes_of x.value x.bytes) t) t).state.memory }
-    by_ram true = refl
-    by_ram false = refl
-
-pub puts_state : (ss : List Store) (t : Turn) → (fold put t ss).state ≡ record t.state { memory = (fold put t ss).state.memory }
-puts_state [] t = refl
-puts_state (x ∷ xs) t = puts_state xs (put t x) ∙ ap (λ (s : State). record s { memory = (fold put (put t x) xs).state.memory }) (put_state t x)
-
-memory_idle : (s : State) (m : Memory) (i : ℕ) → IsIdle s i → IsIdle (record s { memory = m }) i
-unfolding call_of listen_of
-memory_idle s m i h = record { call = h.call; listen = h.listen }
-
-pub puts_idle : (ss : List Store) (t : Turn) (i : ℕ) → IsIdle t.state i → IsIdle (fold put t ss).state i
-puts_idle ss t i h = rw (puts_state ss t) (memory_idle t.state (fold put t ss).state.memory i h)
-
--- a ready task waits for nothing
-no_call : (c : Option OpenCall) (l : Option Listen) (a : Bool) → (a && is_none c && is_none l) ≡ true → (c ≡ None) × (l ≡ None)
-no_call None None a h = (refl, refl)
-no_call None (Some l) true h = absurd (false≢true h)
-no_call None (Some l) false h = absurd (false≢true h)
-no_call (Some c) l true h = absurd (false≢true h)
-no_call (Some c) l false h = absurd (false≢true h)
-
-pub ready_idle : (s : State) (i : ℕ) → is_ready s i ≡ true → IsIdle s i
-unfolding is_ready
-ready_idle s i h = let p = no_call (call_of s i) (listen_of s i) (is_well (task_at s i).health) h in record { call = p.0; listen = p.1 }
 
 -- ## what came of an instruction
 
@@ -112,55 +71,6 @@ pub was_trap : (c c' : Cpu) (m m' : Reach) (o : Outcome) (e : Effect) (f : Fault
 was_trap c c' m m' o (Next d ss) f a p = absurd (let q : o ≡ outcome.Next = a.0 in cc)
 was_trap c c' m m' o Call f a p = absurd (let q : o ≡ outcome.Call = a.0 in cc)
 was_trap c c' m m' o (Trap d) f a p = (let q : o ≡ outcome.Trap d = a.0 in let r : d ≡ f = cc in ap Trap r, a.2, a.1)
-
--- a fault of an instruction has a number of 1 to 10
-pub trap_known : (g : Setup) (t : Turn) (insn : Insn) (f : Fault) → Sane g t.state → IsCoded insn →
-    effect (refusals g t.state.current) (number_at t.state.memory) (cpu_of (task_at t.state t.state.current)) insn ≡ Trap f → (1 ≤ f.number) × (f.number ≤ 10)
-trap_known g t insn f sane coded is =
-    let whole = whole_cpu t.state.current t sane sane.steady.current in
-    let keeps = keeps_coded (refusals g t.state.current) (number_at t.state.memory) (cpu_of (task_at t.state t.state.current)) insn coded whole in
-    let raised : IsRaised f = rw is at keeps in
-    (omega (arith, raised.0), omega (arith, raised.1))
-
--- ## the turn, by what was fetched
-
--- what is carried out, by whether the first halfword is text and whether it begins a wide instruction
-rows : Level → Setup → ℕ → Turn → ℕ → ℕ → Bool → Bool → Turn
-rows level g c t at first text wide =
-    cond (not text) (faulted g c record { number = 2; x = at; y = 0 } t)
-    (cond (not wide) (decoded_as level g c at first (decoded_of first None) t) (stepped_wide level g c at first t))
-
-stepped_by : (level : Level) (g : Setup) (c : ℕ) (t : Turn) (at first : ℕ) (text wide : Bool) → at ≡ register t.state c 15 → first ≡ number_at t.state.memory at 2 → text ≡ is_text g c at → wide ≡ is_wide first →
-    stepped level g c t ≡ rows level g c t at first text wide
-unfolding stepped rows
-stepped_by level g c t at first text wide same fetched is begins =
-    let at_place : ℕ → Turn = λ a. rows level g c t a (number_at t.state.memory a 2) (is_text g c a) (is_wide (number_at t.state.memory a 2)) in
-    let by_first : ℕ → Turn = λ f. rows level g c t at f (is_text g c at) (is_wide f) in
-    let by_text : Bool → Turn = λ b. rows level g c t at first b (is_wide first) in
-    let by_wide : Bool → Turn = λ w. rows level g c t at first text w in
-    ap at_place (sym same) ∙ ap by_first (sym fetched) ∙ ap by_text (sym is) ∙ ap by_wide (sym begins)
-
-module _ (level : Level) (g : Setup) (t : Turn) (P : Turn → Type 0) (at first : ℕ) (b : Bool)
-    (same : at ≡ register t.state t.state.current 15) (is : b ≡ is_text g t.state.current at) where
-  pub text_refused : (f : Fault) → b ≡ false → f ≡ record { number = 2; x = at; y = 0 } → P (faulted g t.state.current f t) → P (stepped level g t.state.current t)
-  unfolding rows
-  text_refused f refused fault h =
-      let e = stepped_by level g t.state.current t at (number_at t.state.memory at 2) false (is_wide (number_at t.state.memory at 2)) same refl (sym refused ∙ is) refl in
-      let F : Fault → Type 0 = λ x. P (faulted g t.state.current x t) in
-      subst P (sym e) (subst F fault h)
-
-  pub narrow_acted : (d : Decoded) → b ≡ true → first ≡ number_at t.state.memory at 2 → is_wide first ≡ false → d ≡ decoded_of first None → P (decoded_as level g t.state.current at first d t) → P (stepped level g t.state.current t)
-  unfolding rows
-  narrow_acted d granted fetched narrow decoded h =
-      let e = stepped_by level g t.state.current t at first true false same fetched (sym granted ∙ is) (sym narrow) in
-      let F : Decoded → Type 0 = λ x. P (decoded_as level g t.state.current at first x t) in
-      subst P (sym e) (subst F decoded h)
-
-  pub wide_stepped : b ≡ true → first ≡ number_at t.state.memory at 2 → is_wide first ≡ true → P (stepped_wide level g t.state.current at first t) → P (stepped level g t.state.current t)
-  unfolding rows
-  wide_stepped granted fetched wide h =
-      let e = stepped_by level g t.state.current t at first true true same fetched (sym granted ∙ is) (sym wide) in
-      subst P (sym e) h
 
 -- ## the turn
 

@@ -10,13 +10,13 @@ use Rattle.task_table.specs.Rows.{call_noted}
 use Rattle.task_table.specs.Holds.{Holds, Stands}
 use Rattle.task_table.proofs.Sanity.{sane-noted, sane-call_noted}
 use Rattle.board_core.specs.declared.machine.Machine.{Machine}
-use Rattle.board_core.specs.declared.told.Level.{Level}
-use Rattle.board_core.specs.declared.told.Level.TheVariants.{Calls, All}
+use Rattle.board_model.specs.declared.told.Level.{Level}
+use Rattle.board_model.specs.declared.told.Level.TheVariants.{Calls, All}
 use Rattle.board_core.specs.Machine.{with_cpu, IsLent, IsReady}
-use Rattle.board_core.specs.Turn.{told, with_registers_told, high_note, low_note}
+use Rattle.board_model.specs.Turn.{told, with_registers_told, high_note, low_note}
 use Rattle.board_core.proofs.Lending.{rest_of, lent_noted}
-use Rattle.board_core.proofs.Quiet.{ready-with_processor}
-use Rattle.board_core.proofs.TurnKeeps.{told_state, ready-call_noted}
+use Rattle.board_model.proofs.Quiet.{ready-with_processor}
+use Rattle.board_model.proofs.TurnKeeps.{told_state, ready-call_noted}
 
 pub lent_ready : (g : Setup) (k : Kernel) (cpu : Cpu) (t : Turn) → IsLent g k cpu t → t.state.current < length t.state.tasks → is_ready t.state t.state.current ≡ true
 lent_ready g k cpu t h inside =

@@ -13,15 +13,15 @@ use Rattle.board_core.specs.declared.machine.Machine.{Machine}
 use Rattle.board_core.specs.declared.choice.Choice.{Choice}
 use Rattle.board_core.specs.declared.board.Board.{Board}
 use Rattle.board_core.specs.Machine.{IsNext, MachineHolds, MachineStands}
-use Rattle.board_core.specs.declared.told.Level.{Level}
+use Rattle.board_model.specs.declared.told.Level.{Level}
 use Rattle.board_core.specs.Midway.{IsMidway}
-use Rattle.board_core.specs.Script.{Scenario}
+use Rattle.board_model.specs.Script.{Scenario}
 use Rattle.board_core.specs.Stands.{Stands}
 use Rattle.board_core.specs.Kept.{IsChoice}
-use Rattle.board_core.specs.Turn.{turn, ended, turn_of, after_events}
+use Rattle.board_model.specs.Turn.{turn, ended, turn_of, after_events}
 use Rattle.board_core.proofs.Lending.{told_by, between_by}
-use Rattle.board_core.proofs.TurnKeeps.{sane-after, sane-after_events}
-use Rattle.board_core.proofs.Quiet.{quiet-turn}
+use Rattle.board_model.proofs.TurnKeeps.{sane-after, sane-after_events}
+use Rattle.board_model.proofs.Quiet.{quiet-turn}
 
 -- a machine between turns
 abbrev pub rested : Machine → State → Turn
@@ -65,7 +65,9 @@ module _ (level : Level) (x : Scenario) (s : State) (m : Machine) where
 
   -- where it noted nothing, the choice after the events is the one after the turn
   pub choice_kept : (kept : Choice) → Sane x.setup s → HasTurned → IsChoice x.setup (after_events x s).state kept → notes_of m.reach.kernel ≡ [] → IsChoice x.setup (turn level x s).state kept
-  choice_kept kept sane h is none = quiet-turn level x s kept (sane-after_events x s sane) (sym (turn_notes h) ∙ none) is
+  choice_kept kept sane h is none =
+      let same = quiet-turn level x s (sane-after_events x s sane) (sym (turn_notes h) ∙ none) in
+      record { next = is.next ∙ sym same.next; down = is.down ∙ sym same.down }
 
 -- the notes that another machine has of the same turn are the same
 pub rested_as : (g : Setup) (m m' : Machine) (s : State) → MachineHolds g m' (rested m s) → MachineHolds g m' (rested m' s)

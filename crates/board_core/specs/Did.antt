@@ -1,15 +1,14 @@
 -- What the machine does with what was decoded, in a turn that proceeds.
 use Rattle.std.specs.Prelude.{◌≡◌, Bool, true, false}
 use Rattle.thumb_insn.specs.declared.Decoded.{Decoded}
-use Rattle.thumb_insn.specs.declared.Decoded.TheVariants.{Narrow, Wide, Illegal, NeedsSecond}
+use Rattle.thumb_insn.specs.declared.Decoded.TheVariants.{Narrow, Illegal}
 use Rattle.thumb_exec.specs.Effect.{Effect, Acts, Halts, effect}
 use Rattle.thumb_exec.specs.declared.cpu.Outcome.TheVariants as outcome
 use Rattle.task_table.specs.Memory.{number_at}
 use Rattle.task_table.specs.Holds.{setup_of, current_of, memory_of}
 use Rattle.thumb_insn.specs.declared.Insn.{Insn}
 use Rattle.board_core.specs.declared.machine.Machine.{Machine}
-use Rattle.board_core.specs.declared.machine.Reach.{Reach}
-use Rattle.board_core.specs.Turn.{refusals}
+use Rattle.board_model.specs.Turn.{refusals}
 use Rattle.board_core.specs.Machine.{IsStored}
 
 -- what an instruction does to what the machine holds

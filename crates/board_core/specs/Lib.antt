@@ -1,9 +1,5 @@
-pub mod Script
 pub mod Spans
 pub mod Texts
-pub mod Turn
-pub mod Run
-pub mod Levels
 pub mod Kept
 pub mod Machine
 pub mod Opened

@@ -9,7 +9,7 @@ use Rattle.task_table.specs.Start.{start, begun}
 use Rattle.task_table.specs.Sane.{Sane}
 use Rattle.task_table.specs.Holds.{Holds, Stands, setup_of, current_of, task_count, note_count}
 use Rattle.board_core.specs.declared.machine.Machine.{Machine}
-use Rattle.board_core.specs.Turn.{put}
+use Rattle.board_model.specs.Turn.{put}
 
 -- what a store leaves: the turn that was held, with the store; all else is as it was
 pub record IsStored (k : Kernel) (a n v : ℕ) (k' : Kernel) : Type 0 where

@@ -1,22 +1,16 @@
 -- A turn between its events and what the chosen task does.
-use Rattle.std.specs.Prelude.{◌+◌, ◌≡◌, Option, Some, None}
-use Rattle.task_table.specs.State.{Setup, State, Turn}
+use Rattle.std.specs.Prelude.{◌+◌, ◌≡◌}
+use Rattle.task_table.specs.State.{State}
 use Rattle.task_table.specs.Start.{begun}
 use Rattle.task_table.specs.Sane.{IsCounted}
 use Rattle.task_table.specs.Holds.{note_count}
-use Rattle.run_script.specs.declared.events.Event.{Event}
 use Rattle.run_script.specs.Events.{script_data}
 use Rattle.run_script.specs.Scripts.{IsNext}
 use Rattle.board_core.specs.declared.board.Board.{Board}
-use Rattle.board_core.specs.Script.{Scenario}
-use Rattle.board_core.specs.Turn.{happened, after_events}
+use Rattle.board_model.specs.Script.{Scenario}
+use Rattle.board_model.specs.Turn.{after_events}
 use Rattle.board_core.specs.Kept.{IsChoice}
 use Rattle.board_core.specs.Machine.{MachineStands}
-
--- the next event, where there is one
-abbrev pub happened_next : Setup → Option Event → Turn → Turn
-happened_next g None t = t
-happened_next g (Some event) t = happened g t event
 
 -- the board before the events of the turn: nothing is noted as yet
 pub record IsDue (x : Scenario) (b : Board) (s : State) : Type 0 where

@@ -3,7 +3,7 @@ use Rattle.std.specs.Prelude.{map}
 use Rattle.image_format.specs.Picture.{Picture, TaskPicture, LinePicture}
 use Rattle.task_table.specs.State.{Setup, TaskSetup, LineSetup}
 use Rattle.run_script.specs.Scripts.{ScriptData}
-use Rattle.board_core.specs.Script.{Scenario}
+use Rattle.board_model.specs.Script.{Scenario}
 
 abbrev pub setup_of_task : TaskPicture → TaskSetup
 setup_of_task t = record { priority = t.priority; entry = t.entry; stack = t.sp; regions = t.regions; start = t.started }

@@ -7,7 +7,7 @@ use Rattle.task_table.specs.Holds.{notes_of as kernel_notes, task_count}
 use Rattle.run_script.specs.Events.{script_data}
 use Rattle.run_script.specs.Scripts.{IsNext}
 use Rattle.board_core.specs.declared.board.Board.{Board}
-use Rattle.board_core.specs.Script.{Scenario}
+use Rattle.board_model.specs.Script.{Scenario}
 use Rattle.board_core.specs.Kept.{IsChoice}
 use Rattle.board_core.specs.Machine.{MachineHolds}
 

@@ -1,13 +1,9 @@
 -- What is told of a state.
-use Rattle.std.specs.Prelude.{Bool, ℕ, ◌≡◌, ◌%◌, ◌<◌, ◌≤◌, length, Option, Some, None, if◌then◌else◌}
+use Rattle.std.specs.Prelude.{ℕ, ◌≡◌, ◌%◌, ◌<◌, ◌≤◌, length, Option, Some, None}
 use Rattle.task_table.specs.State.{State}
 use Rattle.task_table.specs.Reading.{task_at, call_of, listen_of}
 use Rattle.task_table.specs.Holds.{wait_of}
 use Rattle.board_core.specs.declared.told.TaskView.{TaskView}
-use Rattle.board_core.specs.declared.told.End.{End}
-use Rattle.board_core.specs.declared.told.End.TheVariants.{Still, Supervisor}
-use Rattle.board_core.specs.Script.{Scenario}
-use Rattle.board_core.specs.Run.{is_down, is_still}
 
 -- a view has the parts of the task; there is none past the last task
 pub record IsTask (s : State) (i : ℕ) (v : TaskView) : Type 0 where
@@ -23,11 +19,3 @@ pub record IsTask (s : State) (i : ℕ) (v : TaskView) : Type 0 where
 abbrev pub IsView : State → ℕ → Option TaskView → Type 0
 IsView s i None = length s.tasks ≤ i
 IsView s i (Some v) = IsTask s i v
-
--- the end by the tests in their order, the bound aside
-abbrev pub end_in : Bool → Bool → Option End
-end_in down still = if down then Some Supervisor else (if still then Some Still else None)
-
--- the end of a run at a state, its bound aside
-abbrev pub end_at : Scenario → State → Option End
-end_at x s = end_in (is_down s) (is_still x s)

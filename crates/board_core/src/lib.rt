@@ -4,12 +4,11 @@
 mod board;
 mod calls;
 mod choice;
-mod laws;
 mod machine;
 #[cfg(test)]
 mod tests;
 mod told;
 
 pub use board::Board;
-pub use laws::instructions_are_told_beside;
-pub use told::{End, Level, TaskView, Turned};
+pub use board_model::{End, Level, Turned};
+pub use told::TaskView;

@@ -15,15 +15,14 @@ ghost use Rattle.task_table.specs.Holds.{Holds, task_count, note_count, memory_o
 ghost use Rattle.thumb_insn.specs.Range.{IsCoded, GivesCoded};
 ghost use Rattle.thumb_insn.specs.Table.{is_wide};
 ghost use Rattle.thumb_exec.specs.Sizes.{IsSize};
-ghost use Rattle.board_core.specs.Turn.{first_lacking, with_current, refusals, is_text, put, told, happened, stepped, stepped_wide, decoded_as, executed, cpu_of, with_registers_told, turn_of, turned_of};
-ghost use Rattle.board_core.specs.Midway.{happened_next};
+ghost use Rattle.board_model.specs.Turn.{first_lacking, with_current, refusals, is_text, put, told, happened, stepped, stepped_wide, decoded_as, executed, cpu_of, with_registers_told, turn_of, turned_of, happened_next};
 ghost use Rattle.board_core.specs.Did.{Did};
 ghost use Rattle.board_core.specs.Machine.{IsStored, IsReady, IsNext, MachineHolds, MachineStands, IsLent};
 ghost use Rattle.board_core.specs.Texts.{GivesText, IsText};
-ghost use Rattle.board_core.specs.declared.told.Level.TheVariants.{Calls};
+ghost use Rattle.board_model.specs.declared.told.Level.TheVariants.{Calls};
 
 use crate::calls::call;
-use crate::{Level, Turned};
+use board_model::{Level, Turned};
 use kernel_abi::{Fault, Note};
 use region_check::{Region, Right, Rights, may};
 use run_script::{Event, Script};

@@ -5,7 +5,7 @@ use Rattle.std.specs.Io.KnownBytes.{Appends}
 use Rattle.std.specs.Prelude.{Result, Ok, Err, take, drop, length, ◌<◌, ◌≤◌, ◌+◌}
 use Rattle.std.specs.List.{flat_map, range_with_len}
 use Rattle.kernel_abi.specs.declared.Note.{Note}
-use Rattle.board_core.specs.Run.{at_turn}
+use Rattle.board_model.specs.Run.{at_turn}
 use Rattle.trace_text.specs.Text.{line_of}
 use Rattle.board_run.specs.Text.{notes_text}
 use Rattle.std.proofs.Common.{arith, get_or, suc, zero, add-one}

@@ -8,16 +8,15 @@ use Rattle.std.specs.Io.KnownBytes.{Appends}
 use Rattle.kernel_abi.specs.declared.Note.{Note}
 use Rattle.task_table.specs.State.{State}
 use Rattle.board_core.specs.declared.board.Board.{Board}
-use Rattle.board_core.specs.declared.told.End.{End}
-use Rattle.board_core.specs.declared.told.Level.{Level}
-use Rattle.board_core.specs.declared.told.End.TheVariants.{Bound, Still, Supervisor}
-use Rattle.board_core.specs.Script.{Scenario}
-use Rattle.board_core.specs.Turn.{turn}
+use Rattle.board_model.specs.declared.told.End.{End}
+use Rattle.board_model.specs.declared.told.Level.{Level}
+use Rattle.board_model.specs.declared.told.End.TheVariants.{Bound, Still, Supervisor}
+use Rattle.board_model.specs.Script.{Scenario}
+use Rattle.board_model.specs.Turn.{turn}
 use Rattle.board_core.specs.Stands.{Stands, notes_of, turns_of}
-use Rattle.board_core.specs.Advanced.{turn_after, IsAdvanced}
-use Rattle.board_core.proofs.Counts.{turn_more}
-use Rattle.board_core.specs.Told.{end_at}
-use Rattle.board_core.specs.Run.{Run, run, ending, end_by, is_down, is_still, unless, ended_at, with_front, at_turn}
+use Rattle.board_core.specs.Advanced.{IsAdvanced}
+use Rattle.board_model.specs.Run.{turn_after, end_at, Run, run, ending, end_by, is_down, is_still, unless, ended_at, with_front, at_turn}
+use Rattle.board_model.proofs.Counts.{turn_more}
 use Rattle.outside_io.specs.Outside.{AppendsFront, Pushes}
 use Rattle.board_run.specs.Text.{notes_text, trace_text, end_text}
 use Rattle.board_run.specs.Midway.{Midway}

@@ -4,10 +4,10 @@ use Rattle.std.specs.Io.KnownBytes.{Appends}
 use Rattle.kernel_abi.specs.declared.Note.{Note}
 use Rattle.task_table.specs.State.{State}
 use Rattle.board_core.specs.declared.board.Board.{Board}
-use Rattle.board_core.specs.declared.told.Level.{Level}
-use Rattle.board_core.specs.Script.{Scenario}
+use Rattle.board_model.specs.declared.told.Level.{Level}
+use Rattle.board_model.specs.Script.{Scenario}
 use Rattle.board_core.specs.Stands.{Stands}
-use Rattle.board_core.specs.Run.{run, with_front}
+use Rattle.board_model.specs.Run.{run, with_front}
 use Rattle.board_run.specs.Text.{notes_text}
 
 pub record Midway (level : Level) (x : Scenario) (w w' : Option (List ℕ)) (s : State) (b : Board) : Type 0 where

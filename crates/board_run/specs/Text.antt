@@ -10,9 +10,9 @@ use Rattle.task_table.specs.State as kernel
 use Rattle.task_table.specs.State.{Task, State, Listen, Phase, Offered, Taken}
 use Rattle.task_table.specs.Reading.{task_at, call_of, listen_of}
 use Rattle.trace_text.specs.Text.{hex, spaced_hex, low_words, high_words, line_of}
-use Rattle.board_core.specs.declared.told.End.{End}
-use Rattle.board_core.specs.declared.told.End.TheVariants.{Bound, Still, Supervisor}
-use Rattle.board_core.specs.Run.{Run}
+use Rattle.board_model.specs.declared.told.End.{End}
+use Rattle.board_model.specs.declared.told.End.TheVariants.{Bound, Still, Supervisor}
+use Rattle.board_model.specs.Run.{Run}
 
 -- ## notes
 

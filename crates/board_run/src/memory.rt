@@ -3,7 +3,7 @@ ghost use Rattle.std.specs.Prelude.{◌≡◌, ◌+◌, ◌*◌, ◌++◌, ◌<�
 ghost use Rattle.arrayvec.specs.ArrayString.{array_string_len};
 ghost use Rattle.outside_io.specs.Outside.{Pushes, HasCause};
 ghost use Rattle.task_table.specs.State.{State};
-ghost use Rattle.board_core.specs.Script.{Scenario};
+ghost use Rattle.board_model.specs.Script.{Scenario};
 ghost use Rattle.board_core.specs.Stands.{Stands};
 ghost use Rattle.board_run.specs.MemoryText.{are_zeros, begins_at, byte_of, bytes_hex, memory_text, place_text, region_at, region_line, region_text, row_count, row_line, row_text, rows_text};
 

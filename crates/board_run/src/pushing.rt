@@ -1,7 +1,7 @@
 //! Lines go to a sink, one push each. After a failing push nothing more is pushed.
 ghost use Rattle.std.specs.Prelude.{◌≡◌, ◌≤◌, length};
 ghost use Rattle.outside_io.specs.Outside.{Pushes, HasCause};
-ghost use Rattle.board_core.specs.Run.{at_turn};
+ghost use Rattle.board_model.specs.Run.{at_turn};
 ghost use Rattle.trace_text.specs.Text.{line_of};
 ghost use Rattle.board_run.specs.Text.{notes_text, task_line, low_text, high_text, end_line};
 ghost use Rattle.board_run.specs.ViewText.{view_text, wait_words};
@@ -91,7 +91,7 @@ fn push_task<S: Sink>(i: u64, task: &TaskView, out: &mut S) -> Result<(), Failed
 }
 
 ghost use Rattle.task_table.specs.State.{State};
-ghost use Rattle.board_core.specs.Script.{Scenario};
+ghost use Rattle.board_model.specs.Script.{Scenario};
 ghost use Rattle.board_core.specs.Stands.{Stands};
 ghost use Rattle.board_run.specs.Text.{tasks_text, end_text};
 

@@ -2,9 +2,9 @@
 ghost use Rattle.std.specs.Prelude.{◌≡◌, ◌≤◌, ◌<◌, ◌-◌, IfOk, IsNone, None};
 ghost use Rattle.outside_io.specs.Outside.{Pushes, HasCause};
 ghost use Rattle.task_table.specs.State.{State};
-ghost use Rattle.board_core.specs.Script.{Scenario};
+ghost use Rattle.board_model.specs.Script.{Scenario};
 ghost use Rattle.board_core.specs.Stands.{Stands, Stood, turns_of};
-ghost use Rattle.board_core.specs.Run.{run, ending};
+ghost use Rattle.board_model.specs.Run.{run, ending};
 ghost use Rattle.board_run.specs.Text.{trace_text};
 ghost use Rattle.board_run.specs.Running.{StandsMidway, end_within};
 

@@ -4,7 +4,7 @@ use Rattle.std.specs.Prelude.{slice_get}
 use Rattle.std.proofs.lemmas.Option.{same_Some}
 use Rattle.outside_io.specs.Outside.{WhereTold}
 use Rattle.image_format.specs.Picture.{Picture}
-use Rattle.board_core.specs.Script.{Scenario}
+use Rattle.board_model.specs.Script.{Scenario}
 use Rattle.command_line.specs.CommandLine.{Asked, build, run, go, list, is_taken, job_of}
 use Rattle.command_line.specs.declared.job.Detail.{Detail}
 use Rattle.build_laws.proofs.OnePicture.{one_picture}

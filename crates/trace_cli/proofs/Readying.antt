@@ -5,7 +5,7 @@ use Rattle.image_format.specs.Picture.{Picture}
 use Rattle.image_build.specs.Built.{Built}
 use Rattle.task_table.specs.Start.{start}
 use Rattle.board_core.specs.declared.board.Board.{Board}
-use Rattle.board_core.specs.Script.{Scenario}
+use Rattle.board_model.specs.Script.{Scenario}
 use Rattle.board_core.specs.Stands.{Stands, Stood, turns_of}
 use Rattle.outside_io.specs.Outside.{Rose}
 use Rattle.command_line.specs.CommandLine.{Asked, build, run, go, list}

@@ -3,8 +3,8 @@ use Rattle.std.proofs.Common.{◌≡◌, ◌≢◌, ℕ, ◌≤◌, ◌⊎◌, B
 use Rattle.std.specs.Io.KnownBytes.{Appends}
 use Rattle.outside_io.specs.Outside.{Rose}
 use Rattle.image_format.specs.Picture.{Picture, spelling}
-use Rattle.board_core.specs.declared.told.End.{End}
-use Rattle.board_core.specs.declared.told.End.TheVariants.{Bound, Still, Supervisor}
+use Rattle.board_model.specs.declared.told.End.{End}
+use Rattle.board_model.specs.declared.told.End.TheVariants.{Bound, Still, Supervisor}
 use Rattle.command_line.specs.CommandLine.{Asked, build, run, go, list, is_taken, job_of}
 use Rattle.trace_cli.specs.Seen.{FilesSeen, SinkSeen}
 use Rattle.trace_cli.specs.Words.{job_in, out_of}

@@ -12,7 +12,7 @@ use Rattle.image_build.specs.Building.{source_cause}
 use Rattle.task_table.specs.State.{Setup}
 use Rattle.board_core.specs.Opened as opened
 use Rattle.run_script.specs.Scripts.{ScriptData, script_or_fault}
-use Rattle.board_core.specs.Script.{Scenario}
+use Rattle.board_model.specs.Script.{Scenario}
 
 -- the number of a cause, and the place as it is told
 abbrev pub Why : Type 0

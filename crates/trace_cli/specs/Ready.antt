@@ -3,7 +3,7 @@ use Rattle.std.specs.Prelude.{◌≡◌, ℕ, List, Option, None}
 use Rattle.task_table.specs.Start.{start}
 use Rattle.image_format.specs.Picture.{Picture}
 use Rattle.board_core.specs.declared.board.Board.{Board}
-use Rattle.board_core.specs.Script.{Scenario}
+use Rattle.board_model.specs.Script.{Scenario}
 use Rattle.board_core.specs.Stands.{Stands, turns_of}
 use Rattle.command_line.specs.CommandLine.{Asked}
 use Rattle.command_line.specs.declared.job.Detail.{Detail}

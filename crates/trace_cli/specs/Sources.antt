@@ -4,7 +4,7 @@ use Rattle.outside_io.specs.Outside.{WhereTold}
 use Rattle.app_toml.specs.Apps.{AppData, TaskData}
 use Rattle.image_format.specs.Picture.{Picture, Sound}
 use Rattle.image_build.specs.Built.{Built}
-use Rattle.board_core.specs.Script.{Scenario}
+use Rattle.board_model.specs.Script.{Scenario}
 use Rattle.command_line.specs.CommandLine.{Asked, build, run, go, list}
 use Rattle.command_line.specs.declared.job.Detail.{Detail}
 use Rattle.trace_cli.specs.Contents.{Why, image_refusal, script_refusal, app_refusal, source_refusal, picture_of, application_of, scenario_of}

@@ -3,14 +3,14 @@ use Rattle.std.specs.Prelude.{◌≡◌, ℕ, Bool, false, if◌then◌else◌, 
 use Rattle.serde_json.specs.Written.{compact_text}
 use Rattle.image_format.specs.Picture.{Picture, spelling}
 use Rattle.image_list.specs.Listing.{image_data}
-use Rattle.board_core.specs.declared.told.End.{End}
-use Rattle.board_core.specs.declared.told.End.TheVariants.{Bound, Still, Supervisor}
+use Rattle.board_model.specs.declared.told.End.{End}
+use Rattle.board_model.specs.declared.told.End.TheVariants.{Bound, Still, Supervisor}
 use Rattle.task_table.specs.Start.{start}
 use Rattle.task_table.specs.State.{Setup, State}
-use Rattle.board_core.specs.declared.told.Level.{Level}
-use Rattle.board_core.specs.declared.told.Level.TheVariants.{Calls, All}
-use Rattle.board_core.specs.Script.{Scenario}
-use Rattle.board_core.specs.Run as board
+use Rattle.board_model.specs.declared.told.Level.{Level}
+use Rattle.board_model.specs.declared.told.Level.TheVariants.{Calls, All}
+use Rattle.board_model.specs.Script.{Scenario}
+use Rattle.board_model.specs.Run as board
 use Rattle.board_run.specs.Text.{trace_text}
 use Rattle.board_run.specs.MemoryText.{memory_text}
 use Rattle.command_line.specs.CommandLine.{Asked, is_taken}

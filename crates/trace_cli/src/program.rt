@@ -3,7 +3,7 @@ ghost use Rattle.std.specs.Prelude.{◌≡◌, ◌≢◌, ◌≤◌, ◌⊎◌, 
 ghost use Rattle.std.specs.Io.KnownBytes.{Appends};
 ghost use Rattle.outside_io.specs.Outside.{Pushes, Rose, HasCause};
 ghost use Rattle.image_format.specs.Images.{picture};
-ghost use Rattle.board_core.specs.Script.{Scenario};
+ghost use Rattle.board_model.specs.Script.{Scenario};
 ghost use Rattle.board_core.specs.Stands.{Stands, Stood, turns_of};
 ghost use Rattle.task_table.specs.Start.{start};
 ghost use Rattle.command_line.specs.CommandLine.{Asked, is_taken, build as build_job, run as run_job, go as go_job, list as list_job};

@@ -1,6 +1,6 @@
 use Rattle.std.proofs.Common.{◌-◌}
 use Rattle.board_core.specs.Stands.{turns_of}
-use Rattle.board_core.specs.Advanced.{turn_after}
+use Rattle.board_model.specs.Run.{turn_after}
 use Rattle.board_core.proofs.tests.advance.Goals as goal
 
 pub returns-clause-stood : goal.returns-clause-stood

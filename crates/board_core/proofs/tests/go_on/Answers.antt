@@ -1,5 +1,5 @@
-use Rattle.board_core.specs.declared.told.Level.TheVariants.{Calls}
-use Rattle.board_core.specs.Turn.{turn}
+use Rattle.board_model.specs.declared.told.Level.TheVariants.{Calls}
+use Rattle.board_model.specs.Turn.{turn}
 use Rattle.board_core.proofs.tests.go_on.Goals as goal
 
 pub returns-clause-stood : goal.returns-clause-stood

@@ -1,6 +1,6 @@
 use Rattle.std.proofs.Common.{◌≤◌, take}
 use Rattle.std.specs.Io.KnownBytes.{Appends}
-use Rattle.board_core.specs.Run.{at_turn}
+use Rattle.board_model.specs.Run.{at_turn}
 use Rattle.board_run.specs.Text.{notes_text}
 use Rattle.board_run.proofs.pushing.push_notes.Given as goal
 

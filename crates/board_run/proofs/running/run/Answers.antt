@@ -1,8 +1,8 @@
 use Rattle.std.proofs.Common.{ℕ, ◌-◌, sym, refl, arith, Ok, Err}
 use Rattle.std.proofs.lemmas.Result.{err_from_is_err_and}
 use Rattle.outside_io.specs.declared.traits.Failed.{Failed}
-use Rattle.board_core.specs.declared.told.End.{End}
-use Rattle.board_core.specs.Advanced.{turn_after}
+use Rattle.board_model.specs.declared.told.End.{End}
+use Rattle.board_model.specs.Run.{turn_after}
 use Rattle.board_core.specs.Stands.{turns_of, notes_of}
 use Rattle.board_run.proofs.Going.{IsTurned, midway_start, midway_turn, midway_end, midway_fails, midway_board, turned_board, end_is}
 use Rattle.board_run.proofs.running.run.Goals as goal

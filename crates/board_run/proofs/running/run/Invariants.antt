@@ -1,6 +1,6 @@
 use Rattle.std.proofs.Common.{◌-◌, ◌≤◌}
 use Rattle.task_table.specs.State.{State}
-use Rattle.board_core.specs.Script.{Scenario}
+use Rattle.board_model.specs.Script.{Scenario}
 use Rattle.board_core.specs.Stands.{Stands, Stood, turns_of}
 use Rattle.board_run.specs.Midway.{Midway}
 use Rattle.board_run.proofs.running.run.Given as goal

@@ -4,8 +4,8 @@ use Rattle.std.proofs.lemmas.Result.{err_from_is_err_and}
 use Rattle.std.specs.Io.KnownBytes.{Appends}
 use Rattle.outside_io.specs.Outside.{AppendsFront}
 use Rattle.task_table.specs.Start.{start}
-use Rattle.board_core.specs.Run.{Run}
-use Rattle.board_core.specs.declared.told.Level.{Level}
+use Rattle.board_model.specs.Run.{Run}
+use Rattle.board_model.specs.declared.told.Level.{Level}
 use Rattle.board_core.specs.Stands.{Stands}
 use Rattle.board_run.specs.Text.{trace_text}
 use Rattle.board_run.specs.MemoryText.{memory_text}

@@ -1,5 +1,5 @@
 use Rattle.std.proofs.Common.{◌≡◌, ◌+◌, ◌-◌, ℕ, sym, arith, subst}
-use Rattle.board_core.specs.declared.told.Level.{Level}
+use Rattle.board_model.specs.declared.told.Level.{Level}
 use Rattle.board_core.specs.Stands.{turns_of}
 use Rattle.board_core.specs.Advanced.{IsAdvanced}
 use Rattle.board_core.proofs.Gliding.{first_turn}

@@ -4,12 +4,12 @@ use Rattle.task_table.specs.State.{State, Turn}
 use Rattle.task_table.specs.Start.{begun}
 use Rattle.board_core.specs.declared.board.Board.{Board}
 use Rattle.board_core.specs.declared.machine.Machine.{Machine}
-use Rattle.board_core.specs.Script.{Scenario}
+use Rattle.board_model.specs.Script.{Scenario}
 use Rattle.board_core.specs.Kept.{IsChoice}
 use Rattle.board_core.specs.Machine.{MachineHolds, MachineStands}
 use Rattle.board_core.specs.Stands.{Stands}
-use Rattle.board_core.proofs.TurnKeeps.{begun_sane}
-use Rattle.board_core.proofs.Outside.{nothing_due, due_later, no_event, begun_state}
+use Rattle.board_model.proofs.TurnKeeps.{begun_sane}
+use Rattle.board_model.proofs.Outside.{nothing_due, due_later, no_event, begun_state}
 use Rattle.board_core.proofs.Turning.{rested}
 use Rattle.board_core.proofs.board.Board.begin.Goals as goal
 

@@ -1,8 +1,7 @@
 use Rattle.std.proofs.Common.{Bool, ◌∙◌, ap}
 use Rattle.run_script.specs.Events.{script_data}
-use Rattle.board_core.specs.Run.{is_down}
-use Rattle.board_core.specs.Told.{end_in}
-use Rattle.board_core.proofs.Endings.{still_is, before_bound}
+use Rattle.board_model.specs.Run.{is_down, end_in}
+use Rattle.board_model.proofs.Endings.{still_is, before_bound}
 use Rattle.board_core.proofs.board.Board.ended.Goals as goal
 
 pub returns-clause-end : goal.returns-clause-end

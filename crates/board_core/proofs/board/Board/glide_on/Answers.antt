@@ -3,12 +3,13 @@ use Rattle.task_table.specs.State.{Setup, State}
 use Rattle.task_table.specs.Reading.{setup_at}
 use Rattle.task_table.specs.Holds.{setup_of}
 use Rattle.board_core.specs.declared.choice.Choice.{Choice}
-use Rattle.board_core.specs.declared.told.Level.TheVariants.{Calls}
-use Rattle.board_core.specs.Script.{Scenario}
+use Rattle.board_model.specs.declared.told.Level.TheVariants.{Calls}
+use Rattle.board_model.specs.Script.{Scenario}
 use Rattle.board_core.specs.Stands.{notes_of, turns_of}
 use Rattle.board_core.specs.Texts.{GivesText}
-use Rattle.board_core.specs.Turn.{turn}
-use Rattle.board_core.specs.Advanced.{turn_after, IsAdvanced}
+use Rattle.board_model.specs.Turn.{turn}
+use Rattle.board_core.specs.Advanced.{IsAdvanced}
+use Rattle.board_model.specs.Run.{turn_after}
 use Rattle.board_core.proofs.Turning.{empty_of}
 use Rattle.board_core.proofs.Gliding.{setup_seen, chosen_goes, one_more}
 use Rattle.board_core.proofs.board.Board.glide_on.Goals as goal

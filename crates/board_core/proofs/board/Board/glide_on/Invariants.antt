@@ -1,7 +1,7 @@
 use Rattle.std.proofs.Common.{◌≡◌, ◌+◌, ◌-◌, ◌≤◌, ℕ, []}
 use Rattle.task_table.specs.State.{State}
-use Rattle.board_core.specs.declared.told.Level.TheVariants.{Calls}
-use Rattle.board_core.specs.Script.{Scenario}
+use Rattle.board_model.specs.declared.told.Level.TheVariants.{Calls}
+use Rattle.board_model.specs.Script.{Scenario}
 use Rattle.board_core.specs.Stands.{Stood, notes_of, turns_of}
 use Rattle.board_core.specs.Texts.{IsText}
 use Rattle.board_core.specs.Advanced.{IsAdvanced}

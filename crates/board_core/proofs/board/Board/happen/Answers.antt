@@ -6,9 +6,9 @@ use Rattle.task_table.specs.Start.{begun}
 use Rattle.task_table.specs.Holds.{Stands}
 use Rattle.board_core.specs.declared.machine.Machine.{Machine}
 use Rattle.board_core.specs.Machine.{MachineStands}
-use Rattle.board_core.specs.Turn.{happened, after_events}
+use Rattle.board_model.specs.Turn.{happened, after_events}
 use Rattle.board_core.proofs.Lending.{settled_stands}
-use Rattle.board_core.proofs.Outside.{all_events, begun_state}
+use Rattle.board_model.proofs.Outside.{all_events, begun_state}
 use Rattle.board_core.proofs.board.Board.happen.Goals as goal
 
 pub happen_all-requires-clause-stands : goal.happen_all-requires-clause-stands

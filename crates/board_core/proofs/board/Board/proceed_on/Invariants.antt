@@ -1,8 +1,8 @@
 use Rattle.std.proofs.Common.{◌≡◌, ◌+◌, ◌-◌, ◌≤◌, ℕ, [], true}
 use Rattle.task_table.specs.State.{State}
 use Rattle.task_table.specs.Holds.{current_of}
-use Rattle.board_core.specs.declared.told.Level.TheVariants.{Calls}
-use Rattle.board_core.specs.Script.{Scenario}
+use Rattle.board_model.specs.declared.told.Level.TheVariants.{Calls}
+use Rattle.board_model.specs.Script.{Scenario}
 use Rattle.board_core.specs.Stands.{Stood, notes_of, turns_of}
 use Rattle.board_core.specs.Texts.{IsText}
 use Rattle.board_core.specs.Advanced.{IsAdvanced}

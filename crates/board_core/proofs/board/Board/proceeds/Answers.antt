@@ -4,14 +4,14 @@ use Rattle.task_table.specs.State.{Setup, State, Turn}
 use Rattle.task_table.specs.Holds.{current_of, notes_of}
 use Rattle.board_core.specs.declared.board.Board.{Board}
 use Rattle.board_core.specs.declared.machine.Machine.{Machine}
-use Rattle.board_core.specs.declared.told.Level.TheVariants.{Calls}
+use Rattle.board_model.specs.declared.told.Level.TheVariants.{Calls}
 use Rattle.board_core.specs.Machine.{MachineHolds, IsReady}
 use Rattle.board_core.specs.Midway.{IsMidway}
-use Rattle.board_core.specs.Script.{Scenario}
+use Rattle.board_model.specs.Script.{Scenario}
 use Rattle.board_core.specs.Stands.{Stands, turns_of}
 use Rattle.board_core.specs.Texts.{IsText}
-use Rattle.board_core.specs.Turn.{turn, turn_of, stepped, with_current, with_registers_told, after_events}
-use Rattle.board_core.proofs.Counts.{counted_turn, turn_more}
+use Rattle.board_model.specs.Turn.{turn, turn_of, stepped, with_current, with_registers_told, after_events}
+use Rattle.board_model.proofs.Counts.{counted_turn, turn_more}
 use Rattle.board_core.proofs.Lending.{is_lent}
 use Rattle.board_core.proofs.Turning.{as_chosen, stands_after, turn_notes, choice_kept, few_events, HasTurned, none_of}
 use Rattle.board_core.proofs.Gliding.{midway_now, current_seen}

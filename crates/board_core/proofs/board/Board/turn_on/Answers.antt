@@ -2,9 +2,9 @@ use Rattle.std.proofs.Common.{ℕ, Option, sym, ◌∙◌, ap, subst, arith}
 use Rattle.run_script.specs.Events.{script_data}
 use Rattle.run_script.specs.Scripts.{IsNext}
 use Rattle.run_script.specs.declared.script.Script.{Script}
-use Rattle.board_core.specs.declared.told.Level.TheVariants.{Calls}
-use Rattle.board_core.specs.Turn.{turn, after_events}
-use Rattle.board_core.proofs.Counts.{counted_turn, turn_more}
+use Rattle.board_model.specs.declared.told.Level.TheVariants.{Calls}
+use Rattle.board_model.specs.Turn.{turn, after_events}
+use Rattle.board_model.proofs.Counts.{counted_turn, turn_more}
 use Rattle.board_core.proofs.Turning.{rested, rested_as, next_of, noted_in, as_chosen, stands_after, turn_notes, choice_kept, few_events}
 use Rattle.board_core.proofs.Gliding.{midway_now}
 use Rattle.board_core.proofs.board.Board.turn_on.Goals as goal

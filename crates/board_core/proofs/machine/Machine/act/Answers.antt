@@ -2,7 +2,7 @@ use Rattle.std.proofs.Common.{ℕ, sym, subst}
 use Rattle.kernel_abi.specs.declared.Note.TheVariants as note
 use Rattle.thumb_insn.specs.declared.Decoded.{Decoded}
 use Rattle.board_core.specs.Machine.{MachineHolds}
-use Rattle.board_core.specs.Turn.{told, executed, decoded_as}
+use Rattle.board_model.specs.Turn.{told, executed, decoded_as}
 use Rattle.board_core.proofs.Telling.{told_current}
 use Rattle.board_core.proofs.machine.Machine.act.Goals as goal
 

@@ -1,6 +1,7 @@
 use Rattle.std.proofs.Common.{sym, ◌∙◌, arith}
 use Rattle.board_core.specs.Machine.{MachineHolds}
-use Rattle.board_core.proofs.Running.{stores_hold, stores_notes, was_next, was_call, was_trap, trap_known}
+use Rattle.board_core.proofs.Running.{stores_hold, stores_notes, was_next, was_call, was_trap}
+use Rattle.board_model.proofs.Stepping.{trap_known}
 use Rattle.board_core.proofs.Lending.{effect_lent, lent_by, goes_on, next_lent, acted_as, ready_same}
 use Rattle.board_core.proofs.machine.Machine.execute.Goals as goal
 

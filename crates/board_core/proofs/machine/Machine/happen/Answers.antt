@@ -2,7 +2,7 @@ use Rattle.std.proofs.Common.{sym, subst}
 use Rattle.run_script.specs.declared.events.Event.{Event}
 use Rattle.board_core.specs.declared.machine.Machine.{Machine}
 use Rattle.board_core.specs.Machine.{MachineStands}
-use Rattle.board_core.specs.Turn.{happened}
+use Rattle.board_model.specs.Turn.{happened}
 use Rattle.board_core.proofs.Lending.{settled_stands}
 use Rattle.board_core.proofs.machine.Machine.happen.Goals as goal
 

@@ -5,9 +5,9 @@ use Rattle.run_script.specs.Events.{script_data}
 use Rattle.run_script.specs.Scripts.{events_of}
 use Rattle.task_table.specs.State.{Turn}
 use Rattle.board_core.specs.Machine.{MachineStands}
-use Rattle.board_core.specs.Turn.{happened}
-use Rattle.board_core.proofs.Counts.{later-events}
-use Rattle.board_core.proofs.Outside.{one_more, take_whole, take_few}
+use Rattle.board_model.specs.Turn.{happened}
+use Rattle.board_model.proofs.Counts.{later-events}
+use Rattle.board_model.proofs.Outside.{one_more, take_whole, take_few}
 use Rattle.board_core.proofs.machine.Machine.happen_all.Goals as goal
 
 pub happen_at-requires-clause-stands : goal.happen_at-requires-clause-stands

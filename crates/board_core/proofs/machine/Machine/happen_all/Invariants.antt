@@ -4,7 +4,7 @@ use Rattle.run_script.specs.Events.{script_data}
 use Rattle.run_script.specs.Scripts.{events_of}
 use Rattle.task_table.specs.State.{Setup, Turn}
 use Rattle.task_table.specs.Holds.{note_count}
-use Rattle.board_core.specs.Turn.{happened}
+use Rattle.board_model.specs.Turn.{happened}
 use Rattle.board_core.specs.Machine.{MachineStands}
 use Rattle.board_core.proofs.machine.Machine.happen_all.Given as goal
 

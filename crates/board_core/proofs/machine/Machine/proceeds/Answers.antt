@@ -1,24 +1,15 @@
 use Rattle.std.proofs.Common.{◌≢◌, [], ◌≡◌, ℕ, Bool, true, false, None, refl, sym, ◌∙◌, ap, subst}
 use Rattle.std.proofs.lemmas.Bool.{lt-leb, le-leb, false≢true}
-use Rattle.thumb_insn.specs.declared.Decoded.{Decoded}
 use Rattle.thumb_insn.specs.Table.{narrow_of, narrow_result, decoded_of, is_wide}
-use Rattle.task_table.specs.State.{Setup}
-use Rattle.task_table.specs.Reading.{setup_at}
-use Rattle.task_table.specs.Holds.{current_of}
+use Rattle.task_table.specs.Reading.{register}
 use Rattle.task_table.specs.Memory.{Memory, number_at}
 use Rattle.board_core.specs.declared.machine.Machine.{Machine}
-use Rattle.board_core.specs.declared.told.Level.TheVariants.{Calls}
-use Rattle.region_check.specs.declared.Region.{Region}
+use Rattle.board_model.specs.declared.told.Level.TheVariants.{Calls}
 use Rattle.board_core.specs.Spans.{spans}
 use Rattle.board_core.specs.Did.{Did}
-use Rattle.board_core.specs.Machine.{MachineHolds, IsReady}
-use Rattle.board_core.specs.Texts.{GivesText, IsText}
-use Rattle.board_core.specs.Turn.{is_text, decoded_as}
-use Rattle.task_table.specs.State.{Turn}
-use Rattle.board_core.proofs.Running.{narrow_acted, wide_stepped}
+use Rattle.board_core.specs.Machine.{MachineHolds}
+use Rattle.board_model.proofs.Stepping.{narrow_acted, wide_stepped}
 use Rattle.board_core.proofs.Lending.{rest_of, lent_register}
-use Rattle.board_core.proofs.Gliding.{current_seen}
-use Rattle.task_table.specs.Reading.{register}
 use Rattle.board_core.proofs.Doing.{did_went, did_count, did_current, did_lent, did_left, did_loud, text_here}
 use Rattle.board_core.proofs.machine.Machine.proceeds.Goals as goal
 

@@ -2,11 +2,12 @@ use Rattle.std.proofs.Common.{◌≡◌, ◌+◌, ◌*◌, ◌%◌, ◌^◌, ℕ
 use Rattle.thumb_insn.specs.declared.Decoded.{Decoded}
 use Rattle.task_table.specs.Memory.{Memory, number_at}
 use Rattle.board_core.specs.declared.machine.Machine.{Machine}
-use Rattle.board_core.specs.declared.told.Level.TheVariants.{Calls}
+use Rattle.board_model.specs.declared.told.Level.TheVariants.{Calls}
 use Rattle.board_core.specs.Machine.{MachineHolds}
-use Rattle.board_core.specs.Turn.{decoded_as}
+use Rattle.board_model.specs.Turn.{decoded_as}
 use Rattle.board_core.proofs.Running.{was_next, stores_hold, stores_notes}
-use Rattle.board_core.proofs.Lending.{rest_of, second_acted, lent_by, effect_lent, next_lent, goes_on}
+use Rattle.board_core.proofs.Lending.{rest_of, lent_by, effect_lent, next_lent, goes_on}
+use Rattle.board_model.proofs.Stepping.{second_acted}
 use Rattle.board_core.proofs.Doing.{text_here, stores_current}
 use Rattle.board_core.proofs.machine.Machine.proceeds_wide.Goals as goal
 

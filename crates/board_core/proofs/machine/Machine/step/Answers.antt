@@ -2,8 +2,8 @@ use Rattle.std.proofs.Common.{ℕ, sym, ◌∙◌, ap, subst}
 use Rattle.std.proofs.lemmas.Bool.{le-leb, lt-leb}
 use Rattle.task_table.specs.Memory.{Memory, number_at}
 use Rattle.board_core.specs.Machine.{MachineHolds}
-use Rattle.board_core.specs.Turn.{is_text, decoded_as}
-use Rattle.board_core.proofs.Running.{text_refused, narrow_acted, wide_stepped}
+use Rattle.board_model.specs.Turn.{is_text, decoded_as}
+use Rattle.board_model.proofs.Stepping.{text_refused, narrow_acted, wide_stepped}
 use Rattle.board_core.proofs.Lending.{rest_of, lent_register}
 use Rattle.board_core.proofs.machine.Machine.step.Goals as goal
 

@@ -1,8 +1,9 @@
 use Rattle.std.proofs.Common.{◌≡◌, ◌+◌, ◌*◌, ◌%◌, ◌^◌, ℕ, refl, sym, ◌∙◌, ap, subst, arith}
 use Rattle.task_table.specs.Memory.{Memory, number_at}
 use Rattle.board_core.specs.Machine.{MachineHolds}
-use Rattle.board_core.specs.Turn.{is_text, decoded_as}
-use Rattle.board_core.proofs.Lending.{rest_of, second_refused, second_acted}
+use Rattle.board_model.specs.Turn.{is_text, decoded_as}
+use Rattle.board_core.proofs.Lending.{rest_of}
+use Rattle.board_model.proofs.Stepping.{second_refused, second_acted}
 use Rattle.board_core.proofs.machine.Machine.step_wide.Goals as goal
 
 pub returns-then-not-is_text-clause-holds : goal.returns-then-not-is_text-clause-holds

@@ -1,9 +1,9 @@
 use Rattle.std.proofs.Common.{sym, subst}
 use Rattle.kernel_abi.specs.declared.Note.TheVariants as note
 use Rattle.board_core.specs.declared.machine.Machine.{Machine}
-use Rattle.board_core.specs.declared.told.Level.{Level}
+use Rattle.board_model.specs.declared.told.Level.{Level}
 use Rattle.board_core.specs.Machine.{MachineHolds}
-use Rattle.board_core.specs.Turn.{told}
+use Rattle.board_model.specs.Turn.{told}
 use Rattle.board_core.proofs.Lending.{noted_by}
 use Rattle.board_core.proofs.machine.Machine.tell_idle.Goals as goal
 

@@ -3,9 +3,9 @@ use Rattle.kernel_abi.specs.declared.Note.TheVariants as note
 use Rattle.task_table.specs.Effects.{noted}
 use Rattle.task_table.specs.Holds.{task_count, current_of}
 use Rattle.board_core.specs.declared.machine.Machine.{Machine}
-use Rattle.board_core.specs.declared.told.Level.{Level}
+use Rattle.board_model.specs.declared.told.Level.{Level}
 use Rattle.board_core.specs.Machine.{IsReady}
-use Rattle.board_core.specs.Turn.{told}
+use Rattle.board_model.specs.Turn.{told}
 use Rattle.board_core.proofs.Lending.{current_below, rest_of, stands_of}
 use Rattle.board_core.proofs.Telling.{ready_noted}
 use Rattle.board_core.proofs.machine.Machine.tell_insn.Goals as goal

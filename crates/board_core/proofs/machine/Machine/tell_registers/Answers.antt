@@ -6,7 +6,7 @@ use Rattle.task_table.specs.State.{Task, Turn}
 use Rattle.task_table.specs.Reading.{task_at}
 use Rattle.task_table.specs.Effects.{noted}
 use Rattle.task_table.specs.Holds.{Holds}
-use Rattle.board_core.specs.Turn.{high_note}
+use Rattle.board_model.specs.Turn.{high_note}
 use Rattle.board_core.proofs.Lending.{settled_by}
 use Rattle.board_core.proofs.Telling.{registers_told}
 use Rattle.board_core.proofs.machine.Machine.tell_registers.Goals as goal

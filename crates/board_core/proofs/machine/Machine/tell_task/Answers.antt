@@ -1,8 +1,8 @@
 use Rattle.std.proofs.Common.{sym, subst}
 use Rattle.task_table.specs.State.{Turn}
-use Rattle.board_core.specs.declared.told.Level.{Level}
+use Rattle.board_model.specs.declared.told.Level.{Level}
 use Rattle.board_core.specs.Machine.{MachineHolds}
-use Rattle.board_core.specs.Turn.{with_registers_told}
+use Rattle.board_model.specs.Turn.{with_registers_told}
 use Rattle.board_core.proofs.Telling.{no_registers_told}
 use Rattle.board_core.proofs.machine.Machine.tell_task.Goals as goal
 

@@ -1,6 +1,6 @@
 use Rattle.std.proofs.Common.{◌≡◌, ◌+◌, ◌*◌, ◌%◌, ◌^◌, ℕ, None, arith, sym, subst}
 use Rattle.task_table.specs.Holds.{setup_of, current_of}
-use Rattle.board_core.specs.Turn.{refusals}
+use Rattle.board_model.specs.Turn.{refusals}
 use Rattle.board_core.proofs.Spanning.{given_none}
 use Rattle.board_core.proofs.machine.ReachBus.gives.Goals as goal
 

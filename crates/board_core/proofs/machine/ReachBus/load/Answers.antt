@@ -1,4 +1,4 @@
-use Rattle.std.proofs.Common.{arith, sym}
+use Rattle.std.proofs.Common.{arith}
 use Rattle.region_check.specs.declared.Right.TheVariants.{Read}
 use Rattle.board_core.proofs.Spanning.{given_none}
 use Rattle.board_core.proofs.machine.ReachBus.load.Goals as goal

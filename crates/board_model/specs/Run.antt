@@ -1,14 +1,14 @@
 -- A whole run: turns, with a test for the end before each.
 use Rattle.std.specs.Prelude.{ℕ, zero, suc, Bool, ◌&&◌, not, List, [], ◌++◌, map, Option, Some, None, ◌==◌, if◌then◌else◌, is_none}
 use Rattle.kernel_abi.specs.declared.Note.{Note}
-use Rattle.task_table.specs.State.{State}
+use Rattle.task_table.specs.State.{State, Turn}
 use Rattle.task_table.specs.Reading.{task_at, is_faulted, chosen}
-use Rattle.board_core.specs.declared.told.End.{End}
-use Rattle.board_core.specs.declared.told.End.TheVariants.{Bound, Still, Supervisor}
+use Rattle.board_model.specs.declared.told.End.{End}
+use Rattle.board_model.specs.declared.told.End.TheVariants.{Bound, Still, Supervisor}
 use Rattle.run_script.specs.Scripts.{lasts}
-use Rattle.board_core.specs.declared.told.Level.{Level}
-use Rattle.board_core.specs.Script.{Scenario}
-use Rattle.board_core.specs.Turn.{turn}
+use Rattle.board_model.specs.declared.told.Level.{Level}
+use Rattle.board_model.specs.Script.{Scenario}
+use Rattle.board_model.specs.Turn.{turn}
 
 -- the supervisor has faulted
 abbrev pub is_down : State → Bool
@@ -24,6 +24,14 @@ end_by down left still = if down then Some Supervisor else (if left == 0 then So
 
 unfoldable pub ending : Scenario → ℕ → State → Option End
 ending x left s = end_by (is_down s) left (is_still x s)
+
+-- the end by the tests in their order, the bound aside
+abbrev pub end_in : Bool → Bool → Option End
+end_in down still = if down then Some Supervisor else (if still then Some Still else None)
+
+-- the end of a run at a state, its bound aside
+abbrev pub end_at : Scenario → State → Option End
+end_at x s = end_in (is_down s) (is_still x s)
 
 pub record Run : Type 0 where
   pub last : State
@@ -43,6 +51,11 @@ unless s None more = more
 
 abbrev pub at_turn : ℕ → List Note → List (ℕ × Note)
 at_turn n notes = map (λ note. (n, note)) notes
+
+-- the turn that follows n turns from a state
+unfoldable pub turn_after : Level → Scenario → ℕ → State → Turn
+turn_after level x zero s = turn level x s
+turn_after level x (suc n) s = turn level x (turn_after level x n s).state
 
 -- the run from a state, with at most so many turns
 unfoldable pub run : Level → Scenario → ℕ → State → Run

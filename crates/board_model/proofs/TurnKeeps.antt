@@ -25,10 +25,10 @@ use Rattle.task_table.specs.Sane.{Sane, AreAllBytes}
 use Rattle.task_table.proofs.Sanity.{sane-processor, sane-stored, sane-current, sane-turn, sane-faulted, sane-call_noted}
 use Rattle.task_table.proofs.Calling.{sane-called}
 use Rattle.task_table.proofs.Timing.{sane-ticked, sane-interrupted}
-use Rattle.board_core.specs.declared.told.Level.{Level}
-use Rattle.board_core.specs.declared.told.Level.TheVariants.{Calls, All}
-use Rattle.board_core.specs.Script.{Scenario}
-use Rattle.board_core.specs.Turn.{refusals, cpu_of, bytes_of, put, acted, executed, told, decoded_as, is_text, stepped, happened, after_events, with_current, with_registers_told, turn_of, ended, turn}
+use Rattle.board_model.specs.declared.told.Level.{Level}
+use Rattle.board_model.specs.declared.told.Level.TheVariants.{Calls, All}
+use Rattle.board_model.specs.Script.{Scenario}
+use Rattle.board_model.specs.Turn.{refusals, cpu_of, bytes_of, put, acted, executed, told, decoded_as, is_text, stepped, happened, after_events, with_current, with_registers_told, turn_of, ended, turn}
 use Rattle.thumb_exec.specs.Keeps.{IsWholeCpu, IsPermitted, Keeps}
 use Rattle.thumb_exec.proofs.Keeping.{keeps}
 use Rattle.thumb_insn.specs.Table.{narrow_of, wide_of, narrow_result, wide_result, with_second}

@@ -16,11 +16,11 @@ use Rattle.task_table.specs.Effects.{with_task, without_call, without_listen, wi
 use Rattle.task_table.specs.Events.{ticked, owner_of, interrupted}
 use Rattle.task_table.specs.Rows.{panicked, timer_set, timer_told, irq_controlled, received, call_noted, called}
 use Rattle.task_table.specs.Start.{start, begun}
-use Rattle.board_core.specs.declared.told.End.TheVariants.{Bound}
-use Rattle.board_core.specs.declared.told.Level.TheVariants.{Calls}
-use Rattle.board_core.specs.Script.{Scenario}
-use Rattle.board_core.specs.Run.{Run, run, ending}
-use Rattle.board_core.specs.Turn.{after_events, stepped, with_registers_told, ended, turn}
+use Rattle.board_model.specs.declared.told.End.TheVariants.{Bound}
+use Rattle.board_model.specs.declared.told.Level.TheVariants.{Calls}
+use Rattle.board_model.specs.Script.{Scenario}
+use Rattle.board_model.specs.Run.{Run, run, ending}
+use Rattle.board_model.specs.Turn.{after_events, stepped, with_registers_told, ended, turn}
 
 setup : Setup
 setup = record {

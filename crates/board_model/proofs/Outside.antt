@@ -5,9 +5,8 @@ use Rattle.run_script.specs.declared.events.Event.{Event}
 use Rattle.run_script.specs.Scripts.{ScriptData, IsNext, events_of}
 use Rattle.task_table.specs.State.{Setup, State, Turn}
 use Rattle.task_table.specs.Start.{begun}
-use Rattle.board_core.specs.Script.{Scenario}
-use Rattle.board_core.specs.Midway.{happened_next}
-use Rattle.board_core.specs.Turn.{happened, after_events}
+use Rattle.board_model.specs.Script.{Scenario}
+use Rattle.board_model.specs.Turn.{happened_next, happened, after_events}
 
 -- one more event, where there is one
 next_happened : (g : Setup) (t : Turn) (events : List Event) (k : ℕ) → fold (happened g) t (take (suc k) events) ≡ happened_next g (slice_get events k) (fold (happened g) t (take k events))

@@ -5,9 +5,8 @@ use Rattle.std.proofs.lemmas.Bool.Decides.{nat_tests}
 use Rattle.task_table.specs.State.{State}
 use Rattle.task_table.specs.Reading.{chosen}
 use Rattle.run_script.specs.Scripts.{ScriptData, lasts}
-use Rattle.board_core.specs.Script.{Scenario}
-use Rattle.board_core.specs.Run.{ending, end_by, is_down, is_still}
-use Rattle.board_core.specs.Told.{end_in, end_at}
+use Rattle.board_model.specs.Script.{Scenario}
+use Rattle.board_model.specs.Run.{ending, end_by, is_down, is_still, end_in, end_at}
 
 pub still_is : (x : Scenario) (s : State) (next : Option ℕ) (script : ScriptData) (turn : ℕ) (b : Bool) → b ≡ (is_none next && not (lasts script turn)) → next ≡ chosen x.setup s → script ≡ x.script → turn ≡ s.turn → b ≡ is_still x s
 still_is x s next script turn b e chosen script_is turn_is = rw (← chosen, ← script_is, ← turn_is) e

@@ -22,15 +22,13 @@ use Rattle.task_table.proofs.Clocking.{noted-noted, noted-called}
 use Rattle.task_table.specs.Sane.{Sane}
 use Rattle.task_table.proofs.Changes.{call_of-with_task, listen_of-with_task, length-with_task}
 use Rattle.task_table.proofs.Keeps.{task_rule}
-use Rattle.board_core.specs.declared.choice.Choice.{Choice}
-use Rattle.board_core.specs.declared.told.Level.{Level}
-use Rattle.board_core.specs.declared.told.Level.TheVariants.{Calls, All}
-use Rattle.board_core.specs.Script.{Scenario}
-use Rattle.board_core.specs.Run.{is_down}
-use Rattle.board_core.specs.Kept.{IsChoice}
-use Rattle.board_core.specs.Turn.{refusals, cpu_of, put, acted, executed, told, decoded_as, is_text, stepped, after_events, with_current, with_registers_told, turn_of, ended, turn}
-use Rattle.board_core.proofs.Running.{puts_state}
-use Rattle.board_core.proofs.TurnKeeps.{chosen_is, found_in, told_state}
+use Rattle.board_model.specs.declared.told.Level.{Level}
+use Rattle.board_model.specs.declared.told.Level.TheVariants.{Calls, All}
+use Rattle.board_model.specs.Script.{Scenario}
+use Rattle.board_model.specs.Run.{is_down}
+use Rattle.board_model.specs.Turn.{refusals, cpu_of, put, acted, executed, told, decoded_as, is_text, stepped, after_events, with_current, with_registers_told, turn_of, ended, turn}
+use Rattle.board_model.proofs.Stepping.{puts_state}
+use Rattle.board_model.proofs.TurnKeeps.{chosen_is, found_in, told_state}
 
 -- as many tasks, each as ready; the same current one; the supervisor has faulted or not as before
 record IsAsReady (s u : State) : Type 0 where
@@ -195,25 +193,27 @@ quiet-ran level g c t inside =
     let u = with_current c t in
     quiet-told level _ u.state _ (quiet-told level _ u.state (stepped level g c u) (quiet-stepped g c u inside level))
 
+-- who is chosen next, and whether the supervisor has faulted, as in another state
+pub record IsChosenAlike (g : Setup) (s u : State) : Type 0 where
+  pub next : chosen g u ≡ chosen g s
+  pub down : is_down u ≡ is_down s
+
 -- the choice after the events is the one after the turn
-pub quiet-turn : (level : Level) (x : Scenario) (s : State) (kept : Choice) → Sane x.setup (after_events x s).state → (turn level x s).notes ≡ [] → IsChoice x.setup (after_events x s).state kept → IsChoice x.setup (turn level x s).state kept
+pub quiet-turn : (level : Level) (x : Scenario) (s : State) → Sane x.setup (after_events x s).state → (turn level x s).notes ≡ [] → IsChosenAlike x.setup (after_events x s).state (turn level x s).state
 unfolding turn ended
-quiet-turn level x s kept h none is = by_choice (chosen x.setup t.state) refl none
+quiet-turn level x s h none = by_choice (chosen x.setup t.state) refl none
   where
     t : Turn
     t = after_events x s
 
-    by_choice : (o : Option ℕ) → chosen x.setup t.state ≡ o → (turn_of level x.setup o t).notes ≡ [] → IsChoice x.setup (record (turn_of level x.setup o t).state { turn = (turn_of level x.setup o t).state.turn + 1 }) kept
+    by_choice : (o : Option ℕ) → chosen x.setup t.state ≡ o → (turn_of level x.setup o t).notes ≡ [] → IsChosenAlike x.setup t.state (record (turn_of level x.setup o t).state { turn = (turn_of level x.setup o t).state.turn + 1 })
     by_choice None e none =
         let v : Turn = told level note.Idle t in
         let same = joined t.state v.state _ (quiet-idle level t none) (ready-turn v.state (v.state.turn + 1)) in
-        record { next = is.next ∙ sym (chosen_same x.setup t.state _ same); down = is.down ∙ sym same.down }
+        record { next = chosen_same x.setup t.state _ same; down = same.down }
     by_choice (Some c) e none =
         let inside = (chosen_is t.state c h e).inside in
         let u : Turn = with_current c t in
         let v : Turn = with_registers_told level c (stepped level x.setup c u) in
         let same = joined u.state v.state _ (quiet-ran level x.setup c t inside none) (ready-turn v.state (v.state.turn + 1)) in
-        record {
-          next = is.next ∙ e ∙ sym (chosen_stays t.state c h e) ∙ sym (chosen_same x.setup u.state _ same);
-          down = is.down ∙ sym (current-down t.state c) ∙ sym same.down;
-        }
+        record { next = chosen_same x.setup u.state _ same ∙ chosen_stays t.state c h e ∙ sym e; down = same.down ∙ current-down t.state c }

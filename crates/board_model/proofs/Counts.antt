@@ -25,10 +25,10 @@ use Rattle.task_table.proofs.Calling.{time-called}
 use Rattle.task_table.proofs.Clocking.{clocked-ticked, time-interrupted}
 use Rattle.task_table.specs.Start.{begun}
 use Rattle.task_table.specs.Sane.{IsCounted}
-use Rattle.board_core.specs.declared.told.Level.{Level}
-use Rattle.board_core.specs.Script.{Scenario}
-use Rattle.board_core.specs.Turn.{refusals, cpu_of, bytes_of, put, acted, executed, told, decoded_as, is_text, stepped, happened, after_events, with_current, with_registers_told, turn_of, ended, turn}
-use Rattle.board_core.proofs.TurnKeeps.{told_state}
+use Rattle.board_model.specs.declared.told.Level.{Level}
+use Rattle.board_model.specs.Script.{Scenario}
+use Rattle.board_model.specs.Turn.{refusals, cpu_of, bytes_of, put, acted, executed, told, decoded_as, is_text, stepped, happened, after_events, with_current, with_registers_told, turn_of, ended, turn}
+use Rattle.board_model.proofs.TurnKeeps.{told_state}
 
 abbrev pub counts : State → ℕ × ℕ × ℕ
 counts s = (s.now, s.next_call, s.turn)

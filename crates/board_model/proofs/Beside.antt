@@ -21,13 +21,13 @@ use Rattle.task_table.specs.Rows.{called, call_noted}
 use Rattle.task_table.specs.Start.{begun}
 use Rattle.task_table.specs.Levels.{is_told_always}
 use Rattle.task_table.proofs.Telling.{always_told, Passes, by_test, passes-fold, filter_joined, noted_hidden, passes-faulted_as, passes-call_noted, passes-called, passes-ticked, passes-interrupted}
-use Rattle.board_core.specs.declared.told.End.{End}
-use Rattle.board_core.specs.declared.told.Level.{Level}
-use Rattle.board_core.specs.declared.told.Level.TheVariants.{Calls, All}
-use Rattle.board_core.specs.Script.{Scenario}
-use Rattle.board_core.specs.Turn.{refusals, cpu_of, bytes_of, put, acted, executed, told, decoded_as, is_text, stepped_wide, stepped, happened, after_events, with_current, low_note, high_note, with_registers_told, turn_of, ended, turn}
-use Rattle.board_core.specs.Run.{ending, Run, with_front, unless, at_turn, run}
-use Rattle.board_core.specs.Levels.{without_instructions}
+use Rattle.board_model.specs.declared.told.End.{End}
+use Rattle.board_model.specs.declared.told.Level.{Level}
+use Rattle.board_model.specs.declared.told.Level.TheVariants.{Calls, All}
+use Rattle.board_model.specs.Script.{Scenario}
+use Rattle.board_model.specs.Turn.{refusals, cpu_of, bytes_of, put, acted, executed, told, decoded_as, is_text, stepped_wide, stepped, happened, after_events, with_current, low_note, high_note, with_registers_told, turn_of, ended, turn}
+use Rattle.board_model.specs.Run.{ending, Run, with_front, unless, at_turn, run}
+use Rattle.board_model.specs.Levels.{without_instructions}
 
 -- ## a turn
 

@@ -22,11 +22,11 @@ use Rattle.task_table.specs.Start.{begun}
 use Rattle.run_script.specs.declared.events.Event.{Event}
 use Rattle.run_script.specs.declared.events.Event.TheVariants.{Tick, Irq}
 use Rattle.run_script.specs.Scripts.{events_of}
-use Rattle.board_core.specs.declared.told.Level.{Level}
-use Rattle.board_core.specs.declared.told.Level.TheVariants.{Calls, All}
-use Rattle.board_core.specs.declared.told.Turned.{Turned}
-use Rattle.board_core.specs.declared.told.Turned.TheVariants.{Idle, Ran}
-use Rattle.board_core.specs.Script.{Scenario}
+use Rattle.board_model.specs.declared.told.Level.{Level}
+use Rattle.board_model.specs.declared.told.Level.TheVariants.{Calls, All}
+use Rattle.board_model.specs.declared.told.Turned.{Turned}
+use Rattle.board_model.specs.declared.told.Turned.TheVariants.{Idle, Ran}
+use Rattle.board_model.specs.Script.{Scenario}
 
 -- ## what an instruction of a task sees
 
@@ -103,6 +103,11 @@ stepped level g c t =
 abbrev pub happened : Setup → Turn → Event → Turn
 happened g t Tick = ticked t
 happened g t (Irq line) = interrupted g line t
+
+-- the next event, where there is one
+abbrev pub happened_next : Setup → Option Event → Turn → Turn
+happened_next g None t = t
+happened_next g (Some event) t = happened g t event
 
 -- a turn after the events of it
 unfoldable pub after_events : Scenario → State → Turn

@@ -1,0 +1,10 @@
+pub mod TurnKeeps
+pub mod Counts
+pub mod Quiet
+pub mod Stepping
+pub mod Endings
+pub mod Outside
+pub mod Beside
+pub mod FiveTasks
+pub mod Blinker
+pub mod AllTold

@@ -1,0 +1,4 @@
+pub mod Script
+pub mod Turn
+pub mod Run
+pub mod Levels

@@ -1,0 +1,80 @@
+//! Laws of the board, each the contract of a function that does nothing.
+
+ghost use Rattle.std.specs.Prelude.{◌≡◌, ◌≢◌, ◌+◌, ◌<◌, ◌≤◌, ℕ, true, List, [], Option, Some, length, fold};
+ghost use Rattle.kernel_abi.specs.declared.Fault.{Fault};
+ghost use Rattle.kernel_abi.specs.declared.Note.{Note};
+ghost use Rattle.run_script.specs.declared.events.Event.{Event};
+ghost use Rattle.run_script.specs.Scripts.{ScriptData, IsNext, events_of};
+ghost use Rattle.thumb_insn.specs.declared.Insn.{Insn};
+ghost use Rattle.thumb_insn.specs.Range.{IsCoded};
+ghost use Rattle.thumb_exec.specs.Effect.{Store, Trap, effect};
+ghost use Rattle.task_table.specs.Memory.{number_at};
+ghost use Rattle.task_table.specs.State.{Setup, State, Turn};
+ghost use Rattle.task_table.specs.Reading.{task_at, chosen, is_ready};
+ghost use Rattle.task_table.specs.Start.{begun};
+ghost use Rattle.task_table.specs.Sane.{Sane, IsCounted};
+ghost use Rattle.board_model.specs.declared.told.Level.{Level as Detail};
+ghost use Rattle.board_model.specs.declared.told.Level.TheVariants.{Calls, All};
+ghost use Rattle.board_model.specs.Script.{Scenario};
+ghost use Rattle.board_model.specs.Turn.{refusals, cpu_of, put, told, stepped, happened, after_events, turn};
+ghost use Rattle.board_model.specs.Run.{is_down, end_at, ending, run};
+ghost use Rattle.board_model.specs.Levels.{without_instructions};
+
+/// The events of a turn, an instruction of a ready task and the whole turn leave a sane state sane.
+pub fn turns_keep_sane()
+    ensures events { (x : Scenario) (s : State) → Sane x.setup s → Sane x.setup (after_events x s).state }
+    ensures stepped { (level : Detail) (g : Setup) (c : ℕ) (t : Turn) → Sane g t.state → c < length t.state.tasks → is_ready t.state c ≡ true → Sane g (stepped level g c t).state }
+    ensures turn { (level : Detail) (x : Scenario) (s : State) → Sane x.setup s → Sane x.setup (turn level x s).state }
+{}
+
+/// The task that is chosen is ready, and there.
+pub fn who_is_chosen_is_ready()
+    ensures ready { (g : Setup) (s : State) (c : ℕ) → Sane g s → chosen g s ≡ Some c → is_ready s c ≡ true }
+    ensures inside { (g : Setup) (s : State) (c : ℕ) → Sane g s → chosen g s ≡ Some c → c < length s.tasks }
+{}
+
+/// A turn counts itself, events change the time by at most a tick each, and so the counts are in order
+/// after each turn.
+pub fn turns_keep_counts_in_order()
+    ensures turn { (level : Detail) (x : Scenario) (s : State) → (turn level x s).state.turn ≡ s.turn + 1 }
+    ensures now { (g : Setup) (events : List Event) (t : Turn) → (fold (happened g) t events).state.now ≤ t.state.now + length events }
+    ensures counted { (level : Detail) (x : Scenario) (s : State) → length (events_of x.script s.turn) ≤ 9 → IsCounted s → IsCounted (turn level x s).state }
+{}
+
+/// A turn that notes nothing leaves the choice: after it the same task is chosen as after its events, and
+/// the supervisor has faulted just where it had then.
+pub fn turns_without_notes_keep_the_choice()
+    ensures next { (level : Detail) (x : Scenario) (s : State) → Sane x.setup s → (turn level x s).notes ≡ [] → chosen x.setup (turn level x s).state ≡ chosen x.setup (after_events x s).state }
+    ensures down { (level : Detail) (x : Scenario) (s : State) → Sane x.setup s → (turn level x s).notes ≡ [] → is_down (turn level x s).state ≡ is_down (after_events x s).state }
+{}
+
+/// The stores of an instruction change nothing of a state but its memory, and what is told changes none.
+pub fn stores_change_memory_alone()
+    ensures stores { (stores : List Store) (t : Turn) → (fold put t stores).state ≡ record t.state { memory = (fold put t stores).state.memory } }
+    ensures told { (level : Detail) (n : Note) (t : Turn) → (told level n t).state ≡ t.state }
+{}
+
+/// The fault of an instruction that has a code has a number from 1 to 10.
+pub fn faults_of_instructions_are_known()
+    ensures from_one { (g : Setup) (t : Turn) (insn : Insn) (fault : Fault) → Sane g t.state → IsCoded insn → effect (refusals g t.state.current) (number_at t.state.memory) (cpu_of (task_at t.state t.state.current)) insn ≡ Trap fault → 1 ≤ fault.number }
+    ensures to_ten { (g : Setup) (t : Turn) (insn : Insn) (fault : Fault) → Sane g t.state → IsCoded insn → effect (refusals g t.state.current) (number_at t.state.memory) (cpu_of (task_at t.state t.state.current)) insn ≡ Trap fault → fault.number ≤ 10 }
+{}
+
+/// A turn in which nothing is due has no events, so it begins as it is after them; what was due later
+/// still is.
+pub fn turns_without_events_begin_at_once()
+    ensures none { (script : ScriptData) (turn : ℕ) (due : Option ℕ) → turn < 1000000000 → IsNext script turn due → due ≢ Some turn → events_of script turn ≡ [] }
+    ensures later { (script : ScriptData) (turn : ℕ) (due : Option ℕ) → IsNext script turn due → due ≢ Some turn → IsNext script (turn + 1) due }
+    ensures begun { (x : Scenario) (s : State) → events_of x.script s.turn ≡ [] → begun s ≡ after_events x s }
+{}
+
+/// With turns left the bound does not end a run.
+pub fn turns_left_end_no_run()
+    ensures { (x : Scenario) (s : State) (left : ℕ) → 0 < left → end_at x s ≡ ending x left s }
+{}
+
+/// Instructions, registers and idle turns are told beside the rest of a run: without them it is the
+/// run of which calls, events and faults alone are told.
+pub fn instructions_are_told_beside()
+    ensures { (x : Scenario) (n : ℕ) (s : State) → run Calls x n s ≡ without_instructions (run All x n s) }
+{}
