@@ -25,9 +25,9 @@ ghost use Rattle.board_core.specs.Texts.{IsText};
 ghost use Rattle.board_core.specs.Advanced.{IsAdvanced};
 ghost use Rattle.board_core.specs.Midway.{IsDue, IsMidway};
 
+use crate::TaskView;
 use crate::choice::{Choice, choice_of};
 use crate::machine::Machine;
-use crate::TaskView;
 use board_model::{End, Level, Turned};
 use image_format::Image;
 use kernel_abi::Note;
