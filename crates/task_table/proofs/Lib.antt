@@ -1,4 +1,3 @@
-pub mod Walks
 pub mod Copies
 pub mod Changes
 pub mod Steps
@@ -14,6 +13,14 @@ pub mod Waiting
 pub mod Clients
 pub mod Messages
 pub mod Receives
-pub mod Calling
+pub mod Chains
+pub mod Moves
+pub mod Happens
+pub mod Meanings
+pub mod RowChains
+pub mod StepKeeps
+pub mod Counting
+pub mod Noting
+pub mod Quieting
+pub mod Outside
 pub mod Starts
-pub mod Clocking

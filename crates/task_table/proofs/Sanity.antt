@@ -1,5 +1,5 @@
--- Each effect and each row keeps a state sane.
-use Rattle.std.proofs.Common.{◌≡◌, ◌+◌, ◌-◌, ◌<◌, ◌≤◌, inl, inr, ℕ, zero, suc, Bool, true, false, cond, List, [], ◌∷◌, ◌++◌, length, take, drop, Option, refl, ◌∙◌, arith, eqb}
+-- Each effect keeps a state sane.
+use Rattle.std.proofs.Common.{◌≡◌, ◌+◌, ◌-◌, ◌<◌, ◌≤◌, inl, inr, ℕ, zero, suc, Bool, true, false, cond, List, [], ◌∷◌, ◌++◌, length, take, drop, refl, ◌∙◌, arith, eqb}
 use Rattle.std.specs.Prelude.{Contains}
 use Rattle.std.proofs.lemmas.List.Elements.{Contains-append_cases}
 use Rattle.kernel_abi.specs.declared.Fault.{Fault}
@@ -14,7 +14,6 @@ use Rattle.task_table.specs.Memory.{Memory, with_bytes, IsWithinRam}
 use Rattle.task_table.specs.State.{Setup, State, Turn, Ground}
 use Rattle.task_table.specs.Reading.{task_at}
 use Rattle.task_table.specs.Effects.{with_task, without_call, without_listen, changed, noted, with_processor, with_health, stored, posted, closed, faulted_as, faulted}
-use Rattle.task_table.specs.Rows.{misused, denied, panicked, call_noted}
 use Rattle.task_table.specs.Placed.{ArePlaced}
 use Rattle.task_table.specs.Sane.{Sane, IsFaultKnown, AreAllBytes}
 use Rattle.task_table.specs.Counts.{AreWhole}
@@ -121,24 +120,3 @@ module _ {g : Setup} where
 
   pub sane-faulted : (i : ℕ) (fault : Fault) (t : Turn) → Sane g t.state → i < length t.state.tasks → 1 ≤ fault.number → fault.number ≤ 10 → Sane g (faulted g i fault t).state
   sane-faulted i fault t h inside low high = sane-faulted_as i fault Client t h inside low high
-
--- ## rows
-
--- the state of a turn is sane
-abbrev pub IsSaneTurn : Setup → Turn → Type 0
-IsSaneTurn g u = Sane g u.state
-
-module _ {g : Setup} (c : ℕ) (t : Turn) (h : Sane g t.state) (inside : c < length t.state.tasks) where
-  pub sane-misused : (usage : ℕ) → Sane g (misused g c usage t).state
-  sane-misused usage = sane-faulted c record { number = 7; x = usage; y = 0 } t h inside (omega arith) (omega arith)
-
-  pub sane-denied : (y : ℕ) (bad : Option ℕ) → Sane g (denied g c y bad t).state
-  sane-denied y bad = sane-faulted c _ t h inside (omega arith) (omega arith)
-
-  pub sane-panicked : Sane g (panicked g c t).state
-  unfolding panicked
-  sane-panicked = sane-faulted c _ t h inside (omega arith) (omega arith)
-
-  pub sane-call_noted : Sane g (call_noted c t).state
-  unfolding call_noted
-  sane-call_noted = sane-noted _ t h

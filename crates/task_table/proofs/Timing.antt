@@ -1,52 +1,21 @@
--- Timers, ticks, interrupts and the calls of them keep a state sane.
-use Rattle.std.proofs.Common.{◌≡◌, ◌≢◌, ◌+◌, ◌<◌, ◌≤◌, ◌%◌, ◌/◌, ◌^◌, ◌⊎◌, inl, inr, ℕ, zero, suc, Bool, true, false, cond, not, List, [], ◌∷◌, length, Option, Some, None, refl, sym, ◌∙◌, ap, arith, eqb, leb, get_or, set, IfSome}
-use Rattle.std.specs.Prelude.{Contains, filter, fold}
-use Rattle.std.specs.List.{range_with_len, list_any}
+-- Ticks, interrupts and lines keep a state sane.
+use Rattle.std.proofs.Common.{◌≡◌, ◌≢◌, ◌+◌, ◌<◌, ◌≤◌, ◌⊎◌, inl, inr, ℕ, zero, suc, Bool, true, false, cond, List, [], ◌∷◌, length, Option, Some, None, refl, sym, ◌∙◌, ap, arith, eqb, leb, get_or, set, IfSome}
+use Rattle.std.specs.Prelude.{Contains, fold}
+use Rattle.std.specs.List.{range_with_len}
 use Rattle.std.proofs.lemmas.Bool.{false≢true, eqb-true, leb-false}
 use Rattle.std.proofs.lemmas.Bool.Decides.{eqb_tells}
-use Rattle.kernel_abi.specs.Arguments.{timer_args, irq_args}
 use Rattle.kernel_abi.specs.declared.Handled.TheVariants.{Posted, Held}
 use Rattle.kernel_abi.specs.declared.Note.TheVariants as note
 use Rattle.kernel_abi.specs.declared.Timer.{Timer}
 use Rattle.task_table.specs.declared.Line.{Line}
 use Rattle.task_table.specs.State.{Setup, LineSetup, Task, State, Turn}
-use Rattle.task_table.specs.Reading.{task_at, line_at, line_off, line_on, no_line, arguments}
+use Rattle.task_table.specs.Reading.{task_at, line_at, line_off, no_line}
 use Rattle.task_table.specs.Effects.{noted, posted, with_timer, clocked, with_line}
-use Rattle.task_table.specs.Rows.{timer_set, timer_words, timer_told, owns_with, line_controlled, irq_controlled}
 use Rattle.task_table.specs.Events.{expired_by, expired, ticked, owner_of, interrupted_by, interrupted}
 use Rattle.task_table.specs.Sane.{Sane, IsSaneBut, Every, Both, IsOwned}
 use Rattle.task_table.proofs.Changes.{task_at-with_task}
 use Rattle.task_table.proofs.Keeps.{found_in, keeps-lines, keeps-now}
-use Rattle.task_table.proofs.Posting.{still, keeps-noted, keeps-timer, keeps-goes_on, keeps-goes_on_with, sane-posted}
-use Rattle.task_table.proofs.Sanity.{IsSaneTurn, sane-misused}
-use Rattle.task_table.proofs.Walks.{Of, by_row, fold_all}
-
--- ## the calls of timers
-
-module _ {g : Setup} (c : ℕ) (t : Turn) (h : Sane g t.state) (inside : c < length t.state.tasks) where
-  timer_off : Sane g (with_timer c None t).state
-  timer_off = keeps-timer c None t h inside (λ x. tt)
-
-  by_set : Of (IsSaneTurn g) (timer_set c t)
-  unfolding timer_set
-  by_set =
-      let x = timer_args (arguments t.state c) in
-      by_row (not x.set) (λ off. record { holds = keeps-goes_on c (with_timer c None t) timer_off (still h timer_off inside) }) (λ set.
-      by_row (leb x.deadline t.state.now) (λ due. let h1 = sane-posted c x.bits (with_timer c None t) timer_off (still h timer_off inside) in record { holds = keeps-goes_on c (posted c x.bits (with_timer c None t)) h1 (still h h1 inside) }) (λ ahead.
-      let timer : Option Timer = Some record { deadline = x.deadline; bits = x.bits } in
-      let h1 = keeps-timer c timer t h inside (λ y. leb-false x.deadline t.state.now ahead) in
-      record { holds = keeps-goes_on c (with_timer c timer t) h1 (still h h1 inside) }))
-
-  pub sane-timer_set : Sane g (timer_set c t).state
-  sane-timer_set = by_set.holds
-
-  pub sane-timer_told : Sane g (timer_told c t).state
-  unfolding timer_told
-  sane-timer_told = keeps-goes_on_with c (t.state.now % 2 ^ 32 ∷ t.state.now / 2 ^ 32 ∷ timer_words (task_at t.state c).timer) t h inside (by_timer (task_at t.state c).timer)
-    where
-      by_timer : (timer : Option Timer) → length (t.state.now % 2 ^ 32 ∷ t.state.now / 2 ^ 32 ∷ timer_words timer) ≤ 6
-      by_timer None = omega arith
-      by_timer (Some x) = omega arith
+use Rattle.task_table.proofs.Posting.{still, keeps-noted, keeps-timer, sane-posted}
 
 -- ## a tick
 
@@ -166,27 +135,3 @@ sane-interrupted {g} k t h = by_owner (owner_of g k) refl
             let h1 = keeps-line k (line_off false) (noted (note.Irq k Posted) t) (keeps-noted _ t h) no_true in
             sane-posted o.owner o.bits (with_line k (line_off false) (noted (note.Irq k Posted) t)) h1 (still h h1 (owner_there k o t.state h e))
         by_line false = let r = is_owner g k o e in keeps-line k (line_off true) (noted (note.Irq k Held) t) (keeps-noted _ t h) (λ p. (refl, (o, r.0, r.1)))
-
--- ## IRQ_CONTROL
-
-sane-line_controlled : {g : Setup} (c bits : ℕ) (enable : Bool) (k : ℕ) (t : Turn) → Sane g t.state → c < length t.state.tasks → Sane g (line_controlled c bits enable k t).state
-sane-line_controlled {g} c bits enable k t h inside = by_tests enable (line_at t.state k).pending refl
-  where
-    by_tests : (b p : Bool) → (line_at t.state k).pending ≡ p → Sane g (cond (not b) (with_line k (line_off p) t) (cond p (posted c bits (with_line k (line_off false) t)) (with_line k line_on t))).state
-    by_tests false p e = keeps-line k (line_off p) t h (λ is. (refl, (h.steady.lines k (e ∙ is)).1))
-    by_tests true true e = let h1 = keeps-line k (line_off false) t h no_true in sane-posted c bits (with_line k (line_off false) t) h1 (still h h1 inside)
-    by_tests true false e = keeps-line k line_on t h no_true
-
-module _ {g : Setup} (c : ℕ) (t : Turn) (h : Sane g t.state) (inside : c < length t.state.tasks) where
-  by_lines : Of (IsSaneTurn g) (irq_controlled g c t)
-  unfolding irq_controlled
-  by_lines =
-      let x = irq_args (arguments t.state c) in
-      let f : Turn → LineSetup → Turn = λ u o. line_controlled c x.bits x.enable o.line u in
-      let lines = filter (owns_with c x.bits) g.lines in
-      by_row (not (list_any (owns_with c x.bits) g.lines)) (λ none. record { holds = sane-misused c t h inside 6 }) (λ some.
-      let h1 : Sane g (fold f t lines).state = fold_all (λ u. Sane g u.state) f lines t h (λ o u v. sane-line_controlled c x.bits x.enable o.line u v (still h v inside)) in
-      record { holds = keeps-goes_on c (fold f t lines) h1 (still h h1 inside) })
-
-  pub sane-irq_controlled : Sane g (irq_controlled g c t).state
-  sane-irq_controlled = by_lines.holds

@@ -4,6 +4,7 @@ pub mod State
 pub mod Reading
 pub mod Effects
 pub mod Rows
+pub mod Calls
 pub mod Events
 pub mod Placed
 pub mod Sane
@@ -14,3 +15,6 @@ pub mod Frames
 pub mod Found
 pub mod Messages
 pub mod Counts
+pub mod Grounds
+pub mod Chain
+pub mod Step

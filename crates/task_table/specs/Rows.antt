@@ -10,7 +10,7 @@ use Rattle.kernel_abi.specs.declared.Note.TheVariants as note
 use Rattle.kernel_abi.specs.declared.Timer.{Timer}
 use Rattle.region_check.specs.declared.Right.TheVariants.{Write}
 use Rattle.task_table.specs.State.{Setup, LineSetup, State, Call, From, Any, One, KernelOnly, Range, Own, Turn}
-use Rattle.task_table.specs.Reading.{task_at, line_at, line_off, line_on, register, arguments, present, is_out, is_dead, dead_code_for, is_valid, bad_byte, offer_by, best_sender}
+use Rattle.task_table.specs.Reading.{task_at, line_at, line_off, line_on, register, arguments, present, is_out, is_dead, dead_code_for, is_valid, bad_byte, offer_by}
 use Rattle.task_table.specs.Effects.{changed, noted, given, returned, advanced, bits_cleared, posted, with_listen, with_timer, with_line, handed, faulted}
 
 -- ## how rows are written
@@ -156,15 +156,3 @@ received g c best t =
 -- the line of a call: its number in r11, its arguments in r4 to r10
 unfoldable pub call_noted : ℕ → Turn → Turn
 call_noted c t = noted (note.Call c (register t.state c 11) (slice_range (task_at t.state c).registers 4 11)) t
-
--- the call whose number is in r11; a number that has no row is usage 1, BadCall
-unfoldable pub called : Setup → ℕ → Turn → Turn
-called g c t =
-    let n = register t.state c 11 in
-    first_row (
-    (n == 1, received g c (best_sender g t.state c) t)
-    ∷ (n == 3, timer_set c t)
-    ∷ (n == 7, irq_controlled g c t)
-    ∷ (n == 8, panicked g c t)
-    ∷ (n == 9, timer_told c t)
-    ∷ []) (misused g c 1 t)

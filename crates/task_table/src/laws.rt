@@ -1,6 +1,6 @@
 //! Laws of the abstract kernel, each the contract of a function that does nothing.
 
-ghost use Rattle.std.specs.Prelude.{◌≡◌, ◌+◌, ◌<◌, ◌≤◌, ℕ, true, List, Option, length};
+ghost use Rattle.std.specs.Prelude.{◌≡◌, ◌+◌, ◌<◌, ◌≤◌, ℕ, true, List, [], Option, length};
 ghost use Rattle.kernel_abi.specs.declared.Fault.{Fault};
 ghost use Rattle.kernel_abi.specs.declared.Note.{Note};
 ghost use Rattle.kernel_abi.specs.declared.Timer.{Timer};
@@ -13,11 +13,14 @@ ghost use Rattle.task_table.specs.Memory.{Memory, IsWithin, IsWithinRam};
 ghost use Rattle.task_table.specs.State.{Setup, State, Turn, Ground};
 ghost use Rattle.task_table.specs.Reading.{setup_at, is_ready, best_sender, IsIdle, IsSameAt};
 ghost use Rattle.task_table.specs.Effects.{changed, noted, with_processor, given, posted, with_timer, with_line, stored, faulted};
-ghost use Rattle.task_table.specs.Rows.{misused, panicked, timer_set, timer_told, irq_controlled, received, call_noted, called};
+ghost use Rattle.task_table.specs.Rows.{misused, panicked, timer_set, timer_told, irq_controlled, received, call_noted};
+ghost use Rattle.task_table.specs.Calls.{called};
 ghost use Rattle.task_table.specs.Events.{ticked, interrupted};
 ghost use Rattle.task_table.specs.Placed.{ArePlaced};
 ghost use Rattle.task_table.specs.Sane.{Sane, IsCounted, AreAllBytes};
-ghost use Rattle.task_table.specs.Counts.{AreWhole, IsSameTime, IsNoted};
+ghost use Rattle.task_table.specs.Counts.{AreWhole, IsSameTime, AreCounts, IsNoted, AreNoted, IsAsReady};
+ghost use Rattle.task_table.specs.Chain.{Chain};
+ghost use Rattle.task_table.specs.Step.{Step};
 ghost use Rattle.task_table.specs.Parts.{IsSound};
 ghost use Rattle.task_table.specs.Start.{start};
 ghost use Rattle.task_table.specs.Holds.{Holds};
@@ -46,6 +49,22 @@ pub fn rows_keep_sane()
     ensures called { (g : Setup) (c : ℕ) (t : Turn) → Sane g t.state → c < length t.state.tasks → is_ready t.state c ≡ true → Sane g (called g c t).state }
 {}
 
+/// Every call is a chain of steps, each with what makes it good: the one walk over the rows, from which
+/// follows whatever holds of each step.
+pub fn calls_are_chains_of_steps()
+    ensures { (g : Setup) (c : ℕ) (t : Turn) → Sane g t.state → c < length t.state.tasks → is_ready t.state c ≡ true → Chain (Step g t.state c) t (called g c t) }
+{}
+
+/// A chain of steps leaves a sane state sane, changes no turn and no time, and makes at most one call. It
+/// takes back no note; where none was noted, each task is as ready as before. A step notes at most four.
+pub fn chains_keep_what_steps_keep()
+    ensures sane { (g : Setup) (s : State) (c : ℕ) (u v : Turn) → Chain (Step g s c) u v → Sane g u.state → Sane g v.state }
+    ensures counts { (g : Setup) (s : State) (c : ℕ) (u v : Turn) → ArePlaced g s.memory → Chain (Step g s c) u v → AreCounts s u.state → AreCounts s v.state }
+    ensures noted { (g : Setup) (s : State) (c : ℕ) (u v : Turn) → Chain (Step g s c) u v → IsNoted u → IsNoted v }
+    ensures quiet { (g : Setup) (s : State) (c : ℕ) (u v : Turn) → Chain (Step g s c) u v → v.notes ≡ [] → IsAsReady u.state v.state }
+    ensures few { (g : Setup) (s : State) (c : ℕ) (u v : Turn) → Step g s c u v → AreNoted 4 u v }
+{}
+
 /// A post and a fault are noted.
 pub fn posts_and_faults_are_noted()
     ensures posted { (i bits : ℕ) (t : Turn) → IsNoted (posted i bits t) }
@@ -64,8 +83,8 @@ pub fn start_is_sane()
     ensures counted { (g : Setup) → IsCounted (start g) }
 {}
 
-/// Effects leave the turn, the time and the next call's number alone, and so the counts are in
-/// order after each turn.
+/// Effects leave the turn, the time, the number of tasks and the next call's number alone, and a call
+/// raises that number by at most one; so the counts are in order after each turn.
 pub fn counts_stay_in_order()
     ensures noted { (n : Note) (t : Turn) → IsSameTime t.state (noted n t).state }
     ensures processor { (i : ℕ) (registers : List ℕ) (flags : Flags) (t : Turn) → IsSameTime t.state (with_processor i registers flags t).state }
@@ -74,9 +93,10 @@ pub fn counts_stay_in_order()
     ensures posted { (i bits : ℕ) (t : Turn) → IsSameTime t.state (posted i bits t).state }
     ensures faulted { (g : Setup) (i : ℕ) (fault : Fault) (t : Turn) → IsSameTime t.state (faulted g i fault t).state }
     ensures call_noted { (c : ℕ) (t : Turn) → IsSameTime t.state (call_noted c t).state }
-    ensures called { (g : Setup) (c : ℕ) (t : Turn) → IsSameTime t.state (called g c t).state }
+    ensures called { (g : Setup) (c : ℕ) (t : Turn) → Sane g t.state → c < length t.state.tasks → is_ready t.state c ≡ true → AreCounts t.state (called g c t).state }
     ensures joined { (s u v : State) → IsSameTime s u → IsSameTime u v → IsSameTime s v }
-    ensures turn { (s u : State) → IsCounted s → IsSameTime s u → IsCounted record u { turn = u.turn + 1 } }
+    ensures same { (s u : State) → IsSameTime s u → AreCounts s u }
+    ensures turn { (s u : State) → IsCounted s → AreCounts s u → IsCounted record u { turn = u.turn + 1 } }
 {}
 
 /// A task that is ready waits for nothing, and stays so where neither it nor its waiting changes, as

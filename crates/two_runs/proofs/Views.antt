@@ -8,7 +8,7 @@ use Rattle.std.proofs.Math.Nat.{mod-mod}
 use Rattle.task_table.specs.Memory.{Memory}
 use Rattle.task_table.specs.State.{Setup, Task, Call, From, Any, One, KernelOnly, Listen, State, Read, Turn}
 use Rattle.two_runs.specs.Levels.{is_told_always, IsLessTold}
-use Rattle.task_table.specs.Rows.{called}
+use Rattle.task_table.specs.Calls.{called}
 use Rattle.task_table.specs.Start.{begun}
 use Rattle.board_model.specs.declared.told.Level.{Level}
 use Rattle.board_model.specs.declared.told.Level.TheVariants.{Calls, All}

@@ -10,7 +10,7 @@ ghost use Rattle.std.specs.Prelude.{◌≡◌, ℕ, Some};
 ghost use Rattle.task_table.specs.Memory.{Memory};
 ghost use Rattle.task_table.specs.State.{Setup, State, Turn};
 ghost use Rattle.task_table.specs.Reading.{chosen};
-ghost use Rattle.task_table.specs.Rows.{called};
+ghost use Rattle.task_table.specs.Calls.{called};
 ghost use Rattle.task_table.specs.Sane.{Sane};
 ghost use Rattle.board_model.specs.declared.told.Level.{Level as Detail};
 ghost use Rattle.board_model.specs.declared.told.Level.TheVariants.{Calls, All};

@@ -1,6 +1,6 @@
 use Rattle.std.proofs.Common.{◌<◌, length, arith}
 use Rattle.task_table.proofs.Frames.{idle-ready}
-use Rattle.task_table.proofs.Receives.{sane-received}
+use Rattle.task_table.proofs.StepKeeps.{sane-received}
 use Rattle.ipc_core.proofs.recv.Goals as goal
 
 pub receive-requires-clause-ready : goal.receive-requires-clause-ready

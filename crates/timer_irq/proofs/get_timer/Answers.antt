@@ -1,7 +1,7 @@
 use Rattle.std.proofs.Common.{◌<◌, length, arith}
 use Rattle.task_table.specs.Rows.{timer_told}
 use Rattle.task_table.proofs.Frames.{idle-ready}
-use Rattle.task_table.proofs.Timing.{sane-timer_told}
+use Rattle.task_table.proofs.StepKeeps.{sane-timer_told}
 use Rattle.timer_irq.proofs.get_timer.Goals as goal
 
 pub returns-clause-stands : goal.returns-clause-stands

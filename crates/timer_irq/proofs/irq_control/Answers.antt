@@ -1,6 +1,6 @@
 use Rattle.std.proofs.Common.{◌<◌, length, arith}
 use Rattle.task_table.proofs.Frames.{idle-ready}
-use Rattle.task_table.proofs.Timing.{sane-irq_controlled}
+use Rattle.task_table.proofs.StepKeeps.{sane-irq_controlled}
 use Rattle.timer_irq.proofs.irq_control.Goals as goal
 
 pub returns-clause-stands : goal.returns-clause-stands

@@ -1,6 +1,6 @@
 use Rattle.std.proofs.Common.{◌<◌, length, arith}
 use Rattle.task_table.proofs.Frames.{idle-ready}
-use Rattle.task_table.proofs.Timing.{sane-timer_set}
+use Rattle.task_table.proofs.StepKeeps.{sane-timer_set}
 use Rattle.timer_irq.proofs.set_timer.Goals as goal
 
 pub returns-clause-stands : goal.returns-clause-stands

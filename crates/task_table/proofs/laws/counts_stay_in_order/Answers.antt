@@ -1,32 +1,35 @@
-use Rattle.task_table.proofs.Frames as frames
+use Rattle.task_table.proofs.Counting as counting
 use Rattle.task_table.proofs.laws.counts_stay_in_order.Goals as goal
 
 pub returns-clause-noted : goal.returns-clause-noted
-returns-clause-noted c = λ n t. frames.time-noted n t
+returns-clause-noted c = λ n t. counting.time-noted n t
 
 pub returns-clause-processor : goal.returns-clause-processor
-returns-clause-processor c = λ i registers flags t. frames.time-processor i registers flags t
+returns-clause-processor c = λ i registers flags t. counting.time-processor i registers flags t
 
 pub returns-clause-stored : goal.returns-clause-stored
-returns-clause-stored c = λ on at bytes t. frames.time-stored on at bytes t
+returns-clause-stored c = λ on at bytes t. counting.time-stored on at bytes t
 
 pub returns-clause-current : goal.returns-clause-current
-returns-clause-current c = λ i t. frames.time-current i t
+returns-clause-current c = λ i t. counting.time-current i t
 
 pub returns-clause-faulted : goal.returns-clause-faulted
-returns-clause-faulted c = λ g i fault t. frames.time-faulted g i fault t
+returns-clause-faulted c = λ g i fault t. counting.time-faulted g i fault t
 
 pub returns-clause-posted : goal.returns-clause-posted
-returns-clause-posted c = λ i bits t. frames.time-posted i bits t
+returns-clause-posted c = λ i bits t. counting.time-posted i bits t
 
 pub returns-clause-call_noted : goal.returns-clause-call_noted
-returns-clause-call_noted c = λ c t. frames.time-call_noted c t
+returns-clause-call_noted c = λ c t. counting.time-call_noted c t
 
 pub returns-clause-called : goal.returns-clause-called
-returns-clause-called c = λ g c t. frames.time-called g c t
+returns-clause-called c = λ g c t h inside ready. counting.counts-called g c t h inside ready
 
 pub returns-clause-joined : goal.returns-clause-joined
-returns-clause-joined c = λ s u v a b. frames.time-joined s u v a b
+returns-clause-joined c = λ s u v a b. counting.time-joined s u v a b
 
 pub returns-clause-turn : goal.returns-clause-turn
-returns-clause-turn c = λ s u h same. frames.counted-turn s u h same
+returns-clause-turn c = λ s u h same. counting.counted-turn s u h same
+
+pub returns-clause-same : goal.returns-clause-same
+returns-clause-same c = λ s u same. counting.counts_same s u same

@@ -1,8 +1,8 @@
-use Rattle.task_table.proofs.Frames as frames
+use Rattle.task_table.proofs.Noting as noting
 use Rattle.task_table.proofs.laws.posts_and_faults_are_noted.Goals as goal
 
 pub returns-clause-posted : goal.returns-clause-posted
-returns-clause-posted c = λ i bits t. frames.noted-posted i bits t
+returns-clause-posted c = λ i bits t. noting.noted-posted i bits t
 
 pub returns-clause-faulted : goal.returns-clause-faulted
-returns-clause-faulted c = λ g i fault t. frames.noted-faulted g i fault t
+returns-clause-faulted c = λ g i fault t. noting.noted-faulted g i fault t

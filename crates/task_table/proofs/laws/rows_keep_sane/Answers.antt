@@ -1,6 +1,4 @@
-use Rattle.task_table.proofs.Sanity.{sane-misused, sane-panicked, sane-call_noted}
-use Rattle.task_table.proofs.Timing.{sane-timer_set, sane-timer_told, sane-irq_controlled}
-use Rattle.task_table.proofs.Calling.{sane-received, sane-called}
+use Rattle.task_table.proofs.StepKeeps.{sane-misused, sane-panicked, sane-call_noted, sane-timer_set, sane-timer_told, sane-irq_controlled, sane-received, sane-called}
 use Rattle.task_table.proofs.laws.rows_keep_sane.Goals as goal
 
 pub returns-clause-misused : goal.returns-clause-misused

@@ -1,0 +1,7 @@
+-- What holds of each call of a list.
+use Rattle.std.proofs.Common.{ℕ, List, [], ◌∷◌}
+use Rattle.task_table.specs.Calls.{Meaning}
+
+abbrev pub EachMeaning : (Meaning → Type 0) → List (ℕ × Meaning) → Type 0
+EachMeaning P [] = Unit {0}
+EachMeaning P (call ∷ calls) = P call.1 × EachMeaning P calls
