@@ -139,6 +139,7 @@ impl Board {
         ensures model { (x : Scenario) (s : State) → Stands x self.old s → Stands x self.new (turn All x s).state }
         ensures notes { (x : Scenario) (s : State) → Stands x self.old s → notes_of self.new ≡ (turn All x s).notes }
         ensures turned { (x : Scenario) (s : State) → Stands x self.old s → result ≡ turned x s }
+        ensures few { length (notes_of self.new) ≤ turn_notes }
         ensures turns { turns_of self.new ≡ turns_of self.old + 1 }
     {
         self.turn_at(Level::All)
