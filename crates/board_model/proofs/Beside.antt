@@ -17,7 +17,8 @@ use Rattle.task_table.specs.Memory.{number_at, is_ram}
 use Rattle.task_table.specs.State.{Setup, State, Own, Turn}
 use Rattle.task_table.specs.Reading.{task_at, register, chosen}
 use Rattle.task_table.specs.Effects.{with_processor, stored}
-use Rattle.task_table.specs.Rows.{called, call_noted}
+use Rattle.task_table.specs.Rows.{call_noted}
+use Rattle.task_table.specs.Calls.{called}
 use Rattle.task_table.specs.Start.{begun}
 use Rattle.task_table.specs.Levels.{is_told_always}
 use Rattle.task_table.proofs.Telling.{always_told, Passes, by_test, passes-fold, filter_joined, noted_hidden, passes-faulted_as, passes-call_noted, passes-called, passes-ticked, passes-interrupted}

@@ -34,7 +34,7 @@ returns-clause-model c = λ x s st.
     let mid = midway_now x s b st c.requires.nothing c.requires.later c.requires.few in
     let h = as_chosen Calls x s m _ mid.choice (c.turn.ensures.holds x.setup _ (next_of x s b mid)) in
     let after = stands_after Calls x s m st.sane h in
-    let more = turn_more Calls x s in
+    let more = turn_more Calls x s st.sane in
     let N : ℕ → Type 0 = λ from. IsNext x.script from b.due in
     let D : Option ℕ → Type 0 = λ due. IsNext x.script (turn Calls x s).state.turn due in
     record {
@@ -46,7 +46,7 @@ returns-clause-model c = λ x s st.
         due = subst D (sym c.renew.ensures.due) (subst N (sym more) mid.due);
       };
       sane = after.sane;
-      counted = counted_turn Calls x s (few_events x s b st) st.counted;
+      counted = counted_turn Calls x s st.sane (few_events x s b st) st.counted;
     }
 
 pub returns-clause-notes : goal.returns-clause-notes
