@@ -2,7 +2,8 @@
 use Rattle.std.proofs.Common.{◌≡◌, ◌≢◌, ℕ, false, cond, refl, sym, ◌∙◌, ap, subst, arith, ◌==◌}
 use Rattle.task_table.specs.State.{Setup, Turn}
 use Rattle.task_table.specs.Reading.{register, best_sender}
-use Rattle.task_table.specs.Rows.{called, received, misused, panicked, timer_set, timer_told, irq_controlled}
+use Rattle.task_table.specs.Rows.{received, misused, panicked, timer_set, timer_told, irq_controlled}
+use Rattle.task_table.specs.Calls.{called}
 
 rows : Setup → ℕ → Turn → ℕ → Turn
 rows g c t n =

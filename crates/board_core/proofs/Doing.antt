@@ -5,9 +5,7 @@ use Rattle.thumb_insn.specs.declared.Decoded.TheVariants.{Narrow, Wide, Illegal,
 use Rattle.thumb_exec.specs.Effect.{Effect, Next, Call, Trap, Store, Stores, Halts}
 use Rattle.region_check.specs.declared.Region.{Region}
 use Rattle.task_table.specs.Reading.{setup_at}
-use Rattle.task_table.specs.Rows.{call_noted}
-use Rattle.task_table.proofs.Frames.{noted-faulted}
-use Rattle.task_table.proofs.Clocking.{noted-called}
+use Rattle.task_table.proofs.Noting.{noted-faulted}
 use Rattle.board_core.specs.Spans.{spans}
 use Rattle.board_core.specs.Texts.{GivesText, IsText}
 use Rattle.task_table.specs.State.{Setup, Turn}
@@ -21,6 +19,8 @@ use Rattle.board_core.specs.Machine.{IsReady, MachineHolds}
 use Rattle.board_core.proofs.Running.{stored_by, was_next, stores_hold, stores_notes}
 use Rattle.board_core.proofs.Lending.{lent_by, effect_lent, next_lent, goes_on}
 use Rattle.board_core.proofs.Gliding.{current_seen}
+use Rattle.board_core.proofs.Telling.{lent_ready}
+use Rattle.board_model.proofs.TurnChains.{noted-call}
 
 pub stores_current : (ss : List Store) (m m' : Reach) → Stores stored_by m ss m' → current_of m'.kernel ≡ current_of m.kernel
 stores_current [] m m' e = ap (λ (n : Reach). current_of n.kernel) e
@@ -69,16 +69,16 @@ text_here g m t text at r h within =
     sym (subst C (current_seen g m t r) (subst S r.holds.holds.setup h) at within)
 
 -- a call and a fault are noted
-loud_acted : (g : Setup) (c : ℕ) (t : Turn) (e : Effect) → Halts e → (acted g c e t).notes ≢ []
-loud_acted g c t (Next d ss) h = absurd h
-loud_acted g c t Call h = noted-called g c (call_noted c t)
-loud_acted g c t (Trap f) h = noted-faulted g c f t
+loud_acted : (g : Setup) (m : Machine) (t : Turn) (e : Effect) → IsReady g m t → Halts e → (acted g t.state.current e t).notes ≢ []
+loud_acted g m t (Next d ss) r h = absurd h
+loud_acted g m t Call r h = noted-call g t.state.current t r.sane r.sane.steady.current (lent_ready g m.reach.kernel m.processor t r.holds r.sane.steady.current)
+loud_acted g m t (Trap f) r h = noted-faulted g t.state.current f t
 
 pub did_loud : (g : Setup) (t : Turn) (a b : Machine) (at code : ℕ) (d : Decoded) → IsReady g a t → Did a d false b → (decoded_as Calls g t.state.current at code d t).notes ≢ []
 did_loud g t a b at code (Narrow insn) r h =
     let here = effect_lent g _ _ t insn r.holds r.sane.steady.current in
     let H : Effect → Type 0 = λ e. Halts e in
-    loud_acted g t.state.current t _ (subst H here h.0)
+    loud_acted g a t _ r (subst H here h.0)
 did_loud g t a b at code (Wide insn) r h = absurd h
 did_loud g t a b at code Illegal r h = noted-faulted g t.state.current _ t
 did_loud g t a b at code NeedsSecond r h = absurd h

@@ -19,7 +19,7 @@ use Rattle.board_core.specs.Stands.{Stands, notes_of, turns_of}
 use Rattle.board_model.specs.Turn.{turn}
 use Rattle.board_model.specs.Run.{ending, is_down, turn_after}
 use Rattle.board_core.specs.Advanced.{IsAdvanced}
-use Rattle.board_model.proofs.TurnKeeps.{begun_sane}
+use Rattle.board_model.proofs.TurnChains.{begun_sane}
 use Rattle.board_core.proofs.Lending.{told_by, rest_of}
 use Rattle.board_model.proofs.Outside.{nothing_due, due_later, no_event, begun_state}
 use Rattle.board_core.proofs.Turning.{rested}

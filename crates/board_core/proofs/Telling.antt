@@ -8,7 +8,8 @@ use Rattle.task_table.specs.Reading.{is_ready, task_at}
 use Rattle.task_table.specs.Effects.{noted}
 use Rattle.task_table.specs.Rows.{call_noted}
 use Rattle.task_table.specs.Holds.{Holds, Stands}
-use Rattle.task_table.proofs.Sanity.{sane-noted, sane-call_noted}
+use Rattle.task_table.proofs.Sanity.{sane-noted}
+use Rattle.task_table.proofs.StepKeeps.{sane-call_noted}
 use Rattle.board_core.specs.declared.machine.Machine.{Machine}
 use Rattle.board_model.specs.declared.told.Level.{Level}
 use Rattle.board_model.specs.declared.told.Level.TheVariants.{Calls, All}
@@ -16,14 +17,13 @@ use Rattle.board_core.specs.Machine.{with_cpu, IsLent, IsReady}
 use Rattle.board_model.specs.Turn.{told, with_registers_told, high_note, low_note}
 use Rattle.board_core.proofs.Lending.{rest_of, lent_noted}
 use Rattle.board_model.proofs.Quiet.{ready-with_processor}
-use Rattle.board_model.proofs.TurnKeeps.{told_state, ready-call_noted}
+use Rattle.board_model.proofs.TurnChains.{told_state, ready-call_noted}
 
 pub lent_ready : (g : Setup) (k : Kernel) (cpu : Cpu) (t : Turn) → IsLent g k cpu t → t.state.current < length t.state.tasks → is_ready t.state t.state.current ≡ true
 lent_ready g k cpu t h inside =
     let s = h.saved in
     let rest = rest_of s t cpu h.is in
-    let there : s.state.current < length s.state.tasks = rw (rest.current, rest.count) at inside in
-    let same : is_ready (with_cpu cpu s).state s.state.current ≡ true = ready-with_processor s.state.current cpu.regs.words cpu.flags s there ∙ h.ready in
+    let same : is_ready (with_cpu cpu s).state s.state.current ≡ true = ready-with_processor s.state.current cpu.regs.words cpu.flags s ∙ h.ready in
     ap (λ (i : ℕ). is_ready t.state i) rest.current ∙ ap (λ (u : Turn). is_ready u.state s.state.current) h.is ∙ same
 
 -- the kernel as a task calls: what it stands for, and that the caller is ready

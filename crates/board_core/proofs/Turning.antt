@@ -20,7 +20,7 @@ use Rattle.board_core.specs.Stands.{Stands}
 use Rattle.board_core.specs.Kept.{IsChoice}
 use Rattle.board_model.specs.Turn.{turn, ended, turn_of, after_events}
 use Rattle.board_core.proofs.Lending.{told_by, between_by}
-use Rattle.board_model.proofs.TurnKeeps.{sane-after, sane-after_events}
+use Rattle.board_model.proofs.TurnChains.{sane-after, sane-after_events}
 use Rattle.board_model.proofs.Quiet.{quiet-turn}
 
 -- a machine between turns

@@ -2,7 +2,8 @@
 ghost use Rattle.std.specs.Prelude.{◌≡◌, ◌+◌, ◌≤◌, ◌<◌, true};
 ghost use Rattle.task_table.specs.State.{Setup, Turn};
 ghost use Rattle.task_table.specs.Reading.{is_ready, best_sender};
-ghost use Rattle.task_table.specs.Rows.{received, called};
+ghost use Rattle.task_table.specs.Rows.{received};
+ghost use Rattle.task_table.specs.Calls.{called};
 ghost use Rattle.task_table.specs.Holds.{Stands, task_count, note_count};
 ghost use Rattle.task_table.specs.Limits.{call_notes, turn_notes};
 ghost use Rattle.task_table.specs.Frames.{AddsAtMost};

@@ -10,7 +10,8 @@ ghost use Rattle.task_table.specs.Reading.{is_ready, task_at, setup_at, register
 ghost use Rattle.task_table.specs.Start.{begun};
 ghost use Rattle.task_table.specs.Memory.{number_at};
 ghost use Rattle.task_table.specs.Effects.{faulted};
-ghost use Rattle.task_table.specs.Rows.{called, call_noted};
+ghost use Rattle.task_table.specs.Rows.{call_noted};
+ghost use Rattle.task_table.specs.Calls.{called};
 ghost use Rattle.task_table.specs.Holds.{Holds, task_count, note_count, memory_of, setup_of, current_of};
 ghost use Rattle.task_table.specs.Limits.{call_notes, turn_notes};
 ghost use Rattle.task_table.specs.Frames.{AddsNotes};

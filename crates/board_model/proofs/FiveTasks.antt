@@ -14,7 +14,8 @@ use Rattle.task_table.specs.State.{Setup}
 use Rattle.task_table.specs.Reading.{task_at, line_at, register, arguments, call_of, listen_of, dead_code_for, is_out, is_dead, is_ready, bad_byte, chosen, offer_by, best_sender}
 use Rattle.task_table.specs.Effects.{with_task, without_call, without_listen, with_listen, with_taken, noted, with_processor, with_health, stored, copied, looked, given, returned, advanced, bits_added, bits_cleared, woken, posted, with_timer, clocked, with_line, closed, faulted_as, handed}
 use Rattle.task_table.specs.Events.{ticked, owner_of, interrupted}
-use Rattle.task_table.specs.Rows.{panicked, timer_set, timer_told, irq_controlled, received, call_noted, called}
+use Rattle.task_table.specs.Rows.{panicked, timer_set, timer_told, irq_controlled, received, call_noted}
+use Rattle.task_table.specs.Calls.{called}
 use Rattle.task_table.specs.Start.{start, begun}
 use Rattle.board_model.specs.declared.told.End.TheVariants.{Bound}
 use Rattle.board_model.specs.declared.told.Level.TheVariants.{Calls}

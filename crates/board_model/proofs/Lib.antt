@@ -1,4 +1,4 @@
-pub mod TurnKeeps
+pub mod TurnChains
 pub mod Counts
 pub mod Quiet
 pub mod Stepping

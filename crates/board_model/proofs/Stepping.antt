@@ -16,7 +16,7 @@ use Rattle.task_table.specs.Effects.{stored, faulted}
 use Rattle.task_table.specs.Sane.{Sane}
 use Rattle.board_model.specs.declared.told.Level.{Level}
 use Rattle.board_model.specs.Turn.{refusals, cpu_of, bytes_of, put, is_text, decoded_as, stepped, stepped_wide}
-use Rattle.board_model.proofs.TurnKeeps.{whole_cpu}
+use Rattle.board_model.proofs.TurnChains.{whole_cpu}
 
 -- ## its stores
 

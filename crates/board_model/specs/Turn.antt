@@ -17,7 +17,8 @@ use Rattle.task_table.specs.State.{Setup, Task, State, Own, Turn}
 use Rattle.task_table.specs.Reading.{task_at, setup_at, register, chosen}
 use Rattle.task_table.specs.Effects.{changed, noted, with_processor, stored, faulted}
 use Rattle.task_table.specs.Events.{ticked, interrupted}
-use Rattle.task_table.specs.Rows.{first_row, called, call_noted}
+use Rattle.task_table.specs.Rows.{first_row, call_noted}
+use Rattle.task_table.specs.Calls.{called}
 use Rattle.task_table.specs.Start.{begun}
 use Rattle.run_script.specs.declared.events.Event.{Event}
 use Rattle.run_script.specs.declared.events.Event.TheVariants.{Tick, Irq}

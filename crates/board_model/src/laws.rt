@@ -13,10 +13,18 @@ ghost use Rattle.task_table.specs.State.{Setup, State, Turn};
 ghost use Rattle.task_table.specs.Reading.{task_at, chosen, is_ready};
 ghost use Rattle.task_table.specs.Start.{begun};
 ghost use Rattle.task_table.specs.Sane.{Sane, IsCounted};
+ghost use Rattle.task_table.specs.Chain.{Chain};
+ghost use Rattle.task_table.specs.Step.{Step};
 ghost use Rattle.board_model.specs.declared.told.Level.{Level as Detail};
 ghost use Rattle.board_model.specs.Script.{Scenario};
-ghost use Rattle.board_model.specs.Turn.{refusals, cpu_of, put, told, stepped, happened, after_events, turn};
+ghost use Rattle.board_model.specs.Turn.{refusals, cpu_of, put, told, stepped, happened, after_events, with_current, with_registers_told, turn};
 ghost use Rattle.board_model.specs.Run.{is_down, end_at, ending};
+
+/// The turn of the chosen task, from where it is the current one, is a chain of steps: those of its
+/// instruction or of its call's row, and what is told besides.
+pub fn turns_are_chains_of_steps()
+    ensures { (level : Detail) (g : Setup) (c : ℕ) (t : Turn) → Sane g t.state → chosen g t.state ≡ Some c → Chain (Step g (with_current c t).state c) (with_current c t) (with_registers_told level c (stepped level g c (with_current c t))) }
+{}
 
 /// The events of a turn, an instruction of a ready task and the whole turn leave a sane state sane.
 pub fn turns_keep_sane()
@@ -34,9 +42,9 @@ pub fn who_is_chosen_is_ready()
 /// A turn counts itself, events change the time by at most a tick each, and so the counts are in order
 /// after each turn.
 pub fn turns_keep_counts_in_order()
-    ensures turn { (level : Detail) (x : Scenario) (s : State) → (turn level x s).state.turn ≡ s.turn + 1 }
+    ensures turn { (level : Detail) (x : Scenario) (s : State) → Sane x.setup s → (turn level x s).state.turn ≡ s.turn + 1 }
     ensures now { (g : Setup) (events : List Event) (t : Turn) → (fold (happened g) t events).state.now ≤ t.state.now + length events }
-    ensures counted { (level : Detail) (x : Scenario) (s : State) → length (events_of x.script s.turn) ≤ 9 → IsCounted s → IsCounted (turn level x s).state }
+    ensures counted { (level : Detail) (x : Scenario) (s : State) → Sane x.setup s → length (events_of x.script s.turn) ≤ 9 → IsCounted s → IsCounted (turn level x s).state }
 {}
 
 /// A turn that notes nothing leaves the choice: after it the same task is chosen as after its events, and

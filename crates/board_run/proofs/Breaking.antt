@@ -5,6 +5,7 @@ use Rattle.std.proofs.lemmas.Bool.Decides.{nat_tests}
 use Rattle.std.proofs.lemmas.Grind.{flat_map-append}
 use Rattle.std.specs.Io.KnownBytes.{Appends}
 use Rattle.kernel_abi.specs.declared.Note.{Note}
+use Rattle.task_table.specs.Sane.{Sane}
 use Rattle.task_table.specs.State.{State}
 use Rattle.board_core.specs.declared.board.Board.{Board}
 use Rattle.board_model.specs.declared.told.End.{End}
@@ -60,13 +61,13 @@ module _ (level : Level) (x : Scenario) where
   run_shorter (suc n) s = let e : suc n - 1 ≡ n = omega arith in rw e (run_longer n s)
 
   -- turns that note nothing write no lines
-  silent : (n : ℕ) (t : State) → ending x 1 t ≡ None → ((k : ℕ) → k < n → (turn_after level x k t).notes ≡ []) → ((k : ℕ) → k < n → ending x 1 (turn_after level x k t).state ≡ None) → (run level x n t).notes ≡ []
-  silent zero t goes none on = nothing_run t
-  silent (suc n) t goes none on =
+  silent : (n : ℕ) (t : State) → Sane x.setup t → ending x 1 t ≡ None → ((k : ℕ) → k < n → (turn_after level x k t).notes ≡ []) → ((k : ℕ) → k < n → ending x 1 (turn_after level x k t).state ≡ None) → (run level x n t).notes ≡ []
+  silent zero t h goes none on = nothing_run t
+  silent (suc n) t h goes none on =
       let last : State = (turn_after level x n t).state in
       let e : suc n ≡ n + suc 0 = omega arith in
       ap (λ (i : ℕ). (run level x i t).notes) e
-      ∙ ap (λ (r : Run). r.notes) (run_advances level x 0 n t goes (λ k lt. none k (omega (arith, lt))) (λ k lt. on k (omega (arith, lt))))
+      ∙ ap (λ (r : Run). r.notes) (run_advances level x 0 n t h goes (λ k lt. none k (omega (arith, lt))) (λ k lt. on k (omega (arith, lt))))
       ∙ ap (λ (ns : List Note). at_turn (t.turn + n) ns ++ (run level x 0 last).notes) (none n (omega arith))
       ∙ nothing_run last
 
@@ -96,7 +97,7 @@ module _ (level : Level) (x : Scenario) where
       let from : s.turn ≤ t.turn = m.after in
       let less : turns_of b' - s.turn - 1 ≡ turns_of b - s.turn + n = omega (arith, h.turns) in
       let whole : turn_lines level x (turns_of b' - s.turn - 1) s ≡ notes_text m.front =
-      ap (λ (i : ℕ). turn_lines level x i s) less ∙ lines_so_far n before now s b m (silent n t (h.goes t m.stands) advanced.nothing advanced.goes_on) in
+      ap (λ (i : ℕ). turn_lines level x i s) less ∙ lines_so_far n before now s b m (silent n t m.stands.sane (h.goes t m.stands) advanced.nothing advanced.goes_on) in
       let k : turns_of b' - s.turn ≡ next.turn - s.turn + 0 = omega arith in
       let all : turn_lines level x (turns_of b' - s.turn) s ≡ notes_text m.front ++ notes_text new =
       ap (λ (i : ℕ). turn_lines level x i s) k

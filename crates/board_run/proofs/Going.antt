@@ -17,6 +17,8 @@ use Rattle.board_core.specs.Stands.{Stands, notes_of, turns_of}
 use Rattle.board_core.specs.Advanced.{IsAdvanced}
 use Rattle.board_model.specs.Run.{turn_after, end_at, Run, run, ending, end_by, is_down, is_still, unless, ended_at, with_front, at_turn}
 use Rattle.board_model.proofs.Counts.{turn_more}
+use Rattle.board_model.proofs.TurnChains.{sane-after}
+use Rattle.task_table.specs.Sane.{Sane}
 use Rattle.outside_io.specs.Outside.{AppendsFront, Pushes}
 use Rattle.board_run.specs.Text.{notes_text, trace_text, end_text}
 use Rattle.board_run.specs.Midway.{Midway}
@@ -61,13 +63,19 @@ goes_on : (x : Scenario) (s : State) (left more : ℕ) → ending x left s ≡ N
 unfolding ending
 goes_on x s left more is = goes_by (is_down s) (is_still x s) left more is
 
--- the turn number after n turns and one more
-turns_after : (level : Level) (x : Scenario) (n : ℕ) (t : State) → (turn_after level x n t).state.turn ≡ t.turn + suc n
+-- turns on end keep a state sane
+sane_after : (level : Level) (x : Scenario) (n : ℕ) (t : State) → Sane x.setup t → Sane x.setup (turn_after level x n t).state
 unfolding turn_after
-turns_after level x zero t = let more = turn_more level x t in omega (arith, more)
-turns_after level x (suc n) t =
-    let more = turn_more level x (turn_after level x n t).state in
-    let before = turns_after level x n t in
+sane_after level x zero t h = sane-after level x t h
+sane_after level x (suc n) t h = sane-after level x (turn_after level x n t).state (sane_after level x n t h)
+
+-- the turn number after n turns and one more
+turns_after : (level : Level) (x : Scenario) (n : ℕ) (t : State) → Sane x.setup t → (turn_after level x n t).state.turn ≡ t.turn + suc n
+unfolding turn_after
+turns_after level x zero t h = let more = turn_more level x t h in omega (arith, more)
+turns_after level x (suc n) t h =
+    let more = turn_more level x (turn_after level x n t).state (sane_after level x n t h) in
+    let before = turns_after level x n t h in
     omega (arith, more, before)
 
 fronts : (a b : List (ℕ × Note)) (r : Run) → with_front a (with_front b r) ≡ with_front (a ++ b) r
@@ -101,19 +109,19 @@ no_front : (r : Run) → with_front [] r ≡ r
 no_front r = refl
 
 -- n turns that note nothing, and one more: the run goes on with the notes of that one
-pub run_advances : (level : Level) (x : Scenario) (left n : ℕ) (t : State) → ending x 1 t ≡ None → ((k : ℕ) → k < n → (turn_after level x k t).notes ≡ []) → ((k : ℕ) → k < n → ending x 1 (turn_after level x k t).state ≡ None) →
+pub run_advances : (level : Level) (x : Scenario) (left n : ℕ) (t : State) → Sane x.setup t → ending x 1 t ≡ None → ((k : ℕ) → k < n → (turn_after level x k t).notes ≡ []) → ((k : ℕ) → k < n → ending x 1 (turn_after level x k t).state ≡ None) →
     run level x (n + suc left) t ≡ with_front (at_turn (t.turn + n) (turn_after level x n t).notes) (run level x left (turn_after level x n t).state)
 unfolding turn_after
-run_advances level x left zero t goes none on =
+run_advances level x left zero t h goes none on =
     let e : t.turn ≡ t.turn + 0 = omega arith in
     let z : 0 + suc left ≡ suc left = omega arith in
     ap (λ (m : ℕ). run level x m t) z ∙ run_goes level x left t (goes_on x t 1 left goes) ∙ ap (λ (k : ℕ). with_front (at_turn k (turn level x t).notes) (run level x left (turn level x t).state)) e
-run_advances level x left (suc n) t goes none on =
+run_advances level x left (suc n) t h goes none on =
     let u : State = (turn_after level x n t).state in
     let k : suc n + suc left ≡ n + suc (suc left) = omega arith in
-    let at : u.turn ≡ t.turn + suc n = turns_after level x n t in
+    let at : u.turn ≡ t.turn + suc n = turns_after level x n t h in
     ap (λ (m : ℕ). run level x m t) k
-    ∙ run_advances level x (suc left) n t goes (λ k lt. none k (omega (arith, lt))) (λ k lt. on k (omega (arith, lt)))
+    ∙ run_advances level x (suc left) n t h goes (λ k lt. none k (omega (arith, lt))) (λ k lt. on k (omega (arith, lt)))
     ∙ ap (λ (ns : List Note). with_front (at_turn (t.turn + n) ns) (run level x (suc left) u)) (none n (omega arith))
     ∙ no_front (run level x (suc left) u)
     ∙ run_goes level x left u (goes_on x u 1 left (on n (omega arith)))
@@ -144,7 +152,7 @@ turn_rest level x n w w' s b b' notes h m =
       λ left.
           let k : next.turn - s.turn + left ≡ t.turn - s.turn + (n + suc left) = omega arith in
           ap (λ (i : ℕ). run level x i s) k ∙ m.rest (n + suc left)
-          ∙ ap (with_front m.front) (run_advances level x left n t (h.goes t m.stands) a.nothing a.goes_on)
+          ∙ ap (with_front m.front) (run_advances level x left n t m.stands.sane (h.goes t m.stands) a.nothing a.goes_on)
           ∙ fronts m.front (at_turn (t.turn + n) (turn_after level x n t).notes) (run level x left next),
     )
 

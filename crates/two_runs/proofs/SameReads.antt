@@ -16,7 +16,7 @@ use Rattle.board_model.specs.declared.told.Level.{Level}
 use Rattle.board_model.specs.declared.told.Level.TheVariants.{Calls, All}
 use Rattle.board_model.specs.Script.{Scenario}
 use Rattle.board_model.specs.Turn.{may, after_events, turn_of, ended, turn}
-use Rattle.board_model.proofs.TurnKeeps.{sane-after_events}
+use Rattle.board_model.proofs.TurnChains.{sane-after_events}
 use Rattle.two_runs.specs.Alike.{Viewer, IsAttentive, seen, AreAlikeMemories, IsAlike, AreSeen}
 use Rattle.two_runs.specs.Agreement.{is_own, covers, is_read, AgreesOnReads, rest_of, with_memory, IsSameButMemory}
 use Rattle.two_runs.proofs.Alike.{shown, chosen_alike}

@@ -1,4 +1,4 @@
-use Rattle.board_model.proofs.TurnKeeps.{told_state}
+use Rattle.board_model.proofs.TurnChains.{told_state}
 use Rattle.board_model.proofs.Stepping.{puts_state}
 use Rattle.board_model.proofs.laws.stores_change_memory_alone.Goals as goal
 

@@ -2,10 +2,10 @@ use Rattle.board_model.proofs.Counts.{turn_more, later-events, counted_turn}
 use Rattle.board_model.proofs.laws.turns_keep_counts_in_order.Goals as goal
 
 pub returns-clause-turn : goal.returns-clause-turn
-returns-clause-turn c = λ level x s. turn_more level x s
+returns-clause-turn c = λ level x s sane. turn_more level x s sane
 
 pub returns-clause-now : goal.returns-clause-now
 returns-clause-now c = λ g events t. (later-events g events t).now
 
 pub returns-clause-counted : goal.returns-clause-counted
-returns-clause-counted c = λ level x s few h. counted_turn level x s few h
+returns-clause-counted c = λ level x s sane few h. counted_turn level x s sane few h

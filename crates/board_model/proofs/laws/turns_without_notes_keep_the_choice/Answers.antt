@@ -1,4 +1,4 @@
-use Rattle.board_model.proofs.TurnKeeps.{sane-after_events}
+use Rattle.board_model.proofs.TurnChains.{sane-after_events}
 use Rattle.board_model.proofs.Quiet.{quiet-turn}
 use Rattle.board_model.proofs.laws.turns_without_notes_keep_the_choice.Goals as goal
 

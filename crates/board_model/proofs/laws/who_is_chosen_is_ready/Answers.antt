@@ -1,4 +1,4 @@
-use Rattle.board_model.proofs.TurnKeeps.{chosen_is}
+use Rattle.board_model.proofs.TurnChains.{chosen_is}
 use Rattle.board_model.proofs.laws.who_is_chosen_is_ready.Goals as goal
 
 pub returns-clause-ready : goal.returns-clause-ready

@@ -8,7 +8,7 @@ use Rattle.board_model.specs.Script.{Scenario}
 use Rattle.board_core.specs.Kept.{IsChoice}
 use Rattle.board_core.specs.Machine.{MachineHolds, MachineStands}
 use Rattle.board_core.specs.Stands.{Stands}
-use Rattle.board_model.proofs.TurnKeeps.{begun_sane}
+use Rattle.board_model.proofs.TurnChains.{begun_sane}
 use Rattle.board_model.proofs.Outside.{nothing_due, due_later, no_event, begun_state}
 use Rattle.board_core.proofs.Turning.{rested}
 use Rattle.board_core.proofs.board.Board.begin.Goals as goal

@@ -46,7 +46,7 @@ stands_so : (x : Scenario) (s : State) (b : Board) (m : Machine) (n : ℕ) → S
     Stands x record b { machine = m; turns = n } (turn Calls x s).state
 stands_so x s b m n st mid h none more =
     let after = stands_after Calls x s m st.sane h in
-    let next = turn_more Calls x s in
+    let next = turn_more Calls x s st.sane in
     let N : ℕ → Type 0 = λ from. IsNext x.script from b.due in
     record {
       holds = record {
@@ -57,7 +57,7 @@ stands_so x s b m n st mid h none more =
         due = subst N (sym next) mid.due;
       };
       sane = after.sane;
-      counted = counted_turn Calls x s (few_events x s b st) st.counted;
+      counted = counted_turn Calls x s st.sane (few_events x s b st) st.counted;
     }
 
 pub proceeds-requires-clause-ready : goal.proceeds-requires-clause-ready

@@ -25,7 +25,7 @@ returns-clause-model c = λ x s st.
     let mid = c.begin.ensures.midway x s st in
     let h = as_chosen level x s m _ mid.choice (c.turn-turned.ensures.holds x.setup _ (next_of x s c.begin.new.self mid)) in
     let after = stands_after level x s m st.sane h in
-    let more = turn_more level x s in
+    let more = turn_more level x s st.sane in
     let N : ℕ → Type 0 = λ from. IsNext x.script from c.begin.new.self.due in
     let D : Option ℕ → Type 0 = λ due. IsNext x.script (turn level x s).state.turn due in
     record {
@@ -37,7 +37,7 @@ returns-clause-model c = λ x s st.
         due = subst D (sym c.renew.ensures.due) (subst N (sym more) mid.due);
       };
       sane = after.sane;
-      counted = counted_turn level x s (few_events x s c.args.self.now st) st.counted;
+      counted = counted_turn level x s st.sane (few_events x s c.args.self.now st) st.counted;
     }
 
 pub returns-clause-notes : goal.returns-clause-notes

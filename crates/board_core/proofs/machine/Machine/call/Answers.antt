@@ -1,5 +1,6 @@
 use Rattle.std.proofs.Common.{ℕ, subst}
-use Rattle.task_table.specs.Rows.{called, call_noted}
+use Rattle.task_table.specs.Rows.{call_noted}
+use Rattle.task_table.specs.Calls.{called}
 use Rattle.task_table.specs.Holds.{Holds}
 use Rattle.board_core.proofs.Lending.{stands_of, settled_by}
 use Rattle.board_core.proofs.Telling.{calling}

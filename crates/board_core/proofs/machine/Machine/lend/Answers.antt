@@ -1,6 +1,6 @@
 use Rattle.std.proofs.Common.{sym, ◌∙◌}
 use Rattle.board_model.specs.Turn.{with_current}
-use Rattle.board_model.proofs.TurnKeeps.{as_current}
+use Rattle.board_model.proofs.TurnChains.{as_current}
 use Rattle.board_core.proofs.Lending.{is_lent, rest_of, lent_again, lent_own}
 use Rattle.board_core.proofs.machine.Machine.lend.Goals as goal
 

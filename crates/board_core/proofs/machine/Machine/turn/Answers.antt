@@ -4,7 +4,7 @@ use Rattle.task_table.proofs.Sanity.{sane-current}
 use Rattle.board_model.specs.declared.told.Turned.TheVariants.{Ran}
 use Rattle.board_core.specs.Machine.{IsReady, MachineHolds}
 use Rattle.board_model.specs.Turn.{turn_of, turned_of, stepped, with_current}
-use Rattle.board_model.proofs.TurnKeeps.{chosen_is, sane-ran}
+use Rattle.board_model.proofs.TurnChains.{chosen_is, sane-ran}
 use Rattle.board_core.proofs.Lending.{below, lent_register, register_current}
 use Rattle.board_core.proofs.machine.Machine.turn.Goals as goal
 

@@ -1,0 +1,378 @@
+-- A turn is a chain of steps: its instruction, or the row of its call, with what is told besides.
+use Rattle.std.proofs.Common.{◌≡◌, ◌≢◌, ◌+◌, ◌-◌, ◌*◌, ◌/◌, ◌%◌, ◌^◌, ◌<◌, ◌≤◌, ◌⊎◌, inl, inr, ℕ, zero, suc, Bool, true, false, cond, not, ◌&&◌, ◌||◌, List, [], ◌∷◌, length, take, drop, Option, Some, None, refl, sym, ◌∙◌, ap, arith, leb, ltb, IfSome}
+use Rattle.std.specs.Prelude.{Contains, fold, find}
+use Rattle.std.specs.List.{range_with_len, list_any}
+use Rattle.std.proofs.lemmas.List.Elements.{Contains-append_cases}
+use Rattle.std.proofs.lemmas.Bool.{leb-true, false≢true}
+use Rattle.std.proofs.lemmas.Bool.Decides.{eqb_tells}
+use Rattle.kernel_abi.specs.declared.Ending.TheVariants.{Client}
+use Rattle.kernel_abi.specs.declared.Note.{Note}
+use Rattle.kernel_abi.specs.declared.Note.TheVariants as note
+use Rattle.region_check.specs.declared.Region.{Region}
+use Rattle.region_check.specs.declared.Right.TheVariants.{Write}
+use Rattle.region_check.specs.Rights.{gives, gives_copy, is_inside, has_right}
+use Rattle.run_script.specs.declared.events.Event.{Event}
+use Rattle.run_script.specs.declared.events.Event.TheVariants.{Tick, Irq}
+use Rattle.run_script.specs.Scripts.{events_of}
+use Rattle.thumb_insn.specs.declared.Insn.{Insn}
+use Rattle.thumb_insn.specs.declared.Decoded.{Decoded}
+use Rattle.thumb_insn.specs.declared.Decoded.TheVariants.{Narrow, Wide, Illegal, NeedsSecond}
+use Rattle.thumb_insn.specs.Table.{decoded_of, is_wide}
+use Rattle.thumb_exec.specs.Effect.{Effect, Next, Call, Trap, Store, effect}
+use Rattle.task_table.specs.Memory.{Memory, IsWithinRam, number_at, number_of, bytes_at, is_ram}
+use Rattle.task_table.specs.State.{Setup, State, Ground, Own, Turn}
+use Rattle.task_table.specs.Reading.{setup_at, task_at, register, call_of, listen_of, chosen, qualifies, around, is_ready}
+use Rattle.task_table.specs.Effects.{noted, stored}
+use Rattle.task_table.specs.Events.{ticked, interrupted}
+use Rattle.task_table.specs.Rows.{call_noted}
+use Rattle.task_table.specs.Calls.{called}
+use Rattle.task_table.specs.Start.{begun}
+use Rattle.task_table.specs.Placed.{ArePlaced}
+use Rattle.task_table.specs.Sane.{Sane, AreAllBytes}
+use Rattle.task_table.specs.Counts.{IsNoted}
+use Rattle.task_table.specs.Grounds.{MayWrite}
+use Rattle.task_table.proofs.Posting.{keeps-noted}
+use Rattle.task_table.proofs.Sanity.{take_in, drop_in, sane-stored, sane-current, sane-turn}
+use Rattle.task_table.proofs.Steps.{length-with_bytes}
+use Rattle.task_table.proofs.StepKeeps.{chain_sane}
+use Rattle.task_table.proofs.Timing.{sane-ticked, sane-interrupted}
+use Rattle.task_table.specs.Chain.{Chain, Here}
+use Rattle.task_table.specs.Step.{Step, Notes, Runs, Stores, Faults}
+use Rattle.task_table.proofs.Chains.{one, ◌▷◌, joined, by_chain}
+use Rattle.task_table.proofs.Moves.{IsAside, aside_here, aside-noted}
+use Rattle.task_table.proofs.Noting.{noted-noted, chain_noted}
+use Rattle.task_table.proofs.RowChains.{chain-called}
+use Rattle.board_model.specs.declared.told.Level.{Level}
+use Rattle.board_model.specs.declared.told.Level.TheVariants.{Calls, All}
+use Rattle.board_model.specs.Script.{Scenario}
+use Rattle.board_model.specs.Turn.{may, refusals, cpu_of, bytes_of, put, acted, executed, told, decoded_as, is_text, stepped, happened, after_events, with_current, low_note, high_note, with_registers_told, turn_of, ended, turn}
+use Rattle.thumb_exec.specs.Keeps.{IsWholeCpu, IsPermitted, Keeps}
+use Rattle.thumb_exec.proofs.Keeping.{keeps}
+use Rattle.thumb_insn.specs.Table.{narrow_of, wide_of, narrow_result, wide_result, with_second}
+use Rattle.thumb_insn.specs.Range.{IsCoded}
+use Rattle.thumb_insn.specs.declared.Code.TheVariants.{One, Two}
+
+-- ## small things
+
+both_true : (a b : Bool) → (a && b) ≡ true → (a ≡ true) × (b ≡ true)
+both_true true b h = (refl, h)
+both_true false b h = cc
+
+no_byte : AreAllBytes []
+no_byte b h = absurd (omega (arith, h.1))
+
+one_more : (x : ℕ) (xs : List ℕ) → x < 256 → AreAllBytes xs → AreAllBytes (x ∷ xs)
+one_more x xs small all b (zero, lt, same) = let e : x ≡ b = same in omega arith
+one_more x xs small all b (suc i, lt, same) = all b (i, omega arith, same)
+
+all_bytes : (v n : ℕ) → AreAllBytes (bytes_of v n)
+all_bytes v n b here =
+    one_more (v % 256) (v / 2 ^ 8 % 256 ∷ v / 2 ^ 16 % 256 ∷ v / 2 ^ 24 % 256 ∷ []) (omega arith) (one_more (v / 2 ^ 8 % 256) (v / 2 ^ 16 % 256 ∷ v / 2 ^ 24 % 256 ∷ []) (omega arith) (one_more (v / 2 ^ 16 % 256) (v / 2 ^ 24 % 256 ∷ []) (omega arith) (one_more (v / 2 ^ 24 % 256) [] (omega arith) no_byte))) b
+    (take_in n (v % 256 ∷ v / 2 ^ 8 % 256 ∷ v / 2 ^ 16 % 256 ∷ v / 2 ^ 24 % 256 ∷ []) b here)
+
+few_bytes : (v n : ℕ) → (n ≡ 1) ⊎ (n ≡ 2) ⊎ (n ≡ 4) → length (bytes_of v n) ≡ n
+few_bytes v n (inl e) = rw e refl
+few_bytes v n (inr (inl e)) = rw e refl
+few_bytes v n (inr (inr e)) = rw e refl
+
+-- two bytes spell a number below 2 ^ 16
+number_small : (xs : List ℕ) → AreAllBytes xs → number_of (take 2 xs) < 65536
+number_small [] all = omega arith
+number_small (x ∷ []) all = let a = all x (zero, omega arith, refl) in omega arith
+number_small (x ∷ y ∷ xs) all = let a = all x (zero, omega arith, refl) in let b = all y (1, omega arith, refl) in omega arith
+
+pub half_small : (m : Memory) (a : ℕ) → AreAllBytes m.flash → AreAllBytes m.ram → number_at m a 2 < 65536
+unfolding bytes_at
+half_small m a flash ram = by_ram (leb 0x20000000 a)
+  where
+    by_flash : (b : Bool) → number_of (cond b (take 2 (drop (a - 0x08000000) m.flash)) []) < 65536
+    by_flash true = number_small (drop (a - 0x08000000) m.flash) (λ b here. flash b (drop_in _ m.flash b here))
+    by_flash false = omega arith
+
+    by_ram : (b : Bool) → number_of (cond b (take 2 (drop (a - 0x20000000) m.ram)) (cond (leb 0x08000000 a) (take 2 (drop (a - 0x08000000) m.flash)) [])) < 65536
+    by_ram true = number_small (drop (a - 0x20000000) m.ram) (λ b here. ram b (drop_in _ m.ram b here))
+    by_ram false = by_flash (leb 0x08000000 a)
+
+-- ## what an instruction may store
+
+no_some : {A P : Type 0} {a : A} → Some a ≡ None → P
+no_some e = cc
+
+-- nothing found: each passes not
+none_lacks : (p : ℕ → Bool) (base n a : ℕ) → find (λ x. not (p x)) (range_with_len base n) ≡ None → base ≤ a → a < base + n → p a ≡ true
+none_lacks p base zero a e low high = absurd (omega arith)
+none_lacks p base (suc n) a e low high = go (p base) refl split (λ rest more. none_lacks p (base + 1) n a rest more (omega arith))
+  where
+    split : (a ≡ base) ⊎ (base + 1 ≤ a)
+    split = elim (eqb_tells a base) [ inl same ↦ inl same.1 | inr other ↦ let ne : a ≢ base = other.1 in inr (omega arith) ]
+
+    go : (b : Bool) → p base ≡ b → (a ≡ base) ⊎ (base + 1 ≤ a) → (find (λ x. not (p x)) (range_with_len (base + 1) n) ≡ None → base + 1 ≤ a → p a ≡ true) → p a ≡ true
+    go true t (inl same) later = rw same t
+    go true t (inr more) later = later (rw t at e) more
+    go false f either later = no_some (rw f at e)
+
+or_cases : (a b : Bool) → (a || b) ≡ true → (a ≡ true) ⊎ (b ≡ true)
+or_cases true b h = inl refl
+or_cases false b h = inr h
+
+or_left : (a b : Bool) → a ≡ true → (a || b) ≡ true
+or_left true b h = refl
+or_left false b h = absurd (false≢true h)
+
+or_right : (a b : Bool) → b ≡ true → (a || b) ≡ true
+or_right true b h = refl
+or_right false b h = h
+
+-- below the devices, what an instruction may write a copy may
+one_copy : (r : Region) (a : ℕ) → a < 0x40000000 → (r.rights.device ≡ true → 0x40000000 ≤ r.base) → gives Write a r ≡ true → gives_copy Write a r ≡ true
+one_copy r a below device h = go r.rights.device refl
+  where
+    low : r.base ≤ a
+    low = leb-true _ _ (both_true (leb r.base a) (ltb a (r.base + r.size)) (both_true (is_inside r a) (has_right r.rights Write) h).0).0
+
+    go : (d : Bool) → r.rights.device ≡ d → gives_copy Write a r ≡ true
+    go true e = let high = device e in let l = low in absurd (omega arith)
+    go false e = rw (h, e) refl
+
+copy_below : (rs : List Region) (a : ℕ) → a < 0x40000000 → ((r : Region) → Contains rs r → r.rights.device ≡ true → 0x40000000 ≤ r.base) → list_any (gives Write a) rs ≡ true → list_any (gives_copy Write a) rs ≡ true
+copy_below [] a below devices h = absurd (false≢true h)
+copy_below (r ∷ rs) a below devices h =
+    elim (or_cases (gives Write a r) (list_any (gives Write a) rs) h) [
+      | inl here ↦ or_left (gives_copy Write a r) _ (one_copy r a below (devices r (zero, omega arith, refl)) here)
+      | inr later ↦ or_right (gives_copy Write a r) _ (copy_below rs a below (λ x inside. devices x (suc inside.0, omega (arith, inside.1), inside.2)) later)
+    ]
+
+-- a store that is not refused, to RAM, is on one's own ground
+may_store : (g : Setup) (c : ℕ) (m : Memory) (addr n a : ℕ) → ArePlaced g m → refusals g c addr n Write ≡ None → is_ram m addr n ≡ true → addr ≤ a → a < addr + n → MayWrite g c a
+may_store g c m addr n a placed none ram low high =
+    let both = both_true (leb 0x20000000 addr) (leb (addr + n) (0x20000000 + length m.ram)) ram in
+    let end = leb-true (addr + n) (0x20000000 + length m.ram) both.1 in
+    let room = placed.below in
+    copy_below (setup_at g c).regions a (omega arith) (λ r here device. placed.devices c r here device) (none_lacks (may g c Write) addr n a none low high)
+
+ram_stored : (on : Ground) (at : ℕ) (bytes : List ℕ) (v : Turn) → IsWithinRam v.state.memory at (length bytes) → length (stored on at bytes v).state.memory.ram ≡ length v.state.memory.ram
+unfolding stored
+ram_stored on at bytes v within = length-with_bytes v.state.memory at bytes within
+
+-- ## an instruction
+
+module _ (g : Setup) (s : State) (c : ℕ) (inside : c < length g.tasks) where
+  put_chain : (x : Store) (v : Turn) → Sane g v.state → length v.state.memory.ram ≡ length s.memory.ram → IsPermitted (refusals g c) x → Chain (Step g s c) v (put v x) × Sane g (put v x).state × (length (put v x).state.memory.ram ≡ length s.memory.ram)
+  put_chain x v h same permitted = by_ram (is_ram v.state.memory x.addr x.bytes) refl
+    where
+      by_ram : (b : Bool) → is_ram v.state.memory x.addr x.bytes ≡ b → Chain (Step g s c) v (cond b (stored Own x.addr (bytes_of x.value x.bytes) v) v) × Sane g (cond b (stored Own x.addr (bytes_of x.value x.bytes) v) v).state × (length (cond b (stored Own x.addr (bytes_of x.value x.bytes) v) v).state.memory.ram ≡ length s.memory.ram)
+      by_ram false e = (Here v, h, same)
+      by_ram true e =
+          let both = both_true (leb 0x20000000 x.addr) (leb (x.addr + x.bytes) (0x20000000 + length v.state.memory.ram)) e in
+          let few = few_bytes x.value x.bytes permitted.size in
+          let above = leb-true 0x20000000 x.addr both.0 in
+          let below = leb-true (x.addr + x.bytes) (0x20000000 + length v.state.memory.ram) both.1 in
+          let within : IsWithinRam v.state.memory x.addr (length (bytes_of x.value x.bytes)) = inr (above, rw few below) in
+          let room : IsWithinRam s.memory x.addr (length (bytes_of x.value x.bytes)) = inr (above, rw (few, ← same) below) in
+          let all = all_bytes x.value x.bytes in
+          (one (Stores Own x.addr (bytes_of x.value x.bytes) v all within room (λ a low high. may_store g c v.state.memory x.addr x.bytes a h.steady.placed permitted.allowed e low (rw few at high))), sane-stored Own x.addr (bytes_of x.value x.bytes) v h all within, ram_stored Own x.addr (bytes_of x.value x.bytes) v within ∙ same)
+
+  puts_chain : (stores : List Store) (v : Turn) → Sane g v.state → length v.state.memory.ram ≡ length s.memory.ram → ((x : Store) → Contains stores x → IsPermitted (refusals g c) x) → Chain (Step g s c) v (fold put v stores)
+  puts_chain [] v h same ok = Here v
+  puts_chain (x ∷ xs) v h same ok =
+      let p = put_chain x v h same (ok x (zero, omega arith, refl)) in
+      joined (Step g s c) v (put v x) _ p.0 (puts_chain xs (put v x) p.1 p.2 (λ y here. ok y (suc here.0, omega (arith, here.1), here.2)))
+
+pub whole_cpu : {g : Setup} (c : ℕ) (t : Turn) → Sane g t.state → c < length t.state.tasks → IsWholeCpu (cpu_of (task_at t.state c))
+whole_cpu c t h inside = let x = h.steady.tasks c inside in record { sixteen = x.sixteen; even = x.even; aligned = x.aligned }
+
+module _ (g : Setup) (c : ℕ) (t : Turn) (h : Sane g t.state) (inside : c < length g.tasks) (ready : is_ready t.state c ≡ true) where
+  calls_chain : Chain (Step g t.state c) t (called g c (call_noted c t))
+  unfolding call_noted noted
+  calls_chain = joined (Step g t.state c) t (call_noted c t) _ (one (Notes _ t refl)) (chain-called g c (call_noted c t) h inside ready)
+
+  acted_chain : (e : Effect) → Keeps (refusals g c) e → Chain (Step g t.state c) t (acted g c e t)
+  acted_chain (Next cpu stores) k = puts_chain g t.state c inside stores t h refl k.1 ▷ Runs cpu.regs.words cpu.flags _ inside record { sixteen = k.0.sixteen; even = k.0.even; aligned = k.0.aligned }
+  acted_chain Call k = calls_chain
+  acted_chain (Trap f) k = one (Faults c f Client t inside (omega (arith, k.0)) (omega (arith, k.1)) (inl (inl refl)) tt)
+
+narrow_coded : (h : ℕ) (o : Option Insn) (i : Insn) → narrow_of h ≡ o → h < 65536 → (narrow_result o ≡ Narrow i) ⊎ (narrow_result o ≡ Wide i) → IsCoded i
+narrow_coded h (Some j) i is f (inl e) = let same : j ≡ i = cc in (One h, f, is ∙ ap Some same)
+narrow_coded h (Some j) i is f (inr e) = absurd cc
+narrow_coded h None i is f (inl e) = absurd cc
+narrow_coded h None i is f (inr e) = absurd cc
+
+wide_coded : (first second : ℕ) (o : Option Insn) (i : Insn) → wide_of (first * 65536 + second) ≡ o → first < 65536 → second < 65536 → (wide_result o ≡ Narrow i) ⊎ (wide_result o ≡ Wide i) → IsCoded i
+wide_coded first second (Some j) i is f g (inr e) = let same : j ≡ i = cc in (Two first second, (f, g), is ∙ ap Some same)
+wide_coded first second (Some j) i is f g (inl e) = absurd cc
+wide_coded first second None i is f g (inl e) = absurd cc
+wide_coded first second None i is f g (inr e) = absurd cc
+
+-- what a code decodes to has that code
+decoded_coded : (first : ℕ) (two : Option ℕ) (i : Insn) → first < 65536 → IfSome two (λ x. x < 65536) → (b : Bool) → (cond b (with_second first two) (narrow_result (narrow_of first)) ≡ Narrow i) ⊎ (cond b (with_second first two) (narrow_result (narrow_of first)) ≡ Wide i) → IsCoded i
+decoded_coded first two i f g false e = narrow_coded first (narrow_of first) i refl f e
+decoded_coded first (Some second) i f g true e = wide_coded first second (wide_of (first * 65536 + second)) i refl f g e
+decoded_coded first None i f g true (inl e) = absurd cc
+decoded_coded first None i f g true (inr e) = absurd cc
+
+-- a call is noted, whatever it comes to
+pub noted-call : (g : Setup) (c : ℕ) (t : Turn) → Sane g t.state → c < length t.state.tasks → is_ready t.state c ≡ true → IsNoted (called g c (call_noted c t))
+unfolding call_noted noted
+noted-call g c t h inside ready =
+    let u = call_noted c t in
+    chain_noted g t.state c u (called g c u) (chain-called g c u h (rw (← h.steady.as_many) inside) ready) (noted-noted _ t)
+
+keeps-here : {g : Setup} (c : ℕ) (t : Turn) (h : Sane g t.state) (inside : c < length t.state.tasks) (first : ℕ) (two : Option ℕ) (insn : Insn) → first < 65536 → IfSome two (λ x. x < 65536) → (decoded_of first two ≡ Narrow insn) ⊎ (decoded_of first two ≡ Wide insn) →
+    Keeps (refusals g c) (effect (refusals g c) (number_at t.state.memory) (cpu_of (task_at t.state c)) insn)
+keeps-here {g} c t h inside first two insn f1 f2 e = keeps (refusals g c) (number_at t.state.memory) (cpu_of (task_at t.state c)) insn (decoded_coded first two insn f1 f2 (is_wide first) e) (whole_cpu c t h inside)
+
+module _ (level : Level) (g : Setup) (c : ℕ) (t : Turn) (h : Sane g t.state) (inside : c < length g.tasks) (ready : is_ready t.state c ≡ true) where
+  within : c < length t.state.tasks
+  within = rw h.steady.as_many inside
+
+  executed_chain : (level : Level) (at code first : ℕ) (two : Option ℕ) (insn : Insn) → first < 65536 → IfSome two (λ x. x < 65536) → (decoded_of first two ≡ Narrow insn) ⊎ (decoded_of first two ≡ Wide insn) → Chain (Step g t.state c) t (executed g c insn (told level (note.Insn c at code) t))
+  unfolding noted
+  executed_chain Calls at code first two insn f1 f2 e = acted_chain g c t h inside ready _ (keeps-here c t h within first two insn f1 f2 e)
+  executed_chain All at code first two insn f1 f2 e =
+      let u = noted (note.Insn c at code) t in
+      joined (Step g t.state c) t u _ (one (Notes (note.Insn c at code) t refl)) (acted_chain g c u h inside ready _ (keeps-here c u h within first two insn f1 f2 e))
+
+  decoded_chain : (at code first : ℕ) (two : Option ℕ) (d : Decoded) → first < 65536 → IfSome two (λ x. x < 65536) → decoded_of first two ≡ d → Chain (Step g t.state c) t (decoded_as level g c at code d t)
+  decoded_chain at code first two (Narrow insn) f1 f2 e = executed_chain level at code first two insn f1 f2 (inl e)
+  decoded_chain at code first two (Wide insn) f1 f2 e = executed_chain level at code first two insn f1 f2 (inr e)
+  decoded_chain at code first two Illegal f1 f2 e = one (Faults c _ Client t inside (omega arith) (omega arith) (inl (inl refl)) tt)
+  decoded_chain at code first two NeedsSecond f1 f2 e = one (Faults c _ Client t inside (omega arith) (omega arith) (inl (inl refl)) tt)
+
+  pub stepped_chain : Chain (Step g t.state c) t (stepped level g c t)
+  unfolding stepped
+  stepped_chain =
+      let m = t.state.memory in
+      let at = register t.state c 15 in
+      let after = (at + 2) % 2 ^ 32 in
+      let first = number_at m at 2 in
+      let second = number_at m after 2 in
+      let small1 = half_small m at h.steady.text h.steady.bytes in
+      let small2 = half_small m after h.steady.text h.steady.bytes in
+      by_chain (not (is_text g c at)) (λ bad. one (Faults c _ Client t inside (omega arith) (omega arith) (inl (inl refl)) tt)) (λ ok.
+      by_chain (not (is_wide first)) (λ narrow. decoded_chain at first first None (decoded_of first None) small1 tt refl) (λ wide.
+      by_chain (not (is_text g c after)) (λ bad. one (Faults c _ Client t inside (omega arith) (omega arith) (inl (inl refl)) tt)) (λ ok2.
+      decoded_chain at (first * 2 ^ 16 + second) first (Some second) (decoded_of first (Some second)) small1 small2 refl)))
+
+-- what is told besides
+tells : (g : Setup) (s : State) (c : ℕ) (level : Level) (n : Note) (t u : Turn) → Chain (Step g s c) t u → ((u : Turn) → Step g s c u (noted n u)) → Chain (Step g s c) t (told level n u)
+tells g s c Calls n t u x step = x
+tells g s c All n t u x step = x ▷ step u
+
+-- from where the chosen task becomes the current one, to the end of its turn
+pub ran_chain : (level : Level) (g : Setup) (c : ℕ) (t : Turn) → Sane g t.state → c < length g.tasks → is_ready t.state c ≡ true → Chain (Step g t.state c) t (with_registers_told level c (stepped level g c t))
+unfolding with_registers_told
+ran_chain level g c t h inside ready =
+    let u = stepped level g c t in
+    let low = low_note (task_at u.state c) in
+    tells g t.state c level (high_note (task_at u.state c)) t (told level low u)
+    (tells g t.state c level low t u (stepped_chain level g c t h inside ready) (λ v. Notes low v refl))
+    (λ v. Notes (high_note (task_at u.state c)) v refl)
+
+-- ## the turn
+
+range_below : (a n k : ℕ) → Contains (range_with_len a n) k → k < a + n
+range_below a zero k h = absurd (omega (arith, h.1))
+range_below a (suc n) k (zero, lt, same) = let e : a ≡ k = same in omega arith
+range_below a (suc n) k (suc i, lt, same) = let r = range_below (a + 1) n k (i, omega arith, same) in omega arith
+
+around_below : (n i k : ℕ) → i ≤ n → Contains (around n i) k → k < n
+around_below n i k le h = elim (Contains-append_cases (range_with_len i (n - i)) (range_with_len 0 i) k h) [
+  | inl a ↦ let r = range_below i (n - i) k a in omega arith
+  | inr b ↦ let r = range_below 0 i k b in omega arith
+]
+
+none_some : {A : Type 0} {P : Type 0} {a : A} → None ≡ Some a → P
+none_some e = cc
+
+same_some : {A : Type 0} {a b : A} → Some a ≡ Some b → a ≡ b
+same_some e = cc
+
+pub found_in : {A : Type 0} (p : A → Bool) (xs : List A) (x : A) → find p xs ≡ Some x → Contains xs x × (p x ≡ true)
+found_in p [] x e = none_some e
+found_in p (y ∷ ys) x e = go (p y) refl (found_in p ys x)
+  where
+    go : (b : Bool) → p y ≡ b → (find p ys ≡ Some x → Contains ys x × (p x ≡ true)) → Contains (y ∷ ys) x × (p x ≡ true)
+    go true t rest = let same : y ≡ x = same_some (rw t at e) in ((zero, omega arith, same), ap p (sym same) ∙ t)
+    go false f rest = let r = rest (rw f at e) in ((suc r.0.0, omega (arith, r.0.1), r.0.2), r.1)
+
+-- who is chosen is ready, and there
+pub record IsChosen (s : State) (c : ℕ) : Type 0 where
+  pub ready : is_ready s c ≡ true
+  pub inside : c < length s.tasks
+
+pub chosen_is : {g : Setup} (s : State) (c : ℕ) → Sane g s → chosen g s ≡ Some c → IsChosen s c
+unfolding chosen
+chosen_is {g} s c h e =
+    let r = found_in (qualifies g s) (around (length s.tasks) s.current) c e in
+    record { ready = (both_true (is_ready s c) _ r.1).0; inside = let b = h.steady.current in around_below (length s.tasks) s.current c (omega arith) r.0 }
+
+pub as_current : (c i : ℕ) (s : State) → is_ready s c ≡ true → is_ready (record s { current = i }) c ≡ true
+unfolding is_ready task_at call_of listen_of
+as_current c i s h = h
+
+-- what comes from outside keeps a state sane
+pub sane-events : (g : Setup) (events : List Event) (t : Turn) → Sane g t.state → Sane g (fold (happened g) t events).state
+sane-events g [] t h = h
+sane-events g (Tick ∷ events) t h = sane-events g events (ticked t) (sane-ticked t h)
+sane-events g (Irq line ∷ events) t h = sane-events g events (interrupted g line t) (sane-interrupted line t h)
+
+pub begun_sane : (g : Setup) (s : State) → Sane g s → Sane g (begun s).state
+unfolding begun
+begun_sane g s h = h
+
+pub sane-after_events : (x : Scenario) (s : State) → Sane x.setup s → Sane x.setup (after_events x s).state
+unfolding after_events
+sane-after_events x s h = sane-events x.setup (events_of x.script s.turn) (begun s) (begun_sane x.setup s h)
+
+-- an idle turn stands aside
+pub idle-aside : (level : Level) (t : Turn) → IsAside t (told level note.Idle t)
+idle-aside Calls t = aside_here t
+idle-aside All t = aside-noted note.Idle t refl
+
+-- from where the chosen task becomes the current one, to the end of its turn
+pub chosen_chain : (level : Level) (g : Setup) (c : ℕ) (t : Turn) → Sane g t.state → chosen g t.state ≡ Some c →
+    Chain (Step g (with_current c t).state c) (with_current c t) (with_registers_told level c (stepped level g c (with_current c t)))
+chosen_chain level g c t h e =
+    let is = chosen_is t.state c h e in
+    ran_chain level g c (with_current c t) (sane-current c t h is.inside) (rw (← h.steady.as_many) is.inside) (as_current c c t.state is.ready)
+
+pub turn_chain : (level : Level) (x : Scenario) (s : State) (c : ℕ) → Sane x.setup s → chosen x.setup (after_events x s).state ≡ Some c →
+    Chain (Step x.setup (with_current c (after_events x s)).state c) (with_current c (after_events x s)) (with_registers_told level c (stepped level x.setup c (with_current c (after_events x s))))
+turn_chain level x s c h e = chosen_chain level x.setup c (after_events x s) (sane-after_events x s h) e
+
+-- what is told changes no state
+pub told_state : (level : Level) (n : Note) (t : Turn) → (told level n t).state ≡ t.state
+unfolding noted
+told_state Calls n t = refl
+told_state All n t = refl
+
+pub ready-call_noted : (c : ℕ) (t : Turn) → is_ready t.state c ≡ true → is_ready (call_noted c t).state c ≡ true
+unfolding call_noted noted
+ready-call_noted c t h = h
+
+-- so an instruction and the turn keep a state sane
+pub sane-stepped : {g : Setup} (level : Level) (c : ℕ) (t : Turn) → Sane g t.state → c < length t.state.tasks → is_ready t.state c ≡ true → Sane g (stepped level g c t).state
+sane-stepped {g} level c t h inside ready = chain_sane g t.state c t (stepped level g c t) (stepped_chain level g c t h (rw (← h.steady.as_many) inside) ready) h
+
+pub sane-ran : {g : Setup} (level : Level) (c : ℕ) (t : Turn) → Sane g t.state → IsChosen t.state c → Sane g (stepped level g c (with_current c t)).state
+sane-ran level c t h is = sane-stepped level c (with_current c t) (sane-current c t h is.inside) is.inside (as_current c c t.state is.ready)
+
+sane-told : {g : Setup} (level : Level) (n : Note) (t : Turn) → Sane g t.state → Sane g (told level n t).state
+sane-told Calls n t h = h
+sane-told All n t h = keeps-noted n t h
+
+sane-ended : {g : Setup} (u : Turn) → Sane g u.state → Sane g (ended u).state
+unfolding ended
+sane-ended u h = sane-turn (u.state.turn + 1) u h
+
+pub sane-after : (level : Level) (x : Scenario) (s : State) → Sane x.setup s → Sane x.setup (turn level x s).state
+unfolding turn
+sane-after level x s h = by_choice (chosen x.setup (after_events x s).state) refl
+  where
+    by_choice : (o : Option ℕ) → chosen x.setup (after_events x s).state ≡ o → Sane x.setup (ended (turn_of level x.setup o (after_events x s))).state
+    by_choice None e = sane-ended _ (sane-told level note.Idle (after_events x s) (sane-after_events x s h))
+    by_choice (Some c) e =
+        let t = after_events x s in
+        let u = with_current c t in
+        let h1 = sane-after_events x s h in
+        sane-ended _ (chain_sane x.setup u.state c u _ (turn_chain level x s c h e) (sane-current c t h1 (chosen_is t.state c h1 e).inside))
