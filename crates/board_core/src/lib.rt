@@ -6,8 +6,6 @@ mod calls;
 mod choice;
 mod laws;
 mod machine;
-#[cfg(test)]
-mod tests;
 mod told;
 
 pub use board::Board;
