@@ -5,8 +5,6 @@ mod board;
 mod calls;
 mod choice;
 mod machine;
-#[cfg(test)]
-mod tests;
 mod told;
 
 pub use board::Board;

@@ -9,9 +9,6 @@ ghost use Rattle.task_table.specs.Reading.{chosen, best_sender};
 ghost use Rattle.task_table.specs.Holds.{Stands, Stood, task_count};
 ghost use Rattle.dispatch.specs.Lowest.{IsLowest, is_among, has_rank, lower_of, rank_of, first_around};
 
-#[cfg(test)]
-mod tests;
-
 use task_table::Kernel;
 
 /// The tasks that are looked at.

@@ -1,9 +1,6 @@
 #![tactic(auto)]
 //! Messages between tasks: the system call RECV (Hubris Reference, on RECV).
 
-#[cfg(test)]
-mod tests;
-
 ghost use Rattle.std.specs.Prelude.{◌≡◌, ◌+◌, ◌<◌, ◌≤◌, ◌^◌, true, Some, None, Option, IfSome};
 ghost use Rattle.kernel_abi.specs.Arguments.{recv_args};
 ghost use Rattle.task_table.specs.State.{Setup, Turn};

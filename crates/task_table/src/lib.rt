@@ -9,8 +9,6 @@ mod memory;
 mod message;
 mod slot;
 mod start;
-#[cfg(test)]
-mod tests;
 
 pub use kernel::Kernel;
 pub use memory::{FLASH, Memory, RAM};

@@ -4,9 +4,6 @@
 //!
 //! Each event and each call asks for room for `CALL_NOTES` notes and makes no more.
 
-#[cfg(test)]
-mod tests;
-
 ghost use Rattle.std.specs.Prelude.{◌≡◌, ◌+◌, ◌*◌, ◌<◌, ◌≤◌, ◌%◌, ◌/◌, ◌^◌, ◌∷◌, ◌==◌, ◌&&◌, true, Some, Option, ℕ, filter, fold, slice_get};
 ghost use Rattle.std.specs.Option.{option_map};
 ghost use Rattle.std.specs.List.{list_any};

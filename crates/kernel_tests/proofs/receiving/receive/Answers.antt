@@ -9,7 +9,7 @@ use Rattle.task_table.specs.Holds.{Stands}
 use Rattle.task_table.proofs.Changes.{task_at-with_task, call_of-with_task, listen_of-with_task}
 use Rattle.task_table.proofs.Frames.{idle-ready}
 use Rattle.task_table.proofs.Sanity.{sane-processor}
-use Rattle.ipc_core.proofs.tests.receive.Goals as goal
+use Rattle.kernel_tests.proofs.receiving.receive.Goals as goal
 
 ready-processor : (i : ℕ) (registers : List ℕ) (flags : Flags) (t : Turn) → i < length t.state.tasks → is_ready t.state i ≡ true → is_ready (with_processor i registers flags t).state i ≡ true
 unfolding is_ready with_processor

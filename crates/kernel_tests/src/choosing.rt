@@ -1,7 +1,7 @@
 ghost use Rattle.std.specs.Prelude.{◌≡◌, ◌%◌, [], IfOk};
 ghost use Rattle.task_table.specs.Holds.{Stood, task_count};
 
-use crate::{best_sender, choose};
+use dispatch::{best_sender, choose};
 use std::alloc::{AllocError, Global};
 use std::test::Fail;
 use task_table::{Kernel, Memory, TaskStart};

@@ -1,11 +1,12 @@
 ghost use Rattle.std.specs.Prelude.{◌≡◌, IfOk, length};
 ghost use Rattle.task_table.specs.Holds.{task_count, note_count, memory_of};
+ghost use Rattle.task_table.specs.Memory.{IsWithinRam};
 
-use crate::{FLASH, Found, Kernel, Line, LineStart, Memory, RAM, TaskStart, Wait};
 use kernel_abi::{Fault, Generation, Health, Note, Usage};
 use region_check::{Region, Rights};
 use std::alloc::{AllocError, Global};
 use std::test::Fail;
+use task_table::{FLASH, Found, Kernel, Line, LineStart, Memory, RAM, TaskStart, Wait};
 use words_core::Flags;
 
 #[test]
@@ -36,6 +37,37 @@ fn memory_is_stored_to(rt: HostRuntime) -> Result<(), Fail> {
     assert_eq!(rt; memory.word(RAM + 4), 0xDDCC_BBAA);
     assert_eq!(rt; memory.word(RAM + 2), 0xBBAA_0000);
     assert_eq!(rt; memory.half(RAM + 7), 0xDD);
+    Ok(())
+}
+
+/// Stores into the RAM, which keeps its length.
+fn store(memory: &mut Memory, addr: u32, bytes: &[u8])
+    requires { IsWithinRam memory.old addr (length bytes.now) }
+    ensures { length memory.new.ram ≡ length memory.old.ram }
+{
+    memory.store(addr, bytes);
+}
+
+#[test]
+fn memory_is_copied_where_ranges_overlap(rt: HostRuntime) -> Result<(), Fail> {
+    let mut upwards = Memory::open(rt.alloc(), &[], 8)?;
+    store(&mut upwards, RAM, &[1, 2, 3, 4, 5, 6]);
+    upwards.copy(RAM, RAM + 2, 6);
+    assert_eq!(rt; upwards.word(RAM), 0x0201_0201);
+    assert_eq!(rt; upwards.word(RAM + 4), 0x0605_0403);
+    let mut downwards = Memory::open(rt.alloc(), &[], 8)?;
+    store(&mut downwards, RAM + 2, &[1, 2, 3, 4, 5, 6]);
+    downwards.copy(RAM + 2, RAM, 6);
+    assert_eq!(rt; downwards.word(RAM), 0x0403_0201);
+    assert_eq!(rt; downwards.word(RAM + 4), 0x0605_0605);
+    Ok(())
+}
+
+#[test]
+fn memory_is_copied_from_flash(rt: HostRuntime) -> Result<(), Fail> {
+    let mut memory = Memory::open(rt.alloc(), &[0x11, 0x22, 0x33], 4)?;
+    memory.copy(FLASH + 1, RAM + 1, 2);
+    assert_eq!(rt; memory.word(RAM), 0x0033_2200);
     Ok(())
 }
 

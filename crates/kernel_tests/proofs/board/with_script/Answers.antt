@@ -3,7 +3,7 @@ use Rattle.task_table.specs.State.{State}
 use Rattle.board_core.specs.declared.board.Board.{Board}
 use Rattle.board_model.specs.Script.{Scenario}
 use Rattle.board_core.specs.Stands.{Stands, Stood}
-use Rattle.board_core.proofs.tests.with_script.Goals as goal
+use Rattle.kernel_tests.proofs.board.with_script.Goals as goal
 
 some_stands : {E : Type 0} (x : Scenario) (s : State) (r : Result Board E) → IfOk r (λ b. Stands x b s) → IfOk r Stood
 some_stands x s (Ok b) h = (x, s, h)

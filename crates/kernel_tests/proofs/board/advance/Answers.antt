@@ -1,7 +1,7 @@
 use Rattle.std.proofs.Common.{◌-◌}
 use Rattle.board_core.specs.Stands.{turns_of}
 use Rattle.board_model.specs.Run.{turn_after}
-use Rattle.board_core.proofs.tests.advance.Goals as goal
+use Rattle.kernel_tests.proofs.board.advance.Goals as goal
 
 pub returns-clause-stood : goal.returns-clause-stood
 returns-clause-stood c =

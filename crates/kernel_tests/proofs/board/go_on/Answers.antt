@@ -1,6 +1,6 @@
 use Rattle.board_model.specs.declared.told.Level.TheVariants.{Calls}
 use Rattle.board_model.specs.Turn.{turn}
-use Rattle.board_core.proofs.tests.go_on.Goals as goal
+use Rattle.kernel_tests.proofs.board.go_on.Goals as goal
 
 pub returns-clause-stood : goal.returns-clause-stood
 returns-clause-stood c =

@@ -8,7 +8,7 @@ use Rattle.task_table.specs.Reading.{setup_at}
 use Rattle.task_table.specs.Parts.{setup_of_parts, IsSound}
 use Rattle.task_table.specs.Start.{start}
 use Rattle.task_table.specs.Holds.{Stands, Stood}
-use Rattle.dispatch.proofs.tests.two_tasks.Goals as goal
+use Rattle.kernel_tests.proofs.choosing.two_tasks.Goals as goal
 
 no_memory : Memory
 no_memory = record { flash = []; ram = [] }

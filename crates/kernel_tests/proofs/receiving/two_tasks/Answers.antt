@@ -10,7 +10,7 @@ use Rattle.task_table.specs.Reading.{setup_at, is_ready, task_at, call_of, liste
 use Rattle.task_table.specs.Parts.{setup_of_parts, IsSound}
 use Rattle.task_table.specs.Start.{start, begun}
 use Rattle.task_table.specs.Holds.{Stands}
-use Rattle.ipc_core.proofs.tests.two_tasks.Goals as goal
+use Rattle.kernel_tests.proofs.receiving.two_tasks.Goals as goal
 
 bytes : Memory
 bytes = record { flash = []; ram = replicate 32 0 }

@@ -1,11 +1,11 @@
 ghost use Rattle.std.specs.Prelude.{◌≡◌, ◌⊎◌, IfOk};
 ghost use Rattle.task_table.specs.Holds.{task_count, note_count};
 
-use crate::{get_timer, irq_control, set_timer, tick};
 use kernel_abi::{Fault, Health, Note, Timer, Usage};
 use std::alloc::{AllocError, Global};
 use std::test::Fail;
 use task_table::{Kernel, Line, LineStart, Memory, TaskStart};
+use timer_irq::{get_timer, irq_control, set_timer, tick};
 use words_core::Flags;
 
 /// A task that is started, with no bytes of its own.

@@ -1,7 +1,7 @@
 ghost use Rattle.std.specs.Prelude.{◌≡◌, ◌+◌, ◌≤◌, ◌<◌, length, IfOk};
 ghost use Rattle.board_core.specs.Stands.{Stood, turns_of};
 
-use crate::{Board, End, Level, Turned};
+use board_core::{Board, End, Level, Turned};
 use image_format::Image;
 use kernel_abi::{Handled, Note};
 use run_script::Script;

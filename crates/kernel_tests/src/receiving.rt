@@ -3,7 +3,7 @@ ghost use Rattle.task_table.specs.State.{Setup, Turn};
 ghost use Rattle.task_table.specs.Reading.{is_ready};
 ghost use Rattle.task_table.specs.Holds.{Stands, task_count, note_count};
 
-use crate::recv;
+use ipc_core::recv;
 use kernel_abi::{Access, Fault, Health, Listened, Note, TaskId, Usage};
 use region_check::{Region, Rights};
 use std::alloc::{AllocError, Global};

@@ -1,0 +1,7 @@
+use Rattle.std.proofs.Common.{length, ap, ◌∙◌}
+use Rattle.task_table.specs.Memory.{Memory}
+use Rattle.task_table.proofs.Steps.{length-with_bytes}
+use Rattle.kernel_tests.proofs.tasks.store.Goals as goal
+
+pub returns : goal.returns
+returns c = ap (λ (m : Memory). length m.ram) c.store.ensures ∙ length-with_bytes _ _ _ c.requires

@@ -1,0 +1,13 @@
+//! Tests of the kernel's crates over their public calls, with values from outside. Nothing else is here.
+#![tactic(auto)]
+
+#[cfg(test)]
+mod board;
+#[cfg(test)]
+mod choosing;
+#[cfg(test)]
+mod receiving;
+#[cfg(test)]
+mod tasks;
+#[cfg(test)]
+mod timers;
