@@ -152,6 +152,10 @@ impl Board {
         ensures turned { (x : Scenario) (s : State) → Stands x self.old s → result ≡ turned x s }
         ensures few { length (notes_of self.new) ≤ 1024 }
         ensures turns { turns_of self.new ≡ turns_of self.old + 1 }
+
+        // Where no event is due, what is known of the next one stays, and so does the choice where nothing was noted.
+        ensures due { self.old.due ≢ Some (turns_of self.old) → self.new.due ≡ self.old.due }
+        ensures kept { self.old.due ≢ Some (turns_of self.old) → notes_of self.new ≡ [] → self.new.choice ≡ self.old.choice }
     {
         self.begin();
         self.turns += 1;
@@ -215,7 +219,7 @@ impl Board {
             if self.turns >= until {
                 return;
             }
-            self.turn_on();
+            self.turn_at(Level::Calls);
         }
     }
 
@@ -302,24 +306,6 @@ impl Board {
         true
     }
 
-    /// One turn of the task that is chosen, in which no event is due, whatever it does.
-    #[inline(never)]
-    fn turn_on(&mut self)
-        requires few { turns_of self.old < 1000000000 }
-        requires stood { Stood self.old }
-        requires nothing { notes_of self.old ≡ [] }
-        requires later { self.old.due ≢ Some (turns_of self.old) }
-        ensures model { (x : Scenario) (s : State) → Stands x self.old s → Stands x self.new (turn Calls x s).state }
-        ensures notes { (x : Scenario) (s : State) → Stands x self.old s → notes_of self.new ≡ (turn Calls x s).notes }
-        ensures turns { turns_of self.new ≡ turns_of self.old + 1 }
-        ensures due { self.new.due ≡ self.old.due }
-        ensures kept { notes_of self.new ≡ [] → self.new.choice ≡ self.old.choice }
-    {
-        self.turns += 1;
-        self.machine.turn(Level::Calls, self.choice.next);
-        self.renew();
-    }
-
     /// A turn begins, with its events.
     #[inline(always)]
     fn begin(&mut self)
@@ -328,6 +314,8 @@ impl Board {
         ensures midway { (x : Scenario) (s : State) → Stands x self.old s → IsMidway x self.new s }
         ensures few { length (notes_of self.new) ≤ 900 }
         ensures turns { turns_of self.new ≡ turns_of self.old }
+        ensures due { self.old.due ≢ Some (turns_of self.old) → self.new.due ≡ self.old.due }
+        ensures kept { self.old.due ≢ Some (turns_of self.old) → self.new.choice ≡ self.old.choice }
     {
         self.machine.begin();
         if is_due(self.due, self.turns) {

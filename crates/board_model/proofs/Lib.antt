@@ -4,7 +4,6 @@ pub mod Quiet
 pub mod Stepping
 pub mod Endings
 pub mod Outside
-pub mod Beside
 pub mod FiveTasks
 pub mod Blinker
 pub mod AllTold

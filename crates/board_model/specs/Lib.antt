@@ -1,4 +1,3 @@
 pub mod Script
 pub mod Turn
 pub mod Run
-pub mod Levels

@@ -16,11 +16,9 @@ ghost use Rattle.task_table.specs.Sane.{Sane, IsCounted};
 ghost use Rattle.task_table.specs.Chain.{Chain};
 ghost use Rattle.task_table.specs.Step.{Step};
 ghost use Rattle.board_model.specs.declared.told.Level.{Level as Detail};
-ghost use Rattle.board_model.specs.declared.told.Level.TheVariants.{Calls, All};
 ghost use Rattle.board_model.specs.Script.{Scenario};
 ghost use Rattle.board_model.specs.Turn.{refusals, cpu_of, put, told, stepped, happened, after_events, with_current, with_registers_told, turn};
-ghost use Rattle.board_model.specs.Run.{is_down, end_at, ending, run};
-ghost use Rattle.board_model.specs.Levels.{without_instructions};
+ghost use Rattle.board_model.specs.Run.{is_down, end_at, ending};
 
 /// The turn of the chosen task, from where it is the current one, is a chain of steps: those of its
 /// instruction or of its call's row, and what is told besides.
@@ -79,10 +77,4 @@ pub fn turns_without_events_begin_at_once()
 /// With turns left the bound does not end a run.
 pub fn turns_left_end_no_run()
     ensures { (x : Scenario) (s : State) (left : ℕ) → 0 < left → end_at x s ≡ ending x left s }
-{}
-
-/// Instructions, registers and idle turns are told beside the rest of a run: without them it is the
-/// run of which calls, events and faults alone are told.
-pub fn instructions_are_told_beside()
-    ensures { (x : Scenario) (n : ℕ) (s : State) → run Calls x n s ≡ without_instructions (run All x n s) }
 {}

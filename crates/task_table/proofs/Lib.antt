@@ -24,4 +24,3 @@ pub mod Noting
 pub mod Quieting
 pub mod Outside
 pub mod Starts
-pub mod Telling

@@ -10,7 +10,6 @@ pub mod Sane
 pub mod Start
 pub mod Parts
 pub mod Holds
-pub mod Levels
 pub mod Found
 pub mod Messages
 pub mod Counts

@@ -1,6 +1,6 @@
 //! Laws of the abstract kernel, each the contract of a function that does nothing.
 
-ghost use Rattle.std.specs.Prelude.{◌≡◌, ◌+◌, ◌<◌, ◌≤◌, ℕ, true, false, List, [], Option, length};
+ghost use Rattle.std.specs.Prelude.{◌≡◌, ◌+◌, ◌<◌, ◌≤◌, ℕ, true, List, [], Option, length};
 ghost use Rattle.kernel_abi.specs.declared.Fault.{Fault};
 ghost use Rattle.kernel_abi.specs.declared.Note.{Note};
 ghost use Rattle.kernel_abi.specs.declared.Timer.{Timer};
@@ -21,7 +21,6 @@ ghost use Rattle.task_table.specs.Sane.{Sane, IsCounted, AreAllBytes};
 ghost use Rattle.task_table.specs.Counts.{AreWhole, IsSameTime, AreCounts, IsNoted, AreNoted, IsAsReady};
 ghost use Rattle.task_table.specs.Chain.{Chain};
 ghost use Rattle.task_table.specs.Step.{Step};
-ghost use Rattle.task_table.specs.Levels.{is_told_always, IsLessTold};
 ghost use Rattle.task_table.specs.Parts.{IsSound};
 ghost use Rattle.task_table.specs.Start.{start};
 ghost use Rattle.task_table.specs.Holds.{Holds};
@@ -128,20 +127,4 @@ pub fn given_bytes_lie_in_memory()
 /// The kernel knows nothing of the turn's number, which the board keeps.
 pub fn turns_are_not_kept()
     ensures { (g : Setup) (k : Kernel) (t : Turn) (n : ℕ) → Holds g k t → Holds g k (changed (λ s. record s { turn = n }) t) }
-{}
-
-/// What is told on request decides nothing: whatever happens, two turns that differ in it alone still
-/// do, and so they do where such a note is added to the one that has them.
-pub fn what_is_told_on_request_decides_nothing()
-    ensures noted { (n : Note) (t u : Turn) → is_told_always n ≡ true → IsLessTold t u → IsLessTold (noted n t) (noted n u) }
-    ensures hidden { (n : Note) (t u : Turn) → is_told_always n ≡ false → IsLessTold t u → IsLessTold t (noted n u) }
-    ensures processor { (i : ℕ) (registers : List ℕ) (flags : Flags) (t u : Turn) → IsLessTold t u → IsLessTold (with_processor i registers flags t) (with_processor i registers flags u) }
-    ensures stored { (on : Ground) (at : ℕ) (bytes : List ℕ) (t u : Turn) → IsLessTold t u → IsLessTold (stored on at bytes t) (stored on at bytes u) }
-    ensures current { (i : ℕ) (t u : Turn) → IsLessTold t u → IsLessTold (changed (λ s. record s { current = i }) t) (changed (λ s. record s { current = i }) u) }
-    ensures turn { (n : ℕ) (t u : Turn) → IsLessTold t u → IsLessTold (changed (λ s. record s { turn = n }) t) (changed (λ s. record s { turn = n }) u) }
-    ensures faulted { (g : Setup) (i : ℕ) (fault : Fault) (t u : Turn) → IsLessTold t u → IsLessTold (faulted g i fault t) (faulted g i fault u) }
-    ensures call_noted { (c : ℕ) (t u : Turn) → IsLessTold t u → IsLessTold (call_noted c t) (call_noted c u) }
-    ensures called { (g : Setup) (c : ℕ) (t u : Turn) → IsLessTold t u → IsLessTold (called g c t) (called g c u) }
-    ensures ticked { (t u : Turn) → IsLessTold t u → IsLessTold (ticked t) (ticked u) }
-    ensures interrupted { (g : Setup) (k : ℕ) (t u : Turn) → IsLessTold t u → IsLessTold (interrupted g k t) (interrupted g k u) }
 {}

@@ -61,3 +61,9 @@ returns-else-is_due-clause-midway c = λ x s st.
       script = st.holds.script;
       due = due_later x.script s.turn b.due st.holds.due later;
     }
+
+pub returns-then-is_due-clause-due : goal.returns-then-is_due-clause-due
+returns-then-is_due-clause-due c = λ later. absurd (later (c.is_due.ensures.due c.if-is_due.true))
+
+pub returns-then-is_due-clause-kept : goal.returns-then-is_due-clause-kept
+returns-then-is_due-clause-kept c = λ later. absurd (later (c.is_due.ensures.due c.if-is_due.true))

@@ -1,4 +1,4 @@
-use Rattle.std.proofs.Common.{◌≡◌, ◌+◌, ◌-◌, ℕ, suc, [], sym, refl, ◌∙◌, ap, subst, arith}
+use Rattle.std.proofs.Common.{◌≡◌, ◌≢◌, ◌+◌, ◌-◌, ℕ, suc, [], Some, sym, refl, ◌∙◌, ap, subst, arith}
 use Rattle.task_table.specs.State.{Setup, State}
 use Rattle.task_table.specs.Reading.{setup_at}
 use Rattle.task_table.specs.Holds.{setup_of}
@@ -31,18 +31,19 @@ turns-preserved c =
     let inv = c.turns.invariant in
     let b = c.turns.self in
     let b1 = c.go_on.new.self in
-    let b' = c.turn_on.new.self in
+    let b' = c.turn_at.new.self in
     let none : notes_of b ≡ [] = sym c.notes.ensures ∙ empty_of c.notes.result.now (sym c.is_empty.ensures ∙ c.if-is_empty.true) in
     let x0 : Scenario = c.go_on.ensures.stood.0 in
     let s0 : State = c.go_on.ensures.stood.1 in
     let st0 = c.go_on.ensures.stood.2 in
-    let st1 = c.turn_on.ensures.model x0 s0 st0 in
+    let st1 = c.turn_at.ensures.model x0 s0 st0 in
     let setup : setup_of b1.machine.reach.kernel ≡ setup_of b'.machine.reach.kernel = setup_seen x0.setup b1.machine _ st0.holds.machine ∙ sym (setup_seen x0.setup b'.machine _ st1.holds.machine) in
     let P : Setup → Type 0 = λ g. GivesText (setup_at g c.args.task).regions c.text-text.result in
     let choice : b1.choice ≡ c.args.self.now.choice = c.go_on.ensures.kept ∙ inv.kept none in
     let from = inv.from in
     let gone = c.go_on.ensures.more in
-    let more = c.turn_on.ensures.turns in
+    let more = c.turn_at.ensures.turns in
+    let later : b1.due ≢ Some (turns_of b1) = λ e. c.quiet_until-until.ensures.later (turns_of b1) (omega (arith, c.if-self-until.false)) (sym inv.due ∙ sym c.go_on.ensures.due ∙ e) in
     record {
       advanced = λ x n s a.
           let m : ℕ = n + (turns_of b - turns_of c.args.self.now) in
@@ -50,13 +51,13 @@ turns-preserved c =
           let before = c.go_on.ensures.advanced x m s (inv.advanced x n s a) in
           let goes = chosen_goes x (turn_after Calls x m1 s).state b1.choice c.args.task before.stands.holds.choice (ap (λ (k : Choice). k.next) choice ∙ c.requires.next) (ap (λ (k : Choice). k.down) choice ∙ c.requires.up) in
           let e : suc m1 ≡ n + (turns_of b' - turns_of c.args.self.now) = omega (arith, from, gone, more) in
-          subst (λ (k : ℕ). IsAdvanced Calls x k s b') e (one_more Calls x m1 s b1 b' before c.go_on.ensures.nothing goes (λ u st. c.turn_on.ensures.model x u st) (λ u st. c.turn_on.ensures.notes x u st));
+          subst (λ (k : ℕ). IsAdvanced Calls x k s b') e (one_more Calls x m1 s b1 b' before c.go_on.ensures.nothing goes (λ u st. c.turn_at.ensures.model x u st) (λ u st. c.turn_at.ensures.notes x u st));
       stood = (x0, (turn Calls x0 s0).state, st1);
       text = subst P setup c.go_on.ensures.text;
       from = omega (arith, from, gone, more);
       within = omega (arith, c.if-self-until.false, c.quiet_until-until.ensures.within, more);
-      due = c.turn_on.ensures.due ∙ c.go_on.ensures.due ∙ inv.due;
-      kept = λ after. c.turn_on.ensures.kept after ∙ choice;
+      due = c.turn_at.ensures.due later ∙ c.go_on.ensures.due ∙ inv.due;
+      kept = λ after. c.turn_at.ensures.kept later after ∙ choice;
     }
 
 pub returns-then-self-until-clause-advanced : goal.returns-then-self-until-clause-advanced

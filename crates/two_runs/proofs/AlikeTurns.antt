@@ -1,0 +1,155 @@
+-- Turns leave alike states alike.
+use Rattle.std.proofs.Common.{◌≡◌, ◌+◌, ◌<◌, ◌≤◌, ◌%◌, ◌^◌, ℕ, zero, suc, Bool, true, false, cond, not, leb, ltb, ◌&&◌, List, Option, Some, None, refl, sym, ◌∙◌, ap, arith, inl, inr, eq-or-lt_of_le, ltb-true, ltb-false}
+use Rattle.std.specs.Prelude.{fold, find}
+use Rattle.std.specs.List.{range_with_len}
+use Rattle.kernel_abi.specs.declared.Note.{Note}
+use Rattle.kernel_abi.specs.declared.Note.TheVariants as note
+use Rattle.region_check.specs.declared.Right.{Right}
+use Rattle.region_check.specs.declared.Right.TheVariants.{Read, Execute}
+use Rattle.run_script.specs.declared.events.Event.{Event}
+use Rattle.run_script.specs.declared.events.Event.TheVariants.{Tick, Irq}
+use Rattle.run_script.specs.Scripts.{events_of}
+use Rattle.thumb_exec.specs.Effect.{Store}
+use Rattle.task_table.specs.Memory.{number_at, number_of, is_ram}
+use Rattle.task_table.specs.State.{Setup, State, Own, Turn}
+use Rattle.task_table.specs.Reading.{task_at, chosen}
+use Rattle.task_table.specs.Effects.{noted}
+use Rattle.two_runs.specs.Levels.{is_told_always}
+use Rattle.task_table.specs.Start.{begun}
+use Rattle.board_model.specs.declared.told.Level.{Level}
+use Rattle.board_model.specs.declared.told.Level.TheVariants.{Calls, All}
+use Rattle.board_model.specs.Script.{Scenario}
+use Rattle.board_model.specs.Turn.{may, cpu_of, bytes_of, put, told, is_text, stepped, happened, after_events, with_current, low_note, high_note, with_registers_told, turn_of, ended, turn}
+use Rattle.two_runs.specs.Alike.{Viewer, IsAttentive, IsAlike, IsAlikeWhereSeen}
+use Rattle.two_runs.specs.Agreement.{rest_of}
+use Rattle.two_runs.proofs.Alike.{register_alike, chosen_alike, bytes_alike, turn_alike}
+use Rattle.two_runs.proofs.AlikeRows.{by_test, alike-heard, alike-unheard, the_task, alike-processor, alike-current, alike-next_turn, alike-stored, alike-faulted, surely, alike-call_noted, alike-called, alike-ticked, alike-interrupted, alike-fold}
+use Rattle.two_runs.proofs.Following.{IsFollowed, follow-stepped}
+
+-- how much is told of the two turns: as much, and all is heard; or the first tells no more than what is heard
+abbrev pub IsHeardAs : Viewer → Level → Level → Type 0
+IsHeardAs w Calls Calls = Unit {0}
+IsHeardAs w All All = (n : Note) → w.hears n ≡ true
+IsHeardAs w Calls All = (n : Note) → is_told_always n ≡ false → w.hears n ≡ false
+IsHeardAs w All Calls = ⊥
+
+-- the viewer sees what the task may read or execute, and what lies above all memory
+pub record IsOpen (w : Viewer) (g : Setup) (c : ℕ) : Type 0 where
+  pub rights : (right : Right) (a : ℕ) → may g c right a ≡ true → w.sees a ≡ true
+  pub beyond : (a : ℕ) → 0x40000000 ≤ a → w.sees a ≡ true
+
+-- no byte of a range is refused
+no_some : {A : Type 0} {B : Type 0} {y : A} → Some y ≡ None → B
+no_some q = cc
+
+none_lacking : (p : ℕ → Bool) (a n : ℕ) → find (λ x. not (p x)) (range_with_len a n) ≡ None → (x : ℕ) → a ≤ x → x < a + n → p x ≡ true
+none_lacking p a zero e x lo hi = absurd (omega arith)
+none_lacking p a (suc n) e x lo hi = go (p a) refl e (λ above rest. none_lacking p (a + 1) n rest x (omega arith) (omega arith))
+  where
+    go : (b : Bool) → p a ≡ b → cond (not b) (Some a) (find (λ y. not (p y)) (range_with_len (a + 1) n)) ≡ None → (a < x → find (λ y. not (p y)) (range_with_len (a + 1) n) ≡ None → p x ≡ true) → p x ≡ true
+    go false q f later = no_some f
+    go true q f later = elim (eq-or-lt_of_le lo) [ inl same ↦ ap p (sym same) ∙ q | inr above ↦ later above f ]
+
+pub both : (a b : Bool) → (a && b) ≡ true → (a ≡ true) × (b ≡ true)
+both true b h = (refl, h)
+both false b h = cc
+
+module _ (w : Viewer) (a : IsAttentive w) where
+  alike-told_at : (l m : Level) → IsHeardAs w l m → (n k : Note) (t u : Turn) → n ≡ k → is_told_always n ≡ false → IsAlike w t u → IsAlike w (told l n t) (told m k u)
+  alike-told_at l m heard n k t u e request h = rw (sym e) (go l m heard)
+    where
+      go : (x y : Level) → IsHeardAs w x y → IsAlike w (told x n t) (told y n u)
+      go Calls Calls q = h
+      go All All q = alike-heard w a n t u (q n) h
+      go Calls All q = alike-unheard w a n t u (q n request) h
+      go All Calls q = absurd q
+
+  alike-put : (x : Store) (t u : Turn) → IsAlike w t u → IsAlike w (put t x) (put u x)
+  alike-put x t u h =
+      by_test (IsAlike w) (is_ram t.state.memory x.addr x.bytes) (is_ram u.state.memory x.addr x.bytes)
+      (ap (λ n. leb 0x20000000 x.addr && leb (x.addr + x.bytes) (0x20000000 + n)) h.memory.ram_length)
+      (alike-stored w a Own x.addr (bytes_of x.value x.bytes) t u h) h
+
+  -- the walk of an instruction, to this viewer
+  module _ (l m : Level) (heard : IsHeardAs w l m) (g : Setup) (c : ℕ) (open_to : IsOpen w g c) where
+    half_alike : (t u : Turn) (at : ℕ) → IsAlike w t u → is_text g c at ≡ true → number_at t.state.memory at 2 ≡ number_at u.state.memory at 2
+    half_alike t u at h text =
+        let e = both (may g c Execute at) (may g c Execute ((at + 1) % 2 ^ 32)) text in
+        ap number_of (bytes_alike w.sees t.state.memory u.state.memory at 2 h.memory (λ x lo hi. seen_at x lo hi e))
+      where
+        second : may g c Execute ((at + 1) % 2 ^ 32) ≡ true → w.sees (at + 1) ≡ true
+        second e = go (ltb (at + 1) (2 ^ 32)) refl
+          where
+            go : (b : Bool) → ltb (at + 1) (2 ^ 32) ≡ b → w.sees (at + 1) ≡ true
+            go true q =
+                let below : at + 1 < 2 ^ 32 = ltb-true _ _ q in
+                let same : (at + 1) % 2 ^ 32 ≡ at + 1 = omega arith in
+                ap w.sees (sym same) ∙ open_to.rights Execute _ e
+            go false q =
+                let above : 2 ^ 32 ≤ at + 1 = ltb-false _ _ q in
+                open_to.beyond (at + 1) (omega arith)
+
+        seen_at : (x : ℕ) → at ≤ x → x < at + 2 → (may g c Execute at ≡ true) × (may g c Execute ((at + 1) % 2 ^ 32) ≡ true) → w.sees x ≡ true
+        seen_at x lo hi e = elim (eq-or-lt_of_le lo) [
+          | inl same ↦ ap w.sees (sym same) ∙ open_to.rights Execute at e.0
+          | inr above ↦ let same : x ≡ at + 1 = omega arith in ap w.sees same ∙ second e.1
+        ]
+
+    followed : IsFollowed l m g g c c (IsAlike w) (IsAlikeWhereSeen w)
+    followed = record {
+      text = λ x. refl;
+      refused = refl;
+      pc = λ t u h. register_alike w.birth t.state u.state c 15 h.state;
+      cpu = λ t u h. ap cpu_of (the_task w a c t u h);
+      half = λ t u at h text. half_alike t u at h text;
+      loads = λ t u h at n e. ap number_of (bytes_alike w.sees t.state.memory u.state.memory at n h.memory (λ x lo hi. open_to.rights Read x (none_lacking (may g c Read) at n e x lo hi)));
+      told = λ at code t u h. alike-told_at l m heard (note.Insn c at code) (note.Insn c at code) t u refl refl h;
+      put = alike-put;
+      processor = λ registers flags t u h. surely w a (alike-processor w a c registers flags t u h);
+      fault = λ x t u h. surely w a (alike-faulted w a g c x t u h);
+      call = λ t u h. alike-called w a g c _ _ (alike-call_noted w a c t u h);
+    }
+
+    alike-stepped : (t u : Turn) → IsAlike w t u → IsAlikeWhereSeen w (stepped l g c t) (stepped m g c u)
+    alike-stepped t u h = follow-stepped l m g g c c (IsAlike w) (IsAlikeWhereSeen w) followed t u h
+
+  -- ## the turn
+
+  module _ (l m : Level) (heard : IsHeardAs w l m) where
+    alike-registers_told : (c : ℕ) (t u : Turn) → IsAlike w t u → IsAlike w (with_registers_told l c t) (with_registers_told m c u)
+    unfolding with_registers_told
+    alike-registers_told c t u h =
+        alike-told_at l m heard _ _ _ _ (ap high_note (the_task w a c t u h)) refl
+        (alike-told_at l m heard _ _ t u (ap low_note (the_task w a c t u h)) refl h)
+
+    reads_told : (c : ℕ) (t : Turn) → (with_registers_told l c t).reads ≡ t.reads
+    unfolding with_registers_told noted
+    reads_told c t = elim l as (λ (x : Level). (told x (high_note (task_at t.state c)) (told x (low_note (task_at t.state c)) t)).reads ≡ t.reads) [ Calls ↦ refl | All ↦ refl ]
+
+    alike-turn_of : (g : Setup) (o : Option ℕ) (t u : Turn) → ((c : ℕ) → o ≡ Some c → IsOpen w g c) → IsAlike w t u → IsAlikeWhereSeen w (turn_of l g o t) (turn_of m g o u)
+    alike-turn_of g None t u sight h = surely w a (alike-told_at l m heard note.Idle note.Idle t u refl refl h)
+    alike-turn_of g (Some c) t u sight h =
+        let k = alike-stepped l m heard g c (sight c refl) (with_current c t) (with_current c u) (alike-current w a c t u h) in
+        record { alike = λ see. alike-registers_told c _ _ (k.alike (rw reads_told at see)) }
+
+    pub alike-rest : (g : Setup) (t u : Turn) → ((c : ℕ) → chosen g t.state ≡ Some c → IsOpen w g c) → IsAlike w t u → IsAlikeWhereSeen w (rest_of l g t) (rest_of m g u)
+    unfolding ended
+    alike-rest g t u sight h =
+        let e = sym (chosen_alike w.birth g t.state u.state h.state) in
+        let k = alike-turn_of g (chosen g t.state) t u sight h in
+        rw e record { alike = λ see. alike-next_turn w a _ _ (k.alike see) }
+
+  alike-happened : (g : Setup) (e : Event) (t u : Turn) → IsAlike w t u → IsAlike w (happened g t e) (happened g u e)
+  alike-happened g Tick t u h = alike-ticked w a t u h
+  alike-happened g (Irq line) t u h = alike-interrupted w a g line t u h
+
+  pub alike-events : (x : Scenario) (s u : State) → IsAlike w (begun s) (begun u) → IsAlike w (after_events x s) (after_events x u)
+  unfolding after_events begun
+  alike-events x s u h = go (events_of x.script s.turn) (events_of x.script u.turn) (λ j. events_of x.script (turn_alike w.birth s u h.state j))
+    where
+      go : (es ks : List Event) → es ≡ ks → IsAlike w (fold (happened x.setup) (begun s) es) (fold (happened x.setup) (begun u) ks)
+      go es ks e = rw (sym e) (alike-fold w a (happened x.setup) es (begun s) (begun u) (alike-happened x.setup) h)
+
+  pub alike-turn : (l m : Level) → IsHeardAs w l m → (x : Scenario) (s u : State) → ((c : ℕ) → IsOpen w x.setup c) → IsAlike w (begun s) (begun u) → IsAlikeWhereSeen w (turn l x s) (turn m x u)
+  unfolding turn
+  alike-turn l m heard x s u sight h = alike-rest l m heard x.setup (after_events x s) (after_events x u) (λ c e. sight c) (alike-events x s u h)

@@ -1,0 +1,54 @@
+//! Laws of two turns, or two runs, that go on side by side. Nothing runs here.
+//!
+//! - What is told on request alone decides nothing (`what_is_told_decides_nothing`), so a run without it is
+//!   the run with it, but for its notes (`instructions_are_told_beside`).
+//! - A turn depends on memory only where it reads (`a_turn_depends_on_what_it_reads`).
+//! - Of a number of births its generation alone decides anything (`generations_decide`).
+#![tactic(auto)]
+
+ghost use Rattle.std.specs.Prelude.{◌≡◌, ℕ, Some};
+ghost use Rattle.task_table.specs.Memory.{Memory};
+ghost use Rattle.task_table.specs.State.{Setup, State, Turn};
+ghost use Rattle.task_table.specs.Reading.{chosen};
+ghost use Rattle.task_table.specs.Calls.{called};
+ghost use Rattle.task_table.specs.Sane.{Sane};
+ghost use Rattle.board_model.specs.declared.told.Level.{Level as Detail};
+ghost use Rattle.board_model.specs.declared.told.Level.TheVariants.{Calls, All};
+ghost use Rattle.board_model.specs.Script.{Scenario};
+ghost use Rattle.board_model.specs.Turn.{turn, after_events};
+ghost use Rattle.board_model.specs.Run.{run};
+ghost use Rattle.two_runs.specs.Levels.{IsLessTold, without_instructions};
+ghost use Rattle.two_runs.specs.Alike.{reduced};
+ghost use Rattle.two_runs.specs.Agreement.{AgreesOnReads, rest_of, with_memory, IsSameButMemory};
+
+/// What is told on request decides nothing: two turns that differ in it alone still do after a call of a
+/// task, and so do the turns from one state of which calls alone, or all instructions, are told.
+pub fn what_is_told_decides_nothing()
+    ensures called { (g : Setup) (c : ℕ) (t u : Turn) → IsLessTold t u → IsLessTold (called g c t) (called g c u) }
+    ensures turn { (x : Scenario) (s : State) → IsLessTold (turn Calls x s) (turn All x s) }
+{}
+
+/// Instructions, registers and idle turns are told beside the rest of a run: without them it is the
+/// run of which calls, events and faults alone are told.
+pub fn instructions_are_told_beside()
+    ensures { (x : Scenario) (n : ℕ) (s : State) → run Calls x n s ≡ without_instructions (run All x n s) }
+{}
+
+/// What a turn does after its events depends on memory only where it reads: in the regions of its own task
+/// that are no device, and where it read for another task. With any memory that has the same bytes there
+/// it gives the same writes, reads and notes, and the same next state but for memory.
+pub fn a_turn_depends_on_what_it_reads()
+    ensures { (level : Detail) (x : Scenario) (s : State) (m : Memory) → Sane x.setup s → ((c : ℕ) → chosen x.setup (after_events x s).state ≡ Some c → AgreesOnReads x.setup c (turn level x s).reads (after_events x s).state.memory m) → IsSameButMemory (turn level x s) (rest_of level x.setup (with_memory m (after_events x s))) }
+{}
+
+/// Of a number of births nothing but the generation decides: a turn, or a run, from a state and one from it
+/// with its births modulo 64 have equal notes and ends, and last states that are equal with their births
+/// modulo 64. A sane state is sane with its births modulo 64.
+pub fn generations_decide()
+    ensures sane { (g : Setup) (s : State) → Sane g s → Sane g (reduced s) }
+    ensures notes { (level : Detail) (x : Scenario) (s : State) → (turn level x (reduced s)).notes ≡ (turn level x s).notes }
+    ensures state { (level : Detail) (x : Scenario) (s : State) → reduced (turn level x (reduced s)).state ≡ reduced (turn level x s).state }
+    ensures run_notes { (level : Detail) (x : Scenario) (n : ℕ) (s : State) → (run level x n (reduced s)).notes ≡ (run level x n s).notes }
+    ensures last { (level : Detail) (x : Scenario) (n : ℕ) (s : State) → reduced (run level x n (reduced s)).last ≡ reduced (run level x n s).last }
+    ensures end { (level : Detail) (x : Scenario) (n : ℕ) (s : State) → (run level x n (reduced s)).end ≡ (run level x n s).end }
+{}
