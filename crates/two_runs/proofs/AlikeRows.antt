@@ -26,8 +26,8 @@ use Rattle.task_table.specs.Reading.{task_at, line_at, line_off, line_on, regist
 use Rattle.task_table.specs.Effects.{with_task, without_call, without_listen, with_listen, with_taken, changed, noted, with_processor, with_health, writes_on, stored, copied, looked, with_results, given, returned, advanced, bits_added, bits_cleared, woken_by, woken, posted, with_timer, clocked, with_line, close_notes, closed, faulted_as, faulted, handed}
 use Rattle.task_table.specs.Rows.{goes_on, goes_on_with, misused, denied, panicked, timer_set, timer_words, timer_told, owns_with, line_controlled, irq_controlled, listened_from, buffer_of, listens, receives_or_listens, offer_of, received, call_noted}
 use Rattle.task_table.specs.Calls.{Meaning, calls, meaning_among, called}
-use Rattle.task_table.specs.Events.{expired_by, expired, ticked, owner_of, interrupted_by, interrupted}
 use Rattle.task_table.proofs.Meanings.{EachMeaning}
+use Rattle.task_table.specs.Events.{expired_by, expired, ticked, owner_of, interrupted_by, interrupted}
 use Rattle.two_runs.specs.Levels.{is_told_always}
 use Rattle.two_runs.specs.Alike.{Viewer, IsAttentive, seen_task, seen_call, seen_from, seen_listen, seen, IsAlike, IsAlikeWhereSeen}
 use Rattle.std.proofs.lemmas.List.Elements.{filter-append}
@@ -434,23 +434,21 @@ module _ (w : Viewer) (a : IsAttentive w) where
       (alike-receives_or_listens c x (One (present t.state (index_of id))) (One (present u.state (index_of id))) _ _ t u (ap (λ (y : Task). One record { index = index_of id; birth = y.births }) (the_task (index_of id) t u h)) (offer_alike w.birth t.state u.state (index_of id) c h.state) h)
       (alike-receives_or_listens c x Any Any _ _ t u refl (offer_of_same c best t u h) h))))))))
 
-  -- a call is what its number means
-  alike-among : (g : Setup) (c : ℕ) (calls : List (ℕ × Meaning)) (n : ℕ) → EachMeaning (λ m. (t u : Turn) → IsAlike w t u → IsAlikeWhereSeen w (m g c t) (m g c u)) calls → (t u : Turn) → IsAlike w t u → IsAlikeWhereSeen w (meaning_among calls n g c t) (meaning_among calls n g c u)
-  alike-among g c [] n each t u h = surely (alike-misused g c 1 t u h)
-  alike-among g c (call ∷ calls) n each t u h = by_same (IsAlikeWhereSeen w) (eqb n call.0) (each.0 t u h) (alike-among g c calls n each.1 t u h)
+  alike-among : (list : List (ℕ × Meaning)) (n : ℕ) (g : Setup) (c : ℕ) (t u : Turn) → IsAlike w t u → EachMeaning (λ m. IsAlikeWhereSeen w (m g c t) (m g c u)) list → IsAlikeWhereSeen w (meaning_among list n g c t) (meaning_among list n g c u)
+  alike-among [] n g c t u h each = surely (alike-misused g c 1 t u h)
+  alike-among (call ∷ list) n g c t u h each = by_same (IsAlikeWhereSeen w) (eqb n call.0) each.0 (alike-among list n g c t u h each.1)
 
   pub alike-called : (g : Setup) (c : ℕ) (t u : Turn) → IsAlike w t u → IsAlikeWhereSeen w (called g c t) (called g c u)
   unfolding called
   alike-called g c t u h =
       let e = word c 11 t u h in
-      rw e (alike-among g c calls (register t.state c 11) (
-        λ t u h. alike-received g c _ _ t u (best_alike w.birth g t.state u.state c h.state) h,
-        λ t u h. surely (alike-timer_set c t u h),
-        λ t u h. surely (alike-irq_controlled g c t u h),
-        λ t u h. surely (alike-panicked g c t u h),
-        λ t u h. surely (alike-timer_told c t u h),
-        tt,
-      ) t u h)
+      let best = best_alike w.birth g t.state u.state c h.state in
+      rw e (alike-among calls (register t.state c 11) g c t u h (
+      alike-received g c _ _ t u best h,
+      (surely (alike-timer_set c t u h),
+      (surely (alike-irq_controlled g c t u h),
+      (surely (alike-panicked g c t u h),
+      (surely (alike-timer_told c t u h), tt))))))
 
   -- ## events
 

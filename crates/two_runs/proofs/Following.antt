@@ -17,8 +17,8 @@ use Rattle.task_table.specs.Memory.{number_at}
 use Rattle.task_table.specs.State.{Setup, Turn}
 use Rattle.task_table.specs.Reading.{task_at, register}
 use Rattle.task_table.specs.Effects.{with_processor, faulted}
-use Rattle.task_table.specs.Calls.{called}
 use Rattle.task_table.specs.Rows.{call_noted}
+use Rattle.task_table.specs.Calls.{called}
 use Rattle.board_model.specs.declared.told.Level.{Level}
 use Rattle.board_model.specs.Turn.{refusals, cpu_of, put, acted, executed, told, decoded_as, is_text, stepped_wide, stepped}
 
