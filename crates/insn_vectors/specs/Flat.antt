@@ -1,5 +1,5 @@
 -- A flash from 0x08000000 and a RAM from 0x20000000, behind regions.
-use Rattle.std.specs.Prelude.{◌≡◌, ℕ, zero, suc, ◌+◌, ◌-◌, ◌*◌, ◌/◌, ◌%◌, ◌^◌, nat_eq, nat_le, nat_lt, ◌&&◌, List, length, true, false, slice_index, slice_set, Option, Some, None, if◌then◌else◌}
+use Rattle.std.specs.Prelude.{◌≡◌, ℕ, zero, suc, ◌+◌, ◌-◌, ◌*◌, ◌/◌, ◌%◌, ◌^◌, nat_eq, nat_le, nat_lt, ◌&&◌, List, length, true, false, slice_index, slice_set, replicate, [], ◌∷◌, Option, Some, None, if◌then◌else◌}
 use Rattle.region_check.specs.declared.Right.{Right}
 use Rattle.region_check.specs.declared.Region.{Region}
 use Rattle.region_check.specs.Rights.{may_use}
@@ -30,9 +30,33 @@ IsStored old a n v new = (k : ℕ) → ram_at new k ≡ (if nat_le a k && nat_lt
 abbrev pub IsPut : List ℕ → ℕ → ℕ → List ℕ → Type 0
 IsPut old a v new = (k : ℕ) → ram_at new k ≡ (if nat_eq k a && nat_le (2 ^ 29) k && nat_lt k (2 ^ 29 + length old) then v else ram_at old k)
 
--- the flash after a byte at an address is filled in
-abbrev pub filled : List ℕ → ℕ → ℕ → List ℕ
-filled flash a v = if nat_le (2 ^ 27) a && nat_lt a (2 ^ 27 + length flash) && nat_lt a (2 ^ 29) then slice_set flash (a - 2 ^ 27) v else flash
+-- the bytes of a flash and of a RAM
+pub record Banks : Type 0 where
+  pub flash : List ℕ
+  pub ram : List ℕ
+
+-- a byte is put at an address, into flash or RAM, or nowhere
+abbrev pub flash_with : List ℕ → ℕ → ℕ → List ℕ
+flash_with flash a v = if nat_le (2 ^ 27) a && nat_lt a (2 ^ 27 + length flash) && nat_lt a (2 ^ 29) then slice_set flash (a - 2 ^ 27) v else flash
+
+abbrev pub ram_with : List ℕ → ℕ → ℕ → List ℕ
+ram_with ram a v = if nat_le (2 ^ 29) a && nat_lt a (2 ^ 29 + length ram) then slice_set ram (a - 2 ^ 29) v else ram
+
+abbrev pub with_byte : Banks → ℕ → ℕ → Banks
+with_byte m a v = record { flash = flash_with m.flash a v; ram = ram_with m.ram a v }
+
+-- a halfword, its low byte first
+abbrev pub with_half : Banks → ℕ → ℕ → Banks
+with_half m a h = with_byte (with_byte m a (h % 256)) ((a + 1) % 2 ^ 32) (h / 256)
+
+-- addresses with their bytes, one after another
+unfoldable pub with_bytes : Banks → List (ℕ × ℕ) → Banks
+with_bytes m [] = m
+with_bytes m (b ∷ bs) = with_bytes (with_byte m b.0 b.1) bs
+
+-- 64 KiB of flash and 4 KiB of RAM
+abbrev pub zeros : Banks
+zeros = record { flash = replicate 0x10000 0; ram = replicate 0x1000 0 }
 
 -- 64 KiB of flash, to be read and executed
 abbrev pub flash_region : Region

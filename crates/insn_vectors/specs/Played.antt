@@ -1,10 +1,13 @@
 -- What a case wants of the instruction at PC.
-use Rattle.insn_vectors.specs.Flat.{first_bad, number_of, IsStored}
+use Rattle.insn_vectors.specs.Flat.{first_bad, number_of, IsStored, Banks, with_half, with_bytes, zeros, flash_region, ram_region}
 use Rattle.insn_vectors.specs.declared.case.Case.{Case}
 use Rattle.insn_vectors.specs.declared.memory.Memory.{Memory}
-use Rattle.std.specs.Prelude.{◌≡◌, length, ℕ}
+use Rattle.std.specs.Prelude.{◌≡◌, length, ℕ, Bool, IsTrue, ◌↔◌, [], ◌∷◌, Option, Some, None}
+use Rattle.words_core.specs.Regs.{reg_at}
 use Rattle.thumb_exec.specs.Effect.{Refusals, Contents, Acts}
-use Rattle.thumb_step.specs.Fetch.{step_effect}
+use Rattle.thumb_exec.specs.declared.cpu.Cpu.{Cpu}
+use Rattle.thumb_exec.specs.declared.cpu.Outcome.{Outcome}
+use Rattle.thumb_step.specs.Fetch.{after, step_effect}
 
 -- what a memory refuses, what it holds, and how it is after a store
 abbrev pub refused_by : Memory → Refusals
@@ -16,6 +19,36 @@ held_by m = λ a n. number_of m.flash.items m.ram.items a n
 abbrev pub IsAfter : Memory → ℕ → ℕ → ℕ → Memory → Type 0
 IsAfter m a n v t = IsStored m.ram.items a n v t.ram.items × (length t.ram.items ≡ length m.ram.items) × (t.flash ≡ m.flash) × (t.regions ≡ m.regions)
 
--- from some memory the instruction at PC leaves the registers and flags that are wanted, and ends as is wanted
-abbrev pub Passes : Case → Type 0
-Passes case = (m : Memory) × (t : Memory) × Acts IsAfter case.cpu case.wanted m t case.outcome (step_effect (refused_by m) (held_by m) case.cpu)
+-- ## a case
+
+abbrev pub banks_of : Memory → Banks
+banks_of m = record { flash = m.flash.items; ram = m.ram.items }
+
+-- a code at an address, with its second halfword behind it, if it has one
+abbrev pub with_code : Banks → ℕ → ℕ → Option ℕ → Banks
+with_code m at first None = with_half m at first
+with_code m at first (Some second) = with_half (with_half m at first) (after at) second
+
+-- before the instruction: the bytes that the case tells, its code at PC, and zeros
+abbrev pub banks_before : Case → Banks
+banks_before case = with_code (with_bytes zeros case.bytes.items) (reg_at case.cpu.regs 15) case.first case.second
+
+pub record IsBefore (case : Case) (m : Memory) : Type 0 where
+  pub banks : banks_of m ≡ banks_before case
+  pub regions : m.regions.items ≡ flash_region ∷ ram_region ∷ []
+
+-- the registers, flags and outcome that the case wants, and every byte as it wants it
+pub record IsWanted (case : Case) (c : Cpu) (o : Outcome) (m : Memory) : Type 0 where
+  pub cpu : c ≡ case.wanted
+  pub outcome : o ≡ case.outcome
+  pub banks : banks_of m ≡ with_bytes (banks_before case) case.wanted_bytes.items
+
+-- what the instruction leaves, by its rows in the table, and whether that is what the case wants
+pub record Judges (case : Case) (passed : Bool) : Type 0 where
+  pub before : Memory
+  pub memory : Memory
+  pub cpu : Cpu
+  pub outcome : Outcome
+  pub begins : IsBefore case before
+  pub acts : Acts IsAfter case.cpu cpu before memory outcome (step_effect (refused_by before) (held_by before) case.cpu)
+  pub judged : IsTrue passed ↔ IsWanted case cpu outcome memory

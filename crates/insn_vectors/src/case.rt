@@ -1,20 +1,38 @@
 //! A case of the file, by the form that its head tells.
-use crate::memory::Memory;
+ghost use Rattle.std.specs.Prelude.{◌≡◌, ◌%◌, IfOk, IfSome};
+ghost use Rattle.words_core.specs.Regs.{reg_at};
+
 use kernel_abi::Fault;
+use std::alloc::{AllocError, Global};
 use thumb_exec::cpu::{Cpu, Outcome};
 use words_core::{Flags, Regs};
 
-/// One instruction, what is before it and what is wanted after it. The texts of bytes are for
-/// `fill`.
+/// One instruction, what is before it and what is wanted after it.
 #[derive(Drop)]
-pub struct Case<'a> {
-    pub code: u32,
-    pub is_wide: bool,
+pub struct Case {
+    /// Its code, of one halfword or two.
+    pub first: u16,
+    pub second: Option<u16>,
+    /// The processor before it, with PC even.
     pub cpu: Cpu,
-    pub bytes: &'a str,
+    /// Bytes of the memory before it, with their addresses.
+    pub bytes: Vec<(u32, u8)>,
     pub outcome: Outcome,
     pub wanted: Cpu,
-    pub wanted_bytes: &'a str,
+    /// The bytes that it is to write, with their addresses.
+    pub wanted_bytes: Vec<(u32, u8)>,
+}
+
+/// The fields of a line, of which the bytes of memory are still texts.
+#[derive(Drop)]
+struct Fields<'a> {
+    first: u16,
+    second: Option<u16>,
+    cpu: Cpu,
+    bytes: &'a str,
+    outcome: Outcome,
+    wanted: Cpu,
+    wanted_bytes: &'a str,
 }
 
 /// A number in hexadecimal.
@@ -31,28 +49,54 @@ fn digit(byte: u8) -> Option<u8> {
     }
 }
 
-/// Puts bytes into memory: `address=bytes` pairs parted by commas, or `-`.
-pub fn fill(memory: &mut Memory, text: &str) -> Option<()> {
-    if text == "-" {
-        return Some(());
-    }
-    for pair in text.split(',') {
-        let (place, digits) = pair.split_once('=')?;
-        let mut at = hex(place)?;
-        let mut high = None;
-        for byte in digits.bytes() {
-            let low = digit(byte)?;
-            match high {
-                None => high = Some(low),
-                Some(top) => {
-                    memory.fill(at, top.wrapping_mul(16).wrapping_add(low));
-                    at = at.wrapping_add(1);
-                    high = None;
-                }
+/// Adds bytes, two digits each, at addresses from `at` on.
+fn push_bytes(found: &mut Vec<(u32, u8)>, at: u32, digits: &str) -> Result<Option<()>, AllocError> {
+    let mut at = at;
+    let mut high = None;
+    for byte in digits.bytes() {
+        let Some(low) = digit(byte) else {
+            return Ok(None);
+        };
+        match high {
+            None => high = Some(low),
+            Some(top) => {
+                found.push((at, top.wrapping_mul(16).wrapping_add(low)))?;
+                at = at.wrapping_add(1);
+                high = None;
             }
         }
     }
-    Some(())
+    Ok(if high.is_none() { Some(()) } else { None })
+}
+
+/// Bytes with their addresses: `address=bytes` pairs parted by commas, or `-`.
+fn memory_bytes(alloc: Global, text: &str) -> Result<Option<Vec<(u32, u8)>>, AllocError> {
+    let mut found = Vec::new(alloc);
+    if text == "-" {
+        return Ok(Some(found));
+    }
+    for pair in text.split(',') {
+        let Some((place, digits)) = pair.split_once('=') else {
+            return Ok(None);
+        };
+        let Some(at) = hex(place) else {
+            return Ok(None);
+        };
+        if push_bytes(&mut found, at, digits)?.is_none() {
+            return Ok(None);
+        }
+    }
+    Ok(Some(found))
+}
+
+/// A code of four digits, or of eight, the first halfword first.
+fn code(text: &str) -> Option<(u16, Option<u16>)> {
+    let value = hex(text)?;
+    match text.len() {
+        4 => Some((u16::try_from(value).ok()?, None)),
+        8 => Some(((value / 0x1_0000) as u16, Some((value % 0x1_0000) as u16))),
+        _ => None,
+    }
 }
 
 /// Fifteen registers, parted by commas.
@@ -138,29 +182,54 @@ fn outcome(text: &str) -> Option<Outcome> {
     Some(Outcome::Trap(Fault { number, x, y }))
 }
 
-/// A line of nine fields, of which the first is a name.
-pub fn read(line: &str) -> Option<Case<'_>> {
+/// The nine fields of a line, of which the first is a name.
+fn read_fields(line: &str) -> Option<Fields<'_>>
+    ensures { IfSome result (λ f. reg_at f.cpu.regs 15 % 2 ≡ 0) }
+{
     let mut fields = line.split_whitespace();
     fields.next()?;
-    let code = fields.next()?;
+    let (first, second) = code(fields.next()?)?;
     let at = hex(fields.next()?)?;
     let mut regs = registers(fields.next()?)?;
     regs.set(15, at);
+    if regs.get(15) % 2 != 0 {
+        return None;
+    }
     let cpu = Cpu {
         regs,
         flags: flags(fields.next()?)?,
     };
-    let bytes = fields.next()?;
-    let outcome = outcome(fields.next()?)?;
-    let wanted = changed(cpu, fields.next()?)?;
-    let wanted_bytes = fields.next()?;
-    Some(Case {
-        code: hex(code)?,
-        is_wide: code.len() == 8,
+    Some(Fields {
+        first,
+        second,
         cpu,
-        bytes,
-        outcome,
-        wanted,
-        wanted_bytes,
+        bytes: fields.next()?,
+        outcome: outcome(fields.next()?)?,
+        wanted: changed(cpu, fields.next()?)?,
+        wanted_bytes: fields.next()?,
     })
+}
+
+/// The case that a line is.
+pub fn read(alloc: Global, line: &str) -> Result<Option<Case>, AllocError>
+    ensures { IfOk result (λ o. IfSome o (λ c. reg_at c.cpu.regs 15 % 2 ≡ 0)) }
+{
+    let Some(fields) = read_fields(line) else {
+        return Ok(None);
+    };
+    let Some(bytes) = memory_bytes(alloc, fields.bytes)? else {
+        return Ok(None);
+    };
+    let Some(wanted_bytes) = memory_bytes(alloc, fields.wanted_bytes)? else {
+        return Ok(None);
+    };
+    Ok(Some(Case {
+        first: fields.first,
+        second: fields.second,
+        cpu: fields.cpu,
+        bytes,
+        outcome: fields.outcome,
+        wanted: fields.wanted,
+        wanted_bytes,
+    }))
 }

@@ -15,7 +15,7 @@ fn is_remark(line: &str) -> bool {
 
 /// Whether a line is a case that passes.
 fn line_passes(alloc: Global, line: &str) -> Result<bool, AllocError> {
-    match case::read(line) {
+    match case::read(alloc, line)? {
         Some(case) => play::passes(alloc, &case),
         None => Ok(false),
     }

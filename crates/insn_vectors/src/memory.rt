@@ -1,6 +1,7 @@
 //! A flash and a RAM behind regions, as a bus.
 ghost use Rattle.std.specs.Prelude.{◌≡◌, ℕ, ◌+◌, ◌<◌, ◌≤◌, ◌*◌, ◌^◌, ◌/◌, ◌%◌, length, replicate, ◌∷◌, [], IfOk};
-ghost use Rattle.insn_vectors.specs.Flat.{first_bad, byte_at, number_of, IsStored, IsPut, filled, flash_region, ram_region};
+ghost use Rattle.insn_vectors.specs.Flat.{first_bad, byte_at, number_of, IsStored, IsPut, flash_with, ram_with, with_half, with_bytes, flash_region, ram_region};
+ghost use Rattle.insn_vectors.specs.Played.{banks_of, with_code};
 
 use region_check::{Region, Right, Rights, may};
 use std::alloc::{AllocError, Global};
@@ -97,6 +98,7 @@ impl Memory {
     #[tactic(auto, using(crate::proofs::Stored::put_in, crate::proofs::Stored::put_out))]
     fn put(&mut self, a: u32, byte: u8)
         ensures put { IsPut self.old.ram.items a byte self.new.ram.items }
+        ensures ram { self.new.ram.items ≡ ram_with self.old.ram.items a byte }
         ensures size { length self.new.ram.items ≡ length self.old.ram.items }
         ensures flash { self.new.flash ≡ self.old.flash }
         ensures regions { self.new.regions ≡ self.old.regions }
@@ -110,9 +112,9 @@ impl Memory {
     }
 
     /// Writes a byte of flash or RAM, whatever the rights; elsewhere nothing.
-    pub fn fill(&mut self, a: u32, byte: u8)
-        ensures ram { IsPut self.old.ram.items a byte self.new.ram.items }
-        ensures flash { self.new.flash.items ≡ filled self.old.flash.items a byte }
+    fn fill(&mut self, a: u32, byte: u8)
+        ensures ram { self.new.ram.items ≡ ram_with self.old.ram.items a byte }
+        ensures flash { self.new.flash.items ≡ flash_with self.old.flash.items a byte }
         ensures regions { self.new.regions ≡ self.old.regions }
     {
         if a >= RAM {
@@ -122,6 +124,37 @@ impl Memory {
             if i < self.flash.len() {
                 self.flash[i] = byte;
             }
+        }
+    }
+
+    /// Writes a halfword so, its low byte first.
+    fn fill_half(&mut self, a: u32, half: u16)
+        ensures banks { banks_of self.new ≡ with_half (banks_of self.old) a half }
+        ensures regions { self.new.regions ≡ self.old.regions }
+    {
+        self.fill(a, (half % 256) as u8);
+        self.fill(a.wrapping_add(1), (half / 256) as u8);
+    }
+
+    /// Writes a code so, with its second halfword behind it, if it has one.
+    pub fn fill_code(&mut self, at: u32, first: u16, second: Option<u16>)
+        ensures banks { banks_of self.new ≡ with_code (banks_of self.old) at first second }
+        ensures regions { self.new.regions ≡ self.old.regions }
+    {
+        self.fill_half(at, first);
+        match second {
+            None => {}
+            Some(second) => self.fill_half(at.wrapping_add(2), second),
+        }
+    }
+
+    /// Writes bytes so, each at its address, one after another.
+    pub fn fill_all(&mut self, bytes: &[(u32, u8)])
+        ensures banks { banks_of self.new ≡ with_bytes (banks_of self.old) bytes.now }
+        ensures regions { self.new.regions ≡ self.old.regions }
+    {
+        for pair in bytes {
+            self.fill(pair.0, pair.1);
         }
     }
 }

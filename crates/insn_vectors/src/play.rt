@@ -1,37 +1,28 @@
 //! Whether the instruction of a case does what is wanted.
-ghost use Rattle.std.specs.Prelude.{◌≡◌, true, IfOk};
-ghost use Rattle.insn_vectors.specs.Played.{Passes};
+ghost use Rattle.std.specs.Prelude.{◌≡◌, ◌%◌, ◌↔◌, IsTrue, IfOk};
+ghost use Rattle.words_core.specs.Regs.{reg_at};
+ghost use Rattle.insn_vectors.specs.Played.{banks_of, banks_before, IsBefore, IsWanted, Judges};
+ghost use Rattle.insn_vectors.specs.Flat.{with_bytes};
 
-use crate::case::{Case, fill};
+use crate::case::Case;
 use crate::memory::Memory;
 use std::alloc::{AllocError, Global};
 use thumb_exec::cpu::{Cpu, Outcome};
 use thumb_step::step;
 
 /// A memory with a case's bytes and, at PC, its code.
-fn memory_of(alloc: Global, case: &Case) -> Result<Option<Memory>, AllocError> {
+fn memory_of(alloc: Global, case: &Case) -> Result<Memory, AllocError>
+    ensures { IfOk result (IsBefore case.now) }
+{
     let mut memory = Memory::new(alloc)?;
-    if fill(&mut memory, case.bytes).is_none() {
-        return Ok(None);
-    }
-    let at = case.cpu.regs.get(15);
-    let mut code = if case.is_wide {
-        case.code.rotate_left(16)
-    } else {
-        case.code
-    };
-    for k in 0..4_u32 {
-        if k < 2 || case.is_wide {
-            memory.fill(at.wrapping_add(k), (code % 256) as u8);
-            code /= 256;
-        }
-    }
-    Ok(Some(memory))
+    memory.fill_all(&case.bytes);
+    memory.fill_code(case.cpu.regs.get(15), case.first, case.second);
+    Ok(memory)
 }
 
 /// Whether an instruction ended as the case wants, with its registers and flags.
-fn is_wanted(case: &Case, cpu: &Cpu, outcome: Outcome) -> bool
-    ensures { result ≡ true → (cpu.now ≡ case.now.wanted) × (outcome ≡ case.now.outcome) }
+fn is_end(case: &Case, cpu: &Cpu, outcome: Outcome) -> bool
+    ensures { IsTrue result ↔ (cpu.now ≡ case.now.wanted) × (outcome ≡ case.now.outcome) }
 {
     if outcome != case.outcome {
         return false;
@@ -42,28 +33,34 @@ fn is_wanted(case: &Case, cpu: &Cpu, outcome: Outcome) -> bool
     cpu.regs == case.wanted.regs
 }
 
-/// Whether the instruction of a case does just what is wanted, to registers, flags and every byte.
-/// One that passes ends so from some memory, by its rows in the table; which bytes that memory
-/// holds, no clause says.
-pub fn passes(alloc: Global, case: &Case) -> Result<bool, AllocError>
-    ensures { IfOk result (λ passed. passed ≡ true → Passes case.now) }
+/// Whether two memories hold the same bytes.
+fn is_same(memory: &Memory, wanted: &Memory) -> bool
+    ensures { IsTrue result ↔ (banks_of memory.now ≡ banks_of wanted.now) }
 {
-    let Some(mut memory) = memory_of(alloc, case)? else {
-        return Ok(false);
-    };
-    let Some(mut wanted) = memory_of(alloc, case)? else {
-        return Ok(false);
-    };
-    if fill(&mut wanted, case.wanted_bytes).is_none() {
-        return Ok(false);
+    memory.flash == wanted.flash && memory.ram == wanted.ram
+}
+
+/// Whether an instruction left what the case wants, with these bytes of memory.
+fn is_wanted(case: &Case, cpu: &Cpu, outcome: Outcome, memory: &Memory, wanted: &Memory) -> bool
+    requires { banks_of wanted.now ≡ with_bytes (banks_before case.now) case.now.wanted_bytes.items }
+    ensures { IsTrue result ↔ IsWanted case.now cpu.now outcome memory.now }
+{
+    if !is_end(case, cpu, outcome) {
+        return false;
     }
+    is_same(memory, wanted)
+}
+
+/// Whether the instruction of a case, with the case's bytes in a memory of zeros, does just what is
+/// wanted, to registers, flags and every byte.
+pub fn passes(alloc: Global, case: &Case) -> Result<bool, AllocError>
+    requires { reg_at case.now.cpu.regs 15 % 2 ≡ 0 }
+    ensures { IfOk result (Judges case.now) }
+{
+    let mut memory = memory_of(alloc, case)?;
+    let mut wanted = memory_of(alloc, case)?;
+    wanted.fill_all(&case.wanted_bytes);
     let mut cpu = case.cpu;
-    if cpu.regs.get(15) % 2 != 0 {
-        return Ok(false);
-    }
     let outcome = step(&mut cpu, &mut memory);
-    if !is_wanted(case, &cpu, outcome) {
-        return Ok(false);
-    }
-    Ok(memory.flash == wanted.flash && memory.ram == wanted.ram)
+    Ok(is_wanted(case, &cpu, outcome, &memory, &wanted))
 }
