@@ -1,6 +1,9 @@
 pub mod TurnChains
 pub mod Counts
 pub mod Quiet
+pub mod FaultFrames
+pub mod FaultRows
+pub mod FaultTurns
 pub mod Stepping
 pub mod Endings
 pub mod Outside

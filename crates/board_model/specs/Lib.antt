@@ -1,3 +1,4 @@
 pub mod Script
 pub mod Turn
+pub mod Faults
 pub mod Run

@@ -10,7 +10,7 @@ ghost use Rattle.thumb_insn.specs.Range.{IsCoded};
 ghost use Rattle.thumb_exec.specs.Effect.{Store, Trap, effect};
 ghost use Rattle.task_table.specs.Memory.{number_at};
 ghost use Rattle.task_table.specs.State.{Setup, State, Turn};
-ghost use Rattle.task_table.specs.Reading.{task_at, chosen, is_ready};
+ghost use Rattle.task_table.specs.Reading.{task_at, chosen, is_faulted, is_ready};
 ghost use Rattle.task_table.specs.Start.{begun};
 ghost use Rattle.task_table.specs.Sane.{Sane, IsCounted};
 ghost use Rattle.task_table.specs.Chain.{Chain};
@@ -18,6 +18,7 @@ ghost use Rattle.task_table.specs.Step.{Step};
 ghost use Rattle.board_model.specs.declared.told.Level.{Level as Detail};
 ghost use Rattle.board_model.specs.Script.{Scenario};
 ghost use Rattle.board_model.specs.Turn.{refusals, cpu_of, put, told, stepped, happened, after_events, with_current, with_registers_told, turn};
+ghost use Rattle.board_model.specs.Faults.{IsSameButForFault};
 ghost use Rattle.board_model.specs.Run.{is_down, end_at, ending};
 
 /// The turn of the chosen task, from where it is the current one, is a chain of steps: those of its
@@ -52,6 +53,16 @@ pub fn turns_keep_counts_in_order()
 pub fn turns_without_notes_keep_the_choice()
     ensures next { (level : Detail) (x : Scenario) (s : State) → Sane x.setup s → (turn level x s).notes ≡ [] → chosen x.setup (turn level x s).state ≡ chosen x.setup (after_events x s).state }
     ensures down { (level : Detail) (x : Scenario) (s : State) → Sane x.setup s → (turn level x s).notes ≡ [] → is_down (turn level x s).state ≡ is_down (after_events x s).state }
+{}
+
+/// A turn in which the chosen task faults, by an instruction or a call, changes nothing else: memory and all the
+/// registers and flags of the task are as they were after the events of the turn; of the other tasks only task 0
+/// changes, by the post of its fault bits; nothing was written, and nothing read at another task's place.
+/// (Hubris Reference: supervision.)
+pub fn faults_change_nothing_else()
+    ensures state { (level : Detail) (x : Scenario) (s : State) (c : ℕ) → Sane x.setup s → chosen x.setup (after_events x s).state ≡ Some c → is_faulted (task_at (turn level x s).state c).health ≡ true → IsSameButForFault x.setup c (after_events x s).state (turn level x s).state }
+    ensures writes { (level : Detail) (x : Scenario) (s : State) (c : ℕ) → Sane x.setup s → chosen x.setup (after_events x s).state ≡ Some c → is_faulted (task_at (turn level x s).state c).health ≡ true → (turn level x s).writes ≡ [] }
+    ensures reads { (level : Detail) (x : Scenario) (s : State) (c : ℕ) → Sane x.setup s → chosen x.setup (after_events x s).state ≡ Some c → is_faulted (task_at (turn level x s).state c).health ≡ true → (turn level x s).reads ≡ [] }
 {}
 
 /// The stores of an instruction change nothing of a state but its memory, and what is told changes none.

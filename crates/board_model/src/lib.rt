@@ -5,7 +5,7 @@ mod laws;
 mod told;
 
 pub use laws::{
-    faults_of_instructions_are_known, stores_change_memory_alone,
+    faults_change_nothing_else, faults_of_instructions_are_known, stores_change_memory_alone,
     turns_keep_counts_in_order, turns_keep_sane, turns_left_end_no_run,
     turns_without_events_begin_at_once, turns_without_notes_keep_the_choice,
     who_is_chosen_is_ready,
