@@ -17,7 +17,7 @@ use Rattle.task_table.specs.Step.{is_plain, MayChangeAll, Ends}
 
 -- ## what stands aside
 
--- it says nothing of calls, and touches none
+-- no note of them speaks of a call
 abbrev pub ArePlain : List Note → Type 0
 ArePlain [] = Unit {0}
 ArePlain (n ∷ ns) = (is_plain n ≡ true) × ArePlain ns
