@@ -1,7 +1,6 @@
 -- What the executor says over the bus is the turn's instruction.
-use Rattle.std.proofs.Common.{arith, ◌≡◌, ◌≤◌, ℕ, Bool, true, false, cond, not, List, [], ◌∷◌, ◌&&◌, Option, Some, None, is_none, refl, sym, subst, ◌∙◌, ap}
+use Rattle.std.proofs.Common.{arith, ◌≡◌, ◌≤◌, ℕ, Bool, true, false, cond, not, List, [], ◌∷◌, None, refl, sym, subst, ◌∙◌, ap}
 use Rattle.std.specs.Prelude.{fold}
-use Rattle.std.proofs.lemmas.Bool.{false≢true}
 use Rattle.kernel_abi.specs.declared.Fault.{Fault}
 use Rattle.thumb_insn.specs.declared.Insn.{Insn}
 use Rattle.thumb_insn.specs.declared.Decoded.{Decoded}
@@ -13,8 +12,8 @@ use Rattle.thumb_exec.specs.declared.cpu.Outcome.TheVariants as outcome
 use Rattle.thumb_exec.specs.Effect.{Effect, Next, Call, Trap, Store, Stores, Acts, effect}
 use Rattle.task_table.specs.declared.kernel.Kernel.{Kernel}
 use Rattle.task_table.specs.Memory.{Memory, number_at, is_ram}
-use Rattle.task_table.specs.State.{Setup, State, Own, Turn, Call as OpenCall, Listen}
-use Rattle.task_table.specs.Reading.{register, task_at, call_of, listen_of, is_ready, is_well, IsIdle}
+use Rattle.task_table.specs.State.{Setup, State, Own, Turn}
+use Rattle.task_table.specs.Reading.{register, task_at}
 use Rattle.task_table.specs.Effects.{stored, faulted}
 use Rattle.task_table.specs.Holds.{Holds, Stands, setup_of, current_of, memory_of, notes_of, kept_of, task_count, note_count}
 use Rattle.task_table.specs.Start.{begun, start}
@@ -60,25 +59,6 @@ put_state t x = by_ram (is_ram t.state.memory x.addr x.bytes)
 pub puts_state : (ss : List Store) (t : Turn) → (fold put t ss).state ≡ record t.state { memory = (fold put t ss).state.memory }
 puts_state [] t = refl
 puts_state (x ∷ xs) t = puts_state xs (put t x) ∙ ap (λ (s : State). record s { memory = (fold put (put t x) xs).state.memory }) (put_state t x)
-
-memory_idle : (s : State) (m : Memory) (i : ℕ) → IsIdle s i → IsIdle (record s { memory = m }) i
-unfolding call_of listen_of
-memory_idle s m i h = record { call = h.call; listen = h.listen }
-
-pub puts_idle : (ss : List Store) (t : Turn) (i : ℕ) → IsIdle t.state i → IsIdle (fold put t ss).state i
-puts_idle ss t i h = rw (puts_state ss t) (memory_idle t.state (fold put t ss).state.memory i h)
-
--- a ready task waits for nothing
-no_call : (c : Option OpenCall) (l : Option Listen) (a : Bool) → (a && is_none c && is_none l) ≡ true → (c ≡ None) × (l ≡ None)
-no_call None None a h = (refl, refl)
-no_call None (Some l) true h = absurd (false≢true h)
-no_call None (Some l) false h = absurd (false≢true h)
-no_call (Some c) l true h = absurd (false≢true h)
-no_call (Some c) l false h = absurd (false≢true h)
-
-pub ready_idle : (s : State) (i : ℕ) → is_ready s i ≡ true → IsIdle s i
-unfolding is_ready
-ready_idle s i h = let p = no_call (call_of s i) (listen_of s i) (is_well (task_at s i).health) h in record { call = p.0; listen = p.1 }
 
 -- ## what came of an instruction
 
