@@ -1,5 +1,6 @@
 -- What is told of a task while the processor is lent.
 use Rattle.std.proofs.Common.{◌≡◌, ◌≢◌, ◌⊎◌, inl, inr, ◌%◌, ◌<◌, ℕ, Bool, true, false, length, sym, ◌∙◌, ap, subst}
+use Rattle.std.specs.Option.{option_map}
 use Rattle.std.proofs.lemmas.Bool.{false≢true}
 use Rattle.thumb_exec.specs.declared.cpu.Cpu.{Cpu}
 use Rattle.task_table.specs.declared.kernel.Kernel.{Kernel}
@@ -27,7 +28,7 @@ other_at cpu s i v ne b =
       flags = b.flags ∙ ap (λ (y : Task). y.flags) at;
       health = b.health ∙ ap (λ (y : Task). y.health) at;
       posted = b.posted ∙ ap (λ (y : Task). y.posted) at;
-      timer = b.timer ∙ ap (λ (y : Task). y.timer) at;
+      timer = b.timer ∙ ap (λ (y : Task). option_map (λ x. (x.deadline, x.bits)) y.timer) at;
       wait = rw (call_of-with_task s.state c i x, listen_of-with_task s.state c i x) b.wait;
     }
 
@@ -46,7 +47,7 @@ own_at cpu s v b =
       flags = ap (λ (y : Task). y.flags) at;
       health = b.health ∙ ap (λ (y : Task). y.health) at;
       posted = b.posted ∙ ap (λ (y : Task). y.posted) at;
-      timer = b.timer ∙ ap (λ (y : Task). y.timer) at;
+      timer = b.timer ∙ ap (λ (y : Task). option_map (λ x. (x.deadline, x.bits)) y.timer) at;
       wait = rw (call_of-with_task s.state c c x, listen_of-with_task s.state c c x) b.wait;
     }
 

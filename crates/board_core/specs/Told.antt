@@ -1,5 +1,6 @@
 -- What is told of a state.
 use Rattle.std.specs.Prelude.{ℕ, ◌≡◌, ◌%◌, ◌<◌, ◌≤◌, length, Option, Some, None}
+use Rattle.std.specs.Option.{option_map}
 use Rattle.task_table.specs.State.{State}
 use Rattle.task_table.specs.Reading.{task_at, call_of, listen_of}
 use Rattle.task_table.specs.Holds.{wait_of}
@@ -13,7 +14,7 @@ pub record IsTask (s : State) (i : ℕ) (v : TaskView) : Type 0 where
   pub flags : v.flags ≡ (task_at s i).flags
   pub health : v.health ≡ (task_at s i).health
   pub posted : v.posted ≡ (task_at s i).posted
-  pub timer : v.timer ≡ (task_at s i).timer
+  pub timer : v.timer ≡ option_map (λ x. (x.deadline, x.bits)) (task_at s i).timer
   pub wait : v.wait ≡ wait_of (call_of s i) (listen_of s i)
 
 abbrev pub IsView : State → ℕ → Option TaskView → Type 0

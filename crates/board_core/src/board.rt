@@ -506,7 +506,10 @@ fn kept(kernel: &Kernel, i: usize) -> TaskView
         registers: kernel.registers(i),
         flags: kernel.flags(i),
         posted: kernel.posted_bits(i),
-        timer: kernel.timer(i),
+        timer: match kernel.timer(i) {
+            Some(timer) => Some((timer.deadline, timer.bits)),
+            None => None,
+        },
         wait: kernel.wait(i),
     }
 }

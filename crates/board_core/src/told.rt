@@ -1,11 +1,12 @@
 //! What a board tells of itself.
 
-use kernel_abi::{Health, Timer};
+use kernel_abi::Health;
 use task_table::Wait;
 use words_core::Flags;
 
-/// A task between turns: the generation is how often it was born again modulo 64, the wait has ids in
-/// the place of births.
+/// A task between turns: the generation is how often it was born again modulo 64, the timer its deadline
+/// in ticks and the bits that are posted then; the wait has every field of the task's open call or
+/// listen, with ids in the place of births.
 #[derive(Clone, Copy, Debug, PartialEq, Eq)]
 pub struct TaskView {
     pub generation: u8,
@@ -13,6 +14,6 @@ pub struct TaskView {
     pub registers: [u32; 16],
     pub flags: Flags,
     pub posted: u32,
-    pub timer: Option<Timer>,
+    pub timer: Option<(u64, u32)>,
     pub wait: Wait,
 }

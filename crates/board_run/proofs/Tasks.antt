@@ -1,35 +1,32 @@
 -- The text of the tasks, one more at a time.
 use Rattle.std.proofs.Common.{◌≡◌, ℕ, ◌+◌, List, ◌++◌, Option, Some, None, refl, sym, ap, subst, ◌∙◌, length, ◌%◌}
-use Rattle.std.specs.Prelude.{Result, Err, codes}
+use Rattle.std.specs.Prelude.{Result, Err}
+use Rattle.std.specs.Option.{option_map}
 use Rattle.std.specs.Io.KnownBytes.{Appends}
 use Rattle.outside_io.specs.Outside.{Pushes, AppendsFront}
 use Rattle.kernel_abi.specs.declared.Health.{Health}
 use Rattle.kernel_abi.specs.declared.Timer.{Timer}
 use Rattle.words_core.specs.declared.Flags.{Flags}
 use Rattle.task_table.specs.State as kernel
-use Rattle.task_table.specs.State.{Task, State, Listen, Phase, Offered, Taken, From, Any, One, KernelOnly}
-use Rattle.task_table.specs.Holds.{wait_in, wait_from, wait_of}
+use Rattle.task_table.specs.State.{State, Listen}
+use Rattle.task_table.specs.Holds.{wait_of}
 use Rattle.task_table.specs.Reading.{task_at, call_of, listen_of}
 use Rattle.board_core.specs.declared.told.TaskView.{TaskView}
 use Rattle.board_core.specs.Told.{IsTask}
-use Rattle.board_run.specs.Text.{task_line, low_text, high_text, task_lines, task_text, tasks_text, wait_text, call_text}
-use Rattle.board_run.specs.ViewText.{view_text, wait_words}
+use Rattle.board_run.specs.Text.{task_line, low_text, high_text, task_lines, task_text, tasks_text, wait_text}
+use Rattle.board_run.specs.ViewText.{view_text, wait_words, timer_of}
 use Rattle.board_run.proofs.Appending.{appends_more, range_more, range_fails}
 
 -- what a task waits for reads the same as told by the board and by the state
-words_in : (p : Phase) (number id : ℕ) → wait_words (wait_in p number id) ≡ call_text p number
-words_in Offered number id = refl
-words_in Taken number id = refl
-
-words_from : (f : From) → wait_words (wait_from f) ≡ codes "listen"
-words_from Any = refl
-words_from (One b) = refl
-words_from KernelOnly = refl
-
 words_are : (c : Option kernel.Call) (l : Option Listen) → wait_words (wait_of c l) ≡ wait_text c l
-words_are (Some c) l = words_in c.phase c.number _
-words_are None (Some l) = words_from l.from
+words_are (Some c) l = refl
+words_are None (Some l) = refl
 words_are None None = refl
+
+-- and so does its timer
+timer_is : (timer : Option Timer) → timer_of (option_map (λ x. (x.deadline, x.bits)) timer) ≡ timer
+timer_is None = refl
+timer_is (Some x) = refl
 
 -- what is told of a task gives the text of the state's
 pub view_is : (s : State) (i : ℕ) (v : TaskView) → IsTask s i v → view_text i v ≡ task_text s i
@@ -37,7 +34,8 @@ unfolding view_text task_text task_lines
 view_is s i v t =
     let head : ℕ → Health → List ℕ → ℕ → Option Timer → List ℕ → Flags → List ℕ = λ g h w p d rs f. task_line i g h w p d ++ low_text rs ++ high_text rs f in
     let waits : wait_words v.wait ≡ wait_text (call_of s i) (listen_of s i) = ap wait_words t.wait ∙ words_are (call_of s i) (listen_of s i) in
-    rw (t.generation, t.registers, t.flags, t.health, t.posted, t.timer) (ap (λ (w : List ℕ). head ((task_at s i).births % 64) (task_at s i).health w (task_at s i).posted (task_at s i).timer (task_at s i).registers (task_at s i).flags) waits)
+    let timer : timer_of v.timer ≡ (task_at s i).timer = ap timer_of t.timer ∙ timer_is (task_at s i).timer in
+    rw (t.generation, t.registers, t.flags, t.health, t.posted, timer) (ap (λ (w : List ℕ). head ((task_at s i).births % 64) (task_at s i).health w (task_at s i).posted (task_at s i).timer (task_at s i).registers (task_at s i).flags) waits)
 
 pub tasks_more : (a b c : Option (List ℕ)) (s : State) (i : ℕ) (v : TaskView) → IsTask s i v → Appends a b (tasks_text s i) → Appends b c (view_text i v) → Appends a c (tasks_text s (i + 1))
 tasks_more a b c s i v t p q =

@@ -7,7 +7,9 @@ use Rattle.kernel_abi.specs.declared.Timer.{Timer}
 use Rattle.kernel_abi.specs.declared.Note.{Note}
 use Rattle.words_core.specs.declared.Flags.{Flags}
 use Rattle.task_table.specs.State as kernel
-use Rattle.task_table.specs.State.{Task, State, Listen, Phase, Offered, Taken}
+use Rattle.task_table.specs.State.{Task, State, Listen}
+use Rattle.task_table.specs.declared.slot.Phase.{Phase}
+use Rattle.task_table.specs.declared.slot.Phase.TheVariants.{Offered, Taken}
 use Rattle.task_table.specs.Reading.{task_at, call_of, listen_of}
 use Rattle.trace_text.specs.Text.{hex, spaced_hex, low_words, high_words, line_of}
 use Rattle.board_model.specs.declared.told.End.{End}

@@ -1,18 +1,21 @@
 -- The text of a task as a board tells it.
-use Rattle.std.specs.Prelude.{ℕ, List, ◌++◌, codes, decimal}
+use Rattle.std.specs.Prelude.{ℕ, List, ◌++◌, Option, codes}
+use Rattle.std.specs.Option.{option_map}
+use Rattle.kernel_abi.specs.declared.Timer.{Timer}
 use Rattle.task_table.specs.declared.slot.Wait.{Wait}
 use Rattle.task_table.specs.declared.slot.Wait.TheVariants as wait
 use Rattle.board_core.specs.declared.told.TaskView.{TaskView}
-use Rattle.board_run.specs.Text.{task_line, low_text, high_text}
+use Rattle.board_run.specs.Text.{call_text, task_line, low_text, high_text}
 
 -- what it waits for
 abbrev pub wait_words : Wait → List ℕ
 wait_words wait.Nothing = codes "-"
-wait_words (wait.Offered number server) = codes "offered:" ++ decimal number
-wait_words (wait.Taken number server) = codes "taken:" ++ decimal number
-wait_words wait.Any = codes "listen"
-wait_words wait.Kernel = codes "listen"
-wait_words (wait.One sender) = codes "listen"
+wait_words (wait.Call call) = call_text call.phase call.number
+wait_words (wait.Listen listening) = codes "listen"
+
+-- a timer, told by its deadline and its bits
+abbrev pub timer_of : Option (ℕ × ℕ) → Option Timer
+timer_of timer = option_map (λ x. record { deadline = x.0; bits = x.1 }) timer
 
 unfoldable pub view_text : ℕ → TaskView → List ℕ
-view_text i v = task_line i v.generation v.health (wait_words v.wait) v.posted v.timer ++ low_text v.registers ++ high_text v.registers v.flags
+view_text i v = task_line i v.generation v.health (wait_words v.wait) v.posted (timer_of v.timer) ++ low_text v.registers ++ high_text v.registers v.flags

@@ -3,14 +3,14 @@
 ghost use Rattle.std.specs.Prelude.{◌≡◌, ◌≤◌, ◌+◌, length, ◌++◌, []};
 ghost use Rattle.arrayvec.specs.ArrayString.{array_string_len};
 ghost use Rattle.board_run.specs.Text.{health_text, timer_text, task_line, low_text, high_text, end_name, end_line};
-ghost use Rattle.board_run.specs.ViewText.{wait_words};
+ghost use Rattle.board_run.specs.ViewText.{wait_words, timer_of};
 ghost use Rattle.board_run.specs.MemoryText.{byte_hex, region_line};
 
 use arrayvec::ArrayString;
 use board_core::End;
-use kernel_abi::{Health, Timer};
+use kernel_abi::Health;
 use region_check::Region;
-use task_table::Wait;
+use task_table::{Phase, Wait};
 use trace_text::{push_decimal, push_digit, push_hex, push_high, push_low, push_spaced_hex};
 use words_core::Flags;
 
@@ -66,31 +66,28 @@ fn push_wait(out: &mut ArrayString<160>, wait: Wait)
 {
     match wait {
         Wait::Nothing => out.push_str("-"),
-        Wait::Offered { call, .. } => {
-            out.push_str("offered:");
-            push_decimal(out, u64::from(call));
+        Wait::Call(call) => {
+            out.push_str(match call.phase {
+                Phase::Offered => "offered:",
+                Phase::Taken => "taken:",
+            });
+            push_decimal(out, u64::from(call.number));
         }
-        Wait::Taken { call, .. } => {
-            out.push_str("taken:");
-            push_decimal(out, u64::from(call));
-        }
-        Wait::Any => out.push_str("listen"),
-        Wait::Kernel => out.push_str("listen"),
-        Wait::One(_) => out.push_str("listen"),
+        Wait::Listen(_) => out.push_str("listen"),
     }
 }
 
-fn push_timer(out: &mut ArrayString<160>, timer: Option<Timer>)
+fn push_timer(out: &mut ArrayString<160>, timer: Option<(u64, u32)>)
     requires { array_string_len out.old + 29 ≤ 160 }
-    ensures bytes { out.new.bytes ≡ out.old.bytes ++ timer_text timer }
+    ensures bytes { out.new.bytes ≡ out.old.bytes ++ timer_text (timer_of timer) }
     ensures len { array_string_len out.new ≤ array_string_len out.old + 29 }
 {
     match timer {
         None => out.push_str("-"),
-        Some(timer) => {
-            push_decimal(out, timer.deadline);
+        Some((deadline, bits)) => {
+            push_decimal(out, deadline);
             out.push_str(":");
-            push_hex(out, timer.bits);
+            push_hex(out, bits);
         }
     }
 }
@@ -103,11 +100,11 @@ pub fn task_line(
     health: Health,
     wait: Wait,
     posted: u32,
-    timer: Option<Timer>,
+    timer: Option<(u64, u32)>,
     out: &mut ArrayString<160>,
 )
     requires { out.old.bytes ≡ [] }
-    ensures { out.new.bytes ≡ task_line i generation health (wait_words wait) posted timer }
+    ensures { out.new.bytes ≡ task_line i generation health (wait_words wait) posted (timer_of timer) }
 {
     out.push_str("task ");
     push_decimal(out, i);

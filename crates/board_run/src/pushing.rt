@@ -4,7 +4,7 @@ ghost use Rattle.outside_io.specs.Outside.{Pushes, HasCause};
 ghost use Rattle.board_model.specs.Run.{at_turn};
 ghost use Rattle.trace_text.specs.Text.{line_of};
 ghost use Rattle.board_run.specs.Text.{notes_text, task_line, low_text, high_text, end_line};
-ghost use Rattle.board_run.specs.ViewText.{view_text, wait_words};
+ghost use Rattle.board_run.specs.ViewText.{view_text, wait_words, timer_of};
 
 use crate::line::{
     Line, end_line as put_end_line, high_line, low_line, task_line as put_task_line,
@@ -37,7 +37,7 @@ pub fn push_notes<S: Sink>(turn: u32, notes: &[Note], out: &mut S) -> Result<(),
 
 fn push_task_line<S: Sink>(i: u64, task: &TaskView, out: &mut S) -> Result<(), Failed>
     ensures bytes { Pushes (S.written out.old) (S.written out.new)
-        (task_line i task.now.generation task.now.health (wait_words task.now.wait) task.now.posted task.now.timer) result }
+        (task_line i task.now.generation task.now.health (wait_words task.now.wait) task.now.posted (timer_of task.now.timer)) result }
     ensures cause { HasCause (S.faults out.old) (S.faults out.new) result }
 {
     let mut line = Line::new();

@@ -6,7 +6,7 @@ ghost use Rattle.kernel_abi.specs.Arguments.{recv_args};
 ghost use Rattle.task_table.specs.State.{Setup, Turn};
 ghost use Rattle.task_table.specs.Reading.{arguments, is_ready, is_valid, best_sender, offer_by, IsIdle};
 ghost use Rattle.task_table.specs.Rows.{listened_from, receives_or_listens, message_received, input_received, received};
-ghost use Rattle.task_table.specs.Holds.{Holds, Stands, task_count, note_count};
+ghost use Rattle.task_table.specs.Holds.{Holds, Stands, Stood, task_count, note_count};
 ghost use Rattle.task_table.specs.Limits.{call_notes, turn_notes};
 ghost use Rattle.task_table.specs.Frames.{AddsAtMost};
 ghost use Rattle.task_table.specs.Messages.{from_of, IsListened, IsReceiving};
@@ -61,7 +61,7 @@ fn receive_or_listen(k: &mut Kernel, caller: usize, client: usize, from: Listene
     ensures frame { AddsAtMost k.old 2 k.new }
 {
     match k.offered(client, caller) {
-        Some(call) => k.receive(caller, client, call),
+        Some(call) => k.receive(caller, client, &call),
         None => k.listen(caller, from),
     }
 }
@@ -118,7 +118,7 @@ fn receive(k: &mut Kernel, caller: usize, best: Option<usize>)
     requires there { caller < task_count k.old }
     requires best { IfSome best (λ i. i < task_count k.old) }
     requires room { note_count k.old + call_notes ≤ turn_notes }
-    requires ready { (g : Setup) × (t : Turn) × Stands g k.old t × IsIdle t.state caller }
+    requires stood { Stood k.old }
     ensures holds { (g : Setup) (t : Turn) → Stands g k.old t → IsIdle t.state caller → Holds g k.new (received g caller best t) }
     ensures frame { AddsAtMost k.old call_notes k.new }
 {

@@ -8,7 +8,7 @@ use kernel_abi::{Access, Fault, Health, Listened, Note, TaskId, Usage};
 use region_check::{Region, Rights};
 use std::alloc::{AllocError, Global};
 use std::test::Fail;
-use task_table::{Kernel, Memory, TaskStart, Wait};
+use task_table::{Kernel, Listening, Memory, Range, Source, TaskStart, Wait};
 use words_core::Flags;
 
 /// The first 32 bytes of the RAM, to be read and written.
@@ -94,6 +94,15 @@ fn receive(kernel: &mut Kernel, posted: u32, r4: u32, r5: u32, r6: u32, r7: u32)
     recv(kernel, 0, None);
 }
 
+/// That a task listens so, with so many bytes from an address on as its buffer.
+fn listening(from: Source, mask: u32, base: u32, length: u32) -> Wait {
+    Wait::Listen(Listening {
+        from,
+        mask,
+        buffer: Range { base, length },
+    })
+}
+
 /// What the first task is told where its receive ends.
 fn told(r4: u32, r5: u32, r6: u32) -> Option<Note> {
     Some(Note::Ret {
@@ -118,7 +127,7 @@ fn it_listens_to_any(rt: HostRuntime) -> Result<(), Fail> {
     };
     assert_eq!(rt; kernel.notes().len(), 1);
     assert_eq!(rt; kernel.notes().get(0).copied(), Some(listen));
-    assert_eq!(rt; kernel.wait(0), Wait::Any);
+    assert_eq!(rt; kernel.wait(0), listening(Source::Any, 3, 0x2000_0000, 32));
     assert_eq!(rt; kernel.register(0, 15), 0x0800_0002);
     assert_eq!(rt; kernel.register(0, 4), 0x2000_0000);
     assert_eq!(rt; kernel.posted_bits(0), 4);
@@ -135,7 +144,10 @@ fn it_listens_to_one_task(rt: HostRuntime) -> Result<(), Fail> {
         mask: 1,
     };
     assert_eq!(rt; kernel.notes().get(0).copied(), Some(listen));
-    assert_eq!(rt; kernel.wait(0), Wait::One(TaskId::of(1)));
+    assert_eq!(rt;
+        kernel.wait(0),
+        listening(Source::One(TaskId::of(1)), 1, 0x2000_0000, 8)
+    );
     Ok(())
 }
 
@@ -149,7 +161,7 @@ fn it_listens_to_the_kernel(rt: HostRuntime) -> Result<(), Fail> {
         mask: 1,
     };
     assert_eq!(rt; kernel.notes().get(0).copied(), Some(listen));
-    assert_eq!(rt; kernel.wait(0), Wait::Kernel);
+    assert_eq!(rt; kernel.wait(0), listening(Source::Kernel, 1, 0, 0));
     Ok(())
 }
 

@@ -91,7 +91,7 @@ shows_start m bits tasks lines k zeros setup slots notes memory clock off curren
       setup = setup;
       count = count ∙ sym many;
       many = sym (length-map (map task_setup tasks) born);
-      tasks = λ i below d. record { is = ap (λ xs. get_or xs i d) slots ∙ first_kept tasks i d (omega (arith, below, count)); alone = tt; call = tt; listen = tt };
+      tasks = λ i below d. record { is = ap (λ xs. get_or xs i d) slots ∙ first_kept tasks i d (omega (arith, below, count)); alone = tt };
       notes = notes;
       memory = memory ∙ ap (λ ram. record m { ram = ram }) zeros;
       now = clock;

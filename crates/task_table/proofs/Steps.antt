@@ -5,14 +5,13 @@ use Rattle.std.proofs.lemmas.Bool.Decides.{eqb_tells}
 use Rattle.std.proofs.lemmas.Bool.{false≢true}
 use Rattle.std.proofs.lemmas.List.{length-append, length-take, length-drop}
 use Rattle.kernel_abi.specs.declared.Note.{Note}
-use Rattle.kernel_abi.specs.Ids.{id_of}
 use Rattle.task_table.specs.Memory.{Memory, with_bytes, IsWithinRam}
-use Rattle.task_table.specs.State.{Setup, Task, Call, Listen, State, Turn, Ground, Offered, Taken, Any, One, KernelOnly}
-use Rattle.task_table.specs.Reading.{task_at, call_of, listen_of, is_ready, is_well, IsSameBut, IsIdle}
+use Rattle.task_table.specs.State.{Setup, Task, Call, Listen, State, Turn, Ground}
+use Rattle.task_table.specs.Reading.{task_at, call_of, listen_of, is_ready, is_well, IsSameBut}
 use Rattle.task_table.specs.declared.Line.{Line}
 use Rattle.task_table.specs.Effects.{with_task, without_call, without_listen, noted, with_line, stored}
 use Rattle.task_table.specs.Start.{begun}
-use Rattle.task_table.specs.Holds.{Shows, Kept, IsKept, IsSavedCall, IsSavedListen, packed, packed_task, wait_of, wait_in, wait_from, is_nothing, is_free, is_listening, call_number}
+use Rattle.task_table.specs.Holds.{Shows, Kept, IsKept, packed, packed_task, kept_call, kept_listen, wait_of, is_nothing, is_free, call_in, listen_in}
 use Rattle.task_table.specs.declared.slot.Slot.{Slot}
 use Rattle.task_table.specs.declared.slot.Wait.TheVariants as wait
 use Rattle.task_table.proofs.Changes.{task_at-with_task, call_of-with_task, listen_of-with_task, call_of-without_call, listen_of-without_call, task_at-without_call, call_of-without_listen, listen_of-without_listen, task_at-without_listen}
@@ -25,8 +24,6 @@ pub kept_same : (s u : State) (i : ℕ) (slot : Slot) → task_at u i ≡ task_a
 kept_same s u i slot t c l h = record {
   is = h.is ∙ sym (packed_by u s i t c l);
   alone = rw (c, l) h.alone;
-  call = rw (t, c) h.call;
-  listen = rw (t, l) h.listen;
 }
 
 -- a note is added
@@ -69,118 +66,65 @@ holds_slot g k t u i slot slots h there e kept same = record {
   next_call = h.next_call ∙ sym same.next_call;
 }
 
--- what is kept of a task that changed
-pub kept_changed : (s : State) (i : ℕ) (x : Task) (slot : Slot) → i < length s.tasks → slot ≡ packed_task x (wait_of (call_of s i) (listen_of s i)) → IfSome (call_of s i) (λ c. listen_of s i ≡ None) → IfSome (call_of s i) (IsSavedCall x.registers) → IfSome (listen_of s i) (IsSavedListen x.registers) → IsKept (with_task i x s) i slot
-kept_changed s i x slot there is alone call listen = record {
+-- what is kept of a task that changed, which waits as before
+pub kept_task : (s : State) (i : ℕ) (x : Task) (old slot : Slot) → i < length s.tasks → IsKept s i old → slot ≡ packed_task x (wait_of (call_of s i) (listen_of s i)) → IsKept (with_task i x s) i slot
+kept_task s i x old slot there kept is = record {
   is = rw (task_at-with_task, call_of-with_task, listen_of-with_task) is;
-  alone = rw (call_of-with_task, listen_of-with_task) alone;
-  call = rw (task_at-with_task, call_of-with_task) call;
-  listen = rw (task_at-with_task, listen_of-with_task) listen;
+  alone = rw (call_of-with_task, listen_of-with_task) kept.alone;
 }
-
--- the same where no register changes
-pub kept_registers : (s : State) (i : ℕ) (x : Task) (old slot : Slot) → i < length s.tasks → IsKept s i old → x.registers ≡ (task_at s i).registers → slot ≡ packed_task x (wait_of (call_of s i) (listen_of s i)) → IsKept (with_task i x s) i slot
-kept_registers s i x old slot there kept e is = kept_changed s i x slot there is kept.alone (rw e kept.call) (rw e kept.listen)
-
--- the same where the task waits for nothing
-pub kept_idle : (s : State) (i : ℕ) (x : Task) (slot : Slot) → i < length s.tasks → IsIdle s i → slot ≡ packed_task x (wait_of (call_of s i) (listen_of s i)) → IsKept (with_task i x s) i slot
-kept_idle s i x slot there idle is = kept_changed s i x slot there is (rw idle.call tt) (rw idle.call tt) (rw idle.listen tt)
 
 -- ## what a wait tells
 
-listening_wait : (l : Option Listen) → is_listening (wait_of None l) ≡ is_some l
-listening_wait None = refl
-listening_wait (Some l) = elim l.from as (λ f. is_listening (wait_from f) ≡ true) [ Any ↦ refl | One b ↦ refl | KernelOnly ↦ refl ]
+-- what is found where an option is mapped
+pub some_mapped : {A B : Type 0} (f : A → B) (o : Option A) (b : B) → option_map f o ≡ Some b → (a : A) × (o ≡ Some a) × (f a ≡ b)
+some_mapped {A} {B} f None b h = absurd (no_some h)
+  where
+    no_some : None ≡ Some b → ⊥
+    no_some e = cc
+some_mapped f (Some a) b h = (a, refl, cc)
 
--- a call's wait is no listen
-not_listening : (c : Call) → is_listening (wait_in c.phase c.number (id_of c.server.index c.server.birth)) ≡ false
-not_listening c = elim c.phase as (λ p. is_listening (wait_in p c.number (id_of c.server.index c.server.birth)) ≡ false) [ Offered ↦ refl | Taken ↦ refl ]
+pub none_mapped : {A B : Type 0} (f : A → B) (o : Option A) → option_map f o ≡ None → o ≡ None
+none_mapped f None h = refl
+none_mapped {A} {B} f (Some a) h = absurd (no_none h)
+  where
+    no_none : Some (f a) ≡ None → ⊥
+    no_none e = cc
 
-listening_is : (co : Option Call) (lo : Option Listen) → is_listening (wait_of co lo) ≡ true → co ≡ None
-listening_is None lo h = refl
-listening_is (Some c) lo h = absurd (false≢true (sym (not_listening c) ∙ h))
+call_of_wait : (co : Option Call) (lo : Option Listen) → call_in (wait_of co lo) ≡ option_map kept_call co
+call_of_wait None None = refl
+call_of_wait None (Some l) = refl
+call_of_wait (Some c) lo = refl
 
-not_listening_is : (co : Option Call) (lo : Option Listen) → IfSome co (λ c. lo ≡ None) → is_listening (wait_of co lo) ≡ false → lo ≡ None
-not_listening_is None None a h = refl
-not_listening_is None (Some l) a h = absurd (false≢true (sym h ∙ listening_wait (Some l)))
-not_listening_is (Some c) lo a h = a
-
-number_of_wait : (co : Option Call) (lo : Option Listen) → call_number (wait_of co lo) ≡ option_map (λ (c : Call). c.number) co
-number_of_wait None None = refl
-number_of_wait None (Some l) = elim l.from as (λ f. call_number (wait_from f) ≡ None) [ Any ↦ refl | One b ↦ refl | KernelOnly ↦ refl ]
-number_of_wait (Some c) lo = elim c.phase as (λ p. call_number (wait_in p c.number (id_of c.server.index c.server.birth)) ≡ Some c.number) [ Offered ↦ refl | Taken ↦ refl ]
+listen_of_wait : (co : Option Call) (lo : Option Listen) → IfSome co (λ c. lo ≡ None) → listen_in (wait_of co lo) ≡ option_map kept_listen lo
+listen_of_wait None None alone = refl
+listen_of_wait None (Some l) alone = refl
+listen_of_wait (Some c) lo alone = rw alone refl
 
 nothing_waits : (co : Option Call) (lo : Option Listen) → is_nothing (wait_of co lo) ≡ (is_none co && is_none lo)
 nothing_waits None None = refl
-nothing_waits None (Some l) = elim l.from as (λ f. is_nothing (wait_from f) ≡ false) [ Any ↦ refl | One b ↦ refl | KernelOnly ↦ refl ]
-nothing_waits (Some c) lo = elim c.phase as (λ p. is_nothing (wait_in p c.number (id_of c.server.index c.server.birth)) ≡ false) [ Offered ↦ refl | Taken ↦ refl ]
+nothing_waits None (Some l) = refl
+nothing_waits (Some c) lo = refl
 
-wait_kept : (s : State) (i : ℕ) (slot : Slot) → IsKept s i slot → slot.wait ≡ wait_of (call_of s i) (listen_of s i)
-wait_kept s i slot h = ap (λ (o : Slot). o.wait) h.is
+pub call_kept : (s : State) (i : ℕ) (slot : Slot) → IsKept s i slot → call_in slot.wait ≡ option_map kept_call (call_of s i)
+call_kept s i slot h = ap (λ (o : Slot). call_in o.wait) h.is ∙ call_of_wait (call_of s i) (listen_of s i)
 
-pub some_listens : (s : State) (i : ℕ) (slot : Slot) → IsKept s i slot → is_listening slot.wait ≡ true → call_of s i ≡ None
-some_listens s i slot h e = listening_is (call_of s i) (listen_of s i) (sym (ap is_listening (wait_kept s i slot h)) ∙ e)
+pub listen_kept : (s : State) (i : ℕ) (slot : Slot) → IsKept s i slot → listen_in slot.wait ≡ option_map kept_listen (listen_of s i)
+listen_kept s i slot h = ap (λ (o : Slot). listen_in o.wait) h.is ∙ listen_of_wait (call_of s i) (listen_of s i) h.alone
 
-pub none_listens : (s : State) (i : ℕ) (slot : Slot) → IsKept s i slot → is_listening slot.wait ≡ false → listen_of s i ≡ None
-none_listens s i slot h e = not_listening_is (call_of s i) (listen_of s i) h.alone (sym (ap is_listening (wait_kept s i slot h)) ∙ e)
+-- a task that listens is client of no call; one that does not has no listen
+listens_alone : (co : Option Call) (lo : Option Listen) → IfSome co (λ c. lo ≡ None) → is_some (option_map kept_listen lo) ≡ true → co ≡ None
+listens_alone None lo alone h = refl
+listens_alone (Some c) lo alone h = absurd (false≢true (rw alone at h))
 
--- a task that listens is client of no call, and its mask is in r6
-pub record Listens (s : State) (i : ℕ) (slot : Slot) : Type 0 where
-  pub no_call : call_of s i ≡ None
-  pub what : Listen
-  pub is : listen_of s i ≡ Some what
-  pub mask : what.mask ≡ get_or slot.registers 6 0
+none_kept : (lo : Option Listen) → is_some (option_map kept_listen lo) ≡ false → lo ≡ None
+none_kept None h = refl
+none_kept (Some l) h = absurd (false≢true (sym h))
 
-listen_there : (lo : Option Listen) → is_some lo ≡ true → (l : Listen) × (lo ≡ Some l)
-listen_there None h = absurd (false≢true h)
-listen_there (Some l) h = (l, refl)
+pub listens_no_call : (s : State) (i : ℕ) (slot : Slot) → IsKept s i slot → is_some (listen_in slot.wait) ≡ true → call_of s i ≡ None
+listens_no_call s i slot h e = listens_alone (call_of s i) (listen_of s i) h.alone (sym (ap is_some (listen_kept s i slot h)) ∙ e)
 
-pub listens : (s : State) (i : ℕ) (slot : Slot) → IsKept s i slot → is_listening slot.wait ≡ true → Listens s i slot
-listens s i slot h e =
-    let none = some_listens s i slot h e in
-    let told : is_listening (wait_of None (listen_of s i)) ≡ true = ap (λ (co : Option Call). is_listening (wait_of co (listen_of s i))) (sym none) ∙ sym (ap is_listening (wait_kept s i slot h)) ∙ e in
-    let l = listen_there (listen_of s i) (sym (listening_wait (listen_of s i)) ∙ told) in
-    let saved : IsSavedListen (task_at s i).registers l.0 = rw l.1 at h.listen in
-    let registers : slot.registers ≡ (task_at s i).registers = ap (λ (o : Slot). o.registers) h.is in
-    record { no_call = none; what = l.0; is = l.1; mask = saved.mask ∙ ap (λ rs. get_or rs 6 0) (sym registers) }
-
-pub some_mask : (lo : Option Listen) (n : ℕ) → Some n ≡ option_map (λ (l : Listen). l.mask) lo → (l : Listen) × (lo ≡ Some l) × (l.mask ≡ n)
-some_mask None n h = absurd (no_some h)
-  where
-    no_some : {A : Type 0} {a : A} → Some a ≡ None → ⊥
-    no_some e = cc
-some_mask (Some l) n h = (l, refl, cc)
-
-pub no_mask : (lo : Option Listen) → None ≡ option_map (λ (l : Listen). l.mask) lo → lo ≡ None
-no_mask None h = refl
-no_mask (Some l) h = absurd (no_some h)
-  where
-    no_some : {A : Type 0} {a : A} → None ≡ Some a → ⊥
-    no_some e = cc
-
-number_kept : (s : State) (i : ℕ) (slot : Slot) → IsKept s i slot → call_number slot.wait ≡ option_map (λ (c : Call). c.number) (call_of s i)
-number_kept s i slot h = ap call_number (wait_kept s i slot h) ∙ number_of_wait (call_of s i) (listen_of s i)
-
-number_is : (co : Option Call) (n : ℕ) → option_map (λ (c : Call). c.number) co ≡ Some n → (c : Call) × (co ≡ Some c) × (c.number ≡ n)
-number_is None n h = absurd (no_some h)
-  where
-    no_some : {A : Type 0} {a : A} → None ≡ Some a → ⊥
-    no_some e = cc
-number_is (Some c) n h = (c, refl, cc)
-
-no_number_is : (co : Option Call) → option_map (λ (c : Call). c.number) co ≡ None → co ≡ None
-no_number_is None h = refl
-no_number_is (Some c) h = absurd (no_some h)
-  where
-    no_some : {A : Type 0} {a : A} → Some a ≡ None → ⊥
-    no_some e = cc
-
--- the call by whose number a task waits, or that it has none
-pub some_call : (s : State) (i n : ℕ) (slot : Slot) → IsKept s i slot → Some n ≡ call_number slot.wait → (c : Call) × (call_of s i ≡ Some c) × (c.number ≡ n)
-some_call s i n slot h e = number_is (call_of s i) n (sym (number_kept s i slot h) ∙ sym e)
-
-pub no_call : (s : State) (i : ℕ) (slot : Slot) → IsKept s i slot → None ≡ call_number slot.wait → call_of s i ≡ None
-no_call s i slot h e = no_number_is (call_of s i) (sym (number_kept s i slot h) ∙ sym e)
+pub no_listen : (s : State) (i : ℕ) (slot : Slot) → IsKept s i slot → is_some (listen_in slot.wait) ≡ false → listen_of s i ≡ None
+no_listen s i slot h e = none_kept (listen_of s i) (sym (ap is_some (listen_kept s i slot h)) ∙ e)
 
 -- ## who is ready
 
@@ -203,8 +147,6 @@ kept_no_call s i c slot h e =
     record {
       is = rw (call_of-without_call, listen_of-without_call, task_at-without_call, no_listen) (ap (λ (o : Slot). record o { wait = wait.Nothing }) h.is);
       alone = rw call_of-without_call tt;
-      call = rw call_of-without_call tt;
-      listen = rw (listen_of-without_call, no_listen) tt;
     }
 
 -- the listen is dropped
@@ -212,8 +154,6 @@ pub kept_no_listen : (s : State) (i : ℕ) (slot : Slot) → IsKept s i slot →
 kept_no_listen s i slot h e = record {
   is = rw (call_of-without_listen, listen_of-without_listen, task_at-without_listen, e) (ap (λ (o : Slot). record o { wait = wait.Nothing }) h.is);
   alone = rw (call_of-without_listen, e) tt;
-  call = rw (call_of-without_listen, e) tt;
-  listen = rw listen_of-without_listen tt;
 }
 
 -- ## all but the tasks

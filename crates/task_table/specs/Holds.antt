@@ -1,33 +1,55 @@
 -- When the code's kernel stands for what a turn has come to.
-use Rattle.std.specs.Prelude.{ℕ, ◌%◌, ◌<◌, ◌≡◌, ◌^◌, Bool, true, false, ◌&&◌, List, length, map, Option, Some, None, IfSome, slice_index, slice_index_or, ◌==◌, if◌then◌else◌}
+use Rattle.std.specs.Prelude.{ℕ, ◌%◌, ◌<◌, ◌≡◌, Bool, true, false, ◌&&◌, List, length, map, Option, Some, None, IfSome, slice_index_or, ◌==◌, if◌then◌else◌}
 use Rattle.kernel_abi.specs.Ids.{id_of, index_of}
 use Rattle.kernel_abi.specs.declared.Note.{Note}
+use Rattle.kernel_abi.specs.declared.TaskId.{TaskId}
 use Rattle.task_table.specs.declared.Line.{Line}
 use Rattle.task_table.specs.declared.kernel.Kernel.{Kernel}
+use Rattle.task_table.specs.declared.slot.Listening.{Listening}
+use Rattle.task_table.specs.declared.slot.OpenCall.{OpenCall}
 use Rattle.task_table.specs.declared.slot.Slot.{Slot}
+use Rattle.task_table.specs.declared.slot.Source.{Source}
+use Rattle.task_table.specs.declared.slot.Source.TheVariants as source
 use Rattle.task_table.specs.declared.slot.Wait.{Wait}
 use Rattle.task_table.specs.declared.slot.Wait.TheVariants as wait
 use Rattle.task_table.specs.Memory.{Memory}
 use Rattle.task_table.specs.Parts.{task_setup, line_setup}
 use Rattle.task_table.specs.Sane.{Sane}
-use Rattle.task_table.specs.State.{Setup, Task, Call, Listen, State, Phase, Offered, Taken, From, Any, One, KernelOnly, Turn}
-use Rattle.task_table.specs.Reading.{is_well, task_at, call_of, listen_of}
+use Rattle.task_table.specs.State.{Setup, Task, Birth, Call, Listen, State, Taken, From, Any, One, KernelOnly, Turn}
+use Rattle.task_table.specs.Reading.{is_well, is_offered, task_at, call_of, listen_of}
 
 -- ## one task
 
--- what a task waits for, by its open call and its listen, with ids in the place of births
-abbrev pub wait_in : Phase → ℕ → ℕ → Wait
-wait_in Offered number id = wait.Offered number record { number = id }
-wait_in Taken number id = wait.Taken number record { number = id }
+abbrev pub id_at : Birth → TaskId
+id_at b = record { number = id_of b.index b.birth }
 
-abbrev pub wait_from : From → Wait
-wait_from Any = wait.Any
-wait_from (One b) = wait.One record { number = id_of b.index b.birth }
-wait_from KernelOnly = wait.Kernel
+-- an open call and a listen, with ids in the place of births
+abbrev pub kept_call : Call → OpenCall
+kept_call c =
+    record {
+      number = c.number;
+      client = id_at c.client;
+      server = id_at c.server;
+      operation = c.operation;
+      message = c.message;
+      reply = c.reply;
+      table = c.table;
+      leases = c.leases;
+      phase = c.phase;
+    }
 
+abbrev pub source_of : From → Source
+source_of Any = source.Any
+source_of (One b) = source.One (id_at b)
+source_of KernelOnly = source.Kernel
+
+abbrev pub kept_listen : Listen → Listening
+kept_listen l = record { from = source_of l.from; mask = l.mask; buffer = l.buffer }
+
+-- what a task waits for, by its open call and its listen
 abbrev pub wait_of : Option Call → Option Listen → Wait
-wait_of (Some c) l = wait_in c.phase c.number (id_of c.server.index c.server.birth)
-wait_of None (Some l) = wait_from l.from
+wait_of (Some c) l = wait.Call (kept_call c)
+wait_of None (Some l) = wait.Listen (kept_listen l)
 wait_of None None = wait.Nothing
 
 -- what is kept of a task that waits so: its births modulo 64
@@ -46,68 +68,43 @@ packed_task task waits =
 abbrev pub packed : State → ℕ → Slot
 packed s i = packed_task (task_at s i) (wait_of (call_of s i) (listen_of s i))
 
--- the fields of a call or a listen are in the registers of the task that waits
-pub record IsSavedCall (registers : List ℕ) (c : Call) : Type 0 where
-  pub operation : c.operation ≡ slice_index registers 4 % 2 ^ 16
-  pub message : c.message ≡ record { base = slice_index registers 5; length = slice_index registers 6 }
-  pub reply : c.reply ≡ record { base = slice_index registers 7; length = slice_index registers 8 }
-  pub table : c.table ≡ slice_index registers 9
-  pub leases : c.leases ≡ slice_index registers 10
-
-pub record IsSavedListen (registers : List ℕ) (l : Listen) : Type 0 where
-  pub buffer : l.buffer ≡ record { base = slice_index registers 4; length = slice_index registers 5 }
-  pub mask : l.mask ≡ slice_index registers 6
-
 pub record IsKept (s : State) (i : ℕ) (slot : Slot) : Type 0 where
   pub is : slot ≡ packed s i
   pub alone : IfSome (call_of s i) (λ c. listen_of s i ≡ None)
-  pub call : IfSome (call_of s i) (IsSavedCall (task_at s i).registers)
-  pub listen : IfSome (listen_of s i) (IsSavedListen (task_at s i).registers)
 
 -- ## what is read off a slot
 
 abbrev pub is_nothing : Wait → Bool
-is_nothing (wait.Offered number id) = false
-is_nothing (wait.Taken number id) = false
-is_nothing wait.Any = false
-is_nothing wait.Kernel = false
-is_nothing (wait.One id) = false
+is_nothing (wait.Call c) = false
+is_nothing (wait.Listen l) = false
 is_nothing wait.Nothing = true
 
--- the number of the call whose end it waits for
-abbrev pub call_number : Wait → Option ℕ
-call_number (wait.Offered number id) = Some number
-call_number (wait.Taken number id) = Some number
-call_number wait.Any = None
-call_number wait.Kernel = None
-call_number (wait.One id) = None
-call_number wait.Nothing = None
+-- the call for whose end it waits
+abbrev pub call_in : Wait → Option OpenCall
+call_in (wait.Call c) = Some c
+call_in (wait.Listen l) = None
+call_in wait.Nothing = None
 
--- the number of the call that is offered to the server with an index
-abbrev pub offered_in : Wait → ℕ → Option ℕ
-offered_in (wait.Offered number id) server = if index_of id.number == server then Some number else None
-offered_in (wait.Taken number id) server = None
-offered_in wait.Any server = None
-offered_in wait.Kernel server = None
-offered_in (wait.One id) server = None
+-- what it listens for
+abbrev pub listen_in : Wait → Option Listening
+listen_in (wait.Call c) = None
+listen_in (wait.Listen l) = Some l
+listen_in wait.Nothing = None
+
+-- the call is offered to the server with an index
+abbrev pub is_offer_to : OpenCall → ℕ → Bool
+is_offer_to c server = (index_of c.server.number == server) && is_offered c.phase
+
+abbrev pub offered_in : Wait → ℕ → Option OpenCall
+offered_in (wait.Call c) server = if is_offer_to c server then Some c else None
+offered_in (wait.Listen l) server = None
 offered_in wait.Nothing server = None
 
 -- the wait once its call is taken
 abbrev pub taken_wait : Wait → Wait
-taken_wait (wait.Offered number id) = wait.Taken number id
-taken_wait (wait.Taken number id) = wait.Taken number id
-taken_wait wait.Any = wait.Any
-taken_wait wait.Kernel = wait.Kernel
-taken_wait (wait.One id) = wait.One id
+taken_wait (wait.Call c) = wait.Call record c { phase = Taken }
+taken_wait (wait.Listen l) = wait.Listen l
 taken_wait wait.Nothing = wait.Nothing
-
-abbrev pub is_listening : Wait → Bool
-is_listening (wait.Offered number id) = false
-is_listening (wait.Taken number id) = false
-is_listening wait.Any = true
-is_listening wait.Kernel = true
-is_listening (wait.One id) = true
-is_listening wait.Nothing = false
 
 abbrev pub is_free : Slot → Bool
 is_free slot = is_well slot.health && is_nothing slot.wait

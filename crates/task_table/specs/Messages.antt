@@ -1,5 +1,6 @@
 -- What the code's kernel is told about messages.
 use Rattle.std.specs.Prelude.{ℕ, ◌≡◌, ◌<◌, None, Some}
+use Rattle.std.specs.Option.{option_map}
 use Rattle.kernel_abi.specs.Arguments.{recv_args}
 use Rattle.kernel_abi.specs.declared.Listened.{Listened}
 use Rattle.kernel_abi.specs.declared.Listened.TheVariants as listened
@@ -7,12 +8,12 @@ use Rattle.kernel_abi.specs.declared.Note.TheVariants as note
 use Rattle.kernel_abi.specs.declared.arguments.RecvArgs.{RecvArgs}
 use Rattle.region_check.specs.declared.Right.TheVariants.{Write}
 use Rattle.task_table.specs.declared.kernel.Kernel.{Kernel}
-use Rattle.task_table.specs.Memory.{IsWithin}
-use Rattle.task_table.specs.State.{Setup, State, Call, From, Any, One, KernelOnly, Turn}
-use Rattle.task_table.specs.Reading.{arguments, call_of, present, bad_byte, offer_by, IsIdle}
+use Rattle.task_table.specs.declared.slot.OpenCall.{OpenCall}
+use Rattle.task_table.specs.State.{Setup, State, From, Any, One, KernelOnly, Turn}
+use Rattle.task_table.specs.Reading.{arguments, present, bad_byte, offer_by}
 use Rattle.task_table.specs.Effects.{changed, noted, with_listen}
 use Rattle.task_table.specs.Rows.{listened_from, buffer_of}
-use Rattle.task_table.specs.Holds.{Holds, Stands}
+use Rattle.task_table.specs.Holds.{Stands, kept_call}
 
 -- whom a task listens to; a task that is named is one of n
 abbrev pub from_of : State → Listened → From
@@ -31,21 +32,14 @@ listening c x from t =
     noted (note.Listen c (listened_from from) x.mask)
     (changed (with_listen record { task = c; from = from; mask = x.mask; buffer = buffer_of x }) t)
 
--- the message of a client's call lies in memory
-abbrev pub IsReadable : Kernel → ℕ → Type 0
-IsReadable k client =
-    (g : Setup) × (t : Turn) × (c : Call) × Holds g k t × (call_of t.state client ≡ Some c) × IsWithin t.state.memory c.message.base c.message.length
-
--- the caller of RECV waits for nothing, and its buffer may be written
+-- the caller of RECV may have its buffer written
 pub record IsReceiving (k : Kernel) (c : ℕ) : Type 0 where
   pub setup : Setup
   pub turn : Turn
   pub stands : Stands setup k turn
-  pub idle : IsIdle turn.state c
   pub writable : bad_byte setup c Write (buffer_of (recv_args (arguments turn.state c))) ≡ None
 
--- a client offers a call to it besides
-pub record IsReceivable (k : Kernel) (c client : ℕ) : Type 0 where
+-- a client offers this call to it besides
+pub record IsReceivable (k : Kernel) (c client : ℕ) (call : OpenCall) : Type 0 where
   pub receiving : IsReceiving k c
-  pub call : Call
-  pub offered : offer_by receiving.turn.state client c ≡ Some call
+  pub offered : option_map kept_call (offer_by receiving.turn.state client c) ≡ Some call

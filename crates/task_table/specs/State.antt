@@ -8,6 +8,9 @@ use Rattle.kernel_abi.specs.declared.Note.{Note}
 use Rattle.region_check.specs.declared.Region.{Region}
 use Rattle.task_table.specs.Memory.{Memory}
 use Rattle.task_table.specs.declared.Line.{Line}
+pub use Rattle.task_table.specs.declared.slot.Phase.{Phase}
+pub use Rattle.task_table.specs.declared.slot.Phase.TheVariants.{Offered, Taken}
+pub use Rattle.task_table.specs.declared.slot.Range.{Range}
 
 -- what the image says of a task, of a line, and of all; it never changes
 pub record TaskSetup : Type 0 where
@@ -31,11 +34,6 @@ pub record Setup : Type 0 where
   pub ram : ℕ  -- how many bytes
   pub line_count : ℕ  -- how many interrupt lines the board has
 
--- base and length of a range of bytes
-pub record Range : Type 0 where
-  pub base : ℕ
-  pub length : ℕ
-
 pub record Task : Type 0 where
   pub births : ℕ  -- how often it was born again, without bound
   pub registers : List ℕ  -- sixteen
@@ -48,10 +46,6 @@ pub record Task : Type 0 where
 pub record Birth : Type 0 where
   pub index : ℕ
   pub birth : ℕ
-
-pub data Phase : Type 0 where
-  Offered : Phase
-  Taken : Phase
 
 pub record Call : Type 0 where
   pub number : ℕ

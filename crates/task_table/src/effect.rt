@@ -4,22 +4,19 @@ use crate::kernel::Kernel;
 use kernel_abi::{Note, Timer};
 
 impl Kernel {
-    ghost use Rattle.std.specs.Prelude.{◌≡◌, ◌+◌, ◌<◌, ◌≤◌, length, Option, IfSome, None};
-    ghost use Rattle.std.specs.Option.{option_map};
+    ghost use Rattle.std.specs.Prelude.{◌≡◌, ◌+◌, ◌<◌, ◌≤◌, length, Option};
     ghost use Rattle.task_table.specs.State.{Setup, Turn};
-    ghost use Rattle.task_table.specs.Reading.{call_of, listen_of, IsIdle};
     ghost use Rattle.task_table.specs.Effects.{given, returned, advanced, bits_added, bits_cleared, woken, posted, with_timer};
     ghost use Rattle.task_table.specs.Rows.{goes_on, goes_on_with};
     ghost use Rattle.task_table.specs.Holds.{Holds, Stands, task_count, note_count};
     ghost use Rattle.task_table.specs.Limits.{turn_notes};
     ghost use Rattle.task_table.specs.Frames.{AddsNotes, AddsAtMost};
 
-    /// Gives results to a task that waits for nothing, from r4 on. (The registers of a task that
-    /// waits are the arguments of its call.)
+    /// Gives results to a task, from r4 on.
     pub(crate) fn give(&mut self, task: usize, values: &[u32])
         requires there { task < task_count self.old }
         requires few { length values.now ≤ 6 }
-        ensures holds { (g : Setup) (t : Turn) → Holds g self.old t → IsIdle t.state task → Holds g self.new (given task values.now t) }
+        ensures holds { (g : Setup) (t : Turn) → Holds g self.old t → Holds g self.new (given task values.now t) }
         ensures frame { AddsNotes self.old 0 self.new }
     {
         let mut slot = self.slot(task);
@@ -42,10 +39,10 @@ impl Kernel {
         });
     }
 
-    /// The program counter of a task that waits for nothing goes past its call.
+    /// The program counter of a task goes past its call.
     pub(crate) fn advance(&mut self, task: usize)
         requires { task < task_count self.old }
-        ensures holds { (g : Setup) (t : Turn) → Holds g self.old t → IsIdle t.state task → Holds g self.new (advanced task t) }
+        ensures holds { (g : Setup) (t : Turn) → Holds g self.old t → Holds g self.new (advanced task t) }
         ensures frame { AddsNotes self.old 0 self.new }
     {
         let mut slot = self.slot(task);
@@ -53,23 +50,23 @@ impl Kernel {
         self.set_slot(task, slot);
     }
 
-    /// A caller that waits for nothing goes on after its call.
+    /// A caller goes on after its call.
     pub fn go_on(&mut self, task: usize)
         requires there { task < task_count self.old }
         requires room { note_count self.old < turn_notes }
-        ensures holds { (g : Setup) (t : Turn) → Holds g self.old t → IsIdle t.state task → Holds g self.new (goes_on task t) }
+        ensures holds { (g : Setup) (t : Turn) → Holds g self.old t → Holds g self.new (goes_on task t) }
         ensures frame { AddsNotes self.old 1 self.new }
     {
         self.advance(task);
         self.note_return(task);
     }
 
-    /// A caller that waits for nothing goes on after its call, with results from r4 on.
+    /// A caller goes on after its call, with results from r4 on.
     pub fn answer(&mut self, task: usize, values: &[u32])
         requires there { task < task_count self.old }
         requires few { length values.now ≤ 6 }
         requires room { note_count self.old < turn_notes }
-        ensures holds { (g : Setup) (t : Turn) → Holds g self.old t → IsIdle t.state task → Holds g self.new (goes_on_with task values.now t) }
+        ensures holds { (g : Setup) (t : Turn) → Holds g self.old t → Holds g self.new (goes_on_with task values.now t) }
         ensures frame { AddsNotes self.old 1 self.new }
     {
         self.give(task, values);
@@ -104,20 +101,6 @@ impl Kernel {
         self.set_slot(task, slot);
     }
 
-    /// The mask of a task that listens.
-    fn mask(&self, task: usize) -> Option<u32>
-        requires { task < task_count self.now }
-        ensures mask { (g : Setup) (t : Turn) → Holds g self.now t → result ≡ option_map (λ l. l.mask) (listen_of t.state task) }
-        ensures alone { (g : Setup) (t : Turn) → Holds g self.now t → IfSome result (λ m. call_of t.state task ≡ None) }
-    {
-        let slot = self.slot(task);
-        if slot.wait.is_listening() {
-            Some(slot.registers[6])
-        } else {
-            None
-        }
-    }
-
     /// A task that listens takes its posted bits under its mask, where there are any.
     fn wake(&mut self, task: usize)
         requires there { task < task_count self.old }
@@ -125,11 +108,11 @@ impl Kernel {
         ensures holds { (g : Setup) (t : Turn) → Holds g self.old t → Holds g self.new (woken task t) }
         ensures frame { AddsAtMost self.old 1 self.new }
     {
-        if let Some(mask) = self.mask(task) {
-            let under = self.posted_bits(task) & mask;
+        if let Some(listening) = self.slot(task).wait.listen() {
+            let under = self.posted_bits(task) & listening.mask;
             if under != 0 {
                 self.stop_listening(task);
-                self.clear_bits(task, mask);
+                self.clear_bits(task, listening.mask);
                 self.give(task, &[0, 0xFFFF, under, 0, 0, 0]);
                 self.note_return(task);
             }

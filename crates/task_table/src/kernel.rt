@@ -44,7 +44,7 @@ impl Kernel {
     ghost use Rattle.kernel_abi.specs.declared.Health.TheVariants.{Faulted};
     ghost use Rattle.task_table.specs.State.{Setup, State, Turn, Ground, Own};
     ghost use Rattle.task_table.specs.Memory.{is_ram, byte_at, number_at, IsWithin, IsWithinRam};
-    ghost use Rattle.task_table.specs.Reading.{task_at, setup_at, register, arguments, priority, is_ready, call_of, listen_of, IsSameBut, IsIdle};
+    ghost use Rattle.task_table.specs.Reading.{task_at, setup_at, register, arguments, priority, is_ready, call_of, listen_of, IsSameBut};
     ghost use Rattle.task_table.specs.Effects.{changed, noted, clocked, with_line, with_processor, with_health, without_listen, stored, copied, closed, faulted_as, faulted};
     ghost use Rattle.task_table.specs.Rows.{misused, panicked, call_noted};
     ghost use Rattle.task_table.specs.Start.{start as started_at, begun};
@@ -366,11 +366,10 @@ impl Kernel {
         self.slots[task] = slot;
     }
 
-    /// A task that waits for nothing has these registers and flags from now on. (The registers of a
-    /// task that waits are the arguments of its call.)
+    /// A task has these registers and flags from now on.
     pub fn set_processor(&mut self, task: usize, registers: [u32; 16], flags: Flags)
         requires { task < task_count self.old }
-        ensures holds { (g : Setup) (t : Turn) → Holds g self.old t → IsIdle t.state task → Holds g self.new (with_processor task registers flags t) }
+        ensures holds { (g : Setup) (t : Turn) → Holds g self.old t → Holds g self.new (with_processor task registers flags t) }
         ensures frame { AddsNotes self.old 0 self.new }
     {
         let mut slot = self.slot(task);
@@ -397,7 +396,7 @@ impl Kernel {
         ensures frame { AddsNotes self.old 0 self.new }
     {
         let mut slot = self.slot(task);
-        if slot.wait.is_listening() {
+        if slot.wait.listen().is_some() {
             slot.wait = Wait::Nothing;
             self.set_slot(task, slot);
         }
@@ -414,7 +413,10 @@ impl Kernel {
         if let Some(call) = slot.wait.call() {
             slot.wait = Wait::Nothing;
             self.set_slot(client, slot);
-            self.note(Note::Close { call, ending });
+            self.note(Note::Close {
+                call: call.number,
+                ending,
+            });
         }
     }
 

@@ -12,7 +12,7 @@ mod start;
 
 pub use kernel::Kernel;
 pub use memory::{FLASH, Memory, RAM};
-pub use slot::{Found, Slot, Wait};
+pub use slot::{Found, Listening, OpenCall, Phase, Range, Slot, Source, Wait};
 pub use start::{LineStart, TaskStart};
 
 /// How an interrupt line is.

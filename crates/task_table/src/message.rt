@@ -1,30 +1,30 @@
 //! What RECV does to a task: it takes its posted bits, listens, or takes a call that is offered to it.
 
 use crate::kernel::Kernel;
-use crate::slot::Wait;
-use kernel_abi::{Access, Fault, Listened, Note, RecvArgs, SendArgs, TaskId};
+use crate::slot::{Listening, OpenCall, Range, Source, Wait};
+use kernel_abi::{Access, Fault, Listened, Note, RecvArgs, TaskId};
 use region_check::{Right, may_range};
 
 impl Kernel {
-    ghost use Rattle.std.specs.Prelude.{◌≡◌, ◌≢◌, ◌+◌, ◌<◌, ◌≤◌, ◌^◌, Option, Some, None};
+    ghost use Rattle.std.specs.Prelude.{◌≡◌, ◌+◌, ◌<◌, ◌≤◌, ◌^◌, Option, Some};
     ghost use Rattle.std.specs.Option.{option_map};
     ghost use Rattle.kernel_abi.specs.Arguments.{recv_args};
     ghost use Rattle.kernel_abi.specs.Faults.{access_number};
     ghost use Rattle.kernel_abi.specs.Ids.{id_of};
-    ghost use Rattle.task_table.specs.Memory.{IsWithinRam};
+    ghost use Rattle.task_table.specs.Memory.{IsWithin, IsWithinRam};
     ghost use Rattle.task_table.specs.State.{Setup, Turn, Call, Ground};
-    ghost use Rattle.task_table.specs.Reading.{task_at, arguments, present, call_of, bad_byte, offer_by, IsIdle};
+    ghost use Rattle.task_table.specs.Reading.{task_at, arguments, bad_byte, offer_by, IsIdle};
     ghost use Rattle.task_table.specs.Effects.{changed, with_taken, handed};
     ghost use Rattle.task_table.specs.Rows.{denied, takes_bits, listens, receives};
-    ghost use Rattle.task_table.specs.Holds.{Holds, Stands, wait_from, task_count, note_count, memory_of};
+    ghost use Rattle.task_table.specs.Holds.{Holds, Stands, kept_call, source_of, task_count, note_count, memory_of};
     ghost use Rattle.task_table.specs.Limits.{turn_notes};
     ghost use Rattle.task_table.specs.Frames.{AddsNotes, AddsAtMost};
-    ghost use Rattle.task_table.specs.Messages.{from_of, listening, IsListened, IsReadable, IsReceivable};
+    ghost use Rattle.task_table.specs.Messages.{from_of, listening, IsListened, IsReceivable};
 
-    /// The number of the call that a client offers to a server, where it does.
-    pub fn offered(&self, client: usize, server: usize) -> Option<u32>
+    /// The call that a client offers to a server, where it does.
+    pub fn offered(&self, client: usize, server: usize) -> Option<OpenCall>
         requires { client < task_count self.now }
-        ensures { (g : Setup) (t : Turn) → Stands g self.now t → result ≡ option_map (λ k. k.number) (offer_by t.state client server) }
+        ensures { (g : Setup) (t : Turn) → Stands g self.now t → result ≡ option_map kept_call (offer_by t.state client server) }
     {
         let slot = self.slot(client);
         slot.wait.offered_to(server)
@@ -49,12 +49,12 @@ impl Kernel {
         self.fault(task, Fault::access(at, access));
     }
 
-    /// A caller that waits for nothing takes its posted bits under a mask, which are cleared, and goes
-    /// on: r4 is 0, r5 0xFFFF, r6 those bits, r7 to r9 are 0 (Hubris Reference, on notifications).
+    /// A caller takes its posted bits under a mask, which are cleared, and goes on: r4 is 0, r5 0xFFFF,
+    /// r6 those bits, r7 to r9 are 0 (Hubris Reference, on notifications).
     pub fn take_bits(&mut self, task: usize, mask: u32)
         requires there { task < task_count self.old }
         requires room { note_count self.old < turn_notes }
-        ensures holds { (g : Setup) (t : Turn) → Holds g self.old t → IsIdle t.state task → Holds g self.new (takes_bits task mask t) }
+        ensures holds { (g : Setup) (t : Turn) → Holds g self.old t → Holds g self.new (takes_bits task mask t) }
         ensures frame { AddsNotes self.old 1 self.new }
     {
         let under = self.posted_bits(task) & mask;
@@ -70,15 +70,15 @@ impl Kernel {
         TaskId::new(task as u16, self.generation(task))
     }
 
-    /// How a task waits that listens so.
-    fn wait_for(&self, from: Listened) -> Wait
+    /// Whom a task hears that listens so.
+    fn source(&self, from: Listened) -> Source
         requires { IsListened (task_count self.now) from }
-        ensures { (g : Setup) (t : Turn) → Holds g self.now t → result ≡ wait_from (from_of t.state from) }
+        ensures { (g : Setup) (t : Turn) → Holds g self.now t → result ≡ source_of (from_of t.state from) }
     {
         match from {
-            Listened::Any => Wait::Any,
-            Listened::Kernel => Wait::Kernel,
-            Listened::One(index) => Wait::One(self.id(usize::from(index))),
+            Listened::Any => Source::Any,
+            Listened::Kernel => Source::Kernel,
+            Listened::One(index) => Source::One(self.id(usize::from(index))),
         }
     }
 
@@ -92,7 +92,11 @@ impl Kernel {
     {
         let args = RecvArgs::of(&self.arguments(task));
         let mut slot = self.slot(task);
-        slot.wait = self.wait_for(from);
+        slot.wait = Wait::Listen(Listening {
+            from: self.source(from),
+            mask: args.mask,
+            buffer: buffer_of(&args),
+        });
         self.set_slot(task, slot);
         self.note(Note::Listen {
             task: task as u16,
@@ -125,52 +129,65 @@ impl Kernel {
         self.set_slot(client, slot);
     }
 
-    /// The open call of a client goes to its server, which makes none itself, with as much of the
-    /// message as fits into a buffer.
-    fn hand_over(&mut self, client: usize, server: usize, call: u32, base: u32, len: u32)
+    /// The open call of a client goes to its server, with as much of the message as fits into a buffer.
+    fn hand_over(&mut self, client: usize, server: usize, call: &OpenCall, buffer: Range)
         requires client { client < task_count self.old }
         requires server { server < task_count self.old }
         requires room { note_count self.old < turn_notes }
-        requires source { IsReadable self.old client }
-        requires target { IsWithinRam (memory_of self.old) base len }
-        ensures holds { (g : Setup) (t : Turn) (on : Ground) (c : Call) → Holds g self.old t → call_of t.state client ≡ Some c → c.number ≡ call → c.client ≡ present t.state client → c.server.index ≡ server → client ≢ server → call_of t.state server ≡ None → Holds g self.new (handed on c record { base = base; length = len } t) }
+        requires source { IsWithin (memory_of self.old) call.now.message.base call.now.message.length }
+        requires target { IsWithinRam (memory_of self.old) buffer.base buffer.length }
+        ensures holds { (g : Setup) (t : Turn) (on : Ground) (c : Call) → Holds g self.old t → kept_call c ≡ call.now → c.client.index ≡ client → c.server.index ≡ server → Holds g self.new (handed on c buffer t) }
         ensures frame { AddsNotes self.old 1 self.new }
     {
-        let asked = SendArgs::of(&self.arguments(client));
-        let sender = self.id(client);
-        let copied = asked.message_length.min(len);
-        self.copy(asked.message_base, base, copied);
+        let copied = call.message.length.min(buffer.length);
+        self.copy(call.message.base, buffer.base, copied);
         self.take(client);
-        self.note(Note::Take { call, copied });
+        self.note(Note::Take {
+            call: call.number,
+            copied,
+        });
         self.stop_listening(server);
         self.give(
             server,
             &[
                 0,
-                u32::from(sender.number),
-                u32::from(asked.operation),
-                asked.message_length,
-                asked.reply_capacity,
-                asked.leases,
+                u32::from(call.client.number),
+                u32::from(call.operation),
+                call.message.length,
+                call.reply.length,
+                call.leases,
             ],
         );
     }
 
-    /// A caller that waits for nothing goes past its call and takes the call that a client offers to
-    /// it, with as much of the message as fits into the buffer of its registers r4 and r5: r4 is 0, r5
-    /// the client's id, r6 the operation, r7 the message's length, r8 the room for a reply, r9 the
-    /// number of leases (Hubris Reference, on RECV).
-    pub fn receive(&mut self, server: usize, client: usize, call: u32)
+    /// A caller goes past its call and takes the call that a client offers to it, with as much of the
+    /// message as fits into the buffer of its registers r4 and r5: r4 is 0, r5 the client's id, r6 the
+    /// operation, r7 the message's length, r8 the room for a reply, r9 the number of leases (Hubris
+    /// Reference, on RECV).
+    pub fn receive(&mut self, server: usize, client: usize, call: &OpenCall)
         requires there { server < task_count self.old }
         requires client { client < task_count self.old }
         requires room { note_count self.old + 2 ≤ turn_notes }
-        requires receivable { IsReceivable self.old server client }
-        ensures holds { (g : Setup) (t : Turn) (c : Call) → Stands g self.old t → IsIdle t.state server → offer_by t.state client server ≡ Some c → c.number ≡ call → Holds g self.new (receives server (recv_args (arguments t.state server)) c t) }
+        requires receivable { IsReceivable self.old server client call.now }
+        ensures holds { (g : Setup) (t : Turn) (c : Call) → Stands g self.old t → offer_by t.state client server ≡ Some c → kept_call c ≡ call.now → Holds g self.new (receives server (recv_args (arguments t.state server)) c t) }
         ensures frame { AddsNotes self.old 2 self.new }
     {
         let args = RecvArgs::of(&self.arguments(server));
         self.advance(server);
-        self.hand_over(client, server, call, args.buffer_base, args.buffer_length);
+        self.hand_over(client, server, call, buffer_of(&args));
         self.note_return(server);
+    }
+}
+
+ghost use Rattle.std.specs.Prelude.{◌≡◌};
+ghost use Rattle.task_table.specs.Rows.{buffer_of};
+
+/// The buffer of a receive.
+fn buffer_of(args: &RecvArgs) -> Range
+    ensures { result ≡ buffer_of args.now }
+{
+    Range {
+        base: args.buffer_base,
+        length: args.buffer_length,
     }
 }

@@ -5,46 +5,111 @@ ghost use Rattle.std.specs.Prelude.{◌≡◌};
 use kernel_abi::{Generation, Health, TaskId, Timer};
 use words_core::Flags;
 
-/// What a task waits for. The fields of a call and of a listen are in its saved registers; only the
-/// call's number and the ids, as they were when the wait began, stand here.
+/// Bytes of the address space, from an address on.
+#[derive(Clone, Copy, Debug, PartialEq, Eq)]
+pub struct Range {
+    pub base: u32,
+    pub length: u32,
+}
+
+/// How far an open call has come.
+#[derive(Clone, Copy, Debug, PartialEq, Eq)]
+pub enum Phase {
+    /// Its server has not taken it yet.
+    Offered,
+    /// Its server has taken it, and is to reply.
+    Taken,
+}
+
+/// A call that is open, as its client made it, with the ids that client and server had then: the
+/// message, the room for the reply, and the lease table of so many leases (Hubris Reference, on SEND).
+#[derive(Clone, Copy, Debug, PartialEq, Eq)]
+pub struct OpenCall {
+    pub number: u32,
+    pub client: TaskId,
+    pub server: TaskId,
+    pub operation: u16,
+    pub message: Range,
+    pub reply: Range,
+    pub table: u32,
+    pub leases: u32,
+    pub phase: Phase,
+}
+
+impl OpenCall {
+    ghost use Rattle.std.specs.Prelude.{◌≡◌};
+    ghost use Rattle.task_table.specs.Holds.{is_offer_to};
+
+    /// Whether it is offered to the server with this index.
+    pub fn is_offered_to(&self, index: usize) -> bool
+        ensures { result ≡ is_offer_to self.now index }
+    {
+        usize::from(self.server.index()) == index && self.phase == Phase::Offered
+    }
+}
+
+/// Whose message a task listens for.
+#[derive(Clone, Copy, Debug, PartialEq, Eq)]
+pub enum Source {
+    /// Any task's.
+    Any,
+    /// None: for notifications alone.
+    Kernel,
+    /// That of the task with this id.
+    One(TaskId),
+}
+
+/// What a task listens for: a message, for which it has a buffer, or a notification under its mask
+/// (Hubris Reference, on RECV).
+#[derive(Clone, Copy, Debug, PartialEq, Eq)]
+pub struct Listening {
+    pub from: Source,
+    pub mask: u32,
+    pub buffer: Range,
+}
+
+/// What a task waits for.
 #[derive(Clone, Copy, Debug, PartialEq, Eq)]
 pub enum Wait {
     /// For nothing.
     Nothing,
-    /// For a server to take its call.
-    Offered { call: u32, server: TaskId },
-    /// For the reply of the server that took its call.
-    Taken { call: u32, server: TaskId },
-    /// For a message from any sender, or a notification.
-    Any,
-    /// For a notification alone.
-    Kernel,
-    /// For a message from this sender, or a notification.
-    One(TaskId),
+    /// For the end of its call.
+    Call(OpenCall),
+    /// For a message or a notification.
+    Listen(Listening),
 }
 
 impl Wait {
     ghost use Rattle.std.specs.Prelude.{◌≡◌};
-    ghost use Rattle.task_table.specs.Holds.{call_number, offered_in, taken_wait, is_listening};
+    ghost use Rattle.task_table.specs.Holds.{call_in, listen_in, offered_in, taken_wait};
 
-    /// The number of the call for whose end it is.
-    pub fn call(&self) -> Option<u32>
-        ensures { result ≡ call_number self.now }
+    /// The call for whose end it is.
+    pub fn call(&self) -> Option<OpenCall>
+        ensures { result ≡ call_in self.now }
     {
         match *self {
-            Wait::Offered { call, .. } => Some(call),
-            Wait::Taken { call, .. } => Some(call),
+            Wait::Call(call) => Some(call),
             _ => None,
         }
     }
 
-    /// The number of the call, where it is offered to the server with this index.
-    pub fn offered_to(&self, index: usize) -> Option<u32>
+    /// What the task listens for.
+    pub fn listen(&self) -> Option<Listening>
+        ensures { result ≡ listen_in self.now }
+    {
+        match *self {
+            Wait::Listen(listening) => Some(listening),
+            _ => None,
+        }
+    }
+
+    /// The call, where it is offered to the server with this index.
+    pub fn offered_to(&self, index: usize) -> Option<OpenCall>
         ensures { result ≡ offered_in self.now index }
     {
         match *self {
-            Wait::Offered { call, server } => {
-                if usize::from(server.index()) == index {
+            Wait::Call(call) => {
+                if call.is_offered_to(index) {
                     Some(call)
                 } else {
                     None
@@ -59,20 +124,11 @@ impl Wait {
         ensures { result ≡ taken_wait self }
     {
         match self {
-            Wait::Offered { call, server } => Wait::Taken { call, server },
+            Wait::Call(call) => Wait::Call(OpenCall {
+                phase: Phase::Taken,
+                ..call
+            }),
             other => other,
-        }
-    }
-
-    /// Whether it is for a message or a notification.
-    pub fn is_listening(&self) -> bool
-        ensures { result ≡ is_listening self.now }
-    {
-        match *self {
-            Wait::Any => true,
-            Wait::Kernel => true,
-            Wait::One(_) => true,
-            _ => false,
         }
     }
 }

@@ -8,7 +8,7 @@ ghost use Rattle.std.specs.Prelude.{◌≡◌, ◌+◌, ◌*◌, ◌<◌, ◌≤
 ghost use Rattle.std.specs.Option.{option_map};
 ghost use Rattle.std.specs.List.{list_any};
 ghost use Rattle.task_table.specs.State.{Setup, Turn};
-ghost use Rattle.task_table.specs.Reading.{is_ready, line_at, line_off, IsIdle};
+ghost use Rattle.task_table.specs.Reading.{is_ready, line_at, line_off};
 ghost use Rattle.task_table.specs.Effects.{with_line};
 ghost use Rattle.task_table.specs.Rows.{timer_set, timer_words, timer_told, owns_with, line_controlled, irq_controlled};
 ghost use Rattle.task_table.specs.Events.{expired, ticked, owner_of, interrupted_by, interrupted};
@@ -142,11 +142,11 @@ pub fn interrupt(k: &mut Kernel, line: u8)
     }
 }
 
-/// SET_TIMER of a caller that waits for nothing.
+/// SET_TIMER, in whatever state.
 fn start_timer(k: &mut Kernel, caller: usize)
     requires there { caller < task_count k.old }
     requires room { note_count k.old + call_notes ≤ turn_notes }
-    ensures holds { (g : Setup) (t : Turn) → Holds g k.old t → IsIdle t.state caller → Holds g k.new (timer_set caller t) }
+    ensures holds { (g : Setup) (t : Turn) → Holds g k.old t → Holds g k.new (timer_set caller t) }
     ensures frame { AddsAtMost k.old call_notes k.new }
 {
     let args = TimerArgs::of(&k.arguments(caller));
@@ -310,11 +310,11 @@ fn control_all(k: &mut Kernel, caller: usize, bits: u32, enable: bool)
     }
 }
 
-/// IRQ_CONTROL of a caller that waits for nothing.
+/// IRQ_CONTROL, in whatever state.
 fn control_lines(k: &mut Kernel, caller: usize)
     requires there { caller < task_count k.old }
     requires room { note_count k.old + call_notes ≤ turn_notes }
-    ensures holds { (g : Setup) (t : Turn) → Holds g k.old t → IsIdle t.state caller → Holds g k.new (irq_controlled g caller t) }
+    ensures holds { (g : Setup) (t : Turn) → Holds g k.old t → Holds g k.new (irq_controlled g caller t) }
     ensures frame { AddsAtMost k.old call_notes k.new }
 {
     let args = IrqArgs::of(&k.arguments(caller));

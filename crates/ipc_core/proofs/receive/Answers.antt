@@ -10,13 +10,13 @@ use Rattle.ipc_core.proofs.receive.Goals as goal
 
 pub receive_input-requires-clause-ready : goal.receive_input-requires-clause-ready
 receive_input-requires-clause-ready c =
-    let r = c.requires.ready in
+    let r = c.requires.stood in
     let g = r.0 in
     let t = r.1 in
     let h = r.2 in
     let same : c.of-args.result ≡ recv_args (arguments t.state c.args.caller) = c.of-args.ensures ∙ ap recv_args (c.arguments.ensures g t h.holds) in
     let good : bad_byte g c.args.caller Write (buffer_of c.of-args.result) ≡ None = sym (c.in_default.ensures g t h.holds) in
-    record { setup = g; turn = t; stands = h; idle = r.3; writable = rw same at good }
+    record { setup = g; turn = t; stands = h; writable = rw same at good }
 
 pub returns-then-not-is_valid-clause-holds : goal.returns-then-not-is_valid-clause-holds
 unfolding received

@@ -20,7 +20,7 @@ pub returns-in-Dead-clause-holds : goal.returns-in-Dead-clause-holds
 unfolding dead_code_for
 returns-in-Dead-clause-holds c = λ g t h idle who.
     let w = rw c.in-Dead.is at who in
-    rw (w.0, w.1, w.3, ← w.4, ← c.dead_code.ensures) (c.answer.ensures.holds g t h.holds idle)
+    rw (w.0, w.1, w.3, ← w.4, ← c.dead_code.ensures) (c.answer.ensures.holds g t h.holds)
 
 pub returns-in-One-clause-holds : goal.returns-in-One-clause-holds
 returns-in-One-clause-holds c = λ g t h idle who.

@@ -3,8 +3,8 @@ use Rattle.task_table.proofs.Frames.{idle-ready}
 use Rattle.task_table.proofs.StepKeeps.{sane-received}
 use Rattle.ipc_core.proofs.recv.Goals as goal
 
-pub receive-requires-clause-ready : goal.receive-requires-clause-ready
-receive-requires-clause-ready c = let r = c.requires.ready in (r.0, r.1, r.2, idle-ready r.1.state c.args.caller r.3)
+pub receive-requires-clause-stood : goal.receive-requires-clause-stood
+receive-requires-clause-stood c = let r = c.requires.ready in (r.0, r.1, r.2)
 
 pub returns-clause-stands : goal.returns-clause-stands
 returns-clause-stands c = λ g t h ready best.

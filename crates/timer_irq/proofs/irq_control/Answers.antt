@@ -1,9 +1,8 @@
 use Rattle.std.proofs.Common.{◌<◌, length, arith}
-use Rattle.task_table.proofs.Frames.{idle-ready}
 use Rattle.task_table.proofs.StepKeeps.{sane-irq_controlled}
 use Rattle.timer_irq.proofs.irq_control.Goals as goal
 
 pub returns-clause-stands : goal.returns-clause-stands
 returns-clause-stands c = λ g t h ready.
     let inside : c.args.caller < length t.state.tasks = omega (arith, c.requires.there, h.holds.count) in
-    record { holds = c.control_lines.ensures.holds g t h.holds (idle-ready t.state c.args.caller ready); sane = sane-irq_controlled c.args.caller t h.sane inside }
+    record { holds = c.control_lines.ensures.holds g t h.holds; sane = sane-irq_controlled c.args.caller t h.sane inside }

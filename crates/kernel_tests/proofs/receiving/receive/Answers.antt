@@ -40,7 +40,7 @@ recv-requires-clause-ready c =
     let t = r.1 in
     let h = r.2 in
     let inside : 0 < length t.state.tasks = omega (arith, c.requires.count, h.holds.count) in
-    let h1 = c.set_processor.ensures.holds g t h.holds (idle-ready t.state 0 r.3) in
+    let h1 = c.set_processor.ensures.holds g t h.holds in
     let whole : AreWhole _ = record { sixteen = refl; even = refl; aligned = refl } in
     let u : Turn = with_processor 0 _ _ t in
     let stands : Stands g c.set_processor.new.self u = record { holds = h1; sane = sane-processor 0 _ _ t h.sane inside whole } in

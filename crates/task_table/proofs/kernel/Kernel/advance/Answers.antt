@@ -9,10 +9,10 @@ use Rattle.task_table.proofs.kernel.Kernel.advance.Goals as goal
 
 pub returns-clause-holds : goal.returns-clause-holds
 unfolding advanced register
-returns-clause-holds c = λ g t h idle.
+returns-clause-holds c = λ g t h.
     let kept = c.slot-slot.ensures g t h in
     let task = task_at t.state c.args.task in
     let x : Task = record task { registers = set task.registers 15 ((get_or task.registers 15 0 + 2) % 2 ^ 32) } in
     let there : c.args.task < length t.state.tasks = omega (arith, h.count) in
     let is = ap (λ (o : Slot). record o { registers = set o.registers 15 ((get_or o.registers 15 0 + 2) % 2 ^ 32) }) kept.is in
-    c.set_slot.ensures.holds g t _ h (steps.kept_idle t.state c.args.task x _ there idle is) (same_but-with_task t.state c.args.task x)
+    c.set_slot.ensures.holds g t _ h (steps.kept_task t.state c.args.task x _ _ there kept is) (same_but-with_task t.state c.args.task x)

@@ -1,5 +1,4 @@
-use Rattle.task_table.proofs.Frames.{idle-given}
 use Rattle.task_table.proofs.kernel.Kernel.answer.Goals as goal
 
 pub returns-clause-holds : goal.returns-clause-holds
-returns-clause-holds c = λ g t h idle. c.go_on.ensures.holds g _ (c.give.ensures.holds g t h idle) (idle-given c.args.task c.args.task c.args.values.now t idle)
+returns-clause-holds c = λ g t h. c.go_on.ensures.holds g _ (c.give.ensures.holds g t h)

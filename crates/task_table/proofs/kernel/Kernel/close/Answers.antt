@@ -1,4 +1,8 @@
+use Rattle.std.proofs.Common.{◌≡◌, ap, sym, ◌∙◌}
+use Rattle.task_table.specs.Reading.{call_of}
 use Rattle.task_table.specs.Effects.{closed, noted}
+use Rattle.task_table.specs.Holds.{kept_call}
+use Rattle.task_table.specs.declared.slot.OpenCall.{OpenCall}
 use Rattle.task_table.proofs.Steps as steps
 use Rattle.task_table.proofs.Changes.{same_but-without_call, closed_none}
 use Rattle.task_table.proofs.kernel.Kernel.close.Goals as goal
@@ -6,11 +10,14 @@ use Rattle.task_table.proofs.kernel.Kernel.close.Goals as goal
 pub returns-in-Some-clause-holds : goal.returns-in-Some-clause-holds
 unfolding closed noted
 returns-in-Some-clause-holds c = λ g t h.
+    let i = c.args.client in
     let kept = c.slot-slot.ensures g t h in
-    let call = steps.some_call t.state c.args.client c.in-Some.call _ kept c.in-Some.ensures in
-    let next = c.set_slot.ensures.holds g t _ h (steps.kept_no_call t.state c.args.client call.0 _ kept call.1) (same_but-without_call t.state c.args.client) in
-    rw (call.1, call.2) (c.note.ensures.holds g _ next)
+    let call = steps.some_mapped kept_call (call_of t.state i) _ (sym (steps.call_kept t.state i _ kept) ∙ sym c.in-Some.ensures) in
+    let number : call.0.number ≡ c.in-Some.call.number = ap (λ (x : OpenCall). x.number) call.2 in
+    let next = c.set_slot.ensures.holds g t _ h (steps.kept_no_call t.state i call.0 _ kept call.1) (same_but-without_call t.state i) in
+    rw (call.1, number) (c.note.ensures.holds g _ next)
 
 pub returns-in_default-clause-holds : goal.returns-in_default-clause-holds
 returns-in_default-clause-holds c = λ g t h.
-    rw (closed_none c.args.client c.args.ending t (steps.no_call t.state c.args.client _ (c.slot-slot.ensures g t h) c.in_default.ensures)) h
+    let none = steps.none_mapped kept_call (call_of t.state c.args.client) (sym (steps.call_kept t.state c.args.client _ (c.slot-slot.ensures g t h)) ∙ sym c.in_default.ensures) in
+    rw (closed_none c.args.client c.args.ending t none) h

@@ -9,11 +9,11 @@ use Rattle.task_table.proofs.kernel.Kernel.give.Goals as goal
 
 pub returns-clause-holds : goal.returns-clause-holds
 unfolding given
-returns-clause-holds c = λ g t h idle.
+returns-clause-holds c = λ g t h.
     let kept = c.slot-slot.ensures g t h in
     let task = task_at t.state c.args.task in
     let x : Task = record task { registers = with_results c.args.values.now task.registers } in
     let there : c.args.task < length t.state.tasks = omega (arith, h.count) in
     let written = ap (λ (rs : List ℕ). record c.slot-slot.result { registers = rs }) c.write_results.ensures in
     let is = written ∙ ap (λ (o : Slot). record o { registers = with_results c.args.values.now o.registers }) kept.is in
-    c.set_slot.ensures.holds g t _ h (steps.kept_idle t.state c.args.task x _ there idle is) (same_but-with_task t.state c.args.task x)
+    c.set_slot.ensures.holds g t _ h (steps.kept_task t.state c.args.task x _ _ there kept is) (same_but-with_task t.state c.args.task x)

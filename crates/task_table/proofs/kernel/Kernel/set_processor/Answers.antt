@@ -9,8 +9,8 @@ use Rattle.task_table.proofs.kernel.Kernel.set_processor.Goals as goal
 
 pub returns-clause-holds : goal.returns-clause-holds
 unfolding with_processor
-returns-clause-holds c = λ g t h idle.
+returns-clause-holds c = λ g t h.
     let kept = c.slot-slot.ensures g t h in
     let x : Task = record (task_at t.state c.args.task) { registers = c.args.registers; flags = c.args.flags } in
     let there : c.args.task < length t.state.tasks = omega (arith, h.count) in
-    c.set_slot.ensures.holds g t _ h (steps.kept_idle t.state c.args.task x _ there idle (ap (λ (o : Slot). record o { registers = c.args.registers; flags = c.args.flags }) kept.is)) (same_but-with_task t.state c.args.task x)
+    c.set_slot.ensures.holds g t _ h (steps.kept_task t.state c.args.task x _ _ there kept (ap (λ (o : Slot). record o { registers = c.args.registers; flags = c.args.flags }) kept.is)) (same_but-with_task t.state c.args.task x)

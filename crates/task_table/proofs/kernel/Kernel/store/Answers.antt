@@ -1,4 +1,4 @@
-use Rattle.std.proofs.Common.{◌≡◌, arith, refl}
+use Rattle.std.proofs.Common.{arith, refl}
 use Rattle.task_table.specs.Holds.{kept_of, setup_of}
 use Rattle.task_table.proofs.Steps as steps
 use Rattle.task_table.proofs.kernel.Kernel.store.Goals as goal
