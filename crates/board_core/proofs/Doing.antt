@@ -17,9 +17,9 @@ use Rattle.board_core.specs.Did.{Did}
 use Rattle.board_model.specs.Turn.{decoded_as, acted, is_text}
 use Rattle.board_core.specs.Machine.{IsReady, MachineHolds}
 use Rattle.board_core.proofs.Running.{stored_by, was_next, stores_hold, stores_notes}
-use Rattle.board_core.proofs.Lending.{lent_by, effect_lent, next_lent, goes_on}
+use Rattle.board_core.proofs.Loading.{loaded_by, effect_loaded, next_loaded, goes_on}
 use Rattle.board_core.proofs.Gliding.{current_seen}
-use Rattle.board_core.proofs.Telling.{lent_ready}
+use Rattle.board_core.proofs.Telling.{loaded_ready}
 use Rattle.board_model.proofs.TurnChains.{noted-call}
 
 pub stores_current : (ss : List Store) (m m' : Reach) → Stores stored_by m ss m' → current_of m'.kernel ≡ current_of m.kernel
@@ -29,9 +29,9 @@ stores_current (x ∷ xs) m m' e = stores_current xs e.0 m' e.2 ∙ e.1.current
 pub did_went : (g : Setup) (t : Turn) (a b : Machine) (at code : ℕ) (d : Decoded) → IsReady g a t → Did a d true b → MachineHolds g b (decoded_as Calls g t.state.current at code d t)
 did_went g t a b at code (Narrow insn) r h =
     let went = was_next _ _ _ _ _ _ h.0 refl in
-    let here = effect_lent g _ _ t insn r.holds r.sane.steady.current in
-    lent_by _ g _ _ _ (h.1 ∙ r.lent)
-    (next_lent g _ t t.state.current _ went.processor b.processor went.stores (sym here ∙ went.is) went.after
+    let here = effect_loaded g _ _ t insn r.holds r.sane.steady.current in
+    loaded_by _ g _ _ _ (h.1 ∙ r.loaded)
+    (next_loaded g _ t t.state.current _ went.processor b.processor went.stores (sym here ∙ went.is) went.after
     (goes_on g _ _ _ b.processor t went.stores r.holds r.sane.steady.current (λ u k. stores_hold went.stores _ _ went.bus g u k)))
 did_went g t a b at code (Wide insn) r h = absurd h
 did_went g t a b at code Illegal r h = absurd h
@@ -49,11 +49,11 @@ did_current a b (Wide insn) h = absurd h
 did_current a b Illegal h = absurd h
 did_current a b NeedsSecond h = absurd h
 
-pub did_lent : (a b : Machine) (d : Decoded) → Did a d true b → b.lent ≡ a.lent
-did_lent a b (Narrow insn) h = h.1
-did_lent a b (Wide insn) h = absurd h
-did_lent a b Illegal h = absurd h
-did_lent a b NeedsSecond h = absurd h
+pub did_loaded : (a b : Machine) (d : Decoded) → Did a d true b → b.loaded ≡ a.loaded
+did_loaded a b (Narrow insn) h = h.1
+did_loaded a b (Wide insn) h = absurd h
+did_loaded a b Illegal h = absurd h
+did_loaded a b NeedsSecond h = absurd h
 
 pub did_left : (a b : Machine) (d : Decoded) → Did a d false b → b ≡ a
 did_left a b (Narrow insn) h = h.1
@@ -71,12 +71,12 @@ text_here g m t text at r h within =
 -- a call and a fault are noted
 loud_acted : (g : Setup) (m : Machine) (t : Turn) (e : Effect) → IsReady g m t → Halts e → (acted g t.state.current e t).notes ≢ []
 loud_acted g m t (Next d ss) r h = absurd h
-loud_acted g m t Call r h = noted-call g t.state.current t r.sane r.sane.steady.current (lent_ready g m.reach.kernel m.processor t r.holds r.sane.steady.current)
+loud_acted g m t Call r h = noted-call g t.state.current t r.sane r.sane.steady.current (loaded_ready g m.reach.kernel m.processor t r.holds r.sane.steady.current)
 loud_acted g m t (Trap f) r h = noted-faulted g t.state.current f t
 
 pub did_loud : (g : Setup) (t : Turn) (a b : Machine) (at code : ℕ) (d : Decoded) → IsReady g a t → Did a d false b → (decoded_as Calls g t.state.current at code d t).notes ≢ []
 did_loud g t a b at code (Narrow insn) r h =
-    let here = effect_lent g _ _ t insn r.holds r.sane.steady.current in
+    let here = effect_loaded g _ _ t insn r.holds r.sane.steady.current in
     let H : Effect → Type 0 = λ e. Halts e in
     loud_acted g a t _ r (subst H here h.0)
 did_loud g t a b at code (Wide insn) r h = absurd h

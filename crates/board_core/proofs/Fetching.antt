@@ -21,7 +21,7 @@ use Rattle.board_model.specs.declared.told.Level.{Level}
 use Rattle.board_core.specs.Machine.{IsReady}
 use Rattle.board_model.specs.Turn.{may, first_lacking, refusals, is_text, told, executed, decoded_as, stepped_wide, stepped}
 use Rattle.board_core.proofs.Gliding.{current_seen}
-use Rattle.board_core.proofs.Lending.{rest_of}
+use Rattle.board_core.proofs.Loading.{rest_of}
 
 -- what the task does with what was fetched at an address
 abbrev pub carried : Level → Setup → ℕ → ℕ → Result Fetched Fault → Turn → Turn

@@ -20,13 +20,13 @@ use Rattle.board_model.specs.Turn.{turn}
 use Rattle.board_model.specs.Run.{ending, is_down, turn_after}
 use Rattle.board_core.specs.Advanced.{IsAdvanced}
 use Rattle.board_model.proofs.TurnChains.{begun_sane}
-use Rattle.board_core.proofs.Lending.{told_by, rest_of}
+use Rattle.board_core.proofs.Loading.{told_by, rest_of}
 use Rattle.board_model.proofs.Outside.{nothing_due, due_later, no_event, begun_state}
 use Rattle.board_core.proofs.Turning.{rested}
 
 -- what a machine holds is of its kernel's setup
 pub setup_seen : (g : Setup) (m : Machine) (t : Turn) → MachineHolds g m t → setup_of m.reach.kernel ≡ g
-setup_seen g m t h = (told_by m.lent g m.reach.kernel m.processor t h).holds.setup
+setup_seen g m t h = (told_by m.loaded g m.reach.kernel m.processor t h).holds.setup
 
 pub current_seen : (g : Setup) (m : Machine) (t : Turn) → IsReady g m t → current_of m.reach.kernel ≡ t.state.current
 current_seen g m t r = let rest = rest_of r.holds.saved t m.processor r.holds.is in r.holds.holds.current ∙ sym rest.current

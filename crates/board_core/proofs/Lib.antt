@@ -1,7 +1,7 @@
 pub mod Running
 pub mod Opens
 pub mod Spanning
-pub mod Lending
+pub mod Loading
 pub mod Views
 pub mod Turning
 pub mod Gliding

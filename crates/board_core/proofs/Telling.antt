@@ -1,4 +1,4 @@
--- The current task while the processor is lent to it, and what is told of a turn.
+-- The current task while its context is loaded, and what is told of a turn.
 use Rattle.std.proofs.Common.{◌≡◌, ◌<◌, ◌≤◌, ℕ, zero, suc, true, List, [], ◌∷◌, length, get_or, drop, arith, refl, ◌∙◌, ap}
 use Rattle.kernel_abi.specs.declared.Note.{Note}
 use Rattle.thumb_exec.specs.declared.cpu.Cpu.{Cpu}
@@ -13,14 +13,14 @@ use Rattle.task_table.proofs.StepKeeps.{sane-call_noted}
 use Rattle.board_core.specs.declared.machine.Machine.{Machine}
 use Rattle.board_model.specs.declared.told.Level.{Level}
 use Rattle.board_model.specs.declared.told.Level.TheVariants.{Calls, All}
-use Rattle.board_core.specs.Machine.{with_cpu, IsLent, IsReady}
+use Rattle.board_core.specs.Machine.{with_cpu, IsLoaded, IsReady}
 use Rattle.board_model.specs.Turn.{told, with_registers_told, high_note, low_note}
-use Rattle.board_core.proofs.Lending.{rest_of, lent_noted}
+use Rattle.board_core.proofs.Loading.{rest_of, loaded_noted}
 use Rattle.board_model.proofs.Quiet.{ready-with_processor}
 use Rattle.board_model.proofs.TurnChains.{told_state, ready-call_noted}
 
-pub lent_ready : (g : Setup) (k : Kernel) (cpu : Cpu) (t : Turn) → IsLent g k cpu t → t.state.current < length t.state.tasks → is_ready t.state t.state.current ≡ true
-lent_ready g k cpu t h inside =
+pub loaded_ready : (g : Setup) (k : Kernel) (cpu : Cpu) (t : Turn) → IsLoaded g k cpu t → t.state.current < length t.state.tasks → is_ready t.state t.state.current ≡ true
+loaded_ready g k cpu t h inside =
     let s = h.saved in
     let rest = rest_of s t cpu h.is in
     let same : is_ready (with_cpu cpu s).state s.state.current ≡ true = ready-with_processor s.state.current cpu.regs.words cpu.flags s ∙ h.ready in
@@ -34,7 +34,7 @@ pub record IsCalling (g : Setup) (k : Kernel) (c : ℕ) (t : Turn) : Type 0 wher
 pub calling : (g : Setup) (k k' : Kernel) (m : Machine) (c : ℕ) (t : Turn) → IsReady g m t → c ≡ t.state.current → Holds g k t → (Holds g k t → Holds g k' (call_noted c t)) → IsCalling g k' c t
 calling g k k' m c t r at h f =
     let inside : c < length t.state.tasks = rw at r.sane.steady.current in
-    let ready : is_ready t.state c ≡ true = ap (λ (i : ℕ). is_ready t.state i) at ∙ lent_ready g m.reach.kernel m.processor t r.holds r.sane.steady.current in
+    let ready : is_ready t.state c ≡ true = ap (λ (i : ℕ). is_ready t.state i) at ∙ loaded_ready g m.reach.kernel m.processor t r.holds r.sane.steady.current in
     record { stands = record { holds = f h; sane = sane-call_noted c t r.sane inside }; ready = ready-call_noted c t ready }
 
 -- ## what is told
@@ -65,8 +65,8 @@ last_eight xs n =
 pub told_current : (level : Level) (n : Note) (t : Turn) → (told level n t).state.current ≡ t.state.current
 told_current level n t = ap (λ s. s.current) (told_state level n t)
 
-pub ready_noted : (g : Setup) (m : Machine) (k : Kernel) (n : Note) (t : Turn) → ((u : Turn) → Holds g m.reach.kernel u → Holds g k (noted n u)) → IsReady g m t → IsReady g record { reach = record m.reach { kernel = k }; processor = m.processor; lent = m.lent } (noted n t)
-ready_noted g m k n t f r = record { lent = r.lent; holds = lent_noted g m.reach.kernel k m.processor n t f r.holds; sane = sane-noted n t r.sane }
+pub ready_noted : (g : Setup) (m : Machine) (k : Kernel) (n : Note) (t : Turn) → ((u : Turn) → Holds g m.reach.kernel u → Holds g k (noted n u)) → IsReady g m t → IsReady g record { reach = record m.reach { kernel = k }; processor = m.processor; loaded = m.loaded } (noted n t)
+ready_noted g m k n t f r = record { loaded = r.loaded; holds = loaded_noted g m.reach.kernel k m.processor n t f r.holds; sane = sane-noted n t r.sane }
 
 -- both notes of the registers, one after the other
 pub registers_told : (c : ℕ) (t : Turn) → noted (high_note (task_at t.state c)) (noted (low_note (task_at t.state c)) t) ≡ with_registers_told All c t

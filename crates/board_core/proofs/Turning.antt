@@ -19,7 +19,7 @@ use Rattle.board_model.specs.Script.{Scenario}
 use Rattle.board_core.specs.Stands.{Stands}
 use Rattle.board_core.specs.Kept.{IsChoice}
 use Rattle.board_model.specs.Turn.{turn, ended, turn_of, after_events}
-use Rattle.board_core.proofs.Lending.{told_by, between_by}
+use Rattle.board_core.proofs.Loading.{told_by, between_by}
 use Rattle.board_model.proofs.TurnChains.{sane-after, sane-after_events}
 use Rattle.board_model.proofs.Quiet.{quiet-turn}
 
@@ -28,7 +28,7 @@ abbrev pub rested : Machine → State → Turn
 rested m s = record { state = s; notes = notes_of m.reach.kernel; writes = []; reads = [] }
 
 pub noted_in : (g : Setup) (m : Machine) (t : Turn) → MachineHolds g m t → notes_of m.reach.kernel ≡ t.notes
-noted_in g m t h = let w = told_by m.lent g m.reach.kernel m.processor t h in w.holds.notes ∙ sym w.rest.notes
+noted_in g m t h = let w = told_by m.loaded g m.reach.kernel m.processor t h in w.holds.notes ∙ sym w.rest.notes
 
 some_left : (x : Note) (xs : List Note) → length (x ∷ xs) ≡ 0 → ⊥
 some_left x xs e = omega arith
@@ -57,7 +57,7 @@ module _ (level : Level) (x : Scenario) (s : State) (m : Machine) where
   stands_after sane h =
       let t = after_events x s in
       let u : Turn = turn_of level x.setup (chosen x.setup t.state) t in
-      record { holds = between_by m.lent x.setup m.reach.kernel m.processor u (u.state.turn + 1) h; sane = sane-after level x s sane }
+      record { holds = between_by m.loaded x.setup m.reach.kernel m.processor u (u.state.turn + 1) h; sane = sane-after level x s sane }
 
   pub turn_notes : HasTurned → notes_of m.reach.kernel ≡ (turn level x s).notes
   unfolding turn ended

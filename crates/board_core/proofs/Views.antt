@@ -1,4 +1,4 @@
--- What is told of a task while the processor is lent.
+-- What is told of a task while a context is loaded.
 use Rattle.std.proofs.Common.{◌≡◌, ◌≢◌, ◌⊎◌, inl, inr, ◌%◌, ◌<◌, ℕ, Bool, true, false, length, sym, ◌∙◌, ap, subst}
 use Rattle.std.specs.Option.{option_map}
 use Rattle.std.proofs.lemmas.Bool.{false≢true}
@@ -11,7 +11,7 @@ use Rattle.task_table.specs.Holds.{Holds, current_of}
 use Rattle.task_table.proofs.Changes.{task_at-with_task, task_at-with_task_other, call_of-with_task, listen_of-with_task, length-with_task}
 use Rattle.board_core.specs.declared.told.TaskView.{TaskView}
 use Rattle.board_core.specs.Told.{IsTask}
-use Rattle.board_core.specs.Machine.{with_cpu, IsLent, HoldsBy}
+use Rattle.board_core.specs.Machine.{with_cpu, IsLoaded, HoldsBy}
 
 other_at : (cpu : Cpu) (s : Turn) (i : ℕ) (v : TaskView) → i ≢ s.state.current → IsTask s.state i v → IsTask (with_cpu cpu s).state i v
 unfolding with_processor
@@ -51,16 +51,16 @@ own_at cpu s v b =
       wait = rw (call_of-with_task s.state c c x, listen_of-with_task s.state c c x) b.wait;
     }
 
--- the processor is not lent, or to another task
-pub other_view : (lent : Bool) (g : Setup) (k : Kernel) (cpu : Cpu) (t : Turn) (i : ℕ) (v : TaskView) → (lent ≡ false) ⊎ (current_of k ≢ i) → HoldsBy lent g k cpu t → ((u : Turn) → Holds g k u → IsTask u.state i v) → IsTask t.state i v
+-- no context is loaded, or that of another task
+pub other_view : (loaded : Bool) (g : Setup) (k : Kernel) (cpu : Cpu) (t : Turn) (i : ℕ) (v : TaskView) → (loaded ≡ false) ⊎ (current_of k ≢ i) → HoldsBy loaded g k cpu t → ((u : Turn) → Holds g k u → IsTask u.state i v) → IsTask t.state i v
 other_view false g k cpu t i v d h f = f t h
 other_view true g k cpu t i v (inl e) h f = absurd (false≢true (sym e))
 other_view true g k cpu t i v (inr ne) h f =
     let P : Turn → Type 0 = λ u. IsTask u.state i v in
     subst P (sym h.is) (other_at cpu h.saved i v (λ e. ne (h.holds.current ∙ sym e)) (f h.saved h.holds))
 
--- it is lent to this one
-pub own_view : (g : Setup) (k : Kernel) (cpu : Cpu) (t : Turn) (i : ℕ) (v : TaskView) → current_of k ≡ i → IsLent g k cpu t → ((u : Turn) → Holds g k u → IsTask u.state i v) → IsTask t.state i record v { registers = cpu.regs.words; flags = cpu.flags }
+-- it is this one's
+pub own_view : (g : Setup) (k : Kernel) (cpu : Cpu) (t : Turn) (i : ℕ) (v : TaskView) → current_of k ≡ i → IsLoaded g k cpu t → ((u : Turn) → Holds g k u → IsTask u.state i v) → IsTask t.state i record v { registers = cpu.regs.words; flags = cpu.flags }
 own_view g k cpu t i v e h f =
     let same : h.saved.state.current ≡ i = sym h.holds.current ∙ e in
     let P : Turn → Type 0 = λ u. IsTask u.state i record v { registers = cpu.regs.words; flags = cpu.flags } in

@@ -17,7 +17,7 @@ effect_on m i = effect (refusals (setup_of m.reach.kernel) (current_of m.reach.k
 
 -- by the answer: it went on, or it calls, faults or is illegal, and nothing changed
 abbrev pub Did : Machine → Decoded → Bool → Machine → Type 0
-Did a (Narrow i) true b = Acts (λ m p n v m'. IsStored m.kernel p n v m'.kernel) a.processor b.processor a.reach b.reach outcome.Next (effect_on a i) × (b.lent ≡ a.lent)
+Did a (Narrow i) true b = Acts (λ m p n v m'. IsStored m.kernel p n v m'.kernel) a.processor b.processor a.reach b.reach outcome.Next (effect_on a i) × (b.loaded ≡ a.loaded)
 Did a (Narrow i) false b = Halts (effect_on a i) × (b ≡ a)
 Did a Illegal true b = ⊥
 Did a Illegal false b = b ≡ a

@@ -1,4 +1,4 @@
--- The kernel as the bus of its current task, and the processor that is lent to that task.
+-- The kernel as the bus of its current task, and the processor that has that task's context.
 use Rattle.std.specs.Prelude.{ℕ, ◌≡◌, Bool, true, false, Option}
 use Rattle.thumb_exec.specs.declared.cpu.Cpu.{Cpu}
 use Rattle.task_table.specs.declared.kernel.Kernel.{Kernel}
@@ -23,31 +23,31 @@ pub record IsStored (k : Kernel) (a n v : ℕ) (k' : Kernel) : Type 0 where
 abbrev pub with_cpu : Cpu → Turn → Turn
 with_cpu cpu t = with_processor t.state.current cpu.regs.words cpu.flags t
 
--- the processor is lent to the current task: what the kernel has of that task's registers and flags
+-- the context of the current task is loaded: what the kernel has of that task's registers and flags
 -- is of an earlier time
-pub record IsLent (g : Setup) (k : Kernel) (cpu : Cpu) (t : Turn) : Type 0 where
+pub record IsLoaded (g : Setup) (k : Kernel) (cpu : Cpu) (t : Turn) : Type 0 where
   pub saved : Turn
   pub holds : Holds g k saved
   pub ready : is_ready saved.state saved.state.current ≡ true
   pub is : t ≡ with_cpu cpu saved
 
 abbrev pub HoldsBy : Bool → Setup → Kernel → Cpu → Turn → Type 0
-HoldsBy true g k cpu t = IsLent g k cpu t
+HoldsBy true g k cpu t = IsLoaded g k cpu t
 HoldsBy false g k cpu t = Holds g k t
 
 -- the machine holds just what the turn has come to
 abbrev pub MachineHolds : Setup → Machine → Turn → Type 0
-MachineHolds g m t = HoldsBy m.lent g m.reach.kernel m.processor t
+MachineHolds g m t = HoldsBy m.loaded g m.reach.kernel m.processor t
 
 -- and the state is sane
 pub record MachineStands (g : Setup) (m : Machine) (t : Turn) : Type 0 where
   pub holds : MachineHolds g m t
   pub sane : Sane g t.state
 
--- the machine stands for the turn, and the processor is lent to the current task, which is ready
+-- the machine stands for the turn, and the context of the current task, which is ready, is loaded
 pub record IsReady (g : Setup) (m : Machine) (t : Turn) : Type 0 where
-  pub lent : m.lent ≡ true
-  pub holds : IsLent g m.reach.kernel m.processor t
+  pub loaded : m.loaded ≡ true
+  pub holds : IsLoaded g m.reach.kernel m.processor t
   pub sane : Sane g t.state
 
 -- the machine stands for the turn, and this is the choice

@@ -225,8 +225,8 @@ impl Board {
         }
     }
 
-    /// Further turns of the task that is chosen, as long as each proceeds; none where the processor is not
-    /// lent to it.
+    /// Further turns of the task that is chosen, as long as each proceeds; none where the processor does
+    /// not have its context.
     fn go_on(&mut self, task: usize, text: &Region, until: u32)
         requires few { until ≤ 1000000000 }
         requires left { turns_of self.old ≤ until }
@@ -245,12 +245,12 @@ impl Board {
         ensures kept { self.new.choice ≡ self.old.choice }
         ensures text { IsText self.new.machine.reach.kernel task text.now }
     {
-        if self.machine.is_lent_to(task) {
+        if self.machine.is_loaded_for(task) {
             self.proceed_on(task, text, until);
         }
     }
 
-    /// The same, where the processor is lent to it.
+    /// The same, where the processor has its context.
     #[inline(never)]
     fn proceed_on(&mut self, task: usize, text: &Region, until: u32)
         requires few { until ≤ 1000000000 }
@@ -261,7 +261,7 @@ impl Board {
         requires next { self.old.choice.next ≡ Some task }
         requires up { self.old.choice.down ≡ false }
         requires text { IsText self.old.machine.reach.kernel task text.now }
-        requires lent { self.old.machine.lent ≡ true }
+        requires loaded { self.old.machine.loaded ≡ true }
         requires current { current_of self.old.machine.reach.kernel ≡ task }
         ensures advanced { (x : Scenario) (n : ℕ) (s : State) → IsAdvanced Calls x n s self.old → IsAdvanced Calls x (n + (turns_of self.new - turns_of self.old)) s self.new }
         ensures more { turns_of self.old ≤ turns_of self.new }
@@ -279,7 +279,7 @@ impl Board {
         }
     }
 
-    /// One turn of the task that is chosen and to which the processor is lent, in which no event is due,
+    /// One turn of the task that is chosen and whose context is loaded, in which no event is due,
     /// where its instruction proceeds; else nothing changes, and the answer is false.
     #[inline(always)]
     fn proceeds(&mut self, task: usize, text: &Region) -> bool
@@ -288,7 +288,7 @@ impl Board {
         requires nothing { notes_of self.old ≡ [] }
         requires later { self.old.due ≢ Some (turns_of self.old) }
         requires next { self.old.choice.next ≡ Some task }
-        requires lent { self.old.machine.lent ≡ true }
+        requires loaded { self.old.machine.loaded ≡ true }
         requires current { current_of self.old.machine.reach.kernel ≡ task }
         requires text { IsText self.old.machine.reach.kernel task text.now }
         ensures model { result ≡ true → (x : Scenario) (s : State) → Stands x self.old s → Stands x self.new (turn Calls x s).state }
@@ -297,7 +297,7 @@ impl Board {
         ensures turns { result ≡ true → turns_of self.new ≡ turns_of self.old + 1 }
         ensures due { result ≡ true → self.new.due ≡ self.old.due }
         ensures kept { result ≡ true → self.new.choice ≡ self.old.choice }
-        ensures lent { result ≡ true → self.new.machine.lent ≡ true }
+        ensures loaded { result ≡ true → self.new.machine.loaded ≡ true }
         ensures current { result ≡ true → current_of self.new.machine.reach.kernel ≡ task }
         ensures left { result ≡ false → self.new ≡ self.old }
     {
@@ -335,7 +335,7 @@ impl Board {
         ensures turns { turns_of self.new ≡ turns_of self.old }
     {
         self.machine.happen_all(&self.script, self.turns);
-        self.machine.settle();
+        self.machine.save_context();
         self.choice = choice_of(&self.machine.reach.kernel);
         self.due = self.script.next(self.turns + 1);
     }
@@ -353,7 +353,7 @@ impl Board {
         ensures kept { notes_of self.new ≡ [] → self.new.choice ≡ self.old.choice }
     {
         if !self.notes().is_empty() {
-            self.machine.settle();
+            self.machine.save_context();
             self.choice = choice_of(&self.machine.reach.kernel);
         }
     }
@@ -514,13 +514,13 @@ fn kept(kernel: &Kernel, i: usize) -> TaskView
     }
 }
 
-/// What a machine tells of a task: the registers and flags of the processor where it is lent to it.
+/// What a machine tells of a task: the registers and flags of the processor where it has its context.
 fn view(machine: &Machine, i: usize) -> TaskView
     requires { i < task_count machine.now.reach.kernel }
     ensures { (g : Setup) (t : Turn) → MachineHolds g machine.now t → IsTask t.state i result }
 {
     let kept = kept(&machine.reach.kernel, i);
-    if machine.is_lent_to(i) {
+    if machine.is_loaded_for(i) {
         return TaskView {
             registers: machine.processor.regs.words(),
             flags: machine.processor.flags,

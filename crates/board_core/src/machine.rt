@@ -20,7 +20,7 @@ ghost use Rattle.thumb_insn.specs.Table.{is_wide};
 ghost use Rattle.thumb_exec.specs.Sizes.{IsSize};
 ghost use Rattle.board_model.specs.Turn.{first_lacking, with_current, refusals, is_text, put, told, happened, stepped, stepped_wide, decoded_as, executed, cpu_of, with_registers_told, turn_of, turned_of, happened_next};
 ghost use Rattle.board_core.specs.Did.{Did};
-ghost use Rattle.board_core.specs.Machine.{IsStored, IsReady, IsNext, MachineHolds, MachineStands, IsLent};
+ghost use Rattle.board_core.specs.Machine.{IsStored, IsReady, IsNext, MachineHolds, MachineStands, IsLoaded};
 ghost use Rattle.board_core.specs.Texts.{GivesText, IsText};
 ghost use Rattle.board_model.specs.declared.told.Level.TheVariants.{Calls};
 
@@ -49,13 +49,13 @@ pub struct Reach {
     pub text: usize,
 }
 
-/// A kernel and a processor. While the processor is lent to the current task, that task's registers
+/// A kernel and a processor. While the context of the current task is loaded, that task's registers
 /// and flags are the processor's; what the kernel has of them is of an earlier time.
 #[derive(Drop)]
 pub struct Machine {
     pub reach: Reach,
     pub processor: Cpu,
-    pub lent: bool,
+    pub loaded: bool,
 }
 
 /// Whether the rights have it.
@@ -255,10 +255,10 @@ fn text_around(regions: &[Region], at: u32) -> Region
 }
 
 impl Machine {
-    /// A machine with this kernel, whose processor is lent to no task.
+    /// A machine with this kernel, whose processor has no task's context.
     pub fn of(kernel: Kernel) -> Machine
         ensures kernel { result.reach.kernel ≡ kernel }
-        ensures lent { result.lent ≡ false }
+        ensures loaded { result.loaded ≡ false }
     {
         let flags = Flags {
             n: false,
@@ -276,53 +276,53 @@ impl Machine {
                 regs: Regs::of([0; 16]),
                 flags,
             },
-            lent: false,
+            loaded: false,
         }
     }
 
     /// The kernel has the registers and flags of the current task again: before it acts.
-    pub fn settle(&mut self)
+    pub fn save_context(&mut self)
         ensures holds { (g : Setup) (t : Turn) → MachineHolds g self.old t → Holds g self.new.reach.kernel t }
-        ensures settled { self.new.lent ≡ false }
+        ensures unloaded { self.new.loaded ≡ false }
         ensures frame { AddsNotes self.old.reach.kernel 0 self.new.reach.kernel }
     {
-        if self.lent {
+        if self.loaded {
             let task = self.reach.kernel.current();
             let registers = self.processor.regs.words();
             self.reach
                 .kernel
                 .set_processor(task, registers, self.processor.flags);
-            self.lent = false;
+            self.loaded = false;
         }
     }
 
-    /// Whether the processor is lent to this task.
-    pub fn is_lent_to(&self, task: usize) -> bool
-        ensures lent { result ≡ true → self.now.lent ≡ true }
+    /// Whether the processor has this task's context.
+    pub fn is_loaded_for(&self, task: usize) -> bool
+        ensures loaded { result ≡ true → self.now.loaded ≡ true }
         ensures current { result ≡ true → current_of self.now.reach.kernel ≡ task }
-        ensures other { result ≡ false → (self.now.lent ≡ false) ⊎ (current_of self.now.reach.kernel ≢ task) }
+        ensures other { result ≡ false → (self.now.loaded ≡ false) ⊎ (current_of self.now.reach.kernel ≢ task) }
     {
-        if self.lent {
+        if self.loaded {
             self.reach.kernel.current() == task
         } else {
             false
         }
     }
 
-    /// The task is the current one from now on, and the processor is lent to it.
-    fn lend(&mut self, task: usize)
+    /// The task is the current one from now on, and the processor has its context.
+    fn load_context(&mut self, task: usize)
         requires { task < task_count self.old.reach.kernel }
-        ensures lent { self.new.lent ≡ true }
-        ensures holds { (g : Setup) (t : Turn) → MachineHolds g self.old t → is_ready t.state task ≡ true → IsLent g self.new.reach.kernel self.new.processor (with_current task t) }
+        ensures loaded { self.new.loaded ≡ true }
+        ensures holds { (g : Setup) (t : Turn) → MachineHolds g self.old t → is_ready t.state task ≡ true → IsLoaded g self.new.reach.kernel self.new.processor (with_current task t) }
         ensures count { note_count self.new.reach.kernel ≡ note_count self.old.reach.kernel }
     {
-        if self.is_lent_to(task) {
+        if self.is_loaded_for(task) {
             return;
         }
-        self.settle();
+        self.save_context();
         self.reach.kernel.set_current(task);
         self.processor = cpu(&self.reach.kernel, task);
-        self.lent = true;
+        self.loaded = true;
         let regions = self.reach.kernel.regions(task);
         let text = place_of(regions, self.processor.regs.get(15));
         let data = place_of(regions, self.processor.regs.get(13));
@@ -348,7 +348,7 @@ impl Machine {
         ensures stands { (g : Setup) (t : Turn) → MachineStands g self.old t → MachineStands g self.new (happened g t event) }
         ensures count { note_count self.new.reach.kernel ≤ note_count self.old.reach.kernel + call_notes }
     {
-        self.settle();
+        self.save_context();
         match event {
             Event::Tick => tick(&mut self.reach.kernel),
             Event::Irq { line } => interrupt(&mut self.reach.kernel, line),
@@ -441,7 +441,7 @@ impl Machine {
         ensures holds { (g : Setup) (t : Turn) → MachineHolds g self.old t → MachineHolds g self.new (with_registers_told Level.All task t) }
         ensures count { note_count self.new.reach.kernel ≤ note_count self.old.reach.kernel + 2 }
     {
-        self.settle();
+        self.save_context();
         let registers = self.reach.kernel.registers(task);
         let flags = self.reach.kernel.flags(task);
         self.reach.kernel.note(low_note(&registers));
@@ -486,7 +486,7 @@ impl Machine {
         ensures holds { (g : Setup) (t : Turn) → IsReady g self.old t → MachineHolds g self.new (called g t.state.current (call_noted t.state.current t)) }
         ensures count { note_count self.new.reach.kernel ≤ note_count self.old.reach.kernel + call_notes + 1 }
     {
-        self.settle();
+        self.save_context();
         let task = self.reach.kernel.current();
         self.reach.kernel.note_call(task);
         call(&mut self.reach.kernel, task);
@@ -500,7 +500,7 @@ impl Machine {
         ensures holds { (g : Setup) (t : Turn) → IsReady g self.old t → MachineHolds g self.new (faulted g t.state.current fault t) }
         ensures count { note_count self.new.reach.kernel ≤ note_count self.old.reach.kernel + 4 }
     {
-        self.settle();
+        self.save_context();
         let task = self.reach.kernel.current();
         self.reach.kernel.fault(task, fault);
     }
@@ -540,7 +540,7 @@ impl Machine {
                 Turned::Idle
             }
             Some(task) => {
-                self.lend(task);
+                self.load_context(task);
                 let at = self.processor.regs.get(15);
                 self.step(level);
                 self.tell_task(level, task);
@@ -571,7 +571,7 @@ impl Machine {
         ensures done { result ≡ true → (g : Setup) (t : Turn) → IsReady g self.old t → MachineHolds g self.new (stepped Calls g t.state.current t) }
         ensures kept { result ≡ false → self.new ≡ self.old }
         ensures count { result ≡ true → note_count self.new.reach.kernel ≡ note_count self.old.reach.kernel }
-        ensures lent { result ≡ true → self.new.lent ≡ self.old.lent }
+        ensures loaded { result ≡ true → self.new.loaded ≡ self.old.loaded }
         ensures current { result ≡ true → current_of self.new.reach.kernel ≡ current_of self.old.reach.kernel }
 
         // It declines a narrow instruction of the text only where the turn notes something: a call or a fault.
@@ -596,7 +596,7 @@ impl Machine {
         ensures done { result ≡ true → (g : Setup) (t : Turn) → IsReady g self.old t → MachineHolds g self.new (stepped_wide Calls g t.state.current at first t) }
         ensures kept { result ≡ false → self.new ≡ self.old }
         ensures count { result ≡ true → note_count self.new.reach.kernel ≡ note_count self.old.reach.kernel }
-        ensures lent { result ≡ true → self.new.lent ≡ self.old.lent }
+        ensures loaded { result ≡ true → self.new.loaded ≡ self.old.loaded }
         ensures current { result ≡ true → current_of self.new.reach.kernel ≡ current_of self.old.reach.kernel }
     {
         if at >= 0xFFFF_FFFE {

@@ -7,7 +7,7 @@ use Rattle.task_table.specs.Holds.{Stands}
 use Rattle.board_core.specs.declared.machine.Machine.{Machine}
 use Rattle.board_core.specs.Machine.{MachineStands}
 use Rattle.board_model.specs.Turn.{happened, after_events}
-use Rattle.board_core.proofs.Lending.{settled_stands}
+use Rattle.board_core.proofs.Loading.{unloaded_stands}
 use Rattle.board_model.proofs.Outside.{all_events, begun_state}
 use Rattle.board_core.proofs.board.Board.happen.Goals as goal
 
@@ -26,16 +26,16 @@ pub returns-clause-midway : goal.returns-clause-midway
 returns-clause-midway c = λ x s due.
     let g = x.setup in
     let b = c.args.self.now in
-    let m : Machine = record { reach = c.settle.new.self.reach; processor = c.settle.new.self.processor; lent = c.settle.new.self.lent } in
+    let m : Machine = record { reach = c.save_context.new.self.reach; processor = c.save_context.new.self.processor; loaded = c.save_context.new.self.loaded } in
     let S : ScriptData → Type 0 = λ script. MachineStands g c.happen_all.new.self (fold (happened g) (begun s) (events_of script b.turns)) in
     let T : ℕ → Type 0 = λ turn. MachineStands g c.happen_all.new.self (fold (happened g) (begun s) (events_of x.script turn)) in
     let A : Turn → Type 0 = λ t. MachineStands g c.happen_all.new.self t in
     let after : MachineStands g c.happen_all.new.self (after_events x s) = subst A (all_events x s) (subst T due.turns (subst S due.script (c.happen_all.ensures.stands g (begun s) due.machine))) in
-    let stands : Stands g c.settle.new.self.reach.kernel (after_events x s) = record { holds = c.settle.ensures.holds g (after_events x s) after.holds; sane = after.sane } in
+    let stands : Stands g c.save_context.new.self.reach.kernel (after_events x s) = record { holds = c.save_context.ensures.holds g (after_events x s) after.holds; sane = after.sane } in
     let N : ScriptData → Type 0 = λ script. IsNext script (b.turns + 1) c.next-self.result in
     let M : ℕ → Type 0 = λ turn. IsNext x.script (turn + 1) c.next-self.result in
     record {
-      machine = settled_stands g m (after_events x s) c.settle.ensures.settled stands;
+      machine = unloaded_stands g m (after_events x s) c.save_context.ensures.unloaded stands;
       choice = c.choice_of-self.ensures g (after_events x s) stands;
       script = due.script;
       due = subst M due.turns (subst N due.script c.next-self.ensures);

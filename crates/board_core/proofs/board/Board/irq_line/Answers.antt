@@ -2,7 +2,7 @@ use Rattle.std.proofs.Common.{List, Option, sym, ◌∙◌, ap}
 use Rattle.std.specs.Prelude.{slice_get}
 use Rattle.std.specs.Option.{option_map}
 use Rattle.task_table.specs.declared.Line.{Line}
-use Rattle.board_core.proofs.Lending.{told_by}
+use Rattle.board_core.proofs.Loading.{told_by}
 use Rattle.board_core.proofs.board.Board.irq_line.Goals as goal
 
 pub returns-in-Some : goal.returns-in-Some

@@ -1,5 +1,5 @@
 use Rattle.std.proofs.Common.{sym, ◌∙◌}
-use Rattle.board_core.proofs.Lending.{told_by}
+use Rattle.board_core.proofs.Loading.{told_by}
 use Rattle.board_core.proofs.board.Board.next_call.Goals as goal
 
 pub returns : goal.returns

@@ -14,7 +14,7 @@ invariant-quick l = record {
   stood : Stood l.self;
   nothing : notes_of l.self ≡ [];
   text : IsText l.self.machine.reach.kernel l.task l.text;
-  lent : l.self.machine.lent ≡ true;
+  loaded : l.self.machine.loaded ≡ true;
   current : current_of l.self.machine.reach.kernel ≡ l.task;
   from : turns_of l.fn.self ≤ turns_of l.self;
   within : turns_of l.self ≤ l.until;

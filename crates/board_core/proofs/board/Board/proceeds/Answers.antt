@@ -12,14 +12,14 @@ use Rattle.board_core.specs.Stands.{Stands, turns_of}
 use Rattle.board_core.specs.Texts.{IsText}
 use Rattle.board_model.specs.Turn.{turn, turn_of, stepped, with_current, with_registers_told, after_events}
 use Rattle.board_model.proofs.Counts.{counted_turn, turn_more}
-use Rattle.board_core.proofs.Lending.{is_lent}
+use Rattle.board_core.proofs.Loading.{is_loaded}
 use Rattle.board_core.proofs.Turning.{as_chosen, stands_after, turn_notes, choice_kept, few_events, HasTurned, none_of}
 use Rattle.board_core.proofs.Gliding.{midway_now, current_seen}
 use Rattle.board_core.proofs.board.Board.proceeds.Goals as goal
 
--- where the processor is lent, the machine is ready for its task
-ready_now : (x : Scenario) (s : State) (b : Board) → IsMidway x b s → b.machine.lent ≡ true → IsReady x.setup b.machine (after_events x s)
-ready_now x s b mid lent = record { lent = lent; holds = is_lent _ x.setup _ _ (after_events x s) lent mid.machine.holds; sane = mid.machine.sane }
+-- where a context is loaded, the machine is ready for its task
+ready_now : (x : Scenario) (s : State) (b : Board) → IsMidway x b s → b.machine.loaded ≡ true → IsReady x.setup b.machine (after_events x s)
+ready_now x s b mid loaded = record { loaded = loaded; holds = is_loaded _ x.setup _ _ (after_events x s) loaded mid.machine.holds; sane = mid.machine.sane }
 
 -- the instruction of the current task is the turn of the chosen one, where these are the same
 stepped_so : (g : Setup) (m : Machine) (t : Turn) (task : ℕ) → t.state.current ≡ task → MachineHolds g m (stepped Calls g t.state.current t) → MachineHolds g m (turn_of Calls g (Some task) t)
@@ -34,10 +34,10 @@ turned_so x s b m task mid e h =
     as_chosen Calls x s m b.choice mid.choice (subst P (sym e) h)
 
 -- what a machine has come to that went on with the current task
-gone : (x : Scenario) (s : State) (b : Board) (m : Machine) (task : ℕ) → IsMidway x b s → b.machine.lent ≡ true → current_of b.machine.reach.kernel ≡ task → b.choice.next ≡ Some task →
+gone : (x : Scenario) (s : State) (b : Board) (m : Machine) (task : ℕ) → IsMidway x b s → b.machine.loaded ≡ true → current_of b.machine.reach.kernel ≡ task → b.choice.next ≡ Some task →
     ((g : Setup) (t : Turn) → IsReady g b.machine t → MachineHolds g m (stepped Calls g t.state.current t)) → HasTurned Calls x s m
-gone x s b m task mid lent current next done =
-    let ready = ready_now x s b mid lent in
+gone x s b m task mid loaded current next done =
+    let ready = ready_now x s b mid loaded in
     let same : (after_events x s).state.current ≡ task = sym (current_seen x.setup b.machine (after_events x s) ready) ∙ current in
     turned_so x s b m task mid next (stepped_so x.setup m (after_events x s) task same (done x.setup (after_events x s) ready))
 
@@ -66,7 +66,7 @@ proceeds-requires-clause-ready c =
     let s = c.requires.stood.1 in
     let b = c.args.self.now in
     let mid = midway_now x s b c.requires.stood.2 c.requires.nothing c.requires.later c.requires.few in
-    (x.setup, after_events x s, ready_now x s b mid c.requires.lent)
+    (x.setup, after_events x s, ready_now x s b mid c.requires.loaded)
 
 pub proceeds-requires-clause-text : goal.proceeds-requires-clause-text
 proceeds-requires-clause-text c =
@@ -78,7 +78,7 @@ returns-clause-model c = λ done x s st.
     let b = c.args.self.now in
     let m = c.proceeds.new.self in
     let mid = midway_now x s b st c.requires.nothing c.requires.later c.requires.few in
-    let h = gone x s b m c.args.task mid c.requires.lent c.requires.current c.requires.next (c.proceeds.ensures.done c.if-not-proceeds.false) in
+    let h = gone x s b m c.args.task mid c.requires.loaded c.requires.current c.requires.next (c.proceeds.ensures.done c.if-not-proceeds.false) in
     stands_so x s b m (turns_of b + 1) st mid h (none_of b.machine m c.requires.nothing (c.proceeds.ensures.count c.if-not-proceeds.false)) refl
 
 pub returns-clause-notes : goal.returns-clause-notes
@@ -86,14 +86,14 @@ returns-clause-notes c = λ done x s st.
     let b = c.args.self.now in
     let m = c.proceeds.new.self in
     let mid = midway_now x s b st c.requires.nothing c.requires.later c.requires.few in
-    let h = gone x s b m c.args.task mid c.requires.lent c.requires.current c.requires.next (c.proceeds.ensures.done c.if-not-proceeds.false) in
+    let h = gone x s b m c.args.task mid c.requires.loaded c.requires.current c.requires.next (c.proceeds.ensures.done c.if-not-proceeds.false) in
     turn_notes Calls x s m h
 
 pub returns-clause-nothing : goal.returns-clause-nothing
 returns-clause-nothing c = λ done. none_of c.args.self.now.machine c.proceeds.new.self c.requires.nothing (c.proceeds.ensures.count c.if-not-proceeds.false)
 
-pub returns-clause-lent : goal.returns-clause-lent
-returns-clause-lent c = λ done. c.proceeds.ensures.lent c.if-not-proceeds.false ∙ c.requires.lent
+pub returns-clause-loaded : goal.returns-clause-loaded
+returns-clause-loaded c = λ done. c.proceeds.ensures.loaded c.if-not-proceeds.false ∙ c.requires.loaded
 
 pub returns-clause-current : goal.returns-clause-current
 returns-clause-current c = λ done. c.proceeds.ensures.current c.if-not-proceeds.false ∙ c.requires.current

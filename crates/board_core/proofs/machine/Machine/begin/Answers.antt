@@ -1,4 +1,4 @@
-use Rattle.board_core.proofs.Lending.{begun_by}
+use Rattle.board_core.proofs.Loading.{begun_by}
 use Rattle.board_core.proofs.machine.Machine.begin.Goals as goal
 
 pub returns-clause-holds : goal.returns-clause-holds

@@ -2,7 +2,7 @@ use Rattle.std.proofs.Common.{ℕ, subst}
 use Rattle.task_table.specs.Rows.{call_noted}
 use Rattle.task_table.specs.Calls.{called}
 use Rattle.task_table.specs.Holds.{Holds}
-use Rattle.board_core.proofs.Lending.{stands_of, settled_by}
+use Rattle.board_core.proofs.Loading.{stands_of, unloaded_by}
 use Rattle.board_core.proofs.Telling.{calling}
 use Rattle.board_core.proofs.machine.Machine.call.Goals as goal
 
@@ -11,14 +11,14 @@ call-requires-clause-ready c =
     let g = c.requires.ready.0 in
     let t = c.requires.ready.1 in
     let r = c.requires.ready.2 in
-    let h = c.settle.ensures.holds g t (stands_of _ _ _ r).holds in
-    let by = calling g c.settle.new.self.reach.kernel c.note_call.new.self c.args.self.now c.current-task.result t r (c.current-task.ensures.holds g t h) h (c.note_call.ensures.holds g t) in
+    let h = c.save_context.ensures.holds g t (stands_of _ _ _ r).holds in
+    let by = calling g c.save_context.new.self.reach.kernel c.note_call.new.self c.args.self.now c.current-task.result t r (c.current-task.ensures.holds g t h) h (c.note_call.ensures.holds g t) in
     (g, call_noted c.current-task.result t, by.stands, by.ready)
 
 pub returns-clause-holds : goal.returns-clause-holds
 returns-clause-holds c = λ g t r.
-    let h = c.settle.ensures.holds g t (stands_of _ _ _ r).holds in
+    let h = c.save_context.ensures.holds g t (stands_of _ _ _ r).holds in
     let task = c.current-task.ensures.holds g t h in
-    let by = calling g c.settle.new.self.reach.kernel c.note_call.new.self c.args.self.now c.current-task.result t r task h (c.note_call.ensures.holds g t) in
+    let by = calling g c.save_context.new.self.reach.kernel c.note_call.new.self c.args.self.now c.current-task.result t r task h (c.note_call.ensures.holds g t) in
     let P : ℕ → Type 0 = λ i. Holds g c.call.new.k (called g i (call_noted i t)) in
-    settled_by _ g _ _ _ c.settle.ensures.settled (subst P task (c.call.ensures.stands g _ by.stands by.ready).holds)
+    unloaded_by _ g _ _ _ c.save_context.ensures.unloaded (subst P task (c.call.ensures.stands g _ by.stands by.ready).holds)

@@ -9,8 +9,8 @@ use Rattle.board_core.specs.Spans.{spans}
 use Rattle.board_core.specs.Did.{Did}
 use Rattle.board_core.specs.Machine.{MachineHolds}
 use Rattle.board_model.proofs.Stepping.{narrow_acted, wide_stepped}
-use Rattle.board_core.proofs.Lending.{rest_of, lent_register}
-use Rattle.board_core.proofs.Doing.{did_went, did_count, did_current, did_lent, did_left, did_loud, text_here}
+use Rattle.board_core.proofs.Loading.{rest_of, loaded_register}
+use Rattle.board_core.proofs.Doing.{did_went, did_count, did_current, did_loaded, did_left, did_loud, text_here}
 use Rattle.board_core.proofs.machine.Machine.proceeds.Goals as goal
 
 decoded_narrow : (first : ℕ) → is_wide first ≡ false → narrow_result (narrow_of first) ≡ decoded_of first None
@@ -20,7 +20,7 @@ pub returns-clause-done : goal.returns-clause-done
 returns-clause-done c = λ done g t r.
     let h = r.holds in
     let rest = rest_of h.saved t _ h.is in
-    let at = c.get-at.ensures ∙ lent_register g _ _ t h r.sane.steady.current in
+    let at = c.get-at.ensures ∙ loaded_register g _ _ t h r.sane.steady.current in
     let text = text_here g c.args.self.now t c.args.text.now c.get-at.result r c.requires.text (sym c.spans.ensures ∙ c.if-not-spans.false) in
     let half = c.half-first.ensures.holds g h.saved h.holds ∙ ap (λ (m : Memory). number_at m c.get-at.result 2) (sym rest.memory) in
     let m : Machine = c.narrow_to.new.to in
@@ -39,10 +39,10 @@ returns-clause-count c = λ done.
     let D : Bool → Type 0 = λ z. Did c.args.self.now (narrow_result (narrow_of c.half-first.result)) z c.narrow_to.new.to in
     did_count c.args.self.now c.narrow_to.new.to _ (subst D done c.narrow_to.ensures)
 
-pub returns-clause-lent : goal.returns-clause-lent
-returns-clause-lent c = λ done.
+pub returns-clause-loaded : goal.returns-clause-loaded
+returns-clause-loaded c = λ done.
     let D : Bool → Type 0 = λ z. Did c.args.self.now (narrow_result (narrow_of c.half-first.result)) z c.narrow_to.new.to in
-    did_lent c.args.self.now c.narrow_to.new.to _ (subst D done c.narrow_to.ensures)
+    did_loaded c.args.self.now c.narrow_to.new.to _ (subst D done c.narrow_to.ensures)
 
 pub returns-clause-current : goal.returns-clause-current
 returns-clause-current c = λ done.
@@ -53,7 +53,7 @@ pub returns-then-first-ge29-clause-done : goal.returns-then-first-ge29-clause-do
 returns-then-first-ge29-clause-done c = λ done g t r.
     let h = r.holds in
     let rest = rest_of h.saved t _ h.is in
-    let at = c.get-at.ensures ∙ lent_register g _ _ t h r.sane.steady.current in
+    let at = c.get-at.ensures ∙ loaded_register g _ _ t h r.sane.steady.current in
     let text = text_here g c.args.self.now t c.args.text.now c.get-at.result r c.requires.text (sym c.spans.ensures ∙ c.if-not-spans.false) in
     let half = c.half-first.ensures.holds g h.saved h.holds ∙ ap (λ (m : Memory). number_at m c.get-at.result 2) (sym rest.memory) in
     wide_stepped Calls g t (MachineHolds g c.proceeds_wide.new.self) c.get-at.result c.half-first.result true at text refl half (le-leb _ _ c.if-first-ge29.true) (c.proceeds_wide.ensures.done done g t r)
@@ -62,21 +62,21 @@ pub returns-then-first-ge29-clause-goes : goal.returns-then-first-ge29-clause-go
 returns-then-first-ge29-clause-goes c = λ left g t r within narrow.
     let h = r.holds in
     let rest = rest_of h.saved t _ h.is in
-    let at = c.get-at.ensures ∙ lent_register g _ _ t h r.sane.steady.current in
+    let at = c.get-at.ensures ∙ loaded_register g _ _ t h r.sane.steady.current in
     let half = c.half-first.ensures.holds g h.saved h.holds ∙ ap (λ (m : Memory). number_at m c.get-at.result 2) (sym rest.memory) in
     let same : c.half-first.result ≡ number_at t.state.memory (register t.state t.state.current 15) 2 = half ∙ ap (λ (a : ℕ). number_at t.state.memory a 2) at in
     absurd (false≢true (sym narrow ∙ ap is_wide (sym same) ∙ le-leb _ _ c.if-first-ge29.true))
 
 pub returns-then-not-spans-clause-goes : goal.returns-then-not-spans-clause-goes
 returns-then-not-spans-clause-goes c = λ left g t r within narrow.
-    let at = c.get-at.ensures ∙ lent_register g _ _ t r.holds r.sane.steady.current in
+    let at = c.get-at.ensures ∙ loaded_register g _ _ t r.holds r.sane.steady.current in
     absurd (false≢true (sym c.if-not-spans.true ∙ c.spans.ensures ∙ ap (λ (a : ℕ). spans c.args.text.now a 2) at ∙ within))
 
 pub returns-clause-goes : goal.returns-clause-goes
 returns-clause-goes c = λ left g t r within wide.
     let h = r.holds in
     let rest = rest_of h.saved t _ h.is in
-    let at = c.get-at.ensures ∙ lent_register g _ _ t h r.sane.steady.current in
+    let at = c.get-at.ensures ∙ loaded_register g _ _ t h r.sane.steady.current in
     let text = text_here g c.args.self.now t c.args.text.now c.get-at.result r c.requires.text (sym c.spans.ensures ∙ c.if-not-spans.false) in
     let half = c.half-first.ensures.holds g h.saved h.holds ∙ ap (λ (m : Memory). number_at m c.get-at.result 2) (sym rest.memory) in
     let m : Machine = c.narrow_to.new.to in

@@ -6,7 +6,7 @@ use Rattle.board_model.specs.declared.told.Level.TheVariants.{Calls}
 use Rattle.board_core.specs.Machine.{MachineHolds}
 use Rattle.board_model.specs.Turn.{decoded_as}
 use Rattle.board_core.proofs.Running.{was_next, stores_hold, stores_notes}
-use Rattle.board_core.proofs.Lending.{rest_of, lent_by, effect_lent, next_lent, goes_on}
+use Rattle.board_core.proofs.Loading.{rest_of, loaded_by, effect_loaded, next_loaded, goes_on}
 use Rattle.board_model.proofs.Stepping.{second_acted}
 use Rattle.board_core.proofs.Doing.{text_here, stores_current}
 use Rattle.board_core.proofs.machine.Machine.proceeds_wide.Goals as goal
@@ -19,14 +19,14 @@ returns-in-Wide-clause-done c = λ done g t r.
     let near : after ≡ (c.args.at + 2) % 2 ^ 32 = omega arith in
     let text = text_here g c.args.self.now t c.args.text.now after r c.requires.text (sym c.spans.ensures ∙ c.if-not-spans.false) in
     let half = c.half-second.ensures.holds g h.saved h.holds ∙ ap (λ (m : Memory). number_at m after 2) (sym rest.memory) in
-    let m : Machine = record { reach = c.proceed.new.bus; processor = c.proceed.new.cpu; lent = c.args.self.now.lent } in
+    let m : Machine = record { reach = c.proceed.new.bus; processor = c.proceed.new.cpu; loaded = c.args.self.now.loaded } in
     let went = was_next _ _ _ _ _ _ (c.proceed.ensures.done done) refl in
-    let here = effect_lent g _ _ t c.in-Wide.wide r.holds r.sane.steady.current in
+    let here = effect_loaded g _ _ t c.in-Wide.wide r.holds r.sane.steady.current in
     let D : Decoded → Type 0 = λ d. MachineHolds g m (decoded_as Calls g t.state.current c.args.at (c.args.first * 2 ^ 16 + c.half-second.result) d t) in
     second_acted Calls g t (MachineHolds g m) c.args.at c.args.first after true near text c.half-second.result c.decode.result refl half c.decode.ensures.table
     (subst D (sym c.in-Wide.is)
-    (lent_by _ g _ _ _ r.lent
-    (next_lent g _ t t.state.current _ went.processor c.proceed.new.cpu went.stores (sym here ∙ went.is) went.after
+    (loaded_by _ g _ _ _ r.loaded
+    (next_loaded g _ t t.state.current _ went.processor c.proceed.new.cpu went.stores (sym here ∙ went.is) went.after
     (goes_on g _ _ _ c.proceed.new.cpu t went.stores r.holds r.sane.steady.current (λ u k. stores_hold went.stores _ _ went.bus g u k)))))
 
 pub returns-in-Wide-clause-count : goal.returns-in-Wide-clause-count

@@ -4,7 +4,7 @@ use Rattle.task_table.specs.State.{Turn}
 use Rattle.board_core.specs.Machine.{MachineHolds}
 use Rattle.board_model.specs.Turn.{told, executed}
 use Rattle.board_core.proofs.Fetching.{even_pc, fetched_stepped}
-use Rattle.board_core.proofs.Lending.{lent_register}
+use Rattle.board_core.proofs.Loading.{loaded_register}
 use Rattle.board_core.proofs.Telling.{told_current}
 use Rattle.board_core.proofs.machine.Machine.step.Goals as goal
 
@@ -13,7 +13,7 @@ fetch-requires c =
     let g = c.requires.ready.0 in
     let t = c.requires.ready.1 in
     let r = c.requires.ready.2 in
-    even_pc g c.args.self.now t r c.get-at.result (c.get-at.ensures ∙ lent_register g _ _ t r.holds r.sane.steady.current)
+    even_pc g c.args.self.now t r c.get-at.result (c.get-at.ensures ∙ loaded_register g _ _ t r.holds r.sane.steady.current)
 
 pub execute-requires-clause-ready : goal.execute-requires-clause-ready
 execute-requires-clause-ready c =
@@ -23,7 +23,7 @@ execute-requires-clause-ready c =
 
 pub returns-in-Ok-clause-holds : goal.returns-in-Ok-clause-holds
 returns-in-Ok-clause-holds c = λ g t r.
-    let at = c.get-at.ensures ∙ lent_register g _ _ t r.holds r.sane.steady.current in
+    let at = c.get-at.ensures ∙ loaded_register g _ _ t r.holds r.sane.steady.current in
     let n = note.Insn t.state.current c.get-at.result c.in-Ok.fetched.code in
     let u = told c.args.level n t in
     let P : ℕ → Type 0 = λ i. MachineHolds g c.execute.new.self (executed g i c.in-Ok.fetched.insn u) in
@@ -32,6 +32,6 @@ returns-in-Ok-clause-holds c = λ g t r.
 
 pub returns-in-Err-clause-holds : goal.returns-in-Err-clause-holds
 returns-in-Err-clause-holds c = λ g t r.
-    let at = c.get-at.ensures ∙ lent_register g _ _ t r.holds r.sane.steady.current in
+    let at = c.get-at.ensures ∙ loaded_register g _ _ t r.holds r.sane.steady.current in
     let H : Turn → Type 0 = λ v. MachineHolds g c.fault.new.self v in
     subst H (fetched_stepped g c.args.self.now t r c.args.level c.get-at.result c.fetch.result _ at (omega arith) c.fetch.ensures.is c.in-Err.is) (c.fault.ensures.holds g t r)

@@ -4,11 +4,11 @@ use Rattle.board_core.specs.declared.machine.Machine.{Machine}
 use Rattle.board_model.specs.declared.told.Level.{Level}
 use Rattle.board_core.specs.Machine.{MachineHolds}
 use Rattle.board_model.specs.Turn.{told}
-use Rattle.board_core.proofs.Lending.{noted_by}
+use Rattle.board_core.proofs.Loading.{noted_by}
 use Rattle.board_core.proofs.machine.Machine.tell_idle.Goals as goal
 
 pub returns-in-All-clause-holds : goal.returns-in-All-clause-holds
 returns-in-All-clause-holds c = λ g t h.
-    let m : Machine = record { reach = record c.args.self.now.reach { kernel = c.note.new.self }; processor = c.args.self.now.processor; lent = c.args.self.now.lent } in
+    let m : Machine = record { reach = record c.args.self.now.reach { kernel = c.note.new.self }; processor = c.args.self.now.processor; loaded = c.args.self.now.loaded } in
     let P : Level → Type 0 = λ level. MachineHolds g m (told level note.Idle t) in
     subst P (sym c.in-All.is) (noted_by _ g c.args.self.now.reach.kernel c.note.new.self _ note.Idle t (λ u hu. c.note.ensures.holds g u hu) h)

@@ -5,7 +5,7 @@ use Rattle.board_core.specs.declared.machine.Machine.{Machine}
 use Rattle.board_model.specs.declared.told.Level.{Level}
 use Rattle.board_core.specs.Machine.{IsReady}
 use Rattle.board_model.specs.Turn.{told}
-use Rattle.board_core.proofs.Lending.{rest_of}
+use Rattle.board_core.proofs.Loading.{rest_of}
 use Rattle.board_core.proofs.Telling.{ready_noted}
 use Rattle.board_core.proofs.machine.Machine.tell_insn.Goals as goal
 
@@ -14,7 +14,7 @@ overflow_cast-task c = let few = c.args.self.now.reach.kernel.few in omega (arit
 
 pub returns-in-All-clause-ready : goal.returns-in-All-clause-ready
 returns-in-All-clause-ready c = λ g t r.
-    let m : Machine = record { reach = record c.args.self.now.reach { kernel = c.note.new.self }; processor = c.args.self.now.processor; lent = c.args.self.now.lent } in
+    let m : Machine = record { reach = record c.args.self.now.reach { kernel = c.note.new.self }; processor = c.args.self.now.processor; loaded = c.args.self.now.loaded } in
     let h = r.holds in
     let rest = rest_of h.saved t _ h.is in
     let task = c.current-task.ensures.holds g h.saved h.holds ∙ sym rest.current in

@@ -7,13 +7,13 @@ use Rattle.task_table.specs.Reading.{task_at}
 use Rattle.task_table.specs.Effects.{noted}
 use Rattle.task_table.specs.Holds.{Holds}
 use Rattle.board_model.specs.Turn.{high_note}
-use Rattle.board_core.proofs.Lending.{settled_by}
+use Rattle.board_core.proofs.Loading.{unloaded_by}
 use Rattle.board_core.proofs.Telling.{registers_told}
 use Rattle.board_core.proofs.machine.Machine.tell_registers.Goals as goal
 
 pub returns-clause-holds : goal.returns-clause-holds
 returns-clause-holds c = λ g t h0.
-    let h = c.settle.ensures.holds g t h0 in
+    let h = c.save_context.ensures.holds g t h0 in
     let x : Task = task_at t.state c.args.task in
     let words = c.registers-registers.ensures g t h in
     let flags = c.flags-flags.ensures g t h in
@@ -22,4 +22,4 @@ returns-clause-holds c = λ g t h0.
     let A : Note → Type 0 = λ n. Holds g c.note-2.new.self (noted n (noted c.low_note.result t)) in
     let B : Note → Type 0 = λ n. Holds g c.note-2.new.self (noted (high_note x) (noted n t)) in
     let C : Turn → Type 0 = λ u. Holds g c.note-2.new.self u in
-    settled_by _ g _ _ _ c.settle.ensures.settled (subst C (registers_told c.args.task t) (subst B low (subst A high (c.note-2.ensures.holds g _ (c.note.ensures.holds g t h)))))
+    unloaded_by _ g _ _ _ c.save_context.ensures.unloaded (subst C (registers_told c.args.task t) (subst B low (subst A high (c.note-2.ensures.holds g _ (c.note.ensures.holds g t h)))))

@@ -5,11 +5,11 @@ use Rattle.board_model.specs.declared.told.Turned.TheVariants.{Ran}
 use Rattle.board_core.specs.Machine.{IsReady, MachineHolds}
 use Rattle.board_model.specs.Turn.{turn_of, turned_of, stepped, with_current}
 use Rattle.board_model.proofs.TurnChains.{chosen_is, sane-ran}
-use Rattle.board_core.proofs.Lending.{below, lent_register, register_current}
+use Rattle.board_core.proofs.Loading.{below, loaded_register, register_current}
 use Rattle.board_core.proofs.machine.Machine.turn.Goals as goal
 
-pub lend-requires : goal.lend-requires
-lend-requires c =
+pub load_context-requires : goal.load_context-requires
+load_context-requires c =
     let g = c.requires.next.0 in
     let t = c.requires.next.1 in
     let n = c.requires.next.2 in
@@ -24,7 +24,7 @@ step-requires-clause-ready c =
     let is = chosen_is t.state c.in-Some.task n.stands.sane (sym n.is ∙ c.in-Some.is) in (
       g,
       with_current c.in-Some.task t,
-      record { lent = c.lend.ensures.lent; holds = c.lend.ensures.holds g t n.stands.holds is.ready; sane = sane-current c.in-Some.task t n.stands.sane is.inside },
+      record { loaded = c.load_context.ensures.loaded; holds = c.load_context.ensures.holds g t n.stands.holds is.ready; sane = sane-current c.in-Some.task t n.stands.sane is.inside },
     )
 
 pub tell_task-requires-clause-there : goal.tell_task-requires-clause-there
@@ -34,7 +34,7 @@ tell_task-requires-clause-there c =
     let n = c.requires.next.2 in
     let task = c.in-Some.task in
     let is = chosen_is t.state task n.stands.sane (sym n.is ∙ c.in-Some.is) in
-    let ready : IsReady g c.lend.new.self (with_current task t) = record { lent = c.lend.ensures.lent; holds = c.lend.ensures.holds g t n.stands.holds is.ready; sane = sane-current task t n.stands.sane is.inside } in
+    let ready : IsReady g c.load_context.new.self (with_current task t) = record { loaded = c.load_context.ensures.loaded; holds = c.load_context.ensures.holds g t n.stands.holds is.ready; sane = sane-current task t n.stands.sane is.inside } in
     let u = stepped c.args.level g task (with_current task t) in
     let sane = sane-ran c.args.level task t n.stands.sane is in
     let before = n.stands.sane.steady.as_many in
@@ -57,7 +57,7 @@ pub returns-in-Some-clause-holds : goal.returns-in-Some-clause-holds
 returns-in-Some-clause-holds c = λ g t n.
     let task = c.in-Some.task in
     let is = chosen_is t.state task n.stands.sane (sym n.is ∙ c.in-Some.is) in
-    let ready : IsReady g c.lend.new.self (with_current task t) = record { lent = c.lend.ensures.lent; holds = c.lend.ensures.holds g t n.stands.holds is.ready; sane = sane-current task t n.stands.sane is.inside } in
+    let ready : IsReady g c.load_context.new.self (with_current task t) = record { loaded = c.load_context.ensures.loaded; holds = c.load_context.ensures.holds g t n.stands.holds is.ready; sane = sane-current task t n.stands.sane is.inside } in
     let P : Option ℕ → Type 0 = λ o. MachineHolds g c.tell_task.new.self (turn_of c.args.level g o t) in
     subst P (sym c.in-Some.is) (c.tell_task.ensures.holds g _ (c.step.ensures.holds g (with_current task t) ready))
 
@@ -65,6 +65,6 @@ pub returns-in-Some-clause-turned : goal.returns-in-Some-clause-turned
 returns-in-Some-clause-turned c = λ g t n.
     let task = c.in-Some.task in
     let is = chosen_is t.state task n.stands.sane (sym n.is ∙ c.in-Some.is) in
-    let lent = c.lend.ensures.holds g t n.stands.holds is.ready in
-    let at : c.get-at.result ≡ register t.state task 15 = c.get-at.ensures ∙ lent_register g _ _ (with_current task t) lent is.inside ∙ register_current t task in
+    let loaded = c.load_context.ensures.holds g t n.stands.holds is.ready in
+    let at : c.get-at.result ≡ register t.state task 15 = c.get-at.ensures ∙ loaded_register g _ _ (with_current task t) loaded is.inside ∙ register_current t task in
     ap (Ran task) at ∙ ap (turned_of t.state) (sym c.in-Some.is)

@@ -1,4 +1,4 @@
--- A machine whose processor is lent to the current task.
+-- A machine whose processor has the context of the current task.
 use Rattle.std.proofs.Common.{◌≡◌, ◌<◌, ℕ, Bool, true, false, cond, List, [], ◌∷◌, length, refl, sym, ◌∙◌, ap, subst, arith, length-set}
 use Rattle.std.specs.Prelude.{fold, slice_index}
 use Rattle.std.proofs.lemmas.List.{set-set, set-get_or}
@@ -16,7 +16,7 @@ use Rattle.task_table.specs.Holds.{Holds, Stands, notes_of, setup_of, current_of
 use Rattle.task_table.specs.Start.{begun}
 use Rattle.task_table.proofs.Changes.{task_at-with_task}
 use Rattle.board_model.specs.Turn.{refusals, cpu_of, bytes_of, put, acted, with_current}
-use Rattle.board_core.specs.Machine.{with_cpu, IsLent, HoldsBy, IsReady, MachineStands}
+use Rattle.board_core.specs.Machine.{with_cpu, IsLoaded, HoldsBy, IsReady, MachineStands}
 use Rattle.board_core.specs.declared.machine.Machine.{Machine}
 use Rattle.board_core.specs.declared.machine.Reach.{Reach}
 use Rattle.board_core.proofs.Running.{between, effect_here}
@@ -46,23 +46,23 @@ pub record IsTold (g : Setup) (k : Kernel) (t : Turn) : Type 0 where
   pub holds : Holds g k saved
   pub rest : IsSameRest saved t
 
-pub told_by : (lent : Bool) (g : Setup) (k : Kernel) (cpu : Cpu) (t : Turn) → HoldsBy lent g k cpu t → IsTold g k t
+pub told_by : (loaded : Bool) (g : Setup) (k : Kernel) (cpu : Cpu) (t : Turn) → HoldsBy loaded g k cpu t → IsTold g k t
 told_by true g k cpu t h = record { saved = h.saved; holds = h.holds; rest = rest_of h.saved t cpu h.is }
 told_by false g k cpu t h = record { saved = t; holds = h; rest = record { count = refl; notes = refl; memory = refl; time = refl; lines = refl; current = refl; next_call = refl } }
 
--- ## lent or not
+-- ## loaded or not
 
-pub lent_by : (lent : Bool) (g : Setup) (k : Kernel) (cpu : Cpu) (t : Turn) → lent ≡ true → IsLent g k cpu t → HoldsBy lent g k cpu t
-lent_by lent g k cpu t e h = rw e h
+pub loaded_by : (loaded : Bool) (g : Setup) (k : Kernel) (cpu : Cpu) (t : Turn) → loaded ≡ true → IsLoaded g k cpu t → HoldsBy loaded g k cpu t
+loaded_by loaded g k cpu t e h = rw e h
 
-pub is_lent : (lent : Bool) (g : Setup) (k : Kernel) (cpu : Cpu) (t : Turn) → lent ≡ true → HoldsBy lent g k cpu t → IsLent g k cpu t
-is_lent lent g k cpu t e h = rw e at h
+pub is_loaded : (loaded : Bool) (g : Setup) (k : Kernel) (cpu : Cpu) (t : Turn) → loaded ≡ true → HoldsBy loaded g k cpu t → IsLoaded g k cpu t
+is_loaded loaded g k cpu t e h = rw e at h
 
-pub settled_by : (lent : Bool) (g : Setup) (k : Kernel) (cpu : Cpu) (t : Turn) → lent ≡ false → Holds g k t → HoldsBy lent g k cpu t
-settled_by lent g k cpu t e h = rw e h
+pub unloaded_by : (loaded : Bool) (g : Setup) (k : Kernel) (cpu : Cpu) (t : Turn) → loaded ≡ false → Holds g k t → HoldsBy loaded g k cpu t
+unloaded_by loaded g k cpu t e h = rw e h
 
-pub is_settled : (lent : Bool) (g : Setup) (k : Kernel) (cpu : Cpu) (t : Turn) → lent ≡ false → HoldsBy lent g k cpu t → Holds g k t
-is_settled lent g k cpu t e h = rw e at h
+pub is_unloaded : (loaded : Bool) (g : Setup) (k : Kernel) (cpu : Cpu) (t : Turn) → loaded ≡ false → HoldsBy loaded g k cpu t → Holds g k t
+is_unloaded loaded g k cpu t e h = rw e at h
 
 -- ## a turn begins, and has ended
 
@@ -74,7 +74,7 @@ begun_ready : (s : Turn) → is_ready s.state s.state.current ≡ true → is_re
 unfolding begun
 begun_ready s h = h
 
-pub begun_by : (lent : Bool) (g : Setup) (k k' : Kernel) (cpu : Cpu) (t : Turn) → ((u : Turn) → Holds g k u → Holds g k' (begun u.state)) → HoldsBy lent g k cpu t → HoldsBy lent g k' cpu (begun t.state)
+pub begun_by : (loaded : Bool) (g : Setup) (k k' : Kernel) (cpu : Cpu) (t : Turn) → ((u : Turn) → Holds g k u → Holds g k' (begun u.state)) → HoldsBy loaded g k cpu t → HoldsBy loaded g k' cpu (begun t.state)
 begun_by true g k k' cpu t f h = record { saved = begun h.saved.state; holds = f h.saved h.holds; ready = begun_ready h.saved h.ready; is = ap (λ (u : Turn). begun u.state) h.is ∙ begun-with_cpu cpu h.saved }
 begun_by false g k k' cpu t f h = f t h
 
@@ -90,7 +90,7 @@ turn_ready : (s : State) (n : ℕ) → is_ready s s.current ≡ true → is_read
 unfolding is_ready task_at call_of listen_of
 turn_ready s n h = h
 
-pub between_by : (lent : Bool) (g : Setup) (k : Kernel) (cpu : Cpu) (u : Turn) (n : ℕ) → HoldsBy lent g k cpu u → HoldsBy lent g k cpu (after k n u)
+pub between_by : (loaded : Bool) (g : Setup) (k : Kernel) (cpu : Cpu) (u : Turn) (n : ℕ) → HoldsBy loaded g k cpu u → HoldsBy loaded g k cpu (after k n u)
 between_by true g k cpu u n h = record { saved = after k n h.saved; holds = between g k h.saved n h.holds; ready = turn_ready h.saved.state n h.ready; is = ap (after k n) h.is ∙ after-with_cpu k n cpu h.saved }
 between_by false g k cpu u n h = between g k u n h
 
@@ -100,8 +100,8 @@ task-with_cpu : (cpu : Cpu) (s : Turn) → s.state.current < length s.state.task
 unfolding with_processor
 task-with_cpu cpu s inside = ap cpu_of (task_at-with_task s.state s.state.current _ inside)
 
-pub lent_cpu : (g : Setup) (k : Kernel) (cpu : Cpu) (t : Turn) → IsLent g k cpu t → t.state.current < length t.state.tasks → cpu ≡ cpu_of (task_at t.state t.state.current)
-lent_cpu g k cpu t h inside =
+pub loaded_cpu : (g : Setup) (k : Kernel) (cpu : Cpu) (t : Turn) → IsLoaded g k cpu t → t.state.current < length t.state.tasks → cpu ≡ cpu_of (task_at t.state t.state.current)
+loaded_cpu g k cpu t h inside =
     let rest = rest_of h.saved t cpu h.is in
     let there : h.saved.state.current < length h.saved.state.tasks = rw (rest.current, rest.count) at inside in
     sym (task-with_cpu cpu h.saved there) ∙ ap (λ (u : Turn). cpu_of (task_at u.state h.saved.state.current)) (sym h.is) ∙ ap (λ (i : ℕ). cpu_of (task_at t.state i)) (sym rest.current)
@@ -111,11 +111,11 @@ with_own : (c : ℕ) (s : State) (t : Turn) → s ≡ t.state → with_processor
 unfolding with_processor with_task task_at
 with_own c s t e = rw e (ap (λ (xs : List Task). record t { state = record t.state { tasks = xs } }) (set-get_or t.state.tasks c no_task))
 
-pub lent_own : (g : Setup) (k : Kernel) (cpu : Cpu) (t : Turn) → Holds g k t → is_ready t.state t.state.current ≡ true → cpu ≡ cpu_of (task_at t.state t.state.current) → IsLent g k cpu t
-lent_own g k cpu t h ready e = record { saved = t; holds = h; ready = ready; is = rw e (sym (with_own t.state.current t.state t refl)) }
+pub loaded_own : (g : Setup) (k : Kernel) (cpu : Cpu) (t : Turn) → Holds g k t → is_ready t.state t.state.current ≡ true → cpu ≡ cpu_of (task_at t.state t.state.current) → IsLoaded g k cpu t
+loaded_own g k cpu t h ready e = record { saved = t; holds = h; ready = ready; is = rw e (sym (with_own t.state.current t.state t refl)) }
 
-pub lent_again : (g : Setup) (k : Kernel) (cpu : Cpu) (t : Turn) (task : ℕ) → task ≡ t.state.current → IsLent g k cpu t → IsLent g k cpu (with_current task t)
-lent_again g k cpu t task e h = rw e h
+pub loaded_again : (g : Setup) (k : Kernel) (cpu : Cpu) (t : Turn) (task : ℕ) → task ≡ t.state.current → IsLoaded g k cpu t → IsLoaded g k cpu (with_current task t)
+loaded_again g k cpu t task e h = rw e h
 
 -- ## an instruction goes on
 
@@ -160,7 +160,7 @@ puts_ready : (ss : List Store) (t : Turn) (i : ℕ) → is_ready t.state i ≡ t
 puts_ready ss t i h = rw (puts_state ss t) (memory_ready t.state (fold put t ss).state.memory i h)
 
 -- the processor goes on in place, and the stores are the kernel's
-pub goes_on : (g : Setup) (k k' : Kernel) (cpu cpu' : Cpu) (t : Turn) (ss : List Store) → IsLent g k cpu t → t.state.current < length t.state.tasks → ((u : Turn) → Holds g k u → Holds g k' (fold put u ss)) → IsLent g k' cpu' (with_processor t.state.current cpu'.regs.words cpu'.flags (fold put t ss))
+pub goes_on : (g : Setup) (k k' : Kernel) (cpu cpu' : Cpu) (t : Turn) (ss : List Store) → IsLoaded g k cpu t → t.state.current < length t.state.tasks → ((u : Turn) → Holds g k u → Holds g k' (fold put u ss)) → IsLoaded g k' cpu' (with_processor t.state.current cpu'.regs.words cpu'.flags (fold put t ss))
 goes_on g k k' cpu cpu' t ss h inside f =
     let s = h.saved in
     let c = s.state.current in
@@ -185,11 +185,11 @@ goes_on g k k' cpu cpu' t ss h inside f =
 -- ## as the machine's functions use it
 
 pub stands_of : (g : Setup) (m : Machine) (t : Turn) → IsReady g m t → MachineStands g m t
-stands_of g m t r = record { holds = lent_by m.lent g m.reach.kernel m.processor t r.lent r.holds; sane = r.sane }
+stands_of g m t r = record { holds = loaded_by m.loaded g m.reach.kernel m.processor t r.loaded r.holds; sane = r.sane }
 
-pub below : (lent : Bool) (g : Setup) (k : Kernel) (cpu : Cpu) (t : Turn) (i : ℕ) → HoldsBy lent g k cpu t → i < length t.state.tasks → i < task_count k
-below lent g k cpu t i h inside =
-    let w = told_by lent g k cpu t h in
+pub below : (loaded : Bool) (g : Setup) (k : Kernel) (cpu : Cpu) (t : Turn) (i : ℕ) → HoldsBy loaded g k cpu t → i < length t.state.tasks → i < task_count k
+below loaded g k cpu t i h inside =
+    let w = told_by loaded g k cpu t h in
     let b : task_count k ≡ length w.saved.state.tasks = w.holds.count in
     let n : length t.state.tasks ≡ length w.saved.state.tasks = w.rest.count in
     omega arith
@@ -201,21 +201,21 @@ written_back g k cpu saved t task words at w is h =
     let R : Turn → Type 0 = λ u. Holds g k u in
     subst R (sym is) (subst Q w (subst P at h))
 
-pub lent_register : (g : Setup) (k : Kernel) (cpu : Cpu) (t : Turn) → IsLent g k cpu t → t.state.current < length t.state.tasks → slice_index cpu.regs.words 15 ≡ register t.state t.state.current 15
+pub loaded_register : (g : Setup) (k : Kernel) (cpu : Cpu) (t : Turn) → IsLoaded g k cpu t → t.state.current < length t.state.tasks → slice_index cpu.regs.words 15 ≡ register t.state t.state.current 15
 unfolding register
-lent_register g k cpu t h inside = ap (λ (x : Cpu). slice_index x.regs.words 15) (lent_cpu g k cpu t h inside)
+loaded_register g k cpu t h inside = ap (λ (x : Cpu). slice_index x.regs.words 15) (loaded_cpu g k cpu t h inside)
 
--- the effect by the bus and the lent processor is the effect by the turn
-pub effect_lent : (g : Setup) (k : Kernel) (cpu : Cpu) (t : Turn) (insn : Insn) → IsLent g k cpu t → t.state.current < length t.state.tasks →
+-- the effect by the bus and the loaded context is the effect by the turn
+pub effect_loaded : (g : Setup) (k : Kernel) (cpu : Cpu) (t : Turn) (insn : Insn) → IsLoaded g k cpu t → t.state.current < length t.state.tasks →
     effect (refusals (setup_of k) (current_of k)) (number_at (memory_of k)) cpu insn ≡ effect (refusals g t.state.current) (number_at t.state.memory) (cpu_of (task_at t.state t.state.current)) insn
-effect_lent g k cpu t insn h inside =
+effect_loaded g k cpu t insn h inside =
     let rest = rest_of h.saved t cpu h.is in
-    effect_here g t k cpu insn h.holds.setup (h.holds.current ∙ sym rest.current) (h.holds.memory ∙ sym rest.memory) (lent_cpu g k cpu t h inside)
+    effect_here g t k cpu insn h.holds.setup (h.holds.current ∙ sym rest.current) (h.holds.memory ∙ sym rest.memory) (loaded_cpu g k cpu t h inside)
 
-pub next_lent : (g : Setup) (k : Kernel) (t : Turn) (c : ℕ) (e : Effect) (d cpu : Cpu) (ss : List Store) → e ≡ Next d ss → cpu ≡ d → IsLent g k cpu (with_processor c cpu.regs.words cpu.flags (fold put t ss)) → IsLent g k cpu (acted g c e t)
-next_lent g k t c e d cpu ss is same h =
-    let P : Cpu → Type 0 = λ x. IsLent g k cpu (with_processor c x.regs.words x.flags (fold put t ss)) in
-    let S : Effect → Type 0 = λ x. IsLent g k cpu (acted g c x t) in
+pub next_loaded : (g : Setup) (k : Kernel) (t : Turn) (c : ℕ) (e : Effect) (d cpu : Cpu) (ss : List Store) → e ≡ Next d ss → cpu ≡ d → IsLoaded g k cpu (with_processor c cpu.regs.words cpu.flags (fold put t ss)) → IsLoaded g k cpu (acted g c e t)
+next_loaded g k t c e d cpu ss is same h =
+    let P : Cpu → Type 0 = λ x. IsLoaded g k cpu (with_processor c x.regs.words x.flags (fold put t ss)) in
+    let S : Effect → Type 0 = λ x. IsLoaded g k cpu (acted g c x t) in
     subst S (sym is) (subst P same h)
 
 pub acted_as : (g : Setup) (P : Turn → Type 0) (c : ℕ) (t : Turn) (e d : Effect) → e ≡ d → P (acted g c d t) → P (acted g c e t)
@@ -223,11 +223,11 @@ acted_as g P c t e d is h =
     let S : Effect → Type 0 = λ x. P (acted g c x t) in
     subst S (sym is) h
 
-pub ready_same : (g : Setup) (m : Machine) (reach : Reach) (cpu : Cpu) (t : Turn) → reach ≡ m.reach → cpu ≡ m.processor → IsReady g m t → IsReady g record { reach = reach; processor = cpu; lent = m.lent } t
+pub ready_same : (g : Setup) (m : Machine) (reach : Reach) (cpu : Cpu) (t : Turn) → reach ≡ m.reach → cpu ≡ m.processor → IsReady g m t → IsReady g record { reach = reach; processor = cpu; loaded = m.loaded } t
 ready_same g m reach cpu t e f r =
-    let P : Reach → Type 0 = λ x. IsLent g x.kernel m.processor t in
-    let Q : Cpu → Type 0 = λ x. IsLent g reach.kernel x t in
-    record { lent = r.lent; holds = subst Q (sym f) (subst P (sym e) r.holds); sane = r.sane }
+    let P : Reach → Type 0 = λ x. IsLoaded g x.kernel m.processor t in
+    let Q : Cpu → Type 0 = λ x. IsLoaded g reach.kernel x t in
+    record { loaded = r.loaded; holds = subst Q (sym f) (subst P (sym e) r.holds); sane = r.sane }
 
 pub register_current : (t : Turn) (c : ℕ) → register (with_current c t).state c 15 ≡ register t.state c 15
 unfolding register task_at
@@ -243,18 +243,18 @@ noted_ready : (n : Note) (s : Turn) → is_ready s.state s.state.current ≡ tru
 unfolding noted
 noted_ready n s h = h
 
-pub lent_noted : (g : Setup) (k k' : Kernel) (cpu : Cpu) (n : Note) (t : Turn) → ((u : Turn) → Holds g k u → Holds g k' (noted n u)) → IsLent g k cpu t → IsLent g k' cpu (noted n t)
-lent_noted g k k' cpu n t f h = record { saved = noted n h.saved; holds = f h.saved h.holds; ready = noted_ready n h.saved h.ready; is = ap (noted n) h.is ∙ noted-with_cpu n cpu h.saved }
+pub loaded_noted : (g : Setup) (k k' : Kernel) (cpu : Cpu) (n : Note) (t : Turn) → ((u : Turn) → Holds g k u → Holds g k' (noted n u)) → IsLoaded g k cpu t → IsLoaded g k' cpu (noted n t)
+loaded_noted g k k' cpu n t f h = record { saved = noted n h.saved; holds = f h.saved h.holds; ready = noted_ready n h.saved h.ready; is = ap (noted n) h.is ∙ noted-with_cpu n cpu h.saved }
 
-pub noted_by : (lent : Bool) (g : Setup) (k k' : Kernel) (cpu : Cpu) (n : Note) (t : Turn) → ((u : Turn) → Holds g k u → Holds g k' (noted n u)) → HoldsBy lent g k cpu t → HoldsBy lent g k' cpu (noted n t)
-noted_by true g k k' cpu n t f h = lent_noted g k k' cpu n t f h
+pub noted_by : (loaded : Bool) (g : Setup) (k k' : Kernel) (cpu : Cpu) (n : Note) (t : Turn) → ((u : Turn) → Holds g k u → Holds g k' (noted n u)) → HoldsBy loaded g k cpu t → HoldsBy loaded g k' cpu (noted n t)
+noted_by true g k k' cpu n t f h = loaded_noted g k k' cpu n t f h
 noted_by false g k k' cpu n t f h = f t h
 
-pub opened_as : (g : Setup) (k : Kernel) (m : Machine) (s : State) → m.reach.kernel ≡ k → m.lent ≡ false → Holds g k record { state = s; notes = notes_of k; writes = []; reads = [] } → HoldsBy m.lent g m.reach.kernel m.processor record { state = s; notes = notes_of m.reach.kernel; writes = []; reads = [] }
-opened_as g k m s e lent h =
+pub opened_as : (g : Setup) (k : Kernel) (m : Machine) (s : State) → m.reach.kernel ≡ k → m.loaded ≡ false → Holds g k record { state = s; notes = notes_of k; writes = []; reads = [] } → HoldsBy m.loaded g m.reach.kernel m.processor record { state = s; notes = notes_of m.reach.kernel; writes = []; reads = [] }
+opened_as g k m s e loaded h =
     let P : Kernel → Type 0 = λ x. Holds g x record { state = s; notes = notes_of x; writes = []; reads = [] } in
-    settled_by m.lent g m.reach.kernel m.processor _ lent (subst P (sym e) h)
+    unloaded_by m.loaded g m.reach.kernel m.processor _ loaded (subst P (sym e) h)
 
--- a kernel that is settled stands for what its machine does
-pub settled_stands : (g : Setup) (m : Machine) (t : Turn) → m.lent ≡ false → Stands g m.reach.kernel t → MachineStands g m t
-settled_stands g m t lent h = record { holds = settled_by m.lent g m.reach.kernel m.processor t lent h.holds; sane = h.sane }
+-- a kernel into which the context was saved stands for what its machine does
+pub unloaded_stands : (g : Setup) (m : Machine) (t : Turn) → m.loaded ≡ false → Stands g m.reach.kernel t → MachineStands g m t
+unloaded_stands g m t loaded h = record { holds = unloaded_by m.loaded g m.reach.kernel m.processor t loaded h.holds; sane = h.sane }
