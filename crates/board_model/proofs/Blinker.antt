@@ -12,7 +12,7 @@ use Rattle.thumb_exec.specs.Effect.{words, transfers, first_refused, stores_of, 
 use Rattle.task_table.specs.Memory.{bytes_at, with_bytes, copied as copied_memory}
 use Rattle.task_table.specs.State.{Setup}
 use Rattle.task_table.specs.Reading.{task_at, line_at, register, arguments, call_of, listen_of, dead_code_for, is_out, is_dead, is_ready, bad_byte, chosen, offer_by, best_sender}
-use Rattle.task_table.specs.Effects.{with_task, without_call, without_listen, with_listen, with_taken, noted, with_processor, with_health, stored, copied, looked, given, returned, advanced, bits_added, bits_cleared, woken, posted, with_timer, clocked, with_line, closed, faulted_as, handed}
+use Rattle.task_table.specs.Effects.{with_task, without_call, without_listen, with_listen, with_taken, noted, with_processor, with_health, stored, copied, looked, given, returned, past_call, bits_added, bits_cleared, woken, posted, with_timer, clocked, with_line, closed, faulted_as, handed}
 use Rattle.task_table.specs.Events.{ticked, owner_of, interrupted}
 use Rattle.task_table.specs.Rows.{panicked, timer_set, timer_told, irq_controlled, received, call_noted}
 use Rattle.task_table.specs.Calls.{called}
@@ -148,5 +148,5 @@ IsTrace : Run → Type 0
 IsTrace r = (r.notes ≡ expected) × (r.end ≡ Bound) × (r.last.now ≡ 19)
 
 agrees : IsTrace (run Calls scenario 600 (start setup))
-unfolding setup scenario expected IsTrace run ending after_events turn ended stepped begun start with_registers_told ticked interrupted owner_of panicked timer_set timer_told irq_controlled received call_noted called with_task without_call without_listen with_listen with_taken noted with_processor with_health stored copied looked given returned advanced bits_added bits_cleared woken posted with_timer clocked with_line closed faulted_as handed task_at line_at register arguments call_of listen_of dead_code_for is_out is_dead is_ready bad_byte chosen offer_by best_sender bytes_at with_bytes copied_memory first_bad words transfers first_refused stores_of loaded_all ones count effect rows narrow_of wide_rows wide_of
+unfolding setup scenario expected IsTrace run ending after_events turn ended stepped begun start with_registers_told ticked interrupted owner_of panicked timer_set timer_told irq_controlled received call_noted called with_task without_call without_listen with_listen with_taken noted with_processor with_health stored copied looked given returned past_call bits_added bits_cleared woken posted with_timer clocked with_line closed faulted_as handed task_at line_at register arguments call_of listen_of dead_code_for is_out is_dead is_ready bad_byte chosen offer_by best_sender bytes_at with_bytes copied_memory first_bad words transfers first_refused stores_of loaded_all ones count effect rows narrow_of wide_rows wide_of
 agrees = (refl, refl, refl)

@@ -14,7 +14,7 @@ use Rattle.words_core.specs.declared.Flags.{Flags}
 use Rattle.task_table.specs.declared.Line.{Line}
 use Rattle.task_table.specs.State.{Setup, LineSetup, Task, Call, Listen, From, Any, One, KernelOnly, Range, Own, Turn}
 use Rattle.task_table.specs.Reading.{task_at, line_at, line_off, line_on, register, arguments, is_out, is_dead, present, is_valid, bad_byte, offer_by, best_sender}
-use Rattle.task_table.specs.Effects.{with_task, without_listen, with_taken, changed, noted, with_processor, copied, looked, given, returned, advanced, bits_added, bits_cleared, woken_by, woken, posted, with_timer, with_line, handed, faulted}
+use Rattle.task_table.specs.Effects.{with_task, without_listen, with_taken, changed, noted, with_processor, copied, looked, given, returned, past_call, bits_added, bits_cleared, woken_by, woken, posted, with_timer, with_line, handed, faulted}
 use Rattle.task_table.specs.Rows.{misused, goes_on, goes_on_with, panicked, timer_set, timer_told, owns_with, line_controlled, irq_controlled, buffer_of, listens, receives_or_listens, offer_of, received}
 use Rattle.task_table.specs.Calls.{Meaning, calls, meaning_among, called}
 use Rattle.task_table.proofs.Changes.{task_at-without_listen}
@@ -48,9 +48,9 @@ module _ (c : ℕ) where
   unfolding returned
   well-returned i t h = well-noted _ t h
 
-  well-advanced : (i : ℕ) (t : Turn) → IsWell t → IsWell (advanced i t)
-  unfolding advanced
-  well-advanced i t h = well-task i _ t refl h
+  well-past_call : (i : ℕ) (t : Turn) → IsWell t → IsWell (past_call i t)
+  unfolding past_call
+  well-past_call i t h = well-task i _ t refl h
 
   well-cleared : (i mask : ℕ) (t : Turn) → IsWell t → IsWell (bits_cleared i mask t)
   unfolding bits_cleared
@@ -89,7 +89,7 @@ module _ (c : ℕ) where
   -- ## the rows
 
   goes : (t : Turn) → IsWell t → IsWell (goes_on c t)
-  goes t h = well-returned c _ (well-advanced c t h)
+  goes t h = well-returned c _ (well-past_call c t h)
 
   goes_with : (values : List ℕ) (t : Turn) → IsWell t → IsWell (goes_on_with c values t)
   goes_with values t h = goes (given c values t) (well-given c values t h)
@@ -107,11 +107,11 @@ module _ (c : ℕ) where
   well-all_controlled bits enable (o ∷ lines) t h = well-all_controlled bits enable lines _ (well-controlled bits enable o.line t h)
 
   well-listens : (x : RecvArgs) (from : From) (t : Turn) → IsWell t → IsWell (listens c x from t)
-  well-listens x from t h = well-noted _ _ (rw (task_at-with_listen (advanced c t).state _ c) (well-advanced c t h))
+  well-listens x from t h = well-noted _ _ (rw (task_at-with_listen (past_call c t).state _ c) (well-past_call c t h))
 
   receives_or : (x : RecvArgs) (from : From) (o : Option Call) (t : Turn) → IsWell t → IsWell (receives_or_listens c x from o t)
   receives_or x from None t h = well-listens x from t h
-  receives_or x from (Some k) t h = well-returned c _ (well-handed k (buffer_of x) (advanced c t) (well-advanced c t h))
+  receives_or x from (Some k) t h = well-returned c _ (well-handed k (buffer_of x) (past_call c t) (well-past_call c t h))
 
 -- what comes of a turn of task c: it faults at once, with nothing else changed, or it is well
 pub data Outcome (g : Setup) (c : ℕ) (t u : Turn) : Type 0 where

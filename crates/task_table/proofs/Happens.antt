@@ -13,10 +13,10 @@ use Rattle.task_table.specs.Effects.{with_task, without_listen, changed, noted, 
 use Rattle.task_table.specs.Placed.{ArePlaced}
 use Rattle.task_table.specs.Grounds.{Lies, MayWrite}
 use Rattle.task_table.specs.Chain.{Chain}
-use Rattle.task_table.specs.Step.{MayReceive, Ends, Step, Notes, Gives, Returns, Advances, Runs, Clears, Posts, Times, Lines, Listens, Receives, Stores, Faults}
+use Rattle.task_table.specs.Step.{MayReceive, Ends, Step, Notes, Gives, Returns, PassesCall, Runs, Clears, Posts, Times, Lines, Listens, Receives, Stores, Faults}
 use Rattle.task_table.proofs.Chains.{one, ◌▷◌, refined}
 use Rattle.task_table.proofs.Ranges.{within_ram-good}
-use Rattle.task_table.proofs.Moves.{IsAside, aside-noted, aside-given, aside-returned, aside-advanced, aside-cleared, aside-unlistened, aside-listening, aside-timer, aside-line, aside-health, aside-processor, aside-posted, taken_over, IsTaking, Move, Aside, Writes, Takes, Closes}
+use Rattle.task_table.proofs.Moves.{IsAside, aside-noted, aside-given, aside-returned, aside-past_call, aside-cleared, aside-unlistened, aside-listening, aside-timer, aside-line, aside-health, aside-processor, aside-posted, taken_over, IsTaking, Move, Aside, Writes, Takes, Closes}
 
 -- the bytes of a range that is good may each be written
 may-write : (g : Setup) (i : ℕ) (r : Range) (a : ℕ) → bad_byte g i Write r ≡ None → Lies r a → MayWrite g i a
@@ -71,7 +71,7 @@ module _ (g : Setup) (s : State) (c : ℕ) where
   step_moves placed _ _ (Notes n u plain) = one (aside (aside-noted n u plain))
   step_moves placed _ _ (Gives i values u lt few party) = one (aside (aside-given i values u))
   step_moves placed _ _ (Returns i u) = one (aside (aside-returned i u))
-  step_moves placed _ _ (Advances u lt) = one (aside (aside-advanced c u))
+  step_moves placed _ _ (PassesCall u lt) = one (aside (aside-past_call c u))
   step_moves placed _ _ (Runs registers flags u lt whole) = one (aside (aside-processor c registers flags u))
   step_moves placed _ _ (Clears mask u lt none) = one (aside (aside-cleared c mask u))
   step_moves placed _ _ (Posts i bits u lt) = one (aside (aside-posted i bits u))

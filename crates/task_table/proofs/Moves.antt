@@ -11,7 +11,7 @@ use Rattle.task_table.specs.declared.Line.{Line}
 use Rattle.task_table.specs.Memory.{IsWithinRam}
 use Rattle.task_table.specs.State.{Setup, State, Call, Listen, Range, Offered, Ground, MessageFront, Turn}
 use Rattle.task_table.specs.Reading.{task_at, call_of, listen_of}
-use Rattle.task_table.specs.Effects.{with_task, without_listen, with_listen, with_taken, changed, noted, with_processor, with_health, stored, copied, looked, given, returned, advanced, bits_added, bits_cleared, woken_by, woken, posted, with_timer, clocked, with_line, closed}
+use Rattle.task_table.specs.Effects.{with_task, without_listen, with_listen, with_taken, changed, noted, with_processor, with_health, stored, copied, looked, given, returned, past_call, bits_added, bits_cleared, woken_by, woken, posted, with_timer, clocked, with_line, closed}
 use Rattle.task_table.specs.Grounds.{Lies, MayChange, IsAlive}
 use Rattle.task_table.specs.Step.{is_plain, MayChangeAll, Ends}
 
@@ -91,9 +91,9 @@ pub aside-returned : (i : ℕ) (u : Turn) → IsAside u (returned i u)
 unfolding returned
 aside-returned i u = aside-noted _ u refl
 
-pub aside-advanced : (i : ℕ) (u : Turn) → IsAside u (advanced i u)
-unfolding advanced with_task
-aside-advanced i u = aside_state u _ refl refl refl refl (length-set u.state.tasks i _) refl
+pub aside-past_call : (i : ℕ) (u : Turn) → IsAside u (past_call i u)
+unfolding past_call with_task
+aside-past_call i u = aside_state u _ refl refl refl refl (length-set u.state.tasks i _) refl
 
 pub aside-cleared : (i mask : ℕ) (u : Turn) → IsAside u (bits_cleared i mask u)
 unfolding bits_cleared with_task

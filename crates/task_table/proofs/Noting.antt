@@ -8,10 +8,10 @@ use Rattle.kernel_abi.specs.declared.Note.{Note}
 use Rattle.kernel_abi.specs.declared.Note.TheVariants as note
 use Rattle.task_table.specs.State.{Setup, State, Call, Listen, Range, Ground, Own, Turn}
 use Rattle.task_table.specs.Reading.{task_at, call_of, listen_of}
-use Rattle.task_table.specs.Effects.{without_listen, with_listen, changed, noted, with_processor, with_health, stored, copied, looked, given, returned, advanced, bits_added, bits_cleared, woken_by, woken, posted, with_timer, with_line, close_notes, closed, faulted_as, faulted, handed}
+use Rattle.task_table.specs.Effects.{without_listen, with_listen, changed, noted, with_processor, with_health, stored, copied, looked, given, returned, past_call, bits_added, bits_cleared, woken_by, woken, posted, with_timer, with_line, close_notes, closed, faulted_as, faulted, handed}
 use Rattle.task_table.specs.Counts.{AreNoted, IsNoted}
 use Rattle.task_table.specs.Chain.{Chain}
-use Rattle.task_table.specs.Step.{Step, Notes, Gives, Returns, Advances, Runs, Clears, Posts, Times, Lines, Listens, Receives, Stores, Faults}
+use Rattle.task_table.specs.Step.{Step, Notes, Gives, Returns, PassesCall, Runs, Clears, Posts, Times, Lines, Listens, Receives, Stores, Faults}
 use Rattle.task_table.proofs.Chains.{chain_keeps}
 
 -- ## how many lines
@@ -109,11 +109,11 @@ hands on k buffer u = record { new = note.Take k.number _ ∷ []; notes = refl; 
 -- ## steps and chains
 
 pub step_noted : (g : Setup) (s : State) (c : ℕ) (u v : Turn) → Step g s c u v → AreNoted 4 u v
-unfolding advanced with_processor with_timer with_line stored
+unfolding past_call with_processor with_timer with_line stored
 step_noted g s c _ _ (Notes n u plain) = more 1 4 u _ (omega arith) (one n u)
 step_noted g s c _ _ (Gives i values u lt few party) = same 4 u _ (quiet-given i values u)
 step_noted g s c _ _ (Returns i u) = more 1 4 u _ (omega arith) (noted-returned i u)
-step_noted g s c _ _ (Advances u lt) = same 4 u (advanced c u) refl
+step_noted g s c _ _ (PassesCall u lt) = same 4 u (past_call c u) refl
 step_noted g s c _ _ (Runs registers flags u lt whole) = same 4 u (with_processor c registers flags u) refl
 step_noted g s c _ _ (Clears mask u lt none) = same 4 u _ (quiet-cleared c mask u)
 step_noted g s c _ _ (Posts i bits u lt) = more 2 4 u _ (omega arith) (posts i bits u)

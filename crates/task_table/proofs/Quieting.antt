@@ -4,10 +4,10 @@ use Rattle.kernel_abi.specs.declared.Note.{Note}
 use Rattle.kernel_abi.specs.declared.Note.TheVariants as note
 use Rattle.task_table.specs.State.{Setup, State, Task, Call, Range, Ground, Own, Turn}
 use Rattle.task_table.specs.Reading.{task_at, call_of, listen_of, is_ready, no_task}
-use Rattle.task_table.specs.Effects.{with_task, with_processor, stored, given, returned, advanced, bits_cleared, with_timer, with_line, handed}
+use Rattle.task_table.specs.Effects.{with_task, with_processor, stored, given, returned, past_call, bits_cleared, with_timer, with_line, handed}
 use Rattle.task_table.specs.Counts.{IsNoted, IsAsReady}
 use Rattle.task_table.specs.Chain.{Chain, Here, More}
-use Rattle.task_table.specs.Step.{Step, Notes, Gives, Returns, Advances, Runs, Clears, Posts, Times, Lines, Listens, Receives, Stores, Faults}
+use Rattle.task_table.specs.Step.{Step, Notes, Gives, Returns, PassesCall, Runs, Clears, Posts, Times, Lines, Listens, Receives, Stores, Faults}
 use Rattle.task_table.proofs.Changes.{call_of-with_task, listen_of-with_task, length-with_task}
 use Rattle.task_table.proofs.Noting.{step_noted, noted-noted, noted-posted, noted-faulted_as}
 
@@ -57,11 +57,11 @@ unfolding handed given
 noted-handed on k buffer u = noted-noted (note.Take k.number _) _
 
 step_quiet : (g : Setup) (s : State) (c : ℕ) (u v : Turn) → Step g s c u v → v.notes ≡ [] → IsAsReady u.state v.state
-unfolding given advanced with_processor bits_cleared with_timer with_line stored is_ready task_at call_of listen_of
+unfolding given past_call with_processor bits_cleared with_timer with_line stored is_ready task_at call_of listen_of
 step_quiet g s c _ _ (Notes n u plain) = λ none. absurd (noted-noted n u none)
 step_quiet g s c _ _ (Gives i values u lt few party) = λ none. ready-with_task u.state i _ refl
 step_quiet g s c _ _ (Returns i u) = λ none. absurd (noted-returned i u none)
-step_quiet g s c _ _ (Advances u lt) = λ none. ready-with_task u.state c _ refl
+step_quiet g s c _ _ (PassesCall u lt) = λ none. ready-with_task u.state c _ refl
 step_quiet g s c _ _ (Runs registers flags u lt whole) = λ none. ready-with_task u.state c _ refl
 step_quiet g s c _ _ (Clears mask u lt none) = λ quiet. ready-with_task u.state c _ refl
 step_quiet g s c _ _ (Posts i bits u lt) = λ none. absurd (noted-posted i bits u none)

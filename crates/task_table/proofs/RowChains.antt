@@ -13,18 +13,18 @@ use Rattle.region_check.specs.declared.Right.TheVariants.{Write}
 use Rattle.task_table.specs.declared.Line.{Line}
 use Rattle.task_table.specs.State.{Setup, LineSetup, Birth, Call, Listen, From, Any, One, KernelOnly, Offered, Turn}
 use Rattle.task_table.specs.Reading.{task_at, line_at, line_off, line_on, register, arguments, is_ready, is_out, is_dead, present, is_valid, bad_byte, offer_by, best_sender, admits, IsIdle}
-use Rattle.task_table.specs.Effects.{given, advanced, bits_cleared, posted, with_timer, with_line, faulted}
+use Rattle.task_table.specs.Effects.{given, past_call, bits_cleared, posted, with_timer, with_line, faulted}
 use Rattle.task_table.specs.Rows.{misused, denied, goes_on, goes_on_with, panicked, timer_set, timer_words, timer_told, owns_with, line_controlled, irq_controlled, buffer_of, listens, receives, receives_or_listens, takes_bits, offer_of, received, call_noted}
 use Rattle.task_table.specs.Calls.{Meaning, calls, meaning_among, called}
 use Rattle.task_table.specs.Sane.{Sane, IsOwned}
 use Rattle.task_table.specs.Chain.{Chain, Here}
-use Rattle.task_table.specs.Step.{Step, Notes, Gives, Returns, Advances, Clears, Posts, Times, Lines, Listens, Receives, Faults}
+use Rattle.task_table.specs.Step.{Step, Notes, Gives, Returns, PassesCall, Clears, Posts, Times, Lines, Listens, Receives, Faults}
 use Rattle.task_table.proofs.Chains.{one, ◌▷◌, by_chain, chain-fold}
 use Rattle.task_table.proofs.Frames.{idle-ready}
 use Rattle.task_table.proofs.Keeps.{filter_in}
 use Rattle.task_table.proofs.Meanings.{EachMeaning}
 use Rattle.task_table.proofs.Offers.{offer_is, no_offer, IsBestOf, best_is_best}
-use Rattle.task_table.proofs.Receives.{births-advanced, health-advanced, posted-advanced, idle-advanced, calls-advanced, well-ready, is_there, none_left, same_index, no_kernel_birth, no_any_birth, one_birth, names_another}
+use Rattle.task_table.proofs.Receives.{births-past_call, health-past_call, posted-past_call, idle-past_call, calls-past_call, well-ready, is_there, none_left, same_index, no_kernel_birth, no_any_birth, one_birth, names_another}
 
 -- ## what needs nothing but the caller
 
@@ -44,7 +44,7 @@ module _ (g : Setup) (c : ℕ) (t : Turn) (inside : c < length g.tasks) where
 
   -- it goes on
   goes : (u : Turn) → Steps u → Steps (goes_on c u)
-  goes u x = x ▷ Advances u inside ▷ Returns c (advanced c u)
+  goes u x = x ▷ PassesCall u inside ▷ Returns c (past_call c u)
 
   goes_with : (values : List ℕ) (u : Turn) → length values ≤ 6 → Steps u → Steps (goes_on_with c values u)
   goes_with values u few x = goes (given c values u) (x ▷ Gives c values u inside few (inl refl))
@@ -108,19 +108,19 @@ module _ (g : Setup) (c : ℕ) (t : Turn) (h : Sane g t.state) (inside : c < len
   listen : (x : RecvArgs) (from : From) → is_valid (buffer_of x) ≡ true → bad_byte g c Write (buffer_of x) ≡ None → bit_and (task_at t.state c).posted x.mask ≡ 0 → ((b : Birth) → from ≡ One b → (b.index < length g.tasks) × (b.index ≢ c) × ((task_at t.state b.index).births ≡ b.birth)) → ((k : Call) → Contains t.state.calls k → k.phase ≡ Offered → k.server.index ≡ c → admits from k.client ≡ false) → Steps g c t inside (listens c x from t)
   listen x from valid writable unmet names unfit =
       let l : Listen = record { task = c; from = from; mask = x.mask; buffer = buffer_of x } in
-      one (Advances t inside) ▷ Listens l (advanced c t) refl record {
+      one (PassesCall t inside) ▷ Listens l (past_call c t) refl record {
         fit = record { there = inside; names = λ b e. let n = names b e in (n.0, n.1); valid = valid; writable = writable };
-        well = health-advanced c t c within ∙ well-ready t.state c ready;
-        idle = idle-advanced c t c idle;
-        named = λ b e. births-advanced c t b.index within ∙ (names b e).2;
-        unmet = rw (posted-advanced c t c within) unmet;
-        unfit = λ k here. unfit k (rw (calls-advanced c t) at here);
+        well = health-past_call c t c within ∙ well-ready t.state c ready;
+        idle = idle-past_call c t c idle;
+        named = λ b e. births-past_call c t b.index within ∙ (names b e).2;
+        unmet = rw (posted-past_call c t c within) unmet;
+        unfit = λ k here. unfit k (rw (calls-past_call c t) at here);
       }
 
   receive : (x : RecvArgs) (k : Call) → Contains t.state.calls k → k.phase ≡ Offered → k.server.index ≡ c → bad_byte g c Write (buffer_of x) ≡ None → Steps g c t inside (receives c x k t)
   receive x k here offered server writable =
-      one (Advances t inside)
-      ▷ Receives k (buffer_of x) (advanced c t) record { here = rw (calls-advanced c t) here; before = here; offered = offered; server = server; good = writable }
+      one (PassesCall t inside)
+      ▷ Receives k (buffer_of x) (past_call c t) record { here = rw (calls-past_call c t) here; before = here; offered = offered; server = server; good = writable }
       ▷ Returns c _
 
   take_bits : (mask : ℕ) → Steps g c t inside (takes_bits c mask t)

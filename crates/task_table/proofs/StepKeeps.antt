@@ -6,11 +6,11 @@ use Rattle.task_table.specs.Rows.{misused, panicked, timer_set, timer_told, irq_
 use Rattle.task_table.specs.Calls.{called}
 use Rattle.task_table.specs.Sane.{Sane}
 use Rattle.task_table.specs.Chain.{Chain}
-use Rattle.task_table.specs.Step.{Step, Notes, Gives, Returns, Advances, Runs, Clears, Posts, Times, Lines, Listens, Receives, Stores, Faults}
+use Rattle.task_table.specs.Step.{Step, Notes, Gives, Returns, PassesCall, Runs, Clears, Posts, Times, Lines, Listens, Receives, Stores, Faults}
 use Rattle.task_table.proofs.Chains.{chain_keeps}
 use Rattle.task_table.proofs.Handing.{keeps-handed}
 use Rattle.task_table.proofs.Keeps.{keeps-with_listen}
-use Rattle.task_table.proofs.Posting.{keeps-noted, keeps-given, keeps-returned, keeps-advanced, keeps-cleared, keeps-timer, sane-posted}
+use Rattle.task_table.proofs.Posting.{keeps-noted, keeps-given, keeps-returned, keeps-past_call, keeps-cleared, keeps-timer, sane-posted}
 use Rattle.task_table.proofs.Ranges.{within_ram-good}
 use Rattle.task_table.proofs.RowChains.{chain-misused, chain-call_noted, chain-panicked, chain-timer_set, chain-timer_told, chain-irq_controlled, chain-received, chain-called}
 use Rattle.task_table.proofs.Sanity.{sane-processor, sane-stored, sane-faulted_as}
@@ -24,7 +24,7 @@ module _ (g : Setup) (s : State) (c : ℕ) where
   step_sane _ _ (Notes n u plain) h = keeps-noted n u h
   step_sane _ _ (Gives i values u lt few party) h = keeps-given i values u h (here h lt) few
   step_sane _ _ (Returns i u) h = keeps-returned i u h
-  step_sane _ _ (Advances u lt) h = keeps-advanced c u h (here h lt)
+  step_sane _ _ (PassesCall u lt) h = keeps-past_call c u h (here h lt)
   step_sane _ _ (Runs registers flags u lt whole) h = sane-processor c registers flags u h (here h lt) whole
   step_sane _ _ (Clears mask u lt none) h = keeps-cleared c mask u h (here h lt) none
   step_sane _ _ (Posts i bits u lt) h = sane-posted i bits u h (here h lt)

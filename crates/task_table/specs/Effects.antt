@@ -99,8 +99,8 @@ unfoldable pub returned : ℕ → Turn → Turn
 returned i t = noted (note.Ret i (slice_range (task_at t.state i).registers 4 10)) t
 
 -- the program counter goes past the call
-unfoldable pub advanced : ℕ → Turn → Turn
-advanced i t =
+unfoldable pub past_call : ℕ → Turn → Turn
+past_call i t =
     changed (with_task i record (task_at t.state i) { registers = slice_set (task_at t.state i).registers 15 ((register t.state i 15 + 2) % 2 ^ 32) }) t
 
 -- ## bits are posted

@@ -11,7 +11,7 @@ use Rattle.kernel_abi.specs.declared.Timer.{Timer}
 use Rattle.region_check.specs.declared.Right.TheVariants.{Write}
 use Rattle.task_table.specs.State.{Setup, LineSetup, State, Call, From, Any, One, KernelOnly, Range, Own, Turn}
 use Rattle.task_table.specs.Reading.{task_at, line_at, line_off, line_on, register, arguments, present, is_out, is_dead, dead_code_for, is_valid, bad_byte, offer_by}
-use Rattle.task_table.specs.Effects.{changed, noted, given, returned, advanced, bits_cleared, posted, with_listen, with_timer, with_line, handed, faulted}
+use Rattle.task_table.specs.Effects.{changed, noted, given, returned, past_call, bits_cleared, posted, with_listen, with_timer, with_line, handed, faulted}
 
 -- ## how rows are written
 
@@ -29,7 +29,7 @@ denied g c y bad t = faulted g c record { number = 3; x = unwrap_or bad 0; y = y
 
 -- the caller goes on after its call, and with results from r4 on
 abbrev pub goes_on : ℕ → Turn → Turn
-goes_on c t = returned c (advanced c t)
+goes_on c t = returned c (past_call c t)
 
 abbrev pub goes_on_with : ℕ → List ℕ → Turn → Turn
 goes_on_with c values t = goes_on c (given c values t)
@@ -96,11 +96,11 @@ buffer_of x = record { base = x.buffer_base; length = x.buffer_length }
 abbrev pub listens : ℕ → RecvArgs → From → Turn → Turn
 listens c x from t =
     noted (note.Listen c (listened_from from) x.mask)
-    (changed (with_listen record { task = c; from = from; mask = x.mask; buffer = buffer_of x }) (advanced c t))
+    (changed (with_listen record { task = c; from = from; mask = x.mask; buffer = buffer_of x }) (past_call c t))
 
 -- the caller takes an offered call
 abbrev pub receives : ℕ → RecvArgs → Call → Turn → Turn
-receives c x k t = returned c (handed Own k (buffer_of x) (advanced c t))
+receives c x k t = returned c (handed Own k (buffer_of x) (past_call c t))
 
 -- it takes the call that is offered, where one is; else it listens
 abbrev pub receives_or_listens : ℕ → RecvArgs → From → Option Call → Turn → Turn

@@ -16,7 +16,7 @@ use Rattle.task_table.specs.declared.Line.{Line}
 use Rattle.task_table.specs.Memory.{IsWithinRam}
 use Rattle.task_table.specs.State.{Setup, State, Birth, Call, Listen, Range, One, Offered, Taken, Ground, Own, Turn}
 use Rattle.task_table.specs.Reading.{task_at, call_of, listen_of, bad_byte, admits, IsIdle}
-use Rattle.task_table.specs.Effects.{with_listen, changed, noted, with_processor, stored, given, returned, advanced, bits_cleared, posted, with_timer, with_line, faulted_as, handed}
+use Rattle.task_table.specs.Effects.{with_listen, changed, noted, with_processor, stored, given, returned, past_call, bits_cleared, posted, with_timer, with_line, faulted_as, handed}
 use Rattle.task_table.specs.Rows.{listened_from}
 use Rattle.task_table.specs.Sane.{IsFitListen, IsOwned, AreAllBytes}
 use Rattle.task_table.specs.Counts.{AreWhole}
@@ -77,7 +77,7 @@ pub data Step (g : Setup) (s : State) (c : ℕ) : Turn → Turn → Type 0 where
   Notes : (n : Note) (u : Turn) → is_plain n ≡ true → Step g s c u (noted n u)
   Gives : (i : ℕ) (values : List ℕ) (u : Turn) → i < length g.tasks → length values ≤ 6 → IsParty s c i → Step g s c u (given i values u)
   Returns : (i : ℕ) (u : Turn) → Step g s c u (returned i u)
-  Advances : (u : Turn) → c < length g.tasks → Step g s c u (advanced c u)
+  PassesCall : (u : Turn) → c < length g.tasks → Step g s c u (past_call c u)
   Runs : (registers : List ℕ) (flags : Flags) (u : Turn) → c < length g.tasks → AreWhole registers → Step g s c u (with_processor c registers flags u)
   Clears : (mask : ℕ) (u : Turn) → c < length g.tasks → listen_of u.state c ≡ None → Step g s c u (bits_cleared c mask u)
   Posts : (i bits : ℕ) (u : Turn) → i < length g.tasks → Step g s c u (posted i bits u)

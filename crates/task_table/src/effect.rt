@@ -6,7 +6,7 @@ use kernel_abi::{Note, Timer};
 impl Kernel {
     ghost use Rattle.std.specs.Prelude.{◌≡◌, ◌+◌, ◌<◌, ◌≤◌, length, Option};
     ghost use Rattle.task_table.specs.State.{Setup, Turn};
-    ghost use Rattle.task_table.specs.Effects.{given, returned, advanced, bits_added, bits_cleared, woken, posted, with_timer};
+    ghost use Rattle.task_table.specs.Effects.{given, returned, past_call, bits_added, bits_cleared, woken, posted, with_timer};
     ghost use Rattle.task_table.specs.Rows.{goes_on, goes_on_with};
     ghost use Rattle.task_table.specs.Holds.{Holds, Stands, task_count, note_count};
     ghost use Rattle.task_table.specs.Limits.{turn_notes};
@@ -40,9 +40,9 @@ impl Kernel {
     }
 
     /// The program counter of a task goes past its call.
-    pub(crate) fn advance(&mut self, task: usize)
+    pub(crate) fn go_past_call(&mut self, task: usize)
         requires { task < task_count self.old }
-        ensures holds { (g : Setup) (t : Turn) → Holds g self.old t → Holds g self.new (advanced task t) }
+        ensures holds { (g : Setup) (t : Turn) → Holds g self.old t → Holds g self.new (past_call task t) }
         ensures frame { AddsNotes self.old 0 self.new }
     {
         let mut slot = self.slot(task);
@@ -57,7 +57,7 @@ impl Kernel {
         ensures holds { (g : Setup) (t : Turn) → Holds g self.old t → Holds g self.new (goes_on task t) }
         ensures frame { AddsNotes self.old 1 self.new }
     {
-        self.advance(task);
+        self.go_past_call(task);
         self.note_return(task);
     }
 

@@ -114,7 +114,7 @@ impl Kernel {
         ensures holds { (g : Setup) (t : Turn) → Holds g self.old t → IsIdle t.state task → Holds g self.new (listens task (recv_args (arguments t.state task)) (from_of t.state from) t) }
         ensures frame { AddsNotes self.old 1 self.new }
     {
-        self.advance(task);
+        self.go_past_call(task);
         self.start_listening(task, from);
     }
 
@@ -173,7 +173,7 @@ impl Kernel {
         ensures frame { AddsNotes self.old 2 self.new }
     {
         let args = RecvArgs::of(&self.arguments(server));
-        self.advance(server);
+        self.go_past_call(server);
         self.hand_over(client, server, call, buffer_of(&args));
         self.note_return(server);
     }

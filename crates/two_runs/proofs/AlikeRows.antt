@@ -23,7 +23,7 @@ use Rattle.task_table.specs.declared.Line.{Line}
 use Rattle.task_table.specs.Memory.{Memory, bytes_at, copied as copied_memory}
 use Rattle.task_table.specs.State.{Setup, LineSetup, Task, State, Call, From, Any, One, KernelOnly, Listen, Range, Turn, Ground, Own, Read, MessageFront}
 use Rattle.task_table.specs.Reading.{task_at, line_at, line_off, line_on, register, arguments, call_of, is_out, is_dead, dead_code_for, present, is_valid, bad_byte}
-use Rattle.task_table.specs.Effects.{with_task, without_call, without_listen, with_listen, with_taken, changed, noted, with_processor, with_health, writes_on, stored, copied, looked, with_results, given, returned, advanced, bits_added, bits_cleared, woken_by, woken, posted, with_timer, clocked, with_line, close_notes, closed, faulted_as, faulted, handed}
+use Rattle.task_table.specs.Effects.{with_task, without_call, without_listen, with_listen, with_taken, changed, noted, with_processor, with_health, writes_on, stored, copied, looked, with_results, given, returned, past_call, bits_added, bits_cleared, woken_by, woken, posted, with_timer, clocked, with_line, close_notes, closed, faulted_as, faulted, handed}
 use Rattle.task_table.specs.Rows.{goes_on, goes_on_with, misused, denied, panicked, timer_set, timer_words, timer_told, owns_with, line_controlled, irq_controlled, listened_from, buffer_of, listens, receives_or_listens, offer_of, received, call_noted}
 use Rattle.task_table.specs.Calls.{Meaning, calls, meaning_among, called}
 use Rattle.task_table.proofs.Meanings.{EachMeaning}
@@ -109,9 +109,9 @@ module _ (w : Viewer) (a : IsAttentive w) where
   unfolding given
   alike-given i values t u h = alike-task i _ _ t u (ap (λ (x : Task). record x { registers = with_results values x.registers }) (the_task i t u h)) h
 
-  pub alike-advanced : (i : ℕ) (t u : Turn) → IsAlike w t u → IsAlike w (advanced i t) (advanced i u)
-  unfolding advanced register
-  alike-advanced i t u h = alike-task i _ _ t u (ap (λ (x : Task). record x { registers = slice_set x.registers 15 ((slice_index x.registers 15 + 2) % 2 ^ 32) }) (the_task i t u h)) h
+  pub alike-past_call : (i : ℕ) (t u : Turn) → IsAlike w t u → IsAlike w (past_call i t) (past_call i u)
+  unfolding past_call register
+  alike-past_call i t u h = alike-task i _ _ t u (ap (λ (x : Task). record x { registers = slice_set x.registers 15 ((slice_index x.registers 15 + 2) % 2 ^ 32) }) (the_task i t u h)) h
 
   pub alike-cleared : (i mask : ℕ) (t u : Turn) → IsAlike w t u → IsAlike w (bits_cleared i mask t) (bits_cleared i mask u)
   unfolding bits_cleared
@@ -289,7 +289,7 @@ module _ (w : Viewer) (a : IsAttentive w) where
   -- ## the rows of the calls
 
   alike-goes_on : (c : ℕ) (t u : Turn) → IsAlike w t u → IsAlike w (goes_on c t) (goes_on c u)
-  alike-goes_on c t u h = alike-returned c _ _ (alike-advanced c t u h)
+  alike-goes_on c t u h = alike-returned c _ _ (alike-past_call c t u h)
 
   alike-goes_on_with : (c : ℕ) (values : List ℕ) (t u : Turn) → IsAlike w t u → IsAlike w (goes_on_with c values t) (goes_on_with c values u)
   alike-goes_on_with c values t u h = alike-goes_on c _ _ (alike-given c values t u h)
@@ -391,18 +391,18 @@ module _ (w : Viewer) (a : IsAttentive w) where
   alike-listens : (c : ℕ) (x : RecvArgs) (from other : From) (t u : Turn) → seen_from w.birth from ≡ seen_from w.birth other → IsAlike w t u → IsAlike w (listens c x from t) (listens c x other u)
   unfolding with_listen
   alike-listens c x from other t u same h =
-      let k = alike-advanced c t u h in
+      let k = alike-past_call c t u h in
       let e : listened_from from ≡ listened_from other = sym (listened_same w.birth from) ∙ ap listened_from same ∙ listened_same w.birth other in
       let l : seen_listen w.birth record { task = c; from = from; mask = x.mask; buffer = buffer_of x } ≡ seen_listen w.birth record { task = c; from = other; mask = x.mask; buffer = buffer_of x } = ap (λ f. record { task = c; from = f; mask = x.mask; buffer = buffer_of x }) same in
       alike-told _ _ _ _ (ap (λ f. note.Listen c f x.mask) e) refl
-      (alike-changed _ _ _ _ (alike-with_listen w.birth _ _ (advanced c t).state (advanced c u).state l k.state) refl refl k)
+      (alike-changed _ _ _ _ (alike-with_listen w.birth _ _ (past_call c t).state (past_call c u).state l k.state) refl refl k)
 
   alike-receives_or_listens : (c : ℕ) (x : RecvArgs) (from other : From) (o p : Option Call) (t u : Turn) → seen_from w.birth from ≡ seen_from w.birth other → option_map (seen_call w.birth) o ≡ option_map (seen_call w.birth) p → IsAlike w t u → IsAlikeWhereSeen w (receives_or_listens c x from o t) (receives_or_listens c x other p u)
   alike-receives_or_listens c x from other None None t u same e h = surely (alike-listens c x from other t u same h)
   alike-receives_or_listens c x from other (Some k) None t u same e h = absurd cc
   alike-receives_or_listens c x from other None (Some m) t u same e h = absurd cc
   alike-receives_or_listens c x from other (Some k) (Some m) t u same e h =
-      where_seen-returned c _ _ (alike-handed Own k m (buffer_of x) _ _ inner (alike-advanced c t u h))
+      where_seen-returned c _ _ (alike-handed Own k m (buffer_of x) _ _ inner (alike-past_call c t u h))
     where
       inner : seen_call w.birth k ≡ seen_call w.birth m
       inner = cc

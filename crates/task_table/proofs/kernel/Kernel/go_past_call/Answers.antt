@@ -4,11 +4,11 @@ use Rattle.task_table.specs.Reading.{task_at, register}
 use Rattle.task_table.specs.declared.slot.Slot.{Slot}
 use Rattle.task_table.proofs.Steps as steps
 use Rattle.task_table.proofs.Changes.{same_but-with_task}
-use Rattle.task_table.specs.Effects.{advanced}
-use Rattle.task_table.proofs.kernel.Kernel.advance.Goals as goal
+use Rattle.task_table.specs.Effects.{past_call}
+use Rattle.task_table.proofs.kernel.Kernel.go_past_call.Goals as goal
 
 pub returns-clause-holds : goal.returns-clause-holds
-unfolding advanced register
+unfolding past_call register
 returns-clause-holds c = λ g t h.
     let kept = c.slot-slot.ensures g t h in
     let task = task_at t.state c.args.task in
