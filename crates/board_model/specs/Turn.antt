@@ -1,4 +1,5 @@
 -- One turn of the board: what happens from outside, then one instruction of the chosen task, or an idle turn.
+use Rattle.kernel_abi.specs.Faults.{illegal_fault, illegal_text_fault}
 use Rattle.std.specs.Prelude.{ℕ, ◌+◌, ◌*◌, ◌/◌, ◌%◌, ◌^◌, Bool, ◌&&◌, not, List, [], ◌∷◌, Option, Some, None, find, fold, take, drop, if◌then◌else◌}
 use Rattle.std.specs.List.{range_with_len}
 use Rattle.kernel_abi.specs.declared.Note.{Note}
@@ -14,7 +15,7 @@ use Rattle.thumb_exec.specs.declared.cpu.Cpu.{Cpu}
 use Rattle.thumb_exec.specs.Effect.{Effect, Next, Call, Trap, Store, Refusals, effect}
 use Rattle.task_table.specs.Memory.{number_at, is_ram}
 use Rattle.task_table.specs.State.{Setup, Task, State, Own, Turn}
-use Rattle.task_table.specs.Reading.{task_at, setup_at, register, chosen}
+use Rattle.task_table.specs.Reading.{task_at, setup_at, register, chosen, program_counter}
 use Rattle.task_table.specs.Effects.{changed, noted, with_processor, stored, faulted}
 use Rattle.task_table.specs.Events.{ticked, interrupted}
 use Rattle.task_table.specs.Rows.{first_row, call_noted}
@@ -72,8 +73,8 @@ told All note t = noted note t
 abbrev pub decoded_as : Level → Setup → ℕ → ℕ → ℕ → Decoded → Turn → Turn
 decoded_as level g c at code (Narrow insn) t = executed g c insn (told level (note.Insn c at code) t)
 decoded_as level g c at code (Wide insn) t = executed g c insn (told level (note.Insn c at code) t)
-decoded_as level g c at code Illegal t = faulted g c record { number = 1; x = at; y = 0 } t
-decoded_as level g c at code NeedsSecond t = faulted g c record { number = 1; x = at; y = 0 } t
+decoded_as level g c at code Illegal t = faulted g c (illegal_fault at) t
+decoded_as level g c at code NeedsSecond t = faulted g c (illegal_fault at) t
 
 -- both bytes of a halfword may be executed
 abbrev pub is_text : Setup → ℕ → ℕ → Bool
@@ -85,16 +86,16 @@ stepped_wide level g c at first t =
     let after = (at + 2) % 2 ^ 32 in
     let second = number_at t.state.memory after 2 in
     first_row (
-    (not (is_text g c after), faulted g c record { number = 2; x = after; y = 0 } t)
+    (not (is_text g c after), faulted g c (illegal_text_fault after) t)
     ∷ []) (decoded_as level g c at (first * 2 ^ 16 + second) (decoded_of first (Some second)) t)
 
 -- fetched, decoded, carried out: the first halfword that may not be executed decides
 unfoldable pub stepped : Level → Setup → ℕ → Turn → Turn
 stepped level g c t =
-    let at = register t.state c 15 in
+    let at = register t.state c program_counter in
     let first = number_at t.state.memory at 2 in
     first_row (
-    (not (is_text g c at), faulted g c record { number = 2; x = at; y = 0 } t)
+    (not (is_text g c at), faulted g c (illegal_text_fault at) t)
     ∷ (not (is_wide first), decoded_as level g c at first (decoded_of first None) t)
     ∷ []) (stepped_wide level g c at first t)
 
@@ -146,7 +147,7 @@ turn level x s =
 -- what is told of a turn: the chosen task and its PC before
 abbrev pub turned_of : State → Option ℕ → Turned
 turned_of s None = Idle
-turned_of s (Some c) = Ran c (register s c 15)
+turned_of s (Some c) = Ran c (register s c program_counter)
 
 unfoldable pub turned : Scenario → State → Turned
 turned x s = let u = (after_events x s).state in turned_of u (chosen x.setup u)

@@ -2,13 +2,13 @@
 use Rattle.std.specs.Prelude.{ℕ, ◌≡◌, ◌≢◌, ◌+◌, ◌%◌, ◌≤◌, List, [], ◌++◌, length, slice_index}
 use Rattle.kernel_abi.specs.declared.Note.{Note}
 use Rattle.task_table.specs.State.{State, Turn}
-use Rattle.task_table.specs.Reading.{task_at, is_ready}
+use Rattle.task_table.specs.Reading.{task_at, is_ready, stack_pointer, program_counter}
 
 -- sixteen registers, bit 0 of PC and the two low bits of SP are 0
 pub record AreWhole (registers : List ℕ) : Type 0 where
   pub sixteen : length registers ≡ 16
-  pub even : slice_index registers 15 % 2 ≡ 0
-  pub aligned : slice_index registers 13 % 4 ≡ 0
+  pub even : slice_index registers program_counter % 2 ≡ 0
+  pub aligned : slice_index registers stack_pointer % 4 ≡ 0
 
 -- the same tasks are there at the same turn and time, and no call has begun
 pub record IsSameTime (s u : State) : Type 0 where

@@ -14,7 +14,7 @@ use Rattle.words_core.specs.declared.Flags.{Flags}
 use Rattle.task_table.specs.declared.Line.{Line}
 use Rattle.task_table.specs.Memory.{with_bytes, bytes_at, copied as copied_memory}
 use Rattle.task_table.specs.State.{Setup, TaskSetup, Task, Call, Taken, Listen, Range, State, Ground, Write, Read, MessageFront, Turn}
-use Rattle.task_table.specs.Reading.{task_at, register, call_of, listen_of, no_flags}
+use Rattle.task_table.specs.Reading.{task_at, register, call_of, listen_of, no_flags, program_counter}
 
 -- ## one part of a state changed
 
@@ -101,7 +101,7 @@ returned i t = noted (note.Ret i (slice_range (task_at t.state i).registers 4 10
 -- the program counter goes past the call
 unfoldable pub past_call : ℕ → Turn → Turn
 past_call i t =
-    changed (with_task i record (task_at t.state i) { registers = slice_set (task_at t.state i).registers 15 ((register t.state i 15 + 2) % 2 ^ 32) }) t
+    changed (with_task i record (task_at t.state i) { registers = slice_set (task_at t.state i).registers program_counter ((register t.state i program_counter + 2) % 2 ^ 32) }) t
 
 -- ## bits are posted
 

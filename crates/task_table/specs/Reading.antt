@@ -37,6 +37,16 @@ line_on = record { enabled = true; pending = false }
 unfoldable pub line_at : State → ℕ → Line
 line_at s k = slice_index_or s.lines k no_line
 
+-- the numbers of the registers that have a part of their own: SP, PC, and the one that holds a call's number
+abbrev pub stack_pointer : ℕ
+stack_pointer = 13
+
+abbrev pub program_counter : ℕ
+program_counter = 15
+
+abbrev pub call_selector : ℕ
+call_selector = 11
+
 -- a register of a task
 unfoldable pub register : State → ℕ → ℕ → ℕ
 register s i r = slice_index (task_at s i).registers r

@@ -1,4 +1,7 @@
 -- The rows of the calls. Of the rows of a call the first applies whose condition holds.
+use Rattle.kernel_abi.specs.declared.Access.TheVariants.{KernelWrite}
+use Rattle.kernel_abi.specs.declared.Usage.TheVariants.{NoIrq, InvalidSlice, BadTaskIndex}
+use Rattle.kernel_abi.specs.Faults.{usage_number, access_number, panic_fault}
 use Rattle.std.specs.Prelude.{ℕ, ◌/◌, ◌%◌, ◌^◌, Bool, ◌&&◌, ◌||◌, not, false, List, [], ◌∷◌, Option, None, Some, is_some, unwrap_or, ◌==◌, nat_le, bit_and, cond, if◌then◌else◌, filter, fold, slice_range}
 use Rattle.std.specs.List.{list_any}
 use Rattle.kernel_abi.specs.Arguments.{recv_args, timer_args, irq_args}
@@ -10,7 +13,7 @@ use Rattle.kernel_abi.specs.declared.Note.TheVariants as note
 use Rattle.kernel_abi.specs.declared.Timer.{Timer}
 use Rattle.region_check.specs.declared.Right.TheVariants.{Write}
 use Rattle.task_table.specs.State.{Setup, LineSetup, State, Call, From, Any, One, KernelOnly, Range, Own, Turn}
-use Rattle.task_table.specs.Reading.{task_at, line_at, line_off, line_on, register, arguments, present, is_out, is_dead, dead_code_for, is_valid, bad_byte, offer_by}
+use Rattle.task_table.specs.Reading.{task_at, line_at, line_off, line_on, register, arguments, present, is_out, is_dead, dead_code_for, is_valid, bad_byte, offer_by, call_selector}
 use Rattle.task_table.specs.Effects.{changed, noted, given, returned, past_call, bits_cleared, posted, with_listen, with_timer, with_line, handed, faulted}
 
 -- ## how rows are written
@@ -23,7 +26,7 @@ first_row (row ∷ rows) otherwise = cond row.0 row.1 (first_row rows otherwise)
 abbrev pub misused : Setup → ℕ → ℕ → Turn → Turn
 misused g c usage t = faulted g c record { number = 7; x = usage; y = 0 } t
 
--- the caller faults at a byte that it may not read (y 2) or write (y 3)
+-- the caller faults at a byte that the kernel may not read or write for it (y: the number of that access)
 abbrev pub denied : Setup → ℕ → ℕ → Option ℕ → Turn → Turn
 denied g c y bad t = faulted g c record { number = 3; x = unwrap_or bad 0; y = y } t
 
@@ -37,7 +40,7 @@ goes_on_with c values t = goes_on c (given c values t)
 -- ## PANIC: r4 and r5 are told, nothing is read
 
 unfoldable pub panicked : Setup → ℕ → Turn → Turn
-panicked g c t = faulted g c record { number = 8; x = register t.state c 4; y = register t.state c 5 } t
+panicked g c t = faulted g c (panic_fault (register t.state c 4) (register t.state c 5)) t
 
 -- ## SET_TIMER: r4 whether to set, r5 and r6 the deadline's low and high word, r7 bits
 
@@ -79,7 +82,7 @@ unfoldable pub irq_controlled : Setup → ℕ → Turn → Turn
 irq_controlled g c t =
     let x = irq_args (arguments t.state c) in
     first_row (
-    (not (list_any (owns_with c x.bits) g.lines), misused g c 6 t)
+    (not (list_any (owns_with c x.bits) g.lines), misused g c (usage_number NoIrq) t)
     ∷ []) (goes_on c (fold (λ u o. line_controlled c x.bits x.enable o.line u) t (filter (owns_with c x.bits) g.lines)))
 
 -- ## RECV: r4 and r5 buffer, r6 mask, r7 bit 31 whether it is closed, bits 15 to 0 to whom
@@ -146,13 +149,13 @@ received g c best t =
     let buffer = buffer_of x in
     let id = x.sender.number in
     first_row (
-    (not (is_valid buffer), misused g c 3 t)
-    ∷ (is_some (bad_byte g c Write buffer), denied g c 3 (bad_byte g c Write buffer) t)
-    ∷ (x.closed && not (id == 0xFFFF) && (is_out s id || (index_of id == c)), misused g c 2 t)
+    (not (is_valid buffer), misused g c (usage_number InvalidSlice) t)
+    ∷ (is_some (bad_byte g c Write buffer), denied g c (access_number KernelWrite) (bad_byte g c Write buffer) t)
+    ∷ (x.closed && not (id == 0xFFFF) && (is_out s id || (index_of id == c)), misused g c (usage_number BadTaskIndex) t)
     ∷ []) (input_received c best t)
 
 -- ## a call
 
 -- the line of a call: its number in r11, its arguments in r4 to r10
 unfoldable pub call_noted : ℕ → Turn → Turn
-call_noted c t = noted (note.Call c (register t.state c 11) (slice_range (task_at t.state c).registers 4 11)) t
+call_noted c t = noted (note.Call c (register t.state c call_selector) (slice_range (task_at t.state c).registers 4 11)) t

@@ -5,7 +5,7 @@ use Rattle.kernel_abi.specs.declared.Health.TheVariants.{Well, Stopped, Faulted}
 use Rattle.region_check.specs.declared.Right.TheVariants.{Read, Write}
 use Rattle.task_table.specs.Placed.{ArePlaced}
 use Rattle.task_table.specs.State.{Setup, LineSetup, Task, Call, Listen, State, Birth, Offered, One}
-use Rattle.task_table.specs.Reading.{task_at, line_at, admits, is_valid, bad_byte}
+use Rattle.task_table.specs.Reading.{task_at, line_at, admits, is_valid, bad_byte, stack_pointer, program_counter}
 
 -- ## the parts, each over no more of a state than it speaks of
 
@@ -69,8 +69,8 @@ IsFaultKnown (Faulted f) = (1 ≤ f.number) × (f.number ≤ 10)
 
 pub record IsSaneTask (t : Task) : Type 0 where
   pub sixteen : length t.registers ≡ 16
-  pub even : slice_index t.registers 15 % 2 ≡ 0
-  pub aligned : slice_index t.registers 13 % 4 ≡ 0
+  pub even : slice_index t.registers program_counter % 2 ≡ 0
+  pub aligned : slice_index t.registers stack_pointer % 4 ≡ 0
   pub fault : IsFaultKnown t.health
 
 -- a pending line is disabled and owned
