@@ -1,5 +1,5 @@
 -- What a post and a fault leave alone.
-use Rattle.std.proofs.Common.{◌≡◌, ◌≢◌, ◌-◌, ◌^◌, ◌<◌, ℕ, Bool, true, false, cond, List, [], ◌∷◌, length, Option, Some, None, refl, sym, ◌∙◌, ap, eqb, bit_and, bit_or, arith}
+use Rattle.std.proofs.Common.{◌≡◌, ◌≢◌, ◌-◌, ◌^◌, ◌<◌, ℕ, Bool, true, false, cond, [], ◌∷◌, length, Option, Some, None, refl, sym, ◌∙◌, ap, eqb, bit_and, bit_or, arith}
 use Rattle.std.proofs.lemmas.Bool.{eq-eqb, eqb-true, false≢true}
 use Rattle.kernel_abi.specs.declared.Ending.TheVariants.{Client}
 use Rattle.kernel_abi.specs.declared.Fault.{Fault}
@@ -7,10 +7,10 @@ use Rattle.kernel_abi.specs.declared.Health.{Health}
 use Rattle.kernel_abi.specs.declared.Health.TheVariants.{Faulted}
 use Rattle.kernel_abi.specs.declared.Note.TheVariants as note
 use Rattle.task_table.specs.State.{Setup, State, Task, Listen, Turn}
-use Rattle.task_table.specs.Reading.{task_at, listen_of, IsSameBut}
+use Rattle.task_table.specs.Reading.{task_at, listen_of, IsIdle, IsSameAt, IsSameBut}
 use Rattle.task_table.specs.Effects.{with_task, without_call, without_listen, changed, noted, with_health, with_results, given, returned, bits_added, bits_cleared, woken_by, woken, posted, closed, faulted_as, faulted}
 use Rattle.task_table.specs.Start.{begun}
-use Rattle.task_table.proofs.Changes.{task_at-with_task, length-with_task, same_but-with_task, same_but-without_call, same_but-without_listen, task_at-without_call, task_at-without_listen}
+use Rattle.task_table.proofs.Changes.{task_at-with_task, call_of-with_task, listen_of-with_task, length-with_task, call_of-without_call, listen_of-without_call, call_of-without_listen, listen_of-without_listen, same_but-with_task, same_but-without_call, same_but-without_listen, task_at-without_call, task_at-without_listen}
 use Rattle.task_table.proofs.Moves.{aside-posted}
 use Rattle.board_model.specs.Faults.{IsSameButForFault}
 
@@ -57,69 +57,67 @@ same_but-posted i bits t =
     let u = bits_added i bits t in
     same_but_then i t.state u.state _ (same_but-with_task t.state i _) (same_but-woken_by i (listen_of u.state i) u)
 
--- ## what a post makes of its task
+-- ## a post does the same to a task that is the same
 
--- a task that listens so has taken its bits under the mask
-after_wake : Task → Option Listen → Task
-after_wake x None = x
-after_wake x (Some l) =
-    let under = bit_and x.posted l.mask in
-    cond (eqb under 0) x record x { registers = with_results (0 ∷ 0xFFFF ∷ under ∷ 0 ∷ 0 ∷ 0 ∷ []) x.registers; posted = bit_and x.posted (2 ^ 32 - 1 - l.mask) }
+both-with_task : (i : ℕ) (x y : Task) (s u : State) → y ≡ x → i < length s.tasks → i < length u.tasks → IsSameAt i s u → IsSameAt i (with_task i x s) (with_task i y u)
+both-with_task i x y s u e a b h = record {
+  task = task_at-with_task u i y b ∙ e ∙ sym (task_at-with_task s i x a);
+  call = call_of-with_task u i i y ∙ h.call ∙ sym (call_of-with_task s i i x);
+  listen = listen_of-with_task u i i y ∙ h.listen ∙ sym (listen_of-with_task s i i x);
+}
 
-after_post : ℕ → Task → Option Listen → Task
-after_post bits x lo = after_wake record x { posted = bit_or x.posted bits } lo
+both-without_listen : (i : ℕ) (s u : State) → IsSameAt i s u → IsSameAt i (without_listen i s) (without_listen i u)
+both-without_listen i s u h = record {
+  task = task_at-without_listen u i i ∙ h.task ∙ sym (task_at-without_listen s i i);
+  call = call_of-without_listen u i i ∙ h.call ∙ sym (call_of-without_listen s i i);
+  listen = listen_of-without_listen u i ∙ sym (listen_of-without_listen s i);
+}
 
-task-woken_by : (i : ℕ) (lo : Option Listen) (t : Turn) → i < length t.state.tasks → task_at (woken_by i lo t).state i ≡ after_wake (task_at t.state i) lo
-unfolding returned noted given bits_cleared after_wake
-task-woken_by i None t inside = refl
-task-woken_by i (Some l) t inside = by_bits (eqb (bit_and (task_at t.state i).posted l.mask) 0)
+there : (i j : ℕ) (x : Task) (s : State) → j < length s.tasks → j < length (with_task i x s).tasks
+there i j x s inside = rw (length-with_task s i x) inside
+
+both-woken_by : (i : ℕ) (lo : Option Listen) (t u : Turn) → i < length t.state.tasks → i < length u.state.tasks → IsSameAt i t.state u.state → IsSameAt i (woken_by i lo t).state (woken_by i lo u).state
+unfolding returned noted given bits_cleared
+both-woken_by i None t u a b h = h
+both-woken_by i (Some l) t u a b h = by_bits (eqb (under t) 0) (eqb (under u) 0) (ap (λ n. eqb n 0) same_bits)
   where
-    x : Task
-    x = task_at t.state i
+    under : Turn → ℕ
+    under v = bit_and (task_at v.state i).posted l.mask
 
-    y : Task
-    y = record x { posted = bit_and x.posted (2 ^ 32 - 1 - l.mask) }
+    same_bits : under u ≡ under t
+    same_bits = ap (λ (x : Task). bit_and x.posted l.mask) h.task
 
-    values : List ℕ
-    values = 0 ∷ 0xFFFF ∷ bit_and x.posted l.mask ∷ 0 ∷ 0 ∷ 0 ∷ []
+    cleared : Turn → Turn
+    cleared v = bits_cleared i l.mask (changed (without_listen i) v)
 
-    u : State
-    u = without_listen i t.state
+    told : Turn → Turn
+    told v = returned i (given i (0 ∷ 0xFFFF ∷ under v ∷ 0 ∷ 0 ∷ 0 ∷ []) (cleared v))
 
-    v : Turn
-    v = bits_cleared i l.mask (changed (without_listen i) t)
+    inside : (s : State) → i < length s.tasks → i < length (without_listen i s).tasks
+    inside s lt = rw (same_but-without_listen s i).count lt
 
-    at_u : task_at u i ≡ x
-    at_u = task_at-without_listen t.state i i
+    both_unlistened : IsSameAt i (without_listen i t.state) (without_listen i u.state)
+    both_unlistened = both-without_listen i t.state u.state h
 
-    inside_u : i < length u.tasks
-    inside_u = rw (same_but-without_listen t.state i).count inside
+    both_cleared : IsSameAt i (cleared t).state (cleared u).state
+    both_cleared = both-with_task i _ _ _ _ (ap (λ (x : Task). record x { posted = bit_and x.posted (2 ^ 32 - 1 - l.mask) }) both_unlistened.task) (inside t.state a) (inside u.state b) both_unlistened
 
-    at_v : task_at v.state i ≡ y
-    at_v = task_at-with_task u i _ inside_u ∙ ap (λ (z : Task). record z { posted = bit_and z.posted (2 ^ 32 - 1 - l.mask) }) at_u
+    both_told : IsSameAt i (told t).state (told u).state
+    both_told = both-with_task i _ _ _ _ (λ j. let x = both_cleared.task j in record x { registers = with_results (0 ∷ 0xFFFF ∷ same_bits j ∷ 0 ∷ 0 ∷ 0 ∷ []) x.registers }) (there i i _ _ (inside t.state a)) (there i i _ _ (inside u.state b)) both_cleared
 
-    inside_v : i < length v.state.tasks
-    inside_v = rw (length-with_task u i _) inside_u
+    by_bits : (x y : Bool) → y ≡ x → IsSameAt i (cond x t (told t)).state (cond y u (told u)).state
+    by_bits true true e = h
+    by_bits false false e = both_told
+    by_bits true false e = absurd (false≢true e)
+    by_bits false true e = absurd (false≢true (sym e))
 
-    at_w : task_at (given i values v).state i ≡ record y { registers = with_results values y.registers }
-    at_w = task_at-with_task v.state i _ inside_v ∙ ap (λ (z : Task). record z { registers = with_results values z.registers }) at_v
-
-    by_bits : (b : Bool) → task_at (cond b t (returned i (given i values v))).state i ≡ cond b x record y { registers = with_results values y.registers }
-    by_bits true = refl
-    by_bits false = at_w
-
--- it depends on the task and its listen alone
-task-posted : (i bits : ℕ) (t : Turn) → i < length t.state.tasks → task_at (posted i bits t).state i ≡ after_post bits (task_at t.state i) (listen_of t.state i)
-unfolding posted woken bits_added noted after_post listen_of with_task
-task-posted i bits t inside =
-    let u = bits_added i bits t in
-    task-woken_by i (listen_of u.state i) u (rw (length-with_task t.state i _) inside)
-    ∙ ap (λ (x : Task). after_wake x (listen_of t.state i)) (task_at-with_task t.state i _ inside)
-
--- so it does the same to a task that is the same
-pub posted_begun : (i bits : ℕ) (t : Turn) (s : State) → i < length t.state.tasks → i < length s.tasks → task_at t.state i ≡ task_at s i → listen_of t.state i ≡ listen_of s i → task_at (posted i bits t).state i ≡ task_at (posted i bits (begun s)).state i
-unfolding begun
-posted_begun i bits t s a b task listen = task-posted i bits t a ∙ (λ j. after_post bits (task j) (listen j)) ∙ sym (task-posted i bits (begun s) b)
+pub both-posted : (i bits : ℕ) (t u : Turn) → i < length t.state.tasks → i < length u.state.tasks → IsSameAt i t.state u.state → IsSameAt i (posted i bits t).state (posted i bits u).state
+unfolding posted woken bits_added noted
+both-posted i bits t u a b h =
+    let v = bits_added i bits t in
+    let w = bits_added i bits u in
+    let added : IsSameAt i v.state w.state = both-with_task i _ _ t.state u.state (ap (λ (x : Task). record x { posted = bit_or x.posted bits }) h.task) a b h in
+    rw added.listen (both-woken_by i (listen_of v.state i) v w (there i i _ t.state a) (there i i _ u.state b) added)
 
 -- ## a fault
 
@@ -130,7 +128,7 @@ pub record IsLoneFault (g : Setup) (c : ℕ) (t u : Turn) : Type 0 where
   pub reads : u.reads ≡ t.reads
 
 module _ (g : Setup) (c : ℕ) (f : Fault) (t : Turn) where
-  s : State
+  abbrev s : State
   s = t.state
 
   -- it is Faulted and waits for nothing, and no one is told
@@ -141,31 +139,39 @@ module _ (g : Setup) (c : ℕ) (f : Fault) (t : Turn) where
   stopped = with_task c record (task_at s c) { health = Faulted f } s
 
   same_but-shut : IsSameBut c s shut.state
-  unfolding s shut stopped closed noted with_health
+  unfolding shut stopped closed noted with_health
   same_but-shut =
       let unlistened = without_listen c stopped in
       same_but_then c s stopped (without_call c unlistened) (same_but-with_task s c _)
       (same_but_then c stopped unlistened (without_call c unlistened) (same_but-without_listen stopped c) (same_but-without_call unlistened c))
 
   task-shut : c < length s.tasks → task_at shut.state c ≡ record (task_at s c) { health = Faulted f }
-  unfolding s shut stopped closed noted with_health
+  unfolding shut stopped closed noted with_health
   task-shut inside =
       let unlistened = without_listen c stopped in
       task_at-without_call unlistened c c ∙ task_at-without_listen stopped c c ∙ task_at-with_task s c _ inside
+
+  idle-shut : IsIdle shut.state c
+  unfolding shut stopped closed noted with_health
+  idle-shut =
+      let unlistened = without_listen c stopped in
+      record { call = call_of-without_call unlistened c; listen = listen_of-without_call unlistened c c ∙ listen_of-without_listen stopped c }
 
   silent-shut : (shut.writes ≡ t.writes) × (shut.reads ≡ t.reads)
   unfolding shut closed noted with_health
   silent-shut = (refl, refl)
 
+  same_at-shut : (i : ℕ) → i ≢ c → IsSameAt i s shut.state
+  same_at-shut i ne = record { task = same_but-shut.task i ne; call = same_but-shut.call i ne; listen = same_but-shut.listen i ne }
+
   faulted_is : (x y : Task) → y ≡ record x { health = Faulted f } → y ≡ record x { health = y.health }
   faulted_is x y e = e ∙ ap (λ (h : Health). record x { health = h }) (sym (ap (λ (z : Task). z.health) e))
 
   lone : (u : Turn) → IsSameButForFault g c s u.state → u.writes ≡ t.writes → u.reads ≡ t.reads → IsLoneFault g c t u
-  unfolding s
   lone u same writes reads = record { same = same; writes = writes; reads = reads }
 
   pub lone-faulted : c < length t.state.tasks → IsLoneFault g c t (faulted g c f t)
-  unfolding s shut faulted_as
+  unfolding shut faulted_as begun
   lone-faulted inside = by_zero (eqb c 0) refl
     where
       first : 0 < length s.tasks
@@ -174,8 +180,9 @@ module _ (g : Setup) (c : ℕ) (f : Fault) (t : Turn) where
       by_zero : (b : Bool) → eqb c 0 ≡ b → IsLoneFault g c t (cond b shut (posted 0 g.fault_bits shut))
       by_zero true e = lone shut record {
         task = faulted_is (task_at s c) (task_at shut.state c) (task-shut inside);
+        idle = idle-shut;
         supervisor = λ ne. absurd (ne (eqb-true c 0 e));
-        others = λ i apart below. record { task = same_but-shut.task i apart; call = same_but-shut.call i apart; listen = same_but-shut.listen i apart };
+        others = λ i apart above. same_at-shut i apart;
         memory = same_but-shut.memory;
         now = same_but-shut.now;
         next_call = same_but-shut.next_call;
@@ -189,12 +196,9 @@ module _ (g : Setup) (c : ℕ) (f : Fault) (t : Turn) where
           let other : 0 ≢ c = λ same. apart (sym same) in
           lone u record {
             task = faulted_is (task_at s c) (task_at u.state c) (told.task c apart ∙ task-shut inside);
-            supervisor = λ ne. posted_begun 0 g.fault_bits shut s (rw same_but-shut.count first) first (same_but-shut.task 0 other) (same_but-shut.listen 0 other);
-            others = λ i other above. record {
-              task = told.task i above ∙ same_but-shut.task i other;
-              call = told.call i above ∙ same_but-shut.call i other;
-              listen = told.listen i above ∙ same_but-shut.listen i other;
-            };
+            idle = record { call = told.call c apart ∙ idle-shut.call; listen = told.listen c apart ∙ idle-shut.listen };
+            supervisor = λ ne. both-posted 0 g.fault_bits (begun s) shut first (rw same_but-shut.count first) (same_at-shut 0 other);
+            others = λ i other above. let o = same_at-shut i other in record { task = told.task i above ∙ o.task; call = told.call i above ∙ o.call; listen = told.listen i above ∙ o.listen };
             memory = told.memory ∙ same_but-shut.memory;
             now = told.now ∙ same_but-shut.now;
             next_call = told.next_call ∙ same_but-shut.next_call;

@@ -122,12 +122,9 @@ pub by_outcome : {g : Setup} {c : ℕ} {t : Turn} (b : Bool) {x y : Turn} → Ou
 by_outcome true here later = here
 by_outcome false here later = later
 
-module _ (g : Setup) (c : ℕ) (t : Turn) (inside : c < length t.state.tasks) (h : IsWell c t) where
+module _ (g : Setup) (c : ℕ) (t : Turn) (inside : c < length t.state.tasks) where
   pub outcome-faulted : (f : Fault) → Outcome g c t (faulted g c f t)
   outcome-faulted f = FaultsAlone (lone-faulted g c f t inside)
-
-  stays : {u : Turn} → IsWell c u → Outcome g c t u
-  stays w = StaysWell w
 
   outcome-misused : (usage : ℕ) → Outcome g c t (misused g c usage t)
   outcome-misused usage = outcome-faulted _
@@ -136,46 +133,48 @@ module _ (g : Setup) (c : ℕ) (t : Turn) (inside : c < length t.state.tasks) (h
   unfolding panicked
   outcome-panicked = outcome-faulted _
 
-  outcome-timer_set : Outcome g c t (timer_set c t)
-  unfolding timer_set
-  outcome-timer_set =
-      let x = timer_args (arguments t.state c) in
-      by_outcome (not x.set) (stays (goes c _ (well-timer c c None t h)))
-      (by_outcome (leb x.deadline t.state.now) (stays (goes c _ (well-posted c c x.bits _ (well-timer c c None t h))))
-      (stays (goes c _ (well-timer c c _ t h))))
+  -- the rows that may go on
+  module _ (h : IsWell c t) where
+    outcome-timer_set : Outcome g c t (timer_set c t)
+    unfolding timer_set
+    outcome-timer_set =
+        let x = timer_args (arguments t.state c) in
+        by_outcome (not x.set) (StaysWell (goes c _ (well-timer c c None t h)))
+        (by_outcome (leb x.deadline t.state.now) (StaysWell (goes c _ (well-posted c c x.bits _ (well-timer c c None t h))))
+        (StaysWell (goes c _ (well-timer c c _ t h))))
 
-  outcome-timer_told : Outcome g c t (timer_told c t)
-  unfolding timer_told
-  outcome-timer_told = stays (goes_with c _ t h)
+    outcome-timer_told : Outcome g c t (timer_told c t)
+    unfolding timer_told
+    outcome-timer_told = StaysWell (goes_with c _ t h)
 
-  outcome-irq_controlled : Outcome g c t (irq_controlled g c t)
-  unfolding irq_controlled
-  outcome-irq_controlled =
-      let x = irq_args (arguments t.state c) in
-      by_outcome (not (list_any (owns_with c x.bits) g.lines)) (outcome-misused 6)
-      (stays (goes c _ (well-all_controlled c x.bits x.enable (filter (owns_with c x.bits) g.lines) t h)))
+    outcome-irq_controlled : Outcome g c t (irq_controlled g c t)
+    unfolding irq_controlled
+    outcome-irq_controlled =
+        let x = irq_args (arguments t.state c) in
+        by_outcome (not (list_any (owns_with c x.bits) g.lines)) (outcome-misused 6)
+        (StaysWell (goes c _ (well-all_controlled c x.bits x.enable (filter (owns_with c x.bits) g.lines) t h)))
 
-  outcome-received : (best : Option ℕ) → Outcome g c t (received g c best t)
-  unfolding received
-  outcome-received best =
-      let s = t.state in
-      let x = recv_args (arguments s c) in
-      let buffer = buffer_of x in
-      let id = x.sender.number in
-      by_outcome (not (is_valid buffer)) (outcome-misused 3)
-      (by_outcome (is_some (bad_byte g c Write buffer)) (outcome-faulted _)
-      (by_outcome (x.closed && not (eqb id 0xFFFF) && (is_out s id || eqb (index_of id) c)) (outcome-misused 2)
-      (by_outcome (not (eqb (bit_and (task_at s c).posted x.mask) 0)) (stays (goes_with c _ _ (well-cleared c c x.mask t h)))
-      (by_outcome (x.closed && eqb id 0xFFFF) (stays (well-listens c x KernelOnly t h))
-      (by_outcome (x.closed && is_dead s id) (stays (goes_with c _ t h))
-      (by_outcome x.closed (stays (receives_or c x (One (present s (index_of id))) (offer_by s (index_of id) c) t h))
-      (stays (receives_or c x Any (offer_of s c best) t h))))))))
+    outcome-received : (best : Option ℕ) → Outcome g c t (received g c best t)
+    unfolding received
+    outcome-received best =
+        let s = t.state in
+        let x = recv_args (arguments s c) in
+        let buffer = buffer_of x in
+        let id = x.sender.number in
+        by_outcome (not (is_valid buffer)) (outcome-misused 3)
+        (by_outcome (is_some (bad_byte g c Write buffer)) (outcome-faulted _)
+        (by_outcome (x.closed && not (eqb id 0xFFFF) && (is_out s id || eqb (index_of id) c)) (outcome-misused 2)
+        (by_outcome (not (eqb (bit_and (task_at s c).posted x.mask) 0)) (StaysWell (goes_with c _ _ (well-cleared c c x.mask t h)))
+        (by_outcome (x.closed && eqb id 0xFFFF) (StaysWell (well-listens c x KernelOnly t h))
+        (by_outcome (x.closed && is_dead s id) (StaysWell (goes_with c _ t h))
+        (by_outcome x.closed (StaysWell (receives_or c x (One (present s (index_of id))) (offer_by s (index_of id) c) t h))
+        (StaysWell (receives_or c x Any (offer_of s c best) t h))))))))
 
-  -- a call of a list is one of its meanings, or a misuse
-  among : (list : List (ℕ × Meaning)) (n : ℕ) → EachMeaning (λ m. Outcome g c t (m g c t)) list → Outcome g c t (meaning_among list n g c t)
-  among [] n each = outcome-misused 1
-  among (call ∷ list) n each = by_outcome (eqb n call.0) each.0 (among list n each.1)
+    -- a call of a list is one of its meanings, or a misuse
+    among : (list : List (ℕ × Meaning)) (n : ℕ) → EachMeaning (λ m. Outcome g c t (m g c t)) list → Outcome g c t (meaning_among list n g c t)
+    among [] n each = outcome-misused 1
+    among (call ∷ list) n each = by_outcome (eqb n call.0) each.0 (among list n each.1)
 
-  pub outcome-called : Outcome g c t (called g c t)
-  unfolding called
-  outcome-called = among calls (register t.state c 11) (outcome-received (best_sender g t.state c), (outcome-timer_set, (outcome-irq_controlled, (outcome-panicked, (outcome-timer_told, tt)))))
+    pub outcome-called : Outcome g c t (called g c t)
+    unfolding called
+    outcome-called = among calls (register t.state c 11) (outcome-received (best_sender g t.state c), (outcome-timer_set, (outcome-irq_controlled, (outcome-panicked, (outcome-timer_told, tt)))))

@@ -32,7 +32,7 @@ use Rattle.board_model.specs.Turn.{put, acted, executed, told, decoded_as, is_te
 use Rattle.board_model.specs.Faults.{IsSameButForFault}
 use Rattle.board_model.proofs.TurnChains.{IsChosen, chosen_is, sane-after_events}
 use Rattle.board_model.proofs.Stepping.{puts_state}
-use Rattle.board_model.proofs.FaultFrames.{posted_begun}
+use Rattle.board_model.proofs.FaultFrames.{both-posted}
 use Rattle.board_model.proofs.FaultRows.{IsWell, well-processor, Outcome, FaultsAlone, StaysWell, by_outcome, outcome-faulted, outcome-called}
 
 -- ## what is told before, and after
@@ -59,7 +59,7 @@ module _ (g : Setup) (c : ℕ) where
   unfolding call_noted noted
   outcome-acted t inside h (Next cpu stores) = StaysWell (well-processor c c cpu.regs.words cpu.flags _ (well-puts c stores t h))
   outcome-acted t inside h Call = told_before g c _ t _ (outcome-called g c (call_noted c t) inside h)
-  outcome-acted t inside h (Trap f) = outcome-faulted g c t inside h f
+  outcome-acted t inside h (Trap f) = outcome-faulted g c t inside f
 
   outcome-executed : (level : Level) (at code : ℕ) (insn : Insn) (t : Turn) → c < length t.state.tasks → IsWell c t → Outcome g c t (executed g c insn (told level (note.Insn c at code) t))
   unfolding noted
@@ -70,8 +70,8 @@ module _ (g : Setup) (c : ℕ) where
     outcome-decoded : (at code : ℕ) (d : Decoded) → Outcome g c t (decoded_as level g c at code d t)
     outcome-decoded at code (Narrow insn) = outcome-executed level at code insn t inside h
     outcome-decoded at code (Wide insn) = outcome-executed level at code insn t inside h
-    outcome-decoded at code Illegal = outcome-faulted g c t inside h _
-    outcome-decoded at code NeedsSecond = outcome-faulted g c t inside h _
+    outcome-decoded at code Illegal = outcome-faulted g c t inside _
+    outcome-decoded at code NeedsSecond = outcome-faulted g c t inside _
 
     outcome-stepped : Outcome g c t (stepped level g c t)
     unfolding stepped
@@ -80,9 +80,9 @@ module _ (g : Setup) (c : ℕ) where
         let at = register t.state c 15 in
         let after = (at + 2) % 2 ^ 32 in
         let first = number_at m at 2 in
-        by_outcome (not (is_text g c at)) (outcome-faulted g c t inside h _)
+        by_outcome (not (is_text g c at)) (outcome-faulted g c t inside _)
         (by_outcome (not (is_wide first)) (outcome-decoded at first (decoded_of first None))
-        (by_outcome (not (is_text g c after)) (outcome-faulted g c t inside h _)
+        (by_outcome (not (is_text g c after)) (outcome-faulted g c t inside _)
         (outcome-decoded at (first * 2 ^ 16 + number_at m after 2) (decoded_of first (Some (number_at m after 2))))))
 
     outcome-ran : Outcome g c t (with_registers_told level c (stepped level g c t))
@@ -113,7 +113,11 @@ from_events : (g : Setup) (c n : ℕ) (s u : State) → 0 < length s.tasks → I
 unfolding begun task_at call_of listen_of
 from_events g c n s u inside h = record {
   task = h.task;
-  supervisor = λ ne. h.supervisor ne ∙ posted_begun 0 g.fault_bits (begun record s { current = c }) s inside inside refl refl;
+  idle = record { call = h.idle.call; listen = h.idle.listen };
+  supervisor = λ ne.
+      let told = h.supervisor ne in
+      let same = both-posted 0 g.fault_bits (begun s) (begun record s { current = c }) inside inside record { task = refl; call = refl; listen = refl } in
+      record { task = told.task ∙ same.task; call = told.call ∙ same.call; listen = told.listen ∙ same.listen };
   others = λ i apart above. let o = h.others i apart above in record { task = o.task; call = o.call; listen = o.listen };
   memory = h.memory;
   now = h.now;
@@ -126,12 +130,6 @@ pub record IsFaultedTurn (g : Setup) (c : ℕ) (s : State) (u : Turn) : Type 0 w
   pub same : IsSameButForFault g c s u.state
   pub writes : u.writes ≡ []
   pub reads : u.reads ≡ []
-
-none_some : {A : Type 0} {a : A} → None ≡ Some a → ⊥
-none_some e = cc
-
-same_some : {A : Type 0} {a b : A} → Some a ≡ Some b → a ≡ b
-same_some e = cc
 
 well_is_none : (health : Health) → health ≡ Well → is_faulted health ≡ true → ⊥
 well_is_none health well faulted = false≢true (sym (ap is_faulted well) ∙ faulted)
@@ -166,5 +164,5 @@ faulted_turn level x s c sane e = by_choice (chosen x.setup t.state) e
     by_task d same = rw same (by_outcomes (outcome-ran x.setup c level u is.inside (well-ready t.state c is.ready)))
 
     by_choice : (o : Option ℕ) → o ≡ Some c → is_faulted (task_at (ended (turn_of level x.setup o t)).state c).health ≡ true → IsFaultedTurn x.setup c t.state (ended (turn_of level x.setup o t))
-    by_choice None none = absurd (none_some none)
-    by_choice (Some d) same = by_task d (same_some same)
+    by_choice None none = absurd cc
+    by_choice (Some d) same = by_task d cc

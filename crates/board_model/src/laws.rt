@@ -55,10 +55,10 @@ pub fn turns_without_notes_keep_the_choice()
     ensures down { (level : Detail) (x : Scenario) (s : State) → Sane x.setup s → (turn level x s).notes ≡ [] → is_down (turn level x s).state ≡ is_down (after_events x s).state }
 {}
 
-/// A turn in which the chosen task faults, by an instruction or a call, changes nothing else: memory and all the
-/// registers and flags of the task are as they were after the events of the turn; of the other tasks only task 0
-/// changes, by the post of its fault bits; nothing was written, and nothing read at another task's place.
-/// (Hubris Reference: supervision.)
+/// A fault changes nothing else. Where an instruction or a call faults the task that was chosen, memory and all the
+/// registers and flags of the task are after the turn as they were after its events, nothing was written or read for
+/// another task, and of the other tasks only task 0 changes: by the post of its fault bits. (Hubris Reference:
+/// supervision; that a refused instruction or call takes no effect is docs/FORMATS.md.)
 pub fn faults_change_nothing_else()
     ensures state { (level : Detail) (x : Scenario) (s : State) (c : ℕ) → Sane x.setup s → chosen x.setup (after_events x s).state ≡ Some c → is_faulted (task_at (turn level x s).state c).health ≡ true → IsSameButForFault x.setup c (after_events x s).state (turn level x s).state }
     ensures writes { (level : Detail) (x : Scenario) (s : State) (c : ℕ) → Sane x.setup s → chosen x.setup (after_events x s).state ≡ Some c → is_faulted (task_at (turn level x s).state c).health ≡ true → (turn level x s).writes ≡ [] }
