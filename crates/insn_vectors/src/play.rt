@@ -1,5 +1,5 @@
 //! One instruction of a task: fetched, decoded and executed.
-ghost use Rattle.std.specs.Prelude.{◌≡◌, ◌%◌, ◌↔◌, IsTrue, IfOk};
+ghost use Rattle.std.specs.Prelude.{◌≡◌, ◌%◌, ◌↔◌, IsTrue, IfOk, false};
 ghost use Rattle.words_core.specs.Regs.{reg_at};
 ghost use Rattle.thumb_insn.specs.Range.{GivesCoded};
 ghost use Rattle.thumb_exec.specs.Effect.{Acts};
@@ -100,11 +100,14 @@ fn is_wanted(case: &Case, cpu: &Cpu, outcome: Outcome, memory: &Memory, wanted: 
 }
 
 /// Whether the instruction of a case, with the case's bytes in a memory of zeros, does just what is
-/// wanted, to registers, flags and every byte.
+/// wanted, to registers, flags and every byte. With an odd PC none does.
 pub fn passes(alloc: Global, case: &Case) -> Result<bool, AllocError>
-    requires { reg_at case.now.cpu.regs 15 % 2 ≡ 0 }
-    ensures { IfOk result (Judges case.now) }
+    ensures judged { IfOk result (λ passed. reg_at case.now.cpu.regs 15 % 2 ≡ 0 → Judges case.now passed) }
+    ensures odd { IfOk result (λ passed. reg_at case.now.cpu.regs 15 % 2 ≡ 1 → passed ≡ false) }
 {
+    if case.cpu.regs.get(15) % 2 != 0 {
+        return Ok(false);
+    }
     let mut memory = memory_of(alloc, case)?;
     let mut wanted = memory_of(alloc, case)?;
     wanted.fill_all(&case.wanted_bytes);
