@@ -1,7 +1,4 @@
 //! A case of the file, by the form that its head tells.
-ghost use Rattle.std.specs.Prelude.{◌≡◌, ◌%◌, IfOk, IfSome};
-ghost use Rattle.words_core.specs.Regs.{reg_at};
-
 use kernel_abi::Fault;
 use std::alloc::{AllocError, Global};
 use thumb_exec::cpu::{Cpu, Outcome};
@@ -13,7 +10,7 @@ pub struct Case {
     /// Its code, of one halfword or two.
     pub first: u16,
     pub second: Option<u16>,
-    /// The processor before it, with PC even.
+    /// The processor before it.
     pub cpu: Cpu,
     /// Bytes of the memory before it, with their addresses.
     pub bytes: Vec<(u32, u8)>,
@@ -183,18 +180,13 @@ fn outcome(text: &str) -> Option<Outcome> {
 }
 
 /// The nine fields of a line, of which the first is a name.
-fn read_fields(line: &str) -> Option<Fields<'_>>
-    ensures { IfSome result (λ f. reg_at f.cpu.regs 15 % 2 ≡ 0) }
-{
+fn read_fields(line: &str) -> Option<Fields<'_>> {
     let mut fields = line.split_whitespace();
     fields.next()?;
     let (first, second) = code(fields.next()?)?;
     let at = hex(fields.next()?)?;
     let mut regs = registers(fields.next()?)?;
     regs.set(15, at);
-    if regs.get(15) % 2 != 0 {
-        return None;
-    }
     let cpu = Cpu {
         regs,
         flags: flags(fields.next()?)?,
@@ -211,9 +203,7 @@ fn read_fields(line: &str) -> Option<Fields<'_>>
 }
 
 /// The case that a line is.
-pub fn read(alloc: Global, line: &str) -> Result<Option<Case>, AllocError>
-    ensures { IfOk result (λ o. IfSome o (λ c. reg_at c.cpu.regs 15 % 2 ≡ 0)) }
-{
+pub fn read(alloc: Global, line: &str) -> Result<Option<Case>, AllocError> {
     let Some(fields) = read_fields(line) else {
         return Ok(None);
     };

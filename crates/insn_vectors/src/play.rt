@@ -1,5 +1,5 @@
 //! Whether the instruction of a case does what is wanted.
-ghost use Rattle.std.specs.Prelude.{◌≡◌, ◌%◌, ◌↔◌, IsTrue, IfOk};
+ghost use Rattle.std.specs.Prelude.{◌≡◌, ◌%◌, ◌↔◌, IsTrue, IfOk, false};
 ghost use Rattle.words_core.specs.Regs.{reg_at};
 ghost use Rattle.insn_vectors.specs.Played.{banks_of, banks_before, IsBefore, IsWanted, Judges};
 ghost use Rattle.insn_vectors.specs.Flat.{with_bytes};
@@ -52,11 +52,14 @@ fn is_wanted(case: &Case, cpu: &Cpu, outcome: Outcome, memory: &Memory, wanted: 
 }
 
 /// Whether the instruction of a case, with the case's bytes in a memory of zeros, does just what is
-/// wanted, to registers, flags and every byte.
+/// wanted, to registers, flags and every byte. With an odd PC none does.
 pub fn passes(alloc: Global, case: &Case) -> Result<bool, AllocError>
-    requires { reg_at case.now.cpu.regs 15 % 2 ≡ 0 }
-    ensures { IfOk result (Judges case.now) }
+    ensures judged { IfOk result (λ passed. reg_at case.now.cpu.regs 15 % 2 ≡ 0 → Judges case.now passed) }
+    ensures odd { IfOk result (λ passed. reg_at case.now.cpu.regs 15 % 2 ≡ 1 → passed ≡ false) }
 {
+    if case.cpu.regs.get(15) % 2 != 0 {
+        return Ok(false);
+    }
     let mut memory = memory_of(alloc, case)?;
     let mut wanted = memory_of(alloc, case)?;
     wanted.fill_all(&case.wanted_bytes);
