@@ -12,7 +12,8 @@ use Rattle.kernel_abi.specs.declared.arguments.RecvArgs.{RecvArgs}
 use Rattle.region_check.specs.declared.Right.TheVariants.{Write}
 use Rattle.words_core.specs.declared.Flags.{Flags}
 use Rattle.task_table.specs.declared.Line.{Line}
-use Rattle.task_table.specs.State.{Setup, LineSetup, Task, Call, Listen, From, Any, One, KernelOnly, Range, Own, Turn}
+use Rattle.task_table.specs.State.{Setup, LineSetup, Task, Call, Listen, From, Any, One, KernelOnly, Own, Turn}
+use Rattle.task_table.specs.declared.slot.Range.{Range}
 use Rattle.task_table.specs.Reading.{task_at, line_at, line_off, line_on, register, arguments, is_out, is_dead, present, is_valid, bad_byte, offer_by, best_sender}
 use Rattle.task_table.specs.Effects.{with_task, without_listen, with_taken, changed, noted, with_processor, copied, looked, given, returned, past_call, bits_added, bits_cleared, woken_by, woken, posted, with_timer, with_line, handed, faulted}
 use Rattle.task_table.specs.Rows.{misused, goes_on, goes_on_with, panicked, timer_set, timer_told, owns_with, line_controlled, irq_controlled, buffer_of, listens, receives_or_listens, offer_of, received}
