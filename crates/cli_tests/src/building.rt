@@ -1,5 +1,5 @@
 //! `build` and `go` over files in memory.
-use crate::tests::{answers, hold};
+use crate::answering::{answers, hold};
 use outside_io::{Files, MemFiles};
 use std::alloc::{AllocError, Global};
 use std::process::Abort;

@@ -1,6 +1,6 @@
 //! Scripts, timers, interrupts and priorities, over files in memory. The expected texts come from another program
 //! that follows the same rules.
-use crate::tests::{answers, hold};
+use crate::answering::{answers, hold};
 use outside_io::MemFiles;
 use std::alloc::{AllocError, Global};
 use std::process::Abort;
