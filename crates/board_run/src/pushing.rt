@@ -15,22 +15,23 @@ use outside_io::{Failed, Sink};
 use trace_text::line as put_line;
 use words_core::Flags;
 
-fn push_note<S: Sink>(turn: u32, note: &Note, out: &mut S) -> Result<(), Failed>
+fn push_note<S: Sink>(turn: u32, note: &Note, line: &mut Line, out: &mut S) -> Result<(), Failed>
     ensures bytes { Pushes (S.written out.old) (S.written out.new) (line_of turn note.now) result }
     ensures cause { HasCause (S.faults out.old) (S.faults out.new) result }
 {
-    let mut line = Line::new();
-    put_line(turn, note, &mut line);
+    line.clear();
+    put_line(turn, note, line);
     out.push(line.as_str().as_bytes())
 }
 
-/// The notes of a turn, one line each.
+/// The notes of a turn, one line each. All are built in one buffer: a new one for each would be filled with zeros.
 pub fn push_notes<S: Sink>(turn: u32, notes: &[Note], out: &mut S) -> Result<(), Failed>
     ensures bytes { Pushes (S.written out.old) (S.written out.new) (notes_text (at_turn turn notes.now)) result }
     ensures cause { HasCause (S.faults out.old) (S.faults out.new) result }
 {
+    let mut line = Line::new();
     for note in notes {
-        push_note(turn, note, out)?;
+        push_note(turn, note, &mut line, out)?;
     }
     Ok(())
 }

@@ -1,0 +1,10 @@
+use Rattle.std.proofs.Common.{◌≡◌, ◌/◌, ◌%◌, ◌^◌, ◌∙◌, ap, arith}
+use Rattle.trace_text.specs.Text.{glyph, half_hex}
+use Rattle.trace_text.proofs.words.half_digits.Goals as goal
+
+pub returns-clause-bytes : goal.returns-clause-bytes
+unfolding half_hex
+returns-clause-bytes c =
+    let n = c.args.n in
+    let first : n / 256 / 16 % 16 ≡ n / 16 ^ 3 % 16 = omega arith in
+    rw (c.pair-a.ensures.high ∙ ap glyph first, c.pair-a.ensures.low, c.pair-c.ensures.high, c.pair-c.ensures.low)
