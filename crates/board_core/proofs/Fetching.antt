@@ -87,7 +87,7 @@ module _ (level : Level) (g : Setup) (c : ℕ) (t : Turn) where
       let narrow = decoded at first (decoded_of first None) in
       unless_text at at (fetched_by (refusals g c) (number_at t.state.memory) at first) near
       ∙ ap (λ (u : Turn). cond (not (is_text g c at)) (faulted g c record { number = 2; x = at; y = 0 } t) u)
-        (by_first (is_wide first) (fetched_wide (refusals g c) (number_at t.state.memory) at first) (instruction at first (decoded_of first None)) at (stepped_wide level g c at first t) (decoded_as level g c at first (decoded_of first None) t) wide narrow)
+      (by_first (is_wide first) (fetched_wide (refusals g c) (number_at t.state.memory) at first) (instruction at first (decoded_of first None)) at (stepped_wide level g c at first t) (decoded_as level g c at first (decoded_of first None) t) wide narrow)
       ∙ stepped_at at is
 
 -- neither halfword of an instruction at an even address goes round the address space

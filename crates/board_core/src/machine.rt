@@ -34,8 +34,8 @@ use thumb_decode::{Taker, decode, narrow_to};
 use thumb_exec::bus::Bus;
 use thumb_exec::cpu::{Cpu, Outcome};
 use thumb_exec::step::{exec, proceed};
-use thumb_step::fetch;
 use thumb_insn::{Decoded, Insn};
+use thumb_step::fetch;
 use timer_irq::{interrupt, tick};
 use words_core::{Flags, Regs};
 

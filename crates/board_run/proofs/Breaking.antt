@@ -136,11 +136,14 @@ module _ (level : Level) (x : Scenario) where
       ap notes_text shorter.1 ∙ flat_map-append line_at (run level x (turns_of b - s.turn - 1) s).notes shorter.0 in
       record {
         front = notes_text m.front ++ q.0;
-        most = (q.1.0, ap (λ (w : List ℕ). w ++ end_text (run level x (limit - s.turn) s).end (run level x (turns_of b - s.turn) s).last) all
-          ∙ ap (λ (i : End). notes_text m.front ++ end_text i (run level x (turns_of b - s.turn) s).last) (sym end)
-          ∙ ap (λ (i : State). notes_text m.front ++ end_text e i) last
-          ∙ ap (λ (w : List ℕ). notes_text m.front ++ w) q.1.1
-          ∙ sym (append_assoc (notes_text m.front) q.0 q.1.0));
+        most = (
+          q.1.0,
+          ap (λ (w : List ℕ). w ++ end_text (run level x (limit - s.turn) s).end (run level x (turns_of b - s.turn) s).last) all
+              ∙ ap (λ (i : End). notes_text m.front ++ end_text i (run level x (turns_of b - s.turn) s).last) (sym end)
+              ∙ ap (λ (i : State). notes_text m.front ++ end_text e i) last
+              ∙ ap (λ (w : List ℕ). notes_text m.front ++ w) q.1.1
+              ∙ sym (append_assoc (notes_text m.front) q.0 q.1.0),
+        );
         least = (notes_text shorter.0 ++ q.0, ap (λ (w : List ℕ). w ++ q.0) (sym all ∙ split) ∙ append_assoc (turn_lines level x (turns_of b - s.turn - 1) s) (notes_text shorter.0) q.0);
         pushed = appends_more before now after (notes_text m.front) q.0 m.pushed q.2;
       }

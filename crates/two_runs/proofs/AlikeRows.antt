@@ -445,11 +445,18 @@ module _ (w : Viewer) (a : IsAttentive w) where
       let e = word c 11 t u h in
       let best = best_alike w.birth g t.state u.state c h.state in
       rw e (alike-among calls (register t.state c 11) g c t u h (
-      alike-received g c _ _ t u best h,
-      (surely (alike-timer_set c t u h),
-      (surely (alike-irq_controlled g c t u h),
-      (surely (alike-panicked g c t u h),
-      (surely (alike-timer_told c t u h), tt))))))
+        alike-received g c _ _ t u best h,
+        (
+          surely (alike-timer_set c t u h),
+          (
+            surely (alike-irq_controlled g c t u h),
+            (
+              surely (alike-panicked g c t u h),
+              (surely (alike-timer_told c t u h), tt),
+            ),
+          ),
+        ),
+      ))
 
   -- ## events
 
