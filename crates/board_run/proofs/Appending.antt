@@ -60,6 +60,19 @@ notes_at turn (x ∷ xs) (suc i) d lt =
     ap (λ (w : List ℕ). line_of turn x ++ w) (notes_at turn xs i d (omega arith))
     ∙ sym (append_assoc (line_of turn x) (notes_text (at_turn turn (take i xs))) (line_of turn (get_or xs i d) ++ notes_text (at_turn turn (drop (suc i) xs))))
 
+notes_suc : (turn : ℕ) (notes : List Note) (i : ℕ) (d : Note) → i < length notes →
+    notes_text (at_turn turn (take (suc i) notes)) ≡ notes_text (at_turn turn (take i notes)) ++ line_of turn (get_or notes i d)
+notes_suc turn [] i d lt = absurd (omega arith)
+notes_suc turn (x ∷ xs) zero d lt = append-nil (line_of turn x)
+notes_suc turn (x ∷ xs) (suc i) d lt =
+    ap (λ (w : List ℕ). line_of turn x ++ w) (notes_suc turn xs i d (omega arith))
+    ∙ sym (append_assoc (line_of turn x) (notes_text (at_turn turn (take i xs))) (line_of turn (get_or xs i d)))
+
+-- the text of one note more
+pub notes_more : (turn : ℕ) (notes : List Note) (i : ℕ) (d : Note) → i < length notes →
+    notes_text (at_turn turn (take (i + 1) notes)) ≡ notes_text (at_turn turn (take i notes)) ++ line_of turn (get_or notes i d)
+notes_more turn notes i d lt = rw add-one (notes_suc turn notes i d lt)
+
 -- the texts of one number more
 range_from : (f : ℕ → List ℕ) (n a j : ℕ) → a + n ≡ j → flat_map f (range_with_len a (suc n)) ≡ flat_map f (range_with_len a n) ++ f j
 range_from f zero a j e =

@@ -12,11 +12,16 @@ use crate::line::{
 use board_core::{Board, End, TaskView};
 use kernel_abi::Note;
 use outside_io::{Failed, Sink};
-use trace_text::line as put_line;
+use trace_text::{Turn, line as put_line};
 use words_core::Flags;
 
-fn push_note<S: Sink>(turn: u32, note: &Note, line: &mut Line, out: &mut S) -> Result<(), Failed>
-    ensures bytes { Pushes (S.written out.old) (S.written out.new) (line_of turn note.now) result }
+fn push_note<S: Sink>(
+    turn: &Turn,
+    note: &Note,
+    line: &mut Line,
+    out: &mut S,
+) -> Result<(), Failed>
+    ensures bytes { Pushes (S.written out.old) (S.written out.new) (line_of turn.now.number note.now) result }
     ensures cause { HasCause (S.faults out.old) (S.faults out.new) result }
 {
     line.clear();
@@ -24,14 +29,16 @@ fn push_note<S: Sink>(turn: u32, note: &Note, line: &mut Line, out: &mut S) -> R
     out.push(line.as_str().as_bytes())
 }
 
-/// The notes of a turn, one line each. All are built in one buffer: a new one for each would be filled with zeros.
+/// The notes of a turn, one line each. All are built in one buffer, and the turn's digits are made once: a new
+/// buffer for each note would be filled with zeros.
 pub fn push_notes<S: Sink>(turn: u32, notes: &[Note], out: &mut S) -> Result<(), Failed>
     ensures bytes { Pushes (S.written out.old) (S.written out.new) (notes_text (at_turn turn notes.now)) result }
     ensures cause { HasCause (S.faults out.old) (S.faults out.new) result }
 {
+    let begun = Turn::new(turn);
     let mut line = Line::new();
     for note in notes {
-        push_note(turn, note, &mut line, out)?;
+        push_note(&begun, note, &mut line, out)?;
     }
     Ok(())
 }

@@ -8,5 +8,5 @@ mod words;
 
 pub use lines::line;
 pub use words::{
-    push_decimal, push_digit, push_hex, push_high, push_low, push_registers, push_spaced_hex,
+    Turn, push_decimal, push_digit, push_hex, push_high, push_low, push_registers, push_spaced_hex,
 };

@@ -1,12 +1,22 @@
-use Rattle.std.proofs.Common.{arith, ◌<◌, length}
+use Rattle.std.proofs.Common.{arith, sym, subst, ℕ, List, ◌<◌, length}
 use Rattle.std.proofs.lemmas.Result.{err_from_is_err_and}
-use Rattle.board_run.proofs.Appending.{part_fails, notes_at}
+use Rattle.std.specs.Io.KnownBytes.{Appends}
+use Rattle.board_run.proofs.Appending.{appends_more, part_fails, notes_at, notes_more}
 use Rattle.board_run.proofs.pushing.push_notes.Goals as goal
+
+pub loop-note-preserved : goal.loop-note-preserved
+loop-note-preserved g c =
+    let i = c.loop-note.note-index in
+    let within : i < length c.args.notes.now = omega arith in
+    let P : List ℕ → Type 0 = λ w. Appends (g.S.Sink.written c.args.out.now) (g.S.Sink.written c.push_note.new.out) w in
+    record {
+      pushed = subst P (sym (notes_more c.new-begun.result.number c.args.notes.now i _ within)) (appends_more _ _ _ _ _ c.loop-note.invariant.pushed c.in_ok-push_note.ensures.bytes);
+      later = omega (arith, c.loop-note.invariant.later, c.in_ok-push_note.ensures.cause.later);
+    }
 
 pub returns-in_err-push_note-clause-bytes : goal.returns-in_err-push_note-clause-bytes
 returns-in_err-push_note-clause-bytes g c =
     let p = err_from_is_err_and c.from_residual.result c.from_residual.ensures.1 in
     let i = c.loop-note.note-index in
     let within : i < length c.args.notes.now = omega arith in
-    let q = c.in_err-push_note.ensures.bytes in
-    part_fails _ _ _ _ _ _ _ c.from_residual.result p.0 p.1 (notes_at c.args.turn c.args.notes.now i _ within) c.loop-note.invariant.pushed q
+    rw (sym c.new-begun.ensures) (part_fails _ _ _ _ _ _ _ c.from_residual.result p.0 p.1 (notes_at c.new-begun.result.number c.args.notes.now i _ within) c.loop-note.invariant.pushed c.in_err-push_note.ensures.bytes)
