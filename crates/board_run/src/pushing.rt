@@ -15,12 +15,7 @@ use outside_io::{Failed, Sink};
 use trace_text::{Turn, line as put_line};
 use words_core::Flags;
 
-fn push_note<S: Sink>(
-    turn: &Turn,
-    note: &Note,
-    line: &mut Line,
-    out: &mut S,
-) -> Result<(), Failed>
+fn push_note<S: Sink>(turn: &Turn, note: &Note, line: &mut Line, out: &mut S) -> Result<(), Failed>
     ensures bytes { Pushes (S.written out.old) (S.written out.new) (line_of turn.now.number note.now) result }
     ensures cause { HasCause (S.faults out.old) (S.faults out.new) result }
 {
