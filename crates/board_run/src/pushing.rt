@@ -12,10 +12,15 @@ use crate::line::{
 use board_core::{Board, End, TaskView};
 use kernel_abi::Note;
 use outside_io::{Failed, Sink};
-use trace_text::{Turn, line as put_line};
+use trace_text::{TurnNumber, line as put_line};
 use words_core::Flags;
 
-fn push_note<S: Sink>(turn: &Turn, note: &Note, line: &mut Line, out: &mut S) -> Result<(), Failed>
+fn push_note<S: Sink>(
+    turn: &TurnNumber,
+    note: &Note,
+    line: &mut Line,
+    out: &mut S,
+) -> Result<(), Failed>
     ensures bytes { Pushes (S.written out.old) (S.written out.new) (line_of turn.now.number note.now) result }
     ensures cause { HasCause (S.faults out.old) (S.faults out.new) result }
 {
@@ -30,7 +35,7 @@ pub fn push_notes<S: Sink>(turn: u32, notes: &[Note], out: &mut S) -> Result<(),
     ensures bytes { Pushes (S.written out.old) (S.written out.new) (notes_text (at_turn turn notes.now)) result }
     ensures cause { HasCause (S.faults out.old) (S.faults out.new) result }
 {
-    let begun = Turn::new(turn);
+    let begun = TurnNumber::new(turn);
     let mut line = Line::new();
     for note in notes {
         push_note(&begun, note, &mut line, out)?;

@@ -8,5 +8,6 @@ mod words;
 
 pub use lines::line;
 pub use words::{
-    Turn, push_decimal, push_digit, push_hex, push_high, push_low, push_registers, push_spaced_hex,
+    TurnNumber, push_decimal, push_digit, push_hex, push_high, push_low, push_registers,
+    push_spaced_hex,
 };

@@ -1,11 +1,11 @@
 //! A line of each note, and that the longest of each kind fits.
-use crate::{Turn, line};
+use crate::{TurnNumber, line};
 use arrayvec::ArrayString;
 use kernel_abi::{Borrow, Ending, Fault, Handled, Listened, Note};
 
 fn text(turn: u32, note: Note) -> ArrayString<160> {
     let mut out = ArrayString::new();
-    line(&Turn::new(turn), &note, &mut out);
+    line(&TurnNumber::new(turn), &note, &mut out);
     out
 }
 
