@@ -84,6 +84,6 @@ instructions() {
     many=$(host "$@" --steps 1200000)
     awk -v what="$what" -v n=$((many - few)) -v most="$most" 'BEGIN { printf "%-28s %7.1f host instructions a turn, at most %d\n", what, n / 1e6, most; exit n / 1e6 > most }' || short=1
 }
-for image in $compiled; do instructions "$image" 90 "out/$image.img" out/empty.txt; done
+for image in $compiled; do instructions "$image" 100 "out/$image.img" out/empty.txt; done
 instructions "32 tasks with timers" 720 out/timers.img timers/script.txt
 exit $short
