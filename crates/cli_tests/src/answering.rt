@@ -5,7 +5,7 @@ use std::process::Abort;
 use trace_cli::hubris_main;
 
 /// Puts a file with just the room that it needs.
-pub fn hold(files: &mut MemFiles, name: &str, bytes: &[u8]) -> Result<(), AllocError> {
+pub(crate) fn hold(files: &mut MemFiles, name: &str, bytes: &[u8]) -> Result<(), AllocError> {
     if !files.is_held(name) {
         files.hold(name, bytes, bytes.len())?;
     }
@@ -21,7 +21,7 @@ fn words_of(alloc: Global, words: &[&str]) -> Result<Vec<String>, AllocError> {
 }
 
 /// On these words the program answers this status and writes this text; a failure tells the row's name.
-pub fn answers(
+pub(crate) fn answers(
     rt: &impl Abort,
     alloc: Global,
     name: &str,
