@@ -1,20 +1,21 @@
 -- What happens to a state within a turn. Each effect takes what the turn has come to so far, and
 -- appends its own notes and writes. (Hubris Reference: tasks, syscalls, supervision.)
-use Rattle.std.specs.Prelude.{ℕ, ◌+◌, ◌-◌, ◌%◌, ◌^◌, not, List, [], ◌∷◌, ◌++◌, length, take, drop, filter, map, min, slice_set, slice_range, Option, None, Some, ◌==◌, if◌then◌else◌, bit_and, bit_or}
-use Rattle.kernel_abi.specs.Ids.{id_of}
+use Rattle.std.specs.Prelude.{ℕ, ◌+◌, ◌-◌, ◌%◌, ◌^◌, Bool, false, not, List, [], ◌∷◌, ◌++◌, length, take, drop, filter, map, min, slice_set, slice_range, Option, None, Some, ◌==◌, if◌then◌else◌, bit_and, bit_or, fold}
+use Rattle.std.specs.List.{range_with_len}
+use Rattle.kernel_abi.specs.Ids.{id_of, dead_code_of}
 use Rattle.kernel_abi.specs.declared.Ending.{Ending}
-use Rattle.kernel_abi.specs.declared.Ending.TheVariants.{Client}
+use Rattle.kernel_abi.specs.declared.Ending.TheVariants.{Client, Restart}
 use Rattle.kernel_abi.specs.declared.Fault.{Fault}
 use Rattle.kernel_abi.specs.declared.Health.{Health}
-use Rattle.kernel_abi.specs.declared.Health.TheVariants.{Faulted}
+use Rattle.kernel_abi.specs.declared.Health.TheVariants.{Well, Stopped, Faulted}
 use Rattle.kernel_abi.specs.declared.Note.{Note}
 use Rattle.kernel_abi.specs.declared.Note.TheVariants as note
 use Rattle.kernel_abi.specs.declared.Timer.{Timer}
 use Rattle.words_core.specs.declared.Flags.{Flags}
 use Rattle.task_table.specs.declared.Line.{Line}
 use Rattle.task_table.specs.Memory.{with_bytes, bytes_at, copied as copied_memory}
-use Rattle.task_table.specs.State.{Setup, TaskSetup, Task, Call, Taken, Listen, Range, State, Ground, Write, Read, MessageFront, Turn}
-use Rattle.task_table.specs.Reading.{task_at, register, call_of, listen_of, no_flags, program_counter}
+use Rattle.task_table.specs.State.{Setup, TaskSetup, Task, Call, Taken, Listen, Any, One, KernelOnly, Range, State, Ground, Write, Read, MessageFront, Turn}
+use Rattle.task_table.specs.Reading.{task_at, setup_at, register, call_of, listen_of, no_flags, program_counter}
 
 -- ## one part of a state changed
 
@@ -168,6 +169,15 @@ faulted_as g i fault ending t =
 abbrev pub faulted : Setup → ℕ → Fault → Turn → Turn
 faulted g i fault t = faulted_as g i fault Client t
 
+-- ## a call is offered
+
+-- it is open from now on, under the number that was the next one
+unfoldable pub with_call : Call → State → State
+with_call k s = record s { calls = s.calls ++ k ∷ []; next_call = s.next_call + 1 }
+
+unfoldable pub offered : Call → Turn → Turn
+offered k t = noted (note.Offer k.number k.client.index k.server.index) (changed (with_call k) t)
+
 -- ## a call is handed over
 
 -- the open call of a client goes to its server, with as much of its message as fits into a buffer
@@ -194,3 +204,35 @@ at_birth setup births health =
       posted = 0;
       timer = None;
     }
+
+-- ## a task is born again
+
+-- its births rise by one; what the image does not say is at birth as it was
+unfoldable pub reborn : Setup → ℕ → Bool → State → State
+reborn g i start s =
+    with_task i (at_birth (setup_at g i) ((task_at s i).births + 1) (if start then Well else Stopped)) s
+
+-- the call is to a task; the listen is closed to it
+abbrev pub is_to : ℕ → Option Call → Bool
+is_to i None = false
+is_to i (Some c) = c.server.index == i
+
+abbrev pub awaits : ℕ → Option Listen → Bool
+awaits i None = false
+awaits i (Some l) = elim l.from [ Any ↦ false | One b ↦ b.index == i | KernelOnly ↦ false ]
+
+-- another task that waited for task i is told the dead code, with the generation that i has now
+abbrev pub told_dead : ℕ → Turn → ℕ → Turn
+told_dead i t j =
+    let code = dead_code_of ((task_at t.state i).births % 64) in
+    if is_to i (call_of t.state j) then returned j (given j (code ∷ 0 ∷ []) (closed j Restart t))
+    else (if awaits i (listen_of t.state j)
+    then returned j (given j (code ∷ 0 ∷ 0 ∷ 0 ∷ 0 ∷ 0 ∷ []) (changed (without_listen j) t))
+    else t)
+
+-- its own call and listen are dropped, it is born again, and then each other task in order is told
+unfoldable pub restarted : Setup → ℕ → Bool → Turn → Turn
+restarted g i start t =
+    let born = changed (reborn g i start) (changed (without_listen i) (closed i Restart t)) in
+    let told = noted (note.Restart i ((task_at born.state i).births % 64)) born in
+    fold (told_dead i) told (range_with_len 0 (length t.state.tasks))

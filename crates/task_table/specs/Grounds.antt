@@ -1,10 +1,12 @@
--- On whose ground a task's turn writes, and which calls it may touch.
+-- On whose ground a task's turn writes, and which calls it touches.
 -- (s: the state after the events of the turn; c: the chosen task; u: what the turn has come to)
-use Rattle.std.specs.Prelude.{ℕ, ◌+◌, ◌*◌, ◌<◌, ◌≤◌, ◌≡◌, ◌≢◌, ◌⊎◌, true, Contains, bit_and}
+use Rattle.std.specs.Prelude.{ℕ, ◌+◌, ◌*◌, ◌<◌, ◌≤◌, ◌≡◌, ◌≢◌, ◌⊎◌, true, Option, None, Some, IfSome, Contains, bit_and, List, [], ◌∷◌, fold}
+use Rattle.kernel_abi.specs.declared.Note.{Note}
 use Rattle.kernel_abi.specs.declared.Note.TheVariants as note
 use Rattle.region_check.specs.declared.Right.TheVariants.{Write}
 use Rattle.region_check.specs.Rights.{may_copy}
-use Rattle.task_table.specs.State.{Setup, State, Call, Listen, Range, Taken, Ground, Own, Message, Reply, Lease, Entry, Turn}
+use Rattle.task_table.specs.Memory.{Memory, with_bytes}
+use Rattle.task_table.specs.State.{Setup, State, Call, Listen, Range, Taken, Ground, Own, Message, Reply, Lease, Write as Written, Read, Entry, Turn}
 use Rattle.task_table.specs.Reading.{setup_at}
 
 -- a byte lies in a range
@@ -61,9 +63,48 @@ MayChange g s c u (Message k) a = IsMessageGround g s c u k a
 MayChange g s c u (Reply k) a = IsReplyGround g s c k a
 MayChange g s c u (Lease k) a = IsLeaseGround g s c u k a
 
--- ## which calls it may touch
+-- every write stands on its ground
+abbrev pub AreGrounded : Setup → State → ℕ → Turn → Type 0
+AreGrounded g s c u = (w : Written) → Contains u.writes w → MayChange g s c u w.on w.address
+
+-- the memory once all this is written, in order
+abbrev pub with_writes : Memory → List Written → Memory
+with_writes m writes = fold (λ v w. with_bytes v w.address (w.byte ∷ [])) m writes
+
+-- ## which calls it touches
 
 -- call k is open, or c offers it in this turn
 abbrev pub IsAlive : State → ℕ → Turn → ℕ → Type 0
 IsAlive s c u k =
     ((call : Call) × Contains s.calls call × (call.number ≡ k)) ⊎ ((server : ℕ) × Contains u.notes (note.Offer k c server))
+
+-- the call on whose ground bytes are written; the call that a note takes or borrows from
+abbrev pub call_of_ground : Ground → Option ℕ
+call_of_ground Own = None
+call_of_ground (Message k) = Some k
+call_of_ground (Reply k) = Some k
+call_of_ground (Lease k) = Some k
+
+abbrev pub touched : Note → Option ℕ
+touched (note.Take call copied) = Some call
+touched (note.Borrow call borrow lease offset moved) = Some call
+touched (note.Tick now) = None
+touched (note.Irq line handled) = None
+touched (note.Post task bits posted) = None
+touched (note.Call task number arguments) = None
+touched (note.Ret task results) = None
+touched (note.Offer call client server) = None
+touched (note.Close call ending) = None
+touched (note.Fault task fault) = None
+touched (note.Restart task generation) = None
+touched (note.Listen task from mask) = None
+touched (note.Insn task at code) = None
+touched note.Idle = None
+touched (note.Low registers) = None
+touched (note.High registers n z c v) = None
+
+-- who writes on a call's ground, reads for it, takes it or borrows from it finds it alive
+pub record AreAlive (s : State) (c : ℕ) (u : Turn) : Type 0 where
+  pub written : (w : Written) → Contains u.writes w → IfSome (call_of_ground w.on) (IsAlive s c u)
+  pub read : (r : Read) → Contains u.reads r → IsAlive s c u r.call
+  pub told : (n : Note) → Contains u.notes n → IfSome (touched n) (IsAlive s c u)

@@ -1,7 +1,7 @@
 -- What is read off a state of the abstract kernel.
 use Rattle.std.specs.Prelude.{ℕ, ◌≡◌, ◌≢◌, ◌+◌, ◌^◌, ◌-◌, ◌%◌, Bool, true, false, ◌&&◌, ◌||◌, not, List, [], ◌++◌, length, Option, None, slice_index, slice_index_or, slice_range, find, nat_le, ◌==◌, is_none, is_some}
 use Rattle.std.specs.List.{range_with_len, list_all}
-use Rattle.kernel_abi.specs.Ids.{index_of, generation_of, dead_code_of}
+use Rattle.kernel_abi.specs.Ids.{index_of, generation_of, id_of, dead_code_of}
 use Rattle.kernel_abi.specs.declared.Health.TheVariants.{Well, Stopped, Faulted}
 use Rattle.kernel_abi.specs.declared.Health.{Health}
 use Rattle.words_core.specs.declared.Flags.{Flags}
@@ -83,6 +83,10 @@ is_dead s id = not (generation_of id == (task_at s (index_of id)).births % 64)
 abbrev pub present : State → ℕ → Birth
 present s i = record { index = i; birth = (task_at s i).births }
 
+-- the id of that birth
+unfoldable pub present_id : State → ℕ → ℕ
+present_id s i = id_of i (task_at s i).births
+
 -- what a caller is told of an id of an earlier birth, with the present generation
 unfoldable pub dead_code_for : State → ℕ → ℕ
 dead_code_for s id = dead_code_of ((task_at s (index_of id)).births % 64)
@@ -134,6 +138,14 @@ is_offered Taken = false
 -- the offered call of a client to a server
 unfoldable pub offer_by : State → ℕ → ℕ → Option Call
 offer_by s client server = find (λ k. (k.client.index == client) && (k.server.index == server) && is_offered k.phase) s.calls
+
+-- the taken call of a client to a server
+abbrev pub is_taken : Phase → Bool
+is_taken Offered = false
+is_taken Taken = true
+
+unfoldable pub taken_by : State → ℕ → ℕ → Option Call
+taken_by s client server = find (λ k. (k.client.index == client) && (k.server.index == server) && is_taken k.phase) s.calls
 
 abbrev pub offers : State → ℕ → ℕ → Bool
 offers s server client = is_some (offer_by s client server)

@@ -1,0 +1,157 @@
+-- The rows of BORROW_READ, BORROW_WRITE and BORROW_INFO. (Hubris Reference: leases.)
+use Rattle.std.specs.Prelude.{ℕ, ◌+◌, ◌-◌, ◌*◌, not, [], ◌∷◌, Option, None, Some, is_some, ◌==◌, nat_lt, nat_le, min, bit_and}
+use Rattle.kernel_abi.specs.Arguments.{borrow_args, info_args}
+use Rattle.kernel_abi.specs.Faults.{usage_number, access_number}
+use Rattle.kernel_abi.specs.Ids.{index_of}
+use Rattle.kernel_abi.specs.declared.Access.{Access}
+use Rattle.kernel_abi.specs.declared.Access.TheVariants.{KernelRead, KernelWrite}
+use Rattle.kernel_abi.specs.declared.Borrow.{Borrow}
+use Rattle.kernel_abi.specs.declared.Borrow.TheVariants as borrow
+use Rattle.kernel_abi.specs.declared.LeaseEntry.{LeaseEntry}
+use Rattle.kernel_abi.specs.declared.Usage.TheVariants.{BadTaskIndex, InvalidSlice, OffsetOutOfRange, LeaseOutOfRange}
+use Rattle.kernel_abi.specs.declared.Note.TheVariants as note
+use Rattle.kernel_abi.specs.declared.arguments.BorrowArgs.{BorrowArgs}
+use Rattle.region_check.specs.declared.Right.{Right}
+use Rattle.region_check.specs.declared.Right.TheVariants.{Read, Write}
+use Rattle.task_table.specs.Memory.{number_at}
+use Rattle.task_table.specs.State.{Setup, State, Call, Range, Own, Lease, Entry, Leased, Turn}
+use Rattle.task_table.specs.Reading.{arguments, is_out, is_dead, dead_code_for, is_valid, bad_byte, taken_by}
+use Rattle.task_table.specs.Effects.{noted, copied, looked}
+use Rattle.task_table.specs.Rows.{first_row, misused, denied, goes_on_with}
+
+-- ## an entry of the lease table of a call
+
+abbrev pub entry_range : Call → ℕ → Range
+entry_range k lease = record { base = k.table + 12 * lease; length = 12 }
+
+-- as it stands in memory
+unfoldable pub grant : State → Call → ℕ → LeaseEntry
+grant s k lease =
+    record {
+      attributes = number_at s.memory (k.table + 12 * lease) 4;
+      base = number_at s.memory (k.table + 12 * lease + 4) 4;
+      len = number_at s.memory (k.table + 12 * lease + 8) 4;
+    }
+
+abbrev pub lease_range : LeaseEntry → Range
+lease_range e = record { base = e.base; length = e.len }
+
+-- it is read
+abbrev pub entry_read : Call → ℕ → LeaseEntry → Turn → Turn
+entry_read k lease e t =
+    looked record { call = k.number; part = Entry e.attributes e.base e.len; base = k.table + 12 * lease; length = 12 } t
+
+-- ## the two ways in which bytes move
+
+-- what a way needs of the lender at the lease and of the borrower at its buffer, each as a right and as the access
+-- that a fault tells, and the bit of the attributes that allows it
+pub record Way : Type 0 where
+  pub borrow : Borrow
+  pub lender : Right
+  pub lender_access : Access
+  pub own : Right
+  pub own_access : Access
+  pub bit : ℕ
+
+abbrev pub reading : Way
+reading = record { borrow = borrow.Read; lender = Read; lender_access = KernelRead; own = Write; own_access = KernelWrite; bit = 1 }
+
+abbrev pub writing : Way
+writing = record { borrow = borrow.Write; lender = Write; lender_access = KernelWrite; own = Read; own_access = KernelRead; bit = 2 }
+
+-- n bytes move between the lease and the borrower's buffer
+abbrev pub moved : Borrow → Call → ℕ → ℕ → ℕ → Turn → Turn
+moved borrow.Read k leased own n t =
+    copied Own leased own n (looked record { call = k.number; part = Leased; base = leased; length = n } t)
+moved borrow.Write k leased own n t = copied (Lease k.number) own leased n t
+moved borrow.Info k leased own n t = t
+
+-- ## the rows
+
+-- the code of a lender that has no such lease for the borrower
+abbrev pub no_lease : ℕ
+no_lease = 1
+
+-- the borrower is told a code, and that nothing moved
+abbrev pub refused : ℕ → ℕ → Turn → Turn
+refused c code t = goes_on_with c (code ∷ 0 ∷ []) t
+
+abbrev pub buffer_of : BorrowArgs → Range
+buffer_of x = record { base = x.buffer_base; length = x.buffer_length }
+
+-- the bytes from the offset on, as many as buffer and lease have
+abbrev pub part_of : BorrowArgs → LeaseEntry → Range
+part_of x e = record { base = e.base + x.offset; length = min x.buffer_length (e.len - x.offset) }
+
+abbrev pub lent : Setup → Way → ℕ → BorrowArgs → Call → Range → Turn → Turn
+lent g way c x k part t =
+    let bad = bad_byte g k.client.index way.lender part in
+    first_row (
+    (is_some bad, refused c no_lease (denied g k.client.index (access_number way.lender_access) bad t))
+    ∷ []) (goes_on_with c (0 ∷ part.length ∷ [])
+    (noted (note.Borrow k.number way.borrow x.lease x.offset part.length)
+    (moved way.borrow k part.base x.buffer_base part.length t)))
+
+abbrev pub granted : Setup → Way → ℕ → BorrowArgs → Call → LeaseEntry → Turn → Turn
+granted g way c x k e t =
+    let buffer = buffer_of x in
+    first_row (
+    (not (is_valid (lease_range e)), refused c no_lease (misused g k.client.index (usage_number InvalidSlice) t))
+    ∷ (bit_and e.attributes way.bit == 0, refused c no_lease t)
+    ∷ (nat_lt e.len x.offset, misused g c (usage_number OffsetOutOfRange) t)
+    ∷ (not (is_valid buffer), misused g c (usage_number InvalidSlice) t)
+    ∷ (is_some (bad_byte g c way.own buffer), denied g c (access_number way.own_access) (bad_byte g c way.own buffer) t)
+    ∷ []) (lent g way c x k (part_of x e) t)
+
+abbrev pub borrowed_by : Setup → Way → ℕ → BorrowArgs → Option Call → Turn → Turn
+borrowed_by g way c x None t = refused c no_lease t
+borrowed_by g way c x (Some k) t =
+    let bad = bad_byte g k.client.index Read (entry_range k x.lease) in
+    let e = grant t.state k x.lease in
+    first_row (
+    (nat_le k.leases x.lease, misused g c (usage_number LeaseOutOfRange) t)
+    ∷ (is_some bad, refused c no_lease (denied g k.client.index (access_number KernelRead) bad t))
+    ∷ []) (granted g way c x k e (entry_read k x.lease e t))
+
+-- r4 lender, r5 lease, r6 offset, r7 and r8 buffer
+unfoldable pub borrowed : Setup → Way → ℕ → Turn → Turn
+borrowed g way c t =
+    let s = t.state in
+    let x = borrow_args (arguments s c) in
+    let id = x.lender.number in
+    first_row (
+    (is_out s id, misused g c (usage_number BadTaskIndex) t)
+    ∷ (is_dead s id, refused c (dead_code_for s id) t)
+    ∷ []) (borrowed_by g way c x (taken_by s (index_of id) c) t)
+
+-- ## BORROW_INFO: r4 lender, r5 lease
+
+-- the borrower is told a code, and nothing of the lease
+abbrev pub untold : ℕ → ℕ → Turn → Turn
+untold c code t = goes_on_with c (code ∷ 0 ∷ 0 ∷ []) t
+
+abbrev pub grant_told : Setup → ℕ → ℕ → Call → LeaseEntry → Turn → Turn
+grant_told g c lease k e t =
+    first_row (
+    (not (is_valid (lease_range e)), untold c no_lease (misused g k.client.index (usage_number InvalidSlice) t))
+    ∷ []) (goes_on_with c (0 ∷ bit_and e.attributes 3 ∷ e.len ∷ []) (noted (note.Borrow k.number borrow.Info lease 0 0) t))
+
+abbrev pub informed_by : Setup → ℕ → ℕ → Option Call → Turn → Turn
+informed_by g c lease None t = untold c no_lease t
+informed_by g c lease (Some k) t =
+    let bad = bad_byte g k.client.index Read (entry_range k lease) in
+    let e = grant t.state k lease in
+    first_row (
+    (nat_le k.leases lease, misused g c (usage_number LeaseOutOfRange) t)
+    ∷ (is_some bad, untold c no_lease (denied g k.client.index (access_number KernelRead) bad t))
+    ∷ []) (grant_told g c lease k e (entry_read k lease e t))
+
+unfoldable pub informed : Setup → ℕ → Turn → Turn
+informed g c t =
+    let s = t.state in
+    let x = info_args (arguments s c) in
+    let id = x.lender.number in
+    first_row (
+    (is_out s id, misused g c (usage_number BadTaskIndex) t)
+    ∷ (is_dead s id, untold c (dead_code_for s id) t)
+    ∷ []) (informed_by g c x.lease (taken_by s (index_of id) c) t)

@@ -1,0 +1,87 @@
+-- The kernel messages, which the supervisor sends to the kernel. (Hubris Reference: supervision; the
+-- operations are this project's profile.)
+use Rattle.std.specs.Prelude.{ℕ, ◌+◌, ◌/◌, ◌%◌, ◌^◌, Bool, ◌&&◌, ◌||◌, not, List, [], ◌∷◌, ◌++◌, length, Option, None, Some, is_some, ◌==◌, nat_le, find}
+use Rattle.kernel_abi.specs.Arguments.{send_args}
+use Rattle.kernel_abi.specs.Faults.{usage_number, access_number, injected_fault}
+use Rattle.kernel_abi.specs.declared.Access.TheVariants.{KernelRead, KernelWrite}
+use Rattle.kernel_abi.specs.declared.Health.{Health}
+use Rattle.kernel_abi.specs.declared.Health.TheVariants.{Well, Stopped, Faulted}
+use Rattle.kernel_abi.specs.declared.Usage.TheVariants.{BadTaskIndex, InvalidSlice, BadKernelMessage, NotSupervisor}
+use Rattle.kernel_abi.specs.declared.arguments.SendArgs.{SendArgs}
+use Rattle.region_check.specs.declared.Right.TheVariants.{Read, Write}
+use Rattle.task_table.specs.Memory.{number_at}
+use Rattle.task_table.specs.State.{Setup, State, Own, Turn}
+use Rattle.task_table.specs.Reading.{task_at, arguments, is_valid, bad_byte}
+use Rattle.task_table.specs.Effects.{stored, faulted, restarted}
+use Rattle.task_table.specs.Rows.{first_row, misused, denied, goes_on_with}
+use Rattle.task_table.specs.Sends.{message_of, reply_room}
+
+-- ## what a kernel message asks for
+
+-- its number; how many bytes its message and its answer have; whether it may be about the supervisor itself; and what it
+-- does to the task that its message names
+pub record Order : Type 0 where
+  pub number : ℕ
+  pub message : ℕ
+  pub reply : ℕ
+  pub on_supervisor : Bool
+  pub does : Setup → SendArgs → ℕ → Turn → Turn
+
+-- the four bytes of a word, the lowest first
+abbrev pub word_bytes : ℕ → List ℕ
+word_bytes w = w % 256 ∷ w / 2 ^ 8 % 256 ∷ w / 2 ^ 16 % 256 ∷ w / 2 ^ 24 % 256 ∷ []
+
+-- how a task is, in four words: health, and of a fault its number, x and y
+abbrev pub status_bytes : Health → List ℕ
+status_bytes Well = word_bytes 0 ++ word_bytes 0 ++ word_bytes 0 ++ word_bytes 0
+status_bytes Stopped = word_bytes 1 ++ word_bytes 0 ++ word_bytes 0 ++ word_bytes 0
+status_bytes (Faulted f) = word_bytes 2 ++ word_bytes f.number ++ word_bytes f.x ++ word_bytes f.y
+
+-- its answer is how the task is
+abbrev pub status_given : SendArgs → ℕ → Turn → Turn
+status_given x index t = stored Own x.reply_base (status_bytes (task_at t.state index).health) t
+
+-- the second word of the message says whether the task is started; 0 leaves it stopped
+abbrev pub restart_made : Setup → SendArgs → ℕ → Turn → Turn
+restart_made g x index t = restarted g index (not (number_at t.state.memory (x.message_base + 4) 4 == 0)) t
+
+-- a task is made to fault; a faulted one stays as it is
+abbrev pub injected_by : Setup → ℕ → Health → Turn → Turn
+injected_by g i Well t = faulted g i injected_fault t
+injected_by g i Stopped t = faulted g i injected_fault t
+injected_by g i (Faulted f) t = t
+
+unfoldable pub injected : Setup → ℕ → Turn → Turn
+injected g i t = injected_by g i (task_at t.state i).health t
+
+abbrev pub orders : List Order
+orders = []
+
+-- ## the rows
+
+-- the first word of the message names a task
+abbrev pub obeyed : Setup → ℕ → SendArgs → Option Order → Turn → Turn
+obeyed g c x None t = misused g c (usage_number BadKernelMessage) t
+obeyed g c x (Some o) t =
+    let index = number_at t.state.memory x.message_base 4 in
+    first_row (
+    (not ((x.message_length == o.message) && nat_le o.reply x.reply_capacity), misused g c (usage_number BadKernelMessage) t)
+    ∷ (nat_le (length t.state.tasks) index, misused g c (usage_number BadTaskIndex) t)
+    ∷ ((index == 0) && not o.on_supervisor, misused g c (usage_number BadKernelMessage) t)
+    ∷ []) (goes_on_with c (0 ∷ o.reply ∷ []) (o.does g x index t))
+
+-- the order with a number
+abbrev pub order_of : ℕ → Option Order
+order_of number = find (λ o. o.number == number) orders
+
+-- r4 bits 15 to 0 operation, r5 and r6 message, r7 and r8 reply buffer; leases are not looked at
+unfoldable pub ordered : Setup → ℕ → Turn → Turn
+ordered g c t =
+    let s = t.state in
+    let x = send_args (arguments s c) in
+    first_row (
+    (not (c == 0), misused g c (usage_number NotSupervisor) t)
+    ∷ (not (is_valid (message_of x)) || not (is_valid (reply_room x)), misused g c (usage_number InvalidSlice) t)
+    ∷ (is_some (bad_byte g c Read (message_of x)), denied g c (access_number KernelRead) (bad_byte g c Read (message_of x)) t)
+    ∷ (is_some (bad_byte g c Write (reply_room x)), denied g c (access_number KernelWrite) (bad_byte g c Write (reply_room x)) t)
+    ∷ []) (obeyed g c x (order_of x.operation) t)
