@@ -1,5 +1,5 @@
 -- Effects leave the turn, the time and the next call's number alone; a chain of steps makes at most one call.
-use Rattle.std.proofs.Common.{◌≡◌, ◌+◌, ℕ, Bool, true, false, cond, List, length, refl, ◌∙◌, arith, eqb, length-set}
+use Rattle.std.proofs.Common.{◌+◌, ℕ, Bool, true, false, cond, List, refl, ◌∙◌, arith, eqb, length-set}
 use Rattle.kernel_abi.specs.declared.Ending.TheVariants.{Client}
 use Rattle.kernel_abi.specs.declared.Fault.{Fault}
 use Rattle.kernel_abi.specs.declared.Health.TheVariants.{Faulted}

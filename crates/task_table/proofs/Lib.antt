@@ -16,6 +16,11 @@ pub mod Receives
 pub mod Chains
 pub mod Moves
 pub mod Happens
+pub mod Grounding
+pub mod Writing
+pub mod Lives
+pub mod Ledgers
+pub mod Closing
 pub mod Meanings
 pub mod RowChains
 pub mod StepKeeps

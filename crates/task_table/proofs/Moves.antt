@@ -1,5 +1,5 @@
 -- What happens to calls, to memory and to what is told of them; and what stands aside.
-use Rattle.std.proofs.Common.{◌≡◌, ◌+◌, ℕ, Bool, true, false, cond, List, [], ◌∷◌, ◌++◌, length, Option, Some, None, refl, sym, ◌∙◌, ap, eqb, bit_and, append_assoc, append-nil, length-set, min}
+use Rattle.std.proofs.Common.{◌≡◌, ◌+◌, ℕ, zero, suc, Bool, true, false, cond, List, [], ◌∷◌, ◌++◌, length, Option, Some, None, refl, sym, ◌∙◌, ap, arith, eqb, bit_and, append_assoc, append-nil, length-set, min}
 use Rattle.std.specs.Prelude.{Contains, fold}
 use Rattle.kernel_abi.specs.declared.Borrow.{Borrow}
 use Rattle.kernel_abi.specs.declared.Ending.{Ending}
@@ -26,6 +26,11 @@ ArePlain (n ∷ ns) = (is_plain n ≡ true) × ArePlain ns
 plain_joined : (xs ys : List Note) → ArePlain xs → ArePlain ys → ArePlain (xs ++ ys)
 plain_joined [] ys a b = b
 plain_joined (x ∷ xs) ys a b = (a.0, plain_joined xs ys a.1 b)
+
+pub plain_one : (ns : List Note) (n : Note) → ArePlain ns → Contains ns n → is_plain n ≡ true
+plain_one [] n a h = absurd (omega (arith, h.1))
+plain_one (x ∷ xs) n a (zero, lt, same) = let e : x ≡ n = same in rw (← e) a.0
+plain_one (x ∷ xs) n a (suc k, lt, same) = plain_one xs n a.1 (k, omega arith, same)
 
 -- calls, memory, the number of tasks and the turn's number stay, nothing is written and nobody's bytes are read, and
 -- what is noted is plain

@@ -1,6 +1,6 @@
 //! Laws of the abstract kernel, each the contract of a function that does nothing.
 
-ghost use Rattle.std.specs.Prelude.{◌≡◌, ◌+◌, ◌*◌, ◌<◌, ◌≤◌, ℕ, true, List, [], Option, length};
+ghost use Rattle.std.specs.Prelude.{◌≡◌, ◌+◌, ◌*◌, ◌<◌, ◌≤◌, ℕ, true, List, [], ◌++◌, Option, length};
 ghost use Rattle.kernel_abi.specs.declared.Fault.{Fault};
 ghost use Rattle.kernel_abi.specs.declared.Note.{Note};
 ghost use Rattle.kernel_abi.specs.declared.Timer.{Timer};
@@ -24,6 +24,9 @@ ghost use Rattle.task_table.specs.Sane.{Sane, IsCounted, AreAllBytes};
 ghost use Rattle.task_table.specs.Counts.{AreWhole, IsSameTime, AreCounts, IsNoted, AreNoted, IsAsReady};
 ghost use Rattle.task_table.specs.Chain.{Chain};
 ghost use Rattle.task_table.specs.Step.{Step, Outcome};
+ghost use Rattle.task_table.specs.Grounds.{AreGrounded, AreAlive, with_writes};
+ghost use Rattle.task_table.specs.Ledger.{IsLedger};
+ghost use Rattle.task_table.specs.Lives.{IsTold, IsFresh, IsClosed, IsSilent};
 ghost use Rattle.task_table.specs.Parts.{IsSound};
 ghost use Rattle.task_table.specs.Start.{start};
 ghost use Rattle.task_table.specs.Holds.{Holds};
@@ -81,6 +84,24 @@ pub fn chains_keep_what_steps_keep()
     ensures noted { (g : Setup) (s : State) (c : ℕ) (u v : Turn) → Chain (Step g s c) u v → IsNoted u → IsNoted v }
     ensures quiet { (g : Setup) (s : State) (c : ℕ) (u v : Turn) → Chain (Step g s c) u v → v.notes ≡ [] → IsAsReady u.state v.state }
     ensures few { (g : Setup) (s : State) (c : ℕ) (u v : Turn) → Step g s c u v → AreNoted (4 + 2 * length u.state.tasks) u v }
+{}
+
+/// Where nothing has happened in a turn yet, and a chain of steps follows: each byte is written on a ground where the chosen
+/// task may, no call is touched but those that were open or that the task offers, and the writes in order take the old
+/// memory to the new one. A call that is closed stays so, and nothing is written on its ground.
+pub fn chains_stand_on_their_grounds()
+    ensures grounded { (g : Setup) (s : State) (c : ℕ) (u v : Turn) → ArePlaced g s.memory → Chain (Step g s c) u v → IsFresh s u → AreGrounded g s c v }
+    ensures alive { (g : Setup) (s : State) (c : ℕ) (u v : Turn) → ArePlaced g s.memory → Chain (Step g s c) u v → IsFresh s u → AreAlive s c v }
+    ensures written { (g : Setup) (s : State) (c : ℕ) (u v : Turn) → ArePlaced g s.memory → Chain (Step g s c) u v → IsFresh s u → v.state.memory ≡ with_writes s.memory v.writes }
+    ensures closed { (g : Setup) (s : State) (c k : ℕ) (u v : Turn) → ArePlaced g s.memory → Chain (Step g s c) u v → IsFresh s u → IsClosed s k → IsClosed v.state k }
+    ensures silent { (g : Setup) (s : State) (c k : ℕ) (u v : Turn) → ArePlaced g s.memory → Chain (Step g s c) u v → IsFresh s u → IsClosed s k → IsSilent v k }
+{}
+
+/// What the notes so far tell of the lives of calls stays so over a chain of steps, and gives the ledger.
+pub fn chains_keep_the_ledger()
+    ensures start { (g : Setup) → IsTold [] (start g) }
+    ensures told { (g : Setup) (s : State) (c : ℕ) (old : List Note) (u v : Turn) → ArePlaced g s.memory → Chain (Step g s c) u v → IsTold (old ++ u.notes) u.state → IsTold (old ++ v.notes) v.state }
+    ensures ledger { (notes : List Note) (s : State) → IsTold notes s → IsLedger notes s }
 {}
 
 /// A post and a fault are noted.
