@@ -17,6 +17,11 @@ pub mod Chains
 pub mod Moves
 pub mod Happens
 pub mod Meanings
+pub mod Offering
+pub mod Outcomes
+pub mod MessageChains
+pub mod BorrowChains
+pub mod OrderChains
 pub mod RowChains
 pub mod StepKeeps
 pub mod Counting
