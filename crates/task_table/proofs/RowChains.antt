@@ -27,7 +27,7 @@ use Rattle.task_table.proofs.Meanings.{EachMeaning}
 use Rattle.task_table.proofs.MessageChains.{comes-sent, comes-replied, comes-reply_faulted, comes-post_made, comes-refreshed}
 use Rattle.task_table.proofs.Offers.{offer_is, no_offer, IsBestOf, best_is_best}
 use Rattle.task_table.proofs.OrderChains.{comes-ordered}
-use Rattle.task_table.proofs.Outcomes.{Leads, Comes, by_outcome, comes-faulted, comes-misused, comes-denied, goes, goes_with}
+use Rattle.task_table.proofs.Outcomes.{chain-outcome, Leads, Comes, by_outcome, comes-faulted, comes-misused, comes-denied, goes, goes_with}
 use Rattle.task_table.proofs.Receives.{births-past_call, health-past_call, posted-past_call, idle-past_call, calls-past_call, well-ready, is_there, none_left, same_index, no_kernel_birth, no_any_birth, one_birth, names_another}
 
 -- ## what needs nothing but the caller
@@ -180,3 +180,6 @@ module _ (g : Setup) (c : ℕ) (t : Turn) (h : Sane g t.state) (inside : c < len
   pub comes-called : Comes g c t (called g c t)
   unfolding called
   comes-called = among calls (register t.state c 11) each
+
+  pub chain-called : Chain (Step g t.state c) t (called g c t)
+  chain-called = chain-outcome g t.state c t _ comes-called
