@@ -22,6 +22,11 @@ pub mod Lives
 pub mod Ledgers
 pub mod Closing
 pub mod Meanings
+pub mod Offering
+pub mod Outcomes
+pub mod MessageChains
+pub mod BorrowChains
+pub mod OrderChains
 pub mod RowChains
 pub mod StepKeeps
 pub mod Counting
