@@ -20,8 +20,9 @@ use Rattle.task_table.specs.Borrows.{entry_range, grant, lease_range, entry_read
 use Rattle.task_table.specs.Sane.{Sane}
 use Rattle.task_table.specs.Grounds.{IsTakenBy, IsAlive}
 use Rattle.task_table.specs.Chain.{Here}
-use Rattle.task_table.specs.Step.{Copies, Looks, Borrows, Strikes, Faults}
+use Rattle.task_table.specs.Step.{Copies, Looks, Borrows, Strikes, IsEntry, ReadsEntries, Faults}
 use Rattle.task_table.proofs.Chains.{one, ◌▷◌}
+use Rattle.task_table.proofs.Keeps.{added_in}
 use Rattle.task_table.proofs.MessageChains.{found_taken, another}
 use Rattle.task_table.proofs.Outcomes.{Leads, Comes, by_outcome, comes-misused, goes_with}
 use Rattle.task_table.proofs.Ranges.{may-write}
@@ -39,6 +40,10 @@ notes-looked r t = refl
 writes-looked : (r : Read) (t : Turn) → (looked r t).writes ≡ t.writes
 unfolding looked
 writes-looked r t = refl
+
+reads-looked : (r : Read) (t : Turn) → IsEntry r.part → ReadsEntries t (looked r t)
+unfolding looked
+reads-looked r t entry x here = elim (added_in t.reads r x here) [ inl old ↦ inl old | inr new ↦ inr (rw new entry) ]
 
 module _ (g : Setup) (c : ℕ) (t : Turn) (h : Sane g t.state) (inside : c < length g.tasks) where
   -- ## what is told to the borrower
@@ -74,7 +79,7 @@ module _ (g : Setup) (c : ℕ) (t : Turn) (h : Sane g t.state) (inside : c < len
 
     faults_after : (lease : ℕ) (e : LeaseEntry) (fault : Fault) → 1 ≤ fault.number → fault.number ≤ 10 → Comes g c t (faulted g c fault (entry_read k lease e t))
     faults_after lease e fault low high =
-        Faults fault t (entry_read k lease e t) inside low high (reads_entry lease e) (state-looked (entry lease e) t) (notes-looked (entry lease e) t) (writes-looked (entry lease e) t)
+        Faults fault t (entry_read k lease e t) inside low high (reads_entry lease e) (state-looked (entry lease e) t) (notes-looked (entry lease e) t) (writes-looked (entry lease e) t) (reads-looked (entry lease e) t tt)
 
     misuses_after : (lease : ℕ) (e : LeaseEntry) (usage : ℕ) → Comes g c t (misused g c usage (entry_read k lease e t))
     misuses_after lease e usage = faults_after lease e record { number = 7; x = usage; y = 0 } (omega arith) (omega arith)

@@ -1,5 +1,5 @@
 -- How a call comes out: its caller faults, or goes on by steps that spare it.
-use Rattle.std.proofs.Common.{◌≡◌, ◌<◌, ◌≤◌, inl, inr, ℕ, Bool, true, false, cond, List, length, Option, refl, arith}
+use Rattle.std.proofs.Common.{◌≡◌, ◌<◌, ◌≤◌, inl, ℕ, Bool, true, false, cond, List, length, Option, refl, arith}
 use Rattle.kernel_abi.specs.declared.Fault.{Fault}
 use Rattle.task_table.specs.State.{Setup, State, Turn}
 use Rattle.task_table.specs.Effects.{given, past_call, faulted}
@@ -14,7 +14,7 @@ pub chain-spared : (g : Setup) (s : State) (c : ℕ) (u v : Turn) → Chain (Spa
 chain-spared g s c u v x = refined (Spared g s c) (Step g s c) (λ a b step. one step.0) u v x
 
 pub chain-outcome : (g : Setup) (s : State) (c : ℕ) (u v : Turn) → Outcome g s c u v → Chain (Step g s c) u v
-chain-outcome g s c _ _ (Faults fault u v inside low high x state notes writes) = chain-spared g s c u v x ▷ Halts fault v inside low high
+chain-outcome g s c _ _ (Faults fault u v inside low high x state notes writes reads) = chain-spared g s c u v x ▷ Halts fault v inside low high
 chain-outcome g s c _ _ (Goes u v x) = chain-spared g s c u v x
 
 -- ## how outcomes are made
@@ -33,7 +33,7 @@ Comes g c t u = Outcome g t.state c t u
 module _ (g : Setup) (c : ℕ) (t : Turn) (inside : c < length g.tasks) where
   -- the caller faults at once
   pub comes-faulted : (fault : Fault) → 1 ≤ fault.number → fault.number ≤ 10 → Comes g c t (faulted g c fault t)
-  comes-faulted fault low high = Faults fault t t inside low high (Here t) refl refl refl
+  comes-faulted fault low high = Faults fault t t inside low high (Here t) refl refl refl (λ r here. inl here)
 
   pub comes-misused : (usage : ℕ) → Comes g c t (misused g c usage t)
   comes-misused usage = comes-faulted record { number = 7; x = usage; y = 0 } (omega arith) (omega arith)

@@ -15,7 +15,7 @@ use Rattle.region_check.specs.declared.Right.TheVariants.{Write}
 use Rattle.words_core.specs.declared.Flags.{Flags}
 use Rattle.task_table.specs.declared.Line.{Line}
 use Rattle.task_table.specs.Memory.{IsWithinRam}
-use Rattle.task_table.specs.State.{Setup, State, Birth, Call, Listen, Range, Read, One, Offered, Taken, Ground, Own, Turn}
+use Rattle.task_table.specs.State.{Setup, State, Birth, Call, Listen, Range, Part, MessageFront, Entry, Leased, Read, One, Offered, Taken, Ground, Own, Turn}
 use Rattle.task_table.specs.Reading.{task_at, call_of, listen_of, bad_byte, admits, IsIdle}
 use Rattle.task_table.specs.Effects.{with_listen, changed, noted, with_processor, stored, copied, looked, given, returned, past_call, bits_cleared, posted, with_timer, with_line, closed, faulted_as, faulted, handed, restarted}
 use Rattle.task_table.specs.Rows.{listened_from}
@@ -152,7 +152,18 @@ Spares (Restarts i start u a b) = Unit {0}
 abbrev pub Spared : Setup → State → ℕ → Turn → Turn → Type 0
 Spared g s c u v = (step : Step g s c u v) × Spares step
 
--- c faults at once, or after steps that changed nothing, told nothing and wrote nothing; or steps that spare it
+-- an entry of a lease table is read
+abbrev pub IsEntry : Part → Type 0
+IsEntry MessageFront = ⊥
+IsEntry (Entry attributes base length) = Unit {0}
+IsEntry Leased = ⊥
+
+-- from u to v nothing was read at another task's place but entries of lease tables
+abbrev pub ReadsEntries : Turn → Turn → Type 0
+ReadsEntries u v = (r : Read) → Contains v.reads r → Contains u.reads r ⊎ IsEntry r.part
+
+-- c faults at once, or after steps that changed nothing, told nothing, wrote nothing and read entries alone; or steps
+-- that spare it
 pub data Outcome (g : Setup) (s : State) (c : ℕ) : Turn → Turn → Type 0 where
-  Faults : (fault : Fault) (u v : Turn) → c < length g.tasks → 1 ≤ fault.number → fault.number ≤ 10 → Chain (Spared g s c) u v → v.state ≡ u.state → v.notes ≡ u.notes → v.writes ≡ u.writes → Outcome g s c u (faulted g c fault v)
+  Faults : (fault : Fault) (u v : Turn) → c < length g.tasks → 1 ≤ fault.number → fault.number ≤ 10 → Chain (Spared g s c) u v → v.state ≡ u.state → v.notes ≡ u.notes → v.writes ≡ u.writes → ReadsEntries u v → Outcome g s c u (faulted g c fault v)
   Goes : (u v : Turn) → Chain (Spared g s c) u v → Outcome g s c u v
