@@ -26,6 +26,7 @@ use Rattle.board_model.specs.Script.{Scenario}
 use Rattle.board_model.specs.Turn.{put, acted, executed, told, decoded_as, is_text, stepped, after_events, with_current, low_note, high_note, with_registers_told, turn_of, ended, turn}
 use Rattle.board_model.specs.Faults.{IsSameButForFault}
 use Rattle.board_model.proofs.TurnChains.{IsChosen, chosen_is, sane-after_events}
+use Rattle.board_model.proofs.Events.{fresh-after_events}
 use Rattle.board_model.proofs.Stepping.{puts_state}
 use Rattle.board_model.proofs.FaultFrames.{both-posted}
 use Rattle.board_model.proofs.FaultRows.{IsWell, well-processor, Outcome, FaultsAlone, StaysWell, by_outcome, outcome-faulted, outcome-called}
