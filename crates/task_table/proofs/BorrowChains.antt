@@ -1,6 +1,5 @@
 -- Each row of BORROW_READ, BORROW_WRITE and BORROW_INFO.
-use Rattle.std.proofs.Common.{◌≡◌, ◌≢◌, ◌+◌, ◌*◌, ◌<◌, ◌≤◌, inl, inr, ℕ, Bool, true, false, not, [], ◌∷◌, length, Option, Some, None, refl, sym, ◌∙◌, arith, eqb, leb, ltb, bit_and, is_some}
-use Rattle.std.specs.Prelude.{Contains}
+use Rattle.std.proofs.Common.{◌≡◌, ◌≢◌, ◌+◌, ◌*◌, ◌<◌, ◌≤◌, inl, inr, ℕ, not, [], ◌∷◌, length, Option, Some, None, refl, sym, ◌∙◌, arith, eqb, leb, ltb, bit_and, is_some}
 use Rattle.std.proofs.lemmas.Bool.{eq-eqb, leb-false, ltb-false, false≢true}
 use Rattle.std.proofs.lemmas.List.Elements.{Contains-push}
 use Rattle.kernel_abi.specs.Arguments.{borrow_args, info_args}
@@ -14,7 +13,7 @@ use Rattle.kernel_abi.specs.declared.arguments.BorrowArgs.{BorrowArgs}
 use Rattle.region_check.specs.declared.Right.TheVariants as right
 use Rattle.task_table.specs.State.{Setup, Call, Own, Lease, Read, Entry, Leased, Turn}
 use Rattle.task_table.specs.Reading.{arguments, is_out, is_dead, dead_code_for, taken_by, is_valid, bad_byte}
-use Rattle.task_table.specs.Effects.{looked, copied, faulted}
+use Rattle.task_table.specs.Effects.{looked, faulted}
 use Rattle.task_table.specs.Rows.{misused, denied}
 use Rattle.task_table.specs.Borrows.{entry_range, grant, lease_range, entry_read, Way, reading, writing, moved, refused, buffer_of, part_of, borrowed_by, borrowed, untold, informed_by, informed}
 use Rattle.task_table.specs.Sane.{Sane}

@@ -1,5 +1,5 @@
 -- Each row of SEND, REPLY, REPLY_FAULT, POST and REFRESH_TASK_ID.
-use Rattle.std.proofs.Common.{◌≡◌, ◌≢◌, ◌+◌, ◌<◌, ◌≤◌, inl, inr, ℕ, Bool, true, false, not, ◌&&◌, ◌||◌, List, [], ◌∷◌, length, Option, Some, None, refl, sym, ◌∙◌, ap, arith, eqb, ltb, is_some, IfSome}
+use Rattle.std.proofs.Common.{◌≡◌, ◌≢◌, ◌<◌, ◌≤◌, inl, inr, ℕ, true, not, ◌&&◌, ◌||◌, [], ◌∷◌, length, Option, Some, None, refl, sym, ◌∙◌, ap, arith, eqb, ltb, is_some, IfSome}
 use Rattle.std.specs.Prelude.{Contains, find}
 use Rattle.std.proofs.lemmas.Bool.{eq-eqb, eqb-true, ltb-false, not-false, false≢true, and_parts, or_parts}
 use Rattle.kernel_abi.specs.Arguments.{send_args, reply_args, id_args}
@@ -8,8 +8,8 @@ use Rattle.kernel_abi.specs.declared.Ending.TheVariants as ending
 use Rattle.kernel_abi.specs.declared.arguments.ReplyArgs.{ReplyArgs}
 use Rattle.region_check.specs.declared.Right.TheVariants as right
 use Rattle.task_table.specs.State.{Setup, State, Call, Phase, Offered, Taken, Ground, Reply, Turn}
-use Rattle.task_table.specs.Reading.{task_at, arguments, call_of, is_ready, is_out, is_dead, dead_code_for, present_id, is_taken, taken_by, is_valid, bad_byte, IsIdle}
-use Rattle.task_table.specs.Effects.{copied, closed, given, returned, past_call, posted}
+use Rattle.task_table.specs.Reading.{arguments, call_of, is_ready, is_out, is_dead, present_id, is_taken, taken_by, is_valid, bad_byte, IsIdle}
+use Rattle.task_table.specs.Effects.{copied, past_call, posted}
 use Rattle.task_table.specs.Sends.{message_of, reply_room, table_of, call_made, sent, reply_of, replied_to, replied, reply_fault_by, reply_faulted_to, reply_faulted, post_made, refreshed}
 use Rattle.task_table.specs.Sane.{Sane}
 use Rattle.task_table.specs.Grounds.{Lies, IsTakenBy}
@@ -18,7 +18,7 @@ use Rattle.task_table.specs.Step.{Gives, Returns, PassesCall, Posts, Sends, Copi
 use Rattle.task_table.proofs.Chains.{one, ◌▷◌}
 use Rattle.task_table.proofs.Frames.{idle-ready}
 use Rattle.task_table.proofs.Keeps.{found_in}
-use Rattle.task_table.proofs.Outcomes.{Leads, Comes, by_outcome, comes-misused, comes-denied, goes, goes_with}
+use Rattle.task_table.proofs.Outcomes.{Comes, by_outcome, comes-misused, comes-denied, goes, goes_with}
 use Rattle.task_table.proofs.Ranges.{may-write}
 use Rattle.task_table.proofs.Receives.{health-past_call, idle-past_call, listens-past_call, next-past_call, well-ready, is_there, none_left}
 

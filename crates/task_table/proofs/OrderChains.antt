@@ -1,7 +1,7 @@
 -- Each row of the kernel messages.
-use Rattle.std.proofs.Common.{◌≡◌, ◌≢◌, ◌+◌, ◌*◌, ◌/◌, ◌%◌, ◌^◌, ◌<◌, ◌≤◌, inl, inr, ℕ, zero, suc, Bool, true, false, cond, not, ◌&&◌, ◌||◌, List, [], ◌∷◌, ◌++◌, length, Option, Some, None, refl, sym, ◌∙◌, arith, eqb, leb, is_some, IfSome}
-use Rattle.std.specs.Prelude.{Contains, find}
-use Rattle.std.proofs.lemmas.Bool.{eq-eqb, eqb-true, leb-true, leb-false, not-false, false≢true, and_parts}
+use Rattle.std.proofs.Common.{◌≡◌, ◌≢◌, ◌/◌, ◌%◌, ◌^◌, ◌<◌, ◌≤◌, inr, ℕ, zero, suc, Bool, true, false, cond, not, ◌&&◌, ◌||◌, List, [], ◌∷◌, ◌++◌, length, Option, Some, None, refl, sym, arith, eqb, leb, is_some, IfSome}
+use Rattle.std.specs.Prelude.{find}
+use Rattle.std.proofs.lemmas.Bool.{eqb-true, leb-true, leb-false, not-false, false≢true, and_parts}
 use Rattle.kernel_abi.specs.Arguments.{send_args}
 use Rattle.kernel_abi.specs.Faults.{injected_fault}
 use Rattle.kernel_abi.specs.declared.Ending.TheVariants.{Client}
@@ -12,10 +12,9 @@ use Rattle.region_check.specs.declared.Right.TheVariants as right
 use Rattle.task_table.specs.Memory.{IsWithinRam, number_at}
 use Rattle.task_table.specs.State.{Setup, Own, Turn}
 use Rattle.task_table.specs.Reading.{task_at, arguments, is_valid, bad_byte}
-use Rattle.task_table.specs.Effects.{stored, restarted}
-use Rattle.task_table.specs.Rows.{misused}
+use Rattle.task_table.specs.Effects.{stored}
 use Rattle.task_table.specs.Sends.{message_of, reply_room}
-use Rattle.task_table.specs.Orders.{Order, word_bytes, status_bytes, status_given, restart_made, injected_by, injected, orders, order_of, obeyed, ordered}
+use Rattle.task_table.specs.Orders.{Order, word_bytes, status_bytes, injected_by, injected, orders, order_of, obeyed, ordered}
 use Rattle.task_table.specs.Sane.{Sane, AreAllBytes}
 use Rattle.task_table.specs.Chain.{Here}
 use Rattle.task_table.specs.Step.{Stores, Strikes, Restarts}

@@ -1,5 +1,5 @@
 -- Each row of each call faults its caller, or is a chain of steps that spare it: the one walk over the rows.
-use Rattle.std.proofs.Common.{◌≡◌, ◌≢◌, ◌/◌, ◌%◌, ◌^◌, ◌<◌, ◌≤◌, inl, ℕ, Bool, true, false, cond, not, ◌&&◌, ◌||◌, List, [], ◌∷◌, length, Option, Some, None, refl, sym, ◌∙◌, arith, eqb, leb, bit_and, is_some}
+use Rattle.std.proofs.Common.{◌≡◌, ◌≢◌, ◌/◌, ◌%◌, ◌^◌, ◌<◌, ◌≤◌, ℕ, Bool, true, false, cond, not, ◌&&◌, ◌||◌, List, [], ◌∷◌, length, Option, Some, None, refl, sym, ◌∙◌, arith, eqb, leb, bit_and, is_some}
 use Rattle.std.specs.Prelude.{Contains, filter}
 use Rattle.std.specs.List.{list_any}
 use Rattle.std.proofs.lemmas.Bool.{eq-eqb, eqb-true, leb-false, not-false, false≢true, false_from_ne_true}
@@ -27,7 +27,7 @@ use Rattle.task_table.proofs.Meanings.{EachMeaning}
 use Rattle.task_table.proofs.MessageChains.{comes-sent, comes-replied, comes-reply_faulted, comes-post_made, comes-refreshed}
 use Rattle.task_table.proofs.Offers.{offer_is, no_offer, IsBestOf, best_is_best}
 use Rattle.task_table.proofs.OrderChains.{comes-ordered}
-use Rattle.task_table.proofs.Outcomes.{chain-outcome, Leads, Comes, by_outcome, comes-faulted, comes-misused, comes-denied, goes, goes_with}
+use Rattle.task_table.proofs.Outcomes.{chain-outcome, Comes, by_outcome, comes-faulted, comes-misused, comes-denied, goes, goes_with}
 use Rattle.task_table.proofs.Receives.{births-past_call, health-past_call, posted-past_call, idle-past_call, calls-past_call, well-ready, is_there, none_left, same_index, no_kernel_birth, no_any_birth, one_birth, names_another}
 
 -- ## what needs nothing but the caller

@@ -10,7 +10,7 @@ use Rattle.kernel_abi.specs.declared.Usage.TheVariants.{BadTaskIndex, InvalidSli
 use Rattle.kernel_abi.specs.declared.arguments.SendArgs.{SendArgs}
 use Rattle.region_check.specs.declared.Right.TheVariants.{Read, Write}
 use Rattle.task_table.specs.Memory.{number_at}
-use Rattle.task_table.specs.State.{Setup, State, Own, Turn}
+use Rattle.task_table.specs.State.{Setup, Own, Turn}
 use Rattle.task_table.specs.Reading.{task_at, arguments, is_valid, bad_byte}
 use Rattle.task_table.specs.Effects.{stored, faulted, restarted}
 use Rattle.task_table.specs.Rows.{first_row, misused, denied, goes_on_with}
