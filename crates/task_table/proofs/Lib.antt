@@ -24,3 +24,4 @@ pub mod Noting
 pub mod Quieting
 pub mod Outside
 pub mod Starts
+pub mod Births

@@ -22,3 +22,4 @@ pub mod Sends
 pub mod Borrows
 pub mod Orders
 pub mod Ledger
+pub mod Waits
