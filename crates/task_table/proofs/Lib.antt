@@ -35,3 +35,4 @@ pub mod Quieting
 pub mod Outside
 pub mod Starts
 mod DeadRows
+pub mod Births

@@ -24,3 +24,4 @@ pub mod Borrows
 pub mod Orders
 pub mod Ledger
 pub mod DeadIds
+pub mod Waits

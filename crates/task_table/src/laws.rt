@@ -10,9 +10,9 @@ ghost use Rattle.region_check.specs.declared.Right.{Right};
 ghost use Rattle.region_check.specs.declared.Right.TheVariants.{Write};
 ghost use Rattle.region_check.specs.Rights.{may_copy};
 ghost use Rattle.task_table.specs.Memory.{Memory, IsWithin, IsWithinRam};
-ghost use Rattle.task_table.specs.State.{Setup, State, Turn, Ground};
+ghost use Rattle.task_table.specs.State.{Setup, State, Turn, Ground, Read};
 ghost use Rattle.task_table.specs.Reading.{setup_at, is_ready, best_sender, IsIdle, IsSameAt};
-ghost use Rattle.task_table.specs.Effects.{changed, noted, with_processor, given, posted, with_timer, with_line, stored, faulted};
+ghost use Rattle.task_table.specs.Effects.{changed, noted, looked, with_processor, given, posted, with_timer, with_line, stored, faulted};
 ghost use Rattle.task_table.specs.Rows.{misused, panicked, timer_set, timer_told, irq_controlled, received, call_noted};
 ghost use Rattle.task_table.specs.Sends.{sent, replied, reply_faulted, post_made, refreshed};
 ghost use Rattle.task_table.specs.Borrows.{reading, writing, borrowed, informed};
@@ -166,4 +166,9 @@ pub fn given_bytes_lie_in_memory()
 /// The kernel knows nothing of the turn's number, which the board keeps.
 pub fn turns_are_not_kept()
     ensures { (g : Setup) (k : Kernel) (t : Turn) (n : ℕ) → Holds g k t → Holds g k (changed (λ s. record s { turn = n }) t) }
+{}
+
+/// The kernel knows nothing of what was read.
+pub fn reads_are_not_kept()
+    ensures { (g : Setup) (k : Kernel) (t : Turn) (r : Read) → Holds g k t → Holds g k (looked r t) }
 {}
