@@ -56,8 +56,8 @@ pub fn turns_without_notes_keep_the_choice()
     ensures down { (level : Detail) (x : Scenario) (s : State) → Sane x.setup s → (turn level x s).notes ≡ [] → is_down (turn level x s).state ≡ is_down (after_events x s).state }
 {}
 
-/// A turn writes on its grounds alone, touches no call but those that are alive, and leaves alone what is closed. (Hubris
-/// Reference: IPC, leases; which memory a call may touch is docs/FORMATS.md.)
+/// A turn writes on its grounds alone, touches no call but those that are open or that it offers, and leaves alone what is
+/// closed. (Hubris Reference: IPC, leases.)
 pub fn turns_stand_on_their_grounds()
     ensures { (level : Detail) (x : Scenario) (s : State) → Sane x.setup s → IsGroundedTurn level x s }
 {}
