@@ -34,3 +34,4 @@ pub mod Noting
 pub mod Quieting
 pub mod Outside
 pub mod Starts
+mod DeadRows

@@ -23,3 +23,4 @@ pub mod Sends
 pub mod Borrows
 pub mod Orders
 pub mod Ledger
+pub mod DeadIds
