@@ -57,6 +57,11 @@ pub by_same : (P : Turn → Turn → Type 0) (b : Bool) {t t' u u' : Turn} → P
 by_same P true here later = here
 by_same P false here later = later
 
+-- a test, whose second side knows that it failed
+pub by_case : (P : Turn → Turn → Type 0) (b : Bool) {t t' u u' : Turn} → P t u → (b ≡ false → P t' u') → P (cond b t t') (cond b u u')
+by_case P true here later = here
+by_case P false here later = later refl
+
 module _ (w : Viewer) (a : IsAttentive w) where
   -- ## notes, and parts of the state
 
@@ -140,11 +145,11 @@ module _ (w : Viewer) (a : IsAttentive w) where
       alike-told _ _ _ _ (ap (λ k. note.Tick (k + 1)) (now_alike w.birth t.state u.state h.state)) refl
       (alike-changed _ _ t u (ap (λ (s : State). record s { now = s.now + 1 }) h.state) refl refl h)
 
-  alike-no_listen : (i : ℕ) (t u : Turn) → IsAlike w t u → IsAlike w (changed (without_listen i) t) (changed (without_listen i) u)
+  pub alike-no_listen : (i : ℕ) (t u : Turn) → IsAlike w t u → IsAlike w (changed (without_listen i) t) (changed (without_listen i) u)
   unfolding without_listen
   alike-no_listen i t u h = alike-changed _ _ t u (alike-without_listen w.birth i t.state u.state h.state) refl refl h
 
-  alike-closed : (i : ℕ) (ending : Ending) (t u : Turn) → IsAlike w t u → IsAlike w (closed i ending t) (closed i ending u)
+  pub alike-closed : (i : ℕ) (ending : Ending) (t u : Turn) → IsAlike w t u → IsAlike w (closed i ending t) (closed i ending u)
   unfolding closed without_call
   alike-closed i ending t u h = record {
     state = alike-without_call w.birth i t.state u.state h.state;
@@ -202,10 +207,10 @@ module _ (w : Viewer) (a : IsAttentive w) where
   pub alike-faulted : (g : Setup) (i : ℕ) (fault : Fault) (t u : Turn) → IsAlike w t u → IsAlike w (faulted g i fault t) (faulted g i fault u)
   alike-faulted g i fault t u h = alike-faulted_as g i fault Client t u h
 
-  alike-misused : (g : Setup) (c usage : ℕ) (t u : Turn) → IsAlike w t u → IsAlike w (misused g c usage t) (misused g c usage u)
+  pub alike-misused : (g : Setup) (c usage : ℕ) (t u : Turn) → IsAlike w t u → IsAlike w (misused g c usage t) (misused g c usage u)
   alike-misused g c usage t u h = alike-faulted g c record { number = 7; x = usage; y = 0 } t u h
 
-  alike-denied : (g : Setup) (c y : ℕ) (bad : Option ℕ) (t u : Turn) → IsAlike w t u → IsAlike w (denied g c y bad t) (denied g c y bad u)
+  pub alike-denied : (g : Setup) (c y : ℕ) (bad : Option ℕ) (t u : Turn) → IsAlike w t u → IsAlike w (denied g c y bad t) (denied g c y bad u)
   alike-denied g c y bad t u h = alike-faulted g c record { number = 3; x = unwrap_or bad 0; y = y } t u h
 
   -- ## bytes
@@ -283,26 +288,26 @@ module _ (w : Viewer) (a : IsAttentive w) where
   pub surely : {t u : Turn} → IsAlike w t u → IsAlikeWhereSeen w t u
   surely h = record { alike = λ see. h }
 
-  where_seen-returned : (c : ℕ) (t u : Turn) → IsAlikeWhereSeen w t u → IsAlikeWhereSeen w (returned c t) (returned c u)
+  pub where_seen-returned : (c : ℕ) (t u : Turn) → IsAlikeWhereSeen w t u → IsAlikeWhereSeen w (returned c t) (returned c u)
   unfolding returned noted
   where_seen-returned c t u h = record { alike = λ see. alike-returned c t u (h.alike see) }
 
   -- ## the rows of the calls
 
-  alike-goes_on : (c : ℕ) (t u : Turn) → IsAlike w t u → IsAlike w (goes_on c t) (goes_on c u)
+  pub alike-goes_on : (c : ℕ) (t u : Turn) → IsAlike w t u → IsAlike w (goes_on c t) (goes_on c u)
   alike-goes_on c t u h = alike-returned c _ _ (alike-past_call c t u h)
 
-  alike-goes_on_with : (c : ℕ) (values : List ℕ) (t u : Turn) → IsAlike w t u → IsAlike w (goes_on_with c values t) (goes_on_with c values u)
+  pub alike-goes_on_with : (c : ℕ) (values : List ℕ) (t u : Turn) → IsAlike w t u → IsAlike w (goes_on_with c values t) (goes_on_with c values u)
   alike-goes_on_with c values t u h = alike-goes_on c _ _ (alike-given c values t u h)
 
   -- values that are the same in both
-  alike-answers : (c : ℕ) (values others : List ℕ) (t u : Turn) → values ≡ others → IsAlike w t u → IsAlike w (goes_on_with c values t) (goes_on_with c others u)
+  pub alike-answers : (c : ℕ) (values others : List ℕ) (t u : Turn) → values ≡ others → IsAlike w t u → IsAlike w (goes_on_with c values t) (goes_on_with c others u)
   alike-answers c values others t u e h = rw (sym e) (alike-goes_on_with c values t u h)
 
-  args : (c : ℕ) (t u : Turn) → IsAlike w t u → arguments u.state c ≡ arguments t.state c
+  pub args : (c : ℕ) (t u : Turn) → IsAlike w t u → arguments u.state c ≡ arguments t.state c
   args c t u h = sym (arguments_alike w.birth t.state u.state c h.state)
 
-  word : (c r : ℕ) (t u : Turn) → IsAlike w t u → register u.state c r ≡ register t.state c r
+  pub word : (c r : ℕ) (t u : Turn) → IsAlike w t u → register u.state c r ≡ register t.state c r
   word c r t u h = sym (register_alike w.birth t.state u.state c r h.state)
 
   pub alike-panicked : (g : Setup) (c : ℕ) (t u : Turn) → IsAlike w t u → IsAlike w (panicked g c t) (panicked g c u)
@@ -368,19 +373,19 @@ module _ (w : Viewer) (a : IsAttentive w) where
 
   -- ## RECV
 
-  is_out_same : (id : ℕ) (t u : Turn) → IsAlike w t u → is_out t.state id ≡ is_out u.state id
+  pub is_out_same : (id : ℕ) (t u : Turn) → IsAlike w t u → is_out t.state id ≡ is_out u.state id
   unfolding is_out
   is_out_same id t u h = ap (λ n. leb n (index_of id)) (count_alike w.birth t.state u.state h.state)
 
-  generation_same : (i : ℕ) (t u : Turn) → IsAlike w t u → (task_at t.state i).births % 64 ≡ (task_at u.state i).births % 64
+  pub generation_same : (i : ℕ) (t u : Turn) → IsAlike w t u → (task_at t.state i).births % 64 ≡ (task_at u.state i).births % 64
   generation_same i t u h =
       sym (a.generation (task_at t.state i).births) ∙ ap (λ (x : Task). x.births % 64) (the_task i t u h) ∙ a.generation (task_at u.state i).births
 
-  is_dead_same : (id : ℕ) (t u : Turn) → IsAlike w t u → is_dead t.state id ≡ is_dead u.state id
+  pub is_dead_same : (id : ℕ) (t u : Turn) → IsAlike w t u → is_dead t.state id ≡ is_dead u.state id
   unfolding is_dead
   is_dead_same id t u h = ap (λ n. not (eqb (generation_of id) n)) (generation_same (index_of id) t u h)
 
-  dead_code_same : (id : ℕ) (t u : Turn) → IsAlike w t u → dead_code_for u.state id ≡ dead_code_for t.state id
+  pub dead_code_same : (id : ℕ) (t u : Turn) → IsAlike w t u → dead_code_for u.state id ≡ dead_code_for t.state id
   unfolding dead_code_for
   dead_code_same id t u h = ap dead_code_of (sym (generation_same (index_of id) t u h))
 

@@ -16,7 +16,8 @@ use Rattle.board_model.specs.Turn.{turn}
 use Rattle.board_model.specs.Run.{is_down, is_still, end_by, ending, Run, with_front, unless, at_turn, run}
 use Rattle.two_runs.specs.Alike.{Viewer, IsAttentive, AreAlikeMemories, IsAlike, reduced}
 use Rattle.two_runs.proofs.Alike.{shown, task_alike, chosen_alike, turn_alike, memories_same}
-use Rattle.two_runs.proofs.AlikeTurns.{IsHeardAs, IsOpen, alike-turn}
+use Rattle.two_runs.proofs.AlikeTurns.{IsHeardAs, alike-turn}
+use Rattle.two_runs.proofs.Sight.{IsOpen}
 use Rattle.two_runs.proofs.Views.{all_heard, listener, attentive_listener, open_listener, alike_of_told, told_of_alike, archivist, attentive_archivist, level_heard, alike-reduced, reduced_from}
 
 record AreAlikeStates (w : Viewer) (s u : State) : Type 0 where

@@ -1,10 +1,8 @@
 -- Turns leave alike states alike.
-use Rattle.std.proofs.Common.{◌≡◌, ◌+◌, ◌<◌, ◌≤◌, ◌%◌, ◌^◌, ℕ, zero, suc, Bool, true, false, cond, not, leb, ltb, ◌&&◌, List, Option, Some, None, refl, sym, ◌∙◌, ap, arith, inl, inr, eq-or-lt_of_le, ltb-true, ltb-false}
-use Rattle.std.specs.Prelude.{fold, find}
-use Rattle.std.specs.List.{range_with_len}
+use Rattle.std.proofs.Common.{◌≡◌, ◌+◌, ◌<◌, ◌≤◌, ◌%◌, ◌^◌, ℕ, Bool, true, false, leb, ltb, ◌&&◌, List, Option, Some, None, refl, sym, ◌∙◌, ap, arith, inl, inr, eq-or-lt_of_le, ltb-true, ltb-false}
+use Rattle.std.specs.Prelude.{fold}
 use Rattle.kernel_abi.specs.declared.Note.{Note}
 use Rattle.kernel_abi.specs.declared.Note.TheVariants as note
-use Rattle.region_check.specs.declared.Right.{Right}
 use Rattle.region_check.specs.declared.Right.TheVariants.{Read, Execute}
 use Rattle.run_script.specs.declared.events.Event.{Event}
 use Rattle.run_script.specs.declared.events.Event.TheVariants.{Tick, Irq}
@@ -24,6 +22,7 @@ use Rattle.two_runs.specs.Alike.{Viewer, IsAttentive, IsAlike, IsAlikeWhereSeen}
 use Rattle.two_runs.specs.Agreement.{rest_of}
 use Rattle.two_runs.proofs.Alike.{register_alike, chosen_alike, bytes_alike, turn_alike}
 use Rattle.two_runs.proofs.AlikeRows.{by_test, alike-heard, alike-unheard, the_task, alike-processor, alike-current, alike-next_turn, alike-stored, alike-faulted, surely, alike-call_noted, alike-called, alike-ticked, alike-interrupted, alike-fold}
+use Rattle.two_runs.proofs.Sight.{IsOpen, none_lacking}
 use Rattle.two_runs.proofs.Following.{IsFollowed, follow-stepped}
 
 -- how much is told of the two turns: as much, and all is heard; or the first tells no more than what is heard
@@ -32,23 +31,6 @@ IsHeardAs w Calls Calls = Unit {0}
 IsHeardAs w All All = (n : Note) → w.hears n ≡ true
 IsHeardAs w Calls All = (n : Note) → is_told_always n ≡ false → w.hears n ≡ false
 IsHeardAs w All Calls = ⊥
-
--- the viewer sees what the task may read or execute, and what lies above all memory
-pub record IsOpen (w : Viewer) (g : Setup) (c : ℕ) : Type 0 where
-  pub rights : (right : Right) (a : ℕ) → may g c right a ≡ true → w.sees a ≡ true
-  pub beyond : (a : ℕ) → 0x40000000 ≤ a → w.sees a ≡ true
-
--- no byte of a range is refused
-no_some : {A : Type 0} {B : Type 0} {y : A} → Some y ≡ None → B
-no_some q = cc
-
-none_lacking : (p : ℕ → Bool) (a n : ℕ) → find (λ x. not (p x)) (range_with_len a n) ≡ None → (x : ℕ) → a ≤ x → x < a + n → p x ≡ true
-none_lacking p a zero e x lo hi = absurd (omega arith)
-none_lacking p a (suc n) e x lo hi = go (p a) refl e (λ above rest. none_lacking p (a + 1) n rest x (omega arith) (omega arith))
-  where
-    go : (b : Bool) → p a ≡ b → cond (not b) (Some a) (find (λ y. not (p y)) (range_with_len (a + 1) n)) ≡ None → (a < x → find (λ y. not (p y)) (range_with_len (a + 1) n) ≡ None → p x ≡ true) → p x ≡ true
-    go false q f later = no_some f
-    go true q f later = elim (eq-or-lt_of_le lo) [ inl same ↦ ap p (sym same) ∙ q | inr above ↦ later above f ]
 
 pub both : (a b : Bool) → (a && b) ≡ true → (a ≡ true) × (b ≡ true)
 both true b h = (refl, h)

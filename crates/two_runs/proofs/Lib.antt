@@ -1,5 +1,10 @@
 pub mod Alike
+pub mod Sight
+pub mod Births
 pub mod AlikeRows
+pub mod AlikeSends
+pub mod AlikeBorrows
+pub mod AlikeOrders
 pub mod Following
 pub mod AlikeTurns
 pub mod Views

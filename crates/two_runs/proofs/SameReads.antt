@@ -20,7 +20,8 @@ use Rattle.board_model.proofs.TurnChains.{sane-after_events}
 use Rattle.two_runs.specs.Alike.{Viewer, IsAttentive, seen, AreAlikeMemories, IsAlike, AreSeen}
 use Rattle.two_runs.specs.Agreement.{is_own, covers, is_read, AgreesOnReads, rest_of, with_memory, IsSameButMemory}
 use Rattle.two_runs.proofs.Alike.{shown, chosen_alike}
-use Rattle.two_runs.proofs.AlikeTurns.{both, IsHeardAs, IsOpen, alike-rest}
+use Rattle.two_runs.proofs.AlikeTurns.{both, IsHeardAs, alike-rest}
+use Rattle.two_runs.proofs.Sight.{IsOpen}
 use Rattle.two_runs.proofs.Views.{all_heard, any_in, any_of, either, first, same_but_memory}
 
 -- the one who sees what is read, and what lies above all memory

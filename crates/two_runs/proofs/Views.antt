@@ -17,7 +17,8 @@ use Rattle.board_model.specs.Turn.{turn}
 use Rattle.two_runs.specs.Alike.{Viewer, IsAttentive, seen_task, seen_call, seen_from, seen_listen, seen, but_memory, reduced, AreAlikeMemories, IsAlike, AreSeen, IsAlikeWhereSeen}
 use Rattle.two_runs.proofs.Alike.{shown, memories_same}
 use Rattle.two_runs.proofs.AlikeRows.{alike-called}
-use Rattle.two_runs.proofs.AlikeTurns.{IsHeardAs, IsOpen, alike-turn}
+use Rattle.two_runs.proofs.AlikeTurns.{IsHeardAs, alike-turn}
+use Rattle.two_runs.proofs.Sight.{IsOpen}
 
 -- ## small things
 
