@@ -16,7 +16,17 @@ pub mod Receives
 pub mod Chains
 pub mod Moves
 pub mod Happens
+pub mod Grounding
+pub mod Writing
+pub mod Lives
+pub mod Ledgers
+pub mod Closing
 pub mod Meanings
+pub mod Offering
+pub mod Outcomes
+pub mod MessageChains
+pub mod BorrowChains
+pub mod OrderChains
 pub mod RowChains
 pub mod StepKeeps
 pub mod Counting

@@ -18,6 +18,7 @@ pub mod Counts
 pub mod Grounds
 pub mod Chain
 pub mod Step
+pub mod Lives
 pub mod Sends
 pub mod Borrows
 pub mod Orders
