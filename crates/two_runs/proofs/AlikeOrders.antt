@@ -1,6 +1,6 @@
 -- Restarts and kernel messages leave alike turns alike.
 use Rattle.std.proofs.Common.{◌≡◌, ◌+◌, ◌<◌, ◌≤◌, ◌%◌, ◌&&◌, ◌||◌, ℕ, Bool, true, false, not, leb, eqb, is_some, List, [], ◌∷◌, length, Option, Some, None, refl, sym, ◌∙◌, ap, subst, cond, arith, eqb-true}
-use Rattle.std.specs.Prelude.{if◌then◌else◌, option_map, find}
+use Rattle.std.specs.Prelude.{if◌then◌else◌, option_map, find, IfSome}
 use Rattle.std.specs.List.{range_with_len}
 use Rattle.std.proofs.lemmas.Bool.{false≢true}
 use Rattle.kernel_abi.specs.Arguments.{send_args}
@@ -27,23 +27,20 @@ use Rattle.two_runs.proofs.AlikeRows.{by_test, by_same, by_case, the_task, alike
 use Rattle.two_runs.proofs.Sight.{IsOpen, checked_seen}
 
 -- what holds of each order of a list holds of the one that is found in it
-abbrev pub EachOrder : (Order → Type 0) → List Order → Type 0
+abbrev EachOrder : (Order → Type 0) → List Order → Type 0
 EachOrder P [] = Unit {0}
 EachOrder P (order ∷ orders) = P order × EachOrder P orders
 
-found_order : (P : Order → Type 0) (p : Order → Bool) (list : List Order) (o : Order) → EachOrder P list → find p list ≡ Some o → P o
-found_order P p [] o each e = none_some e
+each_found : (P : Order → Type 0) (list : List Order) (number : ℕ) → EachOrder P list → IfSome (find (λ (o : Order). eqb o.number number) list) P
+each_found P [] number each = tt
+each_found P (o ∷ list) number each = go (eqb o.number number) each.0 (each_found P list number each.1)
   where
-    none_some : {A : Type 0} {B : Type 0} {y : A} → None ≡ Some y → B
-    none_some q = cc
-found_order P p (x ∷ list) o each e = go (p x) e (λ rest. found_order P p list o each.1 rest)
-  where
-    one : {A : Type 0} {y z : A} → Some y ≡ Some z → y ≡ z
-    one q = cc
+    later : Option Order
+    later = find (λ (p : Order). eqb p.number number) list
 
-    go : (b : Bool) → cond b (Some x) (find p list) ≡ Some o → (find p list ≡ Some o → P o) → P o
-    go true q later = subst P (one q) each.0
-    go false q later = later q
+    go : (b : Bool) → P o → IfSome later P → IfSome (cond b (Some o) later) P
+    go true here rest = here
+    go false here rest = rest
 
 -- a message of the length that an order asks for
 fits : (a b : Bool) → not (a && b) ≡ false → a ≡ true
@@ -143,13 +140,19 @@ module _ (w : Viewer) (a : IsAttentive w) where
 
   -- one fact for each order
   alike-orders : EachOrder IsAlikeOrder orders
-  alike-orders = tt
+  alike-orders = (
+    record { names = omega arith; does = λ g x index t u see h. alike-status_given x index t u h },
+    (
+      record { names = omega arith; does = λ g x index t u see h. alike-restart_made g x index t u see h },
+      (record { names = omega arith; does = λ g x index t u see h. alike-injected g index t u h }, tt),
+    ),
+  )
 
   -- ## the rows of a kernel message
 
-  alike-obeyed : (g : Setup) (c : ℕ) (x : SendArgs) (o : Option Order) (t u : Turn) → ((y : ℕ) → x.message_base ≤ y → y < x.message_base + x.message_length → w.sees y ≡ true) → ((order : Order) → o ≡ Some order → IsAlikeOrder order) → IsAlike w t u → IsAlike w (obeyed g c x o t) (obeyed g c x o u)
-  alike-obeyed g c x None t u see each h = alike-misused w a g c (usage_number BadKernelMessage) t u h
-  alike-obeyed g c x (Some o) t u see each h =
+  alike-obeyed : (g : Setup) (c : ℕ) (x : SendArgs) (o : Option Order) (t u : Turn) → ((y : ℕ) → x.message_base ≤ y → y < x.message_base + x.message_length → w.sees y ≡ true) → IfSome o IsAlikeOrder → IsAlike w t u → IsAlike w (obeyed g c x o t) (obeyed g c x o u)
+  alike-obeyed g c x None t u see order h = alike-misused w a g c (usage_number BadKernelMessage) t u h
+  alike-obeyed g c x (Some o) t u see order h =
       by_case (IsAlike w) (not (eqb x.message_length o.message && leb o.reply x.reply_capacity)) (alike-misused w a g c (usage_number BadKernelMessage) t u h) (λ fit.
       rest (eqb-true _ _ (fits (eqb x.message_length o.message) (leb o.reply x.reply_capacity) fit)))
     where
@@ -162,9 +165,6 @@ module _ (w : Viewer) (a : IsAttentive w) where
       rest : x.message_length ≡ o.message → IsAlike w (named (number_at t.state.memory x.message_base 4) (length t.state.tasks) t) (named (number_at u.state.memory x.message_base 4) (length u.state.tasks) u)
       rest same = go _ _ word
         where
-          order : IsAlikeOrder o
-          order = each o refl
-
           word : number_at t.state.memory x.message_base 4 ≡ number_at u.state.memory x.message_base 4
           word = let four = order.names in ap number_of (bytes_alike w.sees t.state.memory u.state.memory x.message_base 4 h.memory (λ y lo hi. see y lo (omega arith)))
 
@@ -187,4 +187,4 @@ module _ (w : Viewer) (a : IsAttentive w) where
       by_same (IsAlike w) (not (is_valid (message_of x)) || not (is_valid (reply_room x))) (alike-misused w a g c (usage_number InvalidSlice) t u h) (
       by_case (IsAlike w) (is_some bad) (alike-denied w a g c (access_number KernelRead) bad t u h) (λ clear.
       by_same (IsAlike w) (is_some worse) (alike-denied w a g c (access_number KernelWrite) worse t u h)
-      (alike-obeyed g c x (order_of x.operation) t u (checked_seen w g c open_to ToRead (message_of x) clear) (λ o found. found_order IsAlikeOrder (λ y. eqb y.number x.operation) orders o alike-orders found) h)))))
+      (alike-obeyed g c x (order_of x.operation) t u (checked_seen w g c open_to ToRead (message_of x) clear) (each_found IsAlikeOrder orders x.operation alike-orders) h)))))

@@ -1,4 +1,4 @@
--- Effects, the rows of the calls and events leave alike turns alike.
+-- Effects, events and the rows of RECV, PANIC, the timers and lines leave alike turns alike.
 use Rattle.std.proofs.Common.{◌≡◌, ◌+◌, ◌-◌, ◌*◌, ◌/◌, ◌<◌, ◌≤◌, ◌%◌, ◌^◌, ◌&&◌, ◌||◌, ℕ, Bool, true, false, not, leb, eqb, is_some, List, [], ◌∷◌, ◌++◌, length, Option, Some, None, refl, sym, ◌∙◌, ap, bit_and, bit_or, cond, min, arith}
 use Rattle.std.specs.Prelude.{if◌then◌else◌, filter, fold, option_map, unwrap_or, slice_range, slice_set, slice_index}
 use Rattle.std.specs.List.{range_with_len, list_any}
@@ -26,13 +26,11 @@ use Rattle.task_table.specs.declared.slot.Range.{Range}
 use Rattle.task_table.specs.Reading.{task_at, line_at, line_off, line_on, register, arguments, call_of, is_out, is_dead, dead_code_for, present, is_valid, bad_byte}
 use Rattle.task_table.specs.Effects.{with_task, without_call, without_listen, with_listen, with_taken, changed, noted, with_processor, with_health, writes_on, stored, copied, looked, with_results, given, returned, past_call, bits_added, bits_cleared, woken_by, woken, posted, with_timer, clocked, with_line, close_notes, closed, faulted_as, faulted, handed}
 use Rattle.task_table.specs.Rows.{goes_on, goes_on_with, misused, denied, panicked, timer_set, timer_words, timer_told, owns_with, line_controlled, irq_controlled, listened_from, buffer_of, listens, receives_or_listens, offer_of, received, call_noted}
-use Rattle.task_table.specs.Calls.{Meaning, calls, meaning_among, called}
-use Rattle.task_table.proofs.Meanings.{EachMeaning}
 use Rattle.task_table.specs.Events.{expired_by, expired, ticked, owner_of, interrupted_by, interrupted}
 use Rattle.two_runs.specs.Levels.{is_told_always}
 use Rattle.two_runs.specs.Alike.{Viewer, IsAttentive, seen_task, seen_call, seen_from, seen_listen, seen, IsAlike, IsAlikeWhereSeen}
 use Rattle.std.proofs.lemmas.List.Elements.{filter-append}
-use Rattle.two_runs.proofs.Alike.{shown, task_alike, registers_alike, arguments_alike, register_alike, count_alike, call_alike, offer_alike, listen_alike, line_alike, now_alike, best_alike, alike-with_task, alike-without_call, alike-without_listen, alike-with_listen, alike-with_taken, alike-with_bytes, bytes_alike}
+use Rattle.two_runs.proofs.Alike.{shown, task_alike, registers_alike, arguments_alike, register_alike, count_alike, call_alike, offer_alike, listen_alike, line_alike, now_alike, alike-with_task, alike-without_call, alike-without_listen, alike-with_listen, alike-with_taken, alike-with_bytes, bytes_alike}
 
 -- both sides of a test
 pub by_test : (P : Turn → Turn → Type 0) (b c : Bool) {t t' u u' : Turn} → b ≡ c → P t u → P t' u' → P (cond b t t') (cond c u u')
@@ -439,29 +437,6 @@ module _ (w : Viewer) (a : IsAttentive w) where
       by_same (IsAlikeWhereSeen w) x.closed
       (alike-receives_or_listens c x (One (present t.state (index_of id))) (One (present u.state (index_of id))) _ _ t u (ap (λ (y : Task). One record { index = index_of id; birth = y.births }) (the_task (index_of id) t u h)) (offer_alike w.birth t.state u.state (index_of id) c h.state) h)
       (alike-receives_or_listens c x Any Any _ _ t u refl (offer_of_same c best t u h) h))))))))
-
-  alike-among : (list : List (ℕ × Meaning)) (n : ℕ) (g : Setup) (c : ℕ) (t u : Turn) → IsAlike w t u → EachMeaning (λ m. IsAlikeWhereSeen w (m g c t) (m g c u)) list → IsAlikeWhereSeen w (meaning_among list n g c t) (meaning_among list n g c u)
-  alike-among [] n g c t u h each = surely (alike-misused g c 1 t u h)
-  alike-among (call ∷ list) n g c t u h each = by_same (IsAlikeWhereSeen w) (eqb n call.0) each.0 (alike-among list n g c t u h each.1)
-
-  pub alike-called : (g : Setup) (c : ℕ) (t u : Turn) → IsAlike w t u → IsAlikeWhereSeen w (called g c t) (called g c u)
-  unfolding called
-  alike-called g c t u h =
-      let e = word c 11 t u h in
-      let best = best_alike w.birth g t.state u.state c h.state in
-      rw e (alike-among calls (register t.state c 11) g c t u h (
-        alike-received g c _ _ t u best h,
-        (
-          surely (alike-timer_set c t u h),
-          (
-            surely (alike-irq_controlled g c t u h),
-            (
-              surely (alike-panicked g c t u h),
-              (surely (alike-timer_told c t u h), tt),
-            ),
-          ),
-        ),
-      ))
 
   -- ## events
 
