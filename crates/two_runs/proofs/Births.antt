@@ -12,7 +12,7 @@ use Rattle.two_runs.specs.Alike.{seen_birth, seen_from}
 abbrev pub AreTellable : (ℕ → ℕ) → State → Type 0
 AreTellable v s = (i : ℕ) (l : Listen) (b : Birth) → listen_of s i ≡ Some l → l.from ≡ One b → v b.birth ≡ v (task_at s b.index).births → b.birth ≡ (task_at s b.index).births
 
--- an equation of numbers is a function of whether they are equal
+-- two tests for equality agree, where each equation gives the other
 pub eqb_same : (x b y d : ℕ) → (x ≡ b → y ≡ d) → (y ≡ d → x ≡ b) → eqb x b ≡ eqb y d
 eqb_same x b y d f h = go (eqb x b) (eqb y d) refl refl
   where
@@ -22,6 +22,7 @@ eqb_same x b y d f h = go (eqb x b) (eqb y d) refl refl
     go true false e k = absurd (false≢true (sym k ∙ eq-eqb _ _ (f (eqb-true _ _ e))))
     go false true e k = absurd (false≢true (sym e ∙ eq-eqb _ _ (h (eqb-true _ _ k))))
 
+-- two listens that are seen as one admit the same clients, where what they are closed to is told apart as it is seen
 pub admits_same : (v : ℕ → ℕ) (f k : From) (b d : Birth) → seen_from v f ≡ seen_from v k → seen_birth v b ≡ seen_birth v d →
     ((e : Birth) → f ≡ One e → e.index ≡ b.index → v e.birth ≡ v b.birth → e.birth ≡ b.birth) →
     ((e : Birth) → k ≡ One e → e.index ≡ d.index → v e.birth ≡ v d.birth → e.birth ≡ d.birth) → admits f b ≡ admits k d
