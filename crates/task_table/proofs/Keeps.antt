@@ -1,6 +1,7 @@
 -- Each change of a state keeps it sane.
-use Rattle.std.proofs.Common.{◌≡◌, ◌≢◌, ◌<◌, ◌⊎◌, inl, inr, ℕ, zero, suc, Bool, true, false, cond, not, List, [], ◌∷◌, ◌++◌, length, Some, None, refl, sym, subst, ◌∙◌, ap, arith, eqb, bit_and, IfSome}
+use Rattle.std.proofs.Common.{◌≡◌, ◌≢◌, ◌+◌, ◌<◌, ◌≤◌, ◌⊎◌, inl, inr, ℕ, zero, suc, Bool, true, false, cond, not, List, [], ◌∷◌, ◌++◌, length, Some, None, refl, sym, subst, ◌∙◌, ap, arith, eqb, bit_and, IfSome}
 use Rattle.std.specs.Prelude.{Contains, filter, find, map}
+use Rattle.std.specs.List.{count_by}
 use Rattle.std.proofs.lemmas.Bool.{eq-eqb, false≢true}
 use Rattle.std.proofs.lemmas.Bool.Decides.{eqb_tells}
 use Rattle.std.proofs.lemmas.List.Elements.{Contains-append_cases}
@@ -12,6 +13,7 @@ use Rattle.task_table.specs.Reading.{task_at, line_at, call_of, listen_of, admit
 use Rattle.task_table.specs.Effects.{with_task, without_call, without_listen, with_listen, taken_from, with_taken}
 use Rattle.task_table.specs.Placed.{ArePlaced}
 use Rattle.task_table.specs.Sane.{IsSaneBut, Every, IsFitListen, IsSaneTask, IsOwned, AreAllBytes}
+use Rattle.task_table.proofs.Once.{fewer_of, as_many_of, once_more}
 use Rattle.task_table.proofs.Changes.{task_at-with_task, task_at-with_task_other, length-with_task}
 
 no_some : {A P : Type 0} {a : A} → None ≡ Some a → P
@@ -87,6 +89,15 @@ pub idle_call : (s : State) (i : ℕ) (c : Call) → call_of s i ≡ None → Co
 unfolding call_of
 idle_call s i c none here e = not_found (λ (d : Call). eqb d.client.index i) s.calls c none here (eq-eqb _ _ e)
 
+-- and none is found in its list
+pub unmade : (s : State) (i : ℕ) → call_of s i ≡ None → find (λ c. eqb c.client.index i) s.calls ≡ None
+unfolding call_of
+unmade s i none = none
+
+pub unheard : (s : State) (i : ℕ) → listen_of s i ≡ None → find (λ l. eqb l.task i) s.listens ≡ None
+unfolding listen_of
+unheard s i none = none
+
 pub idle_listen : (s : State) (i : ℕ) (l : Listen) → listen_of s i ≡ None → Contains s.listens l → l.task ≡ i → ⊥
 unfolding listen_of
 idle_listen s i l none here e = not_found (λ (m : Listen). eqb m.task i) s.listens l none here (eq-eqb _ _ e)
@@ -135,17 +146,19 @@ keeps-with_task {g = g} {s = s} i {x} h inside good = record {
 
 -- ## calls and listens are dropped
 
-pub keeps-fewer : {M F T : ℕ → Type 0} {W : ℕ → ℕ → Type 0} {g : Setup} {s : State} (calls : List Call) (listens : List Listen) → IsSaneBut M F T W g s → ((c : Call) → Contains calls c → Contains s.calls c) → ((l : Listen) → Contains listens l → Contains s.listens l) → IsSaneBut M F T W g record s { calls = calls; listens = listens }
+pub keeps-fewer : {M F T : ℕ → Type 0} {W : ℕ → ℕ → Type 0} {g : Setup} {s : State} (calls : List Call) (listens : List Listen) → IsSaneBut M F T W g s → ((c : Call) → Contains calls c → Contains s.calls c) → ((l : Listen) → Contains listens l → Contains s.listens l) → ((i : ℕ) → count_by (λ c. eqb c.client.index i) calls ≤ count_by (λ c. eqb c.client.index i) s.calls) → ((i : ℕ) → count_by (λ l. eqb l.task i) listens ≤ count_by (λ l. eqb l.task i) s.listens) → IsSaneBut M F T W g record s { calls = calls; listens = listens }
 unfolding task_at line_at
-keeps-fewer calls listens h a b = record {
+keeps-fewer calls listens h a b fewer_calls fewer_listens = record {
   steady = record {
     calls = record {
+      once = λ i. let few = fewer_calls i in let one = h.steady.calls.once i in omega (arith, few, one);
       fit = λ c here. h.steady.calls.fit c (a c here);
       below = λ c here. h.steady.calls.below c (a c here);
       client = λ c d x y. h.steady.calls.client c d (a c x) (a d y);
       number = λ c d x y. h.steady.calls.number c d (a c x) (a d y);
     };
     listens = record {
+      once = λ i. let few = fewer_listens i in let one = h.steady.listens.once i in omega (arith, few, one);
       fit = λ l here. h.steady.listens.fit l (b l here);
       task = λ l m x y. h.steady.listens.task l m (b l x) (b m y);
     };
@@ -187,11 +200,11 @@ dropped_listen s i l h =
 
 pub keeps-without_call : {M F T : ℕ → Type 0} {W : ℕ → ℕ → Type 0} {g : Setup} {s : State} (i : ℕ) → IsSaneBut M F T W g s → IsSaneBut M F T W g (without_call i s)
 unfolding without_call
-keeps-without_call {s = s} i h = keeps-fewer (without_call i s).calls s.listens h (λ c here. (dropped_call s i c here).0) (λ l here. here)
+keeps-without_call {s = s} i h = keeps-fewer (without_call i s).calls s.listens h (λ c here. (dropped_call s i c here).0) (λ l here. here) (λ j. fewer_of (λ c. eqb c.client.index j) (λ c. not (eqb c.client.index i)) s.calls) (λ j. omega arith)
 
 pub keeps-without_listen : {M F T : ℕ → Type 0} {W : ℕ → ℕ → Type 0} {g : Setup} {s : State} (i : ℕ) → IsSaneBut M F T W g s → IsSaneBut M F T W g (without_listen i s)
 unfolding without_listen
-keeps-without_listen {s = s} i h = keeps-fewer s.calls (without_listen i s).listens h (λ c here. here) (λ l here. (dropped_listen s i l here).0)
+keeps-without_listen {s = s} i h = keeps-fewer s.calls (without_listen i s).listens h (λ c here. here) (λ l here. (dropped_listen s i l here).0) (λ j. omega arith) (λ j. fewer_of (λ l. eqb l.task j) (λ l. not (eqb l.task i)) s.listens)
 
 -- ## a task listens
 
@@ -201,6 +214,7 @@ keeps-with_listen {s = s} l h fit well idle named unmet unfit = record {
   steady = record {
     calls = h.steady.calls;
     listens = record {
+      once = once_more (λ m. m.task) s.listens l h.steady.listens.once (unheard s l.task idle.listen);
       fit = λ m here. elim (added_in s.listens l m here) [ inl old ↦ h.steady.listens.fit m old | inr new ↦ rw new fit ];
       task = λ m n x y same. elim (added_in s.listens l m x) [
         | inl old ↦ elim (added_in s.listens l n y) [ inl old2 ↦ h.steady.listens.task m n old old2 same | inr new2 ↦ absurd (idle_listen s l.task m idle.listen old (same ∙ ap (λ (k : Listen). k.task) new2)) ]
@@ -239,6 +253,7 @@ unfolding with_taken task_at line_at
 keeps-with_taken {s = s} i h but = record {
   steady = record {
     calls = record {
+      once = λ j. let same = as_many_of (λ c. eqb c.client.index j) (taken_from i) s.calls (λ c. refl) in let few = h.steady.calls.once j in omega (arith, same, few);
       fit = λ d here. let r = map_in (taken_from i) s.calls d here in let f = h.steady.calls.fit r.0 r.1 in rw r.2 record { client = f.client; server = f.server; apart = f.apart; valid = f.valid; readable = f.readable; writable = f.writable };
       below = λ d here. let r = map_in (taken_from i) s.calls d here in rw r.2 (h.steady.calls.below r.0 r.1);
       client = λ d e x y same. let r = map_in (taken_from i) s.calls d x in let q = map_in (taken_from i) s.calls e y in r.2 ∙ ap (taken_from i) (h.steady.calls.client r.0 q.0 r.1 q.1 (sym (ap (λ (k : Call). k.client.index) r.2) ∙ same ∙ ap (λ (k : Call). k.client.index) q.2)) ∙ sym q.2;

@@ -1,3 +1,4 @@
+pub mod Once
 pub mod Copies
 pub mod Changes
 pub mod Steps

@@ -48,8 +48,8 @@ pub sane-start : (g : Setup) → IsSound g → Sane g (start g)
 unfolding start task_at line_at
 sane-start g sound = record {
   steady = record {
-    calls = record { fit = λ c h. no_item h; below = λ c h. no_item h; client = λ c d h. no_item h; number = λ c d h. no_item h };
-    listens = record { fit = λ l h. no_item h; task = λ l m h. no_item h };
+    calls = record { once = λ i. omega arith; fit = λ c h. no_item h; below = λ c h. no_item h; client = λ c d h. no_item h; number = λ c d h. no_item h };
+    listens = record { once = λ i. omega arith; fit = λ l h. no_item h; task = λ l m h. no_item h };
     tasks = λ i below. at_place IsSaneTask g.tasks i _ below (λ x here. born_sane x (ap (λ y. y.stack % 4) here ∙ sound.placed.stack i));
     lines = λ k p. absurd (false≢true (sym (ap (λ (l : Line). l.pending) (line_off g.line_count k)) ∙ p));
     as_many = length-map g.tasks born;

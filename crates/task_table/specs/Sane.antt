@@ -1,5 +1,6 @@
 -- What holds of a state after every event and instruction, in parts, and between turns besides.
-use Rattle.std.specs.Prelude.{ℕ, ◌+◌, ◌*◌, ◌%◌, ◌<◌, ◌≤◌, ◌≡◌, ◌≢◌, true, false, List, length, None, Contains, slice_index, IfSome, bit_and}
+use Rattle.std.specs.Prelude.{ℕ, ◌+◌, ◌*◌, ◌%◌, ◌<◌, ◌≤◌, ◌≡◌, ◌≢◌, true, false, List, length, None, Contains, slice_index, IfSome, bit_and, ◌==◌}
+use Rattle.std.specs.List.{count_by}
 use Rattle.kernel_abi.specs.declared.Health.{Health}
 use Rattle.kernel_abi.specs.declared.Health.TheVariants.{Well, Stopped, Faulted}
 use Rattle.region_check.specs.declared.Right.TheVariants.{Read, Write}
@@ -18,8 +19,9 @@ pub record IsFitCall (g : Setup) (c : Call) : Type 0 where
   pub readable : bad_byte g c.client.index Read c.message ≡ None
   pub writable : bad_byte g c.client.index Write c.reply ≡ None
 
--- no two open calls have the same client or number, and each number is below the next one
+-- no two open calls have the same client or number, none stands twice in the list, and each number is below the next one
 pub record AreCalls (g : Setup) (next : ℕ) (calls : List Call) : Type 0 where
+  pub once : (i : ℕ) → count_by (λ c. c.client.index == i) calls ≤ 1
   pub fit : (c : Call) → Contains calls c → IsFitCall g c
   pub below : (c : Call) → Contains calls c → c.number < next
   pub client : (c d : Call) → Contains calls c → Contains calls d → c.client.index ≡ d.client.index → c ≡ d
@@ -31,8 +33,9 @@ pub record IsFitListen (g : Setup) (l : Listen) : Type 0 where
   pub valid : is_valid l.buffer ≡ true
   pub writable : bad_byte g l.task Write l.buffer ≡ None
 
--- a task has one listen
+-- a task has one listen, which stands once in the list
 pub record AreListens (g : Setup) (listens : List Listen) : Type 0 where
+  pub once : (i : ℕ) → count_by (λ l. l.task == i) listens ≤ 1
   pub fit : (l : Listen) → Contains listens l → IsFitListen g l
   pub task : (l m : Listen) → Contains listens l → Contains listens m → l.task ≡ m.task → l ≡ m
 

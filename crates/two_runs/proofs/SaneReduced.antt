@@ -1,6 +1,8 @@
 -- A sane state is sane with its births modulo 64.
-use Rattle.std.proofs.Common.{◌≡◌, ◌%◌, ◌&&◌, ℕ, Bool, true, false, eqb, length, refl, sym, ◌∙◌, ap, eqb-true}
+use Rattle.std.proofs.Common.{◌≡◌, ◌%◌, ◌&&◌, ℕ, Bool, true, false, eqb, length, refl, sym, ◌∙◌, ap, arith, eqb-true}
 use Rattle.std.specs.Prelude.{Contains}
+use Rattle.std.specs.List.{count_by}
+use Rattle.task_table.proofs.Once.{as_many_of}
 use Rattle.std.proofs.Math.ListN.{get_or-map}
 use Rattle.std.proofs.lemmas.List.{length-map}
 use Rattle.task_table.specs.Memory.{Memory}
@@ -43,6 +45,14 @@ reduced_listen : (s : State) (l : Listen) → Contains (reduced s).listens l →
 unfolding seen
 reduced_listen s l here = map_in (seen_listen (λ b. b % 64)) s.listens l here
 
+as_many_calls : (s : State) (i : ℕ) → count_by (λ c. eqb c.client.index i) (reduced s).calls ≡ count_by (λ c. eqb c.client.index i) s.calls
+unfolding seen
+as_many_calls s i = as_many_of (λ c. eqb c.client.index i) (seen_call (λ b. b % 64)) s.calls (λ c. refl)
+
+as_many_listens : (s : State) (i : ℕ) → count_by (λ l. eqb l.task i) (reduced s).listens ≡ count_by (λ l. eqb l.task i) s.listens
+unfolding seen
+as_many_listens s i = as_many_of (λ l. eqb l.task i) (seen_listen (λ b. b % 64)) s.listens (λ l. refl)
+
 reduced_line : (s : State) (k : ℕ) → line_at (reduced s) k ≡ line_at s k
 unfolding seen line_at
 reduced_line s k = refl
@@ -68,12 +78,14 @@ pub sane-reduced : (g : Setup) (s : State) → Sane g s → Sane g (reduced s)
 sane-reduced g s h = record {
   steady = record {
     calls = record {
+      once = λ i. let same = as_many_calls s i in let few = h.steady.calls.once i in omega (arith, same, few);
       fit = λ c here. let r = reduced_call s c here in let f = h.steady.calls.fit r.0 r.1 in rw r.2 record { client = f.client; server = f.server; apart = f.apart; valid = f.valid; readable = f.readable; writable = f.writable };
       below = λ c here. let r = reduced_call s c here in rw (r.2, same_next) (h.steady.calls.below r.0 r.1);
       client = λ c d x y same. let r = reduced_call s c x in let q = reduced_call s d y in r.2 ∙ ap (seen_call (λ b. b % 64)) (h.steady.calls.client r.0 q.0 r.1 q.1 (sym (ap (λ (k : Call). k.client.index) r.2) ∙ same ∙ ap (λ (k : Call). k.client.index) q.2)) ∙ sym q.2;
       number = λ c d x y same. let r = reduced_call s c x in let q = reduced_call s d y in r.2 ∙ ap (seen_call (λ b. b % 64)) (h.steady.calls.number r.0 q.0 r.1 q.1 (sym (ap (λ (k : Call). k.number) r.2) ∙ same ∙ ap (λ (k : Call). k.number) q.2)) ∙ sym q.2;
     };
     listens = record {
+      once = λ i. let same = as_many_listens s i in let few = h.steady.listens.once i in omega (arith, same, few);
       fit = λ l here. let r = reduced_listen s l here in let f = h.steady.listens.fit r.0 r.1 in rw r.2 record {
         there = f.there;
         names = λ b e. let q = one_of r.0.from b e in let k = f.names q.0 q.1 in rw q.2 k;
