@@ -11,15 +11,16 @@ ghost use Rattle.thumb_exec.specs.Effect.{Store, Trap, effect};
 ghost use Rattle.task_table.specs.Memory.{number_at};
 ghost use Rattle.task_table.specs.State.{Setup, State, Turn};
 ghost use Rattle.task_table.specs.Reading.{task_at, chosen, is_faulted, is_ready};
-ghost use Rattle.task_table.specs.Start.{begun};
+ghost use Rattle.task_table.specs.Start.{begun, start};
 ghost use Rattle.task_table.specs.Sane.{Sane, IsCounted};
 ghost use Rattle.task_table.specs.Chain.{Chain};
 ghost use Rattle.task_table.specs.Step.{Step};
 ghost use Rattle.board_model.specs.declared.told.Level.{Level as Detail};
 ghost use Rattle.board_model.specs.Script.{Scenario};
 ghost use Rattle.board_model.specs.Turn.{refusals, cpu_of, put, told, stepped, happened, after_events, with_current, with_registers_told, turn};
-ghost use Rattle.board_model.specs.Faults.{IsSameButForFault};
+ghost use Rattle.board_model.specs.Faults.{IsSameButForFault, AreEntries};
 ghost use Rattle.board_model.specs.Run.{is_down, end_at, ending};
+ghost use Rattle.board_model.specs.Lifetimes.{IsGroundedTurn, IsLedgerOfRun};
 
 /// The turn of the chosen task, from where it is the current one, is a chain of steps: those of its
 /// instruction or of its call's row, and what is told besides.
@@ -55,14 +56,26 @@ pub fn turns_without_notes_keep_the_choice()
     ensures down { (level : Detail) (x : Scenario) (s : State) → Sane x.setup s → (turn level x s).notes ≡ [] → is_down (turn level x s).state ≡ is_down (after_events x s).state }
 {}
 
+/// A turn writes on its grounds alone, touches no call but those that are open or that it offers, and leaves alone what is
+/// closed. (Hubris Reference: IPC, leases.)
+pub fn turns_stand_on_their_grounds()
+    ensures { (level : Detail) (x : Scenario) (s : State) → Sane x.setup s → IsGroundedTurn level x s }
+{}
+
+/// The notes of a run from the start are a right ledger of its calls: each is offered once, taken and closed at most once,
+/// in this order, and it is open at the end just where it was offered and not closed.
+pub fn runs_keep_a_ledger()
+    ensures { (level : Detail) (x : Scenario) (n : ℕ) → Sane x.setup (start x.setup) → IsLedgerOfRun level x n }
+{}
+
 /// A fault changes nothing else. Where an instruction or a call faults the task that was chosen, memory and all the
-/// registers and flags of the task are after the turn as they were after its events, nothing was written or read for
-/// another task, and of the other tasks only task 0 changes: by the post of its fault bits. (Hubris Reference:
-/// supervision; that a refused instruction or call takes no effect is docs/FORMATS.md.)
+/// registers and flags of the task are after the turn as they were after its events, nothing was written for another
+/// task, nor read of one but entries of lease tables, and of the other tasks only task 0 changes: by the post of its
+/// fault bits. (Hubris Reference: supervision; that a refused instruction or call takes no effect is docs/FORMATS.md.)
 pub fn faults_change_nothing_else()
     ensures state { (level : Detail) (x : Scenario) (s : State) (c : ℕ) → Sane x.setup s → chosen x.setup (after_events x s).state ≡ Some c → is_faulted (task_at (turn level x s).state c).health ≡ true → IsSameButForFault x.setup c (after_events x s).state (turn level x s).state }
     ensures writes { (level : Detail) (x : Scenario) (s : State) (c : ℕ) → Sane x.setup s → chosen x.setup (after_events x s).state ≡ Some c → is_faulted (task_at (turn level x s).state c).health ≡ true → (turn level x s).writes ≡ [] }
-    ensures reads { (level : Detail) (x : Scenario) (s : State) (c : ℕ) → Sane x.setup s → chosen x.setup (after_events x s).state ≡ Some c → is_faulted (task_at (turn level x s).state c).health ≡ true → (turn level x s).reads ≡ [] }
+    ensures reads { (level : Detail) (x : Scenario) (s : State) (c : ℕ) → Sane x.setup s → chosen x.setup (after_events x s).state ≡ Some c → is_faulted (task_at (turn level x s).state c).health ≡ true → AreEntries (turn level x s).reads }
 {}
 
 /// The stores of an instruction change nothing of a state but its memory, and what is told changes none.

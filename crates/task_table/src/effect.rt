@@ -12,8 +12,8 @@ impl Kernel {
     ghost use Rattle.task_table.specs.Limits.{turn_notes};
     ghost use Rattle.task_table.specs.Frames.{AddsNotes, AddsAtMost};
 
-    /// Gives results to a task, from r4 on.
-    pub(crate) fn give(&mut self, task: usize, values: &[u32])
+    /// Gives results to a task, six at most, from r4 on.
+    pub fn give(&mut self, task: usize, values: &[u32])
         requires there { task < task_count self.old }
         requires few { length values.now ≤ 6 }
         ensures holds { (g : Setup) (t : Turn) → Holds g self.old t → Holds g self.new (given task values.now t) }
@@ -24,8 +24,8 @@ impl Kernel {
         self.set_slot(task, slot);
     }
 
-    /// Notes that a call of a task has ended.
-    pub(crate) fn note_return(&mut self, task: usize)
+    /// Notes that a call of a task has ended, with its r4 to r9.
+    pub fn note_return(&mut self, task: usize)
         requires there { task < task_count self.old }
         requires room { note_count self.old < turn_notes }
         ensures holds { (g : Setup) (t : Turn) → Holds g self.old t → Holds g self.new (returned task t) }

@@ -10,7 +10,7 @@ use crate::Line;
 use crate::limits::{LINES, TURN_NOTES};
 use crate::memory::Memory;
 use crate::slot::{Found, Slot, Wait};
-use crate::start::{LineStart, TaskStart, copies_of, first_slots};
+use crate::start::{LineStart, TaskStart, birth_slot, copies_of, first_slots};
 use arrayvec::ArrayVec;
 use kernel_abi::{Ending, Fault, Generation, Health, Note, TaskId, Timer, Usage};
 use region_check::Region;
@@ -45,12 +45,13 @@ impl Kernel {
     ghost use Rattle.task_table.specs.State.{Setup, State, Turn, Ground, Own};
     ghost use Rattle.task_table.specs.Memory.{is_ram, byte_at, number_at, IsWithin, IsWithinRam};
     ghost use Rattle.task_table.specs.Reading.{task_at, setup_at, register, arguments, priority, is_ready, call_of, listen_of, IsSameBut};
-    ghost use Rattle.task_table.specs.Effects.{changed, noted, clocked, with_line, with_processor, with_health, without_listen, stored, copied, closed, faulted_as, faulted};
+    ghost use Rattle.task_table.specs.Effects.{changed, noted, clocked, with_line, with_processor, with_health, without_listen, stored, copied, closed, faulted_as, faulted, reborn, is_to, awaits};
     ghost use Rattle.task_table.specs.Rows.{misused, panicked, call_noted};
     ghost use Rattle.task_table.specs.Start.{start as started_at, begun};
     ghost use Rattle.task_table.specs.Parts.{setup_of_parts, line_setup, IsSound};
     ghost use Rattle.task_table.specs.Holds.{Holds, Stands, IsKept, wait_of, task_count, note_count, clock_of, next_call_of, memory_of, setup_of, current_of, notes_of};
     ghost use Rattle.task_table.specs.Found.{IsFound, IsInRange};
+    ghost use Rattle.task_table.specs.Waits.{AreFew};
     ghost use Rattle.task_table.specs.Limits.{most_tasks, board_lines, turn_notes};
     ghost use Rattle.task_table.specs.Frames.{AddsNotes, AddsAtMost};
 
@@ -399,7 +400,7 @@ impl Kernel {
     }
 
     /// Drops the listen of a task, if it has one.
-    pub(crate) fn stop_listening(&mut self, task: usize)
+    pub fn stop_listening(&mut self, task: usize)
         requires { task < task_count self.old }
         ensures holds { (g : Setup) (t : Turn) → Holds g self.old t → Holds g self.new (changed (without_listen task) t) }
         ensures frame { AddsNotes self.old 0 self.new }
@@ -412,7 +413,7 @@ impl Kernel {
     }
 
     /// Closes the call of a client, if it has one.
-    pub(crate) fn close(&mut self, client: usize, ending: Ending)
+    pub fn close(&mut self, client: usize, ending: Ending)
         requires there { client < task_count self.old }
         requires room { note_count self.old < turn_notes }
         ensures holds { (g : Setup) (t : Turn) → Holds g self.old t → Holds g self.new (closed client ending t) }
@@ -427,6 +428,41 @@ impl Kernel {
                 ending,
             });
         }
+    }
+
+    /// Whether another task waits for the end of a call to a task.
+    pub fn calls_to(&self, other: usize, task: usize) -> bool
+        requires { other < task_count self.now }
+        ensures { (g : Setup) (t : Turn) → Holds g self.now t → AreFew t.state → result ≡ is_to task (call_of t.state other) }
+    {
+        let slot = self.slot(other);
+        slot.wait.is_to(task)
+    }
+
+    /// Whether another task listens for a message of a task alone.
+    pub fn awaits(&self, other: usize, task: usize) -> bool
+        requires { other < task_count self.now }
+        ensures { (g : Setup) (t : Turn) → Holds g self.now t → AreFew t.state → result ≡ awaits task (listen_of t.state other) }
+    {
+        let slot = self.slot(other);
+        slot.wait.awaits(task)
+    }
+
+    /// A task is born again: its generation goes up by one, modulo 64, and its registers and flags, its
+    /// posted bits and its timer are as at its first birth. It is well where it is started, else
+    /// stopped, and waits as before (Hubris Reference, on supervision).
+    pub fn reset_task(&mut self, task: usize, start: bool)
+        requires there { task < task_count self.old }
+        ensures holds { (g : Setup) (t : Turn) → Holds g self.old t → Holds g self.new (changed (reborn g task start) t) }
+        ensures frame { AddsNotes self.old 0 self.new }
+    {
+        let before = self.slot(task);
+        let generation = Generation {
+            number: before.generation.number.wrapping_add(1) % 64,
+        };
+        let mut slot = birth_slot(&self.tasks[task], generation, start);
+        slot.wait = before.wait;
+        self.set_slot(task, slot);
     }
 
     /// A task faults, and its call is closed as told.
@@ -522,7 +558,7 @@ impl Kernel {
     }
 
     /// Copies so many bytes into the RAM, as if all were read before the first is written.
-    pub(crate) fn copy(&mut self, from: u32, to: u32, count: u32)
+    pub fn copy(&mut self, from: u32, to: u32, count: u32)
         requires source { IsWithin (memory_of self.old) from count }
         requires target { IsWithinRam (memory_of self.old) to count }
         ensures holds { (g : Setup) (t : Turn) (on : Ground) → Holds g self.old t → Holds g self.new (copied on from to count t) }

@@ -68,7 +68,18 @@ pub enum Source {
 
 impl Source {
     ghost use Rattle.std.specs.Prelude.{◌≡◌};
+    ghost use Rattle.task_table.specs.Waits.{is_one};
     ghost use Rattle.task_table.specs.Holds.{hears};
+
+    /// Whether it is the task with this index.
+    pub fn is_one(&self, index: usize) -> bool
+        ensures { result ≡ is_one self.now index }
+    {
+        match *self {
+            Source::One(id) => usize::from(id.index()) == index,
+            _ => false,
+        }
+    }
 
     /// Whether a message of the task with this id is listened for.
     pub fn hears(self, client: TaskId) -> bool
@@ -105,6 +116,7 @@ pub enum Wait {
 impl Wait {
     ghost use Rattle.std.specs.Prelude.{◌≡◌};
     ghost use Rattle.task_table.specs.Holds.{call_in, listen_in, offered_in, taken_in, buffer_in, taken_wait};
+    ghost use Rattle.task_table.specs.Waits.{is_to_in, awaits_in};
 
     /// The call for whose end it is.
     pub fn call(&self) -> Option<OpenCall>
@@ -139,6 +151,26 @@ impl Wait {
                 }
             }
             _ => None,
+        }
+    }
+
+    /// Whether it is for the end of a call to the task with this index.
+    pub fn is_to(&self, index: usize) -> bool
+        ensures { result ≡ is_to_in self.now index }
+    {
+        match *self {
+            Wait::Call(call) => usize::from(call.server.index()) == index,
+            _ => false,
+        }
+    }
+
+    /// Whether it is for a message of the task with this index alone.
+    pub fn awaits(&self, index: usize) -> bool
+        ensures { result ≡ awaits_in self.now index }
+    {
+        match *self {
+            Wait::Listen(listening) => listening.from.is_one(index),
+            _ => false,
         }
     }
 

@@ -1,7 +1,9 @@
 //! What an image says of a task and of an interrupt line, and what is kept of a task at first.
 
-ghost use Rattle.std.specs.Prelude.{◌≡◌, IfOk, map, length};
+ghost use Rattle.std.specs.Prelude.{◌≡◌, ◌<◌, IfOk, map, length, if◌then◌else◌};
+ghost use Rattle.kernel_abi.specs.declared.Health.TheVariants.{Well, Stopped};
 ghost use Rattle.task_table.specs.Parts.{task_setup};
+ghost use Rattle.task_table.specs.Effects.{at_birth};
 ghost use Rattle.task_table.specs.Start.{born};
 ghost use Rattle.task_table.specs.Holds.{packed_task};
 ghost use Rattle.task_table.specs.declared.slot.Wait.TheVariants.{Nothing};
@@ -56,18 +58,25 @@ pub(crate) fn copies_of(alloc: Global, tasks: &[TaskStart]) -> Result<Vec<TaskSt
     Ok(copies)
 }
 
-/// What is kept of a task at its first birth.
-fn first_slot(task: &TaskStart) -> Slot
-    ensures { result ≡ packed_task (born (task_setup task.now)) Nothing }
+/// How a task is once it is born: well where it is started, else stopped.
+fn birth_health(started: bool) -> Health
+    ensures { result ≡ (if started then Well else Stopped) }
 {
-    let health = if task.started {
+    if started {
         Health::Well
     } else {
         Health::Stopped
-    };
+    }
+}
+
+/// What is kept of a task that is born, at this generation.
+pub(crate) fn birth_slot(task: &TaskStart, generation: Generation, started: bool) -> Slot
+    requires { generation.number < 64 }
+    ensures { result ≡ packed_task (at_birth (task_setup task.now) generation.number (if started then Well else Stopped)) Nothing }
+{
     let pc = task.entry - task.entry % 2;
     Slot {
-        generation: Generation { number: 0 },
+        generation,
         registers: [
             0,
             0,
@@ -92,11 +101,18 @@ fn first_slot(task: &TaskStart) -> Slot
             c: false,
             v: false,
         },
-        health,
+        health: birth_health(started),
         posted: 0,
         timer: None,
         wait: Wait::Nothing,
     }
+}
+
+/// What is kept of a task at its first birth.
+fn first_slot(task: &TaskStart) -> Slot
+    ensures { result ≡ packed_task (born (task_setup task.now)) Nothing }
+{
+    birth_slot(task, Generation { number: 0 }, task.started)
 }
 
 /// What is kept of each task at its first birth.
