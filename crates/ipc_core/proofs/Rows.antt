@@ -1,6 +1,7 @@
 -- The rows of calls by their arguments.
-use Rattle.std.proofs.Common.{◌≡◌, ◌<◌, ◌≤◌, ℕ, true, false, not, ◌&&◌, ◌||◌, [], ◌∷◌, cond, eqb, ltb, Option, Some, None, MatchOption, refl, arith, is_some}
-use Rattle.std.proofs.lemmas.Bool.{lt-ltb, le-ltb}
+use Rattle.std.proofs.Common.{◌≡◌, ◌<◌, ◌≤◌, ℕ, true, false, not, ◌&&◌, ◌||◌, [], ◌∷◌, cond, eqb, ltb, Option, Some, None, MatchOption, refl, sym, arith, is_some}
+use Rattle.std.proofs.lemmas.Bool.{lt-ltb, le-ltb, false≢true}
+use Rattle.std.specs.Option.{option_map}
 use Rattle.kernel_abi.specs.Faults.{reason_number}
 use Rattle.kernel_abi.specs.Ids.{index_of}
 use Rattle.kernel_abi.specs.declared.Reason.{Reason}
@@ -10,12 +11,12 @@ use Rattle.kernel_abi.specs.declared.arguments.RecvArgs.{RecvArgs}
 use Rattle.kernel_abi.specs.declared.arguments.ReplyArgs.{ReplyArgs}
 use Rattle.kernel_abi.specs.declared.arguments.SendArgs.{SendArgs}
 use Rattle.region_check.specs.declared.Right.TheVariants.{Write}
-use Rattle.task_table.specs.State.{Setup, State, Turn}
+use Rattle.task_table.specs.State.{Setup, State, Call, Turn}
 use Rattle.task_table.specs.Reading.{is_out, is_dead, dead_code_for, present_id, is_valid, bad_byte, taken_by}
 use Rattle.task_table.specs.Effects.{posted}
 use Rattle.task_table.specs.Rows.{buffer_of, misused, denied, goes_on, goes_on_with, input_received}
 use Rattle.task_table.specs.Sends.{replied_to, reply_faulted_to}
-use Rattle.task_table.specs.Holds.{Holds}
+use Rattle.task_table.specs.Holds.{Holds, kept_call}
 use Rattle.task_table.specs.declared.kernel.Kernel.{Kernel}
 use Rattle.ipc_core.specs.declared.receiving.Sender.{Sender}
 use Rattle.ipc_core.specs.declared.receiving.Sender.TheVariants as sender
@@ -94,3 +95,12 @@ few_reasons AccessViolation = omega arith
 
 pub good_reason : (o : Option Reason) (n : ℕ) (r : Reason) → MatchOption o (5 < n) (λ x. reason_number x ≡ n) → o ≡ Some r → (ltb 5 n ≡ false) × (reason_number r ≡ n)
 good_reason o n r h e = let number : reason_number r ≡ n = rw e at h in (le-ltb 5 n (rw (← number) (few_reasons r)), number)
+
+-- a call that is kept is there
+pub kept_some : (o : Option Call) → is_some (option_map kept_call o) ≡ true → (k : Call) × (o ≡ Some k)
+kept_some None h = absurd (false≢true h)
+kept_some (Some k) h = (k, refl)
+
+pub kept_none : (o : Option Call) → is_some (option_map kept_call o) ≡ false → o ≡ None
+kept_none None h = refl
+kept_none (Some k) h = absurd (false≢true (sym h))

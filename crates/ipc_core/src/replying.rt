@@ -89,9 +89,10 @@ fn fault_client(k: &mut Kernel, caller: usize, client: usize, reason: Reason)
     ensures holds { (g : Setup) (t : Turn) → Stands g k.old t → Holds g k.new (reply_faulted_to g caller (reason_number reason) (taken_by t.state client caller) t) }
     ensures frame { AddsAtMost k.old call_notes k.new }
 {
-    match k.taken(client, caller) {
-        Some(_) => k.reply_fault(caller, client, reason),
-        None => k.go_on(caller),
+    if k.taken(client, caller).is_some() {
+        k.reply_fault(caller, client, reason);
+    } else {
+        k.go_on(caller);
     }
 }
 

@@ -1,8 +1,5 @@
-use Rattle.std.proofs.Common.{◌≡◌, ◌≤◌, true, false, None, ltb, ap, sym}
+use Rattle.std.proofs.Common.{◌≡◌, true, false, ltb, ap, sym}
 use Rattle.std.proofs.lemmas.Bool.{lt-ltb, le-ltb}
-use Rattle.region_check.specs.declared.Right.TheVariants.{Read}
-use Rattle.task_table.specs.Reading.{bad_byte}
-use Rattle.task_table.specs.Sends.{reply_of}
 use Rattle.task_table.specs.declared.slot.OpenCall.{OpenCall}
 use Rattle.ipc_core.proofs.replying.answer_call.Goals as goal
 

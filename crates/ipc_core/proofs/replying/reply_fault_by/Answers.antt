@@ -1,8 +1,5 @@
-use Rattle.std.proofs.Common.{◌≡◌, ◌<◌, ◌≤◌, ℕ, true, false, ltb, Option, Some, None, MatchOption, ap, sym, ◌∙◌, subst, arith}
-use Rattle.std.proofs.lemmas.Bool.{lt-ltb, le-ltb}
+use Rattle.std.proofs.Common.{◌≡◌, false, None, ap, ◌∙◌, subst}
 use Rattle.kernel_abi.specs.Arguments.{reply_args}
-use Rattle.kernel_abi.specs.Faults.{reason_number}
-use Rattle.kernel_abi.specs.declared.Reason.{Reason}
 use Rattle.task_table.specs.Reading.{arguments, is_out}
 use Rattle.task_table.specs.Sends.{reply_faulted}
 use Rattle.ipc_core.proofs.Rows.{ReplyFaulted, bad_reason, good_reason}
@@ -41,13 +38,13 @@ returns-in_default-None-clause-holds c = λ g t h.
     let i = c.args.caller in
     let same : c.of-args.result ≡ reply_args (arguments t.state i) = c.of-args.ensures ∙ ap reply_args (c.arguments.ensures g t h.holds) in
     let there : is_out t.state c.of-args.result.client.number ≡ false =
-        elim c.in_default-None.branch [
-          | in_default-None-via-in-Dead+in-None w ↦ (rw w.in_default-None.is-0 at (c.lookup.ensures.found g t h.holds)).0
-          | in_default-None-via-in-Live+in-None w ↦ (rw w.in_default-None.is-0 at (c.lookup.ensures.found g t h.holds)).0
-        ] in
+    elim c.in_default-None.branch [
+      | in_default-None-via-in-Dead+in-None w ↦ (rw w.in_default-None.is-0 at (c.lookup.ensures.found g t h.holds)).0
+      | in_default-None-via-in-Live+in-None w ↦ (rw w.in_default-None.is-0 at (c.lookup.ensures.found g t h.holds)).0
+    ] in
     let none : c.of.result ≡ None =
-        elim c.in_default-None.branch [
-          | in_default-None-via-in-Dead+in-None w ↦ w.in_default-None.is-1
-          | in_default-None-via-in-Live+in-None w ↦ w.in_default-None.is-1
-        ] in
+    elim c.in_default-None.branch [
+      | in_default-None-via-in-Dead+in-None w ↦ w.in_default-None.is-1
+      | in_default-None-via-in-Live+in-None w ↦ w.in_default-None.is-1
+    ] in
     subst (ReplyFaulted g c.misuse-in_default-None.new.self i t) same (rw (there, bad_reason c.of.result c.of-args.result.code c.of.ensures none) (c.misuse-in_default-None.ensures.holds g t h.holds))

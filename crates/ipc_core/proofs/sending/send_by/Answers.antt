@@ -1,6 +1,5 @@
 use Rattle.std.proofs.Common.{◌≡◌, ap, ◌∙◌, subst}
 use Rattle.kernel_abi.specs.Arguments.{send_args}
-use Rattle.kernel_abi.specs.declared.arguments.SendArgs.{SendArgs}
 use Rattle.task_table.specs.Reading.{arguments}
 use Rattle.task_table.specs.Sends.{sent}
 use Rattle.ipc_core.proofs.Rows.{Sent, is_other}
