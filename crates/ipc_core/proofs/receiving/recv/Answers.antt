@@ -1,7 +1,7 @@
 use Rattle.std.proofs.Common.{◌<◌, length, arith}
 use Rattle.task_table.proofs.Frames.{idle-ready}
 use Rattle.task_table.proofs.StepKeeps.{sane-received}
-use Rattle.ipc_core.proofs.recv.Goals as goal
+use Rattle.ipc_core.proofs.receiving.recv.Goals as goal
 
 pub receive-requires-clause-stood : goal.receive-requires-clause-stood
 receive-requires-clause-stood c = let r = c.requires.ready in (r.0, r.1, r.2)

@@ -6,7 +6,7 @@ use Rattle.task_table.specs.Reading.{arguments, bad_byte}
 use Rattle.task_table.specs.Rows.{buffer_of, received}
 use Rattle.ipc_core.specs.Named.{IsSender}
 use Rattle.ipc_core.proofs.Rows.{Received, no_misuse}
-use Rattle.ipc_core.proofs.receive.Goals as goal
+use Rattle.ipc_core.proofs.receiving.receive.Goals as goal
 
 pub receive_input-requires-clause-ready : goal.receive_input-requires-clause-ready
 receive_input-requires-clause-ready c =

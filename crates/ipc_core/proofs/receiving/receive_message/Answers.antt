@@ -1,5 +1,5 @@
 use Rattle.task_table.specs.Reading.{dead_code_for}
-use Rattle.ipc_core.proofs.receive_message.Goals as goal
+use Rattle.ipc_core.proofs.receiving.receive_message.Goals as goal
 
 pub returns-in-Some-clause-holds : goal.returns-in-Some-clause-holds
 returns-in-Some-clause-holds c = λ g t h idle who.
