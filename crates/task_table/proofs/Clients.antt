@@ -1,13 +1,13 @@
--- The one call of a client, and whether it is offered.
+-- The one call of a client, and whether it is offered or taken.
 use Rattle.std.proofs.Common.{◌≡◌, ◌≢◌, ◌⊎◌, inl, inr, ℕ, zero, suc, Bool, true, false, cond, ◌&&◌, List, [], ◌∷◌, Option, Some, None, refl, sym, ◌∙◌, ap, arith, eqb}
 use Rattle.std.specs.Prelude.{find, Contains}
 use Rattle.std.proofs.lemmas.Bool.{eqb-true, false≢true}
-use Rattle.task_table.specs.Memory.{IsWithin}
-use Rattle.task_table.specs.State.{Setup, Call, State, Birth}
-use Rattle.task_table.specs.Reading.{task_at, call_of, present, is_offered, offer_by}
+use Rattle.task_table.specs.Memory.{IsWithin, IsWithinRam}
+use Rattle.task_table.specs.State.{Setup, Call, State, Birth, Phase}
+use Rattle.task_table.specs.Reading.{task_at, call_of, present, is_offered, offer_by, is_taken, taken_by}
 use Rattle.task_table.specs.Sane.{Sane}
 use Rattle.task_table.proofs.Keeps.{found_in, not_found}
-use Rattle.task_table.proofs.Ranges.{within-good}
+use Rattle.task_table.proofs.Ranges.{within-good, within_ram-good}
 
 no_some : {A P : Type 0} {a : A} → None ≡ Some a → P
 no_some e = cc
@@ -73,36 +73,53 @@ pub client_is : (s : State) (i : ℕ) (c : Call) → call_of s i ≡ Some c → 
 unfolding call_of
 client_is s i c h = eqb-true _ _ (found_in (λ x. eqb x.client.index i) s.calls c h).1
 
--- ## the offered call of a client to a server
+-- ## the call of a client to a server, offered or taken
 
-is_offer : ℕ → ℕ → Call → Bool
-is_offer i j c = (eqb c.client.index i && eqb c.server.index j) && is_offered c.phase
+is_call : (Phase → Bool) → ℕ → ℕ → Call → Bool
+is_call p i j c = (eqb c.client.index i && eqb c.server.index j) && p c.phase
 
-offer_client : (i j : ℕ) (c : Call) → is_offer i j c ≡ true → eqb c.client.index i ≡ true
-unfolding is_offer
-offer_client i j c h = (both_true (eqb c.client.index i) (eqb c.server.index j) (both_true (eqb c.client.index i && eqb c.server.index j) (is_offered c.phase) h).0).0
+call_client : (p : Phase → Bool) (i j : ℕ) (c : Call) → is_call p i j c ≡ true → eqb c.client.index i ≡ true
+unfolding is_call
+call_client p i j c h = (both_true (eqb c.client.index i) (eqb c.server.index j) (both_true (eqb c.client.index i && eqb c.server.index j) (p c.phase) h).0).0
 
 one_of : (g : Setup) (s : State) (i : ℕ) → Sane g s → (c d : Call) → Contains s.calls c → Contains s.calls d → eqb c.client.index i ≡ true → eqb d.client.index i ≡ true → c ≡ d
 one_of g s i sane c d a b e f = sane.steady.calls.client c d a b (eqb-true _ _ e ∙ sym (eqb-true _ _ f))
 
+call_by_none : (p : Phase → Bool) (s : State) (i j : ℕ) → call_of s i ≡ None → find (is_call p i j) s.calls ≡ None
+unfolding call_of
+call_by_none p s i j h = find_finer_none (λ c. eqb c.client.index i) (is_call p i j) s.calls (call_client p i j) h
+
+call_by_call : (p : Phase → Bool) (g : Setup) (s : State) (i j : ℕ) (c : Call) → Sane g s → call_of s i ≡ Some c → find (is_call p i j) s.calls ≡ cond (eqb c.server.index j && p c.phase) (Some c) None
+unfolding call_of is_call
+call_by_call p g s i j c sane h =
+    let here = found_in (λ x. eqb x.client.index i) s.calls c h in
+    find_finer (λ x. eqb x.client.index i) (is_call p i j) s.calls c (call_client p i j) (one_of g s i sane) h
+    ∙ ap (λ b. cond ((b && eqb c.server.index j) && p c.phase) (Some c) None) here.1
+
 pub offer_by_none : (s : State) (i j : ℕ) → call_of s i ≡ None → offer_by s i j ≡ None
-unfolding offer_by call_of is_offer
-offer_by_none s i j h = find_finer_none (λ c. eqb c.client.index i) (is_offer i j) s.calls (offer_client i j) h
+unfolding offer_by is_call
+offer_by_none s i j h = call_by_none is_offered s i j h
 
 pub offer_by_call : (g : Setup) (s : State) (i j : ℕ) (c : Call) → Sane g s → call_of s i ≡ Some c → offer_by s i j ≡ cond (eqb c.server.index j && is_offered c.phase) (Some c) None
-unfolding offer_by call_of is_offer
-offer_by_call g s i j c sane h =
-    let here = found_in (λ x. eqb x.client.index i) s.calls c h in
-    find_finer (λ x. eqb x.client.index i) (is_offer i j) s.calls c (offer_client i j) (one_of g s i sane) h
-    ∙ ap (λ b. cond ((b && eqb c.server.index j) && is_offered c.phase) (Some c) None) here.1
+unfolding offer_by is_call
+offer_by_call g s i j c sane h = call_by_call is_offered g s i j c sane h
 
--- what an offered call is
-pub record IsOfferedCall (g : Setup) (s : State) (i j : ℕ) (c : Call) : Type 0 where
+pub taken_by_none : (s : State) (i j : ℕ) → call_of s i ≡ None → taken_by s i j ≡ None
+unfolding taken_by is_call
+taken_by_none s i j h = call_by_none is_taken s i j h
+
+pub taken_by_call : (g : Setup) (s : State) (i j : ℕ) (c : Call) → Sane g s → call_of s i ≡ Some c → taken_by s i j ≡ cond (eqb c.server.index j && is_taken c.phase) (Some c) None
+unfolding taken_by is_call
+taken_by_call g s i j c sane h = call_by_call is_taken g s i j c sane h
+
+-- what a call is that is found so
+pub record IsCallOf (g : Setup) (s : State) (i j : ℕ) (c : Call) : Type 0 where
   pub call : call_of s i ≡ Some c
   pub client : c.client ≡ present s i
   pub server : c.server.index ≡ j
   pub apart : i ≢ j
   pub readable : IsWithin s.memory c.message.base c.message.length
+  pub writable : IsWithinRam s.memory c.reply.base c.reply.length
 
 same_birth_is : (b : Birth) (i n : ℕ) → b.index ≡ i → b.birth ≡ n → b ≡ record { index = i; birth = n }
 same_birth_is b i n e f = rw (← e, ← f) refl
@@ -111,23 +128,32 @@ cond_some : (b : Bool) (x y : Call) → cond b (Some x) None ≡ Some y → (b �
 cond_some true x y h = (refl, same_some h)
 cond_some false x y h = no_some h
 
-pub offered_call : (g : Setup) (s : State) (i j : ℕ) (c : Call) → Sane g s → offer_by s i j ≡ Some c → IsOfferedCall g s i j c
-offered_call g s i j c sane h =
+call_by : (p : Phase → Bool) (g : Setup) (s : State) (i j : ℕ) (c : Call) → Sane g s → find (is_call p i j) s.calls ≡ Some c → IsCallOf g s i j c
+call_by p g s i j c sane h =
     elim (option_cases (call_of s i)) [
-      | inl none ↦ no_some (sym (offer_by_none s i j none) ∙ h)
+      | inl none ↦ no_some (sym (call_by_none p s i j none) ∙ h)
       | inr some ↦
           let d = some.0 in
-          let tests = cond_some (eqb d.server.index j && is_offered d.phase) d c (sym (offer_by_call g s i j d sane some.1) ∙ h) in
+          let tests = cond_some (eqb d.server.index j && p d.phase) d c (sym (call_by_call p g s i j d sane some.1) ∙ h) in
           let here : call_of s i ≡ Some c = some.1 ∙ ap Some tests.1 in
           let inside = found_call s i c here in
           let fit = sane.steady.calls.fit c inside in
           let client = client_is s i c here in
-          let server : c.server.index ≡ j = sym (ap (λ (x : Call). x.server.index) tests.1) ∙ eqb-true _ _ (both_true (eqb d.server.index j) (is_offered d.phase) tests.0).0 in
+          let server : c.server.index ≡ j = sym (ap (λ (x : Call). x.server.index) tests.1) ∙ eqb-true _ _ (both_true (eqb d.server.index j) (p d.phase) tests.0).0 in
           record {
             call = here;
             client = same_birth_is c.client i (task_at s i).births client (sym (sane.present.client c inside) ∙ ap (λ x. (task_at s x).births) client);
             server = server;
             apart = λ e. fit.apart (client ∙ e ∙ sym server);
             readable = within-good g s.memory c.client.index _ c.message sane.steady.placed fit.readable;
+            writable = within_ram-good g s.memory c.client.index c.reply sane.steady.placed fit.writable;
           }
     ]
+
+pub offered_call : (g : Setup) (s : State) (i j : ℕ) (c : Call) → Sane g s → offer_by s i j ≡ Some c → IsCallOf g s i j c
+unfolding offer_by is_call
+offered_call g s i j c sane h = call_by is_offered g s i j c sane h
+
+pub taken_call : (g : Setup) (s : State) (i j : ℕ) (c : Call) → Sane g s → taken_by s i j ≡ Some c → IsCallOf g s i j c
+unfolding taken_by is_call
+taken_call g s i j c sane h = call_by is_taken g s i j c sane h

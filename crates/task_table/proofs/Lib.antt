@@ -12,6 +12,7 @@ pub mod Frames
 pub mod Waiting
 pub mod Clients
 pub mod Messages
+pub mod Delivery
 pub mod Receives
 pub mod Chains
 pub mod Moves

@@ -28,23 +28,23 @@ use Rattle.task_table.proofs.Clients.{option_cases, found_call, client_is, offer
 
 -- ## an offered call
 
-index_of-id_of : (i b : ℕ) → i < 1024 → index_of (id_of i b) ≡ i
+pub index_of-id_of : (i b : ℕ) → i < 1024 → index_of (id_of i b) ≡ i
 index_of-id_of i b h = omega arith
 
 -- it is offered to a server by the id that is kept
 offer_to_kept : (c : Call) (j : ℕ) → c.server.index < 1024 → is_offer_to (kept_call c) j ≡ (eqb c.server.index j && is_offered c.phase)
 offer_to_kept c j small = ap (λ (n : ℕ). eqb n j && is_offered c.phase) (index_of-id_of c.server.index c.server.birth small)
 
-offered_if : (b : Bool) (c : Call) → cond b (Some (kept_call c)) None ≡ option_map kept_call (cond b (Some c) None)
-offered_if true c = refl
-offered_if false c = refl
+pub kept_if : (b : Bool) (c : Call) → cond b (Some (kept_call c)) None ≡ option_map kept_call (cond b (Some c) None)
+kept_if true c = refl
+kept_if false c = refl
 
 no_offered : (lo : Option Listen) (j : ℕ) → offered_in (wait_of None lo) j ≡ None
 no_offered None j = refl
 no_offered (Some l) j = refl
 
 offered_of : (c : Call) (lo : Option Listen) (j : ℕ) → c.server.index < 1024 → offered_in (wait_of (Some c) lo) j ≡ option_map kept_call (cond (eqb c.server.index j && is_offered c.phase) (Some c) None)
-offered_of c lo j small = ap (λ (b : Bool). cond b (Some (kept_call c)) None) (offer_to_kept c j small) ∙ offered_if (eqb c.server.index j && is_offered c.phase) c
+offered_of c lo j small = ap (λ (b : Bool). cond b (Some (kept_call c)) None) (offer_to_kept c j small) ∙ kept_if (eqb c.server.index j && is_offered c.phase) c
 
 pub offered_kept : (g : Setup) (s : State) (i j : ℕ) (slot : Slot) → Sane g s → length s.tasks ≤ 1024 → IsKept s i slot → offered_in slot.wait j ≡ option_map kept_call (offer_by s i j)
 offered_kept g s i j slot sane small h =

@@ -188,6 +188,22 @@ holds_current g k t i h = record {
   current = refl;
 }
 
+-- the number of the next call is used
+pub holds_next_call : (g : Setup) (k : Kept) (t : Turn) → Shows g k t → Shows g record k { next_call = k.next_call + 1 } record t { state = record t.state { next_call = t.state.next_call + 1 } }
+unfolding task_at call_of listen_of
+holds_next_call g k t h = record {
+  setup = h.setup;
+  count = h.count;
+  many = h.many;
+  notes = h.notes;
+  memory = h.memory;
+  now = h.now;
+  lines = h.lines;
+  current = h.current;
+  tasks = λ j below d. kept_same t.state _ j _ refl refl refl (h.tasks j below d);
+  next_call = ap (λ (n : ℕ). n + 1) h.next_call;
+}
+
 -- the time goes on, before it is noted
 pub holds_now : (g : Setup) (k : Kept) (t : Turn) (n : ℕ) → Shows g k t → n ≡ t.state.now → Shows g record k { clock = n + 1 } record t { state = record t.state { now = t.state.now + 1 } }
 unfolding task_at call_of listen_of

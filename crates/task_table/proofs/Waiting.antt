@@ -13,7 +13,7 @@ no_some e = cc
 
 -- ## a listen added
 
-find_added : {X : Type 0} (p : X → Bool) (xs : List X) (y : X) → find p xs ≡ None → p y ≡ true → find p (xs ++ y ∷ []) ≡ Some y
+pub find_added : {X : Type 0} (p : X → Bool) (xs : List X) (y : X) → find p xs ≡ None → p y ≡ true → find p (xs ++ y ∷ []) ≡ Some y
 find_added p [] y h t = rw t refl
 find_added p (x ∷ xs) y h t = go (p x) (λ e. find_added p xs y e t) h
   where
@@ -21,7 +21,7 @@ find_added p (x ∷ xs) y h t = go (p x) (λ e. find_added p xs y e t) h
     go true rest e = no_some e
     go false rest e = rest e
 
-find_added_other : {X : Type 0} (p : X → Bool) (xs : List X) (y : X) → p y ≡ false → find p (xs ++ y ∷ []) ≡ find p xs
+pub find_added_other : {X : Type 0} (p : X → Bool) (xs : List X) (y : X) → p y ≡ false → find p (xs ++ y ∷ []) ≡ find p xs
 find_added_other p [] y h = rw h refl
 find_added_other p (x ∷ xs) y h = ap (cond (p x) (Some x)) (find_added_other p xs y h)
 

@@ -15,8 +15,8 @@ use Rattle.task_table.specs.declared.slot.Wait.TheVariants as wait
 use Rattle.task_table.specs.Memory.{Memory}
 use Rattle.task_table.specs.Parts.{task_setup, line_setup}
 use Rattle.task_table.specs.Sane.{Sane}
-use Rattle.task_table.specs.State.{Setup, Task, Birth, Call, Listen, State, Taken, From, Any, One, KernelOnly, Turn}
-use Rattle.task_table.specs.Reading.{is_well, is_offered, task_at, call_of, listen_of}
+use Rattle.task_table.specs.State.{Setup, Task, Birth, Call, Listen, State, Taken, Range, From, Any, One, KernelOnly, Turn}
+use Rattle.task_table.specs.Reading.{is_well, is_offered, is_taken, task_at, call_of, listen_of}
 
 -- ## one task
 
@@ -100,6 +100,26 @@ offered_in (wait.Call c) server = if is_offer_to c server then Some c else None
 offered_in (wait.Listen l) server = None
 offered_in wait.Nothing server = None
 
+-- the server with an index has taken the call
+abbrev pub is_taken_at : OpenCall → ℕ → Bool
+is_taken_at c server = (index_of c.server.number == server) && is_taken c.phase
+
+abbrev pub taken_in : Wait → ℕ → Option OpenCall
+taken_in (wait.Call c) server = if is_taken_at c server then Some c else None
+taken_in (wait.Listen l) server = None
+taken_in wait.Nothing server = None
+
+-- a message of the task with an id is listened for, and into which buffer
+abbrev pub hears : Source → TaskId → Bool
+hears source.Any client = true
+hears (source.One id) client = id.number == client.number
+hears source.Kernel client = false
+
+abbrev pub buffer_in : Wait → TaskId → Option Range
+buffer_in (wait.Call c) client = None
+buffer_in (wait.Listen l) client = if hears l.from client then Some l.buffer else None
+buffer_in wait.Nothing client = None
+
 -- the wait once its call is taken
 abbrev pub taken_wait : Wait → Wait
 taken_wait (wait.Call c) = wait.Call record c { phase = Taken }
@@ -125,6 +145,9 @@ current_of k = k.current
 
 abbrev pub clock_of : Kernel → ℕ
 clock_of k = k.clock
+
+abbrev pub next_call_of : Kernel → ℕ
+next_call_of k = k.next_call
 
 abbrev pub memory_of : Kernel → Memory
 memory_of k = k.memory

@@ -1,18 +1,21 @@
 -- What the code's kernel is told about messages.
-use Rattle.std.specs.Prelude.{ℕ, ◌≡◌, ◌<◌, None, Some}
+use Rattle.std.specs.Prelude.{ℕ, ◌≡◌, ◌<◌, ◌≤◌, Option, None, Some, if◌then◌else◌}
 use Rattle.std.specs.Option.{option_map}
 use Rattle.kernel_abi.specs.Arguments.{recv_args}
 use Rattle.kernel_abi.specs.declared.Listened.{Listened}
 use Rattle.kernel_abi.specs.declared.Listened.TheVariants as listened
 use Rattle.kernel_abi.specs.declared.Note.TheVariants as note
 use Rattle.kernel_abi.specs.declared.arguments.RecvArgs.{RecvArgs}
-use Rattle.region_check.specs.declared.Right.TheVariants.{Write}
+use Rattle.kernel_abi.specs.declared.arguments.ReplyArgs.{ReplyArgs}
+use Rattle.kernel_abi.specs.declared.arguments.SendArgs.{SendArgs}
+use Rattle.region_check.specs.declared.Right.TheVariants.{Read, Write}
 use Rattle.task_table.specs.declared.kernel.Kernel.{Kernel}
 use Rattle.task_table.specs.declared.slot.OpenCall.{OpenCall}
-use Rattle.task_table.specs.State.{Setup, State, From, Any, One, KernelOnly, Turn}
-use Rattle.task_table.specs.Reading.{arguments, present, bad_byte, offer_by}
+use Rattle.task_table.specs.State.{Setup, State, Birth, Listen, Range, From, Any, One, KernelOnly, Turn}
+use Rattle.task_table.specs.Reading.{arguments, present, admits, bad_byte, offer_by, taken_by, IsIdle}
 use Rattle.task_table.specs.Effects.{changed, noted, with_listen}
 use Rattle.task_table.specs.Rows.{listened_from, buffer_of}
+use Rattle.task_table.specs.Sends.{message_of, reply_of}
 use Rattle.task_table.specs.Holds.{Stands, kept_call}
 
 -- whom a task listens to; a task that is named is one of n
@@ -43,3 +46,25 @@ pub record IsReceiving (k : Kernel) (c : ℕ) : Type 0 where
 pub record IsReceivable (k : Kernel) (c client : ℕ) (call : OpenCall) : Type 0 where
   pub receiving : IsReceiving k c
   pub offered : option_map kept_call (offer_by receiving.turn.state client c) ≡ Some call
+
+-- the buffer of a listen that is open to a client
+abbrev pub buffer_for : Birth → Option Listen → Option Range
+buffer_for client None = None
+buffer_for client (Some l) = if admits l.from client then Some l.buffer else None
+
+-- the caller of SEND waits for nothing, and its message may be read
+pub record IsSending (k : Kernel) (c : ℕ) (x : SendArgs) : Type 0 where
+  pub setup : Setup
+  pub turn : Turn
+  pub stands : Stands setup k turn
+  pub idle : IsIdle turn.state c
+  pub readable : bad_byte setup c Read (message_of x) ≡ None
+
+-- the caller of REPLY has taken this call of a client, and its reply may be read and is not too long
+pub record IsReplying (k : Kernel) (c client : ℕ) (call : OpenCall) (x : ReplyArgs) : Type 0 where
+  pub setup : Setup
+  pub turn : Turn
+  pub stands : Stands setup k turn
+  pub taken : option_map kept_call (taken_by turn.state client c) ≡ Some call
+  pub readable : bad_byte setup c Read (reply_of x) ≡ None
+  pub fits : x.reply_length ≤ call.reply.length

@@ -49,7 +49,7 @@ impl Kernel {
     ghost use Rattle.task_table.specs.Rows.{misused, panicked, call_noted};
     ghost use Rattle.task_table.specs.Start.{start as started_at, begun};
     ghost use Rattle.task_table.specs.Parts.{setup_of_parts, line_setup, IsSound};
-    ghost use Rattle.task_table.specs.Holds.{Holds, Stands, IsKept, wait_of, task_count, note_count, clock_of, memory_of, setup_of, current_of, notes_of};
+    ghost use Rattle.task_table.specs.Holds.{Holds, Stands, IsKept, wait_of, task_count, note_count, clock_of, next_call_of, memory_of, setup_of, current_of, notes_of};
     ghost use Rattle.task_table.specs.Found.{IsFound, IsInRange};
     ghost use Rattle.task_table.specs.Waits.{AreFew};
     ghost use Rattle.task_table.specs.Limits.{most_tasks, board_lines, turn_notes};
@@ -358,6 +358,15 @@ impl Kernel {
         }
     }
 
+    /// The number of the next call is used.
+    pub(crate) fn use_number(&mut self)
+        requires { next_call_of self.old + 1 < 2 ^ 32 }
+        ensures holds { (g : Setup) (t : Turn) → Holds g self.old t → Holds g self.new (changed (λ s. record s { next_call = s.next_call + 1 }) t) }
+        ensures frame { AddsNotes self.old 0 self.new }
+    {
+        self.next_call += 1;
+    }
+
     /// Keeps this of a task.
     pub(crate) fn set_slot(&mut self, task: usize, slot: Slot)
         requires { task < task_count self.old }
@@ -457,7 +466,7 @@ impl Kernel {
     }
 
     /// A task faults, and its call is closed as told.
-    fn fault_as(&mut self, task: usize, fault: Fault, ending: Ending)
+    pub(crate) fn fault_as(&mut self, task: usize, fault: Fault, ending: Ending)
         requires there { task < task_count self.old }
         requires room { note_count self.old + 4 ≤ turn_notes }
         ensures holds { (g : Setup) (t : Turn) → Holds g self.old t → Holds g self.new (faulted_as g task fault ending t) }

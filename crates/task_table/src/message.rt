@@ -10,10 +10,9 @@ impl Kernel {
     ghost use Rattle.std.specs.Option.{option_map};
     ghost use Rattle.kernel_abi.specs.Arguments.{recv_args};
     ghost use Rattle.kernel_abi.specs.Faults.{access_number};
-    ghost use Rattle.kernel_abi.specs.Ids.{id_of};
     ghost use Rattle.task_table.specs.Memory.{IsWithin, IsWithinRam};
     ghost use Rattle.task_table.specs.State.{Setup, Turn, Call, Ground};
-    ghost use Rattle.task_table.specs.Reading.{task_at, arguments, bad_byte, offer_by, IsIdle};
+    ghost use Rattle.task_table.specs.Reading.{arguments, present_id, bad_byte, offer_by, taken_by, IsIdle};
     ghost use Rattle.task_table.specs.Effects.{changed, with_taken, handed};
     ghost use Rattle.task_table.specs.Rows.{denied, takes_bits, listens, receives};
     ghost use Rattle.task_table.specs.Holds.{Holds, Stands, kept_call, source_of, task_count, note_count, memory_of};
@@ -28,6 +27,15 @@ impl Kernel {
     {
         let slot = self.slot(client);
         slot.wait.offered_to(server)
+    }
+
+    /// The call of a client that a server has taken, where it has.
+    pub fn taken(&self, client: usize, server: usize) -> Option<OpenCall>
+        requires { client < task_count self.now }
+        ensures { (g : Setup) (t : Turn) → Stands g self.now t → result ≡ option_map kept_call (taken_by t.state client server) }
+    {
+        let slot = self.slot(client);
+        slot.wait.taken_by(server)
     }
 
     /// The first byte of a range that may not be copied for a task, where there is one.
@@ -62,10 +70,10 @@ impl Kernel {
         self.answer(task, &[0, 0xFFFF, under, 0, 0, 0]);
     }
 
-    /// The present id of a task.
-    fn id(&self, task: usize) -> TaskId
+    /// The present id of a task (Hubris Reference, on task ids).
+    pub fn id(&self, task: usize) -> TaskId
         requires { task < task_count self.now }
-        ensures { (g : Setup) (t : Turn) → Holds g self.now t → result.number ≡ id_of task (task_at t.state task).births }
+        ensures { (g : Setup) (t : Turn) → Holds g self.now t → result.number ≡ present_id t.state task }
     {
         TaskId::new(task as u16, self.generation(task))
     }
@@ -130,7 +138,7 @@ impl Kernel {
     }
 
     /// The open call of a client goes to its server, with as much of the message as fits into a buffer.
-    fn hand_over(&mut self, client: usize, server: usize, call: &OpenCall, buffer: Range)
+    pub(crate) fn hand_over(&mut self, client: usize, server: usize, call: &OpenCall, buffer: Range)
         requires client { client < task_count self.old }
         requires server { server < task_count self.old }
         requires room { note_count self.old < turn_notes }

@@ -50,13 +50,20 @@ pub struct OpenCall {
 
 impl OpenCall {
     ghost use Rattle.std.specs.Prelude.{◌≡◌};
-    ghost use Rattle.task_table.specs.Holds.{is_offer_to};
+    ghost use Rattle.task_table.specs.Holds.{is_offer_to, is_taken_at};
 
     /// Whether it is offered to the server with this index.
     pub fn is_offered_to(&self, index: usize) -> bool
         ensures { result ≡ is_offer_to self.now index }
     {
         usize::from(self.server.index()) == index && self.phase == Phase::Offered
+    }
+
+    /// Whether the server with this index has taken it.
+    pub fn is_taken_by(&self, index: usize) -> bool
+        ensures { result ≡ is_taken_at self.now index }
+    {
+        usize::from(self.server.index()) == index && self.phase == Phase::Taken
     }
 }
 
@@ -73,7 +80,19 @@ pub enum Source {
 
 impl Source {
     ghost use Rattle.std.specs.Prelude.{◌≡◌};
+    ghost use Rattle.task_table.specs.Holds.{hears};
     ghost use Rattle.task_table.specs.Waits.{is_one};
+
+    /// Whether a message of the task with this id is listened for.
+    pub fn hears(self, client: TaskId) -> bool
+        ensures { result ≡ hears self client }
+    {
+        match self {
+            Source::Any => true,
+            Source::Kernel => false,
+            Source::One(id) => id.number == client.number,
+        }
+    }
 
     /// Whether it is the task with this index.
     pub fn is_one(&self, index: usize) -> bool
@@ -108,7 +127,7 @@ pub enum Wait {
 
 impl Wait {
     ghost use Rattle.std.specs.Prelude.{◌≡◌};
-    ghost use Rattle.task_table.specs.Holds.{call_in, listen_in, offered_in, taken_wait};
+    ghost use Rattle.task_table.specs.Holds.{call_in, listen_in, offered_in, taken_in, buffer_in, taken_wait};
     ghost use Rattle.task_table.specs.Waits.{is_to_in, awaits_in};
 
     /// The call for whose end it is.
@@ -139,6 +158,38 @@ impl Wait {
             Wait::Call(call) => {
                 if call.is_offered_to(index) {
                     Some(call)
+                } else {
+                    None
+                }
+            }
+            _ => None,
+        }
+    }
+
+    /// The call, where the server with this index has taken it.
+    pub fn taken_by(&self, index: usize) -> Option<OpenCall>
+        ensures { result ≡ taken_in self.now index }
+    {
+        match *self {
+            Wait::Call(call) => {
+                if call.is_taken_by(index) {
+                    Some(call)
+                } else {
+                    None
+                }
+            }
+            _ => None,
+        }
+    }
+
+    /// The buffer for a message of the client with this id, where the task listens for one.
+    pub fn buffer_for(&self, client: TaskId) -> Option<Range>
+        ensures { result ≡ buffer_in self.now client }
+    {
+        match *self {
+            Wait::Listen(listening) => {
+                if listening.from.hears(client) {
+                    Some(listening.buffer)
                 } else {
                     None
                 }
