@@ -1,14 +1,11 @@
 -- A turn whose task faults changes nothing else: so does its instruction, or its call, and what is told changes nothing.
-use Rattle.std.proofs.Common.{◌≡◌, ◌+◌, ◌*◌, ◌%◌, ◌^◌, ◌<◌, ℕ, true, not, List, [], ◌∷◌, length, Option, Some, None, refl, sym, ◌∙◌, ap, arith}
+use Rattle.std.proofs.Common.{◌≡◌, ◌+◌, ◌*◌, ◌%◌, ◌^◌, ◌<◌, ℕ, true, not, List, [], length, Option, Some, None, refl, sym, ◌∙◌, ap, arith}
 use Rattle.std.specs.Prelude.{fold}
 use Rattle.std.proofs.lemmas.Bool.{false≢true}
 use Rattle.kernel_abi.specs.declared.Health.{Health}
 use Rattle.kernel_abi.specs.declared.Health.TheVariants.{Well}
 use Rattle.kernel_abi.specs.declared.Note.{Note}
 use Rattle.kernel_abi.specs.declared.Note.TheVariants as note
-use Rattle.run_script.specs.declared.events.Event.{Event}
-use Rattle.run_script.specs.declared.events.Event.TheVariants.{Tick, Irq}
-use Rattle.run_script.specs.Scripts.{events_of}
 use Rattle.thumb_insn.specs.declared.Insn.{Insn}
 use Rattle.thumb_insn.specs.declared.Decoded.{Decoded}
 use Rattle.thumb_insn.specs.declared.Decoded.TheVariants.{Narrow, Wide, Illegal, NeedsSecond}
@@ -18,19 +15,18 @@ use Rattle.task_table.specs.Memory.{number_at}
 use Rattle.task_table.specs.State.{Setup, State, Turn}
 use Rattle.task_table.specs.Reading.{task_at, register, call_of, listen_of, chosen, is_faulted}
 use Rattle.task_table.specs.Effects.{noted}
-use Rattle.task_table.specs.Events.{ticked, interrupted}
 use Rattle.task_table.specs.Rows.{call_noted}
 use Rattle.task_table.specs.Start.{begun}
 use Rattle.task_table.specs.Sane.{Sane}
-use Rattle.task_table.proofs.Moves.{IsOutside, outside_here, outside_then}
-use Rattle.task_table.proofs.Outside.{outside-ticked, aside-interrupted}
+use Rattle.task_table.specs.Lives.{IsFresh}
 use Rattle.task_table.proofs.Receives.{well-ready}
 use Rattle.board_model.specs.declared.told.Level.{Level}
 use Rattle.board_model.specs.declared.told.Level.TheVariants.{Calls, All}
 use Rattle.board_model.specs.Script.{Scenario}
-use Rattle.board_model.specs.Turn.{put, acted, executed, told, decoded_as, is_text, stepped, happened, after_events, with_current, low_note, high_note, with_registers_told, turn_of, ended, turn}
+use Rattle.board_model.specs.Turn.{put, acted, executed, told, decoded_as, is_text, stepped, after_events, with_current, low_note, high_note, with_registers_told, turn_of, ended, turn}
 use Rattle.board_model.specs.Faults.{IsSameButForFault}
 use Rattle.board_model.proofs.TurnChains.{IsChosen, chosen_is, sane-after_events}
+use Rattle.board_model.proofs.Events.{fresh-after_events}
 use Rattle.board_model.proofs.Stepping.{puts_state}
 use Rattle.board_model.proofs.FaultFrames.{both-posted}
 use Rattle.board_model.proofs.FaultRows.{IsWell, well-processor, Outcome, FaultsAlone, StaysWell, by_outcome, outcome-faulted, outcome-called}
@@ -94,20 +90,6 @@ module _ (g : Setup) (c : ℕ) where
 
 -- ## the turn
 
-outside-events : (g : Setup) (events : List Event) (t : Turn) → IsOutside t (fold (happened g) t events)
-outside-events g [] t = outside_here t
-outside-events g (Tick ∷ events) t = outside_then t (ticked t) _ (outside-ticked t) (outside-events g events (ticked t))
-outside-events g (Irq line ∷ events) t = outside_then t (interrupted g line t) _ (aside-interrupted g line t).outside (outside-events g events (interrupted g line t))
-
--- events write nothing, and read nothing of another task's
-outside-after_events : (x : Scenario) (s : State) → IsOutside (begun s) (after_events x s)
-unfolding after_events
-outside-after_events x s = outside-events x.setup (events_of x.script s.turn) (begun s)
-
-silent-after_events : (x : Scenario) (s : State) → ((after_events x s).writes ≡ []) × ((after_events x s).reads ≡ [])
-unfolding begun
-silent-after_events x s = let a = outside-after_events x s in (a.writes, a.reads)
-
 -- from the events to the end of the turn, who is current and the turn's number aside
 from_events : (g : Setup) (c n : ℕ) (s u : State) → 0 < length s.tasks → IsSameButForFault g c record s { current = c } u → IsSameButForFault g c s record u { turn = n }
 unfolding begun task_at call_of listen_of
@@ -153,11 +135,11 @@ faulted_turn level x s c sane e = by_choice (chosen x.setup t.state) e
     some : 0 < length t.state.tasks
     some = let inside = is.inside in omega arith
 
-    silent : (t.writes ≡ []) × (t.reads ≡ [])
-    silent = silent-after_events x s
+    fresh : IsFresh s t
+    fresh = fresh-after_events x s
 
     by_outcomes : Outcome x.setup c u v → is_faulted (task_at v.state c).health ≡ true → IsFaultedTurn x.setup c t.state (ended v)
-    by_outcomes (FaultsAlone h) faulted = record { same = from_events x.setup c (v.state.turn + 1) t.state v.state some h.same; writes = h.writes ∙ silent.0; reads = h.reads ∙ silent.1 }
+    by_outcomes (FaultsAlone h) faulted = record { same = from_events x.setup c (v.state.turn + 1) t.state v.state some h.same; writes = h.writes ∙ fresh.writes; reads = h.reads ∙ fresh.reads }
     by_outcomes (StaysWell w) faulted = absurd (well_is_none _ w faulted)
 
     by_task : (d : ℕ) → d ≡ c → is_faulted (task_at (ended (turn_of level x.setup (Some d) t)).state c).health ≡ true → IsFaultedTurn x.setup c t.state (ended (turn_of level x.setup (Some d) t))

@@ -1,4 +1,6 @@
+pub mod Events
 pub mod TurnChains
+pub mod Lifetimes
 pub mod Counts
 pub mod Quiet
 pub mod FaultFrames

@@ -5,7 +5,6 @@ use Rattle.std.specs.List.{range_with_len, list_any}
 use Rattle.std.proofs.lemmas.List.Elements.{Contains-append_cases}
 use Rattle.std.proofs.lemmas.Bool.{leb-true, false≢true}
 use Rattle.std.proofs.lemmas.Bool.Decides.{eqb_tells}
-use Rattle.kernel_abi.specs.declared.Ending.TheVariants.{Client}
 use Rattle.kernel_abi.specs.declared.Note.{Note}
 use Rattle.kernel_abi.specs.declared.Note.TheVariants as note
 use Rattle.region_check.specs.declared.Region.{Region}
@@ -37,7 +36,7 @@ use Rattle.task_table.proofs.Steps.{length-with_bytes}
 use Rattle.task_table.proofs.StepKeeps.{chain_sane}
 use Rattle.task_table.proofs.Timing.{sane-ticked, sane-interrupted}
 use Rattle.task_table.specs.Chain.{Chain, Here}
-use Rattle.task_table.specs.Step.{Step, Notes, Runs, Stores, Faults}
+use Rattle.task_table.specs.Step.{Step, Notes, Runs, Stores, Halts}
 use Rattle.task_table.proofs.Chains.{one, ◌▷◌, joined, by_chain}
 use Rattle.task_table.proofs.Moves.{IsAside, aside_here, aside-noted}
 use Rattle.task_table.proofs.Noting.{noted-noted, chain_noted}
@@ -189,7 +188,7 @@ module _ (g : Setup) (c : ℕ) (t : Turn) (h : Sane g t.state) (inside : c < len
   acted_chain : (e : Effect) → Keeps (refusals g c) e → Chain (Step g t.state c) t (acted g c e t)
   acted_chain (Next cpu stores) k = puts_chain g t.state c inside stores t h refl k.1 ▷ Runs cpu.regs.words cpu.flags _ inside record { sixteen = k.0.sixteen; even = k.0.even; aligned = k.0.aligned }
   acted_chain Call k = calls_chain
-  acted_chain (Trap f) k = one (Faults c f Client t inside (omega (arith, k.0)) (omega (arith, k.1)) (inl (inl refl)) tt)
+  acted_chain (Trap f) k = one (Halts f t inside (omega (arith, k.0)) (omega (arith, k.1)))
 
 narrow_coded : (h : ℕ) (o : Option Insn) (i : Insn) → narrow_of h ≡ o → h < 65536 → (narrow_result o ≡ Narrow i) ⊎ (narrow_result o ≡ Wide i) → IsCoded i
 narrow_coded h (Some j) i is f (inl e) = let same : j ≡ i = cc in (One h, f, is ∙ ap Some same)
@@ -235,8 +234,8 @@ module _ (level : Level) (g : Setup) (c : ℕ) (t : Turn) (h : Sane g t.state) (
   decoded_chain : (at code first : ℕ) (two : Option ℕ) (d : Decoded) → first < 65536 → IfSome two (λ x. x < 65536) → decoded_of first two ≡ d → Chain (Step g t.state c) t (decoded_as level g c at code d t)
   decoded_chain at code first two (Narrow insn) f1 f2 e = executed_chain level at code first two insn f1 f2 (inl e)
   decoded_chain at code first two (Wide insn) f1 f2 e = executed_chain level at code first two insn f1 f2 (inr e)
-  decoded_chain at code first two Illegal f1 f2 e = one (Faults c _ Client t inside (omega arith) (omega arith) (inl (inl refl)) tt)
-  decoded_chain at code first two NeedsSecond f1 f2 e = one (Faults c _ Client t inside (omega arith) (omega arith) (inl (inl refl)) tt)
+  decoded_chain at code first two Illegal f1 f2 e = one (Halts _ t inside (omega arith) (omega arith))
+  decoded_chain at code first two NeedsSecond f1 f2 e = one (Halts _ t inside (omega arith) (omega arith))
 
   pub stepped_chain : Chain (Step g t.state c) t (stepped level g c t)
   unfolding stepped
@@ -248,9 +247,9 @@ module _ (level : Level) (g : Setup) (c : ℕ) (t : Turn) (h : Sane g t.state) (
       let second = number_at m after 2 in
       let small1 = half_small m at h.steady.text h.steady.bytes in
       let small2 = half_small m after h.steady.text h.steady.bytes in
-      by_chain (not (is_text g c at)) (λ bad. one (Faults c _ Client t inside (omega arith) (omega arith) (inl (inl refl)) tt)) (λ ok.
+      by_chain (not (is_text g c at)) (λ bad. one (Halts _ t inside (omega arith) (omega arith))) (λ ok.
       by_chain (not (is_wide first)) (λ narrow. decoded_chain at first first None (decoded_of first None) small1 tt refl) (λ wide.
-      by_chain (not (is_text g c after)) (λ bad. one (Faults c _ Client t inside (omega arith) (omega arith) (inl (inl refl)) tt)) (λ ok2.
+      by_chain (not (is_text g c after)) (λ bad. one (Halts _ t inside (omega arith) (omega arith))) (λ ok2.
       decoded_chain at (first * 2 ^ 16 + second) first (Some second) (decoded_of first (Some second)) small1 small2 refl)))
 
 -- what is told besides

@@ -2,3 +2,4 @@ pub mod Script
 pub mod Turn
 pub mod Faults
 pub mod Run
+pub mod Lifetimes

@@ -11,7 +11,7 @@ ghost use Rattle.thumb_exec.specs.Effect.{Store, Trap, effect};
 ghost use Rattle.task_table.specs.Memory.{number_at};
 ghost use Rattle.task_table.specs.State.{Setup, State, Turn};
 ghost use Rattle.task_table.specs.Reading.{task_at, chosen, is_faulted, is_ready};
-ghost use Rattle.task_table.specs.Start.{begun};
+ghost use Rattle.task_table.specs.Start.{begun, start};
 ghost use Rattle.task_table.specs.Sane.{Sane, IsCounted};
 ghost use Rattle.task_table.specs.Chain.{Chain};
 ghost use Rattle.task_table.specs.Step.{Step};
@@ -20,6 +20,7 @@ ghost use Rattle.board_model.specs.Script.{Scenario};
 ghost use Rattle.board_model.specs.Turn.{refusals, cpu_of, put, told, stepped, happened, after_events, with_current, with_registers_told, turn};
 ghost use Rattle.board_model.specs.Faults.{IsSameButForFault};
 ghost use Rattle.board_model.specs.Run.{is_down, end_at, ending};
+ghost use Rattle.board_model.specs.Lifetimes.{IsGroundedTurn, IsLedgerOfRun};
 
 /// The turn of the chosen task, from where it is the current one, is a chain of steps: those of its
 /// instruction or of its call's row, and what is told besides.
@@ -53,6 +54,18 @@ pub fn turns_keep_counts_in_order()
 pub fn turns_without_notes_keep_the_choice()
     ensures next { (level : Detail) (x : Scenario) (s : State) → Sane x.setup s → (turn level x s).notes ≡ [] → chosen x.setup (turn level x s).state ≡ chosen x.setup (after_events x s).state }
     ensures down { (level : Detail) (x : Scenario) (s : State) → Sane x.setup s → (turn level x s).notes ≡ [] → is_down (turn level x s).state ≡ is_down (after_events x s).state }
+{}
+
+/// A turn writes on its grounds alone, touches no call but those that are open or that it offers, and leaves alone what is
+/// closed. (Hubris Reference: IPC, leases.)
+pub fn turns_stand_on_their_grounds()
+    ensures { (level : Detail) (x : Scenario) (s : State) → Sane x.setup s → IsGroundedTurn level x s }
+{}
+
+/// The notes of a run from the start are a right ledger of its calls: each is offered once, taken and closed at most once,
+/// in this order, and it is open at the end just where it was offered and not closed.
+pub fn runs_keep_a_ledger()
+    ensures { (level : Detail) (x : Scenario) (n : ℕ) → Sane x.setup (start x.setup) → IsLedgerOfRun level x n }
 {}
 
 /// A fault changes nothing else. Where an instruction or a call faults the task that was chosen, memory and all the

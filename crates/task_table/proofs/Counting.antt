@@ -1,5 +1,5 @@
 -- Effects leave the turn, the time and the next call's number alone; a chain of steps makes at most one call.
-use Rattle.std.proofs.Common.{◌≡◌, ◌+◌, ◌<◌, ℕ, Bool, true, false, cond, List, length, refl, ◌∙◌, arith, eqb, length-set}
+use Rattle.std.proofs.Common.{◌+◌, ℕ, Bool, true, false, cond, List, refl, ◌∙◌, arith, eqb, length-set}
 use Rattle.kernel_abi.specs.declared.Ending.TheVariants.{Client}
 use Rattle.kernel_abi.specs.declared.Fault.{Fault}
 use Rattle.kernel_abi.specs.declared.Health.TheVariants.{Faulted}
@@ -7,19 +7,16 @@ use Rattle.kernel_abi.specs.declared.Note.{Note}
 use Rattle.kernel_abi.specs.declared.Note.TheVariants as note
 use Rattle.words_core.specs.declared.Flags.{Flags}
 use Rattle.task_table.specs.State.{Setup, State, Turn, Ground}
-use Rattle.task_table.specs.Reading.{is_ready}
-use Rattle.task_table.specs.Effects.{with_task, without_call, without_listen, with_taken, changed, noted, with_processor, with_health, stored, copied, looked, posted, closed, faulted_as, faulted}
+use Rattle.task_table.specs.Effects.{with_task, with_call, without_call, without_listen, with_taken, changed, noted, with_processor, with_health, stored, copied, looked, posted, closed, faulted_as, faulted, offered}
 use Rattle.task_table.specs.Rows.{call_noted}
-use Rattle.task_table.specs.Calls.{called}
 use Rattle.task_table.specs.Placed.{ArePlaced}
-use Rattle.task_table.specs.Sane.{Sane, IsCounted}
+use Rattle.task_table.specs.Sane.{IsCounted}
 use Rattle.task_table.specs.Counts.{IsSameTime, AreCounts}
 use Rattle.task_table.specs.Chain.{Chain}
 use Rattle.task_table.specs.Step.{Step}
 use Rattle.task_table.proofs.Chains.{chain_keeps}
-use Rattle.task_table.proofs.Moves.{IsAside, aside-processor, aside-posted, taken_over, Move, Aside, Writes, Takes, Closes}
+use Rattle.task_table.proofs.Moves.{IsAside, aside-processor, aside-posted, taken_over, Move, Aside, Writes, Reads, Lends, Offers, Takes, Closes}
 use Rattle.task_table.proofs.Happens.{chain_moves}
-use Rattle.task_table.proofs.RowChains.{chain-called}
 
 -- ## effects
 
@@ -67,7 +64,7 @@ time-call_noted c t = time-noted _ t
 
 -- ## chains
 
-counts_here : (s : State) → AreCounts s s
+pub counts_here : (s : State) → AreCounts s s
 counts_here s = record { count = refl; turn = refl; now = refl; from = omega arith; upto = omega arith }
 
 pub counts_then : (s u v : State) → AreCounts s u → IsSameTime u v → AreCounts s v
@@ -77,18 +74,18 @@ pub counts_same : (s u : State) → IsSameTime s u → AreCounts s u
 counts_same s u same = counts_then s s u (counts_here s) same
 
 move_counts : (g : Setup) (s : State) (c : ℕ) (u v : Turn) → Move g s c u v → AreCounts s u.state → AreCounts s v.state
-unfolding looked noted copied with_taken closed without_call
+unfolding looked noted offered with_call copied with_taken closed without_call
 move_counts g s c _ _ (Aside u v a) h = counts_then s u.state v.state h (time-aside u v a)
 move_counts g s c _ _ (Writes on at bytes u within may) h = counts_then s u.state _ h (time-stored on at bytes u)
+move_counts g s c _ _ (Reads r u alive) h = counts_then s u.state (looked r u).state h record { count = refl; turn = refl; now = refl; next_call = refl }
+move_counts g s c _ _ (Lends k borrow lease offset moved u alive) h = counts_then s u.state _ h (time-noted (note.Borrow k borrow lease offset moved) u)
+move_counts g s c _ _ (Offers k u new) h = let next = new.next in record { count = h.count; turn = h.turn; now = h.now; from = omega arith; upto = omega arith }
 move_counts g s c _ _ (Takes on k buffer u t) h = counts_then s u.state (taken_over on k buffer u).state h record { count = refl; turn = refl; now = refl; next_call = refl }
 move_counts g s c _ _ (Closes i ending u ends) h = counts_then s u.state (closed i ending u).state h record { count = refl; turn = refl; now = refl; next_call = refl }
 
 -- over a whole chain
 pub chain_counts : (g : Setup) (s : State) (c : ℕ) → ArePlaced g s.memory → (u v : Turn) → Chain (Step g s c) u v → AreCounts s u.state → AreCounts s v.state
 chain_counts g s c placed u v x h = chain_keeps (Move g s c) (λ w. AreCounts s w.state) (move_counts g s c) u v (chain_moves g s c placed u v x) h
-
-pub counts-called : (g : Setup) (c : ℕ) (t : Turn) → Sane g t.state → c < length t.state.tasks → is_ready t.state c ≡ true → AreCounts t.state (called g c t).state
-counts-called g c t h inside ready = chain_counts g t.state c h.steady.placed t _ (chain-called g c t h (rw (← h.steady.as_many) inside) ready) (counts_here t.state)
 
 -- ## the counts are in order from one turn to the next
 

@@ -17,7 +17,17 @@ pub mod Receives
 pub mod Chains
 pub mod Moves
 pub mod Happens
+pub mod Grounding
+pub mod Writing
+pub mod Lives
+pub mod Ledgers
+pub mod Closing
 pub mod Meanings
+pub mod Offering
+pub mod Outcomes
+pub mod MessageChains
+pub mod BorrowChains
+pub mod OrderChains
 pub mod RowChains
 pub mod StepKeeps
 pub mod Counting
@@ -25,4 +35,5 @@ pub mod Noting
 pub mod Quieting
 pub mod Outside
 pub mod Starts
+mod DeadRows
 pub mod Births

@@ -1,6 +1,7 @@
 -- What happens to calls, to memory and to what is told of them; and what stands aside.
-use Rattle.std.proofs.Common.{◌≡◌, ◌+◌, ℕ, Bool, true, false, cond, List, [], ◌∷◌, ◌++◌, length, Option, Some, None, refl, sym, ◌∙◌, ap, eqb, bit_and, append_assoc, append-nil, length-set, min}
+use Rattle.std.proofs.Common.{◌≡◌, ◌+◌, ℕ, zero, suc, Bool, true, false, cond, List, [], ◌∷◌, ◌++◌, length, Option, Some, None, refl, sym, ◌∙◌, ap, arith, eqb, bit_and, append_assoc, append-nil, length-set, min}
 use Rattle.std.specs.Prelude.{Contains, fold}
+use Rattle.kernel_abi.specs.declared.Borrow.{Borrow}
 use Rattle.kernel_abi.specs.declared.Ending.{Ending}
 use Rattle.kernel_abi.specs.declared.Health.{Health}
 use Rattle.kernel_abi.specs.declared.Note.{Note}
@@ -9,11 +10,11 @@ use Rattle.kernel_abi.specs.declared.Timer.{Timer}
 use Rattle.words_core.specs.declared.Flags.{Flags}
 use Rattle.task_table.specs.declared.Line.{Line}
 use Rattle.task_table.specs.Memory.{IsWithinRam}
-use Rattle.task_table.specs.State.{Setup, State, Call, Listen, Range, Offered, Ground, MessageFront, Turn}
+use Rattle.task_table.specs.State.{Setup, State, Call, Listen, Range, Offered, Ground, Read, MessageFront, Turn}
 use Rattle.task_table.specs.Reading.{task_at, call_of, listen_of}
-use Rattle.task_table.specs.Effects.{with_task, without_listen, with_listen, with_taken, changed, noted, with_processor, with_health, stored, copied, looked, given, returned, past_call, bits_added, bits_cleared, woken_by, woken, posted, with_timer, clocked, with_line, closed}
+use Rattle.task_table.specs.Effects.{with_task, without_listen, with_listen, with_taken, changed, noted, with_processor, with_health, stored, copied, looked, given, returned, past_call, bits_added, bits_cleared, woken_by, woken, posted, with_timer, clocked, with_line, closed, offered, reborn}
 use Rattle.task_table.specs.Grounds.{Lies, MayChange, IsAlive}
-use Rattle.task_table.specs.Step.{is_plain, MayChangeAll, Ends}
+use Rattle.task_table.specs.Step.{is_plain, IsNew, MayChangeAll, Ends}
 
 -- ## what stands aside
 
@@ -25,6 +26,11 @@ ArePlain (n ∷ ns) = (is_plain n ≡ true) × ArePlain ns
 plain_joined : (xs ys : List Note) → ArePlain xs → ArePlain ys → ArePlain (xs ++ ys)
 plain_joined [] ys a b = b
 plain_joined (x ∷ xs) ys a b = (a.0, plain_joined xs ys a.1 b)
+
+pub plain_one : (ns : List Note) (n : Note) → ArePlain ns → Contains ns n → is_plain n ≡ true
+plain_one [] n a h = absurd (omega (arith, h.1))
+plain_one (x ∷ xs) n a (zero, lt, same) = let e : x ≡ n = same in rw (← e) a.0
+plain_one (x ∷ xs) n a (suc k, lt, same) = plain_one xs n a.1 (k, omega arith, same)
 
 -- calls, memory, the number of tasks and the turn's number stay, nothing is written and nobody's bytes are read, and
 -- what is noted is plain
@@ -123,6 +129,10 @@ pub aside-processor : (i : ℕ) (registers : List ℕ) (flags : Flags) (u : Turn
 unfolding with_processor with_task
 aside-processor i registers flags u = aside_state u _ refl refl refl refl (length-set u.state.tasks i _) refl
 
+pub aside-reborn : (g : Setup) (i : ℕ) (start : Bool) (u : Turn) → IsAside u (changed (reborn g i start) u)
+unfolding reborn with_task
+aside-reborn g i start u = aside_state u _ refl refl refl refl (length-set u.state.tasks i _) refl
+
 -- the time goes on
 pub outside-clocked : (u : Turn) → IsOutside u (clocked u)
 unfolding clocked
@@ -179,5 +189,8 @@ pub record IsTaking (g : Setup) (s : State) (c : ℕ) (u : Turn) (on : Ground) (
 pub data Move (g : Setup) (s : State) (c : ℕ) : Turn → Turn → Type 0 where
   Aside : (u v : Turn) → IsAside u v → Move g s c u v
   Writes : (on : Ground) (at : ℕ) (bytes : List ℕ) (u : Turn) → IsWithinRam s.memory at (length bytes) → MayChangeAll g s c u on at (length bytes) → Move g s c u (stored on at bytes u)
+  Reads : (r : Read) (u : Turn) → IsAlive s c u r.call → Move g s c u (looked r u)
+  Lends : (k : ℕ) (borrow : Borrow) (lease offset moved : ℕ) (u : Turn) → IsAlive s c u k → Move g s c u (noted (note.Borrow k borrow lease offset moved) u)
+  Offers : (k : Call) (u : Turn) → IsNew s c u k → Move g s c u (offered k u)
   Takes : (on : Ground) (k : Call) (buffer : Range) (u : Turn) → IsTaking g s c u on k buffer → Move g s c u (taken_over on k buffer u)
   Closes : (i : ℕ) (ending : Ending) (u : Turn) → Ends ending (call_of u.state i) → Move g s c u (closed i ending u)

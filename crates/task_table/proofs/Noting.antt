@@ -1,17 +1,21 @@
--- Nothing that was noted is taken back, and a step notes at most four lines.
-use Rattle.std.proofs.Common.{◌≡◌, ◌≢◌, ◌+◌, ◌≤◌, ℕ, Bool, true, false, cond, List, [], ◌∷◌, ◌++◌, length, Option, Some, None, refl, sym, ◌∙◌, ap, arith, eqb, bit_and, bit_or, append_assoc, append-nil, length-append}
+-- Nothing that was noted is taken back, and a step notes at most four lines; a restart two for each task besides.
+use Rattle.std.proofs.Common.{◌≡◌, ◌≢◌, ◌+◌, ◌*◌, ◌%◌, ◌≤◌, ℕ, zero, suc, Bool, true, false, cond, List, [], ◌∷◌, ◌++◌, length, Option, Some, None, refl, sym, ◌∙◌, ap, arith, eqb, bit_and, bit_or, append_assoc, append-nil, length-append}
+use Rattle.std.specs.Prelude.{fold}
+use Rattle.std.specs.List.{range_with_len}
+use Rattle.kernel_abi.specs.Ids.{dead_code_of}
 use Rattle.kernel_abi.specs.declared.Ending.{Ending}
-use Rattle.kernel_abi.specs.declared.Ending.TheVariants.{Client}
+use Rattle.kernel_abi.specs.declared.Ending.TheVariants.{Client, Restart}
 use Rattle.kernel_abi.specs.declared.Fault.{Fault}
 use Rattle.kernel_abi.specs.declared.Health.TheVariants.{Faulted}
 use Rattle.kernel_abi.specs.declared.Note.{Note}
 use Rattle.kernel_abi.specs.declared.Note.TheVariants as note
-use Rattle.task_table.specs.State.{Setup, State, Call, Listen, Range, Ground, Own, Turn}
-use Rattle.task_table.specs.Reading.{task_at, call_of, listen_of}
-use Rattle.task_table.specs.Effects.{without_listen, with_listen, changed, noted, with_processor, with_health, stored, copied, looked, given, returned, past_call, bits_added, bits_cleared, woken_by, woken, posted, with_timer, with_line, close_notes, closed, faulted_as, faulted, handed}
+use Rattle.task_table.specs.State.{Setup, State, Call, Listen, Range, Ground, Own, Message, Turn}
+use Rattle.task_table.specs.Reading.{task_at, call_of, listen_of, admits}
+use Rattle.task_table.specs.Effects.{without_listen, with_listen, changed, noted, with_processor, with_health, stored, copied, looked, given, returned, past_call, bits_added, bits_cleared, woken_by, woken, posted, with_timer, with_line, close_notes, closed, faulted_as, faulted, offered, handed, reborn, is_to, awaits, told_dead, restarted}
+use Rattle.task_table.specs.Sends.{taken_at_once, offers_call}
 use Rattle.task_table.specs.Counts.{AreNoted, IsNoted}
 use Rattle.task_table.specs.Chain.{Chain}
-use Rattle.task_table.specs.Step.{Step, Notes, Gives, Returns, PassesCall, Runs, Clears, Posts, Times, Lines, Listens, Receives, Stores, Faults}
+use Rattle.task_table.specs.Step.{Step, Notes, Gives, Returns, PassesCall, Runs, Clears, Posts, Times, Lines, Listens, Sends, Receives, Stores, Copies, Looks, Borrows, Ceases, Halts, Strikes, Restarts}
 use Rattle.task_table.proofs.Chains.{chain_keeps}
 
 -- ## how many lines
@@ -106,23 +110,103 @@ hands : (on : Ground) (k : Call) (buffer : Range) (u : Turn) → AreNoted 1 u (h
 unfolding handed looked copied noted given
 hands on k buffer u = record { new = note.Take k.number _ ∷ []; notes = refl; few = omega arith }
 
+-- ## a call is offered
+
+offer_told : (k : Call) (u : Turn) → AreNoted 1 u (offered k u)
+unfolding offered noted
+offer_told k u = record { new = note.Offer k.number k.client.index k.server.index ∷ []; notes = refl; few = omega arith }
+
+takes : (k : Call) (lo : Option Listen) (u : Turn) → AreNoted 2 u (taken_at_once k lo u)
+takes k None u = same 2 u u refl
+takes k (Some l) u = go (admits l.from k.client)
+  where
+    taken : Turn
+    taken = handed (Message k.number) k l.buffer u
+
+    go : (b : Bool) → AreNoted 2 u (cond b (returned k.server.index taken) u)
+    go true = then 1 1 u taken (returned k.server.index taken) (hands (Message k.number) k l.buffer u) (noted-returned k.server.index taken)
+    go false = same 2 u u refl
+
+after_offer : (k : Call) (u : Turn) → AreNoted 2 (offered k u) (offers_call k u)
+after_offer k u = takes k (listen_of u.state k.server.index) (offered k u)
+
+offers : (k : Call) (u : Turn) → AreNoted 3 u (offers_call k u)
+offers k u = then 1 2 u (offered k u) (offers_call k u) (offer_told k u) (after_offer k u)
+
+-- ## a task is born again
+
+tells_dead : (i j : ℕ) (u : Turn) → AreNoted 2 u (told_dead i u j)
+tells_dead i j u = go (is_to i (call_of u.state j)) (awaits i (listen_of u.state j))
+  where
+    shut : Turn
+    shut = closed j Restart u
+
+    sent : Turn
+    sent = given j (dead_code_of ((task_at u.state i).births % 64) ∷ 0 ∷ []) shut
+
+    deaf : Turn
+    deaf = changed (without_listen j) u
+
+    heard : Turn
+    heard = given j (dead_code_of ((task_at u.state i).births % 64) ∷ 0 ∷ 0 ∷ 0 ∷ 0 ∷ 0 ∷ []) deaf
+
+    go : (b d : Bool) → AreNoted 2 u (cond b (returned j sent) (cond d (returned j heard) u))
+    go true d = then 1 1 u shut (returned j sent) (closes j Restart u) (then 0 1 shut sent (returned j sent) (same 0 shut sent (quiet-given j _ shut)) (noted-returned j sent))
+    go false true = then 1 1 u heard (returned j heard) (same 1 u heard (quiet-given j _ deaf)) (noted-returned j heard)
+    go false false = same 2 u u refl
+
+tell_dead : (i a n : ℕ) (u : Turn) → AreNoted (2 * n) u (fold (told_dead i) u (range_with_len a n))
+tell_dead i a zero u = same _ u u refl
+tell_dead i a (suc n) u = more (2 + 2 * n) (2 * suc n) u _ (omega arith) (then 2 (2 * n) u (told_dead i u a) _ (tells_dead i a u) (tell_dead i (a + 1) n (told_dead i u a)))
+
+module _ (g : Setup) (i : ℕ) (start : Bool) (u : Turn) where
+  born : Turn
+  born = changed (reborn g i start) (changed (without_listen i) (closed i Restart u))
+
+  birth : Turn
+  birth = noted (note.Restart i ((task_at born.state i).births % 64)) born
+
+  birth_told : AreNoted 2 u birth
+  unfolding birth born noted
+  birth_told = then 1 1 u (closed i Restart u) birth (closes i Restart u) record { new = note.Restart i ((task_at born.state i).births % 64) ∷ []; notes = refl; few = omega arith }
+
+  after_birth : AreNoted (2 * length u.state.tasks) birth (restarted g i start u)
+  unfolding restarted birth born
+  after_birth = tell_dead i 0 (length u.state.tasks) birth
+
+  restarts : AreNoted (4 + 2 * length u.state.tasks) u (restarted g i start u)
+  restarts = more (2 + 2 * length u.state.tasks) (4 + 2 * length u.state.tasks) u _ (omega arith) (then 2 (2 * length u.state.tasks) u birth _ birth_told after_birth)
+
 -- ## steps and chains
 
-pub step_noted : (g : Setup) (s : State) (c : ℕ) (u v : Turn) → Step g s c u v → AreNoted 4 u v
-unfolding past_call with_processor with_timer with_line stored
-step_noted g s c _ _ (Notes n u plain) = more 1 4 u _ (omega arith) (one n u)
-step_noted g s c _ _ (Gives i values u lt few party) = same 4 u _ (quiet-given i values u)
-step_noted g s c _ _ (Returns i u) = more 1 4 u _ (omega arith) (noted-returned i u)
-step_noted g s c _ _ (PassesCall u lt) = same 4 u (past_call c u) refl
-step_noted g s c _ _ (Runs registers flags u lt whole) = same 4 u (with_processor c registers flags u) refl
-step_noted g s c _ _ (Clears mask u lt none) = same 4 u _ (quiet-cleared c mask u)
-step_noted g s c _ _ (Posts i bits u lt) = more 2 4 u _ (omega arith) (posts i bits u)
-step_noted g s c _ _ (Times timer u lt ahead) = same 4 u (with_timer c timer u) refl
-step_noted g s c _ _ (Lines k line u owned) = same 4 u (with_line k line u) refl
-step_noted g s c _ _ (Listens l u own may) = more 1 4 u _ (omega arith) (then 0 1 u (changed (with_listen l) u) _ (same 0 u (changed (with_listen l) u) refl) (one _ (changed (with_listen l) u)))
-step_noted g s c _ _ (Receives k buffer u may) = more 1 4 u _ (omega arith) (hands Own k buffer u)
-step_noted g s c _ _ (Stores on at bytes u all within room may) = same 4 u (stored on at bytes u) refl
-step_noted g s c _ _ (Faults i fault ending u lt low high party ends) = faults g i fault ending u
+none : (u v : Turn) → v.notes ≡ u.notes → AreNoted (4 + 2 * length u.state.tasks) u v
+none u v e = same _ u v e
+
+at_most : (n : ℕ) (u v : Turn) → n ≤ 4 → AreNoted n u v → AreNoted (4 + 2 * length u.state.tasks) u v
+at_most n u v le a = more n (4 + 2 * length u.state.tasks) u v (omega (arith, le)) a
+
+pub step_noted : (g : Setup) (s : State) (c : ℕ) (u v : Turn) → Step g s c u v → AreNoted (4 + 2 * length u.state.tasks) u v
+unfolding past_call with_processor with_timer with_line stored copied looked
+step_noted g s c _ _ (Notes n u plain) = at_most 1 u _ (omega arith) (one n u)
+step_noted g s c _ _ (Gives i values u lt few party) = none u _ (quiet-given i values u)
+step_noted g s c _ _ (Returns i u) = at_most 1 u _ (omega arith) (noted-returned i u)
+step_noted g s c _ _ (PassesCall u lt) = none u (past_call c u) refl
+step_noted g s c _ _ (Runs registers flags u lt whole) = none u (with_processor c registers flags u) refl
+step_noted g s c _ _ (Clears mask u lt off) = none u _ (quiet-cleared c mask u)
+step_noted g s c _ _ (Posts i bits u lt) = at_most 2 u _ (omega arith) (posts i bits u)
+step_noted g s c _ _ (Times timer u lt ahead) = none u (with_timer c timer u) refl
+step_noted g s c _ _ (Lines k line u owned) = none u (with_line k line u) refl
+step_noted g s c _ _ (Listens l u own may) = at_most 1 u _ (omega arith) (then 0 1 u (changed (with_listen l) u) _ (same 0 u (changed (with_listen l) u) refl) (one _ (changed (with_listen l) u)))
+step_noted g s c _ _ (Sends k u may) = at_most 3 u _ (omega arith) (offers k u)
+step_noted g s c _ _ (Receives k buffer u may) = at_most 1 u _ (omega arith) (hands Own k buffer u)
+step_noted g s c _ _ (Stores on at bytes u all within room may) = none u (stored on at bytes u) refl
+step_noted g s c _ _ (Copies on from at n i r u target may) = none u (copied on from at n u) refl
+step_noted g s c _ _ (Looks r u alive) = none u (looked r u) refl
+step_noted g s c _ _ (Borrows k borrow lease offset moved u alive) = at_most 1 u _ (omega arith) (one _ u)
+step_noted g s c _ _ (Ceases i ending u ends) = at_most 1 u _ (omega arith) (closes i ending u)
+step_noted g s c _ _ (Halts fault u lt low high) = at_most 4 u _ (omega arith) (faults g c fault Client u)
+step_noted g s c _ _ (Strikes i fault ending u other lt low high party ends) = at_most 4 u _ (omega arith) (faults g i fault ending u)
+step_noted g s c _ _ (Restarts i start u other lt) = restarts g i start u
 
 -- ## something is noted
 
@@ -130,7 +214,7 @@ some_more : (xs ys : List Note) → xs ≢ [] → xs ++ ys ≢ []
 some_more [] ys h e = h refl
 some_more (x ∷ xs) ys h e = cc
 
-some_note : (xs : List Note) (n : Note) → xs ++ n ∷ [] ≢ []
+pub some_note : (xs : List Note) (n : Note) → xs ++ n ∷ [] ≢ []
 some_note [] n e = cc
 some_note (x ∷ xs) n e = cc
 
@@ -159,5 +243,19 @@ noted-faulted_as g i fault ending t = still_noted 3 (told g i fault ending t) _ 
 pub noted-faulted : (g : Setup) (i : ℕ) (fault : Fault) (t : Turn) → IsNoted (faulted g i fault t)
 noted-faulted g i fault t = noted-faulted_as g i fault Client t
 
+noted-offered : (k : Call) (u : Turn) → IsNoted (offered k u)
+unfolding offered
+noted-offered k u = noted-noted _ _
+
+noted-birth : (g : Setup) (i : ℕ) (start : Bool) (u : Turn) → IsNoted (birth g i start u)
+unfolding birth
+noted-birth g i start u = noted-noted _ _
+
+pub noted-offers : (k : Call) (u : Turn) → IsNoted (offers_call k u)
+noted-offers k u = still_noted 2 (offered k u) _ (after_offer k u) (noted-offered k u)
+
+pub noted-restarted : (g : Setup) (i : ℕ) (start : Bool) (u : Turn) → IsNoted (restarted g i start u)
+noted-restarted g i start u = still_noted (2 * length u.state.tasks) (birth g i start u) _ (after_birth g i start u) (noted-birth g i start u)
+
 pub chain_noted : (g : Setup) (s : State) (c : ℕ) (u v : Turn) → Chain (Step g s c) u v → IsNoted u → IsNoted v
-chain_noted g s c u v x h = chain_keeps (Step g s c) IsNoted (λ t w step. still_noted 4 t w (step_noted g s c t w step)) u v x h
+chain_noted g s c u v x h = chain_keeps (Step g s c) IsNoted (λ t w step. still_noted _ t w (step_noted g s c t w step)) u v x h

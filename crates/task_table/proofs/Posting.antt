@@ -24,7 +24,7 @@ with_unmet h u = record { steady = h.steady; well = h.well; present = h.present;
 -- ## registers
 
 -- results leave SP and PC alone
-kept_at : (values registers : List ℕ) (r : ℕ) → length registers ≡ 16 → length values ≤ 6 → 10 ≤ r → r < 16 → get_or (with_results values registers) r 0 ≡ get_or registers r 0
+pub kept_at : (values registers : List ℕ) (r : ℕ) → length registers ≡ 16 → length values ≤ 6 → 10 ≤ r → r < 16 → get_or (with_results values registers) r 0 ≡ get_or registers r 0
 kept_at values registers r sixteen six from below =
     let front : length (take 4 registers ++ values) ≡ 4 + length values = simp (length-append, length-take) (omega arith) in
     let far : 4 + length values ≤ r = omega arith in

@@ -1,15 +1,17 @@
 -- A step that notes nothing leaves each task as ready as it was.
-use Rattle.std.proofs.Common.{◌≡◌, ℕ, zero, suc, List, [], ◌∷◌, ◌++◌, refl, sym, ◌∙◌, get_or, set}
+use Rattle.std.proofs.Common.{◌≡◌, ℕ, zero, suc, Option, Some, None, List, [], ◌∷◌, ◌++◌, refl, sym, ◌∙◌, get_or, set}
+use Rattle.kernel_abi.specs.declared.Ending.{Ending}
+use Rattle.kernel_abi.specs.declared.Ending.TheVariants.{Client}
 use Rattle.kernel_abi.specs.declared.Note.{Note}
 use Rattle.kernel_abi.specs.declared.Note.TheVariants as note
 use Rattle.task_table.specs.State.{Setup, State, Task, Call, Range, Ground, Own, Turn}
 use Rattle.task_table.specs.Reading.{task_at, call_of, listen_of, is_ready, no_task}
-use Rattle.task_table.specs.Effects.{with_task, with_processor, stored, given, returned, past_call, bits_cleared, with_timer, with_line, handed}
+use Rattle.task_table.specs.Effects.{with_task, with_processor, stored, copied, looked, given, returned, past_call, bits_cleared, with_timer, with_line, closed, handed}
 use Rattle.task_table.specs.Counts.{IsNoted, IsAsReady}
 use Rattle.task_table.specs.Chain.{Chain, Here, More}
-use Rattle.task_table.specs.Step.{Step, Notes, Gives, Returns, PassesCall, Runs, Clears, Posts, Times, Lines, Listens, Receives, Stores, Faults}
-use Rattle.task_table.proofs.Changes.{call_of-with_task, listen_of-with_task, length-with_task}
-use Rattle.task_table.proofs.Noting.{step_noted, noted-noted, noted-posted, noted-faulted_as}
+use Rattle.task_table.specs.Step.{Step, Notes, Gives, Returns, PassesCall, Runs, Clears, Posts, Times, Lines, Listens, Sends, Receives, Stores, Copies, Looks, Borrows, Ceases, Halts, Strikes, Restarts}
+use Rattle.task_table.proofs.Changes.{call_of-with_task, listen_of-with_task, length-with_task, closed_none}
+use Rattle.task_table.proofs.Noting.{some_note, step_noted, noted-noted, noted-posted, noted-faulted_as, noted-offers, noted-restarted}
 
 pub ready_same : (s : State) → IsAsReady s s
 ready_same s = record { count = refl; health = λ i. refl; ready = λ i. refl; current = refl }
@@ -56,8 +58,17 @@ noted-handed : (on : Ground) (k : Call) (buffer : Range) (u : Turn) → IsNoted 
 unfolding handed given
 noted-handed on k buffer u = noted-noted (note.Take k.number _) _
 
+noted-closed : (i : ℕ) (ending : Ending) (u : Turn) (k : Call) → call_of u.state i ≡ Some k → IsNoted (closed i ending u)
+unfolding closed
+noted-closed i ending u k e = rw e (some_note u.notes (note.Close k.number ending))
+
+-- where a task has no call there is none to close, and where it has one, its end is noted
+ready-closed : (i : ℕ) (ending : Ending) (u : Turn) (o : Option Call) → call_of u.state i ≡ o → (closed i ending u).notes ≡ [] → IsAsReady u.state (closed i ending u).state
+ready-closed i ending u None e none = rw (closed_none i ending u e) (ready_same u.state)
+ready-closed i ending u (Some k) e none = absurd (noted-closed i ending u k e none)
+
 step_quiet : (g : Setup) (s : State) (c : ℕ) (u v : Turn) → Step g s c u v → v.notes ≡ [] → IsAsReady u.state v.state
-unfolding given past_call with_processor bits_cleared with_timer with_line stored is_ready task_at call_of listen_of
+unfolding given past_call with_processor bits_cleared with_timer with_line stored copied looked is_ready task_at call_of listen_of
 step_quiet g s c _ _ (Notes n u plain) = λ none. absurd (noted-noted n u none)
 step_quiet g s c _ _ (Gives i values u lt few party) = λ none. ready-with_task u.state i _ refl
 step_quiet g s c _ _ (Returns i u) = λ none. absurd (noted-returned i u none)
@@ -68,9 +79,16 @@ step_quiet g s c _ _ (Posts i bits u lt) = λ none. absurd (noted-posted i bits 
 step_quiet g s c _ _ (Times timer u lt ahead) = λ none. ready-with_task u.state c _ refl
 step_quiet g s c _ _ (Lines k line u owned) = λ none. record { count = refl; health = λ i. refl; ready = λ i. refl; current = refl }
 step_quiet g s c _ _ (Listens l u own may) = λ none. absurd (noted-noted _ _ none)
+step_quiet g s c _ _ (Sends k u may) = λ none. absurd (noted-offers k u none)
 step_quiet g s c _ _ (Receives k buffer u may) = λ none. absurd (noted-handed Own k buffer u none)
 step_quiet g s c _ _ (Stores on at bytes u all within room may) = λ none. record { count = refl; health = λ i. refl; ready = λ i. refl; current = refl }
-step_quiet g s c _ _ (Faults i fault ending u lt low high party ends) = λ none. absurd (noted-faulted_as g i fault ending u none)
+step_quiet g s c _ _ (Copies on from at n i r u target may) = λ none. record { count = refl; health = λ i. refl; ready = λ i. refl; current = refl }
+step_quiet g s c _ _ (Looks r u alive) = λ none. ready_same u.state
+step_quiet g s c _ _ (Borrows k borrow lease offset moved u alive) = λ none. absurd (noted-noted _ u none)
+step_quiet g s c _ _ (Ceases i ending u ends) = λ none. ready-closed i ending u (call_of u.state i) refl none
+step_quiet g s c _ _ (Halts fault u lt low high) = λ none. absurd (noted-faulted_as g c fault Client u none)
+step_quiet g s c _ _ (Strikes i fault ending u other lt low high party ends) = λ none. absurd (noted-faulted_as g i fault ending u none)
+step_quiet g s c _ _ (Restarts i start u other lt) = λ none. absurd (noted-restarted g i start u none)
 
 -- ## chains
 

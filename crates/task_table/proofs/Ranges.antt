@@ -11,6 +11,7 @@ use Rattle.task_table.specs.Memory.{Memory, IsWithin, IsWithinRam}
 use Rattle.task_table.specs.State.{Setup, Range}
 use Rattle.task_table.specs.Reading.{setup_at, bad_byte}
 use Rattle.task_table.specs.Placed.{ArePlaced}
+use Rattle.task_table.specs.Grounds.{Lies, MayWrite}
 
 both_true : (a b : Bool) → (a && b) ≡ true → (a ≡ true) × (b ≡ true)
 both_true true b h = (refl, h)
@@ -94,3 +95,8 @@ within_ram-good g m i r placed h = within_ram-bytes m r.base r.length (λ a from
 -- the front of a range in RAM
 pub within_ram-front : (m : Memory) (a n k : ℕ) → IsWithinRam m a n → k ≤ n → IsWithinRam m a k
 within_ram-front m a n k h le = elim h [ inl none ↦ inl (omega arith) | inr x ↦ inr (x.0, omega arith) ]
+
+-- each byte of a range without a bad byte may be written
+pub may-write : (g : Setup) (i : ℕ) (r : Range) (a : ℕ) → bad_byte g i Write r ≡ None → Lies r a → MayWrite g i a
+unfolding bad_byte
+may-write g i r a good lies = first_bad_none (setup_at g i).regions Write r.base r.length a good lies.0 lies.1

@@ -32,6 +32,14 @@ pub calls-past_call : (c : ℕ) (t : Turn) → (past_call c t).state.calls ≡ t
 unfolding past_call with_task
 calls-past_call c t = refl
 
+pub listens-past_call : (c : ℕ) (t : Turn) → (past_call c t).state.listens ≡ t.state.listens
+unfolding past_call with_task
+listens-past_call c t = refl
+
+pub next-past_call : (c : ℕ) (t : Turn) → (past_call c t).state.next_call ≡ t.state.next_call
+unfolding past_call with_task
+next-past_call c t = refl
+
 pub memory-past_call : (c : ℕ) (t : Turn) → (past_call c t).state.memory ≡ t.state.memory
 unfolding past_call with_task
 memory-past_call c t = refl

@@ -1,18 +1,27 @@
 -- Each step keeps a state sane; so does a chain, and so does every row.
 use Rattle.std.proofs.Common.{◌≡◌, ◌<◌, ℕ, true, length, Option}
+use Rattle.kernel_abi.specs.declared.Ending.TheVariants.{Client}
 use Rattle.task_table.specs.State.{Setup, State, Turn, Own}
 use Rattle.task_table.specs.Reading.{is_ready, best_sender}
 use Rattle.task_table.specs.Rows.{misused, panicked, timer_set, timer_told, irq_controlled, received, call_noted}
+use Rattle.task_table.specs.Sends.{sent, replied, reply_faulted, post_made, refreshed}
+use Rattle.task_table.specs.Borrows.{reading, writing, borrowed, informed}
+use Rattle.task_table.specs.Orders.{ordered}
 use Rattle.task_table.specs.Calls.{called}
 use Rattle.task_table.specs.Sane.{Sane}
 use Rattle.task_table.specs.Chain.{Chain}
-use Rattle.task_table.specs.Step.{Step, Notes, Gives, Returns, PassesCall, Runs, Clears, Posts, Times, Lines, Listens, Receives, Stores, Faults}
+use Rattle.task_table.specs.Step.{Step, Notes, Gives, Returns, PassesCall, Runs, Clears, Posts, Times, Lines, Listens, Sends, Receives, Stores, Copies, Looks, Borrows, Ceases, Halts, Strikes, Restarts, Outcome}
+use Rattle.task_table.proofs.BorrowChains.{comes-read, comes-written, comes-informed}
 use Rattle.task_table.proofs.Chains.{chain_keeps}
-use Rattle.task_table.proofs.Handing.{keeps-handed}
+use Rattle.task_table.proofs.Handing.{keeps-looked, keeps-copied, keeps-handed}
 use Rattle.task_table.proofs.Keeps.{keeps-with_listen}
+use Rattle.task_table.proofs.MessageChains.{comes-sent, comes-replied, comes-reply_faulted, comes-post_made, comes-refreshed}
+use Rattle.task_table.proofs.Offering.{keeps-closed, sane-offers, sane-restarted}
+use Rattle.task_table.proofs.OrderChains.{comes-ordered}
+use Rattle.task_table.proofs.Outcomes.{chain-outcome, comes-misused}
 use Rattle.task_table.proofs.Posting.{keeps-noted, keeps-given, keeps-returned, keeps-past_call, keeps-cleared, keeps-timer, sane-posted}
-use Rattle.task_table.proofs.Ranges.{within_ram-good}
-use Rattle.task_table.proofs.RowChains.{chain-misused, chain-call_noted, chain-panicked, chain-timer_set, chain-timer_told, chain-irq_controlled, chain-received, chain-called}
+use Rattle.task_table.proofs.Ranges.{within_ram-good, within_ram-front}
+use Rattle.task_table.proofs.RowChains.{chain-call_noted, comes-panicked, comes-timer_set, comes-timer_told, comes-irq_controlled, comes-received, comes-called}
 use Rattle.task_table.proofs.Sanity.{sane-processor, sane-stored, sane-faulted_as}
 use Rattle.task_table.proofs.Timing.{keeps-line}
 
@@ -31,9 +40,16 @@ module _ (g : Setup) (s : State) (c : ℕ) where
   step_sane _ _ (Times timer u lt ahead) h = keeps-timer c timer u h (here h lt) (λ x. ahead)
   step_sane _ _ (Lines k line u owned) h = keeps-line k line u h owned
   step_sane _ _ (Listens l u own may) h = keeps-noted _ _ (keeps-with_listen l h may.fit may.well may.idle may.named may.unmet may.unfit)
+  step_sane _ _ (Sends k u may) h = sane-offers k u h may.fit may.new.number (rw may.new.client may.well) (rw may.new.client may.idle) may.client_birth may.server_birth
   step_sane _ _ (Receives k buffer u may) h = keeps-handed Own k buffer u h (λ j ne. tt) (here h (h.steady.calls.fit k may.here).server) (within_ram-good g u.state.memory c buffer h.steady.placed may.good)
   step_sane _ _ (Stores on at bytes u all within room may) h = sane-stored on at bytes u h all within
-  step_sane _ _ (Faults i fault ending u lt low high party ends) h = sane-faulted_as i fault ending u h (here h lt) low high
+  step_sane _ _ (Copies on from at n i r u target may) h = keeps-copied on from at n u h (rw target.base (within_ram-front u.state.memory r.base r.length n (within_ram-good g u.state.memory i r h.steady.placed target.good) target.fits))
+  step_sane _ _ (Looks r u alive) h = keeps-looked r u h
+  step_sane _ _ (Borrows k borrow lease offset moved u alive) h = keeps-noted _ u h
+  step_sane _ _ (Ceases i ending u ends) h = keeps-closed i ending u h
+  step_sane _ _ (Halts fault u lt low high) h = sane-faulted_as c fault Client u h (here h lt) low high
+  step_sane _ _ (Strikes i fault ending u other lt low high party ends) h = sane-faulted_as i fault ending u h (here h lt) low high
+  step_sane _ _ (Restarts i start u other lt) h = sane-restarted i start u h (here h lt)
 
   pub chain_sane : (u v : Turn) → Chain (Step g s c) u v → Sane g u.state → Sane g v.state
   chain_sane u v x h = chain_keeps (Step g s c) (λ w. Sane g w.state) step_sane u v x h
@@ -44,30 +60,57 @@ module _ {g : Setup} (c : ℕ) (t : Turn) (h : Sane g t.state) (within : c < len
   inside : c < length g.tasks
   inside = rw (← h.steady.as_many) within
 
-  kept : (u : Turn) → Chain (Step g t.state c) t u → Sane g u.state
-  kept u x = chain_sane g t.state c t u x h
+  kept : (u : Turn) → Outcome g t.state c t u → Sane g u.state
+  kept u x = chain_sane g t.state c t u (chain-outcome g t.state c t u x) h
 
   pub sane-misused : (usage : ℕ) → Sane g (misused g c usage t).state
-  sane-misused usage = kept _ (chain-misused g c t inside usage)
+  sane-misused usage = kept _ (comes-misused g c t inside usage)
 
   pub sane-call_noted : Sane g (call_noted c t).state
-  sane-call_noted = kept _ (chain-call_noted g c t inside)
+  sane-call_noted = chain_sane g t.state c t _ (chain-call_noted g c t) h
 
   pub sane-panicked : Sane g (panicked g c t).state
-  sane-panicked = kept _ (chain-panicked g c t inside)
+  sane-panicked = kept _ (comes-panicked g c t inside)
 
   pub sane-timer_set : Sane g (timer_set c t).state
-  sane-timer_set = kept _ (chain-timer_set g c t inside)
+  sane-timer_set = kept _ (comes-timer_set g c t inside)
 
   pub sane-timer_told : Sane g (timer_told c t).state
-  sane-timer_told = kept _ (chain-timer_told g c t inside)
+  sane-timer_told = kept _ (comes-timer_told g c t inside)
 
   pub sane-irq_controlled : Sane g (irq_controlled g c t).state
-  sane-irq_controlled = kept _ (chain-irq_controlled g c t inside)
+  sane-irq_controlled = kept _ (comes-irq_controlled g c t inside)
+
+  pub sane-replied : Sane g (replied g c t).state
+  sane-replied = kept _ (comes-replied g c t h inside)
+
+  pub sane-reply_faulted : Sane g (reply_faulted g c t).state
+  sane-reply_faulted = kept _ (comes-reply_faulted g c t h inside)
+
+  pub sane-post_made : Sane g (post_made g c t).state
+  sane-post_made = kept _ (comes-post_made g c t h inside)
+
+  pub sane-refreshed : Sane g (refreshed g c t).state
+  sane-refreshed = kept _ (comes-refreshed g c t h inside)
+
+  pub sane-read : Sane g (borrowed g reading c t).state
+  sane-read = kept _ (comes-read g c t h inside)
+
+  pub sane-written : Sane g (borrowed g writing c t).state
+  sane-written = kept _ (comes-written g c t h inside)
+
+  pub sane-informed : Sane g (informed g c t).state
+  sane-informed = kept _ (comes-informed g c t h inside)
+
+  pub sane-ordered : Sane g (ordered g c t).state
+  sane-ordered = kept _ (comes-ordered g c t h inside)
 
   module _ (ready : is_ready t.state c ≡ true) where
+    pub sane-sent : Sane g (sent g c t).state
+    sane-sent = kept _ (comes-sent g c t h inside ready)
+
     pub sane-received : (best : Option ℕ) → best ≡ best_sender g t.state c → Sane g (received g c best t).state
-    sane-received best is = kept _ (chain-received g c t h inside ready best is)
+    sane-received best is = kept _ (comes-received g c t h inside ready best is)
 
     pub sane-called : Sane g (called g c t).state
-    sane-called = kept _ (chain-called g c t h inside ready)
+    sane-called = kept _ (comes-called g c t h inside ready)

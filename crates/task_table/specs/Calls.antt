@@ -1,22 +1,38 @@
 -- The system calls: each has a number, which the caller has in r11, and a meaning. (Hubris Reference: syscalls.)
 use Rattle.kernel_abi.specs.declared.Usage.TheVariants.{BadCall}
 use Rattle.kernel_abi.specs.Faults.{usage_number}
-use Rattle.std.specs.Prelude.{ℕ, List, [], ◌∷◌, ◌==◌, if◌then◌else◌}
-use Rattle.task_table.specs.State.{Setup, Turn}
-use Rattle.task_table.specs.Reading.{register, best_sender, call_selector}
+use Rattle.std.specs.Prelude.{ℕ, Bool, List, [], ◌∷◌, ◌==◌, if◌then◌else◌}
+use Rattle.kernel_abi.specs.Arguments.{send_args}
+use Rattle.task_table.specs.State.{Setup, State, Turn}
+use Rattle.task_table.specs.Reading.{register, arguments, best_sender, call_selector}
 use Rattle.task_table.specs.Rows.{misused, received, timer_set, timer_told, irq_controlled, panicked}
+use Rattle.task_table.specs.Sends.{sent, replied, reply_faulted, post_made, refreshed}
+use Rattle.task_table.specs.Borrows.{reading, writing, borrowed, informed}
+use Rattle.task_table.specs.Orders.{ordered}
 
 -- what a call makes of its caller's turn
 abbrev pub Meaning : Type 0
 Meaning = Setup → ℕ → Turn → Turn
 
+-- a SEND to the kernel is a kernel message
+abbrev pub is_to_kernel : State → ℕ → Bool
+is_to_kernel s c = (send_args (arguments s c)).recipient.number == 0xFFFF
+
 abbrev pub calls : List (ℕ × Meaning)
 calls =
-    (1, λ g c t. received g c (best_sender g t.state c) t)
+    (0, λ g c t. if is_to_kernel t.state c then ordered g c t else sent g c t)
+    ∷ (1, λ g c t. received g c (best_sender g t.state c) t)
+    ∷ (2, replied)
     ∷ (3, λ g c t. timer_set c t)
+    ∷ (4, λ g c t. borrowed g reading c t)
+    ∷ (5, λ g c t. borrowed g writing c t)
+    ∷ (6, informed)
     ∷ (7, irq_controlled)
     ∷ (8, panicked)
     ∷ (9, λ g c t. timer_told c t)
+    ∷ (10, refreshed)
+    ∷ (11, post_made)
+    ∷ (12, reply_faulted)
     ∷ []
 
 -- what a number means among some calls; one that none of them has is usage 1, BadCall

@@ -18,8 +18,10 @@ pub mod Counts
 pub mod Grounds
 pub mod Chain
 pub mod Step
+pub mod Lives
 pub mod Sends
 pub mod Borrows
 pub mod Orders
 pub mod Ledger
+pub mod DeadIds
 pub mod Waits

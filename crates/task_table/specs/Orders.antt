@@ -1,6 +1,6 @@
 -- The kernel messages, which the supervisor sends to the kernel. (Hubris Reference: supervision; the
 -- operations are this project's profile.)
-use Rattle.std.specs.Prelude.{ℕ, ◌+◌, ◌/◌, ◌%◌, ◌^◌, Bool, ◌&&◌, ◌||◌, not, List, [], ◌∷◌, ◌++◌, length, Option, None, Some, is_some, ◌==◌, nat_le, find}
+use Rattle.std.specs.Prelude.{ℕ, ◌+◌, ◌/◌, ◌%◌, ◌^◌, Bool, true, false, ◌&&◌, ◌||◌, not, List, [], ◌∷◌, ◌++◌, length, Option, None, Some, is_some, ◌==◌, nat_le, find}
 use Rattle.kernel_abi.specs.Arguments.{send_args}
 use Rattle.kernel_abi.specs.Faults.{usage_number, access_number, injected_fault}
 use Rattle.kernel_abi.specs.declared.Access.TheVariants.{KernelRead, KernelWrite}
@@ -10,7 +10,7 @@ use Rattle.kernel_abi.specs.declared.Usage.TheVariants.{BadTaskIndex, InvalidSli
 use Rattle.kernel_abi.specs.declared.arguments.SendArgs.{SendArgs}
 use Rattle.region_check.specs.declared.Right.TheVariants.{Read, Write}
 use Rattle.task_table.specs.Memory.{number_at}
-use Rattle.task_table.specs.State.{Setup, State, Own, Turn}
+use Rattle.task_table.specs.State.{Setup, Own, Turn}
 use Rattle.task_table.specs.Reading.{task_at, arguments, is_valid, bad_byte}
 use Rattle.task_table.specs.Effects.{stored, faulted, restarted}
 use Rattle.task_table.specs.Rows.{first_row, misused, denied, goes_on_with}
@@ -54,8 +54,13 @@ injected_by g i (Faulted f) t = t
 unfoldable pub injected : Setup → ℕ → Turn → Turn
 injected g i t = injected_by g i (task_at t.state i).health t
 
+-- 1 tells how a task is, 2 restarts one, 3 makes one fault
 abbrev pub orders : List Order
-orders = []
+orders =
+    record { number = 1; message = 4; reply = 16; on_supervisor = true; does = λ g x index t. status_given x index t }
+    ∷ record { number = 2; message = 8; reply = 0; on_supervisor = false; does = restart_made }
+    ∷ record { number = 3; message = 4; reply = 0; on_supervisor = false; does = λ g x index t. injected g index t }
+    ∷ []
 
 -- ## the rows
 

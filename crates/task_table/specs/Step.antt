@@ -1,8 +1,9 @@
 -- What may happen in a turn, each with what makes it good: whatever is kept by each step is kept by every call and
 -- every instruction, since each is a chain of steps.
 -- (s: the state after the events of the turn; c: the chosen task; u: what the turn has come to)
-use Rattle.std.specs.Prelude.{ℕ, ◌≡◌, ◌+◌, ◌<◌, ◌≤◌, ◌⊎◌, Bool, true, false, List, length, Option, None, Contains, IfSome, bit_and}
+use Rattle.std.specs.Prelude.{ℕ, ◌≡◌, ◌≢◌, ◌+◌, ◌<◌, ◌≤◌, ◌⊎◌, Bool, true, false, List, length, Option, None, Contains, IfSome, bit_and}
 use Rattle.kernel_abi.specs.Faults.{injected_fault}
+use Rattle.kernel_abi.specs.declared.Borrow.{Borrow}
 use Rattle.kernel_abi.specs.declared.Ending.{Ending}
 use Rattle.kernel_abi.specs.declared.Ending.TheVariants.{Reply, ReplyFault, Client, Restart}
 use Rattle.kernel_abi.specs.declared.Fault.{Fault}
@@ -14,13 +15,15 @@ use Rattle.region_check.specs.declared.Right.TheVariants.{Write}
 use Rattle.words_core.specs.declared.Flags.{Flags}
 use Rattle.task_table.specs.declared.Line.{Line}
 use Rattle.task_table.specs.Memory.{IsWithinRam}
-use Rattle.task_table.specs.State.{Setup, State, Birth, Call, Listen, Range, One, Offered, Taken, Ground, Own, Turn}
+use Rattle.task_table.specs.State.{Setup, State, Birth, Call, Listen, Range, Part, MessageFront, Entry, Leased, Read, One, Offered, Taken, Ground, Own, Turn}
 use Rattle.task_table.specs.Reading.{task_at, call_of, listen_of, bad_byte, admits, IsIdle}
-use Rattle.task_table.specs.Effects.{with_listen, changed, noted, with_processor, stored, given, returned, past_call, bits_cleared, posted, with_timer, with_line, faulted_as, handed}
+use Rattle.task_table.specs.Effects.{with_listen, changed, noted, with_processor, stored, copied, looked, given, returned, past_call, bits_cleared, posted, with_timer, with_line, closed, faulted_as, faulted, handed, restarted}
 use Rattle.task_table.specs.Rows.{listened_from}
-use Rattle.task_table.specs.Sane.{IsFitListen, IsOwned, AreAllBytes}
+use Rattle.task_table.specs.Sends.{offers_call}
+use Rattle.task_table.specs.Sane.{IsFitCall, IsFitListen, IsOwned, AreAllBytes}
 use Rattle.task_table.specs.Counts.{AreWhole}
-use Rattle.task_table.specs.Grounds.{MayChange}
+use Rattle.task_table.specs.Grounds.{MayChange, IsAlive}
+use Rattle.task_table.specs.Chain.{Chain}
 
 -- a note that offers, takes, closes and borrows from no call
 abbrev pub is_plain : Note → Bool
@@ -54,6 +57,25 @@ pub record MayListen (g : Setup) (s : State) (l : Listen) : Type 0 where
   pub unmet : bit_and (task_at s l.task).posted l.mask ≡ 0
   pub unfit : (k : Call) → Contains s.calls k → k.phase ≡ Offered → k.server.index ≡ l.task → admits l.from k.client ≡ false
 
+-- a new call of c, which has none, under the number that is the next one; it is the first of the turn
+pub record IsNew (s : State) (c : ℕ) (u : Turn) (k : Call) : Type 0 where
+  pub client : k.client.index ≡ c
+  pub free : call_of u.state c ≡ None
+  pub number : k.number ≡ u.state.next_call
+  pub next : u.state.next_call ≡ s.next_call
+  pub phase : k.phase ≡ Offered
+
+-- a call that c may offer; who listens did so at the beginning of the turn
+pub record MayOffer (g : Setup) (s : State) (c : ℕ) (u : Turn) (k : Call) : Type 0 where
+  pub fit : IsFitCall g k
+  pub new : IsNew s c u k
+  pub idle : IsIdle u.state c
+  pub well : (task_at u.state c).health ≡ Well
+  pub client_birth : (task_at u.state k.client.index).births ≡ k.client.birth
+  pub server_birth : (task_at u.state k.server.index).births ≡ k.server.birth
+  pub listens : u.state.listens ≡ s.listens
+  pub fit_listens : (l : Listen) → Contains s.listens l → IsFitListen g l
+
 -- an offered call that c may take, into a buffer of its own
 pub record MayReceive (g : Setup) (s : State) (c : ℕ) (u : Turn) (k : Call) (buffer : Range) : Type 0 where
   pub here : Contains u.state.calls k
@@ -61,6 +83,12 @@ pub record MayReceive (g : Setup) (s : State) (c : ℕ) (u : Turn) (k : Call) (b
   pub offered : k.phase ≡ Offered
   pub server : k.server.index ≡ c
   pub good : bad_byte g c Write buffer ≡ None
+
+-- n bytes from an address on are in a range that task i may write, and the range begins there
+pub record IsTarget (g : Setup) (i : ℕ) (r : Range) (at n : ℕ) : Type 0 where
+  pub good : bad_byte g i Write r ≡ None
+  pub base : at ≡ r.base
+  pub fits : n ≤ r.length
 
 -- n bytes from an address on may be written on a ground
 abbrev pub MayChangeAll : Setup → State → ℕ → Turn → Ground → ℕ → ℕ → Type 0
@@ -84,6 +112,58 @@ pub data Step (g : Setup) (s : State) (c : ℕ) : Turn → Turn → Type 0 where
   Times : (timer : Option Timer) (u : Turn) → c < length g.tasks → IfSome timer (λ x. u.state.now < x.deadline) → Step g s c u (with_timer c timer u)
   Lines : (k : ℕ) (line : Line) (u : Turn) → (line.pending ≡ true → (line.enabled ≡ false) × IsOwned g k) → Step g s c u (with_line k line u)
   Listens : (l : Listen) (u : Turn) → l.task ≡ c → MayListen g u.state l → Step g s c u (noted (note.Listen l.task (listened_from l.from) l.mask) (changed (with_listen l) u))
+  Sends : (k : Call) (u : Turn) → MayOffer g s c u k → Step g s c u (offers_call k u)
   Receives : (k : Call) (buffer : Range) (u : Turn) → MayReceive g s c u k buffer → Step g s c u (handed Own k buffer u)
   Stores : (on : Ground) (at : ℕ) (bytes : List ℕ) (u : Turn) → AreAllBytes bytes → IsWithinRam u.state.memory at (length bytes) → IsWithinRam s.memory at (length bytes) → MayChangeAll g s c u on at (length bytes) → Step g s c u (stored on at bytes u)
-  Faults : (i : ℕ) (fault : Fault) (ending : Ending) (u : Turn) → i < length g.tasks → 1 ≤ fault.number → fault.number ≤ 10 → IsParty s c i ⊎ (fault ≡ injected_fault) → Ends ending (call_of u.state i) → Step g s c u (faulted_as g i fault ending u)
+  Copies : (on : Ground) (from at n i : ℕ) (r : Range) (u : Turn) → IsTarget g i r at n → MayChangeAll g s c u on at n → Step g s c u (copied on from at n u)
+  Looks : (r : Read) (u : Turn) → IsAlive s c u r.call → Step g s c u (looked r u)
+  Borrows : (k : ℕ) (borrow : Borrow) (lease offset moved : ℕ) (u : Turn) → IsAlive s c u k → Step g s c u (noted (note.Borrow k borrow lease offset moved) u)
+  Ceases : (i : ℕ) (ending : Ending) (u : Turn) → Ends ending (call_of u.state i) → Step g s c u (closed i ending u)
+  Halts : (fault : Fault) (u : Turn) → c < length g.tasks → 1 ≤ fault.number → fault.number ≤ 10 → Step g s c u (faulted g c fault u)
+  Strikes : (i : ℕ) (fault : Fault) (ending : Ending) (u : Turn) → i ≢ c → i < length g.tasks → 1 ≤ fault.number → fault.number ≤ 10 → IsParty s c i ⊎ (fault ≡ injected_fault) → Ends ending (call_of u.state i) → Step g s c u (faulted_as g i fault ending u)
+  Restarts : (i : ℕ) (start : Bool) (u : Turn) → i ≢ c → i < length g.tasks → Step g s c u (restarted g i start u)
+
+-- ## what a call or an instruction comes to
+
+-- the step is not the fault of c
+abbrev pub Spares : {g : Setup} {s : State} {c : ℕ} {u v : Turn} → Step g s c u v → Type 0
+Spares (Notes n u a) = Unit {0}
+Spares (Gives i values u a b d) = Unit {0}
+Spares (Returns i u) = Unit {0}
+Spares (PassesCall u a) = Unit {0}
+Spares (Runs registers flags u a b) = Unit {0}
+Spares (Clears mask u a b) = Unit {0}
+Spares (Posts i bits u a) = Unit {0}
+Spares (Times timer u a b) = Unit {0}
+Spares (Lines k line u a) = Unit {0}
+Spares (Listens l u a b) = Unit {0}
+Spares (Sends k u a) = Unit {0}
+Spares (Receives k buffer u a) = Unit {0}
+Spares (Stores on at bytes u a b d e) = Unit {0}
+Spares (Copies on from at n i r u a b) = Unit {0}
+Spares (Looks r u a) = Unit {0}
+Spares (Borrows k borrow lease offset moved u a) = Unit {0}
+Spares (Ceases i ending u a) = Unit {0}
+Spares (Halts fault u a b d) = ⊥
+Spares (Strikes i fault ending u a b d e f h) = Unit {0}
+Spares (Restarts i start u a b) = Unit {0}
+
+-- a step that spares c
+abbrev pub Spared : Setup → State → ℕ → Turn → Turn → Type 0
+Spared g s c u v = (step : Step g s c u v) × Spares step
+
+-- an entry of a lease table is read
+abbrev pub IsEntry : Part → Type 0
+IsEntry MessageFront = ⊥
+IsEntry (Entry attributes base length) = Unit {0}
+IsEntry Leased = ⊥
+
+-- from u to v nothing was read at another task's place but entries of lease tables
+abbrev pub ReadsEntries : Turn → Turn → Type 0
+ReadsEntries u v = (r : Read) → Contains v.reads r → Contains u.reads r ⊎ IsEntry r.part
+
+-- c faults at once, or after steps that changed nothing, told nothing, wrote nothing and read entries alone; or steps
+-- that spare it
+pub data Outcome (g : Setup) (s : State) (c : ℕ) : Turn → Turn → Type 0 where
+  Faults : (fault : Fault) (u v : Turn) → c < length g.tasks → 1 ≤ fault.number → fault.number ≤ 10 → Chain (Spared g s c) u v → v.state ≡ u.state → v.notes ≡ u.notes → v.writes ≡ u.writes → ReadsEntries u v → Outcome g s c u (faulted g c fault v)
+  Goes : (u v : Turn) → Chain (Spared g s c) u v → Outcome g s c u v

@@ -1,6 +1,6 @@
 //! Laws of the abstract kernel, each the contract of a function that does nothing.
 
-ghost use Rattle.std.specs.Prelude.{◌≡◌, ◌+◌, ◌<◌, ◌≤◌, ℕ, true, List, [], Option, length};
+ghost use Rattle.std.specs.Prelude.{◌≡◌, ◌+◌, ◌*◌, ◌<◌, ◌≤◌, ℕ, true, List, [], ◌++◌, Option, length};
 ghost use Rattle.kernel_abi.specs.declared.Fault.{Fault};
 ghost use Rattle.kernel_abi.specs.declared.Note.{Note};
 ghost use Rattle.kernel_abi.specs.declared.Timer.{Timer};
@@ -14,13 +14,19 @@ ghost use Rattle.task_table.specs.State.{Setup, State, Turn, Ground, Read};
 ghost use Rattle.task_table.specs.Reading.{setup_at, is_ready, best_sender, IsIdle, IsSameAt};
 ghost use Rattle.task_table.specs.Effects.{changed, noted, looked, with_processor, given, posted, with_timer, with_line, stored, faulted};
 ghost use Rattle.task_table.specs.Rows.{misused, panicked, timer_set, timer_told, irq_controlled, received, call_noted};
+ghost use Rattle.task_table.specs.Sends.{sent, replied, reply_faulted, post_made, refreshed};
+ghost use Rattle.task_table.specs.Borrows.{reading, writing, borrowed, informed};
+ghost use Rattle.task_table.specs.Orders.{ordered};
 ghost use Rattle.task_table.specs.Calls.{called};
 ghost use Rattle.task_table.specs.Events.{ticked, interrupted};
 ghost use Rattle.task_table.specs.Placed.{ArePlaced};
 ghost use Rattle.task_table.specs.Sane.{Sane, IsCounted, AreAllBytes};
 ghost use Rattle.task_table.specs.Counts.{AreWhole, IsSameTime, AreCounts, IsNoted, AreNoted, IsAsReady};
 ghost use Rattle.task_table.specs.Chain.{Chain};
-ghost use Rattle.task_table.specs.Step.{Step};
+ghost use Rattle.task_table.specs.Step.{Step, Outcome};
+ghost use Rattle.task_table.specs.Grounds.{AreGrounded, AreAlive, with_writes};
+ghost use Rattle.task_table.specs.Ledger.{IsLedger};
+ghost use Rattle.task_table.specs.Lives.{IsTold, IsFresh, IsClosed, IsSilent};
 ghost use Rattle.task_table.specs.Parts.{IsSound};
 ghost use Rattle.task_table.specs.Start.{start};
 ghost use Rattle.task_table.specs.Holds.{Holds};
@@ -46,23 +52,56 @@ pub fn rows_keep_sane()
     ensures irq_controlled { (g : Setup) (c : ℕ) (t : Turn) → Sane g t.state → c < length t.state.tasks → Sane g (irq_controlled g c t).state }
     ensures call_noted { (g : Setup) (c : ℕ) (t : Turn) → Sane g t.state → c < length t.state.tasks → Sane g (call_noted c t).state }
     ensures received { (g : Setup) (c : ℕ) (best : Option ℕ) (t : Turn) → Sane g t.state → c < length t.state.tasks → is_ready t.state c ≡ true → best ≡ best_sender g t.state c → Sane g (received g c best t).state }
+    ensures sent { (g : Setup) (c : ℕ) (t : Turn) → Sane g t.state → c < length t.state.tasks → is_ready t.state c ≡ true → Sane g (sent g c t).state }
+    ensures replied { (g : Setup) (c : ℕ) (t : Turn) → Sane g t.state → c < length t.state.tasks → is_ready t.state c ≡ true → Sane g (replied g c t).state }
+    ensures reply_faulted { (g : Setup) (c : ℕ) (t : Turn) → Sane g t.state → c < length t.state.tasks → is_ready t.state c ≡ true → Sane g (reply_faulted g c t).state }
+    ensures post_made { (g : Setup) (c : ℕ) (t : Turn) → Sane g t.state → c < length t.state.tasks → is_ready t.state c ≡ true → Sane g (post_made g c t).state }
+    ensures refreshed { (g : Setup) (c : ℕ) (t : Turn) → Sane g t.state → c < length t.state.tasks → is_ready t.state c ≡ true → Sane g (refreshed g c t).state }
+    ensures read { (g : Setup) (c : ℕ) (t : Turn) → Sane g t.state → c < length t.state.tasks → is_ready t.state c ≡ true → Sane g (borrowed g reading c t).state }
+    ensures written { (g : Setup) (c : ℕ) (t : Turn) → Sane g t.state → c < length t.state.tasks → is_ready t.state c ≡ true → Sane g (borrowed g writing c t).state }
+    ensures informed { (g : Setup) (c : ℕ) (t : Turn) → Sane g t.state → c < length t.state.tasks → is_ready t.state c ≡ true → Sane g (informed g c t).state }
+    ensures ordered { (g : Setup) (c : ℕ) (t : Turn) → Sane g t.state → c < length t.state.tasks → is_ready t.state c ≡ true → Sane g (ordered g c t).state }
     ensures called { (g : Setup) (c : ℕ) (t : Turn) → Sane g t.state → c < length t.state.tasks → is_ready t.state c ≡ true → Sane g (called g c t).state }
 {}
 
-/// Every call is a chain of steps, each with what makes it good: the one walk over the rows, from which
-/// follows whatever holds of each step.
+/// Every call faults its caller at once, or after steps that changed nothing, or is a chain of steps that spare
+/// its caller: the one walk over the rows, from which follows whatever holds of each step.
+pub fn calls_fault_at_once_or_spare_their_caller()
+    ensures { (g : Setup) (c : ℕ) (t : Turn) → Sane g t.state → c < length t.state.tasks → is_ready t.state c ≡ true → Outcome g t.state c t (called g c t) }
+{}
+
+/// So every call is a chain of steps, each with what makes it good.
 pub fn calls_are_chains_of_steps()
     ensures { (g : Setup) (c : ℕ) (t : Turn) → Sane g t.state → c < length t.state.tasks → is_ready t.state c ≡ true → Chain (Step g t.state c) t (called g c t) }
 {}
 
 /// A chain of steps leaves a sane state sane, changes no turn and no time, and makes at most one call. It
-/// takes back no note; where none was noted, each task is as ready as before. A step notes at most four.
+/// takes back no note; where none was noted, each task is as ready as before. A step notes at most four, and a
+/// restart two for each task besides.
 pub fn chains_keep_what_steps_keep()
     ensures sane { (g : Setup) (s : State) (c : ℕ) (u v : Turn) → Chain (Step g s c) u v → Sane g u.state → Sane g v.state }
     ensures counts { (g : Setup) (s : State) (c : ℕ) (u v : Turn) → ArePlaced g s.memory → Chain (Step g s c) u v → AreCounts s u.state → AreCounts s v.state }
     ensures noted { (g : Setup) (s : State) (c : ℕ) (u v : Turn) → Chain (Step g s c) u v → IsNoted u → IsNoted v }
     ensures quiet { (g : Setup) (s : State) (c : ℕ) (u v : Turn) → Chain (Step g s c) u v → v.notes ≡ [] → IsAsReady u.state v.state }
-    ensures few { (g : Setup) (s : State) (c : ℕ) (u v : Turn) → Step g s c u v → AreNoted 4 u v }
+    ensures few { (g : Setup) (s : State) (c : ℕ) (u v : Turn) → Step g s c u v → AreNoted (4 + 2 * length u.state.tasks) u v }
+{}
+
+/// Where nothing has happened in a turn yet, and a chain of steps follows: each byte is written on a ground where the chosen
+/// task may, no call is touched but those that were open or that the task offers, and the writes in order take the old
+/// memory to the new one. A call that is closed stays so, and nothing is written on its ground.
+pub fn chains_stand_on_their_grounds()
+    ensures grounded { (g : Setup) (s : State) (c : ℕ) (u v : Turn) → ArePlaced g s.memory → Chain (Step g s c) u v → IsFresh s u → AreGrounded g s c v }
+    ensures alive { (g : Setup) (s : State) (c : ℕ) (u v : Turn) → ArePlaced g s.memory → Chain (Step g s c) u v → IsFresh s u → AreAlive s c v }
+    ensures written { (g : Setup) (s : State) (c : ℕ) (u v : Turn) → ArePlaced g s.memory → Chain (Step g s c) u v → IsFresh s u → v.state.memory ≡ with_writes s.memory v.writes }
+    ensures closed { (g : Setup) (s : State) (c k : ℕ) (u v : Turn) → ArePlaced g s.memory → Chain (Step g s c) u v → IsFresh s u → IsClosed s k → IsClosed v.state k }
+    ensures silent { (g : Setup) (s : State) (c k : ℕ) (u v : Turn) → ArePlaced g s.memory → Chain (Step g s c) u v → IsFresh s u → IsClosed s k → IsSilent v k }
+{}
+
+/// What the notes so far tell of the lives of calls stays so over a chain of steps, and gives the ledger.
+pub fn chains_keep_the_ledger()
+    ensures start { (g : Setup) → IsTold [] (start g) }
+    ensures told { (g : Setup) (s : State) (c : ℕ) (old : List Note) (u v : Turn) → ArePlaced g s.memory → Chain (Step g s c) u v → IsTold (old ++ u.notes) u.state → IsTold (old ++ v.notes) v.state }
+    ensures ledger { (notes : List Note) (s : State) → IsTold notes s → IsLedger notes s }
 {}
 
 /// A post and a fault are noted.

@@ -1,6 +1,7 @@
 #![tactic(auto)]
 //! The tasks of the kernel, the memory that they share, and what may be done to a task.
 
+pub mod dead_ids;
 mod effect;
 mod kernel;
 pub mod laws;

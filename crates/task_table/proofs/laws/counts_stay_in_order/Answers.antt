@@ -1,4 +1,5 @@
 use Rattle.task_table.proofs.Counting as counting
+use Rattle.task_table.proofs.RowChains.{chain-called}
 use Rattle.task_table.proofs.laws.counts_stay_in_order.Goals as goal
 
 pub returns-clause-noted : goal.returns-clause-noted
@@ -23,7 +24,7 @@ pub returns-clause-call_noted : goal.returns-clause-call_noted
 returns-clause-call_noted c = λ c t. counting.time-call_noted c t
 
 pub returns-clause-called : goal.returns-clause-called
-returns-clause-called c = λ g c t h inside ready. counting.counts-called g c t h inside ready
+returns-clause-called c = λ g c t h inside ready. counting.chain_counts g t.state c h.steady.placed t _ (chain-called g c t h (rw (← h.steady.as_many) inside) ready) (counting.counts_here t.state)
 
 pub returns-clause-joined : goal.returns-clause-joined
 returns-clause-joined c = λ s u v a b. counting.time-joined s u v a b

@@ -1,4 +1,4 @@
-use Rattle.task_table.proofs.StepKeeps.{sane-misused, sane-panicked, sane-call_noted, sane-timer_set, sane-timer_told, sane-irq_controlled, sane-received, sane-called}
+use Rattle.task_table.proofs.StepKeeps.{sane-misused, sane-panicked, sane-call_noted, sane-timer_set, sane-timer_told, sane-irq_controlled, sane-received, sane-sent, sane-replied, sane-reply_faulted, sane-post_made, sane-refreshed, sane-read, sane-written, sane-informed, sane-ordered, sane-called}
 use Rattle.task_table.proofs.laws.rows_keep_sane.Goals as goal
 
 pub returns-clause-misused : goal.returns-clause-misused
@@ -24,3 +24,30 @@ returns-clause-irq_controlled c = λ g c t h inside. sane-irq_controlled c t h i
 
 pub returns-clause-received : goal.returns-clause-received
 returns-clause-received c = λ g c best t h inside ready is. sane-received c t h inside ready best is
+
+pub returns-clause-sent : goal.returns-clause-sent
+returns-clause-sent c = λ g c t h inside ready. sane-sent c t h inside ready
+
+pub returns-clause-replied : goal.returns-clause-replied
+returns-clause-replied c = λ g c t h inside ready. sane-replied c t h inside
+
+pub returns-clause-reply_faulted : goal.returns-clause-reply_faulted
+returns-clause-reply_faulted c = λ g c t h inside ready. sane-reply_faulted c t h inside
+
+pub returns-clause-post_made : goal.returns-clause-post_made
+returns-clause-post_made c = λ g c t h inside ready. sane-post_made c t h inside
+
+pub returns-clause-refreshed : goal.returns-clause-refreshed
+returns-clause-refreshed c = λ g c t h inside ready. sane-refreshed c t h inside
+
+pub returns-clause-read : goal.returns-clause-read
+returns-clause-read c = λ g c t h inside ready. sane-read c t h inside
+
+pub returns-clause-written : goal.returns-clause-written
+returns-clause-written c = λ g c t h inside ready. sane-written c t h inside
+
+pub returns-clause-informed : goal.returns-clause-informed
+returns-clause-informed c = λ g c t h inside ready. sane-informed c t h inside
+
+pub returns-clause-ordered : goal.returns-clause-ordered
+returns-clause-ordered c = λ g c t h inside ready. sane-ordered c t h inside

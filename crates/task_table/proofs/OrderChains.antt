@@ -1,0 +1,125 @@
+-- Each row of the kernel messages.
+use Rattle.std.proofs.Common.{◌≡◌, ◌≢◌, ◌/◌, ◌%◌, ◌^◌, ◌<◌, ◌≤◌, inr, ℕ, zero, suc, Bool, true, false, cond, not, ◌&&◌, ◌||◌, List, [], ◌∷◌, ◌++◌, length, Option, Some, None, refl, sym, arith, eqb, leb, is_some, IfSome}
+use Rattle.std.specs.Prelude.{find}
+use Rattle.std.proofs.lemmas.Bool.{eqb-true, leb-true, leb-false, not-false, false≢true, and_parts}
+use Rattle.kernel_abi.specs.Arguments.{send_args}
+use Rattle.kernel_abi.specs.Faults.{injected_fault}
+use Rattle.kernel_abi.specs.declared.Ending.TheVariants.{Client}
+use Rattle.kernel_abi.specs.declared.Health.{Health}
+use Rattle.kernel_abi.specs.declared.Health.TheVariants.{Well, Stopped, Faulted}
+use Rattle.kernel_abi.specs.declared.arguments.SendArgs.{SendArgs}
+use Rattle.region_check.specs.declared.Right.TheVariants as right
+use Rattle.task_table.specs.Memory.{IsWithinRam, number_at}
+use Rattle.task_table.specs.State.{Setup, Own, Turn}
+use Rattle.task_table.specs.Reading.{task_at, arguments, is_valid, bad_byte}
+use Rattle.task_table.specs.Effects.{stored}
+use Rattle.task_table.specs.Sends.{message_of, reply_room}
+use Rattle.task_table.specs.Orders.{Order, word_bytes, status_bytes, injected_by, injected, orders, order_of, obeyed, ordered}
+use Rattle.task_table.specs.Sane.{Sane, AreAllBytes}
+use Rattle.task_table.specs.Chain.{Here}
+use Rattle.task_table.specs.Step.{Stores, Strikes, Restarts}
+use Rattle.task_table.proofs.Chains.{one}
+use Rattle.task_table.proofs.Outcomes.{Leads, Comes, by_outcome, comes-misused, comes-denied, goes_with}
+use Rattle.task_table.proofs.Ranges.{may-write, within_ram-good, within_ram-front}
+use Rattle.task_table.proofs.Receives.{none_left}
+
+-- ## the bytes of a status
+
+status_few : (health : Health) → length (status_bytes health) ≡ 16
+status_few Well = refl
+status_few Stopped = refl
+status_few (Faulted f) = refl
+
+four_bytes : (w : ℕ) (rest : List ℕ) → AreAllBytes rest → AreAllBytes (word_bytes w ++ rest)
+four_bytes w rest all b (zero, lt, same) = let e : w % 256 ≡ b = same in omega arith
+four_bytes w rest all b (suc zero, lt, same) = let e : w / 2 ^ 8 % 256 ≡ b = same in omega arith
+four_bytes w rest all b (suc (suc zero), lt, same) = let e : w / 2 ^ 16 % 256 ≡ b = same in omega arith
+four_bytes w rest all b (suc (suc (suc zero)), lt, same) = let e : w / 2 ^ 24 % 256 ≡ b = same in omega arith
+four_bytes w rest all b (suc (suc (suc (suc k))), lt, same) = all b (k, omega arith, same)
+
+no_bytes : AreAllBytes []
+no_bytes b h = absurd (omega (arith, h.1))
+
+last_bytes : (w : ℕ) → AreAllBytes (word_bytes w)
+last_bytes w = four_bytes w [] no_bytes
+
+sixteen_bytes : (a b c d : ℕ) → AreAllBytes (word_bytes a ++ (word_bytes b ++ (word_bytes c ++ word_bytes d)))
+sixteen_bytes a b c d = four_bytes a (word_bytes b ++ (word_bytes c ++ word_bytes d)) (four_bytes b (word_bytes c ++ word_bytes d) (four_bytes c (word_bytes d) (last_bytes d)))
+
+status_all : (health : Health) → AreAllBytes (status_bytes health)
+status_all Well = sixteen_bytes 0 0 0 0
+status_all Stopped = sixteen_bytes 1 0 0 0
+status_all (Faulted f) = sixteen_bytes 2 f.number f.x f.y
+
+-- ## what holds of each of a list of orders
+
+abbrev EachOrder : (Order → Type 0) → List Order → Type 0
+EachOrder P [] = Unit {0}
+EachOrder P (o ∷ list) = P o × EachOrder P list
+
+each_found : (P : Order → Type 0) (list : List Order) (number : ℕ) → EachOrder P list → IfSome (find (λ (o : Order). eqb o.number number) list) P
+each_found P [] number each = tt
+each_found P (o ∷ list) number each = by_number (eqb o.number number) each.0 (each_found P list number each.1)
+  where
+    by_number : (b : Bool) → P o → IfSome (find (λ (p : Order). eqb p.number number) list) P → IfSome (cond b (Some o) (find (λ (p : Order). eqb p.number number) list)) P
+    by_number true here rest = here
+    by_number false here rest = rest
+
+-- the supervisor, where an order may not be about it
+not_itself : (index : ℕ) (on_supervisor : Bool) → (eqb index 0 && not on_supervisor) ≡ false → on_supervisor ≡ false → index ≢ 0
+not_itself index true h e = absurd (false≢true (sym e))
+not_itself index false h e = λ zero. absurd (false≢true (sym (rw zero at h)))
+
+module _ (g : Setup) (c : ℕ) (t : Turn) (h : Sane g t.state) (inside : c < length g.tasks) where
+  -- ## what each order does
+
+  -- an order that c may give is done by steps that spare c
+  abbrev IsDone : SendArgs → Order → Type 0
+  IsDone x o = (index : ℕ) → index < length g.tasks → (o.on_supervisor ≡ false → index ≢ c) → o.reply ≤ x.reply_capacity → Leads g c t (o.does g x index t)
+
+  leads-injected : (i : ℕ) → i < length g.tasks → i ≢ c → Leads g c t (injected g i t)
+  unfolding injected
+  leads-injected i lt other = by_health (task_at t.state i).health
+    where
+      by_health : (health : Health) → Leads g c t (injected_by g i health t)
+      by_health Well = one (Strikes i injected_fault Client t other lt (omega arith) (omega arith) (inr refl) tt, tt)
+      by_health Stopped = one (Strikes i injected_fault Client t other lt (omega arith) (omega arith) (inr refl) tt, tt)
+      by_health (Faulted f) = Here t
+
+  module _ (x : SendArgs) (writable : bad_byte g c right.Write (reply_room x) ≡ None) where
+    leads-status : (health : Health) → 16 ≤ x.reply_capacity → Leads g c t (stored Own x.reply_base (status_bytes health) t)
+    leads-status health room =
+        let few = status_few health in
+        let fits : IsWithinRam t.state.memory x.reply_base (length (status_bytes health)) = within_ram-front t.state.memory x.reply_base x.reply_capacity (length (status_bytes health)) (within_ram-good g t.state.memory c (reply_room x) h.steady.placed writable) (omega arith) in
+        one (Stores Own x.reply_base (status_bytes health) t (status_all health) fits fits (λ a low high. may-write g c (reply_room x) a writable (low, omega arith)), tt)
+
+    all_done : EachOrder (IsDone x) orders
+    all_done =
+        ( λ index lt other room. leads-status (task_at t.state index).health room
+        , ( λ index lt other room. one (Restarts index _ t (other refl) lt, tt)
+          , ( λ index lt other room. leads-injected index lt (other refl), tt)))
+
+    -- ## the rows
+
+    obeys : (o : Option Order) → IfSome o (IsDone x) → c ≡ 0 → Comes g c t (obeyed g c x o t)
+    obeys None done is_first = comes-misused g c t inside 4
+    obeys (Some o) done is_first =
+        let index = number_at t.state.memory x.message_base 4 in
+        by_outcome (not (eqb x.message_length o.message && leb o.reply x.reply_capacity)) (λ bad. comes-misused g c t inside 4) (λ known.
+        by_outcome (leb (length t.state.tasks) index) (λ out. comes-misused g c t inside 2) (λ there.
+        by_outcome (eqb index 0 && not o.on_supervisor) (λ bad. comes-misused g c t inside 4) (λ may.
+        let lt : index < length g.tasks = rw (← h.steady.as_many) (leb-false _ _ there) in
+        let room = leb-true _ _ (and_parts (eqb x.message_length o.message) (leb o.reply x.reply_capacity) (not-false _ known)).1 in
+        goes_with g c t inside (0 ∷ o.reply ∷ []) (o.does g x index t) (omega arith) (done index lt (λ off. rw is_first (not_itself index o.on_supervisor may off)) room))))
+
+  pub comes-ordered : Comes g c t (ordered g c t)
+  unfolding ordered
+  comes-ordered =
+      let s = t.state in
+      let x = send_args (arguments s c) in
+      by_outcome (not (eqb c 0)) (λ other. comes-misused g c t inside 5) (λ zero.
+      by_outcome (not (is_valid (message_of x)) || not (is_valid (reply_room x))) (λ bad. comes-misused g c t inside 3) (λ valid.
+      by_outcome (is_some (bad_byte g c right.Read (message_of x))) (λ bad. comes-denied g c t inside 2 (bad_byte g c right.Read (message_of x))) (λ readable.
+      by_outcome (is_some (bad_byte g c right.Write (reply_room x))) (λ bad. comes-denied g c t inside 3 (bad_byte g c right.Write (reply_room x))) (λ room.
+      let writable = none_left _ room in
+      obeys x writable (order_of x.operation) (each_found (IsDone x) orders x.operation (all_done x writable)) (eqb-true _ _ (not-false _ zero))))))

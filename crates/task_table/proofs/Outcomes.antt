@@ -1,0 +1,49 @@
+-- How a call comes out: its caller faults, or goes on by steps that spare it.
+use Rattle.std.proofs.Common.{◌≡◌, ◌<◌, ◌≤◌, inl, ℕ, Bool, true, false, cond, List, length, Option, refl, arith}
+use Rattle.kernel_abi.specs.declared.Fault.{Fault}
+use Rattle.task_table.specs.State.{Setup, State, Turn}
+use Rattle.task_table.specs.Effects.{given, past_call, faulted}
+use Rattle.task_table.specs.Rows.{misused, denied, goes_on, goes_on_with}
+use Rattle.task_table.specs.Chain.{Chain, Here}
+use Rattle.task_table.specs.Step.{Step, Gives, Returns, PassesCall, Halts, Spared, Outcome, Faults, Goes}
+use Rattle.task_table.proofs.Chains.{one, ◌▷◌, refined}
+
+-- ## an outcome is a chain of steps
+
+pub chain-spared : (g : Setup) (s : State) (c : ℕ) (u v : Turn) → Chain (Spared g s c) u v → Chain (Step g s c) u v
+chain-spared g s c u v x = refined (Spared g s c) (Step g s c) (λ a b step. one step.0) u v x
+
+pub chain-outcome : (g : Setup) (s : State) (c : ℕ) (u v : Turn) → Outcome g s c u v → Chain (Step g s c) u v
+chain-outcome g s c _ _ (Faults fault u v inside low high x state notes writes reads) = chain-spared g s c u v x ▷ Halts fault v inside low high
+chain-outcome g s c _ _ (Goes u v x) = chain-spared g s c u v x
+
+-- ## how outcomes are made
+
+pub by_outcome : {g : Setup} {s : State} {c : ℕ} {t : Turn} (b : Bool) {x y : Turn} → (b ≡ true → Outcome g s c t x) → (b ≡ false → Outcome g s c t y) → Outcome g s c t (cond b x y)
+by_outcome true here later = here refl
+by_outcome false here later = later refl
+
+-- what leads from t to u by steps that spare c, and what may come of t in its turn
+abbrev pub Leads : Setup → ℕ → Turn → Turn → Type 0
+Leads g c t u = Chain (Spared g t.state c) t u
+
+abbrev pub Comes : Setup → ℕ → Turn → Turn → Type 0
+Comes g c t u = Outcome g t.state c t u
+
+module _ (g : Setup) (c : ℕ) (t : Turn) (inside : c < length g.tasks) where
+  -- the caller faults at once
+  pub comes-faulted : (fault : Fault) → 1 ≤ fault.number → fault.number ≤ 10 → Comes g c t (faulted g c fault t)
+  comes-faulted fault low high = Faults fault t t inside low high (Here t) refl refl refl (λ r here. inl here)
+
+  pub comes-misused : (usage : ℕ) → Comes g c t (misused g c usage t)
+  comes-misused usage = comes-faulted record { number = 7; x = usage; y = 0 } (omega arith) (omega arith)
+
+  pub comes-denied : (y : ℕ) (bad : Option ℕ) → Comes g c t (denied g c y bad t)
+  comes-denied y bad = comes-faulted _ (omega arith) (omega arith)
+
+  -- it goes on
+  pub goes : (u : Turn) → Leads g c t u → Comes g c t (goes_on c u)
+  goes u x = Goes t (goes_on c u) (x ▷ (PassesCall u inside, tt) ▷ (Returns c (past_call c u), tt))
+
+  pub goes_with : (values : List ℕ) (u : Turn) → length values ≤ 6 → Leads g c t u → Comes g c t (goes_on_with c values u)
+  goes_with values u few x = goes (given c values u) (x ▷ (Gives c values u inside few (inl refl), tt))
