@@ -1,14 +1,18 @@
 -- The rows of the borrows, one by one.
-use Rattle.std.proofs.Common.{◌≡◌, ℕ, true, false, not, [], ◌∷◌, Option, None, Some, refl, ◌∙◌, ap, leb, eqb, bit_and}
+use Rattle.std.proofs.Common.{◌≡◌, ℕ, true, false, [], ◌∷◌, None, Some, refl, ◌∙◌, ap, leb, bit_and, cond}
 use Rattle.kernel_abi.specs.Faults.{access_number}
 use Rattle.kernel_abi.specs.declared.LeaseEntry.{LeaseEntry}
 use Rattle.kernel_abi.specs.declared.Note.TheVariants as note
 use Rattle.kernel_abi.specs.declared.Borrow.TheVariants as borrow
 use Rattle.kernel_abi.specs.declared.arguments.BorrowArgs.{BorrowArgs}
+use Rattle.kernel_abi.specs.declared.arguments.InfoArgs.{InfoArgs}
+use Rattle.kernel_abi.specs.Ids.{index_of}
 use Rattle.region_check.specs.declared.Right.TheVariants.{Read}
 use Rattle.task_table.specs.declared.slot.Range.{Range}
 use Rattle.task_table.specs.State.{Setup, Call, Turn}
-use Rattle.task_table.specs.Reading.{is_valid, bad_byte}
+use Rattle.task_table.specs.Reading.{is_out, is_dead, dead_code_for, is_valid, bad_byte, taken_by}
+use Rattle.task_table.specs.Holds.{Holds}
+use Rattle.task_table.specs.declared.kernel.Kernel.{Kernel}
 use Rattle.task_table.specs.Effects.{noted}
 use Rattle.task_table.specs.Rows.{misused, denied, goes_on_with}
 use Rattle.task_table.specs.Borrows.{Way, entry_range, grant, lease_range, entry_read, moved, no_lease, refused, untold, lent, granted, borrowed_by, grant_told, informed_by}
@@ -59,3 +63,15 @@ pub told_good : (g : Setup) (c lease : ℕ) (k : Call) (i : ℕ) (e : LeaseEntry
 told_good g c lease k i e t client listed good entry =
     let here : bad_byte g k.client.index Read (entry_range k lease) ≡ None = ap (λ j. bad_byte g j Read (entry_range k lease)) client ∙ good in
     rw (listed, here, ← entry) refl
+
+-- ## the whole, by its arguments
+
+abbrev pub Borrowed : Setup → Kernel → Way → ℕ → Turn → BorrowArgs → Type 0
+Borrowed g k way c t x =
+    let id = x.lender.number in
+    Holds g k (cond (is_out t.state id) (misused g c 2 t) (cond (is_dead t.state id) (refused c (dead_code_for t.state id) t) (borrowed_by g way c x (taken_by t.state (index_of id) c) t)))
+
+abbrev pub Informed : Setup → Kernel → ℕ → Turn → InfoArgs → Type 0
+Informed g k c t x =
+    let id = x.lender.number in
+    Holds g k (cond (is_out t.state id) (misused g c 2 t) (cond (is_dead t.state id) (untold c (dead_code_for t.state id) t) (informed_by g c x.lease (taken_by t.state (index_of id) c) t)))

@@ -1,5 +1,5 @@
 -- Borrows as the code carries them.
-use Rattle.std.specs.Prelude.{ℕ, ◌≡◌, not, [], ◌∷◌, Option, None, Some, Result, Ok, Err, is_some}
+use Rattle.std.specs.Prelude.{ℕ, ◌≡◌, not, [], ◌∷◌, None, Some, Result, Ok, Err, is_some}
 use Rattle.kernel_abi.specs.Faults.{usage_number, access_number}
 use Rattle.kernel_abi.specs.declared.LeaseEntry.{LeaseEntry}
 use Rattle.kernel_abi.specs.declared.Usage.TheVariants.{InvalidSlice}

@@ -5,8 +5,7 @@
 ghost use Rattle.std.specs.Prelude.{◌≡◌, ◌+◌, ◌*◌, ◌<◌, ◌≤◌, ◌^◌, [], ◌∷◌, true, Option, Some};
 ghost use Rattle.kernel_abi.specs.declared.Note.TheVariants as note;
 ghost use Rattle.task_table.specs.State.{Setup, Turn, Call};
-ghost use Rattle.task_table.specs.Reading.{is_valid, taken_by};
-ghost use Rattle.std.specs.Option.{option_map};
+ghost use Rattle.task_table.specs.Reading.{is_valid, is_ready};
 ghost use Rattle.task_table.specs.Effects.{noted};
 ghost use Rattle.task_table.specs.Rows.{goes_on_with};
 ghost use Rattle.task_table.specs.Borrows.{reading, writing, moved, refused, untold, lent, granted, part_of, lease_range, borrowed_by, borrowed, grant_told, informed_by, informed};
@@ -135,7 +134,12 @@ fn borrow_into(k: &mut Kernel, loan: &Loan, entry: &LeaseEntry)
     if !buffer.is_valid() {
         return k.misuse(loan.borrower, Usage::InvalidSlice);
     }
-    if let Some(at) = k.bad_byte(loan.borrower, loan.way.own_right(), buffer.base, buffer.length) {
+    if let Some(at) = k.bad_byte(
+        loan.borrower,
+        loan.way.own_right(),
+        buffer.base,
+        buffer.length,
+    ) {
         return k.deny(loan.borrower, at, loan.way.own_access());
     }
     lend(k, loan, entry);
@@ -226,7 +230,7 @@ fn borrow(k: &mut Kernel, caller: usize, way: Way)
     match k.lookup(args.lender.number) {
         Found::Out => k.misuse(caller, Usage::BadTaskIndex),
         Found::Dead(generation) => refuse(k, caller, dead_code(generation)),
-        Found::Live(lender) => match taken(k, lender, caller) {
+        Found::Live(lender) => match k.taken(lender, caller) {
             None => refuse(k, caller, NO_LEASE),
             Some(call) => {
                 let loan = Loan {
@@ -253,7 +257,14 @@ fn tell_nothing(k: &mut Kernel, caller: usize, code: u32)
 }
 
 /// What a caller is told of a lease whose entry was read.
-fn inform_entry(k: &mut Kernel, caller: usize, lender: usize, call: u32, lease: u32, entry: &LeaseEntry)
+fn inform_entry(
+    k: &mut Kernel,
+    caller: usize,
+    lender: usize,
+    call: u32,
+    lease: u32,
+    entry: &LeaseEntry,
+)
     requires there { caller < task_count k.old }
     requires lender { lender < task_count k.old }
     requires room { note_count k.old + 5 ≤ turn_notes }
@@ -307,16 +318,48 @@ fn inform(k: &mut Kernel, caller: usize)
     match k.lookup(args.lender.number) {
         Found::Out => k.misuse(caller, Usage::BadTaskIndex),
         Found::Dead(generation) => tell_nothing(k, caller, dead_code(generation)),
-        Found::Live(lender) => match taken(k, lender, caller) {
+        Found::Live(lender) => match k.taken(lender, caller) {
             None => tell_nothing(k, caller, NO_LEASE),
             Some(call) => inform_of(k, caller, lender, &call, args.lease),
         },
     }
 }
 
-fn taken(k: &Kernel, client: usize, server: usize) -> Option<OpenCall>
-    requires { client < task_count k.now }
-    ensures { (g : Setup) (t : Turn) → Stands g k.now t → result ≡ option_map kept_call (taken_by t.state client server) }
+/// BORROW_READ: r4 is the id of the lender, r5 the lease, r6 an offset, r7 and r8 the caller's buffer. As many
+/// bytes of the lease from the offset on as the buffer has are copied into it. r4 is 0 and r5 how many bytes
+/// moved; where the lender has no such lease for the caller, or faults by it, r4 is 1 and r5 is 0 (Hubris
+/// Reference, on leases).
+pub fn borrow_read(k: &mut Kernel, caller: usize)
+    requires there { caller < task_count k.old }
+    requires ready { (g : Setup) × (t : Turn) × Stands g k.old t × (is_ready t.state caller ≡ true) }
+    requires room { note_count k.old + call_notes ≤ turn_notes }
+    ensures stands { (g : Setup) (t : Turn) → Stands g k.old t → is_ready t.state caller ≡ true → Stands g k.new (borrowed g reading caller t) }
+    ensures frame { AddsAtMost k.old call_notes k.new }
 {
-    None
+    borrow(k, caller, Way::Read);
+}
+
+/// BORROW_WRITE: as BORROW_READ, but the bytes of the caller's buffer are copied into the lease (Hubris
+/// Reference, on leases).
+pub fn borrow_write(k: &mut Kernel, caller: usize)
+    requires there { caller < task_count k.old }
+    requires ready { (g : Setup) × (t : Turn) × Stands g k.old t × (is_ready t.state caller ≡ true) }
+    requires room { note_count k.old + call_notes ≤ turn_notes }
+    ensures stands { (g : Setup) (t : Turn) → Stands g k.old t → is_ready t.state caller ≡ true → Stands g k.new (borrowed g writing caller t) }
+    ensures frame { AddsAtMost k.old call_notes k.new }
+{
+    borrow(k, caller, Way::Write);
+}
+
+/// BORROW_INFO: r4 is the id of the lender, r5 the lease. r4 is 0, r5 its attributes (bit 0 lends for
+/// reading, bit 1 for writing) and r6 its length; where the lender has no such lease for the caller, or faults
+/// by it, r4 is 1 and r5 and r6 are 0 (Hubris Reference, on leases).
+pub fn borrow_info(k: &mut Kernel, caller: usize)
+    requires there { caller < task_count k.old }
+    requires ready { (g : Setup) × (t : Turn) × Stands g k.old t × (is_ready t.state caller ≡ true) }
+    requires room { note_count k.old + call_notes ≤ turn_notes }
+    ensures stands { (g : Setup) (t : Turn) → Stands g k.old t → is_ready t.state caller ≡ true → Stands g k.new (informed g caller t) }
+    ensures frame { AddsAtMost k.old call_notes k.new }
+{
+    inform(k, caller);
 }

@@ -1,4 +1,4 @@
-use Rattle.std.proofs.Common.{◌≡◌, true, false, sym, subst, eqb, bit_and, ◌∙◌}
+use Rattle.std.proofs.Common.{◌≡◌, true, false, sym, subst, eqb, bit_and}
 use Rattle.std.proofs.lemmas.Bool.{eq-eqb}
 use Rattle.task_table.specs.Reading.{is_valid}
 use Rattle.task_table.specs.Borrows.{lease_range}

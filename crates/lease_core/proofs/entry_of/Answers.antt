@@ -1,4 +1,4 @@
-use Rattle.std.proofs.Common.{◌≡◌, ap, sym, None}
+use Rattle.std.proofs.Common.{◌≡◌, ap, sym, None, refl}
 use Rattle.region_check.specs.declared.Right.TheVariants.{Read}
 use Rattle.task_table.specs.Reading.{bad_byte}
 use Rattle.task_table.specs.Borrows.{grant, entry_range}

@@ -1,4 +1,4 @@
-use Rattle.std.proofs.Common.{◌≡◌, ◌+◌, ◌-◌, ◌≤◌, sym, ◌∙◌, subst}
+use Rattle.std.proofs.Common.{◌≡◌, ◌+◌, ◌-◌, sym, ◌∙◌, subst}
 use Rattle.std.specs.Prelude.{min}
 use Rattle.task_table.specs.Holds.{Holds}
 use Rattle.lease_core.specs.Loans.{way_of}
