@@ -1,0 +1,52 @@
+use Rattle.std.proofs.Common.{◌≡◌, ap, sym, ◌∙◌, subst}
+use Rattle.kernel_abi.specs.Arguments.{borrow_args}
+use Rattle.task_table.specs.Reading.{arguments, dead_code_for, taken_by}
+use Rattle.task_table.specs.Borrows.{borrowed}
+use Rattle.task_table.specs.Holds.{kept_call}
+use Rattle.task_table.specs.declared.slot.OpenCall.{OpenCall}
+use Rattle.task_table.proofs.Steps.{some_mapped, none_mapped}
+use Rattle.lease_core.specs.Loans.{way_of}
+use Rattle.lease_core.proofs.Leases.{table_fits, of_lender}
+use Rattle.lease_core.proofs.Rows.{Borrowed}
+use Rattle.lease_core.proofs.borrow.Goals as goal
+
+pub borrow_from-requires-clause-fits : goal.borrow_from-requires-clause-fits
+borrow_from-requires-clause-fits c =
+    let s = c.requires.stood in
+    let i = c.in-Live.lender in
+    let k = some_mapped kept_call (taken_by s.1.state i c.args.caller) _ (sym (c.in-Some.ensures s.0 s.1 s.2)) in
+    table_fits s.0 s.1.state i c.args.caller k.0 c.in-Some.call s.2.sane k.1 k.2
+
+pub returns-in-Out-clause-holds : goal.returns-in-Out-clause-holds
+unfolding borrowed
+returns-in-Out-clause-holds c = λ g t h.
+    let i = c.args.caller in
+    let same : c.of-args.result ≡ borrow_args (arguments t.state i) = c.of-args.ensures ∙ ap borrow_args (c.arguments.ensures g t h.holds) in
+    subst (Borrowed g c.misuse.new.self (way_of c.args.way) i t) same (rw (c.in-Out.ensures.found g t h.holds) (c.misuse.ensures.holds g t h.holds))
+
+pub returns-in-Dead-clause-holds : goal.returns-in-Dead-clause-holds
+unfolding borrowed dead_code_for
+returns-in-Dead-clause-holds c = λ g t h.
+    let i = c.args.caller in
+    let same : c.of-args.result ≡ borrow_args (arguments t.state i) = c.of-args.ensures ∙ ap borrow_args (c.arguments.ensures g t h.holds) in
+    let dead = c.in-Dead.ensures.found g t h.holds in
+    subst (Borrowed g c.refuse.new.k (way_of c.args.way) i t) same (rw (dead.0, dead.1, ← dead.2, ← c.dead_code.ensures) (c.refuse.ensures.holds g t h.holds))
+
+pub returns-in-None-clause-holds : goal.returns-in-None-clause-holds
+unfolding borrowed
+returns-in-None-clause-holds c = λ g t h.
+    let i = c.args.caller in
+    let same : c.of-args.result ≡ borrow_args (arguments t.state i) = c.of-args.ensures ∙ ap borrow_args (c.arguments.ensures g t h.holds) in
+    let live = c.in-Live.ensures.found g t h.holds in
+    let none = none_mapped kept_call (taken_by t.state c.in-Live.lender i) (sym (c.in-None.ensures g t h)) in
+    subst (Borrowed g c.refuse-in-None.new.k (way_of c.args.way) i t) same (rw (live.0, live.1, ← live.2, none) (c.refuse-in-None.ensures.holds g t h.holds))
+
+pub returns-in-Some-clause-holds : goal.returns-in-Some-clause-holds
+unfolding borrowed
+returns-in-Some-clause-holds c = λ g t h.
+    let i = c.args.caller in
+    let same : c.of-args.result ≡ borrow_args (arguments t.state i) = c.of-args.ensures ∙ ap borrow_args (c.arguments.ensures g t h.holds) in
+    let live = c.in-Live.ensures.found g t h.holds in
+    let k = some_mapped kept_call (taken_by t.state c.in-Live.lender i) _ (sym (c.in-Some.ensures g t h)) in
+    let lender = of_lender g t.state c.in-Live.lender i k.0 h.sane k.1 in
+    subst (Borrowed g c.borrow_from.new.k (way_of c.args.way) i t) same (rw (live.0, live.1, ← live.2, k.1) (c.borrow_from.ensures.holds g t k.0 h.holds k.2 record { lender = lender; number = ap (λ (x : OpenCall). x.number) k.2 }))

@@ -1,0 +1,24 @@
+use Rattle.std.proofs.Common.{◌≡◌, false, ap, leb, sym, subst}
+use Rattle.std.proofs.lemmas.Bool.{lt-leb}
+use Rattle.task_table.specs.Holds.{Holds, kept_of}
+use Rattle.task_table.specs.declared.slot.OpenCall.{OpenCall}
+use Rattle.task_table.proofs.Messages.{holds_looked}
+use Rattle.lease_core.proofs.Rows.{told_bad, told_good}
+use Rattle.lease_core.proofs.inform_of.Goals as goal
+
+pub returns-in-Err-clause-holds : goal.returns-in-Err-clause-holds
+returns-in-Err-clause-holds c = λ g t k h same lender.
+    let a = c.args in
+    let leases : k.leases ≡ a.call.now.leases = ap (λ (y : OpenCall). y.leases) same in
+    let listed : leb k.leases a.lease ≡ false = rw leases (lt-leb _ _ c.if-call-lease.false) in
+    let bad = rw c.in-Err.is at (c.entry_of.ensures g t k h same) in
+    subst (Holds g c.tell_nothing.new.k) (sym (told_bad g a.caller a.lease k a.lender _ t lender listed bad)) (c.tell_nothing.ensures.holds g _ (c.deny.ensures.holds g t h))
+
+pub returns-in-Ok-clause-holds : goal.returns-in-Ok-clause-holds
+returns-in-Ok-clause-holds c = λ g t k h same lender.
+    let a = c.args in
+    let leases : k.leases ≡ a.call.now.leases = ap (λ (y : OpenCall). y.leases) same in
+    let listed : leb k.leases a.lease ≡ false = rw leases (lt-leb _ _ c.if-call-lease.false) in
+    let e = rw c.in-Ok.is at (c.entry_of.ensures g t k h same) in
+    let number : k.number ≡ a.call.now.number = ap (λ (y : OpenCall). y.number) same in
+    subst (Holds g c.inform_entry.new.k) (sym (told_good g a.caller a.lease k a.lender _ t lender listed e.0 e.1)) (c.inform_entry.ensures.holds g _ k (holds_looked g (kept_of a.k.now) t _ h) lender number)

@@ -1,0 +1,13 @@
+use Rattle.task_table.specs.State.{Read as Look, Leased, Own, Lease}
+use Rattle.task_table.specs.Effects.{looked}
+use Rattle.task_table.specs.Holds.{kept_of}
+use Rattle.task_table.proofs.Messages.{holds_looked}
+use Rattle.lease_core.proofs.move_bytes.Goals as goal
+
+pub returns-in-Read-clause-holds : goal.returns-in-Read-clause-holds
+returns-in-Read-clause-holds c = λ g t k h.
+    let look : Look = record { call = k.number; part = Leased; base = c.args.leased; length = c.args.count } in
+    rw c.in-Read.is (c.copy.ensures.holds g (looked look t) Own (holds_looked g (kept_of c.args.k.now) t look h))
+
+pub returns-in-Write-clause-holds : goal.returns-in-Write-clause-holds
+returns-in-Write-clause-holds c = λ g t k h. rw c.in-Write.is (c.copy-in-Write.ensures.holds g t (Lease k.number) h)
