@@ -12,6 +12,18 @@ pub struct Range {
     pub length: u32,
 }
 
+impl Range {
+    ghost use Rattle.std.specs.Prelude.{◌≡◌};
+    ghost use Rattle.task_table.specs.Reading.{is_valid};
+
+    /// Whether it ends inside the address space.
+    pub fn is_valid(&self) -> bool
+        ensures { result ≡ is_valid self.now }
+    {
+        u64::from(self.base) + u64::from(self.length) <= 0x1_0000_0000
+    }
+}
+
 /// How far an open call has come.
 #[derive(Clone, Copy, Debug, PartialEq, Eq)]
 pub enum Phase {
