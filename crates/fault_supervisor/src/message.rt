@@ -1,0 +1,220 @@
+//! Kernel messages.
+
+ghost use Rattle.std.specs.Prelude.{◌≡◌, ◌+◌, ◌<◌, ◌≤◌, ◌^◌, true, Some, Option};
+ghost use Rattle.std.specs.Option.{option_map};
+ghost use Rattle.task_table.specs.Memory.{IsWithinRam};
+ghost use Rattle.task_table.specs.State.{Setup, Turn};
+ghost use Rattle.task_table.specs.Reading.{is_ready};
+ghost use Rattle.task_table.specs.Orders.{order_of, word_bytes, status_bytes, injected, obeyed, ordered};
+ghost use Rattle.task_table.specs.Holds.{Holds, Stands, Stood, task_count, note_count, memory_of};
+ghost use Rattle.task_table.specs.Limits.{call_notes, turn_notes};
+ghost use Rattle.task_table.specs.Frames.{AddsNotes, AddsAtMost};
+ghost use Rattle.fault_supervisor.specs.Restarts.{restart_notes};
+ghost use Rattle.fault_supervisor.specs.Meanings.{meaning, status_words};
+
+use crate::rebirth::restart_task;
+use kernel_abi::{Access, Fault, Health, SendArgs, Usage};
+use region_check::Right;
+use task_table::{Kernel, Range};
+
+/// What a kernel message asks for.
+#[derive(Clone, Copy)]
+enum Order {
+    /// How a task is.
+    Status,
+    /// A task is restarted.
+    Restart,
+    /// A task is made to fault.
+    Fault,
+}
+
+impl Order {
+    /// The order with a number.
+    fn of(operation: u16) -> Option<Order>
+        ensures { option_map meaning result ≡ order_of operation }
+    {
+        match operation {
+            1 => Some(Order::Status),
+            2 => Some(Order::Restart),
+            3 => Some(Order::Fault),
+            _ => None,
+        }
+    }
+
+    /// How many bytes its message has.
+    fn message_length(self) -> u32
+        ensures { result ≡ (meaning self).message }
+    {
+        match self {
+            Order::Status => 4,
+            Order::Restart => 8,
+            Order::Fault => 4,
+        }
+    }
+
+    /// How many bytes its answer has.
+    fn reply_length(self) -> u32
+        ensures { result ≡ (meaning self).reply }
+    {
+        match self {
+            Order::Status => 16,
+            Order::Restart => 0,
+            Order::Fault => 0,
+        }
+    }
+
+    /// Whether it may be about the supervisor itself.
+    fn is_on_supervisor(self) -> bool
+        ensures { result ≡ (meaning self).on_supervisor }
+    {
+        match self {
+            Order::Status => true,
+            Order::Restart => false,
+            Order::Fault => false,
+        }
+    }
+}
+
+/// How a task is, in four words: 0 well, 1 stopped, 2 faulted; and of a fault its number, x and y.
+fn words_of(health: Health) -> [u32; 4]
+    ensures { result ≡ status_words health }
+{
+    match health {
+        Health::Well => [0, 0, 0, 0],
+        Health::Stopped => [1, 0, 0, 0],
+        Health::Faulted(fault) => [2, u32::from(fault.number), fault.x, fault.y],
+    }
+}
+
+/// The four bytes of a word, the lowest first.
+fn word_bytes(word: u32) -> [u8; 4]
+    ensures { result ≡ word_bytes word }
+{
+    word.to_le_bytes()
+}
+
+/// How a task is, in sixteen bytes.
+fn status_of(health: Health) -> [u8; 16]
+    ensures { result ≡ status_bytes health }
+{
+    let words = words_of(health);
+    let [a, b, c, d] = word_bytes(words[0]);
+    let [e, f, g, h] = word_bytes(words[1]);
+    let [i, j, k, l] = word_bytes(words[2]);
+    let [m, n, o, p] = word_bytes(words[3]);
+    [a, b, c, d, e, f, g, h, i, j, k, l, m, n, o, p]
+}
+
+/// A task is made to fault; one that has faulted stays as it is (Hubris Reference, on supervision).
+pub fn inject(k: &mut Kernel, task: usize)
+    requires there { task < task_count k.old }
+    requires room { note_count k.old + 4 ≤ turn_notes }
+    ensures holds { (g : Setup) (t : Turn) → Holds g k.old t → Holds g k.new (injected g task t) }
+    ensures stands { (g : Setup) (t : Turn) → Stands g k.old t → Stands g k.new (injected g task t) }
+    ensures frame { AddsAtMost k.old 4 k.new }
+{
+    match k.health(task) {
+        Health::Faulted(_) => {}
+        Health::Well => k.fault(task, Fault::injected()),
+        Health::Stopped => k.fault(task, Fault::injected()),
+    }
+}
+
+/// What an order does to a task.
+fn carry_out(k: &mut Kernel, args: &SendArgs, order: Order, task: usize)
+    requires there { task < task_count k.old }
+    requires room { note_count k.old + restart_notes ≤ turn_notes }
+    requires message { args.now.message_base + (meaning order).message ≤ 2 ^ 32 }
+    requires reply { IsWithinRam (memory_of k.old) args.now.reply_base (meaning order).reply }
+    ensures holds { (g : Setup) (t : Turn) → Stands g k.old t → Holds g k.new ((meaning order).does g args.now task t) }
+    ensures frame { AddsAtMost k.old restart_notes k.new }
+{
+    match order {
+        Order::Status => {
+            let status = status_of(k.health(task));
+            k.store(args.reply_base, &status);
+        }
+        Order::Restart => {
+            let start = k.number(args.message_base + 4, 4);
+            restart_task(k, task, start != 0);
+        }
+        Order::Fault => inject(k, task),
+    }
+}
+
+/// An order of the caller, whose message and room for an answer are good.
+fn obey(k: &mut Kernel, caller: usize, args: &SendArgs, order: Order)
+    requires there { caller < task_count k.old }
+    requires room { note_count k.old + call_notes ≤ turn_notes }
+    requires message { args.now.message_base + args.now.message_length ≤ 2 ^ 32 }
+    requires reply { IsWithinRam (memory_of k.old) args.now.reply_base args.now.reply_capacity }
+    ensures holds { (g : Setup) (t : Turn) → Stands g k.old t → Holds g k.new (obeyed g caller args.now (Some (meaning order)) t) }
+    ensures frame { AddsAtMost k.old call_notes k.new }
+{
+    if args.message_length != order.message_length() || args.reply_capacity < order.reply_length() {
+        return k.misuse(caller, Usage::BadKernelMessage);
+    }
+    let task = k.number(args.message_base, 4) as usize;
+    if k.task_count() <= task {
+        return k.misuse(caller, Usage::BadTaskIndex);
+    }
+    if task == 0 && !order.is_on_supervisor() {
+        return k.misuse(caller, Usage::BadKernelMessage);
+    }
+    carry_out(k, args, order, task);
+    k.answer(caller, &[0, order.reply_length()]);
+}
+
+/// A kernel message to a kernel that stands.
+fn take_order(k: &mut Kernel, caller: usize)
+    requires there { caller < task_count k.old }
+    requires room { note_count k.old + call_notes ≤ turn_notes }
+    requires stood { Stood k.old }
+    ensures holds { (g : Setup) (t : Turn) → Stands g k.old t → Holds g k.new (ordered g caller t) }
+    ensures frame { AddsAtMost k.old call_notes k.new }
+{
+    if caller != 0 {
+        return k.misuse(caller, Usage::NotSupervisor);
+    }
+    let args = SendArgs::of(&k.arguments(caller));
+    let message = Range {
+        base: args.message_base,
+        length: args.message_length,
+    };
+    let reply = Range {
+        base: args.reply_base,
+        length: args.reply_capacity,
+    };
+    if !message.is_valid() || !reply.is_valid() {
+        return k.misuse(caller, Usage::InvalidSlice);
+    }
+    if let Some(at) = k.bad_byte(caller, Right::Read, message.base, message.length) {
+        return k.deny(caller, at, Access::KernelRead);
+    }
+    if let Some(at) = k.bad_byte(caller, Right::Write, reply.base, reply.length) {
+        return k.deny(caller, at, Access::KernelWrite);
+    }
+    match Order::of(args.operation) {
+        None => k.misuse(caller, Usage::BadKernelMessage),
+        Some(order) => obey(k, caller, &args, order),
+    }
+}
+
+/// A SEND to the kernel, which the supervisor alone may make: bits 15 to 0 of r4 are the operation, r5 and r6
+/// the message, r7 and r8 the buffer for the answer; leases are not looked at. The first word of the message is
+/// the index of a task.
+///
+/// - 1: how the task is, in four words (health 0 well, 1 stopped, 2 faulted; and of a fault its number, x and y).
+/// - 2: the task is restarted, and started where the second word is not 0. It may not be the supervisor.
+/// - 3: the task is made to fault, unless it has faulted. It may not be the supervisor.
+///
+/// r4 is 0 then, and r5 the length of the answer (docs/FORMATS.md; Hubris Reference, on supervision).
+pub fn kernel_message(k: &mut Kernel, caller: usize)
+    requires there { caller < task_count k.old }
+    requires ready { (g : Setup) × (t : Turn) × Stands g k.old t × (is_ready t.state caller ≡ true) }
+    requires room { note_count k.old + call_notes ≤ turn_notes }
+    ensures stands { (g : Setup) (t : Turn) → Stands g k.old t → is_ready t.state caller ≡ true → Stands g k.new (ordered g caller t) }
+    ensures frame { AddsAtMost k.old call_notes k.new }
+{
+    take_order(k, caller);
+}
