@@ -37,6 +37,11 @@ calling g k k' m c t r at h f =
     let ready : is_ready t.state c ≡ true = ap (λ (i : ℕ). is_ready t.state i) at ∙ loaded_ready g m.reach.kernel m.processor t r.holds r.sane.steady.current in
     record { stands = record { holds = f h; sane = sane-call_noted c t r.sane inside }; ready = ready-call_noted c t ready }
 
+-- a call that is noted has the number that it had
+pub number-call_noted : (c : ℕ) (t : Turn) → (call_noted c t).state.next_call ≡ t.state.next_call
+unfolding call_noted noted
+number-call_noted c t = refl
+
 -- ## what is told
 
 drop_at : (xs : List ℕ) (k : ℕ) → k < length xs → get_or xs k 0 ∷ drop (suc k) xs ≡ drop k xs

@@ -4,8 +4,8 @@ ghost use Rattle.std.specs.Option.{option_map};
 ghost use Rattle.image_format.specs.Images.{picture};
 ghost use Rattle.image_format.specs.Picture.{task_in, line_in};
 ghost use Rattle.task_table.specs.State.{Setup, State, Turn};
-ghost use Rattle.task_table.specs.Memory.{byte_at};
-ghost use Rattle.task_table.specs.Reading.{setup_at};
+ghost use Rattle.task_table.specs.Memory.{Memory, byte_at};
+ghost use Rattle.task_table.specs.Reading.{setup_at, chosen};
 ghost use Rattle.task_table.specs.Start.{start};
 ghost use Rattle.task_table.specs.Parts.{task_setup, line_setup};
 ghost use Rattle.task_table.specs.declared.Line.{Line};
@@ -15,7 +15,9 @@ ghost use Rattle.run_script.specs.Events.{script_data};
 ghost use Rattle.run_script.specs.Scripts.{lasts};
 ghost use Rattle.board_model.specs.declared.told.Level.TheVariants.{All, Calls};
 ghost use Rattle.board_model.specs.Script.{Scenario};
-ghost use Rattle.board_model.specs.Turn.{turn, turned};
+ghost use Rattle.board_model.specs.Turn.{turn, turned, after_events};
+ghost use Rattle.board_model.specs.Lifetimes.{IsGroundedTurn};
+ghost use Rattle.two_runs.specs.Agreement.{AgreesOnReads, IsSameButMemory, rest_of, with_memory};
 ghost use Rattle.board_model.specs.Run.{ending, end_at, end_in};
 ghost use Rattle.board_core.specs.Opened.{scenario_of, setup_of, setup_of_task, setup_of_line};
 ghost use Rattle.board_core.specs.Stands.{Stands, Stood, notes_of, turns_of, count_of};
@@ -141,6 +143,11 @@ impl Board {
         ensures turned { (x : Scenario) (s : State) → Stands x self.old s → result ≡ turned x s }
         ensures few { length (notes_of self.new) ≤ turn_notes }
         ensures turns { turns_of self.new ≡ turns_of self.old + 1 }
+
+        // Each byte is written on a ground where its writer may, no call is touched but an open one, and with any
+        // memory that agrees on what the turn reads it would have done the same.
+        ensures grounds { (x : Scenario) (s : State) → Stands x self.old s → IsGroundedTurn All x s }
+        ensures reads { (x : Scenario) (s : State) (m : Memory) → Stands x self.old s → ((c : ℕ) → chosen x.setup (after_events x s).state ≡ Some c → AgreesOnReads x.setup c (turn All x s).reads (after_events x s).state.memory m) → IsSameButMemory (turn All x s) (rest_of All x.setup (with_memory m (after_events x s))) }
     {
         self.turn_at(Level::All)
     }

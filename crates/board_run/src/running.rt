@@ -5,6 +5,8 @@ ghost use Rattle.task_table.specs.State.{State};
 ghost use Rattle.board_model.specs.Script.{Scenario};
 ghost use Rattle.board_core.specs.Stands.{Stands, Stood, turns_of};
 ghost use Rattle.board_model.specs.Run.{run, ending};
+ghost use Rattle.board_model.specs.Lifetimes.{IsLedgerOfRun};
+ghost use Rattle.task_table.specs.Start.{start};
 ghost use Rattle.board_run.specs.Text.{trace_text};
 ghost use Rattle.board_run.specs.Running.{StandsMidway, BreaksOff, end_within};
 
@@ -55,6 +57,9 @@ pub fn run<S: Sink>(board: &mut Board, limit: u32, level: Level, out: &mut S) ->
         IfOk result (λ e. e ≡ (run level x (limit - s.turn) s).end) }
     ensures last { (x : Scenario) (s : State) → Stands x board.old s →
         IfOk result (λ _. Stands x board.new (run level x (limit - s.turn) s).last) }
+
+    // From the start, what the notes say of each call is so, and agrees with the calls that are open at the end.
+    ensures ledger { (x : Scenario) → Stands x board.old (start x.setup) → IsLedgerOfRun level x limit }
 
     // Where a push failed, the lines of the turns before the last one are whole, and no further turn is made.
     ensures broken { (x : Scenario) (s : State) → Stands x board.old s →

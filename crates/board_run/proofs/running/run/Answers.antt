@@ -4,6 +4,7 @@ use Rattle.outside_io.specs.declared.traits.Failed.{Failed}
 use Rattle.board_model.specs.declared.told.End.{End}
 use Rattle.board_model.specs.Run.{turn_after}
 use Rattle.board_core.specs.Stands.{turns_of, notes_of}
+use Rattle.board_model.proofs.Lifetimes.{ledger-run}
 use Rattle.board_run.proofs.Going.{IsTurned, midway_start, midway_turn, midway_end, midway_fails, midway_board, turned_board, end_is}
 use Rattle.board_run.proofs.Breaking.{breaks_in_turn, breaks_at_end}
 use Rattle.board_run.proofs.running.run.Goals as goal
@@ -113,3 +114,12 @@ returns-in_err-push_notes-clause-broken g c = λ x s st.
       turns = omega arith;
     } in
     rw (p.1) (breaks_in_turn c.args.level x n _ (c.args.limit - s.turn) _ _ _ s b b' (notes_of b') h (omega (arith, c.turns-in-turns.ensures)) pushed (c.turns.invariant.midway x s st))
+
+pub returns-in-Some-clause-ledger : goal.returns-in-Some-clause-ledger
+returns-in-Some-clause-ledger c = λ x st. ledger-run c.args.level x c.args.limit st.sane
+
+pub returns-in_err-push_end-in-Some-clause-ledger : goal.returns-in_err-push_end-in-Some-clause-ledger
+returns-in_err-push_end-in-Some-clause-ledger c = λ x st. ledger-run c.args.level x c.args.limit st.sane
+
+pub returns-in_err-push_notes-clause-ledger : goal.returns-in_err-push_notes-clause-ledger
+returns-in_err-push_notes-clause-ledger c = λ x st. ledger-run c.args.level x c.args.limit st.sane

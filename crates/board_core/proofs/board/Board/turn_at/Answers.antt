@@ -4,8 +4,20 @@ use Rattle.run_script.specs.Scripts.{IsNext}
 use Rattle.run_script.specs.declared.script.Script.{Script}
 use Rattle.board_model.specs.Turn.{turn, turned, turned_of, after_events}
 use Rattle.board_core.proofs.Turning.{rested, rested_as, next_of, noted_in, as_chosen, stands_after, turn_notes, choice_kept, few_events}
-use Rattle.board_model.proofs.Counts.{counted_turn, turn_more}
+use Rattle.board_model.proofs.Counts.{counted_turn, turn_more, later-after_events}
 use Rattle.board_core.proofs.board.Board.turn_at.Goals as goal
+
+pub turn-turned-requires-clause-next : goal.turn-turned-requires-clause-next
+turn-turned-requires-clause-next c =
+    let x = c.requires.stood.0 in
+    let s = c.requires.stood.1 in
+    let st = c.requires.stood.2 in
+    let mid = c.begin.ensures.midway x s st in
+    let later = later-after_events x s in
+    let turns = st.holds.turns in
+    let counted = st.counted.calls in
+    let few = c.requires.few in
+    (x.setup, after_events x s, next_of x s c.begin.new.self mid, omega (arith, later.next_call, turns, counted, few))
 
 pub renew-requires : goal.renew-requires
 renew-requires c =
