@@ -1,4 +1,3 @@
-pub mod Copies
 pub mod Changes
 pub mod Steps
 pub mod Ranges
