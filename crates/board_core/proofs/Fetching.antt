@@ -12,7 +12,7 @@ use Rattle.thumb_insn.specs.Table.{decoded_of, is_wide}
 use Rattle.thumb_step.specs.declared.Fetched.{Fetched}
 use Rattle.thumb_step.specs.Fetch.{instruction, unless_barred, after, fetched_wide, fetched_by, fetched}
 use Rattle.task_table.specs.Holds.{setup_of, current_of, memory_of}
-use Rattle.task_table.specs.Memory.{Memory, number_at}
+use Rattle.mem_banks.specs.Memory.{Memory, number_at}
 use Rattle.task_table.specs.Reading.{register}
 use Rattle.task_table.specs.State.{Setup, Turn}
 use Rattle.task_table.specs.Effects.{faulted}

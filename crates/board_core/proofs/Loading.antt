@@ -8,7 +8,7 @@ use Rattle.thumb_exec.specs.Effect.{Effect, Next, Store, effect}
 use Rattle.thumb_insn.specs.declared.Insn.{Insn}
 use Rattle.kernel_abi.specs.declared.Note.{Note}
 use Rattle.task_table.specs.declared.kernel.Kernel.{Kernel}
-use Rattle.task_table.specs.Memory.{Memory, is_ram, number_at}
+use Rattle.mem_banks.specs.Memory.{Memory, is_ram, number_at}
 use Rattle.task_table.specs.State.{Setup, State, Task, Own, Turn}
 use Rattle.task_table.specs.Reading.{register, task_at, call_of, listen_of, is_ready, no_task}
 use Rattle.task_table.specs.Effects.{with_task, noted, stored, with_processor}

@@ -6,10 +6,9 @@ use Rattle.region_check.specs.declared.Region.{Region}
 use Rattle.image_format.specs.Picture.{Picture, TaskPicture, LinePicture, no_task, no_line, task_in, regions_in}
 use Rattle.image_format.specs.Facts.{Facts}
 use Rattle.task_table.specs.Limits.{board_lines}
-use Rattle.task_table.specs.Memory.{Memory}
+use Rattle.mem_banks.specs.Memory.{Memory, AreAllBytes}
 use Rattle.task_table.specs.State.{Setup, TaskSetup, LineSetup}
 use Rattle.task_table.specs.Reading.{setup_at}
-use Rattle.task_table.specs.Sane.{AreAllBytes}
 use Rattle.task_table.specs.Start.{start}
 use Rattle.task_table.specs.Parts.{IsSound, setup_of_parts, task_setup, line_setup}
 use Rattle.task_table.specs.declared.start.TaskStart.{TaskStart}

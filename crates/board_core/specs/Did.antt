@@ -4,7 +4,7 @@ use Rattle.thumb_insn.specs.declared.Decoded.{Decoded}
 use Rattle.thumb_insn.specs.declared.Decoded.TheVariants.{Narrow, Illegal}
 use Rattle.thumb_exec.specs.Effect.{Effect, Acts, Halts, effect}
 use Rattle.thumb_exec.specs.declared.cpu.Outcome.TheVariants as outcome
-use Rattle.task_table.specs.Memory.{number_at}
+use Rattle.mem_banks.specs.Memory.{number_at}
 use Rattle.task_table.specs.Holds.{setup_of, current_of, memory_of}
 use Rattle.thumb_insn.specs.declared.Insn.{Insn}
 use Rattle.board_core.specs.declared.machine.Machine.{Machine}

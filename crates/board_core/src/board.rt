@@ -4,7 +4,7 @@ ghost use Rattle.std.specs.Option.{option_map};
 ghost use Rattle.image_format.specs.Images.{picture};
 ghost use Rattle.image_format.specs.Picture.{task_in, line_in};
 ghost use Rattle.task_table.specs.State.{Setup, State, Turn};
-ghost use Rattle.task_table.specs.Memory.{Memory, byte_at};
+ghost use Rattle.mem_banks.specs.Memory.{Memory, byte_at};
 ghost use Rattle.task_table.specs.Reading.{setup_at, chosen};
 ghost use Rattle.task_table.specs.Start.{start};
 ghost use Rattle.task_table.specs.Parts.{task_setup, line_setup};

@@ -8,7 +8,7 @@ ghost use Rattle.board_core.specs.Spans.{spans, one_gives};
 ghost use Rattle.task_table.specs.State.{Setup, Turn};
 ghost use Rattle.task_table.specs.Reading.{is_ready, task_at, setup_at, register};
 ghost use Rattle.task_table.specs.Start.{begun};
-ghost use Rattle.task_table.specs.Memory.{number_at};
+ghost use Rattle.mem_banks.specs.Memory.{number_at};
 ghost use Rattle.task_table.specs.Effects.{faulted};
 ghost use Rattle.task_table.specs.Rows.{call_noted};
 ghost use Rattle.task_table.specs.Calls.{called};

@@ -11,7 +11,7 @@ use Rattle.thumb_insn.specs.declared.Decoded.{Decoded}
 use Rattle.thumb_insn.specs.declared.Decoded.TheVariants.{Narrow, Wide, Illegal, NeedsSecond}
 use Rattle.thumb_insn.specs.Table.{decoded_of, is_wide}
 use Rattle.thumb_exec.specs.Effect.{Effect, Next, Call, Trap, Store}
-use Rattle.task_table.specs.Memory.{number_at}
+use Rattle.mem_banks.specs.Memory.{number_at}
 use Rattle.task_table.specs.State.{Setup, State, Read, Turn}
 use Rattle.task_table.specs.Reading.{task_at, register, call_of, listen_of, chosen, is_faulted}
 use Rattle.task_table.specs.Effects.{noted}

@@ -9,7 +9,7 @@ use Rattle.region_check.specs.Rights.{first_bad}
 use Rattle.run_script.specs.declared.events.Event.TheVariants.{Tick, Irq}
 use Rattle.thumb_insn.specs.Table.{rows, narrow_of, wide_rows, wide_of}
 use Rattle.thumb_exec.specs.Effect.{words, transfers, first_refused, stores_of, loaded_all, ones, count, effect}
-use Rattle.task_table.specs.Memory.{bytes_at, with_bytes, copied as copied_memory}
+use Rattle.mem_banks.specs.Memory.{bytes_at, with_bytes, copied as copied_memory}
 use Rattle.task_table.specs.State.{Setup}
 use Rattle.task_table.specs.Reading.{task_at, line_at, register, arguments, call_of, listen_of, dead_code_for, is_out, is_dead, is_ready, bad_byte, chosen, offer_by, best_sender}
 use Rattle.task_table.specs.Effects.{with_task, without_call, without_listen, with_listen, with_taken, noted, with_processor, with_health, stored, copied, looked, given, returned, past_call, bits_added, bits_cleared, woken, posted, with_timer, clocked, with_line, closed, faulted_as, handed}

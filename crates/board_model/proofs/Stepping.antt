@@ -9,7 +9,7 @@ use Rattle.thumb_insn.specs.Range.{IsCoded}
 use Rattle.thumb_exec.specs.Effect.{Trap, Store, effect}
 use Rattle.thumb_exec.specs.Keeps.{IsRaised}
 use Rattle.thumb_exec.proofs.Keeping.{keeps as keeps_coded}
-use Rattle.task_table.specs.Memory.{number_at, is_ram}
+use Rattle.mem_banks.specs.Memory.{number_at, is_ram}
 use Rattle.task_table.specs.State.{Setup, State, Own, Turn}
 use Rattle.task_table.specs.Reading.{register, task_at}
 use Rattle.task_table.specs.Effects.{stored, faulted}

@@ -18,7 +18,7 @@ use Rattle.thumb_insn.specs.declared.Decoded.{Decoded}
 use Rattle.thumb_insn.specs.declared.Decoded.TheVariants.{Narrow, Wide, Illegal, NeedsSecond}
 use Rattle.thumb_insn.specs.Table.{decoded_of, is_wide}
 use Rattle.thumb_exec.specs.Effect.{Effect, Next, Call, Trap, Store, effect}
-use Rattle.task_table.specs.Memory.{Memory, IsWithinRam, number_at, number_of, bytes_at, is_ram}
+use Rattle.mem_banks.specs.Memory.{Memory, IsWithinRam, number_at, number_of, bytes_at, is_ram, AreAllBytes}
 use Rattle.task_table.specs.State.{Setup, State, Ground, Own, Turn}
 use Rattle.task_table.specs.Reading.{setup_at, task_at, register, call_of, listen_of, chosen, qualifies, around, is_ready}
 use Rattle.task_table.specs.Effects.{noted, stored}
@@ -27,7 +27,7 @@ use Rattle.task_table.specs.Rows.{call_noted}
 use Rattle.task_table.specs.Calls.{called}
 use Rattle.task_table.specs.Start.{begun}
 use Rattle.task_table.specs.Placed.{ArePlaced}
-use Rattle.task_table.specs.Sane.{Sane, AreAllBytes}
+use Rattle.task_table.specs.Sane.{Sane}
 use Rattle.task_table.specs.Counts.{IsNoted}
 use Rattle.task_table.specs.Grounds.{MayWrite}
 use Rattle.task_table.proofs.Posting.{keeps-noted}

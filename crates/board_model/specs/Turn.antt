@@ -13,7 +13,7 @@ use Rattle.thumb_insn.specs.declared.Decoded.TheVariants.{Narrow, Wide, Illegal,
 use Rattle.thumb_insn.specs.Table.{decoded_of, is_wide}
 use Rattle.thumb_exec.specs.declared.cpu.Cpu.{Cpu}
 use Rattle.thumb_exec.specs.Effect.{Effect, Next, Call, Trap, Store, Refusals, effect}
-use Rattle.task_table.specs.Memory.{number_at, is_ram}
+use Rattle.mem_banks.specs.Memory.{number_at, is_ram}
 use Rattle.task_table.specs.State.{Setup, Task, State, Own, Turn}
 use Rattle.task_table.specs.Reading.{task_at, setup_at, register, chosen, program_counter}
 use Rattle.task_table.specs.Effects.{changed, noted, with_processor, stored, faulted}

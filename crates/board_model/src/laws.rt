@@ -8,7 +8,7 @@ ghost use Rattle.run_script.specs.Scripts.{ScriptData, IsNext, events_of};
 ghost use Rattle.thumb_insn.specs.declared.Insn.{Insn};
 ghost use Rattle.thumb_insn.specs.Range.{IsCoded};
 ghost use Rattle.thumb_exec.specs.Effect.{Store, Trap, effect};
-ghost use Rattle.task_table.specs.Memory.{number_at};
+ghost use Rattle.mem_banks.specs.Memory.{number_at};
 ghost use Rattle.task_table.specs.State.{Setup, State, Turn};
 ghost use Rattle.task_table.specs.Reading.{task_at, chosen, is_faulted, is_ready};
 ghost use Rattle.task_table.specs.Start.{begun, start};

@@ -2,7 +2,7 @@
 
 ghost use Rattle.std.specs.Prelude.{◌≡◌, ◌+◌, ◌<◌, ◌≤◌, ◌^◌, true, Some, Option};
 ghost use Rattle.std.specs.Option.{option_map};
-ghost use Rattle.task_table.specs.Memory.{IsWithinRam};
+ghost use Rattle.mem_banks.specs.Memory.{IsWithinRam};
 ghost use Rattle.task_table.specs.State.{Setup, Turn};
 ghost use Rattle.task_table.specs.Reading.{is_ready};
 ghost use Rattle.task_table.specs.Orders.{order_of, word_bytes, status_bytes, injected, obeyed, ordered};

@@ -1,6 +1,6 @@
 ghost use Rattle.std.specs.Prelude.{◌≡◌, IfOk, length};
 ghost use Rattle.task_table.specs.Holds.{task_count, note_count, memory_of};
-ghost use Rattle.task_table.specs.Memory.{IsWithinRam};
+ghost use Rattle.mem_banks.specs.Memory.{IsWithinRam};
 
 use kernel_abi::{Fault, Generation, Health, Note, Usage};
 use region_check::{Region, Rights};

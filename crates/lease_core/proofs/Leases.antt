@@ -4,7 +4,7 @@ use Rattle.std.proofs.lemmas.List.{append-nil, take-append-drop}
 use Rattle.region_check.specs.Rights.{first_bad}
 use Rattle.region_check.specs.declared.Right.{Right}
 use Rattle.region_check.specs.declared.Right.TheVariants.{Read}
-use Rattle.task_table.specs.Memory.{Memory, bytes_at, with_bytes, copied as copied_memory}
+use Rattle.mem_banks.specs.Memory.{Memory, bytes_at, with_bytes, copied as copied_memory}
 use Rattle.task_table.specs.Placed.{ArePlaced}
 use Rattle.task_table.specs.declared.slot.Range.{Range}
 use Rattle.task_table.specs.declared.slot.OpenCall.{OpenCall}

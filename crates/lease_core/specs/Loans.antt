@@ -5,7 +5,7 @@ use Rattle.kernel_abi.specs.declared.LeaseEntry.{LeaseEntry}
 use Rattle.kernel_abi.specs.declared.Usage.TheVariants.{InvalidSlice}
 use Rattle.kernel_abi.specs.declared.arguments.BorrowArgs.{BorrowArgs}
 use Rattle.region_check.specs.declared.Right.TheVariants.{Read}
-use Rattle.task_table.specs.Memory.{Memory, IsWithin, IsWithinRam}
+use Rattle.mem_banks.specs.Memory.{Memory, IsWithin, IsWithinRam}
 use Rattle.task_table.specs.State.{Setup, State, Call, Turn}
 use Rattle.task_table.specs.Reading.{is_valid, bad_byte}
 use Rattle.task_table.specs.Rows.{first_row, misused, denied}

@@ -2,7 +2,7 @@
 use Rattle.std.proofs.Common.{◌≡◌, ◌≢◌, ◌⊎◌, inl, inr, ℕ, zero, suc, Bool, true, false, cond, ◌&&◌, List, [], ◌∷◌, Option, Some, None, refl, sym, ◌∙◌, ap, arith, eqb}
 use Rattle.std.specs.Prelude.{find, Contains}
 use Rattle.std.proofs.lemmas.Bool.{eqb-true, false≢true}
-use Rattle.task_table.specs.Memory.{IsWithin, IsWithinRam}
+use Rattle.mem_banks.specs.Memory.{IsWithin, IsWithinRam}
 use Rattle.task_table.specs.State.{Setup, Call, State, Birth, Phase}
 use Rattle.task_table.specs.Reading.{task_at, call_of, present, is_offered, offer_by, is_taken, taken_by}
 use Rattle.task_table.specs.Sane.{Sane}

@@ -5,7 +5,7 @@ use Rattle.std.proofs.lemmas.Bool.{eq-eqb, ne_eqb}
 use Rattle.std.proofs.lemmas.Bool.Decides.{eqb_tells}
 use Rattle.kernel_abi.specs.Ids.{id_of}
 use Rattle.kernel_abi.specs.declared.TaskId.{TaskId}
-use Rattle.task_table.specs.Memory.{IsWithinRam}
+use Rattle.mem_banks.specs.Memory.{IsWithinRam}
 use Rattle.task_table.specs.State.{Setup, Call, Listen, State, Birth, From, Any, One, KernelOnly, Range, Message, Turn}
 use Rattle.task_table.specs.Reading.{task_at, call_of, listen_of, present, admits, is_taken, taken_by, IsIdle, IsSameBut}
 use Rattle.task_table.specs.Effects.{with_task, with_call, returned, handed, past_call, offered, noted}

@@ -6,7 +6,7 @@ use Rattle.std.proofs.lemmas.List.Elements.{Contains-append_left, Contains-appen
 use Rattle.kernel_abi.specs.declared.Ending.{Ending}
 use Rattle.kernel_abi.specs.declared.Note.{Note}
 use Rattle.kernel_abi.specs.declared.Note.TheVariants as note
-use Rattle.task_table.specs.Memory.{bytes_at}
+use Rattle.mem_banks.specs.Memory.{bytes_at}
 use Rattle.task_table.specs.State.{Setup, State, Call, Range, Ground, Own, Message, Reply, Lease, Write as Written, Read, MessageFront, Turn}
 use Rattle.task_table.specs.Reading.{call_of}
 use Rattle.task_table.specs.Effects.{with_taken, with_call, noted, stored, copied, looked, writes_on, close_notes, closed, offered}

@@ -3,10 +3,10 @@ use Rattle.std.proofs.Common.{◌≢◌, ◌-◌, ◌<◌, ◌≤◌, ℕ, Bool,
 use Rattle.std.proofs.lemmas.List.{length-take}
 use Rattle.kernel_abi.specs.Ids.{id_of}
 use Rattle.kernel_abi.specs.declared.Note.TheVariants as note
-use Rattle.task_table.specs.Memory.{Memory, IsWithinRam, bytes_at, with_bytes, copied as copied_memory}
+use Rattle.mem_banks.specs.Memory.{Memory, IsWithinRam, bytes_at, with_bytes, copied as copied_memory, AreAllBytes}
 use Rattle.task_table.specs.State.{Setup, Call, Range, Ground, Read, MessageFront, Turn}
 use Rattle.task_table.specs.Effects.{changed, noted, without_listen, with_taken, looked, copied, handed}
-use Rattle.task_table.specs.Sane.{IsSaneBut, Every, AreAllBytes}
+use Rattle.task_table.specs.Sane.{IsSaneBut, Every}
 use Rattle.task_table.proofs.Keeps.{keeps-memory, keeps-with_taken, keeps-without_listen}
 use Rattle.task_table.proofs.Posting.{keeps-given}
 use Rattle.task_table.proofs.Ranges.{within_ram-front}

@@ -12,7 +12,7 @@ use Rattle.kernel_abi.specs.declared.Note.{Note}
 use Rattle.kernel_abi.specs.declared.Note.TheVariants as note
 use Rattle.region_check.specs.declared.Right.TheVariants.{Write}
 use Rattle.region_check.proofs.FirstBad.{first_bad_none}
-use Rattle.task_table.specs.Memory.{bytes_at, copied as copied_memory}
+use Rattle.mem_banks.specs.Memory.{bytes_at, copied as copied_memory}
 use Rattle.task_table.specs.State.{Setup, State, Call, Listen, Range, Ground, Own, Message, Turn}
 use Rattle.task_table.specs.Reading.{setup_at, call_of, listen_of, bad_byte, admits}
 use Rattle.task_table.specs.Effects.{with_task, with_call, without_listen, changed, noted, with_health, stored, copied, looked, given, returned, closed, posted, faulted_as, offered, handed, reborn, is_to, awaits, told_dead, restarted}

@@ -7,12 +7,12 @@ use Rattle.std.proofs.lemmas.Bool.Decides.{eqb_tells}
 use Rattle.std.proofs.lemmas.List.Elements.{Contains-append_cases}
 use Rattle.kernel_abi.specs.declared.Health.TheVariants.{Well}
 use Rattle.task_table.specs.declared.Line.{Line}
-use Rattle.task_table.specs.Memory.{Memory}
+use Rattle.mem_banks.specs.Memory.{Memory, AreAllBytes}
 use Rattle.task_table.specs.State.{Setup, Task, Call, Listen, State, Birth, Offered, Taken, One}
 use Rattle.task_table.specs.Reading.{task_at, line_at, call_of, listen_of, admits, IsIdle}
 use Rattle.task_table.specs.Effects.{with_task, without_call, without_listen, with_listen, taken_from, with_taken}
 use Rattle.task_table.specs.Placed.{ArePlaced}
-use Rattle.task_table.specs.Sane.{IsSaneBut, Every, IsFitListen, IsSaneTask, IsOwned, AreAllBytes}
+use Rattle.task_table.specs.Sane.{IsSaneBut, Every, IsFitListen, IsSaneTask, IsOwned}
 use Rattle.task_table.proofs.Once.{fewer_of, as_many_of, once_more}
 use Rattle.task_table.proofs.Changes.{task_at-with_task, task_at-with_task_other, length-with_task}
 

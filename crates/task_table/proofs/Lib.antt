@@ -1,5 +1,4 @@
 pub mod Once
-pub mod Copies
 pub mod Changes
 pub mod Steps
 pub mod Ranges

@@ -7,7 +7,7 @@ use Rattle.std.proofs.lemmas.List.{take-set-le, drop-set-add}
 use Rattle.kernel_abi.specs.Ids.{id_of, index_of}
 use Rattle.kernel_abi.specs.declared.Listened.{Listened}
 use Rattle.kernel_abi.specs.declared.Listened.TheVariants as listened
-use Rattle.task_table.specs.Memory.{Memory, bytes_at, copied as copied_memory, IsWithin, IsWithinRam}
+use Rattle.mem_banks.specs.Memory.{Memory, bytes_at, copied as copied_memory, IsWithin, IsWithinRam}
 use Rattle.task_table.specs.State.{Setup, Task, Call, Listen, State, Birth, One, Ground, Read, Turn}
 use Rattle.task_table.specs.Reading.{task_at, register, arguments, call_of, listen_of, present, is_offered, offer_by, IsIdle}
 use Rattle.task_table.specs.Effects.{with_listen, with_taken, taken_from, past_call, copied, looked}

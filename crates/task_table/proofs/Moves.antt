@@ -9,7 +9,7 @@ use Rattle.kernel_abi.specs.declared.Note.TheVariants as note
 use Rattle.kernel_abi.specs.declared.Timer.{Timer}
 use Rattle.words_core.specs.declared.Flags.{Flags}
 use Rattle.task_table.specs.declared.Line.{Line}
-use Rattle.task_table.specs.Memory.{IsWithinRam}
+use Rattle.mem_banks.specs.Memory.{IsWithinRam}
 use Rattle.task_table.specs.State.{Setup, State, Call, Listen, Range, Offered, Ground, Read, MessageFront, Turn}
 use Rattle.task_table.specs.Reading.{task_at, call_of, listen_of}
 use Rattle.task_table.specs.Effects.{with_task, without_listen, with_listen, with_taken, changed, noted, with_processor, with_health, stored, copied, looked, given, returned, past_call, bits_added, bits_cleared, woken_by, woken, posted, with_timer, clocked, with_line, closed, offered, reborn}

@@ -9,13 +9,13 @@ use Rattle.kernel_abi.specs.declared.Health.{Health}
 use Rattle.kernel_abi.specs.declared.Health.TheVariants.{Well, Stopped, Faulted}
 use Rattle.kernel_abi.specs.declared.arguments.SendArgs.{SendArgs}
 use Rattle.region_check.specs.declared.Right.TheVariants as right
-use Rattle.task_table.specs.Memory.{IsWithinRam, number_at}
+use Rattle.mem_banks.specs.Memory.{IsWithinRam, number_at, AreAllBytes}
 use Rattle.task_table.specs.State.{Setup, Own, Turn}
 use Rattle.task_table.specs.Reading.{task_at, arguments, is_valid, bad_byte}
 use Rattle.task_table.specs.Effects.{stored}
 use Rattle.task_table.specs.Sends.{message_of, reply_room}
 use Rattle.task_table.specs.Orders.{Order, word_bytes, status_bytes, injected_by, injected, orders, order_of, obeyed, ordered}
-use Rattle.task_table.specs.Sane.{Sane, AreAllBytes}
+use Rattle.task_table.specs.Sane.{Sane}
 use Rattle.task_table.specs.Chain.{Here}
 use Rattle.task_table.specs.Step.{Stores, Strikes, Restarts}
 use Rattle.task_table.proofs.Chains.{one}

@@ -7,7 +7,7 @@ use Rattle.region_check.specs.declared.Right.{Right}
 use Rattle.region_check.specs.declared.Right.TheVariants.{Write}
 use Rattle.region_check.specs.Rights.{may_copy, gives_copy, is_inside, has_right}
 use Rattle.region_check.proofs.FirstBad.{first_bad_none}
-use Rattle.task_table.specs.Memory.{Memory, IsWithin, IsWithinRam}
+use Rattle.mem_banks.specs.Memory.{Memory, IsWithin, IsWithinRam}
 use Rattle.task_table.specs.State.{Setup, Range}
 use Rattle.task_table.specs.Reading.{setup_at, bad_byte}
 use Rattle.task_table.specs.Placed.{ArePlaced}

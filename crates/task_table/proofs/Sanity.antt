@@ -10,12 +10,12 @@ use Rattle.kernel_abi.specs.declared.Note.TheVariants as note
 use Rattle.kernel_abi.specs.declared.Ending.{Ending}
 use Rattle.kernel_abi.specs.declared.Ending.TheVariants.{Client}
 use Rattle.words_core.specs.declared.Flags.{Flags}
-use Rattle.task_table.specs.Memory.{Memory, with_bytes, IsWithinRam}
+use Rattle.mem_banks.specs.Memory.{Memory, with_bytes, IsWithinRam, AreAllBytes}
 use Rattle.task_table.specs.State.{Setup, State, Turn, Ground}
 use Rattle.task_table.specs.Reading.{task_at}
 use Rattle.task_table.specs.Effects.{with_task, without_call, without_listen, changed, noted, with_processor, with_health, stored, posted, closed, faulted_as, faulted}
 use Rattle.task_table.specs.Placed.{ArePlaced}
-use Rattle.task_table.specs.Sane.{Sane, IsFaultKnown, AreAllBytes}
+use Rattle.task_table.specs.Sane.{Sane, IsFaultKnown}
 use Rattle.task_table.specs.Counts.{AreWhole}
 use Rattle.task_table.proofs.Changes.{call_of-without_call, listen_of-without_listen, listen_of-without_call}
 use Rattle.task_table.proofs.Keeps.{idle_listen, keeps-with_task, keeps-without_call, keeps-without_listen, keeps-memory, keeps-current, keeps-turn}

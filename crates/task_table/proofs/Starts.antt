@@ -10,11 +10,11 @@ use Rattle.task_table.specs.declared.start.LineStart.{LineStart}
 use Rattle.task_table.specs.declared.slot.Slot.{Slot}
 use Rattle.task_table.specs.declared.slot.Wait.TheVariants.{Nothing}
 use Rattle.task_table.specs.Limits.{board_lines}
-use Rattle.task_table.specs.Memory.{Memory}
+use Rattle.mem_banks.specs.Memory.{Memory, AreAllBytes}
 use Rattle.task_table.specs.Holds.{Kept, Shows, packed_task}
 use Rattle.task_table.specs.State.{Setup, TaskSetup, Task}
 use Rattle.task_table.specs.Reading.{task_at, line_at, call_of, listen_of, no_line, no_task}
-use Rattle.task_table.specs.Sane.{Sane, IsSaneTask, IsFaultKnown, IsCounted, AreAllBytes}
+use Rattle.task_table.specs.Sane.{Sane, IsSaneTask, IsFaultKnown, IsCounted}
 use Rattle.task_table.specs.Start.{start, born, begun}
 use Rattle.task_table.specs.Parts.{IsSound, setup_of_parts, task_setup}
 

@@ -5,7 +5,7 @@ use Rattle.std.proofs.lemmas.Bool.Decides.{eqb_tells}
 use Rattle.std.proofs.lemmas.Bool.{false≢true}
 use Rattle.std.proofs.lemmas.List.{length-append, length-take, length-drop}
 use Rattle.kernel_abi.specs.declared.Note.{Note}
-use Rattle.task_table.specs.Memory.{Memory, with_bytes, IsWithinRam}
+use Rattle.mem_banks.specs.Memory.{Memory, with_bytes, IsWithinRam}
 use Rattle.task_table.specs.State.{Setup, Task, Call, Listen, State, Turn, Ground}
 use Rattle.task_table.specs.Reading.{task_at, call_of, listen_of, is_ready, is_well, IsSameBut}
 use Rattle.task_table.specs.declared.Line.{Line}

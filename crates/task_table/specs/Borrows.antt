@@ -13,7 +13,7 @@ use Rattle.kernel_abi.specs.declared.Note.TheVariants as note
 use Rattle.kernel_abi.specs.declared.arguments.BorrowArgs.{BorrowArgs}
 use Rattle.region_check.specs.declared.Right.{Right}
 use Rattle.region_check.specs.declared.Right.TheVariants.{Read, Write}
-use Rattle.task_table.specs.Memory.{number_at}
+use Rattle.mem_banks.specs.Memory.{number_at}
 use Rattle.task_table.specs.State.{Setup, State, Call, Range, Own, Lease, Entry, Leased, Turn}
 use Rattle.task_table.specs.Reading.{arguments, is_out, is_dead, dead_code_for, is_valid, bad_byte, taken_by}
 use Rattle.task_table.specs.Effects.{noted, copied, looked}

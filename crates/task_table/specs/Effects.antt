@@ -13,7 +13,7 @@ use Rattle.kernel_abi.specs.declared.Note.TheVariants as note
 use Rattle.kernel_abi.specs.declared.Timer.{Timer}
 use Rattle.words_core.specs.declared.Flags.{Flags}
 use Rattle.task_table.specs.declared.Line.{Line}
-use Rattle.task_table.specs.Memory.{with_bytes, bytes_at, copied as copied_memory}
+use Rattle.mem_banks.specs.Memory.{with_bytes, bytes_at, copied as copied_memory}
 use Rattle.task_table.specs.State.{Setup, TaskSetup, Task, Call, Taken, Listen, Any, One, KernelOnly, Range, State, Ground, Write, Read, MessageFront, Turn}
 use Rattle.task_table.specs.Reading.{task_at, setup_at, register, call_of, listen_of, no_flags, program_counter}
 

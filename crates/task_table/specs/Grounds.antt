@@ -5,7 +5,7 @@ use Rattle.kernel_abi.specs.declared.Note.{Note}
 use Rattle.kernel_abi.specs.declared.Note.TheVariants as note
 use Rattle.region_check.specs.declared.Right.TheVariants.{Write}
 use Rattle.region_check.specs.Rights.{may_copy}
-use Rattle.task_table.specs.Memory.{Memory, with_bytes}
+use Rattle.mem_banks.specs.Memory.{Memory, with_bytes}
 use Rattle.task_table.specs.State.{Setup, State, Call, Listen, Range, Taken, Ground, Own, Message, Reply, Lease, Write as Written, Read, Entry, Turn}
 use Rattle.task_table.specs.Reading.{setup_at}
 

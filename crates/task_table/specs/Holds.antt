@@ -12,7 +12,7 @@ use Rattle.task_table.specs.declared.slot.Source.{Source}
 use Rattle.task_table.specs.declared.slot.Source.TheVariants as source
 use Rattle.task_table.specs.declared.slot.Wait.{Wait}
 use Rattle.task_table.specs.declared.slot.Wait.TheVariants as wait
-use Rattle.task_table.specs.Memory.{Memory}
+use Rattle.mem_banks.specs.Memory.{Memory}
 use Rattle.task_table.specs.Parts.{task_setup, line_setup}
 use Rattle.task_table.specs.Sane.{Sane}
 use Rattle.task_table.specs.State.{Setup, Task, Birth, Call, Listen, State, Taken, Range, From, Any, One, KernelOnly, Turn}

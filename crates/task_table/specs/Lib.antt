@@ -1,5 +1,4 @@
 pub mod Limits
-pub mod Memory
 pub mod State
 pub mod Reading
 pub mod Effects

@@ -3,10 +3,9 @@ use Rattle.std.specs.Prelude.{ℕ, ◌<◌, List, length, map}
 use Rattle.task_table.specs.declared.start.TaskStart.{TaskStart}
 use Rattle.task_table.specs.declared.start.LineStart.{LineStart}
 use Rattle.task_table.specs.Limits.{board_lines}
-use Rattle.task_table.specs.Memory.{Memory}
+use Rattle.mem_banks.specs.Memory.{Memory, AreAllBytes}
 use Rattle.task_table.specs.State.{Setup, TaskSetup, LineSetup}
 use Rattle.task_table.specs.Placed.{ArePlaced}
-use Rattle.task_table.specs.Sane.{AreAllBytes}
 use Rattle.task_table.specs.Start.{start}
 
 -- what the image says of a task and of a line

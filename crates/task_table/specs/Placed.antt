@@ -1,7 +1,7 @@
 -- Where the regions of an image lie.
 use Rattle.std.specs.Prelude.{ℕ, ◌≡◌, ◌≤◌, ◌<◌, ◌%◌, true, false, length, Contains}
 use Rattle.region_check.specs.declared.Region.{Region}
-use Rattle.task_table.specs.Memory.{Memory, IsWithin, IsWithinRam}
+use Rattle.mem_banks.specs.Memory.{Memory, IsWithin, IsWithinRam}
 use Rattle.task_table.specs.State.{Setup, LineSetup}
 use Rattle.task_table.specs.Reading.{setup_at}
 

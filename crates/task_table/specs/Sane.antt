@@ -4,6 +4,7 @@ use Rattle.std.specs.List.{count_by}
 use Rattle.kernel_abi.specs.declared.Health.{Health}
 use Rattle.kernel_abi.specs.declared.Health.TheVariants.{Well, Stopped, Faulted}
 use Rattle.region_check.specs.declared.Right.TheVariants.{Read, Write}
+use Rattle.mem_banks.specs.Memory.{AreAllBytes}
 use Rattle.task_table.specs.Placed.{ArePlaced}
 use Rattle.task_table.specs.State.{Setup, LineSetup, Task, Call, Listen, State, Birth, Offered, One}
 use Rattle.task_table.specs.Reading.{task_at, line_at, admits, is_valid, bad_byte, stack_pointer, program_counter}
@@ -82,10 +83,6 @@ IsOwned g k = (o : LineSetup) × Contains g.lines o × (o.line ≡ k)
 
 abbrev pub AreLines : Setup → State → Type 0
 AreLines g s = (k : ℕ) → (line_at s k).pending ≡ true → ((line_at s k).enabled ≡ false) × IsOwned g k
-
--- what stands in memory are bytes
-abbrev pub AreAllBytes : List ℕ → Type 0
-AreAllBytes xs = (b : ℕ) → Contains xs b → b < 256
 
 -- what rests on the image alone, and what no effect breaks
 pub record IsSteady (g : Setup) (s : State) : Type 0 where

@@ -6,7 +6,7 @@ use Rattle.words_core.specs.declared.Flags.{Flags}
 use Rattle.kernel_abi.specs.declared.Timer.{Timer}
 use Rattle.kernel_abi.specs.declared.Note.{Note}
 use Rattle.region_check.specs.declared.Region.{Region}
-use Rattle.task_table.specs.Memory.{Memory}
+use Rattle.mem_banks.specs.Memory.{Memory}
 use Rattle.task_table.specs.declared.Line.{Line}
 pub use Rattle.task_table.specs.declared.slot.Phase.{Phase}
 pub use Rattle.task_table.specs.declared.slot.Phase.TheVariants.{Offered, Taken}

@@ -14,13 +14,13 @@ use Rattle.kernel_abi.specs.declared.Timer.{Timer}
 use Rattle.region_check.specs.declared.Right.TheVariants.{Write}
 use Rattle.words_core.specs.declared.Flags.{Flags}
 use Rattle.task_table.specs.declared.Line.{Line}
-use Rattle.task_table.specs.Memory.{IsWithinRam}
+use Rattle.mem_banks.specs.Memory.{IsWithinRam, AreAllBytes}
 use Rattle.task_table.specs.State.{Setup, State, Birth, Call, Listen, Range, Part, MessageFront, Entry, Leased, Read, One, Offered, Taken, Ground, Own, Turn}
 use Rattle.task_table.specs.Reading.{task_at, call_of, listen_of, bad_byte, admits, IsIdle}
 use Rattle.task_table.specs.Effects.{with_listen, changed, noted, with_processor, stored, copied, looked, given, returned, past_call, bits_cleared, posted, with_timer, with_line, closed, faulted_as, faulted, handed, restarted}
 use Rattle.task_table.specs.Rows.{listened_from}
 use Rattle.task_table.specs.Sends.{offers_call}
-use Rattle.task_table.specs.Sane.{IsFitCall, IsFitListen, IsOwned, AreAllBytes}
+use Rattle.task_table.specs.Sane.{IsFitCall, IsFitListen, IsOwned}
 use Rattle.task_table.specs.Counts.{AreWhole}
 use Rattle.task_table.specs.Grounds.{MayChange, IsAlive}
 use Rattle.task_table.specs.Chain.{Chain}

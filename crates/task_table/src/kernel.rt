@@ -8,11 +8,11 @@ ghost use Rattle.task_table.specs.Limits.{most_tasks, board_lines};
 
 use crate::Line;
 use crate::limits::{LINES, TURN_NOTES};
-use crate::memory::Memory;
 use crate::slot::{Found, Slot, Wait};
 use crate::start::{LineStart, TaskStart, birth_slot, copies_of, first_slots};
 use arrayvec::ArrayVec;
 use kernel_abi::{Ending, Fault, Generation, Health, Note, TaskId, Timer, Usage};
+use mem_banks::Memory;
 use region_check::Region;
 use std::alloc::{AllocError, Global};
 use words_core::Flags;
@@ -43,7 +43,7 @@ impl Kernel {
     ghost use Rattle.kernel_abi.specs.Faults.{usage_number};
     ghost use Rattle.kernel_abi.specs.declared.Health.TheVariants.{Faulted};
     ghost use Rattle.task_table.specs.State.{Setup, State, Turn, Ground, Own};
-    ghost use Rattle.task_table.specs.Memory.{is_ram, byte_at, number_at, IsWithin, IsWithinRam};
+    ghost use Rattle.mem_banks.specs.Memory.{is_ram, byte_at, number_at, IsWithin, IsWithinRam};
     ghost use Rattle.task_table.specs.Reading.{task_at, setup_at, register, arguments, priority, is_ready, call_of, listen_of, IsSameBut};
     ghost use Rattle.task_table.specs.Effects.{changed, noted, clocked, with_line, with_processor, with_health, without_listen, stored, copied, closed, faulted_as, faulted, reborn, is_to, awaits};
     ghost use Rattle.task_table.specs.Rows.{misused, panicked, call_noted};

@@ -6,14 +6,13 @@ mod effect;
 mod kernel;
 pub mod laws;
 pub mod limits;
-mod memory;
 mod message;
 mod sending;
 mod slot;
 mod start;
 
 pub use kernel::Kernel;
-pub use memory::{FLASH, Memory, RAM};
+pub use mem_banks::{FLASH, Memory, RAM};
 pub use slot::{Found, Listening, OpenCall, Phase, Range, Slot, Source, Wait};
 pub use start::{LineStart, TaskStart};
 

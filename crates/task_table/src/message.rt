@@ -10,7 +10,7 @@ impl Kernel {
     ghost use Rattle.std.specs.Option.{option_map};
     ghost use Rattle.kernel_abi.specs.Arguments.{recv_args};
     ghost use Rattle.kernel_abi.specs.Faults.{access_number};
-    ghost use Rattle.task_table.specs.Memory.{IsWithin, IsWithinRam};
+    ghost use Rattle.mem_banks.specs.Memory.{IsWithin, IsWithinRam};
     ghost use Rattle.task_table.specs.State.{Setup, Turn, Call, Ground};
     ghost use Rattle.task_table.specs.Reading.{arguments, present_id, bad_byte, offer_by, taken_by, IsIdle};
     ghost use Rattle.task_table.specs.Effects.{changed, with_taken, handed};

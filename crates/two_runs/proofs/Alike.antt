@@ -4,7 +4,7 @@ use Rattle.std.specs.Prelude.{filter, find, option_map, slice_get, slice_range, 
 use Rattle.std.specs.List.{range_with_len, list_all}
 use Rattle.std.proofs.Math.ListN.{get_or-map}
 use Rattle.std.proofs.lemmas.List.{map-set, map-append, length-map}
-use Rattle.task_table.specs.Memory.{Memory, bytes_at, with_bytes}
+use Rattle.mem_banks.specs.Memory.{Memory, bytes_at, with_bytes}
 use Rattle.task_table.specs.State.{Setup, Task, State, Call, Listen}
 use Rattle.task_table.specs.Reading.{task_at, line_at, register, arguments, call_of, listen_of, is_ready, is_well, priority, around, chosen, offer_by, offers, is_offered, taken_by, is_taken, best_sender, no_task}
 use Rattle.task_table.specs.Effects.{with_task, without_call, without_listen, with_listen, with_taken, with_call, taken_from}

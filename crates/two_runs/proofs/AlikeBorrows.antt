@@ -16,7 +16,7 @@ use Rattle.kernel_abi.specs.declared.Note.TheVariants as note
 use Rattle.kernel_abi.specs.declared.Usage.TheVariants.{BadTaskIndex, InvalidSlice, OffsetOutOfRange, LeaseOutOfRange}
 use Rattle.kernel_abi.specs.declared.arguments.BorrowArgs.{BorrowArgs}
 use Rattle.region_check.specs.declared.Right.TheVariants.{Read as ToRead}
-use Rattle.task_table.specs.Memory.{number_of}
+use Rattle.mem_banks.specs.Memory.{number_of}
 use Rattle.task_table.specs.State.{Setup, Call, Listen, Own, Lease, Entry, Leased, Read, Turn}
 use Rattle.task_table.specs.declared.slot.Range.{Range}
 use Rattle.task_table.specs.Reading.{task_at, listen_of, arguments, is_out, is_dead, is_valid, bad_byte}

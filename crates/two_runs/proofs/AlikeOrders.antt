@@ -14,7 +14,7 @@ use Rattle.kernel_abi.specs.declared.Note.TheVariants as note
 use Rattle.kernel_abi.specs.declared.Usage.TheVariants.{BadTaskIndex, InvalidSlice, BadKernelMessage, NotSupervisor}
 use Rattle.kernel_abi.specs.declared.arguments.SendArgs.{SendArgs}
 use Rattle.region_check.specs.declared.Right.TheVariants.{Read as ToRead, Write as ToWrite}
-use Rattle.task_table.specs.Memory.{number_at, number_of}
+use Rattle.mem_banks.specs.Memory.{number_at, number_of}
 use Rattle.task_table.specs.State.{Setup, Task, Call, From, Any, One, KernelOnly, Listen, Own, Turn}
 use Rattle.task_table.specs.Reading.{task_at, setup_at, arguments, call_of, listen_of, is_valid, bad_byte}
 use Rattle.task_table.specs.Effects.{without_listen, changed, given, returned, closed, stored, at_birth, reborn, is_to, awaits, told_dead, restarted}

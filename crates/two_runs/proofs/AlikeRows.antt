@@ -20,7 +20,7 @@ use Rattle.kernel_abi.specs.declared.Timer.{Timer}
 use Rattle.region_check.specs.declared.Right.TheVariants.{Write}
 use Rattle.words_core.specs.declared.Flags.{Flags}
 use Rattle.task_table.specs.declared.Line.{Line}
-use Rattle.task_table.specs.Memory.{Memory, bytes_at, copied as copied_memory}
+use Rattle.mem_banks.specs.Memory.{Memory, bytes_at, copied as copied_memory}
 use Rattle.task_table.specs.State.{Setup, LineSetup, Task, State, Call, From, Any, One, KernelOnly, Listen, Turn, Ground, Own, Read, MessageFront}
 use Rattle.task_table.specs.declared.slot.Range.{Range}
 use Rattle.task_table.specs.Reading.{task_at, line_at, line_off, line_on, register, arguments, call_of, is_out, is_dead, dead_code_for, present, is_valid, bad_byte}

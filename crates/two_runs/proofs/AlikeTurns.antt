@@ -8,7 +8,7 @@ use Rattle.run_script.specs.declared.events.Event.{Event}
 use Rattle.run_script.specs.declared.events.Event.TheVariants.{Tick, Irq}
 use Rattle.run_script.specs.Scripts.{events_of}
 use Rattle.thumb_exec.specs.Effect.{Store}
-use Rattle.task_table.specs.Memory.{number_at, number_of, is_ram}
+use Rattle.mem_banks.specs.Memory.{number_at, number_of, is_ram}
 use Rattle.task_table.specs.State.{Setup, State, Own, Turn}
 use Rattle.task_table.specs.Reading.{task_at, listen_of, chosen}
 use Rattle.task_table.specs.Effects.{noted, stored}

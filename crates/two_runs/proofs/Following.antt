@@ -13,7 +13,7 @@ use Rattle.thumb_insn.specs.Table.{decoded_of, is_wide}
 use Rattle.thumb_exec.specs.Effect.{Effect, Next, Call, Trap, Store, effect}
 use Rattle.thumb_exec.specs.Keeps.{Agree}
 use Rattle.thumb_exec.proofs.Agreeing.{effect_same}
-use Rattle.task_table.specs.Memory.{number_at}
+use Rattle.mem_banks.specs.Memory.{number_at}
 use Rattle.task_table.specs.State.{Setup, Turn}
 use Rattle.task_table.specs.Reading.{task_at, register}
 use Rattle.task_table.specs.Effects.{with_processor, faulted}

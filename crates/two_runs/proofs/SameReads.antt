@@ -6,7 +6,7 @@ use Rattle.std.proofs.lemmas.Option.{slice_get_past}
 use Rattle.region_check.specs.declared.Region.{Region}
 use Rattle.region_check.specs.declared.Right.{Right}
 use Rattle.region_check.specs.Rights.{gives, has_right, is_inside}
-use Rattle.task_table.specs.Memory.{Memory, byte_at}
+use Rattle.mem_banks.specs.Memory.{Memory, byte_at}
 use Rattle.task_table.specs.State.{Setup, State, Read, Turn}
 use Rattle.task_table.specs.Reading.{setup_at, chosen}
 use Rattle.task_table.specs.Effects.{noted}

@@ -5,7 +5,7 @@ use Rattle.std.specs.List.{count_by}
 use Rattle.task_table.proofs.Once.{as_many_of}
 use Rattle.std.proofs.Math.ListN.{get_or-map}
 use Rattle.std.proofs.lemmas.List.{length-map}
-use Rattle.task_table.specs.Memory.{Memory}
+use Rattle.mem_banks.specs.Memory.{Memory}
 use Rattle.task_table.specs.State.{Setup, State, Birth, Call, From, Any, One, KernelOnly, Listen}
 use Rattle.task_table.specs.Reading.{task_at, line_at, admits, no_task}
 use Rattle.task_table.specs.Sane.{Sane}

@@ -5,7 +5,7 @@ use Rattle.std.specs.List.{list_any}
 use Rattle.std.proofs.lemmas.Bool.{false≢true}
 use Rattle.std.proofs.lemmas.List.Folds.{list_any_at}
 use Rattle.std.proofs.Math.Nat.{mod-mod}
-use Rattle.task_table.specs.Memory.{Memory}
+use Rattle.mem_banks.specs.Memory.{Memory}
 use Rattle.task_table.specs.State.{Setup, Task, Call, From, Any, One, KernelOnly, Listen, State, Read, Turn}
 use Rattle.two_runs.specs.Levels.{is_told_always, IsLessTold}
 use Rattle.task_table.specs.Reading.{listen_of}

@@ -3,7 +3,7 @@
 use Rattle.std.specs.Prelude.{◌≡◌, ℕ, ◌+◌, Bool, true, ◌&&◌, ◌||◌, not, List, length, nat_le, nat_lt}
 use Rattle.std.specs.List.{list_any}
 use Rattle.region_check.specs.Rights.{is_inside}
-use Rattle.task_table.specs.Memory.{Memory, byte_at}
+use Rattle.mem_banks.specs.Memory.{Memory, byte_at}
 use Rattle.task_table.specs.State.{Setup, Read, Turn}
 use Rattle.task_table.specs.Reading.{setup_at, chosen}
 use Rattle.board_model.specs.declared.told.Level.{Level}

@@ -2,7 +2,7 @@
 -- hears some notes.
 use Rattle.std.specs.Prelude.{◌≡◌, ℕ, ◌+◌, ◌%◌, ◌<◌, ◌≤◌, Bool, true, List, [], map, length, filter, slice_get, Contains}
 use Rattle.kernel_abi.specs.declared.Note.{Note}
-use Rattle.task_table.specs.Memory.{Memory}
+use Rattle.mem_banks.specs.Memory.{Memory}
 use Rattle.two_runs.specs.Levels.{is_told_always}
 use Rattle.task_table.specs.State.{Birth, Task, Call, From, Any, One, KernelOnly, Listen, State, Read, Turn}
 

@@ -7,7 +7,7 @@
 #![tactic(auto)]
 
 ghost use Rattle.std.specs.Prelude.{◌≡◌, ℕ, Some};
-ghost use Rattle.task_table.specs.Memory.{Memory};
+ghost use Rattle.mem_banks.specs.Memory.{Memory};
 ghost use Rattle.task_table.specs.State.{Setup, State, Turn};
 ghost use Rattle.task_table.specs.Reading.{chosen};
 ghost use Rattle.task_table.specs.Calls.{called};

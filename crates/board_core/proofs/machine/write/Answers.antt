@@ -1,5 +1,5 @@
 use Rattle.std.proofs.Common.{◌≡◌, ap, arith, sym, ◌∙◌, true}
-use Rattle.task_table.specs.Memory.{Memory, is_ram}
+use Rattle.mem_banks.specs.Memory.{Memory, is_ram}
 use Rattle.board_core.proofs.machine.write.Goals as goal
 
 pub returns-then-is_ram : goal.returns-then-is_ram

@@ -4,7 +4,7 @@ use Rattle.std.proofs.lemmas.Bool.{false≢true}
 use Rattle.region_check.specs.declared.Region.{Region}
 use Rattle.task_table.specs.declared.kernel.Kernel.{Kernel}
 use Rattle.task_table.specs.declared.start.TaskStart.{TaskStart}
-use Rattle.task_table.specs.Memory.{Memory}
+use Rattle.mem_banks.specs.Memory.{Memory}
 use Rattle.task_table.specs.State.{Setup, Turn}
 use Rattle.task_table.specs.Reading.{setup_at, is_ready, task_at, call_of, listen_of}
 use Rattle.task_table.specs.Parts.{setup_of_parts, IsSound}

@@ -1,5 +1,5 @@
 use Rattle.std.proofs.Common.{length, ap, ◌∙◌}
-use Rattle.task_table.specs.Memory.{Memory}
+use Rattle.mem_banks.specs.Memory.{Memory}
 use Rattle.task_table.proofs.Steps.{length-with_bytes}
 use Rattle.kernel_tests.proofs.tasks.store.Goals as goal
 

@@ -1,5 +1,5 @@
 use Rattle.std.proofs.Common.{sym, ◌∙◌, ap}
-use Rattle.task_table.specs.Memory.{Memory, byte_at}
+use Rattle.mem_banks.specs.Memory.{Memory, byte_at}
 use Rattle.board_core.proofs.Loading.{told_by}
 use Rattle.board_core.proofs.board.Board.byte.Goals as goal
 

@@ -2,7 +2,7 @@ use Rattle.std.proofs.Common.{◌≢◌, [], ◌≡◌, ℕ, Bool, true, false, 
 use Rattle.std.proofs.lemmas.Bool.{lt-leb, le-leb, false≢true}
 use Rattle.thumb_insn.specs.Table.{narrow_of, narrow_result, decoded_of, is_wide}
 use Rattle.task_table.specs.Reading.{register}
-use Rattle.task_table.specs.Memory.{Memory, number_at}
+use Rattle.mem_banks.specs.Memory.{Memory, number_at}
 use Rattle.board_core.specs.declared.machine.Machine.{Machine}
 use Rattle.board_model.specs.declared.told.Level.TheVariants.{Calls}
 use Rattle.board_core.specs.Spans.{spans}

@@ -1,6 +1,6 @@
 use Rattle.std.proofs.Common.{◌≡◌, ◌+◌, ◌*◌, ◌%◌, ◌^◌, ℕ, true, refl, sym, ◌∙◌, ap, subst, arith}
 use Rattle.thumb_insn.specs.declared.Decoded.{Decoded}
-use Rattle.task_table.specs.Memory.{Memory, number_at}
+use Rattle.mem_banks.specs.Memory.{Memory, number_at}
 use Rattle.board_core.specs.declared.machine.Machine.{Machine}
 use Rattle.board_model.specs.declared.told.Level.TheVariants.{Calls}
 use Rattle.board_core.specs.Machine.{MachineHolds}

@@ -3,8 +3,7 @@ use Rattle.std.proofs.Common.{◌≡◌, ◌+◌, ◌-◌, ◌*◌, ◌<◌, ◌
 use Rattle.std.proofs.lemmas.Bool.{le-leb, lt-leb}
 use Rattle.std.proofs.lemmas.List.{take-append-drop, append-nil}
 use lib.Seq.{paste}
-use Rattle.task_table.specs.Memory.{Memory, bytes_at, with_bytes, copied, number_of, IsWithin}
-use Rattle.task_table.specs.Sane.{AreAllBytes}
+use Rattle.mem_banks.specs.Memory.{Memory, bytes_at, with_bytes, copied, number_of, IsWithin, AreAllBytes}
 
 -- no bytes change nothing
 pub with_bytes_none : (m : Memory) (a : ℕ) (bytes : List ℕ) → bytes ≡ [] → m ≡ with_bytes m a bytes

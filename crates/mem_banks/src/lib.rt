@@ -1,8 +1,8 @@
 //! The bytes of flash and RAM, as one map from addresses to bytes.
+#![tactic(auto)]
 
 ghost use Rattle.std.specs.Prelude.{◌≡◌, ◌+◌, ◌-◌, ◌*◌, ◌<◌, ◌≤◌, ◌⊎◌, ◌++◌, ◌^◌, slice_index_or, length, take, drop, vec_len, IfOk, Some, None, replicate};
-ghost use Rattle.task_table.specs.Memory.{is_ram, byte_at, number_at, number_of, with_bytes, copied, IsWithin, IsWithinRam};
-ghost use Rattle.task_table.specs.Sane.{AreAllBytes};
+ghost use Rattle.mem_banks.specs.Memory.{is_ram, byte_at, number_at, number_of, with_bytes, copied, IsWithin, IsWithinRam, AreAllBytes};
 
 use std::alloc::{AllocError, Global};
 use std::marker::Model;
@@ -22,7 +22,7 @@ pub struct Memory {
 
 impl Model for Memory {
     ghost use Rattle.std.specs.Prelude.{◌≤◌, length};
-    ghost use Rattle.task_table.specs.Memory.{Memory as Map};
+    ghost use Rattle.mem_banks.specs.Memory.{Memory as Map};
 
     ghost Value = { Map };
 

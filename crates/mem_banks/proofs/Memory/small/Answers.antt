@@ -1,8 +1,8 @@
 use Rattle.std.proofs.Common.{◌≡◌, ◌-◌, true, false, leb, refl, sym, ◌∙◌}
 use Rattle.std.proofs.lemmas.Bool.{le-leb, lt-leb}
-use Rattle.task_table.specs.Memory.{bytes_at}
-use Rattle.task_table.proofs.Copies.{number_of_one}
-use Rattle.task_table.proofs.memory.Memory.small.Goals as goal
+use Rattle.mem_banks.specs.Memory.{bytes_at}
+use Rattle.mem_banks.proofs.Copies.{number_of_one}
+use Rattle.mem_banks.proofs.Memory.small.Goals as goal
 
 pub returns-then-addr-ge-RAM : goal.returns-then-addr-ge-RAM
 unfolding bytes_at

@@ -1,6 +1,6 @@
 use Rattle.std.proofs.Common.{rules, ◌<◌, get_or, ℕ, Fits, w8}
-use Rattle.task_table.proofs.Copies.{all_bytes}
-use Rattle.task_table.proofs.memory.Memory.open.Goals as goal
+use Rattle.mem_banks.proofs.Copies.{all_bytes}
+use Rattle.mem_banks.proofs.Memory.open.Goals as goal
 
 pub returns-clause-bytes : goal.returns-clause-bytes
 returns-clause-bytes c =

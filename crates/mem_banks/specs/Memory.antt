@@ -1,10 +1,14 @@
 -- Memory as a map from addresses to bytes: flash from 0x08000000 and RAM from 0x20000000.
 -- (Scope of the profile: docs/FORMATS.md, Image; the addresses are those of a Cortex-M part.)
-use Rattle.std.specs.Prelude.{Bool, ◌&&◌, ℕ, ◌+◌, ◌-◌, ◌*◌, ◌≤◌, ◌⊎◌, ◌≡◌, List, [], ◌∷◌, ◌++◌, length, take, drop, Option, None, slice_get, if◌then◌else◌, nat_le}
+use Rattle.std.specs.Prelude.{Bool, ◌&&◌, ℕ, ◌+◌, ◌-◌, ◌*◌, ◌<◌, ◌≤◌, ◌⊎◌, ◌≡◌, List, [], ◌∷◌, ◌++◌, length, take, drop, Option, None, slice_get, if◌then◌else◌, nat_le, Contains}
 
 pub record Memory : Type 0 where
   pub flash : List ℕ
   pub ram : List ℕ
+
+-- what stands in memory are bytes
+abbrev pub AreAllBytes : List ℕ → Type 0
+AreAllBytes xs = (b : ℕ) → Contains xs b → b < 256
 
 -- the byte at an address, where there is one
 abbrev pub byte_at : Memory → ℕ → Option ℕ

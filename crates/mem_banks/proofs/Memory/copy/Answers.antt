@@ -1,6 +1,6 @@
 use Rattle.std.proofs.Common.{◌≡◌, ◌+◌, ◌-◌, arith, take, drop, ap}
-use Rattle.task_table.proofs.Copies.{copied_none, copied_in_ram, copied_from_flash, range_in_ram, range_in_flash}
-use Rattle.task_table.proofs.memory.Memory.copy.Goals as goal
+use Rattle.mem_banks.proofs.Copies.{copied_none, copied_in_ram, copied_from_flash, range_in_ram, range_in_flash}
+use Rattle.mem_banks.proofs.Memory.copy.Goals as goal
 
 pub returns-then-count-eq0 : goal.returns-then-count-eq0
 returns-then-count-eq0 c = copied_none _ _ _ _ c.if-count-eq0.true

@@ -1,7 +1,7 @@
 use Rattle.std.proofs.Common.{◌≡◌, true, false, leb, refl}
 use Rattle.std.proofs.lemmas.Bool.{le-leb, lt-leb}
-use Rattle.task_table.specs.Memory.{bytes_at}
-use Rattle.task_table.proofs.memory.Memory.word.Goals as goal
+use Rattle.mem_banks.specs.Memory.{bytes_at}
+use Rattle.mem_banks.proofs.Memory.word.Goals as goal
 
 pub returns-then-addr-ge-RAM : goal.returns-then-addr-ge-RAM
 unfolding bytes_at

@@ -1,7 +1,7 @@
 use Rattle.std.proofs.Common.{◌≡◌, ◌+◌, ◌-◌, ◌%◌, ◌<◌, ◌≤◌, ℕ, true, false, leb, refl, arith}
 use Rattle.std.proofs.lemmas.Bool.{le-leb, lt-leb}
-use Rattle.task_table.specs.Memory.{bytes_at}
-use Rattle.task_table.proofs.memory.Memory.half.Goals as goal
+use Rattle.mem_banks.specs.Memory.{bytes_at}
+use Rattle.mem_banks.proofs.Memory.half.Goals as goal
 
 -- what lies within the flash by its place does so by its address
 flash_above : (a n : ℕ) → (a + 4160749568) % 4294967296 + 1 < n → n ≤ 1048576 → a < 4294967296 → 0x08000000 ≤ a

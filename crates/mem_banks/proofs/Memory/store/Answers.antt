@@ -1,7 +1,7 @@
 use Rattle.std.proofs.lemmas.List.{nil_from_length}
-use Rattle.task_table.specs.Memory.{with_bytes}
-use Rattle.task_table.proofs.Copies.{with_bytes_none}
-use Rattle.task_table.proofs.memory.Memory.store.Goals as goal
+use Rattle.mem_banks.specs.Memory.{with_bytes}
+use Rattle.mem_banks.proofs.Copies.{with_bytes_none}
+use Rattle.mem_banks.proofs.Memory.store.Goals as goal
 
 pub returns-then-bytes-eq0 : goal.returns-then-bytes-eq0
 returns-then-bytes-eq0 c = with_bytes_none _ _ _ (nil_from_length _ c.if-bytes-eq0.true)
