@@ -1,6 +1,6 @@
 -- While those that wait are told, whom tasks wait for stays among the few.
-use Rattle.std.proofs.Common.{◌≡◌, ◌+◌, ◌%◌, ℕ, zero, suc, Bool, true, false, cond, not, List, [], ◌∷◌, refl, sym, ◌∙◌, ap, arith, eqb}
-use Rattle.std.specs.Prelude.{fold, filter}
+use Rattle.std.proofs.Common.{◌≡◌, ◌+◌, ◌%◌, ℕ, zero, suc, Bool, true, false, cond, not, List, [], ◌∷◌, ◌∙◌, ap, arith, eqb}
+use Rattle.std.specs.Prelude.{fold}
 use Rattle.std.specs.List.{range_with_len}
 use Rattle.kernel_abi.specs.Ids.{dead_code_of}
 use Rattle.kernel_abi.specs.declared.Ending.{Ending}
