@@ -1,12 +1,16 @@
 -- What the code's descriptions and faults stand for.
-use Rattle.std.specs.Prelude.{ℕ, map, string_bytes, Option, Some, None}
+use Rattle.std.specs.Prelude.{ℕ, List, map, string_bytes, Option, Some, None}
 use Rattle.app_toml.specs.Apps.{AppData}
 use Rattle.app_toml.specs.Places.{Text}
 use Rattle.app_toml.specs.Sites.{device_of, interrupt_of, region_of, task_of}
 use Rattle.app_toml.specs.declared.app.App.{App}
 use Rattle.app_toml.specs.declared.parts.AppFault.{AppFault}
 use Rattle.app_toml.specs.declared.parts.AppFault.TheVariants as fault
+use Rattle.app_toml.specs.declared.parts.Device.{Device}
+use Rattle.app_toml.specs.declared.parts.Interrupt.{Interrupt}
 use Rattle.app_toml.specs.declared.parts.Parts.{Parts}
+use Rattle.app_toml.specs.declared.parts.SharedRegion.{SharedRegion}
+use Rattle.app_toml.specs.declared.parts.Task.{Task}
 
 -- the description that it is
 abbrev pub app_of : App → AppData
@@ -30,6 +34,18 @@ parts_of p = record {
   regions = map region_of p.regions.items;
   devices = map device_of p.devices.items;
   interrupts = map interrupt_of p.interrupts.items;
+}
+
+-- what these tables say
+abbrev pub tables_of : (flash ram : ℕ) → Text → List Task → List SharedRegion → List Device → List Interrupt → AppData
+tables_of flash ram fault tasks regions devices interrupts = record {
+  flash = flash;
+  ram = ram;
+  fault = fault;
+  tasks = map task_of tasks;
+  regions = map region_of regions;
+  devices = map device_of devices;
+  interrupts = map interrupt_of interrupts;
 }
 
 -- the cause and the place that it tells; none for want of memory

@@ -8,6 +8,7 @@ mod document;
 mod forms;
 mod keys;
 mod lines;
+mod making;
 mod names;
 mod parts;
 mod places;

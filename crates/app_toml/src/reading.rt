@@ -50,7 +50,7 @@ fn document_of(alloc: Global, bytes: &[u8]) -> Result<Table, AppFault>
 }
 
 /// The description that the parts are, whose values have their forms and which no cause refuses.
-fn app_of_parts(parts: Parts) -> App
+pub(crate) fn app_of_parts(parts: Parts) -> App
     requires { IsAccepted (parts_of parts) }
     ensures { app_of result ≡ parts_of parts }
 {

@@ -346,3 +346,21 @@ fn what_descriptions_say(rt: HostRuntime) -> Result<(), Fail> {
     assert_eq!(rt; shown(rt.alloc(), &full)?.as_str(), FULL_SHOWN);
     Ok(())
 }
+
+#[test]
+fn one_made_of_tables_says_the_same(rt: HostRuntime) -> Result<(), Fail> {
+    let full = App::read(rt.alloc(), FULL.as_bytes())?;
+    full.facts();
+    let made = App::of(
+        rt.alloc(),
+        full.flash(),
+        full.ram(),
+        full.fault(),
+        full.tasks(),
+        full.regions(),
+        full.devices(),
+        full.interrupts(),
+    )?;
+    assert_eq!(rt; shown(rt.alloc(), &made)?.as_str(), FULL_SHOWN);
+    Ok(())
+}

@@ -247,3 +247,15 @@ fn a_copy_has_the_same_events(rt: HostRuntime) -> Result<(), Fail> {
     assert_eq!(rt; copy.next(7), Some(8));
     Ok(())
 }
+
+#[test]
+fn one_made_of_events_has_them(rt: HostRuntime) -> Result<(), Fail> {
+    let script = Script::read(rt.alloc(), b"every 4 tick\nat 6 irq 3\nat 6 tick\n")?;
+    script.facts();
+    let made = Script::of(rt.alloc(), script.every, script.events.as_slice())?;
+    assert_eq!(rt; made.event_at(4, 0), Some(Event::Tick));
+    assert_eq!(rt; made.event_at(6, 0), Some(Event::Irq { line: 3 }));
+    assert_eq!(rt; made.event_at(6, 1), Some(Event::Tick));
+    assert_eq!(rt; made.next(7), Some(8));
+    Ok(())
+}
