@@ -2,7 +2,7 @@
 use Rattle.std.proofs.Common.{◌≡◌, ℕ, true, false, not, ◌&&◌, ◌||◌, [], ◌∷◌, length, Some, refl, is_some, cond, leb, eqb, Bool}
 use Rattle.kernel_abi.specs.declared.arguments.SendArgs.{SendArgs}
 use Rattle.region_check.specs.declared.Right.TheVariants.{Read, Write}
-use Rattle.task_table.specs.Memory.{number_at}
+use Rattle.mem_banks.specs.Memory.{number_at}
 use Rattle.task_table.specs.State.{Setup, Turn}
 use Rattle.task_table.specs.Reading.{is_valid, bad_byte}
 use Rattle.task_table.specs.Rows.{misused, denied, goes_on_with}
