@@ -2,6 +2,7 @@ pub mod Limits
 pub mod Memory
 pub mod State
 pub mod Reading
+pub mod Readiness
 pub mod Effects
 pub mod Rows
 pub mod Calls

@@ -7,6 +7,7 @@ pub mod laws;
 pub mod limits;
 mod memory;
 mod message;
+mod readiness;
 mod slot;
 mod start;
 
