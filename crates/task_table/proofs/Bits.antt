@@ -1,14 +1,15 @@
 -- Which tasks are ready, as one number.
-use Rattle.std.proofs.Common.{◌≡◌, ◌<◌, ◌≤◌, ◌+◌, ◌*◌, ◌^◌, ℕ, zero, suc, Bool, true, false, List, [], ◌∷◌, ◌++◌, length, map, refl, sym, ◌∙◌, ap, arith, get_or, set, length-set, take, None}
+use Rattle.std.proofs.Common.{◌≡◌, ◌<◌, ◌≤◌, ◌+◌, ◌*◌, ◌^◌, ℕ, zero, suc, Bool, true, false, List, [], ◌∷◌, ◌++◌, length, map, refl, sym, ◌∙◌, ap, arith, get_or, set, length-set, take, None, ◌&&◌, is_none, inl, inr}
 use native.Mathlib.Numerals.{unary_clauses}
 use Rattle.std.specs.List.{range_with_len}
 use Rattle.std.proofs.lemmas.Bool.{false≢true}
-use Rattle.std.proofs.lemmas.List.{length-map, set-get_or, get_or-map, map-set, map_more, length-take, length-take-le}
+use Rattle.std.proofs.lemmas.List.{length-map, set-get_or, get_or-map, map-set, map_more, length-take, length-take-le, get_or_past}
+use Rattle.std.proofs.lemmas.Bool.Decides.{leb_tells}
 use Rattle.std.proofs.Math.Nat.{pow-le-pow_right}
 use Rattle.std.proofs.lemmas.List.FromFn.{fill_by_all, get_or-map-range_with_len, length-map-range_with_len}
-use Rattle.task_table.specs.State.{State, Setup, Turn}
+use Rattle.task_table.specs.State.{State, Task, Setup, Turn}
 use Rattle.kernel_abi.specs.declared.Health.TheVariants.{Stopped}
-use Rattle.task_table.specs.Reading.{is_ready, no_flags}
+use Rattle.task_table.specs.Reading.{is_ready, is_well, task_at, call_of, listen_of, no_task, no_flags}
 use Rattle.task_table.specs.declared.slot.Wait.TheVariants.{Nothing}
 use Rattle.task_table.specs.Readiness.{is_free, number_of, readiness}
 use Rattle.task_table.specs.Holds.{Shows, Kept}
@@ -82,13 +83,37 @@ ready_kept g k t h =
         let slot : Slot = get_or k.slots i no_slot in
         get_or-map is_free k.slots i no_slot false inside ∙ free_kept t.state i slot (h.tasks i inside no_slot)))
 
+-- a task that is not there is not ready
+unready_past : (s : State) (i : ℕ) → length s.tasks ≤ i → is_ready s i ≡ false
+unfolding is_ready task_at
+unready_past s i past = ap (λ (x : Task). is_well x.health && is_none (call_of s i) && is_none (listen_of s i)) (get_or_past s.tasks i no_task past)
+
 -- a state's number tells which tasks are ready
-pub readiness_told : (s u : State) → length u.tasks ≡ length s.tasks → readiness u ≡ readiness s → (i : ℕ) → i < length s.tasks → is_ready u i ≡ is_ready s i
-readiness_told s u count e i below =
-    let same = bits_told (map (is_ready u) (range_with_len 0 (length u.tasks))) (map (is_ready s) (range_with_len 0 (length s.tasks))) (length-map-range_with_len (is_ready u) 0 (length u.tasks) ∙ count ∙ sym (length-map-range_with_len (is_ready s) 0 (length s.tasks))) e in
-    sym (get_or-map-range_with_len (is_ready u) 0 (length u.tasks) i i false (omega (arith, below, count)) (omega arith))
-    ∙ ap (λ (xs : List Bool). get_or xs i false) same
-    ∙ get_or-map-range_with_len (is_ready s) 0 (length s.tasks) i i false below (omega arith)
+pub readiness_told : (s u : State) → length u.tasks ≡ length s.tasks → readiness u ≡ readiness s → (i : ℕ) → is_ready u i ≡ is_ready s i
+readiness_told s u count e i =
+    elim (leb_tells (length s.tasks) i) [
+      | inl past ↦ unready_past u i (omega (arith, past.1, count)) ∙ sym (unready_past s i past.1)
+      | inr there ↦ told there.1
+    ]
+  where
+    same : map (is_ready u) (range_with_len 0 (length u.tasks)) ≡ map (is_ready s) (range_with_len 0 (length s.tasks))
+    same = bits_told (map (is_ready u) (range_with_len 0 (length u.tasks))) (map (is_ready s) (range_with_len 0 (length s.tasks))) (length-map-range_with_len (is_ready u) 0 (length u.tasks) ∙ count ∙ sym (length-map-range_with_len (is_ready s) 0 (length s.tasks))) e
+
+    told : i < length s.tasks → is_ready u i ≡ is_ready s i
+    told below =
+        sym (get_or-map-range_with_len (is_ready u) 0 (length u.tasks) i i false (omega (arith, below, count)) (omega arith))
+        ∙ ap (λ (xs : List Bool). get_or xs i false) same
+        ∙ get_or-map-range_with_len (is_ready s) 0 (length s.tasks) i i false below (omega arith)
+
+map_same : (p q : ℕ → Bool) (xs : List ℕ) → ((i : ℕ) → p i ≡ q i) → map p xs ≡ map q xs
+map_same p q [] h = refl
+map_same p q (x ∷ xs) h = rw (h x) (ap (λ (ys : List Bool). q x ∷ ys) (map_same p q xs h))
+
+-- and it is the same where each task is as ready
+pub readiness_same : (s u : State) → length u.tasks ≡ length s.tasks → ((i : ℕ) → is_ready u i ≡ is_ready s i) → readiness u ≡ readiness s
+readiness_same s u count h =
+    ap (λ (n : ℕ). number_of (map (is_ready u) (range_with_len 0 n))) count
+    ∙ ap number_of (map_same (is_ready u) (is_ready s) (range_with_len 0 (length s.tasks)) h)
 
 -- a number of so many bits fits a word
 pub ready_below : (slots : List Slot) → length slots ≤ 32 → number_of (map is_free slots) < 2 ^ 32

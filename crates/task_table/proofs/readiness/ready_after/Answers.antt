@@ -1,5 +1,4 @@
-use Rattle.std.proofs.Common.{◌≡◌, ◌<◌, ◌+◌, ◌^◌, map, slice_set, sym, ◌∙◌, arith}
-use Rattle.task_table.specs.Readiness.{is_free, number_of}
+use Rattle.std.proofs.Common.{slice_set, sym, ◌∙◌, arith}
 use Rattle.task_table.proofs.Bits.{ready_below, ready_same, ready_set, ready_cleared, length_set}
 use Rattle.task_table.proofs.readiness.ready_after.Goals as goal
 

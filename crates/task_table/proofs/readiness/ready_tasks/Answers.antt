@@ -1,4 +1,4 @@
-use Rattle.std.proofs.Common.{◌≡◌, ◌<◌, ◌+◌, ◌^◌, sym, ◌∙◌, arith}
+use Rattle.std.proofs.Common.{◌+◌, sym, ◌∙◌, arith}
 use Rattle.task_table.proofs.Bits.{ready_below, ready_more, ready_no_more, few_taken}
 use Rattle.task_table.proofs.readiness.ready_tasks.Goals.{then-is_ready, else-is_ready}
 use Rattle.task_table.proofs.readiness.ready_tasks.Goals as goal
