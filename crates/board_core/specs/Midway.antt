@@ -9,13 +9,14 @@ use Rattle.run_script.specs.Scripts.{IsNext}
 use Rattle.board_core.specs.declared.board.Board.{Board}
 use Rattle.board_model.specs.Script.{Scenario}
 use Rattle.board_model.specs.Turn.{after_events}
-use Rattle.board_core.specs.Kept.{IsChoice}
+use Rattle.board_core.specs.Kept.{IsChoice, WasChoice}
 use Rattle.board_core.specs.Machine.{MachineStands}
 
 -- the board before the events of the turn: nothing is noted as yet
 pub record IsDue (x : Scenario) (b : Board) (s : State) : Type 0 where
   pub machine : MachineStands x.setup b.machine (begun s)
   pub turns : b.turns ≡ s.turn
+  pub choice : WasChoice x.setup b.choice
   pub script : script_data b.script ≡ x.script
   pub counted : IsCounted s
   pub nothing : note_count b.machine.reach.kernel ≡ 0

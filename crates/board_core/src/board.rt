@@ -23,13 +23,13 @@ ghost use Rattle.board_core.specs.Opened.{scenario_of, setup_of, setup_of_task, 
 ghost use Rattle.board_core.specs.Stands.{Stands, Stood, notes_of, turns_of, count_of};
 ghost use Rattle.board_core.specs.Told.{IsTask, IsView};
 ghost use Rattle.board_core.specs.Machine.{IsStarted, MachineHolds, MachineStands};
-ghost use Rattle.board_core.specs.Kept.{IsChoice};
+ghost use Rattle.board_core.specs.Kept.{IsChoice, WasChoice};
 ghost use Rattle.board_core.specs.Texts.{IsText};
 ghost use Rattle.board_core.specs.Advanced.{IsAdvanced};
 ghost use Rattle.board_core.specs.Midway.{IsDue, IsMidway};
 
 use crate::TaskView;
-use crate::choice::{Choice, choice_of};
+use crate::choice::{Choice, choice_after, choice_of};
 use crate::machine::Machine;
 use board_model::{End, Level, Turned};
 use image_format::Image;
@@ -332,7 +332,7 @@ impl Board {
         }
     }
 
-    /// The events of this turn happen; then the choice is made anew, and the next turn with an event is
+    /// The events of this turn happen; then what is known of the choice is brought up to date, and the next turn with an event is
     /// looked up.
     fn happen(&mut self)
         requires few { turns_of self.old < 1000000000 }
@@ -343,16 +343,16 @@ impl Board {
     {
         self.machine.happen_all(&self.script, self.turns);
         self.machine.save_context();
-        self.choice = choice_of(&self.machine.reach.kernel);
+        self.choice = choice_after(&self.machine.reach.kernel, &self.choice);
         self.due = self.script.next(self.turns + 1);
     }
 
-    /// The choice is made anew where the last turn noted something: a turn that notes nothing leaves
-    /// each task as ready as it was.
+    /// What is known of the choice is brought up to date where the last turn noted something: a turn that
+    /// notes nothing leaves each task as ready as it was.
     fn renew(&mut self)
         requires { (g : Setup) × (t : Turn) × MachineStands g self.old.machine t }
         ensures holds { (g : Setup) (t : Turn) → MachineHolds g self.old.machine t → MachineHolds g self.new.machine t }
-        ensures choice { (g : Setup) (t : Turn) → MachineStands g self.old.machine t → (t.notes ≡ [] → IsChoice g t.state self.old.choice) → IsChoice g t.state self.new.choice }
+        ensures choice { (g : Setup) (t : Turn) → MachineStands g self.old.machine t → WasChoice g self.old.choice → (t.notes ≡ [] → IsChoice g t.state self.old.choice) → IsChoice g t.state self.new.choice }
         ensures count { length (notes_of self.new) ≡ length (notes_of self.old) }
         ensures turns { turns_of self.new ≡ turns_of self.old }
         ensures script { self.new.script ≡ self.old.script }
@@ -361,7 +361,7 @@ impl Board {
     {
         if !self.notes().is_empty() {
             self.machine.save_context();
-            self.choice = choice_of(&self.machine.reach.kernel);
+            self.choice = choice_after(&self.machine.reach.kernel, &self.choice);
         }
     }
 

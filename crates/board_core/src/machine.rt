@@ -355,15 +355,20 @@ impl Machine {
         }
     }
 
-    /// The k-th event of a turn happens, where there is one.
-    fn happen_at(&mut self, script: &Script, turn: u32, k: u32)
+    /// The k-th event of a turn happens; where there is none, the answer is false.
+    fn happen_at(&mut self, script: &Script, turn: u32, k: u32) -> bool
         requires stands { (g : Setup) × (t : Turn) × MachineStands g self.old t × (t.state.now + 1 < 2 ^ 64) }
         requires room { note_count self.old.reach.kernel + call_notes ≤ turn_notes }
         ensures stands { (g : Setup) (t : Turn) → MachineStands g self.old t → MachineStands g self.new (happened_next g (slice_get (events_of (script_data script.now) turn) k) t) }
         ensures count { note_count self.new.reach.kernel ≤ note_count self.old.reach.kernel + call_notes }
+        ensures over { result ≡ false → slice_get (events_of (script_data script.now) turn) k ≡ None }
     {
-        if let Some(event) = script.event_at(turn, k) {
-            self.happen(event);
+        match script.event_at(turn, k) {
+            None => false,
+            Some(event) => {
+                self.happen(event);
+                true
+            }
         }
     }
 
@@ -376,7 +381,9 @@ impl Machine {
     {
         script.facts();
         for k in 0..9 {
-            self.happen_at(script, turn, k);
+            if !self.happen_at(script, turn, k) {
+                return;
+            }
         }
     }
 }

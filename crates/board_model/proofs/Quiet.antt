@@ -6,9 +6,11 @@ use Rattle.kernel_abi.specs.declared.Note.TheVariants as note
 use Rattle.words_core.specs.declared.Flags.{Flags}
 use Rattle.task_table.specs.State.{Setup, State, Turn}
 use Rattle.task_table.specs.Reading.{task_at, call_of, listen_of, chosen, qualifies, around, is_ready, is_faulted, priority}
+use Rattle.task_table.specs.Readiness.{readiness}
 use Rattle.task_table.specs.Effects.{with_processor}
 use Rattle.task_table.specs.Counts.{IsAsReady}
 use Rattle.task_table.specs.Sane.{Sane}
+use Rattle.task_table.proofs.Bits.{readiness_told, readiness_same}
 use Rattle.task_table.proofs.Noting.{noted-noted}
 use Rattle.task_table.proofs.Quieting.{ready_same, ready_then, ready-with_task, chain_quiet}
 use Rattle.board_model.specs.declared.told.Level.{Level}
@@ -31,6 +33,10 @@ ready-turn s n = record { count = refl; health = λ i. refl; ready = λ i. refl;
 same-down : (s u : State) → IsAsReady s u → is_down u ≡ is_down s
 same-down s u h = ap is_faulted (h.health 0)
 
+-- and the number that tells who is ready is the same
+as_ready : (s u : State) → IsAsReady s u → readiness u ≡ readiness s
+as_ready s u h = readiness_same s u h.count h.ready
+
 -- ## the choice
 
 find_same : (p q : ℕ → Bool) (xs : List ℕ) → ((i : ℕ) → p i ≡ q i) → find p xs ≡ find q xs
@@ -52,15 +58,23 @@ goes_same g p q n i h =
     ap (λ (b : Bool). b && list_all first (range_with_len 0 n)) (h i)
     ∙ ap (λ (b : Bool). q i && b) (all_same first then (range_with_len 0 n) (λ j. ap (λ (b : Bool). not b || leb (priority g i) (priority g j)) (h j)))
 
-chosen_same : (g : Setup) (s u : State) → IsAsReady s u → chosen g u ≡ chosen g s
+-- the choice hangs on who is ready and who is current
+chosen_by : (g : Setup) (s u : State) → length u.tasks ≡ length s.tasks → ((i : ℕ) → is_ready u i ≡ is_ready s i) → u.current ≡ s.current → chosen g u ≡ chosen g s
 unfolding chosen
-chosen_same g s u h =
-    ap (λ (n : ℕ). find (goes g (is_ready u) n) (around n u.current)) h.count
-    ∙ ap (λ (i : ℕ). find (goes g (is_ready u) (length s.tasks)) (around (length s.tasks) i)) h.current
-    ∙ find_same (goes g (is_ready u) (length s.tasks)) (goes g (is_ready s) (length s.tasks)) (around (length s.tasks) s.current) (λ i. goes_same g (is_ready u) (is_ready s) (length s.tasks) i h.ready)
+chosen_by g s u count ready current =
+    ap (λ (n : ℕ). find (goes g (is_ready u) n) (around n u.current)) count
+    ∙ ap (λ (i : ℕ). find (goes g (is_ready u) (length s.tasks)) (around (length s.tasks) i)) current
+    ∙ find_same (goes g (is_ready u) (length s.tasks)) (goes g (is_ready s) (length s.tasks)) (around (length s.tasks) s.current) (λ i. goes_same g (is_ready u) (is_ready s) (length s.tasks) i ready)
+
+chosen_same : (g : Setup) (s u : State) → IsAsReady s u → chosen g u ≡ chosen g s
+chosen_same g s u h = chosen_by g s u h.count h.ready h.current
 
 first_found : (p : ℕ → Bool) (c m k : ℕ) (rest : List ℕ) → m ≡ suc k → p c ≡ true → find p (range_with_len c m ++ rest) ≡ Some c
 first_found p c m k rest e h = rw (e, h) refl
+
+ready-current : (s : State) (c i : ℕ) → is_ready (record s { current = c }) i ≡ is_ready s i
+unfolding is_ready task_at call_of listen_of
+ready-current s c i = refl
 
 -- who is chosen stays so as the current task
 chosen_stays : {g : Setup} (s : State) (c : ℕ) → Sane g s → chosen g s ≡ Some c → chosen g record s { current = c } ≡ Some c
@@ -71,6 +85,13 @@ chosen_stays {g} s c h e =
     let found = found_in (qualifies g s) (around n s.current) c e in
     first_found (qualifies g s) c (n - c) (n - c - 1) (range_with_len 0 c) (omega arith) found.1
 
+-- who was chosen and is current is chosen again where the same tasks are ready
+pub chosen_again : (g : Setup) (s u : State) (c : ℕ) → Sane g s → Sane g u → readiness u ≡ readiness s → chosen g s ≡ Some c → u.current ≡ c → chosen g u ≡ Some c
+chosen_again g s u c sane sane_now same is current =
+    let count = sane_now.steady.as_many ∙ sym sane.steady.as_many in
+    let v : State = record s { current = c } in
+    chosen_by g v u count (λ i. readiness_told s u count same i ∙ sym (ready-current s c i)) current ∙ chosen_stays s c sane is
+
 current-down : (s : State) (c : ℕ) → is_down record s { current = c } ≡ is_down s
 unfolding task_at
 current-down s c = refl
@@ -79,9 +100,10 @@ quiet-idle : (level : Level) (t : Turn) → (told level note.Idle t).notes ≡ [
 quiet-idle Calls t none = ready_same t.state
 quiet-idle All t none = absurd (noted-noted note.Idle t none)
 
--- who is chosen next, and whether the supervisor has faulted, as in another state
+-- who is ready, who is chosen next, and whether the supervisor has faulted, as in another state
 pub record IsChosenAlike (g : Setup) (s u : State) : Type 0 where
   pub next : chosen g u ≡ chosen g s
+  pub ready : readiness u ≡ readiness s
   pub down : is_down u ≡ is_down s
 
 -- the choice after the events is the one after the turn
@@ -96,9 +118,9 @@ quiet-turn level x s h none = by_choice (chosen x.setup t.state) refl none
     by_choice None e none =
         let v : Turn = told level note.Idle t in
         let same = ready_then t.state v.state _ (quiet-idle level t none) (ready-turn v.state (v.state.turn + 1)) in
-        record { next = chosen_same x.setup t.state _ same; down = same-down t.state _ same }
+        record { next = chosen_same x.setup t.state _ same; ready = as_ready t.state _ same; down = same-down t.state _ same }
     by_choice (Some c) e none =
         let u : Turn = with_current c t in
         let v : Turn = with_registers_told level c (stepped level x.setup c u) in
         let same = ready_then u.state v.state _ (chain_quiet x.setup u.state c u v (chosen_chain level x.setup c t h e) none) (ready-turn v.state (v.state.turn + 1)) in
-        record { next = chosen_same x.setup u.state _ same ∙ chosen_stays t.state c h e ∙ sym e; down = same-down u.state _ same ∙ current-down t.state c }
+        record { next = chosen_same x.setup u.state _ same ∙ chosen_stays t.state c h e ∙ sym e; ready = as_ready u.state _ same ∙ readiness_same t.state u.state refl (ready-current t.state c); down = same-down u.state _ same ∙ current-down t.state c }

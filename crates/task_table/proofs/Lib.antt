@@ -1,6 +1,7 @@
 pub mod Once
 pub mod Changes
 pub mod Steps
+pub mod Bits
 pub mod Ranges
 pub mod Keeps
 pub mod Posting

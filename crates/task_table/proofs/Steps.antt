@@ -11,7 +11,8 @@ use Rattle.task_table.specs.Reading.{task_at, call_of, listen_of, is_ready, is_w
 use Rattle.task_table.specs.declared.Line.{Line}
 use Rattle.task_table.specs.Effects.{with_task, without_call, without_listen, noted, with_line, stored}
 use Rattle.task_table.specs.Start.{begun}
-use Rattle.task_table.specs.Holds.{Shows, Kept, IsKept, packed, packed_task, kept_call, kept_listen, wait_of, is_nothing, is_free, call_in, listen_in}
+use Rattle.task_table.specs.Holds.{Shows, Kept, IsKept, packed, packed_task, kept_call, kept_listen, wait_of, call_in, listen_in}
+use Rattle.task_table.specs.Readiness.{is_nothing, is_free}
 use Rattle.task_table.specs.declared.slot.Slot.{Slot}
 use Rattle.task_table.specs.declared.slot.Wait.TheVariants as wait
 use Rattle.task_table.proofs.Changes.{task_at-with_task, call_of-with_task, listen_of-with_task, call_of-without_call, listen_of-without_call, task_at-without_call, call_of-without_listen, listen_of-without_listen, task_at-without_listen}

@@ -1,5 +1,5 @@
 -- When the code's kernel stands for what a turn has come to.
-use Rattle.std.specs.Prelude.{ℕ, ◌%◌, ◌<◌, ◌≡◌, Bool, true, false, ◌&&◌, List, length, map, Option, Some, None, IfSome, slice_index_or, ◌==◌, if◌then◌else◌}
+use Rattle.std.specs.Prelude.{ℕ, ◌%◌, ◌<◌, ◌≡◌, Bool, ◌&&◌, List, length, map, Option, Some, None, IfSome, slice_index_or, ◌==◌, if◌then◌else◌}
 use Rattle.kernel_abi.specs.Ids.{id_of, index_of}
 use Rattle.kernel_abi.specs.declared.Note.{Note}
 use Rattle.kernel_abi.specs.declared.TaskId.{TaskId}
@@ -16,7 +16,7 @@ use Rattle.mem_banks.specs.Memory.{Memory}
 use Rattle.task_table.specs.Parts.{task_setup, line_setup}
 use Rattle.task_table.specs.Sane.{Sane}
 use Rattle.task_table.specs.State.{Setup, Task, Birth, Call, Listen, State, Taken, Range, From, Any, One, KernelOnly, Turn}
-use Rattle.task_table.specs.Reading.{is_well, is_offered, is_taken, task_at, call_of, listen_of}
+use Rattle.task_table.specs.Reading.{is_offered, is_taken, task_at, call_of, listen_of}
 
 -- ## one task
 
@@ -74,11 +74,6 @@ pub record IsKept (s : State) (i : ℕ) (slot : Slot) : Type 0 where
 
 -- ## what is read off a slot
 
-abbrev pub is_nothing : Wait → Bool
-is_nothing (wait.Call c) = false
-is_nothing (wait.Listen l) = false
-is_nothing wait.Nothing = true
-
 -- the call for whose end it waits
 abbrev pub call_in : Wait → Option OpenCall
 call_in (wait.Call c) = Some c
@@ -125,9 +120,6 @@ abbrev pub taken_wait : Wait → Wait
 taken_wait (wait.Call c) = wait.Call record c { phase = Taken }
 taken_wait (wait.Listen l) = wait.Listen l
 taken_wait wait.Nothing = wait.Nothing
-
-abbrev pub is_free : Slot → Bool
-is_free slot = is_well slot.health && is_nothing slot.wait
 
 -- ## all of it
 

@@ -3,11 +3,13 @@
 //! Most clauses say, for each setup and each turn of the abstract kernel that this kernel holds,
 //! what the answer is, or which turn the kernel holds afterwards.
 
-ghost use Rattle.std.specs.Prelude.{◌≡◌, ◌<◌, ◌≤◌, length, slice_range};
+ghost use Rattle.std.specs.Prelude.{◌≡◌, ◌<◌, ◌≤◌, length, map, slice_range};
 ghost use Rattle.task_table.specs.Limits.{most_tasks, board_lines};
+ghost use Rattle.task_table.specs.Readiness.{is_free, number_of};
 
 use crate::Line;
 use crate::limits::{LINES, TURN_NOTES};
+use crate::readiness::{ready_after, ready_tasks};
 use crate::slot::{Found, Slot, Wait};
 use crate::start::{LineStart, TaskStart, birth_slot, copies_of, first_slots};
 use arrayvec::ArrayVec;
@@ -25,6 +27,7 @@ pub struct Kernel {
     owners: Vec<LineStart>,
     fault_bits: u32,
     slots: Vec<Slot>,
+    ready: u32,
     lines: [Line; LINES],
     notes: ArrayVec<Note, TURN_NOTES>,
     memory: Memory,
@@ -36,6 +39,7 @@ pub struct Kernel {
     ghost few_owners: { length owners.items ≤ board_lines },
     ghost many: { length tasks.items ≡ length slots.items },
     ghost there: { current < length slots.items },
+    ghost ready_now: { ready ≡ number_of (map is_free slots.items) },
 }
 
 impl Kernel {
@@ -44,6 +48,7 @@ impl Kernel {
     ghost use Rattle.kernel_abi.specs.declared.Health.TheVariants.{Faulted};
     ghost use Rattle.task_table.specs.State.{Setup, State, Turn, Ground, Own};
     ghost use Rattle.mem_banks.specs.Memory.{is_ram, byte_at, number_at, IsWithin, IsWithinRam};
+    ghost use Rattle.task_table.specs.Readiness.{readiness};
     ghost use Rattle.task_table.specs.Reading.{task_at, setup_at, register, arguments, priority, is_ready, call_of, listen_of, IsSameBut};
     ghost use Rattle.task_table.specs.Effects.{changed, noted, clocked, with_line, with_processor, with_health, without_listen, stored, copied, closed, faulted_as, faulted, reborn, is_to, awaits};
     ghost use Rattle.task_table.specs.Rows.{misused, panicked, call_noted};
@@ -78,11 +83,16 @@ impl Kernel {
         ensures count { IfOk result (λ k. task_count k ≡ length tasks.now) }
         ensures notes { IfOk result (λ k. note_count k ≡ 0) }
     {
+        let copies = copies_of(alloc, tasks)?;
+        let owners = Vec::from_slice(alloc, lines)?;
+        let slots = first_slots(alloc, tasks)?;
+        let ready = ready_tasks(&slots);
         Ok(Kernel {
-            tasks: copies_of(alloc, tasks)?,
-            owners: Vec::from_slice(alloc, lines)?,
+            tasks: copies,
+            owners,
             fault_bits,
-            slots: first_slots(alloc, tasks)?,
+            slots,
+            ready,
             lines: [Line {
                 enabled: false,
                 pending: false,
@@ -194,6 +204,13 @@ impl Kernel {
     {
         let slot = self.slot(task);
         slot.is_ready()
+    }
+
+    /// Which tasks are ready, by the bit of the number of each.
+    pub fn ready(&self) -> u32
+        ensures { (g : Setup) (t : Turn) → Holds g self.now t → result ≡ readiness t.state }
+    {
+        self.ready
     }
 
     /// How a task is.
@@ -367,12 +384,13 @@ impl Kernel {
         self.next_call += 1;
     }
 
-    /// Keeps this of a task.
+    /// Keeps this of a task; the only place where what is kept of one changes.
     pub(crate) fn set_slot(&mut self, task: usize, slot: Slot)
         requires { task < task_count self.old }
         ensures holds { (g : Setup) (t : Turn) (u : State) → Holds g self.old t → IsKept u task slot → IsSameBut task t.state u → Holds g self.new record t { state = u } }
         ensures frame { AddsNotes self.old 0 self.new }
     {
+        self.ready = ready_after(self.ready, &self.slots, task, &slot);
         self.slots[task] = slot;
     }
 

@@ -7,6 +7,7 @@ mod kernel;
 pub mod laws;
 pub mod limits;
 mod message;
+mod readiness;
 mod sending;
 mod slot;
 mod start;

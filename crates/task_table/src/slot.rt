@@ -246,7 +246,7 @@ pub struct Slot {
 
 impl Slot {
     ghost use Rattle.std.specs.Prelude.{◌≡◌};
-    ghost use Rattle.task_table.specs.Holds.{is_free};
+    ghost use Rattle.task_table.specs.Readiness.{is_free};
 
     /// Whether the task is well and waits for nothing.
     pub fn is_ready(&self) -> bool

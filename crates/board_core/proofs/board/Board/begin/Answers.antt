@@ -28,6 +28,7 @@ happen-requires-clause-stands c =
       record {
         machine = begun_stands x s b c.begin.new.self st (c.begin.ensures.holds x.setup (rested b.machine s));
         turns = st.holds.turns;
+        choice = (s, st.sane, st.holds.choice);
         script = st.holds.script;
         counted = st.counted;
         nothing = c.begin.ensures.count;
@@ -40,6 +41,7 @@ returns-then-is_due-clause-midway c = λ x s st.
     c.happen.ensures.midway x s record {
       machine = begun_stands x s b c.begin.new.self st (c.begin.ensures.holds x.setup (rested b.machine s));
       turns = st.holds.turns;
+      choice = (s, st.sane, st.holds.choice);
       script = st.holds.script;
       counted = st.counted;
       nothing = c.begin.ensures.count;

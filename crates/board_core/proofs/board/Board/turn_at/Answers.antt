@@ -4,6 +4,7 @@ use Rattle.run_script.specs.Scripts.{IsNext}
 use Rattle.run_script.specs.declared.script.Script.{Script}
 use Rattle.board_model.specs.Turn.{turn, turned, turned_of, after_events}
 use Rattle.board_core.proofs.Turning.{rested, rested_as, next_of, noted_in, as_chosen, stands_after, turn_notes, choice_kept, few_events}
+use Rattle.board_model.proofs.TurnChains.{sane-after_events}
 use Rattle.board_model.proofs.Counts.{counted_turn, turn_more, later-after_events}
 use Rattle.board_core.proofs.board.Board.turn_at.Goals as goal
 
@@ -44,7 +45,7 @@ returns-clause-model c = λ x s st.
       holds = record {
         machine = rested_as x.setup m c.renew.new.self.machine (turn level x s).state (c.renew.ensures.holds x.setup _ after.holds);
         turns = let a = st.holds.turns in let b = c.begin.ensures.turns in let r = c.renew.ensures.turns in omega (arith, more, a, b, r);
-        choice = c.renew.ensures.choice x.setup (rested m (turn level x s).state) after (choice_kept level x s m _ st.sane h mid.choice);
+        choice = c.renew.ensures.choice x.setup (rested m (turn level x s).state) after ((after_events x s).state, sane-after_events x s st.sane, mid.choice) (choice_kept level x s m _ st.sane h mid.choice);
         script = ap (λ (script : Script). script_data script) c.renew.ensures.script ∙ mid.script;
         due = subst D (sym c.renew.ensures.due) (subst N (sym more) mid.due);
       };

@@ -9,17 +9,17 @@ returns-clause-holds c =
     let m = c.args.memory in
     let g = setup_of_parts m c.args.fault_bits c.args.tasks.now c.args.lines.now in
     let with : List TaskSetup → List LineSetup → Setup = λ ts ls. record g { tasks = ts; lines = ls } in
-    let tasks : map task_setup c.in_ok-copies_of.field-0.items ≡ map task_setup c.args.tasks.now = c.in_ok-copies_of.ensures.setup in
-    let lines : map line_setup c.in_ok-from_slice.field-0.items ≡ map line_setup c.args.lines.now = ap (map line_setup) c.in_ok-from_slice.ensures.items in
-    let setup : with (map task_setup c.in_ok-copies_of.field-0.items) (map line_setup c.in_ok-from_slice.field-0.items) ≡ g = rw (tasks, lines) refl in
-    shows_start m c.args.fault_bits c.args.tasks.now c.args.lines.now _ c.requires.zeros setup c.in_ok-first_slots.ensures c.new.ensures refl refl refl refl refl
+    let tasks : map task_setup c.in_ok-copies.copies.items ≡ map task_setup c.args.tasks.now = c.in_ok-copies.ensures.setup in
+    let lines : map line_setup c.in_ok-owners.owners.items ≡ map line_setup c.args.lines.now = ap (map line_setup) c.in_ok-owners.ensures.items in
+    let setup : with (map task_setup c.in_ok-copies.copies.items) (map line_setup c.in_ok-owners.owners.items) ≡ g = rw (tasks, lines) refl in
+    shows_start m c.args.fault_bits c.args.tasks.now c.args.lines.now _ c.requires.zeros setup c.in_ok-slots.ensures c.new.ensures refl refl refl refl refl
 
 pub returns-clause-stands : goal.returns-clause-stands
 returns-clause-stands c = λ sound.
     let m = c.args.memory in
     let g = setup_of_parts m c.args.fault_bits c.args.tasks.now c.args.lines.now in
     let with : List TaskSetup → List LineSetup → Setup = λ ts ls. record g { tasks = ts; lines = ls } in
-    let tasks : map task_setup c.in_ok-copies_of.field-0.items ≡ map task_setup c.args.tasks.now = c.in_ok-copies_of.ensures.setup in
-    let lines : map line_setup c.in_ok-from_slice.field-0.items ≡ map line_setup c.args.lines.now = ap (map line_setup) c.in_ok-from_slice.ensures.items in
-    let setup : with (map task_setup c.in_ok-copies_of.field-0.items) (map line_setup c.in_ok-from_slice.field-0.items) ≡ g = rw (tasks, lines) refl in
-    record { holds = shows_start m c.args.fault_bits c.args.tasks.now c.args.lines.now _ c.requires.zeros setup c.in_ok-first_slots.ensures c.new.ensures refl refl refl refl refl; sane = sane-begun g sound }
+    let tasks : map task_setup c.in_ok-copies.copies.items ≡ map task_setup c.args.tasks.now = c.in_ok-copies.ensures.setup in
+    let lines : map line_setup c.in_ok-owners.owners.items ≡ map line_setup c.args.lines.now = ap (map line_setup) c.in_ok-owners.ensures.items in
+    let setup : with (map task_setup c.in_ok-copies.copies.items) (map line_setup c.in_ok-owners.owners.items) ≡ g = rw (tasks, lines) refl in
+    record { holds = shows_start m c.args.fault_bits c.args.tasks.now c.args.lines.now _ c.requires.zeros setup c.in_ok-slots.ensures c.new.ensures refl refl refl refl refl; sane = sane-begun g sound }
