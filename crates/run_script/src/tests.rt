@@ -53,7 +53,7 @@ const ROWS: [(&[u8], u8, usize); 69] = [
     (b"at 0x1 tick\n", 3, 1),
     (b"at 1000000000 tick\n", 3, 1),
     (b"at 00000000001 tick\n", 3, 1),
-    (b"at 1 irq 32\n", 3, 1),
+    (b"at 5 irq 32\n", 3, 1),
     (b"at 1 irq tick\n", 3, 1),
     (b"at irq irq 1\n", 3, 1),
     (b"at 1 irq 18446744073709551617\n", 3, 1),
