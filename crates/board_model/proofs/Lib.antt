@@ -10,3 +10,5 @@ pub mod Outside
 pub mod FiveTasks
 pub mod Blinker
 pub mod AllTold
+pub mod ClientServer
+pub mod TwoServers
