@@ -9,4 +9,8 @@ mod building;
 #[cfg(test)]
 mod events;
 #[cfg(test)]
+mod messages;
+#[cfg(test)]
+mod playing;
+#[cfg(test)]
 mod running;
