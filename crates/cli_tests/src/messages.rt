@@ -3,8 +3,7 @@
 use crate::playing::{Case, goes};
 use std::test::Fail;
 
-const APP_1: &str =
-    "[board]
+const APP_1: &str = "[board]
 flash = 65536
 ram = 16384
 [supervisor]
@@ -33,8 +32,7 @@ ram = 256
 stack = 64
 ";
 
-const APP_2: &str =
-    "[board]
+const APP_2: &str = "[board]
 flash = 65536
 ram = 16384
 [supervisor]
@@ -77,8 +75,7 @@ ram = 256
 stack = 64
 ";
 
-const APP_3: &str =
-    "[board]
+const APP_3: &str = "[board]
 flash = 65536
 ram = 16384
 [supervisor]
@@ -107,8 +104,7 @@ ram = 256
 stack = 64
 ";
 
-const APP_4: &str =
-    "[board]
+const APP_4: &str = "[board]
 flash = 65536
 ram = 16384
 [supervisor]
@@ -144,8 +140,7 @@ ram = 256
 stack = 64
 ";
 
-const APP_5: &str =
-    "[board]
+const APP_5: &str = "[board]
 flash = 65536
 ram = 16384
 [supervisor]
@@ -181,8 +176,7 @@ ram = 256
 stack = 64
 ";
 
-const APP_6: &str =
-    "[board]
+const APP_6: &str = "[board]
 flash = 65536
 ram = 16384
 [supervisor]
@@ -225,8 +219,7 @@ ram = 256
 stack = 64
 ";
 
-const APP_7: &str =
-    "[board]
+const APP_7: &str = "[board]
 flash = 65536
 ram = 16384
 [supervisor]
@@ -248,8 +241,7 @@ ram = 256
 stack = 64
 ";
 
-const APP_8: &str =
-    "[board]
+const APP_8: &str = "[board]
 flash = 65536
 ram = 16384
 [supervisor]
@@ -278,8 +270,7 @@ ram = 256
 stack = 64
 ";
 
-const APP_9: &str =
-    "[board]
+const APP_9: &str = "[board]
 flash = 65536
 ram = 16384
 [supervisor]

@@ -6,8 +6,7 @@ use std::process::Abort;
 
 /// A task that makes the calls of a table, eight words for r4 to r11 each. Where the last word is 255, the table begins
 /// anew; where it is an address, the first four words are stored there.
-const PLAYER: &str =
-    "first:  adr r0, rows
+const PLAYER: &str = "first:  adr r0, rows
 next:   ldm r0!, {r4, r5, r6, r7}
         ldm r0!, {r1, r2, r3}
         mov r8, r1
@@ -67,5 +66,14 @@ pub(crate) fn goes(rt: &impl Abort, alloc: Global, case: &Case) -> Result<(), Al
     let words = [
         "hubris", "go", "app.toml", "e.txt", "--steps", case.steps, "--mem",
     ];
-    answers(rt, alloc, case.name, &words, &mut files, &[], case.status, case.text)
+    answers(
+        rt,
+        alloc,
+        case.name,
+        &words,
+        &mut files,
+        &[],
+        case.status,
+        case.text,
+    )
 }

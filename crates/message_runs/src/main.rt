@@ -13,8 +13,7 @@ use trace_cli::hubris_main;
 
 /// A task that makes the calls of a table, eight words for r4 to r11 each. Where the last word is 255, the table begins
 /// anew; where it is an address, the first four words are stored there.
-const PLAYER: &str =
-    "first:  adr r0, rows
+const PLAYER: &str = "first:  adr r0, rows
 next:   ldm r0!, {r4, r5, r6, r7}
         ldm r0!, {r1, r2, r3}
         mov r8, r1
@@ -34,8 +33,7 @@ rows:
 ";
 
 /// The same, but whom its calls name is not the table's first word but the task whose message it received last.
-const SERVER: &str =
-    "first:  adr r0, rows
+const SERVER: &str = "first:  adr r0, rows
 next:   ldm r0!, {r4, r5, r6, r7}
         ldm r0!, {r1, r2, r3}
         mov r8, r1
@@ -92,12 +90,7 @@ fn is_wanted(wanted: Wanted<'_>, text: &[u8]) -> bool {
 }
 
 /// Puts a file; of a source that begins with `@` or `%` the player or the server stands in its place.
-fn hold(
-    alloc: Global,
-    files: &mut MemFiles,
-    name: &str,
-    contents: &str,
-) -> Result<(), AllocError> {
+fn hold(alloc: Global, files: &mut MemFiles, name: &str, contents: &str) -> Result<(), AllocError> {
     let (front, rest) = match (contents.strip_prefix('@'), contents.strip_prefix('%')) {
         (Some(rest), _) => (PLAYER, rest),
         (None, Some(rest)) => (SERVER, rest),
@@ -129,7 +122,12 @@ fn words(alloc: Global, steps: &str) -> Result<Vec<String>, AllocError> {
 }
 
 /// Whether a case, from the turns on that its head tells, does what it wants.
-fn does_as_wanted(alloc: Global, steps: &str, status: &str, parts: &str) -> Result<bool, AllocError> {
+fn does_as_wanted(
+    alloc: Global,
+    steps: &str,
+    status: &str,
+    parts: &str,
+) -> Result<bool, AllocError> {
     let mut files = MemFiles::open(alloc, &[])?;
     let mut wanted = Wanted::Nothing;
     for part in parts.split("\n+ ").skip(1) {
