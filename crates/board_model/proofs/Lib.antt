@@ -12,3 +12,4 @@ pub mod Blinker
 pub mod AllTold
 pub mod ClientServer
 pub mod TwoServers
+pub mod SumOfLease
