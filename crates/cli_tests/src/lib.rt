@@ -9,6 +9,8 @@ mod building;
 #[cfg(test)]
 mod events;
 #[cfg(test)]
+mod leases;
+#[cfg(test)]
 mod messages;
 #[cfg(test)]
 mod playing;
