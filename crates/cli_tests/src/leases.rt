@@ -2,8 +2,7 @@
 use crate::playing::{Case, goes};
 use std::test::Fail;
 
-const APP_1: &str =
-    "[board]
+const APP_1: &str = "[board]
 flash = 65536
 ram = 16384
 [supervisor]
@@ -32,8 +31,7 @@ ram = 256
 stack = 64
 ";
 
-const APP_2: &str =
-    "[board]
+const APP_2: &str = "[board]
 flash = 65536
 ram = 16384
 [supervisor]
