@@ -16,3 +16,5 @@ mod messages;
 mod playing;
 #[cfg(test)]
 mod running;
+#[cfg(test)]
+mod supervising;
