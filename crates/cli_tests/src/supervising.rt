@@ -3,8 +3,7 @@
 use crate::playing::{Case, goes};
 use std::test::Fail;
 
-const APP_1: &str =
-    "[board]
+const APP_1: &str = "[board]
 flash = 65536
 ram = 16384
 [supervisor]
@@ -47,8 +46,7 @@ ram = 256
 stack = 64
 ";
 
-const APP_2: &str =
-    "[board]
+const APP_2: &str = "[board]
 flash = 65536
 ram = 16384
 [supervisor]
@@ -77,8 +75,7 @@ ram = 256
 stack = 64
 ";
 
-const APP_3: &str =
-    "[board]
+const APP_3: &str = "[board]
 flash = 65536
 ram = 16384
 [supervisor]
@@ -107,8 +104,7 @@ ram = 256
 stack = 64
 ";
 
-const APP_4: &str =
-    "[board]
+const APP_4: &str = "[board]
 flash = 65536
 ram = 16384
 [supervisor]
@@ -130,8 +126,7 @@ ram = 256
 stack = 64
 ";
 
-const APP_5: &str =
-    "[board]
+const APP_5: &str = "[board]
 flash = 65536
 ram = 16384
 [supervisor]
