@@ -1,6 +1,6 @@
-/* A plain interpreter of images of docs/FORMATS.md whose tasks send no messages, to compare speeds with: it writes the
-   same lines as `hubris run`. It decodes each instruction anew and checks the task's regions at each access. Images
-   and scripts are taken to be well formed.
+/* A plain interpreter of images of docs/FORMATS.md, to compare speeds with: it writes the same lines as `hubris run`. It
+   decodes each instruction anew and checks the task's regions at each access. Images and scripts are taken to be well
+   formed.
    usage: interpreter IMAGE SCRIPT STEPS [--all] */
 #include <stdio.h>
 #include <stdlib.h>
@@ -16,8 +16,8 @@ static u8 *read_task(struct task *t, const u8 *record, u8 *at) {
     t->priority = record[0];
     t->started = record[1] & 1;
     t->regions_end = t->regions + record[2];
-    t->r[PC] = word(record + 4) - 1;
-    t->r[SP] = word(record + 8);
+    t->entry = t->r[PC] = word(record + 4) - 1;
+    t->stack = t->r[SP] = word(record + 8);
     t->r[LR] = 0xffffffff;
     for (struct region *g = t->regions; g < t->regions_end; g++, at += 12)
         *g = (struct region){word(at), word(at + 4), word(at + 8)};

@@ -10,18 +10,29 @@ typedef uint64_t u64;
 
 enum { READ = 1, WRITE = 2, EXECUTE = 4, DEVICE = 8 };
 enum { SP = 13, LR = 14, PC = 15 };
-enum fault { ILLEGAL = 1, ILLEGAL_TEXT, ACCESS, UNALIGNED, STATE, BREAKPOINT, USAGE, PANIC };
-enum usage { BAD_CALL = 1, BAD_TASK_INDEX = 2, INVALID_SLICE = 3, NO_IRQ = 6 };
+enum fault { ILLEGAL = 1, ILLEGAL_TEXT, ACCESS, UNALIGNED, STATE, BREAKPOINT, USAGE, PANIC, INJECTED, REPLY };
+enum usage { BAD_CALL = 1, BAD_TASK_INDEX, INVALID_SLICE, BAD_KERNEL_MESSAGE, NOT_SUPERVISOR, NO_IRQ, OFFSET_OUT_OF_RANGE, LEASE_OUT_OF_RANGE, REPLY_TOO_BIG, BAD_REASON };
 enum outcome { DONE, CALLS, WAITS, FAULTS };
 
 struct region { u32 base, size, rights; };
+struct range { u32 base, length; };
+/* What a client waits for: number 0 where it waits for no reply. */
+struct call {
+    u32 number, operation, table, leases;
+    struct range message, reply;
+    struct task *server;
+    bool taken;
+};
 struct task {
     u32 r[16];
     u32 n, z, c, v; /* each 0 or 1 */
     struct region regions[8], *regions_end;
-    u32 index, priority;
+    u32 index, priority, generation;
+    u32 entry, stack; /* PC and SP at birth */
     u32 fault, x, y; /* 0 while it is well */
-    u32 posted, mask, timer_bits;
+    u32 posted, mask, timer_bits, source;
+    struct range buffer;
+    struct call call;
     u64 deadline;
     bool started, listens, timed;
 };
@@ -29,7 +40,7 @@ struct line { struct task *owner; u32 bits; bool enabled, pending; };
 struct board {
     struct task tasks[32];
     struct line lines[32];
-    u32 count, fault_bits, turn;
+    u32 count, fault_bits, turn, calls;
     u32 ready; /* bit k while task k can run */
     u64 now;
     u8 *flash, *ram;
@@ -49,6 +60,13 @@ static inline u32 bl_target(u32 at, u32 h, u32 h2) {
     return at + 4 + (u32)((int32_t)(offset << 7) >> 7);
 }
 
+/* Where n bytes stand; null outside the memory. */
+static inline u8 *place(u32 a, u32 n) {
+    if (a >= 0x20000000u) return (u64)(a - 0x20000000u) + n <= board.ram_size ? board.ram + (a - 0x20000000u) : 0;
+    if (a >= 0x08000000u) return (u64)(a - 0x08000000u) + n <= board.flash_size ? board.flash + (a - 0x08000000u) : 0;
+    return 0;
+}
+
 /* processor.c: the turns of one task before turn `until`, or up to the one in which it calls or faults */
 enum outcome run_task(struct task *t, u32 until);
 
@@ -64,7 +82,12 @@ void tell_tick(void);
 void tell_irq(u32 line, const char *handled);
 void tell_post(const struct task *t, u32 bits);
 void tell_call(const struct task *t);
-void tell_listen(const struct task *t, u32 source);
+void tell_listen(const struct task *t);
+void tell_offer(const struct task *t);
+void tell_take(u32 call, u32 copied);
+void tell_borrow(u32 call, const char *how, u32 lease, u32 offset, u32 moved);
+void tell_close(u32 call, const char *why);
+void tell_restart(const struct task *t);
 void tell_ret(const struct task *t);
 void tell_fault(const struct task *t);
 void tell_idle(void);

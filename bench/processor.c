@@ -8,13 +8,7 @@ static inline bool may(const struct task *t, u32 a, u32 n, u32 right) {
         if (g->base <= a && (u64)(a - g->base) + n <= g->size && (g->rights & right)) return true;
     return false;
 }
-/* Null for a device, which reads as zero and takes what is stored. */
-static inline u8 *place(u32 a, u32 n) {
-    if (a >= 0x20000000u) return (u64)(a - 0x20000000u) + n <= board.ram_size ? board.ram + (a - 0x20000000u) : 0;
-    if (a >= 0x08000000u) return (u64)(a - 0x08000000u) + n <= board.flash_size ? board.flash + (a - 0x08000000u) : 0;
-    return 0;
-}
-/* Each size by a type of its own, so that it is one load of the host. */
+/* Each size by a type of its own, so that it is one load of the host. A device reads as zero and takes what is stored. */
 static inline u32 peek(u32 a, u32 n) {
     u8 *p = place(a, n);
     uint16_t half;

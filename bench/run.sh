@@ -1,7 +1,8 @@
 #!/usr/bin/env bash
 # Speed of `hubris run` against plain C in the same run: turns per second on the two-instruction image at 10^6, 10^7 and
 # 10^8 steps with peak memory, against loop.c; and against interpreter.c, which writes the same lines: turns per second of
-# images compiled by gcc and of the 32 tasks of timers/, and bytes per second of two of those images with --all. crc32 and
+# images compiled by gcc, of the 32 tasks of timers/ and of the clients and servers of messages/ and leases/, and bytes per
+# second of two of those images and of messages/ with --all. crc32 and
 # bytecode end in `b .` after their work; here they begin it anew instead. The others (programs/) work for ever.
 # Where valgrind is there, the host's instructions a turn are counted too: they do not depend on the clock, and the script
 # ends with status 1 where one is above its limit, since an inlining that is lost is silent otherwise.
@@ -19,8 +20,12 @@ gcc -O2 -Wall -o out/measure measure.c
 data=../crates/hubris/data
 images=../crates/image_runs/data
 : > out/empty.txt
-awk -f timers/application.awk > out/timers.toml
-said=$(cd .. && "$program" build bench/out/timers.toml bench/out/timers.img) || { echo "timers not built: $said"; exit 1; }
+# each client of messages/ has a server of its own number
+for k in 1 2 3 4; do sed "s/task_server/&$k/" messages/client.s > "out/client$k.s"; done
+for application in timers messages leases; do
+    awk -f "$application/application.awk" > "out/$application.toml"
+    said=$(cd .. && "$program" build "bench/out/$application.toml" "bench/out/$application.img") || { echo "$application not built: $said"; exit 1; }
+done
 # an image compiled by gcc whose last instruction, `b .`, is a branch to its second one; its start and its end no
 # longer take stack, of which each round would take more
 endless() {
@@ -59,6 +64,10 @@ play() {
 }
 same out/timers.img timers/script.txt 20000
 same out/timers.img timers/script.txt 20000 --all
+same out/messages.img out/empty.txt 100000
+same out/messages.img out/empty.txt 20000 --all
+same out/leases.img out/empty.txt 100000
+same out/leases.img out/empty.txt 20000 --all
 for image in $compiled; do same "out/$image.img" out/empty.txt 1000000 --all; done
 for steps in 1000000 10000000 100000000; do
     read -r took peak < <(measure "$program" run "$data/a.img" out/empty.txt --steps "$steps")
@@ -69,6 +78,9 @@ for image in $compiled; do
     for steps in 10000000 100000000; do play "$image (gcc, Cortex-M0)" "out/$image.img" out/empty.txt "$steps"; done
 done
 for steps in 1000000 10000000; do play "32 tasks with timers" out/timers.img timers/script.txt "$steps"; done
+for steps in 1000000 10000000; do play "16 clients, 4 servers" out/messages.img out/empty.txt "$steps"; done
+play "16 clients, 4 servers, --all" out/messages.img out/empty.txt 1000000 --all
+for steps in 1000000 10000000; do play "8 lenders, 1 server" out/leases.img out/empty.txt "$steps"; done
 for image in crc32 bytecode; do play "$image, --all" "out/$image.img" out/empty.txt 1000000 --all; done
 command -v valgrind > out/valgrind.txt || { echo "host instructions a turn: not counted, there is no valgrind"; exit 0; }
 # the host's instructions of a run

@@ -174,11 +174,22 @@ void tell_post(const struct task *t, u32 bits) {
 void tell_call(const struct task *t) {
     end(hex_words(number(words(of_task(" call ", t), " "), t->r[11]), t->r + 4, 7));
 }
-void tell_listen(const struct task *t, u32 source) {
+void tell_listen(const struct task *t) {
     char *p = words(of_task(" listen ", t), " ");
-    p = source == ANY ? words(p, "any") : source == KERNEL ? words(p, "kernel") : number(p, source);
+    p = t->source == ANY ? words(p, "any") : t->source == KERNEL ? words(p, "kernel") : number(p, t->source);
     end(hex_words(p, &t->mask, 1));
 }
+static char *of_call(const char *kind, u32 call) { return words(number(begin(kind), call), " "); }
+void tell_offer(const struct task *t) {
+    end(number(words(number(of_call(" offer ", t->call.number), t->index), " "), t->call.server->index));
+}
+void tell_take(u32 call, u32 copied) { end(number(of_call(" take ", call), copied)); }
+void tell_borrow(u32 call, const char *how, u32 lease, u32 offset, u32 moved) {
+    char *p = words(words(of_call(" borrow ", call), how), " ");
+    end(number(words(number(words(number(p, lease), " "), offset), " "), moved));
+}
+void tell_close(u32 call, const char *why) { end(words(of_call(" close ", call), why)); }
+void tell_restart(const struct task *t) { end(number(words(of_task(" restart ", t), " "), t->generation)); }
 void tell_ret(const struct task *t) { end(hex_words(of_task(" ret ", t), t->r + 4, 6)); }
 void tell_fault(const struct task *t) {
     char *p = number(words(of_task(" fault ", t), " "), t->fault);
@@ -205,12 +216,16 @@ void tell_registers(const struct task *t) {
     end(high(begin(" "), t));
 }
 
-/* The last state of a task. Its generation is 0, since tasks are not restarted. */
+static char *wait(char *p, const struct task *t) {
+    if (t->call.number) return number(words(p, t->call.taken ? " taken:" : " offered:"), t->call.number);
+    return words(p, t->listens ? " listen" : " -");
+}
+/* The last state of a task. */
 static void tell_task(const struct task *t) {
     flush();
-    char *p = words(number(words(used, "task "), t->index), " 0 ");
+    char *p = words(number(words(number(words(used, "task "), t->index), " "), t->generation), " ");
     p = t->fault ? number(words(p, "faulted:"), t->fault) : words(p, t->started ? "well" : "stopped");
-    p = words(hex_words(words(p, t->listens ? " listen" : " -"), &t->posted, 1), " ");
+    p = words(hex_words(wait(p, t), &t->posted, 1), " ");
     end(t->timed ? hex(words(number(p, t->deadline), ":"), t->timer_bits, 8) : words(p, "-"));
     end(hex_words(words(used, "low"), t->r, 8));
     end(high(used, t));

@@ -1,6 +1,6 @@
 #!/usr/bin/env bash
 # Builds each example and compares what is built, listed and run with what stands beside it. It needs the built program
-# (crates/hubris/out/hubris, made by `rt ci` or `rt run`). Of the runs that of client-server cannot be made yet.
+# (crates/hubris/out/hubris, made by `rt ci` or `rt run`).
 set -eu
 cd "$(dirname "$0")/.."
 program=crates/hubris/out/hubris
@@ -21,6 +21,11 @@ same "$made/go.txt" "$task/expected.txt" "one-task, go"
 same "$made/mem.txt" "$task/expected-mem.txt" "one-task, go with its memory"
 "$program" run "$made/one-task.img" "$task/empty.txt" --steps 100 --mem > "$made/run.txt" || true
 same "$made/run.txt" "$task/expected-mem.txt" "one-task, build and then run"
+loan=examples/client-server
+"$program" go "$loan/app.toml" "$loan/empty.txt" --steps 1000 > "$made/go.txt"
+same "$made/go.txt" "$loan/expected.txt" "client-server, go"
+"$program" go "$loan/app.toml" "$loan/empty.txt" --steps 1000 --mem > "$made/mem.txt"
+same "$made/mem.txt" "$loan/expected-mem.txt" "client-server, go with its memory"
 light=examples/blinker
 "$program" go "$light/app.toml" "$light/script.txt" --steps 600 > "$made/go.txt"
 same "$made/go.txt" "$light/expected.txt" "blinker, go"

@@ -12,3 +12,6 @@ pub mod Outside
 pub mod FiveTasks
 pub mod Blinker
 pub mod AllTold
+pub mod ClientServer
+pub mod TwoServers
+pub mod SumOfLease

@@ -1,0 +1,92 @@
+-- A client that sends three messages to a server, which doubles a word, by computing; the lines come from another program.
+use Rattle.std.proofs.Common.{◌≡◌, ℕ, true, false, List, [], ◌∷◌, ◌++◌, None, refl}
+use Rattle.std.specs.Prelude.{replicate}
+use Rattle.kernel_abi.specs.declared.Ending.TheVariants as ending
+use Rattle.kernel_abi.specs.declared.Listened.TheVariants as listened
+use Rattle.kernel_abi.specs.declared.Note.{Note}
+use Rattle.kernel_abi.specs.declared.Note.TheVariants as note
+use Rattle.region_check.specs.Rights.{first_bad}
+use Rattle.thumb_insn.specs.Table.{rows, narrow_of, wide_rows, wide_of}
+use Rattle.thumb_exec.specs.Effect.{words, transfers, first_refused, stores_of, loaded_all, ones, count, effect}
+use Rattle.task_table.specs.State.{Setup}
+use Rattle.mem_banks.specs.Memory.{bytes_at, with_bytes, copied as copied_memory}
+use Rattle.task_table.specs.Reading.{task_at, line_at, register, arguments, call_of, listen_of, dead_code_for, is_out, is_dead, present_id, is_ready, bad_byte, chosen, offer_by, taken_by, best_sender}
+use Rattle.task_table.specs.Effects.{with_task, without_call, without_listen, with_listen, with_taken, noted, with_processor, with_health, stored, copied, looked, given, returned, past_call, bits_added, bits_cleared, woken, posted, with_timer, clocked, with_line, closed, faulted_as, with_call, offered, handed}
+use Rattle.task_table.specs.Events.{ticked, owner_of, interrupted}
+use Rattle.task_table.specs.Rows.{panicked, timer_set, timer_told, irq_controlled, received, call_noted}
+use Rattle.task_table.specs.Sends.{sent, replied, reply_faulted, post_made, refreshed}
+use Rattle.task_table.specs.Calls.{called}
+use Rattle.task_table.specs.Start.{start, begun}
+use Rattle.board_model.specs.declared.told.End.TheVariants.{Still}
+use Rattle.board_model.specs.declared.told.Level.TheVariants.{Calls}
+use Rattle.board_model.specs.Script.{Scenario}
+use Rattle.board_model.specs.Run.{Run, run, ending}
+use Rattle.board_model.specs.Turn.{after_events, stepped, with_registers_told, ended, turn}
+
+setup : Setup
+setup = record {
+  tasks =
+      record { priority = 0; entry = 134217729; stack = 536870976; start = true; regions = record { base = 134217728; size = 256; rights = record { read = true; write = false; execute = true; device = false } } ∷ record { base = 536870912; size = 256; rights = record { read = true; write = true; execute = false; device = false } } ∷ [] } ∷
+      record { priority = 1; entry = 134217985; stack = 536871232; start = true; regions = record { base = 134217984; size = 256; rights = record { read = true; write = false; execute = true; device = false } } ∷ record { base = 536871168; size = 256; rights = record { read = true; write = true; execute = false; device = false } } ∷ [] } ∷
+      record { priority = 2; entry = 134218241; stack = 536871488; start = true; regions = record { base = 134218240; size = 256; rights = record { read = true; write = false; execute = true; device = false } } ∷ record { base = 536871424; size = 256; rights = record { read = true; write = true; execute = false; device = false } } ∷ [] } ∷
+      [];
+  lines = [];
+  fault_bits = 1;
+  ram = 768;
+  line_count = 32;
+  flash =
+      (1 ∷ 38 ∷ 1 ∷ 32 ∷ 131 ∷ 70 ∷ 0 ∷ 223 ∷ []) ++ replicate 248 0 ++
+      (108 ∷ 70 ∷ 8 ∷ 37 ∷ 0 ∷ 38 ∷ 0 ∷ 39 ∷ 1 ∷ 32 ∷ 131 ∷ 70 ∷ 0 ∷ 223 ∷ 0 ∷ 153 ∷ 73 ∷ 24 ∷ 0 ∷ 145 ∷ 44 ∷ 70 ∷ 53 ∷ 70 ∷ 110 ∷ 70 ∷ 4 ∷ 39 ∷ 2 ∷ 32 ∷ 131 ∷ 70 ∷ 0 ∷ 223 ∷ 237 ∷ 231 ∷ []) ++ replicate 220 0 ++
+      (3 ∷ 35 ∷ 3 ∷ 33 ∷ 0 ∷ 145 ∷ 1 ∷ 36 ∷ 36 ∷ 4 ∷ 5 ∷ 52 ∷ 109 ∷ 70 ∷ 4 ∷ 38 ∷ 111 ∷ 70 ∷ 4 ∷ 32 ∷ 128 ∷ 70 ∷ 0 ∷ 32 ∷ 129 ∷ 70 ∷ 130 ∷ 70 ∷ 131 ∷ 70 ∷ 0 ∷ 223 ∷ 1 ∷ 59 ∷ 240 ∷ 209 ∷ 2 ∷ 79 ∷ 0 ∷ 37 ∷ 0 ∷ 38 ∷ 1 ∷ 32 ∷ 131 ∷ 70 ∷ 0 ∷ 223 ∷ 255 ∷ 255 ∷ 0 ∷ 128 ∷ []) ++ replicate 204 0;
+}
+
+scenario : Scenario
+scenario = record { setup = setup; script = record { every = None; events = [] } }
+
+expected : List (ℕ × Note)
+expected =
+    (3, note.Call 0 1 (0 ∷ 0 ∷ 1 ∷ 0 ∷ 0 ∷ 0 ∷ 0 ∷ [])) ∷
+    (3, note.Listen 0 listened.Any 1) ∷
+    (10, note.Call 1 1 (536871232 ∷ 8 ∷ 0 ∷ 0 ∷ 0 ∷ 0 ∷ 0 ∷ [])) ∷
+    (10, note.Listen 1 listened.Any 0) ∷
+    (26, note.Call 2 0 (65541 ∷ 536871488 ∷ 4 ∷ 536871488 ∷ 4 ∷ 0 ∷ 0 ∷ [])) ∷
+    (26, note.Offer 1 2 1) ∷
+    (26, note.Take 1 4) ∷
+    (26, note.Ret 1 (0 ∷ 2 ∷ 5 ∷ 4 ∷ 4 ∷ 0 ∷ [])) ∷
+    (36, note.Call 1 2 (2 ∷ 5 ∷ 536871232 ∷ 4 ∷ 4 ∷ 0 ∷ 0 ∷ [])) ∷
+    (36, note.Close 1 ending.Reply) ∷
+    (36, note.Ret 2 (5 ∷ 4 ∷ 4 ∷ 536871488 ∷ 4 ∷ 0 ∷ [])) ∷
+    (36, note.Ret 1 (2 ∷ 5 ∷ 536871232 ∷ 4 ∷ 4 ∷ 0 ∷ [])) ∷
+    (44, note.Call 1 1 (536871232 ∷ 8 ∷ 0 ∷ 0 ∷ 4 ∷ 0 ∷ 0 ∷ [])) ∷
+    (44, note.Listen 1 listened.Any 0) ∷
+    (59, note.Call 2 0 (65541 ∷ 536871488 ∷ 4 ∷ 536871488 ∷ 4 ∷ 0 ∷ 0 ∷ [])) ∷
+    (59, note.Offer 2 2 1) ∷
+    (59, note.Take 2 4) ∷
+    (59, note.Ret 1 (0 ∷ 2 ∷ 5 ∷ 4 ∷ 4 ∷ 0 ∷ [])) ∷
+    (69, note.Call 1 2 (2 ∷ 5 ∷ 536871232 ∷ 4 ∷ 4 ∷ 0 ∷ 0 ∷ [])) ∷
+    (69, note.Close 2 ending.Reply) ∷
+    (69, note.Ret 2 (5 ∷ 4 ∷ 4 ∷ 536871488 ∷ 4 ∷ 0 ∷ [])) ∷
+    (69, note.Ret 1 (2 ∷ 5 ∷ 536871232 ∷ 4 ∷ 4 ∷ 0 ∷ [])) ∷
+    (77, note.Call 1 1 (536871232 ∷ 8 ∷ 0 ∷ 0 ∷ 4 ∷ 0 ∷ 0 ∷ [])) ∷
+    (77, note.Listen 1 listened.Any 0) ∷
+    (92, note.Call 2 0 (65541 ∷ 536871488 ∷ 4 ∷ 536871488 ∷ 4 ∷ 0 ∷ 0 ∷ [])) ∷
+    (92, note.Offer 3 2 1) ∷
+    (92, note.Take 3 4) ∷
+    (92, note.Ret 1 (0 ∷ 2 ∷ 5 ∷ 4 ∷ 4 ∷ 0 ∷ [])) ∷
+    (102, note.Call 1 2 (2 ∷ 5 ∷ 536871232 ∷ 4 ∷ 4 ∷ 0 ∷ 0 ∷ [])) ∷
+    (102, note.Close 3 ending.Reply) ∷
+    (102, note.Ret 2 (5 ∷ 4 ∷ 4 ∷ 536871488 ∷ 4 ∷ 0 ∷ [])) ∷
+    (102, note.Ret 1 (2 ∷ 5 ∷ 536871232 ∷ 4 ∷ 4 ∷ 0 ∷ [])) ∷
+    (110, note.Call 1 1 (536871232 ∷ 8 ∷ 0 ∷ 0 ∷ 4 ∷ 0 ∷ 0 ∷ [])) ∷
+    (110, note.Listen 1 listened.Any 0) ∷
+    (118, note.Call 2 1 (5 ∷ 0 ∷ 0 ∷ 2147549183 ∷ 4 ∷ 0 ∷ 0 ∷ [])) ∷
+    (118, note.Listen 2 listened.Kernel 0) ∷
+    []
+
+-- the notes, how the run ended, and after how many turns
+IsTrace : Run → Type 0
+IsTrace r = (r.notes ≡ expected) × (r.end ≡ Still) × (r.last.turn ≡ 119)
+
+agrees : IsTrace (run Calls scenario 200 (start setup))
+unfolding setup scenario expected IsTrace first_bad words transfers first_refused stores_of loaded_all ones count effect rows narrow_of wide_rows wide_of run ending after_events turn ended stepped with_registers_told bytes_at with_bytes copied_memory task_at line_at register arguments call_of listen_of dead_code_for is_out is_dead present_id is_ready bad_byte chosen offer_by taken_by best_sender with_task without_call without_listen with_listen with_taken noted with_processor with_health stored copied looked given returned past_call bits_added bits_cleared woken posted with_timer clocked with_line closed faulted_as with_call offered handed ticked owner_of interrupted panicked timer_set timer_told irq_controlled received call_noted sent replied reply_faulted post_made refreshed called start begun
+agrees = (refl, refl, refl)
