@@ -4,9 +4,10 @@ ghost use Rattle.task_table.specs.Reading.{is_ready};
 ghost use Rattle.task_table.specs.Holds.{Stands, task_count, note_count};
 
 use ipc_core::recv;
-use kernel_abi::{Access, Fault, Health, Listened, Note, TaskId, Usage};
+use kernel_abi::{Health, Listened, Note, TaskId};
 use region_check::{Region, Rights};
 use std::alloc::{AllocError, Global};
+use std::process::Abort;
 use std::test::Fail;
 use task_table::{Kernel, Listening, Memory, Range, Source, TaskStart, Wait};
 use words_core::Flags;
@@ -94,144 +95,214 @@ fn receive(kernel: &mut Kernel, posted: u32, r4: u32, r5: u32, r6: u32, r7: u32)
     recv(kernel, 0, None);
 }
 
-/// That a task listens so, with so many bytes from an address on as its buffer.
-fn listening(from: Source, mask: u32, base: u32, length: u32) -> Wait {
-    Wait::Listen(Listening {
-        from,
-        mask,
-        buffer: Range { base, length },
-    })
+/// What is told of a receive: that it listens, with the source (`ANY`, `KERNEL` or an index) and the mask; that it ends,
+/// with r4 to r6; or that the task faults, with the fault's number, x and y.
+#[derive(Clone, Copy, PartialEq, Eq)]
+enum Kind {
+    Listens,
+    Ends,
+    Faults,
 }
 
-/// What the first task is told where its receive ends.
-fn told(r4: u32, r5: u32, r6: u32) -> Option<Note> {
-    Some(Note::Ret {
-        task: 0,
-        results: [r4, r5, r6, 0, 0, 0],
-    })
+const ANY: u32 = 0x1_0000;
+
+const KERNEL: u32 = 0xFFFF;
+
+/// A receive with r4 to r7 after bits were posted; what is told, the bits that stay posted, and PC then.
+#[derive(Clone, Copy)]
+struct Case {
+    name: &'static str,
+    posted: u32,
+    arguments: [u32; 4],
+    kind: Kind,
+    told: [u32; 3],
+    left: u32,
+    pc: u32,
 }
 
-/// That the first task faulted.
-fn faulted(fault: Fault) -> Option<Note> {
-    Some(Note::Fault { task: 0, fault })
+const CASES: [Case; 12] = [
+    Case {
+        name: "to any",
+        posted: 4,
+        arguments: [0x2000_0000, 32, 3, 0x7FFF_0001],
+        kind: Kind::Listens,
+        told: [ANY, 3, 0],
+        left: 4,
+        pc: 0x0800_0002,
+    },
+    Case {
+        name: "to one task",
+        posted: 0,
+        arguments: [0x2000_0000, 8, 1, 0x8000_0001],
+        kind: Kind::Listens,
+        told: [1, 1, 0],
+        left: 0,
+        pc: 0x0800_0002,
+    },
+    Case {
+        name: "to the kernel",
+        posted: 0,
+        arguments: [0, 0, 1, 0x8000_FFFF],
+        kind: Kind::Listens,
+        told: [KERNEL, 1, 0],
+        left: 0,
+        pc: 0x0800_0002,
+    },
+    Case {
+        name: "posted bits under the mask are taken",
+        posted: 6,
+        arguments: [0x2000_0000, 8, 3, 0],
+        kind: Kind::Ends,
+        told: [0, 0xFFFF, 2],
+        left: 4,
+        pc: 0x0800_0002,
+    },
+    Case {
+        name: "a dead sender",
+        posted: 0,
+        arguments: [0x2000_0000, 8, 1, 0x8000_0401],
+        kind: Kind::Ends,
+        told: [0xFFFF_FF00, 0, 0],
+        left: 0,
+        pc: 0x0800_0002,
+    },
+    Case {
+        name: "a buffer that may not be written",
+        posted: 1,
+        arguments: [0xFFFF_FFFC, 4, 1, 0],
+        kind: Kind::Faults,
+        told: [3, 0xFFFF_FFFC, 3],
+        left: 1,
+        pc: 0x0800_0000,
+    },
+    Case {
+        name: "the first byte past a region",
+        posted: 0,
+        arguments: [0x2000_0018, 9, 0, 0],
+        kind: Kind::Faults,
+        told: [3, 0x2000_0020, 3],
+        left: 0,
+        pc: 0x0800_0000,
+    },
+    Case {
+        name: "a buffer past the last address",
+        posted: 1,
+        arguments: [0xFFFF_FFFC, 5, 1, 0],
+        kind: Kind::Faults,
+        told: [7, 3, 0],
+        left: 1,
+        pc: 0x0800_0000,
+    },
+    Case {
+        name: "from itself",
+        posted: 1,
+        arguments: [0x2000_0000, 8, 1, 0x8000_0000],
+        kind: Kind::Faults,
+        told: [7, 2, 0],
+        left: 1,
+        pc: 0x0800_0000,
+    },
+    Case {
+        name: "from itself by an id of another birth",
+        posted: 0,
+        arguments: [0x2000_0000, 8, 1, 0x8000_0400],
+        kind: Kind::Faults,
+        told: [7, 2, 0],
+        left: 0,
+        pc: 0x0800_0000,
+    },
+    Case {
+        name: "from no task",
+        posted: 0,
+        arguments: [0x2000_0000, 8, 1, 0x8000_0002],
+        kind: Kind::Faults,
+        told: [7, 2, 0],
+        left: 0,
+        pc: 0x0800_0000,
+    },
+    Case {
+        name: "no bytes at all",
+        posted: 8,
+        arguments: [0xFFFF_FFFF, 0, 7, 0],
+        kind: Kind::Listens,
+        told: [ANY, 7, 0],
+        left: 8,
+        pc: 0x0800_0002,
+    },
+];
+
+/// The number of a source as `Kind` has it.
+fn number_of(from: Listened) -> u32 {
+    match from {
+        Listened::Any => ANY,
+        Listened::Kernel => KERNEL,
+        Listened::One(index) => u32::from(index),
+    }
 }
 
-#[test]
-fn it_listens_to_any(rt: HostRuntime) -> Result<(), Fail> {
-    let mut kernel = two_tasks(rt.alloc())?;
-    receive(&mut kernel, 4, 0x2000_0000, 32, 3, 0x7FFF_0001);
-    let listen = Note::Listen {
-        task: 0,
-        from: Listened::Any,
-        mask: 3,
-    };
-    assert_eq!(rt; kernel.notes().len(), 1);
-    assert_eq!(rt; kernel.notes().get(0).copied(), Some(listen));
-    assert_eq!(rt; kernel.wait(0), listening(Source::Any, 3, 0x2000_0000, 32));
-    assert_eq!(rt; kernel.register(0, 15), 0x0800_0002);
-    assert_eq!(rt; kernel.register(0, 4), 0x2000_0000);
-    assert_eq!(rt; kernel.posted_bits(0), 4);
+/// The kind of a note of the first task, with what it tells; None for others.
+fn told_by(note: Note) -> Option<(Kind, [u32; 3])> {
+    match note {
+        Note::Listen {
+            task: 0,
+            from,
+            mask,
+        } => Some((Kind::Listens, [number_of(from), mask, 0])),
+        Note::Ret { task: 0, results } => Some((Kind::Ends, [results[0], results[1], results[2]])),
+        Note::Fault { task: 0, fault } => {
+            Some((Kind::Faults, [u32::from(fault.number), fault.x, fault.y]))
+        }
+        _ => None,
+    }
+}
+
+/// The source of a number.
+fn source_of(number: u32) -> Source {
+    if number == ANY {
+        Source::Any
+    } else if number == KERNEL {
+        Source::Kernel
+    } else {
+        Source::One(TaskId::of((number % 0x1_0000) as u16))
+    }
+}
+
+/// What a receive waits for once it is told so.
+fn awaited(case: &Case) -> Wait {
+    match case.kind {
+        Kind::Listens => Wait::Listen(Listening {
+            from: source_of(case.told[0]),
+            mask: case.told[1],
+            buffer: Range {
+                base: case.arguments[0],
+                length: case.arguments[1],
+            },
+        }),
+        _ => Wait::Nothing,
+    }
+}
+
+fn receives(rt: &impl Abort, alloc: Global, case: &Case) -> Result<(), AllocError> {
+    let name = case.name;
+    let [r4, r5, r6, r7] = case.arguments;
+    let mut kernel = two_tasks(alloc)?;
+    receive(&mut kernel, case.posted, r4, r5, r6, r7);
+    assert_eq!(rt; kernel.notes().len(), 1, "{name}");
+    if let Some(note) = kernel.notes().get(0).copied() {
+        assert!(rt; told_by(note) == Some((case.kind, case.told)), "{name}");
+    }
+    assert_eq!(rt; kernel.wait(0), awaited(case), "{name}");
+    assert_eq!(rt; kernel.posted_bits(0), case.left, "{name}");
+    assert_eq!(rt; kernel.register(0, 15), case.pc, "{name}");
+    let well = kernel.health(0) == Health::Well;
+    assert_eq!(rt; well, case.kind != Kind::Faults, "{name}");
     Ok(())
 }
 
 #[test]
-fn it_listens_to_one_task(rt: HostRuntime) -> Result<(), Fail> {
-    let mut kernel = two_tasks(rt.alloc())?;
-    receive(&mut kernel, 0, 0x2000_0000, 8, 1, 0x8000_0001);
-    let listen = Note::Listen {
-        task: 0,
-        from: Listened::One(1),
-        mask: 1,
-    };
-    assert_eq!(rt; kernel.notes().get(0).copied(), Some(listen));
-    assert_eq!(rt;
-        kernel.wait(0),
-        listening(Source::One(TaskId::of(1)), 1, 0x2000_0000, 8)
-    );
-    Ok(())
-}
-
-#[test]
-fn it_listens_to_the_kernel(rt: HostRuntime) -> Result<(), Fail> {
-    let mut kernel = two_tasks(rt.alloc())?;
-    receive(&mut kernel, 0, 0, 0, 1, 0x8000_FFFF);
-    let listen = Note::Listen {
-        task: 0,
-        from: Listened::Kernel,
-        mask: 1,
-    };
-    assert_eq!(rt; kernel.notes().get(0).copied(), Some(listen));
-    assert_eq!(rt; kernel.wait(0), listening(Source::Kernel, 1, 0, 0));
-    Ok(())
-}
-
-#[test]
-fn posted_bits_under_the_mask_are_taken(rt: HostRuntime) -> Result<(), Fail> {
-    let mut kernel = two_tasks(rt.alloc())?;
-    receive(&mut kernel, 6, 0x2000_0000, 8, 3, 0);
-    assert_eq!(rt; kernel.notes().len(), 1);
-    assert_eq!(rt; kernel.notes().get(0).copied(), told(0, 0xFFFF, 2));
-    assert_eq!(rt; kernel.posted_bits(0), 4);
-    assert_eq!(rt; kernel.wait(0), Wait::Nothing);
-    assert_eq!(rt; kernel.register(0, 15), 0x0800_0002);
-    Ok(())
-}
-
-#[test]
-fn a_dead_sender_is_told(rt: HostRuntime) -> Result<(), Fail> {
-    let mut kernel = two_tasks(rt.alloc())?;
-    receive(&mut kernel, 0, 0x2000_0000, 8, 1, 0x8000_0401);
-    assert_eq!(rt; kernel.notes().len(), 1);
-    assert_eq!(rt; kernel.notes().get(0).copied(), told(0xFFFF_FF00, 0, 0));
-    assert_eq!(rt; kernel.wait(0), Wait::Nothing);
-    assert_eq!(rt; kernel.register(0, 15), 0x0800_0002);
-    Ok(())
-}
-
-#[test]
-fn a_buffer_that_may_not_be_written_is_denied(rt: HostRuntime) -> Result<(), Fail> {
-    let mut kernel = two_tasks(rt.alloc())?;
-    receive(&mut kernel, 1, 0xFFFF_FFFC, 4, 1, 0);
-    let fault = Fault::access(0xFFFF_FFFC, Access::KernelWrite);
-    assert_eq!(rt; fault.y, 3);
-    assert_eq!(rt; kernel.health(0), Health::Faulted(fault));
-    assert_eq!(rt; kernel.notes().len(), 1);
-    assert_eq!(rt; kernel.notes().get(0).copied(), faulted(fault));
-    assert_eq!(rt; kernel.posted_bits(0), 1);
-    assert_eq!(rt; kernel.register(0, 15), 0x0800_0000);
-    Ok(())
-}
-
-#[test]
-fn the_first_byte_past_a_region_is_denied(rt: HostRuntime) -> Result<(), Fail> {
-    let mut kernel = two_tasks(rt.alloc())?;
-    receive(&mut kernel, 0, 0x2000_0018, 9, 0, 0);
-    let fault = Fault::access(0x2000_0020, Access::KernelWrite);
-    assert_eq!(rt; kernel.health(0), Health::Faulted(fault));
-    Ok(())
-}
-
-#[test]
-fn a_buffer_past_the_end_of_addresses_is_invalid(rt: HostRuntime) -> Result<(), Fail> {
-    let mut kernel = two_tasks(rt.alloc())?;
-    receive(&mut kernel, 1, 0xFFFF_FFFC, 5, 1, 0);
-    let fault = Fault::usage(Usage::InvalidSlice);
-    assert_eq!(rt; kernel.health(0), Health::Faulted(fault));
-    assert_eq!(rt; kernel.notes().get(0).copied(), faulted(fault));
-    Ok(())
-}
-
-#[test]
-fn itself_and_no_task_are_no_senders(rt: HostRuntime) -> Result<(), Fail> {
-    let mut own = two_tasks(rt.alloc())?;
-    receive(&mut own, 1, 0x2000_0000, 8, 1, 0x8000_0000);
-    let fault = Fault::usage(Usage::BadTaskIndex);
-    assert_eq!(rt; own.health(0), Health::Faulted(fault));
-    let mut earlier = two_tasks(rt.alloc())?;
-    receive(&mut earlier, 0, 0x2000_0000, 8, 1, 0x8000_0400);
-    assert_eq!(rt; earlier.health(0), Health::Faulted(fault));
-    let mut out = two_tasks(rt.alloc())?;
-    receive(&mut out, 0, 0x2000_0000, 8, 1, 0x8000_0002);
-    assert_eq!(rt; out.health(0), Health::Faulted(fault));
+fn all_receives(rt: HostRuntime) -> Result<(), Fail> {
+    for case in &CASES {
+        receives(&rt, rt.alloc(), case)?;
+    }
     Ok(())
 }
