@@ -7,7 +7,8 @@ use Rattle.std.proofs.lemmas.Bool.{cases_Bool, eqb-true, leb-true, ltb-false}
 use Rattle.std.proofs.lemmas.Bool.Decides.{nat_tests}
 use Rattle.std.proofs.lemmas.List.Folds.{Any-from_list_any}
 use Rattle.app_toml.specs.Apps.{AppData, DeviceData, InterruptData, RegionData, TaskData}
-use Rattle.app_toml.specs.Crossed.{bad_device, bad_stack, count_fault, cross_fault, device_site, device_twice, entries_twice, entry_twice, has_device, has_region, has_task, interrupt_site, is_among, is_bad_stack, is_placed, is_size, is_wrong, line_fault, line_twice, meets, name_twice, notification_count, notifications_of, overlap, region_count, region_site, region_twice, start_fault, supervisor_stopped, task_count, task_site, task_twice, unknown_bit, unknown_entry, unknown_fault_bit, unknown_name, unknown_owner, unknown_region, wrong_priority}
+use Rattle.region_check.specs.Sizes.{is_size}
+use Rattle.app_toml.specs.Crossed.{bad_device, bad_stack, count_fault, cross_fault, device_site, device_twice, entries_twice, entry_twice, has_device, has_region, has_task, interrupt_site, is_among, is_bad_stack, is_placed, is_wrong, line_fault, line_twice, meets, name_twice, notification_count, notifications_of, overlap, region_count, region_site, region_twice, start_fault, supervisor_stopped, task_count, task_site, task_twice, unknown_bit, unknown_entry, unknown_fault_bit, unknown_name, unknown_owner, unknown_region, wrong_priority}
 use Rattle.app_toml.specs.Places.{Site, Text, at_entry, at_key, first_clash, first_fault, head_site, index_site, refuse_if}
 use Rattle.app_toml.specs.Relations.{AreApart, AreDistinct, HasCounts, HasDevices, HasNames, HasOwnNames, HasReferences, HasStarts, IsBeside, IsPlaced, NamesArea, Owns, Relations, no_task, task_in}
 use Rattle.app_toml.proofs.Passed.{both_none, not_refused}

@@ -1,8 +1,9 @@
 -- Causes 7 to 20 of docs/FORMATS.md, Application: each at its first place in the order of the
 -- document.
-use Rattle.std.specs.Prelude.{ℕ, Bool, not, ◌+◌, ◌%◌, ◌^◌, ◌==◌, ◌&&◌, ◌||◌, List, [], ◌∷◌, Option, None, codes, if◌then◌else◌, length, map, nat_le, nat_lt}
-use Rattle.std.specs.List.{list_any, range_with_len}
+use Rattle.std.specs.Prelude.{ℕ, Bool, not, ◌+◌, ◌%◌, ◌==◌, ◌&&◌, ◌||◌, List, [], ◌∷◌, Option, None, codes, if◌then◌else◌, length, map, nat_le, nat_lt}
+use Rattle.std.specs.List.{list_any}
 use Rattle.std.specs.Str.{bytes_eq}
+use Rattle.region_check.specs.Sizes.{is_size}
 use Rattle.app_toml.specs.Apps.{AppData, DeviceData, InterruptData, RegionData, TaskData}
 use Rattle.app_toml.specs.Places.{Refusal, Site, Text, at_entry, at_key, first_clash, first_fault, head_site, index_site, or_else, refuse_if}
 
@@ -156,14 +157,7 @@ abbrev pub line_twice : List InterruptData → ℕ → InterruptData → Option 
 line_twice before k i =
     refuse_if (list_any (λ e. e.line == i.line) before) 18 (interrupt_site k (codes "line"))
 
--- the powers of two that a device may have as its size
-abbrev pub sizes : List ℕ
-sizes = map (λ k. 2 ^ k) (range_with_len 8 22)
-
-unfoldable pub is_size : ℕ → Bool
-is_size size = list_any (λ n. size == n) sizes
-
--- its size is a power of two, its base a multiple of it, and it lies in the devices' area
+-- its size is one of a region, its base a multiple of it, and it lies in the devices' area
 abbrev pub is_placed : DeviceData → Bool
 is_placed d = is_size d.size && d.base % d.size == 0
     && nat_le 0x40000000 d.base && nat_le (d.base + d.size) 0x60000000

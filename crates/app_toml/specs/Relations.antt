@@ -1,8 +1,8 @@
 -- How the tables of every description that is read stand to one another.
 use Rattle.std.specs.Prelude.{ℕ, ◌≡◌, ◌≢◌, ◌≤◌, ◌<◌, ◌+◌, ◌%◌, ◌⊎◌, List, [], true, false, length, All, Any, AllPairs, Contains}
 use Rattle.std.specs.List.{slice_index_or}
+use Rattle.region_check.specs.Sizes.{is_size}
 use Rattle.app_toml.specs.Apps.{AppData, DeviceData, InterruptData, TaskData}
-use Rattle.app_toml.specs.Crossed.{is_size}
 use Rattle.app_toml.specs.Places.{Text}
 
 abbrev pub no_task : TaskData

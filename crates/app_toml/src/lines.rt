@@ -2,13 +2,14 @@
 
 ghost use Rattle.std.specs.Prelude.{◌≡◌, ◌<◌, ◌==◌, [], map, option_map, true};
 ghost use Rattle.std.specs.List.{list_any};
-ghost use Rattle.app_toml.specs.Crossed.{bad_device, is_placed, is_size, line_fault, line_twice, meets, overlap};
+ghost use Rattle.app_toml.specs.Crossed.{bad_device, is_placed, line_fault, line_twice, meets, overlap};
 ghost use Rattle.app_toml.specs.Held.{parts_of};
 ghost use Rattle.app_toml.specs.Places.{first_clash, first_fault};
 ghost use Rattle.app_toml.specs.Sites.{device_of, interrupt_of, refusal_of};
 
 use crate::parts::{Device, Interrupt, Parts};
 use crate::places::{Fault, fault_if, index_place, key_place};
+use region_check::is_size;
 
 fn has_line(line: u8, interrupts: &[Interrupt]) -> bool
     ensures { result ≡ list_any (λ e. e.line == line) (map interrupt_of interrupts.now) }
@@ -33,37 +34,6 @@ fn line_twice(interrupts: &[Interrupt]) -> Option<Fault<'static>>
         }
     }
     None
-}
-
-#[tactic(auto, unfolding(crate::specs::Crossed::is_size))]
-fn is_size(size: u32) -> bool
-    ensures exact { result ≡ is_size size }
-    ensures above { result ≡ true → 0 < size }
-{
-    matches!(
-        size,
-        256 | 512
-            | 1024
-            | 2048
-            | 4096
-            | 8192
-            | 16384
-            | 32768
-            | 65536
-            | 131_072
-            | 262_144
-            | 524_288
-            | 1_048_576
-            | 2_097_152
-            | 4_194_304
-            | 8_388_608
-            | 16_777_216
-            | 33_554_432
-            | 67_108_864
-            | 134_217_728
-            | 268_435_456
-            | 536_870_912
-    )
 }
 
 fn is_placed(d: &Device) -> bool

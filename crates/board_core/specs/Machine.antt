@@ -1,8 +1,8 @@
 -- The kernel as the bus of its current task, and the processor that has that task's context.
-use Rattle.std.specs.Prelude.{ℕ, ◌≡◌, Bool, true, false, Option}
+use Rattle.std.specs.Prelude.{ℕ, ◌≡◌, ◌+◌, ◌<◌, ◌^◌, Bool, true, false, Option}
 use Rattle.thumb_exec.specs.declared.cpu.Cpu.{Cpu}
 use Rattle.task_table.specs.declared.kernel.Kernel.{Kernel}
-use Rattle.task_table.specs.State.{Setup, Turn}
+use Rattle.task_table.specs.State.{Setup, State, Turn}
 use Rattle.task_table.specs.Reading.{is_ready, chosen}
 use Rattle.task_table.specs.Effects.{with_processor}
 use Rattle.task_table.specs.Start.{start, begun}
@@ -54,6 +54,10 @@ pub record IsReady (g : Setup) (m : Machine) (t : Turn) : Type 0 where
 pub record IsNext (g : Setup) (m : Machine) (t : Turn) (next : Option ℕ) : Type 0 where
   pub stands : MachineStands g m t
   pub is : next ≡ chosen g t.state
+
+-- a further call has a number of 32 bits
+abbrev pub HasNumber : State → Type 0
+HasNumber s = s.next_call + 1 < 2 ^ 32
 
 -- the kernel stands for the start of a run
 pub record IsStarted (g : Setup) (k : Kernel) : Type 0 where

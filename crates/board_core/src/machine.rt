@@ -20,7 +20,7 @@ ghost use Rattle.thumb_insn.specs.Table.{is_wide};
 ghost use Rattle.thumb_exec.specs.Sizes.{IsSize};
 ghost use Rattle.board_model.specs.Turn.{first_lacking, with_current, refusals, is_text, put, told, happened, stepped, stepped_wide, decoded_as, executed, cpu_of, with_registers_told, turn_of, turned_of, happened_next};
 ghost use Rattle.board_core.specs.Did.{Did};
-ghost use Rattle.board_core.specs.Machine.{IsStored, IsReady, IsNext, MachineHolds, MachineStands, IsLoaded};
+ghost use Rattle.board_core.specs.Machine.{IsStored, IsReady, IsNext, HasNumber, MachineHolds, MachineStands, IsLoaded};
 ghost use Rattle.board_core.specs.Texts.{GivesText, IsText};
 ghost use Rattle.board_model.specs.declared.told.Level.TheVariants.{Calls};
 
@@ -467,7 +467,7 @@ impl Machine {
     /// One instruction of the current task, with its effect on the task and on memory.
     fn execute(&mut self, insn: &Insn)
         requires coded { IsCoded insn.now }
-        requires ready { (g : Setup) × (t : Turn) × IsReady g self.old t }
+        requires ready { (g : Setup) × (t : Turn) × IsReady g self.old t × HasNumber t.state }
         requires room { note_count self.old.reach.kernel + call_notes + 1 ≤ turn_notes }
         ensures holds { (g : Setup) (t : Turn) → IsReady g self.old t → MachineHolds g self.new (executed g t.state.current insn.now t) }
         ensures count { note_count self.new.reach.kernel ≤ note_count self.old.reach.kernel + call_notes + 1 }
@@ -481,7 +481,7 @@ impl Machine {
 
     /// The current task calls the kernel.
     fn call(&mut self)
-        requires ready { (g : Setup) × (t : Turn) × IsReady g self.old t }
+        requires ready { (g : Setup) × (t : Turn) × IsReady g self.old t × HasNumber t.state }
         requires room { note_count self.old.reach.kernel + call_notes + 1 ≤ turn_notes }
         ensures holds { (g : Setup) (t : Turn) → IsReady g self.old t → MachineHolds g self.new (called g t.state.current (call_noted t.state.current t)) }
         ensures count { note_count self.new.reach.kernel ≤ note_count self.old.reach.kernel + call_notes + 1 }
@@ -508,7 +508,7 @@ impl Machine {
     /// One instruction of the current task: fetched, decoded, carried out.
     #[inline(never)]
     pub fn step(&mut self, level: Level)
-        requires ready { (g : Setup) × (t : Turn) × IsReady g self.old t }
+        requires ready { (g : Setup) × (t : Turn) × IsReady g self.old t × HasNumber t.state }
         requires room { note_count self.old.reach.kernel + call_notes + 2 ≤ turn_notes }
         ensures holds { (g : Setup) (t : Turn) → IsReady g self.old t → MachineHolds g self.new (stepped level g t.state.current t) }
         ensures count { note_count self.new.reach.kernel ≤ note_count self.old.reach.kernel + call_notes + 2 }
@@ -528,7 +528,7 @@ impl Machine {
     /// What the task that is chosen does, once the events of the turn have happened: one instruction; or
     /// nothing where none is chosen.
     pub fn turn(&mut self, level: Level, next: Option<usize>) -> Turned
-        requires next { (g : Setup) × (t : Turn) × IsNext g self.old t next }
+        requires next { (g : Setup) × (t : Turn) × IsNext g self.old t next × HasNumber t.state }
         requires room { note_count self.old.reach.kernel + call_notes + 4 ≤ turn_notes }
         ensures holds { (g : Setup) (t : Turn) → IsNext g self.old t next → MachineHolds g self.new (turn_of level g next t) }
         ensures turned { (g : Setup) (t : Turn) → IsNext g self.old t next → result ≡ turned_of t.state next }

@@ -1,5 +1,5 @@
 -- What a post and a fault leave alone.
-use Rattle.std.proofs.Common.{◌≡◌, ◌≢◌, ◌-◌, ◌^◌, ◌<◌, ℕ, Bool, true, false, cond, [], ◌∷◌, length, Option, Some, None, refl, sym, ◌∙◌, ap, eqb, bit_and, bit_or, arith}
+use Rattle.std.proofs.Common.{◌≡◌, ◌≢◌, ◌-◌, ◌^◌, ◌<◌, ℕ, Bool, true, false, cond, [], ◌∷◌, length, Option, Some, None, refl, sym, subst, ◌∙◌, ap, eqb, bit_and, bit_or, arith, inl, inr}
 use Rattle.std.proofs.lemmas.Bool.{eq-eqb, eqb-true, false≢true}
 use Rattle.kernel_abi.specs.declared.Ending.TheVariants.{Client}
 use Rattle.kernel_abi.specs.declared.Fault.{Fault}
@@ -10,6 +10,7 @@ use Rattle.task_table.specs.State.{Setup, State, Task, Listen, Turn}
 use Rattle.task_table.specs.Reading.{task_at, listen_of, IsIdle, IsSameAt, IsSameBut}
 use Rattle.task_table.specs.Effects.{with_task, without_call, without_listen, changed, noted, with_health, with_results, given, returned, bits_added, bits_cleared, woken_by, woken, posted, closed, faulted_as, faulted}
 use Rattle.task_table.specs.Start.{begun}
+use Rattle.task_table.specs.Step.{ReadsEntries}
 use Rattle.task_table.proofs.Changes.{task_at-with_task, call_of-with_task, listen_of-with_task, length-with_task, call_of-without_call, listen_of-without_call, call_of-without_listen, listen_of-without_listen, same_but-with_task, same_but-without_call, same_but-without_listen, task_at-without_call, task_at-without_listen}
 use Rattle.task_table.proofs.Moves.{aside-posted}
 use Rattle.board_model.specs.Faults.{IsSameButForFault}
@@ -121,11 +122,19 @@ both-posted i bits t u a b h =
 
 -- ## a fault
 
--- u is t but for a fault of task c, and nothing was written, or read at another task's place
+-- u is t but for a fault of task c, and nothing was written, or read at another task's place but entries of lease tables
 pub record IsLoneFault (g : Setup) (c : ℕ) (t u : Turn) : Type 0 where
   pub same : IsSameButForFault g c t.state u.state
   pub writes : u.writes ≡ t.writes
-  pub reads : u.reads ≡ t.reads
+  pub reads : ReadsEntries t u
+
+-- before it nothing happened but reads of entries
+pub lone_after : (g : Setup) (c : ℕ) (t u v : Turn) → u.state ≡ t.state → u.writes ≡ t.writes → ReadsEntries t u → IsLoneFault g c u v → IsLoneFault g c t v
+lone_after g c t u v state writes reads h = record {
+  same = subst (λ s. IsSameButForFault g c s v.state) state h.same;
+  writes = h.writes ∙ writes;
+  reads = λ r here. elim (h.reads r here) [ inl before ↦ reads r before | inr entry ↦ inr entry ];
+}
 
 module _ (g : Setup) (c : ℕ) (f : Fault) (t : Turn) where
   abbrev s : State
@@ -168,7 +177,7 @@ module _ (g : Setup) (c : ℕ) (f : Fault) (t : Turn) where
   faulted_is x y e = e ∙ ap (λ (h : Health). record x { health = h }) (sym (ap (λ (z : Task). z.health) e))
 
   lone : (u : Turn) → IsSameButForFault g c s u.state → u.writes ≡ t.writes → u.reads ≡ t.reads → IsLoneFault g c t u
-  lone u same writes reads = record { same = same; writes = writes; reads = reads }
+  lone u same writes reads = record { same = same; writes = writes; reads = λ r here. inl (rw reads at here) }
 
   pub lone-faulted : c < length t.state.tasks → IsLoneFault g c t (faulted g c f t)
   unfolding shut faulted_as begun

@@ -1,28 +1,32 @@
--- Each row of each call either is a fault of the caller at once, which changes nothing else, or leaves the caller well.
-use Rattle.std.proofs.Common.{◌≡◌, ◌<◌, ℕ, Bool, true, false, cond, not, ◌&&◌, ◌||◌, List, [], ◌∷◌, length, Option, Some, None, refl, ◌∙◌, eqb, leb, bit_and, is_some}
-use Rattle.std.specs.Prelude.{filter, fold}
-use Rattle.std.specs.List.{list_any}
-use Rattle.kernel_abi.specs.Arguments.{recv_args, timer_args, irq_args}
-use Rattle.kernel_abi.specs.Ids.{index_of}
+-- A call either faults its caller at once, which changes nothing else, or leaves the caller well.
+use Rattle.std.proofs.Common.{◌≡◌, ◌≢◌, ◌%◌, ◌<◌, ℕ, Bool, true, false, cond, List, [], ◌∷◌, length, Option, Some, None, refl, sym, ◌∙◌, eqb, bit_and}
+use Rattle.std.specs.Prelude.{fold}
+use Rattle.std.specs.List.{range_with_len}
+use Rattle.kernel_abi.specs.Ids.{dead_code_of}
+use Rattle.kernel_abi.specs.declared.Ending.{Ending}
+use Rattle.kernel_abi.specs.declared.Ending.TheVariants.{Restart}
 use Rattle.kernel_abi.specs.declared.Fault.{Fault}
-use Rattle.kernel_abi.specs.declared.Health.TheVariants.{Well}
+use Rattle.kernel_abi.specs.declared.Health.TheVariants.{Well, Faulted}
 use Rattle.kernel_abi.specs.declared.Note.{Note}
+use Rattle.kernel_abi.specs.declared.Note.TheVariants as note
 use Rattle.kernel_abi.specs.declared.Timer.{Timer}
-use Rattle.kernel_abi.specs.declared.arguments.RecvArgs.{RecvArgs}
-use Rattle.region_check.specs.declared.Right.TheVariants.{Write}
 use Rattle.words_core.specs.declared.Flags.{Flags}
 use Rattle.task_table.specs.declared.Line.{Line}
-use Rattle.task_table.specs.State.{Setup, LineSetup, Task, Call, Listen, From, Any, One, KernelOnly, Own, Turn}
 use Rattle.task_table.specs.declared.slot.Range.{Range}
-use Rattle.task_table.specs.Reading.{task_at, line_at, line_off, line_on, register, arguments, is_out, is_dead, present, is_valid, bad_byte, offer_by, best_sender}
-use Rattle.task_table.specs.Effects.{with_task, without_listen, with_taken, changed, noted, with_processor, copied, looked, given, returned, past_call, bits_added, bits_cleared, woken_by, woken, posted, with_timer, with_line, handed, faulted}
-use Rattle.task_table.specs.Rows.{misused, goes_on, goes_on_with, panicked, timer_set, timer_told, owns_with, line_controlled, irq_controlled, buffer_of, listens, receives_or_listens, offer_of, received}
-use Rattle.task_table.specs.Calls.{Meaning, calls, meaning_among, called}
-use Rattle.task_table.proofs.Changes.{task_at-without_listen}
-use Rattle.task_table.proofs.Meanings.{EachMeaning}
+use Rattle.task_table.specs.State.{Setup, State, Task, Call, Listen, Ground, Own, Message, Read, Turn}
+use Rattle.task_table.specs.Reading.{task_at, call_of, listen_of, is_ready, admits}
+use Rattle.task_table.specs.Effects.{with_task, with_call, without_listen, with_listen, with_taken, changed, noted, with_processor, with_health, stored, copied, looked, given, returned, past_call, bits_added, bits_cleared, woken_by, woken, posted, with_timer, with_line, closed, faulted_as, faulted, offered, handed, reborn, is_to, awaits, told_dead, restarted}
+use Rattle.task_table.specs.Sends.{taken_at_once, offers_call}
+use Rattle.task_table.specs.Calls.{called}
+use Rattle.task_table.specs.Sane.{Sane}
+use Rattle.task_table.specs.Step.{Step, Notes, Gives, Returns, PassesCall, Runs, Clears, Posts, Times, Lines, Listens, Sends, Receives, Stores, Copies, Looks, Borrows, Ceases, Halts, Strikes, Restarts, Spares, Spared, Outcome as Rows, Faults, Goes}
+use Rattle.task_table.proofs.Chains.{chain_keeps}
+use Rattle.task_table.proofs.Changes.{task_at-with_task_other, task_at-without_call, task_at-without_listen}
 use Rattle.task_table.proofs.Quieting.{ready-with_task}
+use Rattle.task_table.proofs.Receives.{well-ready}
+use Rattle.task_table.proofs.RowChains.{comes-called}
 use Rattle.task_table.proofs.Waiting.{task_at-with_listen}
-use Rattle.board_model.proofs.FaultFrames.{IsLoneFault, lone-faulted}
+use Rattle.board_model.proofs.FaultFrames.{IsLoneFault, lone-faulted, lone_after}
 
 -- ## who is well stays so
 
@@ -83,36 +87,109 @@ module _ (c : ℕ) where
   unfolding posted woken bits_added
   well-posted i bits t h = well-woken_by i _ _ (well-noted _ _ (well-task i _ t refl h))
 
-  well-handed : (k : Call) (buffer : Range) (t : Turn) → IsWell t → IsWell (handed Own k buffer t)
+  well-looked : (r : Read) (t : Turn) → IsWell t → IsWell (looked r t)
+  unfolding looked
+  well-looked r t h = h
+
+  well-stored : (on : Ground) (at : ℕ) (bytes : List ℕ) (t : Turn) → IsWell t → IsWell (stored on at bytes t)
+  unfolding stored task_at
+  well-stored on at bytes t h = h
+
+  well-copied : (on : Ground) (from at n : ℕ) (t : Turn) → IsWell t → IsWell (copied on from at n t)
+  unfolding copied task_at
+  well-copied on from at n t h = h
+
+  well-closed : (i : ℕ) (ending : Ending) (t : Turn) → IsWell t → IsWell (closed i ending t)
+  unfolding closed
+  well-closed i ending t h = rw (task_at-without_call t.state i c) h
+
+  well-listening : (l : Listen) (t : Turn) → IsWell t → IsWell (changed (with_listen l) t)
+  well-listening l t h = rw (task_at-with_listen t.state l c) h
+
+  well-handed : (on : Ground) (k : Call) (buffer : Range) (t : Turn) → IsWell t → IsWell (handed on k buffer t)
   unfolding handed noted copied looked task_at with_taken without_listen
-  well-handed k buffer t h = well-given k.server.index _ _ h
+  well-handed on k buffer t h = well-given k.server.index _ _ h
 
-  -- ## the rows
+  -- a call that is offered may be taken at once
+  well-offered : (k : Call) (t : Turn) → IsWell t → IsWell (offered k t)
+  unfolding offered noted with_call task_at
+  well-offered k t h = h
 
-  goes : (t : Turn) → IsWell t → IsWell (goes_on c t)
-  goes t h = well-returned c _ (well-past_call c t h)
-
-  goes_with : (values : List ℕ) (t : Turn) → IsWell t → IsWell (goes_on_with c values t)
-  goes_with values t h = goes (given c values t) (well-given c values t h)
-
-  well-controlled : (bits : ℕ) (enable : Bool) (k : ℕ) (t : Turn) → IsWell t → IsWell (line_controlled c bits enable k t)
-  well-controlled bits enable k t h = by_tests enable (line_at t.state k).pending
+  well-taken : (k : Call) (lo : Option Listen) (t : Turn) → IsWell t → IsWell (taken_at_once k lo t)
+  well-taken k None t h = h
+  well-taken k (Some l) t h = by_fit (admits l.from k.client)
     where
-      by_tests : (b p : Bool) → IsWell (cond (not b) (with_line k (line_off p) t) (cond p (posted c bits (with_line k (line_off false) t)) (with_line k line_on t)))
-      by_tests false p = well-line k (line_off p) t h
-      by_tests true true = well-posted c bits _ (well-line k (line_off false) t h)
-      by_tests true false = well-line k line_on t h
+      by_fit : (b : Bool) → IsWell (cond b (returned k.server.index (handed (Message k.number) k l.buffer t)) t)
+      by_fit true = well-returned k.server.index _ (well-handed (Message k.number) k l.buffer t h)
+      by_fit false = h
 
-  well-all_controlled : (bits : ℕ) (enable : Bool) (lines : List LineSetup) (t : Turn) → IsWell t → IsWell (fold (λ u o. line_controlled c bits enable o.line u) t lines)
-  well-all_controlled bits enable [] t h = h
-  well-all_controlled bits enable (o ∷ lines) t h = well-all_controlled bits enable lines _ (well-controlled bits enable o.line t h)
+  well-offers : (k : Call) (t : Turn) → IsWell t → IsWell (offers_call k t)
+  well-offers k t h = well-taken k (listen_of t.state k.server.index) (offered k t) (well-offered k t h)
 
-  well-listens : (x : RecvArgs) (from : From) (t : Turn) → IsWell t → IsWell (listens c x from t)
-  well-listens x from t h = well-noted _ _ (rw (task_at-with_listen (past_call c t).state _ c) (well-past_call c t h))
+  -- ## another task faults, or is born again
 
-  receives_or : (x : RecvArgs) (from : From) (o : Option Call) (t : Turn) → IsWell t → IsWell (receives_or_listens c x from o t)
-  receives_or x from None t h = well-listens x from t h
-  receives_or x from (Some k) t h = well-returned c _ (well-handed k (buffer_of x) (past_call c t) (well-past_call c t h))
+  well-other : (i : ℕ) (x : Task) (t : Turn) → i ≢ c → IsWell t → IsWell (changed (with_task i x) t)
+  well-other i x t other h = rw (task_at-with_task_other t.state i c x (λ e. other (sym e))) h
+
+  well-struck : (g : Setup) (i : ℕ) (fault : Fault) (ending : Ending) (t : Turn) → i ≢ c → IsWell t → IsWell (faulted_as g i fault ending t)
+  unfolding faulted_as with_health
+  well-struck g i fault ending t other h = by_zero (eqb i 0)
+    where
+      stopped : Turn
+      stopped = changed (with_task i record (task_at t.state i) { health = Faulted fault }) t
+
+      told : Turn
+      told = noted (note.Fault i fault) (changed (without_listen i) stopped)
+
+      shut : IsWell (closed i ending told)
+      shut = well-closed i ending told (well-noted _ _ (well-unlistened i stopped (well-other i _ t other h)))
+
+      by_zero : (b : Bool) → IsWell (cond b (closed i ending told) (posted 0 g.fault_bits (closed i ending told)))
+      by_zero true = shut
+      by_zero false = well-posted 0 g.fault_bits _ shut
+
+  well-told_dead : (i j : ℕ) (t : Turn) → IsWell t → IsWell (told_dead i t j)
+  well-told_dead i j t h = by_tests (is_to i (call_of t.state j)) (awaits i (listen_of t.state j))
+    where
+      by_tests : (b d : Bool) → IsWell (cond b (returned j (given j (dead_code_of ((task_at t.state i).births % 64) ∷ 0 ∷ []) (closed j Restart t))) (cond d (returned j (given j (dead_code_of ((task_at t.state i).births % 64) ∷ 0 ∷ 0 ∷ 0 ∷ 0 ∷ 0 ∷ []) (changed (without_listen j) t))) t))
+      by_tests true d = well-returned j _ (well-given j _ _ (well-closed j Restart t h))
+      by_tests false true = well-returned j _ (well-given j _ _ (well-unlistened j t h))
+      by_tests false false = h
+
+  well-told : (i : ℕ) (tasks : List ℕ) (t : Turn) → IsWell t → IsWell (fold (told_dead i) t tasks)
+  well-told i [] t h = h
+  well-told i (j ∷ tasks) t h = well-told i tasks (told_dead i t j) (well-told_dead i j t h)
+
+  well-restarted : (g : Setup) (i : ℕ) (start : Bool) (t : Turn) → i ≢ c → IsWell t → IsWell (restarted g i start t)
+  unfolding restarted reborn
+  well-restarted g i start t other h =
+      let shut = closed i Restart t in
+      let free = changed (without_listen i) shut in
+      well-told i (range_with_len 0 (length t.state.tasks)) _ (well-noted _ (changed (reborn g i start) free) (well-other i _ free other (well-unlistened i shut (well-closed i Restart t h))))
+
+  -- ## a step that spares a task leaves it well
+
+  well-step : (g : Setup) (s : State) (t u : Turn) (step : Step g s c t u) → Spares step → IsWell t → IsWell u
+  well-step g s _ _ (Notes n t plain) spared h = well-noted n t h
+  well-step g s _ _ (Gives i values t lt few party) spared h = well-given i values t h
+  well-step g s _ _ (Returns i t) spared h = well-returned i t h
+  well-step g s _ _ (PassesCall t lt) spared h = well-past_call c t h
+  well-step g s _ _ (Runs registers flags t lt whole) spared h = well-processor c registers flags t h
+  well-step g s _ _ (Clears mask t lt off) spared h = well-cleared c mask t h
+  well-step g s _ _ (Posts i bits t lt) spared h = well-posted i bits t h
+  well-step g s _ _ (Times timer t lt ahead) spared h = well-timer c timer t h
+  well-step g s _ _ (Lines k line t owned) spared h = well-line k line t h
+  well-step g s _ _ (Listens l t own may) spared h = well-noted _ _ (well-listening l t h)
+  well-step g s _ _ (Sends k t may) spared h = well-offers k t h
+  well-step g s _ _ (Receives k buffer t may) spared h = well-handed Own k buffer t h
+  well-step g s _ _ (Stores on at bytes t all within room may) spared h = well-stored on at bytes t h
+  well-step g s _ _ (Copies on from at n i r t target may) spared h = well-copied on from at n t h
+  well-step g s _ _ (Looks r t alive) spared h = well-looked r t h
+  well-step g s _ _ (Borrows k borrow lease offset moved t alive) spared h = well-noted _ t h
+  well-step g s _ _ (Ceases i ending t ends) spared h = well-closed i ending t h
+  well-step g s _ _ (Halts fault t lt low high) spared h = absurd spared
+  well-step g s _ _ (Strikes i fault ending t other lt low high party ends) spared h = well-struck g i fault ending t other h
+  well-step g s _ _ (Restarts i start t other lt) spared h = well-restarted g i start t other h
 
 -- what comes of a turn of task c: it faults at once, with nothing else changed, or it is well
 pub data Outcome (g : Setup) (c : ℕ) (t u : Turn) : Type 0 where
@@ -123,59 +200,18 @@ pub by_outcome : {g : Setup} {c : ℕ} {t : Turn} (b : Bool) {x y : Turn} → Ou
 by_outcome true here later = here
 by_outcome false here later = later
 
-module _ (g : Setup) (c : ℕ) (t : Turn) (inside : c < length t.state.tasks) where
-  pub outcome-faulted : (f : Fault) → Outcome g c t (faulted g c f t)
-  outcome-faulted f = FaultsAlone (lone-faulted g c f t inside)
+module _ (g : Setup) (c : ℕ) where
+  pub outcome-faulted : (t : Turn) → c < length t.state.tasks → (f : Fault) → Outcome g c t (faulted g c f t)
+  outcome-faulted t inside f = FaultsAlone (lone-faulted g c f t inside)
 
-  outcome-misused : (usage : ℕ) → Outcome g c t (misused g c usage t)
-  outcome-misused usage = outcome-faulted _
+  -- ## a call: the one walk over its rows is task_table's
 
-  outcome-panicked : Outcome g c t (panicked g c t)
-  unfolding panicked
-  outcome-panicked = outcome-faulted _
+  outcome-rows : (t u : Turn) → c < length t.state.tasks → IsWell c t → Rows g t.state c t u → Outcome g c t u
+  outcome-rows _ _ inside h (Faults f t u there low high x state notes writes reads) =
+      FaultsAlone (lone_after g c t u _ state writes reads (lone-faulted g c f u (rw state inside)))
+  outcome-rows _ _ inside h (Goes t u x) =
+      StaysWell (chain_keeps (Spared g t.state c) (IsWell c) (λ a b step. well-step c g t.state a b step.0 step.1) t u x h)
 
-  -- the rows that may go on
-  module _ (h : IsWell c t) where
-    outcome-timer_set : Outcome g c t (timer_set c t)
-    unfolding timer_set
-    outcome-timer_set =
-        let x = timer_args (arguments t.state c) in
-        by_outcome (not x.set) (StaysWell (goes c _ (well-timer c c None t h)))
-        (by_outcome (leb x.deadline t.state.now) (StaysWell (goes c _ (well-posted c c x.bits _ (well-timer c c None t h))))
-        (StaysWell (goes c _ (well-timer c c _ t h))))
-
-    outcome-timer_told : Outcome g c t (timer_told c t)
-    unfolding timer_told
-    outcome-timer_told = StaysWell (goes_with c _ t h)
-
-    outcome-irq_controlled : Outcome g c t (irq_controlled g c t)
-    unfolding irq_controlled
-    outcome-irq_controlled =
-        let x = irq_args (arguments t.state c) in
-        by_outcome (not (list_any (owns_with c x.bits) g.lines)) (outcome-misused 6)
-        (StaysWell (goes c _ (well-all_controlled c x.bits x.enable (filter (owns_with c x.bits) g.lines) t h)))
-
-    outcome-received : (best : Option ℕ) → Outcome g c t (received g c best t)
-    unfolding received
-    outcome-received best =
-        let s = t.state in
-        let x = recv_args (arguments s c) in
-        let buffer = buffer_of x in
-        let id = x.sender.number in
-        by_outcome (not (is_valid buffer)) (outcome-misused 3)
-        (by_outcome (is_some (bad_byte g c Write buffer)) (outcome-faulted _)
-        (by_outcome (x.closed && not (eqb id 0xFFFF) && (is_out s id || eqb (index_of id) c)) (outcome-misused 2)
-        (by_outcome (not (eqb (bit_and (task_at s c).posted x.mask) 0)) (StaysWell (goes_with c _ _ (well-cleared c c x.mask t h)))
-        (by_outcome (x.closed && eqb id 0xFFFF) (StaysWell (well-listens c x KernelOnly t h))
-        (by_outcome (x.closed && is_dead s id) (StaysWell (goes_with c _ t h))
-        (by_outcome x.closed (StaysWell (receives_or c x (One (present s (index_of id))) (offer_by s (index_of id) c) t h))
-        (StaysWell (receives_or c x Any (offer_of s c best) t h))))))))
-
-    -- a call of a list is one of its meanings, or a misuse
-    among : (list : List (ℕ × Meaning)) (n : ℕ) → EachMeaning (λ m. Outcome g c t (m g c t)) list → Outcome g c t (meaning_among list n g c t)
-    among [] n each = outcome-misused 1
-    among (call ∷ list) n each = by_outcome (eqb n call.0) each.0 (among list n each.1)
-
-    pub outcome-called : Outcome g c t (called g c t)
-    unfolding called
-    outcome-called = among calls (register t.state c 11) (outcome-received (best_sender g t.state c), (outcome-timer_set, (outcome-irq_controlled, (outcome-panicked, (outcome-timer_told, tt)))))
+  pub outcome-called : (t : Turn) → Sane g t.state → c < length t.state.tasks → is_ready t.state c ≡ true → Outcome g c t (called g c t)
+  outcome-called t sane inside ready =
+      outcome-rows t _ inside (well-ready t.state c ready) (comes-called g c t sane (rw (← sane.steady.as_many) inside) ready)

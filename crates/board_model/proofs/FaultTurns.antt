@@ -1,6 +1,6 @@
 -- A turn whose task faults changes nothing else: so does its instruction, or its call, and what is told changes nothing.
-use Rattle.std.proofs.Common.{◌≡◌, ◌+◌, ◌*◌, ◌%◌, ◌^◌, ◌<◌, ℕ, true, not, List, [], length, Option, Some, None, refl, sym, ◌∙◌, ap, arith}
-use Rattle.std.specs.Prelude.{fold}
+use Rattle.std.proofs.Common.{◌≡◌, ◌+◌, ◌*◌, ◌%◌, ◌^◌, ◌<◌, ℕ, true, not, List, [], length, Option, Some, None, refl, sym, ◌∙◌, ap, arith, inl, inr}
+use Rattle.std.specs.Prelude.{Contains, fold}
 use Rattle.std.proofs.lemmas.Bool.{false≢true}
 use Rattle.kernel_abi.specs.declared.Health.{Health}
 use Rattle.kernel_abi.specs.declared.Health.TheVariants.{Well}
@@ -12,7 +12,7 @@ use Rattle.thumb_insn.specs.declared.Decoded.TheVariants.{Narrow, Wide, Illegal,
 use Rattle.thumb_insn.specs.Table.{decoded_of, is_wide}
 use Rattle.thumb_exec.specs.Effect.{Effect, Next, Call, Trap, Store}
 use Rattle.task_table.specs.Memory.{number_at}
-use Rattle.task_table.specs.State.{Setup, State, Turn}
+use Rattle.task_table.specs.State.{Setup, State, Read, Turn}
 use Rattle.task_table.specs.Reading.{task_at, register, call_of, listen_of, chosen, is_faulted}
 use Rattle.task_table.specs.Effects.{noted}
 use Rattle.task_table.specs.Rows.{call_noted}
@@ -20,22 +20,23 @@ use Rattle.task_table.specs.Start.{begun}
 use Rattle.task_table.specs.Sane.{Sane}
 use Rattle.task_table.specs.Lives.{IsFresh}
 use Rattle.task_table.proofs.Receives.{well-ready}
+use Rattle.task_table.proofs.Sanity.{sane-current}
 use Rattle.board_model.specs.declared.told.Level.{Level}
 use Rattle.board_model.specs.declared.told.Level.TheVariants.{Calls, All}
 use Rattle.board_model.specs.Script.{Scenario}
 use Rattle.board_model.specs.Turn.{put, acted, executed, told, decoded_as, is_text, stepped, after_events, with_current, low_note, high_note, with_registers_told, turn_of, ended, turn}
-use Rattle.board_model.specs.Faults.{IsSameButForFault}
-use Rattle.board_model.proofs.TurnChains.{IsChosen, chosen_is, sane-after_events}
+use Rattle.board_model.specs.Faults.{IsSameButForFault, AreEntries}
 use Rattle.board_model.proofs.Events.{fresh-after_events}
+use Rattle.board_model.proofs.TurnChains.{IsChosen, chosen_is, as_current, sane-after_events}
 use Rattle.board_model.proofs.Stepping.{puts_state}
-use Rattle.board_model.proofs.FaultFrames.{both-posted}
+use Rattle.board_model.proofs.FaultFrames.{both-posted, lone_after}
 use Rattle.board_model.proofs.FaultRows.{IsWell, well-processor, Outcome, FaultsAlone, StaysWell, by_outcome, outcome-faulted, outcome-called}
 
 -- ## what is told before, and after
 
 told_before : (g : Setup) (c : ℕ) (n : Note) (t u : Turn) → Outcome g c (noted n t) u → Outcome g c t u
 unfolding noted
-told_before g c n t u (FaultsAlone h) = FaultsAlone record { same = h.same; writes = h.writes; reads = h.reads }
+told_before g c n t u (FaultsAlone h) = FaultsAlone (lone_after g c t (noted n t) u refl refl (λ r here. inl here) h)
 told_before g c n t u (StaysWell w) = StaysWell w
 
 told_after : (level : Level) (g : Setup) (c : ℕ) (n : Note) (t u : Turn) → Outcome g c t u → Outcome g c t (told level n u)
@@ -51,23 +52,23 @@ unfolding task_at
 well-puts c stores t h = ap (λ (s : State). (task_at s c).health) (puts_state stores t) ∙ h
 
 module _ (g : Setup) (c : ℕ) where
-  outcome-acted : (t : Turn) → c < length t.state.tasks → IsWell c t → (e : Effect) → Outcome g c t (acted g c e t)
+  outcome-acted : (t : Turn) → Sane g t.state → IsChosen t.state c → (e : Effect) → Outcome g c t (acted g c e t)
   unfolding call_noted noted
-  outcome-acted t inside h (Next cpu stores) = StaysWell (well-processor c c cpu.regs.words cpu.flags _ (well-puts c stores t h))
-  outcome-acted t inside h Call = told_before g c _ t _ (outcome-called g c (call_noted c t) inside h)
-  outcome-acted t inside h (Trap f) = outcome-faulted g c t inside f
+  outcome-acted t h is (Next cpu stores) = StaysWell (well-processor c c cpu.regs.words cpu.flags _ (well-puts c stores t (well-ready t.state c is.ready)))
+  outcome-acted t h is Call = told_before g c _ t _ (outcome-called g c (call_noted c t) h is.inside is.ready)
+  outcome-acted t h is (Trap f) = outcome-faulted g c t is.inside f
 
-  outcome-executed : (level : Level) (at code : ℕ) (insn : Insn) (t : Turn) → c < length t.state.tasks → IsWell c t → Outcome g c t (executed g c insn (told level (note.Insn c at code) t))
+  outcome-executed : (level : Level) (at code : ℕ) (insn : Insn) (t : Turn) → Sane g t.state → IsChosen t.state c → Outcome g c t (executed g c insn (told level (note.Insn c at code) t))
   unfolding noted
-  outcome-executed Calls at code insn t inside h = outcome-acted t inside h _
-  outcome-executed All at code insn t inside h = told_before g c (note.Insn c at code) t _ (outcome-acted (noted (note.Insn c at code) t) inside h _)
+  outcome-executed Calls at code insn t h is = outcome-acted t h is _
+  outcome-executed All at code insn t h is = told_before g c (note.Insn c at code) t _ (outcome-acted (noted (note.Insn c at code) t) h is _)
 
-  module _ (level : Level) (t : Turn) (inside : c < length t.state.tasks) (h : IsWell c t) where
+  module _ (level : Level) (t : Turn) (h : Sane g t.state) (is : IsChosen t.state c) where
     outcome-decoded : (at code : ℕ) (d : Decoded) → Outcome g c t (decoded_as level g c at code d t)
-    outcome-decoded at code (Narrow insn) = outcome-executed level at code insn t inside h
-    outcome-decoded at code (Wide insn) = outcome-executed level at code insn t inside h
-    outcome-decoded at code Illegal = outcome-faulted g c t inside _
-    outcome-decoded at code NeedsSecond = outcome-faulted g c t inside _
+    outcome-decoded at code (Narrow insn) = outcome-executed level at code insn t h is
+    outcome-decoded at code (Wide insn) = outcome-executed level at code insn t h is
+    outcome-decoded at code Illegal = outcome-faulted g c t is.inside _
+    outcome-decoded at code NeedsSecond = outcome-faulted g c t is.inside _
 
     outcome-stepped : Outcome g c t (stepped level g c t)
     unfolding stepped
@@ -76,9 +77,9 @@ module _ (g : Setup) (c : ℕ) where
         let at = register t.state c 15 in
         let after = (at + 2) % 2 ^ 32 in
         let first = number_at m at 2 in
-        by_outcome (not (is_text g c at)) (outcome-faulted g c t inside _)
+        by_outcome (not (is_text g c at)) (outcome-faulted g c t is.inside _)
         (by_outcome (not (is_wide first)) (outcome-decoded at first (decoded_of first None))
-        (by_outcome (not (is_text g c after)) (outcome-faulted g c t inside _)
+        (by_outcome (not (is_text g c after)) (outcome-faulted g c t is.inside _)
         (outcome-decoded at (first * 2 ^ 16 + number_at m after 2) (decoded_of first (Some (number_at m after 2))))))
 
     outcome-ran : Outcome g c t (with_registers_told level c (stepped level g c t))
@@ -111,7 +112,7 @@ from_events g c n s u inside h = record {
 pub record IsFaultedTurn (g : Setup) (c : ℕ) (s : State) (u : Turn) : Type 0 where
   pub same : IsSameButForFault g c s u.state
   pub writes : u.writes ≡ []
-  pub reads : u.reads ≡ []
+  pub reads : AreEntries u.reads
 
 well_is_none : (health : Health) → health ≡ Well → is_faulted health ≡ true → ⊥
 well_is_none health well faulted = false≢true (sym (ap is_faulted well) ∙ faulted)
@@ -138,12 +139,18 @@ faulted_turn level x s c sane e = by_choice (chosen x.setup t.state) e
     fresh : IsFresh s t
     fresh = fresh-after_events x s
 
+    none : (r : Read) → Contains [] r → ⊥
+    none r here = absurd (omega (arith, here.1))
+
+    here : IsChosen u.state c
+    here = record { ready = as_current c c t.state is.ready; inside = is.inside }
+
     by_outcomes : Outcome x.setup c u v → is_faulted (task_at v.state c).health ≡ true → IsFaultedTurn x.setup c t.state (ended v)
-    by_outcomes (FaultsAlone h) faulted = record { same = from_events x.setup c (v.state.turn + 1) t.state v.state some h.same; writes = h.writes ∙ fresh.writes; reads = h.reads ∙ fresh.reads }
+    by_outcomes (FaultsAlone h) faulted = record { same = from_events x.setup c (v.state.turn + 1) t.state v.state some h.same; writes = h.writes ∙ fresh.writes; reads = λ r here. elim (h.reads r here) [ inl before ↦ absurd (none r (rw fresh.reads at before)) | inr entry ↦ entry ] }
     by_outcomes (StaysWell w) faulted = absurd (well_is_none _ w faulted)
 
     by_task : (d : ℕ) → d ≡ c → is_faulted (task_at (ended (turn_of level x.setup (Some d) t)).state c).health ≡ true → IsFaultedTurn x.setup c t.state (ended (turn_of level x.setup (Some d) t))
-    by_task d same = rw same (by_outcomes (outcome-ran x.setup c level u is.inside (well-ready t.state c is.ready)))
+    by_task d same = rw same (by_outcomes (outcome-ran x.setup c level u (sane-current c t (sane-after_events x s sane) is.inside) here))
 
     by_choice : (o : Option ℕ) → o ≡ Some c → is_faulted (task_at (ended (turn_of level x.setup o t)).state c).health ≡ true → IsFaultedTurn x.setup c t.state (ended (turn_of level x.setup o t))
     by_choice None none = absurd cc

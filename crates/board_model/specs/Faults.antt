@@ -1,9 +1,10 @@
 -- What the fault of a task changes: its own health, and task 0, which is told; nothing else.
-use Rattle.std.specs.Prelude.{ℕ, ◌≡◌, ◌≢◌}
-use Rattle.task_table.specs.State.{Setup, State}
+use Rattle.std.specs.Prelude.{ℕ, ◌≡◌, ◌≢◌, List, Contains}
+use Rattle.task_table.specs.State.{Setup, State, Read}
 use Rattle.task_table.specs.Reading.{task_at, IsIdle, IsSameAt}
 use Rattle.task_table.specs.Effects.{posted}
 use Rattle.task_table.specs.Start.{begun}
+use Rattle.task_table.specs.Step.{IsEntry}
 
 -- u is s but for a fault of task c, which waits for nothing: of c the health alone changed, so it has all the registers
 -- and flags that it had; the supervisor, unless it is c, was posted the fault bits; every other task with its call and
@@ -17,3 +18,7 @@ pub record IsSameButForFault (g : Setup) (c : ℕ) (s u : State) : Type 0 where
   pub now : u.now ≡ s.now
   pub next_call : u.next_call ≡ s.next_call
   pub lines : u.lines ≡ s.lines
+
+-- each is an entry of a lease table, which is read before what the borrower asks of it is checked
+abbrev pub AreEntries : List Read → Type 0
+AreEntries reads = (r : Read) → Contains reads r → IsEntry r.part

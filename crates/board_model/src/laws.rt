@@ -18,7 +18,7 @@ ghost use Rattle.task_table.specs.Step.{Step};
 ghost use Rattle.board_model.specs.declared.told.Level.{Level as Detail};
 ghost use Rattle.board_model.specs.Script.{Scenario};
 ghost use Rattle.board_model.specs.Turn.{refusals, cpu_of, put, told, stepped, happened, after_events, with_current, with_registers_told, turn};
-ghost use Rattle.board_model.specs.Faults.{IsSameButForFault};
+ghost use Rattle.board_model.specs.Faults.{IsSameButForFault, AreEntries};
 ghost use Rattle.board_model.specs.Run.{is_down, end_at, ending};
 ghost use Rattle.board_model.specs.Lifetimes.{IsGroundedTurn, IsLedgerOfRun};
 
@@ -69,13 +69,13 @@ pub fn runs_keep_a_ledger()
 {}
 
 /// A fault changes nothing else. Where an instruction or a call faults the task that was chosen, memory and all the
-/// registers and flags of the task are after the turn as they were after its events, nothing was written or read for
-/// another task, and of the other tasks only task 0 changes: by the post of its fault bits. (Hubris Reference:
-/// supervision; that a refused instruction or call takes no effect is docs/FORMATS.md.)
+/// registers and flags of the task are after the turn as they were after its events, nothing was written for another
+/// task, nor read of one but entries of lease tables, and of the other tasks only task 0 changes: by the post of its
+/// fault bits. (Hubris Reference: supervision; that a refused instruction or call takes no effect is docs/FORMATS.md.)
 pub fn faults_change_nothing_else()
     ensures state { (level : Detail) (x : Scenario) (s : State) (c : ℕ) → Sane x.setup s → chosen x.setup (after_events x s).state ≡ Some c → is_faulted (task_at (turn level x s).state c).health ≡ true → IsSameButForFault x.setup c (after_events x s).state (turn level x s).state }
     ensures writes { (level : Detail) (x : Scenario) (s : State) (c : ℕ) → Sane x.setup s → chosen x.setup (after_events x s).state ≡ Some c → is_faulted (task_at (turn level x s).state c).health ≡ true → (turn level x s).writes ≡ [] }
-    ensures reads { (level : Detail) (x : Scenario) (s : State) (c : ℕ) → Sane x.setup s → chosen x.setup (after_events x s).state ≡ Some c → is_faulted (task_at (turn level x s).state c).health ≡ true → (turn level x s).reads ≡ [] }
+    ensures reads { (level : Detail) (x : Scenario) (s : State) (c : ℕ) → Sane x.setup s → chosen x.setup (after_events x s).state ≡ Some c → is_faulted (task_at (turn level x s).state c).health ≡ true → AreEntries (turn level x s).reads }
 {}
 
 /// The stores of an instruction change nothing of a state but its memory, and what is told changes none.

@@ -3,8 +3,7 @@ use Rattle.std.proofs.Common.{◌≡◌, ◌∙◌, ◌++◌, ◌∷◌, [], ℕ
 use Rattle.std.specs.List.{list_any}
 use Rattle.std.proofs.lemmas.Bool.{cases_Bool}
 use Rattle.std.proofs.lemmas.List.Folds.{list_any-append}
-use Rattle.app_toml.specs.Crossed.{is_size as is_device_size, sizes as device_sizes}
-use Rattle.image_format.specs.Regions.{is_size, sizes}
+use Rattle.region_check.specs.Sizes.{is_size}
 use Rattle.mem_plan.specs.Sizes.{doubled, rounded}
 
 step : (P : ℕ → Type 0) (k p s : ℕ) → P p → P (doubled k (2 * p) s) → P (doubled (suc k) p s)
@@ -33,11 +32,3 @@ fours base s = rounded_cases (λ n. base % n ≡ 0 → base % 4 ≡ 0)
 pub some_size : (s : ℕ) → 256 ≤ rounded s
 some_size s = rounded_cases (λ n. 256 ≤ n) (omega arith) (omega arith) (omega arith) (omega arith) (omega arith) (omega arith) (omega arith) (omega arith)
     (omega arith) (omega arith) (omega arith) (omega arith) (omega arith) s
-
--- a device's size is one of a region
-pub device_sized : (n : ℕ) → is_device_size n ≡ true → is_size n ≡ true
-unfolding is_size is_device_size
-device_sized n e =
-    let all : sizes ≡ device_sizes ++ (2 ^ 30 ∷ 2 ^ 31 ∷ []) = refl in
-    ap (list_any (λ k. n == k)) all ∙ list_any-append (λ k. n == k) device_sizes (2 ^ 30 ∷ 2 ^ 31 ∷ [])
-    ∙ ap (λ (b : Bool). b || list_any (λ k. n == k) (2 ^ 30 ∷ 2 ^ 31 ∷ [])) e

@@ -5,7 +5,8 @@ use Rattle.std.proofs.lemmas.List.{get_or-map, length-map}
 use Rattle.app_toml.specs.Accepted.{IsAccepted}
 use Rattle.app_toml.specs.Apps.{AppData, DeviceData}
 use Rattle.app_toml.specs.Relations.{HasDevices, IsBeside}
-use Rattle.image_format.specs.Regions.{cuts, has_shape, is_size, lies_in, meets}
+use Rattle.region_check.specs.Sizes.{is_size}
+use Rattle.image_format.specs.Regions.{cuts, has_shape, lies_in, meets}
 use Rattle.image_format.specs.declared.records.Header.{Header}
 use Rattle.image_format.specs.declared.records.RegionRecord.{RegionRecord}
 use Rattle.mem_plan.specs.Sizes.{rounded}
@@ -13,7 +14,7 @@ use Rattle.image_build.specs.Building.{IsLaid}
 use Rattle.image_build.specs.Layout.{flash_base, flash_needed, flash_sizes, flash_wanted, no_device, ram_base, ram_needed, ram_sizes, ram_wanted}
 use Rattle.image_build.specs.declared.layout.Layout.{Layout}
 use Rattle.image_build.proofs.Planning.{flash_most}
-use Rattle.image_build.proofs.Rounding.{device_sized, is_sized}
+use Rattle.image_build.proofs.Rounding.{is_sized}
 use Rattle.image_build.proofs.Walking.{IsFine}
 
 pub data Spot : Type 0 where
@@ -242,5 +243,5 @@ fine app layout l devices h flash ram (in_ram k) r x =
 fine app layout l devices h flash ram (at_device d) r x =
     let device = get_or app.devices d no_device in
     let placed = devices.placed d no_device x.spot in
-    fine_device h r x.rights (shape_as r device.base device.size x.base x.size (device_sized device.size placed.size) placed.base)
+    fine_device h r x.rights (shape_as r device.base device.size x.base x.size placed.size placed.base)
     (area_as r device.base device.size 0x40000000 0x60000000 x.base x.size placed.first placed.last)

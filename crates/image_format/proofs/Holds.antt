@@ -16,7 +16,8 @@ use Rattle.image_format.specs.Accepted.{Accepted}
 use Rattle.image_format.specs.Facts.{Facts, HasLines, HasRegions, HasSizes, HasTasks, IsInFlash, IsInRam, SameOrApart}
 use Rattle.image_format.specs.Picture.{LinePicture, Picture, TaskPicture, line_of, no_line, no_task, picture_of, region_of, regions_in, rights_of, task_of, tasks_of}
 use Rattle.image_format.specs.Records.{Records}
-use Rattle.image_format.specs.Regions.{clashes, cuts, entries_from, entry_fault, has_area, is_size, lies_in, meets, own_fault, region_fault, regions_from, runs_at, sizes}
+use Rattle.image_format.specs.Regions.{clashes, cuts, entries_from, entry_fault, has_area, lies_in, meets, own_fault, region_fault, regions_from, runs_at}
+use Rattle.region_check.specs.Sizes.{is_size, sizes}
 use Rattle.image_format.specs.Steps.{counted, line_fault, lines_from, lines_place, task_fault, tasks_from}
 use Rattle.image_format.proofs.Chunks.{blank}
 use Rattle.image_format.proofs.Limits.{limits, or_false, row_none}

@@ -1,19 +1,13 @@
 -- The refusals of regions and of entries: a cause, and the place of a byte.
 use Rattle.std.specs.Prelude.{ℕ, Bool, not, ◌+◌, ◌*◌, ◌%◌, ◌^◌, ◌==◌, ◌&&◌, ◌||◌, List, [], ◌∷◌, ◌++◌, Option, Some, None, if◌then◌else◌, nat_lt, nat_le, take, drop, map}
 use Rattle.std.specs.List.{list_any, range_with_len}
+use Rattle.region_check.specs.Sizes.{is_size}
 use Rattle.image_format.specs.declared.records.Header.{Header}
 use Rattle.image_format.specs.declared.records.TaskRecord.{TaskRecord}
 use Rattle.image_format.specs.declared.records.RegionRecord.{RegionRecord}
 use Rattle.image_format.specs.Steps.{Refusal, first, or_else}
 
 -- ---- one region
-
--- the powers of two from 256 on that fit 32 bits
-abbrev pub sizes : List ℕ
-sizes = map (λ k. 2 ^ k) (range_with_len 8 24)
-
-unfoldable pub is_size : ℕ → Bool
-is_size size = list_any (λ k. size == k) sizes
 
 abbrev pub has_shape : RegionRecord → Bool
 has_shape r = is_size r.size && r.base % r.size == 0

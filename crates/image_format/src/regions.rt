@@ -2,43 +2,11 @@
 
 ghost use Rattle.std.specs.Prelude.{◌≡◌, ◌≤◌, ◌+◌, ◌*◌, ◌<◌, ◌^◌, [], true, length, None};
 ghost use Rattle.std.specs.List.{list_any};
-ghost use Rattle.image_format.specs.Regions.{clashes, cuts, entries_fault, entry_fault, has_area, has_rights, has_shape, is_size, lies_in, meets, own_fault, region_fault, regions_fault, runs_at};
+ghost use Rattle.image_format.specs.Regions.{clashes, cuts, entries_fault, entry_fault, has_area, has_rights, has_shape, lies_in, meets, own_fault, region_fault, regions_fault, runs_at};
 ghost use Rattle.image_format.specs.Steps.{count_fault, field_fault, tasks_fault};
 
 use crate::records::{Header, RegionRecord, TaskRecord};
-
-#[tactic(auto, unfolding(crate::specs::Regions::is_size))]
-fn is_size(size: u32) -> bool
-    ensures exact { result ≡ is_size size }
-    ensures above { result ≡ true → 0 < size }
-{
-    matches!(
-        size,
-        256 | 512
-            | 1024
-            | 2048
-            | 4096
-            | 8192
-            | 16384
-            | 32768
-            | 65536
-            | 131_072
-            | 262_144
-            | 524_288
-            | 1_048_576
-            | 2_097_152
-            | 4_194_304
-            | 8_388_608
-            | 16_777_216
-            | 33_554_432
-            | 67_108_864
-            | 134_217_728
-            | 268_435_456
-            | 536_870_912
-            | 1_073_741_824
-            | 2_147_483_648
-    )
-}
+use region_check::is_size;
 
 fn has_shape(r: &RegionRecord) -> bool
     ensures { result ≡ has_shape r.now }

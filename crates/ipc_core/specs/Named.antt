@@ -4,8 +4,8 @@ use Rattle.kernel_abi.specs.Ids.{index_of}
 use Rattle.kernel_abi.specs.declared.arguments.RecvArgs.{RecvArgs}
 use Rattle.task_table.specs.State.{State}
 use Rattle.task_table.specs.Reading.{task_at, is_out, is_dead}
-use Rattle.ipc_core.specs.declared.Sender.{Sender}
-use Rattle.ipc_core.specs.declared.Sender.TheVariants.{Any, Kernel, Dead, One}
+use Rattle.ipc_core.specs.declared.receiving.Sender.{Sender}
+use Rattle.ipc_core.specs.declared.receiving.Sender.TheVariants.{Any, Kernel, Dead, One}
 
 -- a closed receive names the kernel; else a task that is there and not the caller, at an earlier birth or the present one
 abbrev pub IsSender : State → ℕ → RecvArgs → Sender → Type 0

@@ -108,18 +108,21 @@ module _ (g : Setup) (c : ℕ) (t : Turn) (h : Sane g t.state) (inside : c < len
       let part = part_of x e in
       let t1 = entry_read k x.lease e t in
       reads_entry k taken x.lease e
-      ▷ (Copies (Lease k.number) x.buffer_base part.base part.length k.client.index part t1 record { good = lender; base = refl; fits = omega arith } (λ a low high. record {
-        call = k;
-        taken = taken;
-        lease = x.lease;
-        there = there;
-        attributes = e.attributes;
-        range = lease_range e;
-        read = Contains-push t.reads (entry k taken x.lease e);
-        writable = bit;
-        lies = (omega arith, omega arith);
-        may = may-write g k.client.index part a lender (low, high);
-      }), tt)
+      ▷ (
+        Copies (Lease k.number) x.buffer_base part.base part.length k.client.index part t1 record { good = lender; base = refl; fits = omega arith } (λ a low high. record {
+          call = k;
+          taken = taken;
+          lease = x.lease;
+          there = there;
+          attributes = e.attributes;
+          range = lease_range e;
+          read = Contains-push t.reads (entry k taken x.lease e);
+          writable = bit;
+          lies = (omega arith, omega arith);
+          may = may-write g k.client.index part a lender (low, high);
+        }),
+        tt,
+      )
 
   lends : (way : Way) (x : BorrowArgs) → Moving way x → (i : ℕ) (o : Option Call) → taken_by t.state i c ≡ o → Comes g c t (borrowed_by g way c x o t)
   lends way x moving i None found = refuses 1 t (Here t)

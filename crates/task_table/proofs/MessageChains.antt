@@ -85,23 +85,26 @@ module _ (g : Setup) (c : ℕ) (t : Turn) (h : Sane g t.state) (inside : c < len
         let u = past_call c t in
         let server = index_of id in
         let there : server < length g.tasks = rw (← h.steady.as_many) (is_there s id two.0) in
-        Goes t _ (one (PassesCall t inside, tt) ▷ (Sends (call_made u.state c x server) u record {
-          fit = record {
-            client = inside;
-            server = there;
-            apart = λ e. absurd (false≢true (sym two.1 ∙ eq-eqb _ _ (sym e)));
-            valid = (not-false _ three.0, not-false _ rest.0, not-false _ rest.1);
-            readable = none_left _ readable;
-            writable = none_left _ writable;
-          };
-          new = record { client = refl; free = idle.call; number = refl; next = next-past_call c t; phase = refl };
-          idle = idle;
-          well = health-past_call c t c within ∙ well-ready s c ready;
-          client_birth = refl;
-          server_birth = refl;
-          listens = listens-past_call c t;
-          fit_listens = h.steady.listens.fit;
-        }, tt)))))))
+        Goes t _ (one (PassesCall t inside, tt) ▷ (
+          Sends (call_made u.state c x server) u record {
+            fit = record {
+              client = inside;
+              server = there;
+              apart = λ e. absurd (false≢true (sym two.1 ∙ eq-eqb _ _ (sym e)));
+              valid = (not-false _ three.0, not-false _ rest.0, not-false _ rest.1);
+              readable = none_left _ readable;
+              writable = none_left _ writable;
+            };
+            new = record { client = refl; free = idle.call; number = refl; next = next-past_call c t; phase = refl };
+            idle = idle;
+            well = health-past_call c t c within ∙ well-ready s c ready;
+            client_birth = refl;
+            server_birth = refl;
+            listens = listens-past_call c t;
+            fit_listens = h.steady.listens.fit;
+          },
+          tt,
+        )))))))
 
   -- ## REPLY and REPLY_FAULT
 
@@ -116,8 +119,11 @@ module _ (g : Setup) (c : ℕ) (t : Turn) (h : Sane g t.state) (inside : c < len
       let fits : x.reply_length ≤ k.reply.length = ltb-false k.reply.length x.reply_length short in
       let u = copied (Reply k.number) x.reply_base k.reply.base x.reply_length t in
       goes g c t inside _
-      (one (Copies (Reply k.number) x.reply_base k.reply.base x.reply_length k.client.index k.reply t record { good = fit.writable; base = refl; fits = fits }
-      (λ a low high. let lies : Lies k.reply a = (low, omega arith) in record { call = k; taken = f; lies = lies; may = may-write g k.client.index k.reply a fit.writable lies }), tt)
+      (one (
+        Copies (Reply k.number) x.reply_base k.reply.base x.reply_length k.client.index k.reply t record { good = fit.writable; base = refl; fits = fits }
+            (λ a low high. let lies : Lies k.reply a = (low, omega arith) in record { call = k; taken = f; lies = lies; may = may-write g k.client.index k.reply a fit.writable lies }),
+        tt,
+      )
       ▷ (Ceases k.client.index ending.Reply u (rw (call_of-copied (Reply k.number) x.reply_base k.reply.base x.reply_length k.client.index t) (call_taken t.state h k f.here f.phase)), tt)
       ▷ (Gives k.client.index (x.code ∷ x.reply_length ∷ []) _ fit.client (omega arith) (inr (k, f.here, refl)), tt)
       ▷ (Returns k.client.index _, tt)))))

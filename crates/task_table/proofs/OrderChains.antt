@@ -94,10 +94,13 @@ module _ (g : Setup) (c : ℕ) (t : Turn) (h : Sane g t.state) (inside : c < len
         one (Stores Own x.reply_base (status_bytes health) t (status_all health) fits fits (λ a low high. may-write g c (reply_room x) a writable (low, omega arith)), tt)
 
     all_done : EachOrder (IsDone x) orders
-    all_done =
-        ( λ index lt other room. leads-status (task_at t.state index).health room
-        , ( λ index lt other room. one (Restarts index _ t (other refl) lt, tt)
-          , ( λ index lt other room. leads-injected index lt (other refl), tt)))
+    all_done = (
+      λ index lt other room. leads-status (task_at t.state index).health room,
+      (
+        λ index lt other room. one (Restarts index _ t (other refl) lt, tt),
+        (λ index lt other room. leads-injected index lt (other refl), tt),
+      ),
+    )
 
     -- ## the rows
 

@@ -92,14 +92,17 @@ module _ (g : Setup) (c : ℕ) (t : Turn) (h : Sane g t.state) (inside : c < len
   listen : (x : RecvArgs) (from : From) → is_valid (buffer_of x) ≡ true → bad_byte g c Write (buffer_of x) ≡ None → bit_and (task_at t.state c).posted x.mask ≡ 0 → ((b : Birth) → from ≡ One b → (b.index < length g.tasks) × (b.index ≢ c) × ((task_at t.state b.index).births ≡ b.birth)) → ((k : Call) → Contains t.state.calls k → k.phase ≡ Offered → k.server.index ≡ c → admits from k.client ≡ false) → Comes g c t (listens c x from t)
   listen x from valid writable unmet names unfit =
       let l : Listen = record { task = c; from = from; mask = x.mask; buffer = buffer_of x } in
-      Goes t _ (one (PassesCall t inside, tt) ▷ (Listens l (past_call c t) refl record {
-        fit = record { there = inside; names = λ b e. let n = names b e in (n.0, n.1); valid = valid; writable = writable };
-        well = health-past_call c t c within ∙ well-ready t.state c ready;
-        idle = idle-past_call c t c idle;
-        named = λ b e. births-past_call c t b.index within ∙ (names b e).2;
-        unmet = rw (posted-past_call c t c within) unmet;
-        unfit = λ k here. unfit k (rw (calls-past_call c t) at here);
-      }, tt))
+      Goes t _ (one (PassesCall t inside, tt) ▷ (
+        Listens l (past_call c t) refl record {
+          fit = record { there = inside; names = λ b e. let n = names b e in (n.0, n.1); valid = valid; writable = writable };
+          well = health-past_call c t c within ∙ well-ready t.state c ready;
+          idle = idle-past_call c t c idle;
+          named = λ b e. births-past_call c t b.index within ∙ (names b e).2;
+          unmet = rw (posted-past_call c t c within) unmet;
+          unfit = λ k here. unfit k (rw (calls-past_call c t) at here);
+        },
+        tt,
+      ))
 
   receive : (x : RecvArgs) (k : Call) → Contains t.state.calls k → k.phase ≡ Offered → k.server.index ≡ c → bad_byte g c Write (buffer_of x) ≡ None → Comes g c t (receives c x k t)
   receive x k here offered server writable =
@@ -161,21 +164,46 @@ module _ (g : Setup) (c : ℕ) (t : Turn) (h : Sane g t.state) (inside : c < len
   comes-sent_or_ordered = by_outcome (is_to_kernel t.state c) (λ kernel. comes-ordered g c t h inside) (λ other. comes-sent g c t h inside ready)
 
   each : EachMeaning (λ m. Comes g c t (m g c t)) calls
-  each =
-      ( comes-sent_or_ordered
-      , ( comes-received (best_sender g t.state c) refl
-        , ( comes-replied g c t h inside
-          , ( comes-timer_set g c t inside
-            , ( comes-read g c t h inside
-              , ( comes-written g c t h inside
-                , ( comes-informed g c t h inside
-                  , ( comes-irq_controlled g c t inside
-                    , ( comes-panicked g c t inside
-                      , ( comes-timer_told g c t inside
-                        , ( comes-refreshed g c t h inside
-                          , ( comes-post_made g c t h inside
-                            , ( comes-reply_faulted g c t h inside
-                              , tt)))))))))))))
+  each = (
+    comes-sent_or_ordered,
+    (
+      comes-received (best_sender g t.state c) refl,
+      (
+        comes-replied g c t h inside,
+        (
+          comes-timer_set g c t inside,
+          (
+            comes-read g c t h inside,
+            (
+              comes-written g c t h inside,
+              (
+                comes-informed g c t h inside,
+                (
+                  comes-irq_controlled g c t inside,
+                  (
+                    comes-panicked g c t inside,
+                    (
+                      comes-timer_told g c t inside,
+                      (
+                        comes-refreshed g c t h inside,
+                        (
+                          comes-post_made g c t h inside,
+                          (
+                            comes-reply_faulted g c t h inside,
+                            tt,
+                          ),
+                        ),
+                      ),
+                    ),
+                  ),
+                ),
+              ),
+            ),
+          ),
+        ),
+      ),
+    ),
+  )
 
   pub comes-called : Comes g c t (called g c t)
   unfolding called

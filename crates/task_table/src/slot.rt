@@ -80,8 +80,18 @@ pub enum Source {
 
 impl Source {
     ghost use Rattle.std.specs.Prelude.{◌≡◌};
-    ghost use Rattle.task_table.specs.Holds.{hears};
     ghost use Rattle.task_table.specs.Waits.{is_one};
+    ghost use Rattle.task_table.specs.Holds.{hears};
+
+    /// Whether it is the task with this index.
+    pub fn is_one(&self, index: usize) -> bool
+        ensures { result ≡ is_one self.now index }
+    {
+        match *self {
+            Source::One(id) => usize::from(id.index()) == index,
+            _ => false,
+        }
+    }
 
     /// Whether a message of the task with this id is listened for.
     pub fn hears(self, client: TaskId) -> bool
@@ -91,16 +101,6 @@ impl Source {
             Source::Any => true,
             Source::Kernel => false,
             Source::One(id) => id.number == client.number,
-        }
-    }
-
-    /// Whether it is the task with this index.
-    pub fn is_one(&self, index: usize) -> bool
-        ensures { result ≡ is_one self.now index }
-    {
-        match *self {
-            Source::One(id) => usize::from(id.index()) == index,
-            _ => false,
         }
     }
 }
@@ -166,6 +166,26 @@ impl Wait {
         }
     }
 
+    /// Whether it is for the end of a call to the task with this index.
+    pub fn is_to(&self, index: usize) -> bool
+        ensures { result ≡ is_to_in self.now index }
+    {
+        match *self {
+            Wait::Call(call) => usize::from(call.server.index()) == index,
+            _ => false,
+        }
+    }
+
+    /// Whether it is for a message of the task with this index alone.
+    pub fn awaits(&self, index: usize) -> bool
+        ensures { result ≡ awaits_in self.now index }
+    {
+        match *self {
+            Wait::Listen(listening) => listening.from.is_one(index),
+            _ => false,
+        }
+    }
+
     /// The call, where the server with this index has taken it.
     pub fn taken_by(&self, index: usize) -> Option<OpenCall>
         ensures { result ≡ taken_in self.now index }
@@ -195,26 +215,6 @@ impl Wait {
                 }
             }
             _ => None,
-        }
-    }
-
-    /// Whether it is for the end of a call to the task with this index.
-    pub fn is_to(&self, index: usize) -> bool
-        ensures { result ≡ is_to_in self.now index }
-    {
-        match *self {
-            Wait::Call(call) => usize::from(call.server.index()) == index,
-            _ => false,
-        }
-    }
-
-    /// Whether it is for a message of the task with this index alone.
-    pub fn awaits(&self, index: usize) -> bool
-        ensures { result ≡ awaits_in self.now index }
-    {
-        match *self {
-            Wait::Listen(listening) => listening.from.is_one(index),
-            _ => false,
         }
     }
 

@@ -6,8 +6,8 @@ use Rattle.std.proofs.Math.ListN.{get_or-map}
 use Rattle.std.proofs.lemmas.List.{map-set, map-append, length-map}
 use Rattle.task_table.specs.Memory.{Memory, bytes_at, with_bytes}
 use Rattle.task_table.specs.State.{Setup, Task, State, Call, Listen}
-use Rattle.task_table.specs.Reading.{task_at, line_at, register, arguments, call_of, listen_of, is_ready, is_well, priority, around, chosen, offer_by, offers, is_offered, best_sender, no_task}
-use Rattle.task_table.specs.Effects.{with_task, without_call, without_listen, with_listen, with_taken, taken_from}
+use Rattle.task_table.specs.Reading.{task_at, line_at, register, arguments, call_of, listen_of, is_ready, is_well, priority, around, chosen, offer_by, offers, is_offered, taken_by, is_taken, best_sender, no_task}
+use Rattle.task_table.specs.Effects.{with_task, without_call, without_listen, with_listen, with_taken, with_call, taken_from}
 use Rattle.two_runs.specs.Alike.{seen_task, seen_call, seen_listen, seen, but_memory, AreAlikeMemories}
 
 -- ## lists whose elements are seen
@@ -87,6 +87,14 @@ offer_alike v s u client server e =
     ∙ ap (λ (x : State). find p x.calls) e
     ∙ find_seen (seen_call v) p (λ x. refl) u.calls
 
+pub taken_alike : (v : ℕ → ℕ) (s u : State) (client server : ℕ) → shown v s ≡ shown v u → option_map (seen_call v) (taken_by s client server) ≡ option_map (seen_call v) (taken_by u client server)
+unfolding seen taken_by
+taken_alike v s u client server e =
+    let p : Call → Bool = λ k. eqb k.client.index client && eqb k.server.index server && is_taken k.phase in
+    sym (find_seen (seen_call v) p (λ x. refl) s.calls)
+    ∙ ap (λ (x : State). find p x.calls) e
+    ∙ find_seen (seen_call v) p (λ x. refl) u.calls
+
 pub listen_alike : (v : ℕ → ℕ) (s u : State) (i : ℕ) → shown v s ≡ shown v u → option_map (seen_listen v) (listen_of s i) ≡ option_map (seen_listen v) (listen_of u i)
 unfolding seen listen_of
 listen_alike v s u i e =
@@ -110,6 +118,10 @@ current_alike v s u e = ap (λ (x : State). x.current) e
 pub turn_alike : (v : ℕ → ℕ) (s u : State) → shown v s ≡ shown v u → s.turn ≡ u.turn
 unfolding seen
 turn_alike v s u e = ap (λ (x : State). x.turn) e
+
+pub next_call_alike : (v : ℕ → ℕ) (s u : State) → shown v s ≡ shown v u → s.next_call ≡ u.next_call
+unfolding seen
+next_call_alike v s u e = ap (λ (x : State). x.next_call) e
 
 some_alike : {X : Type 0} (f : X → X) (o p : Option X) → option_map f o ≡ option_map f p → is_some o ≡ is_some p
 some_alike f o p e = flipped o ∙ ap not (is_none_seen f o p e) ∙ sym (flipped p)
@@ -175,6 +187,13 @@ pub alike-with_taken : (v : ℕ → ℕ) (i : ℕ) (s u : State) → shown v s �
 unfolding seen with_taken
 alike-with_taken v i s u e =
     alike_by v (with_taken i) (with_taken i) (λ x. ap (λ cs. record (shown v x) { calls = cs }) (map_swapped (seen_call v) (taken_from i) (λ c. refl) x.calls)) s u e
+
+pub alike-with_call : (v : ℕ → ℕ) (k m : Call) (s u : State) → seen_call v k ≡ seen_call v m → shown v s ≡ shown v u → shown v (with_call k s) ≡ shown v (with_call m u)
+unfolding seen with_call
+alike-with_call v k m s u same e = added k s ∙ (λ j. with_call (same j) (e j)) ∙ sym (added m u)
+  where
+    added : (c : Call) (x : State) → shown v (with_call c x) ≡ with_call (seen_call v c) (shown v x)
+    added c x = ap (λ cs. record (shown v x) { calls = cs; next_call = x.next_call + 1 }) (map-append (seen_call v) x.calls (c ∷ []))
 
 -- ## memory
 

@@ -1,4 +1,4 @@
--- Effects, the rows of the calls and events leave alike turns alike.
+-- Effects, events and the rows of RECV, PANIC, the timers and lines leave alike turns alike.
 use Rattle.std.proofs.Common.{◌≡◌, ◌+◌, ◌-◌, ◌*◌, ◌/◌, ◌<◌, ◌≤◌, ◌%◌, ◌^◌, ◌&&◌, ◌||◌, ℕ, Bool, true, false, not, leb, eqb, is_some, List, [], ◌∷◌, ◌++◌, length, Option, Some, None, refl, sym, ◌∙◌, ap, bit_and, bit_or, cond, min, arith}
 use Rattle.std.specs.Prelude.{if◌then◌else◌, filter, fold, option_map, unwrap_or, slice_range, slice_set, slice_index}
 use Rattle.std.specs.List.{range_with_len, list_any}
@@ -26,13 +26,11 @@ use Rattle.task_table.specs.declared.slot.Range.{Range}
 use Rattle.task_table.specs.Reading.{task_at, line_at, line_off, line_on, register, arguments, call_of, is_out, is_dead, dead_code_for, present, is_valid, bad_byte}
 use Rattle.task_table.specs.Effects.{with_task, without_call, without_listen, with_listen, with_taken, changed, noted, with_processor, with_health, writes_on, stored, copied, looked, with_results, given, returned, past_call, bits_added, bits_cleared, woken_by, woken, posted, with_timer, clocked, with_line, close_notes, closed, faulted_as, faulted, handed}
 use Rattle.task_table.specs.Rows.{goes_on, goes_on_with, misused, denied, panicked, timer_set, timer_words, timer_told, owns_with, line_controlled, irq_controlled, listened_from, buffer_of, listens, receives_or_listens, offer_of, received, call_noted}
-use Rattle.task_table.specs.Calls.{Meaning, calls, meaning_among, called}
-use Rattle.task_table.proofs.Meanings.{EachMeaning}
 use Rattle.task_table.specs.Events.{expired_by, expired, ticked, owner_of, interrupted_by, interrupted}
 use Rattle.two_runs.specs.Levels.{is_told_always}
 use Rattle.two_runs.specs.Alike.{Viewer, IsAttentive, seen_task, seen_call, seen_from, seen_listen, seen, IsAlike, IsAlikeWhereSeen}
 use Rattle.std.proofs.lemmas.List.Elements.{filter-append}
-use Rattle.two_runs.proofs.Alike.{shown, task_alike, registers_alike, arguments_alike, register_alike, count_alike, call_alike, offer_alike, listen_alike, line_alike, now_alike, best_alike, alike-with_task, alike-without_call, alike-without_listen, alike-with_listen, alike-with_taken, alike-with_bytes, bytes_alike}
+use Rattle.two_runs.proofs.Alike.{shown, task_alike, registers_alike, arguments_alike, register_alike, count_alike, call_alike, offer_alike, listen_alike, line_alike, now_alike, alike-with_task, alike-without_call, alike-without_listen, alike-with_listen, alike-with_taken, alike-with_bytes, bytes_alike}
 
 -- both sides of a test
 pub by_test : (P : Turn → Turn → Type 0) (b c : Bool) {t t' u u' : Turn} → b ≡ c → P t u → P t' u' → P (cond b t t') (cond c u u')
@@ -56,6 +54,11 @@ close_same ending v (Some c) None e = absurd cc
 pub by_same : (P : Turn → Turn → Type 0) (b : Bool) {t t' u u' : Turn} → P t u → P t' u' → P (cond b t t') (cond b u u')
 by_same P true here later = here
 by_same P false here later = later
+
+-- a test, whose second side knows that it failed
+pub by_case : (P : Turn → Turn → Type 0) (b : Bool) {t t' u u' : Turn} → P t u → (b ≡ false → P t' u') → P (cond b t t') (cond b u u')
+by_case P true here later = here
+by_case P false here later = later refl
 
 module _ (w : Viewer) (a : IsAttentive w) where
   -- ## notes, and parts of the state
@@ -140,11 +143,11 @@ module _ (w : Viewer) (a : IsAttentive w) where
       alike-told _ _ _ _ (ap (λ k. note.Tick (k + 1)) (now_alike w.birth t.state u.state h.state)) refl
       (alike-changed _ _ t u (ap (λ (s : State). record s { now = s.now + 1 }) h.state) refl refl h)
 
-  alike-no_listen : (i : ℕ) (t u : Turn) → IsAlike w t u → IsAlike w (changed (without_listen i) t) (changed (without_listen i) u)
+  pub alike-no_listen : (i : ℕ) (t u : Turn) → IsAlike w t u → IsAlike w (changed (without_listen i) t) (changed (without_listen i) u)
   unfolding without_listen
   alike-no_listen i t u h = alike-changed _ _ t u (alike-without_listen w.birth i t.state u.state h.state) refl refl h
 
-  alike-closed : (i : ℕ) (ending : Ending) (t u : Turn) → IsAlike w t u → IsAlike w (closed i ending t) (closed i ending u)
+  pub alike-closed : (i : ℕ) (ending : Ending) (t u : Turn) → IsAlike w t u → IsAlike w (closed i ending t) (closed i ending u)
   unfolding closed without_call
   alike-closed i ending t u h = record {
     state = alike-without_call w.birth i t.state u.state h.state;
@@ -202,10 +205,10 @@ module _ (w : Viewer) (a : IsAttentive w) where
   pub alike-faulted : (g : Setup) (i : ℕ) (fault : Fault) (t u : Turn) → IsAlike w t u → IsAlike w (faulted g i fault t) (faulted g i fault u)
   alike-faulted g i fault t u h = alike-faulted_as g i fault Client t u h
 
-  alike-misused : (g : Setup) (c usage : ℕ) (t u : Turn) → IsAlike w t u → IsAlike w (misused g c usage t) (misused g c usage u)
+  pub alike-misused : (g : Setup) (c usage : ℕ) (t u : Turn) → IsAlike w t u → IsAlike w (misused g c usage t) (misused g c usage u)
   alike-misused g c usage t u h = alike-faulted g c record { number = 7; x = usage; y = 0 } t u h
 
-  alike-denied : (g : Setup) (c y : ℕ) (bad : Option ℕ) (t u : Turn) → IsAlike w t u → IsAlike w (denied g c y bad t) (denied g c y bad u)
+  pub alike-denied : (g : Setup) (c y : ℕ) (bad : Option ℕ) (t u : Turn) → IsAlike w t u → IsAlike w (denied g c y bad t) (denied g c y bad u)
   alike-denied g c y bad t u h = alike-faulted g c record { number = 3; x = unwrap_or bad 0; y = y } t u h
 
   -- ## bytes
@@ -283,26 +286,26 @@ module _ (w : Viewer) (a : IsAttentive w) where
   pub surely : {t u : Turn} → IsAlike w t u → IsAlikeWhereSeen w t u
   surely h = record { alike = λ see. h }
 
-  where_seen-returned : (c : ℕ) (t u : Turn) → IsAlikeWhereSeen w t u → IsAlikeWhereSeen w (returned c t) (returned c u)
+  pub where_seen-returned : (c : ℕ) (t u : Turn) → IsAlikeWhereSeen w t u → IsAlikeWhereSeen w (returned c t) (returned c u)
   unfolding returned noted
   where_seen-returned c t u h = record { alike = λ see. alike-returned c t u (h.alike see) }
 
   -- ## the rows of the calls
 
-  alike-goes_on : (c : ℕ) (t u : Turn) → IsAlike w t u → IsAlike w (goes_on c t) (goes_on c u)
+  pub alike-goes_on : (c : ℕ) (t u : Turn) → IsAlike w t u → IsAlike w (goes_on c t) (goes_on c u)
   alike-goes_on c t u h = alike-returned c _ _ (alike-past_call c t u h)
 
-  alike-goes_on_with : (c : ℕ) (values : List ℕ) (t u : Turn) → IsAlike w t u → IsAlike w (goes_on_with c values t) (goes_on_with c values u)
+  pub alike-goes_on_with : (c : ℕ) (values : List ℕ) (t u : Turn) → IsAlike w t u → IsAlike w (goes_on_with c values t) (goes_on_with c values u)
   alike-goes_on_with c values t u h = alike-goes_on c _ _ (alike-given c values t u h)
 
   -- values that are the same in both
-  alike-answers : (c : ℕ) (values others : List ℕ) (t u : Turn) → values ≡ others → IsAlike w t u → IsAlike w (goes_on_with c values t) (goes_on_with c others u)
+  pub alike-answers : (c : ℕ) (values others : List ℕ) (t u : Turn) → values ≡ others → IsAlike w t u → IsAlike w (goes_on_with c values t) (goes_on_with c others u)
   alike-answers c values others t u e h = rw (sym e) (alike-goes_on_with c values t u h)
 
-  args : (c : ℕ) (t u : Turn) → IsAlike w t u → arguments u.state c ≡ arguments t.state c
+  pub args : (c : ℕ) (t u : Turn) → IsAlike w t u → arguments u.state c ≡ arguments t.state c
   args c t u h = sym (arguments_alike w.birth t.state u.state c h.state)
 
-  word : (c r : ℕ) (t u : Turn) → IsAlike w t u → register u.state c r ≡ register t.state c r
+  pub word : (c r : ℕ) (t u : Turn) → IsAlike w t u → register u.state c r ≡ register t.state c r
   word c r t u h = sym (register_alike w.birth t.state u.state c r h.state)
 
   pub alike-panicked : (g : Setup) (c : ℕ) (t u : Turn) → IsAlike w t u → IsAlike w (panicked g c t) (panicked g c u)
@@ -368,19 +371,19 @@ module _ (w : Viewer) (a : IsAttentive w) where
 
   -- ## RECV
 
-  is_out_same : (id : ℕ) (t u : Turn) → IsAlike w t u → is_out t.state id ≡ is_out u.state id
+  pub is_out_same : (id : ℕ) (t u : Turn) → IsAlike w t u → is_out t.state id ≡ is_out u.state id
   unfolding is_out
   is_out_same id t u h = ap (λ n. leb n (index_of id)) (count_alike w.birth t.state u.state h.state)
 
-  generation_same : (i : ℕ) (t u : Turn) → IsAlike w t u → (task_at t.state i).births % 64 ≡ (task_at u.state i).births % 64
+  pub generation_same : (i : ℕ) (t u : Turn) → IsAlike w t u → (task_at t.state i).births % 64 ≡ (task_at u.state i).births % 64
   generation_same i t u h =
       sym (a.generation (task_at t.state i).births) ∙ ap (λ (x : Task). x.births % 64) (the_task i t u h) ∙ a.generation (task_at u.state i).births
 
-  is_dead_same : (id : ℕ) (t u : Turn) → IsAlike w t u → is_dead t.state id ≡ is_dead u.state id
+  pub is_dead_same : (id : ℕ) (t u : Turn) → IsAlike w t u → is_dead t.state id ≡ is_dead u.state id
   unfolding is_dead
   is_dead_same id t u h = ap (λ n. not (eqb (generation_of id) n)) (generation_same (index_of id) t u h)
 
-  dead_code_same : (id : ℕ) (t u : Turn) → IsAlike w t u → dead_code_for u.state id ≡ dead_code_for t.state id
+  pub dead_code_same : (id : ℕ) (t u : Turn) → IsAlike w t u → dead_code_for u.state id ≡ dead_code_for t.state id
   unfolding dead_code_for
   dead_code_same id t u h = ap dead_code_of (sym (generation_same (index_of id) t u h))
 
@@ -434,29 +437,6 @@ module _ (w : Viewer) (a : IsAttentive w) where
       by_same (IsAlikeWhereSeen w) x.closed
       (alike-receives_or_listens c x (One (present t.state (index_of id))) (One (present u.state (index_of id))) _ _ t u (ap (λ (y : Task). One record { index = index_of id; birth = y.births }) (the_task (index_of id) t u h)) (offer_alike w.birth t.state u.state (index_of id) c h.state) h)
       (alike-receives_or_listens c x Any Any _ _ t u refl (offer_of_same c best t u h) h))))))))
-
-  alike-among : (list : List (ℕ × Meaning)) (n : ℕ) (g : Setup) (c : ℕ) (t u : Turn) → IsAlike w t u → EachMeaning (λ m. IsAlikeWhereSeen w (m g c t) (m g c u)) list → IsAlikeWhereSeen w (meaning_among list n g c t) (meaning_among list n g c u)
-  alike-among [] n g c t u h each = surely (alike-misused g c 1 t u h)
-  alike-among (call ∷ list) n g c t u h each = by_same (IsAlikeWhereSeen w) (eqb n call.0) each.0 (alike-among list n g c t u h each.1)
-
-  pub alike-called : (g : Setup) (c : ℕ) (t u : Turn) → IsAlike w t u → IsAlikeWhereSeen w (called g c t) (called g c u)
-  unfolding called
-  alike-called g c t u h =
-      let e = word c 11 t u h in
-      let best = best_alike w.birth g t.state u.state c h.state in
-      rw e (alike-among calls (register t.state c 11) g c t u h (
-        alike-received g c _ _ t u best h,
-        (
-          surely (alike-timer_set c t u h),
-          (
-            surely (alike-irq_controlled g c t u h),
-            (
-              surely (alike-panicked g c t u h),
-              (surely (alike-timer_told c t u h), tt),
-            ),
-          ),
-        ),
-      ))
 
   -- ## events
 

@@ -1,10 +1,8 @@
 -- Turns leave alike states alike.
-use Rattle.std.proofs.Common.{◌≡◌, ◌+◌, ◌<◌, ◌≤◌, ◌%◌, ◌^◌, ℕ, zero, suc, Bool, true, false, cond, not, leb, ltb, ◌&&◌, List, Option, Some, None, refl, sym, ◌∙◌, ap, arith, inl, inr, eq-or-lt_of_le, ltb-true, ltb-false}
-use Rattle.std.specs.Prelude.{fold, find}
-use Rattle.std.specs.List.{range_with_len}
+use Rattle.std.proofs.Common.{◌≡◌, ◌+◌, ◌<◌, ◌≤◌, ◌%◌, ◌^◌, ℕ, Bool, true, false, cond, leb, ltb, ◌&&◌, List, Option, Some, None, refl, sym, ◌∙◌, ap, arith, inl, inr, eq-or-lt_of_le, ltb-true, ltb-false}
+use Rattle.std.specs.Prelude.{fold}
 use Rattle.kernel_abi.specs.declared.Note.{Note}
 use Rattle.kernel_abi.specs.declared.Note.TheVariants as note
-use Rattle.region_check.specs.declared.Right.{Right}
 use Rattle.region_check.specs.declared.Right.TheVariants.{Read, Execute}
 use Rattle.run_script.specs.declared.events.Event.{Event}
 use Rattle.run_script.specs.declared.events.Event.TheVariants.{Tick, Irq}
@@ -12,8 +10,9 @@ use Rattle.run_script.specs.Scripts.{events_of}
 use Rattle.thumb_exec.specs.Effect.{Store}
 use Rattle.task_table.specs.Memory.{number_at, number_of, is_ram}
 use Rattle.task_table.specs.State.{Setup, State, Own, Turn}
-use Rattle.task_table.specs.Reading.{task_at, chosen}
-use Rattle.task_table.specs.Effects.{noted}
+use Rattle.task_table.specs.Reading.{task_at, listen_of, chosen}
+use Rattle.task_table.specs.Effects.{noted, stored}
+use Rattle.task_table.specs.Rows.{call_noted}
 use Rattle.two_runs.specs.Levels.{is_told_always}
 use Rattle.task_table.specs.Start.{begun}
 use Rattle.board_model.specs.declared.told.Level.{Level}
@@ -23,7 +22,10 @@ use Rattle.board_model.specs.Turn.{may, cpu_of, bytes_of, put, told, is_text, st
 use Rattle.two_runs.specs.Alike.{Viewer, IsAttentive, IsAlike, IsAlikeWhereSeen}
 use Rattle.two_runs.specs.Agreement.{rest_of}
 use Rattle.two_runs.proofs.Alike.{register_alike, chosen_alike, bytes_alike, turn_alike}
-use Rattle.two_runs.proofs.AlikeRows.{by_test, alike-heard, alike-unheard, the_task, alike-processor, alike-current, alike-next_turn, alike-stored, alike-faulted, surely, alike-call_noted, alike-called, alike-ticked, alike-interrupted, alike-fold}
+use Rattle.two_runs.proofs.AlikeRows.{by_test, alike-heard, alike-unheard, the_task, alike-processor, alike-current, alike-next_turn, alike-stored, alike-faulted, surely, alike-call_noted, alike-ticked, alike-interrupted, alike-fold}
+use Rattle.two_runs.proofs.AlikeCalls.{alike-called}
+use Rattle.two_runs.proofs.Sight.{IsOpen, none_lacking}
+use Rattle.two_runs.proofs.Births.{AreTellable}
 use Rattle.two_runs.proofs.Following.{IsFollowed, follow-stepped}
 
 -- how much is told of the two turns: as much, and all is heard; or the first tells no more than what is heard
@@ -33,22 +35,32 @@ IsHeardAs w All All = (n : Note) → w.hears n ≡ true
 IsHeardAs w Calls All = (n : Note) → is_told_always n ≡ false → w.hears n ≡ false
 IsHeardAs w All Calls = ⊥
 
--- the viewer sees what the task may read or execute, and what lies above all memory
-pub record IsOpen (w : Viewer) (g : Setup) (c : ℕ) : Type 0 where
-  pub rights : (right : Right) (a : ℕ) → may g c right a ≡ true → w.sees a ≡ true
-  pub beyond : (a : ℕ) → 0x40000000 ≤ a → w.sees a ≡ true
+-- alike, and what listens name is told apart in both
+record AreAlikeAndTold (w : Viewer) (t u : Turn) : Type 0 where
+  alike : IsAlike w t u
+  first : AreTellable w.birth t.state
+  second : AreTellable w.birth u.state
 
--- no byte of a range is refused
-no_some : {A : Type 0} {B : Type 0} {y : A} → Some y ≡ None → B
-no_some q = cc
+tellable_told : (v : ℕ → ℕ) (l : Level) (n : Note) (t : Turn) → AreTellable v t.state → AreTellable v (told l n t).state
+unfolding noted
+tellable_told v Calls n t h = h
+tellable_told v All n t h = h
 
-none_lacking : (p : ℕ → Bool) (a n : ℕ) → find (λ x. not (p x)) (range_with_len a n) ≡ None → (x : ℕ) → a ≤ x → x < a + n → p x ≡ true
-none_lacking p a zero e x lo hi = absurd (omega arith)
-none_lacking p a (suc n) e x lo hi = go (p a) refl e (λ above rest. none_lacking p (a + 1) n rest x (omega arith) (omega arith))
+tellable_put : (v : ℕ → ℕ) (t : Turn) (x : Store) → AreTellable v t.state → AreTellable v (put t x).state
+unfolding stored listen_of task_at
+tellable_put v t x h = go (is_ram t.state.memory x.addr x.bytes)
   where
-    go : (b : Bool) → p a ≡ b → cond (not b) (Some a) (find (λ y. not (p y)) (range_with_len (a + 1) n)) ≡ None → (a < x → find (λ y. not (p y)) (range_with_len (a + 1) n) ≡ None → p x ≡ true) → p x ≡ true
-    go false q f later = no_some f
-    go true q f later = elim (eq-or-lt_of_le lo) [ inl same ↦ ap p (sym same) ∙ q | inr above ↦ later above f ]
+    go : (b : Bool) → AreTellable v (cond b (stored Own x.addr (bytes_of x.value x.bytes) t) t).state
+    go true = h
+    go false = h
+
+tellable_current : (v : ℕ → ℕ) (c : ℕ) (t : Turn) → AreTellable v t.state → AreTellable v (with_current c t).state
+unfolding listen_of task_at
+tellable_current v c t h = h
+
+tellable_call_noted : (v : ℕ → ℕ) (c : ℕ) (t : Turn) → AreTellable v t.state → AreTellable v (call_noted c t).state
+unfolding call_noted noted
+tellable_call_noted v c t h = h
 
 pub both : (a b : Bool) → (a && b) ≡ true → (a ≡ true) × (b ≡ true)
 both true b h = (refl, h)
@@ -95,23 +107,23 @@ module _ (w : Viewer) (a : IsAttentive w) where
           | inr above ↦ let same : x ≡ at + 1 = omega arith in ap w.sees same ∙ second e.1
         ]
 
-    followed : IsFollowed l m g g c c (IsAlike w) (IsAlikeWhereSeen w)
+    followed : IsFollowed l m g g c c (AreAlikeAndTold w) (IsAlikeWhereSeen w)
     followed = record {
       text = λ x. refl;
       refused = refl;
-      pc = λ t u h. register_alike w.birth t.state u.state c 15 h.state;
-      cpu = λ t u h. ap cpu_of (the_task w a c t u h);
-      half = λ t u at h text. half_alike t u at h text;
-      loads = λ t u h at n e. ap number_of (bytes_alike w.sees t.state.memory u.state.memory at n h.memory (λ x lo hi. open_to.rights Read x (none_lacking (may g c Read) at n e x lo hi)));
-      told = λ at code t u h. alike-told_at l m heard (note.Insn c at code) (note.Insn c at code) t u refl refl h;
-      put = alike-put;
-      processor = λ registers flags t u h. surely w a (alike-processor w a c registers flags t u h);
-      fault = λ x t u h. surely w a (alike-faulted w a g c x t u h);
-      call = λ t u h. alike-called w a g c _ _ (alike-call_noted w a c t u h);
+      pc = λ t u h. register_alike w.birth t.state u.state c 15 h.alike.state;
+      cpu = λ t u h. ap cpu_of (the_task w a c t u h.alike);
+      half = λ t u at h text. half_alike t u at h.alike text;
+      loads = λ t u h at n e. ap number_of (bytes_alike w.sees t.state.memory u.state.memory at n h.alike.memory (λ x lo hi. open_to.rights Read x (none_lacking (may g c Read) at n e x lo hi)));
+      told = λ at code t u h. record { alike = alike-told_at l m heard (note.Insn c at code) (note.Insn c at code) t u refl refl h.alike; first = tellable_told w.birth l _ t h.first; second = tellable_told w.birth m _ u h.second };
+      put = λ x t u h. record { alike = alike-put x t u h.alike; first = tellable_put w.birth t x h.first; second = tellable_put w.birth u x h.second };
+      processor = λ registers flags t u h. surely w a (alike-processor w a c registers flags t u h.alike);
+      fault = λ x t u h. surely w a (alike-faulted w a g c x t u h.alike);
+      call = λ t u h. alike-called w a g c _ _ open_to (tellable_call_noted w.birth c t h.first) (tellable_call_noted w.birth c u h.second) (alike-call_noted w a c t u h.alike);
     }
 
-    alike-stepped : (t u : Turn) → IsAlike w t u → IsAlikeWhereSeen w (stepped l g c t) (stepped m g c u)
-    alike-stepped t u h = follow-stepped l m g g c c (IsAlike w) (IsAlikeWhereSeen w) followed t u h
+    alike-stepped : (t u : Turn) → AreAlikeAndTold w t u → IsAlikeWhereSeen w (stepped l g c t) (stepped m g c u)
+    alike-stepped t u h = follow-stepped l m g g c c (AreAlikeAndTold w) (IsAlikeWhereSeen w) followed t u h
 
   -- ## the turn
 
@@ -126,17 +138,17 @@ module _ (w : Viewer) (a : IsAttentive w) where
     unfolding with_registers_told noted
     reads_told c t = elim l as (λ (x : Level). (told x (high_note (task_at t.state c)) (told x (low_note (task_at t.state c)) t)).reads ≡ t.reads) [ Calls ↦ refl | All ↦ refl ]
 
-    alike-turn_of : (g : Setup) (o : Option ℕ) (t u : Turn) → ((c : ℕ) → o ≡ Some c → IsOpen w g c) → IsAlike w t u → IsAlikeWhereSeen w (turn_of l g o t) (turn_of m g o u)
-    alike-turn_of g None t u sight h = surely w a (alike-told_at l m heard note.Idle note.Idle t u refl refl h)
+    alike-turn_of : (g : Setup) (o : Option ℕ) (t u : Turn) → ((c : ℕ) → o ≡ Some c → IsOpen w g c) → AreAlikeAndTold w t u → IsAlikeWhereSeen w (turn_of l g o t) (turn_of m g o u)
+    alike-turn_of g None t u sight h = surely w a (alike-told_at l m heard note.Idle note.Idle t u refl refl h.alike)
     alike-turn_of g (Some c) t u sight h =
-        let k = alike-stepped l m heard g c (sight c refl) (with_current c t) (with_current c u) (alike-current w a c t u h) in
+        let k = alike-stepped l m heard g c (sight c refl) (with_current c t) (with_current c u) record { alike = alike-current w a c t u h.alike; first = tellable_current w.birth c t h.first; second = tellable_current w.birth c u h.second } in
         record { alike = λ see. alike-registers_told c _ _ (k.alike (rw reads_told at see)) }
 
-    pub alike-rest : (g : Setup) (t u : Turn) → ((c : ℕ) → chosen g t.state ≡ Some c → IsOpen w g c) → IsAlike w t u → IsAlikeWhereSeen w (rest_of l g t) (rest_of m g u)
+    pub alike-rest : (g : Setup) (t u : Turn) → ((c : ℕ) → chosen g t.state ≡ Some c → IsOpen w g c) → AreTellable w.birth t.state → AreTellable w.birth u.state → IsAlike w t u → IsAlikeWhereSeen w (rest_of l g t) (rest_of m g u)
     unfolding ended
-    alike-rest g t u sight h =
+    alike-rest g t u sight tell tell' h =
         let e = sym (chosen_alike w.birth g t.state u.state h.state) in
-        let k = alike-turn_of g (chosen g t.state) t u sight h in
+        let k = alike-turn_of g (chosen g t.state) t u sight record { alike = h; first = tell; second = tell' } in
         rw e record { alike = λ see. alike-next_turn w a _ _ (k.alike see) }
 
   alike-happened : (g : Setup) (e : Event) (t u : Turn) → IsAlike w t u → IsAlike w (happened g t e) (happened g u e)
@@ -150,6 +162,6 @@ module _ (w : Viewer) (a : IsAttentive w) where
       go : (es ks : List Event) → es ≡ ks → IsAlike w (fold (happened x.setup) (begun s) es) (fold (happened x.setup) (begun u) ks)
       go es ks e = rw (sym e) (alike-fold w a (happened x.setup) es (begun s) (begun u) (alike-happened x.setup) h)
 
-  pub alike-turn : (l m : Level) → IsHeardAs w l m → (x : Scenario) (s u : State) → ((c : ℕ) → IsOpen w x.setup c) → IsAlike w (begun s) (begun u) → IsAlikeWhereSeen w (turn l x s) (turn m x u)
+  pub alike-turn : (l m : Level) → IsHeardAs w l m → (x : Scenario) (s u : State) → ((c : ℕ) → IsOpen w x.setup c) → AreTellable w.birth (after_events x s).state → AreTellable w.birth (after_events x u).state → IsAlike w (begun s) (begun u) → IsAlikeWhereSeen w (turn l x s) (turn m x u)
   unfolding turn
-  alike-turn l m heard x s u sight h = alike-rest l m heard x.setup (after_events x s) (after_events x u) (λ c e. sight c) (alike-events x s u h)
+  alike-turn l m heard x s u sight tell tell' h = alike-rest l m heard x.setup (after_events x s) (after_events x u) (λ c e. sight c) tell tell' (alike-events x s u h)

@@ -1,8 +1,14 @@
 pub mod Alike
+pub mod Sight
+pub mod Births
 pub mod AlikeRows
+pub mod AlikeSends
+pub mod AlikeBorrows
+pub mod AlikeOrders
+pub mod AlikeCalls
 pub mod Following
 pub mod AlikeTurns
+pub mod SaneReduced
 pub mod Views
 pub mod SameReads
-pub mod SaneReduced
 pub mod AlikeRuns

@@ -20,8 +20,9 @@ use Rattle.board_model.proofs.TurnChains.{sane-after_events}
 use Rattle.two_runs.specs.Alike.{Viewer, IsAttentive, seen, AreAlikeMemories, IsAlike, AreSeen}
 use Rattle.two_runs.specs.Agreement.{is_own, covers, is_read, AgreesOnReads, rest_of, with_memory, IsSameButMemory}
 use Rattle.two_runs.proofs.Alike.{shown, chosen_alike}
-use Rattle.two_runs.proofs.AlikeTurns.{both, IsHeardAs, IsOpen, alike-rest}
-use Rattle.two_runs.proofs.Views.{all_heard, any_in, any_of, either, first, same_but_memory}
+use Rattle.two_runs.proofs.AlikeTurns.{both, IsHeardAs, alike-rest}
+use Rattle.two_runs.proofs.Sight.{IsOpen}
+use Rattle.two_runs.proofs.Views.{all_heard, any_in, any_of, either, first, same_but_memory, told_plainly}
 
 -- the one who sees what is read, and what lies above all memory
 unfoldable pub reader : Setup → ℕ → List Read → Viewer
@@ -147,7 +148,7 @@ same_ran level g c t n placed e agree =
     let reads = (rest_of level g t).reads in
     let w = reader g c reads in
     let sight : (d : ℕ) → chosen g t.state ≡ Some d → IsOpen w g d = λ d q. subst (λ k. IsOpen w g k) (one_some (sym e ∙ q)) (reader_open g c reads t.state.memory placed) in
-    let h = (alike-rest w (attentive_reader g c reads) level level (reader_hears g c reads level) g t (with_memory n t) sight (alike_itself g c reads t n placed agree)).alike (reads_seen g c reads) in
+    let h = (alike-rest w (attentive_reader g c reads) level level (reader_hears g c reads level) g t (with_memory n t) sight (told_plainly t.state) (told_plainly (with_memory n t).state) (alike_itself g c reads t n placed agree)).alike (reads_seen g c reads) in
     record {
       writes = h.writes;
       reads = h.reads;

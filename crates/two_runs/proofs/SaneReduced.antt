@@ -1,14 +1,14 @@
 -- A sane state is sane with its births modulo 64.
-use Rattle.std.proofs.Common.{◌≡◌, ◌%◌, ◌&&◌, ℕ, Bool, true, false, eqb, length, refl, sym, ◌∙◌, ap, eq-eqb, eqb-true}
+use Rattle.std.proofs.Common.{◌≡◌, ◌%◌, ◌&&◌, ℕ, Bool, true, false, eqb, length, refl, sym, ◌∙◌, ap, eqb-true}
 use Rattle.std.specs.Prelude.{Contains}
 use Rattle.std.proofs.Math.ListN.{get_or-map}
-use Rattle.std.proofs.lemmas.Bool.{false≢true}
 use Rattle.std.proofs.lemmas.List.{length-map}
 use Rattle.task_table.specs.Memory.{Memory}
 use Rattle.task_table.specs.State.{Setup, State, Birth, Call, From, Any, One, KernelOnly, Listen}
 use Rattle.task_table.specs.Reading.{task_at, line_at, admits, no_task}
 use Rattle.task_table.specs.Sane.{Sane}
 use Rattle.task_table.proofs.Keeps.{map_in}
+use Rattle.two_runs.proofs.Births.{eqb_same}
 use Rattle.two_runs.specs.Alike.{seen_birth, seen_task, seen_call, seen_from, seen_listen, seen, reduced}
 
 reduced_task : (s : State) (i : ℕ) → task_at (reduced s) i ≡ seen_task (λ b. b % 64) (task_at s i)
@@ -54,15 +54,6 @@ one_of (One x) b e = (x, refl, sym (inner e))
     inner : One (seen_birth (λ n. n % 64) x) ≡ One b → seen_birth (λ n. n % 64) x ≡ b
     inner q = cc
 one_of KernelOnly b e = absurd cc
-
-eqb_same : (x b y d : ℕ) → (x ≡ b → y ≡ d) → (y ≡ d → x ≡ b) → eqb x b ≡ eqb y d
-eqb_same x b y d f h = go (eqb x b) (eqb y d) refl refl
-  where
-    go : (p q : Bool) → eqb x b ≡ p → eqb y d ≡ q → p ≡ q
-    go true true e k = refl
-    go false false e k = refl
-    go true false e k = absurd (false≢true (sym k ∙ eq-eqb _ _ (f (eqb-true _ _ e))))
-    go false true e k = absurd (false≢true (sym e ∙ eq-eqb _ _ (h (eqb-true _ _ k))))
 
 admits_reduced : (f : From) (b : Birth) → ((e : Birth) → f ≡ One e → e.index ≡ b.index → e.birth ≡ b.birth) → admits (seen_from (λ n. n % 64) f) (seen_birth (λ n. n % 64) b) ≡ admits f b
 admits_reduced Any b h = refl

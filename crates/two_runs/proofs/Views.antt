@@ -1,5 +1,5 @@
 -- Two viewers, and the laws that they give.
-use Rattle.std.proofs.Common.{◌≡◌, ◌+◌, ◌%◌, ℕ, suc, Bool, true, false, ◌||◌, List, [], ◌∷◌, map, refl, sym, ◌∙◌, ap, arith, map-id}
+use Rattle.std.proofs.Common.{◌≡◌, ◌+◌, ◌%◌, ℕ, suc, Bool, true, false, ◌||◌, List, [], ◌∷◌, eqb, map, refl, sym, ◌∙◌, ap, arith, map-id}
 use Rattle.std.specs.Prelude.{filter, Contains}
 use Rattle.std.specs.List.{list_any}
 use Rattle.std.proofs.lemmas.Bool.{false≢true}
@@ -8,16 +8,23 @@ use Rattle.std.proofs.Math.Nat.{mod-mod}
 use Rattle.task_table.specs.Memory.{Memory}
 use Rattle.task_table.specs.State.{Setup, Task, Call, From, Any, One, KernelOnly, Listen, State, Read, Turn}
 use Rattle.two_runs.specs.Levels.{is_told_always, IsLessTold}
+use Rattle.task_table.specs.Reading.{listen_of}
+use Rattle.task_table.specs.Sane.{Sane}
+use Rattle.task_table.proofs.Keeps.{found_in}
 use Rattle.task_table.specs.Calls.{called}
 use Rattle.task_table.specs.Start.{begun}
 use Rattle.board_model.specs.declared.told.Level.{Level}
 use Rattle.board_model.specs.declared.told.Level.TheVariants.{Calls, All}
 use Rattle.board_model.specs.Script.{Scenario}
-use Rattle.board_model.specs.Turn.{turn}
+use Rattle.board_model.specs.Turn.{after_events, turn}
+use Rattle.board_model.proofs.TurnChains.{sane-after_events}
 use Rattle.two_runs.specs.Alike.{Viewer, IsAttentive, seen_task, seen_call, seen_from, seen_listen, seen, but_memory, reduced, AreAlikeMemories, IsAlike, AreSeen, IsAlikeWhereSeen}
 use Rattle.two_runs.proofs.Alike.{shown, memories_same}
-use Rattle.two_runs.proofs.AlikeRows.{alike-called}
-use Rattle.two_runs.proofs.AlikeTurns.{IsHeardAs, IsOpen, alike-turn}
+use Rattle.two_runs.proofs.AlikeCalls.{alike-called}
+use Rattle.two_runs.proofs.Births.{AreTellable}
+use Rattle.two_runs.proofs.SaneReduced.{sane-reduced}
+use Rattle.two_runs.proofs.AlikeTurns.{IsHeardAs, alike-turn}
+use Rattle.two_runs.proofs.Sight.{IsOpen}
 
 -- ## small things
 
@@ -113,17 +120,22 @@ listening : (t u : Turn) → IsAlikeWhereSeen listener t u → IsLessTold t u
 unfolding listener
 listening t u h = told_of_alike t u (h.alike (all_seen t.reads))
 
-pub less_told-called : (g : Setup) (c : ℕ) (t u : Turn) → IsLessTold t u → IsLessTold (called g c t) (called g c u)
-less_told-called g c t u h = listening _ _ (alike-called listener attentive_listener g c t u (alike_of_told t u h))
-
 pub open_listener : (g : Setup) (c : ℕ) → IsOpen listener g c
 unfolding listener
 open_listener g c = record { rights = λ right a e. refl; beyond = λ a e. refl }
 
+-- births that are seen as they are
+pub told_plainly : (s : State) → AreTellable (λ b. b) s
+told_plainly s i l b here e same = same
+
+pub less_told-called : (g : Setup) (c : ℕ) (t u : Turn) → IsLessTold t u → IsLessTold (called g c t) (called g c u)
+unfolding listener
+less_told-called g c t u h = listening _ _ (alike-called listener attentive_listener g c t u (open_listener g c) (told_plainly t.state) (told_plainly u.state) (alike_of_told t u h))
+
 pub less_told-turn : (x : Scenario) (s : State) → IsLessTold (turn Calls x s) (turn All x s)
 unfolding listener begun
 less_told-turn x s =
-    listening _ _ (alike-turn listener attentive_listener Calls All (λ n request. request) x s s (open_listener x.setup) (alike_of_told (begun s) (begun s) record { state = refl; writes = refl; reads = refl; notes = refl }))
+    listening _ _ (alike-turn listener attentive_listener Calls All (λ n request. request) x s s (open_listener x.setup) (told_plainly (after_events x s).state) (told_plainly (after_events x s).state) (alike_of_told (begun s) (begun s) record { state = refl; writes = refl; reads = refl; notes = refl }))
 
 -- ## the one who takes births modulo 64
 
@@ -178,13 +190,19 @@ pub record IsReducedAlike (t u : Turn) : Type 0 where
   pub notes : t.notes ≡ u.notes
   pub state : reduced t.state ≡ reduced u.state
 
-pub reduced-turn : (level : Level) (x : Scenario) (s : State) → IsReducedAlike (turn level x (reduced s)) (turn level x s)
+-- in a sane state what listens name is the present birth
+pub told_sanely : (v : ℕ → ℕ) (g : Setup) (s : State) → Sane g s → AreTellable v s
+unfolding listen_of
+told_sanely v g s h i l b here e same = sym (h.present.named l b (found_in (λ (x : Listen). eqb x.task i) s.listens l here).0 e tt)
+
+pub reduced-turn : (level : Level) (x : Scenario) (s : State) → Sane x.setup s → IsReducedAlike (turn level x (reduced s)) (turn level x s)
 unfolding archivist
-reduced-turn level x s =
+reduced-turn level x s sane =
+    let births : ℕ → ℕ = λ b. b % 64 in
     let t = turn level x (reduced s) in
     let u = turn level x s in
     let open_all : (c : ℕ) → IsOpen archivist x.setup c = λ c. record { rights = λ right a e. refl; beyond = λ a e. refl } in
-    let h = (alike-turn archivist attentive_archivist level level (level_heard level) x (reduced s) s open_all (alike-reduced s)).alike (all_seen t.reads) in
+    let h = (alike-turn archivist attentive_archivist level level (level_heard level) x (reduced s) s open_all (told_sanely births x.setup (after_events x (reduced s)).state (sane-after_events x (reduced s) (sane-reduced x.setup s sane))) (told_sanely births x.setup (after_events x s).state (sane-after_events x s sane)) (alike-reduced s)).alike (all_seen t.reads) in
     record {
       notes = h.notes ∙ sym (all_heard u.notes);
       state = reduced_from t.state u.state h.state (memories_same t.state.memory u.state.memory h.memory);

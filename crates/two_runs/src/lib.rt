@@ -41,14 +41,14 @@ pub fn a_turn_depends_on_what_it_reads()
     ensures { (level : Detail) (x : Scenario) (s : State) (m : Memory) → Sane x.setup s → ((c : ℕ) → chosen x.setup (after_events x s).state ≡ Some c → AgreesOnReads x.setup c (turn level x s).reads (after_events x s).state.memory m) → IsSameButMemory (turn level x s) (rest_of level x.setup (with_memory m (after_events x s))) }
 {}
 
-/// Of a number of births nothing but the generation decides: a turn, or a run, from a state and one from it
-/// with its births modulo 64 have equal notes and ends, and last states that are equal with their births
-/// modulo 64. A sane state is sane with its births modulo 64.
+/// Of a number of births nothing but the generation decides: a sane state is sane with its births modulo 64, and a
+/// turn, or a run, from it and one from it with its births modulo 64 have equal notes and ends, and last states
+/// that are equal with their births modulo 64.
 pub fn generations_decide()
     ensures sane { (g : Setup) (s : State) → Sane g s → Sane g (reduced s) }
-    ensures notes { (level : Detail) (x : Scenario) (s : State) → (turn level x (reduced s)).notes ≡ (turn level x s).notes }
-    ensures state { (level : Detail) (x : Scenario) (s : State) → reduced (turn level x (reduced s)).state ≡ reduced (turn level x s).state }
-    ensures run_notes { (level : Detail) (x : Scenario) (n : ℕ) (s : State) → (run level x n (reduced s)).notes ≡ (run level x n s).notes }
-    ensures last { (level : Detail) (x : Scenario) (n : ℕ) (s : State) → reduced (run level x n (reduced s)).last ≡ reduced (run level x n s).last }
-    ensures end { (level : Detail) (x : Scenario) (n : ℕ) (s : State) → (run level x n (reduced s)).end ≡ (run level x n s).end }
+    ensures notes { (level : Detail) (x : Scenario) (s : State) → Sane x.setup s → (turn level x (reduced s)).notes ≡ (turn level x s).notes }
+    ensures state { (level : Detail) (x : Scenario) (s : State) → Sane x.setup s → reduced (turn level x (reduced s)).state ≡ reduced (turn level x s).state }
+    ensures run_notes { (level : Detail) (x : Scenario) (n : ℕ) (s : State) → Sane x.setup s → (run level x n (reduced s)).notes ≡ (run level x n s).notes }
+    ensures last { (level : Detail) (x : Scenario) (n : ℕ) (s : State) → Sane x.setup s → reduced (run level x n (reduced s)).last ≡ reduced (run level x n s).last }
+    ensures end { (level : Detail) (x : Scenario) (n : ℕ) (s : State) → Sane x.setup s → (run level x n (reduced s)).end ≡ (run level x n s).end }
 {}

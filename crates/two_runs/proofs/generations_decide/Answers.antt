@@ -6,9 +6,9 @@ use Rattle.two_runs.proofs.generations_decide.Goals as goal
 pub returns : goal.returns
 returns c = record {
   sane = sane-reduced;
-  notes = λ level x s. (reduced-turn level x s).notes;
-  state = λ level x s. (reduced-turn level x s).state;
-  run_notes = λ level x n s. (reduced-run level x n s).notes;
-  last = λ level x n s. (reduced-run level x n s).last;
-  end = λ level x n s. (reduced-run level x n s).end;
+  notes = λ level x s sane. (reduced-turn level x s sane).notes;
+  state = λ level x s sane. (reduced-turn level x s sane).state;
+  run_notes = λ level x n s sane. (reduced-run level x n s sane).notes;
+  last = λ level x n s sane. (reduced-run level x n s sane).last;
+  end = λ level x n s sane. (reduced-run level x n s sane).end;
 }

@@ -26,7 +26,7 @@ fault-requires-clause-to_ten c =
 pub call-requires-clause-ready : goal.call-requires-clause-ready
 call-requires-clause-ready c =
     let w = was_call _ _ _ _ _ _ c.exec.ensures c.in-Call.is in
-    (c.requires.ready.0, c.requires.ready.1, ready_same _ _ _ _ _ w.1 w.2 c.requires.ready.2)
+    (c.requires.ready.0, c.requires.ready.1, ready_same _ _ _ _ _ w.1 w.2 c.requires.ready.2, c.requires.ready.3)
 
 pub returns-in-Next-clause-holds : goal.returns-in-Next-clause-holds
 returns-in-Next-clause-holds c = λ g t r.

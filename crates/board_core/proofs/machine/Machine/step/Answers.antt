@@ -1,8 +1,9 @@
-use Rattle.std.proofs.Common.{◌≡◌, ◌∙◌, ℕ, subst, arith}
+use Rattle.std.proofs.Common.{◌≡◌, ◌∙◌, ℕ, sym, subst, arith}
 use Rattle.kernel_abi.specs.declared.Note.TheVariants as note
 use Rattle.task_table.specs.State.{Turn}
-use Rattle.board_core.specs.Machine.{MachineHolds}
+use Rattle.board_core.specs.Machine.{MachineHolds, HasNumber}
 use Rattle.board_model.specs.Turn.{told, executed}
+use Rattle.board_model.proofs.TurnChains.{told_state, ready-call_noted}
 use Rattle.board_core.proofs.Fetching.{even_pc, fetched_stepped}
 use Rattle.board_core.proofs.Loading.{loaded_register}
 use Rattle.board_core.proofs.Telling.{told_current}
@@ -19,7 +20,8 @@ pub execute-requires-clause-ready : goal.execute-requires-clause-ready
 execute-requires-clause-ready c =
     let g = c.requires.ready.0 in
     let t = c.requires.ready.1 in
-    (g, told c.args.level (note.Insn t.state.current c.get-at.result c.in-Ok.fetched.code) t, c.tell_insn.ensures.ready g t c.requires.ready.2)
+    let n = note.Insn t.state.current c.get-at.result c.in-Ok.fetched.code in
+    (g, told c.args.level n t, c.tell_insn.ensures.ready g t c.requires.ready.2, subst HasNumber (sym (told_state c.args.level n t)) c.requires.ready.3)
 
 pub returns-in-Ok-clause-holds : goal.returns-in-Ok-clause-holds
 returns-in-Ok-clause-holds c = λ g t r.

@@ -25,6 +25,7 @@ step-requires-clause-ready c =
       g,
       with_current c.in-Some.task t,
       record { loaded = c.load_context.ensures.loaded; holds = c.load_context.ensures.holds g t n.stands.holds is.ready; sane = sane-current c.in-Some.task t n.stands.sane is.inside },
+      c.requires.next.3,
     )
 
 pub tell_task-requires-clause-there : goal.tell_task-requires-clause-there

@@ -1,0 +1,12 @@
+use Rattle.std.proofs.Common.{◌<◌, length, arith}
+use Rattle.task_table.proofs.Frames.{idle-ready}
+use Rattle.task_table.proofs.StepKeeps.{sane-sent}
+use Rattle.ipc_core.proofs.sending.send.Goals as goal
+
+pub send_by-requires-clause-idle : goal.send_by-requires-clause-idle
+send_by-requires-clause-idle c = let r = c.requires.ready in (r.0, r.1, r.2, idle-ready r.1.state c.args.caller r.3)
+
+pub returns-clause-stands : goal.returns-clause-stands
+returns-clause-stands c = λ g t h ready.
+    let inside : c.args.caller < length t.state.tasks = omega (arith, c.requires.there, h.holds.count) in
+    record { holds = c.send_by.ensures.holds g t h (idle-ready t.state c.args.caller ready); sane = sane-sent c.args.caller t h.sane inside ready }

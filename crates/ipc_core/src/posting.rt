@@ -1,0 +1,70 @@
+//! The system calls POST and REFRESH_TASK_ID (Hubris Reference, on task ids and notifications).
+
+ghost use Rattle.std.specs.Prelude.{◌≡◌, ◌+◌, ◌<◌, ◌≤◌, true};
+ghost use Rattle.task_table.specs.State.{Setup, Turn};
+ghost use Rattle.task_table.specs.Reading.{is_ready};
+ghost use Rattle.task_table.specs.Sends.{post_made, refreshed};
+ghost use Rattle.task_table.specs.Holds.{Holds, Stands, task_count, note_count};
+ghost use Rattle.task_table.specs.Limits.{call_notes, turn_notes};
+ghost use Rattle.task_table.specs.Frames.{AddsAtMost};
+
+use kernel_abi::{IdArgs, Usage, dead_code};
+use task_table::{Found, Kernel};
+
+/// POST, of any caller.
+fn post_bits(k: &mut Kernel, caller: usize)
+    requires there { caller < task_count k.old }
+    requires room { note_count k.old + call_notes ≤ turn_notes }
+    ensures holds { (g : Setup) (t : Turn) → Holds g k.old t → Holds g k.new (post_made g caller t) }
+    ensures frame { AddsAtMost k.old call_notes k.new }
+{
+    let args = IdArgs::of(&k.arguments(caller));
+    match k.lookup(args.id.number) {
+        Found::Out => k.misuse(caller, Usage::BadTaskIndex),
+        Found::Dead(generation) => k.answer(caller, &[dead_code(generation)]),
+        Found::Live(task) => {
+            k.post(task, args.bits);
+            k.answer(caller, &[0]);
+        }
+    }
+}
+
+/// POST: r4 is the id of a task, r5 the bits to post to it. r4 is 0 then, or the dead code where the id is
+/// that of an earlier birth; an id of no task is a misuse (Hubris Reference, on notifications).
+pub fn post_call(k: &mut Kernel, caller: usize)
+    requires there { caller < task_count k.old }
+    requires ready { (g : Setup) × (t : Turn) × Stands g k.old t × (is_ready t.state caller ≡ true) }
+    requires room { note_count k.old + call_notes ≤ turn_notes }
+    ensures stands { (g : Setup) (t : Turn) → Stands g k.old t → is_ready t.state caller ≡ true → Stands g k.new (post_made g caller t) }
+    ensures frame { AddsAtMost k.old call_notes k.new }
+{
+    post_bits(k, caller);
+}
+
+/// REFRESH_TASK_ID, of any caller.
+fn tell_present_id(k: &mut Kernel, caller: usize)
+    requires there { caller < task_count k.old }
+    requires room { note_count k.old + call_notes ≤ turn_notes }
+    ensures holds { (g : Setup) (t : Turn) → Holds g k.old t → Holds g k.new (refreshed g caller t) }
+    ensures frame { AddsAtMost k.old call_notes k.new }
+{
+    let args = IdArgs::of(&k.arguments(caller));
+    let task = usize::from(args.id.index());
+    if task >= k.task_count() {
+        return k.misuse(caller, Usage::BadTaskIndex);
+    }
+    let id = k.id(task);
+    k.answer(caller, &[u32::from(id.number)]);
+}
+
+/// REFRESH_TASK_ID: r4 is an id of any birth of a task, and becomes that of the present one; an id of no
+/// task is a misuse (Hubris Reference, on task ids).
+pub fn refresh(k: &mut Kernel, caller: usize)
+    requires there { caller < task_count k.old }
+    requires ready { (g : Setup) × (t : Turn) × Stands g k.old t × (is_ready t.state caller ≡ true) }
+    requires room { note_count k.old + call_notes ≤ turn_notes }
+    ensures stands { (g : Setup) (t : Turn) → Stands g k.old t → is_ready t.state caller ≡ true → Stands g k.new (refreshed g caller t) }
+    ensures frame { AddsAtMost k.old call_notes k.new }
+{
+    tell_present_id(k, caller);
+}

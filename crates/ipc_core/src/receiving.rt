@@ -1,0 +1,145 @@
+//! The system call RECV (Hubris Reference, on RECV).
+
+ghost use Rattle.std.specs.Prelude.{◌≡◌, ◌+◌, ◌<◌, ◌≤◌, ◌^◌, true, Some, None, Option, IfSome};
+ghost use Rattle.kernel_abi.specs.Arguments.{recv_args};
+ghost use Rattle.task_table.specs.State.{Setup, Turn};
+ghost use Rattle.task_table.specs.Reading.{arguments, is_ready, best_sender, offer_by, IsIdle};
+ghost use Rattle.task_table.specs.Rows.{listened_from, receives_or_listens, message_received, input_received, received};
+ghost use Rattle.task_table.specs.Holds.{Holds, Stands, Stood, task_count, note_count};
+ghost use Rattle.task_table.specs.Limits.{call_notes, turn_notes};
+ghost use Rattle.task_table.specs.Frames.{AddsAtMost};
+ghost use Rattle.task_table.specs.Messages.{from_of, IsListened, IsReceiving};
+ghost use Rattle.ipc_core.specs.Named.{IsSender, IsNamed, IsInside};
+
+use crate::range::is_valid;
+use kernel_abi::{Access, Generation, Listened, RecvArgs, TaskId, Usage, dead_code};
+use region_check::Right;
+use task_table::{Found, Kernel};
+
+/// Whom a receive hears.
+#[derive(Clone, Copy)]
+enum Sender {
+    /// Any task.
+    Any,
+    /// The kernel alone.
+    Kernel,
+    /// An earlier birth of a task that is now at this generation.
+    Dead(Generation),
+    /// The task with this index alone.
+    One(usize),
+}
+
+/// Whom the caller's receive names; None where that is no other task.
+fn sender_of(k: &Kernel, caller: usize, args: &RecvArgs) -> Option<Sender>
+    ensures named { (g : Setup) (t : Turn) → Holds g k.now t → IsNamed t.state caller args.now result }
+    ensures inside { IfSome result (IsInside (task_count k.now)) }
+{
+    if !args.closed {
+        return Some(Sender::Any);
+    }
+    if args.sender.number == TaskId::KERNEL {
+        return Some(Sender::Kernel);
+    }
+    if usize::from(args.sender.index()) == caller {
+        return None;
+    }
+    match k.lookup(args.sender.number) {
+        Found::Out => None,
+        Found::Dead(generation) => Some(Sender::Dead(generation)),
+        Found::Live(index) => Some(Sender::One(index)),
+    }
+}
+
+/// The caller takes the call that a client offers to it; where it offers none, the caller listens.
+fn receive_or_listen(k: &mut Kernel, caller: usize, client: usize, from: Listened)
+    requires there { caller < task_count k.old }
+    requires client { client < task_count k.old }
+    requires whom { IsListened (task_count k.old) from }
+    requires room { note_count k.old + 2 ≤ turn_notes }
+    requires ready { IsReceiving k.old caller }
+    ensures holds { (g : Setup) (t : Turn) → Stands g k.old t → IsIdle t.state caller → Holds g k.new (receives_or_listens caller (recv_args (arguments t.state caller)) (from_of t.state from) (offer_by t.state client caller) t) }
+    ensures frame { AddsAtMost k.old 2 k.new }
+{
+    match k.offered(client, caller) {
+        Some(call) => k.receive(caller, client, &call),
+        None => k.listen(caller, from),
+    }
+}
+
+/// A message of a caller that no posted bit wakes.
+fn receive_message(k: &mut Kernel, caller: usize, sender: Sender, best: Option<usize>)
+    requires there { caller < task_count k.old }
+    requires sender { IsInside (task_count k.old) sender }
+    requires best { IfSome best (λ i. i < task_count k.old) }
+    requires room { note_count k.old + 2 ≤ turn_notes }
+    requires ready { IsReceiving k.old caller }
+    ensures holds { (g : Setup) (t : Turn) → Stands g k.old t → IsIdle t.state caller → IsSender t.state caller (recv_args (arguments t.state caller)) sender → Holds g k.new (message_received caller best t) }
+    ensures frame { AddsAtMost k.old 2 k.new }
+{
+    match sender {
+        Sender::Any => match best {
+            Some(client) => receive_or_listen(k, caller, client, Listened::Any),
+            None => k.listen(caller, Listened::Any),
+        },
+        Sender::Kernel => k.listen(caller, Listened::Kernel),
+        Sender::Dead(generation) => k.answer(caller, &[dead_code(generation), 0, 0, 0, 0, 0]),
+        Sender::One(client) => {
+            receive_or_listen(k, caller, client, Listened::One(client as u16));
+        }
+    }
+}
+
+/// The posted bits of the caller under its mask, where there are any, else a message.
+fn receive_input(k: &mut Kernel, caller: usize, mask: u32, sender: Sender, best: Option<usize>)
+    requires there { caller < task_count k.old }
+    requires sender { IsInside (task_count k.old) sender }
+    requires best { IfSome best (λ i. i < task_count k.old) }
+    requires room { note_count k.old + 2 ≤ turn_notes }
+    requires ready { IsReceiving k.old caller }
+    ensures holds { (g : Setup) (t : Turn) → Stands g k.old t → IsIdle t.state caller → mask ≡ (recv_args (arguments t.state caller)).mask → IsSender t.state caller (recv_args (arguments t.state caller)) sender → Holds g k.new (input_received caller best t) }
+    ensures frame { AddsAtMost k.old 2 k.new }
+{
+    if k.posted_bits(caller) & mask != 0 {
+        k.take_bits(caller, mask);
+    } else {
+        receive_message(k, caller, sender, best);
+    }
+}
+
+/// RECV of a caller that waits for nothing.
+fn receive(k: &mut Kernel, caller: usize, best: Option<usize>)
+    requires there { caller < task_count k.old }
+    requires best { IfSome best (λ i. i < task_count k.old) }
+    requires room { note_count k.old + call_notes ≤ turn_notes }
+    requires stood { Stood k.old }
+    ensures holds { (g : Setup) (t : Turn) → Stands g k.old t → IsIdle t.state caller → Holds g k.new (received g caller best t) }
+    ensures frame { AddsAtMost k.old call_notes k.new }
+{
+    let args = RecvArgs::of(&k.arguments(caller));
+    if !is_valid(args.buffer_base, args.buffer_length) {
+        return k.misuse(caller, Usage::InvalidSlice);
+    }
+    if let Some(at) = k.bad_byte(caller, Right::Write, args.buffer_base, args.buffer_length) {
+        return k.deny(caller, at, Access::KernelWrite);
+    }
+    match sender_of(k, caller, &args) {
+        None => k.misuse(caller, Usage::BadTaskIndex),
+        Some(sender) => receive_input(k, caller, args.mask, sender, best),
+    }
+}
+
+/// RECV: r4 and r5 are the buffer, r6 a mask of notifications; where bit 31 of r7 is set, the receive is
+/// closed to the sender whose id is in bits 15 to 0 (0xFFFF: to the kernel alone). Notifications under the
+/// mask come before messages; where there is neither, the caller listens (Hubris Reference, on RECV).
+///
+/// `best` is the best sender to the caller.
+pub fn recv(k: &mut Kernel, caller: usize, best: Option<usize>)
+    requires there { caller < task_count k.old }
+    requires best { IfSome best (λ i. i < task_count k.old) }
+    requires ready { (g : Setup) × (t : Turn) × Stands g k.old t × (is_ready t.state caller ≡ true) }
+    requires room { note_count k.old + call_notes ≤ turn_notes }
+    ensures stands { (g : Setup) (t : Turn) → Stands g k.old t → is_ready t.state caller ≡ true → best ≡ best_sender g t.state caller → Stands g k.new (received g caller best t) }
+    ensures frame { AddsAtMost k.old call_notes k.new }
+{
+    receive(k, caller, best);
+}

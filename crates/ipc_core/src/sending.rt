@@ -1,0 +1,112 @@
+//! The system call SEND (Hubris Reference, on SEND).
+
+ghost use Rattle.std.specs.Prelude.{◌≡◌, ◌+◌, ◌*◌, ◌<◌, ◌≤◌, ◌^◌, ◌||◌, not, true, Option, IfSome};
+ghost use Rattle.task_table.specs.State.{Setup, Turn};
+ghost use Rattle.task_table.specs.Reading.{arguments, is_ready, is_valid, IsIdle};
+ghost use Rattle.task_table.specs.Sends.{message_of, reply_room, table_of, sent};
+ghost use Rattle.task_table.specs.Holds.{Holds, Stands, task_count, note_count, next_call_of};
+ghost use Rattle.task_table.specs.Limits.{call_notes, turn_notes};
+ghost use Rattle.task_table.specs.Frames.{AddsAtMost};
+ghost use Rattle.ipc_core.specs.Sending.{IsRecipient, IsRecipientOf, IsAmong, sent_to};
+
+use crate::range::is_valid;
+use kernel_abi::{Access, Generation, SendArgs, TaskId, Usage, dead_code};
+use region_check::Right;
+use task_table::{Found, Kernel};
+
+/// The other task that a send names.
+#[derive(Clone, Copy)]
+enum Recipient {
+    /// An earlier birth of a task that is now at this generation.
+    Dead(Generation),
+    /// The present birth of the task with this index.
+    Live(usize),
+}
+
+/// Which other task an id names; None where it names none.
+fn recipient_of(k: &Kernel, caller: usize, id: TaskId) -> Option<Recipient>
+    ensures named { (g : Setup) (t : Turn) → Holds g k.now t → IsRecipientOf t.state caller id.number result }
+    ensures inside { IfSome result (IsAmong (task_count k.now)) }
+{
+    if usize::from(id.index()) == caller {
+        return None;
+    }
+    match k.lookup(id.number) {
+        Found::Out => None,
+        Found::Dead(generation) => Some(Recipient::Dead(generation)),
+        Found::Live(index) => Some(Recipient::Live(index)),
+    }
+}
+
+/// Whether a lease table ends inside the address space.
+fn is_valid_table(base: u32, leases: u32) -> bool
+    ensures { result ≡ is_valid record { base = base; length = 12 * leases } }
+{
+    u64::from(base) + 12 * u64::from(leases) <= 0x1_0000_0000
+}
+
+/// Whether the message, the reply buffer or the lease table of a send reaches beyond the address space.
+fn reaches_out(args: &SendArgs) -> bool
+    ensures { result ≡ (not (is_valid (message_of args.now)) || (not (is_valid (reply_room args.now)) || not (is_valid (table_of args.now)))) }
+{
+    !is_valid(args.message_base, args.message_length)
+        || !is_valid(args.reply_base, args.reply_capacity)
+        || !is_valid_table(args.table, args.leases)
+}
+
+/// A caller that waits for nothing sends to another task.
+fn send_to(k: &mut Kernel, caller: usize, recipient: Recipient, args: &SendArgs)
+    requires there { caller < task_count k.old }
+    requires recipient { IsAmong (task_count k.old) recipient }
+    requires room { note_count k.old + call_notes ≤ turn_notes }
+    requires number { next_call_of k.old + 1 < 2 ^ 32 }
+    requires idle { (g : Setup) × (t : Turn) × Stands g k.old t × IsIdle t.state caller }
+    ensures holds { (g : Setup) (t : Turn) → Stands g k.old t → IsIdle t.state caller → IsRecipient t.state caller args.now.recipient.number recipient → Holds g k.new (sent_to g caller args.now t) }
+    ensures frame { AddsAtMost k.old call_notes k.new }
+{
+    if reaches_out(args) {
+        return k.misuse(caller, Usage::InvalidSlice);
+    }
+    if let Some(at) = k.bad_byte(caller, Right::Read, args.message_base, args.message_length) {
+        return k.deny(caller, at, Access::KernelRead);
+    }
+    if let Some(at) = k.bad_byte(caller, Right::Write, args.reply_base, args.reply_capacity) {
+        return k.deny(caller, at, Access::KernelWrite);
+    }
+    match recipient {
+        Recipient::Dead(generation) => k.answer(caller, &[dead_code(generation), 0]),
+        Recipient::Live(server) => k.send(caller, server, args),
+    }
+}
+
+/// SEND of a caller that waits for nothing.
+fn send_by(k: &mut Kernel, caller: usize)
+    requires there { caller < task_count k.old }
+    requires room { note_count k.old + call_notes ≤ turn_notes }
+    requires number { next_call_of k.old + 1 < 2 ^ 32 }
+    requires idle { (g : Setup) × (t : Turn) × Stands g k.old t × IsIdle t.state caller }
+    ensures holds { (g : Setup) (t : Turn) → Stands g k.old t → IsIdle t.state caller → Holds g k.new (sent g caller t) }
+    ensures frame { AddsAtMost k.old call_notes k.new }
+{
+    let args = SendArgs::of(&k.arguments(caller));
+    match recipient_of(k, caller, args.recipient) {
+        None => k.misuse(caller, Usage::BadTaskIndex),
+        Some(recipient) => send_to(k, caller, recipient, &args),
+    }
+}
+
+/// SEND: r4 has the recipient's id in bits 31 to 16 and the operation in bits 15 to 0, r5 and r6 are the
+/// message, r7 and r8 the buffer for the reply, r9 and r10 the table of leases and their number. The caller
+/// waits for the reply; where the id is that of an earlier birth, r4 is the dead code and r5 is 0 at once. A
+/// recipient that is the caller or no task is a misuse, and so is a range that reaches beyond the address
+/// space (Hubris Reference, on SEND).
+pub fn send(k: &mut Kernel, caller: usize)
+    requires there { caller < task_count k.old }
+    requires ready { (g : Setup) × (t : Turn) × Stands g k.old t × (is_ready t.state caller ≡ true) }
+    requires room { note_count k.old + call_notes ≤ turn_notes }
+    requires number { next_call_of k.old + 1 < 2 ^ 32 }
+    ensures stands { (g : Setup) (t : Turn) → Stands g k.old t → is_ready t.state caller ≡ true → Stands g k.new (sent g caller t) }
+    ensures frame { AddsAtMost k.old call_notes k.new }
+{
+    send_by(k, caller);
+}
