@@ -17,8 +17,8 @@ use Rattle.task_table.specs.Sane.{Sane}
 use Rattle.std.proofs.lemmas.Bool.{leb-true}
 use Rattle.task_table.proofs.Clients.{found_call, taken_call}
 use Rattle.task_table.specs.declared.kernel.Kernel.{Kernel}
-use Rattle.task_table.proofs.Messages.{holds_looked, holds_copied, within-front}
-use Rattle.task_table.proofs.Ranges.{within-good, within_ram-good, within_ram-front}
+use Rattle.task_table.proofs.Messages.{holds_looked, holds_copied}
+use Rattle.task_table.proofs.Ranges.{within-good, within_ram-good}
 use Rattle.lease_core.specs.Loans.{way_of, IsBuffer, IsLeased}
 use Rattle.lease_core.specs.declared.way.Way.{Way}
 use Rattle.lease_core.specs.declared.way.Way.TheVariants as way
@@ -32,10 +32,6 @@ leased_good way.Write g m i r placed good = within_ram-good g m i r placed good
 pub buffer_good : (w : Way) (g : Setup) (m : Memory) (i : ℕ) (r : Range) → ArePlaced g m → bad_byte g i (way_of w).own r ≡ None → IsBuffer w m r.base r.length
 buffer_good way.Read g m i r placed good = within_ram-good g m i r placed good
 buffer_good way.Write g m i r placed good = within-good g m i Read r placed good
-
-pub buffer_front : (w : Way) (m : Memory) (a k n : ℕ) → k ≤ n → IsBuffer w m a n → IsBuffer w m a k
-buffer_front way.Read m a k n le within = within_ram-front m a n k within le
-buffer_front way.Write m a k n le within = within-front m a k n le within
 
 -- ## no bytes
 
