@@ -79,9 +79,9 @@ bits_told (false ∷ xs) (false ∷ ys) n e = ap (λ zs. false ∷ zs) (bits_tol
 pub ready_kept : (g : Setup) (k : Kept) (t : Turn) → Shows g k t → number_of (map is_free k.slots) ≡ readiness t.state
 ready_kept g k t h =
     ap number_of (fill_by_all (is_ready t.state) (map is_free k.slots) (length t.state.tasks) false (length-map k.slots is_free ∙ h.count) (λ i below.
-        let inside : i < length k.slots = omega (arith, below, h.count) in
-        let slot : Slot = get_or k.slots i no_slot in
-        get_or-map is_free k.slots i no_slot false inside ∙ free_kept t.state i slot (h.tasks i inside no_slot)))
+    let inside : i < length k.slots = omega (arith, below, h.count) in
+    let slot : Slot = get_or k.slots i no_slot in
+    get_or-map is_free k.slots i no_slot false inside ∙ free_kept t.state i slot (h.tasks i inside no_slot)))
 
 -- a task that is not there is not ready
 unready_past : (s : State) (i : ℕ) → length s.tasks ≤ i → is_ready s i ≡ false

@@ -36,7 +36,11 @@ pub(crate) fn ready_after(ready: u32, slots: &[Slot], task: usize, slot: &Slot) 
     ensures { result ≡ number_of (map is_free (slice_set slots.now task slot.now)) }
 {
     if slots[task].is_ready() {
-        if slot.is_ready() { ready } else { ready - bit(task) }
+        if slot.is_ready() {
+            ready
+        } else {
+            ready - bit(task)
+        }
     } else if slot.is_ready() {
         ready + bit(task)
     } else {
