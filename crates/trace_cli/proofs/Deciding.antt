@@ -16,6 +16,7 @@ use Rattle.trace_cli.specs.Verdict as verdict
 use Rattle.trace_cli.specs.Verdict.{Verdict, IsVerdict, Does, runs, lists, builds, usage, refused, unread, ran, listed, built}
 use Rattle.trace_cli.specs.Answer.{Reason, cannot_read, refuses, does, IsUnread, IsRefused, Ground, no_job, of_job}
 use Rattle.trace_cli.proofs.Lists.{is_below}
+use Rattle.trace_cli.proofs.Stopping.{where_told}
 use Rattle.trace_cli.proofs.Agreeing.{same_files, told_further, may_further, same_contents}
 
 -- ## what is done with files is one thing
@@ -132,12 +133,12 @@ same_refusal told job f g why why' cs c h r is refusal = by_length (meets (lengt
       absurd (not_refused told g t.0 why' c t.2.0 (same_Some g t.0 (sym r.next ∙ t.1)) is refusal t.2.1 t.2.2)
   by_length (more lt) =
       let t = told_further told job cs h.contents r.takes h.reached.takes lt in
-      absurd (not_accepted told f t.0 why t.2.0 (same_Some f t.0 (sym h.reached.next ∙ t.1)) h.refused t.2.1 t.2.2)
+      absurd (not_accepted told f t.0 why t.2.0 (same_Some f t.0 (sym h.reached.next ∙ t.1)) (where_told told f why h.refused) t.2.1 t.2.2)
   by_length (same e) =
       let files = same_files told job cs h.contents r.takes h.reached.takes (length cs) (omega arith) (omega arith) in
       let there : slice_get (files_by job h.contents) (length cs) ≡ Some f = ap (λ (k : ℕ). slice_get (files_by job h.contents) k) e ∙ h.reached.next in
       let file : g ≡ f = same_Some g f (sym r.next ∙ files ∙ there) in
-      let mine : g.refusal c ≡ Some why = subst (λ (i : File). WhereTold (told i.name) (λ all. i.refusal all ≡ Some why)) (sym file) h.refused c is in
+      let mine : g.refusal c ≡ Some why = subst (λ (i : File). WhereTold (told i.name) (λ all. i.refusal all ≡ Some why)) (sym file) (where_told told f why h.refused) c is in
       let reason : why ≡ why' = same_Some why why' (sym mine ∙ refusal) in
       ap (λ (i : File). refused i.name why) (sym file) ∙ ap (refused g.name) reason
 
@@ -150,7 +151,7 @@ refused_not_done told job f why cs h all = by_length (meets (length cs) (length 
       no_file (files_by job cs) (length cs) t.0 all.all t.1
   by_length (more lt) =
       let t = told_further told job cs h.contents all.takes h.reached.takes lt in
-      not_accepted told f t.0 why t.2.0 (same_Some f t.0 (sym h.reached.next ∙ t.1)) h.refused t.2.1 t.2.2
+      not_accepted told f t.0 why t.2.0 (same_Some f t.0 (sym h.reached.next ∙ t.1)) (where_told told f why h.refused) t.2.1 t.2.2
   by_length (same e) =
       let files = same_files told job cs h.contents all.takes h.reached.takes (length cs) (omega arith) (omega arith) in
       let there : slice_get (files_by job h.contents) (length cs) ≡ Some f = ap (λ (k : ℕ). slice_get (files_by job h.contents) k) e ∙ h.reached.next in

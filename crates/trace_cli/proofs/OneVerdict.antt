@@ -25,7 +25,7 @@ grounded words told v (verdict.no_job none e) = no_job none e
 grounded words told v (verdict.refuses job cs f c why at r held refusal e) = of_job job at (refuses f why (record {
   contents = cs;
   reached = record { takes = takes_may told _ cs r.takes; next = r.next };
-  refused = λ all is. ap f.refusal (same_Some all c (sym is ∙ held)) ∙ refusal;
+  refused = record { bytes = c; held = held_may told f.name c held; refused = refusal };
 }) e)
 grounded words told v (verdict.does job cs at all p) = of_job job at (does cs (record { takes = takes_may told _ cs all.takes; all = all.all }) p)
 

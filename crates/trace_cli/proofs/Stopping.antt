@@ -1,7 +1,9 @@
 -- Why a file is not taken.
-use Rattle.std.proofs.Common.{◌≡◌, ℕ, ◌<◌, ◌≤◌, Bool, true, false, List, length, Option, Some, refl, sym, ap, subst, ◌∙◌, arith, cond, nat_lt, ltb, string_bytes}
+use Rattle.std.proofs.Common.{◌≡◌, ℕ, ◌<◌, ◌≤◌, Bool, true, false, List, length, Option, Some, None, suc, refl, sym, ap, subst, ◌∙◌, arith, cond, nat_lt, ltb, string_bytes}
 use Rattle.std.proofs.lemmas.Bool.Decides.{nat_tests}
 use Rattle.std.proofs.lemmas.Option.{same_Some}
+use Rattle.std.proofs.lemmas.List.{length-replicate}
+use Rattle.std.specs.Prelude.{replicate}
 use Rattle.outside_io.specs.Outside.{WhereTold, Rose}
 use Rattle.trace_cli.specs.declared.stops.Stop.{Stop}
 use Rattle.trace_cli.specs.declared.stops.Stop.TheVariants as stops
@@ -9,8 +11,8 @@ use Rattle.trace_cli.specs.declared.stops.Halt.{Halt}
 use Rattle.trace_cli.specs.declared.stops.Halt.TheVariants as halts
 use Rattle.trace_cli.specs.Contents.{Why, at_number, unless_long, image_refusal, script_refusal, app_refusal, source_refusal}
 use Rattle.trace_cli.specs.Seen.{FilesSeen}
-use Rattle.trace_cli.specs.Sources.{File, MayBe}
-use Rattle.trace_cli.specs.Stops.{IsCannotRead, StopsAt, CannotTake, Stops, HaltsAt}
+use Rattle.trace_cli.specs.Sources.{File, MayBe, MayBeRefused}
+use Rattle.trace_cli.specs.Stops.{IsCannotRead, MayBeLong, StopsAt, CannotTake, Stops, HaltsAt}
 use Rattle.app_toml.specs.Apps.{AppData}
 
 -- ## long and short files
@@ -40,7 +42,18 @@ long_source app i bytes lt = long_refused bytes _ lt
 pub short : (bytes : List ℕ) (r : Option Why) → length bytes ≤ 2097152 → unless_long bytes r ≡ r
 short bytes r le = let e : ltb 2097152 (length bytes) ≡ false = grind (arith, nat_tests) in rw e refl
 
--- a file that is too long where it is told
+-- what may be there where nothing is told
+a_longer : (n : ℕ) → (bytes : List ℕ) × (n < length bytes)
+a_longer n = let many : length (replicate (suc n) 0) ≡ suc n = length-replicate (suc n) 0 in (replicate (suc n) 0, omega (arith, many))
+
+longer_than : (n : ℕ) (o : Option (List ℕ)) → WhereTold o (λ all. n < length all) → (bytes : List ℕ) × WhereTold o (λ all. bytes ≡ all) × (n < length bytes)
+longer_than n None long = let more = a_longer n in (more.0, (λ all is. absurd (cc)), more.1)
+longer_than n (Some all) long = (all, (λ c is. same_Some all c is), long all refl)
+
+may_be_long : (told : List ℕ → Option (List ℕ)) (name : List ℕ) → WhereTold (told name) (λ all. 2097152 < length all) → MayBeLong told name
+may_be_long told name long = let more = longer_than 2097152 (told name) long in record { bytes = more.0; held = more.1; long = more.2 }
+
+-- a file that is too long
 pub by_length : (a b : FilesSeen) (name : List ℕ) (stop : Stop) → StopsAt (Some (at_number (0, 2097152))) stop → WhereTold (a.told name) (λ all. 2097152 < length all)
     → CannotTake a b name stop
 by_length a b name stops.Memory at long = tt
@@ -48,7 +61,7 @@ by_length a b name stops.CannotRead at long = absurd at
 by_length a b name (stops.Refused cause place) at long =
     let why : Why = (cause, string_bytes place) in
     let same : at_number (0, 2097152) ≡ why = same_Some (at_number (0, 2097152)) why at in
-    (ap (λ (p : Why). p.0) (sym same), ap (λ (p : Why). p.1) (sym same), long)
+    (ap (λ (p : Why). p.0) (sym same), ap (λ (p : Why). p.1) (sym same), may_be_long a.told name long)
 
 -- ## from contents to their file
 
@@ -56,15 +69,19 @@ pub cannot_take : (a b : FilesSeen) (f : File) (stop : Stop) → ((bytes : List 
     → CannotTake a b f.name stop → Stops a b f stop
 cannot_take a b f stops.Memory long t = tt
 cannot_take a b f stops.CannotRead long t = t
-cannot_take a b f (stops.Refused cause place) long t = λ all is.
+cannot_take a b f (stops.Refused cause place) long t =
     let reason : List ℕ → Option Why = λ p. Some (0, p) in
     let number : ℕ → Option Why = λ n. Some (n, string_bytes place) in
-    long all (t.2 all is) ∙ ap reason (sym t.1) ∙ ap number (sym t.0)
+    record { bytes = t.2.bytes; held = t.2.held; refused = long t.2.bytes t.2.long ∙ ap reason (sym t.1) ∙ ap number (sym t.0) }
 
 pub refused_in : (a b : FilesSeen) (f : File) (bytes : List ℕ) (stop : Stop) → MayBe a.told f.name bytes → StopsAt (f.refusal bytes) stop → Stops a b f stop
 refused_in a b f bytes stops.Memory may t = tt
 refused_in a b f bytes stops.CannotRead may t = absurd t
-refused_in a b f bytes (stops.Refused cause place) may t = λ all is. ap f.refusal (sym (may all is)) ∙ t
+refused_in a b f bytes (stops.Refused cause place) may t = record { bytes = bytes; held = may; refused = t }
+
+-- where its contents are told, they are those that are refused
+pub where_told : (told : List ℕ → Option (List ℕ)) (f : File) (why : Why) → MayBeRefused told f why → WhereTold (told f.name) (λ all. f.refusal all ≡ Some why)
+where_told told f why h = λ all is. ap f.refusal (sym (h.held all is)) ∙ h.refused
 
 -- ## from an earlier call on
 
@@ -78,4 +95,4 @@ pub halts_earlier : (a b c : FilesSeen) (f : File) (halt : Halt) → b.told ≡ 
 halts_earlier a b c f halts.Memory same le h = tt
 halts_earlier a b c f (halts.CannotRead name) same le h = (h.0, read_earlier a b c f.name le h.1)
 halts_earlier a b c f (halts.Refused name cause place) same le h =
-    (h.0, subst (λ (t : List ℕ → Option (List ℕ)). WhereTold (t f.name) (λ all. f.refusal all ≡ Some (cause, string_bytes place))) same h.1)
+    (h.0, subst (λ (t : List ℕ → Option (List ℕ)). MayBeRefused t f (cause, string_bytes place)) same h.1)

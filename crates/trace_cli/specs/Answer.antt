@@ -9,7 +9,7 @@ use Rattle.command_line.specs.declared.job.Detail.{Detail}
 use Rattle.trace_cli.specs.Contents.{Why}
 use Rattle.trace_cli.specs.Seen.{FilesSeen, SinkSeen}
 use Rattle.trace_cli.specs.Words.{job_in}
-use Rattle.trace_cli.specs.Sources.{File, MayBe, Reaches, TakesAll, IsRun, IsListing, IsBuild}
+use Rattle.trace_cli.specs.Sources.{File, MayBe, MayBeRefused, Reaches, TakesAll, IsRun, IsListing, IsBuild}
 use Rattle.trace_cli.specs.Verdict.{Verdict, usage, refused, refused_line, unread, unread_line, ran, listed, built, Does}
 
 -- ## why a verdict was given on a job (the files: before and after the call)
@@ -21,11 +21,11 @@ pub record IsUnread (job : Asked) (before after : FilesSeen) (f : File) : Type 0
   pub rose : Rose before.read_faults after.read_faults
   pub named : WhereTold after.last_failing (λ name. name ≡ short_name f.name)
 
--- each file before is accepted, and this one is refused where it is told
+-- each file before is accepted, and this one may hold contents that are refused so; where they are told, it is those
 pub record IsRefused (job : Asked) (told : List ℕ → Option (List ℕ)) (f : File) (why : Why) : Type 0 where
   pub contents : List (List ℕ)
   pub reached : Reaches (MayBe told) job contents f
-  pub refused : WhereTold (told f.name) (λ all. f.refusal all ≡ Some why)
+  pub refused : MayBeRefused told f why
 
 -- each file is accepted
 abbrev pub IsAccepted : Asked → (List ℕ → Option (List ℕ)) → List (List ℕ) → Type 0

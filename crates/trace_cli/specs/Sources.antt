@@ -64,6 +64,12 @@ MayBe told name bytes = WhereTold (told name) (λ all. bytes ≡ all)
 abbrev pub Are : (List ℕ → Option (List ℕ)) → List ℕ → List ℕ → Type 0
 Are told name bytes = told name ≡ Some bytes
 
+-- there are contents that may be the file's, and they are refused so
+pub record MayBeRefused (told : List ℕ → Option (List ℕ)) (f : File) (why : Why) : Type 0 where
+  pub bytes : List ℕ
+  pub held : MayBe told f.name bytes
+  pub refused : f.refusal bytes ≡ Some why
+
 -- these are contents of the first of the files, and each of them is accepted
 abbrev pub Takes : (List ℕ → List ℕ → Type 0) → List File → List (List ℕ) → Type 0
 Takes Held files contents = (k : ℕ) (bytes : List ℕ) → slice_get contents k ≡ Some bytes
