@@ -116,10 +116,10 @@ returns-in_err-push_notes-clause-broken g c = λ x s st.
     rw (p.1) (breaks_in_turn c.args.level x n _ (c.args.limit - s.turn) _ _ _ s b b' (notes_of b') h (omega (arith, c.turns-in-turns.ensures)) pushed (c.turns.invariant.midway x s st))
 
 pub returns-in-Some-clause-ledger : goal.returns-in-Some-clause-ledger
-returns-in-Some-clause-ledger c = λ x st. ledger-run c.args.level x c.args.limit st.sane
+returns-in-Some-clause-ledger g c = λ x st. ledger-run c.args.level x c.args.limit st.sane
 
 pub returns-in_err-push_end-in-Some-clause-ledger : goal.returns-in_err-push_end-in-Some-clause-ledger
-returns-in_err-push_end-in-Some-clause-ledger c = λ x st. ledger-run c.args.level x c.args.limit st.sane
+returns-in_err-push_end-in-Some-clause-ledger g c = λ x st. ledger-run c.args.level x c.args.limit st.sane
 
 pub returns-in_err-push_notes-clause-ledger : goal.returns-in_err-push_notes-clause-ledger
-returns-in_err-push_notes-clause-ledger c = λ x st. ledger-run c.args.level x c.args.limit st.sane
+returns-in_err-push_notes-clause-ledger g c = λ x st. ledger-run c.args.level x c.args.limit st.sane

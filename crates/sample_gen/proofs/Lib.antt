@@ -1,0 +1,5 @@
+pub mod Script
+pub mod App
+pub mod Drawn
+pub mod Made
+mod Oracle
