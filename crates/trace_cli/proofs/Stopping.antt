@@ -44,7 +44,10 @@ short bytes r le = let e : ltb 2097152 (length bytes) ≡ false = grind (arith, 
 
 -- what may be there where nothing is told
 a_longer : (n : ℕ) → (bytes : List ℕ) × (n < length bytes)
-a_longer n = let many : length (replicate (suc n) 0) ≡ suc n = length-replicate (suc n) 0 in (replicate (suc n) 0, omega (arith, many))
+a_longer n =
+    let zeros : List ℕ = replicate (suc n) 0 in
+    let many : length zeros ≡ suc n = length-replicate (suc n) 0 in
+    (zeros, omega (arith, many))
 
 longer_than : (n : ℕ) (o : Option (List ℕ)) → WhereTold o (λ all. n < length all) → (bytes : List ℕ) × WhereTold o (λ all. bytes ≡ all) × (n < length bytes)
 longer_than n None long = let more = a_longer n in (more.0, (λ all is. absurd (cc)), more.1)
