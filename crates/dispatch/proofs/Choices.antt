@@ -1,60 +1,20 @@
 -- The first task of the lowest priority number.
-use Rattle.std.proofs.Common.{◌≡◌, ◌+◌, ◌-◌, ◌<◌, ◌≤◌, ◌⊎◌, inl, inr, ℕ, zero, suc, Bool, true, false, cond, not, ◌&&◌, ◌||◌, List, [], ◌∷◌, ◌++◌, length, Option, Some, None, refl, sym, ◌∙◌, ap, arith, eqb, leb}
+use Rattle.std.proofs.Common.{◌≡◌, ◌+◌, ◌-◌, ◌<◌, ◌≤◌, ◌⊎◌, inl, inr, ℕ, zero, suc, Bool, true, false, cond, not, ◌&&◌, ◌||◌, List, [], ◌∷◌, ◌++◌, length, Option, Some, None, is_none, refl, sym, ◌∙◌, ap, arith, eqb, leb}
 use Rattle.std.specs.Prelude.{find, IfSome, IsSomeAnd}
 use Rattle.std.specs.List.{range_with_len, list_all}
-use Rattle.std.specs.Option.{option_eq}
 use Rattle.std.proofs.lemmas.Bool.{cases_lt, eqb-true, eq-eqb, leb-true, le-leb, false≢true}
 use Rattle.std.proofs.lemmas.Bool.Decides.{leb_tells}
 use Rattle.task_table.specs.State.{Setup, State}
-use Rattle.task_table.specs.Reading.{priority}
-use Rattle.dispatch.specs.Lowest.{IsLowest, is_among, has_rank, lower_of, is_rank, rank_of, is_lowest, first_around}
+use Rattle.task_table.specs.Reading.{priority, around}
+use Rattle.dispatch.specs.Lowest.{IsLowest, IsFirst, is_among, has_rank, better_of, is_rank, is_at_most, rank_of, is_lowest, first_around}
 use Rattle.dispatch.specs.declared.Among.{Among}
+use Rattle.dispatch.specs.declared.Best.{Best}
 
 no_some : {A P : Type 0} {a : A} → None ≡ Some a → P
 no_some e = cc
 
 same_some : {A : Type 0} {a b : A} → Some a ≡ Some b → a ≡ b
 same_some e = cc
-
--- ## the lowest so far
-
--- with one more rank, the best is below both
-at_most_best : (b : ℕ) (best rank : Option ℕ) → IsSomeAnd best (λ x. x ≤ b) → IsSomeAnd (lower_of best rank) (λ x. x ≤ b)
-at_most_best b None rank h = absurd h
-at_most_best b (Some x) None h = h
-at_most_best b (Some x) (Some r) h = elim (leb_tells (suc r) x) [ inl t ↦ rw t.0 (omega arith) | inr f ↦ rw f.0 h ]
-
-at_most_rank : (r : ℕ) (best : Option ℕ) → IsSomeAnd (lower_of best (Some r)) (λ x. x ≤ r)
-at_most_rank r None = omega arith
-at_most_rank r (Some x) = elim (leb_tells (suc r) x) [ inl t ↦ rw t.0 (omega arith) | inr f ↦ rw f.0 (omega arith) ]
-
--- and it is one of the two
-one_of_two : (P : ℕ → Type 0) (best rank : Option ℕ) → IfSome best P → IfSome rank P → IfSome (lower_of best rank) P
-one_of_two P None rank a b = b
-one_of_two P (Some x) None a b = a
-one_of_two P (Some x) (Some r) a b = elim (leb_tells (suc r) x) [ inl t ↦ rw t.0 b | inr f ↦ rw f.0 a ]
-
-if_self : (o : Option ℕ) (P : ℕ → Type 0) → ((p : ℕ) → o ≡ Some p → P p) → IfSome o P
-if_self None P h = tt
-if_self (Some p) P h = h p refl
-
-weaker : (o : Option ℕ) (P Q : ℕ → Type 0) → ((p : ℕ) → P p → Q p) → IfSome o P → IfSome o Q
-weaker None P Q f h = tt
-weaker (Some p) P Q f h = f p h
-
-pub lowest_none : (g : Setup) (s : State) (among : Among) → IsLowest g s among 0 None
-lowest_none g s among = record { least = λ j p below e. absurd (omega arith); there = tt }
-
-pub lowest_more : (g : Setup) (s : State) (among : Among) (i : ℕ) (best rank : Option ℕ) → IsLowest g s among i best → rank ≡ rank_of g s among i → IsLowest g s among (i + 1) (lower_of best rank)
-lowest_more g s among i best rank h e = record {
-  least = λ j p below is. elim (cases_lt j i) [
-    | inl lt ↦ at_most_best p best rank (h.least j p lt is)
-    | inr ge ↦ let same : j ≡ i = omega arith in let r : rank ≡ Some p = e ∙ sym (ap (rank_of g s among) same) ∙ is in rw r (at_most_rank p best)
-  ];
-  there = one_of_two _ best rank
-      (weaker best _ _ (λ p w. (w.0, omega (arith, w.1), w.2)) h.there)
-      (if_self rank _ (λ p is. (i, omega arith, sym e ∙ is)));
-}
 
 -- ## a search in the order
 
@@ -172,6 +132,182 @@ first_none g s among from low inside =
     ∙ ap (λ o. or_else o (find (is_lowest g s among) (range_with_len 0 from))) (find_nothing (is_lowest g s among) from (length s.tasks - from) (λ i a b. none_lowest g s among i low (omega arith)))
     ∙ find_nothing (is_lowest g s among) 0 from (λ i a b. none_lowest g s among i low (omega arith))
 
-pub rank_test : (o : Option ℕ) (p : ℕ) → option_eq eqb o (Some p) ≡ is_rank p o
-rank_test None p = refl
-rank_test (Some q) p = refl
+-- ## the best so far
+
+all_append : {X : Type 0} (p : X → Bool) (xs : List X) (x : X) → list_all p xs ≡ true → p x ≡ true → list_all p (xs ++ x ∷ []) ≡ true
+all_append p [] x h here = rw here refl
+all_append p (y ∷ ys) x h here = elim (bool_cases (p y)) [
+  | inl t ↦ rw t (all_append p ys x (rw t at h) here)
+  | inr f ↦ absurd (false≢true (rw f at h))
+]
+
+all_weaker : {X : Type 0} (p q : X → Bool) (xs : List X) → ((x : X) → p x ≡ true → q x ≡ true) → list_all p xs ≡ true → list_all q xs ≡ true
+all_weaker p q [] f h = refl
+all_weaker p q (x ∷ xs) f h = elim (bool_cases (p x)) [
+  | inl t ↦ rw (f x t) (all_weaker p q xs f (rw t at h))
+  | inr n ↦ absurd (false≢true (rw n at h))
+]
+
+none_found : {X : Type 0} (p q : X → Bool) (xs : List X) → ((x : X) → q x ≡ true → p x ≡ false) → list_all q xs ≡ true → find p xs ≡ None
+none_found p q [] f h = refl
+none_found p q (x ∷ xs) f h = elim (bool_cases (q x)) [
+  | inl t ↦ rw (f x t) (none_found p q xs f (rw t at h))
+  | inr n ↦ absurd (false≢true (rw n at h))
+]
+
+none_at_most : (p : ℕ) (o : Option ℕ) → is_none o ≡ true → is_at_most p o ≡ true
+none_at_most p None h = refl
+none_at_most p (Some q) h = absurd (false≢true h)
+
+none_is_not : (p : ℕ) (o : Option ℕ) → is_none o ≡ true → is_rank p o ≡ false
+none_is_not p None h = refl
+none_is_not p (Some q) h = absurd (false≢true h)
+
+lower_at_most : (p b : ℕ) (o : Option ℕ) → p < b → is_at_most b o ≡ true → is_at_most p o ≡ true
+lower_at_most p b None less h = refl
+lower_at_most p b (Some q) less h = let e = leb-true _ _ h in le-leb _ _ (omega (arith, e, less))
+
+lower_is_not : (p b : ℕ) (o : Option ℕ) → p < b → is_at_most b o ≡ true → is_rank p o ≡ false
+lower_is_not p b None less h = refl
+lower_is_not p b (Some q) less h = let e = leb-true _ _ h in elim (bool_cases (eqb q p)) [
+  | inl t ↦ let same = eqb-true _ _ t in absurd (omega (arith, e, less, same))
+  | inr f ↦ f
+]
+
+is_rank_self : (p : ℕ) (o : Option ℕ) → o ≡ Some p → is_rank p o ≡ true
+is_rank_self p o e = rw e (eq-eqb _ _ refl)
+
+at_most_some : (p q : ℕ) (o : Option ℕ) → o ≡ Some q → p ≤ q → is_at_most p o ≡ true
+at_most_some p q o e less = rw e (le-leb _ _ less)
+
+at_most_none : (p : ℕ) (o : Option ℕ) → o ≡ None → is_at_most p o ≡ true
+at_most_none p o e = rw e refl
+
+-- the first that has a rank, where it is one more after those that do not have it
+found_last : (p : ℕ → Bool) (xs : List ℕ) (i : ℕ) → find p xs ≡ None → p i ≡ true → find p (xs ++ i ∷ []) ≡ Some i
+found_last p xs i none here = find_append p xs (i ∷ []) ∙ rw (none, here) refl
+
+found_before : (p : ℕ → Bool) (xs : List ℕ) (i j : ℕ) → find p xs ≡ Some j → find p (xs ++ i ∷ []) ≡ Some j
+found_before p xs i j found = find_append p xs (i ∷ []) ∙ rw found refl
+
+-- one more task
+pub first_more : (g : Setup) (s : State) (among : Among) (seen : List ℕ) (i : ℕ) (best : Option Best) → IsFirst g s among seen best → IsFirst g s among (seen ++ i ∷ []) (better_of best i (rank_of g s among i))
+first_more g s among seen i best h = go best (rank_of g s among i) refl h
+  where
+    go : (best : Option Best) (rank : Option ℕ) → rank_of g s among i ≡ rank → IsFirst g s among seen best → IsFirst g s among (seen ++ i ∷ []) (better_of best i rank)
+    go None None e h = all_append _ seen i h (rw e refl)
+    go None (Some r) e h = (
+      found_last (has_rank g s among r) seen i (none_found _ (λ j. is_none (rank_of g s among j)) seen (λ j n. none_is_not r _ n) h) (is_rank_self r _ e),
+      all_append _ seen i (all_weaker (λ j. is_none (rank_of g s among j)) _ seen (λ j n. none_at_most r _ n) h) (at_most_some r r _ e (omega arith)),
+    )
+    go (Some b) None e h = (found_before _ seen i b.task h.0, all_append _ seen i h.1 (at_most_none b.priority _ e))
+    go (Some b) (Some r) e h =
+        elim (leb_tells (suc r) b.priority) [
+          | inl t ↦ rw t.0 (
+            found_last (has_rank g s among r) seen i (none_found _ (λ j. is_at_most b.priority (rank_of g s among j)) seen (λ j n. lower_is_not r b.priority _ (omega (arith, t.1)) n) h.1) (is_rank_self r _ e),
+            all_append _ seen i (all_weaker (λ j. is_at_most b.priority (rank_of g s among j)) _ seen (λ j n. lower_at_most r b.priority _ (omega (arith, t.1)) n) h.1) (at_most_some r r _ e (omega arith)),
+          )
+          | inr f ↦ rw f.0 (found_before _ seen i b.task h.0, all_append _ seen i h.1 (at_most_some b.priority r _ e (omega (arith, f.1))))
+        ]
+
+pub better_inside : (n : ℕ) (best : Option Best) (i : ℕ) (rank : Option ℕ) → IfSome best (λ b. b.task < n) → i < n → IfSome (better_of best i rank) (λ b. b.task < n)
+better_inside n None i None h there = tt
+better_inside n None i (Some r) h there = there
+better_inside n (Some b) i None h there = h
+better_inside n (Some b) i (Some r) h there = elim (leb_tells (suc r) b.priority) [ inl t ↦ rw t.0 there | inr f ↦ rw f.0 h ]
+
+append_nothing : (xs : List ℕ) → xs ++ [] ≡ xs
+append_nothing [] = refl
+append_nothing (x ∷ xs) = ap (λ ys. x ∷ ys) (append_nothing xs)
+
+pub range_empty : (from : ℕ) (seen : List ℕ) → seen ++ range_with_len from (from - from) ≡ seen
+range_empty from seen = let e : from - from ≡ 0 = omega arith in rw e (append_nothing seen)
+
+append_more : (xs ys zs : List ℕ) → (xs ++ ys) ++ zs ≡ xs ++ (ys ++ zs)
+append_more [] ys zs = refl
+append_more (x ∷ xs) ys zs = ap (λ ws. x ∷ ws) (append_more xs ys zs)
+
+range_suc : (from n : ℕ) → range_with_len from (suc n) ≡ range_with_len from n ++ (from + n) ∷ []
+range_suc from zero = let e : from ≡ from + 0 = omega arith in ap (λ (i : ℕ). i ∷ []) e
+range_suc from (suc n) = let e : from + 1 + n ≡ from + suc n = omega arith in ap (λ ys. from ∷ ys) (range_suc (from + 1) n ∙ ap (λ (i : ℕ). range_with_len (from + 1) n ++ i ∷ []) e)
+
+pub range_one_more : (from i : ℕ) (seen : List ℕ) → from ≤ i → seen ++ range_with_len from (i + 1 - from) ≡ (seen ++ range_with_len from (i - from)) ++ i ∷ []
+range_one_more from i seen above =
+    let more : i + 1 - from ≡ suc (i - from) = omega (arith, above) in
+    let last : from + (i - from) ≡ i = omega (arith, above) in
+    ap (λ (n : ℕ). seen ++ range_with_len from n) more
+    ∙ ap (λ (ys : List ℕ). seen ++ ys) (range_suc from (i - from) ∙ ap (λ (j : ℕ). range_with_len from (i - from) ++ j ∷ []) last)
+    ∙ sym (append_more seen (range_with_len from (i - from)) (i ∷ []))
+
+-- ## the best of all
+
+all_both : (p : ℕ → Bool) (xs ys : List ℕ) → list_all p xs ≡ true → list_all p ys ≡ true → list_all p (xs ++ ys) ≡ true
+all_both p [] ys h k = k
+all_both p (x ∷ xs) ys h k = elim (bool_cases (p x)) [
+  | inl t ↦ rw t (all_both p xs ys (rw t at h) k)
+  | inr f ↦ absurd (false≢true (rw f at h))
+]
+
+all_front : (p : ℕ → Bool) (xs ys : List ℕ) → list_all p (xs ++ ys) ≡ true → list_all p xs ≡ true
+all_front p [] ys h = refl
+all_front p (x ∷ xs) ys h = elim (bool_cases (p x)) [
+  | inl t ↦ rw t (all_front p xs ys (rw t at h))
+  | inr f ↦ absurd (false≢true (rw f at h))
+]
+
+all_back : (p : ℕ → Bool) (xs ys : List ℕ) → list_all p (xs ++ ys) ≡ true → list_all p ys ≡ true
+all_back p [] ys h = h
+all_back p (x ∷ xs) ys h = elim (bool_cases (p x)) [
+  | inl t ↦ all_back p xs ys (rw t at h)
+  | inr f ↦ absurd (false≢true (rw f at h))
+]
+
+-- what passes all around passes at each task
+all_around : (p : ℕ → Bool) (n from j : ℕ) → from ≤ n → list_all p (around n from) ≡ true → j < n → p j ≡ true
+all_around p n from j inside h below = elim (cases_lt j from) [
+  | inl lt ↦ all_at p 0 from j (all_back p (range_with_len from (n - from)) (range_with_len 0 from) h) (omega arith) (omega (arith, lt))
+  | inr ge ↦ all_at p from (n - from) j (all_front p (range_with_len from (n - from)) (range_with_len 0 from) h) (omega arith) (omega (arith, below, inside))
+]
+
+-- those around are tasks
+around_below : (n from : ℕ) → from ≤ n → list_all (λ j. leb (suc j) n) (around n from) ≡ true
+around_below n from inside = all_both (λ j. leb (suc j) n) (range_with_len from (n - from)) (range_with_len 0 from)
+    (all_by (λ j. leb (suc j) n) from (n - from) (λ j a b. le-leb _ _ (omega (arith, a, b, inside))))
+    (all_by (λ j. leb (suc j) n) 0 from (λ j a b. le-leb _ _ (omega (arith, b, inside))))
+
+found_passes : (p q : ℕ → Bool) (xs : List ℕ) (i : ℕ) → list_all q xs ≡ true → find p xs ≡ Some i → (p i ≡ true) × (q i ≡ true)
+found_passes p q [] i h found = no_some found
+found_passes p q (x ∷ xs) i h found = elim (bool_cases (q x)) [
+  | inr f ↦ absurd (false≢true (rw f at h))
+  | inl t ↦ elim (bool_cases (p x)) [
+    | inl here ↦ let same : x ≡ i = same_some (rw here at found) in (rw same at here, rw same at t)
+    | inr other ↦ found_passes p q xs i (rw t at h) (rw other at found)
+  ]
+]
+
+no_rank : {P : Type 0} (o : Option ℕ) (p : ℕ) → is_none o ≡ true → o ≡ Some p → P
+no_rank None p h e = no_some e
+no_rank (Some q) p h e = absurd (false≢true h)
+
+at_most_is : (b p : ℕ) (o : Option ℕ) → is_at_most b o ≡ true → o ≡ Some p → b ≤ p
+at_most_is b p o h e = leb-true _ _ (rw e at h)
+
+pub first_task : (g : Setup) (s : State) (among : Among) (from : ℕ) (b : Best) → from ≤ length s.tasks → IsFirst g s among (around (length s.tasks) from) (Some b) → first_around g s among from ≡ Some b.task
+first_task g s among from b inside h =
+    first_some g s among b.priority from low inside
+    ∙ sym (find_append (has_rank g s among b.priority) (range_with_len from (length s.tasks - from)) (range_with_len 0 from))
+    ∙ h.0
+  where
+    low : IsLowest g s among (length s.tasks) (Some b.priority)
+    low =
+        let found = found_passes (has_rank g s among b.priority) (λ j. leb (suc j) (length s.tasks)) (around (length s.tasks) from) b.task (around_below (length s.tasks) from inside) h.0 in
+        record {
+          least = λ j p below e. at_most_is b.priority p _ (all_around (λ i. is_at_most b.priority (rank_of g s among i)) (length s.tasks) from j inside h.1 below) e;
+          there = (b.task, leb-true _ _ found.1, rank_true b.priority _ found.0);
+        }
+
+pub no_first_task : (g : Setup) (s : State) (among : Among) (from : ℕ) → from ≤ length s.tasks → IsFirst g s among (around (length s.tasks) from) None → first_around g s among from ≡ None
+no_first_task g s among from inside h = first_none g s among from record {
+  least = λ j p below e. no_rank _ p (all_around (λ i. is_none (rank_of g s among i)) (length s.tasks) from j inside h below) e;
+  there = tt;
+} inside

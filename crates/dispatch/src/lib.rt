@@ -2,12 +2,12 @@
 //! Which task runs, and whose message is received: strict priority, and of equals the next in order
 //! (Hubris Reference, Scheduling).
 
-ghost use Rattle.std.specs.Prelude.{◌≡◌, ◌+◌, ◌-◌, ◌<◌, ◌≤◌, ℕ, Option, Some, None, IfSome, find, length};
+ghost use Rattle.std.specs.Prelude.{◌≡◌, ◌+◌, ◌-◌, ◌<◌, ◌≤◌, ◌++◌, ℕ, List, Option, Some, None, IfSome, length};
 ghost use Rattle.std.specs.List.{range_with_len};
 ghost use Rattle.task_table.specs.State.{Setup, Turn};
 ghost use Rattle.task_table.specs.Reading.{chosen, best_sender};
 ghost use Rattle.task_table.specs.Holds.{Stands, Stood, task_count};
-ghost use Rattle.dispatch.specs.Lowest.{IsLowest, is_among, has_rank, lower_of, rank_of, first_around};
+ghost use Rattle.dispatch.specs.Lowest.{IsFirst, is_among, better_of, rank_of, first_around};
 
 use task_table::Kernel;
 
@@ -31,14 +31,28 @@ fn is_among(k: &Kernel, among: Among, task: usize) -> bool
     }
 }
 
-/// The lower of two ranks; none is higher than any.
-fn lower(best: Option<u8>, rank: Option<u8>) -> Option<u8>
-    ensures { result ≡ lower_of best rank }
+/// A task, and its priority number.
+#[derive(Clone, Copy)]
+struct Best {
+    task: usize,
+    priority: u8,
+}
+
+/// The better of the best so far and one more task: the one of the lower priority number, else the
+/// earlier one. A task without a rank is not among those that are looked at.
+fn better(best: Option<Best>, task: usize, rank: Option<u8>) -> Option<Best>
+    ensures { result ≡ better_of best task rank }
 {
     match (best, rank) {
-        (Some(b), Some(r)) => Some(if r < b { r } else { b }),
-        (Some(b), None) => Some(b),
-        (None, r) => r,
+        (Some(b), Some(r)) => {
+            if r < b.priority {
+                Some(Best { task, priority: r })
+            } else {
+                Some(b)
+            }
+        }
+        (None, Some(r)) => Some(Best { task, priority: r }),
+        (b, None) => b,
     }
 }
 
@@ -55,29 +69,19 @@ fn rank(k: &Kernel, among: Among, task: usize) -> Option<u8>
     }
 }
 
-/// Their lowest priority number.
-fn lowest(k: &Kernel, among: Among) -> Option<u8>
-    ensures { (g : Setup) (t : Turn) → Stands g k.now t → IsLowest g t.state among (task_count k.now) result }
+/// The best once the tasks of a range are looked at too.
+fn best_in(k: &Kernel, among: Among, from: usize, to: usize, best: Option<Best>) -> Option<Best>
+    requires order { from ≤ to }
+    requires inside { to ≤ task_count k.now }
+    requires best { IfSome best (λ b. b.task < task_count k.now) }
+    ensures first { (g : Setup) (t : Turn) (seen : List ℕ) → Stands g k.now t → IsFirst g t.state among seen best → IsFirst g t.state among (seen ++ range_with_len from (to - from)) result }
+    ensures inside { IfSome result (λ b. b.task < task_count k.now) }
 {
-    let mut best: Option<u8> = None;
-    for i in 0..k.task_count() {
-        best = lower(best, rank(k, among, i));
-    }
-    best
-}
-
-/// The first of them in a range with this priority number.
-fn first_with(k: &Kernel, among: Among, from: usize, to: usize, priority: u8) -> Option<usize>
-    requires { to ≤ task_count k.now }
-    ensures first { (g : Setup) (t : Turn) → Stands g k.now t → result ≡ find (has_rank g t.state among priority) (range_with_len from (to - from)) }
-    ensures inside { IfSome result (λ i. i < to) }
-{
+    let mut so_far = best;
     for i in from..to {
-        if rank(k, among, i) == Some(priority) {
-            return Some(i);
-        }
+        so_far = better(so_far, i, rank(k, among, i));
     }
-    None
+    so_far
 }
 
 /// Of those of the lowest priority number the first from a task on, cyclically.
@@ -86,12 +90,10 @@ fn first_around(k: &Kernel, among: Among, from: usize) -> Option<usize>
     ensures first { (g : Setup) (t : Turn) → Stands g k.now t → result ≡ first_around g t.state among from }
     ensures inside { IfSome result (λ i. i < task_count k.now) }
 {
-    match lowest(k, among) {
+    let after = best_in(k, among, from, k.task_count(), None);
+    match best_in(k, among, 0, from, after) {
         None => None,
-        Some(priority) => match first_with(k, among, from, k.task_count(), priority) {
-            Some(i) => Some(i),
-            None => first_with(k, among, 0, from, priority),
-        },
+        Some(best) => Some(best.task),
     }
 }
 
