@@ -1,18 +1,20 @@
 -- The setup of a sound image is sound.
-use Rattle.std.proofs.Common.{◌≡◌, ◌<◌, inl, inr, ℕ, zero, suc, List, [], ◌∷◌, length, map, replicate, get_or, refl, ◌∙◌, ap, arith}
+use Rattle.std.proofs.Common.{◌≡◌, ◌<◌, ◌≤◌, inl, inr, ℕ, zero, suc, false, List, [], ◌∷◌, ◌++◌, length, map, replicate, get_or, refl, sym, subst, ◌∙◌, ap, arith}
 use Rattle.std.specs.Prelude.{Contains}
+use Rattle.std.proofs.lemmas.List.Elements.{Contains-append_cases}
 use Rattle.std.proofs.lemmas.List.{length-map, length-replicate}
 use Rattle.region_check.specs.declared.Region.{Region}
 use Rattle.image_format.specs.Picture.{Picture, TaskPicture, LinePicture, no_task, no_line, task_in, regions_in}
 use Rattle.image_format.specs.Facts.{Facts}
 use Rattle.task_table.specs.Limits.{board_lines}
-use Rattle.mem_banks.specs.Memory.{Memory, AreAllBytes}
+use Rattle.mem_banks.specs.Memory.{Memory, AreAllBytes, AreRegions}
 use Rattle.task_table.specs.State.{Setup, TaskSetup, LineSetup}
 use Rattle.task_table.specs.Reading.{setup_at}
 use Rattle.task_table.specs.Start.{start}
 use Rattle.task_table.specs.Parts.{IsSound, setup_of_parts, task_setup, line_setup}
 use Rattle.task_table.specs.declared.start.TaskStart.{TaskStart}
 use Rattle.task_table.specs.declared.start.LineStart.{LineStart}
+use Rattle.board_core.specs.Regions.{ArePlaces}
 use Rattle.board_core.specs.Opened.{setup_of, setup_of_task, setup_of_line}
 
 -- the setup that the parts spell is the image's
@@ -48,6 +50,54 @@ owned (x ∷ xs) n all o (suc i, lt, same) = owned xs n (λ k below. all (suc k)
 
 regions_here : (p : Picture) (i : ℕ) (r : Region) → Contains (setup_at (setup_of p) i).regions r → Contains (regions_in p i) r
 regions_here p i r h = rw (setup_is p i) at h
+
+same_pair : (x y : ℕ × ℕ) → x.0 ≡ y.0 → x.1 ≡ y.1 → x ≡ y
+same_pair x y a b = λ j. (a j, b j)
+
+only_one : (a x : ℕ × ℕ) → Contains (a ∷ []) x → a ≡ x
+only_one a x (zero, lt, same) = same
+only_one a x (suc i, lt, same) = absurd (omega (arith, lt))
+
+-- as many lines are started as the image has
+pub few_lines : (p : Picture) (ls : List LineStart) → Facts p → map line_setup ls ≡ map setup_of_line p.lines → length ls ≤ board_lines
+few_lines p ls f e =
+    let same : length ls ≡ length p.lines = sym (length-map ls line_setup) ∙ ap length e ∙ length-map p.lines setup_of_line in
+    let most = f.sizes.most_lines in
+    omega arith
+
+-- the places of regions that are no device are regions of the memory
+pub places_are : (p : Picture) (xs : List (ℕ × ℕ)) → Facts p → ArePlaces p xs → AreRegions (length p.flash) p.ram xs
+places_are p xs f all = record {
+  some = λ x here. let a = all x here in let size = a.size in let much = f.regions.sizes a.task a.region a.has in omega arith;
+  inside = λ x here. let a = all x here in let base = a.base in let size = a.size in elim (f.regions.within a.task a.region a.has a.no_device) [
+    | inl flash ↦ inr (let low = flash.0 in omega arith, let high = flash.1 in omega arith)
+    | inr ram ↦ inl (let low = ram.0 in omega arith, let high = ram.1 in omega arith)
+  ];
+  apart = λ x y here there.
+      let a = all x here in
+      let b = all y there in
+      let start = a.base in
+      let size = a.size in
+      let other_start = b.base in
+      let other_size = b.size in
+      elim (f.regions.apart a.task b.task a.region b.region a.has b.has) [
+        | inl same ↦ inl (same_pair x y (start ∙ same.0 ∙ sym other_start) (size ∙ same.1 ∙ sym other_size))
+        | inr apart ↦ inr (elim apart [ inl low ↦ inl (omega arith) | inr high ↦ inr (omega arith) ])
+      ];
+}
+
+-- a place more
+pub places_more : (p : Picture) (xs : List (ℕ × ℕ)) (i : ℕ) (r : Region) → ArePlaces p xs → Contains (regions_in p i) r → r.rights.device ≡ false → ArePlaces p (xs ++ (r.base, r.size) ∷ [])
+places_more p xs i r all has none = λ x here. elim (Contains-append_cases xs ((r.base, r.size) ∷ []) x here) [
+  | inl old ↦ all x old
+  | inr new ↦ let e : (r.base, r.size) ≡ x = only_one _ x new in record { task = i; region = r; has = has; no_device = none; base = ap (λ (y : ℕ × ℕ). y.0) (sym e); size = ap (λ (y : ℕ × ℕ). y.1) (sym e) }
+]
+
+-- a place more, of the k-th region of a task
+pub places_step : (p : Picture) (xs ys : List (ℕ × ℕ)) (i k : ℕ) (rs : List Region) (r : Region) → ArePlaces p xs → rs ≡ regions_in p i → k < length rs → r ≡ get_or rs k r → r.rights.device ≡ false → ys ≡ xs ++ (r.base, r.size) ∷ [] → ArePlaces p ys
+places_step p xs ys i k rs r all own lt at none same =
+    let has : Contains (regions_in p i) r = subst (λ (zs : List Region). Contains zs r) own (k, lt, sym at) in
+    subst (ArePlaces p) (sym same) (places_more p xs i r all has none)
 
 pub sound_setup : (p : Picture) → Facts p → AreAllBytes p.flash → IsSound (setup_of p)
 unfolding start

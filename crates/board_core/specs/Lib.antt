@@ -8,3 +8,4 @@ pub mod Stands
 pub mod Advanced
 pub mod Told
 pub mod Did
+pub mod Regions

@@ -19,6 +19,7 @@ ghost use Rattle.board_model.specs.Turn.{turn, turned, after_events};
 ghost use Rattle.board_model.specs.Lifetimes.{IsGroundedTurn};
 ghost use Rattle.two_runs.specs.Agreement.{AgreesOnReads, IsSameButMemory, rest_of, with_memory};
 ghost use Rattle.board_model.specs.Run.{ending, end_at, end_in};
+ghost use Rattle.board_core.specs.Regions.{ArePlaces};
 ghost use Rattle.board_core.specs.Opened.{scenario_of, setup_of, setup_of_task, setup_of_line};
 ghost use Rattle.board_core.specs.Stands.{Stands, Stood, notes_of, turns_of, count_of};
 ghost use Rattle.board_core.specs.Told.{IsTask, IsView};
@@ -98,13 +99,46 @@ fn line_starts(alloc: Global, image: &Image) -> Result<Vec<LineStart>, AllocErro
     Ok(lines)
 }
 
+/// Adds the places of the i-th task's regions that are no device.
+fn push_places(
+    alloc: Global,
+    image: &Image,
+    i: usize,
+    places: &mut Vec<(u32, u32)>,
+) -> Result<(), AllocError>
+    requires task { i < length (picture image.now).tasks }
+    requires places { ArePlaces (picture image.now) places.old.items }
+    ensures { IfOk result (λ _. ArePlaces (picture image.now) places.new.items) }
+{
+    let regions = image.regions(alloc, i)?;
+    for k in 0..regions.len() {
+        let region = regions[k];
+        if !region.rights.device {
+            places.push((region.base, region.size))?;
+        }
+    }
+    Ok(())
+}
+
+/// The places of all regions that are no device, by base and size in bytes.
+fn places(alloc: Global, image: &Image) -> Result<Vec<(u32, u32)>, AllocError>
+    ensures { IfOk result (λ v. ArePlaces (picture image.now) v.items) }
+{
+    let mut places = Vec::new(alloc);
+    for i in 0..image.task_count() {
+        push_places(alloc, image, i, &mut places)?;
+    }
+    Ok(places)
+}
+
 /// The kernel at the start of a run of an image.
 fn kernel(alloc: Global, image: &Image) -> Result<Kernel, AllocError>
     ensures { IfOk result (λ k. IsStarted (setup_of (picture image.now)) k) }
 {
     image.facts();
     let flash = image.flash();
-    let memory = Memory::open(alloc, flash, image.ram())?;
+    let places = places(alloc, image)?;
+    let memory = Memory::open(alloc, flash, image.ram(), &places)?;
     let tasks = task_starts(alloc, image)?;
     let lines = line_starts(alloc, image)?;
     Kernel::start(alloc, memory, image.fault_bits(), &tasks, &lines)

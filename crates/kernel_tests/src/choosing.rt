@@ -1,10 +1,11 @@
 ghost use Rattle.std.specs.Prelude.{◌≡◌, ◌%◌, [], IfOk};
 ghost use Rattle.task_table.specs.Holds.{Stood, task_count};
 
+use crate::memory::memory_of;
 use dispatch::{best_sender, choose};
 use std::alloc::{AllocError, Global};
 use std::test::Fail;
-use task_table::{Kernel, Memory, TaskStart};
+use task_table::{Kernel, TaskStart};
 
 /// A task that is started, with no bytes of its own.
 fn a_task(alloc: Global, priority: u8) -> TaskStart
@@ -25,7 +26,7 @@ fn two_tasks(alloc: Global, first: u8, second: u8) -> Result<Kernel, AllocError>
     ensures stood { IfOk result (λ k. Stood k) }
     ensures count { IfOk result (λ k. task_count k ≡ 2) }
 {
-    let memory = Memory::open(alloc, &[], 0)?;
+    let memory = memory_of(alloc, &[], 0)?;
     let tasks = vec![in alloc; a_task(alloc, first), a_task(alloc, second)]?;
     Kernel::start(alloc, memory, 1, &tasks, &[])
 }

@@ -6,6 +6,8 @@ mod board;
 #[cfg(test)]
 mod choosing;
 #[cfg(test)]
+mod memory;
+#[cfg(test)]
 mod receiving;
 #[cfg(test)]
 mod tasks;

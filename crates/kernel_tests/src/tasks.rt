@@ -2,6 +2,7 @@ ghost use Rattle.std.specs.Prelude.{◌≡◌, IfOk, length};
 ghost use Rattle.task_table.specs.Holds.{task_count, note_count, memory_of};
 ghost use Rattle.mem_banks.specs.Memory.{IsWithinRam};
 
+use crate::memory::memory_of;
 use kernel_abi::{Fault, Generation, Health, Note, Usage};
 use region_check::{Region, Rights};
 use std::alloc::{AllocError, Global};
@@ -12,15 +13,17 @@ use words_core::Flags;
 #[test]
 fn memory_at_its_edges(rt: HostRuntime) -> Result<(), Fail> {
     let alloc = rt.alloc();
-    let memory = Memory::open(alloc, &[0x11, 0x22, 0x33, 0x44, 0x55], 8)?;
-    assert_eq!(rt; memory.byte(FLASH - 1), None);
-    assert_eq!(rt; memory.byte(FLASH), Some(0x11));
-    assert_eq!(rt; memory.byte(FLASH + 4), Some(0x55));
-    assert_eq!(rt; memory.byte(FLASH + 5), None);
-    assert_eq!(rt; memory.byte(RAM - 1), None);
-    assert_eq!(rt; memory.byte(RAM + 7), Some(0));
-    assert_eq!(rt; memory.byte(RAM + 8), None);
-    assert_eq!(rt; memory.byte(u32::MAX), None);
+    let memory = memory_of(alloc, &[0x11, 0x22, 0x33, 0x44, 0x55], 8)?;
+    assert!(rt; !memory.holds(FLASH - 1));
+    assert!(rt; memory.holds(FLASH + 4));
+    assert!(rt; !memory.holds(FLASH + 5));
+    assert!(rt; !memory.holds(RAM - 1));
+    assert!(rt; memory.holds(RAM + 7));
+    assert!(rt; !memory.holds(RAM + 8));
+    assert!(rt; !memory.holds(u32::MAX));
+    assert_eq!(rt; memory.byte(FLASH), 0x11);
+    assert_eq!(rt; memory.byte(FLASH + 4), 0x55);
+    assert_eq!(rt; memory.byte(RAM + 7), 0);
     assert_eq!(rt; memory.half(FLASH), 0x2211);
     assert_eq!(rt; memory.half(FLASH + 4), 0x55);
     assert_eq!(rt; memory.half(FLASH - 1), 0);
@@ -32,7 +35,7 @@ fn memory_at_its_edges(rt: HostRuntime) -> Result<(), Fail> {
 
 #[test]
 fn memory_is_stored_to(rt: HostRuntime) -> Result<(), Fail> {
-    let mut memory = Memory::open(rt.alloc(), &[], 8)?;
+    let mut memory = memory_of(rt.alloc(), &[], 8)?;
     memory.store(RAM + 4, &[0xAA, 0xBB, 0xCC, 0xDD]);
     assert_eq!(rt; memory.word(RAM + 4), 0xDDCC_BBAA);
     assert_eq!(rt; memory.word(RAM + 2), 0xBBAA_0000);
@@ -50,12 +53,12 @@ fn store(memory: &mut Memory, addr: u32, bytes: &[u8])
 
 #[test]
 fn memory_is_copied_where_ranges_overlap(rt: HostRuntime) -> Result<(), Fail> {
-    let mut upwards = Memory::open(rt.alloc(), &[], 8)?;
+    let mut upwards = memory_of(rt.alloc(), &[], 8)?;
     store(&mut upwards, RAM, &[1, 2, 3, 4, 5, 6]);
     upwards.copy(RAM, RAM + 2, 6);
     assert_eq!(rt; upwards.word(RAM), 0x0201_0201);
     assert_eq!(rt; upwards.word(RAM + 4), 0x0605_0403);
-    let mut downwards = Memory::open(rt.alloc(), &[], 8)?;
+    let mut downwards = memory_of(rt.alloc(), &[], 8)?;
     store(&mut downwards, RAM + 2, &[1, 2, 3, 4, 5, 6]);
     downwards.copy(RAM + 2, RAM, 6);
     assert_eq!(rt; downwards.word(RAM), 0x0403_0201);
@@ -65,7 +68,7 @@ fn memory_is_copied_where_ranges_overlap(rt: HostRuntime) -> Result<(), Fail> {
 
 #[test]
 fn memory_is_copied_from_flash(rt: HostRuntime) -> Result<(), Fail> {
-    let mut memory = Memory::open(rt.alloc(), &[0x11, 0x22, 0x33], 4)?;
+    let mut memory = memory_of(rt.alloc(), &[0x11, 0x22, 0x33], 4)?;
     memory.copy(FLASH + 1, RAM + 1, 2);
     assert_eq!(rt; memory.word(RAM), 0x0033_2200);
     Ok(())
@@ -75,7 +78,7 @@ fn memory_is_copied_from_flash(rt: HostRuntime) -> Result<(), Fail> {
 fn two_tasks(alloc: Global) -> Result<Kernel, AllocError>
     ensures { IfOk result (λ k. (task_count k ≡ 2) × (note_count k ≡ 0) × (length (memory_of k).ram ≡ 8)) }
 {
-    let memory = Memory::open(alloc, &[0x20, 0x21, 0x42], 8)?;
+    let memory = memory_of(alloc, &[0x20, 0x21, 0x42], 8)?;
     let region = Region {
         base: RAM,
         size: 8,

@@ -1,10 +1,11 @@
 ghost use Rattle.std.specs.Prelude.{◌≡◌, ◌⊎◌, IfOk};
 ghost use Rattle.task_table.specs.Holds.{task_count, note_count};
 
+use crate::memory::memory_of;
 use kernel_abi::{Fault, Health, Note, Timer, Usage};
 use std::alloc::{AllocError, Global};
 use std::test::Fail;
-use task_table::{Kernel, Line, LineStart, Memory, TaskStart};
+use task_table::{Kernel, Line, LineStart, TaskStart};
 use timer_irq::{get_timer, irq_control, set_timer, tick};
 use words_core::Flags;
 
@@ -24,7 +25,7 @@ fn a_task(alloc: Global, priority: u8) -> TaskStart {
 fn two_tasks(alloc: Global) -> Result<Kernel, AllocError>
     ensures { IfOk result (λ k. (task_count k ≡ 2) × (note_count k ≡ 0)) }
 {
-    let memory = Memory::open(alloc, &[], 0)?;
+    let memory = memory_of(alloc, &[], 0)?;
     let tasks = vec![in alloc; a_task(alloc, 0), a_task(alloc, 1)]?;
     let lines = [
         LineStart {

@@ -1,10 +1,10 @@
 -- Where borrowed bytes lie, and what moves where there are none.
-use Rattle.std.proofs.Common.{◌≡◌, ◌+◌, ◌-◌, ◌*◌, ◌^◌, ◌≤◌, ℕ, Bool, true, false, cond, [], take, drop, None, Some, refl, sym, ◌∙◌, ap, arith, leb}
-use Rattle.std.proofs.lemmas.List.{append-nil, take-append-drop}
+use Rattle.std.proofs.Common.{◌≡◌, ◌+◌, ◌-◌, ◌*◌, ◌^◌, ◌≤◌, ℕ, Bool, true, false, cond, [], take, drop, None, Some, refl, sym, ◌∙◌, ap, leb}
 use Rattle.region_check.specs.Rights.{first_bad}
 use Rattle.region_check.specs.declared.Right.{Right}
 use Rattle.region_check.specs.declared.Right.TheVariants.{Read}
 use Rattle.mem_banks.specs.Memory.{Memory, bytes_at, with_bytes, copied as copied_memory}
+use Rattle.mem_banks.proofs.Copies.{with_bytes_none}
 use Rattle.task_table.specs.Placed.{ArePlaced}
 use Rattle.task_table.specs.declared.slot.Range.{Range}
 use Rattle.task_table.specs.declared.slot.OpenCall.{OpenCall}
@@ -49,10 +49,7 @@ no_bytes m a = go (leb 0x20000000 a) (leb 0x08000000 a)
     go false false = refl
 
 with_none : (m : Memory) (a : ℕ) → with_bytes m a [] ≡ m
-unfolding with_bytes
-with_none m a =
-    let e : a - 0x20000000 + 0 ≡ a - 0x20000000 = omega arith in
-    rw (e, append-nil) (ap (λ xs. let n : Memory = record { flash = m.flash; ram = xs } in n) (take-append-drop (a - 0x20000000) m.ram))
+with_none m a = sym (with_bytes_none m a [] refl)
 
 copied_none : (m : Memory) (from to : ℕ) → m ≡ copied_memory m from to 0
 unfolding copied_memory

@@ -1,14 +1,47 @@
 -- What reads of memory give, and what stores leave.
-use Rattle.std.proofs.Common.{◌≡◌, ◌+◌, ◌-◌, ◌*◌, ◌<◌, ◌≤◌, inl, inr, ℕ, zero, suc, Bool, true, false, cond, leb, List, [], ◌∷◌, ◌++◌, length, take, drop, get_or, refl, sym, ap, add-zero, arith, length-take, length-drop}
-use Rattle.std.proofs.lemmas.Bool.{le-leb, lt-leb}
-use Rattle.std.proofs.lemmas.List.{take-append-drop, append-nil}
+use Rattle.std.proofs.Common.{◌≡◌, ◌+◌, ◌-◌, ◌*◌, ◌<◌, ◌≤◌, inl, inr, ℕ, zero, suc, Bool, true, false, cond, leb, ltb, Some, None, List, [], ◌∷◌, length, take, drop, get_or, slice_get, refl, sym, ◌∙◌, ap, add-zero, arith, length-take, length-drop}
+use Rattle.std.proofs.lemmas.Bool.{le-leb, lt-leb, ltb-true, ltb-false, false≢true}
+use Rattle.std.proofs.lemmas.List.{take-append-drop, append-nil, length-append}
 use lib.Seq.{paste}
-use Rattle.mem_banks.specs.Memory.{Memory, bytes_at, with_bytes, copied, number_of, IsWithin, AreAllBytes}
+use Rattle.mem_banks.specs.Memory.{Memory, bytes_at, with_bytes, copied, number_of, pasted, is_held, byte_at, number_at, IsWithin, AreAllBytes}
 
 -- no bytes change nothing
+pasted_none : (xs : List ℕ) (a : ℕ) → xs ≡ pasted xs a []
+pasted_none xs a = sym (simp (add-zero, append-nil, take-append-drop))
+
+with_bytes_nil : (b : Bool) (m : Memory) (a c : ℕ) → m ≡ cond b (record m { ram = pasted m.ram a [] }) (record m { flash = pasted m.flash c [] })
+with_bytes_nil true m a c = ap (λ x. record m { ram = x }) (pasted_none m.ram a)
+with_bytes_nil false m a c = ap (λ x. record m { flash = x }) (pasted_none m.flash c)
+
 pub with_bytes_none : (m : Memory) (a : ℕ) (bytes : List ℕ) → bytes ≡ [] → m ≡ with_bytes m a bytes
 unfolding with_bytes
-with_bytes_none m a bytes e = rw e (ap (λ x. record m { ram = x }) (sym (simp (add-zero, append-nil, take-append-drop))))
+with_bytes_none m a bytes e = rw e (with_bytes_nil (leb 0x20000000 a) m (a - 0x20000000) (a - 0x08000000))
+
+pub with_bytes_ram : (m : Memory) (a : ℕ) (bytes : List ℕ) → 0x20000000 ≤ a → with_bytes m a bytes ≡ record m { ram = pasted m.ram (a - 0x20000000) bytes }
+unfolding with_bytes
+with_bytes_ram m a bytes h = let t : leb 0x20000000 a ≡ true = le-leb _ _ h in rw t
+
+pub with_bytes_flash : (m : Memory) (a : ℕ) (bytes : List ℕ) → a < 0x20000000 → with_bytes m a bytes ≡ record m { flash = pasted m.flash (a - 0x08000000) bytes }
+unfolding with_bytes
+with_bytes_flash m a bytes h = let t : leb 0x20000000 a ≡ false = lt-leb _ _ h in rw t
+
+pub bytes_ram : (m : Memory) (a n : ℕ) → 0x20000000 ≤ a → bytes_at m a n ≡ take n (drop (a - 0x20000000) m.ram)
+unfolding bytes_at
+bytes_ram m a n h = let t : leb 0x20000000 a ≡ true = le-leb _ _ h in rw t
+
+pub bytes_flash : (m : Memory) (a n : ℕ) → a < 0x20000000 → 0x08000000 ≤ a → bytes_at m a n ≡ take n (drop (a - 0x08000000) m.flash)
+unfolding bytes_at
+bytes_flash m a n h above =
+    let t : leb 0x20000000 a ≡ false = lt-leb _ _ h in
+    let u : leb 0x08000000 a ≡ true = le-leb _ _ above in
+    rw (t, u)
+
+pub bytes_none : (m : Memory) (a n : ℕ) → a < 0x08000000 → bytes_at m a n ≡ []
+unfolding bytes_at
+bytes_none m a n below =
+    let t : leb 0x20000000 a ≡ false = lt-leb _ _ (omega arith) in
+    let u : leb 0x08000000 a ≡ false = lt-leb _ _ below in
+    rw (t, u)
 
 -- nothing is left of no bytes
 nothing_dropped : (i : ℕ) → drop {A = ℕ} i [] ≡ []
@@ -52,38 +85,74 @@ all_bytes [] small b h = absurd (omega (arith, h.1))
 all_bytes (x ∷ xs) small b (zero, lt, same) = let e : x ≡ b = same in let h : x < 256 = small 0 in omega arith
 all_bytes (x ∷ xs) small b (suc i, lt, same) = all_bytes xs (λ k. small (suc k)) b (i, omega arith, same)
 
+-- the byte at an address is a number where there is one
+some_get : (xs : List ℕ) (i : ℕ) → i < length xs → Some (get_or xs i 0) ≡ slice_get xs i
+some_get [] i h = absurd (omega (arith, h))
+some_get (x ∷ xs) zero h = refl
+some_get (x ∷ xs) (suc i) h = some_get xs i (omega arith)
+
+none_get : (xs : List ℕ) (i : ℕ) → length xs ≤ i → None ≡ slice_get xs i
+none_get [] zero h = refl
+none_get [] (suc i) h = refl
+none_get (x ∷ xs) zero h = absurd (omega (arith, h))
+none_get (x ∷ xs) (suc i) h = none_get xs i (omega arith)
+
+some_here : (xs : List ℕ) (i : ℕ) → ltb i (length xs) ≡ true → Some (number_of (take 1 (drop i xs))) ≡ slice_get xs i
+some_here xs i h = ap Some (number_of_one xs i) ∙ some_get xs i (ltb-true _ _ h)
+
+none_here : (xs : List ℕ) (i : ℕ) → ltb i (length xs) ≡ false → None ≡ slice_get xs i
+none_here xs i h = none_get xs i (ltb-false _ _ h)
+
+pub byte_held : (m : Memory) (a : ℕ) → is_held m a ≡ true → Some (number_at m a 1) ≡ byte_at m a
+unfolding bytes_at
+byte_held m a h = go (leb 0x20000000 a) (leb 0x08000000 a) h
+  where
+    go : (b d : Bool) → cond b (ltb (a - 0x20000000) (length m.ram)) (cond d (ltb (a - 0x08000000) (length m.flash)) false) ≡ true
+        → Some (number_of (cond b (take 1 (drop (a - 0x20000000) m.ram)) (cond d (take 1 (drop (a - 0x08000000) m.flash)) []))) ≡ cond b (slice_get m.ram (a - 0x20000000)) (cond d (slice_get m.flash (a - 0x08000000)) None)
+    go true d h = some_here m.ram (a - 0x20000000) h
+    go false true h = some_here m.flash (a - 0x08000000) h
+    go false false h = absurd (false≢true h)
+
+pub byte_missing : (m : Memory) (a : ℕ) → is_held m a ≡ false → None ≡ byte_at m a
+byte_missing m a h = go (leb 0x20000000 a) (leb 0x08000000 a) h
+  where
+    go : (b d : Bool) → cond b (ltb (a - 0x20000000) (length m.ram)) (cond d (ltb (a - 0x08000000) (length m.flash)) false) ≡ false
+        → None ≡ cond b (slice_get m.ram (a - 0x20000000)) (cond d (slice_get m.flash (a - 0x08000000)) None)
+    go true d h = none_here m.ram (a - 0x20000000) h
+    go false true h = none_here m.flash (a - 0x08000000) h
+    go false false h = refl
+
+-- bytes within a list leave its length
+pub length-pasted : (xs : List ℕ) (at : ℕ) (bytes : List ℕ) → at + length bytes ≤ length xs → length (pasted xs at bytes) ≡ length xs
+length-pasted xs at bytes h = simp (length-append, length-take, length-drop) (omega arith)
+
 -- ## a copy
-
-cond_same : (b : Bool) (xs : List ℕ) → cond b xs xs ≡ xs
-cond_same true xs = refl
-cond_same false xs = refl
-
-cond_three : (a b : Bool) (xs : List ℕ) → cond a xs (cond b xs xs) ≡ xs
-cond_three true b xs = refl
-cond_three false b xs = cond_same b xs
-
--- of no bytes nothing
-pub copied_none : (m : Memory) (from to n : ℕ) → n ≡ 0 → m ≡ copied m from to n
-unfolding copied bytes_at
-copied_none m from to n e = with_bytes_none m to (bytes_at m from n) (rw e (cond_three (leb 0x20000000 from) (leb 0x08000000 from) []))
-
-length_part : (xs : List ℕ) (i n : ℕ) → i + n ≤ length xs → length (take n (drop i xs)) ≡ n
+pub length_part : (xs : List ℕ) (i n : ℕ) → i + n ≤ length xs → length (take n (drop i xs)) ≡ n
 length_part xs i n h = simp (length-take, length-drop) (omega arith)
 
-pub copied_in_ram : (m : Memory) (from to n : ℕ) → 0x20000000 ≤ from → from - 0x20000000 + n ≤ length m.ram → record m { ram = paste m.ram (to - 0x20000000) (drop (from - 0x20000000) m.ram) (from - 0x20000000 + n - (from - 0x20000000)) } ≡ copied m from to n
-unfolding copied bytes_at with_bytes
-copied_in_ram m from to n h fits =
-    let t : leb 0x20000000 from ≡ true = le-leb _ _ h in
-    let k : from - 0x20000000 + n - (from - 0x20000000) ≡ n = omega arith in
-    let l : length (take n (drop (from - 0x20000000) m.ram)) ≡ n = length_part m.ram (from - 0x20000000) n fits in
-    rw (t, k, l)
+-- of no bytes nothing
+take_none : (xs : List ℕ) → take 0 xs ≡ []
+take_none [] = refl
+take_none (x ∷ xs) = refl
 
-pub copied_from_flash : (m : Memory) (from to n : ℕ) (bytes : List ℕ) → from < 0x20000000 → 0x08000000 ≤ from → bytes ≡ take n (drop (from - 0x08000000) m.flash) → record m { ram = take (to - 0x20000000) m.ram ++ bytes ++ drop (to - 0x20000000 + length bytes) m.ram } ≡ copied m from to n
-unfolding copied bytes_at with_bytes
-copied_from_flash m from to n bytes h above e =
-    let t : leb 0x20000000 from ≡ false = lt-leb _ _ h in
-    let u : leb 0x08000000 from ≡ true = le-leb _ _ above in
-    rw (t, u, e)
+cond_nil : (a b : Bool) (xs ys : List ℕ) → xs ≡ [] → ys ≡ [] → cond a xs (cond b ys []) ≡ []
+cond_nil true b xs ys e f = e
+cond_nil false true xs ys e f = f
+cond_nil false false xs ys e f = refl
+
+pub bytes_zero : (m : Memory) (a n : ℕ) → n ≡ 0 → bytes_at m a n ≡ []
+unfolding bytes_at
+bytes_zero m a n e = rw e (cond_nil (leb 0x20000000 a) (leb 0x08000000 a) (take 0 (drop (a - 0x20000000) m.ram)) (take 0 (drop (a - 0x08000000) m.flash)) (take_none (drop (a - 0x20000000) m.ram)) (take_none (drop (a - 0x08000000) m.flash)))
+
+pub copied_none : (m : Memory) (from to n : ℕ) → n ≡ 0 → m ≡ copied m from to n
+unfolding copied
+copied_none m from to n e = with_bytes_none m to (bytes_at m from n) (bytes_zero m from n e)
+
+-- within one list
+pub paste_pasted : (xs : List ℕ) (i at n k : ℕ) → k ≡ n → i + n ≤ length xs → paste xs at (drop i xs) k ≡ pasted xs at (take n (drop i xs))
+paste_pasted xs i at n k same fits =
+    let l : length (take n (drop i xs)) ≡ n = length_part xs i n fits in
+    rw (same, l)
 
 -- where bytes lie
 pub range_in_ram : (m v : Memory) (a n : ℕ) → m ≡ v → IsWithin v a n → (n ≡ 0 → ⊥) → 0x20000000 ≤ a → length m.flash ≤ 1048576 → a - 0x20000000 + n ≤ length m.ram
@@ -95,3 +164,20 @@ pub range_in_flash : (m v : Memory) (a n : ℕ) → m ≡ v → IsWithin v a n �
 range_in_flash m v a n e w some h =
     let here = rw (← e) at w in
     elim here [ inl r ↦ elim r [ inl none ↦ absurd (some none) | inr x ↦ absurd (omega arith) ] | inr x ↦ (x.0, omega arith) ]
+
+-- the four ways of a copy
+pub copied_ram_ram : (m : Memory) (from to n k : ℕ) → 0x20000000 ≤ from → 0x20000000 ≤ to → from - 0x20000000 + n ≤ length m.ram → k ≡ n → record m { ram = paste m.ram (to - 0x20000000) (drop (from - 0x20000000) m.ram) k } ≡ copied m from to n
+unfolding copied
+copied_ram_ram m from to n k h t fits same = rw (paste_pasted m.ram (from - 0x20000000) (to - 0x20000000) n k same fits, bytes_ram m from n h, with_bytes_ram m to (take n (drop (from - 0x20000000) m.ram)) t)
+
+pub copied_flash_flash : (m : Memory) (from to n k : ℕ) → from < 0x20000000 → 0x08000000 ≤ from → to < 0x20000000 → from - 0x08000000 + n ≤ length m.flash → k ≡ n → record m { flash = paste m.flash (to - 0x08000000) (drop (from - 0x08000000) m.flash) k } ≡ copied m from to n
+unfolding copied
+copied_flash_flash m from to n k h above t fits same = rw (paste_pasted m.flash (from - 0x08000000) (to - 0x08000000) n k same fits, bytes_flash m from n h above, with_bytes_flash m to (take n (drop (from - 0x08000000) m.flash)) t)
+
+pub copied_ram_flash : (m : Memory) (from to n : ℕ) (bytes : List ℕ) → 0x20000000 ≤ from → to < 0x20000000 → bytes ≡ take n (drop (from - 0x20000000) m.ram) → record m { flash = pasted m.flash (to - 0x08000000) bytes } ≡ copied m from to n
+unfolding copied
+copied_ram_flash m from to n bytes h t e = rw (e, bytes_ram m from n h, with_bytes_flash m to (take n (drop (from - 0x20000000) m.ram)) t)
+
+pub copied_flash_ram : (m : Memory) (from to n : ℕ) (bytes : List ℕ) → from < 0x20000000 → 0x08000000 ≤ from → 0x20000000 ≤ to → bytes ≡ take n (drop (from - 0x08000000) m.flash) → record m { ram = pasted m.ram (to - 0x20000000) bytes } ≡ copied m from to n
+unfolding copied
+copied_flash_ram m from to n bytes h above t e = rw (e, bytes_flash m from n h above, with_bytes_ram m to (take n (drop (from - 0x08000000) m.flash)) t)

@@ -1,6 +1,6 @@
 -- Memory as a map from addresses to bytes: flash from 0x08000000 and RAM from 0x20000000.
 -- (Scope of the profile: docs/FORMATS.md, Image; the addresses are those of a Cortex-M part.)
-use Rattle.std.specs.Prelude.{Bool, ◌&&◌, ℕ, ◌+◌, ◌-◌, ◌*◌, ◌<◌, ◌≤◌, ◌⊎◌, ◌≡◌, List, [], ◌∷◌, ◌++◌, length, take, drop, Option, None, slice_get, if◌then◌else◌, nat_le, Contains}
+use Rattle.std.specs.Prelude.{Bool, false, ◌&&◌, ℕ, ◌+◌, ◌-◌, ◌*◌, ◌<◌, ◌≤◌, ◌⊎◌, ◌≡◌, List, [], ◌∷◌, ◌++◌, length, take, drop, Option, None, slice_get, if◌then◌else◌, nat_le, nat_lt, Contains}
 
 pub record Memory : Type 0 where
   pub flash : List ℕ
@@ -30,10 +30,21 @@ number_of (byte ∷ bytes) = byte + 256 * number_of bytes
 abbrev pub number_at : Memory → ℕ → ℕ → ℕ
 number_at m a n = number_of (bytes_at m a n)
 
--- the memory with these bytes from an address of the RAM on
+-- whether there is a byte at an address
+abbrev pub is_held : Memory → ℕ → Bool
+is_held m a =
+    if nat_le 0x20000000 a then nat_lt (a - 0x20000000) (length m.ram)
+    else (if nat_le 0x08000000 a then nat_lt (a - 0x08000000) (length m.flash) else false)
+
+-- a list with these bytes over its own from a place on
+abbrev pub pasted : List ℕ → ℕ → List ℕ → List ℕ
+pasted xs at bytes = take at xs ++ bytes ++ drop (at + length bytes) xs
+
+-- the memory with these bytes from an address on
 unfoldable pub with_bytes : Memory → ℕ → List ℕ → Memory
 with_bytes m a bytes =
-    record m { ram = take (a - 0x20000000) m.ram ++ bytes ++ drop (a - 0x20000000 + length bytes) m.ram }
+    if nat_le 0x20000000 a then record m { ram = pasted m.ram (a - 0x20000000) bytes }
+    else record m { flash = pasted m.flash (a - 0x08000000) bytes }
 
 -- the memory with n bytes copied, all read before the first is written
 unfoldable pub copied : Memory → ℕ → ℕ → ℕ → Memory
@@ -52,3 +63,10 @@ IsWithinFlash m a n = (0x08000000 ≤ a) × (a + n ≤ 0x08000000 + length m.fla
 
 abbrev pub IsWithin : Memory → ℕ → ℕ → Type 0
 IsWithin m a n = IsWithinRam m a n ⊎ IsWithinFlash m a n
+
+-- regions, by base and size: none is empty, each lies in flash or in RAM, which have so many bytes,
+-- and any two are the same bytes or have none in common
+pub record AreRegions (flash ram : ℕ) (regions : List (ℕ × ℕ)) : Type 0 where
+  pub some : (r : ℕ × ℕ) → Contains regions r → 0 < r.1
+  pub inside : (r : ℕ × ℕ) → Contains regions r → ((0x20000000 ≤ r.0) × (r.0 + r.1 ≤ 0x20000000 + ram)) ⊎ ((0x08000000 ≤ r.0) × (r.0 + r.1 ≤ 0x08000000 + flash))
+  pub apart : (r s : ℕ × ℕ) → Contains regions r → Contains regions s → (r ≡ s) ⊎ ((r.0 + r.1 ≤ s.0) ⊎ (s.0 + s.1 ≤ r.0))

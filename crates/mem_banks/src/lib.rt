@@ -1,8 +1,8 @@
 //! The bytes of flash and RAM, as one map from addresses to bytes.
 #![tactic(auto)]
 
-ghost use Rattle.std.specs.Prelude.{◌≡◌, ◌+◌, ◌-◌, ◌*◌, ◌<◌, ◌≤◌, ◌⊎◌, ◌++◌, ◌^◌, slice_index_or, length, take, drop, vec_len, IfOk, Some, None, replicate};
-ghost use Rattle.mem_banks.specs.Memory.{is_ram, byte_at, number_at, number_of, with_bytes, copied, IsWithin, IsWithinRam, AreAllBytes};
+ghost use Rattle.std.specs.Prelude.{◌≡◌, ◌+◌, ◌-◌, ◌*◌, ◌<◌, ◌≤◌, ◌⊎◌, ◌^◌, length, take, drop, vec_len, IfOk, replicate};
+ghost use Rattle.mem_banks.specs.Memory.{is_held, is_ram, number_at, number_of, with_bytes, copied, pasted, IsWithin, AreAllBytes, AreRegions};
 
 use std::alloc::{AllocError, Global};
 use std::marker::Model;
@@ -12,12 +12,13 @@ pub const FLASH: u32 = 0x0800_0000;
 /// The first address of the RAM.
 pub const RAM: u32 = 0x2000_0000;
 
-/// The flash and the RAM of a board. Callers see the two lists of their bytes; the flash never
-/// changes.
+/// The flash and the RAM of a board, and the regions that were given. Callers see the two lists of
+/// bytes.
 #[derive(Drop)]
 pub struct Memory {
     flash: Vec<u8>,
     ram: Vec<u8>,
+    regions: Vec<(u32, u32)>,
 }
 
 impl Model for Memory {
@@ -32,34 +33,56 @@ impl Model for Memory {
 }
 
 impl Memory {
-    /// A memory with these bytes of flash and so many zero bytes of RAM.
+    /// A memory with these bytes of flash and so many zero bytes of RAM. The regions are those that
+    /// are no device, by base and size in bytes.
     ///
     /// # Errors
     ///
     /// Only want of memory.
-    pub fn open(alloc: Global, flash: &[u8], ram: u32) -> Result<Memory, AllocError>
+    pub fn open(
+        alloc: Global,
+        flash: &[u8],
+        ram: u32,
+        regions: &[(u32, u32)],
+    ) -> Result<Memory, AllocError>
         requires flash { length flash.now ≤ 1048576 }
         requires ram { ram ≤ 262144 }
+        requires regions { AreRegions (length flash.now) ram regions.now }
         ensures value { IfOk result (λ m. m ≡ record { flash = flash.now; ram = replicate ram 0 }) }
         ensures bytes { AreAllBytes flash.now }
     {
         let ram = vec![in alloc; 0; ram as usize]?;
+        let regions = regions.to_vec(alloc)?;
         Ok(Memory {
             flash: flash.to_vec(alloc)?,
             ram,
+            regions,
         })
     }
 
-    /// The byte at an address, where there is one.
-    pub fn byte(&self, addr: u32) -> Option<u8>
-        ensures { result ≡ byte_at self.now addr }
+    /// Whether there is a byte at an address.
+    pub fn holds(&self, addr: u32) -> bool
+        ensures { result ≡ is_held self.now addr }
     {
         if addr >= RAM {
-            self.ram.get((addr - RAM) as usize).copied()
+            ((addr - RAM) as usize) < self.ram.len()
         } else if addr >= FLASH {
-            self.flash.get((addr - FLASH) as usize).copied()
+            ((addr - FLASH) as usize) < self.flash.len()
         } else {
-            None
+            false
+        }
+    }
+
+    /// The byte at an address. Where there is no memory it is 0.
+    pub fn byte(&self, addr: u32) -> u8
+        ensures { result ≡ number_at self.now addr 1 }
+    {
+        if addr >= RAM {
+            byte_or_zero(&self.ram, (addr - RAM) as usize)
+        } else if addr >= FLASH {
+            byte_or_zero(&self.flash, (addr - FLASH) as usize)
+        } else {
+            0
         }
     }
 
@@ -104,22 +127,9 @@ impl Memory {
         ensures { result ≡ number_at self.now addr size }
     {
         match size {
-            1 => u32::from(self.small(addr)),
+            1 => u32::from(self.byte(addr)),
             2 => u32::from(self.half(addr)),
             _ => self.word(addr),
-        }
-    }
-
-    /// The byte at an address as a number, or 0 where there is none.
-    fn small(&self, addr: u32) -> u8
-        ensures { result ≡ number_at self.now addr 1 }
-    {
-        if addr >= RAM {
-            byte_or_zero(&self.ram, (addr - RAM) as usize)
-        } else if addr >= FLASH {
-            byte_or_zero(&self.flash, (addr - FLASH) as usize)
-        } else {
-            0
         }
     }
 
@@ -131,42 +141,62 @@ impl Memory {
         addr >= RAM && u64::from(addr - RAM) + u64::from(count) <= self.ram.len() as u64
     }
 
-    /// Copies so many bytes into the RAM, as if all were read before the first is written.
+    /// Copies so many bytes, as if all were read before the first is written.
     pub fn copy(&mut self, from: u32, to: u32, count: u32)
         requires source { IsWithin self.old from count }
-        requires target { IsWithinRam self.old to count }
+        requires target { IsWithin self.old to count }
         ensures { self.new ≡ copied self.old from to count }
     {
         let count = count as usize;
         if count == 0 {
             return;
         }
-        let at = (to - RAM) as usize;
         if from >= RAM {
             let start = (from - RAM) as usize;
-            self.ram.copy_within(start..start + count, at);
+            if to >= RAM {
+                let at = (to - RAM) as usize;
+                self.ram.copy_within(start..start + count, at);
+            } else {
+                put(
+                    &mut self.flash,
+                    (to - FLASH) as usize,
+                    &self.ram[start..start + count],
+                );
+            }
         } else {
             let start = (from - FLASH) as usize;
-            put(&mut self.ram, at, &self.flash[start..start + count]);
+            if to >= RAM {
+                put(
+                    &mut self.ram,
+                    (to - RAM) as usize,
+                    &self.flash[start..start + count],
+                );
+            } else {
+                let at = (to - FLASH) as usize;
+                self.flash.copy_within(start..start + count, at);
+            }
         }
     }
 
-    /// Writes bytes over those of the RAM from an address on.
+    /// Writes bytes over those from an address on.
     pub fn store(&mut self, addr: u32, bytes: &[u8])
-        requires { IsWithinRam self.old addr (length bytes.now) }
+        requires { IsWithin self.old addr (length bytes.now) }
         ensures { self.new ≡ with_bytes self.old addr bytes.now }
     {
         if bytes.len() == 0 {
             return;
         }
-        let at = (addr - RAM) as usize;
-        put(&mut self.ram, at, bytes);
+        if addr >= RAM {
+            put(&mut self.ram, (addr - RAM) as usize, bytes);
+        } else {
+            put(&mut self.flash, (addr - FLASH) as usize, bytes);
+        }
     }
 }
 
 /// The byte at a place, or 0 past the end.
 fn byte_or_zero(bytes: &[u8], at: usize) -> u8
-    ensures { result ≡ slice_index_or bytes.now at 0 }
+    ensures { result ≡ number_of (take 1 (drop at bytes.now)) }
 {
     match bytes.get(at) {
         Some(byte) => *byte,
@@ -212,7 +242,7 @@ fn word_at(bytes: &[u8], at: usize) -> u32
 /// Writes bytes over those from a place on.
 fn put(bytes: &mut Vec<u8>, at: usize, new: &[u8])
     requires { at + length new.now ≤ vec_len bytes.old }
-    ensures { bytes.new.items ≡ take at bytes.old.items ++ new.now ++ drop (at + length new.now) bytes.old.items }
+    ensures { bytes.new.items ≡ pasted bytes.old.items at new.now }
 {
     let part = &mut bytes[at..at + new.len()];
     part.copy_from_slice(new);

@@ -52,8 +52,9 @@ module _ {M F T : ℕ → Type 0} {W : ℕ → ℕ → Type 0} {g : Setup} where
   keeps-copied on from to n t h within =
       let m = t.state.memory in
       let bytes = bytes_at m from n in
-      keeps-memory (with_bytes m to bytes) h (flash-with_bytes m to bytes) (written_bytes m to bytes h.steady.bytes (all_bytes_at m from n h.steady.text h.steady.bytes))
-      (placed_same g m (with_bytes m to bytes) h.steady.placed (flash-with_bytes m to bytes) (length-with_bytes m to bytes (within_ram-front m to n (length bytes) within (few_bytes m from n))))
+      let front = within_ram-front m to n (length bytes) within (few_bytes m from n) in
+      keeps-memory (with_bytes m to bytes) h (flash-with_bytes m to bytes front) (written_bytes m to bytes h.steady.bytes (all_bytes_at m from n h.steady.text h.steady.bytes))
+      (placed_same g m (with_bytes m to bytes) h.steady.placed (flash-with_bytes m to bytes front) (length-with_bytes m to bytes front))
 
   -- F: of all clients it is said, or of all but that of the call, that no offer fits a listen
   pub keeps-handed : (on : Ground) (c : Call) (buffer : Range) (t : Turn) → IsSaneBut M F T W g t.state → ((j : ℕ) → j ≢ c.client.index → F j) → c.server.index < length t.state.tasks → IsWithinRam t.state.memory buffer.base buffer.length → IsSaneBut M Every T W g (handed on c buffer t).state

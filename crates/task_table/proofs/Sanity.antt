@@ -1,5 +1,5 @@
 -- Each effect keeps a state sane.
-use Rattle.std.proofs.Common.{◌≡◌, ◌+◌, ◌-◌, ◌<◌, ◌≤◌, inl, inr, ℕ, zero, suc, Bool, true, false, cond, List, [], ◌∷◌, ◌++◌, length, take, drop, refl, ◌∙◌, arith, eqb}
+use Rattle.std.proofs.Common.{◌≡◌, ◌+◌, ◌-◌, ◌<◌, ◌≤◌, inl, inr, ℕ, zero, suc, Bool, true, false, cond, leb, List, [], ◌∷◌, ◌++◌, length, take, drop, refl, ◌∙◌, arith, eqb}
 use Rattle.std.specs.Prelude.{Contains}
 use Rattle.std.proofs.lemmas.List.Elements.{Contains-append_cases}
 use Rattle.kernel_abi.specs.declared.Fault.{Fault}
@@ -10,7 +10,7 @@ use Rattle.kernel_abi.specs.declared.Note.TheVariants as note
 use Rattle.kernel_abi.specs.declared.Ending.{Ending}
 use Rattle.kernel_abi.specs.declared.Ending.TheVariants.{Client}
 use Rattle.words_core.specs.declared.Flags.{Flags}
-use Rattle.mem_banks.specs.Memory.{Memory, with_bytes, IsWithinRam, AreAllBytes}
+use Rattle.mem_banks.specs.Memory.{Memory, with_bytes, pasted, IsWithinRam, AreAllBytes}
 use Rattle.task_table.specs.State.{Setup, State, Turn, Ground}
 use Rattle.task_table.specs.Reading.{task_at}
 use Rattle.task_table.specs.Effects.{with_task, without_call, without_listen, changed, noted, with_processor, with_health, stored, posted, closed, faulted_as, faulted}
@@ -49,13 +49,20 @@ drop_in (suc n) (x ∷ xs) b h = let r = drop_in n xs b h in (suc r.0, omega (ar
 -- bytes written over bytes
 pub written_bytes : (m : Memory) (a : ℕ) (bytes : List ℕ) → AreAllBytes m.ram → AreAllBytes bytes → AreAllBytes (with_bytes m a bytes).ram
 unfolding with_bytes
-written_bytes m a bytes old new = λ b here. elim (Contains-append_cases (take (a - 0x20000000) m.ram ++ bytes) (drop (a - 0x20000000 + length bytes) m.ram) b here) [
-  | inl y ↦ elim (Contains-append_cases (take (a - 0x20000000) m.ram) bytes b y) [
-    | inl x ↦ old b (take_in (a - 0x20000000) m.ram b x)
-    | inr x ↦ new b x
-  ]
-  | inr x ↦ old b (drop_in (a - 0x20000000 + length bytes) m.ram b x)
-]
+written_bytes m a bytes old new = go (leb 0x20000000 a)
+  where
+    over : AreAllBytes (pasted m.ram (a - 0x20000000) bytes)
+    over = λ b here. elim (Contains-append_cases (take (a - 0x20000000) m.ram ++ bytes) (drop (a - 0x20000000 + length bytes) m.ram) b here) [
+      | inl y ↦ elim (Contains-append_cases (take (a - 0x20000000) m.ram) bytes b y) [
+        | inl x ↦ old b (take_in (a - 0x20000000) m.ram b x)
+        | inr x ↦ new b x
+      ]
+      | inr x ↦ old b (drop_in (a - 0x20000000 + length bytes) m.ram b x)
+    ]
+
+    go : (b : Bool) → AreAllBytes (cond b (record m { ram = pasted m.ram (a - 0x20000000) bytes }) (record m { flash = pasted m.flash (a - 0x08000000) bytes })).ram
+    go true = over
+    go false = old
 
 -- ## effects
 
@@ -80,8 +87,8 @@ module _ {g : Setup} where
   unfolding stored
   sane-stored on at bytes t h all within =
       let m = t.state.memory in
-      keeps-memory (with_bytes m at bytes) h (flash-with_bytes m at bytes) (written_bytes m at bytes h.steady.bytes all)
-      (placed_same g m (with_bytes m at bytes) h.steady.placed (flash-with_bytes m at bytes) (length-with_bytes m at bytes within))
+      keeps-memory (with_bytes m at bytes) h (flash-with_bytes m at bytes within) (written_bytes m at bytes h.steady.bytes all)
+      (placed_same g m (with_bytes m at bytes) h.steady.placed (flash-with_bytes m at bytes within) (length-with_bytes m at bytes within))
 
   pub sane-current : (i : ℕ) (t : Turn) → Sane g t.state → i < length t.state.tasks → Sane g (changed (λ s. record s { current = i }) t).state
   sane-current i t h inside = keeps-current i h inside

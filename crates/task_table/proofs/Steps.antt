@@ -1,11 +1,12 @@
 -- How a change of the code's kernel follows one of the turn.
-use Rattle.std.proofs.Common.{◌≡◌, ◌≢◌, ◌<◌, ◌≤◌, ◌+◌, ℕ, zero, suc, Bool, true, false, ◌&&◌, List, [], ◌∷◌, ◌++◌, length, Option, Some, None, inl, inr, refl, sym, ◌∙◌, ap, arith, get_or, set, get_or-set_same, get_or-set_other, length-set, IfSome, is_some, is_none}
+use Rattle.std.proofs.Common.{◌≡◌, ◌≢◌, ◌<◌, ◌≤◌, ◌+◌, ◌-◌, ℕ, zero, suc, Bool, true, false, ◌&&◌, List, [], ◌∷◌, ◌++◌, length, Option, Some, None, inl, inr, refl, sym, ◌∙◌, ap, arith, get_or, set, get_or-set_same, get_or-set_other, length-set, IfSome, is_some, is_none}
 use Rattle.std.specs.Option.{option_map}
 use Rattle.std.proofs.lemmas.Bool.Decides.{eqb_tells}
 use Rattle.std.proofs.lemmas.Bool.{false≢true}
-use Rattle.std.proofs.lemmas.List.{length-append, length-take, length-drop}
+use Rattle.std.proofs.lemmas.List.{nil_from_length}
 use Rattle.kernel_abi.specs.declared.Note.{Note}
 use Rattle.mem_banks.specs.Memory.{Memory, with_bytes, IsWithinRam}
+use Rattle.mem_banks.proofs.Copies.{with_bytes_none, with_bytes_ram, length-pasted}
 use Rattle.task_table.specs.State.{Setup, Task, Call, Listen, State, Turn, Ground}
 use Rattle.task_table.specs.Reading.{task_at, call_of, listen_of, is_ready, is_well, IsSameBut}
 use Rattle.task_table.specs.declared.Line.{Line}
@@ -264,14 +265,17 @@ holds_turn g k t n h = record {
 }
 
 -- a store keeps the flash, and the length of the RAM
-pub flash-with_bytes : (m : Memory) (a : ℕ) (bytes : List ℕ) → (with_bytes m a bytes).flash ≡ m.flash
-unfolding with_bytes
-flash-with_bytes m a bytes = refl
+pub flash-with_bytes : (m : Memory) (a : ℕ) (bytes : List ℕ) → IsWithinRam m a (length bytes) → (with_bytes m a bytes).flash ≡ m.flash
+flash-with_bytes m a bytes within = elim within [
+  | inl none ↦ ap (λ (x : Memory). x.flash) (sym (with_bytes_none m a bytes (nil_from_length bytes none)))
+  | inr x ↦ ap (λ (z : Memory). z.flash) (with_bytes_ram m a bytes x.0)
+]
 
 pub length-with_bytes : (m : Memory) (a : ℕ) (bytes : List ℕ) → IsWithinRam m a (length bytes) → length (with_bytes m a bytes).ram ≡ length m.ram
-unfolding with_bytes
-length-with_bytes m a bytes within = simp (length-append, length-take, length-drop)
-    (elim within [ inl none ↦ omega arith | inr x ↦ omega arith ])
+length-with_bytes m a bytes within = elim within [
+  | inl none ↦ ap (λ (x : Memory). length x.ram) (sym (with_bytes_none m a bytes (nil_from_length bytes none)))
+  | inr x ↦ ap (λ (z : Memory). length z.ram) (with_bytes_ram m a bytes x.0) ∙ length-pasted m.ram (a - 0x20000000) bytes (omega arith)
+]
 
 pub holds_stored : (g : Setup) (k : Kept) (t : Turn) (on : Ground) (a : ℕ) (bytes : List ℕ) (setup : Setup) (memory : Memory) → Shows g k t → setup ≡ k.setup → memory ≡ with_bytes k.memory a bytes → Shows g record k { setup = setup; memory = memory } (stored on a bytes t)
 unfolding stored task_at call_of listen_of
@@ -292,5 +296,5 @@ holds_stored g k t on a bytes setup memory h same e = record {
 pub setup_stored : (f : List ℕ → ℕ → Setup) (m new : Memory) (a : ℕ) (bytes : List ℕ) → IsWithinRam m a (length bytes) → new ≡ with_bytes m a bytes → f new.flash (length new.ram) ≡ f m.flash (length m.ram)
 setup_stored f m new a bytes within e =
     let ram : length new.ram ≡ length m.ram = ap (λ x. length x.ram) e ∙ length-with_bytes m a bytes within in
-    let flash : new.flash ≡ m.flash = ap (λ x. x.flash) e ∙ flash-with_bytes m a bytes in
+    let flash : new.flash ≡ m.flash = ap (λ x. x.flash) e ∙ flash-with_bytes m a bytes within in
     rw (ram, flash) refl

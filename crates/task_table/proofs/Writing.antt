@@ -1,6 +1,6 @@
 -- The writes of a turn take the old memory to the new one.
-use Rattle.std.proofs.Common.{◌≡◌, ◌+◌, ◌-◌, ◌<◌, ◌≤◌, inl, inr, ℕ, zero, suc, List, [], ◌∷◌, ◌++◌, length, take, drop, min, refl, sym, ◌∙◌, ap, arith, add-zero}
-use Rattle.std.proofs.lemmas.List.{take-append-drop, append-nil}
+use Rattle.std.proofs.Common.{◌≡◌, ◌+◌, ◌-◌, ◌<◌, ◌≤◌, inl, inr, ℕ, zero, suc, List, [], ◌∷◌, ◌++◌, length, take, drop, min, refl, sym, ◌∙◌, ap, arith}
+use Rattle.mem_banks.proofs.Copies.{with_bytes_ram, with_bytes_none}
 use Rattle.mem_banks.specs.Memory.{Memory, bytes_at, with_bytes, copied as copied_memory, IsWithinRam}
 use Rattle.task_table.specs.State.{Setup, State, Ground, Write as Written, Turn}
 use Rattle.task_table.specs.Effects.{with_call, with_taken, without_call, noted, stored, copied, looked, writes_on, closed, offered}
@@ -52,10 +52,9 @@ over_none [] (suc i) h = absurd (omega arith)
 over_none (x ∷ xs) (suc i) h = ap (λ ys. x ∷ ys) (over_none xs i (omega arith))
 
 with_over : (m : Memory) (i at : ℕ) (bytes : List ℕ) → at ≡ 0x20000000 + i → i ≤ length m.ram → with_bytes m at bytes ≡ record m { ram = over m.ram i bytes }
-unfolding with_bytes
 with_over m i at bytes e h =
     let place : at - 0x20000000 ≡ i = omega arith in
-    rw place (ap (λ r. record m { ram = r }) (over_is m.ram i bytes h))
+    with_bytes_ram m at bytes (omega arith) ∙ rw place (ap (λ r. record m { ram = r }) (over_is m.ram i bytes h))
 
 -- the bytes of a store, written one by one
 one_by_one : (on : Ground) (bytes : List ℕ) (m : Memory) (i at : ℕ) → at ≡ 0x20000000 + i → i + length bytes ≤ length m.ram → record m { ram = over m.ram i bytes } ≡ with_writes m (writes_on on at bytes)
@@ -68,8 +67,7 @@ one_by_one on (b ∷ bs) m i at e h =
     ∙ ap (λ z. with_writes z (writes_on on (at + 1) bs)) (sym (with_over m i at (b ∷ []) e (omega arith)))
 
 no_bytes : (m : Memory) (at : ℕ) → with_bytes m at [] ≡ m
-unfolding with_bytes
-no_bytes m at = ap (λ x. record m { ram = x }) (simp (add-zero, append-nil, take-append-drop))
+no_bytes m at = sym (with_bytes_none m at [] refl)
 
 -- what a store does is what its writes say
 written_bytes : (on : Ground) (m : Memory) (at : ℕ) (bytes : List ℕ) → IsWithinRam m at (length bytes) → with_bytes m at bytes ≡ with_writes m (writes_on on at bytes)

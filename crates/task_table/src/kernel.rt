@@ -312,7 +312,11 @@ impl Kernel {
     pub fn byte(&self, addr: u32) -> Option<u8>
         ensures { (g : Setup) (t : Turn) → Holds g self.now t → result ≡ byte_at t.state.memory addr }
     {
-        self.memory.byte(addr)
+        if self.memory.holds(addr) {
+            Some(self.memory.byte(addr))
+        } else {
+            None
+        }
     }
 
     /// The number that 1, 2 or 4 bytes from an address on spell, the lowest first. Where there is no

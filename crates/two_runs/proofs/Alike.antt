@@ -4,7 +4,7 @@ use Rattle.std.specs.Prelude.{filter, find, option_map, slice_get, slice_range, 
 use Rattle.std.specs.List.{range_with_len, list_all}
 use Rattle.std.proofs.Math.ListN.{get_or-map}
 use Rattle.std.proofs.lemmas.List.{map-set, map-append, length-map}
-use Rattle.mem_banks.specs.Memory.{Memory, bytes_at, with_bytes}
+use Rattle.mem_banks.specs.Memory.{Memory, bytes_at, with_bytes, pasted}
 use Rattle.task_table.specs.State.{Setup, Task, State, Call, Listen}
 use Rattle.task_table.specs.Reading.{task_at, line_at, register, arguments, call_of, listen_of, is_ready, is_well, priority, around, chosen, offer_by, offers, is_offered, taken_by, is_taken, best_sender, no_task}
 use Rattle.task_table.specs.Effects.{with_task, without_call, without_listen, with_listen, with_taken, with_call, taken_from}
@@ -228,12 +228,21 @@ patched_length i k bytes xs ys n = rw (length-append, length-append, length-appe
 
 pub alike-with_bytes : (sees : ℕ → Bool) (m n : Memory) (a : ℕ) (bytes : List ℕ) → AreAlikeMemories sees m n → AreAlikeMemories sees (with_bytes m a bytes) (with_bytes n a bytes)
 unfolding with_bytes
-alike-with_bytes sees m n a bytes h = record {
-  flash_length = h.flash_length;
-  ram_length = patched_length (a - 0x20000000) (a - 0x20000000 + length bytes) bytes m.ram n.ram h.ram_length;
-  flash = h.flash;
-  ram = λ k see. patched_same (a - 0x20000000) (a - 0x20000000 + length bytes) bytes m.ram n.ram k refl h.ram_length (h.ram k see);
-}
+alike-with_bytes sees m n a bytes h = go (leb 0x20000000 a)
+  where
+    go : (b : Bool) → AreAlikeMemories sees (cond b (record m { ram = pasted m.ram (a - 0x20000000) bytes }) (record m { flash = pasted m.flash (a - 0x08000000) bytes })) (cond b (record n { ram = pasted n.ram (a - 0x20000000) bytes }) (record n { flash = pasted n.flash (a - 0x08000000) bytes }))
+    go true = record {
+      flash_length = h.flash_length;
+      ram_length = patched_length (a - 0x20000000) (a - 0x20000000 + length bytes) bytes m.ram n.ram h.ram_length;
+      flash = h.flash;
+      ram = λ k see. patched_same (a - 0x20000000) (a - 0x20000000 + length bytes) bytes m.ram n.ram k refl h.ram_length (h.ram k see);
+    }
+    go false = record {
+      flash_length = patched_length (a - 0x08000000) (a - 0x08000000 + length bytes) bytes m.flash n.flash h.flash_length;
+      ram_length = h.ram_length;
+      flash = λ k see. patched_same (a - 0x08000000) (a - 0x08000000 + length bytes) bytes m.flash n.flash k refl h.flash_length (h.flash k see);
+      ram = h.ram;
+    }
 
 -- bytes that are read where all are seen
 part_same : (i n : ℕ) (xs ys : List ℕ) → length xs ≡ length ys → ((k : ℕ) → i ≤ k → k < i + n → slice_get xs k ≡ slice_get ys k) → take n (drop i xs) ≡ take n (drop i ys)

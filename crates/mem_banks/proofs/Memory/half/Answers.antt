@@ -1,6 +1,5 @@
-use Rattle.std.proofs.Common.{◌≡◌, ◌+◌, ◌-◌, ◌%◌, ◌<◌, ◌≤◌, ℕ, true, false, leb, refl, arith}
-use Rattle.std.proofs.lemmas.Bool.{le-leb, lt-leb}
-use Rattle.mem_banks.specs.Memory.{bytes_at}
+use Rattle.std.proofs.Common.{◌+◌, ◌-◌, ◌%◌, ◌<◌, ◌≤◌, ℕ, ◌≡◌, arith}
+use Rattle.mem_banks.proofs.Copies.{bytes_ram, bytes_flash, bytes_none}
 use Rattle.mem_banks.proofs.Memory.half.Goals as goal
 
 -- what lies within the flash by its place does so by its address
@@ -11,7 +10,6 @@ flash_below : (a n : ℕ) → (a + 4160749568) % 4294967296 + 1 < n → n ≤ 10
 flash_below a n inside small fits = omega (arith, inside, small, fits)
 
 pub returns-then-place-len : goal.returns-then-place-len
-unfolding bytes_at
 returns-then-place-len c =
     let inside = c.if-place-len.true in
     let len = c.len.ensures in
@@ -20,26 +18,13 @@ returns-then-place-len c =
     let above : 0x08000000 ≤ c.args.addr = flash_above c.args.addr c.len.result inside (omega (arith, len, small)) fits in
     let below : c.args.addr < 0x20000000 = flash_below c.args.addr c.len.result inside (omega (arith, len, small)) fits in
     let place : (c.args.addr + 4160749568) % 4294967296 ≡ c.args.addr - 0x08000000 = omega (arith, above, below) in
-    let t : leb 0x20000000 c.args.addr ≡ false = lt-leb _ _ below in
-    let u : leb 0x08000000 c.args.addr ≡ true = le-leb _ _ above in
-    rw (← c.self.view_is, t, u, ← c.deref.ensures.value) (rw place at c.half_at.ensures)
+    rw (← c.self.view_is, bytes_flash _ c.args.addr 2 below above, ← c.deref.ensures.value) (rw place at c.half_at.ensures)
 
 pub returns-then-addr-ge-RAM : goal.returns-then-addr-ge-RAM
-unfolding bytes_at
-returns-then-addr-ge-RAM c =
-    let t : leb 0x20000000 c.args.addr ≡ true = le-leb _ _ c.if-addr-ge-RAM.true in
-    rw (← c.self.view_is, t, ← c.deref-then-addr-ge-RAM.ensures.value) c.half_at-then-addr-ge-RAM.ensures
+returns-then-addr-ge-RAM c = rw (← c.self.view_is, bytes_ram _ c.args.addr 2 c.if-addr-ge-RAM.true, ← c.deref-then-addr-ge-RAM.ensures.value) c.half_at-then-addr-ge-RAM.ensures
 
 pub returns-then-addr-ge-FLASH : goal.returns-then-addr-ge-FLASH
-unfolding bytes_at
-returns-then-addr-ge-FLASH c =
-    let t : leb 0x20000000 c.args.addr ≡ false = lt-leb _ _ c.if-addr-ge-RAM.false in
-    let u : leb 0x08000000 c.args.addr ≡ true = le-leb _ _ c.if-addr-ge-FLASH.true in
-    rw (← c.self.view_is, t, u, ← c.deref-then-addr-ge-FLASH.ensures.value) c.half_at-then-addr-ge-FLASH.ensures
+returns-then-addr-ge-FLASH c = rw (← c.self.view_is, bytes_flash _ c.args.addr 2 c.if-addr-ge-RAM.false c.if-addr-ge-FLASH.true, ← c.deref-then-addr-ge-FLASH.ensures.value) c.half_at-then-addr-ge-FLASH.ensures
 
 pub returns-else-addr-ge-FLASH : goal.returns-else-addr-ge-FLASH
-unfolding bytes_at
-returns-else-addr-ge-FLASH c =
-    let t : leb 0x20000000 c.args.addr ≡ false = lt-leb _ _ c.if-addr-ge-RAM.false in
-    let u : leb 0x08000000 c.args.addr ≡ false = lt-leb _ _ c.if-addr-ge-FLASH.false in
-    rw (t, u) refl
+returns-else-addr-ge-FLASH c = rw (bytes_none c.args.self.now c.args.addr 2 c.if-addr-ge-FLASH.false)

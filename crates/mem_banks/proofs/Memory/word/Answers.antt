@@ -1,24 +1,11 @@
-use Rattle.std.proofs.Common.{◌≡◌, true, false, leb, refl}
-use Rattle.std.proofs.lemmas.Bool.{le-leb, lt-leb}
-use Rattle.mem_banks.specs.Memory.{bytes_at}
+use Rattle.mem_banks.proofs.Copies.{bytes_ram, bytes_flash, bytes_none}
 use Rattle.mem_banks.proofs.Memory.word.Goals as goal
 
 pub returns-then-addr-ge-RAM : goal.returns-then-addr-ge-RAM
-unfolding bytes_at
-returns-then-addr-ge-RAM c =
-    let t : leb 0x20000000 c.args.addr ≡ true = le-leb _ _ c.if-addr-ge-RAM.true in
-    rw (← c.self.view_is, t, ← c.deref.ensures.value) c.word_at.ensures
+returns-then-addr-ge-RAM c = rw (← c.self.view_is, bytes_ram _ c.args.addr 4 c.if-addr-ge-RAM.true, ← c.deref.ensures.value) c.word_at.ensures
 
 pub returns-then-addr-ge-FLASH : goal.returns-then-addr-ge-FLASH
-unfolding bytes_at
-returns-then-addr-ge-FLASH c =
-    let t : leb 0x20000000 c.args.addr ≡ false = lt-leb _ _ c.if-addr-ge-RAM.false in
-    let u : leb 0x08000000 c.args.addr ≡ true = le-leb _ _ c.if-addr-ge-FLASH.true in
-    rw (← c.self.view_is, t, u, ← c.deref-then-addr-ge-FLASH.ensures.value) c.word_at-then-addr-ge-FLASH.ensures
+returns-then-addr-ge-FLASH c = rw (← c.self.view_is, bytes_flash _ c.args.addr 4 c.if-addr-ge-RAM.false c.if-addr-ge-FLASH.true, ← c.deref-then-addr-ge-FLASH.ensures.value) c.word_at-then-addr-ge-FLASH.ensures
 
 pub returns-else-addr-ge-FLASH : goal.returns-else-addr-ge-FLASH
-unfolding bytes_at
-returns-else-addr-ge-FLASH c =
-    let t : leb 0x20000000 c.args.addr ≡ false = lt-leb _ _ c.if-addr-ge-RAM.false in
-    let u : leb 0x08000000 c.args.addr ≡ false = lt-leb _ _ c.if-addr-ge-FLASH.false in
-    rw (t, u) refl
+returns-else-addr-ge-FLASH c = rw (bytes_none c.args.self.now c.args.addr 4 c.if-addr-ge-FLASH.false)

@@ -1,7 +1,10 @@
-use Rattle.std.proofs.Common.{arith, refl}
+use Rattle.std.proofs.Common.{arith, refl, inl}
 use Rattle.task_table.specs.Holds.{kept_of, setup_of}
 use Rattle.task_table.proofs.Messages.{holds_copied, setup_copied}
 use Rattle.task_table.proofs.kernel.Kernel.copy.Goals as goal
+
+pub copy-requires-clause-target : goal.copy-requires-clause-target
+copy-requires-clause-target c = inl c.requires.target
 
 pub returns-clause-holds : goal.returns-clause-holds
 returns-clause-holds c = λ g t on h.

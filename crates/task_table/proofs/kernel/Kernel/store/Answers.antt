@@ -1,7 +1,10 @@
-use Rattle.std.proofs.Common.{arith, refl}
+use Rattle.std.proofs.Common.{arith, refl, inl}
 use Rattle.task_table.specs.Holds.{kept_of, setup_of}
 use Rattle.task_table.proofs.Steps as steps
 use Rattle.task_table.proofs.kernel.Kernel.store.Goals as goal
+
+pub store-requires : goal.store-requires
+store-requires c = inl c.requires
 
 pub returns-clause-holds : goal.returns-clause-holds
 returns-clause-holds c = λ g t h.

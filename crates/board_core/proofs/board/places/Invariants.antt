@@ -1,0 +1,7 @@
+use Rattle.image_format.specs.Images.{picture}
+use Rattle.board_core.specs.Regions.{ArePlaces}
+use Rattle.board_core.proofs.board.places.Given as goal
+
+-- the places so far
+abbrev pub invariant-loop-i : goal.invariant-loop-i
+invariant-loop-i l = ArePlaces (picture l.image) l.places.items

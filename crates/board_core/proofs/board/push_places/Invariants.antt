@@ -1,0 +1,9 @@
+use Rattle.std.proofs.Common.{◌≡◌}
+use Rattle.image_format.specs.Images.{picture}
+use Rattle.image_format.specs.Picture.{regions_in}
+use Rattle.board_core.specs.Regions.{ArePlaces}
+use Rattle.board_core.proofs.board.push_places.Given as goal
+
+-- the places so far
+abbrev pub invariant-loop-k : goal.invariant-loop-k
+invariant-loop-k l = ArePlaces (picture l.image) l.places.items × (l.regions.items ≡ regions_in (picture l.image) l.i)

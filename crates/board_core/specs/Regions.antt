@@ -1,0 +1,16 @@
+-- The regions of an image that are no device, by base and size.
+use Rattle.std.specs.Prelude.{ℕ, ◌≡◌, false, List, Contains}
+use Rattle.region_check.specs.declared.Region.{Region}
+use Rattle.image_format.specs.Picture.{Picture, regions_in}
+
+-- this is the place of such a region
+pub record IsPlace (p : Picture) (x : ℕ × ℕ) : Type 0 where
+  pub task : ℕ
+  pub region : Region
+  pub has : Contains (regions_in p task) region
+  pub no_device : region.rights.device ≡ false
+  pub base : x.0 ≡ region.base
+  pub size : x.1 ≡ region.size
+
+abbrev pub ArePlaces : Picture → List (ℕ × ℕ) → Type 0
+ArePlaces p xs = (x : ℕ × ℕ) → Contains xs x → IsPlace p x
