@@ -97,5 +97,7 @@ instructions() {
     awk -v what="$what" -v n=$((many - few)) -v most="$most" 'BEGIN { printf "%-28s %7.1f host instructions a turn, at most %d\n", what, n / 1e6, most; exit n / 1e6 > most }' || short=1
 }
 for image in $compiled; do instructions "$image" 100 "out/$image.img" out/empty.txt; done
-instructions "32 tasks with timers" 720 out/timers.img timers/script.txt
+instructions "32 tasks with timers" 600 out/timers.img timers/script.txt
+instructions "16 clients, 4 servers" 400 out/messages.img out/empty.txt
+instructions "8 lenders, 1 server" 370 out/leases.img out/empty.txt
 exit $short
