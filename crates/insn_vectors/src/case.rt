@@ -203,7 +203,7 @@ fn read_fields(line: &str) -> Option<Fields<'_>> {
 }
 
 /// The case that a line is.
-pub fn read(alloc: Global, line: &str) -> Result<Option<Case>, AllocError> {
+pub(crate) fn read(alloc: Global, line: &str) -> Result<Option<Case>, AllocError> {
     let Some(fields) = read_fields(line) else {
         return Ok(None);
     };
