@@ -11,7 +11,7 @@ use Rattle.board_core.specs.Texts.{GivesText, IsText}
 use Rattle.task_table.specs.State.{Setup, Turn}
 use Rattle.task_table.specs.Holds.{current_of, note_count}
 use Rattle.board_core.specs.declared.machine.Machine.{Machine}
-use Rattle.board_core.specs.declared.machine.Reach.{Reach}
+use Rattle.board_core.specs.declared.reach.Reach.{Reach}
 use Rattle.board_model.specs.declared.told.Level.TheVariants.{Calls}
 use Rattle.board_core.specs.Did.{Did}
 use Rattle.board_model.specs.Turn.{decoded_as, acted, is_text}

@@ -18,7 +18,7 @@ use Rattle.task_table.proofs.Changes.{task_at-with_task}
 use Rattle.board_model.specs.Turn.{refusals, cpu_of, bytes_of, put, acted, with_current}
 use Rattle.board_core.specs.Machine.{with_cpu, IsLoaded, HoldsBy, IsReady, MachineStands}
 use Rattle.board_core.specs.declared.machine.Machine.{Machine}
-use Rattle.board_core.specs.declared.machine.Reach.{Reach}
+use Rattle.board_core.specs.declared.reach.Reach.{Reach}
 use Rattle.board_core.proofs.Running.{between, effect_here}
 use Rattle.board_model.proofs.Stepping.{puts_state}
 

@@ -15,7 +15,7 @@ use Rattle.task_table.specs.Holds.{Holds, Stands, setup_of, current_of, memory_o
 use Rattle.task_table.specs.Start.{begun, start}
 use Rattle.task_table.specs.Sane.{Sane}
 use Rattle.task_table.proofs.Steps.{holds_turn}
-use Rattle.board_core.specs.declared.machine.Reach.{Reach}
+use Rattle.board_core.specs.declared.reach.Reach.{Reach}
 use Rattle.board_model.specs.Turn.{refusals, cpu_of, put}
 use Rattle.board_core.specs.Machine.{IsStored}
 use Rattle.board_core.specs.declared.choice.Choice.{Choice}

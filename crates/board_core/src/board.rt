@@ -1,147 +1,45 @@
 //! The board and one turn of it.
-ghost use Rattle.std.specs.Prelude.{ℕ, ◌≡◌, ◌≢◌, ◌<◌, ◌≤◌, ◌+◌, ◌-◌, ◌*◌, ◌&&◌, ◌↔◌, not, [], Option, Some, None, is_none, length, map, true, false, IfOk, IfSome, IsNone, IsSome, slice_get};
-ghost use Rattle.std.specs.Option.{option_map};
+ghost use Rattle.std.specs.Prelude.{ℕ, ◌≡◌, ◌≢◌, ◌<◌, ◌≤◌, ◌+◌, ◌-◌, ◌*◌, ◌&&◌, not, [], Option, Some, None, length, true, false, IfOk};
 ghost use Rattle.image_format.specs.Images.{picture};
-ghost use Rattle.image_format.specs.Picture.{task_in, line_in};
 ghost use Rattle.task_table.specs.State.{Setup, State, Turn};
-ghost use Rattle.mem_banks.specs.Memory.{Memory, byte_at};
-ghost use Rattle.task_table.specs.Reading.{setup_at, chosen};
+ghost use Rattle.mem_banks.specs.Memory.{Memory};
+ghost use Rattle.task_table.specs.Reading.{chosen};
 ghost use Rattle.task_table.specs.Start.{start};
-ghost use Rattle.task_table.specs.Parts.{task_setup, line_setup};
-ghost use Rattle.task_table.specs.declared.Line.{Line};
-ghost use Rattle.task_table.specs.Holds.{Holds as KernelHolds, task_count, current_of};
+ghost use Rattle.task_table.specs.Holds.{current_of};
 ghost use Rattle.task_table.specs.Limits.{call_notes, turn_notes};
 ghost use Rattle.run_script.specs.Events.{script_data};
-ghost use Rattle.run_script.specs.Scripts.{lasts};
 ghost use Rattle.board_model.specs.declared.told.Level.TheVariants.{All, Calls};
 ghost use Rattle.board_model.specs.Script.{Scenario};
 ghost use Rattle.board_model.specs.Turn.{turn, turned, after_events};
 ghost use Rattle.board_model.specs.Lifetimes.{IsGroundedTurn};
 ghost use Rattle.two_runs.specs.Agreement.{AgreesOnReads, IsSameButMemory, rest_of, with_memory};
-ghost use Rattle.board_model.specs.Run.{ending, end_at, end_in};
-ghost use Rattle.board_core.specs.Regions.{ArePlaces};
-ghost use Rattle.board_core.specs.Opened.{scenario_of, setup_of, setup_of_task, setup_of_line};
-ghost use Rattle.board_core.specs.Stands.{Stands, Stood, notes_of, turns_of, count_of};
-ghost use Rattle.board_core.specs.Told.{IsTask, IsView};
-ghost use Rattle.board_core.specs.Machine.{IsStarted, MachineHolds, MachineStands};
+ghost use Rattle.board_core.specs.Opened.{scenario_of, setup_of};
+ghost use Rattle.board_core.specs.Stands.{Stands, Stood, notes_of, turns_of};
+ghost use Rattle.board_core.specs.Machine.{MachineHolds, MachineStands};
 ghost use Rattle.board_core.specs.Kept.{IsChoice, WasChoice};
 ghost use Rattle.board_core.specs.Texts.{IsText};
 ghost use Rattle.board_core.specs.Advanced.{IsAdvanced};
 ghost use Rattle.board_core.specs.Midway.{IsDue, IsMidway};
 
-use crate::TaskView;
 use crate::choice::{Choice, choice_after, choice_of};
 use crate::machine::Machine;
-use board_model::{End, Level, Turned};
+use crate::opening::kernel;
+use board_model::{Level, Turned};
 use image_format::Image;
 use kernel_abi::Note;
 use region_check::Region;
 use run_script::Script;
 use std::alloc::{AllocError, Global};
-use task_table::{Kernel, LineStart, Memory, TaskStart};
 
 /// A board with an image and a script: what its kernel keeps, how many turns it made, the choice of the
 /// task that runs next, and the turn in which something happens next.
 #[derive(Drop)]
 pub struct Board {
-    machine: Machine,
-    turns: u32,
-    choice: Choice,
-    script: Script,
+    pub(crate) machine: Machine,
+    pub(crate) turns: u32,
+    pub(crate) choice: Choice,
+    pub(crate) script: Script,
     due: Option<u32>,
-}
-
-/// What the image says of a task.
-fn task_start(alloc: Global, image: &Image, i: usize) -> Result<TaskStart, AllocError>
-    requires { i < length (picture image.now).tasks }
-    ensures { IfOk result (λ t. task_setup t ≡ setup_of_task (task_in (picture image.now) i)) }
-{
-    Ok(TaskStart {
-        priority: image.priority(i),
-        started: image.is_started(i),
-        entry: image.entry(i),
-        sp: image.sp(i),
-        regions: image.regions(alloc, i)?,
-    })
-}
-
-/// What the image says of each task.
-fn task_starts(alloc: Global, image: &Image) -> Result<Vec<TaskStart>, AllocError>
-    ensures { IfOk result (λ v. map task_setup v.items ≡ map setup_of_task (picture image.now).tasks) }
-{
-    let mut tasks = Vec::new(alloc);
-    for i in 0..image.task_count() {
-        tasks.push(task_start(alloc, image, i)?)?;
-    }
-    Ok(tasks)
-}
-
-/// What the image says of an interrupt line.
-fn line_start(image: &Image, k: usize) -> LineStart
-    requires { k < length (picture image.now).lines }
-    ensures { line_setup result ≡ setup_of_line (line_in (picture image.now) k) }
-{
-    LineStart {
-        line: image.line(k),
-        task: u16::from(image.line_task(k)),
-        bits: image.line_bits(k),
-    }
-}
-
-/// What the image says of each interrupt line.
-fn line_starts(alloc: Global, image: &Image) -> Result<Vec<LineStart>, AllocError>
-    ensures { IfOk result (λ v. map line_setup v.items ≡ map setup_of_line (picture image.now).lines) }
-{
-    let mut lines = Vec::new(alloc);
-    for k in 0..image.line_count() {
-        lines.push(line_start(image, k))?;
-    }
-    Ok(lines)
-}
-
-/// Adds the places of the i-th task's regions that are no device.
-fn push_places(
-    alloc: Global,
-    image: &Image,
-    i: usize,
-    places: &mut Vec<(u32, u32)>,
-) -> Result<(), AllocError>
-    requires task { i < length (picture image.now).tasks }
-    requires places { ArePlaces (picture image.now) places.old.items }
-    ensures { IfOk result (λ _. ArePlaces (picture image.now) places.new.items) }
-{
-    let regions = image.regions(alloc, i)?;
-    for k in 0..regions.len() {
-        let region = regions[k];
-        if !region.rights.device {
-            places.push((region.base, region.size))?;
-        }
-    }
-    Ok(())
-}
-
-/// The places of all regions that are no device, by base and size in bytes.
-fn places(alloc: Global, image: &Image) -> Result<Vec<(u32, u32)>, AllocError>
-    ensures { IfOk result (λ v. ArePlaces (picture image.now) v.items) }
-{
-    let mut places = Vec::new(alloc);
-    for i in 0..image.task_count() {
-        push_places(alloc, image, i, &mut places)?;
-    }
-    Ok(places)
-}
-
-/// The kernel at the start of a run of an image.
-fn kernel(alloc: Global, image: &Image) -> Result<Kernel, AllocError>
-    ensures { IfOk result (λ k. IsStarted (setup_of (picture image.now)) k) }
-{
-    image.facts();
-    let flash = image.flash();
-    let places = places(alloc, image)?;
-    let memory = Memory::open(alloc, flash, image.ram(), &places)?;
-    let tasks = task_starts(alloc, image)?;
-    let lines = line_starts(alloc, image)?;
-    Kernel::start(alloc, memory, image.fault_bits(), &tasks, &lines)
 }
 
 impl Board {
@@ -407,103 +305,6 @@ impl Board {
     }
 }
 
-impl Board {
-    /// Whether the run ends here, its bound aside: the supervisor has faulted, or no task is ready and
-    /// nothing more comes from outside.
-    pub fn ended(&self) -> Option<End>
-        requires { Stood self.now }
-        ensures end { (x : Scenario) (s : State) → Stands x self.now s → result ≡ end_at x s }
-        ensures before { (x : Scenario) (s : State) (left : ℕ) → Stands x self.now s → 0 < left → result ≡ ending x left s }
-    {
-        end_by(self.choice.down, self.is_still())
-    }
-
-    /// No task is chosen, and nothing more comes from outside.
-    fn is_still(&self) -> bool
-        ensures { result ≡ (is_none self.now.choice.next && not (lasts (script_data self.now.script) self.now.turns)) }
-    {
-        self.choice.next.is_none() && !self.script.lasts(self.turns)
-    }
-
-    /// How many turns were made; the turn number of each state that the board stands for.
-    pub fn turns(&self) -> u32
-        ensures { result ≡ turns_of self.now }
-    {
-        self.turns
-    }
-
-    /// The time in ticks.
-    pub fn now(&self) -> u64
-        ensures { (x : Scenario) (s : State) → Stands x self.now s → result ≡ s.now }
-    {
-        self.machine.reach.kernel.now()
-    }
-
-    /// The index of the task that ran last; 0 at the start.
-    pub fn current(&self) -> usize
-        ensures { (x : Scenario) (s : State) → Stands x self.now s → result ≡ s.current }
-    {
-        self.machine.reach.kernel.current()
-    }
-
-    /// The number of the next call.
-    pub fn next_call(&self) -> u32
-        ensures { (x : Scenario) (s : State) → Stands x self.now s → result ≡ s.next_call }
-    {
-        self.machine.reach.kernel.next_call()
-    }
-
-    /// How many tasks there are.
-    pub fn task_count(&self) -> usize
-        ensures count { result ≡ count_of self.now }
-        ensures tasks { (x : Scenario) (s : State) → Stands x self.now s → result ≡ length s.tasks }
-    {
-        self.machine.reach.kernel.task_count()
-    }
-
-    /// A task, or None past the last one.
-    pub fn task(&self, i: usize) -> Option<TaskView>
-        ensures there { IsSome result ↔ (i < count_of self.now) }
-        ensures view { (x : Scenario) (s : State) → Stands x self.now s → IsView s i result }
-    {
-        if i >= self.machine.reach.kernel.task_count() {
-            return None;
-        }
-        Some(view(&self.machine, i))
-    }
-
-    /// The byte at an address of the flash or of the RAM.
-    pub fn byte(&self, addr: u32) -> Option<u8>
-        ensures { (x : Scenario) (s : State) → Stands x self.now s → result ≡ byte_at s.memory addr }
-    {
-        self.machine.reach.kernel.byte(addr)
-    }
-
-    /// How an interrupt line is: enabled, pending. None past the last one.
-    pub fn irq_line(&self, k: usize) -> Option<(bool, bool)>
-        ensures { (x : Scenario) (s : State) → Stands x self.now s → result ≡ option_map (λ l. (l.enabled, l.pending)) (slice_get s.lines k) }
-    {
-        match self.machine.reach.kernel.line(k) {
-            Some(line) => Some((line.enabled, line.pending)),
-            None => None,
-        }
-    }
-
-    /// The regions of a task; none where there is no such task.
-    pub fn regions(&self, i: usize) -> &[Region]
-        ensures { (x : Scenario) (s : State) → Stands x self.now s → result.now ≡ (setup_at x.setup i).regions }
-    {
-        self.machine.reach.kernel.regions(i)
-    }
-
-    /// Region k of a task.
-    pub fn region(&self, i: usize, k: usize) -> Option<Region>
-        ensures { (x : Scenario) (s : State) → Stands x self.now s → result ≡ slice_get (setup_at x.setup i).regions k }
-    {
-        self.machine.reach.kernel.regions(i).get(k).copied()
-    }
-}
-
 /// The turn before which nothing is due, at most the limit.
 fn quiet_until(due: Option<u32>, limit: u32) -> u32
     ensures within { result ≤ limit }
@@ -521,52 +322,4 @@ fn is_due(due: Option<u32>, turn: u32) -> bool
     ensures later { result ≡ false → due ≢ Some turn }
 {
     due == Some(turn)
-}
-
-/// The end by the tests in their order, the bound aside.
-fn end_by(down: bool, still: bool) -> Option<End>
-    ensures { result ≡ end_in down still }
-{
-    if down {
-        Some(End::Supervisor)
-    } else if still {
-        Some(End::Still)
-    } else {
-        None
-    }
-}
-
-/// What a kernel has of a task.
-fn kept(kernel: &Kernel, i: usize) -> TaskView
-    requires { i < task_count kernel.now }
-    ensures { (g : Setup) (t : Turn) → KernelHolds g kernel.now t → IsTask t.state i result }
-{
-    TaskView {
-        generation: kernel.generation(i).number,
-        health: kernel.health(i),
-        registers: kernel.registers(i),
-        flags: kernel.flags(i),
-        posted: kernel.posted_bits(i),
-        timer: match kernel.timer(i) {
-            Some(timer) => Some((timer.deadline, timer.bits)),
-            None => None,
-        },
-        wait: kernel.wait(i),
-    }
-}
-
-/// What a machine tells of a task: the registers and flags of the processor where it has its context.
-fn view(machine: &Machine, i: usize) -> TaskView
-    requires { i < task_count machine.now.reach.kernel }
-    ensures { (g : Setup) (t : Turn) → MachineHolds g machine.now t → IsTask t.state i result }
-{
-    let kept = kept(&machine.reach.kernel, i);
-    if machine.is_loaded_for(i) {
-        return TaskView {
-            registers: machine.processor.regs.words(),
-            flags: machine.processor.flags,
-            ..kept
-        };
-    }
-    kept
 }

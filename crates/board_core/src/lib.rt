@@ -5,6 +5,8 @@ mod board;
 mod calls;
 mod choice;
 mod machine;
+mod opening;
+mod reach;
 mod told;
 
 pub use board::Board;

@@ -1,53 +1,40 @@
 //! The kernel as the bus of its current task, and one instruction of that task.
-ghost use Rattle.std.specs.Prelude.{◌≡◌, ◌≢◌, ◌⊎◌, ◌&&◌, ◌+◌, ◌*◌, ◌≤◌, ◌<◌, ◌%◌, ◌^◌, ◌/◌, ◌∷◌, [], ℕ, Option, Some, true, false, fold, take, drop, slice_get, None, MatchResult};
+ghost use Rattle.std.specs.Prelude.{◌≡◌, ◌≢◌, ◌⊎◌, ◌&&◌, ◌+◌, ◌*◌, ◌≤◌, ◌<◌, ◌^◌, ◌/◌, [], Option, Some, true, false, fold, take, drop, slice_get, None};
 ghost use Rattle.run_script.specs.Events.{script_data};
 ghost use Rattle.run_script.specs.Scripts.{events_of};
-ghost use Rattle.region_check.specs.Rights.{may_use, has_right};
-ghost use Rattle.region_check.specs.declared.Right.TheVariants.{Execute, Read};
-ghost use Rattle.board_core.specs.Spans.{spans, one_gives};
+ghost use Rattle.board_core.specs.Spans.{spans};
 ghost use Rattle.task_table.specs.State.{Setup, Turn};
-ghost use Rattle.task_table.specs.Reading.{is_ready, task_at, setup_at, register};
+ghost use Rattle.task_table.specs.Reading.{is_ready, task_at, register};
 ghost use Rattle.task_table.specs.Start.{begun};
 ghost use Rattle.mem_banks.specs.Memory.{number_at};
 ghost use Rattle.task_table.specs.Effects.{faulted};
 ghost use Rattle.task_table.specs.Rows.{call_noted};
 ghost use Rattle.task_table.specs.Calls.{called};
-ghost use Rattle.task_table.specs.Holds.{Holds, task_count, note_count, memory_of, setup_of, current_of};
+ghost use Rattle.task_table.specs.Holds.{Holds, task_count, note_count, current_of};
 ghost use Rattle.task_table.specs.Limits.{call_notes, turn_notes};
 ghost use Rattle.task_table.specs.Frames.{AddsNotes};
-ghost use Rattle.thumb_insn.specs.Range.{IsCoded, GivesCoded};
+ghost use Rattle.thumb_insn.specs.Range.{IsCoded};
 ghost use Rattle.thumb_insn.specs.Table.{is_wide};
-ghost use Rattle.thumb_exec.specs.Sizes.{IsSize};
-ghost use Rattle.board_model.specs.Turn.{first_lacking, with_current, refusals, is_text, put, told, happened, stepped, stepped_wide, decoded_as, executed, cpu_of, with_registers_told, turn_of, turned_of, happened_next};
+ghost use Rattle.board_model.specs.Turn.{with_current, told, happened, stepped, stepped_wide, executed, cpu_of, with_registers_told, turn_of, turned_of, happened_next};
 ghost use Rattle.board_core.specs.Did.{Did};
-ghost use Rattle.board_core.specs.Machine.{IsStored, IsReady, IsNext, HasNumber, MachineHolds, MachineStands, IsLoaded};
+ghost use Rattle.board_core.specs.Machine.{IsReady, IsNext, HasNumber, MachineHolds, MachineStands, IsLoaded};
 ghost use Rattle.board_core.specs.Texts.{GivesText, IsText};
 ghost use Rattle.board_model.specs.declared.told.Level.TheVariants.{Calls};
 
 use crate::calls::call;
+use crate::reach::{Reach, spans};
 use board_model::{Level, Turned};
 use kernel_abi::{Fault, Note};
-use region_check::{Region, Right, Rights, may};
+use region_check::{Region, Rights};
 use run_script::{Event, Script};
 use task_table::Kernel;
 use thumb_decode::{Taker, decode, narrow_to};
-use thumb_exec::bus::Bus;
 use thumb_exec::cpu::{Cpu, Outcome};
 use thumb_exec::step::{exec, proceed};
 use thumb_insn::{Decoded, Insn};
 use thumb_step::fetch;
 use timer_irq::{interrupt, tick};
 use words_core::{Flags, Regs};
-
-/// The kernel, of whose memory the current task reaches as much as its regions permit.
-#[derive(Drop)]
-pub struct Reach {
-    pub kernel: Kernel,
-
-    /// Which of the current task's regions are asked first. What is right does not hang on it.
-    pub data: usize,
-    pub text: usize,
-}
 
 /// A kernel and a processor. While the context of the current task is loaded, that task's registers
 /// and flags are the processor's; what the kernel has of them is of an earlier time.
@@ -56,163 +43,6 @@ pub struct Machine {
     pub reach: Reach,
     pub processor: Cpu,
     pub loaded: bool,
-}
-
-/// Whether the rights have it.
-fn grants(rights: &Rights, right: Right) -> bool
-    ensures { result ≡ has_right rights.now right }
-{
-    match right {
-        Right::Read => rights.read,
-        Right::Write => rights.write,
-        Right::Execute => rights.execute,
-    }
-}
-
-/// Whether a region has all of n bytes.
-fn spans(region: &Region, addr: u32, n: u32) -> bool
-    ensures { result ≡ spans region.now addr n }
-{
-    let end = u64::from(addr) + u64::from(n);
-    region.base <= addr && end <= u64::from(region.base) + u64::from(region.size)
-}
-
-/// Whether one region gives all of n bytes.
-fn one_gives(regions: &[Region], addr: u32, n: u32, right: Right) -> bool
-    ensures { result ≡ one_gives right addr n regions.now }
-{
-    regions
-        .iter()
-        .any(|r| spans(r, addr, n) && grants(&r.rights, right))
-}
-
-/// The first of n bytes at which no region grants the right.
-fn first_lacking(regions: &[Region], addr: u32, n: u32, right: Right) -> Option<u32>
-    requires { addr + n ≤ 2 ^ 32 }
-    ensures { result ≡ first_lacking (may_use regions.now) addr n right }
-{
-    if one_gives(regions, addr, n, right) {
-        return None;
-    }
-    for k in 0..n {
-        if !may(regions, addr + k, right) {
-            return Some(addr + k);
-        }
-    }
-    None
-}
-
-/// The bytes of a word, the lowest first.
-fn bytes(value: u32) -> [u8; 4]
-    ensures { result ≡ value % 256 ∷ value / 2 ^ 8 % 256 ∷ value / 2 ^ 16 % 256 ∷ value / 2 ^ 24 % 256 ∷ [] }
-{
-    [
-        (value % 256) as u8,
-        (value / 0x100 % 256) as u8,
-        (value / 0x1_0000 % 256) as u8,
-        (value / 0x100_0000 % 256) as u8,
-    ]
-}
-
-/// Writes the low n bytes of a value where they lie in the RAM; elsewhere a store changes nothing.
-fn write(kernel: &mut Kernel, addr: u32, n: u32, value: u32)
-    requires { IsSize n }
-    ensures { IsStored kernel.old addr n value kernel.new }
-{
-    let bytes = bytes(value);
-    if kernel.is_ram(addr, n) {
-        kernel.store(addr, &bytes[..n as usize]);
-    }
-}
-
-impl Reach {
-    /// Whether this one region of the current task gives the right to all of n bytes.
-    #[inline(always)]
-    fn region_gives(&self, k: usize, addr: u32, n: u32, right: Right) -> bool
-        ensures { result ≡ true → one_gives right addr n (setup_at (setup_of self.now.kernel) (current_of self.now.kernel)).regions ≡ true }
-    {
-        match self.kernel.regions(self.kernel.current()).get(k) {
-            Some(r) => spans(r, addr, n) && grants(&r.rights, right),
-            None => false,
-        }
-    }
-
-    /// The first of n bytes that lacks the right.
-    #[inline(never)]
-    fn lacks(&self, addr: u32, n: u32, right: Right) -> Option<u32>
-        requires { addr + n ≤ 2 ^ 32 }
-        ensures { result ≡ refusals (setup_of self.now.kernel) (current_of self.now.kernel) addr n right }
-    {
-        first_lacking(self.kernel.regions(self.kernel.current()), addr, n, right)
-    }
-}
-
-impl Reach {
-    /// A load from elsewhere than the region that is asked first.
-    #[inline(never)]
-    fn load_beyond(&self, addr: u32, n: u32) -> Result<u32, u32>
-        requires size { IsSize n }
-        requires end { addr + n ≤ 2 ^ 32 }
-        ensures { MatchResult result (λ value. (refusals (setup_of self.now.kernel) (current_of self.now.kernel) addr n Read ≡ None) × (value ≡ number_at (memory_of self.now.kernel) addr n)) (λ at. refusals (setup_of self.now.kernel) (current_of self.now.kernel) addr n Read ≡ Some at) }
-    {
-        if self.region_gives(self.text, addr, n, Right::Read) {
-            return Ok(self.kernel.number(addr, n));
-        }
-        match self.lacks(addr, n, Right::Read) {
-            Some(at) => Err(at),
-            None => Ok(self.kernel.number(addr, n)),
-        }
-    }
-}
-
-impl Bus for Reach {
-    ghost refuses = { λ m a n r. refusals (setup_of m.kernel) (current_of m.kernel) a n r };
-
-    ghost holds = { λ m a n. number_at (memory_of m.kernel) a n };
-
-    ghost stored = { λ m a n v m'. IsStored m.kernel a n v m'.kernel };
-
-    #[inline(always)]
-    fn allows(&self, addr: u32, n: u32, right: Right) -> Option<u32> {
-        if self.region_gives(self.data, addr, n, right) {
-            return None;
-        }
-        self.lacks(addr, n, right)
-    }
-
-    fn fetch(&self, addr: u32) -> Result<u16, u32> {
-        match self.lacks(addr, 2, Right::Execute) {
-            Some(at) => Err(at),
-            None => Ok(self.kernel.half(addr)),
-        }
-    }
-
-    #[inline(always)]
-    fn load(&self, addr: u32, n: u32) -> Result<u32, u32> {
-        if self.region_gives(self.data, addr, n, Right::Read) {
-            return Ok(self.kernel.number(addr, n));
-        }
-        self.load_beyond(addr, n)
-    }
-
-    #[inline(always)]
-    fn store(&mut self, addr: u32, n: u32, value: u32) -> Result<(), u32> {
-        match self.allows(addr, n, Right::Write) {
-            Some(at) => Err(at),
-            None => {
-                write(&mut self.kernel, addr, n, value);
-                Ok(())
-            }
-        }
-    }
-
-    #[inline(always)]
-    fn gives(&self, addr: u32, count: u32, right: Right) -> bool {
-        if 4 * count > 0xFFFF_FFFF - addr {
-            return false;
-        }
-        self.region_gives(self.data, addr, 4 * count, right)
-    }
 }
 
 /// The processor of a task.

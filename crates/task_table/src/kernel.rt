@@ -13,7 +13,7 @@ use crate::readiness::{ready_after, ready_tasks};
 use crate::slot::{Found, Slot, Wait};
 use crate::start::{LineStart, TaskStart, birth_slot, copies_of, first_slots};
 use arrayvec::ArrayVec;
-use kernel_abi::{Ending, Fault, Generation, Health, Note, TaskId, Timer, Usage};
+use kernel_abi::{Generation, Health, Note, TaskId, Timer};
 use mem_banks::Memory;
 use region_check::Region;
 use std::alloc::{AllocError, Global};
@@ -44,21 +44,17 @@ pub struct Kernel {
 
 impl Kernel {
     ghost use Rattle.std.specs.Prelude.{◌≡◌, ◌+◌, ◌-◌, ◌%◌, ◌<◌, ◌≤◌, ◌^◌, ◌⊎◌, ℕ, length, map, replicate, Option, IfOk, slice_get};
-    ghost use Rattle.kernel_abi.specs.Faults.{usage_number};
-    ghost use Rattle.kernel_abi.specs.declared.Health.TheVariants.{Faulted};
     ghost use Rattle.task_table.specs.State.{Setup, State, Turn, Ground, Own};
     ghost use Rattle.mem_banks.specs.Memory.{is_ram, byte_at, number_at, IsWithin, IsWithinRam};
     ghost use Rattle.task_table.specs.Readiness.{readiness};
     ghost use Rattle.task_table.specs.Reading.{task_at, setup_at, register, arguments, priority, is_ready, call_of, listen_of, IsSameBut};
-    ghost use Rattle.task_table.specs.Effects.{changed, noted, clocked, with_line, with_processor, with_health, without_listen, stored, copied, closed, faulted_as, faulted, reborn, is_to, awaits};
-    ghost use Rattle.task_table.specs.Rows.{misused, panicked, call_noted};
+    ghost use Rattle.task_table.specs.Effects.{changed, noted, clocked, with_line, with_processor, stored, copied, reborn};
     ghost use Rattle.task_table.specs.Start.{start as started_at, begun};
     ghost use Rattle.task_table.specs.Parts.{setup_of_parts, line_setup, IsSound};
     ghost use Rattle.task_table.specs.Holds.{Holds, Stands, IsKept, wait_of, task_count, note_count, clock_of, next_call_of, memory_of, setup_of, current_of, notes_of};
     ghost use Rattle.task_table.specs.Found.{IsFound, IsInRange};
-    ghost use Rattle.task_table.specs.Waits.{AreFew};
     ghost use Rattle.task_table.specs.Limits.{most_tasks, board_lines, turn_notes};
-    ghost use Rattle.task_table.specs.Frames.{AddsNotes, AddsAtMost};
+    ghost use Rattle.task_table.specs.Frames.{AddsNotes};
 
     /// The kernel at the start of a run, of one task at least: each task as at its first birth, and the
     /// memory as it is handed in, with zeros in the RAM. The order of the tasks gives their indices.
@@ -410,66 +406,6 @@ impl Kernel {
         self.set_slot(task, slot);
     }
 
-    /// A task is so from now on.
-    fn set_health(&mut self, task: usize, health: Health)
-        requires { task < task_count self.old }
-        ensures holds { (g : Setup) (t : Turn) → Holds g self.old t → Holds g self.new (with_health task health t) }
-        ensures frame { AddsNotes self.old 0 self.new }
-    {
-        let mut slot = self.slot(task);
-        slot.health = health;
-        self.set_slot(task, slot);
-    }
-
-    /// Drops the listen of a task, if it has one.
-    pub fn stop_listening(&mut self, task: usize)
-        requires { task < task_count self.old }
-        ensures holds { (g : Setup) (t : Turn) → Holds g self.old t → Holds g self.new (changed (without_listen task) t) }
-        ensures frame { AddsNotes self.old 0 self.new }
-    {
-        let mut slot = self.slot(task);
-        if slot.wait.listen().is_some() {
-            slot.wait = Wait::Nothing;
-            self.set_slot(task, slot);
-        }
-    }
-
-    /// Closes the call of a client, if it has one.
-    pub fn close(&mut self, client: usize, ending: Ending)
-        requires there { client < task_count self.old }
-        requires room { note_count self.old < turn_notes }
-        ensures holds { (g : Setup) (t : Turn) → Holds g self.old t → Holds g self.new (closed client ending t) }
-        ensures frame { AddsAtMost self.old 1 self.new }
-    {
-        let mut slot = self.slot(client);
-        if let Some(call) = slot.wait.call() {
-            slot.wait = Wait::Nothing;
-            self.set_slot(client, slot);
-            self.note(Note::Close {
-                call: call.number,
-                ending,
-            });
-        }
-    }
-
-    /// Whether another task waits for the end of a call to a task.
-    pub fn calls_to(&self, other: usize, task: usize) -> bool
-        requires { other < task_count self.now }
-        ensures { (g : Setup) (t : Turn) → Holds g self.now t → AreFew t.state → result ≡ is_to task (call_of t.state other) }
-    {
-        let slot = self.slot(other);
-        slot.wait.is_to(task)
-    }
-
-    /// Whether another task listens for a message of a task alone.
-    pub fn awaits(&self, other: usize, task: usize) -> bool
-        requires { other < task_count self.now }
-        ensures { (g : Setup) (t : Turn) → Holds g self.now t → AreFew t.state → result ≡ awaits task (listen_of t.state other) }
-    {
-        let slot = self.slot(other);
-        slot.wait.awaits(task)
-    }
-
     /// A task is born again: its generation goes up by one, modulo 64, and its registers and flags, its
     /// posted bits and its timer are as at its first birth. It is well where it is started, else
     /// stopped, and waits as before (Hubris Reference, on supervision).
@@ -485,80 +421,6 @@ impl Kernel {
         let mut slot = birth_slot(&self.tasks[task], generation, start);
         slot.wait = before.wait;
         self.set_slot(task, slot);
-    }
-
-    /// A task faults, and its call is closed as told.
-    pub(crate) fn fault_as(&mut self, task: usize, fault: Fault, ending: Ending)
-        requires there { task < task_count self.old }
-        requires room { note_count self.old + 4 ≤ turn_notes }
-        ensures holds { (g : Setup) (t : Turn) → Holds g self.old t → Holds g self.new (faulted_as g task fault ending t) }
-        ensures frame { AddsAtMost self.old 4 self.new }
-    {
-        self.set_health(task, Health::Faulted(fault));
-        self.stop_listening(task);
-        self.note(Note::Fault {
-            task: task as u16,
-            fault,
-        });
-        self.close(task, ending);
-        if task != 0 {
-            self.post(0, self.fault_bits);
-        }
-    }
-
-    /// A task faults: it is Faulted, its listen is dropped, the call of which it is the client is
-    /// closed, and the supervisor, which is task 0, is posted its fault bits. Calls of which the task
-    /// is the server go on waiting. A fault of the supervisor itself posts nothing (Hubris Reference,
-    /// on supervision).
-    pub fn fault(&mut self, task: usize, fault: Fault)
-        requires there { task < task_count self.old }
-        requires room { note_count self.old + 4 ≤ turn_notes }
-        requires from_one { 1 ≤ fault.number }
-        requires to_ten { fault.number ≤ 10 }
-        ensures holds { (g : Setup) (t : Turn) → Holds g self.old t → Holds g self.new (faulted g task fault t) }
-        ensures stands { (g : Setup) (t : Turn) → Stands g self.old t → Stands g self.new (faulted g task fault t) }
-        ensures frame { AddsAtMost self.old 4 self.new }
-    {
-        self.fault_as(task, fault, Ending::Client);
-    }
-
-    /// A task faults since it misused a system call.
-    pub fn misuse(&mut self, task: usize, usage: Usage)
-        requires there { task < task_count self.old }
-        requires room { note_count self.old + 4 ≤ turn_notes }
-        ensures holds { (g : Setup) (t : Turn) → Holds g self.old t → Holds g self.new (misused g task (usage_number usage) t) }
-        ensures stands { (g : Setup) (t : Turn) → Stands g self.old t → Stands g self.new (misused g task (usage_number usage) t) }
-        ensures frame { AddsAtMost self.old 4 self.new }
-    {
-        self.fault(task, Fault::usage(usage));
-    }
-
-    /// Notes the system call that a task makes by its registers: the number in r11, the arguments in
-    /// r4 to r10.
-    pub fn note_call(&mut self, task: usize)
-        requires there { task < task_count self.old }
-        requires room { note_count self.old < turn_notes }
-        ensures holds { (g : Setup) (t : Turn) → Holds g self.old t → Holds g self.new (call_noted task t) }
-        ensures frame { AddsNotes self.old 1 self.new }
-    {
-        let slot = self.slot(task);
-        self.note(Note::Call {
-            task: task as u16,
-            number: slot.registers[11],
-            arguments: arguments_in(&slot.registers),
-        });
-    }
-
-    /// PANIC: the caller faults, and its r4 and r5 are told (Hubris Reference, on PANIC).
-    pub fn panic(&mut self, caller: usize)
-        requires there { caller < task_count self.old }
-        requires room { note_count self.old + 4 ≤ turn_notes }
-        ensures stands { (g : Setup) (t : Turn) → Stands g self.old t → Stands g self.new (panicked g caller t) }
-        ensures frame { AddsAtMost self.old 4 self.new }
-    {
-        let r4 = self.register(caller, 4);
-        let r5 = self.register(caller, 5);
-        self.fault(caller, Fault::panic(r4, r5));
     }
 
     /// The number that the two bytes from an address on spell, the lowest first. Where there is no
@@ -607,13 +469,4 @@ fn words_in(registers: &[u32; 16]) -> [u32; 8]
     let mut words = [0; 8];
     words.copy_from_slice(&registers[4..12]);
     words
-}
-
-/// The registers r4 to r10.
-fn arguments_in(registers: &[u32; 16]) -> [u32; 7]
-    ensures { result ≡ slice_range registers.now 4 11 }
-{
-    let mut arguments = [0; 7];
-    arguments.copy_from_slice(&registers[4..11]);
-    arguments
 }

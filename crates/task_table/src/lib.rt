@@ -3,6 +3,7 @@
 
 pub mod dead_ids;
 mod effect;
+mod fault;
 mod kernel;
 pub mod laws;
 pub mod limits;

@@ -1,6 +1,4 @@
-use Rattle.std.proofs.Common.{◌≡◌, ap}
 use Rattle.std.proofs.lemmas.Bool.{ne_eqb, eq-eqb}
-use Rattle.task_table.specs.State.{Setup}
 use Rattle.task_table.specs.Effects.{faulted_as}
 use Rattle.task_table.proofs.kernel.Kernel.fault_as.Goals as goal
 
@@ -11,8 +9,7 @@ returns-then-task-ne0-clause-holds c = λ g t h.
     let h2 = c.stop_listening.ensures.holds g _ h1 in
     let h3 = c.note.ensures.holds g _ h2 in
     let h4 = c.close.ensures.holds g _ h3 in
-    let bits : c.close.new.self.fault_bits ≡ g.fault_bits = ap (λ (x : Setup). x.fault_bits) h4.setup in
-    rw (ne_eqb _ _ c.if-task-ne0.true) (rw bits at (c.post.ensures.holds g _ h4))
+    rw (ne_eqb _ _ c.if-task-ne0.true) (rw (c.fault_bits.ensures g _ h4) at (c.post.ensures.holds g _ h4))
 
 pub returns-else-task-ne0-clause-holds : goal.returns-else-task-ne0-clause-holds
 unfolding faulted_as

@@ -2,7 +2,7 @@ use Rattle.std.proofs.Common.{◌≡◌, ◌+◌, ◌*◌, ◌%◌, ◌^◌, ℕ
 use Rattle.task_table.specs.Holds.{setup_of, current_of}
 use Rattle.board_model.specs.Turn.{refusals}
 use Rattle.board_core.proofs.Spanning.{given_none}
-use Rattle.board_core.proofs.machine.ReachBus.gives.Goals as goal
+use Rattle.board_core.proofs.reach.ReachBus.gives.Goals as goal
 
 pub returns : goal.returns
 returns c = λ yes k lt.

@@ -2,7 +2,7 @@ use Rattle.std.proofs.Common.{◌≡◌, map, take}
 use Rattle.image_format.specs.Images.{picture}
 use Rattle.task_table.specs.Parts.{task_setup}
 use Rattle.board_core.specs.Opened.{setup_of_task}
-use Rattle.board_core.proofs.board.task_starts.Given as goal
+use Rattle.board_core.proofs.opening.task_starts.Given as goal
 
 -- the tasks so far
 abbrev pub invariant-loop-i : goal.invariant-loop-i

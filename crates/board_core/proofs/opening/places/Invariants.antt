@@ -1,6 +1,6 @@
 use Rattle.image_format.specs.Images.{picture}
 use Rattle.board_core.specs.Regions.{ArePlaces}
-use Rattle.board_core.proofs.board.places.Given as goal
+use Rattle.board_core.proofs.opening.places.Given as goal
 
 -- the places so far
 abbrev pub invariant-loop-i : goal.invariant-loop-i

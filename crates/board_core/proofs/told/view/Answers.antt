@@ -2,7 +2,7 @@ use Rattle.std.proofs.Common.{List, ℕ, sym, subst}
 use Rattle.board_core.specs.Told.{IsTask}
 use Rattle.board_core.proofs.Loading.{is_loaded}
 use Rattle.board_core.proofs.Views.{own_view, other_view}
-use Rattle.board_core.proofs.board.view.Goals as goal
+use Rattle.board_core.proofs.told.view.Goals as goal
 
 pub returns-then-is_loaded_for : goal.returns-then-is_loaded_for
 returns-then-is_loaded_for c = λ g t h0.

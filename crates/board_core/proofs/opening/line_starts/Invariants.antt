@@ -2,7 +2,7 @@ use Rattle.std.proofs.Common.{◌≡◌, map, take}
 use Rattle.image_format.specs.Images.{picture}
 use Rattle.task_table.specs.Parts.{line_setup}
 use Rattle.board_core.specs.Opened.{setup_of_line}
-use Rattle.board_core.proofs.board.line_starts.Given as goal
+use Rattle.board_core.proofs.opening.line_starts.Given as goal
 
 -- the lines so far
 abbrev pub invariant-loop-k : goal.invariant-loop-k

@@ -2,8 +2,8 @@ use Rattle.std.proofs.Common.{◌≡◌, Bool, true, false, not, arith, ap, refl
 use Rattle.std.proofs.lemmas.Bool.{false≢true}
 use Rattle.image_format.specs.Images.{picture}
 use Rattle.board_core.proofs.Opens.{places_step}
-use Rattle.board_core.proofs.board.push_places.Goals.{then-not-region+in_ok-push, else-not-region}
-use Rattle.board_core.proofs.board.push_places.Goals as goal
+use Rattle.board_core.proofs.opening.push_places.Goals.{then-not-region+in_ok-push, else-not-region}
+use Rattle.board_core.proofs.opening.push_places.Goals as goal
 
 is_false : (b : Bool) → not b ≡ true → b ≡ false
 is_false true e = absurd (false≢true e)

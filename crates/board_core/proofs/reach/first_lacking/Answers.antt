@@ -2,7 +2,7 @@ use Rattle.std.proofs.Common.{◌+◌, ℕ, Bool, not, ap, sym, ◌∙◌, arith
 use Rattle.region_check.specs.Rights.{may_use}
 use Rattle.region_check.proofs.FirstBad.{find_range_some, find_range_none}
 use Rattle.board_core.proofs.Spanning.{each_given}
-use Rattle.board_core.proofs.machine.first_lacking.Goals as goal
+use Rattle.board_core.proofs.reach.first_lacking.Goals as goal
 
 pub returns-then-not-may : goal.returns-then-not-may
 returns-then-not-may c =

@@ -2,7 +2,7 @@ use Rattle.std.proofs.Common.{◌≡◌}
 use Rattle.image_format.specs.Images.{picture}
 use Rattle.image_format.specs.Picture.{regions_in}
 use Rattle.board_core.specs.Regions.{ArePlaces}
-use Rattle.board_core.proofs.board.push_places.Given as goal
+use Rattle.board_core.proofs.opening.push_places.Given as goal
 
 -- the places so far
 abbrev pub invariant-loop-k : goal.invariant-loop-k

@@ -1,6 +1,6 @@
 use Rattle.std.proofs.Common.{◌≡◌, ap, arith, sym, ◌∙◌, true}
 use Rattle.mem_banks.specs.Memory.{Memory, is_ram}
-use Rattle.board_core.proofs.machine.write.Goals as goal
+use Rattle.board_core.proofs.reach.write.Goals as goal
 
 pub returns-then-is_ram : goal.returns-then-is_ram
 returns-then-is_ram c = record {

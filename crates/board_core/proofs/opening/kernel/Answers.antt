@@ -9,7 +9,7 @@ use Rattle.task_table.specs.Holds.{Stands}
 use Rattle.board_core.specs.Machine.{IsStarted}
 use Rattle.mem_banks.specs.Memory.{AreRegions}
 use Rattle.board_core.proofs.Opens.{parts_are, sound_setup, places_are, few_lines}
-use Rattle.board_core.proofs.board.kernel.Goals as goal
+use Rattle.board_core.proofs.opening.kernel.Goals as goal
 
 started : {E : Type 0} (g g' : Setup) (r : Result Kernel E) → g ≡ g' → IfOk r (λ k. Stands g k (begun (start g))) → IfOk r (IsStarted g')
 started g g' (Ok k) same h = let P : Setup → Type 0 = λ x. Stands x k (begun (start x)) in record { stands = subst P same h }

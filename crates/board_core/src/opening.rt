@@ -1,0 +1,108 @@
+//! The kernel at the start of a run of an image.
+ghost use Rattle.std.specs.Prelude.{◌≡◌, ◌<◌, ◌-◌, length, map, IfOk};
+ghost use Rattle.image_format.specs.Images.{picture};
+ghost use Rattle.image_format.specs.Picture.{task_in, line_in};
+ghost use Rattle.mem_banks.specs.Memory.{Memory};
+ghost use Rattle.task_table.specs.Start.{start};
+ghost use Rattle.task_table.specs.Parts.{task_setup, line_setup};
+ghost use Rattle.task_table.specs.Holds.{task_count};
+ghost use Rattle.board_core.specs.Regions.{ArePlaces};
+ghost use Rattle.board_core.specs.Opened.{setup_of, setup_of_task, setup_of_line};
+ghost use Rattle.board_core.specs.Machine.{IsStarted};
+
+use image_format::Image;
+use std::alloc::{AllocError, Global};
+use task_table::{Kernel, LineStart, Memory, TaskStart};
+
+/// What the image says of a task.
+fn task_start(alloc: Global, image: &Image, i: usize) -> Result<TaskStart, AllocError>
+    requires { i < length (picture image.now).tasks }
+    ensures { IfOk result (λ t. task_setup t ≡ setup_of_task (task_in (picture image.now) i)) }
+{
+    Ok(TaskStart {
+        priority: image.priority(i),
+        started: image.is_started(i),
+        entry: image.entry(i),
+        sp: image.sp(i),
+        regions: image.regions(alloc, i)?,
+    })
+}
+
+/// What the image says of each task.
+fn task_starts(alloc: Global, image: &Image) -> Result<Vec<TaskStart>, AllocError>
+    ensures { IfOk result (λ v. map task_setup v.items ≡ map setup_of_task (picture image.now).tasks) }
+{
+    let mut tasks = Vec::new(alloc);
+    for i in 0..image.task_count() {
+        tasks.push(task_start(alloc, image, i)?)?;
+    }
+    Ok(tasks)
+}
+
+/// What the image says of an interrupt line.
+fn line_start(image: &Image, k: usize) -> LineStart
+    requires { k < length (picture image.now).lines }
+    ensures { line_setup result ≡ setup_of_line (line_in (picture image.now) k) }
+{
+    LineStart {
+        line: image.line(k),
+        task: u16::from(image.line_task(k)),
+        bits: image.line_bits(k),
+    }
+}
+
+/// What the image says of each interrupt line.
+fn line_starts(alloc: Global, image: &Image) -> Result<Vec<LineStart>, AllocError>
+    ensures { IfOk result (λ v. map line_setup v.items ≡ map setup_of_line (picture image.now).lines) }
+{
+    let mut lines = Vec::new(alloc);
+    for k in 0..image.line_count() {
+        lines.push(line_start(image, k))?;
+    }
+    Ok(lines)
+}
+
+/// Adds the places of the i-th task's regions that are no device.
+fn push_places(
+    alloc: Global,
+    image: &Image,
+    i: usize,
+    places: &mut Vec<(u32, u32)>,
+) -> Result<(), AllocError>
+    requires task { i < length (picture image.now).tasks }
+    requires places { ArePlaces (picture image.now) places.old.items }
+    ensures { IfOk result (λ _. ArePlaces (picture image.now) places.new.items) }
+{
+    let regions = image.regions(alloc, i)?;
+    for k in 0..regions.len() {
+        let region = regions[k];
+        if !region.rights.device {
+            places.push((region.base, region.size))?;
+        }
+    }
+    Ok(())
+}
+
+/// The places of all regions that are no device, by base and size in bytes.
+fn places(alloc: Global, image: &Image) -> Result<Vec<(u32, u32)>, AllocError>
+    ensures { IfOk result (λ v. ArePlaces (picture image.now) v.items) }
+{
+    let mut places = Vec::new(alloc);
+    for i in 0..image.task_count() {
+        push_places(alloc, image, i, &mut places)?;
+    }
+    Ok(places)
+}
+
+/// The kernel at the start of a run of an image.
+pub fn kernel(alloc: Global, image: &Image) -> Result<Kernel, AllocError>
+    ensures { IfOk result (λ k. IsStarted (setup_of (picture image.now)) k) }
+{
+    image.facts();
+    let flash = image.flash();
+    let places = places(alloc, image)?;
+    let memory = Memory::open(alloc, flash, image.ram(), &places)?;
+    let tasks = task_starts(alloc, image)?;
+    let lines = line_starts(alloc, image)?;
+    Kernel::start(alloc, memory, image.fault_bits(), &tasks, &lines)
+}
