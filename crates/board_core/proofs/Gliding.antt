@@ -1,16 +1,17 @@
 -- Turns on end of the task that runs.
-use Rattle.std.proofs.Common.{◌≡◌, ◌≢◌, ◌<◌, ℕ, suc, Bool, true, false, List, [], Some, None, refl, sym, ◌∙◌, ap, subst, arith, eqb}
+use Rattle.std.proofs.Common.{◌≡◌, ◌≢◌, ◌+◌, ◌<◌, ℕ, suc, Bool, true, false, List, [], Some, None, refl, sym, ◌∙◌, ap, subst, arith, eqb}
 use Rattle.std.proofs.lemmas.Bool.{eqb-true, eqb-false}
-use Rattle.run_script.specs.Scripts.{events_of}
+use Rattle.run_script.specs.Scripts.{IsNext, events_of}
 use Rattle.kernel_abi.specs.declared.Note.{Note}
 use Rattle.task_table.specs.State.{Setup, State, Turn}
 use Rattle.task_table.specs.Reading.{chosen}
-use Rattle.task_table.specs.Holds.{setup_of, current_of}
+use Rattle.task_table.specs.Holds.{setup_of, current_of, notes_of as kernel_notes}
 use Rattle.task_table.specs.Start.{begun}
 use Rattle.board_core.specs.declared.board.Board.{Board}
 use Rattle.board_core.specs.declared.machine.Machine.{Machine}
 use Rattle.board_core.specs.declared.choice.Choice.{Choice}
 use Rattle.board_model.specs.declared.told.Level.{Level}
+use Rattle.board_model.specs.declared.told.Level.TheVariants.{Calls}
 use Rattle.board_model.specs.Script.{Scenario}
 use Rattle.board_core.specs.Kept.{IsChoice}
 use Rattle.board_core.specs.Machine.{MachineHolds, MachineStands, IsReady}
@@ -20,9 +21,10 @@ use Rattle.board_model.specs.Turn.{turn}
 use Rattle.board_model.specs.Run.{ending, is_down, turn_after}
 use Rattle.board_core.specs.Advanced.{IsAdvanced}
 use Rattle.board_model.proofs.TurnChains.{begun_sane}
+use Rattle.board_model.proofs.Counts.{counted_turn, turn_more}
 use Rattle.board_core.proofs.Loading.{told_by, rest_of}
 use Rattle.board_model.proofs.Outside.{nothing_due, due_later, no_event, begun_state}
-use Rattle.board_core.proofs.Turning.{rested}
+use Rattle.board_core.proofs.Turning.{HasTurned, rested, stands_after, choice_kept, few_events}
 
 -- what a machine holds is of its kernel's setup
 pub setup_seen : (g : Setup) (m : Machine) (t : Turn) → MachineHolds g m t → setup_of m.reach.kernel ≡ g
@@ -54,6 +56,25 @@ midway_now x s b st none ne few =
       choice = subst C same st.holds.choice;
       script = st.holds.script;
       due = due_later x.script s.turn b.due st.holds.due later;
+    }
+
+-- the board after a turn in which nothing was due and that noted nothing
+pub stands_so : (x : Scenario) (s : State) (b : Board) (m : Machine) (n : ℕ) → Stands x b s → IsMidway x b s → HasTurned Calls x s m → kernel_notes m.reach.kernel ≡ [] → n ≡ turns_of b + 1 →
+    Stands x record b { machine = m; turns = n } (turn Calls x s).state
+stands_so x s b m n st mid h none more =
+    let after = stands_after Calls x s m st.sane h in
+    let next = turn_more Calls x s st.sane in
+    let N : ℕ → Type 0 = λ from. IsNext x.script from b.due in
+    record {
+      holds = record {
+        machine = after.holds;
+        turns = let a = st.holds.turns in omega (arith, next, a, more);
+        choice = choice_kept Calls x s m b.choice st.sane h mid.choice none;
+        script = mid.script;
+        due = subst N (sym next) mid.due;
+      };
+      sane = after.sane;
+      counted = counted_turn Calls x s st.sane (few_events x s b st) st.counted;
     }
 
 -- ## several turns

@@ -5,6 +5,7 @@ pub mod Loading
 pub mod Views
 pub mod Turning
 pub mod Gliding
+pub mod Skipping
 pub mod Telling
 pub mod CallRows
 pub mod Doing

@@ -6,6 +6,7 @@ pub mod Opened
 pub mod Midway
 pub mod Stands
 pub mod Advanced
+pub mod Skipped
 pub mod Told
 pub mod Did
 pub mod Regions

@@ -19,6 +19,7 @@ ghost use Rattle.board_core.specs.Machine.{MachineHolds, MachineStands};
 ghost use Rattle.board_core.specs.Kept.{IsChoice, WasChoice};
 ghost use Rattle.board_core.specs.Texts.{IsText};
 ghost use Rattle.board_core.specs.Advanced.{IsAdvanced};
+ghost use Rattle.board_core.specs.Skipped.{IsIdleUntil, state_after};
 ghost use Rattle.board_core.specs.Midway.{IsDue, IsMidway};
 
 use crate::choice::{Choice, choice_after, choice_of};
@@ -39,7 +40,7 @@ pub struct Board {
     pub(crate) turns: u32,
     pub(crate) choice: Choice,
     pub(crate) script: Script,
-    due: Option<u32>,
+    pub(crate) due: Option<u32>,
 }
 
 impl Board {
@@ -125,7 +126,7 @@ impl Board {
     }
 
     /// Further turns of the task that is chosen, as long as each notes nothing, no event is due and
-    /// fewer than `limit` turns are made in all.
+    /// fewer than `limit` turns are made in all; or all idle turns up to the next event.
     fn glide(&mut self, limit: u32)
         requires stood { Stood self.old }
         requires left { turns_of self.old ≤ limit }
@@ -137,9 +138,49 @@ impl Board {
         if self.choice.down {
             return;
         }
-        if let Some(task) = self.choice.next {
-            self.glide_on(task, limit);
+        match self.choice.next {
+            Some(task) => self.glide_on(task, limit),
+            None => self.idle_on(limit),
         }
+    }
+
+    /// Idle turns up to the one in which something happens next, where the last turn noted nothing and
+    /// the run does not end before.
+    fn idle_on(&mut self, limit: u32)
+        requires stood { Stood self.old }
+        requires none { self.old.choice.next ≡ None }
+        requires up { self.old.choice.down ≡ false }
+        requires left { turns_of self.old ≤ limit }
+        requires few { limit ≤ 1000000000 }
+        ensures advanced { (x : Scenario) (n : ℕ) (s : State) → IsAdvanced Calls x n s self.old → IsAdvanced Calls x (n + (turns_of self.new - turns_of self.old)) s self.new }
+        ensures more { turns_of self.old ≤ turns_of self.new }
+        ensures within { turns_of self.new ≤ limit }
+    {
+        let until = quiet_until(self.due, limit);
+        if self.turns >= until {
+            return;
+        }
+        if !self.notes().is_empty() {
+            return;
+        }
+        if !self.script.lasts(until) {
+            return;
+        }
+        self.skip(until);
+    }
+
+    /// All idle turns up to turn `to` at once, before which no task is ready and nothing happens.
+    pub fn skip(&mut self, to: u32)
+        requires stood { Stood self.old }
+        requires from { turns_of self.old ≤ to }
+        requires few { to ≤ 1000000000 }
+        requires idle { (x : Scenario) (s : State) → Stands x self.old s → IsIdleUntil x s to }
+        ensures model { (x : Scenario) (s : State) → Stands x self.old s → Stands x self.new (state_after Calls x (to - s.turn) s) }
+        ensures nothing { notes_of self.new ≡ [] }
+        ensures turns { turns_of self.new ≡ to }
+    {
+        self.machine.begin();
+        self.turns = to;
     }
 
     /// The same, where this task is chosen and the supervisor has not faulted.

@@ -7,7 +7,7 @@ ghost use Rattle.task_table.specs.Reading.{setup_at, chosen};
 ghost use Rattle.task_table.specs.Start.{start};
 ghost use Rattle.task_table.specs.Holds.{Holds as KernelHolds, task_count};
 ghost use Rattle.run_script.specs.Events.{script_data};
-ghost use Rattle.run_script.specs.Scripts.{lasts};
+ghost use Rattle.run_script.specs.Scripts.{IsNext, lasts};
 ghost use Rattle.board_model.specs.Script.{Scenario};
 ghost use Rattle.board_model.specs.Turn.{turn};
 ghost use Rattle.board_model.specs.Run.{ending, end_at, end_in};
@@ -53,6 +53,14 @@ impl Board {
         ensures { result ≡ (is_none self.now.choice.next && not (lasts (script_data self.now.script) self.now.turns)) }
     {
         self.choice.next.is_none() && !self.script.lasts(self.turns)
+    }
+
+    /// The next turn, from this one on, in which something happens; None where nothing does below turn
+    /// 1,000,000,000.
+    pub fn next(&self) -> Option<u32>
+        ensures { (x : Scenario) (s : State) → Stands x self.now s → IsNext x.script s.turn result }
+    {
+        self.due
     }
 
     /// How many turns were made; the turn number of each state that the board stands for.

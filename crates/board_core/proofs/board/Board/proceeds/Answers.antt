@@ -1,5 +1,4 @@
 use Rattle.std.proofs.Common.{◌≡◌, ◌+◌, ℕ, true, [], Option, Some, refl, sym, ◌∙◌, subst, arith}
-use Rattle.run_script.specs.Scripts.{IsNext}
 use Rattle.task_table.specs.State.{Setup, State, Turn}
 use Rattle.task_table.specs.Holds.{current_of, notes_of}
 use Rattle.board_core.specs.declared.board.Board.{Board}
@@ -11,10 +10,9 @@ use Rattle.board_model.specs.Script.{Scenario}
 use Rattle.board_core.specs.Stands.{Stands, turns_of}
 use Rattle.board_core.specs.Texts.{IsText}
 use Rattle.board_model.specs.Turn.{turn, turn_of, stepped, with_current, with_registers_told, after_events}
-use Rattle.board_model.proofs.Counts.{counted_turn, turn_more}
 use Rattle.board_core.proofs.Loading.{is_loaded}
-use Rattle.board_core.proofs.Turning.{as_chosen, stands_after, turn_notes, choice_kept, few_events, HasTurned, none_of}
-use Rattle.board_core.proofs.Gliding.{midway_now, current_seen}
+use Rattle.board_core.proofs.Turning.{as_chosen, turn_notes, HasTurned, none_of}
+use Rattle.board_core.proofs.Gliding.{midway_now, stands_so, current_seen}
 use Rattle.board_core.proofs.board.Board.proceeds.Goals as goal
 
 -- where a context is loaded, the machine is ready for its task
@@ -40,25 +38,6 @@ gone x s b m task mid loaded current next done =
     let ready = ready_now x s b mid loaded in
     let same : (after_events x s).state.current ≡ task = sym (current_seen x.setup b.machine (after_events x s) ready) ∙ current in
     turned_so x s b m task mid next (stepped_so x.setup m (after_events x s) task same (done x.setup (after_events x s) ready))
-
--- the board after such a turn, which noted nothing
-stands_so : (x : Scenario) (s : State) (b : Board) (m : Machine) (n : ℕ) → Stands x b s → IsMidway x b s → HasTurned Calls x s m → notes_of m.reach.kernel ≡ [] → n ≡ turns_of b + 1 →
-    Stands x record b { machine = m; turns = n } (turn Calls x s).state
-stands_so x s b m n st mid h none more =
-    let after = stands_after Calls x s m st.sane h in
-    let next = turn_more Calls x s st.sane in
-    let N : ℕ → Type 0 = λ from. IsNext x.script from b.due in
-    record {
-      holds = record {
-        machine = after.holds;
-        turns = let a = st.holds.turns in omega (arith, next, a, more);
-        choice = choice_kept Calls x s m b.choice st.sane h mid.choice none;
-        script = mid.script;
-        due = subst N (sym next) mid.due;
-      };
-      sane = after.sane;
-      counted = counted_turn Calls x s st.sane (few_events x s b st) st.counted;
-    }
 
 pub proceeds-requires-clause-ready : goal.proceeds-requires-clause-ready
 proceeds-requires-clause-ready c =

@@ -1,0 +1,201 @@
+-- Idle turns on end.
+use Rattle.std.proofs.Common.{◌≡◌, ◌≢◌, ◌⊎◌, inl, inr, ◌+◌, ◌-◌, ◌<◌, ◌≤◌, ℕ, zero, suc, Bool, true, false, List, [], ◌∷◌, Option, Some, None, refl, sym, ◌∙◌, ap, subst, arith, leb}
+use Rattle.std.specs.Prelude.{is_some}
+use Rattle.std.specs.List.{list_any}
+use Rattle.std.proofs.lemmas.Bool.Decides.{nat_tests}
+use Rattle.kernel_abi.specs.declared.Note.{Note}
+use Rattle.run_script.specs.Scripts.{Listed, ScriptData, IsNext, events_of, lasts}
+use Rattle.task_table.specs.State.{State, Turn}
+use Rattle.task_table.specs.Reading.{chosen, task_at, is_ready, call_of, listen_of}
+use Rattle.task_table.specs.Start.{begun}
+use Rattle.board_core.specs.declared.board.Board.{Board}
+use Rattle.board_core.specs.declared.machine.Machine.{Machine}
+use Rattle.board_model.specs.declared.told.Level.{Level}
+use Rattle.board_model.specs.declared.told.Level.TheVariants.{Calls}
+use Rattle.board_model.specs.Script.{Scenario}
+use Rattle.board_model.specs.Turn.{turn, turn_of, ended, after_events}
+use Rattle.board_model.specs.Run.{ending, is_down, is_still, turn_after}
+use Rattle.board_model.proofs.Outside.{no_event}
+use Rattle.board_core.specs.Kept.{IsChoice}
+use Rattle.board_core.specs.Machine.{MachineHolds}
+use Rattle.board_core.specs.Midway.{IsMidway}
+use Rattle.board_core.specs.Stands.{Stands, notes_of, turns_of}
+use Rattle.board_core.specs.Advanced.{IsAdvanced}
+use Rattle.board_core.specs.Skipped.{IsIdleUntil, state_after}
+use Rattle.board_core.proofs.Turning.{HasTurned, as_chosen, turn_notes}
+use Rattle.board_core.proofs.Gliding.{midway_now, stands_so}
+
+-- ## turns of the definition
+
+last_turn : (level : Level) (x : Scenario) (n : ℕ) (s : State) → turn_after level x n s ≡ turn level x (state_after level x n s)
+unfolding turn_after state_after
+last_turn level x zero s = refl
+last_turn level x (suc n) s = refl
+
+-- n turns and one, and then k more
+pub further : (level : Level) (x : Scenario) (n k : ℕ) (s : State) → state_after level x k (turn_after level x n s).state ≡ (turn_after level x (n + k) s).state
+unfolding turn_after state_after
+further level x n zero s = let e : n ≡ n + 0 = omega arith in ap (λ (m : ℕ). (turn_after level x m s).state) e
+further level x n (suc k) s =
+    let e : suc (n + k) ≡ n + suc k = omega arith in
+    let u : State = (turn_after level x n s).state in
+    ap (λ (t : Turn). t.state) (last_turn level x k u)
+    ∙ ap (λ (v : State). (turn level x v).state) (further level x n k s)
+    ∙ ap (λ (m : ℕ). (turn_after level x m s).state) e
+
+-- ## an idle turn
+
+at : State → ℕ → State
+at s n = record s { turn = n }
+
+chosen_at : (x : Scenario) (s : State) (n : ℕ) → chosen x.setup (at s n) ≡ chosen x.setup s
+unfolding chosen is_ready task_at call_of listen_of at
+chosen_at x s n = refl
+
+down_at : (s : State) (n : ℕ) → is_down (at s n) ≡ is_down s
+unfolding task_at at
+down_at s n = refl
+
+idle_turn : (x : Scenario) (s : State) → chosen x.setup s ≡ None → events_of x.script s.turn ≡ [] → ((turn Calls x s).state ≡ at s (s.turn + 1)) × ((turn Calls x s).notes ≡ [])
+unfolding turn ended begun at
+idle_turn x s none nothing =
+    let e : after_events x s ≡ begun s = sym (no_event x s nothing) in
+    rw (e, none) (refl, refl)
+
+-- ## idle turns on end
+
+module _ (x : Scenario) (s : State) (to : ℕ) (idle : IsIdleUntil x s to) where
+  states : (k : ℕ) → s.turn + k ≤ to → state_after Calls x k s ≡ at s (s.turn + k)
+  unfolding state_after at
+  states zero le = let e : s.turn ≡ s.turn + 0 = omega arith in ap (at s) e
+  states (suc k) le =
+      let same = states k (omega (arith, le)) in
+      let one = idle_turn x (at s (s.turn + k)) (chosen_at x s (s.turn + k) ∙ idle.none) (idle.nothing (s.turn + k) (omega arith) (omega (arith, le))) in
+      let e : s.turn + k + 1 ≡ s.turn + suc k = omega arith in
+      ap (λ (t : Turn). t.state) (last_turn Calls x k s) ∙ ap (λ (u : State). (turn Calls x u).state) same ∙ one.0 ∙ ap (at s) e
+
+  pub turn_then : (k : ℕ) → s.turn + k ≤ to → (state_after Calls x k s).turn ≡ s.turn + k
+  unfolding at
+  turn_then k le = ap (λ (u : State). u.turn) (states k le)
+
+  pub none_then : (k : ℕ) → s.turn + k ≤ to → chosen x.setup (state_after Calls x k s) ≡ None
+  none_then k le = ap (chosen x.setup) (states k le) ∙ chosen_at x s (s.turn + k) ∙ idle.none
+
+  pub silent_then : (k : ℕ) → s.turn + k < to → (turn_after Calls x k s).notes ≡ []
+  unfolding at
+  silent_then k lt =
+      let one = idle_turn x (at s (s.turn + k)) (chosen_at x s (s.turn + k) ∙ idle.none) (idle.nothing (s.turn + k) (omega arith) lt) in
+      ap (λ (t : Turn). t.notes) (last_turn Calls x k s) ∙ ap (λ (u : State). (turn Calls x u).notes) (states k (omega (arith, lt))) ∙ one.1
+
+  pub goes_then : (k : ℕ) → s.turn + k ≤ to → lasts x.script (s.turn + k) ≡ true → ending x 1 (state_after Calls x k s) ≡ None
+  unfolding ending
+  goes_then k le more =
+      let down : is_down (state_after Calls x k s) ≡ false = ap is_down (states k le) ∙ down_at s (s.turn + k) ∙ idle.up in
+      let on : lasts x.script (state_after Calls x k s).turn ≡ true = ap (lasts x.script) (turn_then k le) ∙ more in
+      rw (down, none_then k le, on) refl
+
+-- ## the board over them
+
+-- a board that has no task to run, after one idle turn
+idle_board : (x : Scenario) (s : State) (b : Board) → Stands x b s → notes_of b ≡ [] → b.choice.next ≡ None → b.due ≢ Some (turns_of b) → turns_of b < 1000000000 → Stands x record b { turns = turns_of b + 1 } (turn Calls x s).state
+idle_board x s b st quiet none ne few =
+    let mid = midway_now x s b st quiet ne few in
+    let P : Option ℕ → Type 0 = λ o. MachineHolds x.setup b.machine (turn_of Calls x.setup o (after_events x s)) in
+    let h : HasTurned Calls x s b.machine = as_chosen Calls x s b.machine b.choice mid.choice (subst P (sym none) mid.machine.holds) in
+    stands_so x s b b.machine (turns_of b + 1) st mid h quiet refl
+
+pub skipped : (x : Scenario) (s : State) (b : Board) (k : ℕ) → Stands x b s → notes_of b ≡ [] → b.choice.next ≡ None → ((turn : ℕ) → turn < turns_of b + k → b.due ≡ Some turn → ⊥) → turns_of b + k ≤ 1000000000 →
+    Stands x record b { turns = turns_of b + k } (state_after Calls x k s)
+unfolding state_after
+skipped x s b zero st quiet none later few = let e : turns_of b ≡ turns_of b + 0 = omega arith in subst (λ (n : ℕ). Stands x record b { turns = n } s) e st
+skipped x s b (suc k) st quiet none later few =
+    let u : State = state_after Calls x k s in
+    let before = skipped x s b k st quiet none (λ n lt. later n (omega (arith, lt))) (omega (arith, few)) in
+    let one = idle_board x u record b { turns = turns_of b + k } before quiet none (later (turns_of b + k) (omega arith)) (omega (arith, few)) in
+    let e : turns_of b + k + 1 ≡ turns_of b + suc k = omega arith in
+    subst (λ (v : State). Stands x record b { turns = turns_of b + suc k } v) (sym (ap (λ (t : Turn). t.state) (last_turn Calls x k s))) (subst (λ (n : ℕ). Stands x record b { turns = n } (turn Calls x u).state) e one)
+
+-- ## they are turns on end of which none notes anything
+
+-- something that happens at a turn or later happens at an earlier turn or later
+any_from : (events : List Listed) (from to : ℕ) → from ≤ to → list_any (λ listed. leb to listed.0) events ≡ true → list_any (λ listed. leb from listed.0) events ≡ true
+any_from [] from to le more = more
+any_from (e ∷ es) from to le more = by_first (leb to e.0) refl
+  where
+    by_first : (b : Bool) → leb to e.0 ≡ b → list_any (λ listed. leb from listed.0) (e ∷ es) ≡ true
+    by_first true is = let here : leb from e.0 ≡ true = grind (arith, nat_tests, is) in rw here refl
+    by_first false is = rw (any_from es from to le (rw is at more)) (or_true (leb from e.0))
+
+lasts_from : (script : ScriptData) (from to : ℕ) → from ≤ to → lasts script to ≡ true → lasts script from ≡ true
+lasts_from script from to le more = by_every (is_some script.every) refl
+  where
+    by_every : (b : Bool) → is_some script.every ≡ b → lasts script from ≡ true
+    by_every true is = rw is refl
+    by_every false is = rw is (any_from script.events from to le (rw is at more))
+
+either : (n j : ℕ) → (j < n) ⊎ ((i : ℕ) × (j ≡ n + i))
+either zero j = inr (j, refl)
+either (suc n) zero = inl (omega arith)
+either (suc n) (suc j) = by (either n j)
+  where
+    by : (j < n) ⊎ ((i : ℕ) × (j ≡ n + i)) → (suc j < suc n) ⊎ ((i : ℕ) × (suc j ≡ suc n + i))
+    by (inl lt) = inl (omega (arith, lt))
+    by (inr (i, e)) = inr (i, omega (arith, e))
+
+turn_further : (level : Level) (x : Scenario) (n k : ℕ) (s : State) → turn_after level x k (turn_after level x n s).state ≡ turn_after level x (n + suc k) s
+unfolding turn_after
+turn_further level x n k s =
+    let e : suc (n + k) ≡ n + suc k = omega arith in
+    last_turn level x k (turn_after level x n s).state
+    ∙ ap (turn level x) (further level x n k s)
+    ∙ ap (λ (m : ℕ). turn_after level x m s) e
+
+pub skip_advances : (x : Scenario) (n k : ℕ) (s : State) (b b' : Board) → IsAdvanced Calls x n s b → notes_of b ≡ [] →
+    IsIdleUntil x (turn_after Calls x n s).state ((turn_after Calls x n s).state.turn + k) → lasts x.script ((turn_after Calls x n s).state.turn + k) ≡ true →
+    Stands x b' (state_after Calls x k (turn_after Calls x n s).state) → notes_of b' ≡ [] → IsAdvanced Calls x (n + k) s b'
+skip_advances x n k s b b' a quiet idle more st none =
+    let u : State = (turn_after Calls x n s).state in
+    let silent : (i : ℕ) → i ≤ k → (turn_after Calls x (n + i) s).notes ≡ [] = quiets in
+    record {
+      nothing = λ j lt. nothing_at j lt (either n j);
+      goes_on = λ j lt. goes_at j lt (either n j);
+      stands = subst (λ (v : State). Stands x b' v) (further Calls x n k s) st;
+      notes = none ∙ sym (silent k (omega arith));
+    }
+  where
+    quiets : (i : ℕ) → i ≤ k → (turn_after Calls x (n + i) s).notes ≡ []
+    quiets zero le = let e : n + 0 ≡ n = omega arith in ap (λ (m : ℕ). (turn_after Calls x m s).notes) e ∙ sym a.notes ∙ quiet
+    quiets (suc i) le = ap (λ (t : Turn). t.notes) (sym (turn_further Calls x n i s)) ∙ silent_then x (turn_after Calls x n s).state _ idle i (omega (arith, le))
+    nothing_at : (j : ℕ) → j < n + k → (j < n) ⊎ ((i : ℕ) × (j ≡ n + i)) → (turn_after Calls x j s).notes ≡ []
+    nothing_at j lt (inl less) = a.nothing j less
+    nothing_at j lt (inr (i, e)) = ap (λ (m : ℕ). (turn_after Calls x m s).notes) e ∙ quiets i (omega (arith, lt, e))
+    goes_at : (j : ℕ) → j < n + k → (j < n) ⊎ ((i : ℕ) × (j ≡ n + i)) → ending x 1 (turn_after Calls x j s).state ≡ None
+    goes_at j lt (inl less) = a.goes_on j less
+    goes_at j lt (inr (i, e)) =
+        let u : State = (turn_after Calls x n s).state in
+        ap (λ (m : ℕ). ending x 1 (turn_after Calls x m s).state) e
+        ∙ ap (ending x 1) (sym (further Calls x n i s))
+        ∙ goes_then x u _ idle i (omega (arith, lt, e)) (lasts_from x.script (u.turn + i) (u.turn + k) (omega (arith, lt, e)) more)
+
+-- ## when a board may skip
+
+-- what is due no earlier than `to`
+quiet_before : (script : ScriptData) (from to : ℕ) (due : Option ℕ) → IsNext script from due → ((turn : ℕ) → turn < to → due ≢ Some turn) → to ≤ 1000000000 → (turn : ℕ) → from ≤ turn → turn < to → events_of script turn ≡ []
+quiet_before script from to None next later few turn le lt = next turn le (omega (arith, lt, few))
+quiet_before script from to (Some n) next later few turn le lt = next.3 turn le (after n (λ less. later n less refl))
+  where
+    after : (n : ℕ) → (n < to → ⊥) → turn < n
+    after n not-before = grind (arith, lt)
+
+pub idle_board_until : (x : Scenario) (s : State) (b : Board) (to : ℕ) → Stands x b s → b.choice.next ≡ None → b.choice.down ≡ false → ((turn : ℕ) → turn < to → b.due ≢ Some turn) → to ≤ 1000000000 → IsIdleUntil x s to
+idle_board_until x s b to st none up later few =
+    record {
+      none = sym st.holds.choice.next ∙ none;
+      up = sym st.holds.choice.down ∙ up;
+      nothing = quiet_before x.script s.turn to b.due st.holds.due later few;
+    }
+
+-- what may be skipped has nothing due before
+pub not_due : (script : ScriptData) (from to : ℕ) (due : Option ℕ) → IsNext script from due → ((turn : ℕ) → from ≤ turn → turn < to → events_of script turn ≡ []) → (turn : ℕ) → turn < to → due ≢ Some turn
+not_due script from to None next nothing turn lt e = absurd (cc)
+not_due script from to (Some n) next nothing turn lt e = next.2 (nothing n next.0 (let same : n ≡ turn = cc in omega (arith, same, lt)))
