@@ -2,7 +2,6 @@
 ghost use Rattle.std.specs.Prelude.{ℕ, ◌≡◌, ◌≢◌, ◌<◌, ◌≤◌, ◌+◌, ◌-◌, ◌*◌, ◌&&◌, not, [], Option, Some, None, length, true, false, IfOk};
 ghost use Rattle.image_format.specs.Images.{picture};
 ghost use Rattle.task_table.specs.State.{Setup, State, Turn};
-ghost use Rattle.mem_banks.specs.Memory.{Memory};
 ghost use Rattle.task_table.specs.Reading.{chosen};
 ghost use Rattle.task_table.specs.Start.{start};
 ghost use Rattle.task_table.specs.Holds.{current_of};
@@ -10,9 +9,9 @@ ghost use Rattle.task_table.specs.Limits.{call_notes, turn_notes};
 ghost use Rattle.run_script.specs.Events.{script_data};
 ghost use Rattle.board_model.specs.declared.told.Level.TheVariants.{All, Calls};
 ghost use Rattle.board_model.specs.Script.{Scenario};
-ghost use Rattle.board_model.specs.Turn.{turn, turned, after_events};
+ghost use Rattle.board_model.specs.Turn.{turn, turned};
 ghost use Rattle.board_model.specs.Lifetimes.{IsGroundedTurn};
-ghost use Rattle.two_runs.specs.Agreement.{AgreesOnReads, IsSameButMemory, rest_of, with_memory};
+ghost use Rattle.two_runs.specs.Agreement.{DependsOnReads};
 ghost use Rattle.board_core.specs.Opened.{scenario_of, setup_of};
 ghost use Rattle.board_core.specs.Stands.{Stands, Stood, notes_of, turns_of};
 ghost use Rattle.board_core.specs.Machine.{MachineHolds, MachineStands};
@@ -80,7 +79,7 @@ impl Board {
         // Each byte is written on a ground where its writer may, no call is touched but an open one, and with any
         // memory that agrees on what the turn reads it would have done the same.
         ensures grounds { (x : Scenario) (s : State) → Stands x self.old s → IsGroundedTurn All x s }
-        ensures reads { (x : Scenario) (s : State) (m : Memory) → Stands x self.old s → ((c : ℕ) → chosen x.setup (after_events x s).state ≡ Some c → AgreesOnReads x.setup c (turn All x s).reads (after_events x s).state.memory m) → IsSameButMemory (turn All x s) (rest_of All x.setup (with_memory m (after_events x s))) }
+        ensures reads { (x : Scenario) (s : State) → Stands x self.old s → DependsOnReads All x s }
     {
         self.turn_at(Level::All)
     }

@@ -4,9 +4,8 @@ ghost use Rattle.run_script.specs.Events.{script_data};
 ghost use Rattle.run_script.specs.Scripts.{events_of};
 ghost use Rattle.board_core.specs.Spans.{spans};
 ghost use Rattle.task_table.specs.State.{Setup, Turn};
-ghost use Rattle.task_table.specs.Reading.{is_ready, task_at, register};
+ghost use Rattle.task_table.specs.Reading.{is_ready, task_at};
 ghost use Rattle.task_table.specs.Start.{begun};
-ghost use Rattle.mem_banks.specs.Memory.{number_at};
 ghost use Rattle.task_table.specs.Effects.{faulted};
 ghost use Rattle.task_table.specs.Rows.{call_noted};
 ghost use Rattle.task_table.specs.Calls.{called};
@@ -14,10 +13,9 @@ ghost use Rattle.task_table.specs.Holds.{Holds, task_count, note_count, current_
 ghost use Rattle.task_table.specs.Limits.{call_notes, turn_notes};
 ghost use Rattle.task_table.specs.Frames.{AddsNotes};
 ghost use Rattle.thumb_insn.specs.Range.{IsCoded};
-ghost use Rattle.thumb_insn.specs.Table.{is_wide};
 ghost use Rattle.board_model.specs.Turn.{with_current, told, happened, stepped, stepped_wide, executed, cpu_of, with_registers_told, turn_of, turned_of, happened_next};
 ghost use Rattle.board_core.specs.Did.{Did};
-ghost use Rattle.board_core.specs.Machine.{IsReady, IsNext, HasNumber, MachineHolds, MachineStands, IsLoaded};
+ghost use Rattle.board_core.specs.Machine.{IsReady, IsNarrowWithin, IsNext, HasNumber, MachineHolds, MachineStands, IsLoaded};
 ghost use Rattle.board_core.specs.Texts.{GivesText, IsText};
 ghost use Rattle.board_model.specs.declared.told.Level.TheVariants.{Calls};
 
@@ -412,7 +410,7 @@ impl Machine {
         ensures current { result ≡ true → current_of self.new.reach.kernel ≡ current_of self.old.reach.kernel }
 
         // It declines a narrow instruction of the text only where the turn notes something: a call or a fault.
-        ensures goes { result ≡ false → (g : Setup) (t : Turn) → IsReady g self.old t → spans text.now (register t.state t.state.current 15) 2 ≡ true → is_wide (number_at t.state.memory (register t.state t.state.current 15) 2) ≡ false → (stepped Calls g t.state.current t).notes ≢ [] }
+        ensures goes { result ≡ false → (g : Setup) (t : Turn) → IsReady g self.old t → IsNarrowWithin text.now t → (stepped Calls g t.state.current t).notes ≢ [] }
     {
         let at = self.processor.regs.get(15);
         if !spans(text, at, 2) {

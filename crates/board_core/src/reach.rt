@@ -7,8 +7,8 @@ ghost use Rattle.task_table.specs.Reading.{setup_at};
 ghost use Rattle.mem_banks.specs.Memory.{number_at};
 ghost use Rattle.task_table.specs.Holds.{memory_of, setup_of, current_of};
 ghost use Rattle.thumb_exec.specs.Sizes.{IsSize};
-ghost use Rattle.board_model.specs.Turn.{first_lacking, refusals};
-ghost use Rattle.board_core.specs.Machine.{IsStored};
+ghost use Rattle.board_model.specs.Turn.{first_lacking};
+ghost use Rattle.board_core.specs.Machine.{IsStored, refused};
 
 use region_check::{Region, Right, Rights, may};
 use task_table::Kernel;
@@ -107,7 +107,7 @@ impl Reach {
     #[inline(never)]
     fn lacks(&self, addr: u32, n: u32, right: Right) -> Option<u32>
         requires { addr + n ≤ 2 ^ 32 }
-        ensures { result ≡ refusals (setup_of self.now.kernel) (current_of self.now.kernel) addr n right }
+        ensures { result ≡ refused self.now.kernel addr n right }
     {
         first_lacking(self.kernel.regions(self.kernel.current()), addr, n, right)
     }
@@ -119,7 +119,7 @@ impl Reach {
     fn load_beyond(&self, addr: u32, n: u32) -> Result<u32, u32>
         requires size { IsSize n }
         requires end { addr + n ≤ 2 ^ 32 }
-        ensures { MatchResult result (λ value. (refusals (setup_of self.now.kernel) (current_of self.now.kernel) addr n Read ≡ None) × (value ≡ number_at (memory_of self.now.kernel) addr n)) (λ at. refusals (setup_of self.now.kernel) (current_of self.now.kernel) addr n Read ≡ Some at) }
+        ensures { MatchResult result (λ value. (refused self.now.kernel addr n Read ≡ None) × (value ≡ number_at (memory_of self.now.kernel) addr n)) (λ at. refused self.now.kernel addr n Read ≡ Some at) }
     {
         if self.region_gives(self.text, addr, n, Right::Read) {
             return Ok(self.kernel.number(addr, n));
@@ -132,7 +132,7 @@ impl Reach {
 }
 
 impl Bus for Reach {
-    ghost refuses = { λ m a n r. refusals (setup_of m.kernel) (current_of m.kernel) a n r };
+    ghost refuses = { λ m a n r. refused m.kernel a n r };
 
     ghost holds = { λ m a n. number_at (memory_of m.kernel) a n };
 

@@ -1,10 +1,13 @@
 -- What the fault of a task changes: its own health, and task 0, which is told; nothing else.
-use Rattle.std.specs.Prelude.{ℕ, ◌≡◌, ◌≢◌, List, Contains}
+use Rattle.std.specs.Prelude.{ℕ, ◌≡◌, ◌≢◌, true, List, Some, Contains}
 use Rattle.task_table.specs.State.{Setup, State, Read}
-use Rattle.task_table.specs.Reading.{task_at, IsIdle, IsSameAt}
+use Rattle.task_table.specs.Reading.{task_at, is_faulted, chosen, IsIdle, IsSameAt}
 use Rattle.task_table.specs.Effects.{posted}
 use Rattle.task_table.specs.Start.{begun}
 use Rattle.task_table.specs.Step.{IsEntry}
+use Rattle.board_model.specs.declared.told.Level.{Level}
+use Rattle.board_model.specs.Script.{Scenario}
+use Rattle.board_model.specs.Turn.{after_events, turn}
 
 -- u is s but for a fault of task c, which waits for nothing: of c the health alone changed, so it has all the registers
 -- and flags that it had; the supervisor, unless it is c, was posted the fault bits; every other task with its call and
@@ -18,6 +21,11 @@ pub record IsSameButForFault (g : Setup) (c : ℕ) (s u : State) : Type 0 where
   pub now : u.now ≡ s.now
   pub next_call : u.next_call ≡ s.next_call
   pub lines : u.lines ≡ s.lines
+
+-- task c is chosen in the turn after s, which leaves it faulted
+pub record IsFaulting (level : Level) (x : Scenario) (s : State) (c : ℕ) : Type 0 where
+  pub chosen : chosen x.setup (after_events x s).state ≡ Some c
+  pub faulted : is_faulted (task_at (turn level x s).state c).health ≡ true
 
 -- each is an entry of a lease table, which is read before what the borrower asks of it is checked
 abbrev pub AreEntries : List Read → Type 0

@@ -60,9 +60,12 @@ acted g c (Next cpu stores) t = with_processor c cpu.regs.words cpu.flags (fold 
 acted g c Call t = called g c (call_noted c t)
 acted g c (Trap f) t = faulted g c f t
 
+-- the effect of an instruction for task c, as things stand
+abbrev pub effect_of : Setup → ℕ → Insn → Turn → Effect
+effect_of g c insn t = effect (refusals g c) (number_at t.state.memory) (cpu_of (task_at t.state c)) insn
+
 abbrev pub executed : Setup → ℕ → Insn → Turn → Turn
-executed g c insn t =
-    acted g c (effect (refusals g c) (number_at t.state.memory) (cpu_of (task_at t.state c)) insn) t
+executed g c insn t = acted g c (effect_of g c insn t) t
 
 -- what is told with all instructions alone
 abbrev pub told : Level → Note → Turn → Turn

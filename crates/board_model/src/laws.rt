@@ -7,25 +7,24 @@ ghost use Rattle.run_script.specs.declared.events.Event.{Event};
 ghost use Rattle.run_script.specs.Scripts.{ScriptData, IsNext, events_of};
 ghost use Rattle.thumb_insn.specs.declared.Insn.{Insn};
 ghost use Rattle.thumb_insn.specs.Range.{IsCoded};
-ghost use Rattle.thumb_exec.specs.Effect.{Store, Trap, effect};
-ghost use Rattle.mem_banks.specs.Memory.{number_at};
+ghost use Rattle.thumb_exec.specs.Effect.{Store, Trap};
 ghost use Rattle.task_table.specs.State.{Setup, State, Turn};
-ghost use Rattle.task_table.specs.Reading.{task_at, chosen, is_faulted, is_ready};
+ghost use Rattle.task_table.specs.Reading.{chosen, is_ready};
 ghost use Rattle.task_table.specs.Start.{begun, start};
 ghost use Rattle.task_table.specs.Sane.{Sane, IsCounted};
 ghost use Rattle.task_table.specs.Chain.{Chain};
 ghost use Rattle.task_table.specs.Step.{Step};
 ghost use Rattle.board_model.specs.declared.told.Level.{Level as Detail};
 ghost use Rattle.board_model.specs.Script.{Scenario};
-ghost use Rattle.board_model.specs.Turn.{refusals, cpu_of, put, told, stepped, happened, after_events, with_current, with_registers_told, turn};
-ghost use Rattle.board_model.specs.Faults.{IsSameButForFault, AreEntries};
+ghost use Rattle.board_model.specs.Turn.{effect_of, put, told, stepped, happened, after_events, with_current, turn_of, turn};
+ghost use Rattle.board_model.specs.Faults.{IsFaulting, IsSameButForFault, AreEntries};
 ghost use Rattle.board_model.specs.Run.{is_down, end_at, ending};
 ghost use Rattle.board_model.specs.Lifetimes.{IsGroundedTurn, IsLedgerOfRun};
 
 /// The turn of the chosen task, from where it is the current one, is a chain of steps: those of its
 /// instruction or of its call's row, and what is told besides.
 pub fn turns_are_chains_of_steps()
-    ensures { (level : Detail) (g : Setup) (c : ℕ) (t : Turn) → Sane g t.state → chosen g t.state ≡ Some c → Chain (Step g (with_current c t).state c) (with_current c t) (with_registers_told level c (stepped level g c (with_current c t))) }
+    ensures { (level : Detail) (g : Setup) (c : ℕ) (t : Turn) → Sane g t.state → chosen g t.state ≡ Some c → Chain (Step g (with_current c t).state c) (with_current c t) (turn_of level g (Some c) t) }
 {}
 
 /// The events of a turn, an instruction of a ready task and the whole turn leave a sane state sane.
@@ -73,9 +72,9 @@ pub fn runs_keep_a_ledger()
 /// task, nor read of one but entries of lease tables, and of the other tasks only task 0 changes: by the post of its
 /// fault bits. (Hubris Reference: supervision; that a refused instruction or call takes no effect is docs/FORMATS.md.)
 pub fn faults_change_nothing_else()
-    ensures state { (level : Detail) (x : Scenario) (s : State) (c : ℕ) → Sane x.setup s → chosen x.setup (after_events x s).state ≡ Some c → is_faulted (task_at (turn level x s).state c).health ≡ true → IsSameButForFault x.setup c (after_events x s).state (turn level x s).state }
-    ensures writes { (level : Detail) (x : Scenario) (s : State) (c : ℕ) → Sane x.setup s → chosen x.setup (after_events x s).state ≡ Some c → is_faulted (task_at (turn level x s).state c).health ≡ true → (turn level x s).writes ≡ [] }
-    ensures reads { (level : Detail) (x : Scenario) (s : State) (c : ℕ) → Sane x.setup s → chosen x.setup (after_events x s).state ≡ Some c → is_faulted (task_at (turn level x s).state c).health ≡ true → AreEntries (turn level x s).reads }
+    ensures state { (level : Detail) (x : Scenario) (s : State) (c : ℕ) → Sane x.setup s → IsFaulting level x s c → IsSameButForFault x.setup c (after_events x s).state (turn level x s).state }
+    ensures writes { (level : Detail) (x : Scenario) (s : State) (c : ℕ) → Sane x.setup s → IsFaulting level x s c → (turn level x s).writes ≡ [] }
+    ensures reads { (level : Detail) (x : Scenario) (s : State) (c : ℕ) → Sane x.setup s → IsFaulting level x s c → AreEntries (turn level x s).reads }
 {}
 
 /// The stores of an instruction change nothing of a state but its memory, and what is told changes none.
@@ -86,8 +85,8 @@ pub fn stores_change_memory_alone()
 
 /// The fault of an instruction that has a code has a number from 1 to 10.
 pub fn faults_of_instructions_are_known()
-    ensures from_one { (g : Setup) (t : Turn) (insn : Insn) (fault : Fault) → Sane g t.state → IsCoded insn → effect (refusals g t.state.current) (number_at t.state.memory) (cpu_of (task_at t.state t.state.current)) insn ≡ Trap fault → 1 ≤ fault.number }
-    ensures to_ten { (g : Setup) (t : Turn) (insn : Insn) (fault : Fault) → Sane g t.state → IsCoded insn → effect (refusals g t.state.current) (number_at t.state.memory) (cpu_of (task_at t.state t.state.current)) insn ≡ Trap fault → fault.number ≤ 10 }
+    ensures from_one { (g : Setup) (t : Turn) (insn : Insn) (fault : Fault) → Sane g t.state → IsCoded insn → effect_of g t.state.current insn t ≡ Trap fault → 1 ≤ fault.number }
+    ensures to_ten { (g : Setup) (t : Turn) (insn : Insn) (fault : Fault) → Sane g t.state → IsCoded insn → effect_of g t.state.current insn t ≡ Trap fault → fault.number ≤ 10 }
 {}
 
 /// A turn in which nothing is due has no events, so it begins as it is after them; what was due later

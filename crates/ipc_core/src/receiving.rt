@@ -1,10 +1,9 @@
 //! The system call RECV (Hubris Reference, on RECV).
 
-ghost use Rattle.std.specs.Prelude.{◌≡◌, ◌+◌, ◌<◌, ◌≤◌, ◌^◌, true, Some, None, Option, IfSome};
-ghost use Rattle.kernel_abi.specs.Arguments.{recv_args};
+ghost use Rattle.std.specs.Prelude.{◌≡◌, ◌+◌, ◌<◌, ◌≤◌, true, Some, None, Option, IfSome};
 ghost use Rattle.task_table.specs.State.{Setup, Turn};
 ghost use Rattle.task_table.specs.Reading.{arguments, is_ready, best_sender, offer_by, IsIdle};
-ghost use Rattle.task_table.specs.Rows.{listened_from, receives_or_listens, message_received, input_received, received};
+ghost use Rattle.task_table.specs.Rows.{asked, receives_or_listens, message_received, input_received, received};
 ghost use Rattle.task_table.specs.Holds.{Holds, Stands, Stood, task_count, note_count};
 ghost use Rattle.task_table.specs.Limits.{call_notes, turn_notes};
 ghost use Rattle.task_table.specs.Frames.{AddsAtMost};
@@ -57,7 +56,7 @@ fn receive_or_listen(k: &mut Kernel, caller: usize, client: usize, from: Listene
     requires whom { IsListened (task_count k.old) from }
     requires room { note_count k.old + 2 ≤ turn_notes }
     requires ready { IsReceiving k.old caller }
-    ensures holds { (g : Setup) (t : Turn) → Stands g k.old t → IsIdle t.state caller → Holds g k.new (receives_or_listens caller (recv_args (arguments t.state caller)) (from_of t.state from) (offer_by t.state client caller) t) }
+    ensures holds { (g : Setup) (t : Turn) → Stands g k.old t → IsIdle t.state caller → Holds g k.new (receives_or_listens caller (asked t.state caller) (from_of t.state from) (offer_by t.state client caller) t) }
     ensures frame { AddsAtMost k.old 2 k.new }
 {
     match k.offered(client, caller) {
@@ -73,7 +72,7 @@ fn receive_message(k: &mut Kernel, caller: usize, sender: Sender, best: Option<u
     requires best { IfSome best (λ i. i < task_count k.old) }
     requires room { note_count k.old + 2 ≤ turn_notes }
     requires ready { IsReceiving k.old caller }
-    ensures holds { (g : Setup) (t : Turn) → Stands g k.old t → IsIdle t.state caller → IsSender t.state caller (recv_args (arguments t.state caller)) sender → Holds g k.new (message_received caller best t) }
+    ensures holds { (g : Setup) (t : Turn) → Stands g k.old t → IsIdle t.state caller → IsSender t.state caller (asked t.state caller) sender → Holds g k.new (message_received caller best t) }
     ensures frame { AddsAtMost k.old 2 k.new }
 {
     match sender {
@@ -96,7 +95,7 @@ fn receive_input(k: &mut Kernel, caller: usize, mask: u32, sender: Sender, best:
     requires best { IfSome best (λ i. i < task_count k.old) }
     requires room { note_count k.old + 2 ≤ turn_notes }
     requires ready { IsReceiving k.old caller }
-    ensures holds { (g : Setup) (t : Turn) → Stands g k.old t → IsIdle t.state caller → mask ≡ (recv_args (arguments t.state caller)).mask → IsSender t.state caller (recv_args (arguments t.state caller)) sender → Holds g k.new (input_received caller best t) }
+    ensures holds { (g : Setup) (t : Turn) → Stands g k.old t → IsIdle t.state caller → mask ≡ (asked t.state caller).mask → IsSender t.state caller (asked t.state caller) sender → Holds g k.new (input_received caller best t) }
     ensures frame { AddsAtMost k.old 2 k.new }
 {
     if k.posted_bits(caller) & mask != 0 {

@@ -2,13 +2,15 @@
 use Rattle.std.specs.Prelude.{ℕ, ◌≡◌, not, [], ◌∷◌, None, Some, Result, Ok, Err, is_some}
 use Rattle.kernel_abi.specs.Faults.{usage_number, access_number}
 use Rattle.kernel_abi.specs.declared.LeaseEntry.{LeaseEntry}
+use Rattle.kernel_abi.specs.declared.Note.TheVariants as note
 use Rattle.kernel_abi.specs.declared.Usage.TheVariants.{InvalidSlice}
 use Rattle.kernel_abi.specs.declared.arguments.BorrowArgs.{BorrowArgs}
 use Rattle.region_check.specs.declared.Right.TheVariants.{Read}
 use Rattle.mem_banks.specs.Memory.{Memory, IsWithin, IsWithinRam}
 use Rattle.task_table.specs.State.{Setup, State, Call, Turn}
 use Rattle.task_table.specs.Reading.{is_valid, bad_byte}
-use Rattle.task_table.specs.Rows.{first_row, misused, denied}
+use Rattle.task_table.specs.Effects.{noted}
+use Rattle.task_table.specs.Rows.{first_row, misused, denied, goes_on_with}
 use Rattle.task_table.specs.Borrows.{Way as Needs, reading, writing, entry_range, grant, buffer_of, part_of, lent}
 use Rattle.lease_core.specs.declared.way.Way.{Way}
 use Rattle.lease_core.specs.declared.way.Way.TheVariants as way
@@ -18,6 +20,11 @@ use Rattle.lease_core.specs.declared.Loan.{Loan}
 abbrev pub way_of : Way → Needs
 way_of way.Read = reading
 way_of way.Write = writing
+
+-- the borrow is noted, and the borrower told how many bytes moved
+abbrev pub told_lent : Loan → ℕ → Turn → Turn
+told_lent x count t =
+    goes_on_with x.borrower (0 ∷ count ∷ []) (noted (note.Borrow x.call (way_of x.way).borrow x.args.lease x.args.offset count) t)
 
 -- the borrower's buffer, and the lender's bytes, are where the way needs them
 abbrev pub IsBuffer : Way → Memory → ℕ → ℕ → Type 0

@@ -2,17 +2,16 @@
 //! Borrows of what a client has leased to its server: the system calls BORROW_READ, BORROW_WRITE and
 //! BORROW_INFO (Hubris Reference, on leases).
 
-ghost use Rattle.std.specs.Prelude.{◌≡◌, ◌+◌, ◌*◌, ◌<◌, ◌≤◌, ◌^◌, [], ◌∷◌, true, Option, Some};
+ghost use Rattle.std.specs.Prelude.{◌≡◌, ◌+◌, ◌*◌, ◌<◌, ◌≤◌, ◌^◌, true, Some};
 ghost use Rattle.kernel_abi.specs.declared.Note.TheVariants as note;
 ghost use Rattle.task_table.specs.State.{Setup, Turn, Call};
 ghost use Rattle.task_table.specs.Reading.{is_valid, is_ready};
 ghost use Rattle.task_table.specs.Effects.{noted};
-ghost use Rattle.task_table.specs.Rows.{goes_on_with};
 ghost use Rattle.task_table.specs.Borrows.{reading, writing, moved, refused, untold, lent, granted, part_of, lease_range, borrowed_by, borrowed, grant_told, informed_by, informed};
 ghost use Rattle.task_table.specs.Holds.{Holds, Stands, Stood, kept_call, task_count, note_count, memory_of};
 ghost use Rattle.task_table.specs.Limits.{call_notes, turn_notes};
 ghost use Rattle.task_table.specs.Frames.{AddsNotes, AddsAtMost};
-ghost use Rattle.lease_core.specs.Loans.{way_of, IsBuffer, IsLeased, IsLoanOf, IsEntry, buffered};
+ghost use Rattle.lease_core.specs.Loans.{way_of, IsBuffer, IsLeased, IsLoanOf, IsEntry, buffered, told_lent};
 
 mod way;
 
@@ -63,7 +62,7 @@ fn move_bytes(k: &mut Kernel, loan: &Loan, leased: u32, count: u32)
 fn tell(k: &mut Kernel, loan: &Loan, count: u32)
     requires there { loan.now.borrower < task_count k.old }
     requires room { note_count k.old + 2 ≤ turn_notes }
-    ensures holds { let x = loan.now in (g : Setup) (t : Turn) → Holds g k.old t → Holds g k.new (goes_on_with x.borrower (0 ∷ count ∷ []) (noted (note.Borrow x.call (way_of x.way).borrow x.args.lease x.args.offset count) t)) }
+    ensures holds { (g : Setup) (t : Turn) → Holds g k.old t → Holds g k.new (told_lent loan.now count t) }
     ensures frame { AddsNotes k.old 2 k.new }
 {
     k.note(Note::Borrow {

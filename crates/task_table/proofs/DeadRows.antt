@@ -5,55 +5,54 @@ use Rattle.std.proofs.lemmas.Bool.{ne_eqb, le-ltb, lt-ltb}
 use Rattle.std.proofs.lemmas.List.{append-nil, take-append-drop}
 use Rattle.task_table.proofs.Posting.{kept_at}
 use Rattle.task_table.proofs.Changes.{task_at-with_task, task_at-with_task_other, length-with_task}
-use Rattle.kernel_abi.specs.Arguments.{send_args, recv_args, reply_args, id_args, borrow_args, info_args}
 use Rattle.kernel_abi.specs.Ids.{index_of}
 use Rattle.task_table.specs.State.{Setup, State, Task, Turn}
-use Rattle.task_table.specs.Reading.{task_at, register, arguments, is_out, is_dead, dead_code_for}
+use Rattle.task_table.specs.Reading.{task_at, register, is_out, is_dead, dead_code_for}
 use Rattle.task_table.specs.Effects.{given, returned, past_call, noted, with_task, with_results}
 use Rattle.task_table.specs.Rows.{misused, goes_on, goes_on_with, received}
 use Rattle.task_table.specs.Sends.{last_reason, sent, replied, reply_faulted, post_made}
 use Rattle.task_table.specs.Borrows.{reading, writing, borrowed, informed}
 use Rattle.task_table.specs.Calls.{called}
-use Rattle.task_table.specs.DeadIds.{Calls, IsDeadId, MaySend, MayReceiveFrom, IsToldAlone}
+use Rattle.task_table.specs.DeadIds.{Calls, IsDeadId, MaySend, MayReceiveFrom, IsToldAlone, recipient, sender, client, lender, asked_lender, posted_to, reason}
 
-pub dead-replied : (g : Setup) (c : ℕ) (t : Turn) → Calls 2 c t → IsDeadId t.state (reply_args (arguments t.state c)).client.number → called g c t ≡ goes_on c t
+pub dead-replied : (g : Setup) (c : ℕ) (t : Turn) → Calls 2 c t → IsDeadId t.state (client t.state c) → called g c t ≡ goes_on c t
 unfolding called replied
 dead-replied g c t e d = rw (e, d.inside, d.dead) refl
 
-pub dead-sent : (g : Setup) (c : ℕ) (t : Turn) → Calls 0 c t → IsDeadId t.state (send_args (arguments t.state c)).recipient.number → MaySend g c t.state → called g c t ≡ goes_on_with c (dead_code_for t.state (send_args (arguments t.state c)).recipient.number ∷ 0 ∷ []) t
+pub dead-sent : (g : Setup) (c : ℕ) (t : Turn) → Calls 0 c t → IsDeadId t.state (recipient t.state c) → MaySend g c t.state → called g c t ≡ goes_on_with c (dead_code_for t.state (recipient t.state c) ∷ 0 ∷ []) t
 unfolding called sent
 dead-sent g c t e d m = let other = ne_eqb _ _ m.other in rw (e, m.task, d.inside, other, m.message, m.reply, m.table, m.readable, m.writable, d.dead) refl
 
-pub dead-received : (g : Setup) (c : ℕ) (t : Turn) → Calls 1 c t → IsDeadId t.state (recv_args (arguments t.state c)).sender.number → MayReceiveFrom g c t.state → called g c t ≡ goes_on_with c (dead_code_for t.state (recv_args (arguments t.state c)).sender.number ∷ 0 ∷ 0 ∷ 0 ∷ 0 ∷ 0 ∷ []) t
+pub dead-received : (g : Setup) (c : ℕ) (t : Turn) → Calls 1 c t → IsDeadId t.state (sender t.state c) → MayReceiveFrom g c t.state → called g c t ≡ goes_on_with c (dead_code_for t.state (sender t.state c) ∷ 0 ∷ 0 ∷ 0 ∷ 0 ∷ 0 ∷ []) t
 unfolding called received
 dead-received g c t e d m =
     let other = ne_eqb _ _ m.other in
     let task = ne_eqb _ _ m.task in
     rw (e, m.valid, m.writable, m.closed, task, d.inside, other, m.quiet, d.dead) refl
 
-pub dead-read : (g : Setup) (c : ℕ) (t : Turn) → Calls 4 c t → IsDeadId t.state (borrow_args (arguments t.state c)).lender.number → called g c t ≡ goes_on_with c (dead_code_for t.state (borrow_args (arguments t.state c)).lender.number ∷ 0 ∷ []) t
+pub dead-read : (g : Setup) (c : ℕ) (t : Turn) → Calls 4 c t → IsDeadId t.state (lender t.state c) → called g c t ≡ goes_on_with c (dead_code_for t.state (lender t.state c) ∷ 0 ∷ []) t
 unfolding called borrowed
 dead-read g c t e d = rw (e, d.inside, d.dead) refl
 
-pub dead-written : (g : Setup) (c : ℕ) (t : Turn) → Calls 5 c t → IsDeadId t.state (borrow_args (arguments t.state c)).lender.number → called g c t ≡ goes_on_with c (dead_code_for t.state (borrow_args (arguments t.state c)).lender.number ∷ 0 ∷ []) t
+pub dead-written : (g : Setup) (c : ℕ) (t : Turn) → Calls 5 c t → IsDeadId t.state (lender t.state c) → called g c t ≡ goes_on_with c (dead_code_for t.state (lender t.state c) ∷ 0 ∷ []) t
 unfolding called borrowed
 dead-written g c t e d = rw (e, d.inside, d.dead) refl
 
-pub dead-informed : (g : Setup) (c : ℕ) (t : Turn) → Calls 6 c t → IsDeadId t.state (info_args (arguments t.state c)).lender.number → called g c t ≡ goes_on_with c (dead_code_for t.state (info_args (arguments t.state c)).lender.number ∷ 0 ∷ 0 ∷ []) t
+pub dead-informed : (g : Setup) (c : ℕ) (t : Turn) → Calls 6 c t → IsDeadId t.state (asked_lender t.state c) → called g c t ≡ goes_on_with c (dead_code_for t.state (asked_lender t.state c) ∷ 0 ∷ 0 ∷ []) t
 unfolding called informed
 dead-informed g c t e d = rw (e, d.inside, d.dead) refl
 
-pub dead-posted : (g : Setup) (c : ℕ) (t : Turn) → Calls 11 c t → IsDeadId t.state (id_args (arguments t.state c)).id.number → called g c t ≡ goes_on_with c (dead_code_for t.state (id_args (arguments t.state c)).id.number ∷ []) t
+pub dead-posted : (g : Setup) (c : ℕ) (t : Turn) → Calls 11 c t → IsDeadId t.state (posted_to t.state c) → called g c t ≡ goes_on_with c (dead_code_for t.state (posted_to t.state c) ∷ []) t
 unfolding called post_made
 dead-posted g c t e d = rw (e, d.inside, d.dead) refl
 
-pub dead-reply_faulted : (g : Setup) (c : ℕ) (t : Turn) → Calls 12 c t → IsDeadId t.state (reply_args (arguments t.state c)).client.number → (reply_args (arguments t.state c)).code ≤ last_reason → called g c t ≡ goes_on c t
+pub dead-reply_faulted : (g : Setup) (c : ℕ) (t : Turn) → Calls 12 c t → IsDeadId t.state (client t.state c) → reason t.state c ≤ last_reason → called g c t ≡ goes_on c t
 unfolding called reply_faulted
-dead-reply_faulted g c t e d few = let known = le-ltb 5 (reply_args (arguments t.state c)).code few in rw (e, d.inside, known, d.dead) refl
+dead-reply_faulted g c t e d few = let known = le-ltb 5 (reason t.state c) few in rw (e, d.inside, known, d.dead) refl
 
-pub dead-no_reason : (g : Setup) (c : ℕ) (t : Turn) → Calls 12 c t → IsDeadId t.state (reply_args (arguments t.state c)).client.number → last_reason < (reply_args (arguments t.state c)).code → called g c t ≡ misused g c 10 t
+pub dead-no_reason : (g : Setup) (c : ℕ) (t : Turn) → Calls 12 c t → IsDeadId t.state (client t.state c) → last_reason < reason t.state c → called g c t ≡ misused g c 10 t
 unfolding called reply_faulted
-dead-no_reason g c t e d many = let unknown = lt-ltb 5 (reply_args (arguments t.state c)).code many in rw (e, d.inside, unknown) refl
+dead-no_reason g c t e d many = let unknown = lt-ltb 5 (reason t.state c) many in rw (e, d.inside, unknown) refl
 
 -- all but the tasks is the same
 record IsSameBeside (s u : State) : Type 0 where

@@ -1,6 +1,6 @@
 -- What a call comes to that names an earlier birth of a task. (Hubris Reference: task ids and generations.)
 use Rattle.std.specs.Prelude.{ℕ, ◌≡◌, ◌≢◌, ◌+◌, ◌%◌, ◌^◌, ◌*◌, ◌≤◌, Bool, true, false, List, [], ◌∷◌, ◌++◌, None, slice_set, bit_and, slice_range}
-use Rattle.kernel_abi.specs.Arguments.{send_args, recv_args}
+use Rattle.kernel_abi.specs.Arguments.{send_args, recv_args, reply_args, id_args, borrow_args, info_args}
 use Rattle.kernel_abi.specs.Ids.{index_of}
 use Rattle.kernel_abi.specs.declared.Note.TheVariants as note
 use Rattle.region_check.specs.declared.Right.TheVariants.{Read, Write}
@@ -14,6 +14,29 @@ use Rattle.task_table.specs.Calls.{is_to_kernel}
 -- the caller makes the call with this number
 abbrev pub Calls : ℕ → ℕ → Turn → Type 0
 Calls n c t = register t.state c call_selector ≡ n
+
+-- the ids that calls of c name: of a SEND, a RECV, a REPLY or REPLY_FAULT, a borrow, BORROW_INFO, and POST
+abbrev pub recipient : State → ℕ → ℕ
+recipient s c = (send_args (arguments s c)).recipient.number
+
+abbrev pub sender : State → ℕ → ℕ
+sender s c = (recv_args (arguments s c)).sender.number
+
+abbrev pub client : State → ℕ → ℕ
+client s c = (reply_args (arguments s c)).client.number
+
+abbrev pub lender : State → ℕ → ℕ
+lender s c = (borrow_args (arguments s c)).lender.number
+
+abbrev pub asked_lender : State → ℕ → ℕ
+asked_lender s c = (info_args (arguments s c)).lender.number
+
+abbrev pub posted_to : State → ℕ → ℕ
+posted_to s c = (id_args (arguments s c)).id.number
+
+-- the reason of a REPLY_FAULT
+abbrev pub reason : State → ℕ → ℕ
+reason s c = (reply_args (arguments s c)).code
 
 -- the id names an earlier birth of a task
 pub record IsDeadId (s : State) (id : ℕ) : Type 0 where

@@ -92,6 +92,10 @@ listened_from Any = listened.Any
 listened_from (One b) = listened.One b.index
 listened_from KernelOnly = listened.Kernel
 
+-- what the receive of a task asks for
+abbrev pub asked : State → ℕ → RecvArgs
+asked s c = recv_args (arguments s c)
+
 abbrev pub buffer_of : RecvArgs → Range
 buffer_of x = record { base = x.buffer_base; length = x.buffer_length }
 
@@ -125,7 +129,7 @@ offer_of s c (Some i) = offer_by s i c
 abbrev pub message_received : ℕ → Option ℕ → Turn → Turn
 message_received c best t =
     let s = t.state in
-    let x = recv_args (arguments s c) in
+    let x = asked s c in
     let id = x.sender.number in
     first_row (
     (x.closed && (id == 0xFFFF), listens c x KernelOnly t)
@@ -136,7 +140,7 @@ message_received c best t =
 -- bits or a message, once the buffer and the sender are checked
 abbrev pub input_received : ℕ → Option ℕ → Turn → Turn
 input_received c best t =
-    let mask = (recv_args (arguments t.state c)).mask in
+    let mask = (asked t.state c).mask in
     first_row (
     (not (bit_and (task_at t.state c).posted mask == 0), takes_bits c mask t)
     ∷ []) (message_received c best t)
@@ -145,7 +149,7 @@ input_received c best t =
 unfoldable pub received : Setup → ℕ → Option ℕ → Turn → Turn
 received g c best t =
     let s = t.state in
-    let x = recv_args (arguments s c) in
+    let x = asked s c in
     let buffer = buffer_of x in
     let id = x.sender.number in
     first_row (

@@ -114,10 +114,13 @@ reply_fault_by s c reason = record { number = 10; x = present_id s c; y = reason
 abbrev pub last_reason : ℕ
 last_reason = 5
 
+-- the client of a call faults, and its server goes on
+abbrev pub faults_client : Setup → ℕ → Call → ℕ → Turn → Turn
+faults_client g c k reason t = goes_on c (faulted_as g k.client.index (reply_fault_by t.state c reason) ending.ReplyFault t)
+
 abbrev pub reply_faulted_to : Setup → ℕ → ℕ → Option Call → Turn → Turn
 reply_faulted_to g c reason None t = goes_on c t
-reply_faulted_to g c reason (Some k) t =
-    goes_on c (faulted_as g k.client.index (reply_fault_by t.state c reason) ending.ReplyFault t)
+reply_faulted_to g c reason (Some k) t = faults_client g c k reason t
 
 unfoldable pub reply_faulted : Setup → ℕ → Turn → Turn
 reply_faulted g c t =

@@ -8,13 +8,12 @@ use region_check::{Right, may_range};
 impl Kernel {
     ghost use Rattle.std.specs.Prelude.{◌≡◌, ◌+◌, ◌<◌, ◌≤◌, ◌^◌, Option, Some};
     ghost use Rattle.std.specs.Option.{option_map};
-    ghost use Rattle.kernel_abi.specs.Arguments.{recv_args};
     ghost use Rattle.kernel_abi.specs.Faults.{access_number};
     ghost use Rattle.mem_banks.specs.Memory.{IsWithin, IsWithinRam};
     ghost use Rattle.task_table.specs.State.{Setup, Turn, Call, Ground};
     ghost use Rattle.task_table.specs.Reading.{arguments, present_id, bad_byte, offer_by, taken_by, IsIdle};
     ghost use Rattle.task_table.specs.Effects.{changed, with_taken, handed};
-    ghost use Rattle.task_table.specs.Rows.{denied, takes_bits, listens, receives};
+    ghost use Rattle.task_table.specs.Rows.{asked, denied, takes_bits, listens, receives};
     ghost use Rattle.task_table.specs.Holds.{Holds, Stands, kept_call, source_of, task_count, note_count, memory_of};
     ghost use Rattle.task_table.specs.Limits.{turn_notes};
     ghost use Rattle.task_table.specs.Frames.{AddsNotes, AddsAtMost};
@@ -95,7 +94,7 @@ impl Kernel {
         requires there { task < task_count self.old }
         requires whom { IsListened (task_count self.old) from }
         requires room { note_count self.old < turn_notes }
-        ensures holds { (g : Setup) (t : Turn) → Holds g self.old t → IsIdle t.state task → Holds g self.new (listening task (recv_args (arguments t.state task)) (from_of t.state from) t) }
+        ensures holds { (g : Setup) (t : Turn) → Holds g self.old t → IsIdle t.state task → Holds g self.new (listening task (asked t.state task) (from_of t.state from) t) }
         ensures frame { AddsNotes self.old 1 self.new }
     {
         let args = RecvArgs::of(&self.arguments(task));
@@ -119,7 +118,7 @@ impl Kernel {
         requires there { task < task_count self.old }
         requires whom { IsListened (task_count self.old) from }
         requires room { note_count self.old < turn_notes }
-        ensures holds { (g : Setup) (t : Turn) → Holds g self.old t → IsIdle t.state task → Holds g self.new (listens task (recv_args (arguments t.state task)) (from_of t.state from) t) }
+        ensures holds { (g : Setup) (t : Turn) → Holds g self.old t → IsIdle t.state task → Holds g self.new (listens task (asked t.state task) (from_of t.state from) t) }
         ensures frame { AddsNotes self.old 1 self.new }
     {
         self.go_past_call(task);
@@ -177,7 +176,7 @@ impl Kernel {
         requires client { client < task_count self.old }
         requires room { note_count self.old + 2 ≤ turn_notes }
         requires receivable { IsReceivable self.old server client call.now }
-        ensures holds { (g : Setup) (t : Turn) (c : Call) → Stands g self.old t → offer_by t.state client server ≡ Some c → kept_call c ≡ call.now → Holds g self.new (receives server (recv_args (arguments t.state server)) c t) }
+        ensures holds { (g : Setup) (t : Turn) (c : Call) → Stands g self.old t → offer_by t.state client server ≡ Some c → kept_call c ≡ call.now → Holds g self.new (receives server (asked t.state server) c t) }
         ensures frame { AddsNotes self.old 2 self.new }
     {
         let args = RecvArgs::of(&self.arguments(server));

@@ -11,9 +11,8 @@ impl Kernel {
     ghost use Rattle.kernel_abi.specs.declared.Ending.TheVariants.{ReplyFault};
     ghost use Rattle.task_table.specs.State.{Setup, Turn, Call};
     ghost use Rattle.task_table.specs.Reading.{present, listen_of, taken_by, IsIdle};
-    ghost use Rattle.task_table.specs.Effects.{offered, faulted_as};
-    ghost use Rattle.task_table.specs.Rows.{goes_on};
-    ghost use Rattle.task_table.specs.Sends.{call_made, sends, answers, reply_fault_by};
+    ghost use Rattle.task_table.specs.Effects.{offered};
+    ghost use Rattle.task_table.specs.Sends.{call_made, sends, answers, faults_client};
     ghost use Rattle.task_table.specs.Holds.{Holds, Stands, kept_call, task_count, note_count, next_call_of};
     ghost use Rattle.task_table.specs.Limits.{turn_notes};
     ghost use Rattle.task_table.specs.Frames.{AddsNotes, AddsAtMost};
@@ -119,7 +118,7 @@ impl Kernel {
         requires there { caller < task_count self.old }
         requires client { client < task_count self.old }
         requires room { note_count self.old + 5 ≤ turn_notes }
-        ensures holds { (g : Setup) (t : Turn) (k : Call) → Stands g self.old t → taken_by t.state client caller ≡ Some k → Holds g self.new (goes_on caller (faulted_as g k.client.index (reply_fault_by t.state caller (reason_number reason)) ReplyFault t)) }
+        ensures holds { (g : Setup) (t : Turn) (k : Call) → Stands g self.old t → taken_by t.state client caller ≡ Some k → Holds g self.new (faults_client g caller k (reason_number reason) t) }
         ensures frame { AddsAtMost self.old 5 self.new }
     {
         let fault = Fault::reply_fault(self.id(caller), reason);

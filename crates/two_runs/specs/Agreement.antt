@@ -1,13 +1,14 @@
 -- What a turn depends on: the rest of it after its events, with another memory that agrees with the first
 -- on what the turn reads.
-use Rattle.std.specs.Prelude.{◌≡◌, ℕ, ◌+◌, Bool, true, ◌&&◌, ◌||◌, not, List, length, nat_le, nat_lt}
+use Rattle.std.specs.Prelude.{◌≡◌, ℕ, ◌+◌, Bool, true, ◌&&◌, ◌||◌, not, List, length, nat_le, nat_lt, Some}
 use Rattle.std.specs.List.{list_any}
 use Rattle.region_check.specs.Rights.{is_inside}
 use Rattle.mem_banks.specs.Memory.{Memory, byte_at}
-use Rattle.task_table.specs.State.{Setup, Read, Turn}
+use Rattle.task_table.specs.State.{Setup, State, Read, Turn}
 use Rattle.task_table.specs.Reading.{setup_at, chosen}
 use Rattle.board_model.specs.declared.told.Level.{Level}
-use Rattle.board_model.specs.Turn.{turn_of, ended}
+use Rattle.board_model.specs.Script.{Scenario}
+use Rattle.board_model.specs.Turn.{turn, turn_of, ended, after_events}
 use Rattle.two_runs.specs.Alike.{but_memory}
 
 -- a byte of a region of the task that is no device
@@ -41,3 +42,11 @@ pub record IsSameButMemory (t u : Turn) : Type 0 where
   pub reads : t.reads ≡ u.reads
   pub notes : t.notes ≡ u.notes
   pub state : but_memory t.state ≡ but_memory u.state
+
+-- the memory agrees with the present one on what the turn reads after its events
+abbrev pub Agrees : Level → Scenario → State → Memory → Type 0
+Agrees level x s m = (c : ℕ) → chosen x.setup (after_events x s).state ≡ Some c → AgreesOnReads x.setup c (turn level x s).reads (after_events x s).state.memory m
+
+-- with any such memory the turn would do the same after its events
+abbrev pub DependsOnReads : Level → Scenario → State → Type 0
+DependsOnReads level x s = (m : Memory) → Agrees level x s m → IsSameButMemory (turn level x s) (rest_of level x.setup (with_memory m (after_events x s)))

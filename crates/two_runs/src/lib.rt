@@ -6,20 +6,18 @@
 //! - Of a number of births its generation alone decides anything (`generations_decide`).
 #![tactic(auto)]
 
-ghost use Rattle.std.specs.Prelude.{◌≡◌, ℕ, Some};
-ghost use Rattle.mem_banks.specs.Memory.{Memory};
+ghost use Rattle.std.specs.Prelude.{◌≡◌, ℕ};
 ghost use Rattle.task_table.specs.State.{Setup, State, Turn};
-ghost use Rattle.task_table.specs.Reading.{chosen};
 ghost use Rattle.task_table.specs.Calls.{called};
 ghost use Rattle.task_table.specs.Sane.{Sane};
 ghost use Rattle.board_model.specs.declared.told.Level.{Level as Detail};
 ghost use Rattle.board_model.specs.declared.told.Level.TheVariants.{Calls, All};
 ghost use Rattle.board_model.specs.Script.{Scenario};
-ghost use Rattle.board_model.specs.Turn.{turn, after_events};
+ghost use Rattle.board_model.specs.Turn.{turn};
 ghost use Rattle.board_model.specs.Run.{run};
 ghost use Rattle.two_runs.specs.Levels.{IsLessTold, without_instructions};
 ghost use Rattle.two_runs.specs.Alike.{reduced};
-ghost use Rattle.two_runs.specs.Agreement.{AgreesOnReads, rest_of, with_memory, IsSameButMemory};
+ghost use Rattle.two_runs.specs.Agreement.{DependsOnReads};
 
 /// What is told on request decides nothing: two turns that differ in it alone still do after a call of a
 /// task, and so do the turns from one state of which calls alone, or all instructions, are told.
@@ -38,7 +36,7 @@ pub fn instructions_are_told_beside()
 /// that are no device, and where it read for another task. With any memory that has the same bytes there
 /// it gives the same writes, reads and notes, and the same next state but for memory.
 pub fn a_turn_depends_on_what_it_reads()
-    ensures { (level : Detail) (x : Scenario) (s : State) (m : Memory) → Sane x.setup s → ((c : ℕ) → chosen x.setup (after_events x s).state ≡ Some c → AgreesOnReads x.setup c (turn level x s).reads (after_events x s).state.memory m) → IsSameButMemory (turn level x s) (rest_of level x.setup (with_memory m (after_events x s))) }
+    ensures { (level : Detail) (x : Scenario) (s : State) → Sane x.setup s → DependsOnReads level x s }
 {}
 
 /// Of a number of births nothing but the generation decides: a sane state is sane with its births modulo 64, and a

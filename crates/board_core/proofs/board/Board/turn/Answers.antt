@@ -7,4 +7,4 @@ pub returns-clause-grounds : goal.returns-clause-grounds
 returns-clause-grounds c = λ x s st. grounded-turn All x s st.sane
 
 pub returns-clause-reads : goal.returns-clause-reads
-returns-clause-reads c = λ x s m st agrees. same_turn All x s m st.sane agrees
+returns-clause-reads c = λ x s st m agrees. same_turn All x s m st.sane agrees

@@ -59,21 +59,21 @@ returns-then-first-ge29-clause-done c = λ done g t r.
     wide_stepped Calls g t (MachineHolds g c.proceeds_wide.new.self) c.get-at.result c.half-first.result true at text refl half (le-leb _ _ c.if-first-ge29.true) (c.proceeds_wide.ensures.done done g t r)
 
 pub returns-then-first-ge29-clause-goes : goal.returns-then-first-ge29-clause-goes
-returns-then-first-ge29-clause-goes c = λ left g t r within narrow.
+returns-then-first-ge29-clause-goes c = λ left g t r n.
     let h = r.holds in
     let rest = rest_of h.saved t _ h.is in
     let at = c.get-at.ensures ∙ loaded_register g _ _ t h r.sane.steady.current in
     let half = c.half-first.ensures.holds g h.saved h.holds ∙ ap (λ (m : Memory). number_at m c.get-at.result 2) (sym rest.memory) in
     let same : c.half-first.result ≡ number_at t.state.memory (register t.state t.state.current 15) 2 = half ∙ ap (λ (a : ℕ). number_at t.state.memory a 2) at in
-    absurd (false≢true (sym narrow ∙ ap is_wide (sym same) ∙ le-leb _ _ c.if-first-ge29.true))
+    absurd (false≢true (sym n.narrow ∙ ap is_wide (sym same) ∙ le-leb _ _ c.if-first-ge29.true))
 
 pub returns-then-not-spans-clause-goes : goal.returns-then-not-spans-clause-goes
-returns-then-not-spans-clause-goes c = λ left g t r within narrow.
+returns-then-not-spans-clause-goes c = λ left g t r n.
     let at = c.get-at.ensures ∙ loaded_register g _ _ t r.holds r.sane.steady.current in
-    absurd (false≢true (sym c.if-not-spans.true ∙ c.spans.ensures ∙ ap (λ (a : ℕ). spans c.args.text.now a 2) at ∙ within))
+    absurd (false≢true (sym c.if-not-spans.true ∙ c.spans.ensures ∙ ap (λ (a : ℕ). spans c.args.text.now a 2) at ∙ n.within))
 
 pub returns-clause-goes : goal.returns-clause-goes
-returns-clause-goes c = λ left g t r within wide.
+returns-clause-goes c = λ left g t r n.
     let h = r.holds in
     let rest = rest_of h.saved t _ h.is in
     let at = c.get-at.ensures ∙ loaded_register g _ _ t h r.sane.steady.current in
