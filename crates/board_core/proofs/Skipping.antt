@@ -7,6 +7,7 @@ use Rattle.kernel_abi.specs.declared.Note.{Note}
 use Rattle.run_script.specs.Scripts.{Listed, ScriptData, IsNext, events_of, lasts}
 use Rattle.task_table.specs.State.{State, Turn}
 use Rattle.task_table.specs.Reading.{chosen, task_at, is_ready, call_of, listen_of}
+use Rattle.task_table.specs.Holds.{notes_of as kernel_notes}
 use Rattle.task_table.specs.Start.{begun}
 use Rattle.board_core.specs.declared.board.Board.{Board}
 use Rattle.board_core.specs.declared.machine.Machine.{Machine}
@@ -22,7 +23,7 @@ use Rattle.board_core.specs.Midway.{IsMidway}
 use Rattle.board_core.specs.Stands.{Stands, notes_of, turns_of}
 use Rattle.board_core.specs.Advanced.{IsAdvanced}
 use Rattle.board_core.specs.Skipped.{IsIdleUntil, state_after}
-use Rattle.board_core.proofs.Turning.{HasTurned, as_chosen, turn_notes}
+use Rattle.board_core.proofs.Turning.{HasTurned, as_chosen, noted_in}
 use Rattle.board_core.proofs.Gliding.{midway_now, stands_so}
 
 -- ## turns of the definition
@@ -114,6 +115,27 @@ skipped x s b (suc k) st quiet none later few =
     let one = idle_board x u record b { turns = turns_of b + k } before quiet none (later (turns_of b + k) (omega arith)) (omega (arith, few)) in
     let e : turns_of b + k + 1 ≡ turns_of b + suc k = omega arith in
     subst (λ (v : State). Stands x record b { turns = turns_of b + suc k } v) (sym (ap (λ (t : Turn). t.state) (last_turn Calls x k s))) (subst (λ (n : ℕ). Stands x record b { turns = n } (turn Calls x u).state) e one)
+
+-- a board whose turn has begun notes nothing, and stands for the same states
+pub quiet_begun : (x : Scenario) (s : State) (m : Machine) → MachineHolds x.setup m (begun s) → kernel_notes m.reach.kernel ≡ []
+unfolding begun
+quiet_begun x s m h = noted_in x.setup m (begun s) h
+
+pub begun_board : (x : Scenario) (s : State) (b : Board) (m : Machine) → Stands x b s → MachineHolds x.setup m (begun s) → Stands x record b { machine = m } s
+unfolding begun
+begun_board x s b m st h =
+    let P : List Note → Type 0 = λ ns. MachineHolds x.setup m record { state = s; notes = ns; writes = []; reads = [] } in
+    record {
+      holds = record {
+        machine = subst P (sym (quiet_begun x s m h)) h;
+        turns = st.holds.turns;
+        choice = st.holds.choice;
+        script = st.holds.script;
+        due = st.holds.due;
+      };
+      sane = st.sane;
+      counted = st.counted;
+    }
 
 -- ## they are turns on end of which none notes anything
 

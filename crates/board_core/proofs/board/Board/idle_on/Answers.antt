@@ -1,0 +1,35 @@
+use Rattle.std.proofs.Common.{◌+◌, ◌-◌, ◌≡◌, ◌≢◌, ◌<◌, ℕ, true, [], Some, sym, ◌∙◌, ap, subst, arith}
+use Rattle.run_script.specs.Scripts.{ScriptData, lasts}
+use Rattle.task_table.specs.State.{State}
+use Rattle.board_model.specs.declared.told.Level.TheVariants.{Calls}
+use Rattle.board_model.specs.Run.{turn_after}
+use Rattle.board_core.specs.Stands.{notes_of, turns_of}
+use Rattle.board_core.specs.Advanced.{IsAdvanced}
+use Rattle.board_core.specs.Skipped.{IsIdleUntil, state_after}
+use Rattle.board_core.proofs.Turning.{empty_of}
+use Rattle.board_core.proofs.Skipping.{idle_board_until, skip_advances}
+use Rattle.board_core.proofs.board.Board.idle_on.Goals as goal
+
+pub skip-requires-clause-idle : goal.skip-requires-clause-idle
+skip-requires-clause-idle c = λ x s st.
+    let within = c.quiet_until-until.ensures.within in
+    let few = c.requires.few in
+    idle_board_until x s c.args.self.now c.quiet_until-until.result st c.requires.none c.requires.up c.quiet_until-until.ensures.later (omega (arith, within, few))
+
+pub returns-clause-advanced : goal.returns-clause-advanced
+returns-clause-advanced c = λ x n s a.
+    let b = c.args.self.now in
+    let b' = c.skip.new.self in
+    let to : ℕ = c.quiet_until-until.result in
+    let u : State = (turn_after Calls x n s).state in
+    let at = a.stands.holds.turns in
+    let within = c.quiet_until-until.ensures.within in
+    let few = c.requires.few in
+    let ahead = c.if-self-until.false in
+    let turns = c.skip.ensures.turns in
+    let quiet : notes_of b ≡ [] = sym c.notes.ensures ∙ empty_of c.notes.result.now (sym c.is_empty.ensures ∙ c.if-not-is_empty.false) in
+    let e : u.turn + (to - u.turn) ≡ to = omega (arith, at, ahead) in
+    let idle : IsIdleUntil x u (u.turn + (to - u.turn)) = subst (λ (k : ℕ). IsIdleUntil x u k) (sym e) (idle_board_until x u b to a.stands c.requires.none c.requires.up c.quiet_until-until.ensures.later (omega (arith, within, few))) in
+    let more : lasts x.script (u.turn + (to - u.turn)) ≡ true = ap (lasts x.script) e ∙ ap (λ (script : ScriptData). lasts script to) (sym a.stands.holds.script) ∙ sym c.lasts.ensures ∙ c.if-not-lasts.false in
+    let k : to - u.turn ≡ turns_of b' - turns_of b = omega (arith, at, turns) in
+    subst (λ (m : ℕ). IsAdvanced Calls x (n + m) s b') k (skip_advances x n (to - u.turn) s b b' a quiet idle more (c.skip.ensures.model x u a.stands) c.skip.ensures.nothing)
