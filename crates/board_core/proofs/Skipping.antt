@@ -1,5 +1,5 @@
 -- Idle turns on end.
-use Rattle.std.proofs.Common.{◌≡◌, ◌≢◌, ◌⊎◌, inl, inr, ◌+◌, ◌-◌, ◌<◌, ◌≤◌, ℕ, zero, suc, Bool, true, false, List, [], ◌∷◌, Option, Some, None, refl, sym, ◌∙◌, ap, subst, arith, leb}
+use Rattle.std.proofs.Common.{◌≡◌, ◌≢◌, ◌⊎◌, inl, inr, ◌+◌, ◌-◌, ◌<◌, ◌≤◌, ℕ, zero, suc, Bool, true, false, ◌||◌, List, [], ◌∷◌, Option, Some, None, refl, sym, ◌∙◌, ap, subst, arith, leb}
 use Rattle.std.specs.Prelude.{is_some}
 use Rattle.std.specs.List.{list_any}
 use Rattle.std.proofs.lemmas.Bool.Decides.{nat_tests}
@@ -140,13 +140,17 @@ begun_board x s b m st h =
 -- ## they are turns on end of which none notes anything
 
 -- something that happens at a turn or later happens at an earlier turn or later
+or_true : (b : Bool) → (b || true) ≡ true
+or_true true = refl
+or_true false = refl
+
 any_from : (events : List Listed) (from to : ℕ) → from ≤ to → list_any (λ listed. leb to listed.0) events ≡ true → list_any (λ listed. leb from listed.0) events ≡ true
 any_from [] from to le more = more
-any_from (e ∷ es) from to le more = by_first (leb to e.0) refl
+any_from (e ∷ es) from to le more = by_first (leb to e.0) refl (any_from es from to le)
   where
-    by_first : (b : Bool) → leb to e.0 ≡ b → list_any (λ listed. leb from listed.0) (e ∷ es) ≡ true
-    by_first true is = let here : leb from e.0 ≡ true = grind (arith, nat_tests, is) in rw here refl
-    by_first false is = rw (any_from es from to le (rw is at more)) (or_true (leb from e.0))
+    by_first : (b : Bool) → leb to e.0 ≡ b → (list_any (λ listed. leb to listed.0) es ≡ true → list_any (λ listed. leb from listed.0) es ≡ true) → list_any (λ listed. leb from listed.0) (e ∷ es) ≡ true
+    by_first true is rest = let here : leb from e.0 ≡ true = grind (arith, nat_tests, is) in rw here refl
+    by_first false is rest = ap (λ (b : Bool). leb from e.0 || b) (rest (rw is at more)) ∙ or_true (leb from e.0)
 
 lasts_from : (script : ScriptData) (from to : ℕ) → from ≤ to → lasts script to ≡ true → lasts script from ≡ true
 lasts_from script from to le more = by_every (is_some script.every) refl
@@ -156,7 +160,7 @@ lasts_from script from to le more = by_every (is_some script.every) refl
     by_every false is = rw is (any_from script.events from to le (rw is at more))
 
 either : (n j : ℕ) → (j < n) ⊎ ((i : ℕ) × (j ≡ n + i))
-either zero j = inr (j, refl)
+either zero j = inr (j, omega arith)
 either (suc n) zero = inl (omega arith)
 either (suc n) (suc j) = by (either n j)
   where
@@ -188,9 +192,11 @@ skip_advances x n k s b b' a quiet idle more st none =
     quiets : (i : ℕ) → i ≤ k → (turn_after Calls x (n + i) s).notes ≡ []
     quiets zero le = let e : n + 0 ≡ n = omega arith in ap (λ (m : ℕ). (turn_after Calls x m s).notes) e ∙ sym a.notes ∙ quiet
     quiets (suc i) le = ap (λ (t : Turn). t.notes) (sym (turn_further Calls x n i s)) ∙ silent_then x (turn_after Calls x n s).state _ idle i (omega (arith, le))
+
     nothing_at : (j : ℕ) → j < n + k → (j < n) ⊎ ((i : ℕ) × (j ≡ n + i)) → (turn_after Calls x j s).notes ≡ []
     nothing_at j lt (inl less) = a.nothing j less
     nothing_at j lt (inr (i, e)) = ap (λ (m : ℕ). (turn_after Calls x m s).notes) e ∙ quiets i (omega (arith, lt, e))
+
     goes_at : (j : ℕ) → j < n + k → (j < n) ⊎ ((i : ℕ) × (j ≡ n + i)) → ending x 1 (turn_after Calls x j s).state ≡ None
     goes_at j lt (inl less) = a.goes_on j less
     goes_at j lt (inr (i, e)) =

@@ -156,7 +156,7 @@ impl Board {
         ensures within { turns_of self.new ≤ limit }
     {
         let until = quiet_until(self.due, limit);
-        if self.turns >= until {
+        if until <= self.turns {
             return;
         }
         if !self.notes().is_empty() {
