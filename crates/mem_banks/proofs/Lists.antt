@@ -27,21 +27,6 @@ pasted_within l b r new p o e fits =
     rw (take_after l (b ++ r) p o e, drop_after l (b ++ r) (p + length new) (o + length new) (omega arith), take-append-le o b r k, drop-append-le (o + length new) b r m)
     (simp append_assoc)
 
-pub length_pasted : (b new : List ℕ) (o : ℕ) → o + length new ≤ length b → length (pasted b o new) ≡ length b
-length_pasted b new o fits = simp (length-append, length-take, length-drop) (omega arith)
-
-pub length_part : (xs : List ℕ) (i n : ℕ) → i + n ≤ length xs → length (take n (drop i xs)) ≡ n
-length_part xs i n h = simp (length-take, length-drop) (omega arith)
-
--- within one list
-pub paste_pasted : (xs : List ℕ) (i at n k : ℕ) → k ≡ n → i + n ≤ length xs → paste xs at (drop i xs) k ≡ pasted xs at (take n (drop i xs))
-paste_pasted xs i at n k same fits =
-    let l : length (take n (drop i xs)) ≡ n = length_part xs i n fits in
-    rw (same, l)
-
-pub pasted_none : (xs : List ℕ) (a : ℕ) → xs ≡ pasted xs a []
-pasted_none xs a = sym (simp (add-zero, append-nil, take-append-drop))
-
 -- ## one paste after another
 pub parts_joined : (xs : List ℕ) (p q n k : ℕ) → q ≡ p + n → p + n + k ≤ length xs → take n (drop p xs) ++ take k (drop q xs) ≡ take (n + k) (drop p xs)
 parts_joined xs p q n k e fits = same_lists _ _ (simp (length-append, length-take, length-drop) (omega arith)) (λ i d u. grind (arith, places))

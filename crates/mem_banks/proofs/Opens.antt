@@ -7,7 +7,7 @@ use Rattle.mem_banks.specs.Banks.{flash_of, ram_of, AreLaid}
 use Rattle.mem_banks.specs.Memory.{Memory, pasted, with_bytes, AreAllBytes}
 use Rattle.mem_banks.specs.Kept.{AreKept, IsNext, IsLaidOut, AreZeros, seen}
 use Rattle.mem_banks.proofs.Splits.{push_flash, push_ram}
-use Rattle.mem_banks.proofs.Within.{with_bytes_flash}
+use Rattle.mem_banks.proofs.Copies.{with_bytes_flash}
 
 zeros_more : (xs ys zs : List ℕ) (a b c : ℕ) → ys ≡ xs ++ replicate a 0 → zs ≡ replicate b 0 → a + b ≡ c → ys ++ zs ≡ xs ++ replicate c 0
 zeros_more xs ys zs a b c e f g = rw (e, f, ← g, ← replicate-append-replicate {A = ℕ} a b 0) (simp append_assoc)
@@ -86,12 +86,6 @@ pub opened : (banks : List Bank) (flash : List ℕ) (r n : ℕ) (m : Memory) →
 opened banks flash r n m z e is =
     let len : length (flash_of banks) ≡ length flash = ap length z.flash ∙ (length-replicate {A = ℕ} n 0 ∙ e) in
     rw (is, with_bytes_flash (seen banks) 0x08000000 flash (omega arith), pasted_all (flash_of banks) flash len, z.ram) refl
-
--- what stands below 256 at each place are bytes
-pub all_bytes : (xs : List ℕ) → ((k : ℕ) → get_or xs k 0 < 256) → AreAllBytes xs
-all_bytes [] small b h = absurd (omega (arith, h.1))
-all_bytes (x ∷ xs) small b (zero, lt, same) = let e : x ≡ b = same in let h : x < 256 = small 0 in omega arith
-all_bytes (x ∷ xs) small b (suc i, lt, same) = all_bytes xs (λ k. small (suc k)) b (i, omega arith, same)
 
 -- zero banks with a table are kept
 pub kept_zeros : (table : List ℕ) (banks : List Bank) (f r : ℕ) → AreZeros banks f r → f ≤ 1048576 → r ≤ 262144 → length table ≡ 8192 → All (λ k. k < length banks) table → AreKept table banks

@@ -6,9 +6,10 @@ use Rattle.mem_banks.specs.declared.bank.Bank.{Bank}
 use Rattle.mem_banks.specs.Banks.{flash_of, ram_of, AreLaid, IsAt, IsNowhere, IsPut, IsMoved}
 use Rattle.mem_banks.specs.Memory.{Memory, bytes_at, with_bytes, copied, pasted, IsWithin}
 use Rattle.mem_banks.specs.Kept.{AreKept, IsDone, seen, spans_of}
-use Rattle.mem_banks.proofs.Lists.{pasted_none, parts_joined, pasted_after, pasted_before, part_below, part_above, length_pasted, length_part}
+use Rattle.mem_banks.proofs.Copies.{with_bytes_none, with_bytes_ram, with_bytes_flash, bytes_ram, bytes_flash, length-pasted, length_part}
+use Rattle.mem_banks.proofs.Lists.{parts_joined, pasted_after, pasted_before, part_below, part_above}
 use Rattle.mem_banks.proofs.Splits.{ram_split, flash_split}
-use Rattle.mem_banks.proofs.Within.{first_of, bytes_in, put_in_map, bank_ends, with_bytes_ram, with_bytes_flash, bytes_ram, bytes_flash, nowhere_ram, nowhere_flash}
+use Rattle.mem_banks.proofs.Within.{first_of, bytes_in, put_in_map, bank_ends, nowhere_ram, nowhere_flash}
 
 -- where n bytes lie
 pub data Side (m : Memory) (a n : ℕ) : Type 0 where
@@ -29,34 +30,12 @@ side_same m o a n e f (ram_side x y) = ram_side x (omega arith)
 side_same m o a n e f (flash_side x y z) = flash_side x (omega arith) z
 
 pub same_ram : (m : Memory) (a : ℕ) (ys : List ℕ) → Side m a (length ys) → length (with_bytes m a ys).ram ≡ length m.ram
-same_ram m a ys (ram_side x y) = rw (with_bytes_ram m a ys x) (length_pasted m.ram ys (a - 0x20000000) (omega arith))
+same_ram m a ys (ram_side x y) = rw (with_bytes_ram m a ys x) (length-pasted m.ram (a - 0x20000000) ys (omega arith))
 same_ram m a ys (flash_side x y z) = rw (with_bytes_flash m a ys z) refl
 
 pub same_flash : (m : Memory) (a : ℕ) (ys : List ℕ) → Side m a (length ys) → length (with_bytes m a ys).flash ≡ length m.flash
 same_flash m a ys (ram_side x y) = rw (with_bytes_ram m a ys x) refl
-same_flash m a ys (flash_side x y z) = rw (with_bytes_flash m a ys z) (length_pasted m.flash ys (a - 0x08000000) (omega arith))
-
--- no bytes change nothing
-with_bytes_nil : (b : Bool) (m : Memory) (a c : ℕ) → m ≡ cond b (record m { ram = pasted m.ram a [] }) (record m { flash = pasted m.flash c [] })
-with_bytes_nil true m a c = ap (λ x. record m { ram = x }) (pasted_none m.ram a)
-with_bytes_nil false m a c = ap (λ x. record m { flash = x }) (pasted_none m.flash c)
-
-pub with_bytes_none : (m : Memory) (a : ℕ) (bytes : List ℕ) → bytes ≡ [] → m ≡ with_bytes m a bytes
-unfolding with_bytes
-with_bytes_none m a bytes e = rw e (with_bytes_nil (leb 0x20000000 a) m (a - 0x20000000) (a - 0x08000000))
-
-take_none : (xs : List ℕ) → take 0 xs ≡ []
-take_none [] = refl
-take_none (x ∷ xs) = refl
-
-cond_nil : (a b : Bool) (xs ys : List ℕ) → xs ≡ [] → ys ≡ [] → cond a xs (cond b ys []) ≡ []
-cond_nil true b xs ys e f = e
-cond_nil false true xs ys e f = f
-cond_nil false false xs ys e f = refl
-
-pub bytes_zero : (m : Memory) (a n : ℕ) → n ≡ 0 → bytes_at m a n ≡ []
-unfolding bytes_at
-bytes_zero m a n e = rw e (cond_nil (leb 0x20000000 a) (leb 0x08000000 a) (take 0 (drop (a - 0x20000000) m.ram)) (take 0 (drop (a - 0x08000000) m.flash)) (take_none (drop (a - 0x20000000) m.ram)) (take_none (drop (a - 0x08000000) m.flash)))
+same_flash m a ys (flash_side x y z) = rw (with_bytes_flash m a ys z) (length-pasted m.flash (a - 0x08000000) ys (omega arith))
 
 -- one piece after another, and before another
 pub put_after : (m : Memory) (a b : ℕ) (ys zs : List ℕ) → b ≡ a + length ys → Side m a (length ys + length zs) → b < 0x20000000 ⊎ (0x20000000 ≤ a) → with_bytes (with_bytes m a ys) b zs ≡ with_bytes m a (ys ++ zs)
@@ -146,7 +125,7 @@ put_done table banks after k o a new d kept there same fits put =
     let e = (put.2 d).0 in
     let f = (put.2 d).1 in
     let side = side_in table banks k o a (length new) d kept there same fits in
-    let n : length x.bytes.items ≡ length (get_or banks k d).bytes.items = rw f (length_pasted (get_or banks k d).bytes.items new o fits) in
+    let n : length x.bytes.items ≡ length (get_or banks k d).bytes.items = rw f (length-pasted (get_or banks k d).bytes.items o new fits) in
     let v : seen (set banks k x) ≡ with_bytes (seen banks) a new = put_in_map banks k o a new d x kept.laid kept.flash there same fits e f in
     rw put.1 record {
       kept = record {

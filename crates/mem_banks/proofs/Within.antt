@@ -8,35 +8,9 @@ use Rattle.mem_banks.specs.Banks.{flash_of, ram_of, AreLaid, IsAt, IsNowhere}
 use Rattle.mem_banks.specs.Memory.{Memory, is_held, bytes_at, with_bytes, number_of, pasted}
 use Rattle.mem_banks.specs.Kept.{AreKept, seen}
 use Rattle.std.specs.Option.{IfSome, IfNone, is_some}
-use Rattle.mem_banks.proofs.Numbers.{number_of_one, number_of_two, number_of_four}
+use Rattle.mem_banks.proofs.Copies.{with_bytes_ram, with_bytes_flash, bytes_ram, bytes_flash, bytes_none, number_of_one, number_of_two, number_of_four}
 use Rattle.mem_banks.proofs.Lists.{part_within, pasted_within}
 use Rattle.mem_banks.proofs.Splits.{ram_split, flash_split}
-
-pub with_bytes_ram : (m : Memory) (a : ℕ) (bytes : List ℕ) → 0x20000000 ≤ a → with_bytes m a bytes ≡ record m { ram = pasted m.ram (a - 0x20000000) bytes }
-unfolding with_bytes
-with_bytes_ram m a bytes h = let t : leb 0x20000000 a ≡ true = le-leb _ _ h in rw t
-
-pub with_bytes_flash : (m : Memory) (a : ℕ) (bytes : List ℕ) → a < 0x20000000 → with_bytes m a bytes ≡ record m { flash = pasted m.flash (a - 0x08000000) bytes }
-unfolding with_bytes
-with_bytes_flash m a bytes h = let t : leb 0x20000000 a ≡ false = lt-leb _ _ h in rw t
-
-pub bytes_ram : (m : Memory) (a n : ℕ) → 0x20000000 ≤ a → bytes_at m a n ≡ take n (drop (a - 0x20000000) m.ram)
-unfolding bytes_at
-bytes_ram m a n h = let t : leb 0x20000000 a ≡ true = le-leb _ _ h in rw t
-
-pub bytes_flash : (m : Memory) (a n : ℕ) → a < 0x20000000 → 0x08000000 ≤ a → bytes_at m a n ≡ take n (drop (a - 0x08000000) m.flash)
-unfolding bytes_at
-bytes_flash m a n h above =
-    let t : leb 0x20000000 a ≡ false = lt-leb _ _ h in
-    let u : leb 0x08000000 a ≡ true = le-leb _ _ above in
-    rw (t, u)
-
-pub bytes_none : (m : Memory) (a n : ℕ) → a < 0x08000000 → bytes_at m a n ≡ []
-unfolding bytes_at
-bytes_none m a n below =
-    let t : leb 0x20000000 a ≡ false = lt-leb _ _ (omega arith) in
-    let u : leb 0x08000000 a ≡ false = lt-leb _ _ below in
-    rw (t, u)
 
 -- n bytes of a bank
 pub bytes_in : (banks : List Bank) (k o a n : ℕ) (d : Bank) → AreLaid 0x08000000 0x20000000 banks → length (flash_of banks) ≤ 1048576 → k < length banks → (get_or banks k d).base + o ≡ a → o + n ≤ length (get_or banks k d).bytes.items → bytes_at (seen banks) a n ≡ take n (drop o (get_or banks k d).bytes.items)

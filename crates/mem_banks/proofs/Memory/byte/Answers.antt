@@ -1,6 +1,6 @@
 use Rattle.std.proofs.Common.{◌+◌, ◌%◌, ◌-◌, ◌<◌, arith, length, refl}
 use Rattle.std.proofs.lemmas.List.{get_or_read}
-use Rattle.mem_banks.proofs.Numbers.{number_of_one}
+use Rattle.mem_banks.proofs.Copies.{number_of_one}
 use Rattle.mem_banks.proofs.Within.{number_read}
 use Rattle.mem_banks.proofs.Memory.byte.Goals as goal
 

@@ -1,5 +1,6 @@
 use Rattle.std.proofs.Common.{rules, ◌<◌, get_or, ℕ, Fits, w8, refl}
-use Rattle.mem_banks.proofs.Opens.{all_bytes, kept_zeros, opened}
+use Rattle.mem_banks.proofs.Copies.{all_bytes}
+use Rattle.mem_banks.proofs.Opens.{kept_zeros, opened}
 use Rattle.mem_banks.proofs.Parting.{zeros_size}
 use Rattle.mem_banks.proofs.Memory.open.Goals as goal
 

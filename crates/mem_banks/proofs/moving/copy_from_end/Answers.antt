@@ -3,7 +3,8 @@ use Rattle.mem_banks.specs.declared.bank.Bank.{Bank}
 use Rattle.mem_banks.specs.Memory.{bytes_at}
 use Rattle.mem_banks.specs.Kept.{seen}
 use Rattle.mem_banks.proofs.Within.{first_of}
-use Rattle.mem_banks.proofs.Pieces.{side_of, side_part, nothing_done, not_nowhere, side_done, copy_step_end, at_before, bytes_zero, length_at}
+use Rattle.mem_banks.proofs.Copies.{bytes_zero}
+use Rattle.mem_banks.proofs.Pieces.{side_of, side_part, nothing_done, not_nowhere, side_done, copy_step_end, at_before, length_at}
 use Rattle.mem_banks.proofs.moving.copy_from_end.Goals as goal
 
 pub loop-left-init : goal.loop-left-init

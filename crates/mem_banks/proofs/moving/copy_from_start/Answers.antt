@@ -3,7 +3,8 @@ use Rattle.mem_banks.specs.declared.bank.Bank.{Bank}
 use Rattle.mem_banks.specs.Memory.{bytes_at}
 use Rattle.mem_banks.specs.Kept.{seen}
 use Rattle.std.proofs.lemmas.List.{get_or_default}
-use Rattle.mem_banks.proofs.Pieces.{side_of, side_part, nothing_done, not_nowhere, side_done, copy_step, bytes_zero, length_at}
+use Rattle.mem_banks.proofs.Copies.{bytes_zero}
+use Rattle.mem_banks.proofs.Pieces.{side_of, side_part, nothing_done, not_nowhere, side_done, copy_step, length_at}
 use Rattle.mem_banks.proofs.moving.copy_from_start.Goals as goal
 
 pub loop-done-init : goal.loop-done-init

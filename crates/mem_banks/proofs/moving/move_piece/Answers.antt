@@ -3,7 +3,7 @@ use Rattle.std.proofs.lemmas.List.{get_or_default, get_or_append_left, get_or-ap
 use Rattle.mem_banks.specs.declared.bank.Bank.{Bank}
 use Rattle.mem_banks.specs.Banks.{IsPut}
 use Rattle.mem_banks.specs.Memory.{pasted}
-use Rattle.mem_banks.proofs.Lists.{paste_pasted}
+use Rattle.mem_banks.proofs.Copies.{paste_pasted}
 use Rattle.mem_banks.proofs.moving.move_piece.Goals as goal
 
 -- a bank put in place of one

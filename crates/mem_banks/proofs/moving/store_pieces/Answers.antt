@@ -1,6 +1,7 @@
 use Rattle.std.proofs.Common.{◌+◌, ◌-◌, ◌≤◌, ◌<◌, ◌≡◌, [], take, drop, length, get_or, length-take, refl, arith}
 use Rattle.mem_banks.specs.Kept.{seen}
-use Rattle.mem_banks.proofs.Lists.{length_part, take_joined}
+use Rattle.mem_banks.proofs.Copies.{length_part}
+use Rattle.mem_banks.proofs.Lists.{take_joined}
 use Rattle.mem_banks.proofs.Pieces.{side_of, side_part, at_hand, nothing_done, more_done, put_done, not_nowhere}
 use Rattle.mem_banks.proofs.moving.store_pieces.Goals as goal
 
