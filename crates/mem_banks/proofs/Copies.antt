@@ -1,9 +1,9 @@
 -- What reads of memory give, and what stores leave.
-use Rattle.std.proofs.Common.{◌≡◌, ◌+◌, ◌-◌, ◌*◌, ◌<◌, ◌≤◌, inl, inr, ℕ, zero, suc, Bool, true, false, cond, leb, ltb, Some, None, List, [], ◌∷◌, length, take, drop, get_or, slice_get, refl, sym, ◌∙◌, ap, add-zero, arith, length-take, length-drop}
+use Rattle.std.proofs.Common.{◌≡◌, ◌+◌, ◌-◌, ◌*◌, ◌<◌, ◌≤◌, ℕ, zero, suc, Bool, true, false, cond, leb, ltb, Some, None, List, [], ◌∷◌, length, take, drop, get_or, slice_get, refl, sym, ◌∙◌, ap, add-zero, arith, length-take, length-drop}
 use Rattle.std.proofs.lemmas.Bool.{le-leb, lt-leb, ltb-true, ltb-false, false≢true}
 use Rattle.std.proofs.lemmas.List.{take-append-drop, append-nil, length-append}
 use lib.Seq.{paste}
-use Rattle.mem_banks.specs.Memory.{Memory, bytes_at, with_bytes, copied, number_of, pasted, is_held, byte_at, number_at, IsWithin, AreAllBytes}
+use Rattle.mem_banks.specs.Memory.{Memory, bytes_at, with_bytes, number_of, pasted, is_held, byte_at, number_at, AreAllBytes}
 
 -- no bytes change nothing
 pasted_none : (xs : List ℕ) (a : ℕ) → xs ≡ pasted xs a []
@@ -126,7 +126,6 @@ byte_missing m a h = go (leb 0x20000000 a) (leb 0x08000000 a) h
 pub length-pasted : (xs : List ℕ) (at : ℕ) (bytes : List ℕ) → at + length bytes ≤ length xs → length (pasted xs at bytes) ≡ length xs
 length-pasted xs at bytes h = simp (length-append, length-take, length-drop) (omega arith)
 
--- ## a copy
 pub length_part : (xs : List ℕ) (i n : ℕ) → i + n ≤ length xs → length (take n (drop i xs)) ≡ n
 length_part xs i n h = simp (length-take, length-drop) (omega arith)
 
@@ -144,40 +143,8 @@ pub bytes_zero : (m : Memory) (a n : ℕ) → n ≡ 0 → bytes_at m a n ≡ []
 unfolding bytes_at
 bytes_zero m a n e = rw e (cond_nil (leb 0x20000000 a) (leb 0x08000000 a) (take 0 (drop (a - 0x20000000) m.ram)) (take 0 (drop (a - 0x08000000) m.flash)) (take_none (drop (a - 0x20000000) m.ram)) (take_none (drop (a - 0x08000000) m.flash)))
 
-pub copied_none : (m : Memory) (from to n : ℕ) → n ≡ 0 → m ≡ copied m from to n
-unfolding copied
-copied_none m from to n e = with_bytes_none m to (bytes_at m from n) (bytes_zero m from n e)
-
 -- within one list
 pub paste_pasted : (xs : List ℕ) (i at n k : ℕ) → k ≡ n → i + n ≤ length xs → paste xs at (drop i xs) k ≡ pasted xs at (take n (drop i xs))
 paste_pasted xs i at n k same fits =
     let l : length (take n (drop i xs)) ≡ n = length_part xs i n fits in
     rw (same, l)
-
--- where bytes lie
-pub range_in_ram : (m v : Memory) (a n : ℕ) → m ≡ v → IsWithin v a n → (n ≡ 0 → ⊥) → 0x20000000 ≤ a → length m.flash ≤ 1048576 → a - 0x20000000 + n ≤ length m.ram
-range_in_ram m v a n e w some h small =
-    let here = rw (← e) at w in
-    elim here [ inl r ↦ elim r [ inl none ↦ absurd (some none) | inr x ↦ omega arith ] | inr x ↦ omega arith ]
-
-pub range_in_flash : (m v : Memory) (a n : ℕ) → m ≡ v → IsWithin v a n → (n ≡ 0 → ⊥) → a < 0x20000000 → (0x08000000 ≤ a) × (a - 0x08000000 + n ≤ length m.flash)
-range_in_flash m v a n e w some h =
-    let here = rw (← e) at w in
-    elim here [ inl r ↦ elim r [ inl none ↦ absurd (some none) | inr x ↦ absurd (omega arith) ] | inr x ↦ (x.0, omega arith) ]
-
--- the four ways of a copy
-pub copied_ram_ram : (m : Memory) (from to n k : ℕ) → 0x20000000 ≤ from → 0x20000000 ≤ to → from - 0x20000000 + n ≤ length m.ram → k ≡ n → record m { ram = paste m.ram (to - 0x20000000) (drop (from - 0x20000000) m.ram) k } ≡ copied m from to n
-unfolding copied
-copied_ram_ram m from to n k h t fits same = rw (paste_pasted m.ram (from - 0x20000000) (to - 0x20000000) n k same fits, bytes_ram m from n h, with_bytes_ram m to (take n (drop (from - 0x20000000) m.ram)) t)
-
-pub copied_flash_flash : (m : Memory) (from to n k : ℕ) → from < 0x20000000 → 0x08000000 ≤ from → to < 0x20000000 → from - 0x08000000 + n ≤ length m.flash → k ≡ n → record m { flash = paste m.flash (to - 0x08000000) (drop (from - 0x08000000) m.flash) k } ≡ copied m from to n
-unfolding copied
-copied_flash_flash m from to n k h above t fits same = rw (paste_pasted m.flash (from - 0x08000000) (to - 0x08000000) n k same fits, bytes_flash m from n h above, with_bytes_flash m to (take n (drop (from - 0x08000000) m.flash)) t)
-
-pub copied_ram_flash : (m : Memory) (from to n : ℕ) (bytes : List ℕ) → 0x20000000 ≤ from → to < 0x20000000 → bytes ≡ take n (drop (from - 0x20000000) m.ram) → record m { flash = pasted m.flash (to - 0x08000000) bytes } ≡ copied m from to n
-unfolding copied
-copied_ram_flash m from to n bytes h t e = rw (e, bytes_ram m from n h, with_bytes_flash m to (take n (drop (from - 0x20000000) m.ram)) t)
-
-pub copied_flash_ram : (m : Memory) (from to n : ℕ) (bytes : List ℕ) → from < 0x20000000 → 0x08000000 ≤ from → 0x20000000 ≤ to → bytes ≡ take n (drop (from - 0x08000000) m.flash) → record m { ram = pasted m.ram (to - 0x20000000) bytes } ≡ copied m from to n
-unfolding copied
-copied_flash_ram m from to n bytes h above t e = rw (e, bytes_flash m from n h above, with_bytes_ram m to (take n (drop (from - 0x08000000) m.flash)) t)

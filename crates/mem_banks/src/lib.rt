@@ -1,9 +1,17 @@
-//! The bytes of flash and RAM, as one map from addresses to bytes.
+//! The bytes of flash and RAM, as one map from addresses to bytes. They lie in banks: one for each
+//! different region of the tasks, so that shared regions are one, and one for each stretch between.
 #![tactic(auto)]
 
-ghost use Rattle.std.specs.Prelude.{◌≡◌, ◌+◌, ◌-◌, ◌*◌, ◌<◌, ◌≤◌, ◌⊎◌, ◌^◌, length, take, drop, vec_len, IfOk, replicate};
-ghost use Rattle.mem_banks.specs.Memory.{is_held, is_ram, number_at, number_of, with_bytes, copied, pasted, IsWithin, AreAllBytes, AreRegions};
+mod bank;
+mod moving;
+mod opening;
 
+ghost use Rattle.std.specs.Prelude.{◌≡◌, ◌≤◌, ◌⊎◌, length, IfOk, replicate};
+ghost use Rattle.mem_banks.specs.Memory.{is_held, is_ram, number_at, with_bytes, copied, IsWithin, AreAllBytes, AreRegions};
+
+use bank::{Bank, find, page, search, whole_half, whole_word};
+use moving::{copy_from_end, copy_from_start, store_at};
+use opening::{all_banks, table_of};
 use std::alloc::{AllocError, Global};
 use std::marker::Model;
 
@@ -16,20 +24,34 @@ pub const RAM: u32 = 0x2000_0000;
 /// bytes.
 #[derive(Drop)]
 pub struct Memory {
-    flash: Vec<u8>,
-    ram: Vec<u8>,
+    /// By base; an empty one where there is no memory at all.
+    banks: Vec<Bank>,
+    /// For each page of 256 bytes the bank in which to look first. It is a hint: the bank's own bounds
+    /// say whether an address is in it.
+    table: Vec<u16>,
+    /// How many bytes the RAM has.
+    ram: u32,
     regions: Vec<(u32, u32)>,
 }
 
+/// A bank in which to look first. Any is right: it is a hint.
+#[derive(Copy, Clone, Drop)]
+pub struct Near {
+    bank: u16,
+}
+
 impl Model for Memory {
-    ghost use Rattle.std.specs.Prelude.{◌≤◌, length};
+    ghost use Rattle.std.specs.Prelude.{◌≡◌};
     ghost use Rattle.mem_banks.specs.Memory.{Memory as Map};
+    ghost use Rattle.mem_banks.specs.Banks.{flash_of, ram_of};
+    ghost use Rattle.mem_banks.specs.Kept.{AreKept, spans_of};
+    ghost use Rattle.mem_banks.specs.Parts.{AreParts, ram_size};
 
     ghost Value = { Map };
 
-    ghost view = { λ m. record { flash = m.flash.items; ram = m.ram.items } };
+    ghost view = { λ m. record { flash = flash_of m.banks.items; ram = ram_of m.banks.items } };
 
-    ghost invariant = { λ m. (length m.flash.items ≤ 1048576) × (length m.ram.items ≤ 262144) };
+    ghost invariant = { λ m. AreKept m.table.items m.banks.items × AreParts m.regions.items (spans_of m.banks.items) × (m.ram ≡ ram_size (spans_of m.banks.items)) };
 }
 
 impl Memory {
@@ -51,72 +73,102 @@ impl Memory {
         ensures value { IfOk result (λ m. m ≡ record { flash = flash.now; ram = replicate ram 0 }) }
         ensures bytes { AreAllBytes flash.now }
     {
-        let ram = vec![in alloc; 0; ram as usize]?;
-        let regions = regions.to_vec(alloc)?;
-        Ok(Memory {
-            flash: flash.to_vec(alloc)?,
+        let banks = all_banks(alloc, flash.len() as u32, ram, regions)?;
+        let table = table_of(alloc, &banks)?;
+        let mut memory = Memory {
+            banks,
+            table,
             ram,
-            regions,
-        })
+            regions: regions.to_vec(alloc)?,
+        };
+        memory.store(FLASH, flash);
+        Ok(memory)
     }
 
     /// Whether there is a byte at an address.
     pub fn holds(&self, addr: u32) -> bool
         ensures { result ≡ is_held self.now addr }
     {
-        if addr >= RAM {
-            ((addr - RAM) as usize) < self.ram.len()
-        } else if addr >= FLASH {
-            ((addr - FLASH) as usize) < self.flash.len()
-        } else {
-            false
-        }
+        find(&self.banks, &self.table, addr).is_some()
     }
 
     /// The byte at an address. Where there is no memory it is 0.
+    #[inline(always)]
     pub fn byte(&self, addr: u32) -> u8
         ensures { result ≡ number_at self.now addr 1 }
     {
-        if addr >= RAM {
-            byte_or_zero(&self.ram, (addr - RAM) as usize)
-        } else if addr >= FLASH {
-            byte_or_zero(&self.flash, (addr - FLASH) as usize)
-        } else {
-            0
+        let bank = &self.banks[self.table[page(addr)] as usize];
+        let at = addr.wrapping_sub(bank.base) as usize;
+        if at < bank.bytes.len() {
+            return bank.bytes[at];
+        }
+        self.byte_beyond(addr)
+    }
+
+    /// As `byte`, where another bank may have it.
+    #[cold]
+    #[inline(never)]
+    fn byte_beyond(&self, addr: u32) -> u8
+        ensures { result ≡ number_at self.now addr 1 }
+    {
+        match search(&self.banks, addr) {
+            Some(place) => self.banks[place.bank].bytes[place.at],
+            None => 0,
         }
     }
 
     /// The number that the two bytes from an address on spell, the lowest first. Where there is
     /// no memory a byte counts as 0.
+    #[inline(always)]
     pub fn half(&self, addr: u32) -> u16
         ensures { result ≡ number_at self.now addr 2 }
     {
-        // Most are fetched from the flash, so it is asked first, and by one test.
-        let place = addr.wrapping_sub(FLASH) as usize;
-        if place + 1 < self.flash.len() {
-            return half_at(&self.flash, place);
+        let bank = &self.banks[self.table[page(addr)] as usize];
+        let at = addr.wrapping_sub(bank.base) as usize;
+        if at + 1 < bank.bytes.len() {
+            return whole_half(&bank.bytes, at);
         }
-        if addr >= RAM {
-            half_at(&self.ram, (addr - RAM) as usize)
-        } else if addr >= FLASH {
-            half_at(&self.flash, (addr - FLASH) as usize)
-        } else {
-            0
+        self.half_beyond(addr)
+    }
+
+    /// As `half`, where the two bytes may lie in two banks.
+    #[cold]
+    #[inline(never)]
+    fn half_beyond(&self, addr: u32) -> u16
+        ensures { result ≡ number_at self.now addr 2 }
+    {
+        if find(&self.banks, &self.table, addr).is_none() {
+            return 0;
         }
+        u16::from(self.byte(addr)) + 256 * u16::from(self.byte(addr + 1))
     }
 
     /// The number that the four bytes from an address on spell, the lowest first. Where there is
     /// no memory a byte counts as 0.
+    #[inline(always)]
     pub fn word(&self, addr: u32) -> u32
         ensures { result ≡ number_at self.now addr 4 }
     {
-        if addr >= RAM {
-            word_at(&self.ram, (addr - RAM) as usize)
-        } else if addr >= FLASH {
-            word_at(&self.flash, (addr - FLASH) as usize)
-        } else {
-            0
+        let bank = &self.banks[self.table[page(addr)] as usize];
+        let at = addr.wrapping_sub(bank.base) as usize;
+        if at + 3 < bank.bytes.len() {
+            return whole_word(&bank.bytes, at);
         }
+        self.word_beyond(addr)
+    }
+
+    /// As `word`, where the four bytes may lie in two banks or more.
+    #[cold]
+    #[inline(never)]
+    fn word_beyond(&self, addr: u32) -> u32
+        ensures { result ≡ number_at self.now addr 4 }
+    {
+        if find(&self.banks, &self.table, addr).is_none() {
+            return 0;
+        }
+        let low = u32::from(self.byte(addr)) + 256 * u32::from(self.byte(addr + 1));
+        let high = u32::from(self.byte(addr + 2)) + 256 * u32::from(self.byte(addr + 3));
+        low + 65536 * high
     }
 
     /// The number that 1, 2 or 4 bytes from an address on spell, the lowest first. Where there is no
@@ -133,12 +185,33 @@ impl Memory {
         }
     }
 
+    /// Where to look for what lies near an address.
+    pub fn near(&self, addr: u32) -> Near {
+        Near {
+            bank: self.table[page(addr)],
+        }
+    }
+
+    /// As `half`, with where to look first.
+    #[inline(always)]
+    pub fn half_near(&self, near: Near, addr: u32) -> u16
+        ensures { result ≡ number_at self.now addr 2 }
+    {
+        if let Some(bank) = self.banks.get(near.bank as usize) {
+            let at = addr.wrapping_sub(bank.base) as usize;
+            if at + 1 < bank.bytes.len() {
+                return whole_half(&bank.bytes, at);
+            }
+        }
+        self.half(addr)
+    }
+
     /// Whether so many bytes from an address on lie in the RAM.
     #[inline(always)]
     pub fn is_ram(&self, addr: u32, count: u32) -> bool
         ensures { result ≡ is_ram self.now addr count }
     {
-        addr >= RAM && u64::from(addr - RAM) + u64::from(count) <= self.ram.len() as u64
+        addr >= RAM && u64::from(addr - RAM) + u64::from(count) <= u64::from(self.ram)
     }
 
     /// Copies so many bytes, as if all were read before the first is written.
@@ -147,103 +220,19 @@ impl Memory {
         requires target { IsWithin self.old to count }
         ensures { self.new ≡ copied self.old from to count }
     {
-        let count = count as usize;
-        if count == 0 {
-            return;
-        }
-        if from >= RAM {
-            let start = (from - RAM) as usize;
-            if to >= RAM {
-                let at = (to - RAM) as usize;
-                self.ram.copy_within(start..start + count, at);
-            } else {
-                put(
-                    &mut self.flash,
-                    (to - FLASH) as usize,
-                    &self.ram[start..start + count],
-                );
-            }
+        if from < to {
+            copy_from_end(&mut self.banks, &self.table, from, to, count);
         } else {
-            let start = (from - FLASH) as usize;
-            if to >= RAM {
-                put(
-                    &mut self.ram,
-                    (to - RAM) as usize,
-                    &self.flash[start..start + count],
-                );
-            } else {
-                let at = (to - FLASH) as usize;
-                self.flash.copy_within(start..start + count, at);
-            }
+            copy_from_start(&mut self.banks, &self.table, from, to, count);
         }
     }
 
     /// Writes bytes over those from an address on.
+    #[inline(always)]
     pub fn store(&mut self, addr: u32, bytes: &[u8])
         requires { IsWithin self.old addr (length bytes.now) }
         ensures { self.new ≡ with_bytes self.old addr bytes.now }
     {
-        if bytes.len() == 0 {
-            return;
-        }
-        if addr >= RAM {
-            put(&mut self.ram, (addr - RAM) as usize, bytes);
-        } else {
-            put(&mut self.flash, (addr - FLASH) as usize, bytes);
-        }
+        store_at(&mut self.banks, &self.table, addr, bytes);
     }
-}
-
-/// The byte at a place, or 0 past the end.
-fn byte_or_zero(bytes: &[u8], at: usize) -> u8
-    ensures { result ≡ number_of (take 1 (drop at bytes.now)) }
-{
-    match bytes.get(at) {
-        Some(byte) => *byte,
-        None => 0,
-    }
-}
-
-/// The number that two bytes from a place on spell, the lowest first.
-fn half_at(bytes: &[u8], at: usize) -> u16
-    requires { at < 2 ^ 32 }
-    ensures { result ≡ number_of (take 2 (drop at bytes.now)) }
-{
-    if at + 1 < bytes.len() {
-        return u16::from(bytes[at]) + 256 * u16::from(bytes[at + 1]);
-    }
-    u16::from(byte_or_zero(bytes, at)) + 256 * u16::from(byte_or_zero(bytes, at + 1))
-}
-
-/// The number that four bytes from a place on spell where all of them are there.
-fn whole_word(bytes: &[u8], at: usize) -> u32
-    requires { at + 3 < length bytes.now }
-    ensures { result ≡ number_of (take 4 (drop at bytes.now)) }
-{
-    let low = u32::from(bytes[at]) + 256 * u32::from(bytes[at + 1]);
-    let high = u32::from(bytes[at + 2]) + 256 * u32::from(bytes[at + 3]);
-    low + 65536 * high
-}
-
-/// The number that four bytes from a place on spell, the lowest first.
-fn word_at(bytes: &[u8], at: usize) -> u32
-    requires { at < 2 ^ 32 }
-    ensures { result ≡ number_of (take 4 (drop at bytes.now)) }
-{
-    if at + 3 < bytes.len() {
-        return whole_word(bytes, at);
-    }
-    let low = u32::from(byte_or_zero(bytes, at)) + 256 * u32::from(byte_or_zero(bytes, at + 1));
-    let high = u32::from(byte_or_zero(bytes, at + 2))
-        + 256 * u32::from(byte_or_zero(bytes, at + 3));
-    low + 65536 * high
-}
-
-/// Writes bytes over those from a place on.
-fn put(bytes: &mut Vec<u8>, at: usize, new: &[u8])
-    requires { at + length new.now ≤ vec_len bytes.old }
-    ensures { bytes.new.items ≡ pasted bytes.old.items at new.now }
-{
-    let part = &mut bytes[at..at + new.len()];
-    part.copy_from_slice(new);
 }

@@ -1,12 +1,8 @@
-use Rattle.std.proofs.lemmas.List.{nil_from_length}
-use Rattle.mem_banks.proofs.Copies.{with_bytes_none, with_bytes_ram, with_bytes_flash}
+use Rattle.std.proofs.Common.{◌≡◌, length, arith}
+use Rattle.std.proofs.lemmas.List.{take_at}
 use Rattle.mem_banks.proofs.Memory.store.Goals as goal
 
-pub returns-then-bytes-eq0 : goal.returns-then-bytes-eq0
-returns-then-bytes-eq0 c = with_bytes_none _ _ _ (nil_from_length _ c.if-bytes-eq0.true)
-
-pub returns-then-addr-ge-RAM : goal.returns-then-addr-ge-RAM
-returns-then-addr-ge-RAM c = rw (← c.self.view_is, with_bytes_ram _ c.args.addr c.args.bytes.now c.if-addr-ge-RAM.true, c.put.ensures)
-
-pub returns-else-addr-ge-RAM : goal.returns-else-addr-ge-RAM
-returns-else-addr-ge-RAM c = rw (← c.self.view_is, with_bytes_flash _ c.args.addr c.args.bytes.now c.if-addr-ge-RAM.false, c.put-else-addr-ge-RAM.ensures)
+pub returns : goal.returns
+returns c =
+    let e : length c.store_at.new.banks ≡ c.self.inside.banks.len = omega (arith, c.store_at.auto.banks, c.deref_mut.ensures.len) in
+    rw (← c.self.view_is, take_at c.store_at.new.banks _ c.self.inside.banks.len e) (rw c.deref_mut.ensures.value at c.store_at.ensures.value)

@@ -1,11 +1,8 @@
-use Rattle.mem_banks.proofs.Copies.{bytes_ram, bytes_flash, bytes_none}
+use Rattle.std.proofs.Common.{arith, refl}
+use Rattle.mem_banks.proofs.Within.{number_read}
 use Rattle.mem_banks.proofs.Memory.word.Goals as goal
 
-pub returns-then-addr-ge-RAM : goal.returns-then-addr-ge-RAM
-returns-then-addr-ge-RAM c = rw (← c.self.view_is, bytes_ram _ c.args.addr 4 c.if-addr-ge-RAM.true, ← c.deref.ensures.value) c.word_at.ensures
-
-pub returns-then-addr-ge-FLASH : goal.returns-then-addr-ge-FLASH
-returns-then-addr-ge-FLASH c = rw (← c.self.view_is, bytes_flash _ c.args.addr 4 c.if-addr-ge-RAM.false c.if-addr-ge-FLASH.true, ← c.deref-then-addr-ge-FLASH.ensures.value) c.word_at-then-addr-ge-FLASH.ensures
-
-pub returns-else-addr-ge-FLASH : goal.returns-else-addr-ge-FLASH
-returns-else-addr-ge-FLASH c = rw (bytes_none c.args.self.now c.args.addr 4 c.if-addr-ge-FLASH.false)
+pub returns-then-at-len : goal.returns-then-at-len
+returns-then-at-len c =
+    let there = rw (← c.index.ensures) at (c.self.invariant.0.hints c.page.result c.index.result.now (omega (arith, c.page.ensures, c.self.invariant.0.pages))) in
+    rw (← c.self.view_is, number_read c.self.inside.table.items c.self.inside.banks.items c.index.result.now _ c.args.addr 4 c.index-bank.result.now c.self.invariant.0 there c.index-bank.ensures (omega arith) refl (omega arith) (omega (arith, c.if-at-len.true, c.len.ensures)), ← c.deref.ensures.value) c.whole_word.ensures
