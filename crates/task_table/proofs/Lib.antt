@@ -1,7 +1,7 @@
 pub mod Once
 pub mod Changes
 pub mod Steps
-pub mod Bits
+pub mod Members
 pub mod Ranges
 pub mod Keeps
 pub mod Posting
@@ -38,3 +38,4 @@ pub mod Outside
 pub mod Starts
 mod DeadRows
 pub mod Births
+pub mod TaskSets

@@ -1,6 +1,7 @@
 pub mod Limits
 pub mod State
 pub mod Reading
+pub mod TaskSets
 pub mod Readiness
 pub mod Effects
 pub mod Rows

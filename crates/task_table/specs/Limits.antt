@@ -5,6 +5,10 @@ use Rattle.std.specs.Prelude.{ℕ}
 abbrev pub most_tasks : ℕ
 most_tasks = 32
 
+-- words of a set of tasks, of 32 bits each
+abbrev pub task_words : ℕ
+task_words = 1
+
 -- interrupt lines of a board
 abbrev pub board_lines : ℕ
 board_lines = 32

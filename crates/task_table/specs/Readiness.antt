@@ -1,11 +1,12 @@
--- Which tasks are ready, as one number.
-use Rattle.std.specs.Prelude.{ℕ, ◌+◌, ◌*◌, Bool, true, false, ◌&&◌, List, [], ◌∷◌, length, map}
-use Rattle.std.specs.List.{range_with_len}
+-- Which tasks are ready, and which offer a call to whom, by what is kept of them.
+use Rattle.std.specs.Prelude.{ℕ, ◌≡◌, ◌<◌, ◌≤◌, Bool, true, false, ◌&&◌, List, length, Option, Some, None, slice_index_or, ◌==◌, if◌then◌else◌}
+use Rattle.kernel_abi.specs.Ids.{index_of}
 use Rattle.task_table.specs.declared.slot.Slot.{Slot}
 use Rattle.task_table.specs.declared.slot.Wait.{Wait}
 use Rattle.task_table.specs.declared.slot.Wait.TheVariants as wait
-use Rattle.task_table.specs.State.{State}
-use Rattle.task_table.specs.Reading.{is_well, is_ready}
+use Rattle.task_table.specs.declared.task_set.TaskSet.{TaskSet}
+use Rattle.task_table.specs.Reading.{is_well, is_offered}
+use Rattle.task_table.specs.TaskSets.{has}
 
 abbrev pub is_nothing : Wait → Bool
 is_nothing (wait.Call c) = false
@@ -16,12 +17,27 @@ is_nothing wait.Nothing = true
 abbrev pub is_free : Slot → Bool
 is_free slot = is_well slot.health && is_nothing slot.wait
 
--- the number with these bits, the lowest first
-abbrev pub number_of : List Bool → ℕ
-number_of [] = 0
-number_of (true ∷ bits) = 1 + 2 * number_of bits
-number_of (false ∷ bits) = 2 * number_of bits
+-- the index of the server to which its call is offered
+abbrev pub server_in : Wait → Option ℕ
+server_in (wait.Call c) = if is_offered c.phase then Some (index_of c.server.number) else None
+server_in (wait.Listen l) = None
+server_in wait.Nothing = None
 
--- the number whose bit i tells whether task i is ready
-abbrev pub readiness : State → ℕ
-readiness s = number_of (map (is_ready s) (range_with_len 0 (length s.tasks)))
+-- it is the server with this index
+abbrev pub is_server : ℕ → Option ℕ → Bool
+is_server server None = false
+is_server server (Some index) = index == server
+
+-- a task of which this is kept offers a call to a server
+abbrev pub is_client_of : ℕ → Slot → Bool
+is_client_of server slot = is_server server (server_in slot.wait)
+
+-- a set has just the tasks of which what is kept passes a test
+pub record AreThose (test : Slot → Bool) (slots : List Slot) (words : List ℕ) : Type 0 where
+  pub each : (i : ℕ) → i < length slots → (d : Slot) → has words i ≡ test (slice_index_or slots i d)
+  pub no_others : (i : ℕ) → length slots ≤ i → has words i ≡ false
+
+-- for each server there is the set of the tasks that offer it a call
+pub record AreOffers (slots : List Slot) (sets : List TaskSet) : Type 0 where
+  pub count : length sets ≡ length slots
+  pub each : (server : ℕ) → server < length sets → (d : TaskSet) → AreThose (is_client_of server) slots (slice_index_or sets server d).words

@@ -5,13 +5,14 @@
 
 ghost use Rattle.std.specs.Prelude.{◌≡◌, ◌<◌, ◌≤◌, length, map, slice_range};
 ghost use Rattle.task_table.specs.Limits.{most_tasks, board_lines};
-ghost use Rattle.task_table.specs.Readiness.{is_free, number_of};
+ghost use Rattle.task_table.specs.Readiness.{is_free, AreThose, AreOffers};
 
 use crate::Line;
 use crate::limits::{LINES, TURN_NOTES};
-use crate::readiness::{ready_after, ready_tasks};
+use crate::readiness::{empty_sets, follow_offer, follow_readiness, ready_tasks};
 use crate::slot::{Found, Slot, Wait};
 use crate::start::{LineStart, TaskStart, birth_slot, copies_of, first_slots};
+use crate::task_set::TaskSet;
 use arrayvec::ArrayVec;
 use kernel_abi::{Generation, Health, Note, TaskId, Timer};
 use mem_banks::Memory;
@@ -27,7 +28,8 @@ pub struct Kernel {
     owners: Vec<LineStart>,
     fault_bits: u32,
     slots: Vec<Slot>,
-    ready: u32,
+    ready: TaskSet,
+    offers: Vec<TaskSet>,
     lines: [Line; LINES],
     notes: ArrayVec<Note, TURN_NOTES>,
     memory: Memory,
@@ -39,15 +41,16 @@ pub struct Kernel {
     ghost few_owners: { length owners.items ≤ board_lines },
     ghost many: { length tasks.items ≡ length slots.items },
     ghost there: { current < length slots.items },
-    ghost ready_now: { ready ≡ number_of (map is_free slots.items) },
+    ghost ready_now: { AreThose is_free slots.items ready.words },
+    ghost offered_now: { AreOffers slots.items offers.items },
 }
 
 impl Kernel {
-    ghost use Rattle.std.specs.Prelude.{◌≡◌, ◌+◌, ◌-◌, ◌%◌, ◌<◌, ◌≤◌, ◌^◌, ◌⊎◌, ℕ, length, map, replicate, Option, IfOk, slice_get};
+    ghost use Rattle.std.specs.Prelude.{◌≡◌, ◌+◌, ◌-◌, ◌%◌, ◌<◌, ◌≤◌, ◌^◌, ◌⊎◌, ℕ, true, length, map, replicate, Option, IfOk, slice_get};
     ghost use Rattle.task_table.specs.State.{Setup, State, Turn, Ground, Own};
     ghost use Rattle.mem_banks.specs.Memory.{is_ram, byte_at, number_at, IsWithin, IsWithinRam};
-    ghost use Rattle.task_table.specs.Readiness.{readiness};
-    ghost use Rattle.task_table.specs.Reading.{task_at, setup_at, register, arguments, priority, is_ready, call_of, listen_of, IsSameBut};
+    ghost use Rattle.task_table.specs.TaskSets.{has};
+    ghost use Rattle.task_table.specs.Reading.{task_at, setup_at, register, arguments, priority, is_ready, offers, call_of, listen_of, IsSameBut};
     ghost use Rattle.task_table.specs.Effects.{changed, noted, clocked, with_line, with_processor, stored, copied, reborn};
     ghost use Rattle.task_table.specs.Start.{start as started_at, begun};
     ghost use Rattle.task_table.specs.Parts.{setup_of_parts, line_setup, IsSound};
@@ -83,12 +86,14 @@ impl Kernel {
         let owners = Vec::from_slice(alloc, lines)?;
         let slots = first_slots(alloc, tasks)?;
         let ready = ready_tasks(&slots);
+        let offers = empty_sets(alloc, slots.len())?;
         Ok(Kernel {
             tasks: copies,
             owners,
             fault_bits,
             slots,
             ready,
+            offers,
             lines: [Line {
                 enabled: false,
                 pending: false,
@@ -202,11 +207,23 @@ impl Kernel {
         slot.is_ready()
     }
 
-    /// Which tasks are ready, by the bit of the number of each.
-    pub fn ready(&self) -> u32
-        ensures { (g : Setup) (t : Turn) → Holds g self.now t → result ≡ readiness t.state }
+    /// The tasks that are well and wait for nothing.
+    #[inline(always)]
+    pub fn ready(&self) -> &TaskSet
+        ensures there { (i : ℕ) → has result.now.words i ≡ true → i < task_count self.now }
+        ensures holds { (g : Setup) (t : Turn) → Holds g self.now t → (i : ℕ) → has result.now.words i ≡ is_ready t.state i }
     {
-        self.ready
+        &self.ready
+    }
+
+    /// The tasks that offer a call to a server.
+    #[inline(always)]
+    pub fn clients(&self, server: usize) -> &TaskSet
+        requires { server < task_count self.now }
+        ensures there { (i : ℕ) → has result.now.words i ≡ true → i < task_count self.now }
+        ensures stands { (g : Setup) (t : Turn) → Stands g self.now t → (i : ℕ) → has result.now.words i ≡ offers t.state server i }
+    {
+        &self.offers[server]
     }
 
     /// How a task is.
@@ -390,7 +407,9 @@ impl Kernel {
         ensures holds { (g : Setup) (t : Turn) (u : State) → Holds g self.old t → IsKept u task slot → IsSameBut task t.state u → Holds g self.new record t { state = u } }
         ensures frame { AddsNotes self.old 0 self.new }
     {
-        self.ready = ready_after(self.ready, &self.slots, task, &slot);
+        let before = &self.slots[task];
+        follow_readiness(&mut self.ready, task, before.is_ready(), slot.is_ready());
+        follow_offer(&mut self.offers, task, before.wait.server(), slot.wait.server());
         self.slots[task] = slot;
     }
 

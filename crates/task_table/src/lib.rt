@@ -12,11 +12,13 @@ mod readiness;
 mod sending;
 mod slot;
 mod start;
+mod task_set;
 
 pub use kernel::Kernel;
 pub use mem_banks::{FLASH, Memory, RAM};
 pub use slot::{Found, Listening, OpenCall, Phase, Range, Slot, Source, Wait};
 pub use start::{LineStart, TaskStart};
+pub use task_set::TaskSet;
 
 /// How an interrupt line is.
 #[derive(Clone, Copy, Debug, PartialEq, Eq)]

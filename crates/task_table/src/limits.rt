@@ -3,6 +3,9 @@
 /// Tasks of an application.
 pub const TASKS: usize = 32;
 
+/// Words of a set of tasks, with a bit for each.
+pub const TASK_WORDS: usize = 1;
+
 /// Interrupt lines of a board.
 pub const LINES: usize = 32;
 

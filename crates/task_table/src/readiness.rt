@@ -1,49 +1,73 @@
-//! Which tasks are ready, as one number: bit i of it tells it of task i.
+//! Which tasks are ready, and which offer a call to each server, as sets.
 
-ghost use Rattle.std.specs.Prelude.{◌≡◌, ◌<◌, ◌≤◌, ◌^◌, length, map, slice_set};
+ghost use Rattle.std.specs.Prelude.{◌≡◌, ◌<◌, ◌≤◌, ◌&&◌, ◌==◌, ℕ, false, length, IfOk, if◌then◌else◌, slice_index_or};
 ghost use Rattle.task_table.specs.Limits.{most_tasks};
-ghost use Rattle.task_table.specs.Readiness.{is_free, number_of};
+ghost use Rattle.task_table.specs.TaskSets.{has};
+ghost use Rattle.task_table.specs.Readiness.{is_free, is_server, AreThose};
+ghost use Rattle.task_table.specs.declared.task_set.TaskSet.{TaskSet};
 
 use crate::slot::Slot;
+use crate::task_set::TaskSet;
+use std::alloc::{AllocError, Global};
 
-/// The bit of a task.
-fn bit(task: usize) -> u32
-    requires { task < most_tasks }
-    ensures { result ≡ 2 ^ task }
-{
-    1u32 << task
-}
-
-/// Which tasks are ready where this is kept of them.
-pub(crate) fn ready_tasks(slots: &[Slot]) -> u32
+/// The tasks that are ready where this is kept of them.
+pub(crate) fn ready_tasks(slots: &[Slot]) -> TaskSet
     requires { length slots.now ≤ most_tasks }
-    ensures { result ≡ number_of (map is_free slots.now) }
+    ensures { AreThose is_free slots.now result.words }
 {
-    let mut ready = 0;
-    for i in 0..slots.len() {
-        if slots[i].is_ready() {
-            ready += bit(i);
-        }
+    let mut ready = TaskSet::empty();
+    for task in 0..slots.len() {
+        ready.set(task, slots[task].is_ready());
     }
     ready
 }
 
-/// Which tasks are ready once something else is kept of one of them.
-pub(crate) fn ready_after(ready: u32, slots: &[Slot], task: usize, slot: &Slot) -> u32
-    requires few { length slots.now ≤ most_tasks }
-    requires there { task < length slots.now }
-    requires ready { ready ≡ number_of (map is_free slots.now) }
-    ensures { result ≡ number_of (map is_free (slice_set slots.now task slot.now)) }
+/// So many empty sets.
+pub(crate) fn empty_sets(alloc: Global, count: usize) -> Result<Vec<TaskSet>, AllocError>
+    ensures count { IfOk result (λ sets. length sets.items ≡ count) }
+    ensures empty { IfOk result (λ sets. (k i : ℕ) (d : TaskSet) → k < length sets.items → has (slice_index_or sets.items k d).words i ≡ false) }
 {
-    if slots[task].is_ready() {
-        if slot.is_ready() {
-            ready
-        } else {
-            ready - bit(task)
+    let mut sets = Vec::new(alloc);
+    for _ in 0..count {
+        sets.push(TaskSet::empty())?;
+    }
+    Ok(sets)
+}
+
+/// Which tasks are ready once one is so from now on, of which it was known whether it was ready.
+pub(crate) fn follow_readiness(ready: &mut TaskSet, task: usize, before: bool, after: bool)
+    requires small { task < most_tasks }
+    requires before { has ready.old.words task ≡ before }
+    ensures { (i : ℕ) → has ready.new.words i ≡ (if i == task then after else has ready.old.words i) }
+{
+    if before != after {
+        ready.set(task, after);
+    }
+}
+
+/// Puts a task into the set of a server, or takes it out, where there is such a server.
+fn set_client(sets: &mut [TaskSet], server: Option<usize>, task: usize, offers: bool)
+    requires { task < most_tasks }
+    ensures count { length sets.new ≡ length sets.old }
+    ensures each { (k i : ℕ) (d : TaskSet) → k < length sets.old → has (slice_index_or sets.new k d).words i ≡ (if is_server k server && i == task then offers else has (slice_index_or sets.old k d).words i) }
+{
+    if let Some(server) = server {
+        if server < sets.len() {
+            sets[server].set(task, offers);
         }
-    } else if slot.is_ready() {
-        ready + bit(task)
-    } else {
-        ready
+    }
+}
+
+/// The sets of the clients of each server once a task offers its call to this server, or to none, of which it
+/// was known to whom it offered one.
+pub(crate) fn follow_offer(sets: &mut [TaskSet], task: usize, before: Option<usize>, after: Option<usize>)
+    requires small { task < most_tasks }
+    requires before { (k : ℕ) (d : TaskSet) → k < length sets.old → has (slice_index_or sets.old k d).words task ≡ is_server k before }
+    ensures count { length sets.new ≡ length sets.old }
+    ensures each { (k i : ℕ) (d : TaskSet) → k < length sets.old → has (slice_index_or sets.new k d).words i ≡ (if i == task then is_server k after else has (slice_index_or sets.old k d).words i) }
+{
+    if before != after {
+        set_client(sets, before, task, false);
+        set_client(sets, after, task, true);
     }
 }

@@ -129,6 +129,7 @@ impl Wait {
     ghost use Rattle.std.specs.Prelude.{◌≡◌};
     ghost use Rattle.task_table.specs.Holds.{call_in, listen_in, offered_in, taken_in, buffer_in, taken_wait};
     ghost use Rattle.task_table.specs.Waits.{is_to_in, awaits_in};
+    ghost use Rattle.task_table.specs.Readiness.{server_in};
 
     /// The call for whose end it is.
     pub fn call(&self) -> Option<OpenCall>
@@ -162,6 +163,19 @@ impl Wait {
                     None
                 }
             }
+            _ => None,
+        }
+    }
+
+    /// The index of the server to which its call is offered, where there is one.
+    pub fn server(&self) -> Option<usize>
+        ensures { result ≡ server_in self.now }
+    {
+        match *self {
+            Wait::Call(call) => match call.phase {
+                Phase::Offered => Some(usize::from(call.server.index())),
+                Phase::Taken => None,
+            },
             _ => None,
         }
     }

@@ -1,21 +1,30 @@
-use Rattle.std.proofs.Common.{◌+◌, sym, ◌∙◌, arith}
-use Rattle.task_table.proofs.Bits.{ready_below, ready_more, ready_no_more, few_taken}
-use Rattle.task_table.proofs.readiness.ready_tasks.Goals.{then-is_ready, else-is_ready}
+use Rattle.std.proofs.Common.{◌≡◌, ◌<◌, ◌≤◌, ℕ, length, inl, inr, get_or, sym, ◌∙◌, ap, arith}
+use Rattle.std.proofs.lemmas.Bool.Decides.{eqb_tells}
+use Rattle.std.proofs.lemmas.List.{get_or_default}
+use Rattle.task_table.specs.Readiness.{is_free}
+use Rattle.task_table.specs.declared.slot.Slot.{Slot}
 use Rattle.task_table.proofs.readiness.ready_tasks.Goals as goal
 
-pub overflow_add-ready : goal.overflow_add-ready
-overflow_add-ready c =
-    let more = ready_more c.args.slots.now c.loop-i.i _ c.loop-i-test.true (sym c.is_ready.ensures ∙ c.if-is_ready.true) in
-    let below = ready_below _ (few_taken c.args.slots.now (c.loop-i.i + 1) 32 c.requires) in
-    omega (arith, more, below, c.bit-ready.ensures, c.loop-i.invariant)
+pub loop-task-init : goal.loop-task-init
+loop-task-init c = record { before = λ i below. absurd (omega arith); others = λ i above. c.empty-ready.ensures i }
 
-pub loop-i-preserved : goal.loop-i-preserved
-loop-i-preserved c =
-    elim c.if-is_ready.branch [
-      | then-is_ready w ↦
-          let more = ready_more c.args.slots.now c.loop-i.i _ c.loop-i-test.true (sym c.is_ready.ensures ∙ w.if-is_ready.true) in
-          omega (arith, more, w.bit-ready.ensures, c.loop-i.invariant, w.ready-is)
-      | else-is_ready w ↦
-          let same = ready_no_more c.args.slots.now c.loop-i.i _ c.loop-i-test.true (sym c.is_ready.ensures ∙ w.if-is_ready.false) in
-          omega (arith, same, c.loop-i.invariant, w.ready-is)
-    ]
+pub loop-task-preserved : goal.loop-task-preserved
+loop-task-preserved c = record {
+  before = λ i below d. elim (eqb_tells i c.loop-task.task) [
+    | inl same ↦
+        rw same.0 at (c.set.ensures i) ∙ c.is_ready.ensures
+        ∙ ap is_free (get_or_default c.args.slots.now c.loop-task.task _ d c.loop-task-test.true)
+        ∙ ap (λ (k : ℕ). is_free (get_or c.args.slots.now k d)) (sym same.1)
+    | inr other ↦ let under : i < c.loop-task.task = omega (arith, below, other.1) in rw other.0 at (c.set.ensures i) ∙ c.loop-task.invariant.before i under d
+  ];
+  others = λ i above. elim (eqb_tells i c.loop-task.task) [
+    | inl same ↦ absurd (omega (arith, above, same.1))
+    | inr other ↦ rw other.0 at (c.set.ensures i) ∙ c.loop-task.invariant.others i (omega (arith, above))
+  ];
+}
+
+pub returns : goal.returns
+returns c = record {
+  each = λ i below d. c.loop-task.invariant.before i (omega (arith, below, c.loop-task-test.false)) d;
+  no_others = λ i past. c.loop-task.invariant.others i (omega (arith, past, c.loop-task.auto.task-end));
+}

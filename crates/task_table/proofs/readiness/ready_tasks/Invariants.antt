@@ -1,7 +1,13 @@
-use Rattle.std.proofs.Common.{◌≡◌, map, take}
-use Rattle.task_table.specs.Readiness.{is_free, number_of}
+use Rattle.std.proofs.Common.{◌≡◌, ◌<◌, ◌≤◌, ℕ, false}
+use Rattle.std.specs.Prelude.{slice_index_or}
+use Rattle.task_table.specs.TaskSets.{has}
+use Rattle.task_table.specs.Readiness.{is_free}
+use Rattle.task_table.specs.declared.slot.Slot.{Slot}
 use Rattle.task_table.proofs.readiness.ready_tasks.Given as goal
 
--- so far it tells which are ready
-abbrev pub invariant-loop-i : goal.invariant-loop-i
-invariant-loop-i l = l.ready ≡ number_of (map is_free (take l.i l.slots))
+-- so far the set has those that are ready, and no others
+abbrev pub invariant-loop-task : goal.invariant-loop-task
+invariant-loop-task l = record {
+  before : (i : ℕ) → i < l.task → (d : Slot) → has l.ready.words i ≡ is_free (slice_index_or l.slots i d);
+  others : (i : ℕ) → l.task ≤ i → has l.ready.words i ≡ false;
+}

@@ -1,6 +1,10 @@
-use Rattle.std.proofs.Common.{◌≡◌, refl, ap, map, List}
+use Rattle.std.proofs.Common.{◌≡◌, ◌∙◌, refl, ap, map, List}
 use Rattle.task_table.specs.State.{Setup, TaskSetup, LineSetup}
 use Rattle.task_table.specs.Parts.{setup_of_parts, task_setup, line_setup}
+use Rattle.task_table.specs.Start.{born}
+use Rattle.task_table.specs.Holds.{packed_task}
+use Rattle.task_table.specs.declared.slot.Wait.TheVariants.{Nothing}
+use Rattle.task_table.proofs.Members.{no_offers}
 use Rattle.task_table.proofs.Starts.{shows_start, sane-begun}
 use Rattle.task_table.proofs.kernel.Kernel.start.Goals as goal
 
@@ -23,3 +27,7 @@ returns-clause-stands c = λ sound.
     let lines : map line_setup c.in_ok-owners.owners.items ≡ map line_setup c.args.lines.now = ap (map line_setup) c.in_ok-owners.ensures.items in
     let setup : with (map task_setup c.in_ok-copies.copies.items) (map line_setup c.in_ok-owners.owners.items) ≡ g = rw (tasks, lines) refl in
     record { holds = shows_start m c.args.fault_bits c.args.tasks.now c.args.lines.now _ c.requires.zeros setup c.in_ok-slots.ensures c.new.ensures refl refl refl refl refl; sane = sane-begun g sound }
+
+pub invariant_of-result-clause-offered_now : goal.invariant_of-result-clause-offered_now
+invariant_of-result-clause-offered_now c =
+    no_offers (λ x. packed_task (born (task_setup x)) Nothing) c.args.tasks.now c.in_ok-slots.slots.items c.in_ok-offers.offers.items c.in_ok-slots.ensures (λ x. refl) (c.in_ok-offers.ensures.count ∙ c.len.ensures) c.in_ok-offers.ensures.empty

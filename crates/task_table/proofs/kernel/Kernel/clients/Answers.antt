@@ -1,0 +1,21 @@
+use Rattle.std.proofs.Common.{◌≡◌, ◌<◌, ◌≤◌, ℕ, length, arith, sym, subst}
+use Rattle.task_table.specs.Holds.{kept_of}
+use Rattle.task_table.specs.TaskSets.{has}
+use Rattle.task_table.specs.Readiness.{is_client_of, AreThose}
+use Rattle.task_table.specs.declared.task_set.TaskSet.{TaskSet}
+use Rattle.task_table.proofs.Members.{those_there, offers_kept}
+use Rattle.task_table.proofs.kernel.Kernel.clients.Goals as goal
+
+clients_are : (c : goal.After-index) → AreThose (is_client_of c.args.server) c.args.self.now.slots.items c.index.result.now.words
+clients_are c =
+    let k = c.args.self.now in
+    let inside : c.args.server < length k.offers.items = omega (arith, c.requires, k.offered_now.count) in
+    subst (λ (x : TaskSet). AreThose (is_client_of c.args.server) k.slots.items x.words) (sym c.index.ensures) (k.offered_now.each c.args.server inside c.index.result.now)
+
+pub returns-clause-there : goal.returns-clause-there
+returns-clause-there c = λ i is. those_there (is_client_of c.args.server) c.args.self.now.slots.items c.index.result.now.words i (clients_are c) is
+
+pub returns-clause-stands : goal.returns-clause-stands
+returns-clause-stands c = λ g t h i.
+    let small : length c.args.self.now.slots.items ≤ 1024 = omega (arith, c.args.self.now.few) in
+    offers_kept g (kept_of c.args.self.now) t c.args.server c.index.result.now.words h.holds h.sane small (clients_are c) i

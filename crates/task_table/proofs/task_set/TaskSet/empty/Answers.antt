@@ -1,0 +1,5 @@
+use Rattle.task_table.proofs.TaskSets.{has_none}
+use Rattle.task_table.proofs.task_set.TaskSet.empty.Goals as goal
+
+pub returns : goal.returns
+returns c = has_none 1
