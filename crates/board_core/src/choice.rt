@@ -7,14 +7,14 @@ ghost use Rattle.board_core.specs.Kept.{IsChoice, WasChoice};
 
 use dispatch::choose;
 use kernel_abi::Health;
-use task_table::Kernel;
+use task_table::{Kernel, TaskSet};
 
 /// Which task runs next, None where none is ready; which tasks are ready; and whether the supervisor has
 /// faulted.
 #[derive(Clone, Copy, Debug, PartialEq, Eq)]
 pub struct Choice {
     pub next: Option<usize>,
-    pub ready: u32,
+    pub ready: TaskSet,
     pub down: bool,
 }
 
@@ -37,17 +37,17 @@ pub fn choice_of(kernel: &Kernel) -> Choice
 {
     Choice {
         next: choose(kernel),
-        ready: kernel.ready(),
+        ready: *kernel.ready(),
         down: is_down(kernel),
     }
 }
 
 /// Whether the task that was chosen is the current one, and the same tasks are ready.
-fn stays(last: &Choice, ready: u32, current: usize) -> bool
+fn stays(last: &Choice, ready: &TaskSet, current: usize) -> bool
     ensures next { result ≡ true → last.now.next ≡ Some current }
-    ensures ready { result ≡ true → last.now.ready ≡ ready }
+    ensures ready { result ≡ true → last.now.ready ≡ ready.now }
 {
-    last.next == Some(current) && last.ready == ready
+    last.next == Some(current) && last.ready == *ready
 }
 
 /// The choice for a kernel as it is, from that for an earlier state of it: a task that was chosen and
