@@ -1,8 +1,8 @@
 -- The sets of tasks that the kernel keeps.
-use Rattle.std.proofs.Common.{◌≡◌, ◌≢◌, ◌<◌, ◌≤◌, ℕ, zero, suc, Bool, true, false, cond, ◌&&◌, ◌||◌, not, List, [], ◌∷◌, length, map, Option, Some, None, is_none, is_some, inl, inr, refl, sym, ◌∙◌, ap, arith, eqb, get_or, set, length-set, get_or-set_same, get_or-set_other}
+use Rattle.std.proofs.Common.{◌≡◌, ◌<◌, ◌≤◌, ℕ, zero, suc, Bool, true, false, cond, ◌&&◌, List, [], ◌∷◌, length, map, Option, Some, None, is_none, is_some, inl, inr, refl, sym, ◌∙◌, ap, arith, eqb, get_or}
 use Rattle.std.specs.Option.{option_map}
 use Rattle.std.proofs.lemmas.Bool.{false≢true, cases_lt}
-use Rattle.std.proofs.lemmas.Bool.Decides.{eqb_tells, leb_tells}
+use Rattle.std.proofs.lemmas.Bool.Decides.{leb_tells}
 use Rattle.std.proofs.lemmas.List.{get_or_past}
 use Rattle.kernel_abi.specs.Ids.{index_of}
 use Rattle.kernel_abi.specs.declared.Health.TheVariants.{Stopped}
@@ -11,7 +11,7 @@ use Rattle.task_table.specs.Sane.{Sane}
 use Rattle.task_table.specs.Reading.{is_ready, is_well, is_offered, task_at, call_of, listen_of, offer_by, offers, no_task, no_flags}
 use Rattle.task_table.specs.TaskSets.{has}
 use Rattle.task_table.specs.Readiness.{is_free, is_server, server_in, is_client_of, AreThose, AreOffers}
-use Rattle.task_table.specs.Holds.{Shows, Kept, kept_call, offered_in, is_offer_to}
+use Rattle.task_table.specs.Holds.{Shows, Kept, kept_call, offered_in}
 use Rattle.task_table.specs.declared.slot.Slot.{Slot}
 use Rattle.task_table.specs.declared.slot.OpenCall.{OpenCall}
 use Rattle.task_table.specs.declared.slot.Wait.{Wait}

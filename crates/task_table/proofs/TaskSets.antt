@@ -1,5 +1,5 @@
 -- Sets of tasks, by their words.
-use Rattle.std.proofs.Common.{◌≡◌, ◌≢◌, ◌+◌, ◌-◌, ◌*◌, ◌/◌, ◌%◌, ◌<◌, ◌≤◌, ◌^◌, ℕ, zero, suc, Bool, true, false, cond, ◌&&◌, ◌||◌, not, List, [], ◌∷◌, length, Some, None, inl, inr, refl, sym, ◌∙◌, ap, arith, eqb, leb, get_or, set, replicate, get_or-set_same, get_or-set_other, w32, min}
+use Rattle.std.proofs.Common.{◌≡◌, ◌≢◌, ◌+◌, ◌-◌, ◌*◌, ◌/◌, ◌%◌, ◌<◌, ◌≤◌, ◌^◌, ℕ, zero, suc, true, false, cond, ◌&&◌, ◌||◌, not, List, length, Some, inl, inr, refl, sym, ◌∙◌, ap, arith, eqb, leb, get_or, set, replicate, get_or-set_same, get_or-set_other, w32, min}
 use Rattle.std.specs.Int.{bit_at, bit_not}
 use Rattle.std.specs.Int.Bits.{bit_and, bit_or}
 use lib.Count.{count_trailing_zeros}
@@ -137,11 +137,14 @@ found_in words from w bits some small cut before =
     elim (leb_tells from (w * 32 + k)) [
       | inr f ↦ let none : bit_at bits k ≡ 0 = rw f.0 at (cut k below) in not_both (bit_at bits k) none z.1
       | inl t ↦
-          let bit : bit_at bits k ≡ bit_at (get_or words w 0) k = rw t.0 at (cut k below) in
-          (t.1, has_in words w k below ∙ ap (λ (n : ℕ). eqb n 1) (sym bit ∙ z.1), λ i above under. elim (cases_lt i (w * 32)) [
-            | inl lt ↦ before i above lt
-            | inr ge ↦ unset i (i - w * 32) (omega (arith, ge)) above (omega (arith, under)) (omega (arith, under, below))
-          ])
+          let bit : bit_at bits k ≡ bit_at (get_or words w 0) k = rw t.0 at (cut k below) in (
+            t.1,
+            has_in words w k below ∙ ap (λ (n : ℕ). eqb n 1) (sym bit ∙ z.1),
+            λ i above under. elim (cases_lt i (w * 32)) [
+              | inl lt ↦ before i above lt
+              | inr ge ↦ unset i (i - w * 32) (omega (arith, ge)) above (omega (arith, under)) (omega (arith, under, below))
+            ],
+          )
     ]
   where
     not_both : (n : ℕ) {P : Type 0} → n ≡ 0 → n ≡ 1 → P

@@ -409,7 +409,12 @@ impl Kernel {
     {
         let before = &self.slots[task];
         follow_readiness(&mut self.ready, task, before.is_ready(), slot.is_ready());
-        follow_offer(&mut self.offers, task, before.wait.server(), slot.wait.server());
+        follow_offer(
+            &mut self.offers,
+            task,
+            before.wait.server(),
+            slot.wait.server(),
+        );
         self.slots[task] = slot;
     }
 

@@ -60,7 +60,12 @@ fn set_client(sets: &mut [TaskSet], server: Option<usize>, task: usize, offers: 
 
 /// The sets of the clients of each server once a task offers its call to this server, or to none, of which it
 /// was known to whom it offered one.
-pub(crate) fn follow_offer(sets: &mut [TaskSet], task: usize, before: Option<usize>, after: Option<usize>)
+pub(crate) fn follow_offer(
+    sets: &mut [TaskSet],
+    task: usize,
+    before: Option<usize>,
+    after: Option<usize>,
+)
     requires small { task < most_tasks }
     requires before { (k : ℕ) (d : TaskSet) → k < length sets.old → has (slice_index_or sets.old k d).words task ≡ is_server k before }
     ensures count { length sets.new ≡ length sets.old }

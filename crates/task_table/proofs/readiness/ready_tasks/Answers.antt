@@ -1,8 +1,7 @@
-use Rattle.std.proofs.Common.{◌≡◌, ◌<◌, ◌≤◌, ℕ, length, inl, inr, get_or, sym, ◌∙◌, ap, arith}
+use Rattle.std.proofs.Common.{◌<◌, ℕ, inl, inr, get_or, sym, ◌∙◌, ap, arith}
 use Rattle.std.proofs.lemmas.Bool.Decides.{eqb_tells}
 use Rattle.std.proofs.lemmas.List.{get_or_default}
 use Rattle.task_table.specs.Readiness.{is_free}
-use Rattle.task_table.specs.declared.slot.Slot.{Slot}
 use Rattle.task_table.proofs.readiness.ready_tasks.Goals as goal
 
 pub loop-task-init : goal.loop-task-init

@@ -1,6 +1,5 @@
-use Rattle.std.proofs.Common.{◌≡◌, ◌<◌, ◌≤◌, ℕ, length, arith, sym, subst}
+use Rattle.std.proofs.Common.{◌<◌, ◌≤◌, length, arith, sym, subst}
 use Rattle.task_table.specs.Holds.{kept_of}
-use Rattle.task_table.specs.TaskSets.{has}
 use Rattle.task_table.specs.Readiness.{is_client_of, AreThose}
 use Rattle.task_table.specs.declared.task_set.TaskSet.{TaskSet}
 use Rattle.task_table.proofs.Members.{those_there, offers_kept}

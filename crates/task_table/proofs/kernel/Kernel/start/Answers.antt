@@ -1,4 +1,4 @@
-use Rattle.std.proofs.Common.{◌≡◌, ◌∙◌, refl, ap, map, List}
+use Rattle.std.proofs.Common.{rules, ◌≡◌, refl, ap, map, length, List}
 use Rattle.task_table.specs.State.{Setup, TaskSetup, LineSetup}
 use Rattle.task_table.specs.Parts.{setup_of_parts, task_setup, line_setup}
 use Rattle.task_table.specs.Start.{born}
@@ -30,4 +30,5 @@ returns-clause-stands c = λ sound.
 
 pub invariant_of-result-clause-offered_now : goal.invariant_of-result-clause-offered_now
 invariant_of-result-clause-offered_now c =
-    no_offers (λ x. packed_task (born (task_setup x)) Nothing) c.args.tasks.now c.in_ok-slots.slots.items c.in_ok-offers.offers.items c.in_ok-slots.ensures (λ x. refl) (c.in_ok-offers.ensures.count ∙ c.len.ensures) c.in_ok-offers.ensures.empty
+    let count : length c.in_ok-offers.offers.items ≡ length c.in_ok-slots.slots.items = search rules in
+    no_offers (λ x. packed_task (born (task_setup x)) Nothing) c.args.tasks.now c.in_ok-slots.slots.items c.in_ok-offers.offers.items c.in_ok-slots.ensures (λ x. refl) count c.in_ok-offers.ensures.empty

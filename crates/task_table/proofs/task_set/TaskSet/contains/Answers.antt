@@ -1,4 +1,4 @@
-use Rattle.std.proofs.Common.{◌≡◌, ◌∙◌, ◌<◌, ◌≤◌, ◌/◌, length, sym}
+use Rattle.std.proofs.Common.{◌<◌, ◌/◌, length, sym}
 use Rattle.std.proofs.lemmas.Bool.{ltb-true, ltb-false}
 use Rattle.std.proofs.lemmas.List.{get_or_read}
 use Rattle.task_table.proofs.TaskSets.{has_read, has_past}

@@ -1,4 +1,4 @@
-use Rattle.std.proofs.Common.{◌≡◌, ◌∙◌, ◌<◌, ◌≤◌, ◌*◌, ◌/◌, ◌^◌, length, sym, arith}
+use Rattle.std.proofs.Common.{arith}
 use Rattle.task_table.proofs.TaskSets.{found_in, none_in, none_left}
 use Rattle.task_table.proofs.task_set.TaskSet.first_from.Goals as goal
 
