@@ -2,6 +2,8 @@
 #![tactic(auto)]
 
 #[cfg(test)]
+mod banks;
+#[cfg(test)]
 mod board;
 #[cfg(test)]
 mod choosing;

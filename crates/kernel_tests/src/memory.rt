@@ -1,4 +1,5 @@
 ghost use Rattle.std.specs.Prelude.{◌≡◌, ◌≤◌, IfOk, length, replicate};
+ghost use Rattle.mem_banks.specs.Memory.{IsWithinRam};
 
 use std::alloc::{AllocError, Global};
 use task_table::Memory;
@@ -10,4 +11,12 @@ pub fn memory_of(alloc: Global, flash: &[u8], ram: u32) -> Result<Memory, AllocE
     ensures value { IfOk result (λ m. m ≡ record { flash = flash.now; ram = replicate ram 0 }) }
 {
     Memory::open(alloc, flash, ram, &[])
+}
+
+/// Stores into the RAM, which keeps its length.
+pub fn store(memory: &mut Memory, addr: u32, bytes: &[u8])
+    requires { IsWithinRam memory.old addr (length bytes.now) }
+    ensures { length memory.new.ram ≡ length memory.old.ram }
+{
+    memory.store(addr, bytes);
 }

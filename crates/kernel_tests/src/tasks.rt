@@ -1,13 +1,12 @@
 ghost use Rattle.std.specs.Prelude.{◌≡◌, IfOk, length};
 ghost use Rattle.task_table.specs.Holds.{task_count, note_count, memory_of};
-ghost use Rattle.mem_banks.specs.Memory.{IsWithinRam};
 
-use crate::memory::memory_of;
+use crate::memory::{memory_of, store};
 use kernel_abi::{Fault, Generation, Health, Note, Usage};
 use region_check::{Region, Rights};
 use std::alloc::{AllocError, Global};
 use std::test::Fail;
-use task_table::{FLASH, Found, Kernel, Line, LineStart, Memory, RAM, TaskStart, Wait};
+use task_table::{FLASH, Found, Kernel, Line, LineStart, RAM, TaskStart, Wait};
 use words_core::Flags;
 
 #[test]
@@ -41,14 +40,6 @@ fn memory_is_stored_to(rt: HostRuntime) -> Result<(), Fail> {
     assert_eq!(rt; memory.word(RAM + 2), 0xBBAA_0000);
     assert_eq!(rt; memory.half(RAM + 7), 0xDD);
     Ok(())
-}
-
-/// Stores into the RAM, which keeps its length.
-fn store(memory: &mut Memory, addr: u32, bytes: &[u8])
-    requires { IsWithinRam memory.old addr (length bytes.now) }
-    ensures { length memory.new.ram ≡ length memory.old.ram }
-{
-    memory.store(addr, bytes);
 }
 
 #[test]
