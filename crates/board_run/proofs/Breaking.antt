@@ -200,3 +200,9 @@ module _ (level : Level) (x : Scenario) where
           least = (notes_text shorter.0 ++ q.0, ap (λ (text : List ℕ). text ++ q.0) split ∙ append_assoc less (notes_text shorter.0) q.0);
           pushed = appends_more w now w' lines q.0 before q.2;
         }
+
+-- the text of a run by that of its notes and that of its end
+pub ended_text : {R E : Type 0} (w now w' : Option (List ℕ)) (e : End) (r : Result R E) (whole : Run) → e ≡ whole.end → Appends w now (notes_text whole.notes) → Pushes now w' (end_text e whole.last) r → Pushes w w' (trace_text whole) r
+ended_text {R} {E} w now w' e r whole is before pushed =
+    let P : End → Type 0 = λ i. Pushes now w' (end_text i whole.last) r in
+    pushes_more w now w' (notes_text whole.notes) (end_text whole.end whole.last) r before (subst P is pushed)

@@ -81,6 +81,7 @@ pub fn play<T: Teller>(
     ensures midway { (x : Scenario) (s : State) → Stands x board.old s → StandsMidway level x board.new s }
     ensures within { turns_of board.new ≤ limit }
 {
+    T::hears_in_parts();
     'turns: loop {
         match ending(board, limit) {
             Some(end) => return Ok(end),

@@ -65,6 +65,21 @@ fn push_counts<S: Sink>(counts: &Counts, out: &mut S) -> Result<(), Failed>
     out.push(line.as_str().as_bytes())
 }
 
+// How a run ended, and the counts.
+fn push_summary<S: Sink>(
+    end: End,
+    board: &Board,
+    counts: &Counts,
+    out: &mut S,
+) -> Result<(), Failed>
+    ensures bytes { (x : Scenario) (s : State) → Stands x board.now s →
+        Pushes (S.written out.old) (S.written out.new) (end_line end s.turn s.now ++ counts_text (count_at counts.now)) result }
+    ensures cause { HasCause (S.faults out.old) (S.faults out.new) result }
+{
+    push_end_line(end, board.turns(), board.now(), out)?;
+    push_counts(counts, out)
+}
+
 /// Turns up to the end of the run, then how it ended and how many notes of each kind it had: two lines, one push
 /// each. Instructions are not told, and not counted. After a failing push nothing more is pushed; the run was made whole.
 ///
@@ -88,7 +103,6 @@ pub fn summarize<S: Sink>(board: &mut Board, limit: u32, out: &mut S) -> Result<
 {
     let mut counts = Counts::new();
     let end = play(board, limit, Level::Calls, &mut counts)?;
-    push_end_line(end, board.turns(), board.now(), out)?;
-    push_counts(&counts, out)?;
+    push_summary(end, board, &counts, out)?;
     Ok(end)
 }

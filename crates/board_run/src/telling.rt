@@ -3,7 +3,6 @@ ghost use Rattle.std.specs.Prelude.{ℕ, List, [], ◌++◌, MatchResult};
 ghost use Rattle.kernel_abi.specs.declared.Note.{Note as Noted};
 ghost use Rattle.board_model.specs.Run.{at_turn};
 ghost use Rattle.board_run.specs.Telling.{HearsText, BreaksText};
-ghost use Rattle.board_run.proofs.Hearing.{hears_nothing, hears_on};
 
 use crate::pushing::push_notes;
 use kernel_abi::Note;
@@ -24,11 +23,10 @@ pub trait Teller {
     fn tell(&mut self, turn: u32, notes: &[Note]) -> Result<(), Failed>
         ensures { MatchResult result (λ _. heard self.old (at_turn turn notes.now) self.new) (λ _. broke self.old (at_turn turn notes.now) self.new) };
 
-    /// Where nothing is told, nothing changes.
-    ghost nothing_told: { (t : Self) → heard t [] t };
-
-    /// Notes may be told in parts.
-    ghost told_on: { (t u v : Self) (a b : List (ℕ × Noted)) → heard t a u → heard u b v → heard t (a ++ b) v };
+    /// Where nothing is told, nothing changes, and notes may be told in parts. It does nothing, and is a law.
+    fn hears_in_parts()
+        ensures nothing { (t : Self) → heard t [] t }
+        ensures parts { (t u v : Self) (a b : List (ℕ × Noted)) → heard t a u → heard u b v → heard t (a ++ b) v };
 }
 
 /// A sink is told the text of the notes, a line and a push each.
@@ -41,7 +39,5 @@ impl<S: Sink> Teller for S {
         push_notes(turn, notes, self)
     }
 
-    ghost nothing_told = { λ t. hears_nothing (S.written t) (S.faults t) };
-
-    ghost told_on = { λ t u v a b p q. hears_on (S.written t) (S.written u) (S.written v) (S.faults t) (S.faults u) (S.faults v) a b p q };
+    fn hears_in_parts() {}
 }

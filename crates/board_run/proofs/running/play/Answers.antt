@@ -9,7 +9,7 @@ use Rattle.board_run.proofs.running.play.Goals as goal
 pub turns-init : goal.turns-init
 turns-init g c =
     record {
-      midway = λ x s st. midway_start g.T.Teller.heard c.args.level x _ s _ (g.met.T.Teller.nothing_told _) st;
+      midway = λ x s st. midway_start g.T.Teller.heard c.args.level x _ s _ (c.hears_in_parts.ensures.nothing _) st;
       stood = c.requires.stood;
       turns = omega arith;
     }
@@ -55,7 +55,7 @@ turns-preserved g c =
             turns = omega arith;
             few = c.advance.ensures.noted;
           } in
-          midway_turn g.T.Teller.heard c.args.level x g.met.T.Teller.told_on n _ _ _ _ s b b' (notes_of b') h (omega (arith, c.turns-in-turns.ensures)) hears (c.turns.invariant.midway x s st);
+          midway_turn g.T.Teller.heard c.args.level x c.hears_in_parts.ensures.parts n _ _ _ _ s b b' (notes_of b') h (omega (arith, c.turns-in-turns.ensures)) hears (c.turns.invariant.midway x s st);
       stood = (stood.0, (turn_after c.args.level stood.0 n stood.1).state, a.stands);
       turns = c.advance.ensures.within;
     }
