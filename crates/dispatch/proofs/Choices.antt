@@ -1,13 +1,12 @@
 -- The first task of the lowest priority number.
-use Rattle.std.proofs.Common.{◌≡◌, ◌+◌, ◌-◌, ◌<◌, ◌≤◌, ◌⊎◌, inl, inr, ℕ, zero, suc, Bool, true, false, cond, not, ◌&&◌, ◌||◌, List, [], ◌∷◌, ◌++◌, length, Option, Some, None, is_none, refl, sym, ◌∙◌, ap, arith, eqb, leb}
+use Rattle.std.proofs.Common.{◌≡◌, ◌+◌, ◌-◌, ◌<◌, ◌≤◌, ◌⊎◌, inl, inr, ℕ, zero, suc, Bool, true, false, cond, not, ◌&&◌, ◌||◌, List, [], ◌∷◌, ◌++◌, Option, Some, None, is_none, refl, sym, ◌∙◌, ap, arith, eqb, leb}
 use Rattle.std.specs.Prelude.{find, IfSome, IsSomeAnd}
 use Rattle.std.specs.List.{range_with_len, list_all}
 use Rattle.std.proofs.lemmas.Bool.{cases_lt, eqb-true, eq-eqb, leb-true, le-leb, false≢true}
 use Rattle.std.proofs.lemmas.Bool.Decides.{leb_tells}
-use Rattle.task_table.specs.State.{Setup, State}
+use Rattle.task_table.specs.State.{Setup}
 use Rattle.task_table.specs.Reading.{priority, around}
-use Rattle.dispatch.specs.Lowest.{IsLowest, IsFirst, is_among, has_rank, better_of, is_rank, is_at_most, rank_of, is_lowest, first_around}
-use Rattle.dispatch.specs.declared.Among.{Among}
+use Rattle.dispatch.specs.Lowest.{IsLowest, IsFirst, has_rank, better_of, is_rank, is_at_most, rank_of, is_lowest, first_around}
 use Rattle.dispatch.specs.declared.Best.{Best}
 
 no_some : {A P : Type 0} {a : A} → None ≡ Some a → P
@@ -58,13 +57,13 @@ bool_same false false f h = refl
 
 -- ## the lowest priority number and the first that has it
 
-rank_among : (g : Setup) (s : State) (among : Among) (i : ℕ) → is_among s among i ≡ true → rank_of g s among i ≡ Some (priority g i)
+rank_among : (g : Setup) (among : ℕ → Bool) (i : ℕ) → among i ≡ true → rank_of g among i ≡ Some (priority g i)
 unfolding rank_of
-rank_among g s among i h = rw h
+rank_among g among i h = rw h
 
-rank_is : (g : Setup) (s : State) (among : Among) (i p : ℕ) → rank_of g s among i ≡ Some p → (is_among s among i ≡ true) × (p ≡ priority g i)
+rank_is : (g : Setup) (among : ℕ → Bool) (i p : ℕ) → rank_of g among i ≡ Some p → (among i ≡ true) × (p ≡ priority g i)
 unfolding rank_of
-rank_is g s among i p h = elim (bool_cases (is_among s among i)) [ inl t ↦ (t, sym (same_some (rw t at h))) | inr f ↦ no_some (rw f at h) ]
+rank_is g among i p h = elim (bool_cases (among i)) [ inl t ↦ (t, sym (same_some (rw t at h))) | inr f ↦ no_some (rw f at h) ]
 
 rank_true : (p : ℕ) (o : Option ℕ) → is_rank p o ≡ true → o ≡ Some p
 rank_true p None h = absurd (false≢true h)
@@ -85,52 +84,52 @@ pass : (a : Bool) (x y : ℕ) → (a ≡ true → x ≤ y) → (not a || leb x y
 pass true x y h = le-leb _ _ (h refl)
 pass false x y h = refl
 
-lowest_is : (g : Setup) (s : State) (among : Among) (p i : ℕ) → IsLowest g s among (length s.tasks) (Some p) → i < length s.tasks → is_lowest g s among i ≡ has_rank g s among p i
-lowest_is g s among p i low below = bool_same (is_lowest g s among i) (has_rank g s among p i) there back
+lowest_is : (g : Setup) (n : ℕ) (among : ℕ → Bool) (p i : ℕ) → IsLowest g among n (Some p) → i < n → is_lowest g among n i ≡ has_rank g among p i
+lowest_is g n among p i low below = bool_same (is_lowest g among n i) (has_rank g among p i) there back
   where
-    there : is_lowest g s among i ≡ true → has_rank g s among p i ≡ true
+    there : is_lowest g among n i ≡ true → has_rank g among p i ≡ true
     there q =
-        let both = both_true (is_among s among i) (list_all (λ j. not (is_among s among j) || leb (priority g i) (priority g j)) (range_with_len 0 (length s.tasks))) q in
+        let both = both_true (among i) (list_all (λ j. not (among j) || leb (priority g i) (priority g j)) (range_with_len 0 n)) q in
         let j = low.there.0 in
-        let at_j = rank_is g s among j p low.there.2 in
-        let least = low.least i (priority g i) below (rank_among g s among i both.0) in
-        let most = passes (is_among s among j) (priority g i) (priority g j) (all_at _ 0 (length s.tasks) j both.1 (omega arith) (omega (arith, low.there.1))) at_j.0 in
+        let at_j = rank_is g among j p low.there.2 in
+        let least = low.least i (priority g i) below (rank_among g among i both.0) in
+        let most = passes (among j) (priority g i) (priority g j) (all_at _ 0 n j both.1 (omega arith) (omega (arith, low.there.1))) at_j.0 in
         let same : priority g i ≡ p = omega (arith, least, most, at_j.1) in
-        rw (rank_among g s among i both.0) (eq-eqb _ _ same)
+        rw (rank_among g among i both.0) (eq-eqb _ _ same)
       where
         both_true : (a b : Bool) → (a && b) ≡ true → (a ≡ true) × (b ≡ true)
         both_true true b h = (refl, h)
         both_true false b h = absurd (false≢true h)
 
-    back : has_rank g s among p i ≡ true → is_lowest g s among i ≡ true
+    back : has_rank g among p i ≡ true → is_lowest g among n i ≡ true
     back r =
-        let mine = rank_is g s among i p (rank_true p _ r) in
-        and_true _ _ mine.0 (all_by _ 0 (length s.tasks) (λ j a b. pass (is_among s among j) (priority g i) (priority g j) (λ t. omega (arith, mine.1, low.least j (priority g j) (omega arith) (rank_among g s among j t)))))
+        let mine = rank_is g among i p (rank_true p _ r) in
+        and_true _ _ mine.0 (all_by _ 0 n (λ j a b. pass (among j) (priority g i) (priority g j) (λ t. omega (arith, mine.1, low.least j (priority g j) (omega arith) (rank_among g among j t)))))
 
-pub first_some : (g : Setup) (s : State) (among : Among) (p from : ℕ) → IsLowest g s among (length s.tasks) (Some p) → from ≤ length s.tasks → first_around g s among from ≡ or_else (find (has_rank g s among p) (range_with_len from (length s.tasks - from))) (find (has_rank g s among p) (range_with_len 0 from))
+pub first_some : (g : Setup) (n : ℕ) (among : ℕ → Bool) (p from : ℕ) → IsLowest g among n (Some p) → from ≤ n → first_around g among n from ≡ or_else (find (has_rank g among p) (range_with_len from (n - from))) (find (has_rank g among p) (range_with_len 0 from))
 unfolding first_around
-first_some g s among p from low inside =
-    find_append (is_lowest g s among) (range_with_len from (length s.tasks - from)) (range_with_len 0 from)
-    ∙ ap (λ o. or_else o (find (is_lowest g s among) (range_with_len 0 from))) (find_same (is_lowest g s among) (has_rank g s among p) from (length s.tasks - from) (λ i a b. lowest_is g s among p i low (omega arith)))
-    ∙ ap (or_else (find (has_rank g s among p) (range_with_len from (length s.tasks - from)))) (find_same (is_lowest g s among) (has_rank g s among p) 0 from (λ i a b. lowest_is g s among p i low (omega arith)))
+first_some g n among p from low inside =
+    find_append (is_lowest g among n) (range_with_len from (n - from)) (range_with_len 0 from)
+    ∙ ap (λ o. or_else o (find (is_lowest g among n) (range_with_len 0 from))) (find_same (is_lowest g among n) (has_rank g among p) from (n - from) (λ i a b. lowest_is g n among p i low (omega arith)))
+    ∙ ap (or_else (find (has_rank g among p) (range_with_len from (n - from)))) (find_same (is_lowest g among n) (has_rank g among p) 0 from (λ i a b. lowest_is g n among p i low (omega arith)))
 
 find_nothing : (p : ℕ → Bool) (from n : ℕ) → ((i : ℕ) → from ≤ i → i < from + n → p i ≡ false) → find p (range_with_len from n) ≡ None
 find_nothing p from zero h = refl
 find_nothing p from (suc n) h = let here : p from ≡ false = h from (omega arith) (omega arith) in rw here (find_nothing p (from + 1) n (λ i a b. h i (omega arith) (omega arith)))
 
-none_lowest : (g : Setup) (s : State) (among : Among) (i : ℕ) → IsLowest g s among (length s.tasks) None → i < length s.tasks → is_lowest g s among i ≡ false
-none_lowest g s among i low below =
-    elim (bool_cases (is_among s among i)) [
-      | inl t ↦ absurd (low.least i (priority g i) below (rank_among g s among i t))
+none_lowest : (g : Setup) (n : ℕ) (among : ℕ → Bool) (i : ℕ) → IsLowest g among n None → i < n → is_lowest g among n i ≡ false
+none_lowest g n among i low below =
+    elim (bool_cases (among i)) [
+      | inl t ↦ absurd (low.least i (priority g i) below (rank_among g among i t))
       | inr f ↦ rw f
     ]
 
-pub first_none : (g : Setup) (s : State) (among : Among) (from : ℕ) → IsLowest g s among (length s.tasks) None → from ≤ length s.tasks → first_around g s among from ≡ None
+pub first_none : (g : Setup) (n : ℕ) (among : ℕ → Bool) (from : ℕ) → IsLowest g among n None → from ≤ n → first_around g among n from ≡ None
 unfolding first_around
-first_none g s among from low inside =
-    find_append (is_lowest g s among) (range_with_len from (length s.tasks - from)) (range_with_len 0 from)
-    ∙ ap (λ o. or_else o (find (is_lowest g s among) (range_with_len 0 from))) (find_nothing (is_lowest g s among) from (length s.tasks - from) (λ i a b. none_lowest g s among i low (omega arith)))
-    ∙ find_nothing (is_lowest g s among) 0 from (λ i a b. none_lowest g s among i low (omega arith))
+first_none g n among from low inside =
+    find_append (is_lowest g among n) (range_with_len from (n - from)) (range_with_len 0 from)
+    ∙ ap (λ o. or_else o (find (is_lowest g among n) (range_with_len 0 from))) (find_nothing (is_lowest g among n) from (n - from) (λ i a b. none_lowest g n among i low (omega arith)))
+    ∙ find_nothing (is_lowest g among n) 0 from (λ i a b. none_lowest g n among i low (omega arith))
 
 -- ## the best so far
 
@@ -191,30 +190,32 @@ found_before : (p : ℕ → Bool) (xs : List ℕ) (i j : ℕ) → find p xs ≡ 
 found_before p xs i j found = find_append p xs (i ∷ []) ∙ rw found refl
 
 -- one more task
-pub first_more : (g : Setup) (s : State) (among : Among) (seen : List ℕ) (i : ℕ) (best : Option Best) → IsFirst g s among seen best → IsFirst g s among (seen ++ i ∷ []) (better_of best i (rank_of g s among i))
-first_more g s among seen i best h = go best (rank_of g s among i) refl h
+pub first_more : (g : Setup) (among : ℕ → Bool) (seen : List ℕ) (i : ℕ) (best : Option Best) → among i ≡ true → IsFirst g among seen best → IsFirst g among (seen ++ i ∷ []) (Some (better_of best i (priority g i)))
+first_more g among seen i best member h = go best h
   where
-    go : (best : Option Best) (rank : Option ℕ) → rank_of g s among i ≡ rank → IsFirst g s among seen best → IsFirst g s among (seen ++ i ∷ []) (better_of best i rank)
-    go None None e h = all_append _ seen i h (rw e refl)
-    go None (Some r) e h = (
-      found_last (has_rank g s among r) seen i (none_found _ (λ j. is_none (rank_of g s among j)) seen (λ j n. none_is_not r _ n) h) (is_rank_self r _ e),
-      all_append _ seen i (all_weaker (λ j. is_none (rank_of g s among j)) _ seen (λ j n. none_at_most r _ n) h) (at_most_some r r _ e (omega arith)),
+    r : ℕ
+    r = priority g i
+
+    e : rank_of g among i ≡ Some (priority g i)
+    e = rank_among g among i member
+
+    go : (best : Option Best) → IsFirst g among seen best → IsFirst g among (seen ++ i ∷ []) (Some (better_of best i (priority g i)))
+    go None h = (
+      found_last (has_rank g among r) seen i (none_found _ (λ j. is_none (rank_of g among j)) seen (λ j n. none_is_not r _ n) h) (is_rank_self r _ e),
+      all_append _ seen i (all_weaker (λ j. is_none (rank_of g among j)) _ seen (λ j n. none_at_most r _ n) h) (at_most_some r r _ e (omega arith)),
     )
-    go (Some b) None e h = (found_before _ seen i b.task h.0, all_append _ seen i h.1 (at_most_none b.priority _ e))
-    go (Some b) (Some r) e h =
+    go (Some b) h =
         elim (leb_tells (suc r) b.priority) [
           | inl t ↦ rw t.0 (
-            found_last (has_rank g s among r) seen i (none_found _ (λ j. is_at_most b.priority (rank_of g s among j)) seen (λ j n. lower_is_not r b.priority _ (omega (arith, t.1)) n) h.1) (is_rank_self r _ e),
-            all_append _ seen i (all_weaker (λ j. is_at_most b.priority (rank_of g s among j)) _ seen (λ j n. lower_at_most r b.priority _ (omega (arith, t.1)) n) h.1) (at_most_some r r _ e (omega arith)),
+            found_last (has_rank g among r) seen i (none_found _ (λ j. is_at_most b.priority (rank_of g among j)) seen (λ j n. lower_is_not r b.priority _ (omega (arith, t.1)) n) h.1) (is_rank_self r _ e),
+            all_append _ seen i (all_weaker (λ j. is_at_most b.priority (rank_of g among j)) _ seen (λ j n. lower_at_most r b.priority _ (omega (arith, t.1)) n) h.1) (at_most_some r r _ e (omega arith)),
           )
           | inr f ↦ rw f.0 (found_before _ seen i b.task h.0, all_append _ seen i h.1 (at_most_some b.priority r _ e (omega (arith, f.1))))
         ]
 
-pub better_inside : (n : ℕ) (best : Option Best) (i : ℕ) (rank : Option ℕ) → IfSome best (λ b. b.task < n) → i < n → IfSome (better_of best i rank) (λ b. b.task < n)
-better_inside n None i None h there = tt
-better_inside n None i (Some r) h there = there
-better_inside n (Some b) i None h there = h
-better_inside n (Some b) i (Some r) h there = elim (leb_tells (suc r) b.priority) [ inl t ↦ rw t.0 there | inr f ↦ rw f.0 h ]
+pub better_inside : (n : ℕ) (best : Option Best) (i r : ℕ) → IfSome best (λ b. b.task < n) → i < n → (better_of best i r).task < n
+better_inside n None i r h there = there
+better_inside n (Some b) i r h there = elim (leb_tells (suc r) b.priority) [ inl t ↦ rw t.0 there | inr f ↦ rw f.0 h ]
 
 append_nothing : (xs : List ℕ) → xs ++ [] ≡ xs
 append_nothing [] = refl
@@ -292,22 +293,60 @@ no_rank (Some q) p h e = absurd (false≢true h)
 at_most_is : (b p : ℕ) (o : Option ℕ) → is_at_most b o ≡ true → o ≡ Some p → b ≤ p
 at_most_is b p o h e = leb-true _ _ (rw e at h)
 
-pub first_task : (g : Setup) (s : State) (among : Among) (from : ℕ) (b : Best) → from ≤ length s.tasks → IsFirst g s among (around (length s.tasks) from) (Some b) → first_around g s among from ≡ Some b.task
-first_task g s among from b inside h =
-    first_some g s among b.priority from low inside
-    ∙ sym (find_append (has_rank g s among b.priority) (range_with_len from (length s.tasks - from)) (range_with_len 0 from))
+pub first_task : (g : Setup) (n : ℕ) (among : ℕ → Bool) (from : ℕ) (b : Best) → from ≤ n → IsFirst g among (around n from) (Some b) → first_around g among n from ≡ Some b.task
+first_task g n among from b inside h =
+    first_some g n among b.priority from low inside
+    ∙ sym (find_append (has_rank g among b.priority) (range_with_len from (n - from)) (range_with_len 0 from))
     ∙ h.0
   where
-    low : IsLowest g s among (length s.tasks) (Some b.priority)
+    low : IsLowest g among n (Some b.priority)
     low =
-        let found = found_passes (has_rank g s among b.priority) (λ j. leb (suc j) (length s.tasks)) (around (length s.tasks) from) b.task (around_below (length s.tasks) from inside) h.0 in
+        let found = found_passes (has_rank g among b.priority) (λ j. leb (suc j) n) (around n from) b.task (around_below n from inside) h.0 in
         record {
-          least = λ j p below e. at_most_is b.priority p _ (all_around (λ i. is_at_most b.priority (rank_of g s among i)) (length s.tasks) from j inside h.1 below) e;
+          least = λ j p below e. at_most_is b.priority p _ (all_around (λ i. is_at_most b.priority (rank_of g among i)) n from j inside h.1 below) e;
           there = (b.task, leb-true _ _ found.1, rank_true b.priority _ found.0);
         }
 
-pub no_first_task : (g : Setup) (s : State) (among : Among) (from : ℕ) → from ≤ length s.tasks → IsFirst g s among (around (length s.tasks) from) None → first_around g s among from ≡ None
-no_first_task g s among from inside h = first_none g s among from record {
-  least = λ j p below e. no_rank _ p (all_around (λ i. is_none (rank_of g s among i)) (length s.tasks) from j inside h below) e;
+pub no_first_task : (g : Setup) (n : ℕ) (among : ℕ → Bool) (from : ℕ) → from ≤ n → IsFirst g among (around n from) None → first_around g among n from ≡ None
+no_first_task g n among from inside h = first_none g n among from record {
+  least = λ j p below e. no_rank _ p (all_around (λ i. is_none (rank_of g among i)) n from j inside h below) e;
   there = tt;
 } inside
+
+-- ## tasks that are passed over
+
+append_range : (from m n k : ℕ) → k ≡ m + n → range_with_len from k ≡ range_with_len from m ++ range_with_len (from + m) n
+append_range from zero n k e =
+    let all : k ≡ n = omega arith in
+    let same : from ≡ from + 0 = omega arith in
+    ap (range_with_len from) all ∙ ap (λ (i : ℕ). range_with_len i n) same
+append_range from (suc m) n zero e = absurd (omega arith)
+append_range from (suc m) n (suc k) e =
+    let next : from + 1 + m ≡ from + suc m = omega arith in
+    ap (λ ys. from ∷ ys) (append_range (from + 1) m n k (omega arith) ∙ ap (λ (i : ℕ). range_with_len (from + 1) m ++ range_with_len i n) next)
+
+range_more : (from next to : ℕ) → from ≤ next → next ≤ to → range_with_len from (to - from) ≡ range_with_len from (next - from) ++ range_with_len next (to - next)
+range_more from next to a b =
+    let there : from + (next - from) ≡ next = omega arith in
+    append_range from (next - from) (to - next) (to - from) (omega arith) ∙ ap (λ (k : ℕ). range_with_len from (next - from) ++ range_with_len k (to - next)) there
+
+unranked : (g : Setup) (among : ℕ → Bool) (i : ℕ) → among i ≡ false → rank_of g among i ≡ None
+unfolding rank_of
+unranked g among i f = rw f refl
+
+-- the best stays it where no more members are seen
+first_passed : (g : Setup) (among : ℕ → Bool) (seen : List ℕ) (best : Option Best) (next count : ℕ) → ((i : ℕ) → next ≤ i → i < next + count → among i ≡ false) → IsFirst g among seen best → IsFirst g among (seen ++ range_with_len next count) best
+first_passed g among seen None next count none h = all_both _ seen (range_with_len next count) h (all_by _ next count (λ i a b. rw (unranked g among i (none i a b)) refl))
+first_passed g among seen (Some b) next count none h = (
+  find_append (has_rank g among b.priority) seen (range_with_len next count) ∙ rw h.0 refl,
+  all_both _ seen (range_with_len next count) h.1 (all_by _ next count (λ i x y. at_most_none b.priority _ (unranked g among i (none i x y)))),
+)
+
+pub first_beyond : (g : Setup) (among : ℕ → Bool) (seen : List ℕ) (best : Option Best) (from next to : ℕ) → from ≤ next → next ≤ to → ((i : ℕ) → next ≤ i → i < to → among i ≡ false) → IsFirst g among (seen ++ range_with_len from (next - from)) best → IsFirst g among (seen ++ range_with_len from (to - from)) best
+first_beyond g among seen best from next to a b none h =
+    rw (range_more from next to a b, ← append_more seen (range_with_len from (next - from)) (range_with_len next (to - next)))
+    (first_passed g among (seen ++ range_with_len from (next - from)) best next (to - next) (λ i x y. none i x (omega (arith, y, b))) h)
+
+-- who is looked at is said in two ways
+pub same_around : (g : Setup) (p q : ℕ → Bool) (n m from at : ℕ) → ((i : ℕ) → p i ≡ q i) → n ≡ m → from ≡ at → first_around g p n from ≡ first_around g q m at
+same_around g p q n m from at h e f = ap (λ (r : ℕ → Bool). first_around g r n from) (λ i x. h x i) ∙ ap (λ (k : ℕ). first_around g q k from) e ∙ ap (first_around g q m) f

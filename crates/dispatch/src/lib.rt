@@ -2,34 +2,15 @@
 //! Which task runs, and whose message is received: strict priority, and of equals the next in order
 //! (Hubris Reference, Scheduling).
 
-ghost use Rattle.std.specs.Prelude.{◌≡◌, ◌+◌, ◌-◌, ◌<◌, ◌≤◌, ◌++◌, ℕ, List, Option, Some, None, IfSome, length};
+ghost use Rattle.std.specs.Prelude.{◌≡◌, ◌+◌, ◌-◌, ◌<◌, ◌≤◌, ◌++◌, ℕ, List, IfSome, length};
 ghost use Rattle.std.specs.List.{range_with_len};
 ghost use Rattle.task_table.specs.State.{Setup, Turn};
 ghost use Rattle.task_table.specs.Reading.{chosen, best_sender};
-ghost use Rattle.task_table.specs.Holds.{Stands, Stood, task_count};
-ghost use Rattle.dispatch.specs.Lowest.{IsFirst, is_among, better_of, rank_of, first_around};
+ghost use Rattle.task_table.specs.TaskSets.{has};
+ghost use Rattle.task_table.specs.Holds.{Holds, Stands, Stood, task_count};
+ghost use Rattle.dispatch.specs.Lowest.{IsFirst, IsFirstIn, better_of, first_around};
 
-use task_table::Kernel;
-
-/// The tasks that are looked at.
-#[derive(Clone, Copy)]
-enum Among {
-    /// Those that are ready.
-    Ready,
-    /// Those that offer a call to the server with this index.
-    SendersTo(usize),
-}
-
-/// Whether a task is among them.
-fn is_among(k: &Kernel, among: Among, task: usize) -> bool
-    requires { task < task_count k.now }
-    ensures { (g : Setup) (t : Turn) → Stands g k.now t → result ≡ is_among t.state among task }
-{
-    match among {
-        Among::Ready => k.is_ready(task),
-        Among::SendersTo(server) => k.offered(task, server).is_some(),
-    }
-}
+use task_table::{Kernel, TaskSet};
 
 /// A task, and its priority number.
 #[derive(Clone, Copy)]
@@ -39,55 +20,53 @@ struct Best {
 }
 
 /// The better of the best so far and one more task: the one of the lower priority number, else the
-/// earlier one. A task without a rank is not among those that are looked at.
-fn better(best: Option<Best>, task: usize, rank: Option<u8>) -> Option<Best>
-    ensures { result ≡ better_of best task rank }
+/// earlier one.
+fn better(best: Option<Best>, task: usize, priority: u8) -> Best
+    ensures { result ≡ better_of best task priority }
 {
-    match (best, rank) {
-        (Some(b), Some(r)) => {
-            if r < b.priority {
-                Some(Best { task, priority: r })
+    match best {
+        Some(best) => {
+            if priority < best.priority {
+                Best { task, priority }
             } else {
-                Some(b)
+                best
             }
         }
-        (None, Some(r)) => Some(Best { task, priority: r }),
-        (b, None) => b,
+        None => Best { task, priority },
     }
 }
 
-/// The priority number of a task that is among them.
-#[tactic(auto, unfolding(crate::specs::Lowest::rank_of))]
-fn rank(k: &Kernel, among: Among, task: usize) -> Option<u8>
-    requires { task < task_count k.now }
-    ensures { (g : Setup) (t : Turn) → Stands g k.now t → result ≡ rank_of g t.state among task }
+/// The first member of a set from a task on and below another one.
+fn first_in(among: &TaskSet, from: usize, to: usize) -> Option<usize>
+    ensures { IsFirstIn among.now.words from to result }
 {
-    if is_among(k, among, task) {
-        Some(k.priority(task))
-    } else {
-        None
+    match among.first_from(from) {
+        Some(task) => { if task < to { Some(task) } else { None } }
+        None => None,
     }
 }
 
-/// The best once the tasks of a range are looked at too.
-fn best_in(k: &Kernel, among: Among, from: usize, to: usize, best: Option<Best>) -> Option<Best>
+/// The best once the members of a range are looked at too.
+fn best_in(k: &Kernel, among: &TaskSet, from: usize, to: usize, best: Option<Best>) -> Option<Best>
     requires order { from ≤ to }
     requires inside { to ≤ task_count k.now }
     requires best { IfSome best (λ b. b.task < task_count k.now) }
-    ensures first { (g : Setup) (t : Turn) (seen : List ℕ) → Stands g k.now t → IsFirst g t.state among seen best → IsFirst g t.state among (seen ++ range_with_len from (to - from)) result }
+    ensures first { (g : Setup) (t : Turn) (seen : List ℕ) → Holds g k.now t → IsFirst g (has among.now.words) seen best → IsFirst g (has among.now.words) (seen ++ range_with_len from (to - from)) result }
     ensures inside { IfSome result (λ b. b.task < task_count k.now) }
 {
     let mut so_far = best;
-    for i in from..to {
-        so_far = better(so_far, i, rank(k, among, i));
+    let mut next = from;
+    while let Some(task) = first_in(among, next, to) {
+        so_far = Some(better(so_far, task, k.priority(task)));
+        next = task + 1;
     }
     so_far
 }
 
-/// Of those of the lowest priority number the first from a task on, cyclically.
-fn first_around(k: &Kernel, among: Among, from: usize) -> Option<usize>
+/// Of the members of the lowest priority number the first from a task on, cyclically.
+fn first_around(k: &Kernel, among: &TaskSet, from: usize) -> Option<usize>
     requires { from ≤ task_count k.now }
-    ensures first { (g : Setup) (t : Turn) → Stands g k.now t → result ≡ first_around g t.state among from }
+    ensures first { (g : Setup) (t : Turn) → Holds g k.now t → result ≡ first_around g (has among.now.words) (length t.state.tasks) from }
     ensures inside { IfSome result (λ i. i < task_count k.now) }
 {
     let after = best_in(k, among, from, k.task_count(), None);
@@ -100,10 +79,9 @@ fn first_around(k: &Kernel, among: Among, from: usize) -> Option<usize>
 /// The task that runs next, or None where none is ready: of the ready tasks of the lowest priority
 /// number the current one, else the first after it, cyclically.
 pub fn choose(k: &Kernel) -> Option<usize>
-    requires { Stood k.now }
-    ensures { (g : Setup) (t : Turn) → Stands g k.now t → result ≡ chosen g t.state }
+    ensures { (g : Setup) (t : Turn) → Holds g k.now t → result ≡ chosen g t.state }
 {
-    first_around(k, Among::Ready, k.current())
+    first_around(k, k.ready(), k.current())
 }
 
 /// The task whose message the receiver takes where it hears any, or None where none offers it a call:
@@ -115,5 +93,5 @@ pub fn best_sender(k: &Kernel, receiver: usize) -> Option<usize>
     ensures best { (g : Setup) (t : Turn) → Stands g k.now t → result ≡ best_sender g t.state receiver }
     ensures inside { IfSome result (λ i. i < task_count k.now) }
 {
-    first_around(k, Among::SendersTo(receiver), receiver + 1)
+    first_around(k, k.clients(receiver), receiver + 1)
 }
