@@ -14,7 +14,7 @@ mod slot;
 mod start;
 
 pub use kernel::Kernel;
-pub use mem_banks::{FLASH, Memory, RAM};
+pub use mem_banks::{FLASH, Memory, Near, RAM};
 pub use slot::{Found, Listening, OpenCall, Phase, Range, Slot, Source, Wait};
 pub use start::{LineStart, TaskStart};
 
