@@ -94,11 +94,14 @@ impl Machine {
             c: false,
             v: false,
         };
+        let near = kernel.near(0);
         Machine {
             reach: Reach {
                 kernel,
                 data: 0,
                 text: 0,
+                near_data: near,
+                near_text: near,
             },
             processor: Cpu {
                 regs: Regs::of([0; 16]),
@@ -156,6 +159,8 @@ impl Machine {
         let data = place_of(regions, self.processor.regs.get(13));
         self.reach.text = text;
         self.reach.data = data;
+        self.reach.near_text = self.reach.near(text);
+        self.reach.near_data = self.reach.near(data);
     }
 }
 
@@ -416,7 +421,7 @@ impl Machine {
         if !spans(text, at, 2) {
             return false;
         }
-        let first = self.reach.kernel.half(at);
+        let first = self.reach.kernel.half_near(self.reach.near_text, at);
         if first / 2048 >= 29 {
             return self.proceeds_wide(text, first, at);
         }
@@ -441,7 +446,7 @@ impl Machine {
         if !spans(text, after, 2) {
             return false;
         }
-        let second = self.reach.kernel.half(after);
+        let second = self.reach.kernel.half_near(self.reach.near_text, after);
         match decode(first, Some(second)) {
             Decoded::Wide(wide) => proceed(&mut self.processor, &wide, &mut self.reach),
             _ => false,

@@ -11,7 +11,7 @@ ghost use Rattle.board_model.specs.Turn.{first_lacking};
 ghost use Rattle.board_core.specs.Machine.{IsStored, refused};
 
 use region_check::{Region, Right, Rights, may};
-use task_table::Kernel;
+use task_table::{Kernel, Near};
 use thumb_exec::bus::Bus;
 
 /// The kernel, of whose memory the current task reaches as much as its regions permit.
@@ -22,6 +22,10 @@ pub struct Reach {
     /// Which of the current task's regions are asked first. What is right does not hang on it.
     pub data: usize,
     pub text: usize,
+
+    /// Where in memory they are looked for first.
+    pub near_data: Near,
+    pub near_text: Near,
 }
 
 /// Whether the rights have it.
@@ -81,17 +85,26 @@ fn bytes(value: u32) -> [u8; 4]
 }
 
 /// Writes the low n bytes of a value where they lie in the RAM; elsewhere a store changes nothing.
-fn write(kernel: &mut Kernel, addr: u32, n: u32, value: u32)
+#[inline(always)]
+fn write(kernel: &mut Kernel, near: Near, addr: u32, n: u32, value: u32)
     requires { IsSize n }
     ensures { IsStored kernel.old addr n value kernel.new }
 {
     let bytes = bytes(value);
     if kernel.is_ram(addr, n) {
-        kernel.store(addr, &bytes[..n as usize]);
+        kernel.store_near(near, addr, &bytes[..n as usize]);
     }
 }
 
 impl Reach {
+    /// Where in memory this one region of the current task is looked for first.
+    pub fn near(&self, k: usize) -> Near {
+        match self.kernel.regions(self.kernel.current()).get(k) {
+            Some(region) => self.kernel.near(region.base),
+            None => self.kernel.near(0),
+        }
+    }
+
     /// Whether this one region of the current task gives the right to all of n bytes.
     #[inline(always)]
     fn region_gives(&self, k: usize, addr: u32, n: u32, right: Right) -> bool
@@ -122,7 +135,7 @@ impl Reach {
         ensures { MatchResult result (λ value. (refused self.now.kernel addr n Read ≡ None) × (value ≡ number_at (memory_of self.now.kernel) addr n)) (λ at. refused self.now.kernel addr n Read ≡ Some at) }
     {
         if self.region_gives(self.text, addr, n, Right::Read) {
-            return Ok(self.kernel.number(addr, n));
+            return Ok(self.kernel.number_near(self.near_text, addr, n));
         }
         match self.lacks(addr, n, Right::Read) {
             Some(at) => Err(at),
@@ -156,7 +169,7 @@ impl Bus for Reach {
     #[inline(always)]
     fn load(&self, addr: u32, n: u32) -> Result<u32, u32> {
         if self.region_gives(self.data, addr, n, Right::Read) {
-            return Ok(self.kernel.number(addr, n));
+            return Ok(self.kernel.number_near(self.near_data, addr, n));
         }
         self.load_beyond(addr, n)
     }
@@ -166,7 +179,7 @@ impl Bus for Reach {
         match self.allows(addr, n, Right::Write) {
             Some(at) => Err(at),
             None => {
-                write(&mut self.kernel, addr, n, value);
+                write(&mut self.kernel, self.near_data, addr, n, value);
                 Ok(())
             }
         }

@@ -9,8 +9,8 @@ mod opening;
 ghost use Rattle.std.specs.Prelude.{◌≡◌, ◌≤◌, ◌⊎◌, length, IfOk, replicate};
 ghost use Rattle.mem_banks.specs.Memory.{is_held, is_ram, number_at, with_bytes, copied, IsWithin, AreAllBytes, AreRegions};
 
-use bank::{Bank, find, page, search, whole_half, whole_word};
-use moving::{copy_from_end, copy_from_start, store_at};
+use bank::{Bank, find, page, search, whole_half, whole_number, whole_word};
+use moving::{copy_from_end, copy_from_start, store_at, store_near};
 use opening::{all_banks, table_of};
 use std::alloc::{AllocError, Global};
 use std::marker::Model;
@@ -119,7 +119,6 @@ impl Memory {
 
     /// The number that the two bytes from an address on spell, the lowest first. Where there is
     /// no memory a byte counts as 0.
-    #[inline(always)]
     pub fn half(&self, addr: u32) -> u16
         ensures { result ≡ number_at self.now addr 2 }
     {
@@ -173,7 +172,7 @@ impl Memory {
 
     /// The number that 1, 2 or 4 bytes from an address on spell, the lowest first. Where there is no
     /// memory a byte counts as 0.
-    #[inline(always)]
+    #[inline(never)]
     pub fn number(&self, addr: u32, size: u32) -> u32
         requires { (size ≡ 1) ⊎ (size ≡ 2) ⊎ (size ≡ 4) }
         ensures { result ≡ number_at self.now addr size }
@@ -206,6 +205,21 @@ impl Memory {
         self.half(addr)
     }
 
+    /// As `number`, with where to look first.
+    #[inline(always)]
+    pub fn number_near(&self, near: Near, addr: u32, size: u32) -> u32
+        requires { (size ≡ 1) ⊎ (size ≡ 2) ⊎ (size ≡ 4) }
+        ensures { result ≡ number_at self.now addr size }
+    {
+        if let Some(bank) = self.banks.get(near.bank as usize) {
+            let at = addr.wrapping_sub(bank.base) as usize;
+            if at + size as usize <= bank.bytes.len() {
+                return whole_number(&bank.bytes, at, size);
+            }
+        }
+        self.number(addr, size)
+    }
+
     /// Whether so many bytes from an address on lie in the RAM.
     #[inline(always)]
     pub fn is_ram(&self, addr: u32, count: u32) -> bool
@@ -234,5 +248,20 @@ impl Memory {
         ensures { self.new ≡ with_bytes self.old addr bytes.now }
     {
         store_at(&mut self.banks, &self.table, addr, bytes);
+    }
+
+    /// As `store`, with where to look first.
+    #[inline(always)]
+    pub fn store_near(&mut self, near: Near, addr: u32, bytes: &[u8])
+        requires { IsWithin self.old addr (length bytes.now) }
+        ensures { self.new ≡ with_bytes self.old addr bytes.now }
+    {
+        store_near(
+            &mut self.banks,
+            &self.table,
+            near.bank as usize,
+            addr,
+            bytes,
+        );
     }
 }

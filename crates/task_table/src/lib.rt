@@ -15,7 +15,7 @@ mod start;
 mod task_set;
 
 pub use kernel::Kernel;
-pub use mem_banks::{FLASH, Memory, RAM};
+pub use mem_banks::{FLASH, Memory, Near, RAM};
 pub use slot::{Found, Listening, OpenCall, Phase, Range, Slot, Source, Wait};
 pub use start::{LineStart, TaskStart};
 pub use task_set::TaskSet;

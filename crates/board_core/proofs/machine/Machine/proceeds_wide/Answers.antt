@@ -18,12 +18,12 @@ returns-in-Wide-clause-done c = λ done g t r.
     let after : ℕ = c.args.at + 2 in
     let near : after ≡ (c.args.at + 2) % 2 ^ 32 = omega arith in
     let text = text_here g c.args.self.now t c.args.text.now after r c.requires.text (sym c.spans.ensures ∙ c.if-not-spans.false) in
-    let half = c.half-second.ensures.holds g h.saved h.holds ∙ ap (λ (m : Memory). number_at m after 2) (sym rest.memory) in
+    let half = c.half_near-second.ensures.holds g h.saved h.holds ∙ ap (λ (m : Memory). number_at m after 2) (sym rest.memory) in
     let m : Machine = record { reach = c.proceed.new.bus; processor = c.proceed.new.cpu; loaded = c.args.self.now.loaded } in
     let went = was_next _ _ _ _ _ _ (c.proceed.ensures.done done) refl in
     let here = effect_loaded g _ _ t c.in-Wide.wide r.holds r.sane.steady.current in
-    let D : Decoded → Type 0 = λ d. MachineHolds g m (decoded_as Calls g t.state.current c.args.at (c.args.first * 2 ^ 16 + c.half-second.result) d t) in
-    second_acted Calls g t (MachineHolds g m) c.args.at c.args.first after true near text c.half-second.result c.decode.result refl half c.decode.ensures.table
+    let D : Decoded → Type 0 = λ d. MachineHolds g m (decoded_as Calls g t.state.current c.args.at (c.args.first * 2 ^ 16 + c.half_near-second.result) d t) in
+    second_acted Calls g t (MachineHolds g m) c.args.at c.args.first after true near text c.half_near-second.result c.decode.result refl half c.decode.ensures.table
     (subst D (sym c.in-Wide.is)
     (loaded_by _ g _ _ _ r.loaded
     (next_loaded g _ t t.state.current _ went.processor c.proceed.new.cpu went.stores (sym here ∙ went.is) went.after
