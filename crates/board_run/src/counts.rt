@@ -8,7 +8,7 @@ use crate::telling::Teller;
 use kernel_abi::Note;
 use outside_io::Failed;
 
-/// How many notes of each kind were told. A count stays at the end of its type; a run comes nowhere near.
+/// How many notes of each kind were told: up to 2^64 - 1, which no run comes near.
 #[derive(Clone, Copy, Debug, PartialEq, Eq)]
 pub struct Counts {
     pub tick: u64,
@@ -46,6 +46,7 @@ impl Counts {
         }
     }
 
+    // One note more.
     fn count(&mut self, note: &Note)
         ensures { self.new ≡ counted self.old note.now }
     {
@@ -66,6 +67,7 @@ impl Counts {
         }
     }
 
+    // The notes of a turn.
     fn count_all(&mut self, turn: u32, notes: &[Note])
         ensures { HaveGrown self.old (at_turn turn notes.now) self.new }
     {
