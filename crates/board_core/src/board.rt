@@ -145,45 +145,6 @@ impl Board {
         }
     }
 
-    /// Idle turns up to the one in which something happens next, where the last turn noted nothing and
-    /// the run does not end before.
-    fn idle_on(&mut self, limit: u32)
-        requires stood { Stood self.old }
-        requires none { self.old.choice.next ≡ None }
-        requires up { self.old.choice.down ≡ false }
-        requires left { turns_of self.old ≤ limit }
-        requires few { limit ≤ 1000000000 }
-        ensures advanced { (x : Scenario) (n : ℕ) (s : State) → IsAdvanced Calls x n s self.old → IsAdvanced Calls x (n + (turns_of self.new - turns_of self.old)) s self.new }
-        ensures more { turns_of self.old ≤ turns_of self.new }
-        ensures within { turns_of self.new ≤ limit }
-    {
-        let until = quiet_until(self.due, limit);
-        if until <= self.turns {
-            return;
-        }
-        if !self.notes().is_empty() {
-            return;
-        }
-        if !self.script.lasts(until) {
-            return;
-        }
-        self.skip(until);
-    }
-
-    /// All idle turns up to turn `to` at once, before which no task is ready and nothing happens.
-    pub fn skip(&mut self, to: u32)
-        requires stood { Stood self.old }
-        requires from { turns_of self.old ≤ to }
-        requires few { to ≤ 1000000000 }
-        requires idle { (x : Scenario) (s : State) → Stands x self.old s → IsIdleUntil x s to }
-        ensures model { (x : Scenario) (s : State) → Stands x self.old s → Stands x self.new (state_after Calls x (to - s.turn) s) }
-        ensures nothing { notes_of self.new ≡ [] }
-        ensures turns { turns_of self.new ≡ to }
-    {
-        self.machine.begin();
-        self.turns = to;
-    }
-
     /// The same, where this task is chosen and the supervisor has not faulted.
     fn glide_on(&mut self, task: usize, limit: u32)
         requires stood { Stood self.old }
@@ -288,6 +249,46 @@ impl Board {
         }
         self.turns += 1;
         true
+    }
+
+    /// Idle turns up to the one in which something happens next, where the last turn noted nothing and
+    /// the run does not end before.
+    fn idle_on(&mut self, limit: u32)
+        requires stood { Stood self.old }
+        requires none { self.old.choice.next ≡ None }
+        requires up { self.old.choice.down ≡ false }
+        requires left { turns_of self.old ≤ limit }
+        requires few { limit ≤ 1000000000 }
+        ensures advanced { (x : Scenario) (n : ℕ) (s : State) → IsAdvanced Calls x n s self.old → IsAdvanced Calls x (n + (turns_of self.new - turns_of self.old)) s self.new }
+        ensures more { turns_of self.old ≤ turns_of self.new }
+        ensures within { turns_of self.new ≤ limit }
+        ensures noted { length (notes_of self.old) ≤ turn_notes → length (notes_of self.new) ≤ turn_notes }
+    {
+        let until = quiet_until(self.due, limit);
+        if until <= self.turns {
+            return;
+        }
+        if !self.notes().is_empty() {
+            return;
+        }
+        if !self.script.lasts(until) {
+            return;
+        }
+        self.skip(until);
+    }
+
+    /// All idle turns up to turn `to` at once, before which no task is ready and nothing happens.
+    pub fn skip(&mut self, to: u32)
+        requires stood { Stood self.old }
+        requires from { turns_of self.old ≤ to }
+        requires few { to ≤ 1000000000 }
+        requires idle { (x : Scenario) (s : State) → Stands x self.old s → IsIdleUntil x s to }
+        ensures model { (x : Scenario) (s : State) → Stands x self.old s → Stands x self.new (state_after Calls x (to - s.turn) s) }
+        ensures nothing { notes_of self.new ≡ [] }
+        ensures turns { turns_of self.new ≡ to }
+    {
+        self.machine.begin();
+        self.turns = to;
     }
 
     /// A turn begins, with its events.

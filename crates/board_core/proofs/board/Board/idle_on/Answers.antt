@@ -33,3 +33,6 @@ returns-clause-advanced c = λ x n s a.
     let more : lasts x.script (u.turn + (to - u.turn)) ≡ true = ap (lasts x.script) e ∙ ap (λ (script : ScriptData). lasts script to) (sym a.stands.holds.script) ∙ sym c.lasts.ensures ∙ c.if-not-lasts.false in
     let k : to - u.turn ≡ turns_of b' - turns_of b = omega (arith, at, turns) in
     subst (λ (m : ℕ). IsAdvanced Calls x (n + m) s b') k (skip_advances x n (to - u.turn) s b b' a quiet idle more (c.skip.ensures.model x u a.stands) c.skip.ensures.nothing)
+
+pub returns-clause-noted : goal.returns-clause-noted
+returns-clause-noted c = λ few. rw c.skip.ensures.nothing (omega arith)
