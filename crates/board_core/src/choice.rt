@@ -2,19 +2,19 @@
 ghost use Rattle.std.specs.Prelude.{◌≡◌, ◌<◌, true, Some};
 ghost use Rattle.task_table.specs.State.{Setup, Turn};
 ghost use Rattle.task_table.specs.Reading.{is_faulted, task_at};
-ghost use Rattle.task_table.specs.Holds.{Holds, Stands, Stood, task_count};
+ghost use Rattle.task_table.specs.Holds.{Holds, task_count};
 ghost use Rattle.board_core.specs.Kept.{IsChoice, WasChoice};
 
 use dispatch::choose;
 use kernel_abi::Health;
-use task_table::Kernel;
+use task_table::{Kernel, TaskSet};
 
 /// Which task runs next, None where none is ready; which tasks are ready; and whether the supervisor has
 /// faulted.
 #[derive(Clone, Copy, Debug, PartialEq, Eq)]
 pub struct Choice {
     pub next: Option<usize>,
-    pub ready: u32,
+    pub ready: TaskSet,
     pub down: bool,
 }
 
@@ -32,29 +32,27 @@ fn is_down(kernel: &Kernel) -> bool
 
 /// The choice for a kernel as it is.
 pub fn choice_of(kernel: &Kernel) -> Choice
-    requires { Stood kernel.now }
-    ensures { (g : Setup) (t : Turn) → Stands g kernel.now t → IsChoice g t.state result }
+    ensures { (g : Setup) (t : Turn) → Holds g kernel.now t → IsChoice g t.state result }
 {
     Choice {
         next: choose(kernel),
-        ready: kernel.ready(),
+        ready: *kernel.ready(),
         down: is_down(kernel),
     }
 }
 
 /// Whether the task that was chosen is the current one, and the same tasks are ready.
-fn stays(last: &Choice, ready: u32, current: usize) -> bool
+fn stays(last: &Choice, ready: &TaskSet, current: usize) -> bool
     ensures next { result ≡ true → last.now.next ≡ Some current }
-    ensures ready { result ≡ true → last.now.ready ≡ ready }
+    ensures ready { result ≡ true → last.now.ready ≡ ready.now }
 {
-    last.next == Some(current) && last.ready == ready
+    last.next == Some(current) && last.ready == *ready
 }
 
 /// The choice for a kernel as it is, from that for an earlier state of it: a task that was chosen and
 /// runs is chosen again as long as the same tasks are ready.
 pub fn choice_after(kernel: &Kernel, last: &Choice) -> Choice
-    requires { Stood kernel.now }
-    ensures { (g : Setup) (t : Turn) → Stands g kernel.now t → WasChoice g last.now → IsChoice g t.state result }
+    ensures { (g : Setup) (t : Turn) → Holds g kernel.now t → WasChoice g last.now → IsChoice g t.state result }
 {
     if stays(last, kernel.ready(), kernel.current()) {
         return Choice {

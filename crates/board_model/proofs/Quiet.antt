@@ -6,11 +6,9 @@ use Rattle.kernel_abi.specs.declared.Note.TheVariants as note
 use Rattle.words_core.specs.declared.Flags.{Flags}
 use Rattle.task_table.specs.State.{Setup, State, Turn}
 use Rattle.task_table.specs.Reading.{task_at, call_of, listen_of, chosen, qualifies, around, is_ready, is_faulted, priority}
-use Rattle.task_table.specs.Readiness.{readiness}
 use Rattle.task_table.specs.Effects.{with_processor}
 use Rattle.task_table.specs.Counts.{IsAsReady}
 use Rattle.task_table.specs.Sane.{Sane}
-use Rattle.task_table.proofs.Bits.{readiness_told, readiness_same}
 use Rattle.task_table.proofs.Noting.{noted-noted}
 use Rattle.task_table.proofs.Quieting.{ready_same, ready_then, ready-with_task, chain_quiet}
 use Rattle.board_model.specs.declared.told.Level.{Level}
@@ -32,10 +30,6 @@ ready-turn s n = record { count = refl; health = λ i. refl; ready = λ i. refl;
 -- the supervisor has faulted or not as before
 same-down : (s u : State) → IsAsReady s u → is_down u ≡ is_down s
 same-down s u h = ap is_faulted (h.health 0)
-
--- and the number that tells who is ready is the same
-as_ready : (s u : State) → IsAsReady s u → readiness u ≡ readiness s
-as_ready s u h = readiness_same s u h.count h.ready
 
 -- ## the choice
 
@@ -86,11 +80,11 @@ chosen_stays {g} s c h e =
     first_found (qualifies g s) c (n - c) (n - c - 1) (range_with_len 0 c) (omega arith) found.1
 
 -- who was chosen and is current is chosen again where the same tasks are ready
-pub chosen_again : (g : Setup) (s u : State) (c : ℕ) → Sane g s → Sane g u → readiness u ≡ readiness s → chosen g s ≡ Some c → u.current ≡ c → chosen g u ≡ Some c
-chosen_again g s u c sane sane_now same is current =
-    let count = sane_now.steady.as_many ∙ sym sane.steady.as_many in
+pub chosen_again : (g : Setup) (s u : State) (c : ℕ) → Sane g s → length g.tasks ≡ length u.tasks → ((i : ℕ) → is_ready u i ≡ is_ready s i) → chosen g s ≡ Some c → u.current ≡ c → chosen g u ≡ Some c
+chosen_again g s u c sane many same is current =
+    let count = sym many ∙ sym sane.steady.as_many in
     let v : State = record s { current = c } in
-    chosen_by g v u count (λ i. readiness_told s u count same i ∙ sym (ready-current s c i)) current ∙ chosen_stays s c sane is
+    chosen_by g v u count (λ i. same i ∙ sym (ready-current s c i)) current ∙ chosen_stays s c sane is
 
 current-down : (s : State) (c : ℕ) → is_down record s { current = c } ≡ is_down s
 unfolding task_at
@@ -103,7 +97,7 @@ quiet-idle All t none = absurd (noted-noted note.Idle t none)
 -- who is ready, who is chosen next, and whether the supervisor has faulted, as in another state
 pub record IsChosenAlike (g : Setup) (s u : State) : Type 0 where
   pub next : chosen g u ≡ chosen g s
-  pub ready : readiness u ≡ readiness s
+  pub ready : (i : ℕ) → is_ready u i ≡ is_ready s i
   pub down : is_down u ≡ is_down s
 
 -- the choice after the events is the one after the turn
@@ -118,9 +112,9 @@ quiet-turn level x s h none = by_choice (chosen x.setup t.state) refl none
     by_choice None e none =
         let v : Turn = told level note.Idle t in
         let same = ready_then t.state v.state _ (quiet-idle level t none) (ready-turn v.state (v.state.turn + 1)) in
-        record { next = chosen_same x.setup t.state _ same; ready = as_ready t.state _ same; down = same-down t.state _ same }
+        record { next = chosen_same x.setup t.state _ same; ready = same.ready; down = same-down t.state _ same }
     by_choice (Some c) e none =
         let u : Turn = with_current c t in
         let v : Turn = with_registers_told level c (stepped level x.setup c u) in
         let same = ready_then u.state v.state _ (chain_quiet x.setup u.state c u v (chosen_chain level x.setup c t h e) none) (ready-turn v.state (v.state.turn + 1)) in
-        record { next = chosen_same x.setup u.state _ same ∙ chosen_stays t.state c h e ∙ sym e; ready = as_ready u.state _ same ∙ readiness_same t.state u.state refl (ready-current t.state c); down = same-down u.state _ same ∙ current-down t.state c }
+        record { next = chosen_same x.setup u.state _ same ∙ chosen_stays t.state c h e ∙ sym e; ready = λ i. same.ready i ∙ ready-current t.state c i; down = same-down u.state _ same ∙ current-down t.state c }
