@@ -2,7 +2,7 @@
 ghost use Rattle.std.specs.Prelude.{◌≡◌, ◌<◌, true, Some};
 ghost use Rattle.task_table.specs.State.{Setup, Turn};
 ghost use Rattle.task_table.specs.Reading.{is_faulted, task_at};
-ghost use Rattle.task_table.specs.Holds.{Holds, Stands, Stood, task_count};
+ghost use Rattle.task_table.specs.Holds.{Holds, task_count};
 ghost use Rattle.board_core.specs.Kept.{IsChoice, WasChoice};
 
 use dispatch::choose;
@@ -32,8 +32,7 @@ fn is_down(kernel: &Kernel) -> bool
 
 /// The choice for a kernel as it is.
 pub fn choice_of(kernel: &Kernel) -> Choice
-    requires { Stood kernel.now }
-    ensures { (g : Setup) (t : Turn) → Stands g kernel.now t → IsChoice g t.state result }
+    ensures { (g : Setup) (t : Turn) → Holds g kernel.now t → IsChoice g t.state result }
 {
     Choice {
         next: choose(kernel),
@@ -53,8 +52,7 @@ fn stays(last: &Choice, ready: &TaskSet, current: usize) -> bool
 /// The choice for a kernel as it is, from that for an earlier state of it: a task that was chosen and
 /// runs is chosen again as long as the same tasks are ready.
 pub fn choice_after(kernel: &Kernel, last: &Choice) -> Choice
-    requires { Stood kernel.now }
-    ensures { (g : Setup) (t : Turn) → Stands g kernel.now t → WasChoice g last.now → IsChoice g t.state result }
+    ensures { (g : Setup) (t : Turn) → Holds g kernel.now t → WasChoice g last.now → IsChoice g t.state result }
 {
     if stays(last, kernel.ready(), kernel.current()) {
         return Choice {

@@ -80,9 +80,9 @@ chosen_stays {g} s c h e =
     first_found (qualifies g s) c (n - c) (n - c - 1) (range_with_len 0 c) (omega arith) found.1
 
 -- who was chosen and is current is chosen again where the same tasks are ready
-pub chosen_again : (g : Setup) (s u : State) (c : ℕ) → Sane g s → Sane g u → ((i : ℕ) → is_ready u i ≡ is_ready s i) → chosen g s ≡ Some c → u.current ≡ c → chosen g u ≡ Some c
-chosen_again g s u c sane sane_now same is current =
-    let count = sane_now.steady.as_many ∙ sym sane.steady.as_many in
+pub chosen_again : (g : Setup) (s u : State) (c : ℕ) → Sane g s → length g.tasks ≡ length u.tasks → ((i : ℕ) → is_ready u i ≡ is_ready s i) → chosen g s ≡ Some c → u.current ≡ c → chosen g u ≡ Some c
+chosen_again g s u c sane many same is current =
+    let count = sym many ∙ sym sane.steady.as_many in
     let v : State = record s { current = c } in
     chosen_by g v u count (λ i. same i ∙ sym (ready-current s c i)) current ∙ chosen_stays s c sane is
 

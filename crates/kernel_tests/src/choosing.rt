@@ -1,4 +1,4 @@
-ghost use Rattle.std.specs.Prelude.{◌≡◌, ◌%◌, [], IfOk};
+ghost use Rattle.std.specs.Prelude.{◌≡◌, ◌<◌, ◌%◌, [], IfOk};
 ghost use Rattle.task_table.specs.Holds.{Stood, task_count};
 
 use crate::memory::memory_of;
@@ -29,6 +29,65 @@ fn two_tasks(alloc: Global, first: u8, second: u8) -> Result<Kernel, AllocError>
     let memory = memory_of(alloc, &[], 0)?;
     let tasks = vec![in alloc; a_task(alloc, first), a_task(alloc, second)]?;
     Kernel::start(alloc, memory, 1, &tasks, &[])
+}
+
+/// A kernel of 32 tasks, with so many priority numbers in turn, of which each task at such a gap is not
+/// started; this one is the current one.
+fn many_tasks(alloc: Global, numbers: u8, gap: u8, current: usize) -> Result<Kernel, AllocError>
+    requires numbers { 0 < numbers }
+    requires gap { 0 < gap }
+    requires current { current < 32 }
+{
+    let memory = memory_of(alloc, &[], 0)?;
+    let mut tasks = Vec::new(alloc);
+    for i in 0..32u8 {
+        tasks.push(TaskStart {
+            started: (i + 1) % gap != 0,
+            ..a_task(alloc, i % numbers)
+        })?;
+    }
+    let mut kernel = Kernel::start(alloc, memory, 1, &tasks, &[])?;
+    kernel.set_current(current);
+    Ok(kernel)
+}
+
+/// Whether a priority number is lower than that of the task that was found.
+fn is_lower(number: u8, found: Option<(usize, u8)>) -> bool {
+    match found {
+        Some((_, lowest)) => number < lowest,
+        None => true,
+    }
+}
+
+/// The choice by a look at each task, from the current one on and around.
+fn chosen_by_a_look_at_each(kernel: &Kernel) -> Option<usize> {
+    let current = kernel.current();
+    let count = kernel.task_count();
+    let mut found = None;
+    for step in 0..count {
+        let task = (current + step) % count;
+        let number = kernel.priority(task);
+        if kernel.is_ready(task) && is_lower(number, found) {
+            found = Some((task, number));
+        }
+    }
+    match found {
+        Some((task, _)) => Some(task),
+        None => None,
+    }
+}
+
+#[test]
+fn the_choice_is_that_by_a_look_at_each_task(rt: HostRuntime) -> Result<(), Fail> {
+    for numbers in [1, 2, 5, 32] {
+        for gap in [1, 2, 3, 33] {
+            for current in 0..32 {
+                let kernel = many_tasks(rt.alloc(), numbers, gap, current)?;
+                assert_eq!(rt; choose(&kernel), chosen_by_a_look_at_each(&kernel));
+            }
+        }
+    }
+    Ok(())
 }
 
 #[test]

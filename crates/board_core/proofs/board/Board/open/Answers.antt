@@ -9,9 +9,6 @@ use Rattle.board_core.proofs.Running.{opened, choice_begun}
 use Rattle.board_core.proofs.Loading.{opened_as}
 use Rattle.board_core.proofs.board.Board.open.Goals as goal
 
-pub choice_of-choice-requires : goal.choice_of-choice-requires
-choice_of-choice-requires c = let g = setup_of (picture c.args.image.now) in (g, begun (start g), c.in_ok-kernel.ensures.stands)
-
 pub returns-clause-stands : goal.returns-clause-stands
 returns-clause-stands c =
     let g = setup_of (picture c.args.image.now) in
@@ -19,7 +16,7 @@ returns-clause-stands c =
     let N : ScriptData → Type 0 = λ script. IsNext script 0 c.next-due.result in
     let M : ℕ → Type 0 = λ turn. IsNext (script_data c.args.script.now) turn c.next-due.result in
     record {
-      holds = record { machine = opened_as g _ c.of.result (start g) c.of.ensures.kernel c.of.ensures.loaded s.0; turns = s.2; script = c.in_ok-script.ensures; due = subst M s.2 (subst N c.in_ok-script.ensures c.next-due.ensures); choice = choice_begun g (start g) _ (c.choice_of-choice.ensures g (begun (start g)) c.in_ok-kernel.ensures.stands) };
+      holds = record { machine = opened_as g _ c.of.result (start g) c.of.ensures.kernel c.of.ensures.loaded s.0; turns = s.2; script = c.in_ok-script.ensures; due = subst M s.2 (subst N c.in_ok-script.ensures c.next-due.ensures); choice = choice_begun g (start g) _ (c.choice_of-choice.ensures g (begun (start g)) c.in_ok-kernel.ensures.stands.holds) };
       sane = s.1;
       counted = counted-start g;
     }
