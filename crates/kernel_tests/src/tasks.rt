@@ -231,7 +231,7 @@ fn a_call_is_misused(rt: HostRuntime) -> Result<(), Fail> {
 #[test]
 fn the_kernel_stores(rt: HostRuntime) -> Result<(), Fail> {
     let mut kernel = two_tasks(rt.alloc())?;
-    kernel.store_near(kernel.near(RAM), RAM, &[1, 2]);
+    kernel.store(RAM, &[1, 2]);
     assert_eq!(rt; kernel.number(RAM, 4), 0x0201);
     assert_eq!(rt; kernel.byte(FLASH + 1), Some(0x21));
     Ok(())

@@ -7,6 +7,8 @@ ghost use Rattle.std.specs.Prelude.{◌≡◌, ◌<◌, ◌≤◌, length, map, 
 ghost use Rattle.task_table.specs.Limits.{most_tasks, board_lines};
 ghost use Rattle.task_table.specs.Readiness.{is_free, AreThose, AreOffers};
 
+mod near;
+
 use crate::Line;
 use crate::limits::{LINES, TURN_NOTES};
 use crate::readiness::{empty_sets, follow_offer, follow_readiness, ready_tasks};
@@ -15,7 +17,7 @@ use crate::start::{LineStart, TaskStart, birth_slot, copies_of, first_slots};
 use crate::task_set::TaskSet;
 use arrayvec::ArrayVec;
 use kernel_abi::{Generation, Health, Note, TaskId, Timer};
-use mem_banks::{Memory, Near};
+use mem_banks::Memory;
 use region_check::Region;
 use std::alloc::{AllocError, Global};
 use words_core::Flags;
@@ -343,20 +345,6 @@ impl Kernel {
         self.memory.number(addr, size)
     }
 
-    /// As `number`, with where to look first.
-    #[inline(always)]
-    pub fn number_near(&self, near: Near, addr: u32, size: u32) -> u32
-        requires { (size ≡ 1) ⊎ (size ≡ 2) ⊎ (size ≡ 4) }
-        ensures value { result ≡ number_at (memory_of self.now) addr size }
-    {
-        self.memory.number_near(near, addr, size)
-    }
-
-    /// Where to look for what lies near an address.
-    pub fn near(&self, addr: u32) -> Near {
-        self.memory.near(addr)
-    }
-
     /// Nothing is noted any more. What the turn wrote and read is forgotten with it.
     pub fn clear_notes(&mut self)
         ensures holds { (g : Setup) (t : Turn) → Holds g self.old t → Holds g self.new (begun t.state) }
@@ -471,15 +459,6 @@ impl Kernel {
         self.memory.half(addr)
     }
 
-    /// As `half`, with where to look first.
-    #[inline(always)]
-    pub fn half_near(&self, near: Near, addr: u32) -> u16
-        ensures value { result ≡ number_at (memory_of self.now) addr 2 }
-        ensures holds { (g : Setup) (t : Turn) → Holds g self.now t → result ≡ number_at t.state.memory addr 2 }
-    {
-        self.memory.half_near(near, addr)
-    }
-
     /// Whether so many bytes from an address on lie in the RAM.
     #[inline(always)]
     pub fn is_ram(&self, addr: u32, count: u32) -> bool
@@ -498,15 +477,14 @@ impl Kernel {
         self.memory.copy(from, to, count);
     }
 
-    /// Writes bytes into the RAM for the task that runs, on its own ground. It is told where to look first.
-    #[inline(always)]
-    pub fn store_near(&mut self, near: Near, addr: u32, bytes: &[u8])
+    /// Writes bytes into the RAM for the task that runs, on its own ground.
+    pub fn store(&mut self, addr: u32, bytes: &[u8])
         requires { IsWithinRam (memory_of self.old) addr (length bytes.now) }
         ensures holds { (g : Setup) (t : Turn) → Holds g self.old t → Holds g self.new (stored Own addr bytes.now t) }
         ensures current { current_of self.new ≡ current_of self.old }
         ensures frame { AddsNotes self.old 0 self.new }
     {
-        self.memory.store_near(near, addr, bytes);
+        self.memory.store(addr, bytes);
     }
 }
 
