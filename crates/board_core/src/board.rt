@@ -116,6 +116,7 @@ impl Board {
         ensures advanced { (x : Scenario) (s : State) → Stands x self.old s → IsAdvanced level x (turns_of self.new - turns_of self.old - 1) s self.new }
         ensures more { turns_of self.old < turns_of self.new }
         ensures within { turns_of self.new ≤ limit }
+        ensures noted { length (notes_of self.new) ≤ turn_notes }
     {
         self.turn_at(level);
         match level {
@@ -133,6 +134,7 @@ impl Board {
         ensures advanced { (x : Scenario) (n : ℕ) (s : State) → IsAdvanced Calls x n s self.old → IsAdvanced Calls x (n + (turns_of self.new - turns_of self.old)) s self.new }
         ensures more { turns_of self.old ≤ turns_of self.new }
         ensures within { turns_of self.new ≤ limit }
+        ensures noted { length (notes_of self.old) ≤ turn_notes → length (notes_of self.new) ≤ turn_notes }
     {
         if self.choice.down {
             return;
@@ -152,6 +154,7 @@ impl Board {
         ensures advanced { (x : Scenario) (n : ℕ) (s : State) → IsAdvanced Calls x n s self.old → IsAdvanced Calls x (n + (turns_of self.new - turns_of self.old)) s self.new }
         ensures more { turns_of self.old ≤ turns_of self.new }
         ensures within { turns_of self.new ≤ limit }
+        ensures noted { length (notes_of self.old) ≤ turn_notes → length (notes_of self.new) ≤ turn_notes }
     {
         let until = quiet_until(self.due, limit);
         let text = self.machine.text(task);

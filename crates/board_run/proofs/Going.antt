@@ -1,11 +1,9 @@
 -- The run goes on by one turn, and ends.
-use Rattle.std.proofs.Common.{◌≡◌, ℕ, zero, suc, ◌+◌, ◌-◌, ◌<◌, ◌≤◌, Bool, true, false, List, [], ◌++◌, Option, Some, None, refl, sym, ap, subst, ◌∙◌, append_assoc, arith, cond, ◌==◌}
-use Rattle.std.specs.Prelude.{Result, Err}
+use Rattle.std.proofs.Common.{◌≡◌, ℕ, zero, suc, ◌+◌, ◌-◌, ◌*◌, ◌<◌, ◌≤◌, Bool, true, false, List, [], ◌++◌, length, Option, Some, None, refl, sym, ap, subst, ◌∙◌, append_assoc, length-append, arith, cond, ◌==◌}
 use Rattle.std.proofs.lemmas.List.{append-nil}
 use Rattle.std.proofs.lemmas.Bool.Decides.{nat_tests}
-use Rattle.std.proofs.lemmas.Grind.{flat_map-append}
-use Rattle.std.specs.Io.KnownBytes.{Appends}
 use Rattle.kernel_abi.specs.declared.Note.{Note}
+use Rattle.task_table.specs.Limits.{turn_notes}
 use Rattle.task_table.specs.State.{State}
 use Rattle.board_core.specs.declared.board.Board.{Board}
 use Rattle.board_model.specs.declared.told.End.{End}
@@ -19,11 +17,8 @@ use Rattle.board_model.specs.Run.{turn_after, end_at, Run, run, ending, end_by, 
 use Rattle.board_model.proofs.Counts.{turn_more}
 use Rattle.board_model.proofs.TurnChains.{sane-after}
 use Rattle.task_table.specs.Sane.{Sane}
-use Rattle.outside_io.specs.Outside.{AppendsFront, Pushes}
-use Rattle.board_run.specs.Text.{notes_text, trace_text, end_text}
 use Rattle.board_run.specs.Midway.{Midway}
 use Rattle.board_run.specs.Running.{StandsMidway, end_within}
-use Rattle.board_run.proofs.Appending.{line_at, appends_none, appends_more, part_fails, pushes_more}
 
 -- the turn number of a board is that of the states for which it stands
 pub turns_seen : (x : Scenario) (b : Board) (s : State) → Stands x b s → s.turn ≡ turns_of b
@@ -91,18 +86,7 @@ pub end_within_is : (x : Scenario) (s : State) (left : ℕ) → end_within (end_
 unfolding ending
 end_within_is x s left = by_tests (is_down s) (is_still x s) left
 
--- ## midway
-
-pub midway_start : (level : Level) (x : Scenario) (w : Option (List ℕ)) (s : State) (b : Board) → Stands x b s → Midway level x w w s b
-midway_start level x w s b st =
-    record {
-      front = [];
-      here = s;
-      stands = st;
-      after = omega arith;
-      pushed = appends_none w;
-      rest = λ left. let e : s.turn - s.turn + left ≡ left = omega arith in ap (λ (k : ℕ). run level x k s) e;
-    }
+-- ## further turns
 
 -- with no notes before it, a run is itself
 no_front : (r : Run) → with_front [] r ≡ r
@@ -134,129 +118,138 @@ pub record IsTurned (level : Level) (x : Scenario) (n : ℕ) (b b' : Board) (not
   pub advanced : (t : State) → Stands x b t → IsAdvanced level x n t b'
   pub tells : notes ≡ notes_of b'
   pub turns : turns_of b' ≡ turns_of b + n + 1
+  pub few : length notes ≤ turn_notes
 
--- the run by the notes so far, those of this turn, and the rest
-pub turn_rest : (level : Level) (x : Scenario) (n : ℕ) (w w' : Option (List ℕ)) (s : State) (b b' : Board) (notes : List Note) → IsTurned level x n b b' notes → (m : Midway level x w w' s b) →
-    let t : State = m.here in
-    let next : State = (turn_after level x n t).state in
-    (s.turn ≤ next.turn) × ((left : ℕ) → run level x (next.turn - s.turn + left) s ≡ with_front (m.front ++ at_turn (t.turn + n) (turn_after level x n t).notes) (run level x left next))
-turn_rest level x n w w' s b b' notes h m =
-    let t : State = m.here in
-    let a = h.advanced t m.stands in
-    let next : State = (turn_after level x n t).state in
-    let at : t.turn ≡ turns_of b = turns_seen x b t m.stands in
-    let at' : next.turn ≡ turns_of b' = turns_seen x b' next a.stands in
-    let more : next.turn ≡ t.turn + n + 1 = omega (arith, h.turns) in
-    let le : s.turn ≤ t.turn = m.after in (
-      omega arith,
-      λ left.
-          let k : next.turn - s.turn + left ≡ t.turn - s.turn + (n + suc left) = omega arith in
-          ap (λ (i : ℕ). run level x i s) k ∙ m.rest (n + suc left)
-          ∙ ap (with_front m.front) (run_advances level x left n t m.stands.sane (h.goes t m.stands) a.nothing a.goes_on)
-          ∙ fronts m.front (at_turn (t.turn + n) (turn_after level x n t).notes) (run level x left next),
-    )
+-- as many notes, each with its turn
+length_at : (n : ℕ) (notes : List Note) → length (at_turn n notes) ≡ length notes
+length_at n notes = ?
 
--- the notes that a board tells are those of the turn
-pub told_notes : (level : Level) (x : Scenario) (n at : ℕ) (w w' : Option (List ℕ)) (s : State) (b b' : Board) (notes : List Note) → IsTurned level x n b b' notes → at + 1 ≡ turns_of b' → (m : Midway level x w w' s b) →
-    at_turn at notes ≡ at_turn (m.here.turn + n) (turn_after level x n m.here).notes
-told_notes level x n at w w' s b b' notes h last m =
-    let here : m.here.turn ≡ turns_of b = turns_seen x b m.here m.stands in
-    let e : at ≡ m.here.turn + n = omega (arith, h.turns) in
-    ap (λ (i : ℕ). at_turn i notes) e ∙ ap (at_turn (m.here.turn + n)) (h.tells ∙ (h.advanced m.here m.stands).notes)
+-- ## midway, as a teller has heard
 
-pub midway_turn : (level : Level) (x : Scenario) (n at : ℕ) (before now after : Option (List ℕ)) (s : State) (b b' : Board) (notes : List Note) → IsTurned level x n b b' notes → at + 1 ≡ turns_of b' →
-    Appends now after (notes_text (at_turn at notes)) → Midway level x before now s b → Midway level x before after s b'
-midway_turn level x n at before now after s b b' notes h last pushed m =
-    let t : State = m.here in
-    let next : State = (turn_after level x n t).state in
-    let new : List (ℕ × Note) = at_turn (t.turn + n) (turn_after level x n t).notes in
-    let rest = turn_rest level x n before now s b b' notes h m in
-    let P : List (ℕ × Note) → Type 0 = λ ns. Appends now after (notes_text ns) in
-    let Q : List ℕ → Type 0 = λ w. Appends before after w in
-    record {
-      front = m.front ++ new;
-      here = next;
-      stands = (h.advanced t m.stands).stands;
-      after = rest.0;
-      pushed = subst Q (sym (flat_map-append line_at m.front new)) (appends_more before now after (notes_text m.front) (notes_text new) m.pushed (subst P (told_notes level x n at before now s b b' notes h last m) pushed));
-      rest = rest.1;
-    }
+module _ {T : Type 0} (heard : T → List (ℕ × Note) → T → Type 0) (level : Level) (x : Scenario) where
+  pub midway_start : (t : T) (s : State) (b : Board) → heard t [] t → Stands x b s → Midway heard level x t t s b
+  midway_start t s b none st =
+      record {
+        front = [];
+        here = s;
+        stands = st;
+        after = omega arith;
+        told = none;
+        few = omega arith;
+        rest = λ left. let e : s.turn - s.turn + left ≡ left = omega arith in ap (λ (k : ℕ). run level x k s) e;
+      }
 
--- the state after a turn is that of the run, too, though its notes are not pushed
-pub midway_board : (level : Level) (x : Scenario) (before now : Option (List ℕ)) (s : State) (b : Board) → Midway level x before now s b → StandsMidway level x b s
-midway_board level x before now s b m =
-    let at : m.here.turn ≡ turns_of b = turns_seen x b m.here m.stands in
-    let k : turns_of b - s.turn ≡ m.here.turn - s.turn + 0 = omega arith in
-    let is : (run level x (turns_of b - s.turn) s).last ≡ m.here = ap (λ (n : ℕ). (run level x n s).last) k ∙ ap (λ (r : Run). r.last) (m.rest 0) ∙ run_stays level x m.here in
-    let P : State → Type 0 = λ t. Stands x b t in
-    subst P (sym is) m.stands
+  -- the run by the notes so far, those of this turn, and the rest
+  pub turn_rest : (n : ℕ) (t t' : T) (s : State) (b b' : Board) (notes : List Note) → IsTurned level x n b b' notes → (m : Midway heard level x t t' s b) →
+      let u : State = m.here in
+      let next : State = (turn_after level x n u).state in
+      (s.turn ≤ next.turn) × ((left : ℕ) → run level x (next.turn - s.turn + left) s ≡ with_front (m.front ++ at_turn (u.turn + n) (turn_after level x n u).notes) (run level x left next))
+  turn_rest n t t' s b b' notes h m =
+      let u : State = m.here in
+      let a = h.advanced u m.stands in
+      let next : State = (turn_after level x n u).state in
+      let at : u.turn ≡ turns_of b = turns_seen x b u m.stands in
+      let at' : next.turn ≡ turns_of b' = turns_seen x b' next a.stands in
+      let more : next.turn ≡ u.turn + n + 1 = omega (arith, h.turns) in
+      let le : s.turn ≤ u.turn = m.after in (
+        omega arith,
+        λ left.
+            let k : next.turn - s.turn + left ≡ u.turn - s.turn + (n + suc left) = omega arith in
+            ap (λ (i : ℕ). run level x i s) k ∙ m.rest (n + suc left)
+            ∙ ap (with_front m.front) (run_advances level x left n u m.stands.sane (h.goes u m.stands) a.nothing a.goes_on)
+            ∙ fronts m.front (at_turn (u.turn + n) (turn_after level x n u).notes) (run level x left next),
+      )
 
-pub turned_board : (level : Level) (x : Scenario) (n : ℕ) (before now : Option (List ℕ)) (s : State) (b b' : Board) (notes : List Note) → IsTurned level x n b b' notes → Midway level x before now s b → StandsMidway level x b' s
-turned_board level x n before now s b b' notes h m =
-    let t : State = m.here in
-    let stands = (h.advanced t m.stands).stands in
-    let next : State = (turn_after level x n t).state in
-    let rest = turn_rest level x n before now s b b' notes h m in
-    let at : next.turn ≡ turns_of b' = turns_seen x b' next stands in
-    let k : turns_of b' - s.turn ≡ next.turn - s.turn + 0 = omega arith in
-    let is : (run level x (turns_of b' - s.turn) s).last ≡ next = ap (λ (i : ℕ). (run level x i s).last) k ∙ ap (λ (r : Run). r.last) (rest.1 0) ∙ run_stays level x next in
-    let P : State → Type 0 = λ u. Stands x b' u in
-    subst P (sym is) stands
+  -- the notes that a board tells are those of the turn
+  pub told_notes : (n at : ℕ) (t t' : T) (s : State) (b b' : Board) (notes : List Note) → IsTurned level x n b b' notes → at + 1 ≡ turns_of b' → (m : Midway heard level x t t' s b) →
+      at_turn at notes ≡ at_turn (m.here.turn + n) (turn_after level x n m.here).notes
+  told_notes n at t t' s b b' notes h last m =
+      let here : m.here.turn ≡ turns_of b = turns_seen x b m.here m.stands in
+      let e : at ≡ m.here.turn + n = omega (arith, h.turns) in
+      ap (λ (i : ℕ). at_turn i notes) e ∙ ap (at_turn (m.here.turn + n)) (h.tells ∙ (h.advanced m.here m.stands).notes)
 
--- ## the end
+  pub midway_turn : (on : (t u v : T) (a b : List (ℕ × Note)) → heard t a u → heard u b v → heard t (a ++ b) v) (n at : ℕ) (t now after : T) (s : State) (b b' : Board) (notes : List Note) → IsTurned level x n b b' notes → at + 1 ≡ turns_of b' →
+      heard now (at_turn at notes) after → Midway heard level x t now s b → Midway heard level x t after s b'
+  midway_turn on n at t now after s b b' notes h last hears m =
+      let u : State = m.here in
+      let a = h.advanced u m.stands in
+      let next : State = (turn_after level x n u).state in
+      let new : List (ℕ × Note) = at_turn (u.turn + n) (turn_after level x n u).notes in
+      let rest = turn_rest n t now s b b' notes h m in
+      let here : u.turn ≡ turns_of b = turns_seen x b u m.stands in
+      let there : next.turn ≡ turns_of b' = turns_seen x b' next a.stands in
+      let same = told_notes n at t now s b b' notes h last m in
+      let long : length new ≡ length notes = sym (ap length same) ∙ length_at at notes in
+      let both : length (m.front ++ new) ≡ length m.front + length new = length-append m.front new in
+      let P : List (ℕ × Note) → Type 0 = λ ns. heard now ns after in
+      record {
+        front = m.front ++ new;
+        here = next;
+        stands = a.stands;
+        after = rest.0;
+        told = on t now after m.front new m.told (subst P same hears);
+        few = omega (arith, m.few, h.few, h.turns);
+        rest = rest.1;
+      }
 
--- the whole run, where it ends here
-ended_run : (level : Level) (x : Scenario) (limit : ℕ) (before now : Option (List ℕ)) (s : State) (b : Board) (e : End) (m : Midway level x before now s b) → turns_of b ≤ limit →
-    ((t : State) → Stands x b t → ending x (limit - t.turn) t ≡ Some e) →
-    run level x (limit - s.turn) s ≡ with_front m.front (ended_at m.here e)
-ended_run level x limit before now s b e m le ends =
-    let at : m.here.turn ≡ turns_of b = turns_seen x b m.here m.stands in
-    let from : s.turn ≤ m.here.turn = m.after in
-    let k : limit - s.turn ≡ m.here.turn - s.turn + (limit - m.here.turn) = omega arith in
-    ap (λ (n : ℕ). run level x n s) k ∙ m.rest (limit - m.here.turn) ∙ ap (with_front m.front) (run_ends level x (limit - m.here.turn) m.here e (ends m.here m.stands))
+  -- the state after a turn is that of the run, too, though its notes were not told
+  pub midway_board : (t t' : T) (s : State) (b : Board) → Midway heard level x t t' s b → StandsMidway level x b s
+  midway_board t t' s b m =
+      let at : m.here.turn ≡ turns_of b = turns_seen x b m.here m.stands in
+      let k : turns_of b - s.turn ≡ m.here.turn - s.turn + 0 = omega arith in
+      let is : (run level x (turns_of b - s.turn) s).last ≡ m.here = ap (λ (n : ℕ). (run level x n s).last) k ∙ ap (λ (r : Run). r.last) (m.rest 0) ∙ run_stays level x m.here in
+      let P : State → Type 0 = λ u. Stands x b u in
+      subst P (sym is) m.stands
 
--- the text of the rest, where the run ends here
-pub midway_end : {T E : Type 0} (level : Level) (x : Scenario) (limit : ℕ) (before now after : Option (List ℕ)) (s : State) (b : Board) (e : End) (r : Result T E) → turns_of b ≤ limit →
-    ((t : State) → Stands x b t → ending x (limit - t.turn) t ≡ Some e) →
-    ((t : State) → Stands x b t → Pushes now after (end_text e t) r) →
-    Midway level x before now s b → Pushes before after (trace_text (run level x (limit - s.turn) s)) r
-midway_end {T} {E} level x limit before now after s b e r le ends pushed m =
-    let is : trace_text (run level x (limit - s.turn) s) ≡ notes_text m.front ++ end_text e m.here =
-    ap trace_text (ended_run level x limit before now s b e m le ends)
-    ∙ ap (λ (ns : List (ℕ × Note)). notes_text ns ++ end_text e m.here) (append-nil m.front) in
-    let P : List ℕ → Type 0 = λ w. Pushes before after w r in
-    subst P (sym is) (pushes_more before now after (notes_text m.front) (end_text e m.here) r m.pushed (pushed m.here m.stands))
+  pub turned_board : (n : ℕ) (t t' : T) (s : State) (b b' : Board) (notes : List Note) → IsTurned level x n b b' notes → Midway heard level x t t' s b → StandsMidway level x b' s
+  turned_board n t t' s b b' notes h m =
+      let u : State = m.here in
+      let stands = (h.advanced u m.stands).stands in
+      let next : State = (turn_after level x n u).state in
+      let rest = turn_rest n t t' s b b' notes h m in
+      let at : next.turn ≡ turns_of b' = turns_seen x b' next stands in
+      let k : turns_of b' - s.turn ≡ next.turn - s.turn + 0 = omega arith in
+      let is : (run level x (turns_of b' - s.turn) s).last ≡ next = ap (λ (i : ℕ). (run level x i s).last) k ∙ ap (λ (r : Run). r.last) (rest.1 0) ∙ run_stays level x next in
+      let P : State → Type 0 = λ v. Stands x b' v in
+      subst P (sym is) stands
 
-pub end_is : (level : Level) (x : Scenario) (limit : ℕ) (before now : Option (List ℕ)) (s : State) (b : Board) (e : End) → turns_of b ≤ limit →
-    ((t : State) → Stands x b t → ending x (limit - t.turn) t ≡ Some e) → Midway level x before now s b →
-    (e ≡ (run level x (limit - s.turn) s).end) × Stands x b (run level x (limit - s.turn) s).last
-end_is level x limit before now s b e le ends m =
-    let is = ended_run level x limit before now s b e m le ends in
-    let P : State → Type 0 = λ t. Stands x b t in
-    (sym (ap (λ (r : Run). r.end) is), subst P (sym (ap (λ (r : Run). r.last) is)) m.stands)
+  -- ## the end
 
-split : (a b : List (ℕ × Note)) (r : Run) → trace_text (with_front (a ++ b) r) ≡ notes_text a ++ (notes_text b ++ trace_text r)
-split a b r =
-    ap (λ (ns : List (ℕ × Note)). notes_text ns ++ end_text r.end r.last) (append_assoc a b r.notes)
-    ∙ ap (λ (w : List ℕ). w ++ end_text r.end r.last) (flat_map-append line_at a (b ++ r.notes))
-    ∙ append_assoc (notes_text a) (notes_text (b ++ r.notes)) (end_text r.end r.last)
-    ∙ ap (λ (w : List ℕ). notes_text a ++ (w ++ end_text r.end r.last)) (flat_map-append line_at b r.notes)
-    ∙ ap (λ (w : List ℕ). notes_text a ++ w) (append_assoc (notes_text b) (notes_text r.notes) (end_text r.end r.last))
+  -- the whole run, where it ends here
+  ended_run : (limit : ℕ) (t t' : T) (s : State) (b : Board) (e : End) (m : Midway heard level x t t' s b) → turns_of b ≤ limit →
+      ((u : State) → Stands x b u → ending x (limit - u.turn) u ≡ Some e) →
+      run level x (limit - s.turn) s ≡ with_front m.front (ended_at m.here e)
+  ended_run limit t t' s b e m le ends =
+      let at : m.here.turn ≡ turns_of b = turns_seen x b m.here m.stands in
+      let from : s.turn ≤ m.here.turn = m.after in
+      let k : limit - s.turn ≡ m.here.turn - s.turn + (limit - m.here.turn) = omega arith in
+      ap (λ (n : ℕ). run level x n s) k ∙ m.rest (limit - m.here.turn) ∙ ap (with_front m.front) (run_ends level x (limit - m.here.turn) m.here e (ends m.here m.stands))
 
--- a failure among the notes of a turn
-pub midway_fails : {T E : Type 0} (level : Level) (x : Scenario) (n at limit : ℕ) (before now after : Option (List ℕ)) (s : State) (b b' : Board) (notes : List Note) (r : Result T E) (d : E) → r ≡ Err d →
-    turns_of b' ≤ limit → IsTurned level x n b b' notes → at + 1 ≡ turns_of b' → AppendsFront now after (notes_text (at_turn at notes)) →
-    Midway level x before now s b → Pushes before after (trace_text (run level x (limit - s.turn) s)) r
-midway_fails {T} {E} level x n at limit before now after s b b' notes r d failed le h last pushed m =
-    let t : State = m.here in
-    let next : State = (turn_after level x n t).state in
-    let new : List (ℕ × Note) = at_turn (t.turn + n) (turn_after level x n t).notes in
-    let rest = turn_rest level x n before now s b b' notes h m in
-    let there : next.turn ≡ turns_of b' = turns_seen x b' next (h.advanced t m.stands).stands in
-    let from : s.turn ≤ next.turn = rest.0 in
-    let k : limit - s.turn ≡ next.turn - s.turn + (limit - next.turn) = omega arith in
-    let is : trace_text (run level x (limit - s.turn) s) ≡ notes_text m.front ++ (notes_text new ++ trace_text (run level x (limit - next.turn) next)) =
-    ap (λ (i : ℕ). trace_text (run level x i s)) k ∙ ap trace_text (rest.1 (limit - next.turn)) ∙ split m.front new (run level x (limit - next.turn) next) in
-    let P : List (ℕ × Note) → Type 0 = λ ns. AppendsFront now after (notes_text ns) in
-    part_fails before now after (notes_text m.front) (notes_text new) (trace_text (run level x (limit - next.turn) next)) (trace_text (run level x (limit - s.turn) s)) r d failed is m.pushed
-    (subst P (told_notes level x n at before now s b b' notes h last m) pushed)
+  pub end_is : (limit : ℕ) (t t' : T) (s : State) (b : Board) (e : End) → turns_of b ≤ limit →
+      ((u : State) → Stands x b u → ending x (limit - u.turn) u ≡ Some e) → Midway heard level x t t' s b →
+      (e ≡ (run level x (limit - s.turn) s).end) × Stands x b (run level x (limit - s.turn) s).last
+  end_is limit t t' s b e le ends m =
+      let is = ended_run limit t t' s b e m le ends in
+      let P : State → Type 0 = λ u. Stands x b u in
+      (sym (ap (λ (r : Run). r.end) is), subst P (sym (ap (λ (r : Run). r.last) is)) m.stands)
+
+  -- all notes of the run were told
+  pub all_notes : (limit : ℕ) (t t' : T) (s : State) (b : Board) (e : End) (m : Midway heard level x t t' s b) → turns_of b ≤ limit →
+      ((u : State) → Stands x b u → ending x (limit - u.turn) u ≡ Some e) →
+      (run level x (limit - s.turn) s).notes ≡ m.front
+  all_notes limit t t' s b e m le ends = ap (λ (r : Run). r.notes) (ended_run limit t t' s b e m le ends) ∙ append-nil m.front
+
+  pub all_told : (limit : ℕ) (t t' : T) (s : State) (b : Board) (e : End) → turns_of b ≤ limit →
+      ((u : State) → Stands x b u → ending x (limit - u.turn) u ≡ Some e) → Midway heard level x t t' s b →
+      heard t (run level x (limit - s.turn) s).notes t'
+  all_told limit t t' s b e le ends m =
+      let P : List (ℕ × Note) → Type 0 = λ ns. heard t ns t' in
+      subst P (sym (all_notes limit t t' s b e m le ends)) m.told
+
+  pub all_few : (limit : ℕ) (t t' : T) (s : State) (b : Board) (e : End) → turns_of b ≤ limit →
+      ((u : State) → Stands x b u → ending x (limit - u.turn) u ≡ Some e) → Midway heard level x t t' s b →
+      length (run level x (limit - s.turn) s).notes ≤ turn_notes * limit
+  all_few limit t t' s b e le ends m =
+      let at : m.here.turn ≡ turns_of b = turns_seen x b m.here m.stands in
+      let is : length (run level x (limit - s.turn) s).notes ≡ length m.front = ap length (all_notes limit t t' s b e m le ends) in
+      omega (arith, m.few)

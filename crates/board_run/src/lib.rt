@@ -1,10 +1,16 @@
 //! The run of a board up to its end, and its text: the lines of notes, of the end and of each task, and of memories.
 #![tactic(auto)]
 
+mod counts;
 mod line;
 mod memory;
 mod pushing;
 mod running;
+mod summary;
+mod telling;
 
+pub use counts::Counts;
 pub use memory::write_memory;
-pub use running::run;
+pub use running::{play, run};
+pub use summary::summarize;
+pub use telling::Teller;

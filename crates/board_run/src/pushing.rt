@@ -79,7 +79,7 @@ fn push_high<S: Sink>(registers: &[u32; 16], flags: Flags, out: &mut S) -> Resul
     out.push(line.as_str().as_bytes())
 }
 
-fn push_end_line<S: Sink>(end: End, turns: u32, now: u64, out: &mut S) -> Result<(), Failed>
+pub fn push_end_line<S: Sink>(end: End, turns: u32, now: u64, out: &mut S) -> Result<(), Failed>
     ensures bytes { Pushes (S.written out.old) (S.written out.new) (end_line end turns now) result }
     ensures cause { HasCause (S.faults out.old) (S.faults out.new) result }
 {

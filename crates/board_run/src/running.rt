@@ -1,16 +1,19 @@
 //! The loop over turns.
-ghost use Rattle.std.specs.Prelude.{◌≡◌, ◌≤◌, ◌<◌, ◌-◌, IfOk, OnErr, IsNone, None};
+ghost use Rattle.std.specs.Prelude.{◌≡◌, ◌≤◌, ◌<◌, ◌-◌, ◌*◌, length, IfOk, OnOk, OnErr, IsNone, None};
 ghost use Rattle.outside_io.specs.Outside.{Pushes, HasCause};
 ghost use Rattle.task_table.specs.State.{State};
 ghost use Rattle.board_model.specs.Script.{Scenario};
 ghost use Rattle.board_core.specs.Stands.{Stands, Stood, turns_of};
 ghost use Rattle.board_model.specs.Run.{run, ending};
 ghost use Rattle.board_model.specs.Lifetimes.{IsLedgerOfRun};
+ghost use Rattle.task_table.specs.Limits.{turn_notes};
 ghost use Rattle.task_table.specs.Start.{start};
 ghost use Rattle.board_run.specs.Text.{trace_text};
 ghost use Rattle.board_run.specs.Running.{StandsMidway, BreaksOff, end_within};
+ghost use Rattle.board_run.specs.Telling.{BreaksTelling, notes_in};
 
-use crate::pushing::{push_end, push_notes};
+use crate::pushing::push_end;
+use crate::telling::Teller;
 use board_core::{Board, End, Level};
 use outside_io::{Failed, Sink};
 
@@ -44,6 +47,51 @@ fn ending(board: &Board, limit: u32) -> Option<End>
     end_within(board.ended(), limit - board.turns())
 }
 
+/// Turns up to the end of the run, each of which is told at a level. After a failure to tell no further turn is made.
+///
+/// # Errors
+///
+/// Only where the teller failed.
+pub fn play<T: Teller>(
+    board: &mut Board,
+    limit: u32,
+    level: Level,
+    teller: &mut T,
+) -> Result<End, Failed>
+    requires stood { Stood board.old }
+    requires from { turns_of board.old ≤ limit }
+    requires few { limit ≤ 1000000000 }
+
+    ensures told { (x : Scenario) (s : State) → Stands x board.old s →
+        OnOk result (T.heard teller.old (run level x (limit - s.turn) s).notes teller.new) }
+    ensures end { (x : Scenario) (s : State) → Stands x board.old s →
+        IfOk result (λ e. e ≡ (run level x (limit - s.turn) s).end) }
+    ensures last { (x : Scenario) (s : State) → Stands x board.old s →
+        IfOk result (λ _. Stands x board.new (run level x (limit - s.turn) s).last) }
+
+    // The turns that were made have all the notes of the run, which are not more than the turns may note.
+    ensures whole { (x : Scenario) (s : State) → Stands x board.old s →
+        OnOk result (notes_in level x (turns_of board.new - s.turn) s ≡ notes_in level x (limit - s.turn) s) }
+    ensures noted { (x : Scenario) (s : State) → Stands x board.old s →
+        OnOk result (length (notes_in level x (limit - s.turn) s) ≤ turn_notes * limit) }
+
+    // Where telling failed, the notes of the turns before the last one were told, and no further turn is made.
+    ensures broken { (x : Scenario) (s : State) → Stands x board.old s →
+        OnErr result (BreaksTelling T.heard T.broke level x teller.old teller.new s board.new) }
+    ensures midway { (x : Scenario) (s : State) → Stands x board.old s → StandsMidway level x board.new s }
+    ensures within { turns_of board.new ≤ limit }
+{
+    T::hears_in_parts();
+    'turns: loop {
+        match ending(board, limit) {
+            Some(end) => return Ok(end),
+            None => {}
+        }
+        board.advance(level, limit);
+        teller.tell(board.turns() - 1, board.notes())?;
+    }
+}
+
 /// Turns up to the end of the run, and its text, which tells each turn at a level. After a failing push
 /// nothing more is pushed, and no further turn is made.
 pub fn run<S: Sink>(board: &mut Board, limit: u32, level: Level, out: &mut S) -> Result<End, Failed>
@@ -68,15 +116,7 @@ pub fn run<S: Sink>(board: &mut Board, limit: u32, level: Level, out: &mut S) ->
     ensures within { turns_of board.new ≤ limit }
     ensures cause { HasCause (S.faults out.old) (S.faults out.new) result }
 {
-    'turns: loop {
-        match ending(board, limit) {
-            Some(end) => {
-                push_end(end, board, out)?;
-                return Ok(end);
-            }
-            None => {}
-        }
-        board.advance(level, limit);
-        push_notes(board.turns() - 1, board.notes(), out)?;
-    }
+    let end = play(board, limit, level, out)?;
+    push_end(end, board, out)?;
+    Ok(end)
 }

@@ -9,12 +9,4 @@ mod building;
 #[cfg(test)]
 mod events;
 #[cfg(test)]
-mod leases;
-#[cfg(test)]
-mod messages;
-#[cfg(test)]
-mod playing;
-#[cfg(test)]
 mod running;
-#[cfg(test)]
-mod supervising;

@@ -23,6 +23,7 @@ turns-init c =
       from = omega arith;
       within = c.requires.left;
       due = refl;
+      noted = λ h. h;
       kept = λ none. refl;
     }
 
@@ -57,6 +58,7 @@ turns-preserved c =
       from = omega (arith, from, gone, more);
       within = omega (arith, c.if-self-until.false, c.quiet_until-until.ensures.within, more);
       due = c.turn_at.ensures.due later ∙ c.go_on.ensures.due ∙ inv.due;
+      noted = λ h. c.turn_at.ensures.few;
       kept = λ after. c.turn_at.ensures.kept later after ∙ choice;
     }
 
@@ -69,3 +71,6 @@ returns-then-self-until-clause-advanced c = λ x n s a.
     let gone = c.go_on.ensures.more in
     let e : m + (turns_of b1 - turns_of b) ≡ n + (turns_of b1 - turns_of c.args.self.now) = omega (arith, from, gone) in
     subst (λ (k : ℕ). IsAdvanced Calls x k s b1) e (c.go_on.ensures.advanced x m s (c.turns.invariant.advanced x n s a))
+
+pub returns-then-self-until-clause-noted : goal.returns-then-self-until-clause-noted
+returns-then-self-until-clause-noted c = λ h. rw c.go_on.ensures.nothing (omega arith)

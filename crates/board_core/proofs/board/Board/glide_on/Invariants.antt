@@ -1,4 +1,5 @@
-use Rattle.std.proofs.Common.{◌≡◌, ◌+◌, ◌-◌, ◌≤◌, ℕ, []}
+use Rattle.std.proofs.Common.{◌≡◌, ◌+◌, ◌-◌, ◌≤◌, ℕ, [], length}
+use Rattle.task_table.specs.Limits.{turn_notes}
 use Rattle.task_table.specs.State.{State}
 use Rattle.board_model.specs.declared.told.Level.TheVariants.{Calls}
 use Rattle.board_model.specs.Script.{Scenario}
@@ -15,6 +16,7 @@ invariant-turns l = record {
   from : turns_of l.fn.self ≤ turns_of l.self;
   within : turns_of l.self ≤ l.limit;
   due : l.self.due ≡ l.fn.self.due;
+  noted : length (notes_of l.fn.self) ≤ turn_notes → length (notes_of l.self) ≤ turn_notes;
   kept : notes_of l.self ≡ [] → l.self.choice ≡ l.fn.self.choice;
 }
 

@@ -9,7 +9,7 @@ returns-then-task-ne0-clause-holds c = λ g t h.
     let h2 = c.stop_listening.ensures.holds g _ h1 in
     let h3 = c.note.ensures.holds g _ h2 in
     let h4 = c.close.ensures.holds g _ h3 in
-    rw (ne_eqb _ _ c.if-task-ne0.true) (rw (c.fault_bits.ensures g _ h4) at (c.post.ensures.holds g _ h4))
+    rw (ne_eqb _ _ c.if-task-ne0.true) (rw (c.fault_bits-bits.ensures g _ h4) at (c.post.ensures.holds g _ h4))
 
 pub returns-else-task-ne0-clause-holds : goal.returns-else-task-ne0-clause-holds
 unfolding faulted_as

@@ -3,14 +3,13 @@ use Rattle.task_table.specs.State.{State}
 use Rattle.board_model.specs.Script.{Scenario}
 use Rattle.board_core.specs.Stands.{Stands, Stood, turns_of}
 use Rattle.board_run.specs.Midway.{Midway}
-use Rattle.board_run.proofs.running.run.Given as goal
+use Rattle.board_run.proofs.running.play.Given as goal
 
 abbrev pub invariant-turns : goal.invariant-turns
 invariant-turns g l = record {
-  midway : (x : Scenario) (s : State) → Stands x l.fn.board s → Midway l.level x (g.S.Sink.written l.fn.out) (g.S.Sink.written l.out) s l.board;
+  midway : (x : Scenario) (s : State) → Stands x l.fn.board s → Midway g.T.Teller.heard l.level x l.fn.teller l.teller s l.board;
   stood : Stood l.board;
   turns : turns_of l.board ≤ l.limit;
-  later : g.S.Sink.faults l.fn.out ≤ g.S.Sink.faults l.out;
 }
 
 abbrev pub decreases-turns : goal.decreases-turns

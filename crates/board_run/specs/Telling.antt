@@ -1,0 +1,39 @@
+-- What a run tells to what listens, and how far where that fails.
+use Rattle.std.specs.Prelude.{◌≡◌, ℕ, ◌-◌, ◌<◌, ◌≤◌, List, [], ◌++◌, Option}
+use Rattle.std.specs.Io.KnownBytes.{Appends}
+use Rattle.outside_io.specs.Outside.{AppendsFront, Rose}
+use Rattle.kernel_abi.specs.declared.Note.{Note}
+use Rattle.task_table.specs.State.{State}
+use Rattle.board_core.specs.declared.board.Board.{Board}
+use Rattle.board_core.specs.Stands.{turns_of}
+use Rattle.board_model.specs.declared.told.Level.{Level}
+use Rattle.board_model.specs.Script.{Scenario}
+use Rattle.board_model.specs.Run.{run}
+use Rattle.board_run.specs.Text.{notes_text}
+
+-- the notes of the first n turns
+abbrev pub notes_in : Level → Scenario → ℕ → State → List (ℕ × Note)
+notes_in level x n s = (run level x n s).notes
+
+-- a run that is broken off as its last turn is told: all notes of the turns before were told, and the telling of that
+-- one's failed from there
+pub record BreaksTelling {T : Type 0} (heard broke : T → List (ℕ × Note) → T → Type 0) (level : Level) (x : Scenario) (t t' : T) (s : State) (b : Board) : Type 0 where
+  pub between : T
+  pub last : List (ℕ × Note)
+  pub made : s.turn < turns_of b
+  pub is_last : notes_in level x (turns_of b - s.turn) s ≡ notes_in level x (turns_of b - s.turn - 1) s ++ last
+  pub before : heard t (notes_in level x (turns_of b - s.turn - 1) s) between
+  pub broken : broke between last t'
+
+-- ## a sink, by what it has written and its count of faults, before and after
+
+-- the lines of these notes were appended
+pub record HearsText (w w' : Option (List ℕ)) (f f' : ℕ) (notes : List (ℕ × Note)) : Type 0 where
+  pub pushed : Appends w w' (notes_text notes)
+  pub later : f ≤ f'
+
+-- a front of them was, and the failure was counted
+pub record BreaksText (w w' : Option (List ℕ)) (f f' : ℕ) (notes : List (ℕ × Note)) : Type 0 where
+  pub pushed : AppendsFront w w' (notes_text notes)
+  pub later : f ≤ f'
+  pub rose : Rose f f'

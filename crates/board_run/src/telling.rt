@@ -1,0 +1,43 @@
+//! What listens to a run, and a sink that does: it takes the text of the notes.
+ghost use Rattle.std.specs.Prelude.{ℕ, List, [], ◌++◌, MatchResult};
+ghost use Rattle.kernel_abi.specs.declared.Note.{Note as Noted};
+ghost use Rattle.board_model.specs.Run.{at_turn};
+ghost use Rattle.board_run.specs.Telling.{HearsText, BreaksText};
+
+use crate::pushing::push_notes;
+use kernel_abi::Note;
+use outside_io::{Failed, Sink};
+
+/// What listens to the turns of a run.
+///
+/// An implementation says what it is by two relations: what becomes of it as notes are told, and what may become of it
+/// where that fails.
+pub trait Teller {
+    /// From this teller, all of these notes, each with its turn, were told, and it is then that one.
+    ghost heard: { Self → List (ℕ × Noted) → Self → Type 0 };
+
+    /// The telling of these notes failed on the way.
+    ghost broke: { Self → List (ℕ × Noted) → Self → Type 0 };
+
+    /// The notes of a turn.
+    fn tell(&mut self, turn: u32, notes: &[Note]) -> Result<(), Failed>
+        ensures { MatchResult result (λ _. heard self.old (at_turn turn notes.now) self.new) (λ _. broke self.old (at_turn turn notes.now) self.new) };
+
+    /// Where nothing is told, nothing changes, and notes may be told in parts. It does nothing, and is a law.
+    fn hears_in_parts()
+        ensures nothing { (t : Self) → heard t [] t }
+        ensures parts { (t u v : Self) (a b : List (ℕ × Noted)) → heard t a u → heard u b v → heard t (a ++ b) v };
+}
+
+/// A sink is told the text of the notes, a line and a push each.
+impl<S: Sink> Teller for S {
+    ghost heard = { λ t notes u. HearsText (S.written t) (S.written u) (S.faults t) (S.faults u) notes };
+
+    ghost broke = { λ t notes u. BreaksText (S.written t) (S.written u) (S.faults t) (S.faults u) notes };
+
+    fn tell(&mut self, turn: u32, notes: &[Note]) -> Result<(), Failed> {
+        push_notes(turn, notes, self)
+    }
+
+    fn hears_in_parts() {}
+}
