@@ -26,49 +26,49 @@ tick 15 irq 61 post 56 call 134 offer 1 take 1 listen 53 borrow 1 ret 126 close 
 
 const CASES: [Case; 8] = [
     Case {
-        words: &["sample", "1", "0"],
+        words: &["hubris", "sample", "1", "0"],
         failing_pushes: &[],
         status: 0,
         text: NO_TURN,
     },
     Case {
-        words: &["sample", "1", "16"],
+        words: &["hubris", "sample", "1", "16"],
         failing_pushes: &[],
         status: 0,
         text: SIXTEEN_TURNS,
     },
     Case {
-        words: &["sample", "4294967295", "1000"],
+        words: &["hubris", "sample", "4294967295", "1000"],
         failing_pushes: &[],
         status: 0,
         text: GREATEST_SEED,
     },
     Case {
-        words: &["sample", "1", "16"],
+        words: &["hubris", "sample", "1", "16"],
         failing_pushes: &[1],
         status: 4,
         text: "",
     },
     Case {
-        words: &["sample", "1", "16"],
+        words: &["hubris", "sample", "1", "16"],
         failing_pushes: &[2],
         status: 4,
         text: "end bound 16 0\n",
     },
     Case {
-        words: &["sample", "4294967296", "16"],
+        words: &["hubris", "sample", "4294967296", "16"],
         failing_pushes: &[],
         status: 2,
         text: USAGE,
     },
     Case {
-        words: &["sample", "1", "1000000001"],
+        words: &["hubris", "sample", "1", "1000000001"],
         failing_pushes: &[],
         status: 2,
         text: USAGE,
     },
     Case {
-        words: &["sample", "1"],
+        words: &["hubris", "sample", "1"],
         failing_pushes: &[],
         status: 2,
         text: USAGE,
