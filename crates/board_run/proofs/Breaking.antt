@@ -1,5 +1,5 @@
 -- Where telling fails: the notes of all turns but the last were told.
-use Rattle.std.proofs.Common.{◌≡◌, ℕ, zero, suc, ◌+◌, ◌-◌, ◌<◌, ◌≤◌, Bool, true, false, List, [], ◌++◌, Option, Some, None, refl, sym, ap, subst, ◌∙◌, append_assoc, arith, cond, ◌==◌}
+use Rattle.std.proofs.Common.{◌≡◌, ℕ, zero, suc, ◌+◌, ◌-◌, ◌<◌, ◌≤◌, Bool, false, List, [], ◌++◌, Option, Some, None, refl, sym, ap, subst, ◌∙◌, append_assoc, arith, cond, ◌==◌}
 use Rattle.std.specs.Prelude.{Result, Err}
 use Rattle.std.proofs.lemmas.List.{append-nil}
 use Rattle.std.proofs.lemmas.Bool.Decides.{nat_tests}
@@ -15,12 +15,12 @@ use Rattle.board_model.specs.declared.told.Level.{Level}
 use Rattle.board_model.specs.Script.{Scenario}
 use Rattle.board_model.specs.Turn.{turn}
 use Rattle.board_core.specs.Stands.{Stands, turns_of}
-use Rattle.board_model.specs.Run.{turn_after, Run, run, ending, end_by, is_down, is_still, unless, ended_at, with_front, at_turn}
-use Rattle.outside_io.specs.Outside.{AppendsFront, IsFront, Pushes}
+use Rattle.board_model.specs.Run.{turn_after, Run, run, ending, is_down, is_still, unless, ended_at, with_front, at_turn}
+use Rattle.outside_io.specs.Outside.{AppendsFront, Pushes}
 use Rattle.board_run.specs.Text.{notes_text, end_text, trace_text}
 use Rattle.board_run.specs.Midway.{Midway}
 use Rattle.board_run.specs.Running.{BreaksOff, turn_lines}
-use Rattle.board_run.specs.Telling.{BreaksTelling, HearsText, BreaksText, notes_in}
+use Rattle.board_run.specs.Telling.{BreaksTelling, notes_in}
 use Rattle.board_run.proofs.Appending.{line_at, appends_more, part_fails, pushes_more}
 use Rattle.board_run.proofs.Going.{IsTurned, turns_seen, run_advances, turn_rest, told_notes, all_notes}
 

@@ -1,5 +1,5 @@
 -- The run goes on by one turn, and ends.
-use Rattle.std.proofs.Common.{◌≡◌, ℕ, zero, suc, ◌+◌, ◌-◌, ◌*◌, ◌<◌, ◌≤◌, Bool, true, false, List, [], ◌++◌, length, Option, Some, None, refl, sym, ap, subst, ◌∙◌, append_assoc, length-append, arith, cond, ◌==◌}
+use Rattle.std.proofs.Common.{◌≡◌, ℕ, zero, suc, ◌+◌, ◌-◌, ◌*◌, ◌<◌, ◌≤◌, Bool, true, false, List, [], ◌∷◌, ◌++◌, length, Option, Some, None, refl, sym, ap, subst, ◌∙◌, append_assoc, length-append, arith, cond, ◌==◌}
 use Rattle.std.proofs.lemmas.List.{append-nil}
 use Rattle.std.proofs.lemmas.Bool.Decides.{nat_tests}
 use Rattle.kernel_abi.specs.declared.Note.{Note}
@@ -122,7 +122,8 @@ pub record IsTurned (level : Level) (x : Scenario) (n : ℕ) (b b' : Board) (not
 
 -- as many notes, each with its turn
 length_at : (n : ℕ) (notes : List Note) → length (at_turn n notes) ≡ length notes
-length_at n notes = ?
+length_at n [] = refl
+length_at n (x ∷ xs) = ap suc (length_at n xs)
 
 -- ## midway, as a teller has heard
 

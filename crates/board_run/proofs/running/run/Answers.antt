@@ -1,4 +1,4 @@
-use Rattle.std.proofs.Common.{ℕ, ◌-◌, Ok, Err, arith}
+use Rattle.std.proofs.Common.{◌-◌, Ok, Err, arith}
 use Rattle.std.proofs.lemmas.Result.{err_from_is_err_and}
 use Rattle.outside_io.specs.declared.traits.Failed.{Failed}
 use Rattle.board_model.specs.declared.told.End.{End}
@@ -13,13 +13,13 @@ pub returns-in_err-end-clause-text : goal.returns-in_err-end-clause-text
 returns-in_err-end-clause-text g c = λ x s st.
     let p = err_from_is_err_and c.from_residual.result c.from_residual.ensures.1 in
     let b = c.in_err-end.ensures.broken x s st in
-    broken_text c.args.level x _ _ s _ c.args.limit _ b.last c.from_residual.result p.0 p.1 c.in_err-end.ensures.within b.is_last b.before.pushed b.broken.pushed
+    broken_text c.args.level x _ _ s c.play.new.board c.args.limit _ b.last c.from_residual.result p.0 p.1 c.in_err-end.ensures.within b.is_last b.before.pushed b.broken.pushed
 
 pub returns-in_err-end-clause-broken : goal.returns-in_err-end-clause-broken
 returns-in_err-end-clause-broken g c = λ x s st.
     let p = err_from_is_err_and c.from_residual.result c.from_residual.ensures.1 in
     let b = c.in_err-end.ensures.broken x s st in
-    rw (p.1) (breaks_off c.args.level x _ _ s _ (c.args.limit - s.turn) _ b.last b.is_last b.before.pushed b.broken.pushed)
+    rw (p.1) (breaks_off c.args.level x _ _ s c.play.new.board (c.args.limit - s.turn) _ b.last b.is_last b.before.pushed b.broken.pushed)
 
 pub returns-in_err-end-clause-cause : goal.returns-in_err-end-clause-cause
 returns-in_err-end-clause-cause g c =
@@ -45,7 +45,7 @@ pub returns-in_err-push_end-clause-broken : goal.returns-in_err-push_end-clause-
 returns-in_err-push_end-clause-broken g c = λ x s st.
     let p = err_from_is_err_and c.from_residual-in_err-push_end.result c.from_residual-in_err-push_end.ensures.1 in
     let played = c.in_ok-end.ensures in
-    rw (p.1) (breaks_at_end c.args.level x _ _ s _ (c.args.limit - s.turn) _ c.in_ok-end.end (played.end x s st) (played.whole x s st) (played.told x s st).pushed (c.in_err-push_end.ensures.bytes x _ (played.midway x s st)))
+    rw (p.1) (breaks_at_end c.args.level x _ _ s c.play.new.board (c.args.limit - s.turn) _ c.in_ok-end.end (played.end x s st) (played.whole x s st) (played.told x s st).pushed (c.in_err-push_end.ensures.bytes x _ (played.midway x s st)))
 
 pub returns-in_err-push_end-clause-cause : goal.returns-in_err-push_end-clause-cause
 returns-in_err-push_end-clause-cause g c =

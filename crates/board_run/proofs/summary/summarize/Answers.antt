@@ -1,4 +1,4 @@
-use Rattle.std.proofs.Common.{ℕ, ◌-◌, Ok, Err, arith}
+use Rattle.std.proofs.Common.{◌-◌, Ok, Err, arith}
 use Rattle.std.proofs.lemmas.Result.{err_from_is_err_and}
 use Rattle.outside_io.specs.declared.traits.Failed.{Failed}
 use Rattle.board_model.specs.declared.told.End.{End}
