@@ -8,18 +8,18 @@ use Rattle.board_core.specs.declared.board.Board.{Board}
 use Rattle.board_model.specs.Script.{Scenario}
 use Rattle.board_core.specs.Stands.{Stands, Stood, turns_of}
 use Rattle.outside_io.specs.Outside.{Rose}
-use Rattle.command_line.specs.CommandLine.{Asked, build, run, go, list, sample}
+use Rattle.command_line.specs.CommandLine.{Asked, build, run, go, list}
 use Rattle.command_line.specs.declared.job.Detail.{Detail}
 use Rattle.trace_cli.specs.declared.stops.Halt.{Halt}
 use Rattle.trace_cli.specs.declared.stops.Halt.TheVariants as halts
-use Rattle.trace_cli.specs.Contents.{Why, scenario_of, sample_scenario, application_of}
+use Rattle.trace_cli.specs.Contents.{Why, scenario_of, application_of}
 use Rattle.trace_cli.specs.Seen.{FilesSeen, SinkSeen}
 use Rattle.trace_cli.specs.Sources.{File, image_file, script_file, files_to_build, first_of, MayBe, Takes, IsBuilt, script_in}
 use Rattle.trace_cli.specs.Stops.{HaltsAt}
 use Rattle.trace_cli.specs.Building.{IsImage, HaltsInApp}
-use Rattle.trace_cli.specs.Ready.{IsImageFile, IsSet, IsReady, IsSampleReady, Halts}
+use Rattle.trace_cli.specs.Ready.{IsImageFile, IsSet, IsReady, Halts}
 use Rattle.trace_cli.specs.Told.{Pushed, whole, cut, Says, pushed, silent, IsSilent, SaysHalt}
-use Rattle.trace_cli.specs.Verdict.{Verdict, runs, lists, builds, samples, refused, unread, ran, listed, built, sampled}
+use Rattle.trace_cli.specs.Verdict.{Verdict, runs, lists, builds, refused, unread, ran, listed, built}
 use Rattle.trace_cli.specs.Answer as answer
 use Rattle.trace_cli.specs.Answer.{Reason, cannot_read, refuses, does, IsShort, HasPut, HasSpoiled, Tells, AnswersJob}
 use Rattle.trace_cli.proofs.Lists.{at_end, longer, takes_none, takes_first, takes_wider, takes_last, get_more, get_last}
@@ -83,12 +83,6 @@ build_reason a b app out picture i =
 
 pub build_halts : (a c : FilesSeen) (app out : List ℕ) (h : Halt) → HaltsInApp a c app h → Halts (build app out) a c h
 build_halts a c app out h i = record { contents = i.contents; at = i.at }
-
--- ## `sample`
-
-pub sample_reason : (a b : FilesSeen) (seed n : ℕ) (bd : Board) (r : IsSampleReady seed bd) → Reason (sample seed n) a b (sampled n (sample_scenario seed r.image))
-sample_reason a b seed n bd r = does [] (record { takes = takes_none (MayBe a.told) []; all = refl })
-    (samples seed n (sample_scenario seed r.image) (record { is = refl; image = r.image; built = r.built; scenario = refl }) refl)
 
 -- ## `go`
 
@@ -193,14 +187,6 @@ pub answers_run : (job : Asked) (a b : FilesSeen) (w w' : SinkSeen) (n : ℕ) (d
     → ((x : Scenario) → Stands x bd (start x.setup) → Pushed w w' (ran n detail x) r) → AnswersJob job a b w w' r
 answers_run job a b w w' n detail bd r same ready tells =
     answers_pushed job a b w w' (ran n detail ready.scenario) r same refl (does ready.contents ready.accepted (runs n detail ready.scenario ready.is refl)) (tells ready.scenario ready.stands)
-
-pub answers_sample : (seed n : ℕ) (a b : FilesSeen) (w w' : SinkSeen) (bd : Board) (r : ℕ) → b.told ≡ a.told → IsSampleReady seed bd
-    → ((x : Scenario) → Stands x bd (start x.setup) → Pushed w w' (sampled n x) r) → AnswersJob (sample seed n) a b w w' r
-answers_sample seed n a b w w' bd r same ready tells =
-    answers_pushed (sample seed n) a b w w' (sampled n (sample_scenario seed ready.image)) r same refl (sample_reason a b seed n bd ready) (tells (sample_scenario seed ready.image) ready.stands)
-
-pub sample_stood : (seed : ℕ) (bd : Board) → IsSampleReady seed bd → Stood bd × (turns_of bd ≡ 0)
-sample_stood seed bd h = ((sample_scenario seed h.image, start (sample_scenario seed h.image).setup, h.stands), h.turns)
 
 pub ready_stood : (job : Asked) (told : List ℕ → Option (List ℕ)) (n : ℕ) (detail : Detail) (bd : Board) → IsReady job told n detail bd → Stood bd × (turns_of bd ≡ 0)
 ready_stood job told n detail bd h = ((h.scenario, start h.scenario.setup, h.stands), h.turns)

@@ -1,12 +1,12 @@
 use Rattle.std.proofs.Common.{inl, refl}
 use Rattle.trace_cli.specs.Seen.{sink_seen}
-use Rattle.trace_cli.proofs.Readying.{answers_sample, sample_stood}
+use Rattle.trace_cli.proofs.Sampling.{answers_sample, sample_stood}
 use Rattle.trace_cli.proofs.sampling.run_sample.Goals as goal
 
 pub tell_sample-requires : goal.tell_sample-requires
 tell_sample-requires g c =
     let stood = sample_stood c.args.seed c.in-Ok.board c.in-Ok.ensures.ready in
-    record { stood = stood.0; fresh = stood.1; few = c.requires }
+    record { stood = stood.0; fresh = stood.1; few = c.requires.few }
 
 pub returns-in-Ok : goal.returns-in-Ok
 returns-in-Ok g c = λ a b same.
