@@ -10,3 +10,5 @@ mod building;
 mod events;
 #[cfg(test)]
 mod running;
+#[cfg(test)]
+mod sampling;

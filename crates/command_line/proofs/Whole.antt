@@ -18,14 +18,14 @@ use Rattle.clap.specs.Faults.{entered_fault, level_fault}
 use Rattle.clap.specs.declared.builder.value_parser.ValueParser.{ValueParser}
 use Rattle.clap.specs.declared.builder.value_parser.ValueParser.TheVariants as parser
 use Rattle.clap.proofs.ValueTestLemmas.{accepts-Accepts, Accepts-accepts}
-use Rattle.command_line.specs.CommandLine.{hubris_app, is_taken, most_steps, steps_parser}
-use Rattle.command_line.specs.Required.{HasText, IsSteps, IsSwitch, IsWhole}
+use Rattle.command_line.specs.CommandLine.{hubris_app, is_taken, most_seed, most_steps, number_parser}
+use Rattle.command_line.specs.Required.{HasText, IsNumber, IsSwitch, IsWhole}
 use Rattle.command_line.proofs.Taking.{none_left}
 use Rattle.command_line.proofs.Rows.{Each, Sure}
 use Rattle.command_line.proofs.Walking.{asks_for_help}
 use Rattle.command_line.proofs.Ending.{Done, Has, below_passes, ends, has_default, has_given, stops, wants}
 
--- ---- a number of turns
+-- ---- a number
 
 no_plus : (ds : List ℕ) → IsNumeral 10 ds → without_leading_plus ds ≡ ds
 no_plus [] h = refl
@@ -86,11 +86,11 @@ leaf s words sure negates e = ends s [] (λ _. ⊤) sure tt words false [] e neg
 text : (a : Rule) (rows : List Row) → Has a rows → HasText a.id rows
 text a rows h = rw h.first refl
 
-steps : (a : Rule) (rows : List Row) → a.parser ≡ Some steps_parser → Has a rows → IsSteps (one_of a.id rows)
-steps a rows is h =
-    let taken : accepts a.ignore_case steps_parser h.text ≡ true = subst (λ (p : Option ValueParser). accepts a.ignore_case (parser_of_value p) h.text ≡ true) is (accepted a.ignore_case (parser_of_value a.parser) h.text h.pass) in
+number : (most : ℕ) (a : Rule) (rows : List Row) → most < 4294967296 → a.parser ≡ Some (number_parser most) → Has a rows → IsNumber most (one_of a.id rows)
+number most a rows small is h =
+    let taken : accepts a.ignore_case (number_parser most) h.text ≡ true = subst (λ (p : Option ValueParser). accepts a.ignore_case (parser_of_value p) h.text ≡ true) is (accepted a.ignore_case (parser_of_value a.parser) h.text h.pass) in
     let one : one_of a.id rows ≡ Some (without_minus h.text) = subst (λ (p : Option ValueParser). one_of a.id rows ≡ Some (read_as (reading_of (parser_of_value p)) h.text)) is h.one in
-    subst IsSteps (sym one) (without_sign most_steps h.text (omega arith) (accepts-Accepts a.ignore_case steps_parser h.text taken))
+    subst (IsNumber most) (sym one) (without_sign most h.text small (accepts-Accepts a.ignore_case (number_parser most) h.text taken))
 
 switch : (a : Rule) (rows : List Row) → a.parser ≡ Some parser.Bool → Has a rows → IsSwitch (first_of a.id rows)
 switch a rows is h = subst IsSwitch (sym h.first)
@@ -125,7 +125,7 @@ run_whole words e =
       record {
         image = text (rule_at s 0) rows (has_given s.rules (rule_at s 0) rows d.good refl (d.given.0 refl));
         script = text (rule_at s 1) rows (has_given s.rules (rule_at s 1) rows d.good refl (d.given.1.0 refl));
-        steps = steps (rule_at s 2) rows refl (has_given s.rules (rule_at s 2) rows d.good refl (d.given.1.1.0 refl));
+        steps = number most_steps (rule_at s 2) rows (omega arith) refl (has_given s.rules (rule_at s 2) rows d.good refl (d.given.1.1.0 refl));
         all = switch (rule_at s 3) rows refl (has_default s.rules (rule_at s 3) rows d.good refl (d.filled.1.1.1.0 (omega arith)));
         mem = switch (rule_at s 4) rows refl (has_default s.rules (rule_at s 4) rows d.good refl (d.filled.1.1.1.1.0 (omega arith)));
       },
@@ -144,7 +144,7 @@ go_whole words e =
       record {
         app = text (rule_at s 0) rows (has_given s.rules (rule_at s 0) rows d.good refl (d.given.0 refl));
         script = text (rule_at s 1) rows (has_given s.rules (rule_at s 1) rows d.good refl (d.given.1.0 refl));
-        steps = steps (rule_at s 2) rows refl (has_given s.rules (rule_at s 2) rows d.good refl (d.given.1.1.0 refl));
+        steps = number most_steps (rule_at s 2) rows (omega arith) refl (has_given s.rules (rule_at s 2) rows d.good refl (d.given.1.1.0 refl));
         all = switch (rule_at s 3) rows refl (has_default s.rules (rule_at s 3) rows d.good refl (d.filled.1.1.1.0 (omega arith)));
         mem = switch (rule_at s 4) rows refl (has_default s.rules (rule_at s 4) rows d.good refl (d.filled.1.1.1.1.0 (omega arith)));
       },
@@ -158,25 +158,42 @@ list_whole words e =
     let s = shape_at 3 in
     let rows = rows_after s.rules [] words in
     let d = leaf s words list_sure refl e in
-    inr (inr (inr (refl, record { image = text (rule_at s 0) rows (has_given s.rules (rule_at s 0) rows d.good refl (d.given.0 refl)) })))
+    inr (inr (inr (inl (refl, record { image = text (rule_at s 0) rows (has_given s.rules (rule_at s 0) rows d.good refl (d.given.0 refl)) }))))
+
+sample_sure : Each (Sure (shape_at 4).rules) (shape_at 4).rules
+sample_sure = (record { known = refl; sure = refl }, (record { known = refl; sure = refl }, (record { known = refl; sure = refl }, tt)))
+
+sample_whole : (words : List Text) → entered_fault app (Some (codes "sample", words)) ≡ [] → IsWhole (entered app (Some (codes "sample", words)))
+sample_whole words e =
+    let s = shape_at 4 in
+    let rows = rows_after s.rules [] words in
+    let d = leaf s words sample_sure refl e in
+    inr (inr (inr (inr (
+      refl,
+      record {
+        seed = number most_seed (rule_at s 0) rows (omega arith) refl (has_given s.rules (rule_at s 0) rows d.good refl (d.given.0 refl));
+        steps = number most_steps (rule_at s 1) rows (omega arith) refl (has_given s.rules (rule_at s 1) rows d.good refl (d.given.1.0 refl));
+      },
+    ))))
 
 -- ---- the program
 
 -- the name of one of its commands
 abbrev IsCommand : Text → Type 0
-IsCommand name = (name ≡ codes "build") ⊎ ((name ≡ codes "run") ⊎ ((name ≡ codes "go") ⊎ (name ≡ codes "list")))
+IsCommand name = (name ≡ codes "build") ⊎ ((name ≡ codes "run") ⊎ ((name ≡ codes "go") ⊎ ((name ≡ codes "list") ⊎ (name ≡ codes "sample"))))
 
 top_sure : Each (Sure app.top.rules) app.top.rules
 top_sure = (record { known = refl; sure = refl }, tt)
 
 own : Each (λ n. asks_for_help app.top n.0 ≡ false → IsCommand n.0) (names_of app)
-own = ((λ _. inl refl), ((λ _. inr (inl refl)), ((λ _. inr (inr (inl refl))), ((λ _. inr (inr (inr refl))), ((λ e. cc), tt)))))
+own = ((λ _. inl refl), ((λ _. inr (inl refl)), ((λ _. inr (inr (inl refl))), ((λ _. inr (inr (inr (inl refl)))), ((λ _. inr (inr (inr (inr refl)))), ((λ e. cc), tt))))))
 
 command_whole : (name : Text) (words : List Text) → IsCommand name → entered_fault app (Some (name, words)) ≡ [] → IsWhole (entered app (Some (name, words)))
 command_whole name words (inl is) = subst (λ n. entered_fault app (Some (n, words)) ≡ [] → IsWhole (entered app (Some (n, words)))) (sym is) (build_whole words)
 command_whole name words (inr (inl is)) = subst (λ n. entered_fault app (Some (n, words)) ≡ [] → IsWhole (entered app (Some (n, words)))) (sym is) (run_whole words)
 command_whole name words (inr (inr (inl is))) = subst (λ n. entered_fault app (Some (n, words)) ≡ [] → IsWhole (entered app (Some (n, words)))) (sym is) (go_whole words)
-command_whole name words (inr (inr (inr is))) = subst (λ n. entered_fault app (Some (n, words)) ≡ [] → IsWhole (entered app (Some (n, words)))) (sym is) (list_whole words)
+command_whole name words (inr (inr (inr (inl is)))) = subst (λ n. entered_fault app (Some (n, words)) ≡ [] → IsWhole (entered app (Some (n, words)))) (sym is) (list_whole words)
+command_whole name words (inr (inr (inr (inr is)))) = subst (λ n. entered_fault app (Some (n, words)) ≡ [] → IsWhole (entered app (Some (n, words)))) (sym is) (sample_whole words)
 
 stopped : (stop : Option (Text × List Text)) → IfSome stop (λ p. IsCommand p.0) → entered_fault app stop ≡ [] → is_some (entered app stop) ≡ true
     → IsWhole (entered app stop)

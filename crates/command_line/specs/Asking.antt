@@ -1,6 +1,6 @@
 -- What a job of the code asks for.
 use Rattle.std.specs.Prelude.{ℕ}
-use Rattle.command_line.specs.CommandLine.{Asked, build, run, go, list}
+use Rattle.command_line.specs.CommandLine.{Asked, build, run, go, list, sample}
 use Rattle.command_line.specs.declared.job.Job.{Job}
 use Rattle.command_line.specs.declared.job.Job.TheVariants as job
 
@@ -9,6 +9,7 @@ asked (job.Build app out) = build app.now out.now
 asked (job.Run image script steps detail) = run image.now script.now steps detail
 asked (job.Go app script steps detail) = go app.now script.now steps detail
 asked (job.List image) = list image.now
+asked (job.Sample seed steps) = sample seed steps
 
 -- how many turns it may take
 abbrev pub steps_of : Job → ℕ
@@ -16,3 +17,4 @@ steps_of (job.Build app out) = 0
 steps_of (job.Run image script steps detail) = steps
 steps_of (job.Go app script steps detail) = steps
 steps_of (job.List image) = 0
+steps_of (job.Sample seed steps) = steps

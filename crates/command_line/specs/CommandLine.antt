@@ -20,19 +20,28 @@ use Rattle.command_line.specs.declared.job.Detail.{Detail}
 abbrev pub most_steps : ℕ
 most_steps = 1000000000
 
-abbrev pub steps_parser : ValueParser
-steps_parser = parser.Signed (pos 0) (pos most_steps)
+-- the greatest seed of a sample
+abbrev pub most_seed : ℕ
+most_seed = 4294967295
+
+-- a number of 0 to `most`
+abbrev pub number_parser : ℕ → ValueParser
+number_parser most = parser.Signed (pos 0) (pos most)
 
 -- a word that must be there (`Arg::new(name).required(true)`)
 abbrev pub positional_rule : Text → Rule
 positional_rule name = record (new_rule name) { required = true }
+
+-- a word that must be there, and is a number of 0 to `most`
+abbrev pub number_rule : Text → ℕ → Rule
+number_rule name most = record (positional_rule name) { parser = Some (number_parser most) }
 
 -- `--steps N`, which must be there too
 abbrev pub steps_rule : Rule
 steps_rule = record (new_rule (codes "steps")) {
   long = Some (codes "steps");
   required = true;
-  parser = Some steps_parser;
+  parser = Some (number_parser most_steps);
 }
 
 -- `--NAME`, without a value
@@ -58,12 +67,14 @@ number_in id rows = number_of (unwrap_or (one_of id rows) [])
 
 -- What the program may be asked for: to build an application, and the name of the image; a run of an
 -- image with a script, for so many turns at most, and in which detail it is told; the same of an
--- application; a list of an image.
+-- application; a list of an image; a run of the sample of a seed for so many turns at most, of which the
+-- notes are counted.
 pub data Asked : Type 0 where
   build : Text → Text → Asked
   run : Text → Text → ℕ → Detail → Asked
   go : Text → Text → ℕ → Detail → Asked
   list : Text → Asked
+  sample : ℕ → ℕ → Asked
 
 -- `--all` and `--mem`
 abbrev pub detail_in : List Row → Detail
@@ -107,8 +118,16 @@ list_form = record {
   asks = λ rows. list (text_in (codes "image") rows);
 }
 
+-- `sample SEED STEPS`
+abbrev pub sample_form : Form
+sample_form = record {
+  name = codes "sample";
+  rules = number_rule (codes "seed") most_seed ∷ number_rule (codes "steps") most_steps ∷ [];
+  asks = λ rows. sample (number_in (codes "seed") rows) (number_in (codes "steps") rows);
+}
+
 abbrev pub forms : List Form
-forms = build_form ∷ run_form ∷ go_form ∷ list_form ∷ []
+forms = build_form ∷ run_form ∷ go_form ∷ list_form ∷ sample_form ∷ []
 
 -- ---- the program
 

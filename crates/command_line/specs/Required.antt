@@ -1,21 +1,29 @@
 -- What words that are taken hold: a command, and each value that it asks for.
-use Rattle.std.specs.Prelude.{◌≡◌, ◌⊎◌, Bool, true, false, List, Option, Some, None, codes, is_some}
+use Rattle.std.specs.Prelude.{◌≡◌, ◌⊎◌, ℕ, Bool, true, false, List, Option, Some, None, codes, is_some}
 use Rattle.clap.specs.Walk.{Row, Text, first_of, one_of}
 use Rattle.clap.specs.ValueTests.{accepts}
 use Rattle.clap.specs.declared.builder.value_parser.ValueParser.TheVariants as parser
-use Rattle.command_line.specs.CommandLine.{most_steps}
+use Rattle.command_line.specs.CommandLine.{most_seed, most_steps}
 
 -- the words gave a text for the id
 abbrev pub HasText : Text → List Row → Type 0
 HasText id rows = is_some (first_of id rows) ≡ true
 
--- a number of 0 to 1,000,000,000 by clap's parser, which reads a `-0` as `0`
-abbrev pub is_steps : Text → Bool
-is_steps text = accepts false (parser.Unsigned 0 most_steps) text
+-- a number of 0 to `most` by clap's parser, which reads a `-0` as `0`
+abbrev pub is_number : ℕ → Text → Bool
+is_number most text = accepts false (parser.Unsigned 0 most) text
 
+abbrev pub IsNumber : ℕ → Option Text → Type 0
+IsNumber most None = ⊥
+IsNumber most (Some text) = is_number most text ≡ true
+
+-- a number of turns: 0 to 1,000,000,000
 abbrev pub IsSteps : Option Text → Type 0
-IsSteps None = ⊥
-IsSteps (Some text) = is_steps text ≡ true
+IsSteps text = IsNumber most_steps text
+
+-- a seed: a number of 32 bits
+abbrev pub IsSeed : Option Text → Type 0
+IsSeed text = IsNumber most_seed text
 
 -- `true` or `false`, which clap finds for an option without a value
 abbrev pub IsSwitch : Option Text → Type 0
@@ -43,10 +51,15 @@ pub record IsWholeGo (rows : List Row) : Type 0 where
 pub record IsWholeList (rows : List Row) : Type 0 where
   pub image : HasText (codes "image") rows
 
+pub record IsWholeSample (rows : List Row) : Type 0 where
+  pub seed : IsSeed (one_of (codes "seed") rows)
+  pub steps : IsSteps (one_of (codes "steps") rows)
+
 -- a command of the program, with all that it wants
 abbrev pub IsWhole : Option (Text × List Row) → Type 0
 IsWhole None = ⊥
 IsWhole (Some p) = ((p.0 ≡ codes "build") × IsWholeBuild p.1)
     ⊎ (((p.0 ≡ codes "run") × IsWholeRun p.1)
     ⊎ (((p.0 ≡ codes "go") × IsWholeGo p.1)
-    ⊎ ((p.0 ≡ codes "list") × IsWholeList p.1)))
+    ⊎ (((p.0 ≡ codes "list") × IsWholeList p.1)
+    ⊎ ((p.0 ≡ codes "sample") × IsWholeSample p.1))))

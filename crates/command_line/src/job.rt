@@ -1,8 +1,8 @@
 //! What the matches of a command ask for.
-ghost use Rattle.std.specs.Prelude.{◌≡◌, ◌≤◌, Some, codes};
+ghost use Rattle.std.specs.Prelude.{◌≡◌, ◌≤◌, ◌<◌, ◌^◌, ℕ, Some, codes};
 ghost use Rattle.clap.specs.Words.{rows_of, found_of, one_of};
-ghost use Rattle.command_line.specs.CommandLine.{asked_by, build_form, run_form, go_form, list_form, text_in, is_set, detail_in, number_in, most_steps};
-ghost use Rattle.command_line.specs.Required.{IsSteps, IsWhole};
+ghost use Rattle.command_line.specs.CommandLine.{asked_by, build_form, run_form, go_form, list_form, sample_form, text_in, is_set, detail_in, number_in, most_steps};
+ghost use Rattle.command_line.specs.Required.{IsNumber, IsSeed, IsSteps, IsWhole};
 ghost use Rattle.command_line.specs.Asking.{asked, steps_of};
 
 use clap::ArgMatches;
@@ -15,7 +15,7 @@ pub struct Detail {
     pub memory: bool,
 }
 
-/// What the program is asked to do; names are those of files, `steps` is at most 1,000,000,000.
+/// What the program is asked to do; names are those of files, and `steps` is at most 1,000,000,000.
 #[derive(Clone, Copy, Drop)]
 pub enum Job<'a> {
     /// Build APP, and put the image under OUT.
@@ -40,6 +40,11 @@ pub enum Job<'a> {
     /// List what IMAGE says.
     List {
         image: &'a str,
+    },
+    /// Run the sample of a seed for at most `steps` turns.
+    Sample {
+        seed: u32,
+        steps: u32,
     },
 }
 
@@ -68,13 +73,27 @@ fn detail_of(matches: &ArgMatches<'_>) -> Detail
 }
 
 fn number_of(matches: &ArgMatches<'_>, id: &str) -> u32
-    ensures number { IsSteps (one_of id.now (rows_of (found_of matches.now))) → result ≡ number_in id.now (rows_of (found_of matches.now)) }
-    ensures few { IsSteps (one_of id.now (rows_of (found_of matches.now))) → result ≤ most_steps }
+    ensures number { (most : ℕ) → most < 2 ^ 32 → IsNumber most (one_of id.now (rows_of (found_of matches.now))) → result ≡ number_in id.now (rows_of (found_of matches.now)) }
+    ensures few { (most : ℕ) → most < 2 ^ 32 → IsNumber most (one_of id.now (rows_of (found_of matches.now))) → result ≤ most }
 {
     match matches.get_one::<u32>(id) {
         Some(number) => number,
         None => 0,
     }
+}
+
+// The number of turns that is asked for.
+fn steps_in(matches: &ArgMatches<'_>) -> u32
+    ensures number { IsSteps (one_of (codes "steps") (rows_of (found_of matches.now))) → result ≡ number_in (codes "steps") (rows_of (found_of matches.now)) }
+    ensures few { IsSteps (one_of (codes "steps") (rows_of (found_of matches.now))) → result ≤ most_steps }
+{
+    number_of(matches, "steps")
+}
+
+fn seed_in(matches: &ArgMatches<'_>) -> u32
+    ensures { IsSeed (one_of (codes "seed") (rows_of (found_of matches.now))) → result ≡ number_in (codes "seed") (rows_of (found_of matches.now)) }
+{
+    number_of(matches, "seed")
 }
 
 fn build_by<'a>(matches: &ArgMatches<'a>) -> Job<'a>
@@ -94,7 +113,7 @@ fn run_by<'a>(matches: &ArgMatches<'a>) -> Job<'a>
     Job::Run {
         image: text_of(matches, "image"),
         script: text_of(matches, "script"),
-        steps: number_of(matches, "steps"),
+        steps: steps_in(matches),
         detail: detail_of(matches),
     }
 }
@@ -106,7 +125,7 @@ fn go_by<'a>(matches: &ArgMatches<'a>) -> Job<'a>
     Job::Go {
         app: text_of(matches, "app"),
         script: text_of(matches, "script"),
-        steps: number_of(matches, "steps"),
+        steps: steps_in(matches),
         detail: detail_of(matches),
     }
 }
@@ -117,6 +136,16 @@ fn list_by<'a>(matches: &ArgMatches<'a>) -> Job<'a>
 {
     Job::List {
         image: text_of(matches, "image"),
+    }
+}
+
+fn sample_by<'a>(matches: &ArgMatches<'a>) -> Job<'a>
+    ensures job { IsSeed (one_of (codes "seed") (rows_of (found_of matches.now))) → IsSteps (one_of (codes "steps") (rows_of (found_of matches.now))) → asked result ≡ sample_form.asks (rows_of (found_of matches.now)) }
+    ensures few { IsSteps (one_of (codes "steps") (rows_of (found_of matches.now))) → steps_of result ≤ most_steps }
+{
+    Job::Sample {
+        seed: seed_in(matches),
+        steps: steps_in(matches),
     }
 }
 
@@ -131,7 +160,9 @@ pub fn job_by<'a>(name: &str, matches: &ArgMatches<'a>) -> Job<'a>
         run_by(matches)
     } else if name == "go" {
         go_by(matches)
-    } else {
+    } else if name == "list" {
         list_by(matches)
+    } else {
+        sample_by(matches)
     }
 }

@@ -268,6 +268,59 @@ fn an_application_is_run_as_an_image_is(rt: HostRuntime) -> Result<(), Fail> {
     Ok(())
 }
 
+fn samples(alloc: Global, words: &[&str], (seed, steps): (u32, u32)) -> Result<bool, AllocError> {
+    let all = after_name(alloc, words)?;
+    match read_words(alloc, &all) {
+        Ok(Job::Sample { seed: s, steps: n }) => Ok(s == seed && n == steps),
+        _ => Ok(false),
+    }
+}
+
+#[test]
+fn a_sample_is_of_a_seed_and_turns(rt: HostRuntime) -> Result<(), Fail> {
+    let calls: [(&[&str], u32, u32); 6] = [
+        (&["sample", "1", "2"], 1, 2),
+        (&["sample", "0", "0"], 0, 0),
+        (
+            &["sample", "4294967295", "1000000000"],
+            4_294_967_295,
+            1_000_000_000,
+        ),
+        (&["sample", "+7", "007"], 7, 7),
+        (&["sample", "--", "1", "2"], 1, 2),
+        (&["sample", "--", "-0", "-0"], 0, 0),
+    ];
+    for (words, seed, steps) in calls {
+        assert!(rt;
+            samples(rt.alloc(), words, (seed, steps))?,
+            "at {seed} {steps}"
+        );
+    }
+    Ok(())
+}
+
+#[test]
+fn a_sample_of_other_words(rt: HostRuntime) -> Result<(), Fail> {
+    let calls: [&[&str]; 12] = [
+        &["sample", "4294967296", "2"],
+        &["sample", "1", "1000000001"],
+        &["sample", "1"],
+        &["sample"],
+        &["sample", "1", "2", "3"],
+        &["sample", "1", "2", "--mem"],
+        &["sample", "1", "--steps", "2"],
+        &["sample", "-1", "2"],
+        &["sample", "1", "-0"],
+        &["sample", "1", ""],
+        &["sample", "a", "2"],
+        &["sample", "0x1", "2"],
+    ];
+    for (i, words) in calls.into_iter().enumerate() {
+        assert!(rt; is_refused(rt.alloc(), words)?, "at {i}");
+    }
+    Ok(())
+}
+
 #[test]
 fn a_bound_that_is_no_number_of_turns(rt: HostRuntime) -> Result<(), Fail> {
     let bounds: [&[&str]; 12] = [
@@ -352,7 +405,7 @@ fn a_command_that_is_missing_or_not_whole(rt: HostRuntime) -> Result<(), Fail> {
         &["--", "run", "a", "e", "--steps=3"],
         &["build", "a"],
         &["go", "a", "e"],
-        &["sample", "1", "2"],
+        &["sample", "1"],
         &["ru", "a", "e", "--steps=3"],
         &["RUN", "a", "e", "--steps=3"],
         &["run"],

@@ -4,16 +4,19 @@ use Rattle.std.specs.Prelude.{slice_get}
 use Rattle.std.proofs.lemmas.Option.{same_Some}
 use Rattle.outside_io.specs.Outside.{WhereTold}
 use Rattle.image_format.specs.Picture.{Picture}
+use Rattle.app_toml.specs.Apps.{AppData}
+use Rattle.image_build.specs.Built.{Built}
+use Rattle.sample_gen.specs.Sample.{sample_app, sample_sources}
 use Rattle.board_model.specs.Script.{Scenario}
-use Rattle.command_line.specs.CommandLine.{Asked, build, run, go, list, is_taken, job_of}
+use Rattle.command_line.specs.CommandLine.{Asked, build, run, go, list, sample, is_taken, job_of}
 use Rattle.command_line.specs.declared.job.Detail.{Detail}
 use Rattle.build_laws.proofs.OnePicture.{one_picture}
-use Rattle.trace_cli.specs.Contents.{Why, scenario_of}
+use Rattle.trace_cli.specs.Contents.{Why, scenario_of, sample_scenario}
 use Rattle.trace_cli.specs.Seen.{FilesSeen}
 use Rattle.trace_cli.specs.Words.{job_in}
-use Rattle.trace_cli.specs.Sources.{File, files_by, MayBe, Are, Reaches, TakesAll, IsBuilt, IsRun, IsListing, IsBuild, described, sources_in, script_in}
+use Rattle.trace_cli.specs.Sources.{File, files_by, MayBe, Are, Reaches, TakesAll, IsBuilt, IsRun, IsListing, IsBuild, IsSample, described, sources_in, script_in}
 use Rattle.trace_cli.specs.Verdict as verdict
-use Rattle.trace_cli.specs.Verdict.{Verdict, IsVerdict, Does, runs, lists, builds, usage, refused, unread, ran, listed, built}
+use Rattle.trace_cli.specs.Verdict.{Verdict, IsVerdict, Does, runs, lists, builds, samples, usage, refused, unread, ran, listed, built, sampled}
 use Rattle.trace_cli.specs.Answer.{Reason, cannot_read, refuses, does, IsUnread, IsRefused, Ground, no_job, of_job}
 use Rattle.trace_cli.proofs.Lists.{is_below}
 use Rattle.trace_cli.proofs.Stopping.{where_told}
@@ -38,12 +41,14 @@ same_run (go app script steps detail) cs n n' m m' x y p q =
     ap (λ (k : ℕ). ran k m x) bound ∙ ap (λ (d : Detail). ran n' d x) told ∙ ap (ran n' m') scenario
 same_run (build app out) cs n n' m m' x y p q = absurd p
 same_run (list image) cs n n' m m' x y p q = absurd p
+same_run (sample seed steps) cs n n' m m' x y p q = absurd p
 
 same_listing : (job : Asked) (cs : List (List ℕ)) (a b : Picture) → IsListing job cs a → IsListing job cs b → listed a ≡ listed b
 same_listing (list image) cs a b p q = ap listed (p ∙ sym q)
 same_listing (build app out) cs a b p q = absurd p
 same_listing (run image script steps detail) cs a b p q = absurd p
 same_listing (go app script steps detail) cs a b p q = absurd p
+same_listing (sample seed steps) cs a b p q = absurd p
 
 same_build : (job : Asked) (cs : List (List ℕ)) (o o' : List ℕ) (a b : Picture) → IsBuild job cs o a → IsBuild job cs o' b → built o a ≡ built o' b
 same_build (build app out) cs o o' a b p q =
@@ -53,24 +58,56 @@ same_build (build app out) cs o o' a b p q =
 same_build (run image script steps detail) cs o o' a b p q = absurd p
 same_build (go app script steps detail) cs o o' a b p q = absurd p
 same_build (list image) cs o o' a b p q = absurd p
+same_build (sample seed steps) cs o o' a b p q = absurd p
+
+-- of applications and sources by number
+same_image_at : (app : ℕ → AppData) (sources : ℕ → List (List ℕ)) (s s' : ℕ) (a b : Picture) → s' ≡ s → Built (app s) (sources s) a → Built (app s') (sources s') b → a ≡ b
+same_image_at app sources s s' a b same p q = one_picture (app s) (sources s) a b p (subst (λ (k : ℕ). Built (app k) (sources k) b) same q)
+
+same_sample : (job : Asked) (s s' n n' : ℕ) (x y : Scenario) → IsSample job s n x → IsSample job s' n' y → sampled n x ≡ sampled n' y
+same_sample job s s' n n' x y p q =
+    let both : sample s n ≡ sample s' n' = sym p.is ∙ q.is in
+    let seed : s' ≡ s = seed_of s' s n' n (sym both) in
+    let bound : n ≡ n' = bound_of s s' n n' both in
+    let image : p.image ≡ q.image = same_image_at sample_app sample_sources s s' p.image q.image seed p.built q.built in
+    let scenario : x ≡ y = p.scenario ∙ ap (sample_scenario s) image ∙ ap (λ (k : ℕ). sample_scenario k q.image) (sym seed) ∙ sym q.scenario in
+    ap (λ (k : ℕ). sampled k x) bound ∙ ap (sampled n') scenario
+  where
+    seed_of : (a b c d : ℕ) → sample a c ≡ sample b d → a ≡ b
+    seed_of a b c d e = cc
+
+    bound_of : (a b c d : ℕ) → sample a c ≡ sample b d → c ≡ d
+    bound_of a b c d e = cc
 
 run_or_listing : (job : Asked) (cs : List (List ℕ)) (n : ℕ) (m : Detail) (x : Scenario) (a : Picture) → IsRun job cs n m x → IsListing job cs a → ⊥
 run_or_listing (run image script steps detail) cs n m x a p q = q
 run_or_listing (go app script steps detail) cs n m x a p q = q
 run_or_listing (build app out) cs n m x a p q = q
 run_or_listing (list image) cs n m x a p q = p
+run_or_listing (sample seed steps) cs n m x a p q = p
 
 run_or_build : (job : Asked) (cs : List (List ℕ)) (n : ℕ) (m : Detail) (x : Scenario) (o : List ℕ) (a : Picture) → IsRun job cs n m x → IsBuild job cs o a → ⊥
 run_or_build (run image script steps detail) cs n m x o a p q = q
 run_or_build (go app script steps detail) cs n m x o a p q = q
 run_or_build (build app out) cs n m x o a p q = p
 run_or_build (list image) cs n m x o a p q = p
+run_or_build (sample seed steps) cs n m x o a p q = p
 
 listing_or_build : (job : Asked) (cs : List (List ℕ)) (a : Picture) (o : List ℕ) (b : Picture) → IsListing job cs a → IsBuild job cs o b → ⊥
 listing_or_build (run image script steps detail) cs a o b p q = q
 listing_or_build (go app script steps detail) cs a o b p q = q
 listing_or_build (build app out) cs a o b p q = p
 listing_or_build (list image) cs a o b p q = q
+listing_or_build (sample seed steps) cs a o b p q = p
+
+run_or_sample : (job : Asked) (cs : List (List ℕ)) (n : ℕ) (m : Detail) (x : Scenario) (s k : ℕ) (y : Scenario) → IsRun job cs n m x → IsSample job s k y → ⊥
+run_or_sample job cs n m x s k y p q = subst (λ (j : Asked). IsRun j cs n m x) q.is p
+
+listing_or_sample : (job : Asked) (cs : List (List ℕ)) (a : Picture) (s k : ℕ) (y : Scenario) → IsListing job cs a → IsSample job s k y → ⊥
+listing_or_sample job cs a s k y p q = subst (λ (j : Asked). IsListing j cs a) q.is p
+
+build_or_sample : (job : Asked) (cs : List (List ℕ)) (o : List ℕ) (a : Picture) (s k : ℕ) (y : Scenario) → IsBuild job cs o a → IsSample job s k y → ⊥
+build_or_sample job cs o a s k y p q = subst (λ (j : Asked). IsBuild j cs o a) q.is p
 
 same_done : (job : Asked) (cs : List (List ℕ)) (u v : Verdict) → Does job cs u → Does job cs v → u ≡ v
 same_done job cs u v (runs n m x p e) (runs n' m' y q d) = e ∙ same_run job cs n n' m m' x y p q ∙ sym d
@@ -82,6 +119,13 @@ same_done job cs u v (lists a p e) (builds o b q d) = absurd (listing_or_build j
 same_done job cs u v (builds o a p e) (runs n m x q d) = absurd (run_or_build job cs n m x o a q p)
 same_done job cs u v (builds o a p e) (lists b q d) = absurd (listing_or_build job cs b o a q p)
 same_done job cs u v (builds o a p e) (builds o' b q d) = e ∙ same_build job cs o o' a b p q ∙ sym d
+same_done job cs u v (runs n m x p e) (samples s k y q d) = absurd (run_or_sample job cs n m x s k y p q)
+same_done job cs u v (lists a p e) (samples s k y q d) = absurd (listing_or_sample job cs a s k y p q)
+same_done job cs u v (builds o a p e) (samples s k y q d) = absurd (build_or_sample job cs o a s k y p q)
+same_done job cs u v (samples s k y p e) (runs n m x q d) = absurd (run_or_sample job cs n m x s k y q p)
+same_done job cs u v (samples s k y p e) (lists a q d) = absurd (listing_or_sample job cs a s k y q p)
+same_done job cs u v (samples s k y p e) (builds o a q d) = absurd (build_or_sample job cs o a s k y q p)
+same_done job cs u v (samples s n x p e) (samples s' n' y q d) = e ∙ same_sample job s s' n n' x y p q ∙ sym d
 
 -- ## three ways in which lengths meet
 

@@ -4,12 +4,12 @@ use Rattle.std.specs.Prelude.{slice_get}
 use Rattle.std.proofs.lemmas.Option.{same_Some}
 use Rattle.outside_io.specs.Outside.{WhereTold}
 use Rattle.image_format.specs.Picture.{Picture, spelling}
-use Rattle.command_line.specs.CommandLine.{Asked, build, run, go}
+use Rattle.command_line.specs.CommandLine.{Asked, build, run, go, sample}
 use Rattle.command_line.specs.declared.job.Detail.{Detail}
 use Rattle.trace_cli.specs.Contents.{Why, image_refusal, script_refusal, picture_of, application_of, scenario_of}
 use Rattle.trace_cli.specs.Words.{job_in}
 use Rattle.trace_cli.specs.Sources.{File, image_file, script_file, files_to_build, Are, Takes, Reaches, TakesAll, IsBuilt, script_in}
-use Rattle.trace_cli.specs.Verdict.{Verdict, IsVerdict, no_job, refuses, does, Does, runs, lists, builds, refused, ran}
+use Rattle.trace_cli.specs.Verdict.{Verdict, IsVerdict, no_job, refuses, does, Does, runs, lists, builds, samples, refused, ran}
 use Rattle.trace_cli.specs.Answer.{HasPut}
 use Rattle.trace_cli.proofs.Lists.{longer, is_below, takes_wider, takes_last}
 use Rattle.trace_cli.proofs.Taking.{as_many_sources}
@@ -38,9 +38,17 @@ has_image : (told : List ℕ → Option (List ℕ)) (app out : List ℕ) (cs : L
 has_image told app out [] image all is = let none = all.all in absurd (omega arith)
 has_image told app out (c ∷ cs) image all is = record { bytes = c; sources = cs; takes = all.takes; all = all.all; is = is }
 
+-- another command is no sample
+no_sample : (app out : List ℕ) (s n : ℕ) → build app out ≡ sample s n → ⊥
+no_sample app out s n e = cc
+
+no_sample_run : (image script : List ℕ) (n : ℕ) (detail : Detail) (s k : ℕ) → run image script n detail ≡ sample s k → ⊥
+no_sample_run image script n detail s k e = cc
+
 made_by : (told : List ℕ → Option (List ℕ)) (app out : List ℕ) (cs : List (List ℕ)) (b : Verdict) → TakesAll (Are told) (build app out) cs → Does (build app out) cs b → IsMade told app out b
 made_by told app out cs b all (runs n m x is e) = absurd is
 made_by told app out cs b all (lists i is e) = absurd is
+made_by told app out cs b all (samples s n x is e) = absurd (no_sample app out s n is.is)
 made_by told app out cs b all (builds o i is e) = record {
   image = i;
   has = has_image told app out cs i all is.1;
@@ -130,6 +138,7 @@ ran_of out script n detail image c s w same (runs k m x is e) =
     e ∙ ap (λ (i : ℕ). ran i m x) is.0 ∙ ap (λ (a : Detail). ran n a x) is.1 ∙ ap (ran n detail) scenario
 ran_of out script n detail image c s w same (lists i is e) = absurd is
 ran_of out script n detail image c s w same (builds o i is e) = absurd is
+ran_of out script n detail image c s w same (samples seed k x is e) = absurd (no_sample_run out script n detail seed k is.is)
 
 after_run : (words : List (List ℕ)) (told told' : List ℕ → Option (List ℕ)) (app out script : List ℕ) (n : ℕ) (detail : Detail) (cs : List (List ℕ)) (w : Verdict)
     → job_in words ≡ Some (go app script n detail) → Rebuilt told told' app out script → TakesAll (Are told') (run out script n detail) cs → Does (run out script n detail) cs w → IsVerdict words told w

@@ -3,14 +3,16 @@ use Rattle.std.proofs.Common.{◌≡◌, ◌≢◌, ℕ, ◌≤◌, ◌⊎◌, B
 use Rattle.std.specs.Io.KnownBytes.{Appends}
 use Rattle.outside_io.specs.Outside.{Rose}
 use Rattle.image_format.specs.Picture.{Picture, spelling}
+use Rattle.board_model.specs.declared.told.Level.TheVariants.{Calls}
+use Rattle.board_model.specs.Script.{Scenario}
 use Rattle.board_model.specs.declared.told.End.{End}
 use Rattle.board_model.specs.declared.told.End.TheVariants.{Bound, Still, Supervisor}
-use Rattle.command_line.specs.CommandLine.{Asked, build, run, go, list, is_taken, job_of}
+use Rattle.command_line.specs.CommandLine.{Asked, build, run, go, list, sample, is_taken, job_of}
 use Rattle.trace_cli.specs.Seen.{FilesSeen, SinkSeen}
 use Rattle.trace_cli.specs.Words.{job_in, out_of}
-use Rattle.trace_cli.specs.Sources.{IsBuild}
-use Rattle.trace_cli.specs.Verdict.{Verdict, IsVerdict, Does, runs, lists, builds, usage, usage_line, refused, unread, ran, listed, built, run_of, level_of, status_of}
-use Rattle.trace_cli.specs.Answer.{Reason, cannot_read, refuses, does, Ground, no_job, of_job, HasPut, HasSpoiled, Tells, whole, cut, spoiled, short, AnswersJob, Answers, HasRun, HasDone, HasRefused, HasUnread, HasFront, Answered, IsComplete}
+use Rattle.trace_cli.specs.Sources.{IsBuild, IsSample}
+use Rattle.trace_cli.specs.Verdict.{Verdict, IsVerdict, Does, runs, lists, builds, samples, usage, usage_line, refused, unread, ran, listed, built, sampled, run_of, level_of, status_of}
+use Rattle.trace_cli.specs.Answer.{Reason, cannot_read, refuses, does, Ground, no_job, of_job, HasPut, HasSpoiled, Tells, whole, cut, spoiled, short, AnswersJob, Answers, HasSampled, HasPlayed, HasDone, HasRefused, HasUnread, HasFront, Answered, IsComplete}
 use Rattle.trace_cli.specs.Told as told
 use Rattle.trace_cli.specs.Told.{Pushed, Says, pushed, silent}
 use Rattle.trace_cli.proofs.Deciding.{Decided, agreed, not_read, decided}
@@ -55,17 +57,19 @@ end_zero_or_six Bound = inl refl
 end_zero_or_six Still = inl refl
 end_zero_or_six Supervisor = inr refl
 
+-- of a run that ended so
+end_status : (e : End) (status : ℕ) → status ≡ status_of e → (status ≡ 0) ⊎ (status ≡ 6)
+end_status e status is = by_end (end_zero_or_six e) where
+  by_end : (status_of e ≡ 0) ⊎ (status_of e ≡ 6) → (status ≡ 0) ⊎ (status ≡ 6)
+  by_end (inl z) = inl (is ∙ z)
+  by_end (inr s) = inr (is ∙ s)
+
 -- of what is done with files
 done_status : (job : Asked) (cs : List (List ℕ)) (v : Verdict) → Does job cs v → (v.status ≡ 0) ⊎ (v.status ≡ 6)
-done_status job cs v (runs n m x p e) = by_end (end_zero_or_six (run_of (level_of m) n x).end) where
-  status : v.status ≡ status_of (run_of (level_of m) n x).end
-  status = ap (λ (u : Verdict). u.status) e
-
-  by_end : (status_of (run_of (level_of m) n x).end ≡ 0) ⊎ (status_of (run_of (level_of m) n x).end ≡ 6) → (v.status ≡ 0) ⊎ (v.status ≡ 6)
-  by_end (inl z) = inl (status ∙ z)
-  by_end (inr s) = inr (status ∙ s)
+done_status job cs v (runs n m x p e) = end_status (run_of (level_of m) n x).end v.status (ap (λ (u : Verdict). u.status) e)
 done_status job cs v (lists i p e) = inl (ap (λ (u : Verdict). u.status) e)
 done_status job cs v (builds o i p e) = inl (ap (λ (u : Verdict). u.status) e)
+done_status job cs v (samples s n x p e) = end_status (run_of Calls n x).end v.status (ap (λ (u : Verdict). u.status) e)
 
 not_done : (v : Verdict) (n : ℕ) → (v.status ≡ 0) ⊎ (v.status ≡ 6) → v.status ≡ n → (n ≡ 0 → ⊥) → (n ≡ 6 → ⊥) → ⊥
 not_done v n (inl z) e not0 not6 = not0 (sym e ∙ z)
@@ -186,11 +190,25 @@ was_unread words a b w w' r h e =
     let t = told_whole words a b w w' r h (λ is. omega arith) (λ is. omega arith) in
     unread_by words a b w w' t.verdict (t.status ∙ e) t.text t.ground
 
+has_sampled : (words : List (List ℕ)) (w w' : SinkSeen) (job : Asked) (s n : ℕ) (x : Scenario) (v : Verdict) (r : ℕ) → job_in words ≡ Some job → IsSample job s n x → v ≡ sampled n x
+    → v.status ≡ r → Appends w.written w'.written v.text → HasSampled words w w' r
+has_sampled words w w' job s n x v r at h is e t = record {
+  job = job;
+  command = at;
+  seed = s;
+  bound = n;
+  scenario = x;
+  is = h;
+  status = sym (ap (λ (u : Verdict). u.status) is) ∙ e;
+  text = same_text w w' v (sampled n x) is t;
+}
+
 done_by : (words : List (List ℕ)) (a b : FilesSeen) (w w' : SinkSeen) (v : Verdict) → v.status ≡ 0 → HasPut a.told b.told v.put → Appends w.written w'.written v.text → Ground words a b v → HasDone words a b w w'
 done_by words a b w w' v e p t (no_job none is) = let s : v.status ≡ 2 = ap (λ (u : Verdict). u.status) is in absurd (omega arith)
 done_by words a b w w' v e p t (of_job job at (cannot_read f h is)) = let s : v.status ≡ 3 = ap (λ (u : Verdict). u.status) is in absurd (omega arith)
 done_by words a b w w' v e p t (of_job job at (refuses f why h is)) = let s : v.status ≡ 1 = ap (λ (u : Verdict). u.status) is in absurd (omega arith)
-done_by words a b w w' v e p t (of_job job at (does cs all (runs n m x h is))) = inl (record {
+done_by words a b w w' v e p t (of_job job at (does cs all (samples s n x h is))) = inl (inr (has_sampled words w w' job s n x v 0 at h is e t))
+done_by words a b w w' v e p t (of_job job at (does cs all (runs n m x h is))) = inl (inl (record {
   job = job;
   command = at;
   contents = cs;
@@ -201,7 +219,7 @@ done_by words a b w w' v e p t (of_job job at (does cs all (runs n m x h is))) =
   is = h;
   status = sym (ap (λ (u : Verdict). u.status) is) ∙ e;
   text = same_text w w' v (ran n m x) is t;
-})
+}))
 done_by words a b w w' v e p t (of_job job at (does cs all (lists i h is))) =
     inr (inl (record { job = job; command = at; contents = cs; accepted = all; image = i; is = h; text = same_text w w' v (listed i) is t }))
 done_by words a b w w' v e p t (of_job job at (does cs all (builds o i h is))) = inr (inr (record {
@@ -221,11 +239,12 @@ was_done words a b w w' r h e =
     let t = told_whole words a b w w' r h (λ is. omega arith) (λ is. omega arith) in
     done_by words a b w w' t.verdict (t.status ∙ e) t.put t.text t.ground
 
-ran_by : (words : List (List ℕ)) (a b : FilesSeen) (w w' : SinkSeen) (v : Verdict) → v.status ≡ 6 → Appends w.written w'.written v.text → Ground words a b v → HasRun words a.told w w' 6
+ran_by : (words : List (List ℕ)) (a b : FilesSeen) (w w' : SinkSeen) (v : Verdict) → v.status ≡ 6 → Appends w.written w'.written v.text → Ground words a b v → HasPlayed words a.told w w' 6
 ran_by words a b w w' v e t (no_job none is) = let s : v.status ≡ 2 = ap (λ (u : Verdict). u.status) is in absurd (omega arith)
 ran_by words a b w w' v e t (of_job job at (cannot_read f h is)) = let s : v.status ≡ 3 = ap (λ (u : Verdict). u.status) is in absurd (omega arith)
 ran_by words a b w w' v e t (of_job job at (refuses f why h is)) = let s : v.status ≡ 1 = ap (λ (u : Verdict). u.status) is in absurd (omega arith)
-ran_by words a b w w' v e t (of_job job at (does cs all (runs n m x h is))) = record {
+ran_by words a b w w' v e t (of_job job at (does cs all (samples s n x h is))) = inr (has_sampled words w w' job s n x v 6 at h is e t)
+ran_by words a b w w' v e t (of_job job at (does cs all (runs n m x h is))) = inl (record {
   job = job;
   command = at;
   contents = cs;
@@ -236,11 +255,11 @@ ran_by words a b w w' v e t (of_job job at (does cs all (runs n m x h is))) = re
   is = h;
   status = sym (ap (λ (u : Verdict). u.status) is) ∙ e;
   text = same_text w w' v (ran n m x) is t;
-}
+})
 ran_by words a b w w' v e t (of_job job at (does cs all (lists i h is))) = let s : v.status ≡ 0 = ap (λ (u : Verdict). u.status) is in absurd (omega arith)
 ran_by words a b w w' v e t (of_job job at (does cs all (builds o i h is))) = let s : v.status ≡ 0 = ap (λ (u : Verdict). u.status) is in absurd (omega arith)
 
-pub was_ran : (words : List (List ℕ)) (a b : FilesSeen) (w w' : SinkSeen) (r : ℕ) → Answers words a b w w' r → r ≡ 6 → HasRun words a.told w w' 6
+pub was_ran : (words : List (List ℕ)) (a b : FilesSeen) (w w' : SinkSeen) (r : ℕ) → Answers words a b w w' r → r ≡ 6 → HasPlayed words a.told w w' 6
 was_ran words a b w w' r h e =
     let t = told_whole words a b w w' r h (λ is. omega arith) (λ is. omega arith) in
     ran_by words a b w w' t.verdict (t.status ∙ e) t.text t.ground
@@ -257,6 +276,7 @@ built_out (build app out) cs o i p = ap Some (sym p.0)
 built_out (run image script steps detail) cs o i p = absurd p
 built_out (go app script steps detail) cs o i p = absurd p
 built_out (list image) cs o i p = absurd p
+built_out (sample seed steps) cs o i p = absurd p
 
 ground_puts : (words : List (List ℕ)) (a b : FilesSeen) (v : Verdict) → Ground words a b v → Puts words v
 ground_puts words a b v (no_job none is) = puts_none (ap (λ (u : Verdict). u.put) is)
@@ -264,6 +284,7 @@ ground_puts words a b v (of_job job at (cannot_read f h is)) = puts_none (ap (λ
 ground_puts words a b v (of_job job at (refuses f why h is)) = puts_none (ap (λ (u : Verdict). u.put) is)
 ground_puts words a b v (of_job job at (does cs all (runs n m x h is))) = puts_none (ap (λ (u : Verdict). u.put) is)
 ground_puts words a b v (of_job job at (does cs all (lists i h is))) = puts_none (ap (λ (u : Verdict). u.put) is)
+ground_puts words a b v (of_job job at (does cs all (samples s n x h is))) = puts_none (ap (λ (u : Verdict). u.put) is)
 ground_puts words a b v (of_job job at (does cs all (builds o i h is))) =
     puts_out o (spelling i) (ap (λ (u : Verdict). u.put) is) (ap out_of at ∙ built_out job cs o i h) (ap (λ (u : Verdict). u.status) is)
 

@@ -9,8 +9,8 @@ use Rattle.command_line.specs.declared.job.Detail.{Detail}
 use Rattle.trace_cli.specs.Contents.{Why}
 use Rattle.trace_cli.specs.Seen.{FilesSeen, SinkSeen}
 use Rattle.trace_cli.specs.Words.{job_in}
-use Rattle.trace_cli.specs.Sources.{File, MayBe, MayBeRefused, Reaches, TakesAll, IsRun, IsListing, IsBuild}
-use Rattle.trace_cli.specs.Verdict.{Verdict, usage, refused, refused_line, unread, unread_line, ran, listed, built, Does}
+use Rattle.trace_cli.specs.Sources.{File, MayBe, MayBeRefused, Reaches, TakesAll, IsRun, IsListing, IsBuild, IsSample}
+use Rattle.trace_cli.specs.Verdict.{Verdict, usage, refused, refused_line, unread, unread_line, ran, listed, built, sampled, Does}
 
 -- ## why a verdict was given on a job (the files: before and after the call)
 
@@ -117,9 +117,24 @@ pub record HasBuilt (words : List (List ℕ)) (told told' : List ℕ → Option 
   pub file : WhereTold (told' out) (λ all. all ≡ spelling image)
   pub text : Appends w.written w'.written (built out image).text
 
+-- the two lines of the run of a sample that ended so
+pub record HasSampled (words : List (List ℕ)) (w w' : SinkSeen) (r : ℕ) : Type 0 where
+  pub job : Asked
+  pub command : job_in words ≡ Some job
+  pub seed : ℕ
+  pub bound : ℕ
+  pub scenario : Scenario
+  pub is : IsSample job seed bound scenario
+  pub status : (sampled bound scenario).status ≡ r
+  pub text : Appends w.written w'.written (sampled bound scenario).text
+
+-- what is told of a run that ended so, of files or of a sample: 6 where the supervisor faulted
+abbrev pub HasPlayed : List (List ℕ) → (List ℕ → Option (List ℕ)) → SinkSeen → SinkSeen → ℕ → Type 0
+HasPlayed words told w w' r = HasRun words told w w' r ⊎ HasSampled words w w' r
+
 -- 0: the job was done
 abbrev pub HasDone : List (List ℕ) → FilesSeen → FilesSeen → SinkSeen → SinkSeen → Type 0
-HasDone words before after w w' = HasRun words before.told w w' 0 ⊎ (HasListed words before.told w w' ⊎ HasBuilt words before.told after.told w w')
+HasDone words before after w w' = HasPlayed words before.told w w' 0 ⊎ (HasListed words before.told w w' ⊎ HasBuilt words before.told after.told w w')
 
 -- 1: the line of the file that is refused
 pub record HasRefused (words : List (List ℕ)) (told : List ℕ → Option (List ℕ)) (w w' : SinkSeen) : Type 0 where

@@ -13,6 +13,7 @@ use Rattle.task_table.specs.State.{Setup}
 use Rattle.board_core.specs.Opened as opened
 use Rattle.run_script.specs.Scripts.{ScriptData, script_or_fault}
 use Rattle.board_model.specs.Script.{Scenario}
+use Rattle.sample_gen.specs.Sample.{sample_script}
 
 -- the number of a cause, and the place as it is told
 abbrev pub Why : Type 0
@@ -124,3 +125,7 @@ setup_of image = opened.setup_of image
 
 abbrev pub scenario_of : Picture → List ℕ → Scenario
 scenario_of image script = record { setup = setup_of image; script = script_of script }
+
+-- the run of the sample of a seed, of which this is the image
+abbrev pub sample_scenario : ℕ → Picture → Scenario
+sample_scenario seed image = record { setup = setup_of image; script = sample_script seed }

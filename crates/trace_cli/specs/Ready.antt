@@ -2,13 +2,15 @@
 use Rattle.std.specs.Prelude.{◌≡◌, ℕ, List, Option, None}
 use Rattle.task_table.specs.Start.{start}
 use Rattle.image_format.specs.Picture.{Picture}
+use Rattle.image_build.specs.Built.{Built}
+use Rattle.sample_gen.specs.Sample.{sample_app, sample_sources}
 use Rattle.board_core.specs.declared.board.Board.{Board}
 use Rattle.board_model.specs.Script.{Scenario}
 use Rattle.board_core.specs.Stands.{Stands, turns_of}
 use Rattle.command_line.specs.CommandLine.{Asked}
 use Rattle.command_line.specs.declared.job.Detail.{Detail}
 use Rattle.trace_cli.specs.declared.stops.Halt.{Halt}
-use Rattle.trace_cli.specs.Contents.{image_refusal, script_refusal, picture_of, scenario_of}
+use Rattle.trace_cli.specs.Contents.{image_refusal, script_refusal, picture_of, scenario_of, sample_scenario}
 use Rattle.trace_cli.specs.Seen.{FilesSeen}
 use Rattle.trace_cli.specs.Sources.{MayBe, TakesAll, files_by, IsRun}
 use Rattle.trace_cli.specs.Building.{HaltsAfter}
@@ -35,6 +37,13 @@ pub record IsReady (job : Asked) (told : List ℕ → Option (List ℕ)) (n : �
   pub scenario : Scenario
   pub is : IsRun job contents n detail scenario
   pub stands : Stands scenario b (start scenario.setup)
+  pub turns : turns_of b ≡ 0
+
+-- the board stands for the start of the run of the sample of a seed
+pub record IsSampleReady (seed : ℕ) (b : Board) : Type 0 where
+  pub image : Picture
+  pub built : Built (sample_app seed) (sample_sources seed) image
+  pub stands : Stands (sample_scenario seed image) b (start (sample_scenario seed image).setup)
   pub turns : turns_of b ≡ 0
 
 -- a file of the job is not taken

@@ -12,12 +12,13 @@ use Rattle.board_model.specs.declared.told.Level.TheVariants.{Calls, All}
 use Rattle.board_model.specs.Script.{Scenario}
 use Rattle.board_model.specs.Run as board
 use Rattle.board_run.specs.Text.{trace_text}
+use Rattle.board_run.specs.Counts.{summary_text}
 use Rattle.board_run.specs.MemoryText.{memory_text}
 use Rattle.command_line.specs.CommandLine.{Asked, is_taken}
 use Rattle.command_line.specs.declared.job.Detail.{Detail}
 use Rattle.trace_cli.specs.Contents.{Why}
 use Rattle.trace_cli.specs.Words.{job_in}
-use Rattle.trace_cli.specs.Sources.{File, Are, Reaches, TakesAll, IsRun, IsListing, IsBuild}
+use Rattle.trace_cli.specs.Sources.{File, Are, Reaches, TakesAll, IsRun, IsListing, IsBuild, IsSample}
 
 pub record Verdict : Type 0 where
   pub status : ℕ
@@ -93,12 +94,19 @@ listed image = line_alone 0 (listing_line image)
 abbrev pub built : List ℕ → Picture → Verdict
 built out image = record { status = 0; text = built_line (length (spelling image)); put = Some (out, spelling image) }
 
+-- the sample of a seed was run: how the run ended, and how many notes of each kind it had
+abbrev pub sampled : ℕ → Scenario → Verdict
+sampled n x =
+    let r = run_of Calls n x in
+    line_alone (status_of r.end) (summary_text r)
+
 -- ## what comes of accepted files with these contents
 
 pub data Does (job : Asked) (contents : List (List ℕ)) (v : Verdict) : Type 0 where
   runs : (n : ℕ) (detail : Detail) (x : Scenario) → IsRun job contents n detail x → v ≡ ran n detail x → Does job contents v
   lists : (image : Picture) → IsListing job contents image → v ≡ listed image → Does job contents v
   builds : (out : List ℕ) (image : Picture) → IsBuild job contents out image → v ≡ built out image → Does job contents v
+  samples : (seed n : ℕ) (x : Scenario) → IsSample job seed n x → v ≡ sampled n x → Does job contents v
 
 -- ## the verdict on words and contents, where they are told as far as they count
 

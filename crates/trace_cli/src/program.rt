@@ -12,27 +12,19 @@ ghost use Rattle.trace_cli.specs.Words.{texts_of, job_in, out_of};
 ghost use Rattle.trace_cli.specs.Verdict.{Verdict, IsVerdict, usage_line, ran, built, level_of, run_of, status_of};
 ghost use Rattle.trace_cli.specs.Told.{Pushed, Says, SaysHalt};
 ghost use Rattle.trace_cli.specs.Ready.{IsReady, Halts};
-ghost use Rattle.trace_cli.specs.Answer.{Tells, AnswersJob, Answers, Answered, IsComplete, HasRun, HasDone, HasRefused, HasUnread, HasFront};
+ghost use Rattle.trace_cli.specs.Answer.{Tells, AnswersJob, Answers, Answered, IsComplete, HasPlayed, HasDone, HasRefused, HasUnread, HasFront};
 
 use crate::building::built_image;
 use crate::preparing::{prepare_go, prepare_run, read_image};
+use crate::sampling::run_sample;
 use crate::stops::Halt;
-use crate::telling::{line_of_built, tell, tell_halt, tell_listing, tell_usage};
+use crate::telling::{line_of_built, status_by, tell, tell_halt, tell_listing, tell_usage};
 use board_core::{Board, End, Level};
 use board_run::{run, write_memory};
 use command_line::{Detail, Job, Refusal, read_words};
 use image_format::Image;
 use outside_io::{Failed, Files, Sink};
 use std::alloc::Global;
-
-fn status_by(end: End) -> u8
-    ensures { result ≡ status_of end }
-{
-    match end {
-        End::Bound | End::Still => 0,
-        End::Supervisor => 6,
-    }
-}
 
 fn level_of(detail: Detail) -> Level
     ensures { result ≡ level_of detail }
@@ -223,6 +215,7 @@ fn answer<F: Files, S: Sink>(alloc: Global, words: &[String], files: &mut F, out
             },
         ) => go_files(alloc, app, script, steps, detail, files, out),
         Ok(Job::List { image }) => list_file(alloc, image, files, out),
+        Ok(Job::Sample { seed, steps }) => run_sample(alloc, seed, steps, out),
         Err(Refusal::NotTaken) => tell_usage(out),
         Err(Refusal::Memory) => 5,
     }
@@ -232,7 +225,8 @@ fn answer<F: Files, S: Sink>(alloc: Global, words: &[String], files: &mut F, out
 /// the lines go to the sink, one push each; the answer is the program's exit status.
 ///
 /// - 0: the trace of the run (docs/FORMATS.md, Trace), with `--all` each of its instructions, with `--mem` its last
-///   memory, or the listing of the image was written; or the image that was built is under OUT, and its line was written.
+///   memory, or the listing of the image was written; or the image that was built is under OUT, and its line was written;
+///   or the sample was run, and its end and the numbers of its notes were written.
 /// - 1: a file is refused, and `refused <name> <cause> <place>` was written.
 /// - 2: the words are not accepted (docs/FORMATS.md, Command line), and the usage line was written.
 /// - 3: a file cannot be read, and `cannot read <name>` was written.
@@ -247,7 +241,7 @@ pub fn hubris_main<F: Files, S: Sink>(
     out: &mut S,
 ) -> u8
     // Where the words and the told contents give a verdict (of accepted words and files: the trace of
-    // their run, the listing, or the image that is built), its file was put, its whole text was pushed
+    // their run, the listing, the image that is built, or the two lines of a sample), its file was put, its whole text was pushed
     // under its status; or the sink's count of faults rose, the status is 4, and a front of the text was
     // pushed; or the count of failed puts rose, the status is 4, and nothing was pushed; or memory is
     // short, the status is 5, and nothing was pushed or put; or the count of failed reads rose, and the
@@ -263,7 +257,7 @@ pub fn hubris_main<F: Files, S: Sink>(
     ensures unread { result ≡ 3 → HasUnread (texts_of words.now) (files_seen (F.told files.old) (F.read_faults files.old) (F.put_faults files.old) (F.last_failing files.old)) (files_seen (F.told files.new) (F.read_faults files.new) (F.put_faults files.new) (F.last_failing files.new)) (sink_seen (S.written out.old) (S.faults out.old)) (sink_seen (S.written out.new) (S.faults out.new)) }
     ensures cut { result ≡ 4 → HasFront (texts_of words.now) (files_seen (F.told files.old) (F.read_faults files.old) (F.put_faults files.old) (F.last_failing files.old)) (files_seen (F.told files.new) (F.read_faults files.new) (F.put_faults files.new) (F.last_failing files.new)) (sink_seen (S.written out.old) (S.faults out.old)) (sink_seen (S.written out.new) (S.faults out.new)) }
     ensures short { result ≡ 5 → (S.written out.new ≡ S.written out.old) × (S.faults out.new ≡ S.faults out.old) × (F.told files.new ≡ F.told files.old) }
-    ensures supervisor { result ≡ 6 → HasRun (texts_of words.now) (F.told files.old) (sink_seen (S.written out.old) (S.faults out.old)) (sink_seen (S.written out.new) (S.faults out.new)) 6 }
+    ensures supervisor { result ≡ 6 → HasPlayed (texts_of words.now) (F.told files.old) (sink_seen (S.written out.old) (S.faults out.old)) (sink_seen (S.written out.new) (S.faults out.new)) 6 }
     ensures known { result ≤ 6 }
 
     // Only the file under OUT is changed, and only under the statuses 0 and 4.

@@ -3,13 +3,24 @@ ghost use Rattle.std.specs.Prelude.{◌≡◌, ℕ, IfOk, string_bytes};
 ghost use Rattle.image_format.specs.Images.{picture};
 ghost use Rattle.trace_cli.specs.Seen.{sink_seen};
 ghost use Rattle.trace_cli.specs.Told.{Pushed, Says, SaysHalt};
-ghost use Rattle.trace_cli.specs.Verdict.{Verdict, usage, unread, refused, refused_front, refused_line, unread_line, built_line, listed, listing_line};
+ghost use Rattle.trace_cli.specs.Verdict.{Verdict, usage, unread, refused, refused_front, refused_line, unread_line, built_line, listed, listing_line, status_of};
 
 use crate::stops::Halt;
+use board_core::End;
 use image_format::Image;
 use image_list::list;
 use outside_io::Sink;
 use std::alloc::{AllocError, Global};
+
+/// The status of a run that ended so.
+pub fn status_by(end: End) -> u8
+    ensures { result ≡ status_of end }
+{
+    match end {
+        End::Bound | End::Still => 0,
+        End::Supervisor => 6,
+    }
+}
 
 /// A line alone, in one push.
 pub fn tell<S: Sink>(line: &[u8], status: u8, out: &mut S) -> u8

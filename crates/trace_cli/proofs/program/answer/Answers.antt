@@ -1,3 +1,4 @@
+use Rattle.std.proofs.Common.{refl}
 use Rattle.trace_cli.proofs.Statuses.{answers_usage, by_job}
 use Rattle.trace_cli.proofs.program.answer.Goals as goal
 
@@ -20,6 +21,14 @@ pub returns-in-Ok-List-clause-answer : goal.returns-in-Ok-List-clause-answer
 returns-in-Ok-List-clause-answer g c =
     let job = rw c.in-Ok-List.field-0-is at c.in-Ok-List.ensures.job in
     by_job _ _ _ _ _ _ _ c.in-Ok-List.ensures.taken job c.list_file.ensures.answer
+
+pub returns-in-Ok-Sample-clause-answer : goal.returns-in-Ok-Sample-clause-answer
+returns-in-Ok-Sample-clause-answer g c =
+    let job = rw c.in-Ok-Sample.field-0-is at c.in-Ok-Sample.ensures.job in
+    by_job _ _ _ _ _ _ _ c.in-Ok-Sample.ensures.taken job (c.run_sample.ensures _ _ refl)
+
+pub run_sample-requires : goal.run_sample-requires
+run_sample-requires g c = record { few = rw c.in-Ok-Sample.field-0-is at c.in-Ok-Sample.ensures.few }
 
 pub run_files-requires : goal.run_files-requires
 run_files-requires g c = record { few = rw c.in-Ok-Run.field-0-is at c.in-Ok-Run.ensures.few }

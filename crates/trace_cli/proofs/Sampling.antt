@@ -1,0 +1,68 @@
+-- From the sample of a seed to the answer.
+use Rattle.std.proofs.Common.{◌≡◌, ◌∙◌, ℕ, List, [], length, refl, sym, ap, subst}
+use Rattle.std.proofs.lemmas.List.FromFn.{length-map-range_with_len}
+use Rattle.app_toml.specs.Apps.{AppData}
+use Rattle.image_format.specs.Picture.{Picture}
+use Rattle.image_build.specs.Built.{Built}
+use Rattle.image_build.specs.Building.{Refuses}
+use Rattle.image_build.specs.declared.fault.BuildFault.{BuildFault}
+use Rattle.image_build.specs.declared.fault.BuildFault.TheVariants as fault
+use Rattle.run_script.specs.Scripts.{ScriptData}
+use Rattle.sample_gen.specs.Sample.{app_by, task_by, source_of, client_priority, sample_app, sample_sources, sample_script}
+use Rattle.task_table.specs.Start.{start}
+use Rattle.board_core.specs.declared.board.Board.{Board}
+use Rattle.board_core.specs.Opened as opened
+use Rattle.board_core.specs.Stands.{Stands, Stood, turns_of}
+use Rattle.board_model.specs.Script.{Scenario}
+use Rattle.command_line.specs.CommandLine.{sample}
+use Rattle.trace_cli.specs.Contents.{sample_scenario}
+use Rattle.trace_cli.specs.Seen.{FilesSeen, SinkSeen}
+use Rattle.trace_cli.specs.Sources.{MayBe}
+use Rattle.trace_cli.specs.Ready.{IsSampleReady}
+use Rattle.trace_cli.specs.Told.{Pushed}
+use Rattle.trace_cli.specs.Verdict.{samples, sampled}
+use Rattle.trace_cli.specs.Answer.{Reason, does, AnswersJob}
+use Rattle.trace_cli.proofs.Lists.{takes_none}
+use Rattle.trace_cli.proofs.Readying.{answers_pushed}
+
+-- ## what is made of a seed
+
+task_count : (p : ℕ → ℕ) → length (app_by p).tasks ≡ 32
+task_count p = length-map-range_with_len (task_by p) 0 32
+
+source_count : (seed : ℕ) → length (sample_sources seed) ≡ 32
+source_count seed = length-map-range_with_len (source_of seed) 0 32
+
+-- a source for each task
+pub a_source_each : (seed : ℕ) (app : AppData) (sources : List (List ℕ)) → app ≡ sample_app seed → sources ≡ sample_sources seed → length sources ≡ length app.tasks
+a_source_each seed app sources is are =
+    ap (λ (ss : List (List ℕ)). length ss) are ∙ source_count seed ∙ sym (task_count (client_priority seed)) ∙ sym (ap (λ (a : AppData). length a.tasks) is)
+
+pub refused_as_sample : (seed : ℕ) (app : AppData) (sources : List (List ℕ)) (f : BuildFault) → app ≡ sample_app seed → sources ≡ sample_sources seed
+    → ((s : ℕ) (g : BuildFault) → Refuses (sample_app s) (sample_sources s) g → g ≡ fault.Memory) → Refuses app sources f → f ≡ fault.Memory
+refused_as_sample seed app sources f is are law h =
+    law seed f (subst (λ (ss : List (List ℕ)). Refuses (sample_app seed) ss f) are (subst (λ (a : AppData). Refuses a sources f) is h))
+
+pub sample_ready : (seed : ℕ) (app : AppData) (sources : List (List ℕ)) (script : ScriptData) (image : Picture) (b : Board) → app ≡ sample_app seed → sources ≡ sample_sources seed
+    → script ≡ sample_script seed → Built app sources image → Stands (opened.scenario_of image script) b (start (opened.setup_of image)) → turns_of b ≡ 0 → IsSampleReady seed b
+sample_ready seed app sources script image b is are told built stands turns = record {
+  image = image;
+  built = subst (λ (ss : List (List ℕ)). Built (sample_app seed) ss image) are (subst (λ (a : AppData). Built a sources image) is built);
+  stands = subst (λ (s : ScriptData). Stands (opened.scenario_of image s) b (start (opened.setup_of image))) told stands;
+  turns = turns;
+}
+
+pub sample_stood : (seed : ℕ) (b : Board) → IsSampleReady seed b → Stood b × (turns_of b ≡ 0)
+sample_stood seed b h = ((sample_scenario seed h.image, start (sample_scenario seed h.image).setup, h.stands), h.turns)
+
+-- ## the answer
+
+sample_reason : (a b : FilesSeen) (seed n : ℕ) (bd : Board) (r : IsSampleReady seed bd) → Reason (sample seed n) a b (sampled n (sample_scenario seed r.image))
+sample_reason a b seed n bd r = does [] (record { takes = takes_none (MayBe a.told) []; all = refl })
+    (samples seed n (sample_scenario seed r.image) (record { is = refl; image = r.image; built = r.built; scenario = refl }) refl)
+
+pub answers_sample : (seed n : ℕ) (a b : FilesSeen) (w w' : SinkSeen) (bd : Board) (r : ℕ) → b.told ≡ a.told → IsSampleReady seed bd
+    → ((x : Scenario) → Stands x bd (start x.setup) → Pushed w w' (sampled n x) r) → AnswersJob (sample seed n) a b w w' r
+answers_sample seed n a b w w' bd r same ready tells =
+    let x = sample_scenario seed ready.image in
+    answers_pushed (sample seed n) a b w w' (sampled n x) r same refl (sample_reason a b seed n bd ready) (tells x ready.stands)

@@ -1,0 +1,79 @@
+//! The sample of a seed: from its making to what is told of its run.
+ghost use Rattle.std.specs.Prelude.{◌≡◌, ◌≤◌, IfOk, IfErr, length, map, string_bytes};
+ghost use Rattle.app_toml.specs.Held.{app_of};
+ghost use Rattle.board_core.specs.Stands.{Stands, Stood, turns_of};
+ghost use Rattle.board_model.specs.Script.{Scenario};
+ghost use Rattle.command_line.specs.CommandLine.{sample as sample_job};
+ghost use Rattle.image_build.specs.Building.{Refuses};
+ghost use Rattle.image_build.specs.Built.{Built};
+ghost use Rattle.image_format.specs.Images.{picture};
+ghost use Rattle.task_table.specs.Start.{start};
+ghost use Rattle.trace_cli.specs.Answer.{AnswersJob};
+ghost use Rattle.trace_cli.specs.Ready.{IsSampleReady};
+ghost use Rattle.trace_cli.specs.Seen.{FilesSeen, sink_seen};
+ghost use Rattle.trace_cli.specs.Told.{Pushed};
+ghost use Rattle.trace_cli.specs.Verdict.{sampled};
+
+use crate::telling::status_by;
+use app_toml::App;
+use board_core::Board;
+use board_run::summarize;
+use image_build::{BuildFault, Builder};
+use image_format::Image;
+use outside_io::Sink;
+use sample_gen::sample;
+use sample_laws::build_is_not_refused;
+use std::alloc::Global;
+
+// The image of an application and of the sources of its tasks.
+fn image_by(alloc: Global, app: &App, sources: &[String]) -> Result<Image, BuildFault>
+    requires { length sources.now ≡ length (app_of app.now).tasks }
+    ensures built { IfOk result (λ i. Built (app_of app.now) (map string_bytes sources.now) (picture i)) }
+    ensures refused { IfErr result (Refuses (app_of app.now) (map string_bytes sources.now)) }
+{
+    let mut builder = Builder::open(alloc, app)?;
+    for source in sources {
+        builder.source(source.as_bytes())?;
+    }
+    builder.finish()
+}
+
+// The board at the start of the run of the sample of a seed: only for want of memory there is none.
+fn prepare_sample(alloc: Global, seed: u32) -> Result<Board, BuildFault>
+    ensures ready { IfOk result (IsSampleReady seed) }
+    ensures memory { IfErr result (λ e. e ≡ BuildFault.Memory) }
+{
+    build_is_not_refused();
+    let (app, sources, script) = sample(alloc, seed)?;
+    let image = image_by(alloc, &app, &sources)?;
+    let board = Board::open(alloc, &image, &script)?;
+    Ok(board)
+}
+
+// The run of a board from its start, by its end and the numbers of its notes.
+fn tell_sample<S: Sink>(board: &mut Board, steps: u32, out: &mut S) -> u8
+    requires stood { Stood board.old }
+    requires fresh { turns_of board.old ≡ 0 }
+    requires few { steps ≤ 1000000000 }
+    ensures { (x : Scenario) → Stands x board.old (start x.setup) → Pushed (sink_seen (S.written out.old) (S.faults out.old)) (sink_seen (S.written out.new) (S.faults out.new)) (sampled steps x) result }
+{
+    match summarize(board, steps, out) {
+        Ok(end) => status_by(end),
+        Err(_) => 4,
+    }
+}
+
+/// `sample SEED STEPS`.
+pub fn run_sample<S: Sink>(alloc: Global, seed: u32, steps: u32, out: &mut S) -> u8
+    requires few { steps ≤ 1000000000 }
+    ensures { (before after : FilesSeen) → after.told ≡ before.told
+        → AnswersJob (sample_job seed steps) before after (sink_seen (S.written out.old) (S.faults out.old)) (sink_seen (S.written out.new) (S.faults out.new)) result }
+{
+    match prepare_sample(alloc, seed) {
+        Ok(board) => {
+            let mut board = board;
+            tell_sample(&mut board, steps, out)
+        }
+        Err(_) => 5,
+    }
+}
