@@ -6,7 +6,7 @@ use Rattle.std.proofs.lemmas.List.{length-map, length-replicate}
 use Rattle.region_check.specs.declared.Region.{Region}
 use Rattle.image_format.specs.Picture.{Picture, TaskPicture, LinePicture, no_task, no_line, task_in, regions_in}
 use Rattle.image_format.specs.Facts.{Facts}
-use Rattle.task_table.specs.Limits.{board_lines}
+use Rattle.task_table.specs.Limits.{most_tasks, board_lines}
 use Rattle.mem_banks.specs.Memory.{Memory, AreAllBytes, AreRegions}
 use Rattle.task_table.specs.State.{Setup, TaskSetup, LineSetup}
 use Rattle.task_table.specs.Reading.{setup_at}
@@ -63,6 +63,13 @@ pub few_lines : (p : Picture) (ls : List LineStart) → Facts p → map line_set
 few_lines p ls f e =
     let same : length ls ≡ length p.lines = sym (length-map ls line_setup) ∙ ap length e ∙ length-map p.lines setup_of_line in
     let most = f.sizes.most_lines in
+    omega arith
+
+-- as many tasks are started as the image has
+pub few_tasks : (p : Picture) (ts : List TaskStart) → Facts p → map task_setup ts ≡ map setup_of_task p.tasks → length ts ≤ most_tasks
+few_tasks p ts f e =
+    let same : length ts ≡ length p.tasks = sym (length-map ts task_setup) ∙ ap length e ∙ length-map p.tasks setup_of_task in
+    let most = f.sizes.most_tasks in
     omega arith
 
 -- the places of regions that are no device are regions of the memory

@@ -8,7 +8,7 @@ use Rattle.task_table.specs.Parts.{IsSound}
 use Rattle.task_table.specs.Holds.{Stands}
 use Rattle.board_core.specs.Machine.{IsStarted}
 use Rattle.mem_banks.specs.Memory.{AreRegions}
-use Rattle.board_core.proofs.Opens.{parts_are, sound_setup, places_are, few_lines}
+use Rattle.board_core.proofs.Opens.{parts_are, sound_setup, places_are, few_lines, few_tasks}
 use Rattle.board_core.proofs.opening.kernel.Goals as goal
 
 started : {E : Type 0} (g g' : Setup) (r : Result Kernel E) → g ≡ g' → IfOk r (λ k. Stands g k (begun (start g))) → IfOk r (IsStarted g')
@@ -20,6 +20,11 @@ open-requires-clause-regions c =
     let p = picture c.args.image.now in
     let at : AreRegions (length p.flash) p.ram c.deref.result.now = places_are p c.deref.result.now c.facts.ensures.facts (rw (← c.deref.ensures.value) at c.in_ok-places.ensures) in
     rw (← c.flash-flash.ensures, ← c.ram.ensures) at at
+
+pub start-requires-clause-few : goal.start-requires-clause-few
+start-requires-clause-few c =
+    let p = picture c.args.image.now in
+    few_tasks p c.deref-2.result.now c.facts.ensures.facts (rw (← c.deref-2.ensures.value) at c.in_ok-tasks.ensures)
 
 pub start-requires-clause-few_owners : goal.start-requires-clause-few_owners
 start-requires-clause-few_owners c =
