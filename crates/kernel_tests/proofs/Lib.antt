@@ -1,2 +1,0 @@
-mod SampleOf3
-mod SampleOf5
