@@ -1,0 +1,2 @@
+mod SampleOf3
+mod SampleOf5
