@@ -110,24 +110,30 @@ fn read_part(text: &str) -> Part<'_> {
     }
 }
 
+/// Holds a file under a name that holds none yet.
+fn hold(files: &mut MemFiles, name: &str, bytes: &[u8], room: usize) -> Result<(), AllocError> {
+    if !files.is_held(name) && bytes.len() <= room {
+        files.hold(name, bytes, room)?;
+    }
+    Ok(())
+}
+
 /// Holds the file of a part, where the part is one.
-fn hold(alloc: Global, files: &mut MemFiles, part: Part<'_>) -> Result<(), AllocError> {
+fn hold_part(alloc: Global, files: &mut MemFiles, part: Part<'_>) -> Result<(), AllocError> {
     match part {
-        Part::File(name, contents) if !files.is_held(name) => {
+        Part::File(name, contents) => {
             let bytes = contents.as_bytes();
-            files.hold(name, bytes, bytes.len())
+            hold(files, name, bytes, bytes.len())
         }
-        Part::Hex(name, digits) if !files.is_held(name) => {
+        Part::Hex(name, digits) => {
             let mut bytes = Vec::new(alloc);
             for word in digits.split_whitespace() {
                 push_bytes(&mut bytes, word)?;
             }
-            files.hold(name, &bytes, bytes.len())
+            hold(files, name, &bytes, bytes.len())
         }
-        Part::Room(name, room) if !files.is_held(name) => {
-            files.hold(name, b"", room.parse::<usize>().unwrap_or(0))
-        }
-        _ => Ok(()),
+        Part::Room(name, room) => hold(files, name, b"", room.parse::<usize>().unwrap_or(0)),
+        Part::Words(_) | Part::FailingCalls(_) | Part::FailingPushes(_) | Part::Wanted(_) => Ok(()),
     }
 }
 
@@ -169,7 +175,7 @@ fn answers_as_wanted(alloc: Global, case: &str) -> Result<bool, AllocError> {
     let failing_pushes = numbers(alloc, asked.failing_pushes)?;
     let mut files = MemFiles::open(alloc, &failing_calls)?;
     for text in parts.split("\n+ ").skip(1) {
-        hold(alloc, &mut files, read_part(text))?;
+        hold_part(alloc, &mut files, read_part(text))?;
     }
     let words = words(alloc, asked.words)?;
     let mut out = MemSink::open(alloc, 1_000_000, &failing_pushes)?;
