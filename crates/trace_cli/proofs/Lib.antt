@@ -5,7 +5,7 @@ pub mod OneVerdict
 pub mod Readying
 pub mod Refusals
 pub mod Rerunning
-pub mod Sampling
+pub mod Seeding
 pub mod Spelling
 pub mod Starting
 pub mod Statuses

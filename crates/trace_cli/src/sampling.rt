@@ -45,9 +45,14 @@ fn prepare_sample(alloc: Global, seed: u32) -> Result<Board, BuildFault>
 {
     build_is_not_refused();
     let (app, sources, script) = sample(alloc, seed)?;
-    let image = image_by(alloc, &app, &sources)?;
-    let board = Board::open(alloc, &image, &script)?;
-    Ok(board)
+    let image = match image_by(alloc, &app, &sources) {
+        Ok(image) => image,
+        Err(fault) => return Err(fault),
+    };
+    match Board::open(alloc, &image, &script) {
+        Ok(board) => Ok(board),
+        Err(_) => Err(BuildFault::Memory),
+    }
 }
 
 // The run of a board from its start, by its end and the numbers of its notes.

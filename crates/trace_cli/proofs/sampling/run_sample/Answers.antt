@@ -1,6 +1,6 @@
 use Rattle.std.proofs.Common.{inl, refl}
 use Rattle.trace_cli.specs.Seen.{sink_seen}
-use Rattle.trace_cli.proofs.Sampling.{answers_sample, sample_stood}
+use Rattle.trace_cli.proofs.Seeding.{answers_sample, sample_stood}
 use Rattle.trace_cli.proofs.sampling.run_sample.Goals as goal
 
 pub tell_sample-requires : goal.tell_sample-requires
