@@ -43,8 +43,7 @@ fn grants(rights: &Rights, right: Right) -> bool
 pub fn spans(region: &Region, addr: u32, n: u32) -> bool
     ensures { result ≡ spans region.now addr n }
 {
-    let end = u64::from(addr) + u64::from(n);
-    region.base <= addr && end <= u64::from(region.base) + u64::from(region.size)
+    region.base <= addr && u64::from(addr - region.base) + u64::from(n) <= u64::from(region.size)
 }
 
 /// Whether one region gives all of n bytes.
