@@ -44,7 +44,7 @@ pub fn choice_of(kernel: &Kernel) -> Choice
 /// Whether the task that was chosen is the current one, and the same tasks are ready.
 fn stays(last: &Choice, ready: &TaskSet, current: usize) -> bool
     ensures next { result ≡ true → last.now.next ≡ Some current }
-    ensures ready { result ≡ true → last.now.ready ≡ ready.now }
+    ensures ready { result ≡ true → last.now.ready.words ≡ ready.now.words }
 {
     last.next == Some(current) && last.ready == *ready
 }

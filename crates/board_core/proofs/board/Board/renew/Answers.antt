@@ -7,3 +7,6 @@ pub returns-else-not-is_empty-clause-choice : goal.returns-else-not-is_empty-cla
 returns-else-not-is_empty-clause-choice c = λ g t st was f.
     let none : notes_of c.args.self.now.machine.reach.kernel ≡ [] = sym c.notes.ensures ∙ empty_of c.notes.result.now (sym c.is_empty.ensures ∙ c.if-not-is_empty.false) in
     f (sym (noted_in g c.args.self.now.machine t st.holds) ∙ none)
+
+pub returns-then-not-is_empty-clause-choice : goal.returns-then-not-is_empty-clause-choice
+returns-then-not-is_empty-clause-choice c = λ g t st was f. c.choice_after-self.ensures g t (c.save_context.ensures.holds g t st.holds) was
