@@ -5,7 +5,7 @@ use Rattle.std.proofs.lemmas.Bool.{ne_eqb}
 use Rattle.std.proofs.lemmas.List.{append-nil}
 use Rattle.std.proofs.lemmas.Bool.Decides.{eqb_tells}
 use Rattle.task_table.specs.State.{Task, State, Turn}
-use Rattle.task_table.specs.Reading.{task_at, call_of, listen_of, no_task, IsSameBut}
+use Rattle.task_table.specs.Reading.{task_at, call_of, listen_of, no_task, IsSameBut, WaitsAlike}
 use Rattle.kernel_abi.specs.declared.Ending.{Ending}
 use Rattle.task_table.specs.Effects.{with_task, without_call, without_listen, closed}
 
@@ -96,6 +96,14 @@ same_but-with_task s i x = record {
   next_call = refl;
   lines = refl;
   turn = refl;
+}
+
+-- it waits as before
+pub waits_alike : (s : State) (i : ℕ) (x : Task) → i < length s.tasks → x.health ≡ (task_at s i).health → WaitsAlike i s (with_task i x s)
+waits_alike s i x there well = record {
+  health = ap (λ (y : Task). y.health) (task_at-with_task s i x there) ∙ well;
+  call = call_of-with_task s i i x;
+  listen = listen_of-with_task s i i x;
 }
 
 pub same_but-without_call : (s : State) (i : ℕ) → IsSameBut i s (without_call i s)

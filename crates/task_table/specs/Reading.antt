@@ -181,3 +181,9 @@ pub record IsSameAt (i : ℕ) (s u : State) : Type 0 where
   pub task : task_at u i ≡ task_at s i
   pub call : call_of u i ≡ call_of s i
   pub listen : listen_of u i ≡ listen_of s i
+
+-- task i is as well as before, and waits for the same
+pub record WaitsAlike (i : ℕ) (s u : State) : Type 0 where
+  pub health : (task_at u i).health ≡ (task_at s i).health
+  pub call : call_of u i ≡ call_of s i
+  pub listen : listen_of u i ≡ listen_of s i

@@ -6,11 +6,21 @@ use kernel_abi::{Note, Timer};
 impl Kernel {
     ghost use Rattle.std.specs.Prelude.{◌≡◌, ◌+◌, ◌<◌, ◌≤◌, length, Option};
     ghost use Rattle.task_table.specs.State.{Setup, Turn};
+    ghost use Rattle.task_table.specs.Reading.{arguments};
     ghost use Rattle.task_table.specs.Effects.{given, returned, past_call, bits_added, bits_cleared, woken, posted, with_timer};
     ghost use Rattle.task_table.specs.Rows.{goes_on, goes_on_with};
     ghost use Rattle.task_table.specs.Holds.{Holds, Stands, task_count, note_count};
     ghost use Rattle.task_table.specs.Limits.{turn_notes};
     ghost use Rattle.task_table.specs.Frames.{AddsNotes, AddsAtMost};
+
+    /// The registers r4 to r11 of a task: the arguments of its call, and the call's number.
+    pub fn arguments(&self, task: usize) -> [u32; 8]
+        requires { task < task_count self.now }
+        ensures { (g : Setup) (t : Turn) → Holds g self.now t → result ≡ arguments t.state task }
+    {
+        let slot = self.slot(task);
+        words_in(&slot.registers)
+    }
 
     /// Gives results to a task, six at most, from r4 on.
     pub fn give(&mut self, task: usize, values: &[u32])
@@ -21,7 +31,7 @@ impl Kernel {
     {
         let mut slot = self.slot(task);
         write_results(&mut slot.registers, values);
-        self.set_slot(task, slot);
+        self.set_rest(task, &slot);
     }
 
     /// Notes that a call of a task has ended, with its r4 to r9.
@@ -47,7 +57,7 @@ impl Kernel {
     {
         let mut slot = self.slot(task);
         slot.registers[15] = slot.registers[15].wrapping_add(2);
-        self.set_slot(task, slot);
+        self.set_rest(task, &slot);
     }
 
     /// A caller goes on after its call.
@@ -82,7 +92,7 @@ impl Kernel {
     {
         let mut slot = self.slot(task);
         slot.posted |= bits;
-        self.set_slot(task, slot);
+        self.set_rest(task, &slot);
         self.note(Note::Post {
             task: task as u16,
             bits,
@@ -98,7 +108,7 @@ impl Kernel {
     {
         let mut slot = self.slot(task);
         slot.posted &= !mask;
-        self.set_slot(task, slot);
+        self.set_rest(task, &slot);
     }
 
     /// A task that listens takes its posted bits under its mask, where there are any.
@@ -141,7 +151,7 @@ impl Kernel {
     {
         let mut slot = self.slot(task);
         slot.timer = timer;
-        self.set_slot(task, slot);
+        self.set_rest(task, &slot);
     }
 }
 
@@ -163,4 +173,13 @@ fn results_in(registers: &[u32; 16]) -> [u32; 6]
     let mut results = [0; 6];
     results.copy_from_slice(&registers[4..10]);
     results
+}
+
+/// The registers r4 to r11.
+fn words_in(registers: &[u32; 16]) -> [u32; 8]
+    ensures { result ≡ slice_range registers.now 4 12 }
+{
+    let mut words = [0; 8];
+    words.copy_from_slice(&registers[4..12]);
+    words
 }

@@ -3,7 +3,7 @@
 //! Most clauses say, for each setup and each turn of the abstract kernel that this kernel holds,
 //! what the answer is, or which turn the kernel holds afterwards.
 
-ghost use Rattle.std.specs.Prelude.{◌≡◌, ◌<◌, ◌≤◌, length, map, slice_range};
+ghost use Rattle.std.specs.Prelude.{◌≡◌, ◌<◌, ◌≤◌, length, map};
 ghost use Rattle.task_table.specs.Limits.{most_tasks, board_lines};
 ghost use Rattle.task_table.specs.Readiness.{is_free, AreThose, AreOffers};
 
@@ -52,7 +52,7 @@ impl Kernel {
     ghost use Rattle.task_table.specs.State.{Setup, State, Turn, Ground, Own};
     ghost use Rattle.mem_banks.specs.Memory.{is_ram, byte_at, number_at, IsWithin, IsWithinRam};
     ghost use Rattle.task_table.specs.TaskSets.{has};
-    ghost use Rattle.task_table.specs.Reading.{task_at, setup_at, register, arguments, priority, is_ready, offers, call_of, listen_of, IsSameBut};
+    ghost use Rattle.task_table.specs.Reading.{task_at, setup_at, register, priority, is_ready, offers, call_of, listen_of, IsSameBut, WaitsAlike};
     ghost use Rattle.task_table.specs.Effects.{changed, noted, clocked, with_line, with_processor, stored, copied, reborn};
     ghost use Rattle.task_table.specs.Start.{start as started_at, begun};
     ghost use Rattle.task_table.specs.Parts.{setup_of_parts, line_setup, IsSound};
@@ -252,15 +252,6 @@ impl Kernel {
         self.slot(task).registers
     }
 
-    /// The registers r4 to r11 of a task: the arguments of its call, and the call's number.
-    pub fn arguments(&self, task: usize) -> [u32; 8]
-        requires { task < task_count self.now }
-        ensures { (g : Setup) (t : Turn) → Holds g self.now t → result ≡ arguments t.state task }
-    {
-        let slot = self.slot(task);
-        words_in(&slot.registers)
-    }
-
     /// One register of a task.
     pub fn register(&self, task: usize, number: usize) -> u32
         requires there { task < task_count self.now }
@@ -403,7 +394,9 @@ impl Kernel {
         self.next_call += 1;
     }
 
-    /// Keeps this of a task; the only place where what is kept of one changes.
+    /// Keeps this of a task; the sets of the tasks that are ready and that offer a call follow. Only here
+    /// does its health or its wait change.
+    #[inline(always)]
     pub(crate) fn set_slot(&mut self, task: usize, slot: Slot)
         requires { task < task_count self.old }
         ensures holds { (g : Setup) (t : Turn) (u : State) → Holds g self.old t → IsKept u task slot → IsSameBut task t.state u → Holds g self.new record t { state = u } }
@@ -420,6 +413,21 @@ impl Kernel {
         self.slots[task] = slot;
     }
 
+    /// Keeps this of a task but for its health and its wait, which stay as they are.
+    #[inline(always)]
+    pub(crate) fn set_rest(&mut self, task: usize, rest: &Slot)
+        requires { task < task_count self.old }
+        ensures holds { (g : Setup) (t : Turn) (u : State) → Holds g self.old t → IsKept u task rest.now → IsSameBut task t.state u → WaitsAlike task t.state u → Holds g self.new record t { state = u } }
+        ensures frame { AddsNotes self.old 0 self.new }
+    {
+        let slot = &mut self.slots[task];
+        slot.generation = rest.generation;
+        slot.registers = rest.registers;
+        slot.flags = rest.flags;
+        slot.posted = rest.posted;
+        slot.timer = rest.timer;
+    }
+
     /// A task has these registers and flags from now on.
     pub fn set_processor(&mut self, task: usize, registers: [u32; 16], flags: Flags)
         requires { task < task_count self.old }
@@ -429,7 +437,7 @@ impl Kernel {
         let mut slot = self.slot(task);
         slot.registers = registers;
         slot.flags = flags;
-        self.set_slot(task, slot);
+        self.set_rest(task, &slot);
     }
 
     /// A task is born again: its generation goes up by one, modulo 64, and its registers and flags, its
@@ -486,13 +494,4 @@ impl Kernel {
     {
         self.memory.store(addr, bytes);
     }
-}
-
-/// The registers r4 to r11.
-fn words_in(registers: &[u32; 16]) -> [u32; 8]
-    ensures { result ≡ slice_range registers.now 4 12 }
-{
-    let mut words = [0; 8];
-    words.copy_from_slice(&registers[4..12]);
-    words
 }

@@ -1,9 +1,9 @@
-use Rattle.std.proofs.Common.{◌<◌, ap, arith, length}
+use Rattle.std.proofs.Common.{◌<◌, ap, arith, length, refl}
 use Rattle.task_table.specs.State.{Task}
 use Rattle.task_table.specs.Reading.{task_at}
 use Rattle.task_table.specs.declared.slot.Slot.{Slot}
 use Rattle.task_table.proofs.Steps as steps
-use Rattle.task_table.proofs.Changes.{same_but-with_task}
+use Rattle.task_table.proofs.Changes.{same_but-with_task, waits_alike}
 use Rattle.task_table.specs.Effects.{with_timer}
 use Rattle.task_table.proofs.kernel.Kernel.set_timer.Goals as goal
 
@@ -14,4 +14,4 @@ returns-clause-holds c = λ g t h.
     let x : Task = record (task_at t.state c.args.task) { timer = c.args.timer } in
     let there : c.args.task < length t.state.tasks = omega (arith, h.count) in
     let is = ap (λ (o : Slot). record o { timer = c.args.timer }) kept.is in
-    c.set_slot.ensures.holds g t _ h (steps.kept_task t.state c.args.task x _ _ there kept is) (same_but-with_task t.state c.args.task x)
+    c.set_rest.ensures.holds g t _ h (steps.kept_task t.state c.args.task x _ _ there kept is) (same_but-with_task t.state c.args.task x) (waits_alike t.state c.args.task x there refl)
