@@ -1,11 +1,13 @@
 #!/usr/bin/env bash
 # Speed of `hubris run` against plain C in the same run: turns per second on the two-instruction image at 10^6, 10^7 and
 # 10^8 steps with peak memory, against loop.c; and against interpreter.c, which writes the same lines: turns per second of
-# images compiled by gcc, of the 32 tasks of timers/ and of the clients and servers of messages/ and leases/, and bytes per
+# images compiled by gcc, of the 32 tasks of timers/, of the clients and servers of messages/ and leases/ and of the large
+# sample of seed 1 (sample/: its image and its script; idle.img is a task that waits), and bytes per
 # second of two of those images and of messages/ with --all. crc32 and
 # bytecode end in `b .` after their work; here they begin it anew instead. The others (programs/) work for ever.
 # Where valgrind is there, the host's instructions a turn are counted too: they do not depend on the clock, and the script
-# ends with status 1 where one is above its limit, since an inlining that is lost is silent otherwise.
+# ends with status 1 where one is above its limit, since an inlining that is lost is silent otherwise. The time of a run that
+# waits for one event in 10^9 turns is told too.
 # It needs gcc and the built program (crates/hubris/out/hubris, made by `rt ci` or `rt run`).
 # usage: bench/run.sh [PROGRAM]
 set -eu
@@ -68,6 +70,8 @@ same out/messages.img out/empty.txt 100000
 same out/messages.img out/empty.txt 20000 --all
 same out/leases.img out/empty.txt 100000
 same out/leases.img out/empty.txt 20000 --all
+same sample/sample.img sample/script.txt 200000
+same sample/sample.img sample/script.txt 20000 --all
 for image in $compiled; do same "out/$image.img" out/empty.txt 1000000 --all; done
 for steps in 1000000 10000000 100000000; do
     read -r took peak < <(measure "$program" run "$data/a.img" out/empty.txt --steps "$steps")
@@ -81,6 +85,15 @@ for steps in 1000000 10000000; do play "32 tasks with timers" out/timers.img tim
 for steps in 1000000 10000000; do play "16 clients, 4 servers" out/messages.img out/empty.txt "$steps"; done
 play "16 clients, 4 servers, --all" out/messages.img out/empty.txt 1000000 --all
 for steps in 1000000 10000000; do play "8 lenders, 1 server" out/leases.img out/empty.txt "$steps"; done
+for steps in 1000000 10000000; do play "large sample" sample/sample.img sample/script.txt "$steps"; done
+for steps in 1000000 10000000; do
+    read -r took peak < <(measure "$program" sample 1 "$steps")
+    read -r plain _ < <(measure out/interpreter sample/sample.img sample/script.txt "$steps")
+    line "$steps" "large sample, counted" "$took" "$peak" "$plain" "$steps" million/s
+done
+echo "at 999999998 tick" > out/late.txt
+read -r took peak < <(measure "$program" run sample/idle.img out/late.txt --steps 1000000000)
+awk -v a="$took" 'BEGIN { printf "%-28s %11d steps %9.1f ms\n", "a late event", 1000000000, a * 1000 }'
 for image in crc32 bytecode; do play "$image, --all" "out/$image.img" out/empty.txt 1000000 --all; done
 command -v valgrind > out/valgrind.txt || { echo "host instructions a turn: not counted, there is no valgrind"; exit 0; }
 # the host's instructions of a run
@@ -97,7 +110,8 @@ instructions() {
     awk -v what="$what" -v n=$((many - few)) -v most="$most" 'BEGIN { printf "%-28s %7.1f host instructions a turn, at most %d\n", what, n / 1e6, most; exit n / 1e6 > most }' || short=1
 }
 for image in $compiled; do instructions "$image" 100 "out/$image.img" out/empty.txt; done
-instructions "32 tasks with timers" 600 out/timers.img timers/script.txt
-instructions "16 clients, 4 servers" 400 out/messages.img out/empty.txt
+instructions "32 tasks with timers" 530 out/timers.img timers/script.txt
+instructions "16 clients, 4 servers" 370 out/messages.img out/empty.txt
 instructions "8 lenders, 1 server" 370 out/leases.img out/empty.txt
+instructions "large sample" 240 sample/sample.img sample/script.txt
 exit $short
