@@ -1,5 +1,5 @@
 -- A region from which a task fetches: it gives the right to execute to each halfword that it has.
-use Rattle.std.specs.Prelude.{ℕ, ◌≡◌, ◌+◌, ◌%◌, ◌^◌, ◌&&◌, true, List}
+use Rattle.std.specs.Prelude.{ℕ, ◌≡◌, ◌+◌, ◌%◌, ◌^◌, Bool, ◌&&◌, true, List, nat_le}
 use Rattle.region_check.specs.declared.Region.{Region}
 use Rattle.region_check.specs.declared.Right.TheVariants.{Execute}
 use Rattle.region_check.specs.Rights.{may_use}
@@ -14,3 +14,7 @@ GivesText regions r = (a : ℕ) → spans r a 2 ≡ true → (may_use regions Ex
 
 abbrev pub IsText : Kernel → ℕ → Region → Type 0
 IsText k task r = GivesText (setup_at (setup_of k) task).regions r
+
+-- a region from which the halfword at an address may be fetched, and which ends within the address space
+abbrev pub has_text : ℕ → Region → Bool
+has_text a r = spans r a 2 && r.rights.execute && nat_le (r.base + r.size) (2 ^ 32)

@@ -16,7 +16,11 @@ ghost use Rattle.thumb_insn.specs.Range.{IsCoded};
 ghost use Rattle.board_model.specs.Turn.{with_current, told, happened, stepped, stepped_wide, executed, cpu_of, with_registers_told, turn_of, turned_of, happened_next};
 ghost use Rattle.board_core.specs.Did.{Did};
 ghost use Rattle.board_core.specs.Machine.{IsReady, IsNarrowWithin, IsNext, HasNumber, MachineHolds, MachineStands, IsLoaded};
-ghost use Rattle.board_core.specs.Texts.{GivesText, IsText};
+ghost use Rattle.board_core.specs.Texts.{GivesText, IsText, has_text};
+ghost use Rattle.std.specs.List.{list_any};
+ghost use Rattle.task_table.specs.Reading.{setup_at};
+ghost use Rattle.task_table.specs.Holds.{setup_of};
+ghost use Rattle.words_core.specs.Regs.{reg_at};
 ghost use Rattle.board_model.specs.declared.told.Level.TheVariants.{Calls};
 
 use crate::calls::call;
@@ -54,19 +58,23 @@ fn cpu(kernel: &Kernel, task: usize) -> Cpu
     }
 }
 
-/// Whether a region ends within the address space.
-fn ends_within(region: &Region) -> bool
-    ensures { result ≡ true → region.now.base + region.now.size ≤ 2 ^ 32 }
+/// Whether the halfword at an address may be fetched from a region, which ends within the address space.
+fn has_text(region: &Region, at: u32) -> bool
+    ensures { result ≡ has_text at region.now }
 {
-    u64::from(region.base) + u64::from(region.size) <= 0x1_0000_0000
+    spans(region, at, 2)
+        && region.rights.execute
+        && u64::from(region.base) + u64::from(region.size) <= 0x1_0000_0000
 }
 
-/// A region from which the halfword at an address may be fetched, and then each halfword that it has.
+/// A region from which the halfword at an address may be fetched, and then each halfword that it has; an
+/// empty one where there is none.
 fn text_around(regions: &[Region], at: u32) -> Region
-    ensures { GivesText regions.now result }
+    ensures gives { GivesText regions.now result }
+    ensures found { list_any (has_text at) regions.now ≡ true → spans result at 2 ≡ true }
 {
     for region in regions {
-        if spans(region, at, 2) && region.rights.execute && ends_within(region) {
+        if has_text(region, at) {
             return *region;
         }
     }
@@ -397,7 +405,8 @@ impl Machine {
     /// The region from which a task would fetch at its PC; an empty one where it has none, or one that
     /// does not end within the address space.
     pub fn text(&self, task: usize) -> Region
-        ensures { IsText self.now.reach.kernel task result }
+        ensures gives { IsText self.now.reach.kernel task result }
+        ensures found { let at = reg_at self.now.processor.regs 15 in list_any (has_text at) (setup_at (setup_of self.now.reach.kernel) task).regions ≡ true → spans result at 2 ≡ true }
     {
         text_around(self.reach.kernel.regions(task), self.processor.regs.get(15))
     }

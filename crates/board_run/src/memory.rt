@@ -89,8 +89,8 @@ fn row_line(board: &Board, addr: u32, line: &mut Line)
 /// The line of sixteen bytes, where one of them is not zero.
 fn push_row<S: Sink>(board: &Board, addr: u32, out: &mut S) -> Result<(), Failed>
     requires inside { addr + 16 ≤ 2 ^ 32 }
-    ensures bytes { (x : Scenario) (s : State) → Stands x board.now s → Pushes (S.written out.old) (S.written out.new) (row_text s.memory addr) result }
-    ensures cause { HasCause (S.faults out.old) (S.faults out.new) result }
+    ensures bytes { (x : Scenario) (s : State) → Stands x board.now s → Pushes (S.seen out.old).written (S.seen out.new).written (row_text s.memory addr) result }
+    ensures cause { HasCause (S.seen out.old).faults (S.seen out.new).faults result }
 {
     if are_zeros(board, addr) {
         return Ok(());
@@ -102,8 +102,8 @@ fn push_row<S: Sink>(board: &Board, addr: u32, out: &mut S) -> Result<(), Failed
 
 fn push_rows<S: Sink>(board: &Board, base: u32, count: u32, out: &mut S) -> Result<(), Failed>
     requires inside { base + 16 * count ≤ 2 ^ 32 }
-    ensures bytes { (x : Scenario) (s : State) → Stands x board.now s → Pushes (S.written out.old) (S.written out.new) (rows_text s.memory base count) result }
-    ensures cause { HasCause (S.faults out.old) (S.faults out.new) result }
+    ensures bytes { (x : Scenario) (s : State) → Stands x board.now s → Pushes (S.seen out.old).written (S.seen out.new).written (rows_text s.memory base count) result }
+    ensures cause { HasCause (S.seen out.old).faults (S.seen out.new).faults result }
 {
     for k in 0..count {
         push_row(board, base + 16 * k, out)?;
@@ -112,8 +112,8 @@ fn push_rows<S: Sink>(board: &Board, base: u32, count: u32, out: &mut S) -> Resu
 }
 
 fn push_region_line<S: Sink>(region: &Region, out: &mut S) -> Result<(), Failed>
-    ensures bytes { Pushes (S.written out.old) (S.written out.new) (region_line region.now) result }
-    ensures cause { HasCause (S.faults out.old) (S.faults out.new) result }
+    ensures bytes { Pushes (S.seen out.old).written (S.seen out.new).written (region_line region.now) result }
+    ensures cause { HasCause (S.seen out.old).faults (S.seen out.new).faults result }
 {
     let mut line = Line::new();
     put_region_line(region, &mut line);
@@ -130,8 +130,8 @@ fn row_count(region: &Region) -> u32
 /// The lines of a region.
 fn push_region<S: Sink>(board: &Board, region: &Region, out: &mut S) -> Result<(), Failed>
     requires inside { region.now.base + 262144 ≤ 2 ^ 32 }
-    ensures bytes { (x : Scenario) (s : State) → Stands x board.now s → Pushes (S.written out.old) (S.written out.new) (region_text s.memory region.now) result }
-    ensures cause { HasCause (S.faults out.old) (S.faults out.new) result }
+    ensures bytes { (x : Scenario) (s : State) → Stands x board.now s → Pushes (S.seen out.old).written (S.seen out.new).written (region_text s.memory region.now) result }
+    ensures cause { HasCause (S.seen out.old).faults (S.seen out.new).faults result }
 {
     push_region_line(region, out)?;
     push_rows(board, region.base, row_count(region), out)
@@ -140,8 +140,8 @@ fn push_region<S: Sink>(board: &Board, region: &Region, out: &mut S) -> Result<(
 /// The lines of the region that begins at the k-th place of RAM, if one does.
 fn push_place<S: Sink>(board: &Board, k: u32, out: &mut S) -> Result<(), Failed>
     requires inside { k < 1024 }
-    ensures bytes { (x : Scenario) (s : State) → Stands x board.now s → Pushes (S.written out.old) (S.written out.new) (place_text x.setup s.memory k) result }
-    ensures cause { HasCause (S.faults out.old) (S.faults out.new) result }
+    ensures bytes { (x : Scenario) (s : State) → Stands x board.now s → Pushes (S.seen out.old).written (S.seen out.new).written (place_text x.setup s.memory k) result }
+    ensures cause { HasCause (S.seen out.old).faults (S.seen out.new).faults result }
 {
     match region_at(board, RAM + 256 * k) {
         None => Ok(()),
@@ -157,8 +157,8 @@ fn push_place<S: Sink>(board: &Board, k: u32, out: &mut S) -> Result<(), Failed>
 ///
 /// Only where a push failed.
 pub fn write_memory<S: Sink>(board: &Board, out: &mut S) -> Result<(), Failed>
-    ensures text { (x : Scenario) (s : State) → Stands x board.now s → Pushes (S.written out.old) (S.written out.new) (memory_text x.setup s) result }
-    ensures cause { HasCause (S.faults out.old) (S.faults out.new) result }
+    ensures text { (x : Scenario) (s : State) → Stands x board.now s → Pushes (S.seen out.old).written (S.seen out.new).written (memory_text x.setup s) result }
+    ensures cause { HasCause (S.seen out.old).faults (S.seen out.new).faults result }
 {
     for k in 0..1024 {
         push_place(board, k, out)?;

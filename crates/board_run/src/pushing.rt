@@ -21,8 +21,8 @@ fn push_note<S: Sink>(
     line: &mut Line,
     out: &mut S,
 ) -> Result<(), Failed>
-    ensures bytes { Pushes (S.written out.old) (S.written out.new) (line_of turn.now.number note.now) result }
-    ensures cause { HasCause (S.faults out.old) (S.faults out.new) result }
+    ensures bytes { Pushes (S.seen out.old).written (S.seen out.new).written (line_of turn.now.number note.now) result }
+    ensures cause { HasCause (S.seen out.old).faults (S.seen out.new).faults result }
 {
     line.clear();
     put_line(turn, note, line);
@@ -32,8 +32,8 @@ fn push_note<S: Sink>(
 /// The notes of a turn, one line each. All are built in one buffer, and the turn's digits are made once: a new
 /// buffer for each note would be filled with zeros.
 pub fn push_notes<S: Sink>(turn: u32, notes: &[Note], out: &mut S) -> Result<(), Failed>
-    ensures bytes { Pushes (S.written out.old) (S.written out.new) (notes_text (at_turn turn notes.now)) result }
-    ensures cause { HasCause (S.faults out.old) (S.faults out.new) result }
+    ensures bytes { Pushes (S.seen out.old).written (S.seen out.new).written (notes_text (at_turn turn notes.now)) result }
+    ensures cause { HasCause (S.seen out.old).faults (S.seen out.new).faults result }
 {
     let begun = TurnNumber::new(turn);
     let mut line = Line::new();
@@ -44,9 +44,9 @@ pub fn push_notes<S: Sink>(turn: u32, notes: &[Note], out: &mut S) -> Result<(),
 }
 
 fn push_task_line<S: Sink>(i: u64, task: &TaskView, out: &mut S) -> Result<(), Failed>
-    ensures bytes { Pushes (S.written out.old) (S.written out.new)
+    ensures bytes { Pushes (S.seen out.old).written (S.seen out.new).written
         (task_line i task.now.generation task.now.health (wait_words task.now.wait) task.now.posted (timer_of task.now.timer)) result }
-    ensures cause { HasCause (S.faults out.old) (S.faults out.new) result }
+    ensures cause { HasCause (S.seen out.old).faults (S.seen out.new).faults result }
 {
     let mut line = Line::new();
     put_task_line(
@@ -62,8 +62,8 @@ fn push_task_line<S: Sink>(i: u64, task: &TaskView, out: &mut S) -> Result<(), F
 }
 
 fn push_low<S: Sink>(registers: &[u32; 16], out: &mut S) -> Result<(), Failed>
-    ensures bytes { Pushes (S.written out.old) (S.written out.new) (low_text registers.now) result }
-    ensures cause { HasCause (S.faults out.old) (S.faults out.new) result }
+    ensures bytes { Pushes (S.seen out.old).written (S.seen out.new).written (low_text registers.now) result }
+    ensures cause { HasCause (S.seen out.old).faults (S.seen out.new).faults result }
 {
     let mut line = Line::new();
     low_line(registers, &mut line);
@@ -71,8 +71,8 @@ fn push_low<S: Sink>(registers: &[u32; 16], out: &mut S) -> Result<(), Failed>
 }
 
 fn push_high<S: Sink>(registers: &[u32; 16], flags: Flags, out: &mut S) -> Result<(), Failed>
-    ensures bytes { Pushes (S.written out.old) (S.written out.new) (high_text registers.now flags) result }
-    ensures cause { HasCause (S.faults out.old) (S.faults out.new) result }
+    ensures bytes { Pushes (S.seen out.old).written (S.seen out.new).written (high_text registers.now flags) result }
+    ensures cause { HasCause (S.seen out.old).faults (S.seen out.new).faults result }
 {
     let mut line = Line::new();
     high_line(registers, flags, &mut line);
@@ -80,8 +80,8 @@ fn push_high<S: Sink>(registers: &[u32; 16], flags: Flags, out: &mut S) -> Resul
 }
 
 pub fn push_end_line<S: Sink>(end: End, turns: u32, now: u64, out: &mut S) -> Result<(), Failed>
-    ensures bytes { Pushes (S.written out.old) (S.written out.new) (end_line end turns now) result }
-    ensures cause { HasCause (S.faults out.old) (S.faults out.new) result }
+    ensures bytes { Pushes (S.seen out.old).written (S.seen out.new).written (end_line end turns now) result }
+    ensures cause { HasCause (S.seen out.old).faults (S.seen out.new).faults result }
 {
     let mut line = Line::new();
     put_end_line(end, turns, now, &mut line);
@@ -90,8 +90,8 @@ pub fn push_end_line<S: Sink>(end: End, turns: u32, now: u64, out: &mut S) -> Re
 
 // The three lines of a task.
 fn push_task<S: Sink>(i: u64, task: &TaskView, out: &mut S) -> Result<(), Failed>
-    ensures bytes { Pushes (S.written out.old) (S.written out.new) (view_text i task.now) result }
-    ensures cause { HasCause (S.faults out.old) (S.faults out.new) result }
+    ensures bytes { Pushes (S.seen out.old).written (S.seen out.new).written (view_text i task.now) result }
+    ensures cause { HasCause (S.seen out.old).faults (S.seen out.new).faults result }
 {
     push_task_line(i, task, out)?;
     push_low(&task.registers, out)?;
@@ -104,8 +104,8 @@ ghost use Rattle.board_core.specs.Stands.{Stands};
 ghost use Rattle.board_run.specs.Text.{tasks_text, end_text};
 
 fn push_tasks<S: Sink>(board: &Board, out: &mut S) -> Result<(), Failed>
-    ensures bytes { (x : Scenario) (s : State) → Stands x board.now s → Pushes (S.written out.old) (S.written out.new) (tasks_text s (length s.tasks)) result }
-    ensures cause { HasCause (S.faults out.old) (S.faults out.new) result }
+    ensures bytes { (x : Scenario) (s : State) → Stands x board.now s → Pushes (S.seen out.old).written (S.seen out.new).written (tasks_text s (length s.tasks)) result }
+    ensures cause { HasCause (S.seen out.old).faults (S.seen out.new).faults result }
 {
     for i in 0..board.task_count() {
         match board.task(i) {
@@ -118,8 +118,8 @@ fn push_tasks<S: Sink>(board: &Board, out: &mut S) -> Result<(), Failed>
 
 /// How a run ended, and each task.
 pub fn push_end<S: Sink>(end: End, board: &Board, out: &mut S) -> Result<(), Failed>
-    ensures bytes { (x : Scenario) (s : State) → Stands x board.now s → Pushes (S.written out.old) (S.written out.new) (end_text end s) result }
-    ensures cause { HasCause (S.faults out.old) (S.faults out.new) result }
+    ensures bytes { (x : Scenario) (s : State) → Stands x board.now s → Pushes (S.seen out.old).written (S.seen out.new).written (end_text end s) result }
+    ensures cause { HasCause (S.seen out.old).faults (S.seen out.new).faults result }
 {
     push_end_line(end, board.turns(), board.now(), out)?;
     push_tasks(board, out)

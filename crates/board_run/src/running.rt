@@ -100,7 +100,7 @@ pub fn run<S: Sink>(board: &mut Board, limit: u32, level: Level, out: &mut S) ->
     requires few { limit ≤ 1000000000 }
 
     ensures text { (x : Scenario) (s : State) → Stands x board.old s →
-        Pushes (S.written out.old) (S.written out.new) (trace_text (run level x (limit - s.turn) s)) result }
+        Pushes (S.seen out.old).written (S.seen out.new).written (trace_text (run level x (limit - s.turn) s)) result }
     ensures end { (x : Scenario) (s : State) → Stands x board.old s →
         IfOk result (λ e. e ≡ (run level x (limit - s.turn) s).end) }
     ensures last { (x : Scenario) (s : State) → Stands x board.old s →
@@ -111,10 +111,10 @@ pub fn run<S: Sink>(board: &mut Board, limit: u32, level: Level, out: &mut S) ->
 
     // Where a push failed, the lines of the turns before the last one are whole, and no further turn is made.
     ensures broken { (x : Scenario) (s : State) → Stands x board.old s →
-        OnErr result (BreaksOff level x (limit - s.turn) (S.written out.old) (S.written out.new) s board.new) }
+        OnErr result (BreaksOff level x (limit - s.turn) (S.seen out.old).written (S.seen out.new).written s board.new) }
     ensures midway { (x : Scenario) (s : State) → Stands x board.old s → StandsMidway level x board.new s }
     ensures within { turns_of board.new ≤ limit }
-    ensures cause { HasCause (S.faults out.old) (S.faults out.new) result }
+    ensures cause { HasCause (S.seen out.old).faults (S.seen out.new).faults result }
 {
     let end = play(board, limit, level, out)?;
     push_end(end, board, out)?;

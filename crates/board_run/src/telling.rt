@@ -31,9 +31,9 @@ pub trait Teller {
 
 /// A sink is told the text of the notes, a line and a push each.
 impl<S: Sink> Teller for S {
-    ghost heard = { λ t notes u. HearsText (S.written t) (S.written u) (S.faults t) (S.faults u) notes };
+    ghost heard = { λ t notes u. HearsText (S.seen t).written (S.seen u).written (S.seen t).faults (S.seen u).faults notes };
 
-    ghost broke = { λ t notes u. BreaksText (S.written t) (S.written u) (S.faults t) (S.faults u) notes };
+    ghost broke = { λ t notes u. BreaksText (S.seen t).written (S.seen u).written (S.seen t).faults (S.seen u).faults notes };
 
     fn tell(&mut self, turn: u32, notes: &[Note]) -> Result<(), Failed> {
         push_notes(turn, notes, self)

@@ -3,3 +3,4 @@ pub mod Held
 pub mod Host
 pub mod Memory
 pub mod Outside
+pub mod Seen

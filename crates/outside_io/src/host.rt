@@ -41,15 +41,7 @@ fn read_at<R: rt::Files>(rt: &R, name: &str, at: u64, buf: &mut [u8]) -> io::Res
 }
 
 impl<R: rt::Files> Files for HostFiles<R> {
-    ghost told = { λ _ _. None };
-
-    ghost read_faults = { λ f. f.read_faults };
-
-    ghost put_faults = { λ f. f.put_faults };
-
-    ghost given = { λ f. f.given };
-
-    ghost last_failing = { λ _. None };
+    ghost seen = { λ f. record { told = λ _. None; read_faults = f.read_faults; put_faults = f.put_faults; given = f.given; last_failing = None } };
 
     /// One read of the file that is opened at the path, from the place on.
     fn read(&mut self, name: &str, at: u64, buf: &mut [u8]) -> Result<usize, Failed>
@@ -146,9 +138,7 @@ fn write_whole<W: Write>(out: &mut W, bytes: &[u8]) -> Result<(), Failed>
 }
 
 impl<W: Write> Sink for HostSink<W> {
-    ghost written = { λ _. None };
-
-    ghost faults = { λ s. s.faults };
+    ghost seen = { λ s. record { written = None; faults = s.faults } };
 
     /// Writes the whole piece to the output, which then has it wherever it tells its bytes.
     fn push(&mut self, piece: &[u8]) -> Result<(), Failed>

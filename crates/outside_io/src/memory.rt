@@ -158,15 +158,7 @@ impl MemFiles {
 impl Files for MemFiles {
     ghost use Rattle.outside_io.specs.Memory.{told_by, rooms_of, tally_of, tally_after_read, tally_after_put, fails_read, fails_put};
 
-    ghost told = { λ m. contents_under m.held };
-
-    ghost read_faults = { λ m. m.read_faults };
-
-    ghost put_faults = { λ m. m.put_faults };
-
-    ghost given = { λ m. m.given };
-
-    ghost last_failing = { λ m. option_map (λ n. (n.len, take n.shown n.front)) m.last };
+    ghost seen = { λ m. record { told = contents_under m.held; read_faults = m.read_faults; put_faults = m.put_faults; given = m.given; last_failing = option_map (λ n. (n.len, take n.shown n.front)) m.last } };
 
     /// Gives all bytes from the place on that the buffer has room for.
     fn read(&mut self, name: &str, at: u64, buf: &mut [u8]) -> Result<usize, Failed>
@@ -263,9 +255,7 @@ impl MemSink {
 impl Sink for MemSink {
     ghost use Rattle.outside_io.specs.Memory.{text_of, ledger_of, ledger_after, fails_push};
 
-    ghost written = { λ s. Some s.bytes.items };
-
-    ghost faults = { λ s. s.faults };
+    ghost seen = { λ s. record { written = Some s.bytes.items; faults = s.faults } };
 
     /// Appends the whole piece, or nothing.
     fn push(&mut self, piece: &[u8]) -> Result<(), Failed>

@@ -41,21 +41,21 @@ pub fn read_all<F: Files>(
 ) -> Result<Vec<u8>, ReadAll>
     requires { limit < 2 ^ 32 }
 
-    ensures whole { IfOk result (λ v. (length v.items ≤ limit) × WhereTold (F.told files.old name.now) (λ all. v.items ≡ all)) }
-    ensures counted { IfOk result (λ v. F.given files.new ≡ raised (F.given files.old) (length v.items)) }
+    ensures whole { IfOk result (λ v. (length v.items ≤ limit) × WhereTold ((F.seen files.old).told name.now) (λ all. v.items ≡ all)) }
+    ensures counted { IfOk result (λ v. (F.seen files.new).given ≡ raised (F.seen files.old).given (length v.items)) }
 
-    ensures failed { IsErrOf result ReadFailed → Rose (F.read_faults files.old) (F.read_faults files.new) }
-    ensures named { IsErrOf result ReadFailed → WhereTold (F.last_failing files.new) (λ n. n ≡ short_name name.now) }
-    ensures too_long { IsErrOf result TooLong → raised (F.given files.old) (limit + 1) ≤ F.given files.new }
-    ensures long_told { IsErrOf result TooLong → WhereTold (F.told files.old name.now) (λ all. limit < length all) }
+    ensures failed { IsErrOf result ReadFailed → Rose (F.seen files.old).read_faults (F.seen files.new).read_faults }
+    ensures named { IsErrOf result ReadFailed → WhereTold (F.seen files.new).last_failing (λ n. n ≡ short_name name.now) }
+    ensures too_long { IsErrOf result TooLong → raised (F.seen files.old).given (limit + 1) ≤ (F.seen files.new).given }
+    ensures long_told { IsErrOf result TooLong → WhereTold ((F.seen files.old).told name.now) (λ all. limit < length all) }
 
     // More than `limit` bytes are refused as too long, unless a read fails or memory is wanting.
-    ensures refused { WhereTold (F.told files.old name.now) (λ all. limit < length all → ¬ Rose (F.read_faults files.old) (F.read_faults files.new) → IsErrOf result TooLong ⊎ IsErrOf result Memory) }
+    ensures refused { WhereTold ((F.seen files.old).told name.now) (λ all. limit < length all → ¬ Rose (F.seen files.old).read_faults (F.seen files.new).read_faults → IsErrOf result TooLong ⊎ IsErrOf result Memory) }
 
-    ensures later { F.read_faults files.old ≤ F.read_faults files.new }
-    ensures grown { F.given files.old ≤ F.given files.new }
-    ensures contents { F.told files.new ≡ F.told files.old }
-    ensures puts { F.put_faults files.new ≡ F.put_faults files.old }
+    ensures later { (F.seen files.old).read_faults ≤ (F.seen files.new).read_faults }
+    ensures grown { (F.seen files.old).given ≤ (F.seen files.new).given }
+    ensures contents { (F.seen files.new).told ≡ (F.seen files.old).told }
+    ensures puts { (F.seen files.new).put_faults ≡ (F.seen files.old).put_faults }
 {
     let mut out = Vec::new(alloc);
     let mut buf = [0u8; 4096];

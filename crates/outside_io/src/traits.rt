@@ -1,4 +1,5 @@
-ghost use Rattle.std.specs.Prelude.{◌≡◌, ◌≢◌, ℕ, ◌≤◌, List, Option, OnErr};
+ghost use Rattle.std.specs.Prelude.{◌≡◌, ◌≢◌, ℕ, ◌≤◌, List, OnErr};
+ghost use Rattle.outside_io.specs.Seen.{FilesSeen, SinkSeen};
 ghost use Rattle.outside_io.specs.Outside.{WhereTold, HasCause, short_name, Reads, Gives, Puts, Pushes};
 
 /// A read, a put or a push failed.
@@ -7,53 +8,38 @@ pub struct Failed;
 
 /// Files by name. Their counts never fall.
 pub trait Files {
-    /// The contents under a name, where it tells them.
-    ghost told: { Self → List ℕ → Option (List ℕ) };
-
-    /// How many reads failed.
-    ghost read_faults: { Self → ℕ };
-
-    /// How many puts failed.
-    ghost put_faults: { Self → ℕ };
-
-    /// How many bytes its reads have given.
-    ghost given: { Self → ℕ };
-
-    /// The length and the first 255 bytes of the name of the last call that failed, where it tells them.
-    ghost last_failing: { Self → Option (ℕ × List ℕ) };
+    /// What it tells of itself.
+    ghost seen: { Self → FilesSeen };
 
     /// Fills the front of the buffer with bytes from a place on, and answers how many: none only at
     /// the end of the contents or where the buffer has no room. Fails only where it counts a failed read.
     fn read(&mut self, name: &str, at: u64, buf: &mut [u8]) -> Result<usize, Failed>
-        ensures bytes { Reads (told self.old name.now) at buf.new result }
-        ensures count { Gives (given self.old) (given self.new) result }
-        ensures grown { given self.old ≤ given self.new }
-        ensures cause { HasCause (read_faults self.old) (read_faults self.new) result }
-        ensures named { OnErr result (WhereTold (last_failing self.new) (λ n. n ≡ short_name name.now)) }
-        ensures contents { told self.new ≡ told self.old }
-        ensures puts { put_faults self.new ≡ put_faults self.old };
+        ensures bytes { Reads ((seen self.old).told name.now) at buf.new result }
+        ensures count { Gives ((seen self.old).given) ((seen self.new).given) result }
+        ensures grown { (seen self.old).given ≤ (seen self.new).given }
+        ensures cause { HasCause ((seen self.old).read_faults) ((seen self.new).read_faults) result }
+        ensures named { OnErr result (WhereTold ((seen self.new).last_failing) (λ n. n ≡ short_name name.now)) }
+        ensures contents { (seen self.new).told ≡ (seen self.old).told }
+        ensures puts { (seen self.new).put_faults ≡ (seen self.old).put_faults };
 
     /// Replaces the contents under a name. Fails only where it counts a failed put, and may then
     /// leave the old contents or any front of the new ones. Other names stay.
     fn put(&mut self, name: &str, bytes: &[u8]) -> Result<(), Failed>
-        ensures bytes { Puts (told self.old name.now) (told self.new name.now) bytes.now result }
-        ensures others { (other : List ℕ) → other ≢ name.now → told self.new other ≡ told self.old other }
-        ensures cause { HasCause (put_faults self.old) (put_faults self.new) result }
-        ensures named { OnErr result (WhereTold (last_failing self.new) (λ n. n ≡ short_name name.now)) }
-        ensures count { given self.new ≡ given self.old }
-        ensures reads { read_faults self.new ≡ read_faults self.old };
+        ensures bytes { Puts ((seen self.old).told name.now) ((seen self.new).told name.now) bytes.now result }
+        ensures others { (other : List ℕ) → other ≢ name.now → (seen self.new).told other ≡ (seen self.old).told other }
+        ensures cause { HasCause ((seen self.old).put_faults) ((seen self.new).put_faults) result }
+        ensures named { OnErr result (WhereTold ((seen self.new).last_failing) (λ n. n ≡ short_name name.now)) }
+        ensures count { (seen self.new).given ≡ (seen self.old).given }
+        ensures reads { (seen self.new).read_faults ≡ (seen self.old).read_faults };
 }
 
 /// Takes pieces in order.
 pub trait Sink {
-    /// What was written, where it tells it.
-    ghost written: { Self → Option (List ℕ) };
-
-    /// How many pushes failed.
-    ghost faults: { Self → ℕ };
+    /// What it tells of itself.
+    ghost seen: { Self → SinkSeen };
 
     /// Appends the whole piece, or fails, counts that, and has appended a front of it.
     fn push(&mut self, piece: &[u8]) -> Result<(), Failed>
-        ensures bytes { Pushes (written self.old) (written self.new) piece.now result }
-        ensures cause { HasCause (faults self.old) (faults self.new) result };
+        ensures bytes { Pushes ((seen self.old).written) ((seen self.new).written) piece.now result }
+        ensures cause { HasCause ((seen self.old).faults) ((seen self.new).faults) result };
 }

@@ -12,7 +12,7 @@ use Rattle.command_line.specs.CommandLine.{Asked, build, run, go, list, sample, 
 use Rattle.command_line.specs.declared.job.Detail.{Detail}
 use Rattle.build_laws.proofs.OnePicture.{one_picture}
 use Rattle.trace_cli.specs.Contents.{Why, scenario_of, sample_scenario}
-use Rattle.trace_cli.specs.Seen.{FilesSeen}
+use Rattle.outside_io.specs.Seen.{FilesSeen}
 use Rattle.trace_cli.specs.Words.{job_in}
 use Rattle.trace_cli.specs.Sources.{File, files_by, MayBe, Are, Reaches, TakesAll, IsBuilt, IsRun, IsListing, IsBuild, IsSample, described, sources_in, script_in}
 use Rattle.trace_cli.specs.Verdict as verdict

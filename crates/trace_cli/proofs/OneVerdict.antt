@@ -2,7 +2,7 @@
 use Rattle.std.proofs.Common.{◌≡◌, ℕ, List, Option, None, sym, ap, ◌∙◌, arith}
 use Rattle.std.proofs.lemmas.Option.{same_Some}
 use Rattle.outside_io.specs.Outside.{Rose}
-use Rattle.trace_cli.specs.Seen.{FilesSeen, files_seen}
+use Rattle.outside_io.specs.Seen.{FilesSeen}
 use Rattle.trace_cli.specs.Sources.{File, MayBe, Are, Takes}
 use Rattle.trace_cli.specs.Verdict as verdict
 use Rattle.trace_cli.specs.Verdict.{Verdict, IsVerdict}
@@ -18,7 +18,7 @@ takes_may told files cs takes = λ k bytes e. let t = takes k bytes e in (t.0, t
 
 -- files of which no call has failed
 abbrev seen : (List ℕ → Option (List ℕ)) → FilesSeen
-seen told = files_seen told 0 0 None
+seen told = record { told = told; read_faults = 0; put_faults = 0; given = 0; last_failing = None }
 
 grounded : (words : List (List ℕ)) (told : List ℕ → Option (List ℕ)) (v : Verdict) → IsVerdict words told v → Ground words (seen told) (seen told) v
 grounded words told v (verdict.no_job none e) = no_job none e

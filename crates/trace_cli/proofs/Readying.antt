@@ -13,7 +13,7 @@ use Rattle.command_line.specs.declared.job.Detail.{Detail}
 use Rattle.trace_cli.specs.declared.stops.Halt.{Halt}
 use Rattle.trace_cli.specs.declared.stops.Halt.TheVariants as halts
 use Rattle.trace_cli.specs.Contents.{Why, scenario_of, application_of}
-use Rattle.trace_cli.specs.Seen.{FilesSeen, SinkSeen}
+use Rattle.outside_io.specs.Seen.{FilesSeen, SinkSeen}
 use Rattle.trace_cli.specs.Sources.{File, image_file, script_file, files_to_build, first_of, MayBe, Takes, IsBuilt, script_in}
 use Rattle.trace_cli.specs.Stops.{HaltsAt}
 use Rattle.trace_cli.specs.Building.{IsImage, HaltsInApp}

@@ -16,7 +16,7 @@ use Rattle.board_core.specs.Stands.{Stands, Stood, turns_of}
 use Rattle.board_model.specs.Script.{Scenario}
 use Rattle.command_line.specs.CommandLine.{sample}
 use Rattle.trace_cli.specs.Contents.{sample_scenario}
-use Rattle.trace_cli.specs.Seen.{FilesSeen, SinkSeen}
+use Rattle.outside_io.specs.Seen.{FilesSeen, SinkSeen}
 use Rattle.trace_cli.specs.Sources.{MayBe}
 use Rattle.trace_cli.specs.Ready.{IsSampleReady}
 use Rattle.trace_cli.specs.Told.{Pushed}

@@ -8,7 +8,7 @@ use Rattle.board_model.specs.Script.{Scenario}
 use Rattle.board_model.specs.declared.told.End.{End}
 use Rattle.board_model.specs.declared.told.End.TheVariants.{Bound, Still, Supervisor}
 use Rattle.command_line.specs.CommandLine.{Asked, build, run, go, list, sample, is_taken, job_of}
-use Rattle.trace_cli.specs.Seen.{FilesSeen, SinkSeen}
+use Rattle.outside_io.specs.Seen.{FilesSeen, SinkSeen}
 use Rattle.trace_cli.specs.Words.{job_in, out_of}
 use Rattle.trace_cli.specs.Sources.{IsBuild, IsSample}
 use Rattle.trace_cli.specs.Verdict.{Verdict, IsVerdict, Does, runs, lists, builds, samples, usage, usage_line, refused, unread, ran, listed, built, sampled, run_of, level_of, status_of}

@@ -10,7 +10,7 @@ use Rattle.trace_cli.specs.declared.stops.Stop.TheVariants as stops
 use Rattle.trace_cli.specs.declared.stops.Halt.{Halt}
 use Rattle.trace_cli.specs.declared.stops.Halt.TheVariants as halts
 use Rattle.trace_cli.specs.Contents.{Why, at_number, unless_long, image_refusal, script_refusal, app_refusal, source_refusal}
-use Rattle.trace_cli.specs.Seen.{FilesSeen}
+use Rattle.outside_io.specs.Seen.{FilesSeen}
 use Rattle.trace_cli.specs.Sources.{File, MayBe, MayBeRefused}
 use Rattle.trace_cli.specs.Stops.{IsCannotRead, MayBeLong, StopsAt, CannotTake, Stops, HaltsAt}
 use Rattle.app_toml.specs.Apps.{AppData}

@@ -10,7 +10,7 @@ use Rattle.image_build.specs.declared.builder.Builder.{Builder}
 use Rattle.app_toml.specs.Reading.{read_app}
 use Rattle.image_format.specs.Picture.{Picture, Sound}
 use Rattle.trace_cli.specs.Contents.{source_refusal, app_refusal, application_of, room_refusal}
-use Rattle.trace_cli.specs.Seen.{FilesSeen}
+use Rattle.outside_io.specs.Seen.{FilesSeen}
 use Rattle.trace_cli.specs.Sources.{File, source_file, sources_from, source_files, files_to_build, app_file, first_of, MayBe, Takes}
 use Rattle.trace_cli.specs.Stops.{HaltsAt}
 use Rattle.trace_cli.specs.Building.{HasNext, HasAll, IsImageOf, IsImage, HaltsInSources, HaltsInApp}

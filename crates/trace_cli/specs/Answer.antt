@@ -7,7 +7,7 @@ use Rattle.board_model.specs.Script.{Scenario}
 use Rattle.command_line.specs.CommandLine.{Asked, is_taken}
 use Rattle.command_line.specs.declared.job.Detail.{Detail}
 use Rattle.trace_cli.specs.Contents.{Why}
-use Rattle.trace_cli.specs.Seen.{FilesSeen, SinkSeen}
+use Rattle.outside_io.specs.Seen.{FilesSeen, SinkSeen}
 use Rattle.trace_cli.specs.Words.{job_in}
 use Rattle.trace_cli.specs.Sources.{File, MayBe, MayBeRefused, Reaches, TakesAll, IsRun, IsListing, IsBuild, IsSample}
 use Rattle.trace_cli.specs.Verdict.{Verdict, usage, refused, refused_line, unread, unread_line, ran, listed, built, sampled, Does}

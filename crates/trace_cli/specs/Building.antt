@@ -7,7 +7,7 @@ use Rattle.image_build.specs.Taken.{HasTaken, described, next_task}
 use Rattle.image_build.specs.declared.builder.Builder.{Builder}
 use Rattle.trace_cli.specs.declared.stops.Halt.{Halt}
 use Rattle.trace_cli.specs.Contents.{source_refusal}
-use Rattle.trace_cli.specs.Seen.{FilesSeen}
+use Rattle.outside_io.specs.Seen.{FilesSeen}
 use Rattle.trace_cli.specs.Sources.{File, files_to_build, first_of, source_files, MayBe, Takes, IsBuilt}
 use Rattle.trace_cli.specs.Stops.{HaltsAt}
 

@@ -2,7 +2,6 @@ pub mod Answer
 pub mod Building
 pub mod Contents
 pub mod Ready
-pub mod Seen
 pub mod Sources
 pub mod Stops
 pub mod Told

@@ -11,7 +11,7 @@ use Rattle.command_line.specs.CommandLine.{Asked}
 use Rattle.command_line.specs.declared.job.Detail.{Detail}
 use Rattle.trace_cli.specs.declared.stops.Halt.{Halt}
 use Rattle.trace_cli.specs.Contents.{image_refusal, script_refusal, picture_of, scenario_of, sample_scenario}
-use Rattle.trace_cli.specs.Seen.{FilesSeen}
+use Rattle.outside_io.specs.Seen.{FilesSeen}
 use Rattle.trace_cli.specs.Sources.{MayBe, TakesAll, files_by, IsRun}
 use Rattle.trace_cli.specs.Building.{HaltsAfter}
 

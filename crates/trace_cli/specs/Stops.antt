@@ -6,7 +6,7 @@ use Rattle.trace_cli.specs.declared.stops.Stop.TheVariants as stops
 use Rattle.trace_cli.specs.declared.stops.Halt.{Halt}
 use Rattle.trace_cli.specs.declared.stops.Halt.TheVariants as halts
 use Rattle.trace_cli.specs.Contents.{Why}
-use Rattle.trace_cli.specs.Seen.{FilesSeen}
+use Rattle.outside_io.specs.Seen.{FilesSeen}
 use Rattle.trace_cli.specs.Sources.{File, MayBe, MayBeRefused}
 
 -- a read failed, by the count, and of this name where that is told

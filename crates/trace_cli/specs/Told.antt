@@ -4,7 +4,7 @@ use Rattle.std.specs.Io.KnownBytes.{Appends}
 use Rattle.outside_io.specs.Outside.{Rose, AppendsFront}
 use Rattle.trace_cli.specs.declared.stops.Halt.{Halt}
 use Rattle.trace_cli.specs.declared.stops.Halt.TheVariants as halts
-use Rattle.trace_cli.specs.Seen.{SinkSeen}
+use Rattle.outside_io.specs.Seen.{SinkSeen}
 use Rattle.trace_cli.specs.Verdict.{Verdict, unread, refused}
 
 -- the text was pushed whole under the verdict's status; or a push failed and a front of it was pushed, under 4

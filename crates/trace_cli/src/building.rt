@@ -4,7 +4,6 @@ ghost use Rattle.app_toml.specs.Held.{app_of};
 ghost use Rattle.image_format.specs.Images.{picture};
 ghost use Rattle.image_build.specs.Taken.{HasTaken, described, next_task};
 ghost use Rattle.trace_cli.specs.Contents.{room_refusal, source_refusal};
-ghost use Rattle.trace_cli.specs.Seen.{files_seen};
 ghost use Rattle.trace_cli.specs.Sources.{MayBe};
 ghost use Rattle.trace_cli.specs.Stops.{StopsAt, HaltsAt};
 ghost use Rattle.trace_cli.specs.Building.{HasNext, HasAll, IsImageOf, IsImage, HaltsInApp, HaltsInSources};
@@ -54,11 +53,11 @@ fn take_source<F: Files>(
 ) -> Result<(), Halt>
     requires next { next_task builder.old < length (described builder.old).tasks }
     ensures described { described builder.new ≡ described builder.old }
-    ensures taken { (sources : List (List ℕ)) → HasTaken sources builder.old → OnOk result (HasNext (F.told files.old) name.now sources builder.old builder.new) }
-    ensures halt { IfErr result (HaltsAt (files_seen (F.told files.old) (F.read_faults files.old) (F.put_faults files.old) (F.last_failing files.old)) (files_seen (F.told files.new) (F.read_faults files.new) (F.put_faults files.new) (F.last_failing files.new)) record { name = name.now; refusal = source_refusal (described builder.old) (next_task builder.old) }) }
-    ensures later { F.read_faults files.old ≤ F.read_faults files.new }
-    ensures contents { F.told files.new ≡ F.told files.old }
-    ensures puts { F.put_faults files.new ≡ F.put_faults files.old }
+    ensures taken { (sources : List (List ℕ)) → HasTaken sources builder.old → OnOk result (HasNext (F.seen files.old).told name.now sources builder.old builder.new) }
+    ensures halt { IfErr result (HaltsAt (F.seen files.old) (F.seen files.new) record { name = name.now; refusal = source_refusal (described builder.old) (next_task builder.old) }) }
+    ensures later { (F.seen files.old).read_faults ≤ (F.seen files.new).read_faults }
+    ensures contents { (F.seen files.new).told ≡ (F.seen files.old).told }
+    ensures puts { (F.seen files.new).put_faults ≡ (F.seen files.old).put_faults }
 {
     let bytes = match read_contents(alloc, files, name) {
         Ok(bytes) => bytes,
@@ -80,11 +79,11 @@ fn take_sources<F: Files>(
     requires described { described builder.old ≡ app_of app.now }
     requires none { HasTaken [] builder.old }
     ensures described { described builder.new ≡ described builder.old }
-    ensures taken { OnOk result (HasAll (F.told files.old) (app_of app.now) builder.new) }
-    ensures halt { IfErr result (HaltsInSources (files_seen (F.told files.old) (F.read_faults files.old) (F.put_faults files.old) (F.last_failing files.old)) (files_seen (F.told files.new) (F.read_faults files.new) (F.put_faults files.new) (F.last_failing files.new)) (app_of app.now)) }
-    ensures later { F.read_faults files.old ≤ F.read_faults files.new }
-    ensures contents { F.told files.new ≡ F.told files.old }
-    ensures puts { F.put_faults files.new ≡ F.put_faults files.old }
+    ensures taken { OnOk result (HasAll (F.seen files.old).told (app_of app.now) builder.new) }
+    ensures halt { IfErr result (HaltsInSources (F.seen files.old) (F.seen files.new) (app_of app.now)) }
+    ensures later { (F.seen files.old).read_faults ≤ (F.seen files.new).read_faults }
+    ensures contents { (F.seen files.new).told ≡ (F.seen files.old).told }
+    ensures puts { (F.seen files.new).put_faults ≡ (F.seen files.old).put_faults }
 {
     for task in app.tasks() {
         match take_source(alloc, files, &task.source, builder) {
@@ -104,11 +103,11 @@ fn image_of<F: Files>(
 ) -> Result<Image, Halt>
     requires described { described builder ≡ app_of app.now }
     requires none { HasTaken [] builder }
-    ensures image { IfOk result (λ i. IsImageOf (F.told files.old) (app_of app.now) (picture i)) }
-    ensures halt { IfErr result (λ h. (h ≡ Halt.Memory) ⊎ HaltsInSources (files_seen (F.told files.old) (F.read_faults files.old) (F.put_faults files.old) (F.last_failing files.old)) (files_seen (F.told files.new) (F.read_faults files.new) (F.put_faults files.new) (F.last_failing files.new)) (app_of app.now) h) }
-    ensures later { F.read_faults files.old ≤ F.read_faults files.new }
-    ensures contents { F.told files.new ≡ F.told files.old }
-    ensures puts { F.put_faults files.new ≡ F.put_faults files.old }
+    ensures image { IfOk result (λ i. IsImageOf (F.seen files.old).told (app_of app.now) (picture i)) }
+    ensures halt { IfErr result (λ h. (h ≡ Halt.Memory) ⊎ HaltsInSources (F.seen files.old) (F.seen files.new) (app_of app.now) h) }
+    ensures later { (F.seen files.old).read_faults ≤ (F.seen files.new).read_faults }
+    ensures contents { (F.seen files.new).told ≡ (F.seen files.old).told }
+    ensures puts { (F.seen files.new).put_faults ≡ (F.seen files.old).put_faults }
 {
     let mut builder = builder;
     match take_sources(alloc, files, app, &mut builder) {
@@ -123,11 +122,11 @@ fn image_of<F: Files>(
 
 /// The image of the application under a name.
 pub fn built_image<F: Files>(alloc: Global, files: &mut F, name: &str) -> Result<Image, Halt>
-    ensures image { IfOk result (λ i. IsImage (F.told files.old) name.now (picture i)) }
-    ensures halt { IfErr result (HaltsInApp (files_seen (F.told files.old) (F.read_faults files.old) (F.put_faults files.old) (F.last_failing files.old)) (files_seen (F.told files.new) (F.read_faults files.new) (F.put_faults files.new) (F.last_failing files.new)) name.now) }
-    ensures later { F.read_faults files.old ≤ F.read_faults files.new }
-    ensures contents { F.told files.new ≡ F.told files.old }
-    ensures puts { F.put_faults files.new ≡ F.put_faults files.old }
+    ensures image { IfOk result (λ i. IsImage (F.seen files.old).told name.now (picture i)) }
+    ensures halt { IfErr result (HaltsInApp (F.seen files.old) (F.seen files.new) name.now) }
+    ensures later { (F.seen files.old).read_faults ≤ (F.seen files.new).read_faults }
+    ensures contents { (F.seen files.new).told ≡ (F.seen files.old).told }
+    ensures puts { (F.seen files.new).put_faults ≡ (F.seen files.old).put_faults }
 {
     let bytes = match read_contents(alloc, files, name) {
         Ok(bytes) => bytes,

@@ -3,7 +3,6 @@ ghost use Rattle.std.specs.Prelude.{◌≡◌, ◌≤◌, ℕ, IfOk, IfErr};
 ghost use Rattle.image_format.specs.Images.{picture};
 ghost use Rattle.command_line.specs.CommandLine.{run as run_job, go as go_job};
 ghost use Rattle.command_line.specs.declared.job.Detail.{Detail};
-ghost use Rattle.trace_cli.specs.Seen.{files_seen};
 ghost use Rattle.trace_cli.specs.Sources.{image_file, script_file};
 ghost use Rattle.trace_cli.specs.Stops.{HaltsAt};
 ghost use Rattle.trace_cli.specs.Ready.{IsImageFile, IsSet, IsReady, Halts};
@@ -18,11 +17,11 @@ use std::alloc::Global;
 
 /// The image under a name.
 pub fn read_image<F: Files>(alloc: Global, files: &mut F, name: &str) -> Result<Image, Halt>
-    ensures image { IfOk result (λ i. IsImageFile (F.told files.old) name.now (picture i)) }
-    ensures halt { IfErr result (HaltsAt (files_seen (F.told files.old) (F.read_faults files.old) (F.put_faults files.old) (F.last_failing files.old)) (files_seen (F.told files.new) (F.read_faults files.new) (F.put_faults files.new) (F.last_failing files.new)) (image_file name.now)) }
-    ensures later { F.read_faults files.old ≤ F.read_faults files.new }
-    ensures contents { F.told files.new ≡ F.told files.old }
-    ensures puts { F.put_faults files.new ≡ F.put_faults files.old }
+    ensures image { IfOk result (λ i. IsImageFile (F.seen files.old).told name.now (picture i)) }
+    ensures halt { IfErr result (HaltsAt (F.seen files.old) (F.seen files.new) (image_file name.now)) }
+    ensures later { (F.seen files.old).read_faults ≤ (F.seen files.new).read_faults }
+    ensures contents { (F.seen files.new).told ≡ (F.seen files.old).told }
+    ensures puts { (F.seen files.new).put_faults ≡ (F.seen files.old).put_faults }
 {
     let bytes = match read_contents(alloc, files, name) {
         Ok(bytes) => bytes,
@@ -41,11 +40,11 @@ fn set_up<F: Files>(
     image: &Image,
     script: &str,
 ) -> Result<Board, Halt>
-    ensures set { IfOk result (IsSet (F.told files.old) (picture image.now) script.now) }
-    ensures halt { IfErr result (HaltsAt (files_seen (F.told files.old) (F.read_faults files.old) (F.put_faults files.old) (F.last_failing files.old)) (files_seen (F.told files.new) (F.read_faults files.new) (F.put_faults files.new) (F.last_failing files.new)) (script_file script.now)) }
-    ensures later { F.read_faults files.old ≤ F.read_faults files.new }
-    ensures contents { F.told files.new ≡ F.told files.old }
-    ensures puts { F.put_faults files.new ≡ F.put_faults files.old }
+    ensures set { IfOk result (IsSet (F.seen files.old).told (picture image.now) script.now) }
+    ensures halt { IfErr result (HaltsAt (F.seen files.old) (F.seen files.new) (script_file script.now)) }
+    ensures later { (F.seen files.old).read_faults ≤ (F.seen files.new).read_faults }
+    ensures contents { (F.seen files.new).told ≡ (F.seen files.old).told }
+    ensures puts { (F.seen files.new).put_faults ≡ (F.seen files.old).put_faults }
 {
     let bytes = match read_contents(alloc, files, script) {
         Ok(bytes) => bytes,
@@ -68,11 +67,11 @@ pub fn prepare_run<F: Files>(
     image: &str,
     script: &str,
 ) -> Result<Board, Halt>
-    ensures ready { (n : ℕ) (detail : Detail) → IfOk result (IsReady (run_job image.now script.now n detail) (F.told files.old) n detail) }
-    ensures halt { (n : ℕ) (detail : Detail) → IfErr result (Halts (run_job image.now script.now n detail) (files_seen (F.told files.old) (F.read_faults files.old) (F.put_faults files.old) (F.last_failing files.old)) (files_seen (F.told files.new) (F.read_faults files.new) (F.put_faults files.new) (F.last_failing files.new))) }
-    ensures later { F.read_faults files.old ≤ F.read_faults files.new }
-    ensures contents { F.told files.new ≡ F.told files.old }
-    ensures puts { F.put_faults files.new ≡ F.put_faults files.old }
+    ensures ready { (n : ℕ) (detail : Detail) → IfOk result (IsReady (run_job image.now script.now n detail) (F.seen files.old).told n detail) }
+    ensures halt { (n : ℕ) (detail : Detail) → IfErr result (Halts (run_job image.now script.now n detail) (F.seen files.old) (F.seen files.new)) }
+    ensures later { (F.seen files.old).read_faults ≤ (F.seen files.new).read_faults }
+    ensures contents { (F.seen files.new).told ≡ (F.seen files.old).told }
+    ensures puts { (F.seen files.new).put_faults ≡ (F.seen files.old).put_faults }
 {
     match read_image(alloc, files, image) {
         Ok(picture) => set_up(alloc, files, &picture, script),
@@ -87,11 +86,11 @@ pub fn prepare_go<F: Files>(
     app: &str,
     script: &str,
 ) -> Result<Board, Halt>
-    ensures ready { (n : ℕ) (detail : Detail) → IfOk result (IsReady (go_job app.now script.now n detail) (F.told files.old) n detail) }
-    ensures halt { (n : ℕ) (detail : Detail) → IfErr result (Halts (go_job app.now script.now n detail) (files_seen (F.told files.old) (F.read_faults files.old) (F.put_faults files.old) (F.last_failing files.old)) (files_seen (F.told files.new) (F.read_faults files.new) (F.put_faults files.new) (F.last_failing files.new))) }
-    ensures later { F.read_faults files.old ≤ F.read_faults files.new }
-    ensures contents { F.told files.new ≡ F.told files.old }
-    ensures puts { F.put_faults files.new ≡ F.put_faults files.old }
+    ensures ready { (n : ℕ) (detail : Detail) → IfOk result (IsReady (go_job app.now script.now n detail) (F.seen files.old).told n detail) }
+    ensures halt { (n : ℕ) (detail : Detail) → IfErr result (Halts (go_job app.now script.now n detail) (F.seen files.old) (F.seen files.new)) }
+    ensures later { (F.seen files.old).read_faults ≤ (F.seen files.new).read_faults }
+    ensures contents { (F.seen files.new).told ≡ (F.seen files.old).told }
+    ensures puts { (F.seen files.new).put_faults ≡ (F.seen files.old).put_faults }
 {
     match built_image(alloc, files, app) {
         Ok(picture) => set_up(alloc, files, &picture, script),

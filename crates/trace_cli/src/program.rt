@@ -7,7 +7,7 @@ ghost use Rattle.board_model.specs.Script.{Scenario};
 ghost use Rattle.board_core.specs.Stands.{Stands, Stood, turns_of};
 ghost use Rattle.task_table.specs.Start.{start};
 ghost use Rattle.command_line.specs.CommandLine.{Asked, is_taken, build as build_job, run as run_job, go as go_job, list as list_job};
-ghost use Rattle.trace_cli.specs.Seen.{FilesSeen, files_seen, sink_seen};
+ghost use Rattle.outside_io.specs.Seen.{FilesSeen};
 ghost use Rattle.trace_cli.specs.Words.{texts_of, job_in, out_of};
 ghost use Rattle.trace_cli.specs.Verdict.{Verdict, IsVerdict, usage_line, ran, built, level_of, run_of, status_of};
 ghost use Rattle.trace_cli.specs.Told.{Pushed, Says, SaysHalt};
@@ -46,9 +46,9 @@ fn push_run<S: Sink>(
     requires stood { Stood board.old }
     requires fresh { turns_of board.old ≡ 0 }
     requires few { steps ≤ 1000000000 }
-    ensures text { (x : Scenario) → Stands x board.old (start x.setup) → Pushes (S.written out.old) (S.written out.new) (ran steps detail x).text result }
+    ensures text { (x : Scenario) → Stands x board.old (start x.setup) → Pushes (S.seen out.old).written (S.seen out.new).written (ran steps detail x).text result }
     ensures end { (x : Scenario) → Stands x board.old (start x.setup) → IfOk result (λ e. e ≡ (run_of (level_of detail) steps x).end) }
-    ensures cause { HasCause (S.faults out.old) (S.faults out.new) result }
+    ensures cause { HasCause (S.seen out.old).faults (S.seen out.new).faults result }
 {
     let end = run(board, steps, level_of(detail), out)?;
     if detail.memory {
@@ -62,7 +62,7 @@ fn tell_run<S: Sink>(board: &mut Board, steps: u32, detail: Detail, out: &mut S)
     requires stood { Stood board.old }
     requires fresh { turns_of board.old ≡ 0 }
     requires few { steps ≤ 1000000000 }
-    ensures { (x : Scenario) → Stands x board.old (start x.setup) → Pushed (sink_seen (S.written out.old) (S.faults out.old)) (sink_seen (S.written out.new) (S.faults out.new)) (ran steps detail x) result }
+    ensures { (x : Scenario) → Stands x board.old (start x.setup) → Pushed (S.seen out.old) (S.seen out.new) (ran steps detail x) result }
 {
     match push_run(board, steps, detail, out) {
         Ok(end) => status_by(end),
@@ -82,7 +82,7 @@ fn play<S: Sink>(
     requires ready { IfOk prepared (λ b. Stood b × (turns_of b ≡ 0)) }
     ensures { (job : Asked) (before after : FilesSeen) → after.told ≡ before.told
         → IfOk prepared (IsReady job before.told steps detail) → IfErr prepared (Halts job before after)
-        → AnswersJob job before after (sink_seen (S.written out.old) (S.faults out.old)) (sink_seen (S.written out.new) (S.faults out.new)) result }
+        → AnswersJob job before after (S.seen out.old) (S.seen out.new) result }
 {
     match prepared {
         Ok(board) => {
@@ -104,10 +104,10 @@ fn run_files<F: Files, S: Sink>(
     out: &mut S,
 ) -> u8
     requires few { steps ≤ 1000000000 }
-    ensures answer { AnswersJob (run_job image.now script.now steps detail) (files_seen (F.told files.old) (F.read_faults files.old) (F.put_faults files.old) (F.last_failing files.old)) (files_seen (F.told files.new) (F.read_faults files.new) (F.put_faults files.new) (F.last_failing files.new)) (sink_seen (S.written out.old) (S.faults out.old)) (sink_seen (S.written out.new) (S.faults out.new)) result }
-    ensures later { F.read_faults files.old ≤ F.read_faults files.new }
-    ensures contents { F.told files.new ≡ F.told files.old }
-    ensures puts { F.put_faults files.new ≡ F.put_faults files.old }
+    ensures answer { AnswersJob (run_job image.now script.now steps detail) (F.seen files.old) (F.seen files.new) (S.seen out.old) (S.seen out.new) result }
+    ensures later { (F.seen files.old).read_faults ≤ (F.seen files.new).read_faults }
+    ensures contents { (F.seen files.new).told ≡ (F.seen files.old).told }
+    ensures puts { (F.seen files.new).put_faults ≡ (F.seen files.old).put_faults }
 {
     let prepared = prepare_run(alloc, files, image, script);
     play(alloc, prepared, steps, detail, out)
@@ -124,10 +124,10 @@ fn go_files<F: Files, S: Sink>(
     out: &mut S,
 ) -> u8
     requires few { steps ≤ 1000000000 }
-    ensures answer { AnswersJob (go_job app.now script.now steps detail) (files_seen (F.told files.old) (F.read_faults files.old) (F.put_faults files.old) (F.last_failing files.old)) (files_seen (F.told files.new) (F.read_faults files.new) (F.put_faults files.new) (F.last_failing files.new)) (sink_seen (S.written out.old) (S.faults out.old)) (sink_seen (S.written out.new) (S.faults out.new)) result }
-    ensures later { F.read_faults files.old ≤ F.read_faults files.new }
-    ensures contents { F.told files.new ≡ F.told files.old }
-    ensures puts { F.put_faults files.new ≡ F.put_faults files.old }
+    ensures answer { AnswersJob (go_job app.now script.now steps detail) (F.seen files.old) (F.seen files.new) (S.seen out.old) (S.seen out.new) result }
+    ensures later { (F.seen files.old).read_faults ≤ (F.seen files.new).read_faults }
+    ensures contents { (F.seen files.new).told ≡ (F.seen files.old).told }
+    ensures puts { (F.seen files.new).put_faults ≡ (F.seen files.old).put_faults }
 {
     let prepared = prepare_go(alloc, files, app, script);
     play(alloc, prepared, steps, detail, out)
@@ -135,10 +135,10 @@ fn go_files<F: Files, S: Sink>(
 
 // `list IMAGE`.
 fn list_file<F: Files, S: Sink>(alloc: Global, image: &str, files: &mut F, out: &mut S) -> u8
-    ensures answer { AnswersJob (list_job image.now) (files_seen (F.told files.old) (F.read_faults files.old) (F.put_faults files.old) (F.last_failing files.old)) (files_seen (F.told files.new) (F.read_faults files.new) (F.put_faults files.new) (F.last_failing files.new)) (sink_seen (S.written out.old) (S.faults out.old)) (sink_seen (S.written out.new) (S.faults out.new)) result }
-    ensures later { F.read_faults files.old ≤ F.read_faults files.new }
-    ensures contents { F.told files.new ≡ F.told files.old }
-    ensures puts { F.put_faults files.new ≡ F.put_faults files.old }
+    ensures answer { AnswersJob (list_job image.now) (F.seen files.old) (F.seen files.new) (S.seen out.old) (S.seen out.new) result }
+    ensures later { (F.seen files.old).read_faults ≤ (F.seen files.new).read_faults }
+    ensures contents { (F.seen files.new).told ≡ (F.seen files.old).told }
+    ensures puts { (F.seen files.new).put_faults ≡ (F.seen files.old).put_faults }
 {
     match read_image(alloc, files, image) {
         Ok(picture) => tell_listing(alloc, &picture, out),
@@ -154,9 +154,9 @@ fn put_image<F: Files, S: Sink>(
     files: &mut F,
     out: &mut S,
 ) -> u8
-    ensures tells { Tells (files_seen (F.told files.old) (F.read_faults files.old) (F.put_faults files.old) (F.last_failing files.old)) (files_seen (F.told files.new) (F.read_faults files.new) (F.put_faults files.new) (F.last_failing files.new)) (sink_seen (S.written out.old) (S.faults out.old)) (sink_seen (S.written out.new) (S.faults out.new)) (built name.now (picture image.now)) result }
-    ensures reads { F.read_faults files.new ≡ F.read_faults files.old }
-    ensures puts { F.put_faults files.old ≤ F.put_faults files.new }
+    ensures tells { Tells (F.seen files.old) (F.seen files.new) (S.seen out.old) (S.seen out.new) (built name.now (picture image.now)) result }
+    ensures reads { (F.seen files.new).read_faults ≡ (F.seen files.old).read_faults }
+    ensures puts { (F.seen files.old).put_faults ≤ (F.seen files.new).put_faults }
 {
     let bytes = match image.write() {
         Ok(bytes) => bytes,
@@ -180,9 +180,9 @@ fn build_file<F: Files, S: Sink>(
     files: &mut F,
     out: &mut S,
 ) -> u8
-    ensures answer { AnswersJob (build_job app.now name.now) (files_seen (F.told files.old) (F.read_faults files.old) (F.put_faults files.old) (F.last_failing files.old)) (files_seen (F.told files.new) (F.read_faults files.new) (F.put_faults files.new) (F.last_failing files.new)) (sink_seen (S.written out.old) (S.faults out.old)) (sink_seen (S.written out.new) (S.faults out.new)) result }
-    ensures later { F.read_faults files.old ≤ F.read_faults files.new }
-    ensures puts { F.put_faults files.old ≤ F.put_faults files.new }
+    ensures answer { AnswersJob (build_job app.now name.now) (F.seen files.old) (F.seen files.new) (S.seen out.old) (S.seen out.new) result }
+    ensures later { (F.seen files.old).read_faults ≤ (F.seen files.new).read_faults }
+    ensures puts { (F.seen files.old).put_faults ≤ (F.seen files.new).put_faults }
 {
     match built_image(alloc, files, app) {
         Ok(image) => put_image(alloc, &image, name, files, out),
@@ -191,10 +191,10 @@ fn build_file<F: Files, S: Sink>(
 }
 
 fn answer<F: Files, S: Sink>(alloc: Global, words: &[String], files: &mut F, out: &mut S) -> u8
-    ensures answer { Answers (texts_of words.now) (files_seen (F.told files.old) (F.read_faults files.old) (F.put_faults files.old) (F.last_failing files.old)) (files_seen (F.told files.new) (F.read_faults files.new) (F.put_faults files.new) (F.last_failing files.new)) (sink_seen (S.written out.old) (S.faults out.old)) (sink_seen (S.written out.new) (S.faults out.new)) result }
-    ensures later { F.read_faults files.old ≤ F.read_faults files.new }
-    ensures puts { F.put_faults files.old ≤ F.put_faults files.new }
-    ensures no_put { out_of (job_in (texts_of words.now)) ≡ None → F.put_faults files.new ≡ F.put_faults files.old }
+    ensures answer { Answers (texts_of words.now) (F.seen files.old) (F.seen files.new) (S.seen out.old) (S.seen out.new) result }
+    ensures later { (F.seen files.old).read_faults ≤ (F.seen files.new).read_faults }
+    ensures puts { (F.seen files.old).put_faults ≤ (F.seen files.new).put_faults }
+    ensures no_put { out_of (job_in (texts_of words.now)) ≡ None → (F.seen files.new).put_faults ≡ (F.seen files.old).put_faults }
 {
     match read_words(alloc, words) {
         Ok(Job::Build { app, out: name }) => build_file(alloc, app, name, files, out),
@@ -246,25 +246,25 @@ pub fn hubris_main<F: Files, S: Sink>(
     // pushed; or the count of failed puts rose, the status is 4, and nothing was pushed; or memory is
     // short, the status is 5, and nothing was pushed or put; or the count of failed reads rose, and the
     // same holds of the line of a file that cannot be read.
-    ensures told { (v : Verdict) → IsVerdict (texts_of words.now) (F.told files.old) v → Answered (texts_of words.now) (files_seen (F.told files.old) (F.read_faults files.old) (F.put_faults files.old) (F.last_failing files.old)) (files_seen (F.told files.new) (F.read_faults files.new) (F.put_faults files.new) (F.last_failing files.new)) (sink_seen (S.written out.old) (S.faults out.old)) (sink_seen (S.written out.new) (S.faults out.new)) v result }
-    ensures complete { ¬ Rose (F.read_faults files.old) (F.read_faults files.new) → ¬ Rose (F.put_faults files.old) (F.put_faults files.new) → ¬ Rose (S.faults out.old) (S.faults out.new) →
-        (v : Verdict) → IsVerdict (texts_of words.now) (F.told files.old) v → IsComplete (files_seen (F.told files.old) (F.read_faults files.old) (F.put_faults files.old) (F.last_failing files.old)) (files_seen (F.told files.new) (F.read_faults files.new) (F.put_faults files.new) (F.last_failing files.new)) (sink_seen (S.written out.old) (S.faults out.old)) (sink_seen (S.written out.new) (S.faults out.new)) v result }
+    ensures told { (v : Verdict) → IsVerdict (texts_of words.now) (F.seen files.old).told v → Answered (texts_of words.now) (F.seen files.old) (F.seen files.new) (S.seen out.old) (S.seen out.new) v result }
+    ensures complete { ¬ Rose (F.seen files.old).read_faults (F.seen files.new).read_faults → ¬ Rose (F.seen files.old).put_faults (F.seen files.new).put_faults → ¬ Rose (S.seen out.old).faults (S.seen out.new).faults →
+        (v : Verdict) → IsVerdict (texts_of words.now) (F.seen files.old).told v → IsComplete (F.seen files.old) (F.seen files.new) (S.seen out.old) (S.seen out.new) v result }
 
     // When each status comes, and what was pushed and put with it.
-    ensures done { result ≡ 0 → HasDone (texts_of words.now) (files_seen (F.told files.old) (F.read_faults files.old) (F.put_faults files.old) (F.last_failing files.old)) (files_seen (F.told files.new) (F.read_faults files.new) (F.put_faults files.new) (F.last_failing files.new)) (sink_seen (S.written out.old) (S.faults out.old)) (sink_seen (S.written out.new) (S.faults out.new)) }
-    ensures refused { result ≡ 1 → HasRefused (texts_of words.now) (F.told files.old) (sink_seen (S.written out.old) (S.faults out.old)) (sink_seen (S.written out.new) (S.faults out.new)) }
-    ensures no_command { result ≡ 2 → (is_taken (texts_of words.now) ≡ false) × Appends (S.written out.old) (S.written out.new) usage_line }
-    ensures unread { result ≡ 3 → HasUnread (texts_of words.now) (files_seen (F.told files.old) (F.read_faults files.old) (F.put_faults files.old) (F.last_failing files.old)) (files_seen (F.told files.new) (F.read_faults files.new) (F.put_faults files.new) (F.last_failing files.new)) (sink_seen (S.written out.old) (S.faults out.old)) (sink_seen (S.written out.new) (S.faults out.new)) }
-    ensures cut { result ≡ 4 → HasFront (texts_of words.now) (files_seen (F.told files.old) (F.read_faults files.old) (F.put_faults files.old) (F.last_failing files.old)) (files_seen (F.told files.new) (F.read_faults files.new) (F.put_faults files.new) (F.last_failing files.new)) (sink_seen (S.written out.old) (S.faults out.old)) (sink_seen (S.written out.new) (S.faults out.new)) }
-    ensures short { result ≡ 5 → (S.written out.new ≡ S.written out.old) × (S.faults out.new ≡ S.faults out.old) × (F.told files.new ≡ F.told files.old) }
-    ensures supervisor { result ≡ 6 → HasPlayed (texts_of words.now) (F.told files.old) (sink_seen (S.written out.old) (S.faults out.old)) (sink_seen (S.written out.new) (S.faults out.new)) 6 }
+    ensures done { result ≡ 0 → HasDone (texts_of words.now) (F.seen files.old) (F.seen files.new) (S.seen out.old) (S.seen out.new) }
+    ensures refused { result ≡ 1 → HasRefused (texts_of words.now) (F.seen files.old).told (S.seen out.old) (S.seen out.new) }
+    ensures no_command { result ≡ 2 → (is_taken (texts_of words.now) ≡ false) × Appends (S.seen out.old).written (S.seen out.new).written usage_line }
+    ensures unread { result ≡ 3 → HasUnread (texts_of words.now) (F.seen files.old) (F.seen files.new) (S.seen out.old) (S.seen out.new) }
+    ensures cut { result ≡ 4 → HasFront (texts_of words.now) (F.seen files.old) (F.seen files.new) (S.seen out.old) (S.seen out.new) }
+    ensures short { result ≡ 5 → ((S.seen out.new).written ≡ (S.seen out.old).written) × ((S.seen out.new).faults ≡ (S.seen out.old).faults) × ((F.seen files.new).told ≡ (F.seen files.old).told) }
+    ensures supervisor { result ≡ 6 → HasPlayed (texts_of words.now) (F.seen files.old).told (S.seen out.old) (S.seen out.new) 6 }
     ensures known { result ≤ 6 }
 
     // Only the file under OUT is changed, and only under the statuses 0 and 4.
-    ensures others { (name : List ℕ) → out_of (job_in (texts_of words.now)) ≢ Some name → F.told files.new name ≡ F.told files.old name }
-    ensures kept { result ≢ 0 → result ≢ 4 → F.told files.new ≡ F.told files.old }
-    ensures no_put { out_of (job_in (texts_of words.now)) ≡ None → F.put_faults files.new ≡ F.put_faults files.old }
-    ensures later { (F.read_faults files.old ≤ F.read_faults files.new) × (F.put_faults files.old ≤ F.put_faults files.new) }
+    ensures others { (name : List ℕ) → out_of (job_in (texts_of words.now)) ≢ Some name → (F.seen files.new).told name ≡ (F.seen files.old).told name }
+    ensures kept { result ≢ 0 → result ≢ 4 → (F.seen files.new).told ≡ (F.seen files.old).told }
+    ensures no_put { out_of (job_in (texts_of words.now)) ≡ None → (F.seen files.new).put_faults ≡ (F.seen files.old).put_faults }
+    ensures later { ((F.seen files.old).read_faults ≤ (F.seen files.new).read_faults) × ((F.seen files.old).put_faults ≤ (F.seen files.new).put_faults) }
 {
     answer(alloc, words, files, out)
 }

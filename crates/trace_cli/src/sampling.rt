@@ -10,7 +10,7 @@ ghost use Rattle.image_format.specs.Images.{picture};
 ghost use Rattle.task_table.specs.Start.{start};
 ghost use Rattle.trace_cli.specs.Answer.{AnswersJob};
 ghost use Rattle.trace_cli.specs.Ready.{IsSampleReady};
-ghost use Rattle.trace_cli.specs.Seen.{FilesSeen, sink_seen};
+ghost use Rattle.outside_io.specs.Seen.{FilesSeen};
 ghost use Rattle.trace_cli.specs.Told.{Pushed};
 ghost use Rattle.trace_cli.specs.Verdict.{sampled};
 
@@ -60,7 +60,7 @@ fn tell_sample<S: Sink>(board: &mut Board, steps: u32, out: &mut S) -> u8
     requires stood { Stood board.old }
     requires fresh { turns_of board.old ≡ 0 }
     requires few { steps ≤ 1000000000 }
-    ensures { (x : Scenario) → Stands x board.old (start x.setup) → Pushed (sink_seen (S.written out.old) (S.faults out.old)) (sink_seen (S.written out.new) (S.faults out.new)) (sampled steps x) result }
+    ensures { (x : Scenario) → Stands x board.old (start x.setup) → Pushed (S.seen out.old) (S.seen out.new) (sampled steps x) result }
 {
     match summarize(board, steps, out) {
         Ok(end) => status_by(end),
@@ -72,7 +72,7 @@ fn tell_sample<S: Sink>(board: &mut Board, steps: u32, out: &mut S) -> u8
 pub fn run_sample<S: Sink>(alloc: Global, seed: u32, steps: u32, out: &mut S) -> u8
     requires few { steps ≤ 1000000000 }
     ensures { (before after : FilesSeen) → after.told ≡ before.told
-        → AnswersJob (sample_job seed steps) before after (sink_seen (S.written out.old) (S.faults out.old)) (sink_seen (S.written out.new) (S.faults out.new)) result }
+        → AnswersJob (sample_job seed steps) before after (S.seen out.old) (S.seen out.new) result }
 {
     match prepare_sample(alloc, seed) {
         Ok(board) => {

@@ -5,7 +5,6 @@ ghost use Rattle.app_toml.specs.Reading.{read_app};
 ghost use Rattle.image_format.specs.Images.{picture};
 ghost use Rattle.run_script.specs.Events.{script_data};
 ghost use Rattle.trace_cli.specs.Contents.{image_refusal, picture_of, script_refusal, script_of, app_refusal};
-ghost use Rattle.trace_cli.specs.Seen.{files_seen};
 ghost use Rattle.trace_cli.specs.Sources.{MayBe};
 ghost use Rattle.trace_cli.specs.Stops.{StopsAt, CannotTake};
 
@@ -21,12 +20,12 @@ const LIMIT: usize = 2_097_152;
 
 /// The contents under a name.
 pub fn read_contents<F: Files>(alloc: Global, files: &mut F, name: &str) -> Result<Vec<u8>, Stop>
-    ensures held { IfOk result (λ v. MayBe (F.told files.old) name.now v.items) }
+    ensures held { IfOk result (λ v. MayBe (F.seen files.old).told name.now v.items) }
     ensures few { IfOk result (λ v. length v.items ≤ 2097152) }
-    ensures stop { IfErr result (CannotTake (files_seen (F.told files.old) (F.read_faults files.old) (F.put_faults files.old) (F.last_failing files.old)) (files_seen (F.told files.new) (F.read_faults files.new) (F.put_faults files.new) (F.last_failing files.new)) name.now) }
-    ensures later { F.read_faults files.old ≤ F.read_faults files.new }
-    ensures contents { F.told files.new ≡ F.told files.old }
-    ensures puts { F.put_faults files.new ≡ F.put_faults files.old }
+    ensures stop { IfErr result (CannotTake (F.seen files.old) (F.seen files.new) name.now) }
+    ensures later { (F.seen files.old).read_faults ≤ (F.seen files.new).read_faults }
+    ensures contents { (F.seen files.new).told ≡ (F.seen files.old).told }
+    ensures puts { (F.seen files.new).put_faults ≡ (F.seen files.old).put_faults }
 {
     match read_all(alloc, files, name, LIMIT) {
         Ok(bytes) => Ok(bytes),

@@ -3,7 +3,7 @@ ghost use Rattle.std.specs.Prelude.{◌≡◌, ◌≤◌, ℕ, List, length, Som
 ghost use Rattle.app_toml.specs.Apps.{AppData};
 ghost use Rattle.image_build.specs.Building.{LacksRoom, RefusesSource};
 ghost use Rattle.trace_cli.specs.Contents.{at_number, room_refusal, source_refusal};
-ghost use Rattle.trace_cli.specs.Seen.{FilesSeen};
+ghost use Rattle.outside_io.specs.Seen.{FilesSeen};
 ghost use Rattle.trace_cli.specs.Sources.{File};
 ghost use Rattle.trace_cli.specs.Stops.{StopsAt, Stops, HaltsAt};
 

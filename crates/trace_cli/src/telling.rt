@@ -1,7 +1,6 @@
 //! One line, and the status that goes with it.
 ghost use Rattle.std.specs.Prelude.{◌≡◌, ℕ, IfOk, string_bytes};
 ghost use Rattle.image_format.specs.Images.{picture};
-ghost use Rattle.trace_cli.specs.Seen.{sink_seen};
 ghost use Rattle.trace_cli.specs.Told.{Pushed, Says, SaysHalt};
 ghost use Rattle.trace_cli.specs.Verdict.{Verdict, usage, unread, refused, refused_front, refused_line, unread_line, built_line, listed, listing_line, status_of};
 
@@ -24,7 +23,7 @@ pub fn status_by(end: End) -> u8
 
 /// A line alone, in one push.
 pub fn tell<S: Sink>(line: &[u8], status: u8, out: &mut S) -> u8
-    ensures { (v : Verdict) → v.status ≡ status → v.text ≡ line.now → Pushed (sink_seen (S.written out.old) (S.faults out.old)) (sink_seen (S.written out.new) (S.faults out.new)) v result }
+    ensures { (v : Verdict) → v.status ≡ status → v.text ≡ line.now → Pushed (S.seen out.old) (S.seen out.new) v result }
 {
     match out.push(line) {
         Ok(()) => status,
@@ -33,7 +32,7 @@ pub fn tell<S: Sink>(line: &[u8], status: u8, out: &mut S) -> u8
 }
 
 pub fn tell_usage<S: Sink>(out: &mut S) -> u8
-    ensures { Says (sink_seen (S.written out.old) (S.faults out.old)) (sink_seen (S.written out.new) (S.faults out.new)) usage result }
+    ensures { Says (S.seen out.old) (S.seen out.new) usage result }
 {
     tell(
         "usage: hubris build, run, go, list or sample\n".as_bytes(),
@@ -51,7 +50,7 @@ fn line_of_unread(alloc: Global, name: &str) -> Result<String, AllocError>
 
 // That a file cannot be read.
 fn tell_unread<S: Sink>(alloc: Global, name: &str, out: &mut S) -> u8
-    ensures { Says (sink_seen (S.written out.old) (S.faults out.old)) (sink_seen (S.written out.new) (S.faults out.new)) (unread name.now) result }
+    ensures { Says (S.seen out.old) (S.seen out.new) (unread name.now) result }
 {
     match line_of_unread(alloc, name) {
         Ok(line) => tell(line.as_bytes(), 3, out),
@@ -79,7 +78,7 @@ fn line_of_refused(alloc: Global, name: &str, cause: u8, place: &str) -> Result<
 
 // That a file is refused, with the cause and the place.
 fn tell_refused<S: Sink>(alloc: Global, name: &str, cause: u8, place: &str, out: &mut S) -> u8
-    ensures { Says (sink_seen (S.written out.old) (S.faults out.old)) (sink_seen (S.written out.new) (S.faults out.new)) (refused name.now (cause, place.now)) result }
+    ensures { Says (S.seen out.old) (S.seen out.new) (refused name.now (cause, place.now)) result }
 {
     match line_of_refused(alloc, name, cause, place) {
         Ok(line) => tell(line.as_bytes(), 1, out),
@@ -97,7 +96,7 @@ fn line_of_listing(alloc: Global, image: &Image) -> Result<String, AllocError>
 
 /// What an image says.
 pub fn tell_listing<S: Sink>(alloc: Global, image: &Image, out: &mut S) -> u8
-    ensures { Says (sink_seen (S.written out.old) (S.faults out.old)) (sink_seen (S.written out.new) (S.faults out.new)) (listed (picture image.now)) result }
+    ensures { Says (S.seen out.old) (S.seen out.new) (listed (picture image.now)) result }
 {
     match line_of_listing(alloc, image) {
         Ok(line) => tell(line.as_bytes(), 0, out),
@@ -115,7 +114,7 @@ pub fn line_of_built(alloc: Global, bytes: usize) -> Result<String, AllocError>
 
 /// What is told of a file that is not taken.
 pub fn tell_halt<S: Sink>(alloc: Global, halt: &Halt, out: &mut S) -> u8
-    ensures { SaysHalt (sink_seen (S.written out.old) (S.faults out.old)) (sink_seen (S.written out.new) (S.faults out.new)) halt.now result }
+    ensures { SaysHalt (S.seen out.old) (S.seen out.new) halt.now result }
 {
     match halt {
         Halt::Memory => 5,

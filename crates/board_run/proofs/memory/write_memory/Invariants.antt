@@ -8,6 +8,6 @@ use Rattle.board_run.proofs.memory.write_memory.Given as goal
 
 abbrev pub invariant-loop-k : goal.invariant-loop-k
 invariant-loop-k g l = record {
-  pushed : (x : Scenario) (s : State) → Stands x l.board s → Appends (g.S.Sink.written l.fn.out) (g.S.Sink.written l.out) (places_text x.setup s.memory l.k);
-  later : g.S.Sink.faults l.fn.out ≤ g.S.Sink.faults l.out;
+  pushed : (x : Scenario) (s : State) → Stands x l.board s → Appends (g.S.Sink.seen l.fn.out).written (g.S.Sink.seen l.out).written (places_text x.setup s.memory l.k);
+  later : (g.S.Sink.seen l.fn.out).faults ≤ (g.S.Sink.seen l.out).faults;
 }

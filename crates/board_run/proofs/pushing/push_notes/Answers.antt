@@ -8,7 +8,7 @@ pub loop-note-preserved : goal.loop-note-preserved
 loop-note-preserved g c =
     let i = c.loop-note.note-index in
     let within : i < length c.args.notes.now = omega arith in
-    let P : List ℕ → Type 0 = λ w. Appends (g.S.Sink.written c.args.out.now) (g.S.Sink.written c.push_note.new.out) w in
+    let P : List ℕ → Type 0 = λ w. Appends (g.S.Sink.seen c.args.out.now).written (g.S.Sink.seen c.push_note.new.out).written w in
     record {
       pushed = subst P (sym (notes_more c.new-begun.result.number c.args.notes.now i _ within)) (appends_more _ _ _ _ _ c.loop-note.invariant.pushed c.in_ok-push_note.ensures.bytes);
       later = omega (arith, c.loop-note.invariant.later, c.in_ok-push_note.ensures.cause.later);

@@ -6,6 +6,6 @@ use Rattle.board_run.proofs.pushing.push_notes.Given as goal
 
 abbrev pub invariant-loop-note : goal.invariant-loop-note
 invariant-loop-note g l = record {
-  pushed : Appends (g.S.Sink.written l.fn.out) (g.S.Sink.written l.out) (notes_text (at_turn l.begun.number (take l.note-index l.notes)));
-  later : g.S.Sink.faults l.fn.out ≤ g.S.Sink.faults l.out;
+  pushed : Appends (g.S.Sink.seen l.fn.out).written (g.S.Sink.seen l.out).written (notes_text (at_turn l.begun.number (take l.note-index l.notes)));
+  later : (g.S.Sink.seen l.fn.out).faults ≤ (g.S.Sink.seen l.out).faults;
 }

@@ -8,6 +8,6 @@ use Rattle.board_run.proofs.pushing.push_tasks.Given as goal
 
 abbrev pub invariant-loop-i : goal.invariant-loop-i
 invariant-loop-i g l = record {
-  pushed : (x : Scenario) (s : State) → Stands x l.board s → Appends (g.S.Sink.written l.fn.out) (g.S.Sink.written l.out) (tasks_text s l.i);
-  later : g.S.Sink.faults l.fn.out ≤ g.S.Sink.faults l.out;
+  pushed : (x : Scenario) (s : State) → Stands x l.board s → Appends (g.S.Sink.seen l.fn.out).written (g.S.Sink.seen l.out).written (tasks_text s l.i);
+  later : (g.S.Sink.seen l.fn.out).faults ≤ (g.S.Sink.seen l.out).faults;
 }

@@ -4,13 +4,13 @@ use Rattle.outside_io.proofs.reading.read_all.Given as goal
 
 abbrev pub invariant-pieces : goal.invariant-pieces
 invariant-pieces g l = record {
-  front : WhereTold (g.F.Files.told l.fn.files l.name) (λ all. (l.out.items ≡ take (vec_len l.out) all) × (vec_len l.out ≤ length all));
-  given : raised (g.F.Files.given l.fn.files) (vec_len l.out) ≤ g.F.Files.given l.files;
-  most : g.F.Files.given l.files ≤ g.F.Files.given l.fn.files + vec_len l.out;
-  grown : g.F.Files.given l.fn.files ≤ g.F.Files.given l.files;
-  later : g.F.Files.read_faults l.fn.files ≤ g.F.Files.read_faults l.files;
-  contents : g.F.Files.told l.files ≡ g.F.Files.told l.fn.files;
-  puts : g.F.Files.put_faults l.files ≡ g.F.Files.put_faults l.fn.files;
+  front : WhereTold ((g.F.Files.seen l.fn.files).told l.name) (λ all. (l.out.items ≡ take (vec_len l.out) all) × (vec_len l.out ≤ length all));
+  given : raised (g.F.Files.seen l.fn.files).given (vec_len l.out) ≤ (g.F.Files.seen l.files).given;
+  most : (g.F.Files.seen l.files).given ≤ (g.F.Files.seen l.fn.files).given + vec_len l.out;
+  grown : (g.F.Files.seen l.fn.files).given ≤ (g.F.Files.seen l.files).given;
+  later : (g.F.Files.seen l.fn.files).read_faults ≤ (g.F.Files.seen l.files).read_faults;
+  contents : (g.F.Files.seen l.files).told ≡ (g.F.Files.seen l.fn.files).told;
+  puts : (g.F.Files.seen l.files).put_faults ≡ (g.F.Files.seen l.fn.files).put_faults;
   small : vec_len l.out ≤ l.limit + 4096;
 }
 

@@ -2,7 +2,6 @@ use Rattle.std.proofs.Common.{◌≤◌, ℕ, List, length, refl, sym, subst}
 use Rattle.std.proofs.lemmas.Result.{IfOk-weaker, IfErr-weaker}
 use Rattle.app_toml.specs.Held.{app_of}
 use Rattle.image_format.specs.Images.{picture}
-use Rattle.trace_cli.specs.Seen.{files_seen}
 use Rattle.trace_cli.specs.Sources.{app_file, MayBe}
 use Rattle.trace_cli.specs.Stops.{StopsAt}
 use Rattle.trace_cli.specs.Building.{IsImageOf}
@@ -13,26 +12,26 @@ use Rattle.trace_cli.proofs.building.built_image.Goals as goal
 
 pub returns-in-Err-clause-halt : goal.returns-in-Err-clause-halt
 returns-in-Err-clause-halt g c =
-    let a = files_seen (g.F.Files.told c.args.files.now) (g.F.Files.read_faults c.args.files.now) (g.F.Files.put_faults c.args.files.now) (g.F.Files.last_failing c.args.files.now) in
-    let b = files_seen (g.F.Files.told c.read_contents.new.files) (g.F.Files.read_faults c.read_contents.new.files) (g.F.Files.put_faults c.read_contents.new.files) (g.F.Files.last_failing c.read_contents.new.files) in
+    let a = g.F.Files.seen c.args.files.now in
+    let b = g.F.Files.seen c.read_contents.new.files in
     let f = app_file c.args.name.now in
     halts_at_app a b c.args.name.now c.halted.result (c.halted.ensures a b f refl (cannot_take a b f c.in-Err.stop long_app c.in-Err.ensures.stop))
 
 pub returns-in-Err-app_in-clause-halt : goal.returns-in-Err-app_in-clause-halt
 returns-in-Err-app_in-clause-halt g c =
-    let a = files_seen (g.F.Files.told c.args.files.now) (g.F.Files.read_faults c.args.files.now) (g.F.Files.put_faults c.args.files.now) (g.F.Files.last_failing c.args.files.now) in
-    let b = files_seen (g.F.Files.told c.read_contents.new.files) (g.F.Files.read_faults c.read_contents.new.files) (g.F.Files.put_faults c.read_contents.new.files) (g.F.Files.last_failing c.read_contents.new.files) in
+    let a = g.F.Files.seen c.args.files.now in
+    let b = g.F.Files.seen c.read_contents.new.files in
     let f = app_file c.args.name.now in
-    let held = subst (λ (x : List ℕ). MayBe (g.F.Files.told c.args.files.now) c.args.name.now x) (sym c.deref.ensures.value) c.in-Ok.ensures.held in
+    let held = subst (λ (x : List ℕ). MayBe (g.F.Files.seen c.args.files.now).told c.args.name.now x) (sym c.deref.ensures.value) c.in-Ok.ensures.held in
     halts_at_app a b c.args.name.now c.halted-in-Err-app_in.result (c.halted-in-Err-app_in.ensures a b f refl
     (refused_in a b f c.deref.result.now c.in-Err-app_in.stop held c.in-Err-app_in.ensures.stop))
 
 pub returns-clause-halt : goal.returns-clause-halt
 returns-clause-halt g c =
-    let a = files_seen (g.F.Files.told c.args.files.now) (g.F.Files.read_faults c.args.files.now) (g.F.Files.put_faults c.args.files.now) (g.F.Files.last_failing c.args.files.now) in
-    let b = files_seen (g.F.Files.told c.read_contents.new.files) (g.F.Files.read_faults c.read_contents.new.files) (g.F.Files.put_faults c.read_contents.new.files) (g.F.Files.last_failing c.read_contents.new.files) in
+    let a = g.F.Files.seen c.args.files.now in
+    let b = g.F.Files.seen c.read_contents.new.files in
     let f = app_file c.args.name.now in
-    let held = subst (λ (x : List ℕ). MayBe (g.F.Files.told c.args.files.now) c.args.name.now x) (sym c.deref.ensures.value) c.in-Ok.ensures.held in
+    let held = subst (λ (x : List ℕ). MayBe (g.F.Files.seen c.args.files.now).told c.args.name.now x) (sym c.deref.ensures.value) c.in-Ok.ensures.held in
     let few = subst (λ (x : List ℕ). length x ≤ 2097152) (sym c.deref.ensures.value) c.in-Ok.ensures.few in
     let app = app_of c.in-Ok-app_in.app in
     let stops = subst (λ r. StopsAt r c.in-Err-opened.stop) (sym (app_by_room c.deref.result.now app few c.in-Ok-app_in.ensures.app)) c.in-Err-opened.ensures.stop in
@@ -41,19 +40,19 @@ returns-clause-halt g c =
 
 pub returns-in-Ok-opened-clause-image : goal.returns-in-Ok-opened-clause-image
 returns-in-Ok-opened-clause-image g c =
-    let held = subst (λ (x : List ℕ). MayBe (g.F.Files.told c.args.files.now) c.args.name.now x) (sym c.deref.ensures.value) c.in-Ok.ensures.held in
+    let held = subst (λ (x : List ℕ). MayBe (g.F.Files.seen c.args.files.now).told c.args.name.now x) (sym c.deref.ensures.value) c.in-Ok.ensures.held in
     let few = subst (λ (x : List ℕ). length x ≤ 2097152) (sym c.deref.ensures.value) c.in-Ok.ensures.few in
     let app = app_of c.in-Ok-app_in.app in
-    let told = g.F.Files.told c.args.files.now in
+    let told = (g.F.Files.seen c.args.files.now).told in
     IfOk-weaker c.image_of.result _ _ (λ i h. image_of_files told c.args.name.now c.deref.result.now app (picture i) few c.in-Ok-app_in.ensures.app c.in-Ok-opened.ensures.room held
     (subst (λ t. IsImageOf t app (picture i)) c.in-Ok.ensures.contents h)) c.image_of.ensures.image
 
 pub returns-in-Ok-opened-clause-halt : goal.returns-in-Ok-opened-clause-halt
 returns-in-Ok-opened-clause-halt g c =
-    let a = files_seen (g.F.Files.told c.args.files.now) (g.F.Files.read_faults c.args.files.now) (g.F.Files.put_faults c.args.files.now) (g.F.Files.last_failing c.args.files.now) in
-    let b = files_seen (g.F.Files.told c.read_contents.new.files) (g.F.Files.read_faults c.read_contents.new.files) (g.F.Files.put_faults c.read_contents.new.files) (g.F.Files.last_failing c.read_contents.new.files) in
-    let e = files_seen (g.F.Files.told c.image_of.new.files) (g.F.Files.read_faults c.image_of.new.files) (g.F.Files.put_faults c.image_of.new.files) (g.F.Files.last_failing c.image_of.new.files) in
-    let held = subst (λ (x : List ℕ). MayBe (g.F.Files.told c.args.files.now) c.args.name.now x) (sym c.deref.ensures.value) c.in-Ok.ensures.held in
+    let a = g.F.Files.seen c.args.files.now in
+    let b = g.F.Files.seen c.read_contents.new.files in
+    let e = g.F.Files.seen c.image_of.new.files in
+    let held = subst (λ (x : List ℕ). MayBe (g.F.Files.seen c.args.files.now).told c.args.name.now x) (sym c.deref.ensures.value) c.in-Ok.ensures.held in
     let few = subst (λ (x : List ℕ). length x ≤ 2097152) (sym c.deref.ensures.value) c.in-Ok.ensures.few in
     let app = app_of c.in-Ok-app_in.app in
     IfErr-weaker c.image_of.result _ _ (λ h is. halts_later a b e c.args.name.now c.deref.result.now app h few c.in-Ok-app_in.ensures.app c.in-Ok-opened.ensures.room held

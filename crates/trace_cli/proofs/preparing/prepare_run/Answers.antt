@@ -1,25 +1,24 @@
 use Rattle.std.proofs.Common.{subst}
 use Rattle.std.proofs.lemmas.Result.{IfOk-weaker, IfErr-weaker}
 use Rattle.image_format.specs.Images.{picture}
-use Rattle.trace_cli.specs.Seen.{files_seen}
 use Rattle.trace_cli.specs.Ready.{IsSet}
 use Rattle.trace_cli.proofs.Readying.{run_ready, run_script_halts, run_image_halts}
 use Rattle.trace_cli.proofs.preparing.prepare_run.Goals as goal
 
 pub returns-in-Ok-clause-ready : goal.returns-in-Ok-clause-ready
 returns-in-Ok-clause-ready g c = λ n detail.
-    IfOk-weaker c.set_up.result _ _ (λ b h. run_ready (g.F.Files.told c.args.files.now) c.args.image.now c.args.script.now n detail (picture c.in-Ok.picture) b c.in-Ok.ensures.image
+    IfOk-weaker c.set_up.result _ _ (λ b h. run_ready (g.F.Files.seen c.args.files.now).told c.args.image.now c.args.script.now n detail (picture c.in-Ok.picture) b c.in-Ok.ensures.image
     (subst (λ t. IsSet t (picture c.in-Ok.picture) c.args.script.now b) c.in-Ok.ensures.contents h)) c.set_up.ensures.set
 
 pub returns-in-Ok-clause-halt : goal.returns-in-Ok-clause-halt
 returns-in-Ok-clause-halt g c = λ n detail.
-    let a = files_seen (g.F.Files.told c.args.files.now) (g.F.Files.read_faults c.args.files.now) (g.F.Files.put_faults c.args.files.now) (g.F.Files.last_failing c.args.files.now) in
-    let b = files_seen (g.F.Files.told c.read_image.new.files) (g.F.Files.read_faults c.read_image.new.files) (g.F.Files.put_faults c.read_image.new.files) (g.F.Files.last_failing c.read_image.new.files) in
-    let e = files_seen (g.F.Files.told c.set_up.new.files) (g.F.Files.read_faults c.set_up.new.files) (g.F.Files.put_faults c.set_up.new.files) (g.F.Files.last_failing c.set_up.new.files) in
+    let a = g.F.Files.seen c.args.files.now in
+    let b = g.F.Files.seen c.read_image.new.files in
+    let e = g.F.Files.seen c.set_up.new.files in
     IfErr-weaker c.set_up.result _ _ (λ h is. run_script_halts a b e c.args.image.now c.args.script.now n detail (picture c.in-Ok.picture) h c.in-Ok.ensures.image c.in-Ok.ensures.contents c.in-Ok.ensures.later is) c.set_up.ensures.halt
 
 pub returns-in-Err-clause-halt : goal.returns-in-Err-clause-halt
 returns-in-Err-clause-halt g c = λ n detail.
-    let a = files_seen (g.F.Files.told c.args.files.now) (g.F.Files.read_faults c.args.files.now) (g.F.Files.put_faults c.args.files.now) (g.F.Files.last_failing c.args.files.now) in
-    let b = files_seen (g.F.Files.told c.read_image.new.files) (g.F.Files.read_faults c.read_image.new.files) (g.F.Files.put_faults c.read_image.new.files) (g.F.Files.last_failing c.read_image.new.files) in
+    let a = g.F.Files.seen c.args.files.now in
+    let b = g.F.Files.seen c.read_image.new.files in
     run_image_halts a b c.args.image.now c.args.script.now n detail c.in-Err.halt c.in-Err.ensures.halt

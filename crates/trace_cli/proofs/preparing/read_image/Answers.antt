@@ -1,20 +1,19 @@
 use Rattle.std.proofs.Common.{ℕ, List, refl, sym, subst}
-use Rattle.trace_cli.specs.Seen.{files_seen}
 use Rattle.trace_cli.specs.Sources.{image_file, MayBe}
 use Rattle.trace_cli.proofs.Stopping.{cannot_take, refused_in, long_image}
 use Rattle.trace_cli.proofs.preparing.read_image.Goals as goal
 
 pub returns-in-Err-clause-halt : goal.returns-in-Err-clause-halt
 returns-in-Err-clause-halt g c =
-    let a = files_seen (g.F.Files.told c.args.files.now) (g.F.Files.read_faults c.args.files.now) (g.F.Files.put_faults c.args.files.now) (g.F.Files.last_failing c.args.files.now) in
-    let b = files_seen (g.F.Files.told c.read_contents.new.files) (g.F.Files.read_faults c.read_contents.new.files) (g.F.Files.put_faults c.read_contents.new.files) (g.F.Files.last_failing c.read_contents.new.files) in
+    let a = g.F.Files.seen c.args.files.now in
+    let b = g.F.Files.seen c.read_contents.new.files in
     let f = image_file c.args.name.now in
     c.halted.ensures a b f refl (cannot_take a b f c.in-Err.stop long_image c.in-Err.ensures.stop)
 
 pub returns-clause-halt : goal.returns-clause-halt
 returns-clause-halt g c =
-    let a = files_seen (g.F.Files.told c.args.files.now) (g.F.Files.read_faults c.args.files.now) (g.F.Files.put_faults c.args.files.now) (g.F.Files.last_failing c.args.files.now) in
-    let b = files_seen (g.F.Files.told c.read_contents.new.files) (g.F.Files.read_faults c.read_contents.new.files) (g.F.Files.put_faults c.read_contents.new.files) (g.F.Files.last_failing c.read_contents.new.files) in
+    let a = g.F.Files.seen c.args.files.now in
+    let b = g.F.Files.seen c.read_contents.new.files in
     let f = image_file c.args.name.now in
-    let held = subst (λ (x : List ℕ). MayBe (g.F.Files.told c.args.files.now) c.args.name.now x) (sym c.deref.ensures.value) c.in-Ok.ensures.held in
+    let held = subst (λ (x : List ℕ). MayBe (g.F.Files.seen c.args.files.now).told c.args.name.now x) (sym c.deref.ensures.value) c.in-Ok.ensures.held in
     c.halted-in-Err-image_in.ensures a b f refl (refused_in a b f c.deref.result.now c.in-Err-image_in.stop held c.in-Err-image_in.ensures.stop)

@@ -1,24 +1,23 @@
 use Rattle.std.proofs.Common.{refl}
 use Rattle.image_format.specs.Images.{picture}
 use Rattle.command_line.specs.CommandLine.{list}
-use Rattle.trace_cli.specs.Seen.{files_seen, sink_seen}
 use Rattle.trace_cli.specs.Verdict.{listed}
 use Rattle.trace_cli.proofs.Readying.{answers_said, answers_halt, list_reason, list_halts}
 use Rattle.trace_cli.proofs.program.list_file.Goals as goal
 
 pub returns-in-Ok-clause-answer : goal.returns-in-Ok-clause-answer
 returns-in-Ok-clause-answer g c =
-    let a = files_seen (g.F.Files.told c.args.files.now) (g.F.Files.read_faults c.args.files.now) (g.F.Files.put_faults c.args.files.now) (g.F.Files.last_failing c.args.files.now) in
-    let b = files_seen (g.F.Files.told c.read_image.new.files) (g.F.Files.read_faults c.read_image.new.files) (g.F.Files.put_faults c.read_image.new.files) (g.F.Files.last_failing c.read_image.new.files) in
-    let w = sink_seen (g.S.Sink.written c.args.out.now) (g.S.Sink.faults c.args.out.now) in
-    let w' = sink_seen (g.S.Sink.written c.tell_listing.new.out) (g.S.Sink.faults c.tell_listing.new.out) in
+    let a = g.F.Files.seen c.args.files.now in
+    let b = g.F.Files.seen c.read_image.new.files in
+    let w = g.S.Sink.seen c.args.out.now in
+    let w' = g.S.Sink.seen c.tell_listing.new.out in
     let image = picture c.in-Ok.picture in
     answers_said (list c.args.image.now) a b w w' (listed image) c.tell_listing.result c.in-Ok.ensures.contents refl (list_reason a b c.args.image.now image c.in-Ok.ensures.image) c.tell_listing.ensures
 
 pub returns-in-Err-clause-answer : goal.returns-in-Err-clause-answer
 returns-in-Err-clause-answer g c =
-    let a = files_seen (g.F.Files.told c.args.files.now) (g.F.Files.read_faults c.args.files.now) (g.F.Files.put_faults c.args.files.now) (g.F.Files.last_failing c.args.files.now) in
-    let b = files_seen (g.F.Files.told c.read_image.new.files) (g.F.Files.read_faults c.read_image.new.files) (g.F.Files.put_faults c.read_image.new.files) (g.F.Files.last_failing c.read_image.new.files) in
-    let w = sink_seen (g.S.Sink.written c.args.out.now) (g.S.Sink.faults c.args.out.now) in
-    let w' = sink_seen (g.S.Sink.written c.tell_halt.new.out) (g.S.Sink.faults c.tell_halt.new.out) in
+    let a = g.F.Files.seen c.args.files.now in
+    let b = g.F.Files.seen c.read_image.new.files in
+    let w = g.S.Sink.seen c.args.out.now in
+    let w' = g.S.Sink.seen c.tell_halt.new.out in
     answers_halt (list c.args.image.now) a b w w' c.in-Err.halt c.tell_halt.result c.in-Err.ensures.contents (list_halts a b c.args.image.now c.in-Err.halt c.in-Err.ensures.halt) c.tell_halt.ensures

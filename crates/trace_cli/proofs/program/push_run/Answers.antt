@@ -19,7 +19,7 @@ returns-in_err-end-clause-text g c = λ x st.
     let p = err_from_is_err_and c.from_residual.result c.from_residual.ensures.1 in
     let same = from_start c.level_of.result x c.args.board.now c.args.steps st c.requires.fresh ∙ ap (λ (l : Level). run_of l c.args.steps x) c.level_of.ensures in
     let whole = run_of (level_of c.args.detail) c.args.steps x in
-    let P : Run → Type 0 = λ r. AppendsFront (g.S.Sink.written c.args.out.now) (g.S.Sink.written c.run.new.out) (trace_text r) in
+    let P : Run → Type 0 = λ r. AppendsFront (g.S.Sink.seen c.args.out.now).written (g.S.Sink.seen c.run.new.out).written (trace_text r) in
     rw (p.1) (front_wider _ _ (trace_text whole) (memory_if c.args.detail.memory x.setup whole.last) (subst P same (c.in_err-end.ensures.text x (start x.setup) st)))
 
 pub returns-in_err-write_memory-clause-text : goal.returns-in_err-write_memory-clause-text
@@ -27,7 +27,7 @@ returns-in_err-write_memory-clause-text g c = λ x st.
     let p = err_from_is_err_and c.from_residual-in_err-write_memory.result c.from_residual-in_err-write_memory.ensures.1 in
     let same = from_start c.level_of.result x c.args.board.now c.args.steps st c.requires.fresh ∙ ap (λ (l : Level). run_of l c.args.steps x) c.level_of.ensures in
     let whole = run_of (level_of c.args.detail) c.args.steps x in
-    let P : Run → Type 0 = λ r. Appends (g.S.Sink.written c.args.out.now) (g.S.Sink.written c.run.new.out) (trace_text r) in
+    let P : Run → Type 0 = λ r. Appends (g.S.Sink.seen c.args.out.now).written (g.S.Sink.seen c.run.new.out).written (trace_text r) in
     let L : Run → Type 0 = λ r. Stands x c.run.new.board r.last in
     let last = subst L same (c.in_ok-end.ensures.last x (start x.setup) st) in
     rw (p.1, c.if-detail.true) (front_more _ _ _ (trace_text whole) (memory_text x.setup whole.last) (subst P same (c.in_ok-end.ensures.text x (start x.setup) st)) (c.in_err-write_memory.ensures.text x whole.last last))
@@ -36,7 +36,7 @@ pub returns-in_ok-write_memory-clause-text : goal.returns-in_ok-write_memory-cla
 returns-in_ok-write_memory-clause-text g c = λ x st.
     let same = from_start c.level_of.result x c.args.board.now c.args.steps st c.requires.fresh ∙ ap (λ (l : Level). run_of l c.args.steps x) c.level_of.ensures in
     let whole = run_of (level_of c.args.detail) c.args.steps x in
-    let P : Run → Type 0 = λ r. Appends (g.S.Sink.written c.args.out.now) (g.S.Sink.written c.run.new.out) (trace_text r) in
+    let P : Run → Type 0 = λ r. Appends (g.S.Sink.seen c.args.out.now).written (g.S.Sink.seen c.run.new.out).written (trace_text r) in
     let L : Run → Type 0 = λ r. Stands x c.run.new.board r.last in
     let last = subst L same (c.in_ok-end.ensures.last x (start x.setup) st) in
     rw c.if-detail.true (appends_more _ _ _ (trace_text whole) (memory_text x.setup whole.last) (subst P same (c.in_ok-end.ensures.text x (start x.setup) st)) (c.in_ok-write_memory.ensures.text x whole.last last))
@@ -52,5 +52,5 @@ returns-else-detail-clause-end g c = λ x st.
 pub returns-else-detail-clause-text : goal.returns-else-detail-clause-text
 returns-else-detail-clause-text g c = λ x st.
     let same = from_start c.level_of.result x c.args.board.now c.args.steps st c.requires.fresh ∙ ap (λ (l : Level). run_of l c.args.steps x) c.level_of.ensures in
-    let P : Run → Type 0 = λ r. Appends (g.S.Sink.written c.args.out.now) (g.S.Sink.written c.run.new.out) (trace_text r) in
+    let P : Run → Type 0 = λ r. Appends (g.S.Sink.seen c.args.out.now).written (g.S.Sink.seen c.run.new.out).written (trace_text r) in
     rw (c.if-detail.false, append-nil (trace_text (run_of (level_of c.args.detail) c.args.steps x))) (subst P same (c.in_ok-end.ensures.text x (start x.setup) st))

@@ -1,15 +1,14 @@
 use Rattle.std.proofs.lemmas.Result.{IfOk-weaker}
 use Rattle.command_line.specs.CommandLine.{run}
-use Rattle.trace_cli.specs.Seen.{files_seen}
 use Rattle.trace_cli.proofs.Readying.{ready_stood}
 use Rattle.trace_cli.proofs.program.run_files.Goals as goal
 
 pub play-requires-clause-ready : goal.play-requires-clause-ready
 play-requires-clause-ready g c =
-    IfOk-weaker c.prepare_run-prepared.result _ _ (λ b h. ready_stood (run c.args.image.now c.args.script.now c.args.steps c.args.detail) (g.F.Files.told c.args.files.now) c.args.steps c.args.detail b h) (c.prepare_run-prepared.ensures.ready c.args.steps c.args.detail)
+    IfOk-weaker c.prepare_run-prepared.result _ _ (λ b h. ready_stood (run c.args.image.now c.args.script.now c.args.steps c.args.detail) (g.F.Files.seen c.args.files.now).told c.args.steps c.args.detail b h) (c.prepare_run-prepared.ensures.ready c.args.steps c.args.detail)
 
 pub returns-clause-answer : goal.returns-clause-answer
 returns-clause-answer g c =
-    let a = files_seen (g.F.Files.told c.args.files.now) (g.F.Files.read_faults c.args.files.now) (g.F.Files.put_faults c.args.files.now) (g.F.Files.last_failing c.args.files.now) in
-    let b = files_seen (g.F.Files.told c.prepare_run-prepared.new.files) (g.F.Files.read_faults c.prepare_run-prepared.new.files) (g.F.Files.put_faults c.prepare_run-prepared.new.files) (g.F.Files.last_failing c.prepare_run-prepared.new.files) in
+    let a = g.F.Files.seen c.args.files.now in
+    let b = g.F.Files.seen c.prepare_run-prepared.new.files in
     c.play.ensures (run c.args.image.now c.args.script.now c.args.steps c.args.detail) a b c.prepare_run-prepared.ensures.contents (c.prepare_run-prepared.ensures.ready c.args.steps c.args.detail) (c.prepare_run-prepared.ensures.halt c.args.steps c.args.detail)

@@ -1,5 +1,4 @@
 use Rattle.std.proofs.Common.{inl, refl}
-use Rattle.trace_cli.specs.Seen.{sink_seen}
 use Rattle.trace_cli.proofs.Seeding.{answers_sample, sample_stood}
 use Rattle.trace_cli.proofs.sampling.run_sample.Goals as goal
 
@@ -10,8 +9,8 @@ tell_sample-requires g c =
 
 pub returns-in-Ok : goal.returns-in-Ok
 returns-in-Ok g c = λ a b same.
-    let w = sink_seen (g.S.Sink.written c.args.out.now) (g.S.Sink.faults c.args.out.now) in
-    let w' = sink_seen (g.S.Sink.written c.tell_sample.new.out) (g.S.Sink.faults c.tell_sample.new.out) in
+    let w = g.S.Sink.seen c.args.out.now in
+    let w' = g.S.Sink.seen c.tell_sample.new.out in
     answers_sample c.args.seed c.args.steps a b w w' c.in-Ok.board c.tell_sample.result same c.in-Ok.ensures.ready c.tell_sample.ensures
 
 pub returns-in-Err : goal.returns-in-Err
