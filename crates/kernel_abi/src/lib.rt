@@ -3,11 +3,14 @@
 #![tactic(auto)]
 
 ghost use Rattle.std.specs.Prelude.{◌≡◌, ◌+◌, ◌<◌, ◌≤◌, ◌^◌, IfSome, MatchOption};
-ghost use Rattle.kernel_abi.specs.Faults.{usage_number, reason_number, access_number, illegal_fault, illegal_text_fault, access_fault, unaligned_fault, state_fault, breakpoint_fault, usage_fault, panic_fault, injected_fault, reply_fault};
+ghost use Rattle.kernel_abi.specs.Faults.{usage_number, reason_number, access_number};
 ghost use Rattle.kernel_abi.specs.Ids.{index_of, generation_of, id_of, dead_code_of};
 ghost use Rattle.kernel_abi.specs.Leases.{lease_entry};
 
 mod arguments;
+mod causes;
+#[cfg(test)]
+mod tests;
 
 pub use arguments::{
     BorrowArgs, IdArgs, InfoArgs, IrqArgs, RecvArgs, ReplyArgs, SendArgs, TimerArgs,
@@ -185,118 +188,6 @@ pub struct Fault {
     pub number: u8,
     pub x: u32,
     pub y: u32,
-}
-
-impl Fault {
-    /// No instruction at this address.
-    pub fn illegal(at: u32) -> Fault
-        ensures { result ≡ illegal_fault at }
-    {
-        Fault {
-            number: 1,
-            x: at,
-            y: 0,
-        }
-    }
-
-    /// The halfword at this address may not be executed.
-    pub fn illegal_text(at: u32) -> Fault
-        ensures { result ≡ illegal_text_fault at }
-    {
-        Fault {
-            number: 2,
-            x: at,
-            y: 0,
-        }
-    }
-
-    /// The byte at this address was not permitted.
-    pub fn access(at: u32, access: Access) -> Fault
-        ensures { result ≡ access_fault at access }
-    {
-        Fault {
-            number: 3,
-            x: at,
-            y: access.number(),
-        }
-    }
-
-    /// The address is no multiple of the size of a load or a store.
-    pub fn unaligned(at: u32, is_store: bool) -> Fault
-        ensures { result ≡ unaligned_fault at is_store }
-    {
-        Fault {
-            number: 4,
-            x: at,
-            y: u32::from(is_store),
-        }
-    }
-
-    /// A branch to a target whose bit 0 is clear.
-    pub fn state(target: u32) -> Fault
-        ensures { result ≡ state_fault target }
-    {
-        Fault {
-            number: 5,
-            x: target,
-            y: 0,
-        }
-    }
-
-    /// A breakpoint with this immediate.
-    pub fn breakpoint(immediate: u32) -> Fault
-        ensures { result ≡ breakpoint_fault immediate }
-    {
-        Fault {
-            number: 6,
-            x: immediate,
-            y: 0,
-        }
-    }
-
-    /// A system call that was misused.
-    pub fn usage(usage: Usage) -> Fault
-        ensures { result ≡ usage_fault usage }
-    {
-        Fault {
-            number: 7,
-            x: usage.number(),
-            y: 0,
-        }
-    }
-
-    /// The task's own PANIC, with its r4 and r5.
-    pub fn panic(r4: u32, r5: u32) -> Fault
-        ensures { result ≡ panic_fault r4 r5 }
-    {
-        Fault {
-            number: 8,
-            x: r4,
-            y: r5,
-        }
-    }
-
-    /// By the supervisor's kernel message.
-    pub fn injected() -> Fault
-        ensures { result ≡ injected_fault }
-    {
-        Fault {
-            number: 9,
-            x: 0,
-            y: 0,
-        }
-    }
-
-    /// By a server's REPLY_FAULT.
-    pub fn reply_fault(server: TaskId, reason: Reason) -> Fault
-        ensures { result ≡ reply_fault server reason }
-    {
-        Fault {
-            number: 10,
-            x: u32::from(server.number),
-            y: reason.number(),
-        }
-    }
 }
 
 /// How a task is.
@@ -509,129 +400,5 @@ impl Default for Note {
                 y: 0,
             },
         }
-    }
-}
-
-#[cfg(test)]
-mod tests {
-    use super::*;
-    use std::test::Fail;
-
-    #[test]
-    fn ids(rt: HostRuntime) {
-        let id = TaskId::of(0x0C05);
-        assert_eq!(rt; id.index(), 5);
-        assert_eq!(rt; id.generation(), Generation { number: 3 });
-        assert_eq!(rt; TaskId::new(5, Generation { number: 3 }), id);
-        assert_eq!(rt; TaskId::of(TaskId::KERNEL).index(), 1023);
-        assert_eq!(rt;
-            TaskId::of(TaskId::KERNEL).generation(),
-            Generation { number: 63 }
-        );
-        assert_eq!(rt; dead_code(Generation { number: 1 }), 0xFFFF_FF01);
-        assert_eq!(rt; dead_code(Generation { number: 63 }), 0xFFFF_FF3F);
-    }
-
-    #[test]
-    fn faults(rt: HostRuntime) {
-        let found = [
-            Fault::illegal(0x0800_0000),
-            Fault::illegal_text(0x0800_0100),
-            Fault::access(0x1FFF_FFFC, Access::Store),
-            Fault::unaligned(0x2000_0001, true),
-            Fault::state(0x0800_0002),
-            Fault::breakpoint(255),
-            Fault::usage(Usage::ReplyTooBig),
-            Fault::panic(1, 2),
-            Fault::injected(),
-            Fault::reply_fault(TaskId::of(0x0402), Reason::BadLeases),
-        ];
-        let wanted = [
-            (1, 0x0800_0000, 0),
-            (2, 0x0800_0100, 0),
-            (3, 0x1FFF_FFFC, 1),
-            (4, 0x2000_0001, 1),
-            (5, 0x0800_0002, 0),
-            (6, 255, 0),
-            (7, 9, 0),
-            (8, 1, 2),
-            (9, 0, 0),
-            (10, 0x0402, 3),
-        ];
-        for (fault, (number, x, y)) in found.iter().zip(wanted.iter()) {
-            assert_eq!(rt; fault.number, *number);
-            assert_eq!(rt; fault.x, *x);
-            assert_eq!(rt; fault.y, *y);
-        }
-        assert_eq!(rt; Fault::access(0, Access::Load).y, 0);
-        assert_eq!(rt; Fault::access(0, Access::KernelRead).y, 2);
-        assert_eq!(rt; Fault::access(0, Access::KernelWrite).y, 3);
-        assert_eq!(rt; Fault::unaligned(0, false).y, 0);
-    }
-
-    #[test]
-    fn misuses(rt: HostRuntime) {
-        let usages = [
-            Usage::BadCall,
-            Usage::BadTaskIndex,
-            Usage::InvalidSlice,
-            Usage::BadKernelMessage,
-            Usage::NotSupervisor,
-            Usage::NoIrq,
-            Usage::OffsetOutOfRange,
-            Usage::LeaseOutOfRange,
-            Usage::ReplyTooBig,
-            Usage::BadReason,
-        ];
-        for (usage, number) in usages.iter().zip(1..11_u32) {
-            assert_eq!(rt; usage.number(), number);
-        }
-    }
-
-    #[test]
-    fn reasons(rt: HostRuntime) {
-        assert_eq!(rt; Reason::of(0), Some(Reason::UndefinedOperation));
-        assert_eq!(rt; Reason::of(1), Some(Reason::BadMessageSize));
-        assert_eq!(rt; Reason::of(2), Some(Reason::BadMessageContents));
-        assert_eq!(rt; Reason::of(3), Some(Reason::BadLeases));
-        assert_eq!(rt; Reason::of(4), Some(Reason::ReplyBufferTooSmall));
-        assert_eq!(rt; Reason::of(5), Some(Reason::AccessViolation));
-        assert_eq!(rt; Reason::AccessViolation.number(), 5);
-        assert_eq!(rt; Reason::of(6), None);
-        assert_eq!(rt; Reason::of(u32::MAX), None);
-    }
-
-    #[test]
-    fn ranges(rt: HostRuntime) -> Result<(), Fail> {
-        let last = Range::of(0xFFFF_FFFC, 4).ok_or("the last word")?;
-        assert_eq!(rt; last.base, 0xFFFF_FFFC);
-        assert_eq!(rt; last.len, 4);
-        assert_eq!(rt; Range::of(0xFFFF_FFFC, 5), None);
-        let whole = Range::of(0, 0x1_0000_0000).ok_or("the whole address space")?;
-        assert_eq!(rt; whole.len, 0x1_0000_0000);
-        assert_eq!(rt; Range::of(0, 0x1_0000_0001), None);
-        assert_eq!(rt; Range::of(u32::MAX, u64::MAX), None);
-        Ok(())
-    }
-
-    #[test]
-    fn lease_entries(rt: HostRuntime) {
-        let entry = LeaseEntry::of(&[1, 0, 0, 0, 0x80, 1, 0, 0x20, 4, 0, 0, 0]);
-        let wanted = LeaseEntry {
-            attributes: 1,
-            base: 0x2000_0180,
-            len: 4,
-        };
-        assert_eq!(rt; entry, wanted);
-    }
-
-    #[test]
-    fn notes(rt: HostRuntime) {
-        let call = Note::Call {
-            task: 1,
-            number: 0,
-            arguments: [0x0002_0005, 0x2000_0140, 10, 0, 0, 0, 0],
-        };
-        assert_ne!(rt; call, Note::default());
     }
 }

@@ -16,8 +16,8 @@ use Rattle.thumb_insn.specs.declared.Cond.{Cond}
 use Rattle.thumb_insn.specs.declared.Cond.TheVariants as cond
 use Rattle.thumb_insn.specs.declared.Barrier.{Barrier}
 use Rattle.thumb_insn.specs.declared.Barrier.TheVariants as barrier
-use Rattle.thumb_insn.specs.declared.text.Name.{Name}
-use Rattle.thumb_insn.specs.declared.text.Name.TheVariants as name
+use Rattle.thumb_insn.specs.declared.mnemonics.Name.{Name}
+use Rattle.thumb_insn.specs.declared.mnemonics.Name.TheVariants as name
 use Rattle.thumb_insn.specs.Text.{shift_name, op_name, store_name, load_name, change_name, branch_name, barrier_name}
 use Rattle.thumb_insn.specs.Line.{name_text}
 

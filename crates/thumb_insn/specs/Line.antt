@@ -1,7 +1,7 @@
 -- What the code's parts of a line are written as.
 use Rattle.std.specs.Prelude.{ℕ, ◌++◌, [], ◌∷◌, List, codes}
-use Rattle.thumb_insn.specs.declared.text.Name.{Name}
-use Rattle.thumb_insn.specs.declared.text.Name.TheVariants as name
+use Rattle.thumb_insn.specs.declared.mnemonics.Name.{Name}
+use Rattle.thumb_insn.specs.declared.mnemonics.Name.TheVariants as name
 use Rattle.thumb_insn.specs.declared.text.Operand.{Operand}
 use Rattle.thumb_insn.specs.declared.text.Operand.TheVariants as operand
 use Rattle.thumb_insn.specs.declared.text.Line.{Line}

@@ -1,0 +1,121 @@
+//! Rows of the layouts and numbers.
+use crate::*;
+use std::test::Fail;
+
+#[test]
+fn ids(rt: HostRuntime) {
+    let id = TaskId::of(0x0C05);
+    assert_eq!(rt; id.index(), 5);
+    assert_eq!(rt; id.generation(), Generation { number: 3 });
+    assert_eq!(rt; TaskId::new(5, Generation { number: 3 }), id);
+    assert_eq!(rt; TaskId::of(TaskId::KERNEL).index(), 1023);
+    assert_eq!(rt;
+        TaskId::of(TaskId::KERNEL).generation(),
+        Generation { number: 63 }
+    );
+    assert_eq!(rt; dead_code(Generation { number: 1 }), 0xFFFF_FF01);
+    assert_eq!(rt; dead_code(Generation { number: 63 }), 0xFFFF_FF3F);
+}
+
+#[test]
+fn faults(rt: HostRuntime) {
+    let found = [
+        Fault::illegal(0x0800_0000),
+        Fault::illegal_text(0x0800_0100),
+        Fault::access(0x1FFF_FFFC, Access::Store),
+        Fault::unaligned(0x2000_0001, true),
+        Fault::state(0x0800_0002),
+        Fault::breakpoint(255),
+        Fault::usage(Usage::ReplyTooBig),
+        Fault::panic(1, 2),
+        Fault::injected(),
+        Fault::reply_fault(TaskId::of(0x0402), Reason::BadLeases),
+    ];
+    let wanted = [
+        (1, 0x0800_0000, 0),
+        (2, 0x0800_0100, 0),
+        (3, 0x1FFF_FFFC, 1),
+        (4, 0x2000_0001, 1),
+        (5, 0x0800_0002, 0),
+        (6, 255, 0),
+        (7, 9, 0),
+        (8, 1, 2),
+        (9, 0, 0),
+        (10, 0x0402, 3),
+    ];
+    for (fault, (number, x, y)) in found.iter().zip(wanted.iter()) {
+        assert_eq!(rt; fault.number, *number);
+        assert_eq!(rt; fault.x, *x);
+        assert_eq!(rt; fault.y, *y);
+    }
+    assert_eq!(rt; Fault::access(0, Access::Load).y, 0);
+    assert_eq!(rt; Fault::access(0, Access::KernelRead).y, 2);
+    assert_eq!(rt; Fault::access(0, Access::KernelWrite).y, 3);
+    assert_eq!(rt; Fault::unaligned(0, false).y, 0);
+}
+
+#[test]
+fn misuses(rt: HostRuntime) {
+    let usages = [
+        Usage::BadCall,
+        Usage::BadTaskIndex,
+        Usage::InvalidSlice,
+        Usage::BadKernelMessage,
+        Usage::NotSupervisor,
+        Usage::NoIrq,
+        Usage::OffsetOutOfRange,
+        Usage::LeaseOutOfRange,
+        Usage::ReplyTooBig,
+        Usage::BadReason,
+    ];
+    for (usage, number) in usages.iter().zip(1..11_u32) {
+        assert_eq!(rt; usage.number(), number);
+    }
+}
+
+#[test]
+fn reasons(rt: HostRuntime) {
+    assert_eq!(rt; Reason::of(0), Some(Reason::UndefinedOperation));
+    assert_eq!(rt; Reason::of(1), Some(Reason::BadMessageSize));
+    assert_eq!(rt; Reason::of(2), Some(Reason::BadMessageContents));
+    assert_eq!(rt; Reason::of(3), Some(Reason::BadLeases));
+    assert_eq!(rt; Reason::of(4), Some(Reason::ReplyBufferTooSmall));
+    assert_eq!(rt; Reason::of(5), Some(Reason::AccessViolation));
+    assert_eq!(rt; Reason::AccessViolation.number(), 5);
+    assert_eq!(rt; Reason::of(6), None);
+    assert_eq!(rt; Reason::of(u32::MAX), None);
+}
+
+#[test]
+fn ranges(rt: HostRuntime) -> Result<(), Fail> {
+    let last = Range::of(0xFFFF_FFFC, 4).ok_or("the last word")?;
+    assert_eq!(rt; last.base, 0xFFFF_FFFC);
+    assert_eq!(rt; last.len, 4);
+    assert_eq!(rt; Range::of(0xFFFF_FFFC, 5), None);
+    let whole = Range::of(0, 0x1_0000_0000).ok_or("the whole address space")?;
+    assert_eq!(rt; whole.len, 0x1_0000_0000);
+    assert_eq!(rt; Range::of(0, 0x1_0000_0001), None);
+    assert_eq!(rt; Range::of(u32::MAX, u64::MAX), None);
+    Ok(())
+}
+
+#[test]
+fn lease_entries(rt: HostRuntime) {
+    let entry = LeaseEntry::of(&[1, 0, 0, 0, 0x80, 1, 0, 0x20, 4, 0, 0, 0]);
+    let wanted = LeaseEntry {
+        attributes: 1,
+        base: 0x2000_0180,
+        len: 4,
+    };
+    assert_eq!(rt; entry, wanted);
+}
+
+#[test]
+fn notes(rt: HostRuntime) {
+    let call = Note::Call {
+        task: 1,
+        number: 0,
+        arguments: [0x0002_0005, 0x2000_0140, 10, 0, 0, 0, 0],
+    };
+    assert_ne!(rt; call, Note::default());
+}
