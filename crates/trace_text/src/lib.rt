@@ -4,10 +4,10 @@
 mod lines;
 #[cfg(test)]
 mod tests;
+mod turn;
 mod words;
 
-pub use lines::line;
+pub use turn::TurnLines;
 pub use words::{
-    TurnNumber, push_decimal, push_digit, push_hex, push_high, push_low, push_registers,
-    push_spaced_hex,
+    push_decimal, push_digit, push_hex, push_high, push_low, push_registers, push_spaced_hex,
 };

@@ -1,11 +1,13 @@
 //! A line of each note, and that the longest of each kind fits.
-use crate::{TurnNumber, line};
+use crate::TurnLines;
 use arrayvec::ArrayString;
 use kernel_abi::{Borrow, Ending, Fault, Handled, Listened, Note};
 
 fn text(turn: u32, note: Note) -> ArrayString<160> {
+    let mut lines = TurnLines::new(turn);
     let mut out = ArrayString::new();
-    line(&TurnNumber::new(turn), &note, &mut out);
+    lines.write(&note);
+    out.push_str(lines.text());
     out
 }
 
@@ -49,6 +51,44 @@ fn events_have_their_lines(rt: HostRuntime) {
         ),
     ] {
         let text = text(turn, note);
+        assert_eq!(rt; text.as_str(), want);
+    }
+}
+
+#[test]
+fn a_line_stands_in_the_place_of_the_line_before(rt: HostRuntime) {
+    let mut lines = TurnLines::new(1234567890);
+    let first = Note::Tick { now: 9876543210987 };
+    for (note, want) in [
+        (first, "1234567890 tick 9876543210987\n"),
+        (Note::Idle, "1234567890 idle\n"),
+        (Note::Tick { now: 7 }, "1234567890 tick 7\n"),
+    ] {
+        lines.write(&note);
+        assert_eq!(rt; lines.text(), want);
+    }
+}
+
+#[test]
+fn short_numbers_have_their_digits(rt: HostRuntime) {
+    for (lease, offset, moved, want) in [
+        (0, 9, 10, "0 borrow 0 read 0 9 10\n"),
+        (11, 90, 99, "0 borrow 0 read 11 90 99\n"),
+        (
+            100,
+            1000,
+            4294967295,
+            "0 borrow 0 read 100 1000 4294967295\n",
+        ),
+    ] {
+        let note = Note::Borrow {
+            call: 0,
+            borrow: Borrow::Read,
+            lease,
+            offset,
+            moved,
+        };
+        let text = text(0, note);
         assert_eq!(rt; text.as_str(), want);
     }
 }

@@ -1,0 +1,7 @@
+-- What is seen of the lines of a turn.
+use Rattle.std.specs.Prelude.{ℕ, List}
+use Rattle.trace_text.specs.declared.turn.TurnLines.{TurnLines}
+
+-- the line that was written last
+abbrev pub last_line : TurnLines → List ℕ
+last_line lines = lines.text.bytes
