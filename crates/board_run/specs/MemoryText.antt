@@ -5,7 +5,8 @@ use Rattle.std.specs.Option.{option_map_or}
 use Rattle.region_check.specs.declared.Region.{Region}
 use Rattle.mem_banks.specs.Memory.{Memory, byte_at}
 use Rattle.task_table.specs.State.{Setup, State}
-use Rattle.trace_text.specs.Text.{glyph, hex}
+use Rattle.trace_text.specs.Text.{hex}
+use Rattle.thumb_insn.specs.Text.{hex_digit}
 
 -- ## sixteen bytes
 
@@ -15,7 +16,7 @@ byte_of m a = unwrap_or (byte_at m a) 0
 
 -- two hexadecimal digits
 abbrev pub byte_hex : ℕ → List ℕ
-byte_hex b = glyph (b / 16 % 16) ∷ glyph (b % 16) ∷ []
+byte_hex b = hex_digit (b / 16 % 16) ∷ hex_digit (b % 16) ∷ []
 
 -- the first n bytes from an address on, in hexadecimal digits
 abbrev pub hex_at : Memory → ℕ → ℕ → List ℕ

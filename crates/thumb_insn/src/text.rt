@@ -49,18 +49,26 @@ fn push_decimal(out: &mut ArrayString<64>, n: u32)
     out.push_str(digits.format(n));
 }
 
+/// A hexadecimal digit, in lower case.
+pub fn hex_digit(digit: u32) -> u8
+    requires { digit < 16 }
+    ensures value { result ≡ hex_digit digit }
+    ensures ascii { result < 128 }
+{
+    if digit < 10 {
+        b'0' + digit as u8
+    } else {
+        b'a' + (digit as u8 - 10)
+    }
+}
+
 fn push_digit(out: &mut ArrayString<64>, d: u32)
     requires digit { d < 16 }
     requires room { array_string_len out.old < 64 }
     ensures bytes { out.new.bytes ≡ out.old.bytes ++ hex_digit d ∷ [] }
     ensures len { array_string_len out.new ≡ array_string_len out.old + 1 }
 {
-    let byte = if d < 10 {
-        b'0' + d as u8
-    } else {
-        b'a' + (d as u8 - 10)
-    };
-    out.push(byte as char);
+    out.push(hex_digit(d) as char);
 }
 
 /// `0x` and eight hexadecimal digits.
