@@ -39,3 +39,4 @@ pub mod Starts
 mod DeadRows
 pub mod Births
 pub mod TaskSets
+pub mod LevelsMade

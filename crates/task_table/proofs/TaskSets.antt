@@ -1,5 +1,5 @@
 -- Sets of tasks, by their words.
-use Rattle.std.proofs.Common.{◌≡◌, ◌≢◌, ◌+◌, ◌-◌, ◌*◌, ◌/◌, ◌%◌, ◌<◌, ◌≤◌, ◌^◌, ℕ, zero, suc, true, false, cond, ◌&&◌, ◌||◌, not, List, length, Some, inl, inr, refl, sym, ◌∙◌, ap, arith, eqb, leb, get_or, set, replicate, get_or-set_same, get_or-set_other, w32, min}
+use Rattle.std.proofs.Common.{◌≡◌, ◌≢◌, ◌+◌, ◌-◌, ◌*◌, ◌/◌, ◌%◌, ◌<◌, ◌≤◌, ◌^◌, ℕ, zero, suc, Bool, true, false, cond, ◌&&◌, ◌||◌, not, List, length, Some, inl, inr, refl, sym, ◌∙◌, ap, arith, eqb, leb, get_or, set, replicate, get_or-set_same, get_or-set_other, w32, min}
 use Rattle.std.specs.Int.{bit_at, bit_not}
 use Rattle.std.specs.Int.Bits.{bit_and, bit_or}
 use lib.Count.{count_trailing_zeros}
@@ -101,6 +101,56 @@ has_removed words task i there =
 
     within : task % 32 < 32
     within = omega arith
+
+-- ## the members of two sets
+
+-- the words of both, up to one
+abbrev pub AreCommonBelow : ℕ → List ℕ → List ℕ → List ℕ → Type 0
+AreCommonBelow n xs ys words = (w : ℕ) → get_or words w 0 ≡ cond (leb (w + 1) n) (bit_and (get_or xs w 0) (get_or ys w 0)) (get_or xs w 0)
+
+pub common_none : (xs ys : List ℕ) → AreCommonBelow 0 xs ys xs
+common_none xs ys w = elim (leb_tells (w + 1) 0) [ inl t ↦ absurd (omega (arith, t.1)) | inr f ↦ rw f.0 refl ]
+
+pub common_more : (n : ℕ) (xs ys words : List ℕ) → n < length words → AreCommonBelow n xs ys words → AreCommonBelow (n + 1) xs ys (set words n (bit_and (get_or words n 0) (get_or ys n 0)))
+common_more n xs ys words there h w =
+    elim (eqb_tells w n) [
+      | inl same ↦
+          let now : leb (w + 1) (n + 1) ≡ true = le-leb _ _ (omega (arith, same.1)) in
+          let before : get_or words n 0 ≡ get_or xs n 0 = elim (leb_tells (n + 1) n) [ inl t ↦ absurd (omega (arith, t.1)) | inr f ↦ rw f.0 at (h n) ] in
+          rw (now, same.1, get_or-set_same words n (bit_and (get_or words n 0) (get_or ys n 0)) 0 there) (ap (λ (x : ℕ). bit_and x (get_or ys n 0)) before)
+      | inr other ↦ get_or-set_other words n w (bit_and (get_or words n 0) (get_or ys n 0)) 0 other.1 ∙ h w ∙ ap (λ (b : Bool). cond b (bit_and (get_or xs w 0) (get_or ys w 0)) (get_or xs w 0)) (same_test other.1)
+    ]
+  where
+    same_test : w ≢ n → leb (w + 1) n ≡ leb (w + 1) (n + 1)
+    same_test ne = elim (leb_tells (w + 1) n) [
+      | inl t ↦ rw t.0 (sym (le-leb _ _ (omega (arith, t.1))))
+      | inr f ↦ elim (leb_tells (w + 1) (n + 1)) [ inl u ↦ absurd (ne (omega (arith, f.1, u.1))) | inr g ↦ rw (f.0, g.0) refl ]
+    ]
+
+both_bits : (a b : ℕ) → a < 2 → b < 2 → eqb (min a b) 1 ≡ (eqb a 1 && eqb b 1)
+both_bits zero zero small low = refl
+both_bits zero (suc zero) small low = refl
+both_bits zero (suc (suc b)) small low = absurd (omega arith)
+both_bits (suc zero) zero small low = refl
+both_bits (suc zero) (suc zero) small low = refl
+both_bits (suc zero) (suc (suc b)) small low = absurd (omega arith)
+both_bits (suc (suc a)) b small low = absurd (omega arith)
+
+word_common : (n : ℕ) (xs ys words : List ℕ) (w : ℕ) → length xs ≤ n → length ys ≤ n → AreCommonBelow n xs ys words → get_or words w 0 ≡ bit_and (get_or xs w 0) (get_or ys w 0)
+word_common n xs ys words w few short h = elim (leb_tells (w + 1) n) [
+  | inl t ↦ rw t.0 at (h w)
+  | inr f ↦
+      let mine : get_or xs w 0 ≡ 0 = get_or_past xs w 0 (omega (arith, f.1, few)) in
+      let other : get_or ys w 0 ≡ 0 = get_or_past ys w 0 (omega (arith, f.1, short)) in
+      rw f.0 at (h w) ∙ mine ∙ sym (ap (λ (x : ℕ). bit_and x (get_or ys w 0)) mine ∙ ap (bit_and 0) other)
+]
+
+pub has_common : (n : ℕ) (xs ys words : List ℕ) (i : ℕ) → length xs ≤ n → length ys ≤ n → AreCommonBelow n xs ys words → has words i ≡ (has xs i && has ys i)
+unfolding has
+has_common n xs ys words i few short h =
+    let x = get_or xs (i / 32) 0 in
+    let y = get_or ys (i / 32) 0 in
+    rw (word_common n xs ys words (i / 32) few short h, bit_at_and x y (i % 32)) (both_bits (bit_at x (i % 32)) (bit_at y (i % 32)) (bit_at-lt x (i % 32)) (bit_at-lt y (i % 32)))
 
 -- ## the least member from a task on
 

@@ -3,6 +3,7 @@ pub mod State
 pub mod Reading
 pub mod TaskSets
 pub mod Readiness
+pub mod Levels
 pub mod Effects
 pub mod Rows
 pub mod Calls

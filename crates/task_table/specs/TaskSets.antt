@@ -10,3 +10,8 @@ has words i = bit_at (slice_index_or words (i / 32) 0) (i % 32) == 1
 abbrev pub IsFirstFrom : List ℕ → ℕ → Option ℕ → Type 0
 IsFirstFrom words from None = (i : ℕ) → from ≤ i → has words i ≡ false
 IsFirstFrom words from (Some first) = (from ≤ first) × (has words first ≡ true) × ((i : ℕ) → from ≤ i → i < first → has words i ≡ false)
+
+-- whether a set has no task
+abbrev pub IsEmptyOrNot : List ℕ → Bool → Type 0
+IsEmptyOrNot words true = (i : ℕ) → has words i ≡ false
+IsEmptyOrNot words false = (i : ℕ) × (has words i ≡ true)

@@ -5,11 +5,15 @@
 
 ghost use Rattle.std.specs.Prelude.{◌≡◌, ◌<◌, ◌≤◌, length, map};
 ghost use Rattle.task_table.specs.Limits.{most_tasks, board_lines};
+ghost use Rattle.task_table.specs.Parts.{task_setup};
+ghost use Rattle.task_table.specs.Levels.{AreLevels};
 ghost use Rattle.task_table.specs.Readiness.{is_free, AreThose, AreOffers};
 
 mod near;
+mod sets;
 
 use crate::Line;
+use crate::levels::levels_of;
 use crate::limits::{LINES, TURN_NOTES};
 use crate::readiness::{empty_sets, follow_offer, follow_readiness, ready_tasks};
 use crate::slot::{Found, Slot, Wait};
@@ -27,6 +31,7 @@ use words_core::Flags;
 #[derive(Drop)]
 pub struct Kernel {
     tasks: Vec<TaskStart>,
+    levels: Vec<TaskSet>,
     owners: Vec<LineStart>,
     fault_bits: u32,
     slots: Vec<Slot>,
@@ -43,16 +48,16 @@ pub struct Kernel {
     ghost few_owners: { length owners.items ≤ board_lines },
     ghost many: { length tasks.items ≡ length slots.items },
     ghost there: { current < length slots.items },
+    ghost levels_are: { AreLevels (map task_setup tasks.items) levels.items },
     ghost ready_now: { AreThose is_free slots.items ready.words },
     ghost offered_now: { AreOffers slots.items offers.items },
 }
 
 impl Kernel {
-    ghost use Rattle.std.specs.Prelude.{◌≡◌, ◌+◌, ◌-◌, ◌%◌, ◌<◌, ◌≤◌, ◌^◌, ◌⊎◌, ℕ, true, length, map, replicate, Option, IfOk, slice_get};
+    ghost use Rattle.std.specs.Prelude.{◌≡◌, ◌+◌, ◌-◌, ◌%◌, ◌<◌, ◌≤◌, ◌^◌, ◌⊎◌, length, map, replicate, Option, IfOk, slice_get};
     ghost use Rattle.task_table.specs.State.{Setup, State, Turn, Ground, Own};
     ghost use Rattle.mem_banks.specs.Memory.{is_ram, byte_at, number_at, IsWithin, IsWithinRam};
-    ghost use Rattle.task_table.specs.TaskSets.{has};
-    ghost use Rattle.task_table.specs.Reading.{task_at, setup_at, register, priority, is_ready, offers, call_of, listen_of, IsSameBut, WaitsAlike};
+    ghost use Rattle.task_table.specs.Reading.{task_at, setup_at, register, priority, is_ready, call_of, listen_of, IsSameBut, WaitsAlike};
     ghost use Rattle.task_table.specs.Effects.{changed, noted, clocked, with_line, with_processor, stored, copied, reborn};
     ghost use Rattle.task_table.specs.Start.{start as started_at, begun};
     ghost use Rattle.task_table.specs.Parts.{setup_of_parts, line_setup, IsSound};
@@ -85,12 +90,14 @@ impl Kernel {
         ensures notes { IfOk result (λ k. note_count k ≡ 0) }
     {
         let copies = copies_of(alloc, tasks)?;
+        let levels = levels_of(alloc, &copies)?;
         let owners = Vec::from_slice(alloc, lines)?;
         let slots = first_slots(alloc, tasks)?;
         let ready = ready_tasks(&slots);
         let offers = empty_sets(alloc, slots.len())?;
         Ok(Kernel {
             tasks: copies,
+            levels,
             owners,
             fault_bits,
             slots,
@@ -207,25 +214,6 @@ impl Kernel {
     {
         let slot = self.slot(task);
         slot.is_ready()
-    }
-
-    /// The tasks that are well and wait for nothing.
-    #[inline(always)]
-    pub fn ready(&self) -> &TaskSet
-        ensures there { (i : ℕ) → has result.now.words i ≡ true → i < task_count self.now }
-        ensures holds { (g : Setup) (t : Turn) → Holds g self.now t → (i : ℕ) → has result.now.words i ≡ is_ready t.state i }
-    {
-        &self.ready
-    }
-
-    /// The tasks that offer a call to a server.
-    #[inline(always)]
-    pub fn clients(&self, server: usize) -> &TaskSet
-        requires { server < task_count self.now }
-        ensures there { (i : ℕ) → has result.now.words i ≡ true → i < task_count self.now }
-        ensures stands { (g : Setup) (t : Turn) → Stands g self.now t → (i : ℕ) → has result.now.words i ≡ offers t.state server i }
-    {
-        &self.offers[server]
     }
 
     /// How a task is.

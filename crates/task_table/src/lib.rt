@@ -6,6 +6,7 @@ mod effect;
 mod fault;
 mod kernel;
 pub mod laws;
+mod levels;
 pub mod limits;
 mod message;
 mod readiness;

@@ -15,7 +15,7 @@ pub struct TaskSet {
 impl TaskSet {
     ghost use Rattle.std.specs.Prelude.{◌≡◌, ◌<◌, ℕ, false, ◌&&◌, ◌||◌, not, ◌==◌, if◌then◌else◌};
     ghost use Rattle.task_table.specs.Limits.{most_tasks};
-    ghost use Rattle.task_table.specs.TaskSets.{has, IsFirstFrom};
+    ghost use Rattle.task_table.specs.TaskSets.{has, IsFirstFrom, IsEmptyOrNot};
 
     /// No task.
     pub fn empty() -> TaskSet
@@ -64,7 +64,28 @@ impl TaskSet {
         }
     }
 
+    /// The tasks that are in this set and in another one.
+    #[inline(always)]
+    pub fn common(&self, other: &TaskSet) -> TaskSet
+        ensures { (i : ℕ) → has result.words i ≡ (has self.now.words i && has other.now.words i) }
+    {
+        let mut words = self.words;
+        for word in 0..TASK_WORDS {
+            words[word] &= other.words[word];
+        }
+        TaskSet { words }
+    }
+
+    /// Whether no task is in the set.
+    #[inline(always)]
+    pub fn is_empty(&self) -> bool
+        ensures { IsEmptyOrNot self.now.words result }
+    {
+        self.first_from(0).is_none()
+    }
+
     /// The least task of the set at or above this one, where there is one.
+    #[inline(always)]
     pub fn first_from(&self, task: usize) -> Option<usize>
         ensures { IsFirstFrom self.now.words task result }
     {
@@ -82,6 +103,7 @@ ghost use Rattle.std.specs.Prelude.{◌+◌, ◌*◌, ◌/◌, ◌<◌, ◌≤�
 ghost use Rattle.std.specs.Int.{bit_at};
 
 /// The bits of a word that tell of tasks at or above this one, which is in this word or an earlier one.
+#[inline(always)]
 fn bits_from(bits: u32, word: usize, task: usize) -> u32
     requires { task / 32 ≤ word }
     ensures { (i : ℕ) → i < 32 → bit_at result i ≡ (if nat_le task (word * 32 + i) then bit_at bits i else 0) }
