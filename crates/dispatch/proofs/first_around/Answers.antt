@@ -1,30 +1,14 @@
-use Rattle.std.proofs.Common.{◌≡◌, ◌≤◌, ◌++◌, ℕ, ◌-◌, length, [], refl, sym, ◌∙◌, ap, arith}
-use Rattle.std.specs.List.{range_with_len}
-use Rattle.task_table.specs.Reading.{around}
+use Rattle.std.proofs.Common.{◌≤◌, length, ◌∙◌, arith}
 use Rattle.task_table.specs.TaskSets.{has}
-use Rattle.dispatch.proofs.Choices.{first_task, no_first_task}
+use Rattle.dispatch.proofs.Choices.{first_of_none, first_of_those}
 use Rattle.dispatch.proofs.first_around.Goals as goal
 
-from_zero : (n : ℕ) → n - 0 ≡ n
-from_zero n = omega arith
-
-order : (n from : ℕ) → range_with_len from (n - from) ++ range_with_len 0 (from - 0) ≡ around n from
-order n from = ap (λ (k : ℕ). range_with_len from (n - from) ++ range_with_len 0 k) (from_zero from)
-
 pub returns-in-None-clause-first : goal.returns-in-None-clause-first
-returns-in-None-clause-first c = λ g t h.
-    let from = c.args.from in
-    let inside : from ≤ length t.state.tasks = omega (arith, c.requires, h.count) in
-    let many : c.task_count.result ≡ length t.state.tasks = c.task_count.ensures.value ∙ h.count in
-    let after = c.best_in-after.ensures.first g t [] h refl in
-    let all = c.in-None.ensures.first g t _ h after in
-    sym (no_first_task g (length t.state.tasks) (has c.args.among.now.words) from inside (rw (many, order) at all))
+returns-in-None-clause-first c = λ g t h. first_of_none g (length t.state.tasks) (has c.args.among.now.words) c.args.from (omega (arith, c.requires, h.count)) (c.in-None.ensures.lowest g t h)
 
 pub returns-in-Some-clause-first : goal.returns-in-Some-clause-first
 returns-in-Some-clause-first c = λ g t h.
-    let from = c.args.from in
-    let inside : from ≤ length t.state.tasks = omega (arith, c.requires, h.count) in
-    let many : c.task_count.result ≡ length t.state.tasks = c.task_count.ensures.value ∙ h.count in
-    let after = c.best_in-after.ensures.first g t [] h refl in
-    let all = c.in-Some.ensures.first g t _ h after in
-    sym (first_task g (length t.state.tasks) (has c.args.among.now.words) from c.in-Some.best inside (rw (many, order) at all))
+    let n = length t.state.tasks in
+    let inside : c.args.from ≤ n = omega (arith, c.requires, h.count) in
+    c.next_in.ensures.next n inside (λ i is. omega (arith, c.in-Some.ensures.inside i is, h.count))
+    ∙ first_of_those g n (has c.args.among.now.words) c.args.from c.in-Some.those.words inside (c.in-Some.ensures.lowest g t h)
