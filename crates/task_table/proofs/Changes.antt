@@ -5,7 +5,7 @@ use Rattle.std.proofs.lemmas.Bool.{ne_eqb}
 use Rattle.std.proofs.lemmas.List.{append-nil}
 use Rattle.std.proofs.lemmas.Bool.Decides.{eqb_tells}
 use Rattle.task_table.specs.State.{Task, State, Turn}
-use Rattle.task_table.specs.Reading.{task_at, call_of, listen_of, no_task, IsSameBut, WaitsAlike}
+use Rattle.task_table.specs.Reading.{task_at, call_of, listen_of, no_task, IsSameBut, WaitsAlike, TimersAlike}
 use Rattle.kernel_abi.specs.declared.Ending.{Ending}
 use Rattle.task_table.specs.Effects.{with_task, without_call, without_listen, closed}
 
@@ -104,6 +104,29 @@ waits_alike s i x there well = record {
   health = ap (λ (y : Task). y.health) (task_at-with_task s i x there) ∙ well;
   call = call_of-with_task s i i x;
   listen = listen_of-with_task s i i x;
+}
+
+-- its timer is as before
+pub timers_alike : (s : State) (i : ℕ) (x : Task) → i < length s.tasks → x.timer ≡ (task_at s i).timer → TimersAlike i s (with_task i x s)
+timers_alike s i x there same = ap (λ (y : Task). y.timer) (task_at-with_task s i x there) ∙ same
+
+pub timers_same : (s u : State) (i : ℕ) → task_at u i ≡ task_at s i → TimersAlike i s u
+timers_same s u i same = ap (λ (y : Task). y.timer) same
+
+-- the same task changed twice
+pub same_but-with_task_again : (s : State) (i : ℕ) (x y : Task) → IsSameBut i (with_task i x s) (with_task i y s)
+unfolding with_task
+same_but-with_task_again s i x y = record {
+  count = length-with_task s i y ∙ sym (length-with_task s i x);
+  task = λ j ne. task_at-with_task_other s i j y ne ∙ sym (task_at-with_task_other s i j x ne);
+  call = λ j ne. call_of-with_task s i j y ∙ sym (call_of-with_task s i j x);
+  listen = λ j ne. listen_of-with_task s i j y ∙ sym (listen_of-with_task s i j x);
+  memory = refl;
+  now = refl;
+  current = refl;
+  next_call = refl;
+  lines = refl;
+  turn = refl;
 }
 
 pub same_but-without_call : (s : State) (i : ℕ) → IsSameBut i s (without_call i s)

@@ -1,17 +1,16 @@
 -- Calls that name an earlier birth of a task.
-use Rattle.std.proofs.Common.{◌≡◌, ◌≢◌, ◌+◌, ◌%◌, ◌^◌, ◌<◌, ◌≤◌, ℕ, zero, suc, Bool, true, false, not, ◌&&◌, ◌||◌, List, [], ◌∷◌, ◌++◌, length, None, refl, sym, ◌∙◌, ap, arith, eqb, bit_and}
+use Rattle.std.proofs.Common.{◌≡◌, ◌+◌, ◌%◌, ◌^◌, ◌<◌, ◌≤◌, ℕ, List, [], ◌∷◌, ◌++◌, length, refl, sym, ◌∙◌, ap, arith}
 use Rattle.std.specs.Prelude.{take, drop, slice_set, slice_index}
 use Rattle.std.proofs.lemmas.Bool.{ne_eqb, le-ltb, lt-ltb}
 use Rattle.std.proofs.lemmas.List.{append-nil, take-append-drop}
 use Rattle.task_table.proofs.Posting.{kept_at}
 use Rattle.task_table.proofs.Changes.{task_at-with_task, task_at-with_task_other, length-with_task}
-use Rattle.kernel_abi.specs.Ids.{index_of}
 use Rattle.task_table.specs.State.{Setup, State, Task, Turn}
-use Rattle.task_table.specs.Reading.{task_at, register, is_out, is_dead, dead_code_for}
+use Rattle.task_table.specs.Reading.{task_at, register, dead_code_for}
 use Rattle.task_table.specs.Effects.{given, returned, past_call, noted, with_task, with_results}
 use Rattle.task_table.specs.Rows.{misused, goes_on, goes_on_with, received}
 use Rattle.task_table.specs.Sends.{last_reason, sent, replied, reply_faulted, post_made}
-use Rattle.task_table.specs.Borrows.{reading, writing, borrowed, informed}
+use Rattle.task_table.specs.Borrows.{borrowed, informed}
 use Rattle.task_table.specs.Calls.{called}
 use Rattle.task_table.specs.DeadIds.{Calls, IsDeadId, MaySend, MayReceiveFrom, IsToldAlone, recipient, sender, client, lender, asked_lender, posted_to, reason}
 

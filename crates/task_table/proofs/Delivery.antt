@@ -92,7 +92,7 @@ call_of-with_call : (s : State) (k : Call) → call_of s k.client.index ≡ None
 unfolding call_of with_call
 call_of-with_call s k none = find_added (λ x. eqb x.client.index k.client.index) s.calls k none (eq-eqb k.client.index k.client.index refl)
 
-task_at-with_call : (s : State) (k : Call) (j : ℕ) → task_at (with_call k s) j ≡ task_at s j
+pub task_at-with_call : (s : State) (k : Call) (j : ℕ) → task_at (with_call k s) j ≡ task_at s j
 unfolding task_at with_call
 task_at-with_call s k j = refl
 

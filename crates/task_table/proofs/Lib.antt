@@ -2,6 +2,8 @@ pub mod Once
 pub mod Changes
 pub mod Steps
 pub mod Members
+pub mod Deadlines
+pub mod Written
 pub mod Ranges
 pub mod Keeps
 pub mod Posting

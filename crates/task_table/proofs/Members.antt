@@ -22,7 +22,7 @@ use Rattle.task_table.proofs.Clients.{option_cases, found_call, client_is, offer
 use Rattle.task_table.proofs.Messages.{offered_kept}
 
 -- a slot of no task
-no_slot : Slot
+pub no_slot : Slot
 no_slot = record {
   generation = record { number = 0 };
   registers = [];

@@ -8,7 +8,7 @@ use Rattle.kernel_abi.specs.declared.Note.{Note}
 use Rattle.mem_banks.specs.Memory.{Memory, with_bytes, IsWithinRam}
 use Rattle.mem_banks.proofs.Copies.{with_bytes_none, with_bytes_ram, length-pasted}
 use Rattle.task_table.specs.State.{Setup, Task, Call, Listen, State, Turn, Ground}
-use Rattle.task_table.specs.Reading.{task_at, call_of, listen_of, is_ready, is_well, IsSameBut, WaitsAlike}
+use Rattle.task_table.specs.Reading.{task_at, call_of, listen_of, is_ready, is_well, IsSameBut, WaitsAlike, TimersAlike}
 use Rattle.task_table.specs.declared.Line.{Line}
 use Rattle.task_table.specs.Effects.{with_task, without_call, without_listen, noted, with_line, stored}
 use Rattle.task_table.specs.Start.{begun}
@@ -68,18 +68,30 @@ holds_slot g k t u i slot slots h there e kept same = record {
   next_call = h.next_call ∙ sym same.next_call;
 }
 
--- what is kept of a task but for its health and its wait
-kept_rest : (s u : State) (i : ℕ) (old rest : Slot) → IsKept s i old → IsKept u i rest → WaitsAlike i s u → IsKept u i record rest { health = old.health; wait = old.wait }
-kept_rest s u i old rest was kept alike =
+-- what is kept of a task but for its timer
+kept_timer : (s u : State) (i : ℕ) (old slot : Slot) → IsKept s i old → IsKept u i slot → TimersAlike i s u → IsKept u i record slot { timer = old.timer }
+kept_timer s u i old slot was kept same =
+    let timer : old.timer ≡ (task_at u i).timer = ap (λ (o : Slot). o.timer) was.is ∙ sym same in
+    record { is = rw timer (ap (λ (o : Slot). record o { timer = (task_at u i).timer }) kept.is); alone = kept.alone }
+
+pub holds_timer_kept : (g : Setup) (k : Kept) (t : Turn) (u : State) (i : ℕ) (old slot : Slot) (slots : List Slot) → Shows g k t → i < length k.slots → old ≡ get_or k.slots i old → slots ≡ set k.slots i record slot { timer = old.timer } → IsKept u i slot → IsSameBut i t.state u → TimersAlike i t.state u → Shows g record k { slots = slots } record t { state = u }
+holds_timer_kept g k t u i old slot slots h there is e kept same timers =
+    let was = subst (λ (o : Slot). IsKept t.state i o) (sym is) (h.tasks i there old) in
+    holds_slot g k t u i record slot { timer = old.timer } slots h there e (kept_timer t.state u i old slot was kept timers) same
+
+-- what is kept of a task but for its health, its wait and its timer
+kept_rest : (s u : State) (i : ℕ) (old rest : Slot) → IsKept s i old → IsKept u i rest → WaitsAlike i s u → TimersAlike i s u → IsKept u i record rest { health = old.health; wait = old.wait; timer = old.timer }
+kept_rest s u i old rest was kept alike timers =
     let health : old.health ≡ (task_at u i).health = ap (λ (o : Slot). o.health) was.is ∙ sym alike.health in
     let same : wait_of (call_of u i) (listen_of u i) ≡ wait_of (call_of s i) (listen_of s i) = rw (alike.call, alike.listen) refl in
     let waits : old.wait ≡ wait_of (call_of u i) (listen_of u i) = ap (λ (o : Slot). o.wait) was.is ∙ sym same in
-    record { is = rw (health, waits) (ap (λ (o : Slot). record o { health = (task_at u i).health; wait = wait_of (call_of u i) (listen_of u i) }) kept.is); alone = kept.alone }
+    let timer : old.timer ≡ (task_at u i).timer = ap (λ (o : Slot). o.timer) was.is ∙ sym timers in
+    record { is = rw (health, waits, timer) (ap (λ (o : Slot). record o { health = (task_at u i).health; wait = wait_of (call_of u i) (listen_of u i); timer = (task_at u i).timer }) kept.is); alone = kept.alone }
 
-pub holds_rest : (g : Setup) (k : Kept) (t : Turn) (u : State) (i : ℕ) (old rest : Slot) (slots : List Slot) → Shows g k t → i < length k.slots → old ≡ get_or k.slots i old → slots ≡ set k.slots i record rest { health = old.health; wait = old.wait } → IsKept u i rest → IsSameBut i t.state u → WaitsAlike i t.state u → Shows g record k { slots = slots } record t { state = u }
-holds_rest g k t u i old rest slots h there is e kept same alike =
+pub holds_rest : (g : Setup) (k : Kept) (t : Turn) (u : State) (i : ℕ) (old rest : Slot) (slots : List Slot) → Shows g k t → i < length k.slots → old ≡ get_or k.slots i old → slots ≡ set k.slots i record rest { health = old.health; wait = old.wait; timer = old.timer } → IsKept u i rest → IsSameBut i t.state u → WaitsAlike i t.state u → TimersAlike i t.state u → Shows g record k { slots = slots } record t { state = u }
+holds_rest g k t u i old rest slots h there is e kept same alike timers =
     let was = subst (λ (o : Slot). IsKept t.state i o) (sym is) (h.tasks i there old) in
-    holds_slot g k t u i record rest { health = old.health; wait = old.wait } slots h there e (kept_rest t.state u i old rest was kept alike) same
+    holds_slot g k t u i record rest { health = old.health; wait = old.wait; timer = old.timer } slots h there e (kept_rest t.state u i old rest was kept alike timers) same
 
 -- what is kept of a task that changed, which waits as before
 pub kept_task : (s : State) (i : ℕ) (x : Task) (old slot : Slot) → i < length s.tasks → IsKept s i old → slot ≡ packed_task x (wait_of (call_of s i) (listen_of s i)) → IsKept (with_task i x s) i slot

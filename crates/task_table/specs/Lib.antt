@@ -4,6 +4,7 @@ pub mod Reading
 pub mod TaskSets
 pub mod Readiness
 pub mod Levels
+pub mod Deadlines
 pub mod Effects
 pub mod Rows
 pub mod Calls

@@ -187,3 +187,7 @@ pub record WaitsAlike (i : ℕ) (s u : State) : Type 0 where
   pub health : (task_at u i).health ≡ (task_at s i).health
   pub call : call_of u i ≡ call_of s i
   pub listen : listen_of u i ≡ listen_of s i
+
+-- the timer of task i is set alike in both
+abbrev pub TimersAlike : ℕ → State → State → Type 0
+TimersAlike i s u = (task_at u i).timer ≡ (task_at s i).timer

@@ -1,13 +1,13 @@
-//! What may be done to one task: results of its calls, posts, its timer.
+//! What may be done to one task: results of its calls, posts.
 
 use crate::kernel::Kernel;
-use kernel_abi::{Note, Timer};
+use kernel_abi::Note;
 
 impl Kernel {
-    ghost use Rattle.std.specs.Prelude.{◌≡◌, ◌+◌, ◌<◌, ◌≤◌, length, Option};
+    ghost use Rattle.std.specs.Prelude.{◌≡◌, ◌+◌, ◌<◌, ◌≤◌, length};
     ghost use Rattle.task_table.specs.State.{Setup, Turn};
     ghost use Rattle.task_table.specs.Reading.{arguments};
-    ghost use Rattle.task_table.specs.Effects.{given, returned, past_call, bits_added, bits_cleared, woken, posted, with_timer};
+    ghost use Rattle.task_table.specs.Effects.{given, returned, past_call, bits_added, bits_cleared, woken, posted};
     ghost use Rattle.task_table.specs.Rows.{goes_on, goes_on_with};
     ghost use Rattle.task_table.specs.Holds.{Holds, Stands, task_count, note_count};
     ghost use Rattle.task_table.specs.Limits.{turn_notes};
@@ -141,17 +141,6 @@ impl Kernel {
     {
         self.add_bits(task, bits);
         self.wake(task);
-    }
-
-    /// The timer of a task is set from now on, or off.
-    pub fn set_timer(&mut self, task: usize, timer: Option<Timer>)
-        requires { task < task_count self.old }
-        ensures holds { (g : Setup) (t : Turn) → Holds g self.old t → Holds g self.new (with_timer task timer t) }
-        ensures frame { AddsNotes self.old 0 self.new }
-    {
-        let mut slot = self.slot(task);
-        slot.timer = timer;
-        self.set_rest(task, &slot);
     }
 }
 

@@ -8,16 +8,19 @@ ghost use Rattle.task_table.specs.Limits.{most_tasks, board_lines};
 ghost use Rattle.task_table.specs.Parts.{task_setup};
 ghost use Rattle.task_table.specs.Levels.{AreLevels};
 ghost use Rattle.task_table.specs.Readiness.{is_free, AreThose, AreOffers};
+ghost use Rattle.task_table.specs.Deadlines.{AreNotBefore};
 
 mod near;
 mod sets;
+mod slots;
+mod timers;
 
 use crate::Line;
 use crate::levels::levels_of;
 use crate::limits::{LINES, TURN_NOTES};
-use crate::readiness::{empty_sets, follow_offer, follow_readiness, ready_tasks};
+use crate::readiness::{empty_sets, ready_tasks};
 use crate::slot::{Found, Slot, Wait};
-use crate::start::{LineStart, TaskStart, birth_slot, copies_of, first_slots};
+use crate::start::{LineStart, TaskStart, copies_of, first_slots};
 use crate::task_set::TaskSet;
 use arrayvec::ArrayVec;
 use kernel_abi::{Generation, Health, Note, TaskId, Timer};
@@ -41,6 +44,7 @@ pub struct Kernel {
     notes: ArrayVec<Note, TURN_NOTES>,
     memory: Memory,
     clock: u64,
+    earliest: u64,
     current: usize,
     next_call: u32,
     ghost few: { length slots.items ≤ most_tasks },
@@ -51,14 +55,15 @@ pub struct Kernel {
     ghost levels_are: { AreLevels (map task_setup tasks.items) levels.items },
     ghost ready_now: { AreThose is_free slots.items ready.words },
     ghost offered_now: { AreOffers slots.items offers.items },
+    ghost deadlines: { AreNotBefore earliest slots.items },
 }
 
 impl Kernel {
     ghost use Rattle.std.specs.Prelude.{◌≡◌, ◌+◌, ◌-◌, ◌%◌, ◌<◌, ◌≤◌, ◌^◌, ◌⊎◌, length, map, replicate, Option, IfOk, slice_get};
-    ghost use Rattle.task_table.specs.State.{Setup, State, Turn, Ground, Own};
+    ghost use Rattle.task_table.specs.State.{Setup, Turn, Ground, Own};
     ghost use Rattle.mem_banks.specs.Memory.{is_ram, byte_at, number_at, IsWithin, IsWithinRam};
-    ghost use Rattle.task_table.specs.Reading.{task_at, setup_at, register, priority, is_ready, call_of, listen_of, IsSameBut, WaitsAlike};
-    ghost use Rattle.task_table.specs.Effects.{changed, noted, clocked, with_line, with_processor, stored, copied, reborn};
+    ghost use Rattle.task_table.specs.Reading.{task_at, setup_at, register, priority, is_ready, call_of, listen_of};
+    ghost use Rattle.task_table.specs.Effects.{changed, noted, clocked, with_line, stored, copied};
     ghost use Rattle.task_table.specs.Start.{start as started_at, begun};
     ghost use Rattle.task_table.specs.Parts.{setup_of_parts, line_setup, IsSound};
     ghost use Rattle.task_table.specs.Holds.{Holds, Stands, IsKept, wait_of, task_count, note_count, clock_of, next_call_of, memory_of, setup_of, current_of, notes_of};
@@ -110,6 +115,7 @@ impl Kernel {
             notes: ArrayVec::new(),
             memory,
             clock: 0,
+            earliest: u64::MAX,
             current: 0,
             next_call: 1,
         })
@@ -380,69 +386,6 @@ impl Kernel {
         ensures frame { AddsNotes self.old 0 self.new }
     {
         self.next_call += 1;
-    }
-
-    /// Keeps this of a task; the sets of the tasks that are ready and that offer a call follow. Only here
-    /// does its health or its wait change.
-    #[inline(always)]
-    pub(crate) fn set_slot(&mut self, task: usize, slot: Slot)
-        requires { task < task_count self.old }
-        ensures holds { (g : Setup) (t : Turn) (u : State) → Holds g self.old t → IsKept u task slot → IsSameBut task t.state u → Holds g self.new record t { state = u } }
-        ensures frame { AddsNotes self.old 0 self.new }
-    {
-        let before = &self.slots[task];
-        follow_readiness(&mut self.ready, task, before.is_ready(), slot.is_ready());
-        follow_offer(
-            &mut self.offers,
-            task,
-            before.wait.server(),
-            slot.wait.server(),
-        );
-        self.slots[task] = slot;
-    }
-
-    /// Keeps this of a task but for its health and its wait, which stay as they are.
-    #[inline(always)]
-    pub(crate) fn set_rest(&mut self, task: usize, rest: &Slot)
-        requires { task < task_count self.old }
-        ensures holds { (g : Setup) (t : Turn) (u : State) → Holds g self.old t → IsKept u task rest.now → IsSameBut task t.state u → WaitsAlike task t.state u → Holds g self.new record t { state = u } }
-        ensures frame { AddsNotes self.old 0 self.new }
-    {
-        let slot = &mut self.slots[task];
-        slot.generation = rest.generation;
-        slot.registers = rest.registers;
-        slot.flags = rest.flags;
-        slot.posted = rest.posted;
-        slot.timer = rest.timer;
-    }
-
-    /// A task has these registers and flags from now on.
-    pub fn set_processor(&mut self, task: usize, registers: [u32; 16], flags: Flags)
-        requires { task < task_count self.old }
-        ensures holds { (g : Setup) (t : Turn) → Holds g self.old t → Holds g self.new (with_processor task registers flags t) }
-        ensures frame { AddsNotes self.old 0 self.new }
-    {
-        let mut slot = self.slot(task);
-        slot.registers = registers;
-        slot.flags = flags;
-        self.set_rest(task, &slot);
-    }
-
-    /// A task is born again: its generation goes up by one, modulo 64, and its registers and flags, its
-    /// posted bits and its timer are as at its first birth. It is well where it is started, else
-    /// stopped, and waits as before (Hubris Reference, on supervision).
-    pub fn reset_task(&mut self, task: usize, start: bool)
-        requires there { task < task_count self.old }
-        ensures holds { (g : Setup) (t : Turn) → Holds g self.old t → Holds g self.new (changed (reborn g task start) t) }
-        ensures frame { AddsNotes self.old 0 self.new }
-    {
-        let before = self.slot(task);
-        let generation = Generation {
-            number: before.generation.number.wrapping_add(1) % 64,
-        };
-        let mut slot = birth_slot(&self.tasks[task], generation, start);
-        slot.wait = before.wait;
-        self.set_slot(task, slot);
     }
 
     /// The number that the two bytes from an address on spell, the lowest first. Where there is no

@@ -4,9 +4,9 @@
 //!
 //! Each event and each call asks for room for `CALL_NOTES` notes and makes no more.
 
-ghost use Rattle.std.specs.Prelude.{◌≡◌, ◌+◌, ◌*◌, ◌<◌, ◌≤◌, ◌%◌, ◌/◌, ◌^◌, ◌∷◌, ◌==◌, ◌&&◌, true, Some, Option, ℕ, filter, fold, slice_get};
+ghost use Rattle.std.specs.Prelude.{◌≡◌, ◌+◌, ◌*◌, ◌<◌, ◌≤◌, ◌%◌, ◌/◌, ◌^◌, ◌∷◌, ◌==◌, ◌&&◌, true, Some, Option, ℕ, length, filter, fold, slice_get};
 ghost use Rattle.std.specs.Option.{option_map};
-ghost use Rattle.std.specs.List.{list_any};
+ghost use Rattle.std.specs.List.{list_any, range_with_len};
 ghost use Rattle.task_table.specs.State.{Setup, Turn};
 ghost use Rattle.task_table.specs.Reading.{is_ready, line_at, line_off};
 ghost use Rattle.task_table.specs.Effects.{with_line};
@@ -14,7 +14,7 @@ ghost use Rattle.task_table.specs.Rows.{timer_set, timer_words, timer_told, owns
 ghost use Rattle.task_table.specs.Events.{expired, ticked, owner_of, interrupted_by, interrupted};
 ghost use Rattle.task_table.specs.Parts.{line_setup};
 ghost use Rattle.task_table.specs.Holds.{Holds, Stands, Stood, task_count, note_count, clock_of};
-ghost use Rattle.task_table.specs.Limits.{board_lines, call_notes, turn_notes};
+ghost use Rattle.task_table.specs.Limits.{most_tasks, board_lines, call_notes, turn_notes};
 ghost use Rattle.task_table.specs.Frames.{AddsNotes, AddsAtMost};
 ghost use Rattle.timer_irq.specs.Midway.{with_next};
 
@@ -36,7 +36,19 @@ fn expire(k: &mut Kernel, task: usize)
     }
 }
 
-/// The time goes on, and each task whose timer is due is posted.
+/// Each task in order whose timer is due is posted.
+fn expire_all(k: &mut Kernel)
+    requires { note_count k.old + 2 * most_tasks ≤ turn_notes }
+    ensures holds { (g : Setup) (t : Turn) → Holds g k.old t → Holds g k.new (fold expired t (range_with_len 0 (length t.state.tasks))) }
+    ensures frame { AddsAtMost k.old (2 * most_tasks) k.new }
+{
+    for i in 0..k.task_count() {
+        expire(k, i);
+    }
+}
+
+/// The time goes on, and each task whose timer is due is posted; the timers are looked at only where one
+/// may be due.
 fn tick_all(k: &mut Kernel)
     requires room { note_count k.old + call_notes ≤ turn_notes }
     requires small { clock_of k.old + 1 < 2 ^ 64 }
@@ -44,8 +56,9 @@ fn tick_all(k: &mut Kernel)
     ensures frame { AddsAtMost k.old call_notes k.new }
 {
     k.step_clock();
-    for i in 0..k.task_count() {
-        expire(k, i);
+    if k.is_any_due() {
+        expire_all(k);
+        k.find_earliest();
     }
 }
 

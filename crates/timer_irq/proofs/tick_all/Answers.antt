@@ -1,20 +1,19 @@
-use Rattle.std.proofs.Common.{◌≡◌, length, arith, ◌∙◌}
+use Rattle.std.proofs.Common.{sym, subst}
 use Rattle.task_table.specs.Events.{ticked}
-use Rattle.timer_irq.proofs.Lines.{fold_range_more}
+use Rattle.task_table.specs.Holds.{Holds}
+use Rattle.task_table.specs.Effects.{clocked}
+use Rattle.timer_irq.proofs.Idling.{length-clocked, none_expired}
 use Rattle.timer_irq.proofs.tick_all.Goals as goal
 
-pub loop-i-preserved : goal.loop-i-preserved
-loop-i-preserved c = record {
-  frame = record {
-    notes = omega (arith, c.expire.ensures.frame.notes, c.loop-i.invariant.frame.notes);
-    tasks = c.expire.ensures.frame.tasks ∙ c.loop-i.invariant.frame.tasks;
-    setup = c.expire.ensures.frame.setup ∙ c.loop-i.invariant.frame.setup;
-  };
-  holds = λ g t h. rw fold_range_more (c.expire.ensures.holds g _ (c.loop-i.invariant.holds g t h));
-}
-
-pub returns-clause-holds : goal.returns-clause-holds
+pub returns-then-is_any_due-clause-holds : goal.returns-then-is_any_due-clause-holds
 unfolding ticked
-returns-clause-holds c = λ g t h.
-    let all : c.loop-i.i ≡ length t.state.tasks = omega (arith, c.task_count-i-end.ensures.value, c.loop-i.auto.i-end, c.loop-i-test.false, c.step_clock.ensures.frame.tasks, h.count) in
-    rw all at (c.loop-i.invariant.holds g _ (c.step_clock.ensures.holds g t h))
+returns-then-is_any_due-clause-holds c = λ g t h.
+    let next = c.step_clock.ensures.holds g t h in
+    rw (length-clocked t) at (c.find_earliest.ensures.holds g _ (c.expire_all.ensures.holds g (clocked t) next))
+
+pub returns-else-is_any_due-clause-holds : goal.returns-else-is_any_due-clause-holds
+unfolding ticked
+returns-else-is_any_due-clause-holds c = λ g t h.
+    let next = c.step_clock.ensures.holds g t h in
+    let none = none_expired (clocked t) (c.is_any_due.ensures g (clocked t) next c.if-is_any_due.false) in
+    subst (λ u. Holds g c.step_clock.new.self u) (sym (rw (length-clocked t) at none)) next

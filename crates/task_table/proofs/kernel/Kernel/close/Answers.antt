@@ -4,7 +4,7 @@ use Rattle.task_table.specs.Effects.{closed, noted}
 use Rattle.task_table.specs.Holds.{kept_call}
 use Rattle.task_table.specs.declared.slot.OpenCall.{OpenCall}
 use Rattle.task_table.proofs.Steps as steps
-use Rattle.task_table.proofs.Changes.{same_but-without_call, closed_none}
+use Rattle.task_table.proofs.Changes.{timers_same, task_at-without_call, same_but-without_call, closed_none}
 use Rattle.task_table.proofs.kernel.Kernel.close.Goals as goal
 
 pub returns-in-Some-clause-holds : goal.returns-in-Some-clause-holds
@@ -14,7 +14,7 @@ returns-in-Some-clause-holds c = λ g t h.
     let kept = c.slot-slot.ensures g t h in
     let call = steps.some_mapped kept_call (call_of t.state i) _ (sym (steps.call_kept t.state i _ kept) ∙ sym c.in-Some.ensures) in
     let number : call.0.number ≡ c.in-Some.call.number = ap (λ (x : OpenCall). x.number) call.2 in
-    let next = c.set_slot.ensures.holds g t _ h (steps.kept_no_call t.state i call.0 _ kept call.1) (same_but-without_call t.state i) in
+    let next = c.set_slot.ensures.holds g t _ h (steps.kept_no_call t.state i call.0 _ kept call.1) (same_but-without_call t.state i) (timers_same _ _ i (task_at-without_call t.state i i)) in
     rw (call.1, number) (c.note.ensures.holds g _ next)
 
 pub returns-in_default-clause-holds : goal.returns-in_default-clause-holds

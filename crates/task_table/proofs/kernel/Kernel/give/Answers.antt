@@ -3,7 +3,7 @@ use Rattle.task_table.specs.State.{Task}
 use Rattle.task_table.specs.Reading.{task_at}
 use Rattle.task_table.specs.declared.slot.Slot.{Slot}
 use Rattle.task_table.proofs.Steps as steps
-use Rattle.task_table.proofs.Changes.{same_but-with_task, waits_alike}
+use Rattle.task_table.proofs.Changes.{same_but-with_task, waits_alike, timers_alike}
 use Rattle.task_table.specs.Effects.{given, with_results}
 use Rattle.task_table.proofs.kernel.Kernel.give.Goals as goal
 
@@ -16,4 +16,4 @@ returns-clause-holds c = λ g t h.
     let there : c.args.task < length t.state.tasks = omega (arith, h.count) in
     let written = ap (λ (rs : List ℕ). record c.slot-slot.result { registers = rs }) c.write_results.ensures in
     let is = written ∙ ap (λ (o : Slot). record o { registers = with_results c.args.values.now o.registers }) kept.is in
-    c.set_rest.ensures.holds g t _ h (steps.kept_task t.state c.args.task x _ _ there kept is) (same_but-with_task t.state c.args.task x) (waits_alike t.state c.args.task x there refl)
+    c.set_rest.ensures.holds g t _ h (steps.kept_task t.state c.args.task x _ _ there kept is) (same_but-with_task t.state c.args.task x) (waits_alike t.state c.args.task x there refl) (timers_alike t.state c.args.task x there refl)

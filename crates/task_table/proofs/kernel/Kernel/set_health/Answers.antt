@@ -1,10 +1,10 @@
-use Rattle.std.proofs.Common.{◌<◌, ap, arith, length}
+use Rattle.std.proofs.Common.{◌<◌, ap, arith, length, refl}
 use Rattle.task_table.specs.State.{Task}
 use Rattle.task_table.specs.Reading.{task_at}
 use Rattle.task_table.specs.declared.slot.Slot.{Slot}
 use Rattle.task_table.proofs.Steps as steps
 use Rattle.task_table.specs.Effects.{with_health}
-use Rattle.task_table.proofs.Changes.{same_but-with_task}
+use Rattle.task_table.proofs.Changes.{same_but-with_task, timers_alike}
 use Rattle.task_table.proofs.kernel.Kernel.set_health.Goals as goal
 
 pub returns-clause-holds : goal.returns-clause-holds
@@ -13,4 +13,4 @@ returns-clause-holds c = λ g t h.
     let kept = c.slot-slot.ensures g t h in
     let x : Task = record (task_at t.state c.args.task) { health = c.args.health } in
     let there : c.args.task < length t.state.tasks = omega (arith, h.count) in
-    c.set_slot.ensures.holds g t _ h (steps.kept_task t.state c.args.task x _ _ there kept (ap (λ (o : Slot). record o { health = c.args.health }) kept.is)) (same_but-with_task t.state c.args.task x)
+    c.set_slot.ensures.holds g t _ h (steps.kept_task t.state c.args.task x _ _ there kept (ap (λ (o : Slot). record o { health = c.args.health }) kept.is)) (same_but-with_task t.state c.args.task x) (timers_alike t.state c.args.task x there refl)

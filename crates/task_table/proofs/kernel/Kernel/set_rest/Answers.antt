@@ -1,8 +1,41 @@
-use Rattle.std.proofs.Common.{refl}
+use Rattle.std.proofs.Common.{refl, sym, ◌∙◌, arith, length-set}
 use Rattle.task_table.specs.Holds.{kept_of}
 use Rattle.task_table.proofs.Steps as steps
+use Rattle.task_table.specs.Readiness.{is_free}
+use Rattle.task_table.proofs.Written.{those_same, offers_same}
+use Rattle.task_table.proofs.Deadlines.{not_before-same}
 use Rattle.task_table.proofs.kernel.Kernel.set_rest.Goals as goal
 
 pub returns-clause-holds : goal.returns-clause-holds
-returns-clause-holds c = λ g t u h kept same alike.
-    steps.holds_rest g (kept_of c.args.self.now) t u c.args.task c.index_mut-slot.result.now c.args.rest.now _ h c.requires c.index_mut-slot.ensures.value refl kept same alike
+returns-clause-holds c = λ g t u h kept same alike timers.
+    steps.holds_rest g (kept_of c.args.self.now) t u c.args.task c.index_mut-slot.result.now c.args.rest.now _ h c.requires c.index_mut-slot.ensures.value refl kept same alike timers
+
+pub invariant_of-self-clause-deadlines : goal.invariant_of-self-clause-deadlines
+invariant_of-self-clause-deadlines c =
+    let a = c.args in
+    let old = c.index_mut-slot.result.now in
+    not_before-same a.self.now.earliest a.self.now.slots.items a.task old record a.rest.now { health = old.health; wait = old.wait; timer = old.timer } a.self.now.deadlines c.requires c.index_mut-slot.ensures.value refl
+
+pub invariant_of-self-clause-many : goal.invariant_of-self-clause-many
+invariant_of-self-clause-many c =
+    let a = c.args in
+    let old = c.index_mut-slot.result.now in
+    a.self.now.many ∙ sym (length-set a.self.now.slots.items a.task record a.rest.now { health = old.health; wait = old.wait; timer = old.timer })
+
+pub invariant_of-self-clause-there : goal.invariant_of-self-clause-there
+invariant_of-self-clause-there c =
+    let a = c.args in
+    let old = c.index_mut-slot.result.now in
+    omega (arith, a.self.now.there, length-set a.self.now.slots.items a.task record a.rest.now { health = old.health; wait = old.wait; timer = old.timer })
+
+pub invariant_of-self-clause-ready_now : goal.invariant_of-self-clause-ready_now
+invariant_of-self-clause-ready_now c =
+    let a = c.args in
+    let old = c.index_mut-slot.result.now in
+    those_same is_free a.self.now.slots.items a.task old record a.rest.now { health = old.health; wait = old.wait; timer = old.timer } a.self.now.ready.words a.self.now.ready_now c.requires c.index_mut-slot.ensures.value refl
+
+pub invariant_of-self-clause-offered_now : goal.invariant_of-self-clause-offered_now
+invariant_of-self-clause-offered_now c =
+    let a = c.args in
+    let old = c.index_mut-slot.result.now in
+    offers_same a.self.now.slots.items a.task old record a.rest.now { health = old.health; wait = old.wait; timer = old.timer } a.self.now.offers.items a.self.now.offered_now c.requires c.index_mut-slot.ensures.value (λ k. refl)

@@ -1,7 +1,47 @@
-use Rattle.std.proofs.Common.{refl}
+use Rattle.std.proofs.Common.{◌≡◌, refl, sym, subst, ◌∙◌, arith, length, set, length-set}
+use Rattle.task_table.specs.declared.slot.Slot.{Slot}
 use Rattle.task_table.specs.Holds.{kept_of}
 use Rattle.task_table.proofs.Steps as steps
+use Rattle.task_table.specs.Readiness.{is_free, AreOffers}
+use Rattle.task_table.proofs.Written.{front, those_set, offers_set}
+use Rattle.task_table.proofs.Deadlines.{not_before-same}
 use Rattle.task_table.proofs.kernel.Kernel.set_slot.Goals as goal
 
 pub returns-clause-holds : goal.returns-clause-holds
-returns-clause-holds c = λ g t u h kept same. steps.holds_slot g (kept_of c.args.self.now) t u c.args.task c.args.slot _ h c.requires refl kept same
+returns-clause-holds c = λ g t u h kept same timers.
+    steps.holds_timer_kept g (kept_of c.args.self.now) t u c.args.task c.index_mut-kept.result.now c.args.slot _ h c.requires c.index_mut-kept.ensures.value refl kept same timers
+
+pub invariant_of-self-clause-deadlines : goal.invariant_of-self-clause-deadlines
+invariant_of-self-clause-deadlines c =
+    let a = c.args in
+    let old = c.index_mut-kept.result.now in
+    not_before-same a.self.now.earliest a.self.now.slots.items a.task old record a.slot { timer = old.timer } a.self.now.deadlines c.requires c.index_mut-kept.ensures.value refl
+
+pub invariant_of-self-clause-many : goal.invariant_of-self-clause-many
+invariant_of-self-clause-many c =
+    let a = c.args in
+    let old = c.index_mut-kept.result.now in
+    a.self.now.many ∙ sym (length-set a.self.now.slots.items a.task record a.slot { timer = old.timer })
+
+pub invariant_of-self-clause-there : goal.invariant_of-self-clause-there
+invariant_of-self-clause-there c =
+    let a = c.args in
+    let old = c.index_mut-kept.result.now in
+    omega (arith, a.self.now.there, length-set a.self.now.slots.items a.task record a.slot { timer = old.timer })
+
+pub invariant_of-self-clause-ready_now : goal.invariant_of-self-clause-ready_now
+invariant_of-self-clause-ready_now c =
+    let a = c.args in
+    let old = c.index_mut-kept.result.now in
+    those_set is_free a.self.now.slots.items a.task record a.slot { timer = old.timer } a.self.now.ready.words _ a.self.now.ready_now c.requires (λ j. rw c.is_ready-2.ensures at (c.follow_readiness.ensures j))
+
+pub invariant_of-self-clause-offered_now : goal.invariant_of-self-clause-offered_now
+invariant_of-self-clause-offered_now c =
+    let a = c.args in
+    let old = c.index_mut-kept.result.now in
+    let slot : Slot = record a.slot { timer = old.timer } in
+    let was : AreOffers a.self.now.slots.items c.deref_mut.result.now = rw c.deref_mut.ensures.value a.self.now.offered_now in
+    let sets = c.follow_offer.new.sets in
+    let next : AreOffers (set a.self.now.slots.items a.task slot) sets = offers_set a.self.now.slots.items a.task slot c.deref_mut.result.now sets was c.requires c.follow_offer.ensures.count (λ k j d under. rw c.server-2.ensures at (c.follow_offer.ensures.each k j d under)) in
+    let count : length sets ≡ a.self.now.offers.len = omega (arith, c.follow_offer.ensures.count, c.deref_mut.ensures.len) in
+    subst (λ xs. AreOffers (set a.self.now.slots.items a.task slot) xs) (sym (front a.self.now.offers.len sets _ count)) next

@@ -1,17 +1,52 @@
-use Rattle.std.proofs.Common.{◌<◌, ap, arith, length, refl}
+use Rattle.std.proofs.Common.{◌<◌, ap, sym, ◌∙◌, subst, arith, length, length-set, refl}
 use Rattle.task_table.specs.State.{Task}
 use Rattle.task_table.specs.Reading.{task_at}
 use Rattle.task_table.specs.declared.slot.Slot.{Slot}
+use Rattle.task_table.specs.Holds.{IsKept, kept_of}
 use Rattle.task_table.proofs.Steps as steps
-use Rattle.task_table.proofs.Changes.{same_but-with_task, waits_alike}
+use Rattle.task_table.proofs.Changes.{same_but-with_task}
+use Rattle.task_table.specs.Readiness.{is_free}
+use Rattle.task_table.proofs.Written.{those_same, offers_same}
+use Rattle.task_table.proofs.Deadlines.{not_before-set}
 use Rattle.task_table.specs.Effects.{with_timer}
 use Rattle.task_table.proofs.kernel.Kernel.set_timer.Goals as goal
 
 pub returns-clause-holds : goal.returns-clause-holds
 unfolding with_timer
 returns-clause-holds c = λ g t h.
-    let kept = c.slot-slot.ensures g t h in
-    let x : Task = record (task_at t.state c.args.task) { timer = c.args.timer } in
-    let there : c.args.task < length t.state.tasks = omega (arith, h.count) in
-    let is = ap (λ (o : Slot). record o { timer = c.args.timer }) kept.is in
-    c.set_rest.ensures.holds g t _ h (steps.kept_task t.state c.args.task x _ _ there kept is) (same_but-with_task t.state c.args.task x) (waits_alike t.state c.args.task x there refl)
+    let i = c.args.task in
+    let old = c.index_mut.result.now in
+    let was = subst (λ (o : Slot). IsKept t.state i o) (sym c.index_mut.ensures.value) (h.tasks i c.requires old) in
+    let x : Task = record (task_at t.state i) { timer = c.args.timer } in
+    let there : i < length t.state.tasks = omega (arith, h.count) in
+    let is = ap (λ (o : Slot). record o { timer = c.args.timer }) was.is in
+    steps.holds_slot g (kept_of c.args.self.now) t _ i record old { timer = c.args.timer } _ h c.requires refl (steps.kept_task t.state i x old _ there was is) (same_but-with_task t.state i x)
+
+pub invariant_of-self-clause-deadlines : goal.invariant_of-self-clause-deadlines
+invariant_of-self-clause-deadlines c =
+    let a = c.args in
+    not_before-set a.self.now.earliest _ a.self.now.slots.items a.task record c.index_mut.result.now { timer = a.timer } a.self.now.deadlines c.earlier-self.ensures.time c.earlier-self.ensures.deadline
+
+pub invariant_of-self-clause-many : goal.invariant_of-self-clause-many
+invariant_of-self-clause-many c =
+    let a = c.args in
+    let old = c.index_mut.result.now in
+    a.self.now.many ∙ sym (length-set a.self.now.slots.items a.task record old { timer = a.timer })
+
+pub invariant_of-self-clause-there : goal.invariant_of-self-clause-there
+invariant_of-self-clause-there c =
+    let a = c.args in
+    let old = c.index_mut.result.now in
+    omega (arith, a.self.now.there, length-set a.self.now.slots.items a.task record old { timer = a.timer })
+
+pub invariant_of-self-clause-ready_now : goal.invariant_of-self-clause-ready_now
+invariant_of-self-clause-ready_now c =
+    let a = c.args in
+    let old = c.index_mut.result.now in
+    those_same is_free a.self.now.slots.items a.task old record old { timer = a.timer } a.self.now.ready.words a.self.now.ready_now c.requires c.index_mut.ensures.value refl
+
+pub invariant_of-self-clause-offered_now : goal.invariant_of-self-clause-offered_now
+invariant_of-self-clause-offered_now c =
+    let a = c.args in
+    let old = c.index_mut.result.now in
+    offers_same a.self.now.slots.items a.task old record old { timer = a.timer } a.self.now.offers.items a.self.now.offered_now c.requires c.index_mut.ensures.value (λ k. refl)

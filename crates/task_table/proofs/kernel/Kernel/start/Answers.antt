@@ -5,6 +5,7 @@ use Rattle.task_table.specs.Start.{born}
 use Rattle.task_table.specs.Holds.{packed_task}
 use Rattle.task_table.specs.declared.slot.Wait.TheVariants.{Nothing}
 use Rattle.task_table.proofs.Members.{no_offers}
+use Rattle.task_table.proofs.Deadlines.{not_before-unset}
 use Rattle.task_table.proofs.Starts.{shows_start, sane-begun}
 use Rattle.task_table.proofs.kernel.Kernel.start.Goals as goal
 
@@ -32,3 +33,7 @@ pub invariant_of-result-clause-offered_now : goal.invariant_of-result-clause-off
 invariant_of-result-clause-offered_now c =
     let count : length c.in_ok-offers.offers.items ≡ length c.in_ok-slots.slots.items = search rules in
     no_offers (λ x. packed_task (born (task_setup x)) Nothing) c.args.tasks.now c.in_ok-slots.slots.items c.in_ok-offers.offers.items c.in_ok-slots.ensures (λ x. refl) count c.in_ok-offers.ensures.empty
+
+pub invariant_of-result-clause-deadlines : goal.invariant_of-result-clause-deadlines
+invariant_of-result-clause-deadlines c =
+    not_before-unset _ (λ x. packed_task (born (task_setup x)) Nothing) c.args.tasks.now c.in_ok-slots.slots.items c.in_ok-slots.ensures (λ x. refl)

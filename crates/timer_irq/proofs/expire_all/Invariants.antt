@@ -5,7 +5,7 @@ use Rattle.task_table.specs.State.{Setup, Turn}
 use Rattle.task_table.specs.Events.{expired}
 use Rattle.task_table.specs.Holds.{Holds}
 use Rattle.task_table.specs.Frames.{AddsAtMost}
-use Rattle.timer_irq.proofs.tick_all.Given as goal
+use Rattle.timer_irq.proofs.expire_all.Given as goal
 
 -- so far the timers of the first tasks are seen to
 abbrev pub invariant-loop-i : goal.invariant-loop-i

@@ -1,0 +1,86 @@
+//! What is kept of a task, and how it is written.
+
+use super::Kernel;
+use crate::readiness::{follow_offer, follow_readiness};
+use crate::slot::Slot;
+use crate::start::birth_slot;
+use kernel_abi::Generation;
+use words_core::Flags;
+
+impl Kernel {
+    ghost use Rattle.std.specs.Prelude.{◌≡◌, ◌<◌};
+    ghost use Rattle.task_table.specs.State.{Setup, State, Turn};
+    ghost use Rattle.task_table.specs.Reading.{IsSameBut, WaitsAlike, TimersAlike};
+    ghost use Rattle.task_table.specs.Effects.{changed, with_processor, reborn};
+    ghost use Rattle.task_table.specs.Holds.{Holds, IsKept, task_count};
+    ghost use Rattle.task_table.specs.Frames.{AddsNotes};
+
+    /// Keeps this of a task but for its timer, which stays as it is; the sets of the tasks that are ready
+    /// and that offer a call follow. Only here does its health or its wait change.
+    #[inline(always)]
+    pub(crate) fn set_slot(&mut self, task: usize, slot: Slot)
+        requires { task < task_count self.old }
+        ensures holds { (g : Setup) (t : Turn) (u : State) → Holds g self.old t → IsKept u task slot → IsSameBut task t.state u → TimersAlike task t.state u → Holds g self.new record t { state = u } }
+        ensures frame { AddsNotes self.old 0 self.new }
+    {
+        let before = &self.slots[task];
+        follow_readiness(&mut self.ready, task, before.is_ready(), slot.is_ready());
+        follow_offer(
+            &mut self.offers,
+            task,
+            before.wait.server(),
+            slot.wait.server(),
+        );
+        let kept = &mut self.slots[task];
+        kept.health = slot.health;
+        kept.wait = slot.wait;
+        kept.generation = slot.generation;
+        kept.registers = slot.registers;
+        kept.flags = slot.flags;
+        kept.posted = slot.posted;
+    }
+
+    /// Keeps this of a task but for its health, its wait and its timer, which stay as they are.
+    #[inline(always)]
+    pub(crate) fn set_rest(&mut self, task: usize, rest: &Slot)
+        requires { task < task_count self.old }
+        ensures holds { (g : Setup) (t : Turn) (u : State) → Holds g self.old t → IsKept u task rest.now → IsSameBut task t.state u → WaitsAlike task t.state u → TimersAlike task t.state u → Holds g self.new record t { state = u } }
+        ensures frame { AddsNotes self.old 0 self.new }
+    {
+        let slot = &mut self.slots[task];
+        slot.generation = rest.generation;
+        slot.registers = rest.registers;
+        slot.flags = rest.flags;
+        slot.posted = rest.posted;
+    }
+
+    /// A task has these registers and flags from now on.
+    pub fn set_processor(&mut self, task: usize, registers: [u32; 16], flags: Flags)
+        requires { task < task_count self.old }
+        ensures holds { (g : Setup) (t : Turn) → Holds g self.old t → Holds g self.new (with_processor task registers flags t) }
+        ensures frame { AddsNotes self.old 0 self.new }
+    {
+        let mut slot = self.slot(task);
+        slot.registers = registers;
+        slot.flags = flags;
+        self.set_rest(task, &slot);
+    }
+
+    /// A task is born again: its generation goes up by one, modulo 64, and its registers and flags, its
+    /// posted bits and its timer are as at its first birth. It is well where it is started, else
+    /// stopped, and waits as before (Hubris Reference, on supervision).
+    pub fn reset_task(&mut self, task: usize, start: bool)
+        requires there { task < task_count self.old }
+        ensures holds { (g : Setup) (t : Turn) → Holds g self.old t → Holds g self.new (changed (reborn g task start) t) }
+        ensures frame { AddsNotes self.old 0 self.new }
+    {
+        let before = self.slot(task);
+        let generation = Generation {
+            number: before.generation.number.wrapping_add(1) % 64,
+        };
+        let mut slot = birth_slot(&self.tasks[task], generation, start);
+        slot.wait = before.wait;
+        self.set_timer(task, None);
+        self.set_slot(task, slot);
+    }
+}
