@@ -12,33 +12,26 @@ use crate::line::{
 use board_core::{Board, End, TaskView};
 use kernel_abi::Note;
 use outside_io::{Failed, Sink};
-use trace_text::{TurnNumber, line as put_line};
+use trace_text::TurnLines;
 use words_core::Flags;
 
-fn push_note<S: Sink>(
-    turn: &TurnNumber,
-    note: &Note,
-    line: &mut Line,
-    out: &mut S,
-) -> Result<(), Failed>
-    ensures bytes { Pushes (S.seen out.old).written (S.seen out.new).written (line_of turn.now.number note.now) result }
+fn push_note<S: Sink>(lines: &mut TurnLines, note: &Note, out: &mut S) -> Result<(), Failed>
+    ensures number { lines.new.number ≡ lines.old.number }
+    ensures bytes { Pushes (S.seen out.old).written (S.seen out.new).written (line_of lines.old.number note.now) result }
     ensures cause { HasCause (S.seen out.old).faults (S.seen out.new).faults result }
 {
-    line.clear();
-    put_line(turn, note, line);
-    out.push(line.as_str().as_bytes())
+    lines.write(note);
+    out.push(lines.text().as_bytes())
 }
 
-/// The notes of a turn, one line each. All are built in one buffer, and the turn's digits are made once: a new
-/// buffer for each note would be filled with zeros.
+/// The notes of a turn, one line each.
 pub fn push_notes<S: Sink>(turn: u32, notes: &[Note], out: &mut S) -> Result<(), Failed>
     ensures bytes { Pushes (S.seen out.old).written (S.seen out.new).written (notes_text (at_turn turn notes.now)) result }
     ensures cause { HasCause (S.seen out.old).faults (S.seen out.new).faults result }
 {
-    let begun = TurnNumber::new(turn);
-    let mut line = Line::new();
+    let mut lines = TurnLines::new(turn);
     for note in notes {
-        push_note(&begun, note, &mut line, out)?;
+        push_note(&mut lines, note, out)?;
     }
     Ok(())
 }

@@ -1,6 +1,8 @@
-use Rattle.std.proofs.Common.{arith, sym, subst, ℕ, List, ◌<◌, length}
+use Rattle.std.proofs.Common.{◌≡◌, ◌∙◌, ◌+◌, arith, sym, subst, ℕ, List, ◌<◌, length, take}
 use Rattle.std.proofs.lemmas.Result.{err_from_is_err_and}
 use Rattle.std.specs.Io.KnownBytes.{Appends}
+use Rattle.board_model.specs.Run.{at_turn}
+use Rattle.board_run.specs.Text.{notes_text}
 use Rattle.board_run.proofs.Appending.{appends_more, part_fails, notes_at, notes_more}
 use Rattle.board_run.proofs.pushing.push_notes.Goals as goal
 
@@ -9,8 +11,11 @@ loop-note-preserved g c =
     let i = c.loop-note.note-index in
     let within : i < length c.args.notes.now = omega arith in
     let P : List ℕ → Type 0 = λ w. Appends (g.S.Sink.seen c.args.out.now).written (g.S.Sink.seen c.push_note.new.out).written w in
+    let Q : ℕ → Type 0 = λ n. P (notes_text (at_turn n (take (i + 1) c.args.notes.now))) in
+    let pushed : Q c.loop-note.lines.number = subst P (sym (notes_more c.loop-note.lines.number c.args.notes.now i _ within)) (appends_more _ _ _ _ _ c.loop-note.invariant.pushed c.in_ok-push_note.ensures.bytes) in
     record {
-      pushed = subst P (sym (notes_more c.new-begun.result.number c.args.notes.now i _ within)) (appends_more _ _ _ _ _ c.loop-note.invariant.pushed c.in_ok-push_note.ensures.bytes);
+      number = c.push_note.ensures.number ∙ c.loop-note.invariant.number;
+      pushed = subst Q (sym c.push_note.ensures.number) pushed;
       later = omega (arith, c.loop-note.invariant.later, c.in_ok-push_note.ensures.cause.later);
     }
 
@@ -19,4 +24,4 @@ returns-in_err-push_note-clause-bytes g c =
     let p = err_from_is_err_and c.from_residual.result c.from_residual.ensures.1 in
     let i = c.loop-note.note-index in
     let within : i < length c.args.notes.now = omega arith in
-    rw (sym c.new-begun.ensures) (part_fails _ _ _ _ _ _ _ c.from_residual.result p.0 p.1 (notes_at c.new-begun.result.number c.args.notes.now i _ within) c.loop-note.invariant.pushed c.in_err-push_note.ensures.bytes)
+    rw (sym c.loop-note.invariant.number) (part_fails _ _ _ _ _ _ _ c.from_residual.result p.0 p.1 (notes_at c.loop-note.lines.number c.args.notes.now i _ within) c.loop-note.invariant.pushed c.in_err-push_note.ensures.bytes)
