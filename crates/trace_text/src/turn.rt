@@ -1,7 +1,7 @@
 //! The lines of one turn.
-ghost use Rattle.std.specs.Prelude.{◌≡◌, ◌≤◌, length, take, decimal};
-ghost use Rattle.std.specs.String.Boundary.{IsSplitPoint};
+ghost use Rattle.std.specs.Prelude.{◌≡◌, ◌≤◌, length, decimal, Option, Some};
 ghost use Rattle.trace_text.specs.Text.{line_of};
+ghost use Rattle.trace_text.specs.Digits.{IsBegun};
 
 use crate::lines::line;
 use crate::words::push_decimal;
@@ -9,41 +9,54 @@ use arrayvec::ArrayString;
 use kernel_abi::Note;
 
 /// The lines of one turn, one after the other in one buffer, which begins with the digits of the turn's number: these
-/// are made once.
+/// are made once, in the buffer itself, since to move a buffer costs as much as a line.
 #[derive(Drop)]
 pub struct TurnLines {
     pub number: u32,
     text: ArrayString<160>,
-    begun: usize,
-    ghost digits: { take begun text.bytes ≡ decimal number },
-    ghost cut: { IsSplitPoint text.bytes begun },
-    ghost begun_of: { begun ≡ length (decimal number) },
-    ghost few: { begun ≤ 20 },
+    // behind how many bytes a line goes on; None before the first one
+    begun: Option<usize>,
+    ghost begun_of: { IsBegun number text.bytes begun },
 }
 
 impl TurnLines {
-    ghost use Rattle.trace_text.specs.Turn.{last_line};
+    ghost use Rattle.trace_text.specs.Turn.{last_line, begun_in};
 
     /// Of the turn with a number, before its first line.
+    #[inline(always)]
     pub fn new(number: u32) -> TurnLines
         ensures { result.number ≡ number }
     {
-        let mut text = ArrayString::new();
-        push_decimal(&mut text, u64::from(number));
-        let begun = text.len();
         TurnLines {
             number,
-            text,
-            begun,
+            text: ArrayString::new(),
+            begun: None,
+        }
+    }
+
+    /// The digits of the number alone stand in the buffer.
+    #[inline(always)]
+    fn begin_line(&mut self)
+        ensures digits { last_line self.new ≡ decimal self.old.number }
+        ensures begun { begun_in self.new ≡ Some (length (decimal self.old.number)) }
+        ensures number { self.new.number ≡ self.old.number }
+    {
+        match self.begun {
+            Some(begun) => self.text.truncate(begun),
+            None => {
+                push_decimal(&mut self.text, u64::from(self.number));
+                self.begun = Some(self.text.len());
+            }
         }
     }
 
     /// Puts the line of a note, with its LF, in the place of the line before. A code that is no instruction has no text.
+    #[inline(always)]
     pub fn write(&mut self, note: &Note)
         ensures line { last_line self.new ≡ line_of self.old.number note.now }
         ensures number { self.new.number ≡ self.old.number }
     {
-        self.text.truncate(self.begun);
+        self.begin_line();
         line(note, &mut self.text);
     }
 

@@ -19,7 +19,7 @@ turns-init c =
     record {
       advanced = λ x n s a. let e : n ≡ n + (turns_of c.args.self.now - turns_of c.args.self.now) = omega arith in subst (λ (m : ℕ). IsAdvanced Calls x m s c.args.self.now) e a;
       stood = c.requires.stood;
-      text = c.text-text.ensures;
+      text = c.text-text.ensures.gives;
       from = omega arith;
       within = c.requires.left;
       due = refl;
