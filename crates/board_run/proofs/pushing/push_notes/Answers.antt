@@ -1,4 +1,4 @@
-use Rattle.std.proofs.Common.{◌≡◌, ◌∙◌, ◌+◌, arith, sym, subst, ℕ, List, ◌<◌, length, take}
+use Rattle.std.proofs.Common.{◌∙◌, ◌+◌, arith, sym, subst, ℕ, List, ◌<◌, length, take}
 use Rattle.std.proofs.lemmas.Result.{err_from_is_err_and}
 use Rattle.std.specs.Io.KnownBytes.{Appends}
 use Rattle.board_model.specs.Run.{at_turn}
