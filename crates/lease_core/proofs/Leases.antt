@@ -1,5 +1,7 @@
 -- Where borrowed bytes lie, and what moves where there are none.
 use Rattle.std.proofs.Common.{◌≡◌, ◌+◌, ◌-◌, ◌*◌, ◌^◌, ◌≤◌, ℕ, Bool, true, false, cond, [], take, drop, None, Some, refl, sym, ◌∙◌, ap, leb}
+use Rattle.std.specs.Prelude.{Result, Ok, Err}
+use Rattle.kernel_abi.specs.declared.LeaseEntry.{LeaseEntry}
 use Rattle.region_check.specs.Rights.{first_bad}
 use Rattle.region_check.specs.declared.Right.{Right}
 use Rattle.region_check.specs.declared.Right.TheVariants.{Read}
@@ -11,15 +13,15 @@ use Rattle.task_table.specs.declared.slot.OpenCall.{OpenCall}
 use Rattle.task_table.specs.State.{Setup, State, Birth, Call, Read as Look, Leased, Own, Lease, Ground, Turn}
 use Rattle.task_table.specs.Reading.{bad_byte, taken_by}
 use Rattle.task_table.specs.Effects.{looked, copied}
-use Rattle.task_table.specs.Borrows.{moved}
-use Rattle.task_table.specs.Holds.{Holds, kept_of, kept_call}
+use Rattle.task_table.specs.Borrows.{moved, grant}
+use Rattle.task_table.specs.Holds.{Holds, Stood, kept_of, kept_call}
 use Rattle.task_table.specs.Sane.{Sane}
 use Rattle.std.proofs.lemmas.Bool.{leb-true}
 use Rattle.task_table.proofs.Clients.{found_call, taken_call}
 use Rattle.task_table.specs.declared.kernel.Kernel.{Kernel}
 use Rattle.task_table.proofs.Messages.{holds_looked, holds_copied}
 use Rattle.task_table.proofs.Ranges.{within-good, within_ram-good}
-use Rattle.lease_core.specs.Loans.{way_of, IsBuffer, IsLeased}
+use Rattle.lease_core.specs.Loans.{way_of, IsBuffer, IsLeased, IsEntry, IsEntryAt}
 use Rattle.lease_core.specs.declared.way.Way.{Way}
 use Rattle.lease_core.specs.declared.way.Way.TheVariants as way
 
@@ -76,3 +78,15 @@ table_fits g s i j k call sane taken same =
 -- and it is a call of the lender
 pub of_lender : (g : Setup) (s : State) (i j : ℕ) (k : Call) → Sane g s → taken_by s i j ≡ Some k → k.client.index ≡ i
 of_lender g s i j k sane taken = ap (λ (b : Birth). b.index) (taken_call g s i j k sane taken).client
+
+-- ## an entry
+
+-- that from the address where it begins
+pub entry_from : (g : Setup) (s : State) (i : ℕ) (k : Call) (table lease : ℕ) (r : Result LeaseEntry ℕ) → k.table ≡ table → IsEntryAt g s i (table + 12 * lease) r → IsEntry g s i k lease r
+unfolding grant
+entry_from g s i k table lease (Ok e) same h = rw (← same) at h
+entry_from g s i k table lease (Err at) same h = rw (← same) at h
+
+-- a kernel that stood, and now holds what it held, stands
+pub stood_still : (old new : Kernel) → Stood old → ((g : Setup) (t : Turn) → Holds g old t → Holds g new t) → Stood new
+stood_still old new s still = (s.0, s.1, record { holds = still s.0 s.1 s.2.holds; sane = s.2.sane })

@@ -9,6 +9,7 @@ use Rattle.region_check.specs.declared.Right.TheVariants.{Read}
 use Rattle.mem_banks.specs.Memory.{Memory, IsWithin, IsWithinRam}
 use Rattle.task_table.specs.State.{Setup, State, Call, Turn}
 use Rattle.task_table.specs.Reading.{is_valid, bad_byte}
+use Rattle.task_table.specs.Entries.{entry_at}
 use Rattle.task_table.specs.Effects.{noted}
 use Rattle.task_table.specs.Rows.{first_row, misused, denied, goes_on_with}
 use Rattle.task_table.specs.Borrows.{Way as Needs, reading, writing, entry_range, grant, buffer_of, part_of, lent}
@@ -40,7 +41,12 @@ pub record IsLoanOf (x : Loan) (k : Call) : Type 0 where
   pub lender : k.client.index ≡ x.lender
   pub number : k.number ≡ x.call
 
--- the entry of a lease, or the first byte of it that the lender may not read
+-- the entry from an address on, or the first byte of it that the lender may not read
+abbrev pub IsEntryAt : Setup → State → ℕ → ℕ → Result LeaseEntry ℕ → Type 0
+IsEntryAt g s lender base (Ok e) = (bad_byte g lender Read record { base = base; length = 12 } ≡ None) × (entry_at s.memory base ≡ e)
+IsEntryAt g s lender base (Err at) = bad_byte g lender Read record { base = base; length = 12 } ≡ Some at
+
+-- that of a lease
 abbrev pub IsEntry : Setup → State → ℕ → Call → ℕ → Result LeaseEntry ℕ → Type 0
 IsEntry g s lender k lease (Ok e) = (bad_byte g lender Read (entry_range k lease) ≡ None) × (grant s k lease ≡ e)
 IsEntry g s lender k lease (Err at) = bad_byte g lender Read (entry_range k lease) ≡ Some at

@@ -11,13 +11,13 @@ ghost use Rattle.task_table.specs.Borrows.{reading, writing, moved, refused, unt
 ghost use Rattle.task_table.specs.Holds.{Holds, Stands, Stood, kept_call, task_count, note_count, memory_of};
 ghost use Rattle.task_table.specs.Limits.{call_notes, turn_notes};
 ghost use Rattle.task_table.specs.Frames.{AddsNotes, AddsAtMost};
-ghost use Rattle.lease_core.specs.Loans.{way_of, IsBuffer, IsLeased, IsLoanOf, IsEntry, buffered, told_lent};
+ghost use Rattle.lease_core.specs.Loans.{way_of, IsBuffer, IsLeased, IsLoanOf, IsEntry, IsEntryAt, buffered, told_lent};
 
 mod way;
 
 use kernel_abi::{Access, Borrow, BorrowArgs, InfoArgs, LeaseEntry, Note, Usage, dead_code};
 use region_check::Right;
-use task_table::{Found, Kernel, OpenCall, Range};
+use task_table::{Found, KeptEntry, Kernel, OpenCall, Range};
 use way::Way;
 
 /// The code of a lender that has no such lease for the borrower.
@@ -177,20 +177,42 @@ fn borrow_entry(k: &mut Kernel, loan: &Loan, entry: &LeaseEntry)
     borrow_into(k, loan, entry);
 }
 
+/// The entry of a lease from an address on as memory has it, or the first byte of it that the lender may
+/// not read. It is kept.
+fn read_entry(k: &mut Kernel, lender: usize, lease: u32, base: u32) -> Result<LeaseEntry, u32>
+    requires there { lender < task_count k.old }
+    requires fits { base + 12 ≤ 2 ^ 32 }
+    requires stood { Stood k.old }
+    ensures entry { (g : Setup) (t : Turn) → Holds g k.old t → IsEntryAt g t.state lender base result }
+    ensures holds { (g : Setup) (t : Turn) → Holds g k.old t → Holds g k.new t }
+    ensures frame { AddsNotes k.old 0 k.new }
+{
+    if let Some(bad) = k.bad_byte(lender, Right::Read, base, 12) {
+        return Err(bad);
+    }
+    let entry = LeaseEntry {
+        attributes: k.number(base, 4),
+        base: k.number(base + 4, 4),
+        len: k.number(base + 8, 4),
+    };
+    k.keep_entry(lender, KeptEntry { lease, base, entry });
+    Ok(entry)
+}
+
 /// The entry of a lease of a call, or the first byte of it that the lender may not read.
-fn entry_of(k: &Kernel, lender: usize, call: &OpenCall, lease: u32) -> Result<LeaseEntry, u32>
+fn entry_of(k: &mut Kernel, lender: usize, call: &OpenCall, lease: u32) -> Result<LeaseEntry, u32>
+    requires there { lender < task_count k.old }
     requires listed { lease < call.now.leases }
     requires fits { call.now.table + 12 * call.now.leases ≤ 2 ^ 32 }
-    ensures { (g : Setup) (t : Turn) (c : Call) → Holds g k.now t → kept_call c ≡ call.now → IsEntry g t.state lender c lease result }
+    requires stood { Stood k.old }
+    ensures entry { (g : Setup) (t : Turn) (c : Call) → Holds g k.old t → kept_call c ≡ call.now → IsEntry g t.state lender c lease result }
+    ensures holds { (g : Setup) (t : Turn) → Holds g k.old t → Holds g k.new t }
+    ensures frame { AddsNotes k.old 0 k.new }
 {
-    let at = call.table + 12 * lease;
-    match k.bad_byte(lender, Right::Read, at, 12) {
-        Some(bad) => Err(bad),
-        None => Ok(LeaseEntry {
-            attributes: k.number(at, 4),
-            base: k.number(at + 4, 4),
-            len: k.number(at + 8, 4),
-        }),
+    let base = call.table + 12 * lease;
+    match k.kept_entry(lender, base) {
+        Some(entry) => Ok(entry),
+        None => read_entry(k, lender, lease, base),
     }
 }
 
@@ -290,6 +312,7 @@ fn inform_of(k: &mut Kernel, caller: usize, lender: usize, call: &OpenCall, leas
     requires lender { lender < task_count k.old }
     requires room { note_count k.old + 5 ≤ turn_notes }
     requires fits { call.now.table + 12 * call.now.leases ≤ 2 ^ 32 }
+    requires stood { Stood k.old }
     ensures holds { (g : Setup) (t : Turn) (c : Call) → Holds g k.old t → kept_call c ≡ call.now → c.client.index ≡ lender → Holds g k.new (informed_by g caller lease (Some c) t) }
     ensures frame { AddsAtMost k.old 5 k.new }
 {

@@ -4,6 +4,7 @@ pub mod Steps
 pub mod Members
 pub mod Deadlines
 pub mod Written
+pub mod Kept
 pub mod Ranges
 pub mod Keeps
 pub mod Posting

@@ -4,6 +4,7 @@ use Rattle.kernel_abi.specs.Ids.{id_of, index_of}
 use Rattle.kernel_abi.specs.declared.Note.{Note}
 use Rattle.kernel_abi.specs.declared.TaskId.{TaskId}
 use Rattle.task_table.specs.declared.Line.{Line}
+use Rattle.task_table.specs.declared.entry.KeptEntry.{KeptEntry}
 use Rattle.task_table.specs.declared.kernel.Kernel.{Kernel}
 use Rattle.task_table.specs.declared.slot.Listening.{Listening}
 use Rattle.task_table.specs.declared.slot.OpenCall.{OpenCall}
@@ -143,6 +144,9 @@ next_call_of k = k.next_call
 
 abbrev pub memory_of : Kernel → Memory
 memory_of k = k.memory
+
+abbrev pub entries_of : Kernel → List (Option KeptEntry)
+entries_of k = k.entries.items
 
 -- the setup that the kernel keeps
 abbrev pub setup_of : Kernel → Setup

@@ -5,6 +5,7 @@ pub mod TaskSets
 pub mod Readiness
 pub mod Levels
 pub mod Deadlines
+pub mod Entries
 pub mod Effects
 pub mod Rows
 pub mod Calls

@@ -9,14 +9,16 @@ use Rattle.kernel_abi.specs.declared.arguments.RecvArgs.{RecvArgs}
 use Rattle.kernel_abi.specs.declared.arguments.ReplyArgs.{ReplyArgs}
 use Rattle.kernel_abi.specs.declared.arguments.SendArgs.{SendArgs}
 use Rattle.region_check.specs.declared.Right.TheVariants.{Read, Write}
+use Rattle.task_table.specs.declared.entry.KeptEntry.{KeptEntry}
 use Rattle.task_table.specs.declared.kernel.Kernel.{Kernel}
 use Rattle.task_table.specs.declared.slot.OpenCall.{OpenCall}
 use Rattle.task_table.specs.State.{Setup, State, Birth, Listen, Range, From, Any, One, KernelOnly, Turn}
 use Rattle.task_table.specs.Reading.{arguments, present, admits, bad_byte, offer_by, taken_by, IsIdle}
+use Rattle.task_table.specs.Entries.{entry_at}
 use Rattle.task_table.specs.Effects.{changed, noted, with_listen}
 use Rattle.task_table.specs.Rows.{listened_from, buffer_of}
 use Rattle.task_table.specs.Sends.{message_of, reply_of}
-use Rattle.task_table.specs.Holds.{Stands, kept_call}
+use Rattle.task_table.specs.Holds.{Holds, Stands, kept_call}
 
 -- whom a task listens to; a task that is named is one of n
 abbrev pub from_of : State → Listened → From
@@ -68,3 +70,11 @@ pub record IsReplying (k : Kernel) (c client : ℕ) (call : OpenCall) (x : Reply
   pub taken : option_map kept_call (taken_by turn.state client c) ≡ Some call
   pub readable : bad_byte setup c Read (reply_of x) ≡ None
   pub fits : x.reply_length ≤ call.reply.length
+
+-- a task may read this entry, and it is what memory has there
+pub record IsRead (k : Kernel) (i : ℕ) (x : KeptEntry) : Type 0 where
+  pub setup : Setup
+  pub turn : Turn
+  pub holds : Holds setup k turn
+  pub readable : bad_byte setup i Read record { base = x.base; length = 12 } ≡ None
+  pub is : entry_at turn.state.memory x.base ≡ x.entry

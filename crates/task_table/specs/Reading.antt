@@ -20,8 +20,11 @@ no_task = record { births = 0; registers = []; flags = no_flags; health = Stoppe
 unfoldable pub task_at : State → ℕ → Task
 task_at s i = slice_index_or s.tasks i no_task
 
+abbrev pub setup_in : List TaskSetup → ℕ → TaskSetup
+setup_in tasks i = slice_index_or tasks i record { priority = 0; entry = 0; stack = 0; regions = []; start = false }
+
 abbrev pub setup_at : Setup → ℕ → TaskSetup
-setup_at g i = slice_index_or g.tasks i record { priority = 0; entry = 0; stack = 0; regions = []; start = false }
+setup_at g i = setup_in g.tasks i
 
 -- a line that is not there is disabled with nothing pending
 abbrev pub no_line : Line

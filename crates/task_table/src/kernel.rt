@@ -9,13 +9,16 @@ ghost use Rattle.task_table.specs.Parts.{task_setup};
 ghost use Rattle.task_table.specs.Levels.{AreLevels};
 ghost use Rattle.task_table.specs.Readiness.{is_free, AreThose, AreOffers};
 ghost use Rattle.task_table.specs.Deadlines.{AreNotBefore};
+ghost use Rattle.task_table.specs.Entries.{AreFresh, AreEntriesOf};
 
+mod entries;
 mod near;
 mod sets;
 mod slots;
 mod timers;
 
 use crate::Line;
+use crate::entry::{KeptEntry, Watch, no_entries};
 use crate::levels::levels_of;
 use crate::limits::{LINES, TURN_NOTES};
 use crate::readiness::{empty_sets, ready_tasks};
@@ -40,6 +43,8 @@ pub struct Kernel {
     slots: Vec<Slot>,
     ready: TaskSet,
     offers: Vec<TaskSet>,
+    entries: Vec<Option<KeptEntry>>,
+    watch: Watch,
     lines: [Line; LINES],
     notes: ArrayVec<Note, TURN_NOTES>,
     memory: Memory,
@@ -56,6 +61,8 @@ pub struct Kernel {
     ghost ready_now: { AreThose is_free slots.items ready.words },
     ghost offered_now: { AreOffers slots.items offers.items },
     ghost deadlines: { AreNotBefore earliest slots.items },
+    ghost fresh: { AreFresh memory watch.low watch.span entries.items },
+    ghost of_calls: { AreEntriesOf (map task_setup tasks.items) slots.items entries.items },
 }
 
 impl Kernel {
@@ -100,6 +107,7 @@ impl Kernel {
         let slots = first_slots(alloc, tasks)?;
         let ready = ready_tasks(&slots);
         let offers = empty_sets(alloc, slots.len())?;
+        let entries = no_entries(alloc, slots.len())?;
         Ok(Kernel {
             tasks: copies,
             levels,
@@ -108,6 +116,8 @@ impl Kernel {
             slots,
             ready,
             offers,
+            entries,
+            watch: Watch::nowhere(),
             lines: [Line {
                 enabled: false,
                 pending: false,
@@ -413,6 +423,7 @@ impl Kernel {
         ensures holds { (g : Setup) (t : Turn) (on : Ground) → Holds g self.old t → Holds g self.new (copied on from to count t) }
         ensures frame { AddsNotes self.old 0 self.new }
     {
+        self.touched(to, count as usize);
         self.memory.copy(from, to, count);
     }
 
@@ -423,6 +434,7 @@ impl Kernel {
         ensures current { current_of self.new ≡ current_of self.old }
         ensures frame { AddsNotes self.old 0 self.new }
     {
+        self.touched(addr, bytes.len());
         self.memory.store(addr, bytes);
     }
 }

@@ -3,6 +3,7 @@
 
 pub mod dead_ids;
 mod effect;
+mod entry;
 mod fault;
 mod kernel;
 pub mod laws;
@@ -15,6 +16,7 @@ mod slot;
 mod start;
 mod task_set;
 
+pub use entry::KeptEntry;
 pub use kernel::Kernel;
 pub use mem_banks::{FLASH, Memory, Near, RAM};
 pub use slot::{Found, Listening, OpenCall, Phase, Range, Slot, Source, Wait};

@@ -4,6 +4,7 @@ use Rattle.task_table.specs.Holds.{Holds, kept_of}
 use Rattle.task_table.specs.declared.slot.OpenCall.{OpenCall}
 use Rattle.task_table.proofs.Messages.{holds_looked}
 use Rattle.lease_core.specs.Loans.{way_of}
+use Rattle.lease_core.proofs.Leases.{stood_still}
 use Rattle.lease_core.proofs.Rows.{entry_bad, entry_good}
 use Rattle.lease_core.proofs.borrow_from.Goals as goal
 
@@ -12,13 +13,16 @@ returns-in-Err-clause-holds c = λ g t k h same loan.
     let x = c.args.loan.now in
     let leases : k.leases ≡ c.args.call.now.leases = ap (λ (y : OpenCall). y.leases) same in
     let listed : leb k.leases x.args.lease ≡ false = rw leases (lt-leb _ _ c.if-call-lease.false) in
-    let bad = rw c.in-Err.is at (c.entry_of.ensures g t k h same) in
-    subst (Holds g c.refuse.new.k) (sym (entry_bad g (way_of x.way) x.borrower x.args k x.lender _ t loan.lender listed bad)) (c.refuse.ensures.holds g _ (c.deny.ensures.holds g t h))
+    let bad = rw c.in-Err.is at (c.entry_of.ensures.entry g t k h same) in
+    subst (Holds g c.refuse.new.k) (sym (entry_bad g (way_of x.way) x.borrower x.args k x.lender _ t loan.lender listed bad)) (c.refuse.ensures.holds g _ (c.deny.ensures.holds g t (c.entry_of.ensures.holds g t h)))
 
 pub returns-in-Ok-clause-holds : goal.returns-in-Ok-clause-holds
 returns-in-Ok-clause-holds c = λ g t k h same loan.
     let x = c.args.loan.now in
     let leases : k.leases ≡ c.args.call.now.leases = ap (λ (y : OpenCall). y.leases) same in
     let listed : leb k.leases x.args.lease ≡ false = rw leases (lt-leb _ _ c.if-call-lease.false) in
-    let e = rw c.in-Ok.is at (c.entry_of.ensures g t k h same) in
-    subst (Holds g c.borrow_entry.new.k) (sym (entry_good g (way_of x.way) x.borrower x.args k x.lender _ t loan.lender listed e.0 e.1)) (c.borrow_entry.ensures.holds g _ k (holds_looked g (kept_of c.args.k.now) t _ h) loan)
+    let e = rw c.in-Ok.is at (c.entry_of.ensures.entry g t k h same) in
+    subst (Holds g c.borrow_entry.new.k) (sym (entry_good g (way_of x.way) x.borrower x.args k x.lender _ t loan.lender listed e.0 e.1)) (c.borrow_entry.ensures.holds g _ k (holds_looked g (kept_of c.entry_of.new.k) t _ (c.entry_of.ensures.holds g t h)) loan)
+
+pub borrow_entry-requires-clause-stood : goal.borrow_entry-requires-clause-stood
+borrow_entry-requires-clause-stood c = stood_still _ _ c.requires.stood c.entry_of.ensures.holds

@@ -42,6 +42,7 @@ impl Kernel {
         ensures current { current_of self.new ≡ current_of self.old }
         ensures frame { AddsNotes self.old 0 self.new }
     {
+        self.touched(addr, bytes.len());
         self.memory.store_near(near, addr, bytes);
     }
 }

@@ -16,7 +16,8 @@ impl Kernel {
     ghost use Rattle.task_table.specs.Frames.{AddsNotes};
 
     /// Keeps this of a task but for its timer, which stays as it is; the sets of the tasks that are ready
-    /// and that offer a call follow. Only here does its health or its wait change.
+    /// and that offer a call follow, and no entry is kept for it any more. Only here does its health or its
+    /// wait change.
     #[inline(always)]
     pub(crate) fn set_slot(&mut self, task: usize, slot: Slot)
         requires { task < task_count self.old }
@@ -31,6 +32,7 @@ impl Kernel {
             before.wait.server(),
             slot.wait.server(),
         );
+        self.entries[task] = None;
         let kept = &mut self.slots[task];
         kept.health = slot.health;
         kept.wait = slot.wait;

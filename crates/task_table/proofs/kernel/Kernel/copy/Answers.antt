@@ -1,22 +1,43 @@
-use Rattle.std.proofs.Common.{arith, refl, inl}
+use Rattle.std.proofs.Common.{length, inl, ◌∙◌}
+use Rattle.mem_banks.specs.Memory.{bytes_at, copied, IsWithinRam}
 use Rattle.task_table.specs.Holds.{kept_of, setup_of}
+use Rattle.task_table.proofs.Handing.{few_bytes}
+use Rattle.task_table.proofs.Ranges.{within_ram-front}
 use Rattle.task_table.proofs.Messages.{holds_copied, setup_copied}
+use Rattle.task_table.proofs.Kept.{fresh_stored}
 use Rattle.task_table.proofs.kernel.Kernel.copy.Goals as goal
 
+pub copy-requires-clause-source : goal.copy-requires-clause-source
+copy-requires-clause-source c = rw c.touched.ensures.memory c.requires.source
+
 pub copy-requires-clause-target : goal.copy-requires-clause-target
-copy-requires-clause-target c = inl c.requires.target
+copy-requires-clause-target c = rw c.touched.ensures.memory (inl c.requires.target)
 
 pub returns-clause-holds : goal.returns-clause-holds
 returns-clause-holds c = λ g t on h.
     let a = c.args in
-    let same = setup_copied (λ flash ram. record (setup_of a.self.now) { flash = flash; ram = ram }) a.self.now.memory c.copy.new.self a.from a.to a.count c.requires.target c.copy.ensures in
-    holds_copied g (kept_of a.self.now) t on a.from a.to a.count _ _ h same c.copy.ensures
+    let k = c.touched.new.self in
+    let within : IsWithinRam k.memory a.to a.count = rw c.touched.ensures.memory c.requires.target in
+    let same = setup_copied (λ flash ram. record (setup_of k) { flash = flash; ram = ram }) k.memory c.copy.new.self a.from a.to a.count within c.copy.ensures in
+    holds_copied g (kept_of k) t on a.from a.to a.count _ _ (c.touched.ensures.holds g t h) same c.copy.ensures
 
 pub returns-clause-frame : goal.returns-clause-frame
 returns-clause-frame c =
     let a = c.args in
+    let k = c.touched.new.self in
+    let within : IsWithinRam k.memory a.to a.count = rw c.touched.ensures.memory c.requires.target in
     record {
-      notes = omega arith;
-      tasks = refl;
-      setup = setup_copied (λ flash ram. record (setup_of a.self.now) { flash = flash; ram = ram }) a.self.now.memory c.copy.new.self a.from a.to a.count c.requires.target c.copy.ensures;
+      notes = c.touched.ensures.frame.notes;
+      tasks = c.touched.ensures.frame.tasks;
+      setup = setup_copied (λ flash ram. record (setup_of k) { flash = flash; ram = ram }) k.memory c.copy.new.self a.from a.to a.count within c.copy.ensures ∙ c.touched.ensures.frame.setup;
     }
+
+pub invariant_of-self-clause-fresh : goal.invariant_of-self-clause-fresh
+unfolding copied
+invariant_of-self-clause-fresh c =
+    let a = c.args in
+    let k = c.touched.new.self in
+    let within : IsWithinRam k.memory a.to a.count = rw c.touched.ensures.memory c.requires.target in
+    let ys = bytes_at k.memory a.from a.count in
+    let few = few_bytes k.memory a.from a.count in
+    rw c.copy.ensures (fresh_stored k.memory k.watch.low k.watch.span k.entries.items a.to a.count ys k.fresh c.touched.ensures.apart (within_ram-front k.memory a.to a.count (length ys) within few) few)

@@ -1,8 +1,10 @@
-use Rattle.std.proofs.Common.{refl, sym, ◌∙◌, arith, length-set}
+use Rattle.std.proofs.Common.{refl, sym, ◌∙◌, arith, map, length-set}
 use Rattle.task_table.specs.Holds.{kept_of}
 use Rattle.task_table.proofs.Steps as steps
 use Rattle.task_table.specs.Readiness.{is_free}
 use Rattle.task_table.proofs.Written.{those_same, offers_same}
+use Rattle.task_table.specs.Parts.{task_setup}
+use Rattle.task_table.proofs.Kept.{of_same}
 use Rattle.task_table.proofs.Deadlines.{not_before-same}
 use Rattle.task_table.proofs.kernel.Kernel.set_rest.Goals as goal
 
@@ -39,3 +41,10 @@ invariant_of-self-clause-offered_now c =
     let a = c.args in
     let old = c.index_mut-slot.result.now in
     offers_same a.self.now.slots.items a.task old record a.rest.now { health = old.health; wait = old.wait; timer = old.timer } a.self.now.offers.items a.self.now.offered_now c.requires c.index_mut-slot.ensures.value (λ k. refl)
+
+pub invariant_of-self-clause-of_calls : goal.invariant_of-self-clause-of_calls
+invariant_of-self-clause-of_calls c =
+    let a = c.args in
+    let k = a.self.now in
+    let old = c.index_mut-slot.result.now in
+    of_same (map task_setup k.tasks.items) k.slots.items k.entries.items a.task old record a.rest.now { health = old.health; wait = old.wait; timer = old.timer } c.requires c.index_mut-slot.ensures.value refl k.of_calls

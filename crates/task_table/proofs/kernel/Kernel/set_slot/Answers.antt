@@ -1,9 +1,11 @@
-use Rattle.std.proofs.Common.{◌≡◌, refl, sym, subst, ◌∙◌, arith, length, set, length-set}
+use Rattle.std.proofs.Common.{◌≡◌, ◌<◌, refl, sym, subst, ◌∙◌, arith, length, map, set, length-set}
 use Rattle.task_table.specs.declared.slot.Slot.{Slot}
 use Rattle.task_table.specs.Holds.{kept_of}
 use Rattle.task_table.proofs.Steps as steps
 use Rattle.task_table.specs.Readiness.{is_free, AreOffers}
 use Rattle.task_table.proofs.Written.{front, those_set, offers_set}
+use Rattle.task_table.specs.Parts.{task_setup}
+use Rattle.task_table.proofs.Kept.{fresh_cleared, of_cleared}
 use Rattle.task_table.proofs.Deadlines.{not_before-same}
 use Rattle.task_table.proofs.kernel.Kernel.set_slot.Goals as goal
 
@@ -45,3 +47,16 @@ invariant_of-self-clause-offered_now c =
     let next : AreOffers (set a.self.now.slots.items a.task slot) sets = offers_set a.self.now.slots.items a.task slot c.deref_mut.result.now sets was c.requires c.follow_offer.ensures.count (λ k j d under. rw c.server-2.ensures at (c.follow_offer.ensures.each k j d under)) in
     let count : length sets ≡ a.self.now.offers.len = omega (arith, c.follow_offer.ensures.count, c.deref_mut.ensures.len) in
     subst (λ xs. AreOffers (set a.self.now.slots.items a.task slot) xs) (sym (front a.self.now.offers.len sets _ count)) next
+
+pub invariant_of-self-clause-fresh : goal.invariant_of-self-clause-fresh
+invariant_of-self-clause-fresh c =
+    let k = c.args.self.now in
+    let there : c.args.task < length k.entries.items = omega (arith, c.requires, k.of_calls.count) in
+    fresh_cleared k.memory k.watch.low k.watch.span k.entries.items c.args.task there k.fresh
+
+pub invariant_of-self-clause-of_calls : goal.invariant_of-self-clause-of_calls
+invariant_of-self-clause-of_calls c =
+    let a = c.args in
+    let k = a.self.now in
+    let old = c.index_mut-kept.result.now in
+    of_cleared (map task_setup k.tasks.items) k.slots.items k.entries.items a.task record a.slot { timer = old.timer } c.requires k.of_calls

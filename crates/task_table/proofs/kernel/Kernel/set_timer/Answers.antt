@@ -1,4 +1,4 @@
-use Rattle.std.proofs.Common.{◌<◌, ap, sym, ◌∙◌, subst, arith, length, length-set, refl}
+use Rattle.std.proofs.Common.{◌<◌, ap, sym, ◌∙◌, subst, arith, length, map, length-set, refl}
 use Rattle.task_table.specs.State.{Task}
 use Rattle.task_table.specs.Reading.{task_at}
 use Rattle.task_table.specs.declared.slot.Slot.{Slot}
@@ -7,6 +7,8 @@ use Rattle.task_table.proofs.Steps as steps
 use Rattle.task_table.proofs.Changes.{same_but-with_task}
 use Rattle.task_table.specs.Readiness.{is_free}
 use Rattle.task_table.proofs.Written.{those_same, offers_same}
+use Rattle.task_table.specs.Parts.{task_setup}
+use Rattle.task_table.proofs.Kept.{of_same}
 use Rattle.task_table.proofs.Deadlines.{not_before-set}
 use Rattle.task_table.specs.Effects.{with_timer}
 use Rattle.task_table.proofs.kernel.Kernel.set_timer.Goals as goal
@@ -50,3 +52,10 @@ invariant_of-self-clause-offered_now c =
     let a = c.args in
     let old = c.index_mut.result.now in
     offers_same a.self.now.slots.items a.task old record old { timer = a.timer } a.self.now.offers.items a.self.now.offered_now c.requires c.index_mut.ensures.value (λ k. refl)
+
+pub invariant_of-self-clause-of_calls : goal.invariant_of-self-clause-of_calls
+invariant_of-self-clause-of_calls c =
+    let a = c.args in
+    let k = a.self.now in
+    let old = c.index_mut.result.now in
+    of_same (map task_setup k.tasks.items) k.slots.items k.entries.items a.task old record old { timer = a.timer } c.requires c.index_mut.ensures.value refl k.of_calls

@@ -1,0 +1,123 @@
+//! Entries of lease tables that were read, and where in memory they lie.
+
+ghost use Rattle.std.specs.Prelude.{◌≡◌, ◌+◌, ◌-◌, ◌<◌, ◌≤◌, ◌^◌, ◌⊎◌, ℕ, None, true, false, length, IfOk};
+ghost use Rattle.task_table.specs.Entries.{kept_at, meets, AreLeft, IsWatched, IsEntryOf};
+
+use crate::slot::{Phase, Wait};
+use kernel_abi::LeaseEntry;
+use std::alloc::{AllocError, Global};
+
+/// An entry of the lease table of a call: of which lease, where it begins, and what memory has there.
+#[derive(Clone, Copy, Debug, PartialEq, Eq)]
+pub struct KeptEntry {
+    pub lease: u32,
+    pub base: u32,
+    pub entry: LeaseEntry,
+}
+
+impl KeptEntry {
+    ghost use Rattle.std.specs.Prelude.{◌≡◌, true};
+    ghost use Rattle.task_table.specs.Entries.{meets, IsEntryOf};
+
+    /// Whether one of so many bytes from an address on is one of its twelve.
+    fn meets(&self, addr: u32, count: usize) -> bool
+        ensures { result ≡ meets self.now addr count }
+    {
+        let first = u64::from(self.base);
+        u64::from(addr) < first + 12 && first < u64::from(addr).saturating_add(count as u64)
+    }
+
+    /// Whether it is of a lease of a call that is taken, for whose end a task waits so.
+    pub(crate) fn is_of(&self, wait: &Wait) -> bool
+        ensures { result ≡ true → IsEntryOf self.now wait.now }
+    {
+        match wait {
+            Wait::Call(call) => {
+                call.phase == Phase::Taken
+                    && self.lease < call.leases
+                    && u64::from(self.base) == u64::from(call.table) + 12 * u64::from(self.lease)
+            }
+            _ => false,
+        }
+    }
+}
+
+/// Where a store of one to four bytes may begin that meets an entry that is kept: at so many addresses
+/// from a lowest one on.
+#[derive(Clone, Copy)]
+pub(crate) struct Watch {
+    low: u32,
+    span: u64,
+    ghost ends: { low + span ≤ 2 ^ 33 },
+}
+
+impl Watch {
+    ghost use Rattle.std.specs.Prelude.{◌≡◌, ◌+◌, ◌≤◌, ◌⊎◌, ℕ, false};
+    ghost use Rattle.task_table.specs.Entries.{IsWatched};
+
+    /// Nowhere.
+    pub fn nowhere() -> Watch {
+        Watch { low: 0, span: 0 }
+    }
+
+    /// Whether a write of so many bytes from an address on may meet an entry. Of a few bytes one
+    /// comparison tells.
+    #[inline(always)]
+    pub fn catches(&self, addr: u32, count: usize) -> bool
+        ensures { result ≡ false → (base : ℕ) → IsWatched self.now.low self.now.span base → (base + 12 ≤ addr) ⊎ (addr + count ≤ base) }
+    {
+        if count <= 4 {
+            u64::from(addr.wrapping_sub(self.low)) < self.span
+        } else {
+            u64::from(addr) < u64::from(self.low) + self.span
+                && u64::from(self.low) < u64::from(addr).saturating_add(count as u64)
+        }
+    }
+
+    /// The same, with an entry besides.
+    pub fn with(self, base: u32) -> Watch
+        ensures new { IsWatched result.low result.span base }
+        ensures old { (other : ℕ) → IsWatched self.low self.span other → IsWatched result.low result.span other }
+    {
+        let first = base.saturating_sub(3);
+        let low = if self.span == 0 {
+            first
+        } else {
+            self.low.min(first)
+        };
+        let end = (u64::from(self.low) + self.span).max(u64::from(base) + 12);
+        Watch {
+            low,
+            span: end - u64::from(low),
+        }
+    }
+}
+
+/// For each of so many tasks none.
+pub(crate) fn no_entries(alloc: Global, count: usize) -> Result<Vec<Option<KeptEntry>>, AllocError>
+    ensures count { IfOk result (λ entries. length entries.items ≡ count) }
+    ensures none { IfOk result (λ entries. (i : ℕ) → kept_at entries.items i ≡ None) }
+{
+    let mut entries = Vec::new(alloc);
+    for _ in 0..count {
+        entries.push(None)?;
+    }
+    Ok(entries)
+}
+
+/// Drops the entries that have one of so many bytes from an address on, and tells where the others are.
+pub(crate) fn drop_met(entries: &mut [Option<KeptEntry>], addr: u32, count: usize) -> Watch
+    ensures { AreLeft entries.old addr count entries.new result.low result.span }
+{
+    let mut watch = Watch::nowhere();
+    for task in 0..entries.len() {
+        if let Some(kept) = entries[task] {
+            if kept.meets(addr, count) {
+                entries[task] = None;
+            } else {
+                watch = watch.with(kept.base);
+            }
+        }
+    }
+    watch
+}

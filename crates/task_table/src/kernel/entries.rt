@@ -1,0 +1,77 @@
+//! The entries of lease tables that are kept for the tasks that wait for a reply.
+
+use super::Kernel;
+use crate::entry::{KeptEntry, drop_met};
+use kernel_abi::LeaseEntry;
+
+impl Kernel {
+    ghost use Rattle.std.specs.Prelude.{◌≡◌, ◌<◌, ℕ, Some, None, false, IfSome};
+    ghost use Rattle.region_check.specs.declared.Right.TheVariants.{Read};
+    ghost use Rattle.task_table.specs.State.{Setup, Turn};
+    ghost use Rattle.task_table.specs.Reading.{bad_byte};
+    ghost use Rattle.task_table.specs.Entries.{kept_at, entry_at, meets};
+    ghost use Rattle.task_table.specs.Holds.{Holds, task_count, memory_of, current_of, entries_of};
+    ghost use Rattle.task_table.specs.Messages.{IsRead};
+    ghost use Rattle.task_table.specs.Frames.{AddsNotes};
+    ghost use Rattle.task_table.specs.declared.entry.KeptEntry.{KeptEntry};
+
+    /// The entry that begins at an address, where it is kept for a task: the task may read it, and it is
+    /// what memory has there.
+    pub fn kept_entry(&self, task: usize, base: u32) -> Option<LeaseEntry>
+        requires { task < task_count self.now }
+        ensures { (g : Setup) (t : Turn) → Holds g self.now t → IfSome result (λ e. (bad_byte g task Read record { base = base; length = 12 } ≡ None) × (entry_at t.state.memory base ≡ e)) }
+    {
+        match self.entries[task] {
+            Some(kept) => {
+                if kept.base == base {
+                    Some(kept.entry)
+                } else {
+                    None
+                }
+            }
+            None => None,
+        }
+    }
+
+    /// Keeps an entry that was read for a task, in the place of another, where it is of a lease of the
+    /// taken call for whose end the task waits.
+    pub fn keep_entry(&mut self, task: usize, kept: KeptEntry)
+        requires there { task < task_count self.old }
+        requires read { IsRead self.old task kept }
+        ensures holds { (g : Setup) (t : Turn) → Holds g self.old t → Holds g self.new t }
+        ensures frame { AddsNotes self.old 0 self.new }
+    {
+        if kept.is_of(&self.slots[task].wait) {
+            self.watch = self.watch.with(kept.base);
+            self.entries[task] = Some(kept);
+        }
+    }
+
+    /// So many bytes from an address on are about to be written: an entry that has one of them is kept no
+    /// more.
+    #[inline(always)]
+    pub(super) fn touched(&mut self, addr: u32, count: usize)
+        ensures holds { (g : Setup) (t : Turn) → Holds g self.old t → Holds g self.new t }
+        ensures memory { memory_of self.new ≡ memory_of self.old }
+        ensures current { current_of self.new ≡ current_of self.old }
+        ensures apart { (i : ℕ) (x : KeptEntry) → kept_at (entries_of self.new) i ≡ Some x → meets x addr count ≡ false }
+        ensures frame { AddsNotes self.old 0 self.new }
+    {
+        if self.watch.catches(addr, count) {
+            self.drop_touched(addr, count);
+        }
+    }
+
+    /// As `touched`, where an entry may have one of the bytes.
+    #[cold]
+    #[inline(never)]
+    fn drop_touched(&mut self, addr: u32, count: usize)
+        ensures holds { (g : Setup) (t : Turn) → Holds g self.old t → Holds g self.new t }
+        ensures memory { memory_of self.new ≡ memory_of self.old }
+        ensures current { current_of self.new ≡ current_of self.old }
+        ensures apart { (i : ℕ) (x : KeptEntry) → kept_at (entries_of self.new) i ≡ Some x → meets x addr count ≡ false }
+        ensures frame { AddsNotes self.old 0 self.new }
+    {
+        self.watch = drop_met(&mut self.entries, addr, count);
+    }
+}
