@@ -1,16 +1,16 @@
 -- What walks over lists say where they refuse nothing.
-use Rattle.std.proofs.Common.{◌≡◌, ◌≢◌, ◌<◌, ◌+◌, ◌||◌, ◌&&◌, not, ℕ, zero, suc, List, [], ◌∷◌, ◌++◌, length, get_or, Bool, true, false, Option, None, refl, sym, subst, arith, length-append, add-zero, zero-add}
+use Rattle.std.proofs.Common.{◌≡◌, ◌∙◌, ◌≢◌, ◌<◌, ◌+◌, ◌||◌, ◌&&◌, not, ℕ, zero, suc, List, [], ◌∷◌, ◌++◌, drop, length, get_or, map, Bool, true, false, Option, None, Some, is_some, option_map, refl, ap, sym, subst, arith, length-append, add-zero, zero-add}
 use Rattle.std.specs.Prelude.{All, Any, AllPairs, Contains}
 use Rattle.std.specs.List.{list_any}
 use Rattle.std.specs.Str.{bytes_eq}
 use Rattle.std.proofs.lemmas.Bool.Decides.{not_from_Decides}
-use Rattle.std.proofs.lemmas.List.{get_or_append_left}
+use Rattle.std.proofs.lemmas.List.{drop_more, get_or_append_left}
 use Rattle.std.proofs.lemmas.List.Elements.{All-cons}
 use Rattle.std.proofs.lemmas.List.Folds.{Any-from_list_any}
 use Rattle.std.proofs.lemmas.List.Kept.{AllPairs-cons}
 use Rattle.std.proofs.lemmas.Slice.Eq.{bytes_eq-Decides}
 use Rattle.std.proofs.Math.Seq.{get_or-append_seam}
-use Rattle.app_toml.specs.Places.{Refusal, Text, first_clash, first_fault}
+use Rattle.app_toml.specs.Places.{Refusal, Text, first_clash, first_fault, or_else}
 use Rattle.app_toml.proofs.Passed.{both_none}
 
 -- ---- tests
@@ -114,3 +114,34 @@ pub all_clear : {T : Type 0} (fault : List T → ℕ → T → Option Refusal) (
     → ((before : List T) (k : ℕ) (x : T) → fault before k x ≡ None → All (λ b. R b x) before)
     → (xs : List T) → first_clash fault [] 0 xs ≡ None → AllPairs R xs
 all_clear fault R fact xs e = (clear_walk fault R fact [] 0 xs e).1
+
+-- ---- a walk that stops at the first fault, item by item
+
+some_first : {T : Type 0} (f : T → Refusal) (o : Option T) (rest : Option Refusal) → is_some o ≡ true → option_map f o ≡ or_else (option_map f o) rest
+some_first f None rest e = cc
+some_first f (Some x) rest e = refl
+
+none_first : {T : Type 0} (f : T → Refusal) (o : Option T) (rest : Option Refusal) → is_some o ≡ false → or_else (option_map f o) rest ≡ rest
+none_first f None rest e = refl
+none_first f (Some x) rest e = cc
+
+stepped : {S T : Type 0} (of : S → T) (fault : ℕ → T → Option Refusal) (xs : List S) (i : ℕ) (x : S) → i < length xs → x ≡ get_or xs i x
+    → first_fault fault i (map of (drop i xs)) ≡ or_else (fault i (of x)) (first_fault fault (i + 1) (map of (drop (i + 1) xs)))
+stepped of fault xs i x lt here =
+    ap (λ ys. first_fault fault i (map of ys)) (drop_more xs i x lt ∙ ap (λ y. y ∷ drop (i + 1) xs) (sym here))
+
+pub walk_ends : {S T U : Type 0} (of : S → T) (fault : ℕ → T → Option Refusal) (xs : List S) (i : ℕ) (x : S) (f : U → Refusal) (found : Option U) (whole : Option Refusal)
+    → i < length xs → x ≡ get_or xs i x → option_map f found ≡ fault i (of x) → is_some found ≡ true
+    → first_fault fault i (map of (drop i xs)) ≡ whole → option_map f found ≡ whole
+walk_ends of fault xs i x f found whole lt here same some walk =
+    some_first f found (first_fault fault (i + 1) (map of (drop (i + 1) xs))) some
+    ∙ ap (λ r. or_else r (first_fault fault (i + 1) (map of (drop (i + 1) xs)))) same
+    ∙ sym (stepped of fault xs i x lt here) ∙ walk
+
+pub walk_on : {S T U : Type 0} (of : S → T) (fault : ℕ → T → Option Refusal) (xs : List S) (i : ℕ) (x : S) (f : U → Refusal) (found : Option U) (whole : Option Refusal)
+    → i < length xs → x ≡ get_or xs i x → option_map f found ≡ fault i (of x) → is_some found ≡ false
+    → first_fault fault i (map of (drop i xs)) ≡ whole → first_fault fault (i + 1) (map of (drop (i + 1) xs)) ≡ whole
+walk_on of fault xs i x f found whole lt here same none walk =
+    sym (none_first f found (first_fault fault (i + 1) (map of (drop (i + 1) xs))) none)
+    ∙ ap (λ r. or_else r (first_fault fault (i + 1) (map of (drop (i + 1) xs)))) same
+    ∙ sym (stepped of fault xs i x lt here) ∙ walk

@@ -49,13 +49,17 @@ entry_twice earlier site before j name =
 abbrev pub entries_twice : List Text → Site → List Text → Option Refusal
 entries_twice earlier site names = first_clash (entry_twice earlier site) [] 0 names
 
--- a task's name; within its notifications; within what it uses and reads together
+-- within a task's notifications; within what it uses and reads together
+abbrev pub lists_twice : ℕ → TaskData → Option Refusal
+lists_twice k t =
+    or_else (entries_twice [] (task_site k (codes "notifications")) t.notifications)
+    (or_else (entries_twice [] (task_site k (codes "uses")) t.uses)
+    (entries_twice t.uses (task_site k (codes "reads")) t.reads))
+
+-- a task's name, then its lists
 abbrev pub task_twice : List TaskData → ℕ → TaskData → Option Refusal
 task_twice before k t =
-    or_else (refuse_if (has_task t.name before) 7 (task_site k (codes "name")))
-    (or_else (entries_twice [] (task_site k (codes "notifications")) t.notifications)
-    (or_else (entries_twice [] (task_site k (codes "uses")) t.uses)
-    (entries_twice t.uses (task_site k (codes "reads")) t.reads)))
+    or_else (refuse_if (has_task t.name before) 7 (task_site k (codes "name"))) (lists_twice k t)
 
 abbrev pub region_twice : List RegionData → ℕ → RegionData → Option Refusal
 region_twice before k r = refuse_if (has_region r.name before) 7 (region_site k (codes "name"))

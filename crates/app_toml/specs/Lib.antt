@@ -5,6 +5,7 @@ pub mod Document
 pub mod Forms
 pub mod Held
 pub mod Keys
+pub mod Known
 pub mod Places
 pub mod Reading
 pub mod Relations

@@ -7,6 +7,7 @@ mod crossed;
 mod document;
 mod forms;
 mod keys;
+mod known;
 mod lines;
 mod making;
 mod names;

@@ -78,7 +78,11 @@ fn app_of_document(alloc: Global, document: &Table) -> Result<App, AppFault>
         Ok(parts) => parts,
         Err(_) => return Err(AppFault::Memory),
     };
-    match cross_fault(&parts) {
+    let found = match cross_fault(alloc, &parts) {
+        Ok(found) => found,
+        Err(_) => return Err(AppFault::Memory),
+    };
+    match found {
         Some(fault) => Err(told(alloc, fault)),
         None => Ok(app_of_parts(parts)),
     }

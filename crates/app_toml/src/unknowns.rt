@@ -1,22 +1,26 @@
 //! Causes 8 to 10: a name that names nothing.
 
-ghost use Rattle.std.specs.Prelude.{◌≡◌, map, option_map, string_bytes};
+ghost use Rattle.std.specs.Prelude.{◌≡◌, IfOk, List, map, option_map, string_bytes};
+ghost use Rattle.app_toml.specs.Apps.{DeviceData, RegionData, TaskData};
 ghost use Rattle.app_toml.specs.Crossed.{unknown_bit, unknown_entry, unknown_fault_bit, unknown_name, unknown_owner, unknown_region};
 ghost use Rattle.app_toml.specs.Held.{parts_of};
+ghost use Rattle.app_toml.specs.Known.{Keeps, NamesAreas};
 ghost use Rattle.app_toml.specs.Places.{first_fault};
-ghost use Rattle.app_toml.specs.Sites.{device_of, interrupt_of, refusal_of, region_of, site_of, task_of};
+ghost use Rattle.app_toml.specs.Sites.{interrupt_of, refusal_of, site_of, task_of};
 
-use crate::names::{has_device, has_region, has_task, is_among, notifications_of};
-use crate::parts::{Device, Interrupt, Parts, SharedRegion, Task};
+use crate::known::{Names, TaskNames, has_bit, is_area, is_kept, kept_tasks, known_areas};
+use crate::names::is_among;
+use crate::parts::{Interrupt, Parts, Task};
 use crate::places::{Fault, Place, entry_place, fault_if, head_place, index_place, key_place};
+use std::alloc::{AllocError, Global};
 
 /// The first interrupt whose task there is not.
-fn unknown_owner(tasks: &[Task], interrupts: &[Interrupt]) -> Option<Fault<'static>>
-    ensures { option_map refusal_of result
-        ≡ first_fault (unknown_owner (map task_of tasks.now)) 0 (map interrupt_of interrupts.now) }
+fn unknown_owner(kept: &TaskNames, interrupts: &[Interrupt]) -> Option<Fault<'static>>
+    ensures { (tasks : List TaskData) → Keeps kept.now tasks → option_map refusal_of result
+        ≡ first_fault (unknown_owner tasks) 0 (map interrupt_of interrupts.now) }
 {
     for i in 0..interrupts.len() {
-        let known = has_task(interrupts[i].task.as_str(), tasks);
+        let known = is_kept(kept, interrupts[i].task.as_str());
         let found = fault_if(!known, 8, key_place(index_place("interrupt", i), "task"));
         if found.is_some() {
             return found;
@@ -37,13 +41,13 @@ fn unknown_fault_bit(fault: &str, tasks: &[Task]) -> Option<Fault<'static>>
 }
 
 /// The first interrupt whose notification its task has not.
-fn unknown_bit(tasks: &[Task], interrupts: &[Interrupt]) -> Option<Fault<'static>>
-    ensures { option_map refusal_of result
-        ≡ first_fault (unknown_bit (map task_of tasks.now)) 0 (map interrupt_of interrupts.now) }
+fn unknown_bit(kept: &TaskNames, interrupts: &[Interrupt]) -> Option<Fault<'static>>
+    ensures { (tasks : List TaskData) → Keeps kept.now tasks → option_map refusal_of result
+        ≡ first_fault (unknown_bit tasks) 0 (map interrupt_of interrupts.now) }
 {
     for i in 0..interrupts.len() {
-        let bits = notifications_of(interrupts[i].task.as_str(), tasks);
-        let known = is_among(interrupts[i].notification.as_str(), bits);
+        let owner = interrupts[i].task.as_str();
+        let known = has_bit(kept, owner, interrupts[i].notification.as_str());
         let found = fault_if(
             !known,
             9,
@@ -56,20 +60,21 @@ fn unknown_bit(tasks: &[Task], interrupts: &[Interrupt]) -> Option<Fault<'static
     None
 }
 
+/// Of the j-th name of a list, which is neither a region's nor a device's.
+fn unknown_area<'a>(known: &Names, place: Place<'a>, j: usize, name: &str) -> Option<Fault<'a>>
+    ensures { (regions : List RegionData) (devices : List DeviceData) → NamesAreas known.now regions devices → option_map refusal_of result
+        ≡ unknown_entry regions devices (site_of place.entry) j name.now }
+{
+    fault_if(!is_area(known, name), 10, entry_place(place, j))
+}
+
 /// The first name of a list that is neither a region's nor a device's.
-fn unknown_entry<'a>(
-    regions: &[SharedRegion],
-    devices: &[Device],
-    place: Place<'a>,
-    names: &[String],
-) -> Option<Fault<'a>>
-    ensures { option_map refusal_of result
-        ≡ first_fault (unknown_entry (map region_of regions.now) (map device_of devices.now) (site_of place.entry)) 0 (map string_bytes names.now) }
+fn unknown_entry<'a>(known: &Names, place: Place<'a>, names: &[String]) -> Option<Fault<'a>>
+    ensures { (regions : List RegionData) (devices : List DeviceData) → NamesAreas known.now regions devices → option_map refusal_of result
+        ≡ first_fault (unknown_entry regions devices (site_of place.entry)) 0 (map string_bytes names.now) }
 {
     for i in 0..names.len() {
-        let name = names[i].as_str();
-        let known = has_region(name, regions) || has_device(name, devices);
-        let found = fault_if(!known, 10, entry_place(place, i));
+        let found = unknown_area(known, place, i, names[i].as_str());
         if found.is_some() {
             return found;
         }
@@ -78,43 +83,24 @@ fn unknown_entry<'a>(
 }
 
 /// Of what the k-th task uses, then of what it reads.
-fn unknown_region(
-    regions: &[SharedRegion],
-    devices: &[Device],
-    k: usize,
-    task: &Task,
-) -> Option<Fault<'static>>
-    ensures { option_map refusal_of result
-        ≡ unknown_region (map region_of regions.now) (map device_of devices.now) k (task_of task.now) }
+fn unknown_region(known: &Names, k: usize, task: &Task) -> Option<Fault<'static>>
+    ensures { (regions : List RegionData) (devices : List DeviceData) → NamesAreas known.now regions devices → option_map refusal_of result
+        ≡ unknown_region regions devices k (task_of task.now) }
 {
     let place = index_place("task", k);
-    let uses = unknown_entry(
-        regions,
-        devices,
-        key_place(place, "uses"),
-        task.uses.as_slice(),
-    );
+    let uses = unknown_entry(known, key_place(place, "uses"), task.uses.as_slice());
     if uses.is_some() {
         return uses;
     }
-    unknown_entry(
-        regions,
-        devices,
-        key_place(place, "reads"),
-        task.reads.as_slice(),
-    )
+    unknown_entry(known, key_place(place, "reads"), task.reads.as_slice())
 }
 
-fn unknown_regions(
-    regions: &[SharedRegion],
-    devices: &[Device],
-    tasks: &[Task],
-) -> Option<Fault<'static>>
-    ensures { option_map refusal_of result
-        ≡ first_fault (unknown_region (map region_of regions.now) (map device_of devices.now)) 0 (map task_of tasks.now) }
+fn unknown_regions(known: &Names, tasks: &[Task]) -> Option<Fault<'static>>
+    ensures { (regions : List RegionData) (devices : List DeviceData) → NamesAreas known.now regions devices → option_map refusal_of result
+        ≡ first_fault (unknown_region regions devices) 0 (map task_of tasks.now) }
 {
     for i in 0..tasks.len() {
-        let found = unknown_region(regions, devices, i, &tasks[i]);
+        let found = unknown_region(known, i, &tasks[i]);
         if found.is_some() {
             return found;
         }
@@ -123,22 +109,27 @@ fn unknown_regions(
 }
 
 /// The first fault of causes 8 to 10.
-pub(crate) fn unknown_name(parts: &Parts) -> Option<Fault<'static>>
-    ensures { option_map refusal_of result ≡ unknown_name (parts_of parts.now) }
+pub(crate) fn unknown_name(
+    alloc: Global,
+    parts: &Parts,
+) -> Result<Option<Fault<'static>>, AllocError>
+    ensures { IfOk result (λ found. option_map refusal_of found ≡ unknown_name (parts_of parts.now)) }
 {
     let tasks = parts.tasks.as_slice();
     let interrupts = parts.interrupts.as_slice();
-    let owner = unknown_owner(tasks, interrupts);
+    let kept = kept_tasks(alloc, tasks)?;
+    let owner = unknown_owner(&kept, interrupts);
     if owner.is_some() {
-        return owner;
+        return Ok(owner);
     }
     let fault = unknown_fault_bit(parts.fault.as_str(), tasks);
     if fault.is_some() {
-        return fault;
+        return Ok(fault);
     }
-    let bit = unknown_bit(tasks, interrupts);
+    let bit = unknown_bit(&kept, interrupts);
     if bit.is_some() {
-        return bit;
+        return Ok(bit);
     }
-    unknown_regions(parts.regions.as_slice(), parts.devices.as_slice(), tasks)
+    let known = known_areas(alloc, parts.regions.as_slice(), parts.devices.as_slice())?;
+    Ok(unknown_regions(&known, tasks))
 }

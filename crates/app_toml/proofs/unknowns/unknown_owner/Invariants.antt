@@ -1,10 +1,12 @@
-use Rattle.std.proofs.Common.{◌≡◌, drop, map}
+use Rattle.std.proofs.Common.{◌≡◌, List, drop, map}
+use Rattle.app_toml.specs.Apps.{TaskData}
 use Rattle.app_toml.specs.Crossed.{unknown_owner}
+use Rattle.app_toml.specs.Known.{Keeps}
 use Rattle.app_toml.specs.Places.{first_fault}
-use Rattle.app_toml.specs.Sites.{interrupt_of, task_of}
+use Rattle.app_toml.specs.Sites.{interrupt_of}
 use Rattle.app_toml.proofs.unknowns.unknown_owner.Given as goal
 
 abbrev pub invariant-loop-i : goal.invariant-loop-i
 invariant-loop-i l =
-    first_fault (unknown_owner (map task_of l.tasks)) l.i (map interrupt_of (drop l.i l.interrupts))
-    ≡ first_fault (unknown_owner (map task_of l.tasks)) 0 (map interrupt_of l.interrupts)
+    (tasks : List TaskData) → Keeps l.kept tasks
+    → first_fault (unknown_owner tasks) l.i (map interrupt_of (drop l.i l.interrupts)) ≡ first_fault (unknown_owner tasks) 0 (map interrupt_of l.interrupts)

@@ -1,0 +1,138 @@
+-- Names that are kept in the order of their bytes, as one more is added.
+use Rattle.std.proofs.Common.{◌≡◌, ◌∙◌, ◌<◌, ◌+◌, ◌||◌, ℕ, List, [], ◌∷◌, ◌++◌, length, get_or, map, take, Bool, true, false, cond, inl, inr, Option, Some, None, is_some, String, string_bytes, refl, sym, ap, subst, add-one}
+use Rattle.std.specs.BTreeMap.{BTreeMap, get_by_text}
+use Rattle.std.specs.BTreeSet.{BTreeSet, contains_text}
+use Rattle.std.specs.List.{list_any}
+use Rattle.std.specs.Str.{bytes_eq}
+use Rattle.std.proofs.lemmas.Bool.{cases_Bool}
+use Rattle.std.proofs.lemmas.List.{map-append}
+use Rattle.std.proofs.Math.Seq.{take-suc}
+use Rattle.app_toml.specs.Apps.{TaskData}
+use Rattle.app_toml.specs.Crossed.{has_task, is_among, notifications_of}
+use Rattle.app_toml.specs.Known.{HasJust, IsKept}
+use Rattle.app_toml.specs.Places.{Text}
+use Rattle.app_toml.proofs.Walks.{or_false, same_text}
+
+swapped : (a b c : Bool) → (a || (b || c)) ≡ (b || (a || c))
+swapped true true c = refl
+swapped true false c = refl
+swapped false b c = refl
+
+-- one more at the end
+pub any_more : {T : Type 0} (test : T → Bool) (xs : List T) (x : T) → list_any test (xs ++ x ∷ []) ≡ (test x || list_any test xs)
+any_more test [] x = refl
+any_more test (y ∷ xs) x = ap (λ t. test y || t) (any_more test xs x) ∙ swapped (test y) (test x) (list_any test xs)
+
+pub taken_more : {T U : Type 0} (f : T → U) (xs : List T) (i : ℕ) (x : T) → i < length xs → x ≡ get_or xs i x
+    → map f (take (i + 1) xs) ≡ map f (take i xs) ++ f x ∷ []
+taken_more f xs i x lt h =
+    ap (λ n. map f (take n xs)) (add-one i) ∙ ap (map f) (take-suc xs i x lt) ∙ ap (λ y. map f (take i xs ++ y ∷ [])) (sym h)
+    ∙ map-append f (take i xs) (x ∷ [])
+
+-- a test of what is known, which holds of the items before and of the one that is added
+pub known_more : {T U : Type 0} (f : T → U) (test : U → Bool) (xs : List T) (i : ℕ) (x : T) (old new : Bool) → i < length xs → x ≡ get_or xs i x
+    → old ≡ list_any test (map f (take i xs)) → new ≡ (test (f x) || old) → new ≡ list_any test (map f (take (i + 1) xs))
+known_more f test xs i x old new lt h before after =
+    after ∙ ap (λ t. test (f x) || t) before ∙ sym (any_more test (map f (take i xs)) (f x))
+    ∙ ap (list_any test) (sym (taken_more f xs i x lt h))
+
+-- the same beside what was known at first
+pub joined_more : {T U : Type 0} (f : T → U) (test : U → Bool) (xs : List T) (i : ℕ) (x : T) (first old new : Bool) → i < length xs → x ≡ get_or xs i x
+    → old ≡ (first || list_any test (map f (take i xs))) → new ≡ (test (f x) || old) → new ≡ (first || list_any test (map f (take (i + 1) xs)))
+joined_more f test xs i x first old new lt h before after =
+    after ∙ ap (λ t. test (f x) || t) before ∙ swapped (test (f x)) first (list_any test (map f (take i xs)))
+    ∙ ap (λ t. first || t) (sym (any_more test (map f (take i xs)) (f x)) ∙ ap (list_any test) (sym (taken_more f xs i x lt h)))
+
+pub as_or : (a b : Bool) → cond a true b ≡ (a || b)
+as_or true b = refl
+as_or false b = refl
+
+-- ---- tasks and their notifications
+
+picked : (b h : Bool) (n m r x : List Text) → x ≡ cond h m r → cond b n x ≡ cond (b || h) (cond b n m) r
+picked true h n m r x e = refl
+picked false h n m r x e = e
+
+-- the first task of a name keeps it
+notes_more : (name : Text) (ts : List TaskData) (t : TaskData)
+    → notifications_of name (ts ++ t ∷ []) ≡ cond (has_task name ts) (notifications_of name ts) (cond (bytes_eq t.name name) t.notifications [])
+notes_more name [] t = refl
+notes_more name (s ∷ ts) t =
+    picked (bytes_eq s.name name) (has_task name ts) s.notifications (notifications_of name ts) (cond (bytes_eq t.name name) t.notifications []) _ (notes_more name ts t)
+
+notes_stay : (name : Text) (ts : List TaskData) (t : TaskData) → has_task name ts ≡ true → notifications_of name (ts ++ t ∷ []) ≡ notifications_of name ts
+notes_stay name ts t h = notes_more name ts t ∙ ap (λ b. cond b (notifications_of name ts) (cond (bytes_eq t.name name) t.notifications [])) h
+
+notes_new : (ts : List TaskData) (t : TaskData) → has_task t.name ts ≡ false → bytes_eq t.name t.name ≡ true
+    → notifications_of t.name (ts ++ t ∷ []) ≡ t.notifications
+notes_new ts t h e =
+    notes_more t.name ts t ∙ ap (λ b. cond b (notifications_of t.name ts) (cond (bytes_eq t.name t.name) t.notifications [])) h
+    ∙ ap (λ b. cond b t.notifications []) e
+
+or_true : (a b : Bool) → b ≡ true → (a || b) ≡ true
+or_true true b e = refl
+or_true false b e = e
+
+pub kept_known : {A : Type 0} (known : BTreeSet (String A)) (name : Text) (ts : List TaskData) (t : TaskData)
+    → IsKept (Some known) name ts → IsKept (Some known) name (ts ++ t ∷ [])
+kept_known known name ts t kept = (
+  any_more (λ s. bytes_eq s.name name) ts t ∙ or_true (bytes_eq t.name name) (has_task name ts) kept.0,
+  λ bit. kept.1 bit ∙ ap (is_among bit) (sym (notes_stay name ts t kept.0)),
+)
+
+-- a task of another name
+pub kept_other : {A : Type 0} (o : Option (BTreeSet (String A))) (name : Text) (ts : List TaskData) (t : TaskData)
+    → bytes_eq t.name name ≡ false → IsKept o name ts → IsKept o name (ts ++ t ∷ [])
+kept_other None name ts t e kept =
+    any_more (λ s. bytes_eq s.name name) ts t ∙ ap (λ b. b || has_task name ts) e ∙ kept
+kept_other (Some known) name ts t e kept = kept_known known name ts t kept
+
+-- the first task of its name
+pub kept_new : {A : Type 0} (known : BTreeSet (String A)) (ts : List TaskData) (t : TaskData) → has_task t.name ts ≡ false → bytes_eq t.name t.name ≡ true
+    → HasJust known (λ bit. is_among bit t.notifications) → IsKept (Some known) t.name (ts ++ t ∷ [])
+kept_new known ts t h e just = (
+  any_more (λ s. bytes_eq s.name t.name) ts t ∙ ap (λ b. b || has_task t.name ts) e,
+  λ bit. just bit ∙ ap (is_among bit) (sym (notes_new ts t h e)),
+)
+
+different : (name other : Text) (ts : List TaskData) → has_task other ts ≡ true → has_task name ts ≡ false → bytes_eq other name ≡ false
+different name other ts there absent =
+    elim (cases_Bool (bytes_eq other name)) [
+      | inl same ↦ cc (subst (λ n. has_task n ts ≡ true) (same_text other name same) there, absent)
+      | inr apart ↦ apart
+    ]
+
+-- a further task of a name
+pub kept_again : {A : Type 0} (o : Option (BTreeSet (String A))) (name : Text) (ts : List TaskData) (t : TaskData)
+    → has_task t.name ts ≡ true → IsKept o name ts → IsKept o name (ts ++ t ∷ [])
+kept_again {A = A} None name ts t there kept = kept_other {A = A} None name ts t (different name t.name ts there kept) kept
+kept_again (Some known) name ts t there kept = kept_known known name ts t kept
+
+pub kept_is : {A : Type 0} (o : Option (BTreeSet (String A))) (name : Text) (ts : List TaskData) → IsKept o name ts → is_some o ≡ has_task name ts
+kept_is None name ts kept = sym kept
+kept_is (Some known) name ts kept = sym kept.0
+
+pub none_named : (name : Text) (ts : List TaskData) → has_task name ts ≡ false → notifications_of name ts ≡ []
+none_named name [] e = refl
+none_named name (t ∷ ts) e =
+    let parts = or_false (bytes_eq t.name name) (has_task name ts) e in
+    ap (λ b. cond b t.notifications (notifications_of name ts)) parts.0 ∙ none_named name ts parts.1
+
+pub kept_added : {A : Type 0} (old new : Text → Option (BTreeSet (String A))) (known : BTreeSet (String A)) (name : Text) (ts : List TaskData) (t : TaskData)
+    → ((q : Text) → new q ≡ cond (bytes_eq t.name q) (Some known) (old q)) → has_task t.name ts ≡ false
+    → HasJust known (λ bit. is_among bit t.notifications) → IsKept (old name) name ts → IsKept (new name) name (ts ++ t ∷ [])
+kept_added old new known name ts t now absent just kept =
+    elim (cases_Bool (bytes_eq t.name name)) [
+      | inl same ↦
+          let here = same_text t.name name same in
+          let own = subst (λ n. bytes_eq t.name n ≡ true) (sym here) same in
+          let found : new t.name ≡ Some known = now t.name ∙ ap (λ b. cond b (Some known) (old t.name)) own in
+          subst (λ n. IsKept (new n) n (ts ++ t ∷ [])) here
+          (subst (λ o. IsKept o t.name (ts ++ t ∷ [])) (sym found) (kept_new known ts t absent own just))
+      | inr apart ↦
+          let left : new name ≡ old name = now name ∙ ap (λ b. cond b (Some known) (old name)) apart in
+          subst (λ o. IsKept o name (ts ++ t ∷ [])) (sym left) (kept_other (old name) name ts t apart kept)
+    ]
+
+pub nothing_kept : {A : Type 0} (kept : BTreeMap (String A) (BTreeSet (String A))) → kept.entries ≡ [] → (name : Text) → IsKept (get_by_text kept name) name []
+nothing_kept kept e name = rw e refl

@@ -1,0 +1,122 @@
+//! Names kept in the order of their bytes, so that one among many is found in few steps, whatever the names are.
+
+ghost use Rattle.std.specs.Prelude.{◌≡◌, ◌||◌, ◌++◌, ◌∷◌, [], IfOk, List, OnOk, map, string_bytes};
+ghost use Rattle.std.specs.BTreeSet.{contains_text};
+ghost use Rattle.std.specs.Str.{bytes_eq};
+ghost use Rattle.app_toml.specs.Apps.{DeviceData, RegionData, TaskData};
+ghost use Rattle.app_toml.specs.Crossed.{has_device, has_region, has_task, is_among, notifications_of};
+ghost use Rattle.app_toml.specs.Known.{HasJust, Keeps, NamesAreas};
+ghost use Rattle.app_toml.specs.Places.{Text};
+ghost use Rattle.app_toml.specs.Sites.{device_of, region_of, task_of};
+
+use crate::parts::{Device, SharedRegion, Task};
+use std::alloc::{AllocError, Global};
+use std::collections::{BTreeMap, BTreeSet};
+
+pub(crate) type Names = BTreeSet<String>;
+
+/// Tasks by their names, each with its notifications.
+pub(crate) type TaskNames = BTreeMap<String, BTreeSet<String>>;
+
+pub(crate) fn is_known(known: &Names, name: &str) -> bool
+    ensures { result ≡ contains_text known.now name.now }
+{
+    known.contains(name)
+}
+
+/// Adds a name.
+pub(crate) fn learn(alloc: Global, known: &mut Names, name: &str) -> Result<(), AllocError>
+    ensures { OnOk result ((q : Text) → contains_text known.new q ≡ (bytes_eq name.now q || contains_text known.old q)) }
+{
+    known.insert(String::from_str(alloc, name)?)?;
+    Ok(())
+}
+
+pub(crate) fn known_names(alloc: Global, names: &[String]) -> Result<Names, AllocError>
+    ensures { IfOk result (λ known. HasJust known (λ q. is_among q (map string_bytes names.now))) }
+{
+    let mut known = BTreeSet::new(alloc);
+    for name in names {
+        learn(alloc, &mut known, name.as_str())?;
+    }
+    Ok(known)
+}
+
+pub(crate) fn known_regions(alloc: Global, regions: &[SharedRegion]) -> Result<Names, AllocError>
+    ensures { IfOk result (λ known. HasJust known (λ q. has_region q (map region_of regions.now))) }
+{
+    let mut known = BTreeSet::new(alloc);
+    for region in regions {
+        learn(alloc, &mut known, region.name.as_str())?;
+    }
+    Ok(known)
+}
+
+fn learn_devices(alloc: Global, known: &mut Names, devices: &[Device]) -> Result<(), AllocError>
+    ensures { OnOk result ((q : Text) → contains_text known.new q ≡ (contains_text known.old q || has_device q (map device_of devices.now))) }
+{
+    for device in devices {
+        learn(alloc, known, device.name.as_str())?;
+    }
+    Ok(())
+}
+
+/// The names of regions and devices.
+pub(crate) fn known_areas(
+    alloc: Global,
+    regions: &[SharedRegion],
+    devices: &[Device],
+) -> Result<Names, AllocError>
+    ensures { IfOk result (λ known. NamesAreas known (map region_of regions.now) (map device_of devices.now)) }
+{
+    let mut known = known_regions(alloc, regions)?;
+    learn_devices(alloc, &mut known, devices)?;
+    Ok(known)
+}
+
+/// Whether a region or a device has the name.
+pub(crate) fn is_area(known: &Names, name: &str) -> bool
+    ensures { (regions : List RegionData) (devices : List DeviceData) → NamesAreas known.now regions devices
+        → result ≡ (has_region name.now regions || has_device name.now devices) }
+{
+    known.contains(name)
+}
+
+/// Adds a task, unless one of its name is there.
+fn keep_task(alloc: Global, kept: &mut TaskNames, task: &Task) -> Result<(), AllocError>
+    ensures { OnOk result ((tasks : List TaskData) → Keeps kept.old tasks → Keeps kept.new (tasks ++ task_of task.now ∷ [])) }
+{
+    if kept.contains_key(task.name.as_str()) {
+        return Ok(());
+    }
+    let bits = known_names(alloc, task.notifications.as_slice())?;
+    kept.insert(String::from_str(alloc, task.name.as_str())?, bits)?;
+    Ok(())
+}
+
+pub(crate) fn kept_tasks(alloc: Global, tasks: &[Task]) -> Result<TaskNames, AllocError>
+    ensures { IfOk result (λ kept. Keeps kept (map task_of tasks.now)) }
+{
+    let mut kept = BTreeMap::new(alloc);
+    for task in tasks {
+        keep_task(alloc, &mut kept, task)?;
+    }
+    Ok(kept)
+}
+
+/// Whether a task of the name has the notification.
+pub(crate) fn has_bit(kept: &TaskNames, task: &str, bit: &str) -> bool
+    ensures { (tasks : List TaskData) → Keeps kept.now tasks → result ≡ is_among bit.now (notifications_of task.now tasks) }
+{
+    match kept.get(task) {
+        Some(bits) => is_known(bits, bit),
+        None => false,
+    }
+}
+
+/// Whether there is a task of the name.
+pub(crate) fn is_kept(kept: &TaskNames, task: &str) -> bool
+    ensures { (tasks : List TaskData) → Keeps kept.now tasks → result ≡ has_task task.now tasks }
+{
+    kept.contains_key(task)
+}
