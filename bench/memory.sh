@@ -1,0 +1,44 @@
+#!/usr/bin/env bash
+# What the built program answers where memory ends: each allocation of `go`, `build`, `list` and `sample` is refused in turn
+# (refuse.c). Each answer is status 5 with no byte written and no file put, or the whole text with the status of the run in
+# which none is refused. It ends with status 1 where one is neither.
+# It needs gcc and the built program (crates/hubris/out/hubris, made by `rt ci` or `rt run`).
+# usage: bench/memory.sh [PROGRAM]
+set -eu
+export LC_ALL=C
+program=${1:+$(realpath "$1")}
+cd "$(dirname "$0")/.."
+program=${program:-$(realpath crates/hubris/out/hubris)}
+[ -x "$program" ] || { echo "build the program first: (cd crates/hubris && rt run)"; exit 1; }
+out=bench/out/memory
+mkdir -p $out
+gcc -O2 -Wall -shared -fPIC -o $out/refuse.so bench/refuse.c
+bad=0
+while read -r words; do
+    rm -f $out/app.img
+    status=0
+    # shellcheck disable=SC2086
+    "$program" $words >$out/text || status=$?
+    rm -f $out/app.img
+    # shellcheck disable=SC2086
+    LD_PRELOAD=$PWD/$out/refuse.so REFUSE_TO=$out/answers REFUSE_TEXT=$out/text REFUSE_OUT=$out/app.img "$program" $words >$out/again || true
+    cmp $out/text $out/again || bad=1
+    awk -v words="$words" -v status=$status '
+        $2 == 5 && $3 == 0 && $5 == "none" && $6 == "kept" { refused++; next }
+        $2 == status && $5 == "same" && ($6 == "put") == (words ~ /^build/) { whole++; next }
+        { print "  allocation " $1 ": status " $2 ", " $3 " bytes before and " $4 " behind (" $5 "), file " $6; wrong++ }
+        END {
+            printf "%s: %d allocations, %d with status 5 and nothing told, %d with the whole text, %d otherwise\n", words, NR, refused, whole, wrong
+            exit wrong > 0 || NR == 0
+        }' $out/answers || bad=1
+done <<WORDS
+go examples/client-server/app.toml examples/client-server/empty.txt --steps 1000
+go examples/blinker/app.toml examples/blinker/script.txt --steps 600
+go examples/one-task/app.toml examples/one-task/empty.txt --steps 3 --all --mem
+build examples/blinker/app.toml $out/app.img
+list crates/hubris/data/a.img
+run crates/hubris/data/a.img crates/hubris/data/e.txt --steps 3
+sample 1 64
+WORDS
+rm -rf $out
+[ $bad = 0 ]
