@@ -206,7 +206,7 @@ line_clear before k i e =
     all_fail (λ b. b.line == i.line) (λ b. b.line ≢ i.line) (λ b. other b.line i.line) before
     (not_refused (list_any (λ b. b.line == i.line) before) 18 (interrupt_site k (codes "line")) e)
 
-placed : (k : ℕ) (d : DeviceData) → bad_device k d ≡ None → IsPlaced d
+pub placed : (k : ℕ) (d : DeviceData) → bad_device k d ≡ None → IsPlaced d
 placed k d e =
     let all = known (is_placed d) 19 (index_site (codes "device") k) e in
     let last = and_true (is_size d.size && d.base % d.size == 0 && nat_le 0x40000000 d.base) (nat_le (d.base + d.size) 0x60000000) all in

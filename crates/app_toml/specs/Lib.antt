@@ -10,4 +10,5 @@ pub mod Places
 pub mod Reading
 pub mod Relations
 pub mod Sites
+pub mod Spread
 pub mod Values

@@ -36,5 +36,6 @@ pub(crate) fn cross_fault(
     if start.is_some() {
         return Ok(start);
     }
-    Ok(line_fault(parts))
+    let line = line_fault(alloc, parts)?;
+    Ok(line)
 }

@@ -11,6 +11,7 @@ mod known;
 mod lines;
 mod making;
 mod names;
+mod overlaps;
 mod parts;
 mod places;
 mod reading;

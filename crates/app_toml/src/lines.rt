@@ -1,15 +1,17 @@
 //! Causes 18 to 20: interrupt lines and devices.
 
-ghost use Rattle.std.specs.Prelude.{◌≡◌, ◌<◌, ◌==◌, [], map, option_map, true};
+ghost use Rattle.std.specs.Prelude.{◌≡◌, ◌==◌, IfOk, [], map, option_map};
 ghost use Rattle.std.specs.List.{list_any};
-ghost use Rattle.app_toml.specs.Crossed.{bad_device, is_placed, line_fault, line_twice, meets, overlap};
+ghost use Rattle.app_toml.specs.Crossed.{bad_device, is_placed, line_fault, line_twice};
 ghost use Rattle.app_toml.specs.Held.{parts_of};
 ghost use Rattle.app_toml.specs.Places.{first_clash, first_fault};
 ghost use Rattle.app_toml.specs.Sites.{device_of, interrupt_of, refusal_of};
 
+use crate::overlaps::overlap;
 use crate::parts::{Device, Interrupt, Parts};
 use crate::places::{Fault, fault_if, index_place, key_place};
 use region_check::is_size;
+use std::alloc::{AllocError, Global};
 
 fn has_line(line: u8, interrupts: &[Interrupt]) -> bool
     ensures { result ≡ list_any (λ e. e.line == line) (map interrupt_of interrupts.now) }
@@ -58,48 +60,19 @@ fn bad_device(devices: &[Device]) -> Option<Fault<'static>>
     None
 }
 
-fn meets(d: &Device, e: &Device) -> bool
-    ensures { result ≡ meets (device_of d.now) (device_of e.now) }
-{
-    u64::from(d.base) < u64::from(e.base) + u64::from(e.size)
-        && u64::from(e.base) < u64::from(d.base) + u64::from(d.size)
-}
-
-fn meets_one(d: &Device, devices: &[Device]) -> bool
-    ensures { result ≡ list_any (meets (device_of d.now)) (map device_of devices.now) }
-{
-    for device in devices {
-        if meets(d, device) {
-            return true;
-        }
-    }
-    false
-}
-
-fn overlap(devices: &[Device]) -> Option<Fault<'static>>
-    ensures { option_map refusal_of result ≡ first_clash overlap [] 0 (map device_of devices.now) }
-{
-    for i in 0..devices.len() {
-        let meeting = meets_one(&devices[i], &devices[..i]);
-        let found = fault_if(meeting, 20, index_place("device", i));
-        if found.is_some() {
-            return found;
-        }
-    }
-    None
-}
-
 /// The first fault of causes 18 to 20.
-pub(crate) fn line_fault(parts: &Parts) -> Option<Fault<'static>>
-    ensures { option_map refusal_of result ≡ line_fault (parts_of parts.now) }
+pub(crate) fn line_fault(alloc: Global, parts: &Parts) -> Result<Option<Fault<'static>>, AllocError>
+    ensures { IfOk result (λ found. option_map refusal_of found ≡ line_fault (parts_of parts.now)) }
 {
     let line = line_twice(parts.interrupts.as_slice());
     if line.is_some() {
-        return line;
+        return Ok(line);
     }
-    let device = bad_device(parts.devices.as_slice());
+    let devices = parts.devices.as_slice();
+    let device = bad_device(devices);
     if device.is_some() {
-        return device;
+        return Ok(device);
     }
-    overlap(parts.devices.as_slice())
+    let overlap = overlap(alloc, devices)?;
+    Ok(overlap)
 }
