@@ -159,6 +159,9 @@ impl Bus for Reach {
     }
 
     fn fetch(&self, addr: u32) -> Result<u16, u32> {
+        if self.region_gives(self.text, addr, 2, Right::Execute) {
+            return Ok(self.kernel.half_near(self.near_text, addr));
+        }
         match self.lacks(addr, 2, Right::Execute) {
             Some(at) => Err(at),
             None => Ok(self.kernel.half(addr)),
