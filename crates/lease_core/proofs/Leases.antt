@@ -14,7 +14,7 @@ use Rattle.task_table.specs.State.{Setup, State, Birth, Call, Read as Look, Leas
 use Rattle.task_table.specs.Reading.{bad_byte, taken_by}
 use Rattle.task_table.specs.Effects.{looked, copied}
 use Rattle.task_table.specs.Borrows.{moved, grant}
-use Rattle.task_table.specs.Holds.{Holds, Stood, kept_of, kept_call}
+use Rattle.task_table.specs.Holds.{Holds, kept_of, kept_call}
 use Rattle.task_table.specs.Sane.{Sane}
 use Rattle.std.proofs.lemmas.Bool.{leb-true}
 use Rattle.task_table.proofs.Clients.{found_call, taken_call}
@@ -86,7 +86,3 @@ pub entry_from : (g : Setup) (s : State) (i : ℕ) (k : Call) (table lease : ℕ
 unfolding grant
 entry_from g s i k table lease (Ok e) same h = rw (← same) at h
 entry_from g s i k table lease (Err at) same h = rw (← same) at h
-
--- a kernel that stood, and now holds what it held, stands
-pub stood_still : (old new : Kernel) → Stood old → ((g : Setup) (t : Turn) → Holds g old t → Holds g new t) → Stood new
-stood_still old new s still = (s.0, s.1, record { holds = still s.0 s.1 s.2.holds; sane = s.2.sane })

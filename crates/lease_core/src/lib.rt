@@ -2,13 +2,15 @@
 //! Borrows of what a client has leased to its server: the system calls BORROW_READ, BORROW_WRITE and
 //! BORROW_INFO (Hubris Reference, on leases).
 
-ghost use Rattle.std.specs.Prelude.{◌≡◌, ◌+◌, ◌*◌, ◌<◌, ◌≤◌, ◌^◌, true, Some};
+ghost use Rattle.std.specs.Prelude.{◌≡◌, ◌+◌, ◌*◌, ◌<◌, ◌≤◌, ◌^◌, ℕ, true, Some, IfOk};
 ghost use Rattle.kernel_abi.specs.declared.Note.TheVariants as note;
 ghost use Rattle.task_table.specs.State.{Setup, Turn, Call};
 ghost use Rattle.task_table.specs.Reading.{is_valid, is_ready};
 ghost use Rattle.task_table.specs.Effects.{noted};
 ghost use Rattle.task_table.specs.Borrows.{reading, writing, moved, refused, untold, lent, granted, part_of, lease_range, borrowed_by, borrowed, grant_told, informed_by, informed};
-ghost use Rattle.task_table.specs.Holds.{Holds, Stands, Stood, kept_call, task_count, note_count, memory_of};
+ghost use Rattle.task_table.specs.Holds.{Holds, Stands, Stood, kept_call, task_count, note_count, memory_of, entries_of};
+ghost use Rattle.task_table.specs.Entries.{IsKeptFor};
+ghost use Rattle.task_table.specs.Messages.{IsLent};
 ghost use Rattle.task_table.specs.Limits.{call_notes, turn_notes};
 ghost use Rattle.task_table.specs.Frames.{AddsNotes, AddsAtMost};
 ghost use Rattle.lease_core.specs.Loans.{way_of, IsBuffer, IsLeased, IsLoanOf, IsEntry, IsEntryAt, buffered, told_lent};
@@ -177,16 +179,19 @@ fn borrow_entry(k: &mut Kernel, loan: &Loan, entry: &LeaseEntry)
     borrow_into(k, loan, entry);
 }
 
-/// The entry of a lease from an address on as memory has it, or the first byte of it that the lender may
-/// not read. It is kept.
-fn read_entry(k: &mut Kernel, lender: usize, lease: u32, base: u32) -> Result<LeaseEntry, u32>
+/// The entry of a lease of a call, or the first byte of it that the lender may not read, as memory has it.
+/// It is kept.
+fn read_entry(k: &mut Kernel, lender: usize, call: &OpenCall, lease: u32) -> Result<LeaseEntry, u32>
     requires there { lender < task_count k.old }
-    requires fits { base + 12 ≤ 2 ^ 32 }
-    requires stood { Stood k.old }
-    ensures entry { (g : Setup) (t : Turn) → Holds g k.old t → IsEntryAt g t.state lender base result }
+    requires listed { lease < call.now.leases }
+    requires fits { call.now.table + 12 * call.now.leases ≤ 2 ^ 32 }
+    requires lent { (borrower : ℕ) × IsLent k.old lender borrower call.now }
+    ensures entry { (g : Setup) (t : Turn) → Holds g k.old t → IsEntryAt g t.state lender (call.now.table + 12 * lease) result }
+    ensures kept { IfOk result (λ e. IsKeptFor (entries_of k.new) lender (call.now.table + 12 * lease) e) }
     ensures holds { (g : Setup) (t : Turn) → Holds g k.old t → Holds g k.new t }
     ensures frame { AddsNotes k.old 0 k.new }
 {
+    let base = call.table + 12 * lease;
     if let Some(bad) = k.bad_byte(lender, Right::Read, base, 12) {
         return Err(bad);
     }
@@ -199,20 +204,21 @@ fn read_entry(k: &mut Kernel, lender: usize, lease: u32, base: u32) -> Result<Le
     Ok(entry)
 }
 
-/// The entry of a lease of a call, or the first byte of it that the lender may not read.
+/// The entry of a lease of a call, or the first byte of it that the lender may not read. It is kept from then
+/// on, or was before.
 fn entry_of(k: &mut Kernel, lender: usize, call: &OpenCall, lease: u32) -> Result<LeaseEntry, u32>
     requires there { lender < task_count k.old }
     requires listed { lease < call.now.leases }
     requires fits { call.now.table + 12 * call.now.leases ≤ 2 ^ 32 }
-    requires stood { Stood k.old }
+    requires lent { (borrower : ℕ) × IsLent k.old lender borrower call.now }
     ensures entry { (g : Setup) (t : Turn) (c : Call) → Holds g k.old t → kept_call c ≡ call.now → IsEntry g t.state lender c lease result }
+    ensures kept { IfOk result (λ e. IsKeptFor (entries_of k.new) lender (call.now.table + 12 * lease) e) }
     ensures holds { (g : Setup) (t : Turn) → Holds g k.old t → Holds g k.new t }
     ensures frame { AddsNotes k.old 0 k.new }
 {
-    let base = call.table + 12 * lease;
-    match k.kept_entry(lender, base) {
+    match k.kept_entry(lender, call.table + 12 * lease) {
         Some(entry) => Ok(entry),
-        None => read_entry(k, lender, lease, base),
+        None => read_entry(k, lender, call, lease),
     }
 }
 
@@ -222,7 +228,7 @@ fn borrow_from(k: &mut Kernel, loan: &Loan, call: &OpenCall)
     requires lender { loan.now.lender < task_count k.old }
     requires room { note_count k.old + 5 ≤ turn_notes }
     requires fits { call.now.table + 12 * call.now.leases ≤ 2 ^ 32 }
-    requires stood { Stood k.old }
+    requires lent { (borrower : ℕ) × IsLent k.old loan.now.lender borrower call.now }
     ensures holds { let x = loan.now in (g : Setup) (t : Turn) (c : Call) → Holds g k.old t → kept_call c ≡ call.now → IsLoanOf x c → Holds g k.new (borrowed_by g (way_of x.way) x.borrower x.args (Some c) t) }
     ensures frame { AddsAtMost k.old 5 k.new }
 {
@@ -312,7 +318,7 @@ fn inform_of(k: &mut Kernel, caller: usize, lender: usize, call: &OpenCall, leas
     requires lender { lender < task_count k.old }
     requires room { note_count k.old + 5 ≤ turn_notes }
     requires fits { call.now.table + 12 * call.now.leases ≤ 2 ^ 32 }
-    requires stood { Stood k.old }
+    requires lent { (borrower : ℕ) × IsLent k.old lender borrower call.now }
     ensures holds { (g : Setup) (t : Turn) (c : Call) → Holds g k.old t → kept_call c ≡ call.now → c.client.index ≡ lender → Holds g k.new (informed_by g caller lease (Some c) t) }
     ensures frame { AddsAtMost k.old 5 k.new }
 {

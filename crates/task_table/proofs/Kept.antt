@@ -1,5 +1,5 @@
 -- Entries that are kept: one is dropped, a slot is written, bytes elsewhere are written.
-use Rattle.std.proofs.Common.{◌≡◌, ◌≢◌, ◌+◌, ◌-◌, ◌<◌, ◌≤◌, ◌⊎◌, inl, inr, ℕ, Bool, true, false, ◌&&◌, leb, ltb, List, length, take, drop, set, Option, Some, None, refl, sym, subst, ◌∙◌, ap, arith, get_or, get_or-set_other, length-set, length-append, length-take, length-drop}
+use Rattle.std.proofs.Common.{◌≡◌, ◌≢◌, ◌+◌, ◌-◌, ◌*◌, ◌<◌, ◌≤◌, ◌⊎◌, inl, inr, ℕ, Bool, true, false, ◌&&◌, cond, eqb, leb, ltb, List, length, take, drop, set, Option, Some, None, is_some, refl, sym, subst, ◌∙◌, ap, arith, get_or, get_or-set_other, length-set, length-append, length-take, length-drop}
 use Rattle.std.proofs.lemmas.Bool.{cases_lt, lt-leb, lt-ltb, le-ltb, ltb-false}
 use Rattle.std.proofs.lemmas.Bool.Decides.{eqb_tells}
 use Rattle.std.proofs.lemmas.Grind.{get_or-set_at}
@@ -9,13 +9,19 @@ use Rattle.mem_banks.proofs.Copies.{with_bytes_none, with_bytes_ram, bytes_ram}
 use Rattle.mem_banks.proofs.Lists.{part_below}
 use Rattle.region_check.specs.Rights.{first_bad}
 use Rattle.region_check.specs.declared.Right.TheVariants.{Read}
-use Rattle.task_table.specs.State.{Setup, TaskSetup, Turn}
-use Rattle.task_table.specs.Reading.{setup_in, setup_at, bad_byte}
-use Rattle.task_table.specs.Holds.{Kept, Shows}
-use Rattle.task_table.specs.Entries.{kept_at, entry_at, meets, IsWatched, AreFresh, AreLeft, IsEntryOf, AreEntriesOf}
+use Rattle.kernel_abi.specs.Ids.{index_of}
+use Rattle.std.specs.Option.{option_map}
+use Rattle.task_table.specs.State.{Setup, State, TaskSetup, Turn}
+use Rattle.task_table.specs.Reading.{setup_in, setup_at, bad_byte, is_taken, taken_by}
+use Rattle.task_table.specs.Holds.{Kept, Shows, IsKept, kept_call, taken_in}
+use Rattle.task_table.specs.Sane.{Sane}
+use Rattle.task_table.proofs.Delivery.{taken_kept}
+use Rattle.task_table.specs.Entries.{kept_at, entry_at, meets, IsWatched, AreFresh, AreLeft, IsEntryOf, AreEntriesOf, taken_of}
 use Rattle.task_table.specs.declared.entry.KeptEntry.{KeptEntry}
+use Rattle.task_table.specs.declared.slot.OpenCall.{OpenCall}
 use Rattle.task_table.specs.declared.slot.Slot.{Slot}
 use Rattle.task_table.specs.declared.slot.Wait.{Wait}
+use Rattle.task_table.specs.declared.slot.Wait.TheVariants as wait
 
 abbrev Entries : Type 0
 Entries = List (Option KeptEntry)
@@ -194,4 +200,30 @@ of_set tasks slots entries t y slot there at h is good =
         | inl here ↦ subst (λ j. first_bad (setup_in tasks j).regions Read x.base 12 ≡ None) (sym here.0) (subst (λ (z : KeptEntry). first_bad (setup_in tasks t).regions Read z.base 12 ≡ None) here.1 good)
         | inr was ↦ h.readable i x was
       ];
+    }
+
+-- ## an entry of a taken call
+
+taken_in_any : (w : Wait) (j : ℕ) (o : OpenCall) → taken_in w j ≡ Some o → taken_of w ≡ Some o
+taken_in_any (wait.Call c) j o h = go (eqb (index_of c.server.number) j) (is_taken c.phase) h
+  where
+    go : (a b : Bool) → cond (a && b) (Some c) None ≡ Some o → cond b (Some c) None ≡ Some o
+    go true b e = e
+    go false b e = absurd (none_some e)
+      where
+        none_some : None ≡ Some o → ⊥
+        none_some f = cc
+taken_in_any (wait.Listen l) j o h = h
+taken_in_any wait.Nothing j o h = h
+
+same_call : {a b : OpenCall} → Some a ≡ Some b → a ≡ b
+same_call e = cc
+
+pub of_taken : (g : Setup) (s : State) (i j : ℕ) (slot : Slot) (call : OpenCall) (x : KeptEntry) → Sane g s → length s.tasks ≤ 1024 → IsKept s i slot → option_map kept_call (taken_by s i j) ≡ Some call → x.lease < call.leases → x.base ≡ call.table + 12 * x.lease → IsEntryOf x slot.wait
+of_taken g s i j slot call x sane small kept taken listed base =
+    let is : taken_of slot.wait ≡ Some call = taken_in_any slot.wait j call (taken_kept g s i j slot sane small kept ∙ taken) in
+    record {
+      taken = ap is_some is;
+      listed = λ c e. subst (λ (o : OpenCall). x.lease < o.leases) (same_call (sym is ∙ e)) listed;
+      base = λ c e. subst (λ (o : OpenCall). x.base ≡ o.table + 12 * x.lease) (same_call (sym is ∙ e)) base;
     }

@@ -4,7 +4,6 @@ pub mod Steps
 pub mod Members
 pub mod Deadlines
 pub mod Written
-pub mod Kept
 pub mod Ranges
 pub mod Keeps
 pub mod Posting
@@ -17,6 +16,7 @@ pub mod Waiting
 pub mod Clients
 pub mod Messages
 pub mod Delivery
+pub mod Kept
 pub mod Receives
 pub mod Chains
 pub mod Moves

@@ -16,6 +16,10 @@ use Rattle.task_table.specs.Reading.{setup_in, is_taken}
 abbrev pub kept_at : List (Option KeptEntry) → ℕ → Option KeptEntry
 kept_at entries i = slice_index_or entries i None
 
+-- the one that begins at an address is kept for a task, and says this
+abbrev pub IsKeptFor : List (Option KeptEntry) → ℕ → ℕ → LeaseEntry → Type 0
+IsKeptFor entries i base e = (x : KeptEntry) × (kept_at entries i ≡ Some x) × (x.base ≡ base) × (x.entry ≡ e)
+
 -- ## what memory has there
 
 abbrev pub entry_at : Memory → ℕ → LeaseEntry

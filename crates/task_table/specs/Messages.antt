@@ -1,5 +1,5 @@
 -- What the code's kernel is told about messages.
-use Rattle.std.specs.Prelude.{ℕ, ◌≡◌, ◌<◌, ◌≤◌, Option, None, Some, if◌then◌else◌}
+use Rattle.std.specs.Prelude.{ℕ, ◌≡◌, ◌<◌, ◌≤◌, ◌+◌, ◌*◌, Option, None, Some, if◌then◌else◌}
 use Rattle.std.specs.Option.{option_map}
 use Rattle.kernel_abi.specs.Arguments.{recv_args}
 use Rattle.kernel_abi.specs.declared.Listened.{Listened}
@@ -18,7 +18,7 @@ use Rattle.task_table.specs.Entries.{entry_at}
 use Rattle.task_table.specs.Effects.{changed, noted, with_listen}
 use Rattle.task_table.specs.Rows.{listened_from, buffer_of}
 use Rattle.task_table.specs.Sends.{message_of, reply_of}
-use Rattle.task_table.specs.Holds.{Holds, Stands, kept_call}
+use Rattle.task_table.specs.Holds.{Stands, kept_call}
 
 -- whom a task listens to; a task that is named is one of n
 abbrev pub from_of : State → Listened → From
@@ -71,10 +71,17 @@ pub record IsReplying (k : Kernel) (c client : ℕ) (call : OpenCall) (x : Reply
   pub readable : bad_byte setup c Read (reply_of x) ≡ None
   pub fits : x.reply_length ≤ call.reply.length
 
--- a task may read this entry, and it is what memory has there
-pub record IsRead (k : Kernel) (i : ℕ) (x : KeptEntry) : Type 0 where
+-- a borrower has taken this call of a lender
+pub record IsLent (k : Kernel) (lender borrower : ℕ) (call : OpenCall) : Type 0 where
   pub setup : Setup
   pub turn : Turn
-  pub holds : Holds setup k turn
-  pub readable : bad_byte setup i Read record { base = x.base; length = 12 } ≡ None
-  pub is : entry_at turn.state.memory x.base ≡ x.entry
+  pub stands : Stands setup k turn
+  pub taken : option_map kept_call (taken_by turn.state lender borrower) ≡ Some call
+
+-- an entry of its table, which the lender may read, is what memory has there
+pub record IsRead (k : Kernel) (lender borrower : ℕ) (call : OpenCall) (x : KeptEntry) : Type 0 where
+  pub lent : IsLent k lender borrower call
+  pub listed : x.lease < call.leases
+  pub base : x.base ≡ call.table + 12 * x.lease
+  pub readable : bad_byte lent.setup lender Read record { base = x.base; length = 12 } ≡ None
+  pub is : entry_at lent.turn.state.memory x.base ≡ x.entry

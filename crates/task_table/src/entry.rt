@@ -1,9 +1,8 @@
 //! Entries of lease tables that were read, and where in memory they lie.
 
-ghost use Rattle.std.specs.Prelude.{◌≡◌, ◌+◌, ◌-◌, ◌<◌, ◌≤◌, ◌^◌, ◌⊎◌, ℕ, None, true, false, length, IfOk};
-ghost use Rattle.task_table.specs.Entries.{kept_at, meets, AreLeft, IsWatched, IsEntryOf};
+ghost use Rattle.std.specs.Prelude.{◌≡◌, ◌+◌, ◌≤◌, ◌^◌, ℕ, None, length, IfOk};
+ghost use Rattle.task_table.specs.Entries.{kept_at, AreLeft};
 
-use crate::slot::{Phase, Wait};
 use kernel_abi::LeaseEntry;
 use std::alloc::{AllocError, Global};
 
@@ -16,8 +15,8 @@ pub struct KeptEntry {
 }
 
 impl KeptEntry {
-    ghost use Rattle.std.specs.Prelude.{◌≡◌, true};
-    ghost use Rattle.task_table.specs.Entries.{meets, IsEntryOf};
+    ghost use Rattle.std.specs.Prelude.{◌≡◌};
+    ghost use Rattle.task_table.specs.Entries.{meets};
 
     /// Whether one of so many bytes from an address on is one of its twelve.
     fn meets(&self, addr: u32, count: usize) -> bool
@@ -25,20 +24,6 @@ impl KeptEntry {
     {
         let first = u64::from(self.base);
         u64::from(addr) < first + 12 && first < u64::from(addr).saturating_add(count as u64)
-    }
-
-    /// Whether it is of a lease of a call that is taken, for whose end a task waits so.
-    pub(crate) fn is_of(&self, wait: &Wait) -> bool
-        ensures { result ≡ true → IsEntryOf self.now wait.now }
-    {
-        match wait {
-            Wait::Call(call) => {
-                call.phase == Phase::Taken
-                    && self.lease < call.leases
-                    && u64::from(self.base) == u64::from(call.table) + 12 * u64::from(self.lease)
-            }
-            _ => false,
-        }
     }
 }
 

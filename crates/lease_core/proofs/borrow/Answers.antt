@@ -50,3 +50,8 @@ returns-in-Some-clause-holds c = λ g t h.
     let k = some_mapped kept_call (taken_by t.state c.in-Live.lender i) _ (sym (c.in-Some.ensures g t h)) in
     let lender = of_lender g t.state c.in-Live.lender i k.0 h.sane k.1 in
     subst (Borrowed g c.borrow_from.new.k (way_of c.args.way) i t) same (rw (live.0, live.1, ← live.2, k.1) (c.borrow_from.ensures.holds g t k.0 h.holds k.2 record { lender = lender; number = ap (λ (x : OpenCall). x.number) k.2 }))
+
+pub borrow_from-requires-clause-lent : goal.borrow_from-requires-clause-lent
+borrow_from-requires-clause-lent c =
+    let s = c.requires.stood in
+    (c.args.caller, record { setup = s.0; turn = s.1; stands = s.2; taken = sym (c.in-Some.ensures s.0 s.1 s.2) })

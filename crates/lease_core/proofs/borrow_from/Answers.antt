@@ -4,7 +4,6 @@ use Rattle.task_table.specs.Holds.{Holds, kept_of}
 use Rattle.task_table.specs.declared.slot.OpenCall.{OpenCall}
 use Rattle.task_table.proofs.Messages.{holds_looked}
 use Rattle.lease_core.specs.Loans.{way_of}
-use Rattle.lease_core.proofs.Leases.{stood_still}
 use Rattle.lease_core.proofs.Rows.{entry_bad, entry_good}
 use Rattle.lease_core.proofs.borrow_from.Goals as goal
 
@@ -25,4 +24,6 @@ returns-in-Ok-clause-holds c = λ g t k h same loan.
     subst (Holds g c.borrow_entry.new.k) (sym (entry_good g (way_of x.way) x.borrower x.args k x.lender _ t loan.lender listed e.0 e.1)) (c.borrow_entry.ensures.holds g _ k (holds_looked g (kept_of c.entry_of.new.k) t _ (c.entry_of.ensures.holds g t h)) loan)
 
 pub borrow_entry-requires-clause-stood : goal.borrow_entry-requires-clause-stood
-borrow_entry-requires-clause-stood c = stood_still _ _ c.requires.stood c.entry_of.ensures.holds
+borrow_entry-requires-clause-stood c =
+    let l = c.requires.lent.1 in
+    (l.setup, l.turn, record { holds = c.entry_of.ensures.holds l.setup l.turn l.stands.holds; sane = l.stands.sane })

@@ -48,3 +48,8 @@ returns-in-Some-clause-holds c = λ g t h.
     let k = some_mapped kept_call (taken_by t.state c.in-Live.lender i) _ (sym (c.in-Some.ensures g t h)) in
     let lender = of_lender g t.state c.in-Live.lender i k.0 h.sane k.1 in
     subst (Informed g c.inform_of.new.k i t) same (rw (live.0, live.1, ← live.2, k.1) (c.inform_of.ensures.holds g t k.0 h.holds k.2 lender))
+
+pub inform_of-requires-clause-lent : goal.inform_of-requires-clause-lent
+inform_of-requires-clause-lent c =
+    let s = c.requires.stood in
+    (c.args.caller, record { setup = s.0; turn = s.1; stands = s.2; taken = sym (c.in-Some.ensures s.0 s.1 s.2) })

@@ -3,12 +3,16 @@ use Rattle.lease_core.proofs.read_entry.Goals as goal
 
 pub keep_entry-requires-clause-read : goal.keep_entry-requires-clause-read
 keep_entry-requires-clause-read c =
-    let s = c.requires.stood in
-    let h = s.2.holds in
-    record {
-      setup = s.0;
-      turn = s.1;
-      holds = h;
-      readable = sym (c.in_default.ensures s.0 s.1 h);
-      is = rw (← c.number.ensures.holds s.0 s.1 h, ← c.number-2.ensures.holds s.0 s.1 h, ← c.number-3.ensures.holds s.0 s.1 h) refl;
-    }
+    let lent = c.requires.lent in
+    let l = lent.1 in
+    let h = l.stands.holds in (
+      lent.0,
+      c.args.call.now,
+      record {
+        lent = l;
+        listed = c.requires.listed;
+        base = refl;
+        readable = sym (c.in_default.ensures l.setup l.turn h);
+        is = rw (← c.number.ensures.holds l.setup l.turn h, ← c.number-2.ensures.holds l.setup l.turn h, ← c.number-3.ensures.holds l.setup l.turn h) refl;
+      },
+    )

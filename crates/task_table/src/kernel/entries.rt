@@ -9,17 +9,19 @@ impl Kernel {
     ghost use Rattle.region_check.specs.declared.Right.TheVariants.{Read};
     ghost use Rattle.task_table.specs.State.{Setup, Turn};
     ghost use Rattle.task_table.specs.Reading.{bad_byte};
-    ghost use Rattle.task_table.specs.Entries.{kept_at, entry_at, meets};
+    ghost use Rattle.task_table.specs.Entries.{kept_at, entry_at, meets, IsKeptFor};
     ghost use Rattle.task_table.specs.Holds.{Holds, task_count, memory_of, current_of, entries_of};
     ghost use Rattle.task_table.specs.Messages.{IsRead};
     ghost use Rattle.task_table.specs.Frames.{AddsNotes};
     ghost use Rattle.task_table.specs.declared.entry.KeptEntry.{KeptEntry};
+    ghost use Rattle.task_table.specs.declared.slot.OpenCall.{OpenCall};
 
     /// The entry that begins at an address, where it is kept for a task: the task may read it, and it is
     /// what memory has there.
     pub fn kept_entry(&self, task: usize, base: u32) -> Option<LeaseEntry>
         requires { task < task_count self.now }
-        ensures { (g : Setup) (t : Turn) → Holds g self.now t → IfSome result (λ e. (bad_byte g task Read record { base = base; length = 12 } ≡ None) × (entry_at t.state.memory base ≡ e)) }
+        ensures kept { IfSome result (λ e. IsKeptFor (entries_of self.now) task base e) }
+        ensures holds { (g : Setup) (t : Turn) → Holds g self.now t → IfSome result (λ e. (bad_byte g task Read record { base = base; length = 12 } ≡ None) × (entry_at t.state.memory base ≡ e)) }
     {
         match self.entries[task] {
             Some(kept) => {
@@ -33,18 +35,17 @@ impl Kernel {
         }
     }
 
-    /// Keeps an entry that was read for a task, in the place of another, where it is of a lease of the
-    /// taken call for whose end the task waits.
+    /// Keeps an entry that was read for a task, in the place of another: it is of a lease of the taken call for
+    /// whose end the task waits, and the task may read it.
     pub fn keep_entry(&mut self, task: usize, kept: KeptEntry)
         requires there { task < task_count self.old }
-        requires read { IsRead self.old task kept }
+        requires read { (borrower : ℕ) × (call : OpenCall) × IsRead self.old task borrower call kept }
         ensures holds { (g : Setup) (t : Turn) → Holds g self.old t → Holds g self.new t }
+        ensures kept { IsKeptFor (entries_of self.new) task kept.base kept.entry }
         ensures frame { AddsNotes self.old 0 self.new }
     {
-        if kept.is_of(&self.slots[task].wait) {
-            self.watch = self.watch.with(kept.base);
-            self.entries[task] = Some(kept);
-        }
+        self.watch = self.watch.with(kept.base);
+        self.entries[task] = Some(kept);
     }
 
     /// So many bytes from an address on are about to be written: an entry that has one of them is kept no
