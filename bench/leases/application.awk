@@ -1,6 +1,5 @@
 # Writes the application of 8 clients that lend 256 bytes for reading and 256 for writing to one server, which borrows 64 of
-# them at a time, for ever, all of
-# one priority.
+# them at a time, for ever, all of one priority.
 # usage: awk -f application.awk > app.toml
 function task(name, source, priority, ram) {
     printf "[[task]]\nname = \"%s\"\nsource = \"bench/%s.s\"\npriority = %d\n", name, source, priority
