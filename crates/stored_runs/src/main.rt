@@ -1,14 +1,17 @@
-//! Hands the program malformed and hostile files, and counts the cases in which it answers what a second reading of the
-//! rules answers.
+//! Hands the program stored files, malformed and hostile ones among them, and counts the cases in which it answers what a
+//! second reading of the rules, in a language of its own, answers.
 //!
 //! A case begins with a line `= STATUS NAME`. Each of its parts begins with a line `+ KEY`: `words`, the command line after
 //! the program's name; `failing calls` and `failing pushes`, the numbers of the reads and puts, and of the pushes, that
 //! fail; `hex NAME`, a file as bytes, where `00*9` is nine of one; `room NAME`, an empty file with room for so many bytes;
-//! and any other key is the name of a file that stands there as it is. Last comes `text`, the text that is wanted, or `sum`,
-//! its checksum.
+//! `player NAME` and `server NAME`, the source of a task that makes the calls of a table, and the table; and any other key
+//! is the name of a file that stands there as it is. Last comes `text`, the text that is wanted, or `sum`, its checksum.
 #![tactic(auto)]
 
+mod players;
+
 use outside_io::{MemFiles, MemSink};
+use players::{PLAYER, SERVER};
 use std::alloc::{AllocError, Global};
 use std::{env, fs, io};
 use trace_cli::hubris_main;
@@ -87,7 +90,20 @@ enum Part<'a> {
     Hex(&'a str, &'a str),
     Room(&'a str, &'a str),
     File(&'a str, &'a str),
+    // a file of two texts, one behind the other
+    Joined(&'a str, &'a str, &'a str),
     Wanted(Wanted<'a>),
+}
+
+/// The file that a key names, by how its contents are told.
+fn read_file<'a>(key: &'a str, contents: &'a str) -> Part<'a> {
+    match key.split_once(' ') {
+        Some(("hex", name)) => Part::Hex(name, contents),
+        Some(("room", name)) => Part::Room(name, contents),
+        Some(("player", name)) => Part::Joined(name, PLAYER, contents),
+        Some(("server", name)) => Part::Joined(name, SERVER, contents),
+        _ => Part::File(key, contents),
+    }
 }
 
 /// The part whose first line is the key.
@@ -102,11 +118,7 @@ fn read_part(text: &str) -> Part<'_> {
         "failing pushes" => Part::FailingPushes(contents),
         "text" => Part::Wanted(Wanted::Text(contents)),
         "sum" => Part::Wanted(Wanted::Sum(contents)),
-        _ => match (key.strip_prefix("hex "), key.strip_prefix("room ")) {
-            (Some(name), _) => Part::Hex(name, contents),
-            (None, Some(name)) => Part::Room(name, contents),
-            (None, None) => Part::File(key, contents),
-        },
+        _ => read_file(key, contents),
     }
 }
 
@@ -123,6 +135,12 @@ fn hold_part(alloc: Global, files: &mut MemFiles, part: Part<'_>) -> Result<(), 
     match part {
         Part::File(name, contents) => {
             let bytes = contents.as_bytes();
+            hold(files, name, bytes, bytes.len())
+        }
+        Part::Joined(name, front, rest) => {
+            let mut whole = String::from_str(alloc, front)?;
+            whole.push_str(rest)?;
+            let bytes = whole.as_bytes();
             hold(files, name, bytes, bytes.len())
         }
         Part::Hex(name, digits) => {
@@ -159,7 +177,7 @@ fn read_asked(parts: &str) -> Asked<'_> {
             Part::FailingCalls(line) => asked.failing_calls = line,
             Part::FailingPushes(line) => asked.failing_pushes = line,
             Part::Wanted(wanted) => asked.wanted = wanted,
-            Part::Hex(..) | Part::Room(..) | Part::File(..) => {}
+            Part::Hex(..) | Part::Room(..) | Part::File(..) | Part::Joined(..) => {}
         }
     }
     asked
