@@ -11,7 +11,7 @@
 mod players;
 
 use outside_io::{MemFiles, MemSink};
-use players::{PLAYER, SERVER};
+use players::{END, FRONT, PLAYER, SERVER};
 use std::alloc::{AllocError, Global};
 use std::{env, fs, io};
 use trace_cli::hubris_main;
@@ -90,8 +90,8 @@ enum Part<'a> {
     Hex(&'a str, &'a str),
     Room(&'a str, &'a str),
     File(&'a str, &'a str),
-    // a file of two texts, one behind the other
-    Joined(&'a str, &'a str, &'a str),
+    // a source of a task whose calls are a table: how it makes them, and the table
+    Player(&'a str, &'a str, &'a str),
     Wanted(Wanted<'a>),
 }
 
@@ -100,8 +100,8 @@ fn read_file<'a>(key: &'a str, contents: &'a str) -> Part<'a> {
     match key.split_once(' ') {
         Some(("hex", name)) => Part::Hex(name, contents),
         Some(("room", name)) => Part::Room(name, contents),
-        Some(("player", name)) => Part::Joined(name, PLAYER, contents),
-        Some(("server", name)) => Part::Joined(name, SERVER, contents),
+        Some(("player", name)) => Part::Player(name, PLAYER, contents),
+        Some(("server", name)) => Part::Player(name, SERVER, contents),
         _ => Part::File(key, contents),
     }
 }
@@ -137,9 +137,11 @@ fn hold_part(alloc: Global, files: &mut MemFiles, part: Part<'_>) -> Result<(), 
             let bytes = contents.as_bytes();
             hold(files, name, bytes, bytes.len())
         }
-        Part::Joined(name, front, rest) => {
-            let mut whole = String::from_str(alloc, front)?;
-            whole.push_str(rest)?;
+        Part::Player(name, call, rows) => {
+            let mut whole = String::new(alloc);
+            for piece in [FRONT, call, END, rows] {
+                whole.push_str(piece)?;
+            }
             let bytes = whole.as_bytes();
             hold(files, name, bytes, bytes.len())
         }
@@ -177,7 +179,7 @@ fn read_asked(parts: &str) -> Asked<'_> {
             Part::FailingCalls(line) => asked.failing_calls = line,
             Part::FailingPushes(line) => asked.failing_pushes = line,
             Part::Wanted(wanted) => asked.wanted = wanted,
-            Part::Hex(..) | Part::Room(..) | Part::File(..) | Part::Joined(..) => {}
+            Part::Hex(..) | Part::Room(..) | Part::File(..) | Part::Player(..) => {}
         }
     }
     asked
