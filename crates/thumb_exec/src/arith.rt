@@ -35,13 +35,25 @@ pub fn set(cpu: &mut Cpu, d: Reg, value: u32, n: u32)
     advance(cpu, n);
 }
 
+/// Sets the flags, each by itself: set together they are put into one word and taken apart again.
+#[inline(always)]
+fn set_flags(cpu: &mut Cpu, flags: Flags)
+    ensures { cpu.new ≡ with_flags cpu.old flags }
+{
+    cpu.flags.n = flags.n;
+    cpu.flags.z = flags.z;
+    cpu.flags.c = flags.c;
+    cpu.flags.v = flags.v;
+}
+
 /// Writes a result and flags, and goes on.
+#[inline(always)]
 pub fn finish(cpu: &mut Cpu, d: Reg, value: u32, flags: Flags)
     requires { d.number < 16 }
     ensures { cpu.new ≡ advance 2 (with_flags (put cpu.old d.number value) flags) }
 {
     cpu.regs.set(usize::from(d.number), value);
-    cpu.flags = flags;
+    set_flags(cpu, flags);
     advance(cpu, 2);
 }
 
@@ -86,7 +98,7 @@ pub fn finish_sum(cpu: &mut Cpu, d: Reg, sum: (u32, Flags))
 pub fn finish_test(cpu: &mut Cpu, flags: Flags)
     ensures { tested cpu.old flags ≡ Next cpu.new [] }
 {
-    cpu.flags = flags;
+    set_flags(cpu, flags);
     advance(cpu, 2);
 }
 

@@ -1,6 +1,6 @@
 //! Loads and stores of several words, all or nothing: each word is tested before the first moves.
 //! A mask has bit k for register k.
-ghost use Rattle.std.specs.Prelude.{◌≡◌, ◌<◌, ◌≤◌, ◌+◌, ◌%◌, ℕ, Bool, [], true, false, if◌then◌else◌, None};
+ghost use Rattle.std.specs.Prelude.{◌≡◌, ◌<◌, ◌≤◌, ◌+◌, ◌%◌, ◌^◌, ℕ, Bool, [], ◌∷◌, true, false, if◌then◌else◌, None};
 ghost use Rattle.region_check.specs.declared.Right.{Right as Rights};
 ghost use Rattle.region_check.specs.declared.Right.TheVariants as rights;
 ghost use Rattle.thumb_exec.specs.Effect.{Acts, Stores, transfers, first_refused, stores_of, loaded_all, count, store_all, effect, advance, put};
@@ -15,20 +15,26 @@ use thumb_insn::Reg;
 use words_core::Regs;
 
 /// How many registers a mask has.
-#[tactic(auto, using(crate::proofs::Transfers::ones_none, crate::proofs::Transfers::ones_more, crate::proofs::Transfers::ones_all))]
+#[tactic(auto, using(crate::proofs::Lowest::ones_counted))]
 pub fn count_of(mask: u16) -> u32
     ensures value { result ≡ count mask }
     ensures low { result ≤ 16 }
 {
-    let mut n = 0;
-    for k in 0..16_usize {
-        n += u32::from((mask >> k) % 2);
-    }
-    n
+    mask.count_ones()
+}
+
+/// The lowest register of a mask, and the mask without it.
+#[inline(always)]
+fn split_lowest(mask: u16) -> (usize, u16)
+    requires { 0 < mask }
+    ensures first { (addr : ℕ) → transfers mask addr ≡ (result.0, addr) ∷ transfers result.1 ((addr + 4) % 2 ^ 32) }
+    ensures register { result.0 < 16 }
+    ensures rest { result.1 < mask }
+{
+    (mask.trailing_zeros() as usize, mask & (mask - 1))
 }
 
 /// The first byte that lacks the right, in the order of transfer.
-#[tactic(auto, using(crate::proofs::Transfers::words_all))]
 fn refused<B: Bus>(bus: &B, mask: u16, addr: u32, right: Right) -> Option<u32>
     requires { addr % 4 ≡ 0 }
     ensures { result ≡ first_refused (B.refuses bus.now) right (transfers mask addr) }
@@ -37,13 +43,14 @@ fn refused<B: Bus>(bus: &B, mask: u16, addr: u32, right: Right) -> Option<u32>
         return None;
     }
     let mut at = addr;
-    for k in 0..16_usize {
-        if (mask >> k) % 2 == 1 {
-            if let Some(byte) = bus.allows(at, 4, right) {
-                return Some(byte);
-            }
-            at = at.wrapping_add(4);
+    let mut rest = mask;
+    while rest != 0 {
+        let (_, others) = split_lowest(rest);
+        if let Some(byte) = bus.allows(at, 4, right) {
+            return Some(byte);
         }
+        at = at.wrapping_add(4);
+        rest = others;
     }
     None
 }
@@ -74,34 +81,34 @@ fn store_word<B: Bus>(bus: &mut B, addr: u32, value: u32)
 }
 
 /// Loads the registers of a mask from ascending words.
-#[tactic(auto, using(crate::proofs::Transfers::words_all))]
 fn load_words<B: Bus>(regs: &mut Regs, bus: &B, mask: u16, addr: u32)
     requires aligned { addr % 4 ≡ 0 }
     requires allowed { first_refused (B.refuses bus.now) rights.Read (transfers mask addr) ≡ None }
     ensures { regs.new ≡ loaded_all (B.holds bus.now) regs.old (transfers mask addr) }
 {
     let mut at = addr;
-    for k in 0..16_usize {
-        if (mask >> k) % 2 == 1 {
-            regs.set(k, load_word(bus, at));
-            at = at.wrapping_add(4);
-        }
+    let mut rest = mask;
+    while rest != 0 {
+        let (k, others) = split_lowest(rest);
+        regs.set(k, load_word(bus, at));
+        at = at.wrapping_add(4);
+        rest = others;
     }
 }
 
 /// Stores the registers of a mask to ascending words.
-#[tactic(auto, using(crate::proofs::Transfers::words_all))]
 fn store_words<B: Bus>(regs: &Regs, bus: &mut B, mask: u16, addr: u32)
     requires aligned { addr % 4 ≡ 0 }
     requires allowed { first_refused (B.refuses bus.old) rights.Write (transfers mask addr) ≡ None }
     ensures { Stores B.stored bus.old (stores_of regs.now (transfers mask addr)) bus.new }
 {
     let mut at = addr;
-    for k in 0..16_usize {
-        if (mask >> k) % 2 == 1 {
-            store_word(bus, at, regs.get(k));
-            at = at.wrapping_add(4);
-        }
+    let mut rest = mask;
+    while rest != 0 {
+        let (k, others) = split_lowest(rest);
+        store_word(bus, at, regs.get(k));
+        at = at.wrapping_add(4);
+        rest = others;
     }
 }
 
@@ -175,18 +182,18 @@ pub fn pop<B: Bus>(cpu: &mut Cpu, bus: &mut B, list: u8, has_pc: bool) -> Outcom
     if let Some(at) = refused(bus, mask, addr, Right::Read) {
         return Outcome::Trap(Fault::access(at, Access::Load));
     }
-    let mut next = *cpu;
-    load_words(&mut next.regs, bus, mask, addr);
-    let target = next.regs.get(15);
-    next.regs.set(13, addr.wrapping_add(4 * count_of(mask)));
+    let before = *cpu;
+    load_words(&mut cpu.regs, bus, mask, addr);
+    let target = cpu.regs.get(15);
+    cpu.regs.set(13, addr.wrapping_add(4 * count_of(mask)));
     if has_pc {
         if target % 2 == 0 {
+            *cpu = before;
             return Outcome::Trap(Fault::state(target));
         }
-        next.regs.set(15, target - 1);
+        cpu.regs.set(15, target - 1);
     } else {
-        advance(&mut next, 2);
+        advance(cpu, 2);
     }
-    *cpu = next;
     Outcome::Next
 }

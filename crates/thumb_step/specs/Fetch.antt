@@ -1,7 +1,7 @@
 -- The instruction at an address, fetched and decoded, and what the instruction at PC does.
 -- (ARMv6-M Architecture Reference Manual, A5.1: which halfwords begin an instruction of two; A6.7. A halfword that
 -- may not be executed, and a code with no row in the table, are faults of this project's own numbers: docs/FORMATS.md.)
-use Rattle.std.specs.Prelude.{ℕ, ◌+◌, ◌*◌, ◌%◌, ◌^◌, Option, Some, None, Result, Ok, Err, if◌then◌else◌}
+use Rattle.std.specs.Prelude.{◌≡◌, ℕ, ◌+◌, ◌*◌, ◌%◌, ◌^◌, Option, Some, None, Result, Ok, Err, if◌then◌else◌}
 use Rattle.kernel_abi.specs.declared.Fault.{Fault}
 use Rattle.kernel_abi.specs.Faults.{illegal_fault, illegal_text_fault}
 use Rattle.region_check.specs.declared.Right.TheVariants.{Execute}
@@ -10,6 +10,7 @@ use Rattle.thumb_insn.specs.Table.{decoded_of, is_wide}
 use Rattle.thumb_insn.specs.declared.Decoded.{Decoded}
 use Rattle.thumb_insn.specs.declared.Decoded.TheVariants as decoded
 use Rattle.thumb_exec.specs.Effect.{Effect, Trap, Refusals, Contents, effect}
+use Rattle.thumb_exec.specs.Keeps.{Widens}
 use Rattle.thumb_exec.specs.declared.cpu.Cpu.{Cpu}
 use Rattle.thumb_step.specs.declared.Fetched.{Fetched}
 
@@ -52,3 +53,8 @@ executed refuses holds c (Err fault) = Trap fault
 -- the instruction at PC
 abbrev pub step_effect : Refusals → Contents → Cpu → Effect
 step_effect refuses holds c = executed refuses holds c (fetched refuses holds (reg_at c.regs 15))
+
+-- what one list of refusals grants the other grants too, and where a byte may be read, or a halfword executed, they hold the same
+pub record WidensText (refuses wider : Refusals) (holds held : Contents) : Type 0 where
+  pub widens : Widens refuses wider holds held
+  pub text : (a : ℕ) → refuses a 2 Execute ≡ None → holds a 2 ≡ held a 2

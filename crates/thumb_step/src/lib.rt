@@ -2,6 +2,8 @@
 //! (ARMv6-M Architecture Reference Manual, A5.1 and A6.7; docs/FORMATS.md, Instructions).
 #![tactic(auto)]
 
+pub mod laws;
+
 ghost use Rattle.std.specs.Prelude.{◌≡◌, ◌≤◌, ◌%◌, IfOk, IfErr};
 ghost use Rattle.words_core.specs.Regs.{reg_at};
 ghost use Rattle.thumb_insn.specs.Range.{IsCoded, GivesCoded};

@@ -1,28 +1,19 @@
 use Rattle.std.proofs.Common.{◌∙◌, sym}
 use Rattle.region_check.specs.declared.Right.TheVariants as rights
-use Rattle.thumb_exec.proofs.Transfers.{aligned_on, allowed_now, allowed_set, allowed_clear, stores_set, stores_clear, stores_done}
+use Rattle.thumb_exec.proofs.Lowest.{transfers_none}
+use Rattle.thumb_exec.proofs.Transfers.{aligned_on, allowed_first, allowed_rest, stores_rest, stores_none}
 use Rattle.thumb_exec.proofs.several.store_words.Goals as goal
-use Rattle.thumb_exec.proofs.several.store_words.Goals.{then-mask-k-eq1, else-mask-k-eq1}
 
 pub store_word-requires-clause-allowed : goal.store_word-requires-clause-allowed
-store_word-requires-clause-allowed g c = c.loop-k.invariant.kept _ _ _ ∙ allowed_now (g.B.Bus.refuses c.args.bus.now) rights.Write c.args.mask c.loop-k.k c.loop-k.at c.loop-k-test.true c.if-mask-k-eq1.true c.loop-k.invariant.allowed
+store_word-requires-clause-allowed g c = c.loop-rest.invariant.kept _ _ _ ∙ allowed_first (g.B.Bus.refuses c.args.bus.now) rights.Write c.split_lowest-k.result.0 c.loop-rest.at _ _ (c.split_lowest-k.ensures.first c.loop-rest.at) c.loop-rest.invariant.allowed
 
-pub loop-k-preserved : goal.loop-k-preserved
-loop-k-preserved g c =
-    elim c.if-mask-k-eq1.branch [
-      | then-mask-k-eq1 w ↦ rw (w.bus-is, w.at-is) record {
-        aligned = aligned_on c.loop-k.at c.loop-k.invariant.aligned;
-        kept = λ a n r. w.store_word.ensures.kept a n r ∙ c.loop-k.invariant.kept a n r;
-        allowed = allowed_set (g.B.Bus.refuses c.args.bus.now) rights.Write c.args.mask c.loop-k.k c.loop-k.at c.loop-k-test.true w.if-mask-k-eq1.true c.loop-k.invariant.allowed;
-        rest = λ s more. c.loop-k.invariant.rest s (stores_set g.B.Bus.stored c.args.regs.now c.args.mask c.loop-k.k c.loop-k.at c.loop-k.bus w.store_word.new.bus s c.loop-k-test.true w.if-mask-k-eq1.true (rw (sym w.get.ensures) w.store_word.ensures.done) more);
-      }
-      | else-mask-k-eq1 w ↦ rw (w.bus-is, w.at-is) record {
-        aligned = c.loop-k.invariant.aligned;
-        kept = c.loop-k.invariant.kept;
-        allowed = allowed_clear (g.B.Bus.refuses c.args.bus.now) rights.Write c.args.mask c.loop-k.k c.loop-k.at c.loop-k-test.true w.if-mask-k-eq1.false c.loop-k.invariant.allowed;
-        rest = λ s more. c.loop-k.invariant.rest s (stores_clear g.B.Bus.stored c.args.regs.now c.args.mask c.loop-k.k c.loop-k.at c.loop-k.bus s c.loop-k-test.true w.if-mask-k-eq1.false more);
-      }
-    ]
+pub loop-rest-preserved : goal.loop-rest-preserved
+loop-rest-preserved g c = record {
+  aligned = aligned_on c.loop-rest.at c.loop-rest.invariant.aligned;
+  kept = λ a n r. c.store_word.ensures.kept a n r ∙ c.loop-rest.invariant.kept a n r;
+  allowed = allowed_rest (g.B.Bus.refuses c.args.bus.now) rights.Write c.split_lowest-k.result.0 c.loop-rest.at _ _ (c.split_lowest-k.ensures.first c.loop-rest.at) c.loop-rest.invariant.allowed;
+  rest = λ s more. c.loop-rest.invariant.rest s (stores_rest g.B.Bus.stored c.args.regs.now c.split_lowest-k.result.0 c.loop-rest.at _ _ c.loop-rest.bus c.store_word.new.bus s (c.split_lowest-k.ensures.first c.loop-rest.at) (rw (sym c.get.ensures) c.store_word.ensures.done) more);
+}
 
 pub returns : goal.returns
-returns g c = c.loop-k.invariant.rest _ (stores_done g.B.Bus.stored c.args.regs.now c.args.mask c.loop-k.k c.loop-k.at c.loop-k.bus c.loop-k-test.false)
+returns g c = c.loop-rest.invariant.rest _ (stores_none g.B.Bus.stored c.args.regs.now _ c.loop-rest.bus (transfers_none c.loop-rest.rest c.loop-rest.at c.loop-rest-test.false))
