@@ -1,2 +1,4 @@
 pub mod Leases
 pub mod Rows
+pub mod Stays
+pub mod Wells

@@ -1,5 +1,5 @@
--- Borrows as the code carries them.
-use Rattle.std.specs.Prelude.{ℕ, ◌≡◌, not, [], ◌∷◌, None, Some, Result, Ok, Err, is_some}
+-- Borrows as the code carries them, and when one leaves the entry of its lease kept.
+use Rattle.std.specs.Prelude.{ℕ, ◌≡◌, ◌+◌, ◌*◌, ◌<◌, ◌≤◌, ◌⊎◌, true, false, not, List, [], ◌∷◌, None, Some, Result, Ok, Err, is_some, Contains, ◌==◌, nat_lt, nat_le, bit_and}
 use Rattle.kernel_abi.specs.Faults.{usage_number, access_number}
 use Rattle.kernel_abi.specs.declared.LeaseEntry.{LeaseEntry}
 use Rattle.kernel_abi.specs.declared.Note.TheVariants as note
@@ -7,12 +7,15 @@ use Rattle.kernel_abi.specs.declared.Usage.TheVariants.{InvalidSlice}
 use Rattle.kernel_abi.specs.declared.arguments.BorrowArgs.{BorrowArgs}
 use Rattle.region_check.specs.declared.Right.TheVariants.{Read}
 use Rattle.mem_banks.specs.Memory.{Memory, IsWithin, IsWithinRam}
-use Rattle.task_table.specs.State.{Setup, State, Call, Turn}
-use Rattle.task_table.specs.Reading.{is_valid, bad_byte}
-use Rattle.task_table.specs.Entries.{entry_at}
+use Rattle.task_table.specs.State.{Setup, State, Call, Write, Turn}
+use Rattle.task_table.specs.Reading.{register, is_ready, is_valid, bad_byte}
+use Rattle.task_table.specs.Entries.{kept_at, IsKeptFor, entry_at}
 use Rattle.task_table.specs.Effects.{noted}
 use Rattle.task_table.specs.Rows.{first_row, misused, denied, goes_on_with}
-use Rattle.task_table.specs.Borrows.{Way as Needs, reading, writing, entry_range, grant, buffer_of, part_of, lent}
+use Rattle.task_table.specs.Borrows.{Way as Needs, reading, writing, entry_range, grant, lease_range, buffer_of, part_of, lent}
+use Rattle.task_table.specs.Holds.{entries_of}
+use Rattle.task_table.specs.declared.entry.KeptEntry.{KeptEntry}
+use Rattle.task_table.specs.declared.kernel.Kernel.{Kernel}
 use Rattle.lease_core.specs.declared.way.Way.{Way}
 use Rattle.lease_core.specs.declared.way.Way.TheVariants as way
 use Rattle.lease_core.specs.declared.Loan.{Loan}
@@ -59,3 +62,48 @@ buffered g way c x k e t =
     (not (is_valid buffer), misused g c (usage_number InvalidSlice) t)
     ∷ (is_some (bad_byte g c way.own buffer), denied g c (access_number way.own_access) (bad_byte g c way.own buffer) t)
     ∷ []) (lent g way c x k (part_of x e) t)
+
+-- ## a borrow that went well leaves the entry of its lease kept
+
+-- the borrower goes on and is told code 0
+pub record WentWell (borrower : ℕ) (t : Turn) : Type 0 where
+  pub ready : is_ready t.state borrower ≡ true
+  pub code : register t.state borrower 4 ≡ 0
+
+-- none of the bytes that a turn writes is one of n bytes from an address on
+abbrev pub WritesNone : List Write → ℕ → ℕ → Type 0
+WritesNone ws a n = (w : Write) → Contains ws w → (w.address < a) ⊎ (a + n ≤ w.address)
+
+-- the entry of a lease of a call is kept for its client, as it stood in memory
+abbrev pub IsHeldAfter : Kernel → State → Call → ℕ → Type 0
+IsHeldAfter k s c lease = IsKeptFor (entries_of k) c.client.index (c.table + 12 * lease) (grant s c lease)
+
+-- ## the same, as the code goes on: which tests it passed, and where it writes
+
+-- the lease is one of the call, and the lender may read its entry
+pub record IsEntryRead (g : Setup) (lender : ℕ) (c : Call) (lease : ℕ) : Type 0 where
+  pub listed : nat_le c.leases lease ≡ false
+  pub readable : bad_byte g lender Read (entry_range c lease) ≡ None
+
+-- no row refuses a borrow of a lease whose entry says this
+pub record IsGranted (g : Setup) (x : Loan) (e : LeaseEntry) : Type 0 where
+  pub valid : is_valid (lease_range e) ≡ true
+  pub allowed : (bit_and e.attributes (way_of x.way).bit == 0) ≡ false
+  pub inside : nat_lt e.len x.args.offset ≡ false
+  pub buffer : is_valid (buffer_of x.args) ≡ true
+  pub own : bad_byte g x.borrower (way_of x.way).own (buffer_of x.args) ≡ None
+  pub lender : bad_byte g x.lender (way_of x.way).lender (part_of x.args e) ≡ None
+
+-- where bytes are written that move between the lease and the borrower's buffer
+abbrev pub target : Way → ℕ → ℕ → ℕ
+target way.Read leased own = own
+target way.Write leased own = leased
+
+-- none of n bytes from an address on is one of the entry that begins at another
+abbrev pub IsClear : ℕ → ℕ → ℕ → Type 0
+IsClear base a n = (b : ℕ) → a ≤ b → b < a + n → (b < base) ⊎ (base + 12 ≤ b)
+
+-- entries stay kept but for those that a loan of n bytes of the lease from an address on writes
+abbrev pub StayKept : Kernel → Loan → ℕ → ℕ → Kernel → Type 0
+StayKept old x leased n new =
+    (i : ℕ) (y : KeptEntry) → kept_at (entries_of old) i ≡ Some y → IsClear y.base (target x.way leased x.args.buffer_base) n → kept_at (entries_of new) i ≡ Some y

@@ -2,18 +2,20 @@
 //! Borrows of what a client has leased to its server: the system calls BORROW_READ, BORROW_WRITE and
 //! BORROW_INFO (Hubris Reference, on leases).
 
-ghost use Rattle.std.specs.Prelude.{◌≡◌, ◌+◌, ◌*◌, ◌<◌, ◌≤◌, ◌^◌, ℕ, true, Some, IfOk};
+ghost use Rattle.std.specs.Prelude.{◌≡◌, ◌+◌, ◌*◌, ◌<◌, ◌≤◌, ◌^◌, ℕ, true, None, Some, IfOk};
+ghost use Rattle.kernel_abi.specs.Arguments.{borrow_args, info_args};
+ghost use Rattle.kernel_abi.specs.Ids.{index_of};
 ghost use Rattle.kernel_abi.specs.declared.Note.TheVariants as note;
 ghost use Rattle.task_table.specs.State.{Setup, Turn, Call};
-ghost use Rattle.task_table.specs.Reading.{is_valid, is_ready};
+ghost use Rattle.task_table.specs.Reading.{arguments, is_valid, is_ready, bad_byte, taken_by};
 ghost use Rattle.task_table.specs.Effects.{noted};
-ghost use Rattle.task_table.specs.Borrows.{reading, writing, moved, refused, untold, lent, granted, part_of, lease_range, borrowed_by, borrowed, grant_told, informed_by, informed};
+ghost use Rattle.task_table.specs.Borrows.{reading, writing, moved, refused, untold, lent, granted, grant, part_of, lease_range, borrowed_by, borrowed, grant_told, informed_by, informed};
 ghost use Rattle.task_table.specs.Holds.{Holds, Stands, Stood, kept_call, task_count, note_count, memory_of, entries_of};
 ghost use Rattle.task_table.specs.Entries.{IsKeptFor};
 ghost use Rattle.task_table.specs.Messages.{IsLent};
 ghost use Rattle.task_table.specs.Limits.{call_notes, turn_notes};
 ghost use Rattle.task_table.specs.Frames.{AddsNotes, AddsAtMost};
-ghost use Rattle.lease_core.specs.Loans.{way_of, IsBuffer, IsLeased, IsLoanOf, IsEntry, IsEntryAt, buffered, told_lent};
+ghost use Rattle.lease_core.specs.Loans.{way_of, IsBuffer, IsLeased, IsLoanOf, IsEntry, IsEntryAt, buffered, told_lent, WentWell, WritesNone, IsHeldAfter, IsEntryRead, IsGranted, target, IsClear, StayKept};
 
 mod way;
 
@@ -46,11 +48,13 @@ fn refuse(k: &mut Kernel, borrower: usize, code: u32)
     k.answer(borrower, &[code, 0]);
 }
 
-/// The bytes of a loan move: so many, of which those of the lease begin at an address.
+/// The bytes of a loan move: so many, at least one, of which those of the lease begin at an address.
 fn move_bytes(k: &mut Kernel, loan: &Loan, leased: u32, count: u32)
+    requires some { 0 < count }
     requires leased { IsLeased loan.now.way (memory_of k.old) leased count }
     requires buffer { IsBuffer loan.now.way (memory_of k.old) loan.now.args.buffer_base count }
     ensures holds { (g : Setup) (t : Turn) (c : Call) → Holds g k.old t → Holds g k.new (moved (way_of loan.now.way).borrow c leased loan.now.args.buffer_base count t) }
+    ensures stay { StayKept k.old loan.now leased count k.new }
     ensures frame { AddsNotes k.old 0 k.new }
 {
     let own = loan.args.buffer_base;
@@ -65,6 +69,7 @@ fn tell(k: &mut Kernel, loan: &Loan, count: u32)
     requires there { loan.now.borrower < task_count k.old }
     requires room { note_count k.old + 2 ≤ turn_notes }
     ensures holds { (g : Setup) (t : Turn) → Holds g k.old t → Holds g k.new (told_lent loan.now count t) }
+    ensures entries { entries_of k.new ≡ entries_of k.old }
     ensures frame { AddsNotes k.old 2 k.new }
 {
     k.note(Note::Borrow {
@@ -77,15 +82,18 @@ fn tell(k: &mut Kernel, loan: &Loan, count: u32)
     k.answer(loan.borrower, &[0, count]);
 }
 
-/// The bytes of the lease from an address on, so many, which the lender may lend by its regions.
+/// The bytes of the lease from an address on, so many, at least one, which the lender may lend by its
+/// regions.
 fn lend_bytes(k: &mut Kernel, loan: &Loan, leased: u32, count: u32)
     requires borrower { loan.now.borrower < task_count k.old }
     requires lender { loan.now.lender < task_count k.old }
     requires room { note_count k.old + 5 ≤ turn_notes }
+    requires some { 0 < count }
     requires valid { leased + count ≤ 2 ^ 32 }
     requires stood { Stood k.old }
     requires buffer { IsBuffer loan.now.way (memory_of k.old) loan.now.args.buffer_base count }
     ensures holds { let x = loan.now in (g : Setup) (t : Turn) (c : Call) → Holds g k.old t → IsLoanOf x c → Holds g k.new (lent g (way_of x.way) x.borrower x.args c record { base = leased; length = count } t) }
+    ensures stay { let x = loan.now in (g : Setup) (t : Turn) → Holds g k.old t → bad_byte g x.lender (way_of x.way).lender record { base = leased; length = count } ≡ None → StayKept k.old x leased count k.new }
     ensures frame { AddsAtMost k.old 5 k.new }
 {
     if let Some(at) = k.bad_byte(loan.lender, loan.way.lender_right(), leased, count) {
@@ -106,6 +114,7 @@ fn lend(k: &mut Kernel, loan: &Loan, entry: &LeaseEntry)
     requires stood { Stood k.old }
     requires buffer { IsBuffer loan.now.way (memory_of k.old) loan.now.args.buffer_base loan.now.args.buffer_length }
     ensures holds { let x = loan.now in (g : Setup) (t : Turn) (c : Call) → Holds g k.old t → IsLoanOf x c → Holds g k.new (lent g (way_of x.way) x.borrower x.args c (part_of x.args entry.now) t) }
+    ensures stay { let x = loan.now in let part = part_of x.args entry.now in (g : Setup) (t : Turn) → Holds g k.old t → bad_byte g x.lender (way_of x.way).lender part ≡ None → StayKept k.old x part.base part.length k.new }
     ensures frame { AddsAtMost k.old 5 k.new }
 {
     let count = loan.args.buffer_length.min(entry.len - loan.args.offset);
@@ -126,6 +135,7 @@ fn borrow_into(k: &mut Kernel, loan: &Loan, entry: &LeaseEntry)
     requires inside { loan.now.args.offset ≤ entry.now.len }
     requires stood { Stood k.old }
     ensures holds { let x = loan.now in (g : Setup) (t : Turn) (c : Call) → Holds g k.old t → IsLoanOf x c → Holds g k.new (buffered g (way_of x.way) x.borrower x.args c entry.now t) }
+    ensures stay { let x = loan.now in let part = part_of x.args entry.now in (g : Setup) (t : Turn) → Holds g k.old t → IsGranted g x entry.now → StayKept k.old x part.base part.length k.new }
     ensures frame { AddsAtMost k.old 5 k.new }
 {
     let buffer = Range {
@@ -164,6 +174,7 @@ fn borrow_entry(k: &mut Kernel, loan: &Loan, entry: &LeaseEntry)
     requires room { note_count k.old + 5 ≤ turn_notes }
     requires stood { Stood k.old }
     ensures holds { let x = loan.now in (g : Setup) (t : Turn) (c : Call) → Holds g k.old t → IsLoanOf x c → Holds g k.new (granted g (way_of x.way) x.borrower x.args c entry.now t) }
+    ensures stay { let x = loan.now in let part = part_of x.args entry.now in (g : Setup) (t : Turn) → Holds g k.old t → IsGranted g x entry.now → StayKept k.old x part.base part.length k.new }
     ensures frame { AddsAtMost k.old 5 k.new }
 {
     if !is_lease_valid(entry) {
@@ -230,6 +241,7 @@ fn borrow_from(k: &mut Kernel, loan: &Loan, call: &OpenCall)
     requires fits { call.now.table + 12 * call.now.leases ≤ 2 ^ 32 }
     requires lent { (borrower : ℕ) × IsLent k.old loan.now.lender borrower call.now }
     ensures holds { let x = loan.now in (g : Setup) (t : Turn) (c : Call) → Holds g k.old t → kept_call c ≡ call.now → IsLoanOf x c → Holds g k.new (borrowed_by g (way_of x.way) x.borrower x.args (Some c) t) }
+    ensures held { let x = loan.now in (g : Setup) (t : Turn) (c : Call) → Holds g k.old t → kept_call c ≡ call.now → IsLoanOf x c → IsEntryRead g x.lender c x.args.lease → (let e = grant t.state c x.args.lease in let part = part_of x.args e in IsGranted g x e → IsClear (c.table + 12 * x.args.lease) (target x.way part.base x.args.buffer_base) part.length → IsHeldAfter k.new t.state c x.args.lease) }
     ensures frame { AddsAtMost k.old 5 k.new }
 {
     let lease = loan.args.lease;
@@ -251,6 +263,7 @@ fn borrow(k: &mut Kernel, caller: usize, way: Way)
     requires room { note_count k.old + call_notes ≤ turn_notes }
     requires stood { Stood k.old }
     ensures holds { (g : Setup) (t : Turn) → Stands g k.old t → Holds g k.new (borrowed g (way_of way) caller t) }
+    ensures held { (g : Setup) (t : Turn) (c : Call) → let x = borrow_args (arguments t.state caller) in Stands g k.old t → taken_by t.state (index_of x.lender.number) caller ≡ Some c → WentWell caller (borrowed g (way_of way) caller t) → WritesNone (borrowed g (way_of way) caller t).writes (c.table + 12 * x.lease) 12 → IsHeldAfter k.new t.state c x.lease }
     ensures frame { AddsAtMost k.old call_notes k.new }
 {
     let args = BorrowArgs::of(&k.arguments(caller));
@@ -296,6 +309,7 @@ fn inform_entry(
     requires lender { lender < task_count k.old }
     requires room { note_count k.old + 5 ≤ turn_notes }
     ensures holds { (g : Setup) (t : Turn) (c : Call) → Holds g k.old t → c.client.index ≡ lender → c.number ≡ call → Holds g k.new (grant_told g caller lease c entry.now t) }
+    ensures entries { is_valid (lease_range entry.now) ≡ true → entries_of k.new ≡ entries_of k.old }
     ensures frame { AddsAtMost k.old 5 k.new }
 {
     if !is_lease_valid(entry) {
@@ -320,6 +334,7 @@ fn inform_of(k: &mut Kernel, caller: usize, lender: usize, call: &OpenCall, leas
     requires fits { call.now.table + 12 * call.now.leases ≤ 2 ^ 32 }
     requires lent { (borrower : ℕ) × IsLent k.old lender borrower call.now }
     ensures holds { (g : Setup) (t : Turn) (c : Call) → Holds g k.old t → kept_call c ≡ call.now → c.client.index ≡ lender → Holds g k.new (informed_by g caller lease (Some c) t) }
+    ensures held { (g : Setup) (t : Turn) (c : Call) → Holds g k.old t → kept_call c ≡ call.now → c.client.index ≡ lender → IsEntryRead g lender c lease → is_valid (lease_range (grant t.state c lease)) ≡ true → IsHeldAfter k.new t.state c lease }
     ensures frame { AddsAtMost k.old 5 k.new }
 {
     if call.leases <= lease {
@@ -340,6 +355,7 @@ fn inform(k: &mut Kernel, caller: usize)
     requires room { note_count k.old + call_notes ≤ turn_notes }
     requires stood { Stood k.old }
     ensures holds { (g : Setup) (t : Turn) → Stands g k.old t → Holds g k.new (informed g caller t) }
+    ensures held { (g : Setup) (t : Turn) (c : Call) → let x = info_args (arguments t.state caller) in Stands g k.old t → taken_by t.state (index_of x.lender.number) caller ≡ Some c → WentWell caller (informed g caller t) → IsHeldAfter k.new t.state c x.lease }
     ensures frame { AddsAtMost k.old call_notes k.new }
 {
     let args = InfoArgs::of(&k.arguments(caller));
@@ -356,12 +372,14 @@ fn inform(k: &mut Kernel, caller: usize)
 /// BORROW_READ: r4 is the id of the lender, r5 the lease, r6 an offset, r7 and r8 the caller's buffer. As many
 /// bytes of the lease from the offset on as the buffer has are copied into it. r4 is 0 and r5 how many bytes
 /// moved; where the lender has no such lease for the caller, or faults by it, r4 is 1 and r5 is 0 (Hubris
-/// Reference, on leases).
+/// Reference, on leases). Where r4 is 0, the entry of the lease is kept from then on, unless one of its bytes was
+/// written.
 pub fn borrow_read(k: &mut Kernel, caller: usize)
     requires there { caller < task_count k.old }
     requires ready { (g : Setup) × (t : Turn) × Stands g k.old t × (is_ready t.state caller ≡ true) }
     requires room { note_count k.old + call_notes ≤ turn_notes }
     ensures stands { (g : Setup) (t : Turn) → Stands g k.old t → is_ready t.state caller ≡ true → Stands g k.new (borrowed g reading caller t) }
+    ensures held { (g : Setup) (t : Turn) (c : Call) → let x = borrow_args (arguments t.state caller) in Stands g k.old t → is_ready t.state caller ≡ true → taken_by t.state (index_of x.lender.number) caller ≡ Some c → WentWell caller (borrowed g reading caller t) → WritesNone (borrowed g reading caller t).writes (c.table + 12 * x.lease) 12 → IsHeldAfter k.new t.state c x.lease }
     ensures frame { AddsAtMost k.old call_notes k.new }
 {
     borrow(k, caller, Way::Read);
@@ -374,6 +392,7 @@ pub fn borrow_write(k: &mut Kernel, caller: usize)
     requires ready { (g : Setup) × (t : Turn) × Stands g k.old t × (is_ready t.state caller ≡ true) }
     requires room { note_count k.old + call_notes ≤ turn_notes }
     ensures stands { (g : Setup) (t : Turn) → Stands g k.old t → is_ready t.state caller ≡ true → Stands g k.new (borrowed g writing caller t) }
+    ensures held { (g : Setup) (t : Turn) (c : Call) → let x = borrow_args (arguments t.state caller) in Stands g k.old t → is_ready t.state caller ≡ true → taken_by t.state (index_of x.lender.number) caller ≡ Some c → WentWell caller (borrowed g writing caller t) → WritesNone (borrowed g writing caller t).writes (c.table + 12 * x.lease) 12 → IsHeldAfter k.new t.state c x.lease }
     ensures frame { AddsAtMost k.old call_notes k.new }
 {
     borrow(k, caller, Way::Write);
@@ -381,12 +400,14 @@ pub fn borrow_write(k: &mut Kernel, caller: usize)
 
 /// BORROW_INFO: r4 is the id of the lender, r5 the lease. r4 is 0, r5 its attributes (bit 0 lends for
 /// reading, bit 1 for writing) and r6 its length; where the lender has no such lease for the caller, or faults
-/// by it, r4 is 1 and r5 and r6 are 0 (Hubris Reference, on leases).
+/// by it, r4 is 1 and r5 and r6 are 0 (Hubris Reference, on leases). Where r4 is 0, the entry of the lease is
+/// kept from then on.
 pub fn borrow_info(k: &mut Kernel, caller: usize)
     requires there { caller < task_count k.old }
     requires ready { (g : Setup) × (t : Turn) × Stands g k.old t × (is_ready t.state caller ≡ true) }
     requires room { note_count k.old + call_notes ≤ turn_notes }
     ensures stands { (g : Setup) (t : Turn) → Stands g k.old t → is_ready t.state caller ≡ true → Stands g k.new (informed g caller t) }
+    ensures held { (g : Setup) (t : Turn) (c : Call) → let x = info_args (arguments t.state caller) in Stands g k.old t → is_ready t.state caller ≡ true → taken_by t.state (index_of x.lender.number) caller ≡ Some c → WentWell caller (informed g caller t) → IsHeldAfter k.new t.state c x.lease }
     ensures frame { AddsAtMost k.old call_notes k.new }
 {
     inform(k, caller);

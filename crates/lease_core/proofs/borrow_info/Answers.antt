@@ -6,3 +6,6 @@ pub returns-clause-stands : goal.returns-clause-stands
 returns-clause-stands c = λ g t h ready.
     let inside : c.args.caller < length t.state.tasks = omega (arith, c.requires.there, h.holds.count) in
     record { holds = c.inform.ensures.holds g t h; sane = sane-informed c.args.caller t h.sane inside }
+
+pub returns-clause-held : goal.returns-clause-held
+returns-clause-held c = λ g t k h ready. c.inform.ensures.held g t k h

@@ -6,3 +6,6 @@ pub returns-clause-stands : goal.returns-clause-stands
 returns-clause-stands c = λ g t h ready.
     let inside : c.args.caller < length t.state.tasks = omega (arith, c.requires.there, h.holds.count) in
     record { holds = c.borrow.ensures.holds g t h; sane = sane-written c.args.caller t h.sane inside }
+
+pub returns-clause-held : goal.returns-clause-held
+returns-clause-held c = λ g t k h ready. c.borrow.ensures.held g t k h

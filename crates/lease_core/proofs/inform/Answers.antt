@@ -1,11 +1,15 @@
-use Rattle.std.proofs.Common.{◌≡◌, ap, sym, ◌∙◌, subst}
+use Rattle.std.proofs.Common.{◌≡◌, ◌<◌, length, Some, ap, sym, ◌∙◌, subst, arith}
+use Rattle.std.proofs.lemmas.Bool.{false≢true}
 use Rattle.kernel_abi.specs.Arguments.{info_args}
+use Rattle.kernel_abi.specs.declared.arguments.InfoArgs.{InfoArgs}
 use Rattle.task_table.specs.Reading.{arguments, dead_code_for, taken_by}
 use Rattle.task_table.specs.Borrows.{informed}
 use Rattle.task_table.specs.Holds.{kept_call}
 use Rattle.task_table.proofs.Steps.{some_mapped, none_mapped}
+use Rattle.lease_core.specs.Loans.{IsHeldAfter}
 use Rattle.lease_core.proofs.Leases.{table_fits, of_lender}
 use Rattle.lease_core.proofs.Rows.{Informed}
+use Rattle.lease_core.proofs.Wells.{told_on, told_by, kept_is}
 use Rattle.lease_core.proofs.inform.Goals as goal
 
 pub inform_of-requires-clause-fits : goal.inform_of-requires-clause-fits
@@ -53,3 +57,35 @@ pub inform_of-requires-clause-lent : goal.inform_of-requires-clause-lent
 inform_of-requires-clause-lent c =
     let s = c.requires.stood in
     (c.args.caller, record { setup = s.0; turn = s.1; stands = s.2; taken = sym (c.in-Some.ensures s.0 s.1 s.2) })
+
+pub returns-in-Out-clause-held : goal.returns-in-Out-clause-held
+returns-in-Out-clause-held c = λ g t k h taken well.
+    let i = c.args.caller in
+    let same : c.of-args.result ≡ info_args (arguments t.state i) = c.of-args.ensures ∙ ap info_args (c.arguments.ensures g t h.holds) in
+    let inside : i < length t.state.tasks = omega (arith, c.requires.there, h.holds.count) in
+    let told = told_on g t h.sane i c.of-args.result same inside well in
+    absurd (false≢true (sym told.0 ∙ c.in-Out.ensures.found g t h.holds))
+
+pub returns-in-Dead-clause-held : goal.returns-in-Dead-clause-held
+returns-in-Dead-clause-held c = λ g t k h taken well.
+    let i = c.args.caller in
+    let same : c.of-args.result ≡ info_args (arguments t.state i) = c.of-args.ensures ∙ ap info_args (c.arguments.ensures g t h.holds) in
+    let inside : i < length t.state.tasks = omega (arith, c.requires.there, h.holds.count) in
+    let told = told_on g t h.sane i c.of-args.result same inside well in
+    let dead = c.in-Dead.ensures.found g t h.holds in
+    absurd (false≢true (sym told.1 ∙ dead.1))
+
+pub returns-in-Some-clause-held : goal.returns-in-Some-clause-held
+returns-in-Some-clause-held c = λ g t k h taken well.
+    let i = c.args.caller in
+    let args = c.of-args.result in
+    let same : args ≡ info_args (arguments t.state i) = c.of-args.ensures ∙ ap info_args (c.arguments.ensures g t h.holds) in
+    let inside : i < length t.state.tasks = omega (arith, c.requires.there, h.holds.count) in
+    let told = told_on g t h.sane i args same inside well in
+    let live = c.in-Live.ensures.found g t h.holds in
+    let named : taken_by t.state c.in-Live.lender i ≡ Some k = rw (live.2, same) taken in
+    let kept = kept_is (taken_by t.state c.in-Live.lender i) k c.in-Some.call named (c.in-Some.ensures g t h) in
+    let lender = of_lender g t.state c.in-Live.lender i k h.sane named in
+    let by = told_by g t h.sane i c.in-Live.lender args.lease k inside named (rw (← live.2, named) at told.2) in
+    let lease : args.lease ≡ (info_args (arguments t.state i)).lease = ap (λ (y : InfoArgs). y.lease) same in
+    subst (λ n. IsHeldAfter c.inform_of.new.k t.state k n) lease (c.inform_of.ensures.held g t k h.holds kept lender by.0 by.1)
