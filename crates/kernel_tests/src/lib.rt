@@ -8,6 +8,8 @@ mod board;
 #[cfg(test)]
 mod choosing;
 #[cfg(test)]
+mod lent;
+#[cfg(test)]
 mod memory;
 #[cfg(test)]
 mod receiving;

@@ -1,6 +1,7 @@
 ghost use Rattle.std.specs.Prelude.{◌≡◌, IfOk, length};
 ghost use Rattle.task_table.specs.Holds.{task_count, note_count, memory_of};
 
+use crate::lent::Stamp;
 use crate::memory::{memory_of, store};
 use kernel_abi::{Fault, Generation, Health, Note, Usage};
 use region_check::{Region, Rights};
@@ -234,5 +235,35 @@ fn the_kernel_stores(rt: HostRuntime) -> Result<(), Fail> {
     kernel.store(RAM, &[1, 2]);
     assert_eq!(rt; kernel.number(RAM, 4), 0x0201);
     assert_eq!(rt; kernel.byte(FLASH + 1), Some(0x21));
+    Ok(())
+}
+
+#[test]
+fn a_kernel_lends_its_memory(rt: HostRuntime) -> Result<(), Fail> {
+    let mut kernel = two_tasks(rt.alloc())?;
+    let rights = Rights {
+        read: true,
+        write: false,
+        execute: true,
+        device: false,
+    };
+    let text = Region {
+        base: FLASH,
+        size: 3,
+        rights,
+    };
+    let ram = Region {
+        base: RAM,
+        size: 8,
+        rights,
+    };
+    let mut stamp = Stamp {
+        seen: 0,
+        byte: 0x5A,
+    };
+    assert!(rt; !kernel.lend(&ram, &text, &mut stamp));
+    assert!(rt; kernel.lend(&text, &ram, &mut stamp));
+    assert_eq!(rt; stamp.seen, 0x20);
+    assert_eq!(rt; kernel.number(RAM, 2), 0x5A);
     Ok(())
 }

@@ -1,7 +1,6 @@
 -- A part of a list in the middle of others.
-use Rattle.std.proofs.Common.{◌≡◌, ◌+◌, ◌≤◌, ℕ, zero, suc, List, [], ◌∷◌, ◌++◌, length, take, drop, ap, sym, arith, add-zero, append_assoc, length-take, length-drop}
-use Rattle.std.proofs.lemmas.List.{take-append-le, drop-append-le, length-append, append-nil, take-append-drop, same_lists, places}
-use lib.Seq.{paste}
+use Rattle.std.proofs.Common.{◌≡◌, ◌+◌, ◌≤◌, ℕ, zero, suc, List, [], ◌∷◌, ◌++◌, length, take, drop, ap, arith, append_assoc, length-take, length-drop}
+use Rattle.std.proofs.lemmas.List.{take-append-le, drop-append-le, length-append, same_lists, places}
 use Rattle.mem_banks.specs.Memory.{pasted}
 
 pub drop_after : (l xs : List ℕ) (p o : ℕ) → p ≡ length l + o → drop p (l ++ xs) ≡ drop o xs

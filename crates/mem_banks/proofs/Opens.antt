@@ -1,10 +1,10 @@
 -- Banks laid out at the start.
-use Rattle.std.proofs.Common.{◌≡◌, ◌+◌, ◌-◌, ◌≤◌, ◌<◌, inl, inr, ℕ, zero, suc, List, [], ◌∷◌, ◌++◌, length, take, drop, get_or, replicate, All, refl, ap, sym, ◌∙◌, arith, append_assoc, length-drop}
+use Rattle.std.proofs.Common.{◌≡◌, ◌+◌, ◌-◌, ◌≤◌, ◌<◌, inl, inr, ℕ, List, [], ◌∷◌, ◌++◌, length, take, drop, get_or, replicate, All, refl, ap, sym, ◌∙◌, arith, append_assoc, length-drop}
 use Rattle.std.proofs.lemmas.Bool.{cases_lt}
 use Rattle.std.proofs.lemmas.List.{length-append, length-replicate, replicate-append-replicate, get_or-replicate, nil_from_length, append-nil}
 use Rattle.mem_banks.specs.declared.bank.Bank.{Bank}
 use Rattle.mem_banks.specs.Banks.{flash_of, ram_of, AreLaid}
-use Rattle.mem_banks.specs.Memory.{Memory, pasted, with_bytes, AreAllBytes}
+use Rattle.mem_banks.specs.Memory.{Memory, pasted, with_bytes}
 use Rattle.mem_banks.specs.Kept.{AreKept, IsNext, IsLaidOut, AreZeros, seen}
 use Rattle.mem_banks.proofs.Splits.{push_flash, push_ram}
 use Rattle.mem_banks.proofs.Copies.{with_bytes_flash}

@@ -1,5 +1,5 @@
 -- Pieces of memory written one after another.
-use Rattle.std.proofs.Common.{◌≡◌, ◌+◌, ◌-◌, ◌%◌, ◌≤◌, ◌<◌, ◌⊎◌, inl, inr, ℕ, zero, suc, Bool, true, false, cond, leb, List, [], ◌∷◌, ◌++◌, length, take, drop, get_or, set, refl, ap, sym, ◌∙◌, arith}
+use Rattle.std.proofs.Common.{◌≡◌, ◌+◌, ◌-◌, ◌%◌, ◌≤◌, ◌<◌, ◌⊎◌, inl, inr, ℕ, zero, suc, List, [], ◌∷◌, ◌++◌, length, take, drop, get_or, set, refl, ap, sym, ◌∙◌, arith}
 use Rattle.std.proofs.lemmas.Bool.{cases_lt}
 use Rattle.std.proofs.lemmas.List.{length-append, length-set}
 use Rattle.mem_banks.specs.declared.bank.Bank.{Bank}
@@ -104,7 +104,7 @@ set_laid banks k x d laid there e n = elim (cases_lt (get_or banks k d).base 0x2
 ]
 
 -- the side of the bytes of a bank
-side_in : (table : List ℕ) (banks : List Bank) (k o a n : ℕ) (d : Bank) → AreKept table banks → k < length banks → (get_or banks k d).base + o ≡ a → o + n ≤ length (get_or banks k d).bytes.items → Side (seen banks) a n
+pub side_in : (table : List ℕ) (banks : List Bank) (k o a n : ℕ) (d : Bank) → AreKept table banks → k < length banks → (get_or banks k d).base + o ≡ a → o + n ≤ length (get_or banks k d).bytes.items → Side (seen banks) a n
 side_in table banks k o a n d kept there same fits = elim (cases_lt (get_or banks k d).base 0x20000000) [
   | inl lt ↦
       let s = flash_split 0x08000000 0x20000000 banks k d kept.laid there lt in

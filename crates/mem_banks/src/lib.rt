@@ -3,6 +3,7 @@
 #![tactic(auto)]
 
 mod bank;
+mod lending;
 mod moving;
 mod opening;
 
@@ -10,6 +11,7 @@ ghost use Rattle.std.specs.Prelude.{◌≡◌, ◌≤◌, ◌⊎◌, length, IfO
 ghost use Rattle.mem_banks.specs.Memory.{is_held, is_ram, number_at, with_bytes, copied, IsWithin, AreAllBytes, AreRegions};
 
 use bank::{Bank, find, page, search, whole_half, whole_number, whole_word};
+pub use lending::Borrower;
 use moving::{copy_from_end, copy_from_start, store_at, store_near};
 use opening::{all_banks, table_of};
 use std::alloc::{AllocError, Global};

@@ -17,6 +17,7 @@ pub mod Clients
 pub mod Messages
 pub mod Delivery
 pub mod Kept
+pub mod Loans
 pub mod Receives
 pub mod Chains
 pub mod Moves
@@ -39,7 +40,7 @@ pub mod Noting
 pub mod Quieting
 pub mod Outside
 pub mod Starts
-mod DeadRows
+pub mod DeadRows
 pub mod Births
 pub mod TaskSets
 pub mod LevelsMade

@@ -29,3 +29,4 @@ pub mod Orders
 pub mod Ledger
 pub mod DeadIds
 pub mod Waits
+pub mod Lent

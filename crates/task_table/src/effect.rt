@@ -9,7 +9,7 @@ impl Kernel {
     ghost use Rattle.task_table.specs.Reading.{arguments};
     ghost use Rattle.task_table.specs.Effects.{given, returned, past_call, bits_added, bits_cleared, woken, posted};
     ghost use Rattle.task_table.specs.Rows.{goes_on, goes_on_with};
-    ghost use Rattle.task_table.specs.Holds.{Holds, Stands, task_count, note_count};
+    ghost use Rattle.task_table.specs.Holds.{Holds, Stands, task_count, note_count, entries_of};
     ghost use Rattle.task_table.specs.Limits.{turn_notes};
     ghost use Rattle.task_table.specs.Frames.{AddsNotes, AddsAtMost};
 
@@ -27,6 +27,7 @@ impl Kernel {
         requires there { task < task_count self.old }
         requires few { length values.now ≤ 6 }
         ensures holds { (g : Setup) (t : Turn) → Holds g self.old t → Holds g self.new (given task values.now t) }
+        ensures entries { entries_of self.new ≡ entries_of self.old }
         ensures frame { AddsNotes self.old 0 self.new }
     {
         let mut slot = self.slot(task);
@@ -39,6 +40,7 @@ impl Kernel {
         requires there { task < task_count self.old }
         requires room { note_count self.old < turn_notes }
         ensures holds { (g : Setup) (t : Turn) → Holds g self.old t → Holds g self.new (returned task t) }
+        ensures entries { entries_of self.new ≡ entries_of self.old }
         ensures frame { AddsNotes self.old 1 self.new }
     {
         let slot = self.slot(task);
@@ -53,6 +55,7 @@ impl Kernel {
     pub(crate) fn go_past_call(&mut self, task: usize)
         requires { task < task_count self.old }
         ensures holds { (g : Setup) (t : Turn) → Holds g self.old t → Holds g self.new (past_call task t) }
+        ensures entries { entries_of self.new ≡ entries_of self.old }
         ensures frame { AddsNotes self.old 0 self.new }
     {
         let mut slot = self.slot(task);
@@ -65,6 +68,7 @@ impl Kernel {
         requires there { task < task_count self.old }
         requires room { note_count self.old < turn_notes }
         ensures holds { (g : Setup) (t : Turn) → Holds g self.old t → Holds g self.new (goes_on task t) }
+        ensures entries { entries_of self.new ≡ entries_of self.old }
         ensures frame { AddsNotes self.old 1 self.new }
     {
         self.go_past_call(task);
@@ -77,6 +81,7 @@ impl Kernel {
         requires few { length values.now ≤ 6 }
         requires room { note_count self.old < turn_notes }
         ensures holds { (g : Setup) (t : Turn) → Holds g self.old t → Holds g self.new (goes_on_with task values.now t) }
+        ensures entries { entries_of self.new ≡ entries_of self.old }
         ensures frame { AddsNotes self.old 1 self.new }
     {
         self.give(task, values);

@@ -12,6 +12,7 @@ ghost use Rattle.task_table.specs.Deadlines.{AreNotBefore};
 ghost use Rattle.task_table.specs.Entries.{AreFresh, AreEntriesOf};
 
 mod entries;
+mod lending;
 mod near;
 mod sets;
 mod slots;
@@ -66,17 +67,19 @@ pub struct Kernel {
 }
 
 impl Kernel {
-    ghost use Rattle.std.specs.Prelude.{◌≡◌, ◌+◌, ◌-◌, ◌%◌, ◌<◌, ◌≤◌, ◌^◌, ◌⊎◌, length, map, replicate, Option, IfOk, slice_get};
+    ghost use Rattle.std.specs.Prelude.{◌≡◌, ◌+◌, ◌-◌, ◌%◌, ◌<◌, ◌≤◌, ◌^◌, ◌⊎◌, ℕ, false, length, map, replicate, Option, Some, IfOk, slice_get};
     ghost use Rattle.task_table.specs.State.{Setup, Turn, Ground, Own};
     ghost use Rattle.mem_banks.specs.Memory.{is_ram, byte_at, number_at, IsWithin, IsWithinRam};
     ghost use Rattle.task_table.specs.Reading.{task_at, setup_at, register, priority, is_ready, call_of, listen_of};
     ghost use Rattle.task_table.specs.Effects.{changed, noted, clocked, with_line, stored, copied};
     ghost use Rattle.task_table.specs.Start.{start as started_at, begun};
     ghost use Rattle.task_table.specs.Parts.{setup_of_parts, line_setup, IsSound};
-    ghost use Rattle.task_table.specs.Holds.{Holds, Stands, IsKept, wait_of, task_count, note_count, clock_of, next_call_of, memory_of, setup_of, current_of, notes_of};
+    ghost use Rattle.task_table.specs.Holds.{Holds, Stands, IsKept, wait_of, task_count, note_count, clock_of, next_call_of, memory_of, setup_of, current_of, notes_of, entries_of};
+    ghost use Rattle.task_table.specs.Entries.{kept_at, meets};
     ghost use Rattle.task_table.specs.Found.{IsFound, IsInRange};
     ghost use Rattle.task_table.specs.Limits.{most_tasks, board_lines, turn_notes};
     ghost use Rattle.task_table.specs.Frames.{AddsNotes};
+    ghost use Rattle.task_table.specs.declared.entry.KeptEntry.{KeptEntry};
 
     /// The kernel at the start of a run, of one task at least: each task as at its first birth, and the
     /// memory as it is handed in, with zeros in the RAM. The order of the tasks gives their indices.
@@ -363,6 +366,7 @@ impl Kernel {
     pub fn note(&mut self, note: Note)
         requires { note_count self.old < turn_notes }
         ensures holds { (g : Setup) (t : Turn) → Holds g self.old t → Holds g self.new (noted note t) }
+        ensures entries { entries_of self.new ≡ entries_of self.old }
         ensures frame { AddsNotes self.old 1 self.new }
     {
         self.notes.push(note);
@@ -416,11 +420,13 @@ impl Kernel {
         self.memory.is_ram(addr, count)
     }
 
-    /// Copies so many bytes into the RAM, as if all were read before the first is written.
+    /// Copies so many bytes into the RAM, as if all were read before the first is written. An entry that is
+    /// kept stays so where none of the bytes is one of its own.
     pub fn copy(&mut self, from: u32, to: u32, count: u32)
         requires source { IsWithin (memory_of self.old) from count }
         requires target { IsWithinRam (memory_of self.old) to count }
         ensures holds { (g : Setup) (t : Turn) (on : Ground) → Holds g self.old t → Holds g self.new (copied on from to count t) }
+        ensures stay { (i : ℕ) (x : KeptEntry) → kept_at (entries_of self.old) i ≡ Some x → meets x to count ≡ false → kept_at (entries_of self.new) i ≡ Some x }
         ensures frame { AddsNotes self.old 0 self.new }
     {
         self.touched(to, count as usize);

@@ -49,13 +49,14 @@ impl Kernel {
     }
 
     /// So many bytes from an address on are about to be written: an entry that has one of them is kept no
-    /// more.
+    /// more, and the others are.
     #[inline(always)]
     pub(super) fn touched(&mut self, addr: u32, count: usize)
         ensures holds { (g : Setup) (t : Turn) → Holds g self.old t → Holds g self.new t }
         ensures memory { memory_of self.new ≡ memory_of self.old }
         ensures current { current_of self.new ≡ current_of self.old }
         ensures apart { (i : ℕ) (x : KeptEntry) → kept_at (entries_of self.new) i ≡ Some x → meets x addr count ≡ false }
+        ensures stay { (i : ℕ) (x : KeptEntry) → kept_at (entries_of self.old) i ≡ Some x → meets x addr count ≡ false → kept_at (entries_of self.new) i ≡ Some x }
         ensures frame { AddsNotes self.old 0 self.new }
     {
         if self.watch.catches(addr, count) {
@@ -71,6 +72,7 @@ impl Kernel {
         ensures memory { memory_of self.new ≡ memory_of self.old }
         ensures current { current_of self.new ≡ current_of self.old }
         ensures apart { (i : ℕ) (x : KeptEntry) → kept_at (entries_of self.new) i ≡ Some x → meets x addr count ≡ false }
+        ensures stay { (i : ℕ) (x : KeptEntry) → kept_at (entries_of self.old) i ≡ Some x → meets x addr count ≡ false → kept_at (entries_of self.new) i ≡ Some x }
         ensures frame { AddsNotes self.old 0 self.new }
     {
         self.watch = drop_met(&mut self.entries, addr, count);

@@ -12,7 +12,7 @@ impl Kernel {
     ghost use Rattle.task_table.specs.State.{Setup, State, Turn};
     ghost use Rattle.task_table.specs.Reading.{IsSameBut, WaitsAlike, TimersAlike};
     ghost use Rattle.task_table.specs.Effects.{changed, with_processor, reborn};
-    ghost use Rattle.task_table.specs.Holds.{Holds, IsKept, task_count};
+    ghost use Rattle.task_table.specs.Holds.{Holds, IsKept, task_count, entries_of};
     ghost use Rattle.task_table.specs.Frames.{AddsNotes};
 
     /// Keeps this of a task but for its timer, which stays as it is; the sets of the tasks that are ready
@@ -47,6 +47,7 @@ impl Kernel {
     pub(crate) fn set_rest(&mut self, task: usize, rest: &Slot)
         requires { task < task_count self.old }
         ensures holds { (g : Setup) (t : Turn) (u : State) → Holds g self.old t → IsKept u task rest.now → IsSameBut task t.state u → WaitsAlike task t.state u → TimersAlike task t.state u → Holds g self.new record t { state = u } }
+        ensures entries { entries_of self.new ≡ entries_of self.old }
         ensures frame { AddsNotes self.old 0 self.new }
     {
         let slot = &mut self.slots[task];

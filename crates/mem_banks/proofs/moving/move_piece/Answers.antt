@@ -1,37 +1,9 @@
-use Rattle.std.proofs.Common.{ℕ, ◌≤◌, ◌<◌, ◌≡◌, ◌+◌, ◌-◌, ◌++◌, List, length, get_or, set, refl, ap, sym, ◌∙◌, arith}
-use Rattle.std.proofs.lemmas.List.{get_or_default, get_or_append_left, get_or-append_right, set-append_left, set-append_right}
+use Rattle.std.proofs.Common.{◌≤◌, ◌<◌, ◌≡◌, ◌+◌, ◌-◌, length, get_or, refl, ap, sym, ◌∙◌, arith}
+use Rattle.std.proofs.lemmas.List.{get_or_default}
 use Rattle.mem_banks.specs.declared.bank.Bank.{Bank}
-use Rattle.mem_banks.specs.Banks.{IsPut}
-use Rattle.mem_banks.specs.Memory.{pasted}
 use Rattle.mem_banks.proofs.Copies.{paste_pasted}
+use Rattle.mem_banks.proofs.Halves.{put_at, set_back, set_front, get_back, get_front}
 use Rattle.mem_banks.proofs.moving.move_piece.Goals as goal
-
--- a bank put in place of one
-put_at : (old after : List Bank) (k o : ℕ) (new : List ℕ) (x b : Bank) → k < length old → b ≡ get_or old k b → after ≡ set old k x → x.base ≡ b.base → x.bytes.items ≡ pasted b.bytes.items o new → IsPut old k o new after
-put_at old after k o new x b there e is base bytes = (
-  x,
-  is,
-  λ d.
-      let same : get_or old k d ≡ b = get_or_default old k d b there ∙ sym e in
-      (rw same base, rw same bytes),
-)
-
--- what stands in the two parts of a list
-set_back : (old front back : List Bank) (k : ℕ) (x : Bank) → old ≡ front ++ back → length front ≡ k → front ++ set back 0 x ≡ set old k x
-set_back old front back k x e n =
-    let z : k - k ≡ 0 = omega arith in
-    rw (e, set-append_right front back k k x n (omega arith), z)
-
-set_front : (old front back : List Bank) (k : ℕ) (x : Bank) → old ≡ front ++ back → k < length front → set front k x ++ back ≡ set old k x
-set_front old front back k x e there = rw (e, set-append_left front back k x there)
-
-get_back : (old front back : List Bank) (k : ℕ) (d : Bank) → old ≡ front ++ back → length front ≡ k → get_or old k d ≡ get_or back 0 d
-get_back old front back k d e n =
-    let z : k - k ≡ 0 = omega arith in
-    rw (e, get_or-append_right front back k k d n (omega arith), z)
-
-get_front : (old front back : List Bank) (k : ℕ) (d : Bank) → old ≡ front ++ back → k < length front → get_or old k d ≡ get_or front k d
-get_front old front back k d e there = rw e (get_or_append_left front back d k there)
 
 pub returns-then-source-target : goal.returns-then-source-target
 returns-then-source-target c = λ d.

@@ -1,4 +1,4 @@
-use Rattle.std.proofs.Common.{◌≡◌, ◌+◌, ◌≤◌, ◌<◌, length, get_or, arith, refl}
+use Rattle.std.proofs.Common.{get_or, arith, refl}
 use Rattle.mem_banks.proofs.Pieces.{put_found}
 use Rattle.mem_banks.proofs.moving.store_near.Goals as goal
 

@@ -1,0 +1,76 @@
+//! Two regions lent at once: which ones are, which no clause says.
+ghost use Rattle.std.specs.Prelude.{◌≡◌, slice_set};
+
+use std::test::Fail;
+use task_table::{Borrower, FLASH, Memory, RAM};
+
+/// Looks at the first byte of the code, and writes over the first one of the data.
+#[derive(Drop)]
+pub struct Stamp {
+    pub seen: u8,
+    pub byte: u8,
+}
+
+impl Borrower for Stamp {
+    ghost did = { λ old text ram new after. after ≡ slice_set ram 0 old.byte };
+
+    fn work(&mut self, text: &mut Vec<u8>, ram: &mut Vec<u8>) {
+        if text.len() > 0 {
+            self.seen = text[0];
+        }
+        if ram.len() > 0 {
+            ram[0] = self.byte;
+        }
+    }
+}
+
+/// Whether two regions are lent. What the stamp saw and wrote is right then, and else nothing is written.
+fn is_lent(memory: &mut Memory, text: (u32, u32), ram: (u32, u32), byte: u8) -> Option<bool> {
+    let before = memory.byte(ram.0);
+    let mut stamp = Stamp { seen: 0, byte };
+    let lent = memory.lend(text, ram, &mut stamp);
+    let after = memory.byte(ram.0);
+    let right = if lent {
+        stamp.seen == memory.byte(text.0) && after == byte
+    } else {
+        stamp.seen == 0 && after == before
+    };
+    right.then_some(lent)
+}
+
+// Regions that share a page or begin at none, in both orders; then such as have no bank of their own.
+#[test]
+fn regions_of_a_memory_are_lent(rt: HostRuntime) -> Result<(), Fail> {
+    let regions = [
+        (FLASH, 32),
+        (FLASH + 32, 16),
+        (RAM + 3, 5),
+        (RAM + 8, 24),
+        (RAM + 64, 256),
+    ];
+    let mut memory = Memory::open(rt.alloc(), &[7; 64], 512, &regions)?;
+    for text in 0..5usize {
+        for ram in 2..5usize {
+            let wanted = Some(text != ram);
+            let byte = (16 * text + ram) as u8;
+            assert_eq!(rt;
+                is_lent(&mut memory, regions[text], regions[ram], byte),
+                wanted
+            );
+        }
+    }
+    let code = (FLASH, 32);
+    assert_eq!(rt;
+        is_lent(&mut memory, code, (FLASH + 32, 16), 9),
+        Some(false)
+    );
+    assert_eq!(rt;
+        is_lent(&mut memory, (FLASH, 31), (RAM + 3, 5), 9),
+        Some(false)
+    );
+    assert_eq!(rt; is_lent(&mut memory, code, (RAM + 3, 4), 9), Some(false));
+    assert_eq!(rt; is_lent(&mut memory, code, (RAM + 3, 29), 9), Some(false));
+    assert_eq!(rt; is_lent(&mut memory, code, (RAM + 4, 5), 9), Some(false));
+    assert_eq!(rt; is_lent(&mut memory, code, (RAM + 512, 5), 9), Some(false));
+    Ok(())
+}

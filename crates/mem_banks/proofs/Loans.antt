@@ -1,0 +1,116 @@
+-- What a loan of two banks makes of the memory.
+use Rattle.std.proofs.Common.{ℕ, zero, suc, ◌≡◌, ◌≢◌, ◌<◌, ◌≤◌, ◌+◌, inl, inr, true, false, leb, List, [], ◌∷◌, length, take, drop, get_or, refl, ap, sym, ◌∙◌, arith, length-take, length-drop}
+use Rattle.std.proofs.lemmas.Bool.{le-leb, lt-leb, cases_lt}
+use Rattle.std.proofs.lemmas.List.{get_or-set_other, length-append, length-set, same_lists, places}
+use Rattle.mem_banks.specs.declared.bank.Bank.{Bank}
+use Rattle.mem_banks.specs.Banks.{flash_of, AreLaid}
+use Rattle.mem_banks.specs.Kept.{AreKept, IsDone, seen}
+use Rattle.mem_banks.specs.Loans.{AreLent, AreApart, bytes_of, IsBankOf, IsInMemory, IsInRam, IsLoan}
+use Rattle.mem_banks.specs.Memory.{Memory, with_bytes}
+use Rattle.mem_banks.proofs.Copies.{with_bytes_none}
+use Rattle.mem_banks.proofs.Pieces.{Side, ram_side, flash_side, side_in, put_done}
+use Rattle.mem_banks.proofs.Splits.{ram_split, flash_split}
+use Rattle.mem_banks.proofs.Within.{first_of, bytes_in}
+
+-- ## no two banks have a byte in common
+abbrev span : Bank → ℕ × ℕ
+span b = (b.base, length b.bytes.items)
+
+-- where a bank of the flash ends
+flash_end : (f r : ℕ) (banks : List Bank) (k : ℕ) (d : Bank) → AreLaid f r banks → k < length banks → (get_or banks k d).base < 0x20000000 → (f ≤ (get_or banks k d).base) × ((get_or banks k d).base + length (get_or banks k d).bytes.items ≤ f + length (flash_of banks))
+flash_end f r banks k d laid there lt =
+    let s = flash_split f r banks k d laid there lt in
+    let at = s.at in
+    let len : length (flash_of banks) ≡ length s.front + (length (get_or banks k d).bytes.items + length s.back) = rw (s.is, length-append, length-append) refl in
+    (omega (arith, at), omega (arith, at, len))
+
+-- the first bank and another one
+first_apart : (f r : ℕ) (b : Bank) (bs : List Bank) (k : ℕ) (d : Bank) → AreLaid f r (b ∷ bs) → f + length (flash_of (b ∷ bs)) ≤ 0x20000000 → k < length bs → AreApart (span b) (span (get_or bs k d))
+first_apart f r b bs k d laid small there = elim (cases_lt b.base 0x20000000) [
+  | inl lt ↦
+      let t : leb 0x20000000 b.base ≡ false = lt-leb _ _ lt in
+      let m = rw t at laid in
+      let h = rw (t, length-append) at small in
+      elim (cases_lt (get_or bs k d).base 0x20000000) [
+        | inl low ↦ inl (omega (arith, m.0, (flash_end (f + length b.bytes.items) r bs k d m.1 there low).0))
+        | inr high ↦ inl (omega (arith, m.0, h))
+      ]
+  | inr le ↦
+      let t : leb 0x20000000 b.base ≡ true = le-leb _ _ le in
+      let m = rw t at laid in
+      let h = rw t at small in
+      elim (cases_lt (get_or bs k d).base 0x20000000) [
+        | inl low ↦ inr (omega (arith, h, (flash_end f (r + length b.bytes.items) bs k d m.1 there low).1))
+        | inr high ↦ inl (omega (arith, m.0, (ram_split f (r + length b.bytes.items) bs k d m.1 there high).at))
+      ]
+]
+
+turned : (r s : ℕ × ℕ) → AreApart r s → AreApart s r
+turned r s (inl x) = inr x
+turned r s (inr x) = inl x
+
+banks_apart : (f r : ℕ) (banks : List Bank) (i j : ℕ) (d : Bank) → AreLaid f r banks → f + length (flash_of banks) ≤ 0x20000000 → i < length banks → j < length banks → i ≢ j → AreApart (span (get_or banks i d)) (span (get_or banks j d))
+banks_apart f r [] i j d laid small there_i there_j other = absurd (omega arith)
+banks_apart f r (b ∷ bs) zero zero d laid small there_i there_j other = absurd (other refl)
+banks_apart f r (b ∷ bs) zero (suc j) d laid small there_i there_j other = first_apart f r b bs j d laid small (omega arith)
+banks_apart f r (b ∷ bs) (suc i) zero d laid small there_i there_j other = turned (span b) (span (get_or bs i d)) (first_apart f r b bs i d laid small (omega arith))
+banks_apart f r (b ∷ bs) (suc i) (suc j) d laid small there_i there_j other = elim (cases_lt b.base 0x20000000) [
+  | inl lt ↦
+      let t : leb 0x20000000 b.base ≡ false = lt-leb _ _ lt in
+      let m = rw t at laid in
+      let h = rw (t, length-append) at small in
+      banks_apart (f + length b.bytes.items) r bs i j d m.1 (omega (arith, h)) (omega arith) (omega arith) (λ e. other (ap suc e))
+  | inr le ↦
+      let t : leb 0x20000000 b.base ≡ true = le-leb _ _ le in
+      let m = rw t at laid in
+      let h = rw t at small in
+      banks_apart f (r + length b.bytes.items) bs i j d m.1 h (omega arith) (omega arith) (λ e. other (ap suc e))
+]
+
+-- ## the loan
+region_there : (m : Memory) (base len : ℕ) → length m.flash ≤ 1048576 → Side m base len → IsInMemory m (base, len)
+region_there m base len small (ram_side x y) = inl (x, y)
+region_there m base len small (flash_side x y z) = inr (x, y, omega (arith, small, y))
+
+region_high : (m : Memory) (base len : ℕ) → 0x20000000 ≤ base → Side m base len → IsInRam m (base, len)
+region_high m base len high (ram_side x y) = (x, y)
+region_high m base len high (flash_side x y z) = absurd (omega arith)
+
+-- the banks after it
+pub lent_done : {B : Type 0} (did : B → List ℕ → List ℕ → B → List ℕ → Type 0) (table : List ℕ) (banks after : List Bank) (i j : ℕ) (text ram : ℕ × ℕ) (s s' : B) → AreKept table banks → IsBankOf banks i text → IsBankOf banks j ram → i ≢ j → (lent : AreLent did banks i j s s' after) → IsDone table banks after ram.0 lent.after
+lent_done did table banks after i j text ram s s' kept of_i of_j other lent =
+    let d : Bank = first_of banks i of_i.0 in
+    let first = put_done table banks lent.between i 0 text.0 [] d kept of_i.0 (omega (arith, (of_i.1 d).0)) (omega arith) lent.first in
+    let count : length lent.between ≡ length banks = rw lent.first.1 (length-set banks i lent.first.0) in
+    let stays : get_or lent.between j d ≡ get_or banks j d = rw lent.first.1 (get_or-set_other banks i j lent.first.0 d (λ e. other (sym e))) in
+    let begins : (get_or lent.between j d).base + 0 ≡ ram.0 = rw stays (omega (arith, (of_j.1 d).0)) in
+    let fits : 0 + length lent.after ≤ length (get_or lent.between j d).bytes.items = rw stays (omega (arith, lent.size d)) in
+    let second = put_done table lent.between after j 0 ram.0 lent.after d first.kept (omega (arith, count, of_j.0)) begins fits lent.second in
+    let same : seen lent.between ≡ seen banks = first.value ∙ sym (with_bytes_none (seen banks) text.0 [] refl) in
+    record { kept = second.kept; spans = second.spans ∙ first.spans; value = second.value ∙ ap (λ m. with_bytes m ram.0 lent.after) same }
+
+take_all : (xs : List ℕ) (n : ℕ) → length xs ≡ n → take n (drop 0 xs) ≡ xs
+take_all xs n e = same_lists _ _ (simp (length-take, length-drop) (omega arith)) (λ i d u. grind (arith, places))
+
+-- the bytes of a bank are those of its region
+bank_bytes : (table : List ℕ) (banks : List Bank) (k : ℕ) (r : ℕ × ℕ) (d : Bank) → AreKept table banks → IsBankOf banks k r → bytes_of (seen banks) r ≡ (get_or banks k d).bytes.items
+bank_bytes table banks k r d kept there =
+    let len = (there.1 d).1 in
+    let all = bytes_in banks k 0 r.0 r.1 d kept.laid kept.flash there.0 (omega (arith, (there.1 d).0)) (omega (arith, len)) in
+    all ∙ take_all (get_or banks k d).bytes.items r.1 len
+
+pub lent_loan : {B : Type 0} (did : B → List ℕ → List ℕ → B → List ℕ → Type 0) (table : List ℕ) (banks after : List Bank) (i j : ℕ) (text ram : ℕ × ℕ) (s s' : B) → AreKept table banks → IsBankOf banks i text → IsBankOf banks j ram → i ≢ j → 0x20000000 ≤ ram.0 → AreLent did banks i j s s' after → IsLoan did (seen banks) text ram s s' (seen after)
+lent_loan did table banks after i j text ram s s' kept of_i of_j other high lent =
+    let d : Bank = first_of banks i of_i.0 in
+    let side_i = side_in table banks i 0 text.0 text.1 d kept of_i.0 (omega (arith, (of_i.1 d).0)) (omega (arith, (of_i.1 d).1)) in
+    let side_j = side_in table banks j 0 ram.0 ram.1 d kept of_j.0 (omega (arith, (of_j.1 d).0)) (omega (arith, (of_j.1 d).1)) in
+    let apart = banks_apart 0x08000000 0x20000000 banks i j d kept.laid (omega (arith, kept.flash)) of_i.0 of_j.0 other in
+    record {
+      text_there = region_there (seen banks) text.0 text.1 kept.flash side_i;
+      ram_there = region_high (seen banks) ram.0 ram.1 high side_j;
+      apart = rw ((of_i.1 d).0, (of_i.1 d).1, (of_j.1 d).0, (of_j.1 d).1) at apart;
+      after = lent.after;
+      work = rw (bank_bytes table banks i text d kept of_i, bank_bytes table banks j ram d kept of_j) (lent.work d);
+      size = omega (arith, lent.size d, (of_j.1 d).1);
+      left = (lent_done did table banks after i j text ram s s' kept of_i of_j other lent).value;
+    }

@@ -1,0 +1,80 @@
+//! The bytes of two banks, lent to somebody for the time of one call.
+
+ghost use Rattle.std.specs.Prelude.{◌≡◌, ◌<◌, ℕ, List, All, IfSome, length};
+ghost use Rattle.mem_banks.specs.Loans.{AreLent, IsBankOf};
+
+use crate::bank::{Bank, find};
+use crate::{Memory, RAM};
+
+/// Who works with the bytes of two regions while they are lent: code, which stays as it is, and data in
+/// the RAM.
+pub trait Borrower {
+    /// Before, the bytes of both regions, after, and the bytes of the second one after.
+    ghost did: { Self → List ℕ → List ℕ → Self → List ℕ → Type 0 };
+
+    /// Does its work. No region gets longer or shorter.
+    fn work(&mut self, text: &mut Vec<u8>, ram: &mut Vec<u8>)
+        ensures did { did self.old text.old.items ram.old.items self.new ram.new.items }
+        ensures text { text.new.items ≡ text.old.items }
+        ensures length { length ram.new.items ≡ length ram.old.items };
+}
+
+/// The bank that has the bytes of a region and no others.
+fn bank_of(banks: &[Bank], table: &[u16], region: (u32, u32)) -> Option<usize>
+    requires len { length table.now ≡ 8192 }
+    requires hints { All (λ k. k < length banks.now) table.now }
+    ensures { IfSome result (λ k. IsBankOf banks.now k region) }
+{
+    let place = find(banks, table, region.0)?;
+    if place.at == 0 && banks[place.bank].bytes.len() == region.1 as usize {
+        return Some(place.bank);
+    }
+    None
+}
+
+/// Lends the bytes of two banks.
+fn lend_two<B: Borrower>(banks: &mut [Bank], text: usize, ram: usize, borrower: &mut B)
+    requires text { text < length banks.old }
+    requires ram { ram < length banks.old }
+    requires apart { text ≡ ram → ⊥ }
+    ensures { AreLent B.did banks.old text ram borrower.old borrower.new banks.new }
+{
+    if text < ram {
+        let (front, back) = banks.split_at_mut(ram);
+        borrower.work(&mut front[text].bytes, &mut back[0].bytes);
+    } else {
+        let (front, back) = banks.split_at_mut(text);
+        borrower.work(&mut back[0].bytes, &mut front[ram].bytes);
+    }
+}
+
+impl Memory {
+    ghost use Rattle.std.specs.Prelude.{◌≡◌, true, false};
+    ghost use Rattle.mem_banks.specs.Loans.{IsLoan};
+
+    /// Lends the bytes of two regions, by base and size, where each has a bank of its own and the
+    /// second one lies in the RAM. Else nothing changes, and the answer is false.
+    ///
+    /// No clause says that regions which were given to `open` are lent: callers see the flash and the
+    /// RAM alone, and not what banks there are.
+    pub fn lend<B: Borrower>(&mut self, text: (u32, u32), ram: (u32, u32), borrower: &mut B) -> bool
+        ensures lent { result ≡ true → IsLoan B.did self.old text ram borrower.old borrower.new self.new }
+        ensures kept { result ≡ false → self.new ≡ self.old }
+        ensures left { result ≡ false → borrower.new ≡ borrower.old }
+    {
+        if ram.0 < RAM {
+            return false;
+        }
+        let Some(code) = bank_of(&self.banks, &self.table, text) else {
+            return false;
+        };
+        let Some(bank) = bank_of(&self.banks, &self.table, ram) else {
+            return false;
+        };
+        if code == bank {
+            return false;
+        }
+        lend_two(&mut self.banks, code, bank, borrower);
+        true
+    }
+}

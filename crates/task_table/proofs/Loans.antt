@@ -1,0 +1,61 @@
+-- What a loan of two regions leaves of the kernel.
+use Rattle.std.proofs.Common.{◌≡◌, ◌⊎◌, inl, inr, ℕ, List, Bool, true, false, length, Option, Some, refl, ◌∙◌, ap, subst, arith}
+use Rattle.mem_banks.specs.Memory.{Memory, with_bytes, IsWithinRam}
+use Rattle.mem_banks.specs.Loans.{IsLoan, IsInMemory, IsInRam, bytes_of}
+use Rattle.task_table.specs.State.{Setup, Turn}
+use Rattle.task_table.specs.Reading.{task_at, call_of, listen_of}
+use Rattle.task_table.specs.Holds.{Shows, Kept}
+use Rattle.task_table.specs.Lent.{overlaid}
+use Rattle.task_table.specs.Entries.{AreFresh, kept_at, meets}
+use Rattle.task_table.specs.declared.entry.KeptEntry.{KeptEntry}
+use Rattle.task_table.proofs.Kept.{fresh_stored}
+use Rattle.task_table.proofs.Steps.{kept_same, setup_stored}
+
+-- bytes that stand in memory from an address on
+pub holds_overlaid : (g : Setup) (k : Kept) (t : Turn) (a : ℕ) (bytes : List ℕ) (setup : Setup) (memory : Memory) → Shows g k t → setup ≡ k.setup → memory ≡ with_bytes k.memory a bytes → Shows g record k { setup = setup; memory = memory } (overlaid a bytes t)
+unfolding task_at call_of listen_of
+holds_overlaid g k t a bytes setup memory h same e = record {
+  setup = same ∙ h.setup;
+  count = h.count;
+  many = h.many;
+  notes = h.notes;
+  now = h.now;
+  lines = h.lines;
+  current = h.current;
+  next_call = h.next_call;
+  tasks = λ j below d. kept_same t.state _ j _ refl refl refl (h.tasks j below d);
+  memory = e ∙ ap (λ m. with_bytes m a bytes) h.memory;
+}
+
+-- the same loan of the same memory
+abbrev pub loan_of : {B : Type 0} (did : B → List ℕ → List ℕ → B → List ℕ → Type 0) (m n : Memory) (text ram : ℕ × ℕ) (b b' : B) (m' : Memory) → n ≡ m → IsLoan did n text ram b b' m' → IsLoan did m text ram b b' m'
+loan_of did m n text ram b b' m' e l = record {
+  text_there = subst (λ x. IsInMemory x text) e l.text_there;
+  ram_there = subst (λ x. IsInRam x ram) e l.ram_there;
+  apart = l.apart;
+  after = l.after;
+  work = subst (λ x. did b (bytes_of x text) (bytes_of x ram) b' l.after) e l.work;
+  size = l.size;
+  left = subst (λ x. m' ≡ with_bytes x ram.0 l.after) e l.left;
+}
+
+-- where bytes of the RAM are changed or none
+abbrev pub Overlaid : Memory → ℕ × ℕ → Memory → Type 0
+Overlaid m ram m' = (m' ≡ m) ⊎ ((ys : List ℕ) × (length ys ≡ ram.1) × IsWithinRam m ram.0 (length ys) × (m' ≡ with_bytes m ram.0 ys))
+
+pub overlaid_by : {B : Type 0} (did : B → List ℕ → List ℕ → B → List ℕ → Type 0) (m : Memory) (text ram : ℕ × ℕ) (b b' : B) (m' : Memory) → IsLoan did m text ram b b' m' → Overlaid m ram m'
+overlaid_by did m text ram b b' m' l = inr (l.after, l.size, inr (l.ram_there.0, omega (arith, l.ram_there.1, l.size)), l.left)
+
+pub lent_or_not : {B : Type 0} (did : B → List ℕ → List ℕ → B → List ℕ → Type 0) (r : Bool) (m : Memory) (text ram : ℕ × ℕ) (b b' : B) (m' : Memory) → (r ≡ true → IsLoan did m text ram b b' m') → (r ≡ false → m' ≡ m) → Overlaid m ram m'
+lent_or_not did true m text ram b b' m' lent kept = overlaid_by did m text ram b b' m' (lent refl)
+lent_or_not did false m text ram b b' m' lent kept = inl (kept refl)
+
+-- the setup that is kept stays
+pub setup_lent : (f : List ℕ → ℕ → Setup) (m m' : Memory) (ram : ℕ × ℕ) → Overlaid m ram m' → f m'.flash (length m'.ram) ≡ f m.flash (length m.ram)
+setup_lent f m m' ram (inl e) = rw e refl
+setup_lent f m m' ram (inr (ys, size, within, e)) = setup_stored f m m' ram.0 ys within e
+
+-- entries that have none of the bytes are what memory has
+pub fresh_lent : (m m' : Memory) (ram : ℕ × ℕ) (low span : ℕ) (entries : List (Option KeptEntry)) → AreFresh m low span entries → ((i : ℕ) (x : KeptEntry) → kept_at entries i ≡ Some x → meets x ram.0 ram.1 ≡ false) → Overlaid m ram m' → AreFresh m' low span entries
+fresh_lent m m' ram low span entries h apart (inl e) = rw e h
+fresh_lent m m' ram low span entries h apart (inr (ys, size, within, e)) = rw e (fresh_stored m low span entries ram.0 ram.1 ys h apart within (omega (arith, size)))

@@ -1,0 +1,23 @@
+-- The bytes of two regions of the kernel's memory, lent to somebody for the time of one call.
+use Rattle.std.specs.Prelude.{ℕ, List}
+use Rattle.mem_banks.specs.Memory.{with_bytes}
+use Rattle.mem_banks.specs.Loans.{IsLoan}
+use Rattle.region_check.specs.declared.Region.{Region}
+use Rattle.task_table.specs.declared.kernel.Kernel.{Kernel}
+use Rattle.task_table.specs.State.{Setup, Turn}
+use Rattle.task_table.specs.Effects.{changed}
+use Rattle.task_table.specs.Holds.{Holds, memory_of}
+
+-- these bytes stand in memory from an address on; the turn does not tell who wrote them
+abbrev pub overlaid : ℕ → List ℕ → Turn → Turn
+overlaid at bytes t = changed (λ s. record s { memory = with_bytes s.memory at bytes }) t
+
+-- base and size
+abbrev pub span_of : Region → ℕ × ℕ
+span_of r = (r.base, r.size)
+
+-- a borrower b did its work with the bytes of two regions; then it is b', and the kernel stands for
+-- what it stood for, but for the bytes that it left of the second region
+pub record IsLent {B : Type 0} (did : B → List ℕ → List ℕ → B → List ℕ → Type 0) (k : Kernel) (text ram : Region) (b b' : B) (k' : Kernel) : Type 0 where
+  pub loan : IsLoan did (memory_of k) (span_of text) (span_of ram) b b' (memory_of k')
+  pub holds : (g : Setup) (t : Turn) → Holds g k t → Holds g k' (overlaid ram.base loan.after t)

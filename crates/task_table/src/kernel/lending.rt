@@ -1,0 +1,29 @@
+//! The bytes of two regions, lent to somebody for the time of one call.
+
+use super::Kernel;
+use mem_banks::Borrower;
+use region_check::Region;
+
+impl Kernel {
+    ghost use Rattle.std.specs.Prelude.{◌≡◌, true, false};
+    ghost use Rattle.task_table.specs.State.{Setup, Turn};
+    ghost use Rattle.task_table.specs.Holds.{Holds, memory_of, current_of};
+    ghost use Rattle.task_table.specs.Frames.{AddsNotes};
+    ghost use Rattle.task_table.specs.Lent.{IsLent};
+
+    /// Lends the bytes of a region of code and of one of the RAM, where each has a bank of its own; else
+    /// the answer is false. An entry of a lease table that has one of the bytes in the RAM is kept no
+    /// more, since the borrower may write over it.
+    pub fn lend<B: Borrower>(&mut self, text: &Region, ram: &Region, borrower: &mut B) -> bool
+        ensures lent { result ≡ true → IsLent B.did self.old text.now ram.now borrower.old borrower.new self.new }
+        ensures memory { result ≡ false → memory_of self.new ≡ memory_of self.old }
+        ensures holds { result ≡ false → (g : Setup) (t : Turn) → Holds g self.old t → Holds g self.new t }
+        ensures left { result ≡ false → borrower.new ≡ borrower.old }
+        ensures current { current_of self.new ≡ current_of self.old }
+        ensures frame { AddsNotes self.old 0 self.new }
+    {
+        self.touched(ram.base, ram.size as usize);
+        self.memory
+            .lend((text.base, text.size), (ram.base, ram.size), borrower)
+    }
+}
