@@ -1,5 +1,5 @@
 -- Turns on end of the task that runs.
-use Rattle.std.proofs.Common.{◌≡◌, ◌≢◌, ◌+◌, ◌<◌, ℕ, suc, Bool, true, false, List, [], Some, None, refl, sym, ◌∙◌, ap, subst, arith, eqb}
+use Rattle.std.proofs.Common.{◌≡◌, ◌≢◌, ◌⊎◌, inl, inr, ◌+◌, ◌<◌, ◌≤◌, ℕ, zero, suc, Bool, true, false, List, [], Some, None, refl, sym, ◌∙◌, ap, subst, arith, eqb}
 use Rattle.std.proofs.lemmas.Bool.{eqb-true, eqb-false}
 use Rattle.run_script.specs.Scripts.{IsNext, events_of}
 use Rattle.kernel_abi.specs.declared.Note.{Note}
@@ -18,9 +18,10 @@ use Rattle.board_core.specs.Machine.{MachineHolds, MachineStands, IsReady}
 use Rattle.board_core.specs.Midway.{IsMidway}
 use Rattle.board_core.specs.Stands.{Stands, notes_of, turns_of}
 use Rattle.board_model.specs.Turn.{turn}
-use Rattle.board_model.specs.Run.{ending, is_down, turn_after}
+use Rattle.board_model.specs.Run.{ending, is_down, turn_after, state_after}
 use Rattle.board_core.specs.Advanced.{IsAdvanced}
 use Rattle.board_model.proofs.TurnChains.{begun_sane}
+use Rattle.board_model.proofs.Further.{further, turn_further}
 use Rattle.board_model.proofs.Counts.{counted_turn, turn_more}
 use Rattle.board_core.proofs.Loading.{told_by, rest_of}
 use Rattle.board_model.proofs.Outside.{nothing_due, due_later, no_event, begun_state}
@@ -109,3 +110,39 @@ one_more level x n s b b' a none goes stands notes =
       stands = stands (turn_after level x n s).state a.stands;
       notes = notes (turn_after level x n s).state a.stands;
     }
+
+-- k further turns, none of which notes anything or is the end
+either : (n j : ℕ) → (j < n) ⊎ ((i : ℕ) × (j ≡ n + i))
+either zero j = inr (j, omega arith)
+either (suc n) zero = inl (omega arith)
+either (suc n) (suc j) = by (either n j)
+  where
+    by : (j < n) ⊎ ((i : ℕ) × (j ≡ n + i)) → (suc j < suc n) ⊎ ((i : ℕ) × (suc j ≡ suc n + i))
+    by (inl lt) = inl (omega (arith, lt))
+    by (inr (i, e)) = inr (i, omega (arith, e))
+
+pub more_turns : (x : Scenario) (n k : ℕ) (s : State) (b b' : Board) → IsAdvanced Calls x n s b → notes_of b ≡ [] →
+    ((i : ℕ) → i < k → (turn_after Calls x i (turn_after Calls x n s).state).notes ≡ []) → ((i : ℕ) → i < k → ending x 1 (state_after Calls x i (turn_after Calls x n s).state) ≡ None) →
+    Stands x b' (state_after Calls x k (turn_after Calls x n s).state) → notes_of b' ≡ [] → IsAdvanced Calls x (n + k) s b'
+more_turns x n k s b b' a quiet silent goes st none =
+    record {
+      nothing = λ j lt. nothing_at j lt (either n j);
+      goes_on = λ j lt. goes_at j lt (either n j);
+      stands = subst (λ (v : State). Stands x b' v) (further Calls x n k s) st;
+      notes = none ∙ sym (quiets k (omega arith));
+    }
+  where
+    quiets : (i : ℕ) → i ≤ k → (turn_after Calls x (n + i) s).notes ≡ []
+    quiets zero le = let e : n + 0 ≡ n = omega arith in ap (λ (m : ℕ). (turn_after Calls x m s).notes) e ∙ sym a.notes ∙ quiet
+    quiets (suc i) le = ap (λ (t : Turn). t.notes) (sym (turn_further Calls x n i s)) ∙ silent i (omega (arith, le))
+
+    nothing_at : (j : ℕ) → j < n + k → (j < n) ⊎ ((i : ℕ) × (j ≡ n + i)) → (turn_after Calls x j s).notes ≡ []
+    nothing_at j lt (inl less) = a.nothing j less
+    nothing_at j lt (inr (i, e)) = ap (λ (m : ℕ). (turn_after Calls x m s).notes) e ∙ quiets i (omega (arith, lt, e))
+
+    goes_at : (j : ℕ) → j < n + k → (j < n) ⊎ ((i : ℕ) × (j ≡ n + i)) → ending x 1 (turn_after Calls x j s).state ≡ None
+    goes_at j lt (inl less) = a.goes_on j less
+    goes_at j lt (inr (i, e)) =
+        ap (λ (m : ℕ). ending x 1 (turn_after Calls x m s).state) e
+        ∙ ap (ending x 1) (sym (further Calls x n i s))
+        ∙ goes i (omega (arith, lt, e))

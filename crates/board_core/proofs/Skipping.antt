@@ -1,5 +1,5 @@
 -- Idle turns on end.
-use Rattle.std.proofs.Common.{◌≡◌, ◌≢◌, ◌⊎◌, inl, inr, ◌+◌, ◌-◌, ◌<◌, ◌≤◌, ℕ, zero, suc, Bool, true, false, ◌||◌, List, [], ◌∷◌, Option, Some, None, refl, sym, ◌∙◌, ap, subst, arith, leb}
+use Rattle.std.proofs.Common.{◌≡◌, ◌≢◌, ◌+◌, ◌<◌, ◌≤◌, ℕ, zero, suc, Bool, true, false, ◌||◌, List, [], ◌∷◌, Option, Some, None, refl, sym, ◌∙◌, ap, subst, arith, leb}
 use Rattle.std.specs.Prelude.{is_some}
 use Rattle.std.specs.List.{list_any}
 use Rattle.std.proofs.lemmas.Bool.Decides.{nat_tests}
@@ -11,38 +11,18 @@ use Rattle.task_table.specs.Holds.{notes_of as kernel_notes}
 use Rattle.task_table.specs.Start.{begun}
 use Rattle.board_core.specs.declared.board.Board.{Board}
 use Rattle.board_core.specs.declared.machine.Machine.{Machine}
-use Rattle.board_model.specs.declared.told.Level.{Level}
 use Rattle.board_model.specs.declared.told.Level.TheVariants.{Calls}
 use Rattle.board_model.specs.Script.{Scenario}
 use Rattle.board_model.specs.Turn.{turn, turn_of, ended, after_events}
-use Rattle.board_model.specs.Run.{ending, is_down, is_still, turn_after}
+use Rattle.board_model.specs.Run.{ending, is_down, turn_after, state_after}
 use Rattle.board_model.proofs.Outside.{no_event}
-use Rattle.board_core.specs.Kept.{IsChoice}
+use Rattle.board_model.proofs.Further.{last_turn}
 use Rattle.board_core.specs.Machine.{MachineHolds}
-use Rattle.board_core.specs.Midway.{IsMidway}
 use Rattle.board_core.specs.Stands.{Stands, notes_of, turns_of}
 use Rattle.board_core.specs.Advanced.{IsAdvanced}
-use Rattle.board_core.specs.Skipped.{IsIdleUntil, state_after}
+use Rattle.board_core.specs.Skipped.{IsIdleUntil}
 use Rattle.board_core.proofs.Turning.{HasTurned, as_chosen, noted_in}
-use Rattle.board_core.proofs.Gliding.{midway_now, stands_so}
-
--- ## turns of the definition
-
-last_turn : (level : Level) (x : Scenario) (n : ℕ) (s : State) → turn_after level x n s ≡ turn level x (state_after level x n s)
-unfolding turn_after state_after
-last_turn level x zero s = refl
-last_turn level x (suc n) s = refl
-
--- n turns and one, and then k more
-pub further : (level : Level) (x : Scenario) (n k : ℕ) (s : State) → state_after level x k (turn_after level x n s).state ≡ (turn_after level x (n + k) s).state
-unfolding turn_after state_after
-further level x n zero s = let e : n ≡ n + 0 = omega arith in ap (λ (m : ℕ). (turn_after level x m s).state) e
-further level x n (suc k) s =
-    let e : suc (n + k) ≡ n + suc k = omega arith in
-    let u : State = (turn_after level x n s).state in
-    ap (λ (t : Turn). t.state) (last_turn level x k u)
-    ∙ ap (λ (v : State). (turn level x v).state) (further level x n k s)
-    ∙ ap (λ (m : ℕ). (turn_after level x m s).state) e
+use Rattle.board_core.proofs.Gliding.{midway_now, stands_so, more_turns}
 
 -- ## an idle turn
 
@@ -159,56 +139,18 @@ lasts_from script from to le more = by_every (is_some script.every) refl
     by_every true is = rw is refl
     by_every false is = rw is (any_from script.events from to le (rw is at more))
 
-either : (n j : ℕ) → (j < n) ⊎ ((i : ℕ) × (j ≡ n + i))
-either zero j = inr (j, omega arith)
-either (suc n) zero = inl (omega arith)
-either (suc n) (suc j) = by (either n j)
-  where
-    by : (j < n) ⊎ ((i : ℕ) × (j ≡ n + i)) → (suc j < suc n) ⊎ ((i : ℕ) × (suc j ≡ suc n + i))
-    by (inl lt) = inl (omega (arith, lt))
-    by (inr (i, e)) = inr (i, omega (arith, e))
-
-turn_further : (level : Level) (x : Scenario) (n k : ℕ) (s : State) → turn_after level x k (turn_after level x n s).state ≡ turn_after level x (n + suc k) s
-unfolding turn_after
-turn_further level x n k s =
-    let e : suc (n + k) ≡ n + suc k = omega arith in
-    last_turn level x k (turn_after level x n s).state
-    ∙ ap (turn level x) (further level x n k s)
-    ∙ ap (λ (m : ℕ). turn_after level x m s) e
-
 pub skip_advances : (x : Scenario) (n k : ℕ) (s : State) (b b' : Board) → IsAdvanced Calls x n s b → notes_of b ≡ [] →
     IsIdleUntil x (turn_after Calls x n s).state ((turn_after Calls x n s).state.turn + k) → lasts x.script ((turn_after Calls x n s).state.turn + k) ≡ true →
     Stands x b' (state_after Calls x k (turn_after Calls x n s).state) → notes_of b' ≡ [] → IsAdvanced Calls x (n + k) s b'
 skip_advances x n k s b b' a quiet idle more st none =
     let u : State = (turn_after Calls x n s).state in
-    let silent : (i : ℕ) → i ≤ k → (turn_after Calls x (n + i) s).notes ≡ [] = quiets in
-    record {
-      nothing = λ j lt. nothing_at j lt (either n j);
-      goes_on = λ j lt. goes_at j lt (either n j);
-      stands = subst (λ (v : State). Stands x b' v) (further Calls x n k s) st;
-      notes = none ∙ sym (silent k (omega arith));
-    }
-  where
-    quiets : (i : ℕ) → i ≤ k → (turn_after Calls x (n + i) s).notes ≡ []
-    quiets zero le = let e : n + 0 ≡ n = omega arith in ap (λ (m : ℕ). (turn_after Calls x m s).notes) e ∙ sym a.notes ∙ quiet
-    quiets (suc i) le = ap (λ (t : Turn). t.notes) (sym (turn_further Calls x n i s)) ∙ silent_then x (turn_after Calls x n s).state _ idle i (omega (arith, le))
-
-    nothing_at : (j : ℕ) → j < n + k → (j < n) ⊎ ((i : ℕ) × (j ≡ n + i)) → (turn_after Calls x j s).notes ≡ []
-    nothing_at j lt (inl less) = a.nothing j less
-    nothing_at j lt (inr (i, e)) = ap (λ (m : ℕ). (turn_after Calls x m s).notes) e ∙ quiets i (omega (arith, lt, e))
-
-    goes_at : (j : ℕ) → j < n + k → (j < n) ⊎ ((i : ℕ) × (j ≡ n + i)) → ending x 1 (turn_after Calls x j s).state ≡ None
-    goes_at j lt (inl less) = a.goes_on j less
-    goes_at j lt (inr (i, e)) =
-        let u : State = (turn_after Calls x n s).state in
-        ap (λ (m : ℕ). ending x 1 (turn_after Calls x m s).state) e
-        ∙ ap (ending x 1) (sym (further Calls x n i s))
-        ∙ goes_then x u _ idle i (omega (arith, lt, e)) (lasts_from x.script (u.turn + i) (u.turn + k) (omega (arith, lt, e)) more)
+    more_turns x n k s b b' a quiet (λ i lt. silent_then x u _ idle i (omega (arith, lt)))
+    (λ i lt. goes_then x u _ idle i (omega (arith, lt)) (lasts_from x.script (u.turn + i) (u.turn + k) (omega (arith, lt)) more)) st none
 
 -- ## when a board may skip
 
 -- what is due no earlier than `to`
-quiet_before : (script : ScriptData) (from to : ℕ) (due : Option ℕ) → IsNext script from due → ((turn : ℕ) → turn < to → due ≢ Some turn) → to ≤ 1000000000 → (turn : ℕ) → from ≤ turn → turn < to → events_of script turn ≡ []
+pub quiet_before : (script : ScriptData) (from to : ℕ) (due : Option ℕ) → IsNext script from due → ((turn : ℕ) → turn < to → due ≢ Some turn) → to ≤ 1000000000 → (turn : ℕ) → from ≤ turn → turn < to → events_of script turn ≡ []
 quiet_before script from to None next later few turn le lt = next turn le (omega (arith, lt, few))
 quiet_before script from to (Some n) next later few turn le lt = next.3 turn le (after n (λ less. later n less refl))
   where

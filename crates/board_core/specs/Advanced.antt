@@ -1,6 +1,7 @@
 -- Several turns on end, of which only the last may note anything.
-use Rattle.std.specs.Prelude.{ℕ, ◌≡◌, ◌<◌, [], None}
+use Rattle.std.specs.Prelude.{ℕ, ◌≡◌, ◌≢◌, ◌⊎◌, ◌<◌, [], None}
 use Rattle.task_table.specs.State.{State}
+use Rattle.run_script.specs.Scripts.{events_of}
 use Rattle.board_core.specs.declared.board.Board.{Board}
 use Rattle.board_model.specs.declared.told.Level.{Level}
 use Rattle.board_model.specs.Script.{Scenario}
@@ -14,3 +15,7 @@ pub record IsAdvanced (level : Level) (x : Scenario) (n : ℕ) (s : State) (b : 
   pub goes_on : (k : ℕ) → k < n → ending x 1 (turn_after level x k s).state ≡ None
   pub stands : Stands x b (turn_after level x n s).state
   pub notes : notes_of b ≡ (turn_after level x n s).notes
+
+-- a turn in which something happens from outside, or before which the run ends
+abbrev pub IsStopped : Scenario → State → Type 0
+IsStopped x s = (events_of x.script s.turn ≢ []) ⊎ (ending x 1 s ≢ None)

@@ -10,3 +10,4 @@ pub mod Skipped
 pub mod Told
 pub mod Did
 pub mod Regions
+pub mod Gliding

@@ -10,6 +10,7 @@ ghost use Rattle.run_script.specs.Events.{script_data};
 ghost use Rattle.board_model.specs.declared.told.Level.TheVariants.{All, Calls};
 ghost use Rattle.board_model.specs.Script.{Scenario};
 ghost use Rattle.board_model.specs.Turn.{turn, turned};
+ghost use Rattle.board_model.specs.Run.{state_after};
 ghost use Rattle.board_model.specs.Lifetimes.{IsGroundedTurn};
 ghost use Rattle.two_runs.specs.Agreement.{DependsOnReads};
 ghost use Rattle.board_core.specs.Opened.{scenario_of, setup_of};
@@ -17,11 +18,12 @@ ghost use Rattle.board_core.specs.Stands.{Stands, Stood, notes_of, turns_of};
 ghost use Rattle.board_core.specs.Machine.{MachineHolds, MachineStands};
 ghost use Rattle.board_core.specs.Kept.{IsChoice, WasChoice};
 ghost use Rattle.board_core.specs.Texts.{IsText};
-ghost use Rattle.board_core.specs.Advanced.{IsAdvanced};
-ghost use Rattle.board_core.specs.Skipped.{IsIdleUntil, state_after};
+ghost use Rattle.board_core.specs.Advanced.{IsAdvanced, IsStopped};
+ghost use Rattle.board_core.specs.Skipped.{IsIdleUntil};
 ghost use Rattle.board_core.specs.Midway.{IsDue, IsMidway};
 
 use crate::choice::{Choice, choice_after, choice_of};
+use crate::glider::Glider;
 use crate::machine::Machine;
 use crate::opening::kernel;
 use board_model::{Level, Turned};
@@ -31,8 +33,11 @@ use region_check::Region;
 use run_script::Script;
 use std::alloc::{AllocError, Global};
 
+/// How many turns are made over the kernel's memory before a window of it is lent.
+const FEW: u32 = 32;
+
 /// A board with an image and a script: what its kernel keeps, how many turns it made, the choice of the
-/// task that runs next, and the turn in which something happens next.
+/// task that runs next, the turn in which something happens next, and who makes turns within a window.
 #[derive(Drop)]
 pub struct Board {
     pub(crate) machine: Machine,
@@ -40,6 +45,7 @@ pub struct Board {
     pub(crate) choice: Choice,
     pub(crate) script: Script,
     pub(crate) due: Option<u32>,
+    pub(crate) glider: Glider,
 }
 
 impl Board {
@@ -62,6 +68,7 @@ impl Board {
             choice,
             script,
             due,
+            glider: Glider::new(alloc),
         })
     }
 
@@ -107,14 +114,14 @@ impl Board {
 
     /// One turn, and further ones after it as long as each notes nothing, no event is due, the run goes
     /// on and fewer than `limit` turns are made in all. With all instructions told each turn notes
-    /// something, so that it is one turn. The clauses ask for one turn at least: how far it goes is for
-    /// speed.
+    /// something, so that it is one turn.
     pub fn advance(&mut self, level: Level, limit: u32)
         requires stood { Stood self.old }
         requires left { turns_of self.old < limit }
         requires few { limit ≤ 1000000000 }
         ensures advanced { (x : Scenario) (s : State) → Stands x self.old s → IsAdvanced level x (turns_of self.new - turns_of self.old - 1) s self.new }
         ensures more { turns_of self.old < turns_of self.new }
+        ensures far { level ≡ Calls → (x : Scenario) (s : State) → Stands x self.new s → notes_of self.new ≡ [] → turns_of self.new < limit → IsStopped x s }
         ensures within { turns_of self.new ≤ limit }
         ensures noted { length (notes_of self.new) ≤ turn_notes }
     {
@@ -133,6 +140,7 @@ impl Board {
         requires few { limit ≤ 1000000000 }
         ensures advanced { (x : Scenario) (n : ℕ) (s : State) → IsAdvanced Calls x n s self.old → IsAdvanced Calls x (n + (turns_of self.new - turns_of self.old)) s self.new }
         ensures more { turns_of self.old ≤ turns_of self.new }
+        ensures far { (x : Scenario) (s : State) → Stands x self.new s → notes_of self.new ≡ [] → turns_of self.new < limit → IsStopped x s }
         ensures within { turns_of self.new ≤ limit }
         ensures noted { length (notes_of self.old) ≤ turn_notes → length (notes_of self.new) ≤ turn_notes }
     {
@@ -154,6 +162,7 @@ impl Board {
         requires few { limit ≤ 1000000000 }
         ensures advanced { (x : Scenario) (n : ℕ) (s : State) → IsAdvanced Calls x n s self.old → IsAdvanced Calls x (n + (turns_of self.new - turns_of self.old)) s self.new }
         ensures more { turns_of self.old ≤ turns_of self.new }
+        ensures far { (x : Scenario) (s : State) → Stands x self.new s → notes_of self.new ≡ [] → turns_of self.new < limit → IsStopped x s }
         ensures within { turns_of self.new ≤ limit }
         ensures noted { length (notes_of self.old) ≤ turn_notes → length (notes_of self.new) ≤ turn_notes }
     {
@@ -168,8 +177,8 @@ impl Board {
         }
     }
 
-    /// Further turns of the task that is chosen, as long as each proceeds; none where the processor does
-    /// not have its context.
+    /// Further turns of the task that is chosen, as long as each goes on; none where the processor does
+    /// not have its context. A few are made over the kernel's memory first, since a loan costs as much as some.
     fn go_on(&mut self, task: usize, text: &Region, until: u32)
         requires few { until ≤ 1000000000 }
         requires left { turns_of self.old ≤ until }
@@ -188,8 +197,41 @@ impl Board {
         ensures kept { self.new.choice ≡ self.old.choice }
         ensures text { IsText self.new.machine.reach.kernel task text.now }
     {
+        'on: while self.turns < until && self.machine.is_loaded_for(task) {
+            let few = until.min(self.turns + FEW);
+            self.proceed_on(task, text, few);
+            if self.turns < few {
+                return;
+            }
+            if few == until {
+                return;
+            }
+            self.glide_within(task, text, until);
+        }
+    }
+
+    /// Further turns of the task that is chosen, within a window of its memory; perhaps none.
+    fn glide_within(&mut self, task: usize, text: &Region, until: u32)
+        requires few { until ≤ 1000000000 }
+        requires left { turns_of self.old ≤ until }
+        requires stood { Stood self.old }
+        requires nothing { notes_of self.old ≡ [] }
+        requires later { (turn : ℕ) → turn < until → self.old.due ≢ Some turn }
+        requires next { self.old.choice.next ≡ Some task }
+        requires up { self.old.choice.down ≡ false }
+        requires text { IsText self.old.machine.reach.kernel task text.now }
+        ensures advanced { (x : Scenario) (n : ℕ) (s : State) → IsAdvanced Calls x n s self.old → IsAdvanced Calls x (n + (turns_of self.new - turns_of self.old)) s self.new }
+        ensures more { turns_of self.old ≤ turns_of self.new }
+        ensures within { turns_of self.new ≤ until }
+        ensures stood { Stood self.new }
+        ensures nothing { notes_of self.new ≡ [] }
+        ensures due { self.new.due ≡ self.old.due }
+        ensures kept { self.new.choice ≡ self.old.choice }
+        ensures text { IsText self.new.machine.reach.kernel task text.now }
+    {
         if self.machine.is_loaded_for(task) {
-            self.proceed_on(task, text, until);
+            let made = self.machine.glide(&mut self.glider, until - self.turns);
+            self.turns += made;
         }
     }
 
@@ -261,6 +303,7 @@ impl Board {
         requires few { limit ≤ 1000000000 }
         ensures advanced { (x : Scenario) (n : ℕ) (s : State) → IsAdvanced Calls x n s self.old → IsAdvanced Calls x (n + (turns_of self.new - turns_of self.old)) s self.new }
         ensures more { turns_of self.old ≤ turns_of self.new }
+        ensures far { (x : Scenario) (s : State) → Stands x self.new s → notes_of self.new ≡ [] → turns_of self.new < limit → IsStopped x s }
         ensures within { turns_of self.new ≤ limit }
         ensures noted { length (notes_of self.old) ≤ turn_notes → length (notes_of self.new) ≤ turn_notes }
     {
@@ -353,6 +396,7 @@ impl Board {
 fn quiet_until(due: Option<u32>, limit: u32) -> u32
     ensures within { result ≤ limit }
     ensures later { (turn : ℕ) → turn < result → due ≢ Some turn }
+    ensures met { result < limit → due ≡ Some result }
 {
     match due {
         None => limit,

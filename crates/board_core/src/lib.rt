@@ -4,6 +4,7 @@
 mod board;
 mod calls;
 mod choice;
+mod glider;
 mod machine;
 mod opening;
 mod reach;

@@ -16,12 +16,14 @@ ghost use Rattle.thumb_insn.specs.Range.{IsCoded};
 ghost use Rattle.board_model.specs.Turn.{with_current, told, happened, stepped, stepped_wide, executed, cpu_of, with_registers_told, turn_of, turned_of, happened_next};
 ghost use Rattle.board_core.specs.Did.{Did};
 ghost use Rattle.board_core.specs.Machine.{IsReady, IsNarrowWithin, IsNext, HasNumber, MachineHolds, MachineStands, IsLoaded};
+ghost use Rattle.board_core.specs.Gliding.{HasGlided};
 ghost use Rattle.board_core.specs.Texts.{GivesText, IsText, has_text};
 ghost use Rattle.std.specs.List.{list_any};
 ghost use Rattle.words_core.specs.Regs.{reg_at};
 ghost use Rattle.board_model.specs.declared.told.Level.TheVariants.{Calls};
 
 use crate::calls::call;
+use crate::glider::Glider;
 use crate::reach::{Reach, spans};
 use board_model::{Level, Turned};
 use kernel_abi::{Fault, Note};
@@ -458,6 +460,25 @@ impl Machine {
             Decoded::Wide(wide) => proceed(&mut self.processor, &wide, &mut self.reach),
             _ => false,
         }
+    }
+}
+
+impl Machine {
+    /// Instructions on end of the current task within a window of its memory, at most so many; how many there were.
+    pub fn glide(&mut self, glider: &mut Glider, most: u32) -> u32
+        ensures glided { (g : Setup) (t : Turn) → IsReady g self.old t → HasGlided g self.new t most result }
+        ensures within { result ≤ most }
+        ensures count { note_count self.new.reach.kernel ≡ note_count self.old.reach.kernel }
+    {
+        let Some((text, ram)) = self.reach.window() else {
+            return 0;
+        };
+        glider.aim(self.processor, &text, &ram, most);
+        if !self.reach.kernel.lend(&text, &ram, glider) {
+            return 0;
+        }
+        self.processor = glider.runner.processor;
+        glider.made
     }
 }
 

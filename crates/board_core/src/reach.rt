@@ -10,6 +10,7 @@ ghost use Rattle.thumb_exec.specs.Sizes.{IsSize};
 ghost use Rattle.board_model.specs.Turn.{first_lacking};
 ghost use Rattle.board_core.specs.Machine.{IsStored, refused};
 
+use mem_banks::RAM;
 use region_check::{Region, Right, Rights, may};
 use task_table::{Kernel, Near};
 use thumb_exec::bus::Bus;
@@ -139,6 +140,29 @@ impl Reach {
         match self.lacks(addr, n, Right::Read) {
             Some(at) => Err(at),
             None => Ok(self.kernel.number(addr, n)),
+        }
+    }
+}
+
+impl Reach {
+    ghost use Rattle.std.specs.Prelude.{IfSome};
+    ghost use Rattle.board_core.specs.Gliding.{AreWindow};
+
+    /// Two regions of the current task in which it may make many instructions on end: that of its text, in the flash, and that
+    /// of its data.
+    pub fn window(&self) -> Option<(Region, Region)>
+        ensures { IfSome result (λ w. AreWindow (setup_at (setup_of self.now.kernel) (current_of self.now.kernel)).regions w.0 w.1) }
+    {
+        let regions = self.kernel.regions(self.kernel.current());
+        let text = *regions.get(self.text)?;
+        let ram = *regions.get(self.data)?;
+        if !text.rights.execute || text.base >= RAM {
+            return None;
+        }
+        if ram.rights.read && ram.rights.write {
+            Some((text, ram))
+        } else {
+            None
         }
     }
 }

@@ -9,6 +9,7 @@ pub mod FaultTurns
 pub mod Stepping
 pub mod Endings
 pub mod Outside
+pub mod Further
 pub mod FiveTasks
 pub mod Blinker
 pub mod AllTold

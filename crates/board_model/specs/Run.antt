@@ -57,6 +57,11 @@ unfoldable pub turn_after : Level → Scenario → ℕ → State → Turn
 turn_after level x zero s = turn level x s
 turn_after level x (suc n) s = turn level x (turn_after level x n s).state
 
+-- the state after n turns
+unfoldable pub state_after : Level → Scenario → ℕ → State → State
+state_after level x zero s = s
+state_after level x (suc n) s = (turn_after level x n s).state
+
 -- the run from a state, with at most so many turns
 unfoldable pub run : Level → Scenario → ℕ → State → Run
 run level x zero s = unless s (ending x 0 s) (ended_at s Bound)

@@ -12,6 +12,7 @@ use Rattle.board_core.specs.Advanced.{IsAdvanced}
 use Rattle.board_model.specs.Run.{turn_after}
 use Rattle.board_core.proofs.Turning.{empty_of}
 use Rattle.board_core.proofs.Gliding.{setup_seen, chosen_goes, one_more}
+use Rattle.board_core.proofs.Stopping.{due_stops}
 use Rattle.board_core.proofs.board.Board.glide_on.Goals as goal
 
 pub turns-init : goal.turns-init
@@ -74,3 +75,7 @@ returns-then-self-until-clause-advanced c = λ x n s a.
 
 pub returns-then-self-until-clause-noted : goal.returns-then-self-until-clause-noted
 returns-then-self-until-clause-noted c = λ h. rw c.go_on.ensures.nothing (omega arith)
+
+pub returns-then-self-until-clause-far : goal.returns-then-self-until-clause-far
+returns-then-self-until-clause-far c = λ x s st none lt.
+    due_stops x s c.go_on.new.self c.args.self.now.due c.quiet_until-until.result c.args.limit st (c.go_on.ensures.due ∙ c.turns.invariant.due) c.quiet_until-until.ensures.met (omega (arith, c.if-self-until.true)) lt

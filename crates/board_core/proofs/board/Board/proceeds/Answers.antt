@@ -1,15 +1,15 @@
-use Rattle.std.proofs.Common.{◌≡◌, ◌+◌, ℕ, true, [], Option, Some, refl, sym, ◌∙◌, subst, arith}
+use Rattle.std.proofs.Common.{◌≡◌, ◌+◌, ℕ, true, Option, Some, refl, sym, ◌∙◌, subst}
 use Rattle.task_table.specs.State.{Setup, State, Turn}
-use Rattle.task_table.specs.Holds.{current_of, notes_of}
+use Rattle.task_table.specs.Holds.{current_of}
 use Rattle.board_core.specs.declared.board.Board.{Board}
 use Rattle.board_core.specs.declared.machine.Machine.{Machine}
 use Rattle.board_model.specs.declared.told.Level.TheVariants.{Calls}
 use Rattle.board_core.specs.Machine.{MachineHolds, IsReady}
 use Rattle.board_core.specs.Midway.{IsMidway}
 use Rattle.board_model.specs.Script.{Scenario}
-use Rattle.board_core.specs.Stands.{Stands, turns_of}
+use Rattle.board_core.specs.Stands.{turns_of}
 use Rattle.board_core.specs.Texts.{IsText}
-use Rattle.board_model.specs.Turn.{turn, turn_of, stepped, with_current, with_registers_told, after_events}
+use Rattle.board_model.specs.Turn.{turn_of, stepped, with_current, with_registers_told, after_events}
 use Rattle.board_core.proofs.Loading.{is_loaded}
 use Rattle.board_core.proofs.Turning.{as_chosen, turn_notes, HasTurned, none_of}
 use Rattle.board_core.proofs.Gliding.{midway_now, stands_so, current_seen}

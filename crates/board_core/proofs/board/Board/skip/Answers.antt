@@ -1,8 +1,7 @@
-use Rattle.std.proofs.Common.{◌+◌, ◌-◌, ◌≡◌, ℕ, sym, ◌∙◌, subst, arith}
+use Rattle.std.proofs.Common.{◌+◌, ◌-◌, ◌≡◌, ℕ, ◌∙◌, subst, arith}
 use Rattle.board_model.specs.declared.told.Level.TheVariants.{Calls}
-use Rattle.board_core.specs.declared.board.Board.{Board}
 use Rattle.board_core.specs.Stands.{Stands, turns_of}
-use Rattle.board_core.specs.Skipped.{state_after}
+use Rattle.board_model.specs.Run.{state_after}
 use Rattle.board_core.proofs.Turning.{rested}
 use Rattle.board_core.proofs.Skipping.{quiet_begun, begun_board, skipped, not_due}
 use Rattle.board_core.proofs.board.Board.skip.Goals as goal

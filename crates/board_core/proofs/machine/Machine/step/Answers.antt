@@ -1,9 +1,9 @@
-use Rattle.std.proofs.Common.{◌≡◌, ◌∙◌, ℕ, sym, subst, arith}
+use Rattle.std.proofs.Common.{◌∙◌, ℕ, sym, subst, arith}
 use Rattle.kernel_abi.specs.declared.Note.TheVariants as note
 use Rattle.task_table.specs.State.{Turn}
 use Rattle.board_core.specs.Machine.{MachineHolds, HasNumber}
 use Rattle.board_model.specs.Turn.{told, executed}
-use Rattle.board_model.proofs.TurnChains.{told_state, ready-call_noted}
+use Rattle.board_model.proofs.TurnChains.{told_state}
 use Rattle.board_core.proofs.Fetching.{even_pc, fetched_stepped}
 use Rattle.board_core.proofs.Loading.{loaded_register}
 use Rattle.board_core.proofs.Telling.{told_current}

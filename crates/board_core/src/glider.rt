@@ -1,0 +1,96 @@
+//! The processor of the current task while it is lent the bytes of two of the task's regions.
+ghost use Rattle.std.specs.Prelude.{◌≡◌, ◌≤◌, ◌<◌};
+ghost use Rattle.thumb_exec.specs.Effect.{Halts};
+ghost use Rattle.thumb_step.specs.Fetch.{step_effect};
+ghost use Rattle.thumb_window.specs.Windows.{Glides, IsApart, Keeps, view_of, refused_by, held_by};
+ghost use Rattle.board_core.specs.Gliding.{HasWorked};
+
+use mem_banks::Borrower;
+use region_check::Region;
+use std::alloc::Global;
+use std::mem::swap;
+use thumb_exec::cpu::Cpu;
+use thumb_window::{Runner, Window};
+use words_core::{Flags, Regs};
+
+/// A processor that makes instructions on end while it is lent the bytes of a region of text and of one of RAM. Between
+/// two loans its window has no bytes.
+#[derive(Drop)]
+pub struct Glider {
+    pub runner: Runner,
+
+    /// How many instructions there may be at most, and how many there were.
+    pub most: u32,
+    pub made: u32,
+}
+
+impl Glider {
+    /// One that was never lent anything.
+    pub fn new(alloc: Global) -> Glider {
+        let flags = Flags {
+            n: false,
+            z: false,
+            c: false,
+            v: false,
+        };
+        Glider {
+            runner: Runner {
+                processor: Cpu {
+                    regs: Regs::of([0; 16]),
+                    flags,
+                },
+                window: Window {
+                    text: Vec::new(alloc),
+                    text_base: 0,
+                    readable: false,
+                    ram: Vec::new(alloc),
+                    ram_base: 0,
+                },
+            },
+            most: 0,
+            made: 0,
+        }
+    }
+
+    /// It is to make so many instructions at most, of this processor, within these two regions.
+    pub fn aim(&mut self, processor: Cpu, text: &Region, ram: &Region, most: u32)
+        ensures processor { self.new.runner.processor ≡ processor }
+        ensures text { self.new.runner.window.text_base ≡ text.now.base }
+        ensures readable { self.new.runner.window.readable ≡ text.now.rights.read }
+        ensures ram { self.new.runner.window.ram_base ≡ ram.now.base }
+        ensures most { self.new.most ≡ most }
+    {
+        self.runner.processor = processor;
+        self.runner.window.text_base = text.base;
+        self.runner.window.readable = text.rights.read;
+        self.runner.window.ram_base = ram.base;
+        self.most = most;
+    }
+
+    /// The instructions, where the text lies below the RAM.
+    fn glide(&mut self) -> u32
+        ensures glides { Glides (view_of self.old.runner.window) self.old.runner.processor result (view_of self.new.runner.window) self.new.runner.processor }
+        ensures within { result ≤ self.old.most }
+        ensures far { IsApart self.old.runner.window → result < self.old.most → Halts (step_effect (refused_by (view_of self.new.runner.window)) (held_by (view_of self.new.runner.window)) self.new.runner.processor) }
+        ensures fixed { Keeps (view_of self.old.runner.window) (view_of self.new.runner.window) }
+        ensures most { self.new.most ≡ self.old.most }
+    {
+        let window = &self.runner.window;
+        if window.text_base as usize + window.text.len() > window.ram_base as usize {
+            return 0;
+        }
+        self.runner.glide(self.most)
+    }
+}
+
+impl Borrower for Glider {
+    ghost did = { λ a text ram b after. HasWorked a text ram b after };
+
+    fn work(&mut self, text: &mut Vec<u8>, ram: &mut Vec<u8>) {
+        swap(&mut self.runner.window.text, text);
+        swap(&mut self.runner.window.ram, ram);
+        self.made = self.glide();
+        swap(&mut self.runner.window.ram, ram);
+        swap(&mut self.runner.window.text, text);
+    }
+}

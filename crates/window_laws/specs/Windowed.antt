@@ -1,0 +1,42 @@
+-- Turns of a task whose instructions stay within a window of its text and its data.
+use Rattle.std.specs.Prelude.{ℕ, ◌≡◌, ◌+◌, ◌<◌, ◌≤◌, true, length, [], Some}
+use Rattle.region_check.specs.declared.Right.TheVariants.{Read, Write, Execute}
+use Rattle.mem_banks.specs.Memory.{Memory, bytes_at, with_bytes}
+use Rattle.mem_banks.specs.Loans.{IsInFlash, IsInRam}
+use Rattle.thumb_exec.specs.declared.cpu.Cpu.{Cpu}
+use Rattle.thumb_window.specs.Windows.{View}
+use Rattle.task_table.specs.State.{Setup, State}
+use Rattle.task_table.specs.Reading.{task_at, chosen, is_ready}
+use Rattle.task_table.specs.Sane.{Sane, IsCounted}
+use Rattle.task_table.specs.Effects.{with_task}
+use Rattle.board_model.specs.declared.told.Level.TheVariants.{Calls}
+use Rattle.board_model.specs.Script.{Scenario}
+use Rattle.board_model.specs.Turn.{may}
+use Rattle.board_model.specs.Run.{is_down, turn_after, state_after}
+
+-- a window of a task: its text stands in the flash and its data in the RAM, as memory has them, and the task may use
+-- each byte so
+pub record IsWindow (g : Setup) (c : ℕ) (m : Memory) (v : View) : Type 0 where
+  pub executed : (a : ℕ) → v.text_base ≤ a → a < v.text_base + length v.text → may g c Execute a ≡ true
+  pub legible : v.readable ≡ true → (a : ℕ) → v.text_base ≤ a → a < v.text_base + length v.text → may g c Read a ≡ true
+  pub read : (a : ℕ) → v.ram_base ≤ a → a < v.ram_base + length v.ram → may g c Read a ≡ true
+  pub written : (a : ℕ) → v.ram_base ≤ a → a < v.ram_base + length v.ram → may g c Write a ≡ true
+  pub in_flash : IsInFlash m (v.text_base, length v.text)
+  pub in_ram : IsInRam m (v.ram_base, length v.ram)
+  pub text : bytes_at m v.text_base (length v.text) ≡ v.text
+  pub ram : bytes_at m v.ram_base (length v.ram) ≡ v.ram
+
+-- n turns later, in which a task's processor and the memory alone changed
+abbrev pub later : State → ℕ → Cpu → Memory → ℕ → State
+later s c cpu m n =
+    record (with_task c record (task_at s c) { registers = cpu.regs.words; flags = cpu.flags } s) { memory = m; turn = s.turn + n }
+
+-- n turns on end of a task are its instructions within a window, of which none is noted
+pub record AreTurns (x : Scenario) (s : State) (c : ℕ) (v : View) (n : ℕ) (v' : View) (cpu : Cpu) : Type 0 where
+  pub state : state_after Calls x n s ≡ later s c cpu (with_bytes s.memory v.ram_base v'.ram) n
+  pub silent : (k : ℕ) → k < n → (turn_after Calls x k s).notes ≡ []
+  pub chosen : (k : ℕ) → k ≤ n → chosen x.setup (state_after Calls x k s) ≡ Some c
+  pub down : (k : ℕ) → k ≤ n → is_down (state_after Calls x k s) ≡ is_down s
+  pub ready : (i : ℕ) → is_ready (state_after Calls x n s) i ≡ is_ready s i
+  pub sane : Sane x.setup (state_after Calls x n s)
+  pub counted : IsCounted s → IsCounted (state_after Calls x n s)
