@@ -18,8 +18,6 @@ mod reading;
 mod repeats;
 mod tables;
 mod tasks;
-#[cfg(test)]
-mod tests;
 mod unknowns;
 mod values;
 mod views;

@@ -5,8 +5,6 @@ mod definition;
 mod job;
 mod laws;
 mod reading;
-#[cfg(test)]
-mod tests;
 
 pub use job::{Detail, Job};
 pub use laws::every_taken_command_is_whole;

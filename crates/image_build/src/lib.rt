@@ -13,8 +13,6 @@ mod regions;
 mod symbols;
 mod taking;
 mod tasks;
-#[cfg(test)]
-mod tests;
 
 pub use builder::Builder;
 pub use fault::BuildFault;

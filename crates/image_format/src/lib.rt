@@ -9,8 +9,6 @@ mod parts;
 mod reading;
 mod records;
 mod regions;
-#[cfg(test)]
-mod tests;
 mod views;
 mod writing;
 

@@ -8,9 +8,6 @@ ghost use Rattle.image_format.specs.Images.{picture};
 ghost use Rattle.image_format.specs.Picture.{bit, line_in, rights_number, task_in};
 ghost use Rattle.image_list.specs.Listing.{image_data, line_data, region_data, task_data};
 
-#[cfg(test)]
-mod tests;
-
 use image_format::Image;
 use region_check::{Region, Rights};
 use serde_json::{Value, json};

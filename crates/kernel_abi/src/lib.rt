@@ -9,8 +9,6 @@ ghost use Rattle.kernel_abi.specs.Leases.{lease_entry};
 
 mod arguments;
 mod causes;
-#[cfg(test)]
-mod tests;
 
 pub use arguments::{
     BorrowArgs, IdArgs, InfoArgs, IrqArgs, RecvArgs, ReplyArgs, SendArgs, TimerArgs,

@@ -6,8 +6,6 @@
 mod made;
 mod placing;
 mod sizes;
-#[cfg(test)]
-mod tests;
 
 pub use made::{Plan, PlanFault};
 pub use placing::plan;

@@ -7,8 +7,6 @@ mod held;
 mod host;
 mod memory;
 mod reading;
-#[cfg(test)]
-mod tests;
 mod traits;
 
 pub use host::{HostFiles, HostSink};

@@ -8,8 +8,6 @@ mod making;
 mod reading;
 mod script;
 mod statement;
-#[cfg(test)]
-mod tests;
 mod turns;
 mod words;
 

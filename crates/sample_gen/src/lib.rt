@@ -15,8 +15,6 @@ mod numbers;
 mod programs;
 mod tables;
 mod tasks;
-#[cfg(test)]
-mod tests;
 
 pub use making::sample;
 

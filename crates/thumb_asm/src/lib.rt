@@ -19,8 +19,6 @@ mod passes;
 mod quotes;
 mod shape;
 mod syntax;
-#[cfg(test)]
-mod tests;
 mod words;
 
 pub use passes::{Object, assemble};

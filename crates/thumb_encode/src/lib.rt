@@ -9,9 +9,6 @@ ghost use Rattle.thumb_insn.specs.Table.{is_later, branch_bit};
 
 use thumb_insn::{Barrier, Bytes, Code, Insn, Load, Reg, Shift, Size};
 
-#[cfg(test)]
-mod tests;
-
 /// Why an instruction has no code. Where several hold, the first in the order `Register`,
 /// `Offset`, `Align` is told.
 #[derive(Clone, Copy, PartialEq, Eq, Debug)]

@@ -2,8 +2,6 @@
 //! The lines of a trace, one of each note (docs/FORMATS.md, Trace), and the words of which they are made.
 
 mod lines;
-#[cfg(test)]
-mod tests;
 mod turn;
 mod words;
 

@@ -1,7 +1,7 @@
 //! One instruction of each row of the table in docs/FORMATS.md, with the code that LLVM 14's
 //! assembler (`llvm-mc -triple=thumbv6m-none-eabi`) gives for its text, and what has no code.
-use crate::{Fit, encode};
 use std::process::Abort;
+use thumb_encode::{Fit, encode};
 use thumb_insn::{Barrier, Bytes, Code, Cond, Insn, Load, Op, Reg, Shift, Size};
 
 fn r(number: u8) -> Reg {

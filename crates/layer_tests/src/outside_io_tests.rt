@@ -1,5 +1,5 @@
 //! Each maker and each call once with ample memory, and each way for a call to fail.
-use crate::{Failed, Files, HostFiles, HostSink, MemFiles, MemSink, ReadAll, Sink, read_all};
+use outside_io::{Failed, Files, HostFiles, HostSink, MemFiles, MemSink, ReadAll, Sink, read_all};
 use std::alloc::{AllocError, Global};
 use std::fs;
 use std::io::{BufWriter, Cursor};

@@ -1,9 +1,9 @@
 //! Sources, with the bytes or the first cause that a reading of docs/FORMATS.md in another language
 //! gives them, at 0x08000000 and with two symbols.
 
-use crate::{AsmFault, Cause, assemble};
 use std::alloc::{AllocError, Global};
 use std::test::Fail;
+use thumb_asm::{AsmFault, Cause, assemble};
 
 const BASE: u32 = 0x0800_0000;
 

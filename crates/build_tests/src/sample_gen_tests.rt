@@ -1,7 +1,7 @@
 //! The sample of seed 1, beside what its rules give by hand.
 
-use crate::sample;
 use run_script::Event;
+use sample_gen::sample;
 use std::test::Fail;
 
 #[test]

@@ -1,5 +1,5 @@
 //! Each call once, with what docs/FORMATS.md says of it.
-use crate::{Lines, hex_number, number};
+use text_lines::{Lines, hex_number, number};
 
 #[test]
 fn lines_come_in_order(rt: HostRuntime) {

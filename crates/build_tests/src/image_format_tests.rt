@@ -1,8 +1,7 @@
 //! Images taken and refused. The answers are those of the table in docs/FORMATS.md, Image, worked by a
 //! reading of it in another language.
 
-use crate::image::Image;
-use crate::records::ImageFault;
+use image_format::{Image, ImageFault};
 use region_check::{Region, Rights};
 use std::alloc::{AllocError, Global};
 use std::test::Fail;

@@ -1,7 +1,7 @@
 //! A line of each note, and that the longest of each kind fits.
-use crate::TurnLines;
 use arrayvec::ArrayString;
 use kernel_abi::{Borrow, Ending, Fault, Handled, Listened, Note};
+use trace_text::TurnLines;
 
 fn text(turn: u32, note: Note) -> ArrayString<160> {
     let mut lines = TurnLines::new(turn);

@@ -1,6 +1,6 @@
 //! Codes with the texts and refusals that a second reading of the table of instructions has for them.
-use crate::decode;
 use arrayvec::ArrayString;
+use thumb_decode::decode;
 use thumb_insn::Decoded;
 
 /// A code of one halfword or two, an address, and the text there.

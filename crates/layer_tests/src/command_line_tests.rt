@@ -1,4 +1,5 @@
-use crate::{Detail, Job, Refusal, read_words};
+//! Words that are taken, with what they ask for, and words that are refused.
+use command_line::{Detail, Job, Refusal, read_words};
 use std::alloc::{AllocError, Global};
 use std::test::Fail;
 

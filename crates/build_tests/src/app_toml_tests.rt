@@ -1,7 +1,7 @@
 //! Descriptions taken and refused. The answers are those of docs/FORMATS.md, Application, worked by a
 //! reading of it in another language.
 
-use crate::{App, AppFault};
+use app_toml::{App, AppFault};
 use std::alloc::{AllocError, Global};
 use std::test::Fail;
 

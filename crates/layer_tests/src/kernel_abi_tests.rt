@@ -1,6 +1,21 @@
-//! Rows of the layouts and numbers.
-use crate::*;
+//! Rows of the layouts and numbers, and what each call takes from which register.
+use kernel_abi::{
+    Access, BorrowArgs, Fault, Generation, IdArgs, InfoArgs, IrqArgs, LeaseEntry, Note, Range,
+    Reason, RecvArgs, ReplyArgs, SendArgs, TaskId, TimerArgs, Usage, dead_code,
+};
 use std::test::Fail;
+
+// Each register holds another number, so that no two can be confused.
+const REGISTERS: [u32; 8] = [
+    0x0402_0C05,
+    0x5555_0001,
+    0x6666_0002,
+    0x8007_0803,
+    0x8888_0004,
+    0x9999_0005,
+    0xAAAA_0006,
+    0x0000_0000,
+];
 
 #[test]
 fn ids(rt: HostRuntime) {
@@ -118,4 +133,70 @@ fn notes(rt: HostRuntime) {
         arguments: [0x0002_0005, 0x2000_0140, 10, 0, 0, 0, 0],
     };
     assert_ne!(rt; call, Note::default());
+}
+
+#[test]
+fn send(rt: HostRuntime) {
+    let args = SendArgs::of(&REGISTERS);
+    assert_eq!(rt; args.recipient.number, 0x0402);
+    assert_eq!(rt; args.operation, 0x0C05);
+    assert_eq!(rt; args.message_base, 0x5555_0001);
+    assert_eq!(rt; args.message_length, 0x6666_0002);
+    assert_eq!(rt; args.reply_base, 0x8007_0803);
+    assert_eq!(rt; args.reply_capacity, 0x8888_0004);
+    assert_eq!(rt; args.table, 0x9999_0005);
+    assert_eq!(rt; args.leases, 0xAAAA_0006);
+}
+
+#[test]
+fn recv(rt: HostRuntime) {
+    let args = RecvArgs::of(&REGISTERS);
+    assert_eq!(rt; args.buffer_base, 0x0402_0C05);
+    assert_eq!(rt; args.buffer_length, 0x5555_0001);
+    assert_eq!(rt; args.mask, 0x6666_0002);
+    assert!(rt; args.closed);
+    assert_eq!(rt; args.sender.number, 0x0803);
+    assert!(rt; !RecvArgs::of(&[0, 0, 0, 0x7FFF_FFFF, 0, 0, 0, 0]).closed);
+}
+
+#[test]
+fn reply(rt: HostRuntime) {
+    let args = ReplyArgs::of(&REGISTERS);
+    assert_eq!(rt; args.client.number, 0x0C05);
+    assert_eq!(rt; args.code, 0x5555_0001);
+    assert_eq!(rt; args.reply_base, 0x6666_0002);
+    assert_eq!(rt; args.reply_length, 0x8007_0803);
+}
+
+#[test]
+fn timer(rt: HostRuntime) {
+    let args = TimerArgs::of(&REGISTERS);
+    assert!(rt; args.set);
+    assert_eq!(rt; args.deadline, 0x6666_0002_5555_0001);
+    assert_eq!(rt; args.bits, 0x8007_0803);
+    assert!(rt; !TimerArgs::of(&[0, 1, 1, 1, 1, 1, 1, 1]).set);
+}
+
+#[test]
+fn borrow(rt: HostRuntime) {
+    let args = BorrowArgs::of(&REGISTERS);
+    assert_eq!(rt; args.lender.number, 0x0C05);
+    assert_eq!(rt; args.lease, 0x5555_0001);
+    assert_eq!(rt; args.offset, 0x6666_0002);
+    assert_eq!(rt; args.buffer_base, 0x8007_0803);
+    assert_eq!(rt; args.buffer_length, 0x8888_0004);
+    let info = InfoArgs::of(&REGISTERS);
+    assert_eq!(rt; info.lender.number, 0x0C05);
+    assert_eq!(rt; info.lease, 0x5555_0001);
+}
+
+#[test]
+fn lines_and_ids(rt: HostRuntime) {
+    let irq = IrqArgs::of(&REGISTERS);
+    assert_eq!(rt; irq.bits, 0x0402_0C05);
+    assert!(rt; irq.enable);
+    assert!(rt; !IrqArgs::of(&[2, 2, 1, 1, 1, 1, 1, 1]).enable);
+    let id = IdArgs::of(&REGISTERS);
+    assert_eq!(rt; id.id.number, 0x0C05);
+    assert_eq!(rt; id.bits, 0x5555_0001);
 }

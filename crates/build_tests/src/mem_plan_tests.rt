@@ -1,7 +1,7 @@
 //! Plans worked by hand from the rule: each size rounded up to a power of two of at least 256, largest
 //! first, ties by index, packed from the base.
 
-use crate::{PlanFault, plan};
+use mem_plan::{PlanFault, plan};
 use std::test::Fail;
 
 #[test]

@@ -1,8 +1,8 @@
 //! Images that are built, and why others are not. The bytes and the answers are worked from
 //! docs/FORMATS.md by a reading of it in another language.
 
-use crate::{BuildFault, Builder, build};
 use app_toml::App;
+use image_build::{BuildFault, Builder, build};
 use std::alloc::{AllocError, Global};
 use std::test::Fail;
 

@@ -1,6 +1,6 @@
 //! Texts that the table of instructions spells in a way of its own.
-use crate::{Cond, Insn, Load, Reg, Shift};
 use arrayvec::ArrayString;
+use thumb_insn::{Cond, Insn, Load, Reg, Shift};
 
 fn text(insn: Insn, at: u32) -> ArrayString<64> {
     let mut out = ArrayString::new();

@@ -1,5 +1,6 @@
-use crate::list;
+//! What images say, as lines of JSON.
 use image_format::{Image, ImageFault};
+use image_list::list;
 use std::alloc::{AllocError, Global};
 use std::test::Fail;
 

@@ -1,7 +1,6 @@
 //! Scripts taken and refused, and the events of their turns, by the rules of docs/FORMATS.md, Script.
 
-use crate::events::{Event, ScriptFault};
-use crate::script::Script;
+use run_script::{Event, Script, ScriptFault};
 use std::alloc::{AllocError, Global};
 use std::test::Fail;
 
@@ -250,9 +249,8 @@ fn a_copy_has_the_same_events(rt: HostRuntime) -> Result<(), Fail> {
 
 #[test]
 fn one_made_of_events_has_them(rt: HostRuntime) -> Result<(), Fail> {
-    let script = Script::read(rt.alloc(), b"every 4 tick\nat 6 irq 3\nat 6 tick\n")?;
-    script.facts();
-    let made = Script::of(rt.alloc(), script.every, script.events.as_slice())?;
+    let events = [(6, Event::Irq { line: 3 }), (6, Event::Tick)];
+    let made = Script::of(rt.alloc(), Some(4), &events)?;
     assert_eq!(rt; made.event_at(4, 0), Some(Event::Tick));
     assert_eq!(rt; made.event_at(6, 0), Some(Event::Irq { line: 3 }));
     assert_eq!(rt; made.event_at(6, 1), Some(Event::Tick));
