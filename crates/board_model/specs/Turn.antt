@@ -16,7 +16,7 @@ use Rattle.thumb_exec.specs.Effect.{Effect, Next, Call, Trap, Store, Refusals, e
 use Rattle.mem_banks.specs.Memory.{number_at, is_ram}
 use Rattle.task_table.specs.State.{Setup, Task, State, Own, Turn}
 use Rattle.task_table.specs.Reading.{task_at, setup_at, register, chosen, program_counter}
-use Rattle.task_table.specs.Effects.{changed, noted, with_processor, stored, faulted}
+use Rattle.task_table.specs.Effects.{◌⨾◌, changed, noted, with_processor, stored, faulted}
 use Rattle.task_table.specs.Events.{ticked, interrupted}
 use Rattle.task_table.specs.Rows.{first_row, call_noted}
 use Rattle.task_table.specs.Calls.{called}
@@ -53,31 +53,31 @@ bytes_of v n = take n (v % 256 ∷ v / 2 ^ 8 % 256 ∷ v / 2 ^ 16 % 256 ∷ v / 
 
 -- a store outside the memory, which a device region may permit, changes nothing
 abbrev pub put : Turn → Store → Turn
-put t x = if is_ram t.state.memory x.addr x.bytes then stored Own x.addr (bytes_of x.value x.bytes) t else t
+put t x = if is_ram t.state.memory x.addr x.bytes then (t ⨾ stored Own x.addr (bytes_of x.value x.bytes)) else t
 
 abbrev pub acted : Setup → ℕ → Effect → Turn → Turn
-acted g c (Next cpu stores) t = with_processor c cpu.regs.words cpu.flags (fold put t stores)
-acted g c Call t = called g c (call_noted c t)
-acted g c (Trap f) t = faulted g c f t
+acted g c (Next cpu stores) t = fold put t stores ⨾ with_processor c cpu.regs.words cpu.flags
+acted g c Call t = t ⨾ call_noted c ⨾ called g c
+acted g c (Trap f) t = t ⨾ faulted g c f
 
 -- the effect of an instruction for task c, as things stand
 abbrev pub effect_of : Setup → ℕ → Insn → Turn → Effect
 effect_of g c insn t = effect (refusals g c) (number_at t.state.memory) (cpu_of (task_at t.state c)) insn
 
 abbrev pub executed : Setup → ℕ → Insn → Turn → Turn
-executed g c insn t = acted g c (effect_of g c insn t) t
+executed g c insn t = t ⨾ acted g c (effect_of g c insn t)
 
 -- what is told with all instructions alone
 abbrev pub told : Level → Note → Turn → Turn
 told Calls note t = t
-told All note t = noted note t
+told All note t = t ⨾ noted note
 
 -- a code that is an instruction is told and executed (code: the halfword, or two, the first in the high half)
 abbrev pub decoded_as : Level → Setup → ℕ → ℕ → ℕ → Decoded → Turn → Turn
-decoded_as level g c at code (Narrow insn) t = executed g c insn (told level (note.Insn c at code) t)
-decoded_as level g c at code (Wide insn) t = executed g c insn (told level (note.Insn c at code) t)
-decoded_as level g c at code Illegal t = faulted g c (illegal_fault at) t
-decoded_as level g c at code NeedsSecond t = faulted g c (illegal_fault at) t
+decoded_as level g c at code (Narrow insn) t = t ⨾ told level (note.Insn c at code) ⨾ executed g c insn
+decoded_as level g c at code (Wide insn) t = t ⨾ told level (note.Insn c at code) ⨾ executed g c insn
+decoded_as level g c at code Illegal t = t ⨾ faulted g c (illegal_fault at)
+decoded_as level g c at code NeedsSecond t = t ⨾ faulted g c (illegal_fault at)
 
 -- both bytes of a halfword may be executed
 abbrev pub is_text : Setup → ℕ → ℕ → Bool
@@ -89,8 +89,8 @@ stepped_wide level g c at first t =
     let after = (at + 2) % 2 ^ 32 in
     let second = number_at t.state.memory after 2 in
     first_row (
-    (not (is_text g c after), faulted g c (illegal_text_fault after) t)
-    ∷ []) (decoded_as level g c at (first * 2 ^ 16 + second) (decoded_of first (Some second)) t)
+    (not (is_text g c after), t ⨾ faulted g c (illegal_text_fault after))
+    ∷ []) (t ⨾ decoded_as level g c at (first * 2 ^ 16 + second) (decoded_of first (Some second)))
 
 -- fetched, decoded, carried out: the first halfword that may not be executed decides
 unfoldable pub stepped : Level → Setup → ℕ → Turn → Turn
@@ -98,9 +98,9 @@ stepped level g c t =
     let at = register t.state c program_counter in
     let first = number_at t.state.memory at 2 in
     first_row (
-    (not (is_text g c at), faulted g c (illegal_text_fault at) t)
-    ∷ (not (is_wide first), decoded_as level g c at first (decoded_of first None) t)
-    ∷ []) (stepped_wide level g c at first t)
+    (not (is_text g c at), t ⨾ faulted g c (illegal_text_fault at))
+    ∷ (not (is_wide first), t ⨾ decoded_as level g c at first (decoded_of first None))
+    ∷ []) (t ⨾ stepped_wide level g c at first)
 
 -- ## the turn
 
@@ -120,7 +120,7 @@ after_events x s = fold (happened x.setup) (begun s) (events_of x.script s.turn)
 
 -- a task is the current one from now on
 abbrev pub with_current : ℕ → Turn → Turn
-with_current c t = changed (λ s. record s { current = c }) t
+with_current c t = t ⨾ changed (λ s. record s { current = c })
 
 abbrev pub low_note : Task → Note
 low_note x = note.Low (take 8 x.registers)
@@ -131,21 +131,21 @@ high_note x = note.High (drop 8 x.registers) x.flags.n x.flags.z x.flags.c x.fla
 -- the registers and flags of the task that ran are told
 unfoldable pub with_registers_told : Level → ℕ → Turn → Turn
 with_registers_told level c t =
-    told level (high_note (task_at t.state c)) (told level (low_note (task_at t.state c)) t)
+    t ⨾ told level (low_note (task_at t.state c)) ⨾ told level (high_note (task_at t.state c))
 
 -- the chosen task runs; where there is none, the turn is idle
 abbrev pub turn_of : Level → Setup → Option ℕ → Turn → Turn
-turn_of level g None t = told level note.Idle t
-turn_of level g (Some c) t = with_registers_told level c (stepped level g c (with_current c t))
+turn_of level g None t = t ⨾ told level note.Idle
+turn_of level g (Some c) t = t ⨾ with_current c ⨾ stepped level g c ⨾ with_registers_told level c
 
 unfoldable pub ended : Turn → Turn
-ended t = changed (λ s. record s { turn = s.turn + 1 }) t
+ended t = t ⨾ changed (λ s. record s { turn = s.turn + 1 })
 
 -- the task is chosen after the events
 unfoldable pub turn : Level → Scenario → State → Turn
 turn level x s =
     let t = after_events x s in
-    ended (turn_of level x.setup (chosen x.setup t.state) t)
+    t ⨾ turn_of level x.setup (chosen x.setup t.state) ⨾ ended
 
 -- what is told of a turn: the chosen task and its PC before
 abbrev pub turned_of : State → Option ℕ → Turned

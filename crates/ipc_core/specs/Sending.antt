@@ -9,6 +9,7 @@ use Rattle.kernel_abi.specs.declared.arguments.SendArgs.{SendArgs}
 use Rattle.region_check.specs.declared.Right.TheVariants.{Read, Write}
 use Rattle.task_table.specs.State.{Setup, State, Turn}
 use Rattle.task_table.specs.Reading.{task_at, is_out, is_dead, dead_code_for, is_valid, bad_byte, taken_by}
+use Rattle.task_table.specs.Effects.{◌⨾◌}
 use Rattle.task_table.specs.Rows.{first_row, misused, denied, goes_on_with}
 use Rattle.task_table.specs.Sends.{message_of, reply_room, table_of, sends}
 use Rattle.task_table.specs.Holds.{Stands, kept_call}
@@ -38,11 +39,11 @@ IsAmong n (Live i) = i < n
 abbrev pub sent_to : Setup → ℕ → SendArgs → Turn → Turn
 sent_to g c x t =
     first_row (
-    (not (is_valid (message_of x)) || (not (is_valid (reply_room x)) || not (is_valid (table_of x))), misused g c (usage_number InvalidSlice) t)
-    ∷ (is_some (bad_byte g c Read (message_of x)), denied g c (access_number KernelRead) (bad_byte g c Read (message_of x)) t)
-    ∷ (is_some (bad_byte g c Write (reply_room x)), denied g c (access_number KernelWrite) (bad_byte g c Write (reply_room x)) t)
-    ∷ (is_dead t.state x.recipient.number, goes_on_with c (dead_code_for t.state x.recipient.number ∷ 0 ∷ []) t)
-    ∷ []) (sends c x (index_of x.recipient.number) t)
+    (not (is_valid (message_of x)) || (not (is_valid (reply_room x)) || not (is_valid (table_of x))), t ⨾ misused g c (usage_number InvalidSlice))
+    ∷ (is_some (bad_byte g c Read (message_of x)), t ⨾ denied g c (access_number KernelRead) (bad_byte g c Read (message_of x)))
+    ∷ (is_some (bad_byte g c Write (reply_room x)), t ⨾ denied g c (access_number KernelWrite) (bad_byte g c Write (reply_room x)))
+    ∷ (is_dead t.state x.recipient.number, t ⨾ goes_on_with c (dead_code_for t.state x.recipient.number ∷ 0 ∷ []))
+    ∷ []) (t ⨾ sends c x (index_of x.recipient.number))
 
 -- the caller has taken this call of a client
 pub record IsTaken (k : Kernel) (c client : ℕ) (call : OpenCall) : Type 0 where

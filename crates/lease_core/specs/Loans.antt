@@ -10,7 +10,7 @@ use Rattle.mem_banks.specs.Memory.{Memory, IsWithin, IsWithinRam}
 use Rattle.task_table.specs.State.{Setup, State, Call, Write, Turn}
 use Rattle.task_table.specs.Reading.{register, is_ready, is_valid, bad_byte}
 use Rattle.task_table.specs.Entries.{kept_at, IsKeptFor, entry_at}
-use Rattle.task_table.specs.Effects.{noted}
+use Rattle.task_table.specs.Effects.{◌⨾◌, noted}
 use Rattle.task_table.specs.Rows.{first_row, misused, denied, goes_on_with}
 use Rattle.task_table.specs.Borrows.{Way as Needs, reading, writing, entry_range, grant, lease_range, buffer_of, part_of, lent}
 use Rattle.task_table.specs.Holds.{entries_of}
@@ -28,7 +28,7 @@ way_of way.Write = writing
 -- the borrow is noted, and the borrower told how many bytes moved
 abbrev pub told_lent : Loan → ℕ → Turn → Turn
 told_lent x count t =
-    goes_on_with x.borrower (0 ∷ count ∷ []) (noted (note.Borrow x.call (way_of x.way).borrow x.args.lease x.args.offset count) t)
+    t ⨾ noted (note.Borrow x.call (way_of x.way).borrow x.args.lease x.args.offset count) ⨾ goes_on_with x.borrower (0 ∷ count ∷ [])
 
 -- the borrower's buffer, and the lender's bytes, are where the way needs them
 abbrev pub IsBuffer : Way → Memory → ℕ → ℕ → Type 0
@@ -59,9 +59,9 @@ abbrev pub buffered : Setup → Needs → ℕ → BorrowArgs → Call → LeaseE
 buffered g way c x k e t =
     let buffer = buffer_of x in
     first_row (
-    (not (is_valid buffer), misused g c (usage_number InvalidSlice) t)
-    ∷ (is_some (bad_byte g c way.own buffer), denied g c (access_number way.own_access) (bad_byte g c way.own buffer) t)
-    ∷ []) (lent g way c x k (part_of x e) t)
+    (not (is_valid buffer), t ⨾ misused g c (usage_number InvalidSlice))
+    ∷ (is_some (bad_byte g c way.own buffer), t ⨾ denied g c (access_number way.own_access) (bad_byte g c way.own buffer))
+    ∷ []) (t ⨾ lent g way c x k (part_of x e))
 
 -- ## a borrow that went well leaves the entry of its lease kept
 

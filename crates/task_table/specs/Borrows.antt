@@ -16,7 +16,7 @@ use Rattle.region_check.specs.declared.Right.TheVariants.{Read, Write}
 use Rattle.mem_banks.specs.Memory.{number_at}
 use Rattle.task_table.specs.State.{Setup, State, Call, Range, Own, Lease, Entry, Leased, Turn}
 use Rattle.task_table.specs.Reading.{arguments, is_out, is_dead, dead_code_for, is_valid, bad_byte, taken_by}
-use Rattle.task_table.specs.Effects.{noted, copied, looked}
+use Rattle.task_table.specs.Effects.{◌⨾◌, noted, copied, looked}
 use Rattle.task_table.specs.Rows.{first_row, misused, denied, goes_on_with}
 
 -- ## an entry of the lease table of a call
@@ -39,7 +39,7 @@ lease_range e = record { base = e.base; length = e.len }
 -- it is read
 abbrev pub entry_read : Call → ℕ → LeaseEntry → Turn → Turn
 entry_read k lease e t =
-    looked record { call = k.number; part = Entry e.attributes e.base e.len; base = k.table + 12 * lease; length = 12 } t
+    t ⨾ looked record { call = k.number; part = Entry e.attributes e.base e.len; base = k.table + 12 * lease; length = 12 }
 
 -- ## the two ways in which bytes move
 
@@ -62,8 +62,8 @@ writing = record { borrow = borrow.Write; lender = Write; lender_access = Kernel
 -- n bytes move between the lease and the borrower's buffer
 abbrev pub moved : Borrow → Call → ℕ → ℕ → ℕ → Turn → Turn
 moved borrow.Read k leased own n t =
-    copied Own leased own n (looked record { call = k.number; part = Leased; base = leased; length = n } t)
-moved borrow.Write k leased own n t = copied (Lease k.number) own leased n t
+    t ⨾ looked record { call = k.number; part = Leased; base = leased; length = n } ⨾ copied Own leased own n
+moved borrow.Write k leased own n t = t ⨾ copied (Lease k.number) own leased n
 moved borrow.Info k leased own n t = t
 
 -- ## the rows
@@ -74,7 +74,7 @@ no_lease = 1
 
 -- the borrower is told a code, and that nothing moved
 abbrev pub refused : ℕ → ℕ → Turn → Turn
-refused c code t = goes_on_with c (code ∷ 0 ∷ []) t
+refused c code t = t ⨾ goes_on_with c (code ∷ 0 ∷ [])
 
 abbrev pub buffer_of : BorrowArgs → Range
 buffer_of x = record { base = x.buffer_base; length = x.buffer_length }
@@ -87,31 +87,33 @@ abbrev pub lent : Setup → Way → ℕ → BorrowArgs → Call → Range → Tu
 lent g way c x k part t =
     let bad = bad_byte g k.client.index way.lender part in
     first_row (
-    (is_some bad, refused c no_lease (denied g k.client.index (access_number way.lender_access) bad t))
-    ∷ []) (goes_on_with c (0 ∷ part.length ∷ [])
-    (noted (note.Borrow k.number way.borrow x.lease x.offset part.length)
-    (moved way.borrow k part.base x.buffer_base part.length t)))
+    (is_some bad, t ⨾ denied g k.client.index (access_number way.lender_access) bad ⨾ refused c no_lease)
+    ∷ [])
+    (t
+    ⨾ moved way.borrow k part.base x.buffer_base part.length
+    ⨾ noted (note.Borrow k.number way.borrow x.lease x.offset part.length)
+    ⨾ goes_on_with c (0 ∷ part.length ∷ []))
 
 abbrev pub granted : Setup → Way → ℕ → BorrowArgs → Call → LeaseEntry → Turn → Turn
 granted g way c x k e t =
     let buffer = buffer_of x in
     first_row (
-    (not (is_valid (lease_range e)), refused c no_lease (misused g k.client.index (usage_number InvalidSlice) t))
-    ∷ (bit_and e.attributes way.bit == 0, refused c no_lease t)
-    ∷ (nat_lt e.len x.offset, misused g c (usage_number OffsetOutOfRange) t)
-    ∷ (not (is_valid buffer), misused g c (usage_number InvalidSlice) t)
-    ∷ (is_some (bad_byte g c way.own buffer), denied g c (access_number way.own_access) (bad_byte g c way.own buffer) t)
-    ∷ []) (lent g way c x k (part_of x e) t)
+    (not (is_valid (lease_range e)), t ⨾ misused g k.client.index (usage_number InvalidSlice) ⨾ refused c no_lease)
+    ∷ (bit_and e.attributes way.bit == 0, t ⨾ refused c no_lease)
+    ∷ (nat_lt e.len x.offset, t ⨾ misused g c (usage_number OffsetOutOfRange))
+    ∷ (not (is_valid buffer), t ⨾ misused g c (usage_number InvalidSlice))
+    ∷ (is_some (bad_byte g c way.own buffer), t ⨾ denied g c (access_number way.own_access) (bad_byte g c way.own buffer))
+    ∷ []) (t ⨾ lent g way c x k (part_of x e))
 
 abbrev pub borrowed_by : Setup → Way → ℕ → BorrowArgs → Option Call → Turn → Turn
-borrowed_by g way c x None t = refused c no_lease t
+borrowed_by g way c x None t = t ⨾ refused c no_lease
 borrowed_by g way c x (Some k) t =
     let bad = bad_byte g k.client.index Read (entry_range k x.lease) in
     let e = grant t.state k x.lease in
     first_row (
-    (nat_le k.leases x.lease, misused g c (usage_number LeaseOutOfRange) t)
-    ∷ (is_some bad, refused c no_lease (denied g k.client.index (access_number KernelRead) bad t))
-    ∷ []) (granted g way c x k e (entry_read k x.lease e t))
+    (nat_le k.leases x.lease, t ⨾ misused g c (usage_number LeaseOutOfRange))
+    ∷ (is_some bad, t ⨾ denied g k.client.index (access_number KernelRead) bad ⨾ refused c no_lease)
+    ∷ []) (t ⨾ entry_read k x.lease e ⨾ granted g way c x k e)
 
 -- r4 lender, r5 lease, r6 offset, r7 and r8 buffer
 unfoldable pub borrowed : Setup → Way → ℕ → Turn → Turn
@@ -120,31 +122,31 @@ borrowed g way c t =
     let x = borrow_args (arguments s c) in
     let id = x.lender.number in
     first_row (
-    (is_out s id, misused g c (usage_number BadTaskIndex) t)
-    ∷ (is_dead s id, refused c (dead_code_for s id) t)
-    ∷ []) (borrowed_by g way c x (taken_by s (index_of id) c) t)
+    (is_out s id, t ⨾ misused g c (usage_number BadTaskIndex))
+    ∷ (is_dead s id, t ⨾ refused c (dead_code_for s id))
+    ∷ []) (t ⨾ borrowed_by g way c x (taken_by s (index_of id) c))
 
 -- ## BORROW_INFO: r4 lender, r5 lease
 
 -- the borrower is told a code, and nothing of the lease
 abbrev pub untold : ℕ → ℕ → Turn → Turn
-untold c code t = goes_on_with c (code ∷ 0 ∷ 0 ∷ []) t
+untold c code t = t ⨾ goes_on_with c (code ∷ 0 ∷ 0 ∷ [])
 
 abbrev pub grant_told : Setup → ℕ → ℕ → Call → LeaseEntry → Turn → Turn
 grant_told g c lease k e t =
     first_row (
-    (not (is_valid (lease_range e)), untold c no_lease (misused g k.client.index (usage_number InvalidSlice) t))
-    ∷ []) (goes_on_with c (0 ∷ bit_and e.attributes 3 ∷ e.len ∷ []) (noted (note.Borrow k.number borrow.Info lease 0 0) t))
+    (not (is_valid (lease_range e)), t ⨾ misused g k.client.index (usage_number InvalidSlice) ⨾ untold c no_lease)
+    ∷ []) (t ⨾ noted (note.Borrow k.number borrow.Info lease 0 0) ⨾ goes_on_with c (0 ∷ bit_and e.attributes 3 ∷ e.len ∷ []))
 
 abbrev pub informed_by : Setup → ℕ → ℕ → Option Call → Turn → Turn
-informed_by g c lease None t = untold c no_lease t
+informed_by g c lease None t = t ⨾ untold c no_lease
 informed_by g c lease (Some k) t =
     let bad = bad_byte g k.client.index Read (entry_range k lease) in
     let e = grant t.state k lease in
     first_row (
-    (nat_le k.leases lease, misused g c (usage_number LeaseOutOfRange) t)
-    ∷ (is_some bad, untold c no_lease (denied g k.client.index (access_number KernelRead) bad t))
-    ∷ []) (grant_told g c lease k e (entry_read k lease e t))
+    (nat_le k.leases lease, t ⨾ misused g c (usage_number LeaseOutOfRange))
+    ∷ (is_some bad, t ⨾ denied g k.client.index (access_number KernelRead) bad ⨾ untold c no_lease)
+    ∷ []) (t ⨾ entry_read k lease e ⨾ grant_told g c lease k e)
 
 unfoldable pub informed : Setup → ℕ → Turn → Turn
 informed g c t =
@@ -152,6 +154,6 @@ informed g c t =
     let x = info_args (arguments s c) in
     let id = x.lender.number in
     first_row (
-    (is_out s id, misused g c (usage_number BadTaskIndex) t)
-    ∷ (is_dead s id, untold c (dead_code_for s id) t)
-    ∷ []) (informed_by g c x.lease (taken_by s (index_of id) c) t)
+    (is_out s id, t ⨾ misused g c (usage_number BadTaskIndex))
+    ∷ (is_dead s id, t ⨾ untold c (dead_code_for s id))
+    ∷ []) (t ⨾ informed_by g c x.lease (taken_by s (index_of id) c))

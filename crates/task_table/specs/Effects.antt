@@ -41,6 +41,11 @@ with_taken i s = record s { calls = map (taken_from i) s.calls }
 
 -- ## the same, in a turn
 
+-- one effect after another, in the order in which they happen
+infixl 55 ◌⨾◌
+abbrev pub ◌⨾◌ : Turn → (Turn → Turn) → Turn
+t ⨾ effect = effect t
+
 abbrev pub changed : (State → State) → Turn → Turn
 changed f t = record t { state = f t.state }
 
@@ -50,10 +55,10 @@ noted n t = record t { notes = t.notes ++ n ∷ [] }
 -- the registers and flags of a task become these
 unfoldable pub with_processor : ℕ → List ℕ → Flags → Turn → Turn
 with_processor i registers flags t =
-    changed (with_task i record (task_at t.state i) { registers = registers; flags = flags }) t
+    t ⨾ changed (with_task i record (task_at t.state i) { registers = registers; flags = flags })
 
 unfoldable pub with_health : ℕ → Health → Turn → Turn
-with_health i health t = changed (with_task i record (task_at t.state i) { health = health }) t
+with_health i health t = t ⨾ changed (with_task i record (task_at t.state i) { health = health })
 
 -- the writes of these bytes from an address on
 abbrev pub writes_on : Ground → ℕ → List ℕ → List Write
@@ -93,16 +98,16 @@ with_results values registers = take 4 registers ++ values ++ drop (4 + length v
 -- results are given to a task, from r4 on
 unfoldable pub given : ℕ → List ℕ → Turn → Turn
 given i values t =
-    changed (with_task i record (task_at t.state i) { registers = with_results values (task_at t.state i).registers }) t
+    t ⨾ changed (with_task i record (task_at t.state i) { registers = with_results values (task_at t.state i).registers })
 
 -- a call of the task has ended, with its r4 to r9
 unfoldable pub returned : ℕ → Turn → Turn
-returned i t = noted (note.Ret i (slice_range (task_at t.state i).registers 4 10)) t
+returned i t = t ⨾ noted (note.Ret i (slice_range (task_at t.state i).registers 4 10))
 
 -- the program counter goes past the call
 unfoldable pub past_call : ℕ → Turn → Turn
 past_call i t =
-    changed (with_task i record (task_at t.state i) { registers = slice_set (task_at t.state i).registers program_counter ((register t.state i program_counter + 2) % 2 ^ 32) }) t
+    t ⨾ changed (with_task i record (task_at t.state i) { registers = slice_set (task_at t.state i).registers program_counter ((register t.state i program_counter + 2) % 2 ^ 32) })
 
 -- ## bits are posted
 
@@ -110,12 +115,12 @@ past_call i t =
 unfoldable pub bits_added : ℕ → ℕ → Turn → Turn
 bits_added i bits t =
     let posted = bit_or (task_at t.state i).posted bits in
-    noted (note.Post i bits posted) (changed (with_task i record (task_at t.state i) { posted = posted }) t)
+    t ⨾ changed (with_task i record (task_at t.state i) { posted = posted }) ⨾ noted (note.Post i bits posted)
 
 -- the bits of a task that are in a mask are cleared
 unfoldable pub bits_cleared : ℕ → ℕ → Turn → Turn
 bits_cleared i mask t =
-    changed (with_task i record (task_at t.state i) { posted = bit_and (task_at t.state i).posted (2 ^ 32 - 1 - mask) }) t
+    t ⨾ changed (with_task i record (task_at t.state i) { posted = bit_and (task_at t.state i).posted (2 ^ 32 - 1 - mask) })
 
 -- a task that listens takes its posted bits under its mask, where there are any, and listens no more
 abbrev pub woken_by : ℕ → Option Listen → Turn → Turn
@@ -123,28 +128,28 @@ woken_by i None t = t
 woken_by i (Some l) t =
     let under = bit_and (task_at t.state i).posted l.mask in
     if under == 0 then t
-    else returned i (given i (0 ∷ 0xFFFF ∷ under ∷ 0 ∷ 0 ∷ 0 ∷ []) (bits_cleared i l.mask (changed (without_listen i) t)))
+    else (t ⨾ changed (without_listen i) ⨾ bits_cleared i l.mask ⨾ given i (0 ∷ 0xFFFF ∷ under ∷ 0 ∷ 0 ∷ 0 ∷ []) ⨾ returned i)
 
 unfoldable pub woken : ℕ → Turn → Turn
 woken i t = woken_by i (listen_of t.state i) t
 
 -- bits are posted to a task, of any health: they are added, and may wake it
 unfoldable pub posted : ℕ → ℕ → Turn → Turn
-posted i bits t = woken i (bits_added i bits t)
+posted i bits t = t ⨾ bits_added i bits ⨾ woken i
 
 -- ## timers, time and lines
 
 -- the timer of a task is set, or off
 unfoldable pub with_timer : ℕ → Option Timer → Turn → Turn
-with_timer i timer t = changed (with_task i record (task_at t.state i) { timer = timer }) t
+with_timer i timer t = t ⨾ changed (with_task i record (task_at t.state i) { timer = timer })
 
 -- the time goes on by one
 unfoldable pub clocked : Turn → Turn
-clocked t = noted (note.Tick (t.state.now + 1)) (changed (λ s. record s { now = s.now + 1 }) t)
+clocked t = t ⨾ changed (λ s. record s { now = s.now + 1 }) ⨾ noted (note.Tick (t.state.now + 1))
 
 -- an interrupt line is so from now on; a line that is not there stays away
 unfoldable pub with_line : ℕ → Line → Turn → Turn
-with_line k line t = changed (λ s. record s { lines = slice_set s.lines k line }) t
+with_line k line t = t ⨾ changed (λ s. record s { lines = slice_set s.lines k line })
 
 -- ## a task faults
 
@@ -161,9 +166,8 @@ closed i ending t =
 -- posted the fault bits; a fault of task 0 itself posts nothing. Calls of which it is the server stay
 unfoldable pub faulted_as : Setup → ℕ → Fault → Ending → Turn → Turn
 faulted_as g i fault ending t =
-    let stopped = changed (without_listen i) (with_health i (Faulted fault) t) in
-    let shut = closed i ending (noted (note.Fault i fault) stopped) in
-    if i == 0 then shut else posted 0 g.fault_bits shut
+    let shut = t ⨾ with_health i (Faulted fault) ⨾ changed (without_listen i) ⨾ noted (note.Fault i fault) ⨾ closed i ending in
+    if i == 0 then shut else (shut ⨾ posted 0 g.fault_bits)
 
 -- the same where its server did not fault it
 abbrev pub faulted : Setup → ℕ → Fault → Turn → Turn
@@ -176,7 +180,7 @@ unfoldable pub with_call : Call → State → State
 with_call k s = record s { calls = s.calls ++ k ∷ []; next_call = s.next_call + 1 }
 
 unfoldable pub offered : Call → Turn → Turn
-offered k t = noted (note.Offer k.number k.client.index k.server.index) (changed (with_call k) t)
+offered k t = t ⨾ changed (with_call k) ⨾ noted (note.Offer k.number k.client.index k.server.index)
 
 -- ## a call is handed over
 
@@ -184,12 +188,13 @@ offered k t = noted (note.Offer k.number k.client.index k.server.index) (changed
 unfoldable pub handed : Ground → Call → Range → Turn → Turn
 handed on c buffer t =
     let n = min c.message.length buffer.length in
-    given c.server.index (0 ∷ id_of c.client.index c.client.birth ∷ c.operation ∷ c.message.length ∷ c.reply.length ∷ c.leases ∷ [])
-    (changed (without_listen c.server.index)
-    (noted (note.Take c.number n)
-    (changed (with_taken c.client.index)
-    (copied on c.message.base buffer.base n
-    (looked record { call = c.number; part = MessageFront; base = c.message.base; length = n } t)))))
+    t
+    ⨾ looked record { call = c.number; part = MessageFront; base = c.message.base; length = n }
+    ⨾ copied on c.message.base buffer.base n
+    ⨾ changed (with_taken c.client.index)
+    ⨾ noted (note.Take c.number n)
+    ⨾ changed (without_listen c.server.index)
+    ⨾ given c.server.index (0 ∷ id_of c.client.index c.client.birth ∷ c.operation ∷ c.message.length ∷ c.reply.length ∷ c.leases ∷ [])
 
 -- ## a task at birth
 
@@ -225,14 +230,14 @@ awaits i (Some l) = elim l.from [ Any ↦ false | One b ↦ b.index == i | Kerne
 abbrev pub told_dead : ℕ → Turn → ℕ → Turn
 told_dead i t j =
     let code = dead_code_of ((task_at t.state i).births % 64) in
-    if is_to i (call_of t.state j) then returned j (given j (code ∷ 0 ∷ []) (closed j Restart t))
+    if is_to i (call_of t.state j) then (t ⨾ closed j Restart ⨾ given j (code ∷ 0 ∷ []) ⨾ returned j)
     else (if awaits i (listen_of t.state j)
-    then returned j (given j (code ∷ 0 ∷ 0 ∷ 0 ∷ 0 ∷ 0 ∷ []) (changed (without_listen j) t))
+    then (t ⨾ changed (without_listen j) ⨾ given j (code ∷ 0 ∷ 0 ∷ 0 ∷ 0 ∷ 0 ∷ []) ⨾ returned j)
     else t)
 
 -- its own call and listen are dropped, it is born again, and then each other task in order is told
 unfoldable pub restarted : Setup → ℕ → Bool → Turn → Turn
 restarted g i start t =
-    let born = changed (reborn g i start) (changed (without_listen i) (closed i Restart t)) in
-    let told = noted (note.Restart i ((task_at born.state i).births % 64)) born in
+    let born = t ⨾ closed i Restart ⨾ changed (without_listen i) ⨾ changed (reborn g i start) in
+    let told = born ⨾ noted (note.Restart i ((task_at born.state i).births % 64)) in
     fold (told_dead i) told (range_with_len 0 (length t.state.tasks))

@@ -7,7 +7,7 @@ use Rattle.kernel_abi.specs.declared.Note.TheVariants as note
 use Rattle.kernel_abi.specs.declared.Timer.{Timer}
 use Rattle.task_table.specs.State.{Setup, LineSetup, Turn}
 use Rattle.task_table.specs.Reading.{task_at, line_at, line_off}
-use Rattle.task_table.specs.Effects.{noted, posted, with_timer, clocked, with_line}
+use Rattle.task_table.specs.Effects.{◌⨾◌, noted, posted, with_timer, clocked, with_line}
 
 -- ## a tick
 
@@ -15,10 +15,10 @@ use Rattle.task_table.specs.Effects.{noted, posted, with_timer, clocked, with_li
 abbrev pub expired_by : ℕ → Option Timer → Turn → Turn
 expired_by i None t = t
 expired_by i (Some x) t =
-    if nat_le x.deadline t.state.now then posted i x.bits (with_timer i None t) else t
+    if nat_le x.deadline t.state.now then (t ⨾ with_timer i None ⨾ posted i x.bits) else t
 
 abbrev pub expired : Turn → ℕ → Turn
-expired t i = expired_by i (task_at t.state i).timer t
+expired t i = t ⨾ expired_by i (task_at t.state i).timer
 
 -- the time goes on by one, then each task in order whose timer is due is posted
 unfoldable pub ticked : Turn → Turn
@@ -32,11 +32,11 @@ owner_of g k = find (λ o. o.line == k) g.lines
 
 -- an enabled line posts and is disabled; a disabled one is pending, once; one without an owner does nothing
 abbrev pub interrupted_by : ℕ → Option LineSetup → Turn → Turn
-interrupted_by k None t = noted (note.Irq k Unowned) t
+interrupted_by k None t = t ⨾ noted (note.Irq k Unowned)
 interrupted_by k (Some o) t =
     if (line_at t.state k).enabled
-    then posted o.owner o.bits (with_line k (line_off false) (noted (note.Irq k Posted) t))
-    else with_line k (line_off true) (noted (note.Irq k Held) t)
+    then (t ⨾ noted (note.Irq k Posted) ⨾ with_line k (line_off false) ⨾ posted o.owner o.bits)
+    else (t ⨾ noted (note.Irq k Held) ⨾ with_line k (line_off true))
 
 unfoldable pub interrupted : Setup → ℕ → Turn → Turn
-interrupted g k t = interrupted_by k (owner_of g k) t
+interrupted g k t = t ⨾ interrupted_by k (owner_of g k)

@@ -15,7 +15,7 @@ use Rattle.task_table.specs.declared.slot.OpenCall.{OpenCall}
 use Rattle.task_table.specs.State.{Setup, State, Birth, Listen, Range, From, Any, One, KernelOnly, Turn}
 use Rattle.task_table.specs.Reading.{arguments, present, admits, bad_byte, offer_by, taken_by, IsIdle}
 use Rattle.task_table.specs.Entries.{entry_at}
-use Rattle.task_table.specs.Effects.{changed, noted, with_listen}
+use Rattle.task_table.specs.Effects.{◌⨾◌, changed, noted, with_listen}
 use Rattle.task_table.specs.Rows.{listened_from, buffer_of}
 use Rattle.task_table.specs.Sends.{message_of, reply_of}
 use Rattle.task_table.specs.Holds.{Stands, kept_call}
@@ -34,8 +34,9 @@ IsListened n (listened.One i) = i < n
 -- a task listens by the arguments of its call
 abbrev pub listening : ℕ → RecvArgs → From → Turn → Turn
 listening c x from t =
-    noted (note.Listen c (listened_from from) x.mask)
-    (changed (with_listen record { task = c; from = from; mask = x.mask; buffer = buffer_of x }) t)
+    t
+    ⨾ changed (with_listen record { task = c; from = from; mask = x.mask; buffer = buffer_of x })
+    ⨾ noted (note.Listen c (listened_from from) x.mask)
 
 -- the caller of RECV may have its buffer written
 pub record IsReceiving (k : Kernel) (c : ℕ) : Type 0 where

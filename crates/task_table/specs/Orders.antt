@@ -12,7 +12,7 @@ use Rattle.region_check.specs.declared.Right.TheVariants.{Read, Write}
 use Rattle.mem_banks.specs.Memory.{number_at}
 use Rattle.task_table.specs.State.{Setup, Own, Turn}
 use Rattle.task_table.specs.Reading.{task_at, arguments, is_valid, bad_byte}
-use Rattle.task_table.specs.Effects.{stored, faulted, restarted}
+use Rattle.task_table.specs.Effects.{◌⨾◌, stored, faulted, restarted}
 use Rattle.task_table.specs.Rows.{first_row, misused, denied, goes_on_with}
 use Rattle.task_table.specs.Sends.{message_of, reply_room}
 
@@ -39,20 +39,20 @@ status_bytes (Faulted f) = word_bytes 2 ++ word_bytes f.number ++ word_bytes f.x
 
 -- its answer is how the task is
 abbrev pub status_given : SendArgs → ℕ → Turn → Turn
-status_given x index t = stored Own x.reply_base (status_bytes (task_at t.state index).health) t
+status_given x index t = t ⨾ stored Own x.reply_base (status_bytes (task_at t.state index).health)
 
 -- the second word of the message says whether the task is started; 0 leaves it stopped
 abbrev pub restart_made : Setup → SendArgs → ℕ → Turn → Turn
-restart_made g x index t = restarted g index (not (number_at t.state.memory (x.message_base + 4) 4 == 0)) t
+restart_made g x index t = t ⨾ restarted g index (not (number_at t.state.memory (x.message_base + 4) 4 == 0))
 
 -- a task is made to fault; a faulted one stays as it is
 abbrev pub injected_by : Setup → ℕ → Health → Turn → Turn
-injected_by g i Well t = faulted g i injected_fault t
-injected_by g i Stopped t = faulted g i injected_fault t
+injected_by g i Well t = t ⨾ faulted g i injected_fault
+injected_by g i Stopped t = t ⨾ faulted g i injected_fault
 injected_by g i (Faulted f) t = t
 
 unfoldable pub injected : Setup → ℕ → Turn → Turn
-injected g i t = injected_by g i (task_at t.state i).health t
+injected g i t = t ⨾ injected_by g i (task_at t.state i).health
 
 -- 1 tells how a task is, 2 restarts one, 3 makes one fault
 abbrev pub orders : List Order
@@ -70,10 +70,10 @@ obeyed g c x None t = misused g c (usage_number BadKernelMessage) t
 obeyed g c x (Some o) t =
     let index = number_at t.state.memory x.message_base 4 in
     first_row (
-    (not ((x.message_length == o.message) && nat_le o.reply x.reply_capacity), misused g c (usage_number BadKernelMessage) t)
-    ∷ (nat_le (length t.state.tasks) index, misused g c (usage_number BadTaskIndex) t)
-    ∷ ((index == 0) && not o.on_supervisor, misused g c (usage_number BadKernelMessage) t)
-    ∷ []) (goes_on_with c (0 ∷ o.reply ∷ []) (o.does g x index t))
+    (not ((x.message_length == o.message) && nat_le o.reply x.reply_capacity), t ⨾ misused g c (usage_number BadKernelMessage))
+    ∷ (nat_le (length t.state.tasks) index, t ⨾ misused g c (usage_number BadTaskIndex))
+    ∷ ((index == 0) && not o.on_supervisor, t ⨾ misused g c (usage_number BadKernelMessage))
+    ∷ []) (t ⨾ o.does g x index ⨾ goes_on_with c (0 ∷ o.reply ∷ []))
 
 -- the order with a number
 abbrev pub order_of : ℕ → Option Order
@@ -85,8 +85,8 @@ ordered g c t =
     let s = t.state in
     let x = send_args (arguments s c) in
     first_row (
-    (not (c == 0), misused g c (usage_number NotSupervisor) t)
-    ∷ (not (is_valid (message_of x)) || not (is_valid (reply_room x)), misused g c (usage_number InvalidSlice) t)
-    ∷ (is_some (bad_byte g c Read (message_of x)), denied g c (access_number KernelRead) (bad_byte g c Read (message_of x)) t)
-    ∷ (is_some (bad_byte g c Write (reply_room x)), denied g c (access_number KernelWrite) (bad_byte g c Write (reply_room x)) t)
-    ∷ []) (obeyed g c x (order_of x.operation) t)
+    (not (c == 0), t ⨾ misused g c (usage_number NotSupervisor))
+    ∷ (not (is_valid (message_of x)) || not (is_valid (reply_room x)), t ⨾ misused g c (usage_number InvalidSlice))
+    ∷ (is_some (bad_byte g c Read (message_of x)), t ⨾ denied g c (access_number KernelRead) (bad_byte g c Read (message_of x)))
+    ∷ (is_some (bad_byte g c Write (reply_room x)), t ⨾ denied g c (access_number KernelWrite) (bad_byte g c Write (reply_room x)))
+    ∷ []) (t ⨾ obeyed g c x (order_of x.operation))

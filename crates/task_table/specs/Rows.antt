@@ -14,7 +14,7 @@ use Rattle.kernel_abi.specs.declared.Timer.{Timer}
 use Rattle.region_check.specs.declared.Right.TheVariants.{Write}
 use Rattle.task_table.specs.State.{Setup, LineSetup, State, Call, From, Any, One, KernelOnly, Range, Own, Turn}
 use Rattle.task_table.specs.Reading.{task_at, line_at, line_off, line_on, register, arguments, present, is_out, is_dead, dead_code_for, is_valid, bad_byte, offer_by, call_selector}
-use Rattle.task_table.specs.Effects.{changed, noted, given, returned, past_call, bits_cleared, posted, with_listen, with_timer, with_line, handed, faulted}
+use Rattle.task_table.specs.Effects.{◌⨾◌, changed, noted, given, returned, past_call, bits_cleared, posted, with_listen, with_timer, with_line, handed, faulted}
 
 -- ## how rows are written
 
@@ -24,23 +24,23 @@ first_row (row ∷ rows) otherwise = cond row.0 row.1 (first_row rows otherwise)
 
 -- the caller faults by its usage
 abbrev pub misused : Setup → ℕ → ℕ → Turn → Turn
-misused g c usage t = faulted g c record { number = 7; x = usage; y = 0 } t
+misused g c usage t = t ⨾ faulted g c record { number = 7; x = usage; y = 0 }
 
 -- the caller faults at a byte that the kernel may not read or write for it (y: the number of that access)
 abbrev pub denied : Setup → ℕ → ℕ → Option ℕ → Turn → Turn
-denied g c y bad t = faulted g c record { number = 3; x = unwrap_or bad 0; y = y } t
+denied g c y bad t = t ⨾ faulted g c record { number = 3; x = unwrap_or bad 0; y = y }
 
 -- the caller goes on after its call, and with results from r4 on
 abbrev pub goes_on : ℕ → Turn → Turn
-goes_on c t = returned c (past_call c t)
+goes_on c t = t ⨾ past_call c ⨾ returned c
 
 abbrev pub goes_on_with : ℕ → List ℕ → Turn → Turn
-goes_on_with c values t = goes_on c (given c values t)
+goes_on_with c values t = t ⨾ given c values ⨾ goes_on c
 
 -- ## PANIC: r4 and r5 are told, nothing is read
 
 unfoldable pub panicked : Setup → ℕ → Turn → Turn
-panicked g c t = faulted g c (panic_fault (register t.state c 4) (register t.state c 5)) t
+panicked g c t = t ⨾ faulted g c (panic_fault (register t.state c 4) (register t.state c 5))
 
 -- ## SET_TIMER: r4 whether to set, r5 and r6 the deadline's low and high word, r7 bits
 
@@ -49,9 +49,9 @@ unfoldable pub timer_set : ℕ → Turn → Turn
 timer_set c t =
     let x = timer_args (arguments t.state c) in
     first_row (
-    (not x.set, goes_on c (with_timer c None t))
-    ∷ (nat_le x.deadline t.state.now, goes_on c (posted c x.bits (with_timer c None t)))
-    ∷ []) (goes_on c (with_timer c (Some record { deadline = x.deadline; bits = x.bits }) t))
+    (not x.set, t ⨾ with_timer c None ⨾ goes_on c)
+    ∷ (nat_le x.deadline t.state.now, t ⨾ with_timer c None ⨾ posted c x.bits ⨾ goes_on c)
+    ∷ []) (t ⨾ with_timer c (Some record { deadline = x.deadline; bits = x.bits }) ⨾ goes_on c)
 
 -- ## GET_TIMER: r4 and r5 are now, r6 is 1 where a timer is set, r7 and r8 its deadline, r9 its bits
 
@@ -61,7 +61,7 @@ timer_words (Some x) = 1 ∷ x.deadline % 2 ^ 32 ∷ x.deadline / 2 ^ 32 ∷ x.b
 
 unfoldable pub timer_told : ℕ → Turn → Turn
 timer_told c t =
-    goes_on_with c (t.state.now % 2 ^ 32 ∷ t.state.now / 2 ^ 32 ∷ timer_words (task_at t.state c).timer) t
+    t ⨾ goes_on_with c (t.state.now % 2 ^ 32 ∷ t.state.now / 2 ^ 32 ∷ timer_words (task_at t.state c).timer)
 
 -- ## IRQ_CONTROL: r4 bits, r5 bit 0 whether to enable
 
@@ -74,16 +74,16 @@ owns_with c bits o = (o.owner == c) && (o.bits == bits)
 abbrev pub line_controlled : ℕ → ℕ → Bool → ℕ → Turn → Turn
 line_controlled c bits enable k t =
     let pending = (line_at t.state k).pending in
-    if not enable then with_line k (line_off pending) t
-    else (if pending then posted c bits (with_line k (line_off false) t) else with_line k line_on t)
+    if not enable then (t ⨾ with_line k (line_off pending))
+    else (if pending then (t ⨾ with_line k (line_off false) ⨾ posted c bits) else (t ⨾ with_line k line_on))
 
 -- each line that the caller owns with these bits, in the image's order, which ascends
 unfoldable pub irq_controlled : Setup → ℕ → Turn → Turn
 irq_controlled g c t =
     let x = irq_args (arguments t.state c) in
     first_row (
-    (not (list_any (owns_with c x.bits) g.lines), misused g c (usage_number NoIrq) t)
-    ∷ []) (goes_on c (fold (λ u o. line_controlled c x.bits x.enable o.line u) t (filter (owns_with c x.bits) g.lines)))
+    (not (list_any (owns_with c x.bits) g.lines), t ⨾ misused g c (usage_number NoIrq))
+    ∷ []) (fold (λ u o. line_controlled c x.bits x.enable o.line u) t (filter (owns_with c x.bits) g.lines) ⨾ goes_on c)
 
 -- ## RECV: r4 and r5 buffer, r6 mask, r7 bit 31 whether it is closed, bits 15 to 0 to whom
 
@@ -102,12 +102,14 @@ buffer_of x = record { base = x.buffer_base; length = x.buffer_length }
 -- the caller listens, and goes past its call
 abbrev pub listens : ℕ → RecvArgs → From → Turn → Turn
 listens c x from t =
-    noted (note.Listen c (listened_from from) x.mask)
-    (changed (with_listen record { task = c; from = from; mask = x.mask; buffer = buffer_of x }) (past_call c t))
+    t
+    ⨾ past_call c
+    ⨾ changed (with_listen record { task = c; from = from; mask = x.mask; buffer = buffer_of x })
+    ⨾ noted (note.Listen c (listened_from from) x.mask)
 
 -- the caller takes an offered call
 abbrev pub receives : ℕ → RecvArgs → Call → Turn → Turn
-receives c x k t = returned c (handed Own k (buffer_of x) (past_call c t))
+receives c x k t = t ⨾ past_call c ⨾ handed Own k (buffer_of x) ⨾ returned c
 
 -- it takes the call that is offered, where one is; else it listens
 abbrev pub receives_or_listens : ℕ → RecvArgs → From → Option Call → Turn → Turn
@@ -118,7 +120,7 @@ receives_or_listens c x from (Some k) t = receives c x k t
 abbrev pub takes_bits : ℕ → ℕ → Turn → Turn
 takes_bits c mask t =
     let under = bit_and (task_at t.state c).posted mask in
-    goes_on_with c (0 ∷ 0xFFFF ∷ under ∷ 0 ∷ 0 ∷ 0 ∷ []) (bits_cleared c mask t)
+    t ⨾ bits_cleared c mask ⨾ goes_on_with c (0 ∷ 0xFFFF ∷ under ∷ 0 ∷ 0 ∷ 0 ∷ [])
 
 -- the offered call of a sender, where there is one
 abbrev pub offer_of : State → ℕ → Option ℕ → Option Call
@@ -132,18 +134,18 @@ message_received c best t =
     let x = asked s c in
     let id = x.sender.number in
     first_row (
-    (x.closed && (id == 0xFFFF), listens c x KernelOnly t)
-    ∷ (x.closed && is_dead s id, goes_on_with c (dead_code_for s id ∷ 0 ∷ 0 ∷ 0 ∷ 0 ∷ 0 ∷ []) t)
-    ∷ (x.closed, receives_or_listens c x (One (present s (index_of id))) (offer_by s (index_of id) c) t)
-    ∷ []) (receives_or_listens c x Any (offer_of s c best) t)
+    (x.closed && (id == 0xFFFF), t ⨾ listens c x KernelOnly)
+    ∷ (x.closed && is_dead s id, t ⨾ goes_on_with c (dead_code_for s id ∷ 0 ∷ 0 ∷ 0 ∷ 0 ∷ 0 ∷ []))
+    ∷ (x.closed, t ⨾ receives_or_listens c x (One (present s (index_of id))) (offer_by s (index_of id) c))
+    ∷ []) (t ⨾ receives_or_listens c x Any (offer_of s c best))
 
 -- bits or a message, once the buffer and the sender are checked
 abbrev pub input_received : ℕ → Option ℕ → Turn → Turn
 input_received c best t =
     let mask = (asked t.state c).mask in
     first_row (
-    (not (bit_and (task_at t.state c).posted mask == 0), takes_bits c mask t)
-    ∷ []) (message_received c best t)
+    (not (bit_and (task_at t.state c).posted mask == 0), t ⨾ takes_bits c mask)
+    ∷ []) (t ⨾ message_received c best)
 
 -- best: the best sender to the caller
 unfoldable pub received : Setup → ℕ → Option ℕ → Turn → Turn
@@ -153,13 +155,13 @@ received g c best t =
     let buffer = buffer_of x in
     let id = x.sender.number in
     first_row (
-    (not (is_valid buffer), misused g c (usage_number InvalidSlice) t)
-    ∷ (is_some (bad_byte g c Write buffer), denied g c (access_number KernelWrite) (bad_byte g c Write buffer) t)
-    ∷ (x.closed && not (id == 0xFFFF) && (is_out s id || (index_of id == c)), misused g c (usage_number BadTaskIndex) t)
-    ∷ []) (input_received c best t)
+    (not (is_valid buffer), t ⨾ misused g c (usage_number InvalidSlice))
+    ∷ (is_some (bad_byte g c Write buffer), t ⨾ denied g c (access_number KernelWrite) (bad_byte g c Write buffer))
+    ∷ (x.closed && not (id == 0xFFFF) && (is_out s id || (index_of id == c)), t ⨾ misused g c (usage_number BadTaskIndex))
+    ∷ []) (t ⨾ input_received c best)
 
 -- ## a call
 
 -- the line of a call: its number in r11, its arguments in r4 to r10
 unfoldable pub call_noted : ℕ → Turn → Turn
-call_noted c t = noted (note.Call c (register t.state c call_selector) (slice_range (task_at t.state c).registers 4 11)) t
+call_noted c t = t ⨾ noted (note.Call c (register t.state c call_selector) (slice_range (task_at t.state c).registers 4 11))

@@ -12,7 +12,7 @@ use Rattle.kernel_abi.specs.declared.arguments.SendArgs.{SendArgs}
 use Rattle.region_check.specs.declared.Right.TheVariants.{Read, Write}
 use Rattle.task_table.specs.State.{Setup, State, Call, Listen, Offered, Range, Message, Reply, Turn}
 use Rattle.task_table.specs.Reading.{arguments, present, present_id, listen_of, is_out, is_dead, dead_code_for, admits, is_valid, bad_byte, taken_by}
-use Rattle.task_table.specs.Effects.{given, returned, past_call, closed, copied, offered, handed, posted, faulted_as}
+use Rattle.task_table.specs.Effects.{◌⨾◌, given, returned, past_call, closed, copied, offered, handed, posted, faulted_as}
 use Rattle.task_table.specs.Rows.{first_row, misused, denied, goes_on, goes_on_with}
 
 -- ## SEND: r4 bits 31 to 16 recipient, 15 to 0 operation, r5 and r6 message, r7 and r8 reply buffer, r9 lease table, r10 leases
@@ -46,15 +46,15 @@ call_made s c x server =
 abbrev pub taken_at_once : Call → Option Listen → Turn → Turn
 taken_at_once k None t = t
 taken_at_once k (Some l) t =
-    if admits l.from k.client then returned k.server.index (handed (Message k.number) k l.buffer t) else t
+    if admits l.from k.client then (t ⨾ handed (Message k.number) k l.buffer ⨾ returned k.server.index) else t
 
 -- a call is offered
 abbrev pub offers_call : Call → Turn → Turn
-offers_call k t = taken_at_once k (listen_of t.state k.server.index) (offered k t)
+offers_call k t = t ⨾ offered k ⨾ taken_at_once k (listen_of t.state k.server.index)
 
 -- the caller goes past its call, and waits
 abbrev pub sends : ℕ → SendArgs → ℕ → Turn → Turn
-sends c x server t = let u = past_call c t in offers_call (call_made u.state c x server) u
+sends c x server t = let u = t ⨾ past_call c in u ⨾ offers_call (call_made u.state c x server)
 
 -- to a task; message, reply buffer and lease table are checked in this order
 unfoldable pub sent : Setup → ℕ → Turn → Turn
@@ -63,12 +63,12 @@ sent g c t =
     let x = send_args (arguments s c) in
     let id = x.recipient.number in
     first_row (
-    (is_out s id || (index_of id == c), misused g c (usage_number BadTaskIndex) t)
-    ∷ (not (is_valid (message_of x)) || (not (is_valid (reply_room x)) || not (is_valid (table_of x))), misused g c (usage_number InvalidSlice) t)
-    ∷ (is_some (bad_byte g c Read (message_of x)), denied g c (access_number KernelRead) (bad_byte g c Read (message_of x)) t)
-    ∷ (is_some (bad_byte g c Write (reply_room x)), denied g c (access_number KernelWrite) (bad_byte g c Write (reply_room x)) t)
-    ∷ (is_dead s id, goes_on_with c (dead_code_for s id ∷ 0 ∷ []) t)
-    ∷ []) (sends c x (index_of id) t)
+    (is_out s id || (index_of id == c), t ⨾ misused g c (usage_number BadTaskIndex))
+    ∷ (not (is_valid (message_of x)) || (not (is_valid (reply_room x)) || not (is_valid (table_of x))), t ⨾ misused g c (usage_number InvalidSlice))
+    ∷ (is_some (bad_byte g c Read (message_of x)), t ⨾ denied g c (access_number KernelRead) (bad_byte g c Read (message_of x)))
+    ∷ (is_some (bad_byte g c Write (reply_room x)), t ⨾ denied g c (access_number KernelWrite) (bad_byte g c Write (reply_room x)))
+    ∷ (is_dead s id, t ⨾ goes_on_with c (dead_code_for s id ∷ 0 ∷ []))
+    ∷ []) (t ⨾ sends c x (index_of id))
 
 -- ## REPLY: r4 client, r5 code, r6 and r7 reply
 
@@ -78,21 +78,22 @@ reply_of x = record { base = x.reply_base; length = x.reply_length }
 -- the client gets the reply, the code and the reply's length, and its call is closed
 abbrev pub answers : ℕ → ReplyArgs → Call → Turn → Turn
 answers c x k t =
-    goes_on c
-    (returned k.client.index
-    (given k.client.index (x.code ∷ x.reply_length ∷ [])
-    (closed k.client.index ending.Reply
-    (copied (Reply k.number) x.reply_base k.reply.base x.reply_length t))))
+    t
+    ⨾ copied (Reply k.number) x.reply_base k.reply.base x.reply_length
+    ⨾ closed k.client.index ending.Reply
+    ⨾ given k.client.index (x.code ∷ x.reply_length ∷ [])
+    ⨾ returned k.client.index
+    ⨾ goes_on c
 
 -- a client that awaits no reply of the caller is left alone
 abbrev pub replied_to : Setup → ℕ → ReplyArgs → Option Call → Turn → Turn
-replied_to g c x None t = goes_on c t
+replied_to g c x None t = t ⨾ goes_on c
 replied_to g c x (Some k) t =
     first_row (
-    (not (is_valid (reply_of x)), misused g c (usage_number InvalidSlice) t)
-    ∷ (is_some (bad_byte g c Read (reply_of x)), denied g c (access_number KernelRead) (bad_byte g c Read (reply_of x)) t)
-    ∷ (nat_lt k.reply.length x.reply_length, misused g c (usage_number ReplyTooBig) t)
-    ∷ []) (answers c x k t)
+    (not (is_valid (reply_of x)), t ⨾ misused g c (usage_number InvalidSlice))
+    ∷ (is_some (bad_byte g c Read (reply_of x)), t ⨾ denied g c (access_number KernelRead) (bad_byte g c Read (reply_of x)))
+    ∷ (nat_lt k.reply.length x.reply_length, t ⨾ misused g c (usage_number ReplyTooBig))
+    ∷ []) (t ⨾ answers c x k)
 
 unfoldable pub replied : Setup → ℕ → Turn → Turn
 replied g c t =
@@ -100,9 +101,9 @@ replied g c t =
     let x = reply_args (arguments s c) in
     let id = x.client.number in
     first_row (
-    (is_out s id, misused g c (usage_number BadTaskIndex) t)
-    ∷ (is_dead s id, goes_on c t)
-    ∷ []) (replied_to g c x (taken_by s (index_of id) c) t)
+    (is_out s id, t ⨾ misused g c (usage_number BadTaskIndex))
+    ∷ (is_dead s id, t ⨾ goes_on c)
+    ∷ []) (t ⨾ replied_to g c x (taken_by s (index_of id) c))
 
 -- ## REPLY_FAULT: r4 client, r5 reason
 
@@ -116,11 +117,11 @@ last_reason = 5
 
 -- the client of a call faults, and its server goes on
 abbrev pub faults_client : Setup → ℕ → Call → ℕ → Turn → Turn
-faults_client g c k reason t = goes_on c (faulted_as g k.client.index (reply_fault_by t.state c reason) ending.ReplyFault t)
+faults_client g c k reason t = t ⨾ faulted_as g k.client.index (reply_fault_by t.state c reason) ending.ReplyFault ⨾ goes_on c
 
 abbrev pub reply_faulted_to : Setup → ℕ → ℕ → Option Call → Turn → Turn
-reply_faulted_to g c reason None t = goes_on c t
-reply_faulted_to g c reason (Some k) t = faults_client g c k reason t
+reply_faulted_to g c reason None t = t ⨾ goes_on c
+reply_faulted_to g c reason (Some k) t = t ⨾ faults_client g c k reason
 
 unfoldable pub reply_faulted : Setup → ℕ → Turn → Turn
 reply_faulted g c t =
@@ -128,10 +129,10 @@ reply_faulted g c t =
     let x = reply_args (arguments s c) in
     let id = x.client.number in
     first_row (
-    (is_out s id, misused g c (usage_number BadTaskIndex) t)
-    ∷ (nat_lt last_reason x.code, misused g c (usage_number BadReason) t)
-    ∷ (is_dead s id, goes_on c t)
-    ∷ []) (reply_faulted_to g c x.code (taken_by s (index_of id) c) t)
+    (is_out s id, t ⨾ misused g c (usage_number BadTaskIndex))
+    ∷ (nat_lt last_reason x.code, t ⨾ misused g c (usage_number BadReason))
+    ∷ (is_dead s id, t ⨾ goes_on c)
+    ∷ []) (t ⨾ reply_faulted_to g c x.code (taken_by s (index_of id) c))
 
 -- ## POST: r4 id, r5 bits
 
@@ -141,9 +142,9 @@ post_made g c t =
     let x = id_args (arguments s c) in
     let id = x.id.number in
     first_row (
-    (is_out s id, misused g c (usage_number BadTaskIndex) t)
-    ∷ (is_dead s id, goes_on_with c (dead_code_for s id ∷ []) t)
-    ∷ []) (goes_on_with c (0 ∷ []) (posted (index_of id) x.bits t))
+    (is_out s id, t ⨾ misused g c (usage_number BadTaskIndex))
+    ∷ (is_dead s id, t ⨾ goes_on_with c (dead_code_for s id ∷ []))
+    ∷ []) (t ⨾ posted (index_of id) x.bits ⨾ goes_on_with c (0 ∷ []))
 
 -- ## REFRESH_TASK_ID: r4 id
 
@@ -152,5 +153,5 @@ refreshed g c t =
     let s = t.state in
     let id = (id_args (arguments s c)).id.number in
     first_row (
-    (is_out s id, misused g c (usage_number BadTaskIndex) t)
-    ∷ []) (goes_on_with c (present_id s (index_of id) ∷ []) t)
+    (is_out s id, t ⨾ misused g c (usage_number BadTaskIndex))
+    ∷ []) (t ⨾ goes_on_with c (present_id s (index_of id) ∷ []))

@@ -17,7 +17,7 @@ use Rattle.task_table.specs.declared.Line.{Line}
 use Rattle.mem_banks.specs.Memory.{IsWithinRam, AreAllBytes}
 use Rattle.task_table.specs.State.{Setup, State, Birth, Call, Listen, Range, Part, MessageFront, Entry, Leased, Read, One, Offered, Taken, Ground, Own, Turn}
 use Rattle.task_table.specs.Reading.{task_at, call_of, listen_of, bad_byte, admits, IsIdle}
-use Rattle.task_table.specs.Effects.{with_listen, changed, noted, with_processor, stored, copied, looked, given, returned, past_call, bits_cleared, posted, with_timer, with_line, closed, faulted_as, faulted, handed, restarted}
+use Rattle.task_table.specs.Effects.{◌⨾◌, with_listen, changed, noted, with_processor, stored, copied, looked, given, returned, past_call, bits_cleared, posted, with_timer, with_line, closed, faulted_as, faulted, handed, restarted}
 use Rattle.task_table.specs.Rows.{listened_from}
 use Rattle.task_table.specs.Sends.{offers_call}
 use Rattle.task_table.specs.Sane.{IsFitCall, IsFitListen, IsOwned}
@@ -111,7 +111,7 @@ pub data Step (g : Setup) (s : State) (c : ℕ) : Turn → Turn → Type 0 where
   Posts : (i bits : ℕ) (u : Turn) → i < length g.tasks → Step g s c u (posted i bits u)
   Times : (timer : Option Timer) (u : Turn) → c < length g.tasks → IfSome timer (λ x. u.state.now < x.deadline) → Step g s c u (with_timer c timer u)
   Lines : (k : ℕ) (line : Line) (u : Turn) → (line.pending ≡ true → (line.enabled ≡ false) × IsOwned g k) → Step g s c u (with_line k line u)
-  Listens : (l : Listen) (u : Turn) → l.task ≡ c → MayListen g u.state l → Step g s c u (noted (note.Listen l.task (listened_from l.from) l.mask) (changed (with_listen l) u))
+  Listens : (l : Listen) (u : Turn) → l.task ≡ c → MayListen g u.state l → Step g s c u (u ⨾ changed (with_listen l) ⨾ noted (note.Listen l.task (listened_from l.from) l.mask))
   Sends : (k : Call) (u : Turn) → MayOffer g s c u k → Step g s c u (offers_call k u)
   Receives : (k : Call) (buffer : Range) (u : Turn) → MayReceive g s c u k buffer → Step g s c u (handed Own k buffer u)
   Stores : (on : Ground) (at : ℕ) (bytes : List ℕ) (u : Turn) → AreAllBytes bytes → IsWithinRam u.state.memory at (length bytes) → IsWithinRam s.memory at (length bytes) → MayChangeAll g s c u on at (length bytes) → Step g s c u (stored on at bytes u)
