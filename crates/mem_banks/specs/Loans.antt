@@ -1,5 +1,5 @@
 -- The bytes of two regions, lent to somebody for the time of one call. A region is its base and its size.
-use Rattle.std.specs.Prelude.{ℕ, ◌+◌, ◌<◌, ◌≤◌, ◌⊎◌, ◌≡◌, List, [], length, slice_index_or}
+use Rattle.std.specs.Prelude.{ℕ, ◌+◌, ◌<◌, ◌≤◌, ◌⊎◌, ◌≡◌, List, [], length, slice_index_or, Contains}
 use Rattle.mem_banks.specs.declared.bank.Bank.{Bank}
 use Rattle.mem_banks.specs.Memory.{Memory, bytes_at, with_bytes}
 use Rattle.mem_banks.specs.Banks.{IsPut}
@@ -32,6 +32,17 @@ pub record IsLoan {B : Type 0} (did : B → List ℕ → List ℕ → B → List
   pub work : did b (bytes_of m text) (bytes_of m ram) b' after
   pub size : length after ≡ ram.1
   pub left : m' ≡ with_bytes m ram.0 after
+
+-- the second one is no region: it has no bytes, and begins where the RAM does
+abbrev pub IsNoRegion : ℕ × ℕ → Type 0
+IsNoRegion r = (r.0 ≡ 0x20000000) × (r.1 ≡ 0)
+
+-- two of some regions: one in the flash, and one in the RAM, or none
+pub record AreGiven (regions : List (ℕ × ℕ)) (text ram : ℕ × ℕ) : Type 0 where
+  pub text_given : Contains regions text
+  pub text_some : 0 < text.1
+  pub below : text.0 < 0x20000000
+  pub ram_given : IsNoRegion ram ⊎ (Contains regions ram × (0 < ram.1) × (0x20000000 ≤ ram.0))
 
 -- a bank has the bytes of a region and no others
 abbrev pub IsBankOf : List Bank → ℕ → ℕ × ℕ → Type 0

@@ -50,24 +50,28 @@ fn lend_two<B: Borrower>(banks: &mut [Bank], text: usize, ram: usize, borrower: 
 
 impl Memory {
     ghost use Rattle.std.specs.Prelude.{◌≡◌, true, false};
-    ghost use Rattle.mem_banks.specs.Loans.{IsLoan};
+    ghost use Rattle.mem_banks.specs.Loans.{IsLoan, AreGiven};
 
     /// Lends the bytes of two regions, by base and size, where each has a bank of its own and the
-    /// second one lies in the RAM. Else nothing changes, and the answer is false.
-    ///
-    /// No clause says that regions which were given to `open` are lent: callers see the flash and the
-    /// RAM alone, and not what banks there are.
+    /// second one lies in the RAM; or those of one region and no bytes, where the second one is empty
+    /// and begins where the RAM does. Else nothing changes, and the answer is false. Regions that were
+    /// given to `open` are lent.
     pub fn lend<B: Borrower>(&mut self, text: (u32, u32), ram: (u32, u32), borrower: &mut B) -> bool
-        ensures lent { result ≡ true → IsLoan B.did self.old text ram borrower.old borrower.new self.new }
+        ensures lent { result ≡ true → IsLoan B.did self.old.bytes text ram borrower.old borrower.new self.new.bytes }
+        ensures given { AreGiven self.old.regions text ram → result ≡ true }
+        ensures regions { self.new.regions ≡ self.old.regions }
         ensures kept { result ≡ false → self.new ≡ self.old }
         ensures left { result ≡ false → borrower.new ≡ borrower.old }
     {
-        if ram.0 < RAM {
-            return false;
-        }
         let Some(code) = bank_of(&self.banks, &self.table, text) else {
             return false;
         };
+        if ram == (RAM, 0) {
+            return self.lend_alone(code, borrower);
+        }
+        if ram.0 < RAM {
+            return false;
+        }
         let Some(bank) = bank_of(&self.banks, &self.table, ram) else {
             return false;
         };

@@ -1,6 +1,6 @@
 use Rattle.std.proofs.Common.{◌∙◌}
 use Rattle.task_table.specs.Holds.{kept_of, setup_of, memory_of}
-use Rattle.task_table.specs.Lent.{span_of}
+use Rattle.task_table.specs.Lendable.{span_of}
 use Rattle.task_table.proofs.Loans.{holds_overlaid, loan_of, lent_or_not, setup_lent, fresh_lent}
 use Rattle.task_table.proofs.kernel.Kernel.lend.Goals as goal
 
