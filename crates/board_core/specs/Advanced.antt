@@ -4,8 +4,9 @@ use Rattle.task_table.specs.State.{State}
 use Rattle.run_script.specs.Scripts.{events_of}
 use Rattle.board_core.specs.declared.board.Board.{Board}
 use Rattle.board_model.specs.declared.told.Level.{Level}
+use Rattle.board_model.specs.declared.told.Level.TheVariants.{Calls}
 use Rattle.board_model.specs.Script.{Scenario}
-use Rattle.board_model.specs.Run.{ending, turn_after}
+use Rattle.board_model.specs.Run.{ending, turn_after, state_after}
 use Rattle.board_core.specs.Stands.{Stands, notes_of}
 
 -- the board stands for the state after n turns and one more, and tells the notes of that one: the n
@@ -15,6 +16,13 @@ pub record IsAdvanced (level : Level) (x : Scenario) (n : ℕ) (s : State) (b : 
   pub goes_on : (k : ℕ) → k < n → ending x 1 (turn_after level x k s).state ≡ None
   pub stands : Stands x b (turn_after level x n s).state
   pub notes : notes_of b ≡ (turn_after level x n s).notes
+
+-- the board stands for the state after n turns, none of which noted anything or ended the run
+pub record HasGlidden (x : Scenario) (s : State) (n : ℕ) (b : Board) : Type 0 where
+  pub stands : Stands x b (state_after Calls x n s)
+  pub nothing : (k : ℕ) → k < n → (turn_after Calls x k s).notes ≡ []
+  pub goes_on : (k : ℕ) → k < n → ending x 1 (turn_after Calls x k s).state ≡ None
+  pub notes : 0 < n → notes_of b ≡ []
 
 -- a turn in which something happens from outside, or before which the run ends
 abbrev pub IsStopped : Scenario → State → Type 0

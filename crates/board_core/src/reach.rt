@@ -2,7 +2,8 @@
 ghost use Rattle.std.specs.Prelude.{◌≡◌, ◌&&◌, ◌+◌, ◌*◌, ◌≤◌, ◌<◌, ◌%◌, ◌^◌, ◌/◌, ◌∷◌, [], Option, Some, true, false, None, MatchResult};
 ghost use Rattle.region_check.specs.Rights.{may_use, has_right};
 ghost use Rattle.region_check.specs.declared.Right.TheVariants.{Execute, Read};
-ghost use Rattle.board_core.specs.Spans.{spans, one_gives};
+ghost use Rattle.board_core.specs.Spans.{one_gives};
+ghost use Rattle.window_laws.specs.Reached.{spans};
 ghost use Rattle.task_table.specs.Reading.{setup_at};
 ghost use Rattle.mem_banks.specs.Memory.{number_at};
 ghost use Rattle.task_table.specs.Holds.{memory_of, setup_of, current_of};
@@ -144,26 +145,76 @@ impl Reach {
     }
 }
 
-impl Reach {
-    ghost use Rattle.std.specs.Prelude.{IfSome};
-    ghost use Rattle.board_core.specs.Gliding.{AreWindow};
+ghost use Rattle.std.specs.Prelude.{MatchOption, Contains};
+ghost use Rattle.std.specs.List.{list_any};
+ghost use Rattle.window_laws.specs.Reached.{is_flash_at, is_ram_at, IsStackRegion};
 
-    /// Two regions of the current task in which it may make many instructions on end: that of its text, in the flash, and that
-    /// of its data.
-    pub fn window(&self) -> Option<(Region, Region)>
-        ensures { IfSome result (λ w. AreWindow (setup_at (setup_of self.now.kernel) (current_of self.now.kernel)).regions w.0 w.1) }
+/// Whether a region of the flash has the instruction at an address, and may be executed.
+fn is_flash_at(region: &Region, at: u32) -> bool
+    ensures { result ≡ is_flash_at at region.now }
+{
+    spans(region, at, 2)
+        && region.rights.execute
+        && !region.rights.device
+        && region.base < RAM
+}
+
+/// Whether a region of the RAM has an address, or ends there, and may be read and written.
+fn is_ram_at(region: &Region, at: u32) -> bool
+    ensures { result ≡ is_ram_at at region.now }
+{
+    spans(region, at, 0)
+        && region.size > 0
+        && region.rights.read
+        && region.rights.write
+        && !region.rights.device
+        && region.base >= RAM
+}
+
+/// One of some regions that is of the flash and has the instruction at an address.
+fn flash_at(regions: &[Region], at: u32) -> Option<Region>
+    ensures { MatchOption result (list_any (is_flash_at at) regions.now ≡ false) (λ r. Contains regions.now r × (is_flash_at at r ≡ true)) }
+{
+    for region in regions {
+        if is_flash_at(region, at) {
+            return Some(*region);
+        }
+    }
+    None
+}
+
+/// One of some regions that is of the RAM and has an address, or ends there; an empty one where none is.
+fn ram_at(regions: &[Region], at: u32) -> Region
+    ensures { IsStackRegion regions.now at result }
+{
+    for region in regions {
+        if is_ram_at(region, at) {
+            return *region;
+        }
+    }
+    Region {
+        base: RAM,
+        size: 0,
+        rights: Rights {
+            read: false,
+            write: false,
+            execute: false,
+            device: false,
+        },
+    }
+}
+
+impl Reach {
+    ghost use Rattle.window_laws.specs.Reached.{AreReached};
+
+    /// The two regions in which the current task may make many instructions on end: that of the flash that has its PC, and that of
+    /// the RAM that has its stack, or an empty one.
+    pub fn window(&self, pc: u32, sp: u32) -> Option<(Region, Region)>
+        ensures { let regions = (setup_at (setup_of self.now.kernel) (current_of self.now.kernel)).regions in MatchOption result (list_any (is_flash_at pc) regions ≡ false) (λ w. AreReached regions pc sp w.0 w.1) }
     {
         let regions = self.kernel.regions(self.kernel.current());
-        let text = *regions.get(self.text)?;
-        let ram = *regions.get(self.data)?;
-        if !text.rights.execute || text.base >= RAM {
-            return None;
-        }
-        if ram.rights.read && ram.rights.write {
-            Some((text, ram))
-        } else {
-            None
-        }
+        let flash = flash_at(regions, pc)?;
+        Some((flash, ram_at(regions, sp)))
     }
 }
 
