@@ -48,6 +48,10 @@ pub record AreGiven (regions : List (ℕ × ℕ)) (text ram : ℕ × ℕ) : Type
 abbrev pub IsBankOf : List Bank → ℕ → ℕ × ℕ → Type 0
 IsBankOf banks k r = (k < length banks) × ((d : Bank) → ((slice_index_or banks k d).base ≡ r.0) × (length (slice_index_or banks k d).bytes.items ≡ r.1))
 
+-- no bank has the bytes of a region that has some
+abbrev pub HasNoBank : List Bank → ℕ × ℕ → Type 0
+HasNoBank banks r = (k : ℕ) → 0 < r.1 → IsBankOf banks k r → ⊥
+
 -- a borrower did its work with the bytes of two banks, and those of the first one are as before
 pub record AreLent {B : Type 0} (did : B → List ℕ → List ℕ → B → List ℕ → Type 0) (old : List Bank) (i j : ℕ) (b b' : B) (banks : List Bank) : Type 0 where
   pub after : List ℕ
@@ -56,3 +60,8 @@ pub record AreLent {B : Type 0} (did : B → List ℕ → List ℕ → B → Lis
   pub between : List Bank
   pub first : IsPut old i 0 [] between
   pub second : IsPut between j 0 after banks
+
+-- the same with the bytes of one bank, and with no others
+pub record IsLentAlone {B : Type 0} (did : B → List ℕ → List ℕ → B → List ℕ → Type 0) (old : List Bank) (i : ℕ) (b b' : B) (banks : List Bank) : Type 0 where
+  pub work : (d : Bank) → did b (slice_index_or old i d).bytes.items [] b' []
+  pub put : IsPut old i 0 [] banks

@@ -1,10 +1,12 @@
 //! The bytes of two banks, lent to somebody for the time of one call.
 
-ghost use Rattle.std.specs.Prelude.{◌≡◌, ◌<◌, ℕ, List, All, IfSome, length};
-ghost use Rattle.mem_banks.specs.Loans.{AreLent, IsBankOf};
+ghost use Rattle.std.specs.Prelude.{◌≡◌, ◌<◌, ℕ, List, IfSome, IfNone, length};
+ghost use Rattle.mem_banks.specs.Kept.{AreKept};
+ghost use Rattle.mem_banks.specs.Loans.{AreLent, IsLentAlone, IsBankOf, HasNoBank};
 
 use crate::bank::{Bank, find};
 use crate::{Memory, RAM};
+use std::alloc::Global;
 
 /// Who works with the bytes of two regions while they are lent: code, which stays as it is, and data in
 /// the RAM.
@@ -21,9 +23,9 @@ pub trait Borrower {
 
 /// The bank that has the bytes of a region and no others.
 fn bank_of(banks: &[Bank], table: &[u16], region: (u32, u32)) -> Option<usize>
-    requires len { length table.now ≡ 8192 }
-    requires hints { All (λ k. k < length banks.now) table.now }
-    ensures { IfSome result (λ k. IsBankOf banks.now k region) }
+    requires { AreKept table.now banks.now }
+    ensures found { IfSome result (λ k. IsBankOf banks.now k region) }
+    ensures none { IfNone result (HasNoBank banks.now region) }
 {
     let place = find(banks, table, region.0)?;
     if place.at == 0 && banks[place.bank].bytes.len() == region.1 as usize {
@@ -48,6 +50,15 @@ fn lend_two<B: Borrower>(banks: &mut [Bank], text: usize, ram: usize, borrower: 
     }
 }
 
+/// Lends the bytes of one bank, and no bytes beside them.
+fn lend_one<B: Borrower>(banks: &mut [Bank], text: usize, alloc: Global, borrower: &mut B)
+    requires { text < length banks.old }
+    ensures { IsLentAlone B.did banks.old text borrower.old borrower.new banks.new }
+{
+    let mut none = Vec::new(alloc);
+    borrower.work(&mut banks[text].bytes, &mut none);
+}
+
 impl Memory {
     ghost use Rattle.std.specs.Prelude.{◌≡◌, true, false};
     ghost use Rattle.mem_banks.specs.Loans.{IsLoan, AreGiven};
@@ -67,7 +78,8 @@ impl Memory {
             return false;
         };
         if ram == (RAM, 0) {
-            return self.lend_alone(code, borrower);
+            lend_one(&mut self.banks, code, self.alloc, borrower);
+            return true;
         }
         if ram.0 < RAM {
             return false;

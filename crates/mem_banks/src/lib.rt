@@ -34,6 +34,8 @@ pub struct Memory {
     /// How many bytes the RAM has.
     ram: u32,
     regions: Vec<(u32, u32)>,
+    /// Where a text is lent alone, the empty list beside it is made by it.
+    alloc: Global,
 }
 
 /// A bank in which to look first. Any is right: it is a hint.
@@ -82,6 +84,7 @@ impl Memory {
             table,
             ram,
             regions: regions.to_vec(alloc)?,
+            alloc,
         };
         memory.store(FLASH, flash);
         Ok(memory)

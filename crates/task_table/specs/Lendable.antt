@@ -20,6 +20,6 @@ pub record IsUsable (regions : List Region) (r : Region) : Type 0 where
 
 -- two of some regions: one in the flash, and one in the RAM, or none
 pub record AreUsable (regions : List Region) (text ram : Region) : Type 0 where
-  pub text : IsUsable regions text
+  pub text_usable : IsUsable regions text
   pub below : text.base < 0x20000000
-  pub ram : IsNoRegion (span_of ram) ⊎ (IsUsable regions ram × (0x20000000 ≤ ram.base))
+  pub ram_usable : IsNoRegion (span_of ram) ⊎ (IsUsable regions ram × (0x20000000 ≤ ram.base))

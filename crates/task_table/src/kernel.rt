@@ -63,7 +63,7 @@ pub struct Kernel {
     ghost ready_now: { AreThose is_free slots.items ready.words },
     ghost offered_now: { AreOffers slots.items offers.items },
     ghost deadlines: { AreNotBefore earliest slots.items },
-    ghost lendable: { AreLendable memory.regions (map task_setup tasks.items) },
+    ghost lendable: { ∥ AreLendable memory.regions (map task_setup tasks.items) ∥₁ },
     ghost fresh: { AreFresh memory.bytes watch.low watch.span entries.items },
     ghost of_calls: { AreEntriesOf (map task_setup tasks.items) slots.items entries.items },
 }
