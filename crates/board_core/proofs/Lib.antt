@@ -9,6 +9,5 @@ pub mod Skipping
 pub mod Stopping
 pub mod Telling
 pub mod CallRows
-pub mod Doing
 pub mod Fetching
 pub mod Windowing

@@ -144,6 +144,7 @@ impl Machine {
     pub fn begin(&mut self)
         ensures holds { (g : Setup) (t : Turn) → MachineHolds g self.old t → MachineHolds g self.new (begun t.state) }
         ensures count { note_count self.new.reach.kernel ≡ 0 }
+        ensures loaded { self.new.loaded ≡ self.old.loaded }
     {
         self.reach.kernel.clear_notes();
     }

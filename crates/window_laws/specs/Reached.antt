@@ -22,7 +22,7 @@ abbrev pub IsStackRegion : List Region → ℕ → Region → Type 0
 IsStackRegion regions sp r = (Contains regions r × (is_ram_at sp r ≡ true)) ⊎ (IsNoRegion (span_of r) × (list_any (is_ram_at sp) regions ≡ false))
 
 -- the region that has the instruction at PC, and that of the stack
-pub record AreReached (regions : List Region) (pc sp : ℕ) (flash ram : Region) : Type 0 where
-  pub here : Contains regions flash
-  pub flash : is_flash_at pc flash ≡ true
-  pub ram : IsStackRegion regions sp ram
+pub record AreReached (regions : List Region) (pc sp : ℕ) (code stack : Region) : Type 0 where
+  pub here : Contains regions code
+  pub flash : is_flash_at pc code ≡ true
+  pub ram : IsStackRegion regions sp stack

@@ -1,0 +1,40 @@
+use Rattle.std.proofs.Common.{◌≡◌, ◌-◌, ◌<◌, ℕ, suc, arith, ap, subst}
+use Rattle.board_model.specs.declared.told.Level.TheVariants.{Calls}
+use Rattle.board_model.specs.Run.{state_after}
+use Rattle.board_core.specs.declared.board.Board.{Board}
+use Rattle.board_core.specs.Stands.{turns_of}
+use Rattle.board_core.specs.Advanced.{IsAdvanced, HasGlidden}
+use Rattle.board_core.proofs.Gliding.{one_more, all_made}
+use Rattle.board_core.proofs.board.Board.glide_and_turn.Goals as goal
+
+pub turn_at-requires-clause-stood : goal.turn_at-requires-clause-stood
+turn_at-requires-clause-stood c =
+    let x = c.requires.stood.0 in
+    let s = c.requires.stood.1 in
+    (x, state_after Calls x (turns_of c.glide.new.self - turns_of c.args.self.now) s, (c.glide.ensures.glided x s c.requires.stood.2).stands)
+
+pub returns-then-self-limit-clause-advanced : goal.returns-then-self-limit-clause-advanced
+returns-then-self-limit-clause-advanced c = λ x s st.
+    let b = c.args.self.now in
+    let b1 = c.glide.new.self in
+    let b2 = c.turn_at.new.self in
+    let e : turns_of b1 - turns_of b ≡ turns_of b2 - turns_of b - 1 = omega (arith, c.glide.ensures.more, c.turn_at.ensures.turns) in
+    subst (λ (n : ℕ). IsAdvanced Calls x n s b2) e (one_more x (turns_of b1 - turns_of b) s b1 b2 (c.glide.ensures.glided x s st) (λ u h. c.turn_at.ensures.model x u h) (λ u h. c.turn_at.ensures.notes x u h))
+
+pub returns-else-self-limit-clause-advanced : goal.returns-else-self-limit-clause-advanced
+returns-else-self-limit-clause-advanced c = λ x s st.
+    let b = c.args.self.now in
+    let b1 = c.glide.new.self in
+    let n : ℕ = turns_of b1 - turns_of b - 1 in
+    let e : turns_of b1 - turns_of b ≡ suc n = omega (arith, c.if-self-limit.false, c.requires.left) in
+    all_made x n s b1 (subst (λ (k : ℕ). HasGlidden x s k b1) e (c.glide.ensures.glided x s st))
+
+pub returns-else-self-limit-clause-within : goal.returns-else-self-limit-clause-within
+returns-else-self-limit-clause-within c =
+    let stays = λ h. ap (λ (b : Board). turns_of b) (c.glide.ensures.stays h) in
+    omega (arith, stays, c.glide.ensures.within, c.quiet_until.ensures.within, c.requires.left)
+
+pub returns-else-self-limit-clause-noted : goal.returns-else-self-limit-clause-noted
+returns-else-self-limit-clause-noted c =
+    let made = c.glide.ensures.glided c.requires.stood.0 c.requires.stood.1 c.requires.stood.2 in
+    rw (made.notes (omega (arith, c.if-self-limit.false, c.requires.left))) (omega arith)
