@@ -21,7 +21,6 @@ use crate::glider::Glider;
 use crate::reach::Reach;
 use board_model::{Level, Turned};
 use kernel_abi::{Fault, Note};
-use region_check::Region;
 use run_script::{Event, Script};
 use std::alloc::Global;
 use task_table::Kernel;
@@ -67,15 +66,8 @@ impl Machine {
             c: false,
             v: false,
         };
-        let near = kernel.near(0);
         Machine {
-            reach: Reach {
-                kernel,
-                data: 0,
-                text: 0,
-                near_data: near,
-                near_text: near,
-            },
+            reach: Reach { kernel },
             processor: Cpu {
                 regs: Regs::of([0; 16]),
                 flags,
@@ -128,13 +120,6 @@ impl Machine {
         self.reach.kernel.set_current(task);
         self.processor = cpu(&self.reach.kernel, task);
         self.loaded = true;
-        let regions = self.reach.kernel.regions(task);
-        let text = place_of(regions, self.processor.regs.get(15));
-        let data = place_of(regions, self.processor.regs.get(13));
-        self.reach.text = text;
-        self.reach.data = data;
-        self.reach.near_text = self.reach.near(text);
-        self.reach.near_data = self.reach.near(data);
     }
 }
 
@@ -287,6 +272,20 @@ impl Machine {
         ensures holds { (g : Setup) (t : Turn) → IsReady g self.old t → MachineHolds g self.new (executed g t.state.current insn.now t) }
         ensures count { note_count self.new.reach.kernel ≤ note_count self.old.reach.kernel + call_notes + 1 }
     {
+        match insn {
+            Insn::Svc { .. } => self.call(),
+            _ => self.execute_own(insn),
+        }
+    }
+
+    /// The same of an instruction that is no call.
+    fn execute_own(&mut self, insn: &Insn)
+        requires coded { IsCoded insn.now }
+        requires ready { (g : Setup) × (t : Turn) × IsReady g self.old t × HasNumber t.state }
+        requires room { note_count self.old.reach.kernel + call_notes + 1 ≤ turn_notes }
+        ensures holds { (g : Setup) (t : Turn) → IsReady g self.old t → MachineHolds g self.new (executed g t.state.current insn.now t) }
+        ensures count { note_count self.new.reach.kernel ≤ note_count self.old.reach.kernel + call_notes + 1 }
+    {
         match exec(&mut self.processor, insn, &mut self.reach) {
             Outcome::Next => {}
             Outcome::Call => self.call(),
@@ -387,15 +386,4 @@ impl Machine {
         self.processor = self.glider.runner.processor;
         self.glider.made
     }
-}
-
-/// Which region has an address or ends at it; how many there are where none does.
-fn place_of(regions: &[Region], at: u32) -> usize {
-    for k in 0..regions.len() {
-        let region = regions[k];
-        if region.base <= at && at - region.base <= region.size {
-            return k;
-        }
-    }
-    regions.len()
 }

@@ -3,7 +3,7 @@ use Rattle.board_core.specs.Machine.{MachineHolds}
 use Rattle.board_core.proofs.Running.{stores_hold, stores_notes, was_next, was_call, was_trap}
 use Rattle.board_model.proofs.Stepping.{trap_known}
 use Rattle.board_core.proofs.Loading.{effect_loaded, loaded_by, goes_on, next_loaded, acted_as, ready_same}
-use Rattle.board_core.proofs.machine.Machine.execute.Goals as goal
+use Rattle.board_core.proofs.machine.Machine.execute_own.Goals as goal
 
 pub fault-requires-clause-from_one : goal.fault-requires-clause-from_one
 fault-requires-clause-from_one c =
