@@ -61,9 +61,6 @@ is_loaded loaded g k cpu t e h = rw e at h
 pub unloaded_by : (loaded : Bool) (g : Setup) (k : Kernel) (cpu : Cpu) (t : Turn) → loaded ≡ false → Holds g k t → HoldsBy loaded g k cpu t
 unloaded_by loaded g k cpu t e h = rw e h
 
-pub is_unloaded : (loaded : Bool) (g : Setup) (k : Kernel) (cpu : Cpu) (t : Turn) → loaded ≡ false → HoldsBy loaded g k cpu t → Holds g k t
-is_unloaded loaded g k cpu t e h = rw e at h
-
 -- ## a turn begins, and has ended
 
 begun-with_cpu : (cpu : Cpu) (s : Turn) → begun (with_cpu cpu s).state ≡ with_cpu cpu (begun s.state)

@@ -3,7 +3,7 @@ use Rattle.std.proofs.Common.{◌≡◌, ◌+◌, ◌<◌, ◌≤◌, inl, inr, 
 use Rattle.std.specs.Prelude.{Contains}
 use Rattle.std.proofs.lemmas.Bool.{eqb-true, eqb-false, false≢true}
 use Rattle.std.proofs.lemmas.List.Elements.{Contains-append_cases, Contains-append_left, Contains-push, Contains-push_cases}
-use Rattle.std.proofs.lemmas.List.{length-map, length-replicate, take_more}
+use Rattle.std.proofs.lemmas.List.{length-map, length-replicate, take_more, take_all}
 use Rattle.region_check.specs.declared.Region.{Region}
 use Rattle.image_format.specs.Picture.{Picture, TaskPicture, LinePicture, no_task, no_line, task_in, regions_in}
 use Rattle.image_format.specs.Facts.{Facts}
@@ -145,12 +145,8 @@ places_further p n rs xs have own first i r lt here none = by (eqb i n) refl
     by true e =
         let same : i ≡ n = eqb-true i n e in
         let there : Contains rs r = subst (λ (zs : List Region). Contains zs r) (sym own) (subst (λ (j : ℕ). Contains (regions_in p j) r) same here) in
-        first r (subst (λ (zs : List Region). Contains zs r) (sym (take_all rs)) there) none
+        first r (subst (λ (zs : List Region). Contains zs r) (sym (take_all (length rs) rs (omega arith))) there) none
     by false e = have i r (omega (arith, lt, eqb-false i n e)) here none
-
-    take_all : (zs : List Region) → take (length zs) zs ≡ zs
-    take_all [] = refl
-    take_all (z ∷ zs) = ap (λ (ys : List Region). z ∷ ys) (take_all zs)
 
 -- a task of the setup is one of the image
 task_there : (xs : List TaskPicture) (t : TaskSetup) → Contains (map setup_of_task xs) t → (i : ℕ) × (i < length xs) × (setup_of_task (get_or xs i no_task) ≡ t)

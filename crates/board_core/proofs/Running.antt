@@ -31,10 +31,6 @@ pub stores_hold : (ss : List Store) (m m' : Reach) → Stores stored_by m ss m' 
 stores_hold [] m m' e g t h = rw e h
 stores_hold (x ∷ xs) m m' e g t h = stores_hold xs e.0 m' e.2 g (put t x) (e.1.holds g t h)
 
-pub stores_count : (ss : List Store) (m m' : Reach) → Stores stored_by m ss m' → task_count m'.kernel ≡ task_count m.kernel
-stores_count [] m m' e = ap (λ (n : Reach). task_count n.kernel) e
-stores_count (x ∷ xs) m m' e = stores_count xs e.0 m' e.2 ∙ e.1.tasks
-
 pub stores_notes : (ss : List Store) (m m' : Reach) → Stores stored_by m ss m' → note_count m'.kernel ≡ note_count m.kernel
 stores_notes [] m m' e = ap (λ (n : Reach). note_count n.kernel) e
 stores_notes (x ∷ xs) m m' e = stores_notes xs e.0 m' e.2 ∙ e.1.notes

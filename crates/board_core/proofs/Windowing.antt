@@ -13,7 +13,9 @@ use Rattle.mem_banks.specs.Memory.{Memory, bytes_at, with_bytes}
 use Rattle.mem_banks.specs.Loans.{IsInMemory, IsInRam, IsInFlash}
 use Rattle.mem_banks.proofs.Windows.{region_length}
 use Rattle.thumb_exec.specs.declared.cpu.Cpu.{Cpu}
-use Rattle.thumb_window.specs.Windows.{View, Keeps}
+use Rattle.thumb_exec.specs.Effect.{Halts}
+use Rattle.thumb_step.specs.Fetch.{step_effect}
+use Rattle.thumb_window.specs.Windows.{View, Keeps, refused_by, held_by}
 use Rattle.task_table.specs.State.{Setup, State, Task, Turn}
 use Rattle.task_table.specs.Start.{begun}
 use Rattle.task_table.specs.Reading.{setup_at, task_at, call_of, listen_of, is_ready, chosen, register, stack_pointer}
@@ -325,7 +327,7 @@ module _ (x : Scenario) (u : State) (b : Board) (m : Machine) (task most n until
       record {
         window = h.after;
         whole = record { is = left.window; stack = λ some. same_stack left.keeps (h.whole.stack some) };
-        halts = rw left.processor (h.far lt);
+        halts = subst (λ (d : Cpu). Halts (step_effect (refused_by h.after) (held_by h.after) d)) (sym left.processor) (h.far lt);
       }
     where
       same_stack : Keeps h.window h.after → HasStack (register u u.current stack_pointer) h.window → HasStack (register u u.current stack_pointer) h.after

@@ -1,7 +1,8 @@
-use Rattle.std.proofs.Common.{◌≡◌, Bool, true, false, not, arith, ap, refl, sym, ◌∙◌}
+use Rattle.std.proofs.Common.{◌≡◌, ℕ, List, length, subst, Bool, true, false, not, arith, ap, refl, sym, ◌∙◌}
 use Rattle.std.proofs.lemmas.Bool.{false≢true}
+use Rattle.region_check.specs.declared.Region.{Region}
 use Rattle.image_format.specs.Images.{picture}
-use Rattle.board_core.proofs.Opens.{none_first, places_step, pushed_more, device_more, places_kept, places_further}
+use Rattle.board_core.proofs.Opens.{HaveFirst, none_first, places_step, pushed_more, device_more, places_kept, places_further}
 use Rattle.board_core.proofs.opening.push_places.Goals.{then-not-region+in_ok-push, else-not-region}
 use Rattle.board_core.proofs.opening.push_places.Goals as goal
 
@@ -14,7 +15,7 @@ is_true true e = refl
 is_true false e = absurd (false≢true (sym e))
 
 pub loop-k-init : goal.loop-k-init
-loop-k-init c = record { are = c.requires.places; before = c.requires.before; own = c.in_ok-regions.ensures; first = none_first _ _ }
+loop-k-init c = record { are = c.requires.places; before = c.requires.before; own = c.in_ok-regions.ensures; first = none_first c.in_ok-regions.regions.items c.args.places.now.items }
 
 pub loop-k-preserved : goal.loop-k-preserved
 loop-k-preserved c =
@@ -38,3 +39,12 @@ loop-k-preserved c =
         first = rw w.places-is (device_more c.in_ok-regions.regions.items c.loop-k.k c.loop-k.places.items region inv.first (omega (arith, lt)) c.index-region.ensures (is_true region.rights.device w.if-not-region.false));
       }
     ]
+
+pub returns-clause-all : goal.returns-clause-all
+returns-clause-all c =
+    let p = picture c.args.image.now in
+    let inv = c.loop-k.invariant in
+    let regions : List Region = c.in_ok-regions.regions.items in
+    let places : List (ℕ × ℕ) = c.loop-k.places.items in
+    let e : c.loop-k.k ≡ length regions = omega (arith, c.loop-k-test.false, c.loop-k.auto.k-end, c.len-k-end.ensures) in
+    places_further p c.args.i regions places inv.before inv.own (subst (λ (k : ℕ). HaveFirst regions k places) e inv.first)

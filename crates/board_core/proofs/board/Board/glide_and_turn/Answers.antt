@@ -1,4 +1,5 @@
-use Rattle.std.proofs.Common.{◌≡◌, ◌-◌, ◌<◌, ℕ, suc, arith, ap, subst}
+use Rattle.std.proofs.Common.{◌≡◌, ◌-◌, ◌≤◌, ◌<◌, ℕ, Bool, true, false, refl, leb, suc, arith, ap, subst}
+use Rattle.std.proofs.lemmas.Bool.{leb-true, leb-false}
 use Rattle.board_model.specs.declared.told.Level.TheVariants.{Calls}
 use Rattle.board_model.specs.Run.{state_after}
 use Rattle.board_core.specs.declared.board.Board.{Board}
@@ -29,10 +30,17 @@ returns-else-self-limit-clause-advanced c = λ x s st.
     let e : turns_of b1 - turns_of b ≡ suc n = omega (arith, c.if-self-limit.false, c.requires.left) in
     all_made x n s b1 (subst (λ (k : ℕ). HasGlidden x s k b1) e (c.glide.ensures.glided x s st))
 
+-- turns that stop at a place below the limit, or stay past it
+below_limit : (until from to limit : ℕ) → (from ≤ until → to ≤ until) → (until ≤ from → to ≡ from) → until ≤ limit → from < limit → to ≤ limit
+below_limit until from to limit within stays less left = by (leb from until) refl
+  where
+    by : (b : Bool) → leb from until ≡ b → to ≤ limit
+    by true e = let h = within (leb-true from until e) in omega (arith, h, less)
+    by false e = let h = stays (let gt = leb-false from until e in omega (arith, gt)) in omega (arith, h, left)
+
 pub returns-else-self-limit-clause-within : goal.returns-else-self-limit-clause-within
 returns-else-self-limit-clause-within c =
-    let stays = λ h. ap (λ (b : Board). turns_of b) (c.glide.ensures.stays h) in
-    omega (arith, stays, c.glide.ensures.within, c.quiet_until.ensures.within, c.requires.left)
+    below_limit c.quiet_until.result (turns_of c.args.self.now) (turns_of c.glide.new.self) c.args.limit c.glide.ensures.within (λ h. ap (λ (b : Board). turns_of b) (c.glide.ensures.stays h)) c.quiet_until.ensures.within c.requires.left
 
 pub returns-else-self-limit-clause-noted : goal.returns-else-self-limit-clause-noted
 returns-else-self-limit-clause-noted c =

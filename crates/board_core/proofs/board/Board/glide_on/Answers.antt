@@ -25,6 +25,6 @@ returns-else-is_loaded_for-clause-glided c = λ x s st. none_made x s c.args.sel
 
 pub returns-else-is_loaded_for-clause-far : goal.returns-else-is_loaded_for-clause-far
 returns-else-is_loaded_for-clause-far c = λ x s st at loaded lt. elim (c.is_loaded_for.ensures.other c.if-is_loaded_for.false) [
-  | inl no ↦ absurd (false≢true (sym no ∙ loaded))
-  | inr ne ↦ absurd (ne (current_now x s c.args.self.now st ∙ at))
+  | inl unloaded ↦ absurd (false≢true (sym unloaded ∙ loaded))
+  | inr other ↦ absurd (other (current_now x s c.args.self.now st ∙ at))
 ]

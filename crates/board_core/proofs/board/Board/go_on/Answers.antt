@@ -1,13 +1,46 @@
-use Rattle.std.proofs.Common.{◌≡◌, ◌-◌, ◌+◌, ℕ, suc, [], None, sym, ◌∙◌, subst, arith}
+use Rattle.std.proofs.Common.{◌≡◌, ◌-◌, ◌+◌, ℕ, suc, [], None, not, sym, ◌∙◌, ap, subst, arith}
 use Rattle.task_table.specs.State.{State}
 use Rattle.board_model.specs.declared.told.Level.TheVariants.{Calls}
+use Rattle.board_model.specs.Script.{Scenario}
 use Rattle.board_model.specs.Run.{ending, turn_after}
 use Rattle.board_core.specs.Stands.{notes_of, turns_of}
 use Rattle.board_core.specs.Advanced.{IsAdvanced}
 use Rattle.board_core.proofs.Turning.{empty_of}
 use Rattle.board_core.proofs.Gliding.{joined}
-use Rattle.board_core.proofs.Stopping.{ended_stops}
+use Rattle.board_core.proofs.Stopping.{ended_goes, ended_stops}
 use Rattle.board_core.proofs.board.Board.go_on.Goals as goal
 
+pub ended-requires : goal.ended-requires
+ended-requires c =
+    let x : Scenario = c.requires.stood.0 in
+    let s : State = c.requires.stood.1 in
+    (x, (turn_after Calls x (turns_of c.on.self - turns_of c.args.self.now - 1) s).state, (c.on.invariant.advanced x s c.requires.stood.2).stands)
+
+pub glide_and_turn-requires-in-on-clause-stood : goal.glide_and_turn-requires-in-on-clause-stood
+glide_and_turn-requires-in-on-clause-stood c =
+    let x : Scenario = c.requires.stood.0 in
+    let s : State = c.requires.stood.1 in
+    (x, (turn_after Calls x (turns_of c.on.self - turns_of c.args.self.now - 1) s).state, (c.on.invariant.advanced x s c.requires.stood.2).stands)
+
 pub on-preserved : goal.on-preserved
-on-preserved c = ?
+on-preserved c =
+    let inv = c.on.invariant in
+    let b = c.args.self.now in
+    let b1 = c.on.self in
+    let b2 = c.glide_and_turn-in-on.new.self in
+    let none : notes_of b1 ≡ [] = sym c.notes.ensures ∙ empty_of c.notes.result.now (sym c.is_empty.ensures ∙ c.if-is_empty.true) in
+    let from = inv.more in
+    let more = c.glide_and_turn-in-on.ensures.more in
+    let n : ℕ = turns_of b1 - turns_of b - 1 in
+    let m : ℕ = turns_of b2 - turns_of b1 - 1 in
+    let e : n + suc m ≡ turns_of b2 - turns_of b - 1 = omega (arith, from, more) in
+    record {
+      advanced = λ x s st.
+          let before = inv.advanced x s st in
+          let u : State = (turn_after Calls x n s).state in
+          let goes : ending x 1 u ≡ None = ended_goes x u c.ended.result (c.ended.ensures.before x u 1 before.stands (omega arith)) (c.is_none.ensures ∙ ap not c.if-is_none.true) in
+          subst (λ (k : ℕ). IsAdvanced Calls x k s b2) e (joined x n m s b1 b2 before none goes (c.glide_and_turn-in-on.ensures.advanced x u before.stands));
+      more = omega (arith, from, more);
+      within = c.glide_and_turn-in-on.ensures.within;
+      noted = c.glide_and_turn-in-on.ensures.noted;
+    }

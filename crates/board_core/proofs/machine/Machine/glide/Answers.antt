@@ -1,4 +1,5 @@
-use Rattle.std.proofs.Common.{◌≡◌, false, ℕ, inl, inr, refl, sym, ◌∙◌, ap, subst, arith}
+use Rattle.std.proofs.Common.{◌≡◌, true, false, ℕ, inl, inr, refl, sym, ◌∙◌, ap, subst, arith}
+use Rattle.std.proofs.lemmas.Bool.{false≢true}
 use Rattle.std.specs.List.{list_any}
 use Rattle.mem_banks.specs.Memory.{Memory, with_bytes}
 use Rattle.mem_banks.specs.Loans.{bytes_of}
@@ -17,8 +18,8 @@ use Rattle.board_core.proofs.Gliding.{current_seen}
 use Rattle.board_core.proofs.Windowing.{are_usable, whole_window, text_below, lent_loaded}
 use Rattle.board_core.proofs.machine.Machine.glide.Goals as goal
 
-pub returns-in-None-clause-glided : goal.returns-in-None-clause-glided
-returns-in-None-clause-glided c = λ g t r.
+pub returns-in_default-clause-glided : goal.returns-in_default-clause-glided
+returns-in_default-clause-glided c = λ g t r.
     let m = c.args.self.now in
     let k = m.reach.kernel in
     let pc : c.get-pc.result ≡ register t.state t.state.current program_counter = c.get-pc.ensures ∙ loaded_register program_counter g k m.processor t r.holds r.sane.steady.current in
@@ -28,14 +29,15 @@ returns-in-None-clause-glided c = λ g t r.
           ap (λ (at : ℕ). list_any (is_flash_at at) (setup_at g t.state.current).regions) (sym pc)
           ∙ ap (λ (i : ℕ). list_any (is_flash_at c.get-pc.result) (setup_at g i).regions) (sym (current_seen g m t r))
           ∙ ap (λ (x : Setup). list_any (is_flash_at c.get-pc.result) (setup_at x (current_of k)).regions) (sym r.holds.holds.setup)
-          ∙ c.in-None.ensures;
+          ∙ c.in_default.ensures;
       holds = loaded_by m.loaded g k m.processor t r.loaded r.holds;
     }
 
 pub returns-then-not-lend-clause-glided : goal.returns-then-not-lend-clause-glided
 returns-then-not-lend-clause-glided c = λ g t r.
     let k = c.args.self.now.reach.kernel in
-    absurd (let lent = c.lend.ensures.given (current_of k) (are_usable _ _ _ _ _ c.in-Some.ensures) in let not = c.if-not-lend.true in ?)
+    let lent : c.lend.result ≡ true = c.lend.ensures.given (current_of k) (are_usable _ _ _ _ _ c.in-Some.ensures) in
+    absurd (false≢true (sym c.if-not-lend.true ∙ lent))
 
 pub returns-clause-glided : goal.returns-clause-glided
 returns-clause-glided c = λ g t r.
