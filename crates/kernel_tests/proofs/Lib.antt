@@ -1,2 +1,3 @@
+mod Lendable
 mod SampleOf3
 mod SampleOf5
