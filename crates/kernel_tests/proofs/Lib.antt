@@ -1,3 +1,2 @@
-mod Lendable
 mod SampleOf3
 mod SampleOf5
