@@ -4,7 +4,7 @@ ghost use Rattle.std.specs.Prelude.{◌≡◌, ◌<◌, ℕ, List, IfSome, IfNon
 ghost use Rattle.mem_banks.specs.Kept.{AreKept};
 ghost use Rattle.mem_banks.specs.Loans.{AreLent, IsLentAlone, IsBankOf, HasNoBank};
 
-use crate::bank::{Bank, find};
+use crate::bank::{Bank, find, page};
 use crate::{Memory, RAM};
 use std::alloc::Global;
 
@@ -21,8 +21,25 @@ pub trait Borrower {
         ensures length { length ram.new.items ≡ length ram.old.items };
 }
 
-/// The bank that has the bytes of a region and no others.
+/// The bank that has the bytes of a region and no others. Most often the table names it.
+#[inline(always)]
 fn bank_of(banks: &[Bank], table: &[u16], region: (u32, u32)) -> Option<usize>
+    requires { AreKept table.now banks.now }
+    ensures found { IfSome result (λ k. IsBankOf banks.now k region) }
+    ensures none { IfNone result (HasNoBank banks.now region) }
+{
+    let k = table[page(region.0)] as usize;
+    let bank = &banks[k];
+    if bank.base == region.0 && bank.bytes.len() == region.1 as usize {
+        return Some(k);
+    }
+    bank_beyond(banks, table, region)
+}
+
+/// As `bank_of`, where the table names another bank.
+#[cold]
+#[inline(never)]
+fn bank_beyond(banks: &[Bank], table: &[u16], region: (u32, u32)) -> Option<usize>
     requires { AreKept table.now banks.now }
     ensures found { IfSome result (λ k. IsBankOf banks.now k region) }
     ensures none { IfNone result (HasNoBank banks.now region) }

@@ -10,9 +10,9 @@ mod opening;
 ghost use Rattle.std.specs.Prelude.{◌≡◌, ◌≤◌, ◌⊎◌, length, IfOk, replicate};
 ghost use Rattle.mem_banks.specs.Memory.{is_held, is_ram, number_at, with_bytes, copied, IsWithin, AreAllBytes, AreRegions};
 
-use bank::{Bank, find, page, search, whole_half, whole_number, whole_word};
+use bank::{Bank, find, page, search, whole_half, whole_word};
 pub use lending::Borrower;
-use moving::{copy_from_end, copy_from_start, store_at, store_near};
+use moving::{copy_from_end, copy_from_start, store_at};
 use opening::{all_banks, table_of};
 use std::alloc::{AllocError, Global};
 use std::marker::Model;
@@ -34,14 +34,8 @@ pub struct Memory {
     /// How many bytes the RAM has.
     ram: u32,
     regions: Vec<(u32, u32)>,
-    /// Where a text is lent alone, the empty list beside it is made by it.
+    /// For the empty list that is lent beside a text alone.
     alloc: Global,
-}
-
-/// A bank in which to look first. Any is right: it is a hint.
-#[derive(Copy, Clone, Drop)]
-pub struct Near {
-    bank: u16,
 }
 
 impl Model for Memory {
@@ -189,42 +183,6 @@ impl Memory {
         }
     }
 
-    /// Where to look for what lies near an address.
-    pub fn near(&self, addr: u32) -> Near {
-        Near {
-            bank: self.table[page(addr)],
-        }
-    }
-
-    /// As `half`, with where to look first.
-    #[inline(always)]
-    pub fn half_near(&self, near: Near, addr: u32) -> u16
-        ensures { result ≡ number_at self.now.bytes addr 2 }
-    {
-        if let Some(bank) = self.banks.get(near.bank as usize) {
-            let at = addr.wrapping_sub(bank.base) as usize;
-            if at + 1 < bank.bytes.len() {
-                return whole_half(&bank.bytes, at);
-            }
-        }
-        self.half(addr)
-    }
-
-    /// As `number`, with where to look first.
-    #[inline(always)]
-    pub fn number_near(&self, near: Near, addr: u32, size: u32) -> u32
-        requires { (size ≡ 1) ⊎ (size ≡ 2) ⊎ (size ≡ 4) }
-        ensures { result ≡ number_at self.now.bytes addr size }
-    {
-        if let Some(bank) = self.banks.get(near.bank as usize) {
-            let at = addr.wrapping_sub(bank.base) as usize;
-            if at + size as usize <= bank.bytes.len() {
-                return whole_number(&bank.bytes, at, size);
-            }
-        }
-        self.number(addr, size)
-    }
-
     /// Whether so many bytes from an address on lie in the RAM.
     #[inline(always)]
     pub fn is_ram(&self, addr: u32, count: u32) -> bool
@@ -253,20 +211,5 @@ impl Memory {
         ensures { self.new ≡ record self.old { bytes = with_bytes self.old.bytes addr bytes.now } }
     {
         store_at(&mut self.banks, &self.table, addr, bytes);
-    }
-
-    /// As `store`, with where to look first.
-    #[inline(always)]
-    pub fn store_near(&mut self, near: Near, addr: u32, bytes: &[u8])
-        requires { IsWithin self.old.bytes addr (length bytes.now) }
-        ensures { self.new ≡ record self.old { bytes = with_bytes self.old.bytes addr bytes.now } }
-    {
-        store_near(
-            &mut self.banks,
-            &self.table,
-            near.bank as usize,
-            addr,
-            bytes,
-        );
     }
 }

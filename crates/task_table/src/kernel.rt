@@ -14,7 +14,6 @@ ghost use Rattle.task_table.specs.Lendable.{AreLendable};
 
 mod entries;
 mod lending;
-mod near;
 mod sets;
 mod slots;
 mod timers;

@@ -2,8 +2,8 @@ use Rattle.std.proofs.Common.{get_or, arith}
 use Rattle.mem_banks.specs.declared.bank.Bank.{Bank}
 use Rattle.mem_banks.proofs.Within.{first_of}
 use Rattle.mem_banks.proofs.Loans.{no_bank_nowhere, no_bank_other}
-use Rattle.mem_banks.proofs.lending.bank_of.Goals as goal
-use Rattle.mem_banks.proofs.lending.bank_of.Goals.{else-place-eq0-via-then-place-eq0+else-len-region, else-place-eq0-via-else-place-eq0}
+use Rattle.mem_banks.proofs.lending.bank_beyond.Goals as goal
+use Rattle.mem_banks.proofs.lending.bank_beyond.Goals.{else-place-eq0-via-then-place-eq0+else-len-region, else-place-eq0-via-else-place-eq0}
 
 pub returns-in_err-place-clause-none : goal.returns-in_err-place-clause-none
 returns-in_err-place-clause-none c = rw c.from_residual.ensures (no_bank_nowhere c.args.banks.now c.args.region c.in_err-place.ensures.none)
