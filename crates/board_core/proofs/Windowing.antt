@@ -29,7 +29,7 @@ use Rattle.task_table.proofs.Steps.{holds_turn}
 use Rattle.board_model.specs.declared.told.Level.TheVariants.{Calls}
 use Rattle.board_model.specs.Script.{Scenario}
 use Rattle.board_model.specs.Turn.{may}
-use Rattle.board_model.specs.Run.{ending, is_down, turn_after, state_after}
+use Rattle.board_model.specs.Run.{ending, is_down, state_after}
 use Rattle.board_model.proofs.Outside.{due_later}
 use Rattle.window_laws.specs.Reached.{spans, is_flash_at, is_ram_at, IsStackRegion, AreReached}
 use Rattle.window_laws.specs.Windowed.{IsWindow, HasStack, IsWholeWindow, IsAtEnd, MustStop, AreTurns, later}

@@ -153,10 +153,7 @@ ghost use Rattle.window_laws.specs.Reached.{is_flash_at, is_ram_at, IsStackRegio
 fn is_flash_at(region: &Region, at: u32) -> bool
     ensures { result ≡ is_flash_at at region.now }
 {
-    spans(region, at, 2)
-        && region.rights.execute
-        && !region.rights.device
-        && region.base < RAM
+    spans(region, at, 2) && region.rights.execute && !region.rights.device && region.base < RAM
 }
 
 /// Whether a region of the RAM has an address, or ends there, and may be read and written.

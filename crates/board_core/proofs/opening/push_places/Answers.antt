@@ -33,11 +33,11 @@ loop-k-preserved c =
             first = pushed_more c.in_ok-regions.regions.items c.loop-k.k c.loop-k.places.items c.if-not-region.places.items region inv.first (omega (arith, lt)) c.index-region.ensures pushed;
           }
       | else-not-region w ↦ record {
-          are = rw w.places-is inv.are;
-          before = rw w.places-is inv.before;
-          own = inv.own;
-          first = rw w.places-is (device_more c.in_ok-regions.regions.items c.loop-k.k c.loop-k.places.items region inv.first (omega (arith, lt)) c.index-region.ensures (is_true region.rights.device w.if-not-region.false));
-        }
+        are = rw w.places-is inv.are;
+        before = rw w.places-is inv.before;
+        own = inv.own;
+        first = rw w.places-is (device_more c.in_ok-regions.regions.items c.loop-k.k c.loop-k.places.items region inv.first (omega (arith, lt)) c.index-region.ensures (is_true region.rights.device w.if-not-region.false));
+      }
     ]
 
 pub returns-clause-all : goal.returns-clause-all
