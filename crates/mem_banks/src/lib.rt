@@ -34,7 +34,7 @@ pub struct Memory {
     /// How many bytes the RAM has.
     ram: u32,
     regions: Vec<(u32, u32)>,
-    /// Where a text is lent alone, the empty list beside it is made by it.
+    /// For the empty list that is lent beside a text alone.
     alloc: Global,
 }
 

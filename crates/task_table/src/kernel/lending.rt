@@ -15,8 +15,8 @@ impl Kernel {
 
     /// Lends the bytes of a region of code and of one of the RAM, where each has a bank of its own, or of
     /// one of code alone, where the other is empty and begins where the RAM does; else the answer is false.
-    /// Those of a task that lie so are lent. An entry of a lease table that has one of the bytes in the RAM is kept no
-    /// more, since the borrower may write over it.
+    /// Those of a task that lie so are lent. An entry of a lease table that has one of the bytes in the
+    /// RAM is kept no more, since the borrower may write over it.
     pub fn lend<B: Borrower>(&mut self, text: &Region, ram: &Region, borrower: &mut B) -> bool
         ensures lent { result ≡ true → IsLent B.did self.old text.now ram.now borrower.old borrower.new self.new }
         ensures given { (task : ℕ) → AreUsable (setup_at (setup_of self.old) task).regions text.now ram.now → result ≡ true }
