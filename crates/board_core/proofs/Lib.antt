@@ -6,7 +6,6 @@ pub mod Views
 pub mod Turning
 pub mod Gliding
 pub mod Skipping
-pub mod Stopping
 pub mod Telling
 pub mod CallRows
 pub mod Fetching

@@ -11,7 +11,7 @@ use Rattle.task_table.specs.declared.kernel.Kernel.{Kernel}
 use Rattle.mem_banks.specs.Memory.{Memory, number_at}
 use Rattle.task_table.specs.State.{Setup, State, Turn}
 use Rattle.task_table.specs.Reading.{task_at}
-use Rattle.task_table.specs.Holds.{Holds, Stands, setup_of, current_of, memory_of, notes_of, kept_of, task_count, note_count}
+use Rattle.task_table.specs.Holds.{Holds, Stands, setup_of, current_of, memory_of, notes_of, kept_of, note_count}
 use Rattle.task_table.specs.Start.{begun, start}
 use Rattle.task_table.specs.Sane.{Sane}
 use Rattle.task_table.proofs.Steps.{holds_turn}

@@ -1,7 +1,6 @@
 -- Instructions on end within a window of the current task's memory are its turns.
 use Rattle.std.proofs.Common.{◌≡◌, ◌≢◌, inl, inr, ◌+◌, ◌-◌, ◌≤◌, ◌<◌, ℕ, zero, suc, Bool, true, false, not, ◌||◌, List, [], ◌∷◌, length, Option, Some, None, refl, sym, ◌∙◌, ap, subst, arith, leb}
 use Rattle.std.specs.Prelude.{Contains}
-use Rattle.std.specs.List.{list_any}
 use Rattle.std.proofs.lemmas.Bool.{le-leb, leb-true, ltb-true, false≢true}
 use Rattle.std.proofs.lemmas.List.{set-set}
 use Rattle.region_check.specs.declared.Region.{Region}
@@ -15,10 +14,10 @@ use Rattle.mem_banks.proofs.Windows.{region_length}
 use Rattle.thumb_exec.specs.declared.cpu.Cpu.{Cpu}
 use Rattle.thumb_exec.specs.Effect.{Halts}
 use Rattle.thumb_step.specs.Fetch.{step_effect}
-use Rattle.thumb_window.specs.Windows.{View, Keeps, refused_by, held_by}
+use Rattle.thumb_window.specs.Windows.{View, refused_by, held_by}
 use Rattle.task_table.specs.State.{Setup, State, Task, Turn}
 use Rattle.task_table.specs.Start.{begun}
-use Rattle.task_table.specs.Reading.{setup_at, task_at, call_of, listen_of, is_ready, chosen, register, stack_pointer}
+use Rattle.task_table.specs.Reading.{setup_at, task_at, call_of, listen_of, is_ready, chosen, register, stack_pointer, program_counter}
 use Rattle.task_table.specs.Effects.{with_task, with_processor}
 use Rattle.task_table.specs.Holds.{Holds, current_of, kept_of, note_count, notes_of as kernel_notes}
 use Rattle.task_table.specs.Lendable.{AreUsable}
@@ -29,10 +28,10 @@ use Rattle.task_table.proofs.Steps.{holds_turn}
 use Rattle.board_model.specs.declared.told.Level.TheVariants.{Calls}
 use Rattle.board_model.specs.Script.{Scenario}
 use Rattle.board_model.specs.Turn.{may}
-use Rattle.board_model.specs.Run.{ending, is_down, turn_after, state_after}
+use Rattle.board_model.specs.Run.{ending, is_down, state_after}
 use Rattle.board_model.proofs.Outside.{due_later}
 use Rattle.window_laws.specs.Reached.{spans, is_flash_at, is_ram_at, IsStackRegion, AreReached}
-use Rattle.window_laws.specs.Windowed.{IsWindow, HasStack, IsWholeWindow, IsAtEnd, MustStop, AreTurns, later}
+use Rattle.window_laws.specs.Windowed.{IsWindow, IsWholeWindow, IsAtEnd, MustStop, AreTurns, later}
 use Rattle.window_laws.proofs.Going.{are_turns, window_then}
 use Rattle.board_core.specs.declared.machine.Machine.{Machine}
 use Rattle.board_core.specs.Machine.{IsReady, IsLoaded, MachineHolds, with_cpu}
@@ -173,16 +172,8 @@ module _ (g : Setup) (c : ℕ) (m : Memory) (pc sp : ℕ) (flash ram : Region) (
         ram = rw (ram_base, ram_long) (sym ram_bytes);
       }
 
-  -- where a region of the RAM has the stack, so has the window
-  has_stack : list_any (is_ram_at sp) (setup_at g c).regions ≡ true → HasStack sp v
-  has_stack some = by are.ram
-    where
-      by : IsStackRegion (setup_at g c).regions sp ram → HasStack sp v
-      by (inl x) = let h = ram_at sp ram x.1 in record { from = omega (arith, ram_base, h.from); to = omega (arith, ram_base, ram_long, h.to); some = omega (arith, ram_long, h.some) }
-      by (inr x) = absurd (false≢true (sym x.1 ∙ some))
-
-  pub whole_window : IsWholeWindow g c m sp v
-  whole_window = record { is = window_of; stack = has_stack }
+  pub whole_window : IsWholeWindow g c m pc sp v
+  whole_window = record { is = window_of; code = flash; stack = ram; reached = are; text = (text_base, text_long); readable = readable; ram = (ram_base, ram_long) }
 
 -- ## the kernel that was lent from
 
@@ -246,7 +237,7 @@ due_later_on script turn (suc n) due next ne =
 -- a board after n turns within a window, and why there were no more
 pub record IsMade (x : Scenario) (u : State) (task until : ℕ) (b b' : Board) : Type 0 where
   pub glidden : HasGlidden x u (turns_of b' - turns_of b) b'
-  pub far : turns_of b' < until → MustStop x.setup task (register u task stack_pointer) (state_after Calls x (turns_of b' - turns_of b) u)
+  pub far : turns_of b' < until → MustStop x.setup task (register u task program_counter) (register u task stack_pointer) (state_after Calls x (turns_of b' - turns_of b) u)
 
 module _ (x : Scenario) (u : State) (b : Board) (m : Machine) (task most n until : ℕ)
     (st : Stands x b u) (next : b.choice.next ≡ Some task) (up : b.choice.down ≡ false)
@@ -320,20 +311,26 @@ module _ (x : Scenario) (u : State) (b : Board) (m : Machine) (task most n until
   has_glidden (inl h) = made h
   has_glidden (inr h) = stayed h.none h.holds
 
-  -- the window that is left has the stack where the first one has it
-  at_end : (h : IsGlided x.setup m (rested b.machine u) most n) → n < most → IsAtEnd x.setup u.current (register u u.current stack_pointer) (state_after Calls x n u)
+  -- the window that is left is of the same regions
+  at_end : (h : IsGlided x.setup m (rested b.machine u) most n) → n < most → IsAtEnd x.setup u.current (register u u.current program_counter) (register u u.current stack_pointer) (state_after Calls x n u)
   at_end h lt =
       let left = window_then x u u.current h.window st.sane is_chosen refl h.whole.is n h.after m.processor nothing h.glides in
+      let same = left.keeps in
       record {
         window = h.after;
-        whole = record { is = left.window; stack = λ some. same_stack left.keeps (h.whole.stack some) };
+        whole = record {
+          is = left.window;
+          code = h.whole.code;
+          stack = h.whole.stack;
+          reached = h.whole.reached;
+          text = (same.text_base ∙ h.whole.text.0, ap (λ (xs : List ℕ). length xs) same.text ∙ h.whole.text.1);
+          readable = same.readable ∙ h.whole.readable;
+          ram = (same.ram_base ∙ h.whole.ram.0, same.size ∙ h.whole.ram.1);
+        };
         halts = subst (λ (d : Cpu). Halts (step_effect (refused_by h.after) (held_by h.after) d)) (sym left.processor) (h.far lt);
       }
-    where
-      same_stack : Keeps h.window h.after → HasStack (register u u.current stack_pointer) h.window → HasStack (register u u.current stack_pointer) h.after
-      same_stack same s = record { from = rw same.ram_base s.from; to = rw (same.ram_base, same.size) s.to; some = rw same.size s.some }
 
-  must_stop : HasGlided x.setup m (rested b.machine u) most n → n < most → MustStop x.setup u.current (register u u.current stack_pointer) (state_after Calls x n u)
+  must_stop : HasGlided x.setup m (rested b.machine u) most n → n < most → MustStop x.setup u.current (register u u.current program_counter) (register u u.current stack_pointer) (state_after Calls x n u)
   unfolding state_after
   must_stop (inl h) lt = inl (at_end h lt)
   must_stop (inr h) lt = inr (rw h.none h.beyond)
@@ -356,7 +353,7 @@ made_by x u b0 m m' task n until st0 holds loaded is_current next up few left wi
       glidden = subst (λ (k : ℕ). HasGlidden x u k b') e (has_glidden x u b m' task most n until st next up few over later_due is_current none h);
       far = λ lt.
           let stop = must_stop x u b m' task most n until st next up few over later_due is_current none h (omega (arith, lt)) in
-          subst (λ (k : ℕ). MustStop x.setup task (register u task stack_pointer) (state_after Calls x k u)) e (subst (λ (i : ℕ). MustStop x.setup i (register u i stack_pointer) (state_after Calls x n u)) is_current stop);
+          subst (λ (k : ℕ). MustStop x.setup task (register u task program_counter) (register u task stack_pointer) (state_after Calls x k u)) e (subst (λ (i : ℕ). MustStop x.setup i (register u i program_counter) (register u i stack_pointer) (state_after Calls x n u)) is_current stop);
     }
 
 -- the task that ran last is the kernel's

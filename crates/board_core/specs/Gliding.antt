@@ -36,7 +36,7 @@ pub record HasWorked (a : Glider) (text ram : List ℕ) (b : Glider) (after : Li
 pub record IsGlided (g : Setup) (m : Machine) (t : Turn) (most n : ℕ) : Type 0 where
   pub window : View
   pub after : View
-  pub whole : IsWholeWindow g t.state.current t.state.memory (register t.state t.state.current stack_pointer) window
+  pub whole : IsWholeWindow g t.state.current t.state.memory (register t.state t.state.current program_counter) (register t.state t.state.current stack_pointer) window
   pub glides : Glides window (cpu_of (task_at t.state t.state.current)) n after m.processor
   pub far : n < most → Halts (step_effect (refused_by after) (held_by after) m.processor)
   pub holds : MachineHolds g m record t { state = later t.state t.state.current m.processor (with_bytes t.state.memory window.ram_base after.ram) n }

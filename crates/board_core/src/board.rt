@@ -2,7 +2,7 @@
 ghost use Rattle.std.specs.Prelude.{ℕ, ◌≡◌, ◌≢◌, ◌<◌, ◌≤◌, ◌+◌, ◌-◌, ◌*◌, ◌&&◌, not, [], Option, Some, None, length, true, false, IfOk};
 ghost use Rattle.image_format.specs.Images.{picture};
 ghost use Rattle.task_table.specs.State.{Setup, State, Turn};
-ghost use Rattle.task_table.specs.Reading.{chosen, register, stack_pointer};
+ghost use Rattle.task_table.specs.Reading.{chosen, register, stack_pointer, program_counter};
 ghost use Rattle.task_table.specs.Start.{start};
 ghost use Rattle.task_table.specs.Limits.{call_notes, turn_notes};
 ghost use Rattle.run_script.specs.Events.{script_data};
@@ -172,7 +172,7 @@ impl Board {
         ensures stays { until ≤ turns_of self.old → self.new ≡ self.old }
 
         // It stops before only where the next instruction calls, faults or reaches beyond the window, or where there is none.
-        ensures far { (x : Scenario) (s : State) → Stands x self.old s → chosen x.setup s ≡ Some s.current → self.old.machine.loaded ≡ true → self.old.choice.down ≡ false → turns_of self.new < until → MustStop x.setup s.current (register s s.current stack_pointer) (state_after Calls x (turns_of self.new - turns_of self.old) s) }
+        ensures far { (x : Scenario) (s : State) → Stands x self.old s → chosen x.setup s ≡ Some s.current → self.old.machine.loaded ≡ true → self.old.choice.down ≡ false → turns_of self.new < until → MustStop x.setup s.current (register s s.current program_counter) (register s s.current stack_pointer) (state_after Calls x (turns_of self.new - turns_of self.old) s) }
         ensures idle { (x : Scenario) (s : State) → Stands x self.old s → chosen x.setup s ≡ None → self.old.choice.down ≡ false → lasts x.script until ≡ true → until ≤ turns_of self.new }
     {
         if self.turns >= until || self.choice.down {
@@ -195,7 +195,7 @@ impl Board {
         ensures glided { (x : Scenario) (s : State) → Stands x self.old s → HasGlidden x s (turns_of self.new - turns_of self.old) self.new }
         ensures more { turns_of self.old ≤ turns_of self.new }
         ensures within { turns_of self.new ≤ until }
-        ensures far { (x : Scenario) (s : State) → Stands x self.old s → s.current ≡ task → self.old.machine.loaded ≡ true → turns_of self.new < until → MustStop x.setup task (register s task stack_pointer) (state_after Calls x (turns_of self.new - turns_of self.old) s) }
+        ensures far { (x : Scenario) (s : State) → Stands x self.old s → s.current ≡ task → self.old.machine.loaded ≡ true → turns_of self.new < until → MustStop x.setup task (register s task program_counter) (register s task stack_pointer) (state_after Calls x (turns_of self.new - turns_of self.old) s) }
     {
         if self.machine.is_loaded_for(task) {
             self.machine.begin();

@@ -1,9 +1,10 @@
 //! What the current task reaches of the kernel's memory: the bus of its processor.
-ghost use Rattle.std.specs.Prelude.{◌≡◌, ◌&&◌, ◌+◌, ◌*◌, ◌≤◌, ◌<◌, ◌%◌, ◌^◌, ◌/◌, ◌∷◌, [], Option, Some, true, false, None, MatchResult};
+ghost use Rattle.std.specs.Prelude.{◌≡◌, ◌&&◌, ◌+◌, ◌*◌, ◌≤◌, ◌<◌, ◌%◌, ◌^◌, ◌/◌, ◌∷◌, [], Option, Some, true, false, None, MatchOption, MatchResult, Contains};
+ghost use Rattle.std.specs.List.{list_any};
 ghost use Rattle.region_check.specs.Rights.{may_use, has_right};
 ghost use Rattle.region_check.specs.declared.Right.TheVariants.{Execute, Read};
 ghost use Rattle.board_core.specs.Spans.{one_gives};
-ghost use Rattle.window_laws.specs.Reached.{spans};
+ghost use Rattle.window_laws.specs.Reached.{spans, is_flash_at, is_ram_at, IsStackRegion, AreReached};
 ghost use Rattle.task_table.specs.Reading.{setup_at};
 ghost use Rattle.mem_banks.specs.Memory.{number_at};
 ghost use Rattle.task_table.specs.Holds.{memory_of, setup_of, current_of};
@@ -100,10 +101,6 @@ impl Reach {
     }
 }
 
-ghost use Rattle.std.specs.Prelude.{MatchOption, Contains};
-ghost use Rattle.std.specs.List.{list_any};
-ghost use Rattle.window_laws.specs.Reached.{is_flash_at, is_ram_at, IsStackRegion};
-
 /// Whether a region of the flash has the instruction at an address, and may be executed.
 fn is_flash_at(region: &Region, at: u32) -> bool
     ensures { result ≡ is_flash_at at region.now }
@@ -157,8 +154,6 @@ fn ram_at(regions: &[Region], at: u32) -> Region
 }
 
 impl Reach {
-    ghost use Rattle.window_laws.specs.Reached.{AreReached};
-
     /// The two regions in which the current task may make many instructions on end: that of the flash that has its PC, and that of
     /// the RAM that has its stack, or an empty one.
     pub fn window(&self, pc: u32, sp: u32) -> Option<(Region, Region)>

@@ -1,5 +1,8 @@
-use Rattle.std.proofs.Common.{◌≡◌, ◌-◌, ◌+◌, ℕ, suc, [], None, not, sym, ◌∙◌, ap, subst, arith}
+use Rattle.std.proofs.Common.{◌≡◌, ◌-◌, ◌+◌, ℕ, suc, false, [], Option, Some, None, not, sym, ◌∙◌, ap, subst, arith}
+use Rattle.std.specs.Option.{is_some}
+use Rattle.std.proofs.lemmas.Bool.{false≢true}
 use Rattle.task_table.specs.State.{State}
+use Rattle.board_model.specs.declared.told.End.{End}
 use Rattle.board_model.specs.declared.told.Level.TheVariants.{Calls}
 use Rattle.board_model.specs.Script.{Scenario}
 use Rattle.board_model.specs.Run.{ending, turn_after}
@@ -7,8 +10,11 @@ use Rattle.board_core.specs.Stands.{notes_of, turns_of}
 use Rattle.board_core.specs.Advanced.{IsAdvanced}
 use Rattle.board_core.proofs.Turning.{empty_of}
 use Rattle.board_core.proofs.Gliding.{joined}
-use Rattle.board_core.proofs.Stopping.{ended_goes, ended_stops}
 use Rattle.board_core.proofs.board.Board.go_on.Goals as goal
+
+goes_on : (x : Scenario) (s : State) (r : Option End) → r ≡ ending x 1 s → is_some r ≡ false → ending x 1 s ≡ None
+goes_on x s None is none = sym is
+goes_on x s (Some end) is none = absurd (false≢true (sym none))
 
 pub ended-requires : goal.ended-requires
 ended-requires c =
@@ -38,7 +44,7 @@ on-preserved c =
       advanced = λ x s st.
           let before = inv.advanced x s st in
           let u : State = (turn_after Calls x n s).state in
-          let goes : ending x 1 u ≡ None = ended_goes x u c.ended.result (c.ended.ensures.before x u 1 before.stands (omega arith)) (c.is_none.ensures ∙ ap not c.if-is_none.true) in
+          let goes : ending x 1 u ≡ None = goes_on x u c.ended.result (c.ended.ensures.before x u 1 before.stands (omega arith)) (c.is_none.ensures ∙ ap not c.if-is_none.true) in
           subst (λ (k : ℕ). IsAdvanced Calls x k s b2) e (joined x n m s b1 b2 before none goes (c.glide_and_turn-in-on.ensures.advanced x u before.stands));
       more = omega (arith, from, more);
       within = c.glide_and_turn-in-on.ensures.within;

@@ -1,4 +1,4 @@
-use Rattle.std.proofs.Common.{◌≡◌, ◌-◌, ◌<◌, ◌≤◌, ℕ, length}
+use Rattle.std.proofs.Common.{◌-◌, ◌<◌, ◌≤◌, length}
 use Rattle.task_table.specs.Limits.{turn_notes}
 use Rattle.task_table.specs.State.{State}
 use Rattle.board_model.specs.declared.told.Level.TheVariants.{Calls}

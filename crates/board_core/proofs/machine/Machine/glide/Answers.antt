@@ -1,4 +1,4 @@
-use Rattle.std.proofs.Common.{◌≡◌, true, false, ℕ, inl, inr, refl, sym, ◌∙◌, ap, subst, arith}
+use Rattle.std.proofs.Common.{◌≡◌, true, ℕ, inl, inr, refl, sym, ◌∙◌, ap, subst, arith}
 use Rattle.std.proofs.lemmas.Bool.{false≢true}
 use Rattle.std.specs.List.{list_any}
 use Rattle.mem_banks.specs.Memory.{Memory, with_bytes}
@@ -60,15 +60,17 @@ returns-clause-glided c = λ g t r.
     let C : ℕ → Type 0 = λ i. AreReached (setup_at g i).regions pc sp flash ram in
     let are = subst C (current_seen g m t r) (subst A h.holds.setup c.in-Some.ensures) in
     let stack : sp ≡ register t.state t.state.current stack_pointer = c.get-sp.ensures ∙ loaded_register stack_pointer g k m.processor t h r.sane.steady.current in
-    let W : Memory → Type 0 = λ y. IsWholeWindow g t.state.current y sp v in
-    let S : ℕ → Type 0 = λ at. IsWholeWindow g t.state.current t.state.memory at v in
+    let there : pc ≡ register t.state t.state.current program_counter = c.get-pc.ensures ∙ loaded_register program_counter g k m.processor t h r.sane.steady.current in
+    let W : Memory → Type 0 = λ y. IsWholeWindow g t.state.current y pc sp v in
+    let P : ℕ → Type 0 = λ at. IsWholeWindow g t.state.current t.state.memory at sp v in
+    let S : ℕ → Type 0 = λ at. IsWholeWindow g t.state.current t.state.memory (register t.state t.state.current program_counter) at v in
     let own : m.processor ≡ cpu_of (task_at t.state t.state.current) = loaded_cpu g k m.processor t h r.sane.steady.current in
     let G : Cpu → Type 0 = λ y. Glides v y b.made w b.runner.processor in
     let H : ℕ → Type 0 = λ at. IsLoaded g c.lend.new.self b.runner.processor record t { state = later t.state t.state.current b.runner.processor (with_bytes t.state.memory at loan.after) b.made } in
     inl record {
       window = v;
       after = w;
-      whole = subst S stack (subst W memory (whole_window g t.state.current (memory_of k) pc sp flash ram v are c.aim.ensures.text c.aim.ensures.readable c.aim.ensures.ram loan.text_there loan.ram_there refl refl));
+      whole = subst S stack (subst P there (subst W memory (whole_window g t.state.current (memory_of k) pc sp flash ram v are c.aim.ensures.text c.aim.ensures.readable c.aim.ensures.ram loan.text_there loan.ram_there refl refl)));
       far = λ lt. loan.work.far (text_below g t.state.current (memory_of k) pc sp flash ram v are c.aim.ensures.text c.aim.ensures.readable c.aim.ensures.ram loan.text_there loan.ram_there refl refl) (let most = c.aim.ensures.most in omega (arith, lt, most));
       glides = subst G (c.aim.ensures.processor ∙ own) loan.work.glides;
       holds = loaded_by m.loaded g c.lend.new.self b.runner.processor _ r.loaded (subst H (sym c.aim.ensures.ram) (lent_loaded g k c.lend.new.self m.processor b.runner.processor t ram.base loan.after b.made h r.sane.steady.current (λ u held. lent.holds g u held)));
