@@ -132,7 +132,7 @@ any_from (e ∷ es) from to le more = by_first (leb to e.0) refl (any_from es fr
     by_first true is rest = let here : leb from e.0 ≡ true = grind (arith, nat_tests, is) in rw here refl
     by_first false is rest = ap (λ (b : Bool). leb from e.0 || b) (rest (rw is at more)) ∙ or_true (leb from e.0)
 
-lasts_from : (script : ScriptData) (from to : ℕ) → from ≤ to → lasts script to ≡ true → lasts script from ≡ true
+pub lasts_from : (script : ScriptData) (from to : ℕ) → from ≤ to → lasts script to ≡ true → lasts script from ≡ true
 lasts_from script from to le more = by_every (is_some script.every) refl
   where
     by_every : (b : Bool) → is_some script.every ≡ b → lasts script from ≡ true
@@ -171,3 +171,10 @@ idle_board_until x s b to st none up later few =
 pub not_due : (script : ScriptData) (from to : ℕ) (due : Option ℕ) → IsNext script from due → ((turn : ℕ) → from ≤ turn → turn < to → events_of script turn ≡ []) → (turn : ℕ) → turn < to → due ≢ Some turn
 not_due script from to None next nothing turn lt e = absurd (cc)
 not_due script from to (Some n) next nothing turn lt e = next.2 (nothing n next.0 (let same : n ≡ turn = cc in omega (arith, same, lt)))
+
+-- where turns came to the one that was due next
+pub due_now : (x : Scenario) (s u : State) (due : Option ℕ) (from to until limit : ℕ) → IsNext x.script s.turn due → (until < limit → due ≡ Some until) → from ≡ s.turn → to ≡ u.turn → (from ≤ until → to ≤ until) → until ≤ to → to < limit → events_of x.script u.turn ≢ []
+due_now x s u due from to until limit next met began is within over less =
+    let now : IsNext x.script s.turn (Some until) = subst (λ (d : Option ℕ). IsNext x.script s.turn d) (met (omega (arith, over, less))) next in
+    let e : until ≡ u.turn = let below = within (omega (arith, began, now.0)) in omega (arith, below, over, is) in
+    subst (λ (n : ℕ). events_of x.script n ≢ []) e now.2

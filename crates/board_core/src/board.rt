@@ -6,7 +6,7 @@ ghost use Rattle.task_table.specs.Reading.{chosen, register, stack_pointer, prog
 ghost use Rattle.task_table.specs.Start.{start};
 ghost use Rattle.task_table.specs.Limits.{call_notes, turn_notes};
 ghost use Rattle.run_script.specs.Events.{script_data};
-ghost use Rattle.run_script.specs.Scripts.{lasts};
+ghost use Rattle.run_script.specs.Scripts.{events_of, lasts};
 ghost use Rattle.board_model.specs.declared.told.Level.TheVariants.{All, Calls};
 ghost use Rattle.board_model.specs.Script.{Scenario};
 ghost use Rattle.board_model.specs.Turn.{turn, turned};
@@ -18,7 +18,7 @@ ghost use Rattle.board_core.specs.Stands.{Stands, Stood, notes_of, turns_of};
 ghost use Rattle.board_core.specs.Machine.{MachineHolds, MachineStands};
 ghost use Rattle.board_core.specs.Kept.{IsChoice, WasChoice};
 ghost use Rattle.window_laws.specs.Windowed.{MustStop};
-ghost use Rattle.board_core.specs.Advanced.{IsAdvanced, IsStopped, HasGlidden};
+ghost use Rattle.board_core.specs.Advanced.{IsAdvanced, IsStopped, HasGlidden, IsFar, NeedsTurn};
 ghost use Rattle.board_core.specs.Skipped.{IsIdleUntil};
 ghost use Rattle.board_core.specs.Midway.{IsDue, IsMidway};
 
@@ -152,6 +152,10 @@ impl Board {
         ensures more { turns_of self.old < turns_of self.new }
         ensures within { turns_of self.new ≤ limit }
         ensures noted { length (notes_of self.new) ≤ turn_notes }
+
+        // The whole turn is one that the fast way does not make.
+        ensures needed { (x : Scenario) (s : State) → Stands x self.old s → chosen x.setup s ≡ Some s.current → self.old.machine.loaded ≡ true → self.old.choice.down ≡ false → turns_of self.new < limit → NeedsTurn x s (state_after Calls x (turns_of self.new - turns_of self.old - 1) s) }
+        ensures idle { (x : Scenario) (s : State) → Stands x self.old s → chosen x.setup s ≡ None → self.old.choice.down ≡ false → lasts x.script limit ≡ true → turns_of self.new < limit → events_of x.script (state_after Calls x (turns_of self.new - turns_of self.old - 1) s).turn ≢ [] }
     {
         self.glide(quiet_until(self.due, limit));
         if self.turns < limit {
@@ -172,7 +176,7 @@ impl Board {
         ensures stays { until ≤ turns_of self.old → self.new ≡ self.old }
 
         // It stops before only where the next instruction calls, faults or reaches beyond the window, or where there is none.
-        ensures far { (x : Scenario) (s : State) → Stands x self.old s → chosen x.setup s ≡ Some s.current → self.old.machine.loaded ≡ true → self.old.choice.down ≡ false → turns_of self.new < until → MustStop x.setup s.current (register s s.current program_counter) (register s s.current stack_pointer) (state_after Calls x (turns_of self.new - turns_of self.old) s) }
+        ensures far { (x : Scenario) (s : State) → Stands x self.old s → chosen x.setup s ≡ Some s.current → self.old.machine.loaded ≡ true → self.old.choice.down ≡ false → turns_of self.new < until → IsFar x s (state_after Calls x (turns_of self.new - turns_of self.old) s) }
         ensures idle { (x : Scenario) (s : State) → Stands x self.old s → chosen x.setup s ≡ None → self.old.choice.down ≡ false → lasts x.script until ≡ true → until ≤ turns_of self.new }
     {
         if self.turns >= until || self.choice.down {
