@@ -1,15 +1,13 @@
 -- Turns on end of the task that runs.
-use Rattle.std.proofs.Common.{◌≡◌, ◌≢◌, ◌⊎◌, inl, inr, ◌+◌, ◌<◌, ◌≤◌, ℕ, zero, suc, Bool, true, false, List, [], Some, None, refl, sym, ◌∙◌, ap, subst, arith, eqb}
+use Rattle.std.proofs.Common.{◌≡◌, ◌≢◌, ◌⊎◌, inl, inr, ◌+◌, ◌-◌, ◌<◌, ℕ, zero, suc, Bool, true, false, List, [], Some, None, refl, sym, ◌∙◌, ap, subst, arith, eqb}
 use Rattle.std.proofs.lemmas.Bool.{eqb-true, eqb-false}
 use Rattle.run_script.specs.Scripts.{IsNext, events_of}
 use Rattle.kernel_abi.specs.declared.Note.{Note}
 use Rattle.task_table.specs.State.{Setup, State, Turn}
-use Rattle.task_table.specs.Reading.{chosen}
-use Rattle.task_table.specs.Holds.{setup_of, current_of, notes_of as kernel_notes}
+use Rattle.task_table.specs.Holds.{current_of, notes_of as kernel_notes}
 use Rattle.task_table.specs.Start.{begun}
 use Rattle.board_core.specs.declared.board.Board.{Board}
 use Rattle.board_core.specs.declared.machine.Machine.{Machine}
-use Rattle.board_core.specs.declared.choice.Choice.{Choice}
 use Rattle.board_model.specs.declared.told.Level.{Level}
 use Rattle.board_model.specs.declared.told.Level.TheVariants.{Calls}
 use Rattle.board_model.specs.Script.{Scenario}
@@ -18,18 +16,14 @@ use Rattle.board_core.specs.Machine.{MachineHolds, MachineStands, IsReady}
 use Rattle.board_core.specs.Midway.{IsMidway}
 use Rattle.board_core.specs.Stands.{Stands, notes_of, turns_of}
 use Rattle.board_model.specs.Turn.{turn}
-use Rattle.board_model.specs.Run.{ending, is_down, turn_after, state_after}
-use Rattle.board_core.specs.Advanced.{IsAdvanced}
+use Rattle.board_model.specs.Run.{ending, turn_after, state_after}
+use Rattle.board_core.specs.Advanced.{IsAdvanced, HasGlidden}
 use Rattle.board_model.proofs.TurnChains.{begun_sane}
-use Rattle.board_model.proofs.Further.{further, turn_further}
+use Rattle.board_model.proofs.Further.{last_turn, turn_further}
 use Rattle.board_model.proofs.Counts.{counted_turn, turn_more}
-use Rattle.board_core.proofs.Loading.{told_by, rest_of}
+use Rattle.board_core.proofs.Loading.{rest_of}
 use Rattle.board_model.proofs.Outside.{nothing_due, due_later, no_event, begun_state}
 use Rattle.board_core.proofs.Turning.{HasTurned, rested, stands_after, choice_kept, few_events}
-
--- what a machine holds is of its kernel's setup
-pub setup_seen : (g : Setup) (m : Machine) (t : Turn) → MachineHolds g m t → setup_of m.reach.kernel ≡ g
-setup_seen g m t h = (told_by m.loaded g m.reach.kernel m.processor t h).holds.setup
 
 pub current_seen : (g : Setup) (m : Machine) (t : Turn) → IsReady g m t → current_of m.reach.kernel ≡ t.state.current
 current_seen g m t r = let rest = rest_of r.holds.saved t m.processor r.holds.is in r.holds.holds.current ∙ sym rest.current
@@ -80,17 +74,39 @@ stands_so x s b m n st mid h none more =
 
 -- ## several turns
 
--- where a task is chosen and the supervisor has not faulted, the run goes on
-pub chosen_goes : (x : Scenario) (s : State) (c : Choice) (task : ℕ) → IsChoice x.setup s c → c.next ≡ Some task → c.down ≡ false → ending x 1 s ≡ None
-unfolding ending
-chosen_goes x s c task is next up =
-    let down : is_down s ≡ false = sym is.down ∙ up in
-    let some : chosen x.setup s ≡ Some task = sym is.next ∙ next in
-    rw (down, some) refl
-
 pub first_turn : (level : Level) (x : Scenario) (s : State) (b : Board) → Stands x b (turn level x s).state → notes_of b ≡ (turn level x s).notes → IsAdvanced level x 0 s b
 unfolding turn_after
 first_turn level x s b st notes = record { nothing = λ k lt. absurd (omega arith); goes_on = λ k lt. absurd (omega arith); stands = st; notes = notes }
+
+-- no turn
+pub none_made : (x : Scenario) (s : State) (b : Board) → Stands x b s → HasGlidden x s (turns_of b - turns_of b) b
+unfolding state_after
+none_made x s b st =
+    let e : 0 ≡ turns_of b - turns_of b = omega arith in
+    subst (λ (n : ℕ). HasGlidden x s n b) e record { stands = st; nothing = λ k lt. absurd (omega arith); goes_on = λ k lt. absurd (omega arith); notes = λ lt. absurd (omega arith) }
+
+-- turns none of which noted anything, and one more
+pub one_more : (x : Scenario) (n : ℕ) (s : State) (b b' : Board) → HasGlidden x s n b → ((u : State) → Stands x b u → Stands x b' (turn Calls x u).state) → ((u : State) → Stands x b u → notes_of b' ≡ (turn Calls x u).notes) → IsAdvanced Calls x n s b'
+one_more x n s b b' h stands notes =
+    let u : State = state_after Calls x n s in
+    let last : turn Calls x u ≡ turn_after Calls x n s = sym (last_turn Calls x n s) in
+    record {
+      nothing = h.nothing;
+      goes_on = h.goes_on;
+      stands = subst (λ (t : Turn). Stands x b' t.state) last (stands u h.stands);
+      notes = notes u h.stands ∙ ap (λ (t : Turn). t.notes) last;
+    }
+
+-- the last of them is the one more
+pub all_made : (x : Scenario) (n : ℕ) (s : State) (b : Board) → HasGlidden x s (suc n) b → IsAdvanced Calls x n s b
+unfolding state_after
+all_made x n s b h =
+    record {
+      nothing = λ k lt. h.nothing k (omega (arith, lt));
+      goes_on = λ k lt. h.goes_on k (omega (arith, lt));
+      stands = h.stands;
+      notes = h.notes (omega arith) ∙ sym (h.nothing n (omega arith));
+    }
 
 -- either below the last one, or the last one
 below_or : (P : ℕ → Type 0) (m k : ℕ) → ((j : ℕ) → j < m → P j) → P m → k < suc m → P k
@@ -100,18 +116,6 @@ below_or P m k f last lt = by_last (eqb k m) refl
     by_last true e = subst P (sym (eqb-true k m e)) last
     by_last false e = f k (omega (arith, eqb-false k m e))
 
-pub one_more : (level : Level) (x : Scenario) (n : ℕ) (s : State) (b b' : Board) → IsAdvanced level x n s b → notes_of b ≡ [] → ending x 1 (turn_after level x n s).state ≡ None →
-    ((u : State) → Stands x b u → Stands x b' (turn level x u).state) → ((u : State) → Stands x b u → notes_of b' ≡ (turn level x u).notes) → IsAdvanced level x (suc n) s b'
-unfolding turn_after
-one_more level x n s b b' a none goes stands notes =
-    record {
-      nothing = λ k lt. below_or (λ j. (turn_after level x j s).notes ≡ []) n k a.nothing (sym a.notes ∙ none) lt;
-      goes_on = λ k lt. below_or (λ j. ending x 1 (turn_after level x j s).state ≡ None) n k a.goes_on goes lt;
-      stands = stands (turn_after level x n s).state a.stands;
-      notes = notes (turn_after level x n s).state a.stands;
-    }
-
--- k further turns, none of which notes anything or is the end
 either : (n j : ℕ) → (j < n) ⊎ ((i : ℕ) × (j ≡ n + i))
 either zero j = inr (j, omega arith)
 either (suc n) zero = inl (omega arith)
@@ -121,28 +125,23 @@ either (suc n) (suc j) = by (either n j)
     by (inl lt) = inl (omega (arith, lt))
     by (inr (i, e)) = inr (i, omega (arith, e))
 
-pub more_turns : (x : Scenario) (n k : ℕ) (s : State) (b b' : Board) → IsAdvanced Calls x n s b → notes_of b ≡ [] →
-    ((i : ℕ) → i < k → (turn_after Calls x i (turn_after Calls x n s).state).notes ≡ []) → ((i : ℕ) → i < k → ending x 1 (state_after Calls x i (turn_after Calls x n s).state) ≡ None) →
-    Stands x b' (state_after Calls x k (turn_after Calls x n s).state) → notes_of b' ≡ [] → IsAdvanced Calls x (n + k) s b'
-more_turns x n k s b b' a quiet silent goes st none =
+-- turns after turns, of which the last one of the first noted nothing and is no end
+pub joined : (x : Scenario) (n m : ℕ) (s : State) (b b' : Board) → IsAdvanced Calls x n s b → notes_of b ≡ [] → ending x 1 (turn_after Calls x n s).state ≡ None → IsAdvanced Calls x m (turn_after Calls x n s).state b' → IsAdvanced Calls x (n + suc m) s b'
+joined x n m s b b' a none goes more =
     record {
-      nothing = λ j lt. nothing_at j lt (either n j);
-      goes_on = λ j lt. goes_at j lt (either n j);
-      stands = subst (λ (v : State). Stands x b' v) (further Calls x n k s) st;
-      notes = none ∙ sym (quiets k (omega arith));
+      nothing = λ j lt. nothing_at j lt (either (suc n) j);
+      goes_on = λ j lt. goes_at j lt (either (suc n) j);
+      stands = subst (λ (t : Turn). Stands x b' t.state) (turn_further Calls x n m s) more.stands;
+      notes = more.notes ∙ ap (λ (t : Turn). t.notes) (turn_further Calls x n m s);
     }
   where
-    quiets : (i : ℕ) → i ≤ k → (turn_after Calls x (n + i) s).notes ≡ []
-    quiets zero le = let e : n + 0 ≡ n = omega arith in ap (λ (m : ℕ). (turn_after Calls x m s).notes) e ∙ sym a.notes ∙ quiet
-    quiets (suc i) le = ap (λ (t : Turn). t.notes) (sym (turn_further Calls x n i s)) ∙ silent i (omega (arith, le))
+    later : (i j : ℕ) → j ≡ suc n + i → turn_after Calls x j s ≡ turn_after Calls x i (turn_after Calls x n s).state
+    later i j e = let same : j ≡ n + suc i = omega (arith, e) in ap (λ (k : ℕ). turn_after Calls x k s) same ∙ sym (turn_further Calls x n i s)
 
-    nothing_at : (j : ℕ) → j < n + k → (j < n) ⊎ ((i : ℕ) × (j ≡ n + i)) → (turn_after Calls x j s).notes ≡ []
-    nothing_at j lt (inl less) = a.nothing j less
-    nothing_at j lt (inr (i, e)) = ap (λ (m : ℕ). (turn_after Calls x m s).notes) e ∙ quiets i (omega (arith, lt, e))
+    nothing_at : (j : ℕ) → j < n + suc m → (j < suc n) ⊎ ((i : ℕ) × (j ≡ suc n + i)) → (turn_after Calls x j s).notes ≡ []
+    nothing_at j lt (inl less) = below_or (λ k. (turn_after Calls x k s).notes ≡ []) n j a.nothing (sym a.notes ∙ none) less
+    nothing_at j lt (inr (i, e)) = ap (λ (t : Turn). t.notes) (later i j e) ∙ more.nothing i (omega (arith, lt, e))
 
-    goes_at : (j : ℕ) → j < n + k → (j < n) ⊎ ((i : ℕ) × (j ≡ n + i)) → ending x 1 (turn_after Calls x j s).state ≡ None
-    goes_at j lt (inl less) = a.goes_on j less
-    goes_at j lt (inr (i, e)) =
-        ap (λ (m : ℕ). ending x 1 (turn_after Calls x m s).state) e
-        ∙ ap (ending x 1) (sym (further Calls x n i s))
-        ∙ goes i (omega (arith, lt, e))
+    goes_at : (j : ℕ) → j < n + suc m → (j < suc n) ⊎ ((i : ℕ) × (j ≡ suc n + i)) → ending x 1 (turn_after Calls x j s).state ≡ None
+    goes_at j lt (inl less) = below_or (λ k. ending x 1 (turn_after Calls x k s).state ≡ None) n j a.goes_on goes less
+    goes_at j lt (inr (i, e)) = ap (λ (t : Turn). ending x 1 t.state) (later i j e) ∙ more.goes_on i (omega (arith, lt, e))

@@ -6,9 +6,7 @@ pub mod Views
 pub mod Turning
 pub mod Gliding
 pub mod Skipping
-pub mod Stopping
 pub mod Telling
 pub mod CallRows
-pub mod Doing
 pub mod Fetching
 pub mod Windowing

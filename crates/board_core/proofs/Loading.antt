@@ -61,9 +61,6 @@ is_loaded loaded g k cpu t e h = rw e at h
 pub unloaded_by : (loaded : Bool) (g : Setup) (k : Kernel) (cpu : Cpu) (t : Turn) → loaded ≡ false → Holds g k t → HoldsBy loaded g k cpu t
 unloaded_by loaded g k cpu t e h = rw e h
 
-pub is_unloaded : (loaded : Bool) (g : Setup) (k : Kernel) (cpu : Cpu) (t : Turn) → loaded ≡ false → HoldsBy loaded g k cpu t → Holds g k t
-is_unloaded loaded g k cpu t e h = rw e at h
-
 -- ## a turn begins, and has ended
 
 begun-with_cpu : (cpu : Cpu) (s : Turn) → begun (with_cpu cpu s).state ≡ with_cpu cpu (begun s.state)
@@ -201,9 +198,9 @@ written_back g k cpu saved t task words at w is h =
     let R : Turn → Type 0 = λ u. Holds g k u in
     subst R (sym is) (subst Q w (subst P at h))
 
-pub loaded_register : (g : Setup) (k : Kernel) (cpu : Cpu) (t : Turn) → IsLoaded g k cpu t → t.state.current < length t.state.tasks → slice_index cpu.regs.words 15 ≡ register t.state t.state.current 15
+pub loaded_register : (r : ℕ) (g : Setup) (k : Kernel) (cpu : Cpu) (t : Turn) → IsLoaded g k cpu t → t.state.current < length t.state.tasks → slice_index cpu.regs.words r ≡ register t.state t.state.current r
 unfolding register
-loaded_register g k cpu t h inside = ap (λ (x : Cpu). slice_index x.regs.words 15) (loaded_cpu g k cpu t h inside)
+loaded_register r g k cpu t h inside = ap (λ (x : Cpu). slice_index x.regs.words r) (loaded_cpu g k cpu t h inside)
 
 -- the effect by the bus and the loaded context is the effect by the turn
 pub effect_loaded : (g : Setup) (k : Kernel) (cpu : Cpu) (t : Turn) (insn : Insn) → IsLoaded g k cpu t → t.state.current < length t.state.tasks →
@@ -223,7 +220,7 @@ acted_as g P c t e d is h =
     let S : Effect → Type 0 = λ x. P (acted g c x t) in
     subst S (sym is) h
 
-pub ready_same : (g : Setup) (m : Machine) (reach : Reach) (cpu : Cpu) (t : Turn) → reach ≡ m.reach → cpu ≡ m.processor → IsReady g m t → IsReady g record { reach = reach; processor = cpu; loaded = m.loaded } t
+pub ready_same : (g : Setup) (m : Machine) (reach : Reach) (cpu : Cpu) (t : Turn) → reach ≡ m.reach → cpu ≡ m.processor → IsReady g m t → IsReady g record m { reach = reach; processor = cpu } t
 ready_same g m reach cpu t e f r =
     let P : Reach → Type 0 = λ x. IsLoaded g x.kernel m.processor t in
     let Q : Cpu → Type 0 = λ x. IsLoaded g reach.kernel x t in

@@ -1,8 +1,9 @@
 -- The setup of a sound image is sound.
-use Rattle.std.proofs.Common.{◌≡◌, ◌<◌, ◌≤◌, inl, inr, ℕ, zero, suc, false, List, [], ◌∷◌, ◌++◌, length, map, replicate, get_or, refl, sym, subst, ◌∙◌, ap, arith}
+use Rattle.std.proofs.Common.{◌≡◌, ◌+◌, ◌<◌, ◌≤◌, inl, inr, ℕ, zero, suc, Bool, true, false, List, [], ◌∷◌, ◌++◌, length, map, take, replicate, get_or, refl, sym, subst, ◌∙◌, ap, arith, eqb}
 use Rattle.std.specs.Prelude.{Contains}
-use Rattle.std.proofs.lemmas.List.Elements.{Contains-append_cases}
-use Rattle.std.proofs.lemmas.List.{length-map, length-replicate}
+use Rattle.std.proofs.lemmas.Bool.{eqb-true, eqb-false, false≢true}
+use Rattle.std.proofs.lemmas.List.Elements.{Contains-append_cases, Contains-append_left, Contains-push, Contains-push_cases}
+use Rattle.std.proofs.lemmas.List.{length-map, length-replicate, take_more, take_all}
 use Rattle.region_check.specs.declared.Region.{Region}
 use Rattle.image_format.specs.Picture.{Picture, TaskPicture, LinePicture, no_task, no_line, task_in, regions_in}
 use Rattle.image_format.specs.Facts.{Facts}
@@ -14,7 +15,8 @@ use Rattle.task_table.specs.Start.{start}
 use Rattle.task_table.specs.Parts.{IsSound, setup_of_parts, task_setup, line_setup}
 use Rattle.task_table.specs.declared.start.TaskStart.{TaskStart}
 use Rattle.task_table.specs.declared.start.LineStart.{LineStart}
-use Rattle.board_core.specs.Regions.{ArePlaces}
+use Rattle.task_table.specs.Lendable.{AreLendable}
+use Rattle.board_core.specs.Regions.{ArePlaces, HavePlaces}
 use Rattle.board_core.specs.Opened.{setup_of, setup_of_task, setup_of_line}
 
 -- the setup that the parts spell is the image's
@@ -105,6 +107,58 @@ pub places_step : (p : Picture) (xs ys : List (ℕ × ℕ)) (i k : ℕ) (rs : Li
 places_step p xs ys i k rs r all own lt at none same =
     let has : Contains (regions_in p i) r = subst (λ (zs : List Region). Contains zs r) own (k, lt, sym at) in
     subst (ArePlaces p) (sym same) (places_more p xs i r all has none)
+
+-- the first k regions of a task have their places, where they are no device
+abbrev pub HaveFirst : List Region → ℕ → List (ℕ × ℕ) → Type 0
+HaveFirst rs k xs = (r : Region) → Contains (take k rs) r → r.rights.device ≡ false → Contains xs (r.base, r.size)
+
+pub none_first : (rs : List Region) (xs : List (ℕ × ℕ)) → HaveFirst rs 0 xs
+none_first rs xs r here none = absurd (omega (arith, here.1))
+
+-- one region more, which is a device or whose place is there
+first_more : (rs : List Region) (k : ℕ) (xs ys : List (ℕ × ℕ)) (r : Region) → HaveFirst rs k xs → k < length rs → r ≡ get_or rs k r → ((x : ℕ × ℕ) → Contains xs x → Contains ys x) → (r.rights.device ≡ false → Contains ys (r.base, r.size)) → HaveFirst rs (k + 1) ys
+first_more rs k xs ys r first lt at kept there y here none =
+    let e : take (k + 1) rs ≡ take k rs ++ r ∷ [] = take_more rs k r lt ∙ ap (λ (z : Region). take k rs ++ z ∷ []) (sym at) in
+    elim (Contains-push_cases (take k rs) r y (subst (λ (zs : List Region). Contains zs y) e here)) [
+      | inl old ↦ kept (y.base, y.size) (first y old none)
+      | inr new ↦ subst (λ (z : Region). Contains ys (z.base, z.size)) new (there (ap (λ (z : Region). z.rights.device) new ∙ none))
+    ]
+
+-- a place more
+pub pushed_more : (rs : List Region) (k : ℕ) (xs ys : List (ℕ × ℕ)) (r : Region) → HaveFirst rs k xs → k < length rs → r ≡ get_or rs k r → ys ≡ xs ++ (r.base, r.size) ∷ [] → HaveFirst rs (k + 1) ys
+pushed_more rs k xs ys r first lt at same =
+    first_more rs k xs ys r first lt at (λ x here. subst (λ (zs : List (ℕ × ℕ)). Contains zs x) (sym same) (Contains-append_left xs ((r.base, r.size) ∷ []) x here))
+    (λ none. subst (λ (zs : List (ℕ × ℕ)). Contains zs (r.base, r.size)) (sym same) (Contains-push xs (r.base, r.size)))
+
+pub device_more : (rs : List Region) (k : ℕ) (xs : List (ℕ × ℕ)) (r : Region) → HaveFirst rs k xs → k < length rs → r ≡ get_or rs k r → r.rights.device ≡ true → HaveFirst rs (k + 1) xs
+device_more rs k xs r first lt at device = first_more rs k xs xs r first lt at (λ x here. here) (λ none. absurd (false≢true (sym none ∙ device)))
+
+-- what was there before a place was added is there still
+pub places_kept : (p : Picture) (n : ℕ) (xs ys : List (ℕ × ℕ)) (x : ℕ × ℕ) → HavePlaces p n xs → ys ≡ xs ++ x ∷ [] → HavePlaces p n ys
+places_kept p n xs ys x have same i r lt here none = subst (λ (zs : List (ℕ × ℕ)). Contains zs (r.base, r.size)) (sym same) (Contains-append_left xs (x ∷ []) (r.base, r.size) (have i r lt here none))
+
+-- those of a task more
+pub places_further : (p : Picture) (n : ℕ) (rs : List Region) (xs : List (ℕ × ℕ)) → HavePlaces p n xs → rs ≡ regions_in p n → HaveFirst rs (length rs) xs → HavePlaces p (n + 1) xs
+places_further p n rs xs have own first i r lt here none = by (eqb i n) refl
+  where
+    by : (b : Bool) → eqb i n ≡ b → Contains xs (r.base, r.size)
+    by true e =
+        let same : i ≡ n = eqb-true i n e in
+        let there : Contains rs r = subst (λ (zs : List Region). Contains zs r) (sym own) (subst (λ (j : ℕ). Contains (regions_in p j) r) same here) in
+        first r (subst (λ (zs : List Region). Contains zs r) (sym (take_all (length rs) rs (omega arith))) there) none
+    by false e = have i r (omega (arith, lt, eqb-false i n e)) here none
+
+-- a task of the setup is one of the image
+task_there : (xs : List TaskPicture) (t : TaskSetup) → Contains (map setup_of_task xs) t → (i : ℕ) × (i < length xs) × (setup_of_task (get_or xs i no_task) ≡ t)
+task_there [] t h = absurd (omega (arith, h.1))
+task_there (x ∷ xs) t (zero, lt, same) = (zero, omega arith, same)
+task_there (x ∷ xs) t (suc i, lt, same) = let rest = task_there xs t (i, omega arith, same) in (suc rest.0, omega (arith, rest.1), rest.2)
+
+-- the regions of the tasks that are no device were given to the memory
+pub lendable : (p : Picture) (xs : List (ℕ × ℕ)) (ts : List TaskStart) → HavePlaces p (length p.tasks) xs → map task_setup ts ≡ map setup_of_task p.tasks → AreLendable xs (map task_setup ts)
+lendable p xs ts have same task r has here none =
+    let there = task_there p.tasks task (subst (λ (zs : List TaskSetup). Contains zs task) same has) in
+    have there.0 r there.1 (subst (λ (x : TaskSetup). Contains x.regions r) (sym there.2) here) none
 
 pub sound_setup : (p : Picture) → Facts p → AreAllBytes p.flash → IsSound (setup_of p)
 unfolding start

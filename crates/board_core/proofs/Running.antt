@@ -11,7 +11,7 @@ use Rattle.task_table.specs.declared.kernel.Kernel.{Kernel}
 use Rattle.mem_banks.specs.Memory.{Memory, number_at}
 use Rattle.task_table.specs.State.{Setup, State, Turn}
 use Rattle.task_table.specs.Reading.{task_at}
-use Rattle.task_table.specs.Holds.{Holds, Stands, setup_of, current_of, memory_of, notes_of, kept_of, task_count, note_count}
+use Rattle.task_table.specs.Holds.{Holds, Stands, setup_of, current_of, memory_of, notes_of, kept_of, note_count}
 use Rattle.task_table.specs.Start.{begun, start}
 use Rattle.task_table.specs.Sane.{Sane}
 use Rattle.task_table.proofs.Steps.{holds_turn}
@@ -30,10 +30,6 @@ stored_by m a n v m' = IsStored m.kernel a n v m'.kernel
 pub stores_hold : (ss : List Store) (m m' : Reach) → Stores stored_by m ss m' → (g : Setup) (t : Turn) → Holds g m.kernel t → Holds g m'.kernel (fold put t ss)
 stores_hold [] m m' e g t h = rw e h
 stores_hold (x ∷ xs) m m' e g t h = stores_hold xs e.0 m' e.2 g (put t x) (e.1.holds g t h)
-
-pub stores_count : (ss : List Store) (m m' : Reach) → Stores stored_by m ss m' → task_count m'.kernel ≡ task_count m.kernel
-stores_count [] m m' e = ap (λ (n : Reach). task_count n.kernel) e
-stores_count (x ∷ xs) m m' e = stores_count xs e.0 m' e.2 ∙ e.1.tasks
 
 pub stores_notes : (ss : List Store) (m m' : Reach) → Stores stored_by m ss m' → note_count m'.kernel ≡ note_count m.kernel
 stores_notes [] m m' e = ap (λ (n : Reach). note_count n.kernel) e

@@ -1,5 +1,5 @@
 -- Idle turns on end.
-use Rattle.std.proofs.Common.{◌≡◌, ◌≢◌, ◌+◌, ◌<◌, ◌≤◌, ℕ, zero, suc, Bool, true, false, ◌||◌, List, [], ◌∷◌, Option, Some, None, refl, sym, ◌∙◌, ap, subst, arith, leb}
+use Rattle.std.proofs.Common.{◌≡◌, ◌≢◌, ◌+◌, ◌-◌, ◌<◌, ◌≤◌, ℕ, zero, suc, Bool, true, false, ◌||◌, List, [], ◌∷◌, Option, Some, None, refl, sym, ◌∙◌, ap, subst, arith, leb}
 use Rattle.std.specs.Prelude.{is_some}
 use Rattle.std.specs.List.{list_any}
 use Rattle.std.proofs.lemmas.Bool.Decides.{nat_tests}
@@ -19,10 +19,10 @@ use Rattle.board_model.proofs.Outside.{no_event}
 use Rattle.board_model.proofs.Further.{last_turn}
 use Rattle.board_core.specs.Machine.{MachineHolds}
 use Rattle.board_core.specs.Stands.{Stands, notes_of, turns_of}
-use Rattle.board_core.specs.Advanced.{IsAdvanced}
+use Rattle.board_core.specs.Advanced.{HasGlidden}
 use Rattle.board_core.specs.Skipped.{IsIdleUntil}
 use Rattle.board_core.proofs.Turning.{HasTurned, as_chosen, noted_in}
-use Rattle.board_core.proofs.Gliding.{midway_now, stands_so, more_turns}
+use Rattle.board_core.proofs.Gliding.{midway_now, stands_so}
 
 -- ## an idle turn
 
@@ -132,20 +132,22 @@ any_from (e ∷ es) from to le more = by_first (leb to e.0) refl (any_from es fr
     by_first true is rest = let here : leb from e.0 ≡ true = grind (arith, nat_tests, is) in rw here refl
     by_first false is rest = ap (λ (b : Bool). leb from e.0 || b) (rest (rw is at more)) ∙ or_true (leb from e.0)
 
-lasts_from : (script : ScriptData) (from to : ℕ) → from ≤ to → lasts script to ≡ true → lasts script from ≡ true
+pub lasts_from : (script : ScriptData) (from to : ℕ) → from ≤ to → lasts script to ≡ true → lasts script from ≡ true
 lasts_from script from to le more = by_every (is_some script.every) refl
   where
     by_every : (b : Bool) → is_some script.every ≡ b → lasts script from ≡ true
     by_every true is = rw is refl
     by_every false is = rw is (any_from script.events from to le (rw is at more))
 
-pub skip_advances : (x : Scenario) (n k : ℕ) (s : State) (b b' : Board) → IsAdvanced Calls x n s b → notes_of b ≡ [] →
-    IsIdleUntil x (turn_after Calls x n s).state ((turn_after Calls x n s).state.turn + k) → lasts x.script ((turn_after Calls x n s).state.turn + k) ≡ true →
-    Stands x b' (state_after Calls x k (turn_after Calls x n s).state) → notes_of b' ≡ [] → IsAdvanced Calls x (n + k) s b'
-skip_advances x n k s b b' a quiet idle more st none =
-    let u : State = (turn_after Calls x n s).state in
-    more_turns x n k s b b' a quiet (λ i lt. silent_then x u _ idle i (omega (arith, lt)))
-    (λ i lt. goes_then x u _ idle i (omega (arith, lt)) (lasts_from x.script (u.turn + i) (u.turn + k) (omega (arith, lt)) more)) st none
+pub idle_made : (x : Scenario) (s : State) (to : ℕ) (b : Board) → IsIdleUntil x s to → s.turn ≤ to → lasts x.script to ≡ true → Stands x b (state_after Calls x (to - s.turn) s) → notes_of b ≡ [] → HasGlidden x s (to - s.turn) b
+unfolding state_after
+idle_made x s to b idle from more st none =
+    record {
+      stands = st;
+      nothing = λ k lt. silent_then x s to idle k (omega (arith, lt));
+      goes_on = λ k lt. goes_then x s to idle (suc k) (omega (arith, lt, from)) (lasts_from x.script (s.turn + suc k) to (omega (arith, lt, from)) more);
+      notes = λ lt. none;
+    }
 
 -- ## when a board may skip
 
@@ -169,3 +171,10 @@ idle_board_until x s b to st none up later few =
 pub not_due : (script : ScriptData) (from to : ℕ) (due : Option ℕ) → IsNext script from due → ((turn : ℕ) → from ≤ turn → turn < to → events_of script turn ≡ []) → (turn : ℕ) → turn < to → due ≢ Some turn
 not_due script from to None next nothing turn lt e = absurd (cc)
 not_due script from to (Some n) next nothing turn lt e = next.2 (nothing n next.0 (let same : n ≡ turn = cc in omega (arith, same, lt)))
+
+-- where turns came to the one that was due next
+pub due_now : (x : Scenario) (s u : State) (due : Option ℕ) (from to until limit : ℕ) → IsNext x.script s.turn due → (until < limit → due ≡ Some until) → from ≡ s.turn → to ≡ u.turn → (from ≤ until → to ≤ until) → until ≤ to → to < limit → events_of x.script u.turn ≢ []
+due_now x s u due from to until limit next met began is within over less =
+    let now : IsNext x.script s.turn (Some until) = subst (λ (d : Option ℕ). IsNext x.script s.turn d) (met (omega (arith, over, less))) next in
+    let e : until ≡ u.turn = let below = within (omega (arith, began, now.0)) in omega (arith, below, over, is) in
+    subst (λ (n : ℕ). events_of x.script n ≢ []) e now.2

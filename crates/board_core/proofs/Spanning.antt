@@ -5,10 +5,11 @@ use Rattle.region_check.specs.declared.Region.{Region}
 use Rattle.region_check.specs.declared.Right.{Right}
 use Rattle.region_check.specs.Rights.{has_right, is_inside, gives, may_use}
 use Rattle.region_check.proofs.FirstBad.{find_range_none}
-use Rattle.board_core.specs.Spans.{spans, one_gives}
+use Rattle.window_laws.specs.Reached.{spans}
+use Rattle.board_core.specs.Spans.{one_gives}
 use Rattle.board_model.specs.Turn.{first_lacking}
 
-both : (a b : Bool) → (a && b) ≡ true → (a ≡ true) × (b ≡ true)
+pub both : (a b : Bool) → (a && b) ≡ true → (a ≡ true) × (b ≡ true)
 both true b h = (refl, h)
 both false b h = absurd (false≢true h)
 

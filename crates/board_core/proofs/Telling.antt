@@ -70,7 +70,7 @@ last_eight xs n =
 pub told_current : (level : Level) (n : Note) (t : Turn) → (told level n t).state.current ≡ t.state.current
 told_current level n t = ap (λ s. s.current) (told_state level n t)
 
-pub ready_noted : (g : Setup) (m : Machine) (k : Kernel) (n : Note) (t : Turn) → ((u : Turn) → Holds g m.reach.kernel u → Holds g k (noted n u)) → IsReady g m t → IsReady g record { reach = record m.reach { kernel = k }; processor = m.processor; loaded = m.loaded } (noted n t)
+pub ready_noted : (g : Setup) (m : Machine) (k : Kernel) (n : Note) (t : Turn) → ((u : Turn) → Holds g m.reach.kernel u → Holds g k (noted n u)) → IsReady g m t → IsReady g record m { reach = record m.reach { kernel = k } } (noted n t)
 ready_noted g m k n t f r = record { loaded = r.loaded; holds = loaded_noted g m.reach.kernel k m.processor n t f r.holds; sane = sane-noted n t r.sane }
 
 -- both notes of the registers, one after the other

@@ -1,7 +1,7 @@
 -- Instructions on end within a window of the current task's memory are its turns.
-use Rattle.std.proofs.Common.{◌≡◌, ◌≢◌, inl, inr, ◌+◌, ◌-◌, ◌≤◌, ◌<◌, ℕ, zero, suc, Bool, true, false, ◌||◌, List, [], ◌∷◌, length, Option, Some, None, refl, sym, ◌∙◌, ap, subst, arith, leb}
+use Rattle.std.proofs.Common.{◌≡◌, ◌≢◌, inl, inr, ◌+◌, ◌-◌, ◌≤◌, ◌<◌, ℕ, zero, suc, Bool, true, false, not, ◌||◌, List, [], ◌∷◌, length, Option, Some, None, refl, sym, ◌∙◌, ap, subst, arith, leb}
 use Rattle.std.specs.Prelude.{Contains}
-use Rattle.std.proofs.lemmas.Bool.{le-leb}
+use Rattle.std.proofs.lemmas.Bool.{le-leb, leb-true, ltb-true, false≢true}
 use Rattle.std.proofs.lemmas.List.{set-set}
 use Rattle.region_check.specs.declared.Region.{Region}
 use Rattle.region_check.specs.declared.Right.{Right}
@@ -12,11 +12,15 @@ use Rattle.mem_banks.specs.Memory.{Memory, bytes_at, with_bytes}
 use Rattle.mem_banks.specs.Loans.{IsInMemory, IsInRam, IsInFlash}
 use Rattle.mem_banks.proofs.Windows.{region_length}
 use Rattle.thumb_exec.specs.declared.cpu.Cpu.{Cpu}
-use Rattle.thumb_window.specs.Windows.{View}
+use Rattle.thumb_exec.specs.Effect.{Halts}
+use Rattle.thumb_step.specs.Fetch.{step_effect}
+use Rattle.thumb_window.specs.Windows.{View, refused_by, held_by}
 use Rattle.task_table.specs.State.{Setup, State, Task, Turn}
-use Rattle.task_table.specs.Reading.{setup_at, task_at, call_of, listen_of, is_ready, chosen}
+use Rattle.task_table.specs.Start.{begun}
+use Rattle.task_table.specs.Reading.{setup_at, task_at, call_of, listen_of, is_ready, chosen, register, stack_pointer, program_counter}
 use Rattle.task_table.specs.Effects.{with_task, with_processor}
 use Rattle.task_table.specs.Holds.{Holds, current_of, kept_of, note_count, notes_of as kernel_notes}
+use Rattle.task_table.specs.Lendable.{AreUsable}
 use Rattle.task_table.specs.Lent.{overlaid}
 use Rattle.task_table.specs.declared.kernel.Kernel.{Kernel}
 use Rattle.task_table.proofs.Changes.{task_at-with_task}
@@ -24,20 +28,21 @@ use Rattle.task_table.proofs.Steps.{holds_turn}
 use Rattle.board_model.specs.declared.told.Level.TheVariants.{Calls}
 use Rattle.board_model.specs.Script.{Scenario}
 use Rattle.board_model.specs.Turn.{may}
-use Rattle.window_laws.specs.Windowed.{IsWindow, later}
-use Rattle.window_laws.proofs.Going.{are_turns}
-use Rattle.board_core.specs.declared.glider.Glider.{Glider}
+use Rattle.board_model.specs.Run.{ending, is_down, state_after}
+use Rattle.board_model.proofs.Outside.{due_later}
+use Rattle.window_laws.specs.Reached.{spans, is_flash_at, is_ram_at, IsStackRegion, AreReached}
+use Rattle.window_laws.specs.Windowed.{IsWindow, IsWholeWindow, IsAtEnd, MustStop, AreTurns, later}
+use Rattle.window_laws.proofs.Going.{are_turns, window_then}
 use Rattle.board_core.specs.declared.machine.Machine.{Machine}
 use Rattle.board_core.specs.Machine.{IsReady, IsLoaded, MachineHolds, with_cpu}
-use Rattle.board_core.specs.Gliding.{AreWindow, IsGlided, HasGlided}
-use Rattle.board_core.proofs.Loading.{rest_of, is_loaded}
+use Rattle.board_core.specs.Gliding.{IsGlided, HasGlided}
 use Rattle.board_core.specs.declared.board.Board.{Board}
-use Rattle.board_core.specs.Stands.{Stands, notes_of, turns_of}
-use Rattle.board_core.proofs.Gliding.{current_seen}
-use Rattle.board_core.proofs.Skipping.{quiet_before}
+use Rattle.board_core.specs.Stands.{Stands, turns_of}
+use Rattle.board_core.specs.Advanced.{HasGlidden}
+use Rattle.board_core.proofs.Loading.{rest_of, is_loaded, told_by}
+use Rattle.board_core.proofs.Spanning.{both}
+use Rattle.board_core.proofs.Skipping.{quiet_before, quiet_begun, begun_board}
 use Rattle.board_core.proofs.Turning.{rested, rested_as, none_of}
-use Rattle.board_model.specs.Run.{ending, is_down, turn_after, state_after}
-use Rattle.board_model.proofs.Outside.{due_later}
 
 -- ## a window
 
@@ -66,38 +71,109 @@ in_flash : (m : Memory) (r : ℕ × ℕ) → r.0 < 0x20000000 → IsInMemory m r
 in_flash m r low (inl x) = absurd (omega (arith, low, x.0))
 in_flash m r low (inr x) = x
 
-module _ (g : Setup) (c : ℕ) (m : Memory) (text ram : Region) (v : View)
-    (are : AreWindow (setup_at g c).regions text ram) (text_base : v.text_base ≡ text.base) (readable : v.readable ≡ text.rights.read) (ram_base : v.ram_base ≡ ram.base)
-    (text_there : IsInMemory m (text.base, text.size)) (ram_there : IsInRam m (ram.base, ram.size))
-    (text_bytes : v.text ≡ bytes_at m text.base text.size) (ram_bytes : v.ram ≡ bytes_at m ram.base ram.size) where
-  text_long : length v.text ≡ text.size
-  text_long = ap (λ (xs : List ℕ). length xs) text_bytes ∙ region_length m text.base text.size text_there
+-- what the tests of a region say
+record IsFlashAt (at : ℕ) (r : Region) : Type 0 where
+  to : at + 2 ≤ r.base + r.size
+  from : r.base ≤ at
+  execute : r.rights.execute ≡ true
+  no_device : r.rights.device ≡ false
+  below : r.base < 0x20000000
+
+record IsRamAt (at : ℕ) (r : Region) : Type 0 where
+  from : r.base ≤ at
+  to : at ≤ r.base + r.size
+  some : 0 < r.size
+  read : r.rights.read ≡ true
+  write : r.rights.write ≡ true
+  no_device : r.rights.device ≡ false
+  above : 0x20000000 ≤ r.base
+
+is_false : (b : Bool) → not b ≡ true → b ≡ false
+is_false true e = absurd (false≢true e)
+is_false false e = refl
+
+spanned : (r : Region) (a n : ℕ) → spans r a n ≡ true → (r.base ≤ a) × (a + n ≤ r.base + r.size)
+spanned r a n h = let two = both _ _ h in (leb-true _ _ two.0, leb-true _ _ two.1)
+
+flash_at : (at : ℕ) (r : Region) → is_flash_at at r ≡ true → IsFlashAt at r
+flash_at at r h =
+    let three = both _ _ h in
+    let two = both _ _ three.0 in
+    let one = both _ _ two.0 in
+    let range = spanned r at 2 one.0 in
+    record { to = range.1; from = range.0; execute = one.1; no_device = is_false _ two.1; below = ltb-true _ _ three.1 }
+
+ram_at : (at : ℕ) (r : Region) → is_ram_at at r ≡ true → IsRamAt at r
+ram_at at r h =
+    let five = both _ _ h in
+    let four = both _ _ five.0 in
+    let three = both _ _ four.0 in
+    let two = both _ _ three.0 in
+    let one = both _ _ two.0 in
+    let range = spanned r at 0 one.0 in
+    record {
+      from = range.0;
+      to = omega (arith, range.1);
+      some = ltb-true _ _ one.1;
+      read = two.1;
+      write = three.1;
+      no_device = is_false _ four.1;
+      above = leb-true _ _ five.1;
+    }
+
+-- the regions of a window can be lent
+pub are_usable : (regions : List Region) (pc sp : ℕ) (flash ram : Region) → AreReached regions pc sp flash ram → AreUsable regions flash ram
+are_usable regions pc sp flash ram are =
+    let f = flash_at pc flash are.flash in
+    record {
+      text_usable = record { here = are.here; no_device = f.no_device; some = omega (arith, f.from, f.to) };
+      below = f.below;
+      ram_usable = elim are.ram [
+        | inl x ↦ let h = ram_at sp ram x.1 in inr (record { here = x.0; no_device = h.no_device; some = h.some }, h.above)
+        | inr x ↦ inl x.0
+      ];
+    }
+
+module _ (g : Setup) (c : ℕ) (m : Memory) (pc sp : ℕ) (flash ram : Region) (v : View)
+    (are : AreReached (setup_at g c).regions pc sp flash ram) (text_base : v.text_base ≡ flash.base) (readable : v.readable ≡ flash.rights.read) (ram_base : v.ram_base ≡ ram.base)
+    (text_there : IsInMemory m (flash.base, flash.size)) (ram_there : IsInRam m (ram.base, ram.size))
+    (text_bytes : v.text ≡ bytes_at m flash.base flash.size) (ram_bytes : v.ram ≡ bytes_at m ram.base ram.size) where
+  text_long : length v.text ≡ flash.size
+  text_long = ap (λ (xs : List ℕ). length xs) text_bytes ∙ region_length m flash.base flash.size text_there
 
   ram_long : length v.ram ≡ ram.size
   ram_long = ap (λ (xs : List ℕ). length xs) ram_bytes ∙ region_length m ram.base ram.size (inl ram_there)
 
-  of_text : (right : Right) → has_right text.rights right ≡ true → (a : ℕ) → v.text_base ≤ a → a < v.text_base + length v.text → may g c right a ≡ true
-  of_text right has a low high = each_byte (setup_at g c).regions right text a are.first has (omega (arith, low, text_base)) (omega (arith, high, text_base, text_long))
+  of_text : (right : Right) → has_right flash.rights right ≡ true → (a : ℕ) → v.text_base ≤ a → a < v.text_base + length v.text → may g c right a ≡ true
+  of_text right has a low high = each_byte (setup_at g c).regions right flash a are.here has (omega (arith, low, text_base)) (omega (arith, high, text_base, text_long))
 
-  of_ram : (right : Right) → has_right ram.rights right ≡ true → (a : ℕ) → v.ram_base ≤ a → a < v.ram_base + length v.ram → may g c right a ≡ true
-  of_ram right has a low high = each_byte (setup_at g c).regions right ram a are.second has (omega (arith, low, ram_base)) (omega (arith, high, ram_base, ram_long))
+  of_ram : (right : Right) → (IsRamAt sp ram → has_right ram.rights right ≡ true) → (a : ℕ) → v.ram_base ≤ a → a < v.ram_base + length v.ram → may g c right a ≡ true
+  of_ram right has a low high = by are.ram
+    where
+      by : IsStackRegion (setup_at g c).regions sp ram → may g c right a ≡ true
+      by (inl x) = each_byte (setup_at g c).regions right ram a x.0 (has (ram_at sp ram x.1)) (omega (arith, low, ram_base)) (omega (arith, high, ram_base, ram_long))
+      by (inr x) = let none : ram.size ≡ 0 = x.0.1 in absurd (omega (arith, low, high, ram_long, none))
 
   -- the text ends below the RAM
   pub text_below : v.text_base + length v.text ≤ v.ram_base
-  text_below = let flash = in_flash m (text.base, text.size) are.below text_there in omega (arith, text_base, text_long, ram_base, flash.2, ram_there.0)
+  text_below = let inside = in_flash m (flash.base, flash.size) (flash_at pc flash are.flash).below text_there in omega (arith, text_base, text_long, ram_base, inside.2, ram_there.0)
 
-  pub window_of : IsWindow g c m v
+  window_of : IsWindow g c m v
   window_of =
+      let f = flash_at pc flash are.flash in
       record {
-        executed = of_text Execute are.execute;
+        executed = of_text Execute f.execute;
         legible = λ e. of_text Read (sym readable ∙ e);
-        read = of_ram Read are.read;
-        written = of_ram Write are.write;
-        in_flash = rw (text_base, text_long) (in_flash m (text.base, text.size) are.below text_there);
+        read = of_ram Read (λ h. h.read);
+        written = of_ram Write (λ h. h.write);
+        in_flash = rw (text_base, text_long) (in_flash m (flash.base, flash.size) f.below text_there);
         in_ram = rw (ram_base, ram_long) ram_there;
         text = rw (text_base, text_long) (sym text_bytes);
         ram = rw (ram_base, ram_long) (sym ram_bytes);
       }
+
+  pub whole_window : IsWholeWindow g c m pc sp v
+  whole_window = record { is = window_of; code = flash; stack = ram; reached = are; text = (text_base, text_long); readable = readable; ram = (ram_base, ram_long) }
 
 -- ## the kernel that was lent from
 
@@ -156,39 +232,32 @@ due_later_on script turn (suc n) due next ne =
     let e : turn + n + 1 ≡ turn + suc n = omega arith in
     subst (λ (k : ℕ). IsNext script k due) e (due_later script (turn + n) due before (ne n (omega arith)))
 
--- a board after n turns within a window, of which it is said what it noted and that the run goes on
-pub record HasBoard (x : Scenario) (u : State) (b b' : Board) (n : ℕ) : Type 0 where
-  pub stands : Stands x b' (state_after Calls x n u)
-  pub silent : (k : ℕ) → k < n → (turn_after Calls x k u).notes ≡ []
-  pub goes : (k : ℕ) → k < n → ending x 1 (state_after Calls x k u) ≡ None
+-- ## turns on end of the task whose context is loaded
 
-module _ (x : Scenario) (u : State) (b : Board) (m : Machine) (glider : Glider) (task most n until : ℕ)
-    (st : Stands x b u) (none : notes_of b ≡ []) (next : b.choice.next ≡ Some task) (up : b.choice.down ≡ false)
+-- a board after n turns within a window, and why there were no more
+pub record IsMade (x : Scenario) (u : State) (task until : ℕ) (b b' : Board) : Type 0 where
+  pub glidden : HasGlidden x u (turns_of b' - turns_of b) b'
+  pub far : turns_of b' < until → MustStop x.setup task (register u task program_counter) (register u task stack_pointer) (state_after Calls x (turns_of b' - turns_of b) u)
+
+module _ (x : Scenario) (u : State) (b : Board) (m : Machine) (task most n until : ℕ)
+    (st : Stands x b u) (next : b.choice.next ≡ Some task) (up : b.choice.down ≡ false)
     (few : until ≤ 1000000000) (within : turns_of b + n ≤ until) (later_due : (turn : ℕ) → turn < until → b.due ≢ Some turn)
-    (ready : IsReady x.setup b.machine (rested b.machine u)) (current : current_of b.machine.reach.kernel ≡ task)
-    (none' : kernel_notes m.reach.kernel ≡ []) where
-  at : turns_of b ≡ u.turn
-  at = st.holds.turns
-
+    (is_current : u.current ≡ task) (none : kernel_notes m.reach.kernel ≡ []) where
   nothing : (k : ℕ) → k < n → events_of x.script (u.turn + k) ≡ []
-  nothing k lt = let e = at in quiet_before x.script u.turn until b.due st.holds.due later_due few (u.turn + k) (omega arith) (omega (arith, e, lt, within))
-
-  is_current : u.current ≡ task
-  is_current = sym (current_seen x.setup b.machine (rested b.machine u) ready) ∙ current
+  nothing k lt = let e = st.holds.turns in quiet_before x.script u.turn until b.due st.holds.due later_due few (u.turn + k) (omega arith) (omega (arith, e, lt, within))
 
   is_chosen : chosen x.setup u ≡ Some u.current
   is_chosen = sym st.holds.choice.next ∙ next ∙ ap Some (sym is_current)
 
   -- none was made
-  stayed : n ≡ 0 → MachineHolds x.setup m (rested b.machine u) → HasBoard x u b record b { machine = m; turns = turns_of b + n; glider = glider } n
+  stayed : n ≡ 0 → MachineHolds x.setup m (rested b.machine u) → HasGlidden x u n record b { machine = m; turns = turns_of b + n }
   unfolding state_after
   stayed zero_is h =
-      let e : turns_of b ≡ turns_of b + n = omega (arith, zero_is) in
       rw zero_is record {
         stands = record {
           holds = record {
             machine = rested_as x.setup b.machine m u h;
-            turns = let a = at in omega (arith, a);
+            turns = let a = st.holds.turns in omega (arith, a);
             choice = st.holds.choice;
             script = st.holds.script;
             due = st.holds.due;
@@ -196,18 +265,22 @@ module _ (x : Scenario) (u : State) (b : Board) (m : Machine) (glider : Glider) 
           sane = st.sane;
           counted = st.counted;
         };
-        silent = λ k lt. absurd (omega (arith, lt));
-        goes = λ k lt. absurd (omega (arith, lt));
+        nothing = λ k lt. absurd (omega (arith, lt));
+        goes_on = λ k lt. absurd (omega (arith, lt));
+        notes = λ lt. none;
       }
 
-  glided : IsGlided x.setup m (rested b.machine u) most n → HasBoard x u b record b { machine = m; turns = turns_of b + n; glider = glider } n
-  unfolding ending
-  glided h =
-      let are = are_turns x u u.current h.window st.sane is_chosen refl h.is n h.after m.processor nothing h.glides in
+  turns_are : (h : IsGlided x.setup m (rested b.machine u) most n) → AreTurns x u u.current h.window n h.after m.processor
+  turns_are h = are_turns x u u.current h.window st.sane is_chosen refl h.whole.is n h.after m.processor nothing h.glides
+
+  made : IsGlided x.setup m (rested b.machine u) most n → HasGlidden x u n record b { machine = m; turns = turns_of b + n }
+  unfolding ending state_after
+  made h =
+      let are = turns_are h in
       let v : State = state_after Calls x n u in
       let M : State → Type 0 = λ y. MachineHolds x.setup m (rested b.machine y) in
       let turns : v.turn ≡ u.turn + n = ap (λ (y : State). y.turn) are.state in
-      let a = at in
+      let a = st.holds.turns in
       record {
         stands = record {
           holds = record {
@@ -224,8 +297,9 @@ module _ (x : Scenario) (u : State) (b : Board) (m : Machine) (glider : Glider) 
           sane = are.sane;
           counted = are.counted st.counted;
         };
-        silent = are.silent;
-        goes = λ k lt. goes_at k (are.chosen k (omega (arith, lt))) (are.down k (omega (arith, lt)));
+        nothing = are.silent;
+        goes_on = λ k lt. goes_at (suc k) (are.chosen (suc k) (omega (arith, lt))) (are.down (suc k) (omega (arith, lt)));
+        notes = λ lt. none;
       }
     where
       goes_at : (k : ℕ) → chosen x.setup (state_after Calls x k u) ≡ Some u.current → is_down (state_after Calls x k u) ≡ is_down u → ending x 1 (state_after Calls x k u) ≡ None
@@ -233,14 +307,55 @@ module _ (x : Scenario) (u : State) (b : Board) (m : Machine) (glider : Glider) 
           let down : is_down (state_after Calls x k u) ≡ false = same ∙ sym st.holds.choice.down ∙ up in
           rw (down, some) refl
 
-  pub has_board : HasGlided x.setup m (rested b.machine u) most n → HasBoard x u b record b { machine = m; turns = turns_of b + n; glider = glider } n
-  has_board (inl h) = glided h
-  has_board (inr h) = stayed h.0 h.1
+  has_glidden : HasGlided x.setup m (rested b.machine u) most n → HasGlidden x u n record b { machine = m; turns = turns_of b + n }
+  has_glidden (inl h) = made h
+  has_glidden (inr h) = stayed h.none h.holds
 
--- the same of a board whose machine has the context of the task that is chosen
-pub board_then : (x : Scenario) (u : State) (b : Board) (m : Machine) (glider : Glider) (task n until : ℕ) → Stands x b u → notes_of b ≡ [] → b.choice.next ≡ Some task → b.choice.down ≡ false → until ≤ 1000000000 →
-    turns_of b ≤ until → n ≤ until - turns_of b → ((turn : ℕ) → turn < until → b.due ≢ Some turn) → b.machine.loaded ≡ true → current_of b.machine.reach.kernel ≡ task → note_count m.reach.kernel ≡ note_count b.machine.reach.kernel →
-    ((g : Setup) (t : Turn) → IsReady g b.machine t → HasGlided g m t (until - turns_of b) n) → HasBoard x u b record b { machine = m; turns = turns_of b + n; glider = glider } n
-board_then x u b m glider task n until st none next up few left within later_due loaded current count glided =
-    let ready : IsReady x.setup b.machine (rested b.machine u) = record { loaded = loaded; holds = is_loaded _ x.setup _ _ (rested b.machine u) loaded st.holds.machine; sane = st.sane } in
-    has_board x u b m glider task (until - turns_of b) n until st none next up few (omega (arith, left, within)) later_due ready current (none_of b.machine m none count) (glided x.setup (rested b.machine u) ready)
+  -- the window that is left is of the same regions
+  at_end : (h : IsGlided x.setup m (rested b.machine u) most n) → n < most → IsAtEnd x.setup u.current (register u u.current program_counter) (register u u.current stack_pointer) (state_after Calls x n u)
+  at_end h lt =
+      let left = window_then x u u.current h.window st.sane is_chosen refl h.whole.is n h.after m.processor nothing h.glides in
+      let same = left.keeps in
+      record {
+        window = h.after;
+        whole = record {
+          is = left.window;
+          code = h.whole.code;
+          stack = h.whole.stack;
+          reached = h.whole.reached;
+          text = (same.text_base ∙ h.whole.text.0, ap (λ (xs : List ℕ). length xs) same.text ∙ h.whole.text.1);
+          readable = same.readable ∙ h.whole.readable;
+          ram = (same.ram_base ∙ h.whole.ram.0, same.size ∙ h.whole.ram.1);
+        };
+        halts = subst (λ (d : Cpu). Halts (step_effect (refused_by h.after) (held_by h.after) d)) (sym left.processor) (h.far lt);
+      }
+
+  must_stop : HasGlided x.setup m (rested b.machine u) most n → n < most → MustStop x.setup u.current (register u u.current program_counter) (register u u.current stack_pointer) (state_after Calls x n u)
+  unfolding state_after
+  must_stop (inl h) lt = inl (at_end h lt)
+  must_stop (inr h) lt = inr (rw h.none h.beyond)
+
+-- the same of a board whose machine has the context of the task that is chosen, once the machine's turn has begun
+pub made_by : (x : Scenario) (u : State) (b : Board) (m m' : Machine) (task n until : ℕ) → Stands x b u → MachineHolds x.setup m (begun u) → m.loaded ≡ true → u.current ≡ task → b.choice.next ≡ Some task → b.choice.down ≡ false → until ≤ 1000000000 →
+    turns_of b < until → n ≤ until - turns_of b → ((turn : ℕ) → turn < until → b.due ≢ Some turn) → note_count m'.reach.kernel ≡ note_count m.reach.kernel →
+    ((g : Setup) (t : Turn) → IsReady g m t → HasGlided g m' t (until - turns_of b) n) → IsMade x u task until b record b { machine = m'; turns = turns_of b + n }
+made_by x u b0 m m' task n until st0 holds loaded is_current next up few left within later_due count glided =
+    let b : Board = record b0 { machine = m } in
+    let b' : Board = record b0 { machine = m'; turns = turns_of b0 + n } in
+    let st : Stands x b u = begun_board x u b0 m st0 holds in
+    let none : kernel_notes m'.reach.kernel ≡ [] = none_of m m' (quiet_begun x u m holds) count in
+    let ready : IsReady x.setup m (rested m u) = record { loaded = loaded; holds = is_loaded _ x.setup _ _ (rested m u) loaded st.holds.machine; sane = st.sane } in
+    let over : turns_of b0 + n ≤ until = omega (arith, left, within) in
+    let most : ℕ = until - turns_of b0 in
+    let h = glided x.setup (rested m u) ready in
+    let e : n ≡ turns_of b0 + n - turns_of b0 = omega arith in
+    record {
+      glidden = subst (λ (k : ℕ). HasGlidden x u k b') e (has_glidden x u b m' task most n until st next up few over later_due is_current none h);
+      far = λ lt.
+          let stop = must_stop x u b m' task most n until st next up few over later_due is_current none h (omega (arith, lt)) in
+          subst (λ (k : ℕ). MustStop x.setup task (register u task program_counter) (register u task stack_pointer) (state_after Calls x k u)) e (subst (λ (i : ℕ). MustStop x.setup i (register u i program_counter) (register u i stack_pointer) (state_after Calls x n u)) is_current stop);
+    }
+
+-- the task that ran last is the kernel's
+pub current_now : (x : Scenario) (u : State) (b : Board) → Stands x b u → current_of b.machine.reach.kernel ≡ u.current
+current_now x u b st = let w = told_by _ x.setup _ _ _ st.holds.machine in w.holds.current ∙ sym w.rest.current

@@ -1,14 +1,15 @@
 -- Instructions on end within a window of the current task's memory.
-use Rattle.std.specs.Prelude.{ℕ, ◌≡◌, ◌⊎◌, ◌+◌, ◌≤◌, ◌<◌, List, length, Contains, true}
-use Rattle.region_check.specs.declared.Region.{Region}
+use Rattle.std.specs.Prelude.{ℕ, ◌≡◌, ◌⊎◌, ◌+◌, ◌≤◌, ◌<◌, List, length, false}
+use Rattle.std.specs.List.{list_any}
 use Rattle.mem_banks.specs.Memory.{with_bytes}
 use Rattle.thumb_exec.specs.Effect.{Halts}
 use Rattle.thumb_step.specs.Fetch.{step_effect}
 use Rattle.thumb_window.specs.Windows.{View, Glides, refused_by, held_by}
 use Rattle.task_table.specs.State.{Setup, Turn}
-use Rattle.task_table.specs.Reading.{task_at}
+use Rattle.task_table.specs.Reading.{task_at, setup_at, register, stack_pointer, program_counter}
 use Rattle.board_model.specs.Turn.{cpu_of}
-use Rattle.window_laws.specs.Windowed.{IsWindow, later}
+use Rattle.window_laws.specs.Reached.{is_flash_at}
+use Rattle.window_laws.specs.Windowed.{IsWholeWindow, later}
 use Rattle.board_core.specs.declared.glider.Glider.{Glider}
 use Rattle.board_core.specs.declared.machine.Machine.{Machine}
 use Rattle.board_core.specs.Machine.{MachineHolds}
@@ -31,24 +32,20 @@ pub record HasWorked (a : Glider) (text ram : List ℕ) (b : Glider) (after : Li
   -- it stopped before that many only where the next one calls, faults or reaches elsewhere
   pub far : a.runner.window.text_base + length text ≤ a.runner.window.ram_base → b.made < a.most → Halts (step_effect (refused_by (lent_view a text after)) (held_by (lent_view a text after)) b.runner.processor)
 
--- two of some regions: one that may be executed, in the flash, and one that may be read and written
-pub record AreWindow (regions : List Region) (text ram : Region) : Type 0 where
-  pub first : Contains regions text
-  pub second : Contains regions ram
-  pub execute : text.rights.execute ≡ true
-  pub read : ram.rights.read ≡ true
-  pub write : ram.rights.write ≡ true
-  pub below : text.base < 0x20000000
-
 -- n instructions on end of the current task within a window, of which as many go on as there may be
 pub record IsGlided (g : Setup) (m : Machine) (t : Turn) (most n : ℕ) : Type 0 where
   pub window : View
   pub after : View
-  pub is : IsWindow g t.state.current t.state.memory window
+  pub whole : IsWholeWindow g t.state.current t.state.memory (register t.state t.state.current program_counter) (register t.state t.state.current stack_pointer) window
   pub glides : Glides window (cpu_of (task_at t.state t.state.current)) n after m.processor
   pub far : n < most → Halts (step_effect (refused_by after) (held_by after) m.processor)
   pub holds : MachineHolds g m record t { state = later t.state t.state.current m.processor (with_bytes t.state.memory window.ram_base after.ram) n }
 
--- that, or none
+-- none, since the task fetches from no region of the flash
+pub record HasNoWindow (g : Setup) (m : Machine) (t : Turn) (n : ℕ) : Type 0 where
+  pub none : n ≡ 0
+  pub beyond : list_any (is_flash_at (register t.state t.state.current program_counter)) (setup_at g t.state.current).regions ≡ false
+  pub holds : MachineHolds g m t
+
 abbrev pub HasGlided : Setup → Machine → Turn → ℕ → ℕ → Type 0
-HasGlided g m t most n = IsGlided g m t most n ⊎ ((n ≡ 0) × MachineHolds g m t)
+HasGlided g m t most n = IsGlided g m t most n ⊎ HasNoWindow g m t n

@@ -1,5 +1,4 @@
 pub mod Spans
-pub mod Texts
 pub mod Kept
 pub mod Machine
 pub mod Opened
@@ -8,6 +7,5 @@ pub mod Stands
 pub mod Advanced
 pub mod Skipped
 pub mod Told
-pub mod Did
 pub mod Regions
 pub mod Gliding

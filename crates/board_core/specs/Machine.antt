@@ -1,19 +1,15 @@
 -- The kernel as the bus of its current task, and the processor that has that task's context.
 use Rattle.std.specs.Prelude.{ℕ, ◌≡◌, ◌+◌, ◌<◌, ◌^◌, Bool, true, false, Option}
-use Rattle.region_check.specs.declared.Region.{Region}
 use Rattle.region_check.specs.declared.Right.{Right}
-use Rattle.mem_banks.specs.Memory.{number_at}
-use Rattle.thumb_insn.specs.Table.{is_wide}
 use Rattle.thumb_exec.specs.declared.cpu.Cpu.{Cpu}
 use Rattle.task_table.specs.declared.kernel.Kernel.{Kernel}
 use Rattle.task_table.specs.State.{Setup, State, Turn}
-use Rattle.task_table.specs.Reading.{is_ready, register, chosen}
+use Rattle.task_table.specs.Reading.{is_ready, chosen}
 use Rattle.task_table.specs.Effects.{with_processor}
 use Rattle.task_table.specs.Start.{start, begun}
 use Rattle.task_table.specs.Sane.{Sane}
 use Rattle.task_table.specs.Holds.{Holds, Stands, setup_of, current_of, task_count, note_count}
 use Rattle.board_core.specs.declared.machine.Machine.{Machine}
-use Rattle.board_core.specs.Spans.{spans}
 use Rattle.board_model.specs.Turn.{put, refusals}
 
 -- what a store leaves: the turn that was held, with the store; all else is as it was
@@ -63,11 +59,6 @@ pub record IsNext (g : Setup) (m : Machine) (t : Turn) (next : Option ℕ) : Typ
 -- the first of n bytes that the current task may not use so
 abbrev pub refused : Kernel → ℕ → ℕ → Right → Option ℕ
 refused k a n right = refusals (setup_of k) (current_of k) a n right
-
--- the current task's next instruction is of one halfword, within the region
-pub record IsNarrowWithin (text : Region) (t : Turn) : Type 0 where
-  pub within : spans text (register t.state t.state.current 15) 2 ≡ true
-  pub narrow : is_wide (number_at t.state.memory (register t.state t.state.current 15) 2) ≡ false
 
 -- a further call has a number of 32 bits
 abbrev pub HasNumber : State → Type 0

@@ -1,5 +1,5 @@
 -- The regions of an image that are no device, by base and size.
-use Rattle.std.specs.Prelude.{ℕ, ◌≡◌, false, List, Contains}
+use Rattle.std.specs.Prelude.{ℕ, ◌≡◌, ◌<◌, false, List, Contains}
 use Rattle.region_check.specs.declared.Region.{Region}
 use Rattle.image_format.specs.Picture.{Picture, regions_in}
 
@@ -14,3 +14,7 @@ pub record IsPlace (p : Picture) (x : ℕ × ℕ) : Type 0 where
 
 abbrev pub ArePlaces : Picture → List (ℕ × ℕ) → Type 0
 ArePlaces p xs = (x : ℕ × ℕ) → Contains xs x → IsPlace p x
+
+-- each region of the first n tasks that is no device has its place
+abbrev pub HavePlaces : Picture → ℕ → List (ℕ × ℕ) → Type 0
+HavePlaces p n xs = (i : ℕ) (r : Region) → i < n → Contains (regions_in p i) r → r.rights.device ≡ false → Contains xs (r.base, r.size)

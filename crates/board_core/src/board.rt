@@ -2,11 +2,11 @@
 ghost use Rattle.std.specs.Prelude.{ℕ, ◌≡◌, ◌≢◌, ◌<◌, ◌≤◌, ◌+◌, ◌-◌, ◌*◌, ◌&&◌, not, [], Option, Some, None, length, true, false, IfOk};
 ghost use Rattle.image_format.specs.Images.{picture};
 ghost use Rattle.task_table.specs.State.{Setup, State, Turn};
-ghost use Rattle.task_table.specs.Reading.{chosen};
+ghost use Rattle.task_table.specs.Reading.{chosen, register, stack_pointer, program_counter};
 ghost use Rattle.task_table.specs.Start.{start};
-ghost use Rattle.task_table.specs.Holds.{current_of};
 ghost use Rattle.task_table.specs.Limits.{call_notes, turn_notes};
 ghost use Rattle.run_script.specs.Events.{script_data};
+ghost use Rattle.run_script.specs.Scripts.{events_of, lasts};
 ghost use Rattle.board_model.specs.declared.told.Level.TheVariants.{All, Calls};
 ghost use Rattle.board_model.specs.Script.{Scenario};
 ghost use Rattle.board_model.specs.Turn.{turn, turned};
@@ -17,27 +17,22 @@ ghost use Rattle.board_core.specs.Opened.{scenario_of, setup_of};
 ghost use Rattle.board_core.specs.Stands.{Stands, Stood, notes_of, turns_of};
 ghost use Rattle.board_core.specs.Machine.{MachineHolds, MachineStands};
 ghost use Rattle.board_core.specs.Kept.{IsChoice, WasChoice};
-ghost use Rattle.board_core.specs.Texts.{IsText};
-ghost use Rattle.board_core.specs.Advanced.{IsAdvanced, IsStopped};
+ghost use Rattle.window_laws.specs.Windowed.{MustStop};
+ghost use Rattle.board_core.specs.Advanced.{IsAdvanced, IsStopped, HasGlidden, IsFar, NeedsTurn};
 ghost use Rattle.board_core.specs.Skipped.{IsIdleUntil};
 ghost use Rattle.board_core.specs.Midway.{IsDue, IsMidway};
 
 use crate::choice::{Choice, choice_after, choice_of};
-use crate::glider::Glider;
 use crate::machine::Machine;
 use crate::opening::kernel;
 use board_model::{Level, Turned};
 use image_format::Image;
 use kernel_abi::Note;
-use region_check::Region;
 use run_script::Script;
 use std::alloc::{AllocError, Global};
 
-/// How many turns are made over the kernel's memory before a window of it is lent.
-const FEW: u32 = 32;
-
 /// A board with an image and a script: what its kernel keeps, how many turns it made, the choice of the
-/// task that runs next, the turn in which something happens next, and who makes turns within a window.
+/// task that runs next, and the turn in which something happens next.
 #[derive(Drop)]
 pub struct Board {
     pub(crate) machine: Machine,
@@ -45,7 +40,6 @@ pub struct Board {
     pub(crate) choice: Choice,
     pub(crate) script: Script,
     pub(crate) due: Option<u32>,
-    pub(crate) glider: Glider,
 }
 
 impl Board {
@@ -63,12 +57,11 @@ impl Board {
         let choice = choice_of(&kernel);
         let due = script.next(0);
         Ok(Board {
-            machine: Machine::of(kernel),
+            machine: Machine::of(alloc, kernel),
             turns: 0,
             choice,
             script,
             due,
-            glider: Glider::new(alloc),
         })
     }
 
@@ -112,9 +105,9 @@ impl Board {
         turned
     }
 
-    /// One turn, and further ones after it as long as each notes nothing, no event is due, the run goes
-    /// on and fewer than `limit` turns are made in all. With all instructions told each turn notes
-    /// something, so that it is one turn.
+    /// One turn, and further ones after it as long as each notes nothing, the run goes on and fewer than
+    /// `limit` turns are made in all. With all instructions told each turn notes something, so that it is
+    /// one turn.
     pub fn advance(&mut self, level: Level, limit: u32)
         requires stood { Stood self.old }
         requires left { turns_of self.old < limit }
@@ -125,199 +118,111 @@ impl Board {
         ensures within { turns_of self.new ≤ limit }
         ensures noted { length (notes_of self.new) ≤ turn_notes }
     {
-        self.turn_at(level);
         match level {
-            Level::Calls => self.glide(limit),
-            Level::All => {}
-        }
-    }
-
-    /// Further turns of the task that is chosen, as long as each notes nothing, no event is due and
-    /// fewer than `limit` turns are made in all; or all idle turns up to the next event.
-    fn glide(&mut self, limit: u32)
-        requires stood { Stood self.old }
-        requires left { turns_of self.old ≤ limit }
-        requires few { limit ≤ 1000000000 }
-        ensures advanced { (x : Scenario) (n : ℕ) (s : State) → IsAdvanced Calls x n s self.old → IsAdvanced Calls x (n + (turns_of self.new - turns_of self.old)) s self.new }
-        ensures more { turns_of self.old ≤ turns_of self.new }
-        ensures far { (x : Scenario) (s : State) → Stands x self.new s → notes_of self.new ≡ [] → turns_of self.new < limit → IsStopped x s }
-        ensures within { turns_of self.new ≤ limit }
-        ensures noted { length (notes_of self.old) ≤ turn_notes → length (notes_of self.new) ≤ turn_notes }
-    {
-        if self.choice.down {
-            return;
-        }
-        match self.choice.next {
-            Some(task) => self.glide_on(task, limit),
-            None => self.idle_on(limit),
-        }
-    }
-
-    /// The same, where this task is chosen and the supervisor has not faulted.
-    fn glide_on(&mut self, task: usize, limit: u32)
-        requires stood { Stood self.old }
-        requires next { self.old.choice.next ≡ Some task }
-        requires up { self.old.choice.down ≡ false }
-        requires left { turns_of self.old ≤ limit }
-        requires few { limit ≤ 1000000000 }
-        ensures advanced { (x : Scenario) (n : ℕ) (s : State) → IsAdvanced Calls x n s self.old → IsAdvanced Calls x (n + (turns_of self.new - turns_of self.old)) s self.new }
-        ensures more { turns_of self.old ≤ turns_of self.new }
-        ensures far { (x : Scenario) (s : State) → Stands x self.new s → notes_of self.new ≡ [] → turns_of self.new < limit → IsStopped x s }
-        ensures within { turns_of self.new ≤ limit }
-        ensures noted { length (notes_of self.old) ≤ turn_notes → length (notes_of self.new) ≤ turn_notes }
-    {
-        let until = quiet_until(self.due, limit);
-        let text = self.machine.text(task);
-        'turns: while self.turns < until && self.notes().is_empty() {
-            self.go_on(task, &text, until);
-            if self.turns >= until {
-                return;
+            Level::Calls => self.go_on(limit),
+            Level::All => {
+                self.turn_at(Level::All);
             }
+        }
+    }
+
+    /// The same, where instructions are not told.
+    fn go_on(&mut self, limit: u32)
+        requires stood { Stood self.old }
+        requires left { turns_of self.old < limit }
+        requires few { limit ≤ 1000000000 }
+        ensures advanced { (x : Scenario) (s : State) → Stands x self.old s → IsAdvanced Calls x (turns_of self.new - turns_of self.old - 1) s self.new }
+        ensures more { turns_of self.old < turns_of self.new }
+        ensures far { (x : Scenario) (s : State) → Stands x self.new s → notes_of self.new ≡ [] → turns_of self.new < limit → IsStopped x s }
+        ensures within { turns_of self.new ≤ limit }
+        ensures noted { length (notes_of self.new) ≤ turn_notes }
+    {
+        self.glide_and_turn(limit);
+        'on: while self.turns < limit && self.notes().is_empty() && self.ended().is_none() {
+            self.glide_and_turn(limit);
+        }
+    }
+
+    /// As many turns as can be made the fast way, and then a whole one, where fewer than `limit` are made by then.
+    fn glide_and_turn(&mut self, limit: u32)
+        requires stood { Stood self.old }
+        requires left { turns_of self.old < limit }
+        requires few { limit ≤ 1000000000 }
+        ensures advanced { (x : Scenario) (s : State) → Stands x self.old s → IsAdvanced Calls x (turns_of self.new - turns_of self.old - 1) s self.new }
+        ensures more { turns_of self.old < turns_of self.new }
+        ensures within { turns_of self.new ≤ limit }
+        ensures noted { length (notes_of self.new) ≤ turn_notes }
+
+        // The whole turn is one that the fast way does not make.
+        ensures needed { (x : Scenario) (s : State) → Stands x self.old s → chosen x.setup s ≡ Some s.current → self.old.machine.loaded ≡ true → self.old.choice.down ≡ false → turns_of self.new < limit → NeedsTurn x s (state_after Calls x (turns_of self.new - turns_of self.old - 1) s) }
+        ensures idle { (x : Scenario) (s : State) → Stands x self.old s → chosen x.setup s ≡ None → self.old.choice.down ≡ false → lasts x.script limit ≡ true → turns_of self.new < limit → events_of x.script (state_after Calls x (turns_of self.new - turns_of self.old - 1) s).turn ≢ [] }
+    {
+        self.glide(quiet_until(self.due, limit));
+        if self.turns < limit {
             self.turn_at(Level::Calls);
         }
     }
 
-    /// Further turns of the task that is chosen, as long as each goes on; none where the processor does
-    /// not have its context. A few are made over the kernel's memory first, since a loan costs as much as some.
-    fn go_on(&mut self, task: usize, text: &Region, until: u32)
-        requires few { until ≤ 1000000000 }
-        requires left { turns_of self.old ≤ until }
+    /// The fast way: turns before turn `until`, before which nothing is due, none of which notes anything. They are those
+    /// of the task that is chosen, within a window of its memory, as far as it goes there, where the processor has its
+    /// context; or all idle ones, where no task is ready.
+    fn glide(&mut self, until: u32)
         requires stood { Stood self.old }
-        requires nothing { notes_of self.old ≡ [] }
+        requires few { until ≤ 1000000000 }
         requires later { (turn : ℕ) → turn < until → self.old.due ≢ Some turn }
-        requires next { self.old.choice.next ≡ Some task }
-        requires up { self.old.choice.down ≡ false }
-        requires text { IsText self.old.machine.reach.kernel task text.now }
-        ensures advanced { (x : Scenario) (n : ℕ) (s : State) → IsAdvanced Calls x n s self.old → IsAdvanced Calls x (n + (turns_of self.new - turns_of self.old)) s self.new }
+        ensures glided { (x : Scenario) (s : State) → Stands x self.old s → HasGlidden x s (turns_of self.new - turns_of self.old) self.new }
         ensures more { turns_of self.old ≤ turns_of self.new }
-        ensures within { turns_of self.new ≤ until }
-        ensures stood { Stood self.new }
-        ensures nothing { notes_of self.new ≡ [] }
-        ensures due { self.new.due ≡ self.old.due }
-        ensures kept { self.new.choice ≡ self.old.choice }
-        ensures text { IsText self.new.machine.reach.kernel task text.now }
+        ensures within { turns_of self.old ≤ until → turns_of self.new ≤ until }
+        ensures stays { until ≤ turns_of self.old → self.new ≡ self.old }
+
+        // It stops before only where the next instruction calls, faults or reaches beyond the window, or where there is none.
+        ensures far { (x : Scenario) (s : State) → Stands x self.old s → chosen x.setup s ≡ Some s.current → self.old.machine.loaded ≡ true → self.old.choice.down ≡ false → turns_of self.new < until → IsFar x s (state_after Calls x (turns_of self.new - turns_of self.old) s) }
+        ensures idle { (x : Scenario) (s : State) → Stands x self.old s → chosen x.setup s ≡ None → self.old.choice.down ≡ false → lasts x.script until ≡ true → until ≤ turns_of self.new }
     {
-        'on: while self.turns < until && self.machine.is_loaded_for(task) {
-            let few = until.min(self.turns + FEW);
-            self.proceed_on(task, text, few);
-            if self.turns < few {
-                return;
-            }
-            if few == until {
-                return;
-            }
-            self.glide_within(task, text, until);
+        if self.turns >= until || self.choice.down {
+            return;
+        }
+        match self.choice.next {
+            Some(task) => self.glide_on(task, until),
+            None => self.idle_on(until),
         }
     }
 
-    /// Further turns of the task that is chosen, within a window of its memory; perhaps none.
-    fn glide_within(&mut self, task: usize, text: &Region, until: u32)
-        requires few { until ≤ 1000000000 }
-        requires left { turns_of self.old ≤ until }
+    /// The same, where this task is chosen and the supervisor has not faulted.
+    fn glide_on(&mut self, task: usize, until: u32)
         requires stood { Stood self.old }
-        requires nothing { notes_of self.old ≡ [] }
-        requires later { (turn : ℕ) → turn < until → self.old.due ≢ Some turn }
         requires next { self.old.choice.next ≡ Some task }
         requires up { self.old.choice.down ≡ false }
-        requires text { IsText self.old.machine.reach.kernel task text.now }
-        ensures advanced { (x : Scenario) (n : ℕ) (s : State) → IsAdvanced Calls x n s self.old → IsAdvanced Calls x (n + (turns_of self.new - turns_of self.old)) s self.new }
+        requires left { turns_of self.old < until }
+        requires few { until ≤ 1000000000 }
+        requires later { (turn : ℕ) → turn < until → self.old.due ≢ Some turn }
+        ensures glided { (x : Scenario) (s : State) → Stands x self.old s → HasGlidden x s (turns_of self.new - turns_of self.old) self.new }
         ensures more { turns_of self.old ≤ turns_of self.new }
         ensures within { turns_of self.new ≤ until }
-        ensures stood { Stood self.new }
-        ensures nothing { notes_of self.new ≡ [] }
-        ensures due { self.new.due ≡ self.old.due }
-        ensures kept { self.new.choice ≡ self.old.choice }
-        ensures text { IsText self.new.machine.reach.kernel task text.now }
+        ensures far { (x : Scenario) (s : State) → Stands x self.old s → s.current ≡ task → self.old.machine.loaded ≡ true → turns_of self.new < until → MustStop x.setup task (register s task program_counter) (register s task stack_pointer) (state_after Calls x (turns_of self.new - turns_of self.old) s) }
     {
         if self.machine.is_loaded_for(task) {
-            let made = self.machine.glide(&mut self.glider, until - self.turns);
-            self.turns += made;
+            self.machine.begin();
+            self.turns += self.machine.glide(until - self.turns);
         }
     }
 
-    /// The same, where the processor has its context.
-    #[inline(never)]
-    fn proceed_on(&mut self, task: usize, text: &Region, until: u32)
-        requires few { until ≤ 1000000000 }
-        requires left { turns_of self.old ≤ until }
-        requires stood { Stood self.old }
-        requires nothing { notes_of self.old ≡ [] }
-        requires later { (turn : ℕ) → turn < until → self.old.due ≢ Some turn }
-        requires next { self.old.choice.next ≡ Some task }
-        requires up { self.old.choice.down ≡ false }
-        requires text { IsText self.old.machine.reach.kernel task text.now }
-        requires loaded { self.old.machine.loaded ≡ true }
-        requires current { current_of self.old.machine.reach.kernel ≡ task }
-        ensures advanced { (x : Scenario) (n : ℕ) (s : State) → IsAdvanced Calls x n s self.old → IsAdvanced Calls x (n + (turns_of self.new - turns_of self.old)) s self.new }
-        ensures more { turns_of self.old ≤ turns_of self.new }
-        ensures within { turns_of self.new ≤ until }
-        ensures stood { Stood self.new }
-        ensures nothing { notes_of self.new ≡ [] }
-        ensures due { self.new.due ≡ self.old.due }
-        ensures kept { self.new.choice ≡ self.old.choice }
-        ensures text { IsText self.new.machine.reach.kernel task text.now }
-    {
-        'quick: while self.turns < until {
-            if !self.proceeds(task, text) {
-                return;
-            }
-        }
-    }
-
-    /// One turn of the task that is chosen and whose context is loaded, in which no event is due,
-    /// where its instruction proceeds; else nothing changes, and the answer is false.
-    #[inline(always)]
-    fn proceeds(&mut self, task: usize, text: &Region) -> bool
-        requires few { turns_of self.old < 1000000000 }
-        requires stood { Stood self.old }
-        requires nothing { notes_of self.old ≡ [] }
-        requires later { self.old.due ≢ Some (turns_of self.old) }
-        requires next { self.old.choice.next ≡ Some task }
-        requires loaded { self.old.machine.loaded ≡ true }
-        requires current { current_of self.old.machine.reach.kernel ≡ task }
-        requires text { IsText self.old.machine.reach.kernel task text.now }
-        ensures model { result ≡ true → (x : Scenario) (s : State) → Stands x self.old s → Stands x self.new (turn Calls x s).state }
-        ensures notes { result ≡ true → (x : Scenario) (s : State) → Stands x self.old s → notes_of self.new ≡ (turn Calls x s).notes }
-        ensures nothing { result ≡ true → notes_of self.new ≡ [] }
-        ensures turns { result ≡ true → turns_of self.new ≡ turns_of self.old + 1 }
-        ensures due { result ≡ true → self.new.due ≡ self.old.due }
-        ensures kept { result ≡ true → self.new.choice ≡ self.old.choice }
-        ensures loaded { result ≡ true → self.new.machine.loaded ≡ true }
-        ensures current { result ≡ true → current_of self.new.machine.reach.kernel ≡ task }
-        ensures left { result ≡ false → self.new ≡ self.old }
-    {
-        if !self.machine.proceeds(text) {
-            return false;
-        }
-        self.turns += 1;
-        true
-    }
-
-    /// Idle turns up to the one in which something happens next, where the last turn noted nothing and
-    /// the run does not end before.
-    fn idle_on(&mut self, limit: u32)
+    /// The same, where no task is ready.
+    fn idle_on(&mut self, until: u32)
         requires stood { Stood self.old }
         requires none { self.old.choice.next ≡ None }
         requires up { self.old.choice.down ≡ false }
-        requires left { turns_of self.old ≤ limit }
-        requires few { limit ≤ 1000000000 }
-        ensures advanced { (x : Scenario) (n : ℕ) (s : State) → IsAdvanced Calls x n s self.old → IsAdvanced Calls x (n + (turns_of self.new - turns_of self.old)) s self.new }
+        requires left { turns_of self.old < until }
+        requires few { until ≤ 1000000000 }
+        requires later { (turn : ℕ) → turn < until → self.old.due ≢ Some turn }
+        ensures glided { (x : Scenario) (s : State) → Stands x self.old s → HasGlidden x s (turns_of self.new - turns_of self.old) self.new }
         ensures more { turns_of self.old ≤ turns_of self.new }
-        ensures far { (x : Scenario) (s : State) → Stands x self.new s → notes_of self.new ≡ [] → turns_of self.new < limit → IsStopped x s }
-        ensures within { turns_of self.new ≤ limit }
-        ensures noted { length (notes_of self.old) ≤ turn_notes → length (notes_of self.new) ≤ turn_notes }
+        ensures within { turns_of self.new ≤ until }
+        ensures idle { (x : Scenario) (s : State) → Stands x self.old s → lasts x.script until ≡ true → until ≤ turns_of self.new }
     {
-        let until = quiet_until(self.due, limit);
-        if until <= self.turns {
-            return;
+        if self.script.lasts(until) {
+            self.skip(until);
         }
-        if !self.notes().is_empty() {
-            return;
-        }
-        if !self.script.lasts(until) {
-            return;
-        }
-        self.skip(until);
     }
 
     /// All idle turns up to turn `to` at once, before which no task is ready and nothing happens.

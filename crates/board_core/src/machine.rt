@@ -2,7 +2,6 @@
 ghost use Rattle.std.specs.Prelude.{◌≡◌, ◌≢◌, ◌⊎◌, ◌&&◌, ◌+◌, ◌*◌, ◌≤◌, ◌<◌, ◌^◌, ◌/◌, [], Option, Some, true, false, fold, take, drop, slice_get, None};
 ghost use Rattle.run_script.specs.Events.{script_data};
 ghost use Rattle.run_script.specs.Scripts.{events_of};
-ghost use Rattle.board_core.specs.Spans.{spans};
 ghost use Rattle.task_table.specs.State.{Setup, Turn};
 ghost use Rattle.task_table.specs.Reading.{is_ready, task_at, setup_at};
 ghost use Rattle.task_table.specs.Start.{begun};
@@ -13,27 +12,21 @@ ghost use Rattle.task_table.specs.Holds.{Holds, task_count, note_count, current_
 ghost use Rattle.task_table.specs.Limits.{call_notes, turn_notes};
 ghost use Rattle.task_table.specs.Frames.{AddsNotes};
 ghost use Rattle.thumb_insn.specs.Range.{IsCoded};
-ghost use Rattle.board_model.specs.Turn.{with_current, told, happened, stepped, stepped_wide, executed, cpu_of, with_registers_told, turn_of, turned_of, happened_next};
-ghost use Rattle.board_core.specs.Did.{Did};
-ghost use Rattle.board_core.specs.Machine.{IsReady, IsNarrowWithin, IsNext, HasNumber, MachineHolds, MachineStands, IsLoaded};
+ghost use Rattle.board_model.specs.Turn.{with_current, told, happened, stepped, executed, cpu_of, with_registers_told, turn_of, turned_of, happened_next};
+ghost use Rattle.board_core.specs.Machine.{IsReady, IsNext, HasNumber, MachineHolds, MachineStands, IsLoaded};
 ghost use Rattle.board_core.specs.Gliding.{HasGlided};
-ghost use Rattle.board_core.specs.Texts.{GivesText, IsText, has_text};
-ghost use Rattle.std.specs.List.{list_any};
-ghost use Rattle.words_core.specs.Regs.{reg_at};
-ghost use Rattle.board_model.specs.declared.told.Level.TheVariants.{Calls};
 
 use crate::calls::call;
 use crate::glider::Glider;
-use crate::reach::{Reach, spans};
+use crate::reach::Reach;
 use board_model::{Level, Turned};
 use kernel_abi::{Fault, Note};
-use region_check::{Region, Rights};
 use run_script::{Event, Script};
+use std::alloc::Global;
 use task_table::Kernel;
-use thumb_decode::{Taker, decode, narrow_to};
 use thumb_exec::cpu::{Cpu, Outcome};
-use thumb_exec::step::{exec, proceed};
-use thumb_insn::{Decoded, Insn};
+use thumb_exec::step::exec;
+use thumb_insn::Insn;
 use thumb_step::fetch;
 use timer_irq::{interrupt, tick};
 use words_core::{Flags, Regs};
@@ -45,6 +38,9 @@ pub struct Machine {
     pub reach: Reach,
     pub processor: Cpu,
     pub loaded: bool,
+
+    /// Who makes instructions on end, within a window of the task's memory.
+    pub glider: Glider,
 }
 
 /// The processor of a task.
@@ -58,41 +54,9 @@ fn cpu(kernel: &Kernel, task: usize) -> Cpu
     }
 }
 
-/// Whether the halfword at an address may be fetched from a region, which ends within the address space.
-fn has_text(region: &Region, at: u32) -> bool
-    ensures { result ≡ has_text at region.now }
-{
-    spans(region, at, 2)
-        && region.rights.execute
-        && u64::from(region.base) + u64::from(region.size) <= 0x1_0000_0000
-}
-
-/// A region from which the halfword at an address may be fetched, and then each halfword that it has; an
-/// empty one where there is none.
-fn text_around(regions: &[Region], at: u32) -> Region
-    ensures gives { GivesText regions.now result }
-    ensures found { list_any (has_text at) regions.now ≡ true → spans result at 2 ≡ true }
-{
-    for region in regions {
-        if has_text(region, at) {
-            return *region;
-        }
-    }
-    Region {
-        base: 0,
-        size: 0,
-        rights: Rights {
-            read: false,
-            write: false,
-            execute: false,
-            device: false,
-        },
-    }
-}
-
 impl Machine {
     /// A machine with this kernel, whose processor has no task's context.
-    pub fn of(kernel: Kernel) -> Machine
+    pub fn of(alloc: Global, kernel: Kernel) -> Machine
         ensures kernel { result.reach.kernel ≡ kernel }
         ensures loaded { result.loaded ≡ false }
     {
@@ -102,20 +66,14 @@ impl Machine {
             c: false,
             v: false,
         };
-        let near = kernel.near(0);
         Machine {
-            reach: Reach {
-                kernel,
-                data: 0,
-                text: 0,
-                near_data: near,
-                near_text: near,
-            },
+            reach: Reach { kernel },
             processor: Cpu {
                 regs: Regs::of([0; 16]),
                 flags,
             },
             loaded: false,
+            glider: Glider::new(alloc),
         }
     }
 
@@ -162,13 +120,6 @@ impl Machine {
         self.reach.kernel.set_current(task);
         self.processor = cpu(&self.reach.kernel, task);
         self.loaded = true;
-        let regions = self.reach.kernel.regions(task);
-        let text = place_of(regions, self.processor.regs.get(15));
-        let data = place_of(regions, self.processor.regs.get(13));
-        self.reach.text = text;
-        self.reach.data = data;
-        self.reach.near_text = self.reach.near(text);
-        self.reach.near_data = self.reach.near(data);
     }
 }
 
@@ -178,6 +129,7 @@ impl Machine {
     pub fn begin(&mut self)
         ensures holds { (g : Setup) (t : Turn) → MachineHolds g self.old t → MachineHolds g self.new (begun t.state) }
         ensures count { note_count self.new.reach.kernel ≡ 0 }
+        ensures loaded { self.new.loaded ≡ self.old.loaded }
     {
         self.reach.kernel.clear_notes();
     }
@@ -320,6 +272,20 @@ impl Machine {
         ensures holds { (g : Setup) (t : Turn) → IsReady g self.old t → MachineHolds g self.new (executed g t.state.current insn.now t) }
         ensures count { note_count self.new.reach.kernel ≤ note_count self.old.reach.kernel + call_notes + 1 }
     {
+        match insn {
+            Insn::Svc { .. } => self.call(),
+            _ => self.execute_own(insn),
+        }
+    }
+
+    /// The same of an instruction that is no call.
+    fn execute_own(&mut self, insn: &Insn)
+        requires coded { IsCoded insn.now }
+        requires ready { (g : Setup) × (t : Turn) × IsReady g self.old t × HasNumber t.state }
+        requires room { note_count self.old.reach.kernel + call_notes + 1 ≤ turn_notes }
+        ensures holds { (g : Setup) (t : Turn) → IsReady g self.old t → MachineHolds g self.new (executed g t.state.current insn.now t) }
+        ensures count { note_count self.new.reach.kernel ≤ note_count self.old.reach.kernel + call_notes + 1 }
+    {
         match exec(&mut self.processor, insn, &mut self.reach) {
             Outcome::Next => {}
             Outcome::Call => self.call(),
@@ -402,107 +368,22 @@ impl Machine {
 }
 
 impl Machine {
-    /// The region from which a task would fetch at its PC; an empty one where it has none, or one that
-    /// does not end within the address space.
-    pub fn text(&self, task: usize) -> Region
-        ensures gives { IsText self.now.reach.kernel task result }
-        ensures found { let at = reg_at self.now.processor.regs 15 in list_any (has_text at) (setup_at (setup_of self.now.reach.kernel) task).regions ≡ true → spans result at 2 ≡ true }
-    {
-        text_around(self.reach.kernel.regions(task), self.processor.regs.get(15))
-    }
-
-    /// One instruction of the current task, told as calls, events and faults are, where it is fetched from
-    /// the task's text and neither calls nor faults; else nothing changes, and the answer is false.
-    #[inline(always)]
-    pub fn proceeds(&mut self, text: &Region) -> bool
-        requires ready { (g : Setup) × (t : Turn) × IsReady g self.old t }
-        requires text { IsText self.old.reach.kernel (current_of self.old.reach.kernel) text.now }
-        ensures done { result ≡ true → (g : Setup) (t : Turn) → IsReady g self.old t → MachineHolds g self.new (stepped Calls g t.state.current t) }
-        ensures kept { result ≡ false → self.new ≡ self.old }
-        ensures count { result ≡ true → note_count self.new.reach.kernel ≡ note_count self.old.reach.kernel }
-        ensures loaded { result ≡ true → self.new.loaded ≡ self.old.loaded }
-        ensures current { result ≡ true → current_of self.new.reach.kernel ≡ current_of self.old.reach.kernel }
-
-        // It declines a narrow instruction of the text only where the turn notes something: a call or a fault.
-        ensures goes { result ≡ false → (g : Setup) (t : Turn) → IsReady g self.old t → IsNarrowWithin text.now t → (stepped Calls g t.state.current t).notes ≢ [] }
-    {
-        let at = self.processor.regs.get(15);
-        if !spans(text, at, 2) {
-            return false;
-        }
-        let first = self.reach.kernel.half_near(self.reach.near_text, at);
-        if first / 2048 >= 29 {
-            return self.proceeds_wide(text, first, at);
-        }
-        narrow_to(first, self)
-    }
-
-    /// The same where the first halfword begins a wide instruction.
-    #[inline(never)]
-    fn proceeds_wide(&mut self, text: &Region, first: u16, at: u32) -> bool
-        requires ready { (g : Setup) × (t : Turn) × IsReady g self.old t }
-        requires text { IsText self.old.reach.kernel (current_of self.old.reach.kernel) text.now }
-        ensures done { result ≡ true → (g : Setup) (t : Turn) → IsReady g self.old t → MachineHolds g self.new (stepped_wide Calls g t.state.current at first t) }
-        ensures kept { result ≡ false → self.new ≡ self.old }
-        ensures count { result ≡ true → note_count self.new.reach.kernel ≡ note_count self.old.reach.kernel }
-        ensures loaded { result ≡ true → self.new.loaded ≡ self.old.loaded }
-        ensures current { result ≡ true → current_of self.new.reach.kernel ≡ current_of self.old.reach.kernel }
-    {
-        if at >= 0xFFFF_FFFE {
-            return false;
-        }
-        let after = at + 2;
-        if !spans(text, after, 2) {
-            return false;
-        }
-        let second = self.reach.kernel.half_near(self.reach.near_text, after);
-        match decode(first, Some(second)) {
-            Decoded::Wide(wide) => proceed(&mut self.processor, &wide, &mut self.reach),
-            _ => false,
-        }
-    }
-}
-
-impl Machine {
     /// Instructions on end of the current task within a window of its memory, at most so many; how many there were.
-    pub fn glide(&mut self, glider: &mut Glider, most: u32) -> u32
+    pub fn glide(&mut self, most: u32) -> u32
         ensures glided { (g : Setup) (t : Turn) → IsReady g self.old t → HasGlided g self.new t most result }
         ensures within { result ≤ most }
         ensures count { note_count self.new.reach.kernel ≡ note_count self.old.reach.kernel }
     {
-        let Some((text, ram)) = self.reach.window() else {
+        let pc = self.processor.regs.get(15);
+        let sp = self.processor.regs.get(13);
+        let Some((flash, ram)) = self.reach.window(pc, sp) else {
             return 0;
         };
-        glider.aim(self.processor, &text, &ram, most);
-        if !self.reach.kernel.lend(&text, &ram, glider) {
+        self.glider.aim(self.processor, &flash, &ram, most);
+        if !self.reach.kernel.lend(&flash, &ram, &mut self.glider) {
             return 0;
         }
-        self.processor = glider.runner.processor;
-        glider.made
+        self.processor = self.glider.runner.processor;
+        self.glider.made
     }
-}
-
-impl Taker for Machine {
-    ghost did = { λ a d r b. Did a d r b };
-
-    #[inline(always)]
-    fn take(&mut self, h: u16, insn: Insn) -> bool {
-        proceed(&mut self.processor, &insn, &mut self.reach)
-    }
-
-    #[inline(always)]
-    fn illegal(&mut self) -> bool {
-        false
-    }
-}
-
-/// Which region has an address or ends at it; how many there are where none does.
-fn place_of(regions: &[Region], at: u32) -> usize {
-    for k in 0..regions.len() {
-        let region = regions[k];
-        if region.base <= at && at - region.base <= region.size {
-            return k;
-        }
-    }
-    regions.len()
 }

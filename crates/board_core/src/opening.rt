@@ -1,12 +1,12 @@
 //! The kernel at the start of a run of an image.
-ghost use Rattle.std.specs.Prelude.{◌≡◌, ◌<◌, ◌-◌, length, map, IfOk};
+ghost use Rattle.std.specs.Prelude.{◌≡◌, ◌<◌, ◌+◌, ◌-◌, length, map, IfOk};
 ghost use Rattle.image_format.specs.Images.{picture};
 ghost use Rattle.image_format.specs.Picture.{task_in, line_in};
 ghost use Rattle.mem_banks.specs.Memory.{Memory};
 ghost use Rattle.task_table.specs.Start.{start};
 ghost use Rattle.task_table.specs.Parts.{task_setup, line_setup};
 ghost use Rattle.task_table.specs.Holds.{task_count};
-ghost use Rattle.board_core.specs.Regions.{ArePlaces};
+ghost use Rattle.board_core.specs.Regions.{ArePlaces, HavePlaces};
 ghost use Rattle.board_core.specs.Opened.{setup_of, setup_of_task, setup_of_line};
 ghost use Rattle.board_core.specs.Machine.{IsStarted};
 
@@ -71,7 +71,9 @@ fn push_places(
 ) -> Result<(), AllocError>
     requires task { i < length (picture image.now).tasks }
     requires places { ArePlaces (picture image.now) places.old.items }
-    ensures { IfOk result (λ _. ArePlaces (picture image.now) places.new.items) }
+    requires before { HavePlaces (picture image.now) i places.old.items }
+    ensures places { IfOk result (λ _. ArePlaces (picture image.now) places.new.items) }
+    ensures all { IfOk result (λ _. HavePlaces (picture image.now) (i + 1) places.new.items) }
 {
     let regions = image.regions(alloc, i)?;
     for k in 0..regions.len() {
@@ -85,7 +87,8 @@ fn push_places(
 
 /// The places of all regions that are no device, by base and size in bytes.
 fn places(alloc: Global, image: &Image) -> Result<Vec<(u32, u32)>, AllocError>
-    ensures { IfOk result (λ v. ArePlaces (picture image.now) v.items) }
+    ensures places { IfOk result (λ v. ArePlaces (picture image.now) v.items) }
+    ensures all { IfOk result (λ v. HavePlaces (picture image.now) (length (picture image.now).tasks) v.items) }
 {
     let mut places = Vec::new(alloc);
     for i in 0..image.task_count() {

@@ -1,8 +1,10 @@
 //! What the current task reaches of the kernel's memory: the bus of its processor.
-ghost use Rattle.std.specs.Prelude.{◌≡◌, ◌&&◌, ◌+◌, ◌*◌, ◌≤◌, ◌<◌, ◌%◌, ◌^◌, ◌/◌, ◌∷◌, [], Option, Some, true, false, None, MatchResult};
+ghost use Rattle.std.specs.Prelude.{◌≡◌, ◌&&◌, ◌+◌, ◌*◌, ◌≤◌, ◌<◌, ◌%◌, ◌^◌, ◌/◌, ◌∷◌, [], Option, Some, true, false, None, MatchOption, MatchResult, Contains};
+ghost use Rattle.std.specs.List.{list_any};
 ghost use Rattle.region_check.specs.Rights.{may_use, has_right};
 ghost use Rattle.region_check.specs.declared.Right.TheVariants.{Execute, Read};
-ghost use Rattle.board_core.specs.Spans.{spans, one_gives};
+ghost use Rattle.board_core.specs.Spans.{one_gives};
+ghost use Rattle.window_laws.specs.Reached.{spans, is_flash_at, is_ram_at, IsStackRegion, AreReached};
 ghost use Rattle.task_table.specs.Reading.{setup_at};
 ghost use Rattle.mem_banks.specs.Memory.{number_at};
 ghost use Rattle.task_table.specs.Holds.{memory_of, setup_of, current_of};
@@ -12,21 +14,13 @@ ghost use Rattle.board_core.specs.Machine.{IsStored, refused};
 
 use mem_banks::RAM;
 use region_check::{Region, Right, Rights, may};
-use task_table::{Kernel, Near};
+use task_table::Kernel;
 use thumb_exec::bus::Bus;
 
 /// The kernel, of whose memory the current task reaches as much as its regions permit.
 #[derive(Drop)]
 pub struct Reach {
     pub kernel: Kernel,
-
-    /// Which of the current task's regions are asked first. What is right does not hang on it.
-    pub data: usize,
-    pub text: usize,
-
-    /// Where in memory they are looked for first.
-    pub near_data: Near,
-    pub near_text: Near,
 }
 
 /// Whether the rights have it.
@@ -86,36 +80,17 @@ fn bytes(value: u32) -> [u8; 4]
 
 /// Writes the low n bytes of a value where they lie in the RAM; elsewhere a store changes nothing.
 #[inline(always)]
-fn write(kernel: &mut Kernel, near: Near, addr: u32, n: u32, value: u32)
+fn write(kernel: &mut Kernel, addr: u32, n: u32, value: u32)
     requires { IsSize n }
     ensures { IsStored kernel.old addr n value kernel.new }
 {
     let bytes = bytes(value);
     if kernel.is_ram(addr, n) {
-        kernel.store_near(near, addr, &bytes[..n as usize]);
+        kernel.store(addr, &bytes[..n as usize]);
     }
 }
 
 impl Reach {
-    /// Where in memory this one region of the current task is looked for first.
-    pub fn near(&self, k: usize) -> Near {
-        match self.kernel.regions(self.kernel.current()).get(k) {
-            Some(region) => self.kernel.near(region.base),
-            None => self.kernel.near(0),
-        }
-    }
-
-    /// Whether this one region of the current task gives the right to all of n bytes.
-    #[inline(always)]
-    fn region_gives(&self, k: usize, addr: u32, n: u32, right: Right) -> bool
-        ensures { result ≡ true → one_gives right addr n (setup_at (setup_of self.now.kernel) (current_of self.now.kernel)).regions ≡ true }
-    {
-        match self.kernel.regions(self.kernel.current()).get(k) {
-            Some(r) => spans(r, addr, n) && grants(&r.rights, right),
-            None => false,
-        }
-    }
-
     /// The first of n bytes that lacks the right.
     #[inline(never)]
     fn lacks(&self, addr: u32, n: u32, right: Right) -> Option<u32>
@@ -126,44 +101,67 @@ impl Reach {
     }
 }
 
-impl Reach {
-    /// A load from elsewhere than the region that is asked first.
-    #[inline(never)]
-    fn load_beyond(&self, addr: u32, n: u32) -> Result<u32, u32>
-        requires size { IsSize n }
-        requires end { addr + n ≤ 2 ^ 32 }
-        ensures { MatchResult result (λ value. (refused self.now.kernel addr n Read ≡ None) × (value ≡ number_at (memory_of self.now.kernel) addr n)) (λ at. refused self.now.kernel addr n Read ≡ Some at) }
-    {
-        if self.region_gives(self.text, addr, n, Right::Read) {
-            return Ok(self.kernel.number_near(self.near_text, addr, n));
+/// Whether a region of the flash has the instruction at an address, and may be executed.
+fn is_flash_at(region: &Region, at: u32) -> bool
+    ensures { result ≡ is_flash_at at region.now }
+{
+    spans(region, at, 2) && region.rights.execute && !region.rights.device && region.base < RAM
+}
+
+/// Whether a region of the RAM has an address, or ends there, and may be read and written.
+fn is_ram_at(region: &Region, at: u32) -> bool
+    ensures { result ≡ is_ram_at at region.now }
+{
+    spans(region, at, 0)
+        && region.size > 0
+        && region.rights.read
+        && region.rights.write
+        && !region.rights.device
+        && region.base >= RAM
+}
+
+/// One of some regions that is of the flash and has the instruction at an address.
+fn flash_at(regions: &[Region], at: u32) -> Option<Region>
+    ensures { MatchOption result (list_any (is_flash_at at) regions.now ≡ false) (λ r. Contains regions.now r × (is_flash_at at r ≡ true)) }
+{
+    for region in regions {
+        if is_flash_at(region, at) {
+            return Some(*region);
         }
-        match self.lacks(addr, n, Right::Read) {
-            Some(at) => Err(at),
-            None => Ok(self.kernel.number(addr, n)),
+    }
+    None
+}
+
+/// One of some regions that is of the RAM and has an address, or ends there; an empty one where none is.
+fn ram_at(regions: &[Region], at: u32) -> Region
+    ensures { IsStackRegion regions.now at result }
+{
+    for region in regions {
+        if is_ram_at(region, at) {
+            return *region;
         }
+    }
+    Region {
+        base: RAM,
+        size: 0,
+        rights: Rights {
+            read: false,
+            write: false,
+            execute: false,
+            device: false,
+        },
     }
 }
 
 impl Reach {
-    ghost use Rattle.std.specs.Prelude.{IfSome};
-    ghost use Rattle.board_core.specs.Gliding.{AreWindow};
-
-    /// Two regions of the current task in which it may make many instructions on end: that of its text, in the flash, and that
-    /// of its data.
-    pub fn window(&self) -> Option<(Region, Region)>
-        ensures { IfSome result (λ w. AreWindow (setup_at (setup_of self.now.kernel) (current_of self.now.kernel)).regions w.0 w.1) }
+    /// The two regions in which the current task may make many instructions on end: that of the flash that has its PC, and that of
+    /// the RAM that has its stack, or an empty one.
+    pub fn window(&self, pc: u32, sp: u32) -> Option<(Region, Region)>
+        ensures { let regions = (setup_at (setup_of self.now.kernel) (current_of self.now.kernel)).regions in MatchOption result (list_any (is_flash_at pc) regions ≡ false) (λ w. AreReached regions pc sp w.0 w.1) }
     {
         let regions = self.kernel.regions(self.kernel.current());
-        let text = *regions.get(self.text)?;
-        let ram = *regions.get(self.data)?;
-        if !text.rights.execute || text.base >= RAM {
-            return None;
-        }
-        if ram.rights.read && ram.rights.write {
-            Some((text, ram))
-        } else {
-            None
-        }
+        let flash = flash_at(regions, pc)?;
+        Some((flash, ram_at(regions, sp)))
     }
 }
 
@@ -176,16 +174,10 @@ impl Bus for Reach {
 
     #[inline(always)]
     fn allows(&self, addr: u32, n: u32, right: Right) -> Option<u32> {
-        if self.region_gives(self.data, addr, n, right) {
-            return None;
-        }
         self.lacks(addr, n, right)
     }
 
     fn fetch(&self, addr: u32) -> Result<u16, u32> {
-        if self.region_gives(self.text, addr, 2, Right::Execute) {
-            return Ok(self.kernel.half_near(self.near_text, addr));
-        }
         match self.lacks(addr, 2, Right::Execute) {
             Some(at) => Err(at),
             None => Ok(self.kernel.half(addr)),
@@ -194,18 +186,18 @@ impl Bus for Reach {
 
     #[inline(always)]
     fn load(&self, addr: u32, n: u32) -> Result<u32, u32> {
-        if self.region_gives(self.data, addr, n, Right::Read) {
-            return Ok(self.kernel.number_near(self.near_data, addr, n));
+        match self.lacks(addr, n, Right::Read) {
+            Some(at) => Err(at),
+            None => Ok(self.kernel.number(addr, n)),
         }
-        self.load_beyond(addr, n)
     }
 
     #[inline(always)]
     fn store(&mut self, addr: u32, n: u32, value: u32) -> Result<(), u32> {
-        match self.allows(addr, n, Right::Write) {
+        match self.lacks(addr, n, Right::Write) {
             Some(at) => Err(at),
             None => {
-                write(&mut self.kernel, self.near_data, addr, n, value);
+                write(&mut self.kernel, addr, n, value);
                 Ok(())
             }
         }
@@ -216,6 +208,7 @@ impl Bus for Reach {
         if 4 * count > 0xFFFF_FFFF - addr {
             return false;
         }
-        self.region_gives(self.data, addr, 4 * count, right)
+        let regions = self.kernel.regions(self.kernel.current());
+        one_gives(regions, addr, 4 * count, right)
     }
 }

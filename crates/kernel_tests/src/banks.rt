@@ -13,15 +13,15 @@ const SIZE: u32 = 1280;
 /// A memory of RAM alone, of which these are regions.
 fn open(alloc: Global, regions: &[(u32, u32)]) -> Result<Memory, AllocError>
     requires { AreRegions 0 1280 regions.now }
-    ensures { IfOk result (λ m. length m.ram ≡ 1280) }
+    ensures { IfOk result (λ m. length m.bytes.ram ≡ 1280) }
 {
     Memory::open(alloc, &[], SIZE, regions)
 }
 
 /// The byte at each place becomes the place's lowest one.
 fn fill(memory: &mut Memory)
-    requires { length memory.old.ram ≡ 1280 }
-    ensures { length memory.new.ram ≡ 1280 }
+    requires { length memory.old.bytes.ram ≡ 1280 }
+    ensures { length memory.new.bytes.ram ≡ 1280 }
 {
     for k in 0..SIZE {
         store(memory, RAM + k, &[(k % 256) as u8]);
@@ -39,10 +39,10 @@ fn filled() -> [u8; 1280] {
 
 /// Copies bytes of the RAM, by their places.
 fn copy(memory: &mut Memory, from: u32, to: u32, count: u32)
-    requires size { length memory.old.ram ≡ 1280 }
+    requires size { length memory.old.bytes.ram ≡ 1280 }
     requires source { from + count ≤ 1280 }
     requires target { to + count ≤ 1280 }
-    ensures { length memory.new.ram ≡ 1280 }
+    ensures { length memory.new.bytes.ram ≡ 1280 }
 {
     memory.copy(RAM + from, RAM + to, count);
 }
@@ -59,10 +59,10 @@ fn has(memory: &Memory, list: &[u8; 1280]) -> bool {
 
 /// Whether a copy in the RAM leaves what it leaves in a list.
 fn copies(memory: &mut Memory, from: u32, to: u32, count: u32) -> bool
-    requires size { length memory.old.ram ≡ 1280 }
+    requires size { length memory.old.bytes.ram ≡ 1280 }
     requires source { from + count ≤ 1280 }
     requires target { to + count ≤ 1280 }
-    ensures { length memory.new.ram ≡ 1280 }
+    ensures { length memory.new.bytes.ram ≡ 1280 }
 {
     let mut list = filled();
     let start = from as usize;
@@ -75,10 +75,10 @@ fn copies(memory: &mut Memory, from: u32, to: u32, count: u32) -> bool
 /// Whether a copy does so from and to each place that is at most four bytes from the given ones, in both
 /// directions.
 fn copies_around(memory: &mut Memory, from: u32, to: u32, count: u32) -> bool
-    requires size { length memory.old.ram ≡ 1280 }
+    requires size { length memory.old.bytes.ram ≡ 1280 }
     requires source { (4 ≤ from) × (from + count + 4 ≤ 1280) }
     requires target { (4 ≤ to) × (to + count + 4 ≤ 1280) }
-    ensures { length memory.new.ram ≡ 1280 }
+    ensures { length memory.new.bytes.ram ≡ 1280 }
 {
     for k in 0..81 {
         let one = from - 4 + k / 9;
@@ -92,7 +92,7 @@ fn copies_around(memory: &mut Memory, from: u32, to: u32, count: u32) -> bool
 
 /// Whether copies of few bytes, of a bank, of more than one and of nearly all do so.
 fn copies_over_edges(memory: Memory) -> bool
-    requires { length memory.ram ≡ 1280 }
+    requires { length memory.bytes.ram ≡ 1280 }
 {
     let mut memory = memory;
     copies_around(&mut memory, 256, 512, 3)

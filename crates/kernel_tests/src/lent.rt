@@ -1,5 +1,6 @@
-//! Two regions lent at once: which ones are, which no clause says.
-ghost use Rattle.std.specs.Prelude.{◌≡◌, slice_set};
+//! Two regions lent at once, or a text alone. That regions which were given are lent is a clause; that
+//! others are not is only tried here.
+ghost use Rattle.std.specs.Prelude.{◌≡◌, length, slice_set};
 
 use std::test::Fail;
 use task_table::{Borrower, FLASH, Memory, RAM};
@@ -21,6 +22,22 @@ impl Borrower for Stamp {
         if ram.len() > 0 {
             ram[0] = self.byte;
         }
+    }
+}
+
+/// Counts the bytes of both regions.
+#[derive(Drop)]
+struct Sizes {
+    text: usize,
+    ram: usize,
+}
+
+impl Borrower for Sizes {
+    ghost did = { λ old text ram new after. (new.text ≡ length text) × (new.ram ≡ length ram) };
+
+    fn work(&mut self, text: &mut Vec<u8>, ram: &mut Vec<u8>) {
+        self.text = text.len();
+        self.ram = ram.len();
     }
 }
 
@@ -72,5 +89,21 @@ fn regions_of_a_memory_are_lent(rt: HostRuntime) -> Result<(), Fail> {
     assert_eq!(rt; is_lent(&mut memory, code, (RAM + 3, 29), 9), Some(false));
     assert_eq!(rt; is_lent(&mut memory, code, (RAM + 4, 5), 9), Some(false));
     assert_eq!(rt; is_lent(&mut memory, code, (RAM + 512, 5), 9), Some(false));
+    Ok(())
+}
+
+// No bytes are beside it, also where the RAM begins with a region. An empty region elsewhere is none.
+#[test]
+fn a_text_alone_is_lent(rt: HostRuntime) -> Result<(), Fail> {
+    let regions = [(FLASH, 32), (RAM, 8)];
+    let mut memory = Memory::open(rt.alloc(), &[7; 64], 16, &regions)?;
+    let mut sizes = Sizes { text: 99, ram: 99 };
+    assert!(rt; memory.lend((FLASH, 32), (RAM, 0), &mut sizes));
+    assert_eq!(rt; sizes.text, 32);
+    assert_eq!(rt; sizes.ram, 0);
+    sizes.ram = 99;
+    assert!(rt; !memory.lend((FLASH, 31), (RAM, 0), &mut sizes));
+    assert!(rt; !memory.lend((FLASH, 32), (RAM + 8, 0), &mut sizes));
+    assert_eq!(rt; sizes.ram, 99);
     Ok(())
 }

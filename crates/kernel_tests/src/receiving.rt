@@ -3,7 +3,7 @@ ghost use Rattle.task_table.specs.State.{Setup, Turn};
 ghost use Rattle.task_table.specs.Reading.{is_ready};
 ghost use Rattle.task_table.specs.Holds.{Stands, task_count, note_count};
 
-use crate::memory::memory_of;
+use crate::memory::memory_with_ram;
 use ipc_core::recv;
 use kernel_abi::{Health, Listened, Note, TaskId};
 use region_check::{Region, Rights};
@@ -50,7 +50,7 @@ fn two_tasks(alloc: Global) -> Result<Kernel, AllocError>
     ensures count { IfOk result (λ k. task_count k ≡ 2) }
     ensures notes { IfOk result (λ k. note_count k ≡ 0) }
 {
-    let memory = memory_of(alloc, &[], 32)?;
+    let memory = memory_with_ram(alloc, &[], 32)?;
     let bytes = vec![in alloc; ram()]?;
     let tasks = vec![in alloc; a_task(0, bytes), a_task(1, Vec::new(alloc))]?;
     Kernel::start(alloc, memory, 1, &tasks, &[])

@@ -2,7 +2,7 @@ ghost use Rattle.std.specs.Prelude.{◌≡◌, IfOk, length};
 ghost use Rattle.task_table.specs.Holds.{task_count, note_count, memory_of};
 
 use crate::lent::Stamp;
-use crate::memory::{memory_of, store};
+use crate::memory::{memory_of, memory_with_ram, store};
 use kernel_abi::{Fault, Generation, Health, Note, Usage};
 use region_check::{Region, Rights};
 use std::alloc::{AllocError, Global};
@@ -70,7 +70,7 @@ fn memory_is_copied_from_flash(rt: HostRuntime) -> Result<(), Fail> {
 fn two_tasks(alloc: Global) -> Result<Kernel, AllocError>
     ensures { IfOk result (λ k. (task_count k ≡ 2) × (note_count k ≡ 0) × (length (memory_of k).ram ≡ 8)) }
 {
-    let memory = memory_of(alloc, &[0x20, 0x21, 0x42], 8)?;
+    let memory = memory_with_ram(alloc, &[0x20, 0x21, 0x42], 8)?;
     let region = Region {
         base: RAM,
         size: 8,

@@ -1,4 +1,4 @@
-ghost use Rattle.std.specs.Prelude.{◌≡◌, ◌⊎◌, IfOk};
+ghost use Rattle.std.specs.Prelude.{◌≡◌, ◌⊎◌, [], IfOk};
 ghost use Rattle.task_table.specs.Holds.{task_count, note_count};
 
 use crate::memory::memory_of;
@@ -10,7 +10,9 @@ use timer_irq::{get_timer, irq_control, set_timer, tick};
 use words_core::Flags;
 
 /// A task that is started, with no bytes of its own.
-fn a_task(alloc: Global, priority: u8) -> TaskStart {
+fn a_task(alloc: Global, priority: u8) -> TaskStart
+    ensures { result.regions.items ≡ [] }
+{
     TaskStart {
         priority,
         started: true,

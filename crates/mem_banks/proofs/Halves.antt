@@ -1,9 +1,9 @@
 -- Banks that stand in the two parts of their list, from which one each is changed.
-use Rattle.std.proofs.Common.{ℕ, ◌≡◌, ◌<◌, ◌-◌, ◌++◌, List, [], length, get_or, set, sym, ◌∙◌, arith, length-take, length-drop}
-use Rattle.std.proofs.lemmas.List.{get_or_default, get_or_append_left, get_or-append_right, set-append_left, set-append_right, length-append, length-set, same_lists, places}
+use Rattle.std.proofs.Common.{ℕ, ◌≡◌, ◌<◌, ◌-◌, ◌++◌, List, [], length, get_or, set, ap, sym, ◌∙◌, arith, length-take, length-drop}
+use Rattle.std.proofs.lemmas.List.{get_or_default, get_or_append_left, get_or-append_right, set-append_left, set-append_right, length-append, length-set, same_lists, places, nil_from_length}
 use Rattle.mem_banks.specs.declared.bank.Bank.{Bank}
 use Rattle.mem_banks.specs.Banks.{IsPut}
-use Rattle.mem_banks.specs.Loans.{AreLent}
+use Rattle.mem_banks.specs.Loans.{AreLent, IsLentAlone}
 use Rattle.mem_banks.specs.Memory.{pasted}
 
 -- a bank put in place of one
@@ -53,4 +53,14 @@ lent_by did old between after i j s s' x y p q there_i there_j is_p is_q stays i
       between = between;
       first = put_at old between i 0 [] x p there_i is_p is_between base_x (same ∙ whole_none p.bytes.items);
       second = put_at between after j 0 y.bytes.items y q (omega (arith, count, there_j)) stays is_after base_y (whole_new q.bytes.items y.bytes.items size);
+    }
+
+-- ## one bank lent beside no bytes
+pub alone_by : {B : Type 0} (did : B → List ℕ → List ℕ → B → List ℕ → Type 0) (old after : List Bank) (i : ℕ) (s s' : B) (x p : Bank) (none left : List ℕ) → i < length old → p ≡ get_or old i p → after ≡ set old i x → x.base ≡ p.base → x.bytes.items ≡ p.bytes.items → none ≡ [] → length left ≡ length none → did s p.bytes.items none s' left → IsLentAlone did old i s s' after
+alone_by did old after i s s' x p none left there is_p is_after base same empty size work =
+    let at_p : (d : Bank) → get_or old i d ≡ p = λ d. get_or_default old i d p there ∙ sym is_p in
+    let nothing : left ≡ [] = nil_from_length _ (size ∙ ap length empty) in
+    record {
+      work = λ d. rw (at_p d) (rw (empty, nothing) at work);
+      put = put_at old after i 0 [] x p there is_p is_after base (same ∙ whole_none p.bytes.items);
     }

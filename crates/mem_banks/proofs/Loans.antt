@@ -1,15 +1,17 @@
 -- What a loan of two banks makes of the memory.
-use Rattle.std.proofs.Common.{ℕ, zero, suc, ◌≡◌, ◌≢◌, ◌<◌, ◌≤◌, ◌+◌, inl, inr, true, false, leb, List, [], ◌∷◌, length, take, drop, get_or, refl, ap, sym, ◌∙◌, arith, length-take, length-drop}
+use Rattle.std.proofs.Common.{ℕ, zero, suc, ◌≡◌, ◌≢◌, ◌<◌, ◌≤◌, ◌+◌, inl, inr, Bool, true, false, ◌&&◌, eqb, rules, leb, List, [], ◌∷◌, length, take, drop, get_or, Contains, refl, ap, sym, ◌∙◌, arith, length-take, length-drop}
 use Rattle.std.proofs.lemmas.Bool.{le-leb, lt-leb, cases_lt}
-use Rattle.std.proofs.lemmas.List.{get_or-set_other, length-append, length-set, same_lists, places}
+use Rattle.std.proofs.lemmas.List.{get_or-set_other, length-append, length-set, same_lists, places, nil_from_length}
 use Rattle.mem_banks.specs.declared.bank.Bank.{Bank}
-use Rattle.mem_banks.specs.Banks.{flash_of, AreLaid}
-use Rattle.mem_banks.specs.Kept.{AreKept, IsDone, seen}
-use Rattle.mem_banks.specs.Loans.{AreLent, AreApart, bytes_of, IsBankOf, IsInMemory, IsInRam, IsLoan}
+use Rattle.mem_banks.specs.Banks.{flash_of, AreLaid, IsAt}
+use Rattle.mem_banks.specs.Kept.{AreKept, IsDone, seen, spans_of}
+use Rattle.mem_banks.specs.Parts.{AreParts}
+use Rattle.mem_banks.specs.Loans.{AreLent, IsLentAlone, AreApart, bytes_of, IsBankOf, HasNoBank, IsInMemory, IsInRam, IsLoan, IsNoRegion, AreGiven}
 use Rattle.mem_banks.specs.Memory.{Memory, with_bytes}
 use Rattle.mem_banks.proofs.Copies.{with_bytes_none}
 use Rattle.mem_banks.proofs.Pieces.{Side, ram_side, flash_side, side_in, put_done}
 use Rattle.mem_banks.proofs.Splits.{ram_split, flash_split}
+use Rattle.mem_banks.proofs.Windows.{region_length}
 use Rattle.mem_banks.proofs.Within.{first_of, bytes_in}
 
 -- ## no two banks have a byte in common
@@ -114,3 +116,104 @@ lent_loan did table banks after i j text ram s s' kept of_i of_j other high lent
       size = omega (arith, lent.size d, (of_j.1 d).1);
       left = (lent_done did table banks after i j text ram s s' kept of_i of_j other lent).value;
     }
+
+-- ## the loan of one bank
+pub alone_done : {B : Type 0} (did : B → List ℕ → List ℕ → B → List ℕ → Type 0) (table : List ℕ) (banks after : List Bank) (i : ℕ) (text : ℕ × ℕ) (s s' : B) → AreKept table banks → IsBankOf banks i text → IsLentAlone did banks i s s' after → IsDone table banks after text.0 []
+alone_done did table banks after i text s s' kept of_i lent =
+    let d : Bank = first_of banks i of_i.0 in
+    put_done table banks after i 0 text.0 [] d kept of_i.0 (omega (arith, (of_i.1 d).0)) (omega arith) lent.put
+
+below_or_in : (m : Memory) (text ram : ℕ × ℕ) → IsInMemory m text → ram.0 ≡ 0x20000000 → ram.1 ≡ 0 → AreApart text ram
+below_or_in m text ram (inl x) e n = inr (omega (arith, x.0))
+below_or_in m text ram (inr x) e n = inl (omega (arith, x.2))
+
+pub alone_loan : {B : Type 0} (did : B → List ℕ → List ℕ → B → List ℕ → Type 0) (table : List ℕ) (banks after : List Bank) (i : ℕ) (text ram : ℕ × ℕ) (s s' : B) → AreKept table banks → IsBankOf banks i text → ram.0 ≡ 0x20000000 → ram.1 ≡ 0 → IsLentAlone did banks i s s' after → IsLoan did (seen banks) text ram s s' (seen after)
+alone_loan did table banks after i text ram s s' kept of_i begins none lent =
+    let d : Bank = first_of banks i of_i.0 in
+    let side = side_in table banks i 0 text.0 text.1 d kept of_i.0 (omega (arith, (of_i.1 d).0)) (omega (arith, (of_i.1 d).1)) in
+    let there = region_there (seen banks) text.0 text.1 kept.flash side in
+    let at_ram : IsInRam (seen banks) ram = (omega arith, omega arith) in
+    let empty : bytes_of (seen banks) ram ≡ [] = nil_from_length _ (region_length (seen banks) ram.0 ram.1 (inl at_ram) ∙ none) in
+    let same : seen after ≡ seen banks = (alone_done did table banks after i text s s' kept of_i lent).value ∙ sym (with_bytes_none (seen banks) text.0 [] refl) in
+    record {
+      text_there = there;
+      ram_there = at_ram;
+      apart = below_or_in (seen banks) text ram there begins none;
+      after = [];
+      work = rw (bank_bytes table banks i text d kept of_i, empty) (lent.work d);
+      size = sym none;
+      left = same ∙ with_bytes_none (seen banks) ram.0 [] refl;
+    }
+
+-- ## the banks of regions that were given
+-- the bank that has the first byte of a region's bank is that one
+same_bank : (table : List ℕ) (banks : List Bank) (j o k : ℕ) (r : ℕ × ℕ) → AreKept table banks → IsAt banks j o r.0 → 0 < r.1 → IsBankOf banks k r → j ≢ k → ⊥
+same_bank table banks j o k r kept at some of_k other =
+    let d : Bank = first_of banks k of_k.0 in
+    let here = at.1 d in
+    let there = of_k.1 d in
+    elim (banks_apart 0x08000000 0x20000000 banks j k d kept.laid (omega (arith, kept.flash)) at.0 of_k.0 other) [
+      | inl x ↦ omega arith
+      | inr x ↦ omega arith
+    ]
+
+pub no_bank_nowhere : (banks : List Bank) (r : ℕ × ℕ) → ((k o : ℕ) → IsAt banks k o r.0 → ⊥) → HasNoBank banks r
+no_bank_nowhere banks r nowhere k some of_k = nowhere k 0 (of_k.0, λ d. let there = of_k.1 d in (omega arith, omega arith))
+
+-- another bank has its first byte, or has others too
+pub no_bank_other : (table : List ℕ) (banks : List Bank) (j o : ℕ) (r : ℕ × ℕ) → AreKept table banks → IsAt banks j o r.0 → (IsBankOf banks j r → ⊥) → HasNoBank banks r
+no_bank_other table banks j o r kept at not_j k some of_k = same_bank table banks j o k r kept at some of_k (λ e. not_j (rw e of_k))
+
+span_length : (banks : List Bank) → length (spans_of banks) ≡ length banks
+span_length [] = refl
+span_length (b ∷ bs) = ap suc (span_length bs)
+
+span_at : (banks : List Bank) (k : ℕ) (d : Bank) (z : ℕ × ℕ) → k < length banks → get_or (spans_of banks) k z ≡ span (get_or banks k d)
+span_at [] k d z h = absurd (omega arith)
+span_at (b ∷ bs) zero d z h = refl
+span_at (b ∷ bs) (suc k) d z h = span_at bs k d z (omega arith)
+
+pub given_bank : (regions : List (ℕ × ℕ)) (banks : List Bank) (r : ℕ × ℕ) → AreParts regions (spans_of banks) → Contains regions r → (k : ℕ) × IsBankOf banks k r
+given_bank regions banks r parts given =
+    let c = parts.given r given in
+    let there : c.0 < length banks = omega (arith, c.1, span_length banks) in (
+      c.0,
+      (
+        there,
+        λ d.
+            let e = sym (span_at banks c.0 d r there) ∙ c.2 in
+            (ap (λ (q : ℕ × ℕ). q.0) e, ap (λ (q : ℕ × ℕ). q.1) e),
+      ),
+    )
+
+given_found : (regions : List (ℕ × ℕ)) (banks : List Bank) (r : ℕ × ℕ) → AreParts regions (spans_of banks) → Contains regions r → 0 < r.1 → HasNoBank banks r → ⊥
+given_found regions banks r parts given some none = let b = given_bank regions banks r parts given in none b.0 some b.1
+
+pub text_found : (regions : List (ℕ × ℕ)) (banks : List Bank) (text ram : ℕ × ℕ) → AreParts regions (spans_of banks) → AreGiven regions text ram → HasNoBank banks text → ⊥
+text_found regions banks text ram parts given none = given_found regions banks text parts given.text_given given.text_some none
+
+pub ram_found : (regions : List (ℕ × ℕ)) (banks : List Bank) (text ram : ℕ × ℕ) → AreParts regions (spans_of banks) → AreGiven regions text ram → (IsNoRegion ram → ⊥) → HasNoBank banks ram → ⊥
+ram_found regions banks text ram parts given some none = elim given.ram_given [
+  | inl x ↦ some x
+  | inr x ↦ given_found regions banks ram parts x.0 x.1 none
+]
+
+pub ram_in : (regions : List (ℕ × ℕ)) (text ram : ℕ × ℕ) → AreGiven regions text ram → ram.0 < 0x20000000 → ⊥
+ram_in regions text ram given low = elim given.ram_given [ inl x ↦ omega arith | inr x ↦ omega arith ]
+
+pub two_banks : (regions : List (ℕ × ℕ)) (banks : List Bank) (i j : ℕ) (text ram : ℕ × ℕ) → AreGiven regions text ram → (IsNoRegion ram → ⊥) → IsBankOf banks i text → IsBankOf banks j ram → i ≡ j → ⊥
+two_banks regions banks i j text ram given some of_i of_j same = elim given.ram_given [
+  | inl x ↦ some x
+  | inr x ↦
+      let d : Bank = first_of banks i of_i.0 in
+      let here = (of_i.1 d).0 in
+      let there = rw (← same) at ((of_j.1 d).0) in
+      omega (arith, given.below, x.2)
+]
+
+-- what the code's test of the second region says
+pub no_region : (ram : ℕ × ℕ) (r : Bool) → r ≡ (eqb ram.0 0x20000000 && eqb ram.1 0) → r ≡ true → IsNoRegion ram
+no_region ram r e is = search rules
+
+pub some_region : (ram : ℕ × ℕ) (r : Bool) → r ≡ (eqb ram.0 0x20000000 && eqb ram.1 0) → r ≡ false → IsNoRegion ram → ⊥
+some_region ram r e isnt none = search rules

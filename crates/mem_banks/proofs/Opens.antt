@@ -4,7 +4,7 @@ use Rattle.std.proofs.lemmas.Bool.{cases_lt}
 use Rattle.std.proofs.lemmas.List.{length-append, length-replicate, replicate-append-replicate, get_or-replicate, nil_from_length, append-nil}
 use Rattle.mem_banks.specs.declared.bank.Bank.{Bank}
 use Rattle.mem_banks.specs.Banks.{flash_of, ram_of, AreLaid}
-use Rattle.mem_banks.specs.Memory.{Memory, pasted, with_bytes}
+use Rattle.mem_banks.specs.Memory.{Memory, Opened, pasted, with_bytes}
 use Rattle.mem_banks.specs.Kept.{AreKept, IsNext, IsLaidOut, AreZeros, seen}
 use Rattle.mem_banks.proofs.Splits.{push_flash, push_ram}
 use Rattle.mem_banks.proofs.Copies.{with_bytes_flash}
@@ -96,3 +96,10 @@ kept_zeros table banks f r z small few pages hints = record {
   pages = pages;
   hints = hints;
 }
+
+-- a map beside the regions that were given
+abbrev pub beside : List (ℕ × ℕ) → Memory → Opened
+beside regions m = record { bytes = m; regions = regions }
+
+pub opened_beside : (regions given : List (ℕ × ℕ)) (banks : List Bank) (flash : List ℕ) (r n : ℕ) (m : Opened) → AreZeros banks n r → n ≡ length flash → regions ≡ given → m ≡ beside regions (with_bytes (seen banks) 0x08000000 flash) → m ≡ beside given record { flash = flash; ram = replicate r 0 }
+opened_beside regions given banks flash r n m z e same is = is ∙ rw same (ap (beside given) (opened banks flash r n _ z e refl))

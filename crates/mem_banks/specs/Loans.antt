@@ -1,5 +1,5 @@
 -- The bytes of two regions, lent to somebody for the time of one call. A region is its base and its size.
-use Rattle.std.specs.Prelude.{ℕ, ◌+◌, ◌<◌, ◌≤◌, ◌⊎◌, ◌≡◌, List, [], length, slice_index_or}
+use Rattle.std.specs.Prelude.{ℕ, ◌+◌, ◌<◌, ◌≤◌, ◌⊎◌, ◌≡◌, List, [], length, slice_index_or, Contains}
 use Rattle.mem_banks.specs.declared.bank.Bank.{Bank}
 use Rattle.mem_banks.specs.Memory.{Memory, bytes_at, with_bytes}
 use Rattle.mem_banks.specs.Banks.{IsPut}
@@ -33,9 +33,24 @@ pub record IsLoan {B : Type 0} (did : B → List ℕ → List ℕ → B → List
   pub size : length after ≡ ram.1
   pub left : m' ≡ with_bytes m ram.0 after
 
+-- the second one is no region: it has no bytes, and begins where the RAM does
+abbrev pub IsNoRegion : ℕ × ℕ → Type 0
+IsNoRegion r = (r.0 ≡ 0x20000000) × (r.1 ≡ 0)
+
+-- two of some regions: one in the flash, and one in the RAM, or none
+pub record AreGiven (regions : List (ℕ × ℕ)) (text ram : ℕ × ℕ) : Type 0 where
+  pub text_given : Contains regions text
+  pub text_some : 0 < text.1
+  pub below : text.0 < 0x20000000
+  pub ram_given : IsNoRegion ram ⊎ (Contains regions ram × (0 < ram.1) × (0x20000000 ≤ ram.0))
+
 -- a bank has the bytes of a region and no others
 abbrev pub IsBankOf : List Bank → ℕ → ℕ × ℕ → Type 0
 IsBankOf banks k r = (k < length banks) × ((d : Bank) → ((slice_index_or banks k d).base ≡ r.0) × (length (slice_index_or banks k d).bytes.items ≡ r.1))
+
+-- no bank has the bytes of a region that has some
+abbrev pub HasNoBank : List Bank → ℕ × ℕ → Type 0
+HasNoBank banks r = (k : ℕ) → 0 < r.1 → IsBankOf banks k r → ⊥
 
 -- a borrower did its work with the bytes of two banks, and those of the first one are as before
 pub record AreLent {B : Type 0} (did : B → List ℕ → List ℕ → B → List ℕ → Type 0) (old : List Bank) (i j : ℕ) (b b' : B) (banks : List Bank) : Type 0 where
@@ -45,3 +60,8 @@ pub record AreLent {B : Type 0} (did : B → List ℕ → List ℕ → B → Lis
   pub between : List Bank
   pub first : IsPut old i 0 [] between
   pub second : IsPut between j 0 after banks
+
+-- the same with the bytes of one bank, and with no others
+pub record IsLentAlone {B : Type 0} (did : B → List ℕ → List ℕ → B → List ℕ → Type 0) (old : List Bank) (i : ℕ) (b b' : B) (banks : List Bank) : Type 0 where
+  pub work : (d : Bank) → did b (slice_index_or old i d).bytes.items [] b' []
+  pub put : IsPut old i 0 [] banks

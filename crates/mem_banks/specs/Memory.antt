@@ -6,6 +6,11 @@ pub record Memory : Type 0 where
   pub flash : List ℕ
   pub ram : List ℕ
 
+-- a memory that was opened, and the regions that were given then, by base and size
+pub record Opened : Type 0 where
+  pub bytes : Memory
+  pub regions : List (ℕ × ℕ)
+
 -- what stands in memory are bytes
 abbrev pub AreAllBytes : List ℕ → Type 0
 AreAllBytes xs = (b : ℕ) → Contains xs b → b < 256

@@ -85,17 +85,3 @@ pub fn whole_word(bytes: &[u8], at: usize) -> u32
     let high = u32::from(bytes[at + 2]) + 256 * u32::from(bytes[at + 3]);
     low + 65536 * high
 }
-
-/// The number that 1, 2 or 4 bytes from a place on spell where all of them are there, the lowest first.
-#[inline(always)]
-pub fn whole_number(bytes: &[u8], at: usize, size: u32) -> u32
-    requires size { (size ≡ 1) ⊎ (size ≡ 2) ⊎ (size ≡ 4) }
-    requires there { at + size ≤ length bytes.now }
-    ensures { result ≡ number_of (take size (drop at bytes.now)) }
-{
-    match size {
-        1 => u32::from(bytes[at]),
-        2 => u32::from(whole_half(bytes, at)),
-        _ => whole_word(bytes, at),
-    }
-}

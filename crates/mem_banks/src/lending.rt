@@ -1,10 +1,12 @@
 //! The bytes of two banks, lent to somebody for the time of one call.
 
-ghost use Rattle.std.specs.Prelude.{◌≡◌, ◌<◌, ℕ, List, All, IfSome, length};
-ghost use Rattle.mem_banks.specs.Loans.{AreLent, IsBankOf};
+ghost use Rattle.std.specs.Prelude.{◌≡◌, ◌<◌, ℕ, List, IfSome, IfNone, length};
+ghost use Rattle.mem_banks.specs.Kept.{AreKept};
+ghost use Rattle.mem_banks.specs.Loans.{AreLent, IsLentAlone, IsBankOf, HasNoBank};
 
-use crate::bank::{Bank, find};
+use crate::bank::{Bank, find, page};
 use crate::{Memory, RAM};
+use std::alloc::Global;
 
 /// Who works with the bytes of two regions while they are lent: code, which stays as it is, and data in
 /// the RAM.
@@ -19,11 +21,28 @@ pub trait Borrower {
         ensures length { length ram.new.items ≡ length ram.old.items };
 }
 
-/// The bank that has the bytes of a region and no others.
+/// The bank that has the bytes of a region and no others. Most often the table names it.
+#[inline(always)]
 fn bank_of(banks: &[Bank], table: &[u16], region: (u32, u32)) -> Option<usize>
-    requires len { length table.now ≡ 8192 }
-    requires hints { All (λ k. k < length banks.now) table.now }
-    ensures { IfSome result (λ k. IsBankOf banks.now k region) }
+    requires { AreKept table.now banks.now }
+    ensures found { IfSome result (λ k. IsBankOf banks.now k region) }
+    ensures none { IfNone result (HasNoBank banks.now region) }
+{
+    let k = table[page(region.0)] as usize;
+    let bank = &banks[k];
+    if bank.base == region.0 && bank.bytes.len() == region.1 as usize {
+        return Some(k);
+    }
+    bank_beyond(banks, table, region)
+}
+
+/// As `bank_of`, where the table names another bank.
+#[cold]
+#[inline(never)]
+fn bank_beyond(banks: &[Bank], table: &[u16], region: (u32, u32)) -> Option<usize>
+    requires { AreKept table.now banks.now }
+    ensures found { IfSome result (λ k. IsBankOf banks.now k region) }
+    ensures none { IfNone result (HasNoBank banks.now region) }
 {
     let place = find(banks, table, region.0)?;
     if place.at == 0 && banks[place.bank].bytes.len() == region.1 as usize {
@@ -48,26 +67,40 @@ fn lend_two<B: Borrower>(banks: &mut [Bank], text: usize, ram: usize, borrower: 
     }
 }
 
+/// Lends the bytes of one bank, and no bytes beside them.
+fn lend_one<B: Borrower>(banks: &mut [Bank], text: usize, alloc: Global, borrower: &mut B)
+    requires { text < length banks.old }
+    ensures { IsLentAlone B.did banks.old text borrower.old borrower.new banks.new }
+{
+    let mut none = Vec::new(alloc);
+    borrower.work(&mut banks[text].bytes, &mut none);
+}
+
 impl Memory {
     ghost use Rattle.std.specs.Prelude.{◌≡◌, true, false};
-    ghost use Rattle.mem_banks.specs.Loans.{IsLoan};
+    ghost use Rattle.mem_banks.specs.Loans.{IsLoan, AreGiven};
 
     /// Lends the bytes of two regions, by base and size, where each has a bank of its own and the
-    /// second one lies in the RAM. Else nothing changes, and the answer is false.
-    ///
-    /// No clause says that regions which were given to `open` are lent: callers see the flash and the
-    /// RAM alone, and not what banks there are.
+    /// second one lies in the RAM; or those of one region and no bytes, where the second one is empty
+    /// and begins where the RAM does. Else nothing changes, and the answer is false. Regions that were
+    /// given to `open` are lent.
     pub fn lend<B: Borrower>(&mut self, text: (u32, u32), ram: (u32, u32), borrower: &mut B) -> bool
-        ensures lent { result ≡ true → IsLoan B.did self.old text ram borrower.old borrower.new self.new }
+        ensures lent { result ≡ true → IsLoan B.did self.old.bytes text ram borrower.old borrower.new self.new.bytes }
+        ensures given { AreGiven self.old.regions text ram → result ≡ true }
+        ensures regions { self.new.regions ≡ self.old.regions }
         ensures kept { result ≡ false → self.new ≡ self.old }
         ensures left { result ≡ false → borrower.new ≡ borrower.old }
     {
-        if ram.0 < RAM {
-            return false;
-        }
         let Some(code) = bank_of(&self.banks, &self.table, text) else {
             return false;
         };
+        if ram == (RAM, 0) {
+            lend_one(&mut self.banks, code, self.alloc, borrower);
+            return true;
+        }
+        if ram.0 < RAM {
+            return false;
+        }
         let Some(bank) = bank_of(&self.banks, &self.table, ram) else {
             return false;
         };

@@ -10,9 +10,9 @@ mod opening;
 ghost use Rattle.std.specs.Prelude.{◌≡◌, ◌≤◌, ◌⊎◌, length, IfOk, replicate};
 ghost use Rattle.mem_banks.specs.Memory.{is_held, is_ram, number_at, with_bytes, copied, IsWithin, AreAllBytes, AreRegions};
 
-use bank::{Bank, find, page, search, whole_half, whole_number, whole_word};
+use bank::{Bank, find, page, search, whole_half, whole_word};
 pub use lending::Borrower;
-use moving::{copy_from_end, copy_from_start, store_at, store_near};
+use moving::{copy_from_end, copy_from_start, store_at};
 use opening::{all_banks, table_of};
 use std::alloc::{AllocError, Global};
 use std::marker::Model;
@@ -23,7 +23,7 @@ pub const FLASH: u32 = 0x0800_0000;
 pub const RAM: u32 = 0x2000_0000;
 
 /// The flash and the RAM of a board, and the regions that were given. Callers see the two lists of
-/// bytes.
+/// bytes and the regions, but not what banks there are.
 #[derive(Drop)]
 pub struct Memory {
     /// By base; an empty one where there is no memory at all.
@@ -34,24 +34,20 @@ pub struct Memory {
     /// How many bytes the RAM has.
     ram: u32,
     regions: Vec<(u32, u32)>,
-}
-
-/// A bank in which to look first. Any is right: it is a hint.
-#[derive(Copy, Clone, Drop)]
-pub struct Near {
-    bank: u16,
+    /// For the empty list that is lent beside a text alone.
+    alloc: Global,
 }
 
 impl Model for Memory {
     ghost use Rattle.std.specs.Prelude.{◌≡◌};
-    ghost use Rattle.mem_banks.specs.Memory.{Memory as Map};
+    ghost use Rattle.mem_banks.specs.Memory.{Opened};
     ghost use Rattle.mem_banks.specs.Banks.{flash_of, ram_of};
     ghost use Rattle.mem_banks.specs.Kept.{AreKept, spans_of};
     ghost use Rattle.mem_banks.specs.Parts.{AreParts, ram_size};
 
-    ghost Value = { Map };
+    ghost Value = { Opened };
 
-    ghost view = { λ m. record { flash = flash_of m.banks.items; ram = ram_of m.banks.items } };
+    ghost view = { λ m. record { bytes = record { flash = flash_of m.banks.items; ram = ram_of m.banks.items }; regions = m.regions.items } };
 
     ghost invariant = { λ m. AreKept m.table.items m.banks.items × AreParts m.regions.items (spans_of m.banks.items) × (m.ram ≡ ram_size (spans_of m.banks.items)) };
 }
@@ -72,7 +68,7 @@ impl Memory {
         requires flash { length flash.now ≤ 1048576 }
         requires ram { ram ≤ 262144 }
         requires regions { AreRegions (length flash.now) ram regions.now }
-        ensures value { IfOk result (λ m. m ≡ record { flash = flash.now; ram = replicate ram 0 }) }
+        ensures value { IfOk result (λ m. m ≡ record { bytes = record { flash = flash.now; ram = replicate ram 0 }; regions = regions.now }) }
         ensures bytes { AreAllBytes flash.now }
     {
         let banks = all_banks(alloc, flash.len() as u32, ram, regions)?;
@@ -82,6 +78,7 @@ impl Memory {
             table,
             ram,
             regions: regions.to_vec(alloc)?,
+            alloc,
         };
         memory.store(FLASH, flash);
         Ok(memory)
@@ -89,7 +86,7 @@ impl Memory {
 
     /// Whether there is a byte at an address.
     pub fn holds(&self, addr: u32) -> bool
-        ensures { result ≡ is_held self.now addr }
+        ensures { result ≡ is_held self.now.bytes addr }
     {
         find(&self.banks, &self.table, addr).is_some()
     }
@@ -97,7 +94,7 @@ impl Memory {
     /// The byte at an address. Where there is no memory it is 0.
     #[inline(always)]
     pub fn byte(&self, addr: u32) -> u8
-        ensures { result ≡ number_at self.now addr 1 }
+        ensures { result ≡ number_at self.now.bytes addr 1 }
     {
         let bank = &self.banks[self.table[page(addr)] as usize];
         let at = addr.wrapping_sub(bank.base) as usize;
@@ -111,7 +108,7 @@ impl Memory {
     #[cold]
     #[inline(never)]
     fn byte_beyond(&self, addr: u32) -> u8
-        ensures { result ≡ number_at self.now addr 1 }
+        ensures { result ≡ number_at self.now.bytes addr 1 }
     {
         match search(&self.banks, addr) {
             Some(place) => self.banks[place.bank].bytes[place.at],
@@ -122,7 +119,7 @@ impl Memory {
     /// The number that the two bytes from an address on spell, the lowest first. Where there is
     /// no memory a byte counts as 0.
     pub fn half(&self, addr: u32) -> u16
-        ensures { result ≡ number_at self.now addr 2 }
+        ensures { result ≡ number_at self.now.bytes addr 2 }
     {
         let bank = &self.banks[self.table[page(addr)] as usize];
         let at = addr.wrapping_sub(bank.base) as usize;
@@ -136,7 +133,7 @@ impl Memory {
     #[cold]
     #[inline(never)]
     fn half_beyond(&self, addr: u32) -> u16
-        ensures { result ≡ number_at self.now addr 2 }
+        ensures { result ≡ number_at self.now.bytes addr 2 }
     {
         if find(&self.banks, &self.table, addr).is_none() {
             return 0;
@@ -148,7 +145,7 @@ impl Memory {
     /// no memory a byte counts as 0.
     #[inline(always)]
     pub fn word(&self, addr: u32) -> u32
-        ensures { result ≡ number_at self.now addr 4 }
+        ensures { result ≡ number_at self.now.bytes addr 4 }
     {
         let bank = &self.banks[self.table[page(addr)] as usize];
         let at = addr.wrapping_sub(bank.base) as usize;
@@ -162,7 +159,7 @@ impl Memory {
     #[cold]
     #[inline(never)]
     fn word_beyond(&self, addr: u32) -> u32
-        ensures { result ≡ number_at self.now addr 4 }
+        ensures { result ≡ number_at self.now.bytes addr 4 }
     {
         if find(&self.banks, &self.table, addr).is_none() {
             return 0;
@@ -177,7 +174,7 @@ impl Memory {
     #[inline(never)]
     pub fn number(&self, addr: u32, size: u32) -> u32
         requires { (size ≡ 1) ⊎ (size ≡ 2) ⊎ (size ≡ 4) }
-        ensures { result ≡ number_at self.now addr size }
+        ensures { result ≡ number_at self.now.bytes addr size }
     {
         match size {
             1 => u32::from(self.byte(addr)),
@@ -186,55 +183,19 @@ impl Memory {
         }
     }
 
-    /// Where to look for what lies near an address.
-    pub fn near(&self, addr: u32) -> Near {
-        Near {
-            bank: self.table[page(addr)],
-        }
-    }
-
-    /// As `half`, with where to look first.
-    #[inline(always)]
-    pub fn half_near(&self, near: Near, addr: u32) -> u16
-        ensures { result ≡ number_at self.now addr 2 }
-    {
-        if let Some(bank) = self.banks.get(near.bank as usize) {
-            let at = addr.wrapping_sub(bank.base) as usize;
-            if at + 1 < bank.bytes.len() {
-                return whole_half(&bank.bytes, at);
-            }
-        }
-        self.half(addr)
-    }
-
-    /// As `number`, with where to look first.
-    #[inline(always)]
-    pub fn number_near(&self, near: Near, addr: u32, size: u32) -> u32
-        requires { (size ≡ 1) ⊎ (size ≡ 2) ⊎ (size ≡ 4) }
-        ensures { result ≡ number_at self.now addr size }
-    {
-        if let Some(bank) = self.banks.get(near.bank as usize) {
-            let at = addr.wrapping_sub(bank.base) as usize;
-            if at + size as usize <= bank.bytes.len() {
-                return whole_number(&bank.bytes, at, size);
-            }
-        }
-        self.number(addr, size)
-    }
-
     /// Whether so many bytes from an address on lie in the RAM.
     #[inline(always)]
     pub fn is_ram(&self, addr: u32, count: u32) -> bool
-        ensures { result ≡ is_ram self.now addr count }
+        ensures { result ≡ is_ram self.now.bytes addr count }
     {
         addr >= RAM && u64::from(addr - RAM) + u64::from(count) <= u64::from(self.ram)
     }
 
     /// Copies so many bytes, as if all were read before the first is written.
     pub fn copy(&mut self, from: u32, to: u32, count: u32)
-        requires source { IsWithin self.old from count }
-        requires target { IsWithin self.old to count }
-        ensures { self.new ≡ copied self.old from to count }
+        requires source { IsWithin self.old.bytes from count }
+        requires target { IsWithin self.old.bytes to count }
+        ensures { self.new ≡ record self.old { bytes = copied self.old.bytes from to count } }
     {
         if from < to {
             copy_from_end(&mut self.banks, &self.table, from, to, count);
@@ -246,24 +207,9 @@ impl Memory {
     /// Writes bytes over those from an address on.
     #[inline(always)]
     pub fn store(&mut self, addr: u32, bytes: &[u8])
-        requires { IsWithin self.old addr (length bytes.now) }
-        ensures { self.new ≡ with_bytes self.old addr bytes.now }
+        requires { IsWithin self.old.bytes addr (length bytes.now) }
+        ensures { self.new ≡ record self.old { bytes = with_bytes self.old.bytes addr bytes.now } }
     {
         store_at(&mut self.banks, &self.table, addr, bytes);
-    }
-
-    /// As `store`, with where to look first.
-    #[inline(always)]
-    pub fn store_near(&mut self, near: Near, addr: u32, bytes: &[u8])
-        requires { IsWithin self.old addr (length bytes.now) }
-        ensures { self.new ≡ with_bytes self.old addr bytes.now }
-    {
-        store_near(
-            &mut self.banks,
-            &self.table,
-            near.bank as usize,
-            addr,
-            bytes,
-        );
     }
 }

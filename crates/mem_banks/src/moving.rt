@@ -46,24 +46,6 @@ pub fn store_at(banks: &mut [Bank], table: &[u16], addr: u32, bytes: &[u8])
     }
 }
 
-/// The same, where they may lie in this bank.
-#[inline(always)]
-pub fn store_near(banks: &mut [Bank], table: &[u16], near: usize, addr: u32, bytes: &[u8])
-    requires kept { AreKept table.now banks.old }
-    requires within { IsWithin (seen banks.old) addr (length bytes.now) }
-    ensures { IsDone table.now banks.old banks.new addr bytes.now }
-{
-    if near < banks.len() {
-        let bank = &banks[near];
-        let at = addr.wrapping_sub(bank.base) as usize;
-        if at + bytes.len() <= bank.bytes.len() {
-            put_in(banks, near, at, bytes);
-            return;
-        }
-    }
-    store_pieces(banks, table, addr, bytes);
-}
-
 /// Writes bytes over those from an address on, a piece for each bank.
 #[cold]
 #[inline(never)]

@@ -1,10 +1,14 @@
 -- What a loan of two regions leaves of the kernel.
-use Rattle.std.proofs.Common.{◌≡◌, ◌⊎◌, inl, inr, ℕ, List, Bool, true, false, length, Option, Some, refl, ◌∙◌, ap, subst, arith}
+use Rattle.std.proofs.Common.{◌≡◌, ◌⊎◌, inl, inr, ℕ, zero, suc, List, [], ◌∷◌, Contains, Bool, true, false, length, Option, Some, refl, ◌∙◌, ap, subst, sym, arith}
+use Rattle.std.proofs.lemmas.Bool.{false≢true}
+use Rattle.std.proofs.Math.Logic.{∥∥₁_elim}
 use Rattle.mem_banks.specs.Memory.{Memory, with_bytes, IsWithinRam}
-use Rattle.mem_banks.specs.Loans.{IsLoan, IsInMemory, IsInRam, bytes_of}
-use Rattle.task_table.specs.State.{Setup, Turn}
-use Rattle.task_table.specs.Reading.{task_at, call_of, listen_of}
+use Rattle.mem_banks.specs.Loans.{AreGiven, IsLoan, IsInMemory, IsInRam, bytes_of}
+use Rattle.task_table.specs.State.{Setup, Turn, TaskSetup}
+use Rattle.task_table.specs.Reading.{setup_at, setup_in, task_at, call_of, listen_of}
 use Rattle.task_table.specs.Holds.{Shows, Kept}
+use Rattle.region_check.specs.declared.Region.{Region}
+use Rattle.task_table.specs.Lendable.{AreLendable, AreUsable, IsUsable, span_of}
 use Rattle.task_table.specs.Lent.{overlaid}
 use Rattle.task_table.specs.Entries.{AreFresh, kept_at, meets}
 use Rattle.task_table.specs.declared.entry.KeptEntry.{KeptEntry}
@@ -59,3 +63,32 @@ setup_lent f m m' ram (inr (ys, size, within, e)) = setup_stored f m m' ram.0 ys
 pub fresh_lent : (m m' : Memory) (ram : ℕ × ℕ) (low span : ℕ) (entries : List (Option KeptEntry)) → AreFresh m low span entries → ((i : ℕ) (x : KeptEntry) → kept_at entries i ≡ Some x → meets x ram.0 ram.1 ≡ false) → Overlaid m ram m' → AreFresh m' low span entries
 fresh_lent m m' ram low span entries h apart (inl e) = rw e h
 fresh_lent m m' ram low span entries h apart (inr (ys, size, within, e)) = rw e (fresh_stored m low span entries ram.0 ram.1 ys h apart within (omega (arith, size)))
+
+-- ## regions of a task are regions that were given
+task_there : (tasks : List TaskSetup) (i : ℕ) (r : Region) → Contains (setup_in tasks i).regions r → Contains tasks (setup_in tasks i)
+task_there [] i r h = absurd (omega (arith, h.1))
+task_there (x ∷ xs) zero r h = (0, omega arith, refl)
+task_there (x ∷ xs) (suc i) r h = let c = task_there xs i r h in (suc c.0, omega (arith, c.1), c.2)
+
+given_span : (s : Setup) (regions : List (ℕ × ℕ)) (task : ℕ) (r : Region) → AreLendable regions s.tasks → IsUsable (setup_at s task).regions r → Contains regions (span_of r)
+given_span s regions task r lendable u = lendable (setup_at s task) r (task_there s.tasks task r u.here) u.here u.no_device
+
+pub usable_given : (s : Setup) (regions : List (ℕ × ℕ)) (task : ℕ) (text ram : Region) → AreLendable regions s.tasks → AreUsable (setup_at s task).regions text ram → AreGiven regions (span_of text) (span_of ram)
+usable_given s regions task text ram lendable u = record {
+  text_given = given_span s regions task text lendable u.text_usable;
+  text_some = u.text_usable.some;
+  below = u.below;
+  ram_given = elim u.ram_usable [
+    | inl x ↦ inl x
+    | inr x ↦ inr (given_span s regions task ram lendable x.0, x.0.some, x.1)
+  ];
+}
+
+-- the regions stay, whatever is written
+pub lendable_same : (old new : List (ℕ × ℕ)) (tasks : List TaskSetup) → new ≡ old → ∥ AreLendable old tasks ∥₁ → ∥ AreLendable new tasks ∥₁
+lendable_same old new tasks e h = subst (λ x. ∥ AreLendable x tasks ∥₁) (sym e) h
+
+-- an answer that follows from a fact follows from its truncation
+pub answered : {A : Type 0} (r : Bool) → ∥ A ∥₁ → (A → r ≡ true) → r ≡ true
+answered true fact lends = refl
+answered false fact lends = absurd (∥∥₁_elim {P = ⊥} fact (hlevel) (λ a. false≢true (lends a)))

@@ -143,7 +143,7 @@ abbrev pub next_call_of : Kernel → ℕ
 next_call_of k = k.next_call
 
 abbrev pub memory_of : Kernel → Memory
-memory_of k = k.memory
+memory_of k = k.memory.bytes
 
 abbrev pub entries_of : Kernel → List (Option KeptEntry)
 entries_of k = k.entries.items
@@ -155,8 +155,8 @@ setup_of k =
       tasks = map task_setup k.tasks.items;
       lines = map line_setup k.owners.items;
       fault_bits = k.fault_bits;
-      flash = k.memory.flash;
-      ram = length k.memory.ram;
+      flash = k.memory.bytes.flash;
+      ram = length k.memory.bytes.ram;
       line_count = length k.lines;
     }
 
@@ -177,7 +177,7 @@ kept_of k =
       setup = setup_of k;
       slots = k.slots.items;
       notes = k.notes.items;
-      memory = k.memory;
+      memory = k.memory.bytes;
       clock = k.clock;
       lines = k.lines;
       current = k.current;

@@ -7,14 +7,11 @@ use Rattle.task_table.specs.declared.kernel.Kernel.{Kernel}
 use Rattle.task_table.specs.State.{Setup, Turn}
 use Rattle.task_table.specs.Effects.{changed}
 use Rattle.task_table.specs.Holds.{Holds, memory_of}
+use Rattle.task_table.specs.Lendable.{span_of}
 
 -- these bytes stand in memory from an address on; the turn does not tell who wrote them
 abbrev pub overlaid : ℕ → List ℕ → Turn → Turn
 overlaid at bytes t = changed (λ s. record s { memory = with_bytes s.memory at bytes }) t
-
--- base and size
-abbrev pub span_of : Region → ℕ × ℕ
-span_of r = (r.base, r.size)
 
 -- a borrower b did its work with the bytes of two regions; then it is b', and the kernel stands for
 -- what it stood for, but for the bytes that it left of the second region

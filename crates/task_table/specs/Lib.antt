@@ -29,4 +29,5 @@ pub mod Orders
 pub mod Ledger
 pub mod DeadIds
 pub mod Waits
+pub mod Lendable
 pub mod Lent

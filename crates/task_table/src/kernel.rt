@@ -10,10 +10,10 @@ ghost use Rattle.task_table.specs.Levels.{AreLevels};
 ghost use Rattle.task_table.specs.Readiness.{is_free, AreThose, AreOffers};
 ghost use Rattle.task_table.specs.Deadlines.{AreNotBefore};
 ghost use Rattle.task_table.specs.Entries.{AreFresh, AreEntriesOf};
+ghost use Rattle.task_table.specs.Lendable.{AreLendable};
 
 mod entries;
 mod lending;
-mod near;
 mod sets;
 mod slots;
 mod timers;
@@ -62,7 +62,8 @@ pub struct Kernel {
     ghost ready_now: { AreThose is_free slots.items ready.words },
     ghost offered_now: { AreOffers slots.items offers.items },
     ghost deadlines: { AreNotBefore earliest slots.items },
-    ghost fresh: { AreFresh memory watch.low watch.span entries.items },
+    ghost lendable: { ∥ AreLendable memory.regions (map task_setup tasks.items) ∥₁ },
+    ghost fresh: { AreFresh memory.bytes watch.low watch.span entries.items },
     ghost of_calls: { AreEntriesOf (map task_setup tasks.items) slots.items entries.items },
 }
 
@@ -82,7 +83,8 @@ impl Kernel {
     ghost use Rattle.task_table.specs.declared.entry.KeptEntry.{KeptEntry};
 
     /// The kernel at the start of a run, of one task at least: each task as at its first birth, and the
-    /// memory as it is handed in, with zeros in the RAM. The order of the tasks gives their indices.
+    /// memory as it is handed in, with zeros in the RAM, which was given each region of a task that is no
+    /// device. The order of the tasks gives their indices.
     /// Where the parts are those of a sound image, the state is sane.
     ///
     /// # Errors
@@ -98,9 +100,10 @@ impl Kernel {
         requires some { 0 < length tasks.now }
         requires few { length tasks.now ≤ most_tasks }
         requires few_owners { length lines.now ≤ board_lines }
-        requires zeros { memory.ram ≡ replicate (length memory.ram) 0 }
-        ensures holds { let g = setup_of_parts memory fault_bits tasks.now lines.now in IfOk result (λ k. Holds g k (begun (started_at g))) }
-        ensures stands { let g = setup_of_parts memory fault_bits tasks.now lines.now in IsSound g → IfOk result (λ k. Stands g k (begun (started_at g))) }
+        requires zeros { memory.bytes.ram ≡ replicate (length memory.bytes.ram) 0 }
+        requires given { AreLendable memory.regions (map task_setup tasks.now) }
+        ensures holds { let g = setup_of_parts memory.bytes fault_bits tasks.now lines.now in IfOk result (λ k. Holds g k (begun (started_at g))) }
+        ensures stands { let g = setup_of_parts memory.bytes fault_bits tasks.now lines.now in IsSound g → IfOk result (λ k. Stands g k (begun (started_at g))) }
         ensures count { IfOk result (λ k. task_count k ≡ length tasks.now) }
         ensures notes { IfOk result (λ k. note_count k ≡ 0) }
     {

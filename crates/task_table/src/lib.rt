@@ -18,7 +18,7 @@ mod task_set;
 
 pub use entry::KeptEntry;
 pub use kernel::Kernel;
-pub use mem_banks::{Borrower, FLASH, Memory, Near, RAM};
+pub use mem_banks::{Borrower, FLASH, Memory, RAM};
 pub use slot::{Found, Listening, OpenCall, Phase, Range, Slot, Source, Wait};
 pub use start::{LineStart, TaskStart};
 pub use task_set::TaskSet;

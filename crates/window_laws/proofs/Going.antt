@@ -237,6 +237,12 @@ pub record HasGone (x : Scenario) (s : State) (c : ℕ) (v : View) (n : ℕ) (w 
   pub ready : (i : ℕ) → is_ready (state_after Calls x n s) i ≡ is_ready s i
   pub counted : IsCounted s → IsCounted (state_after Calls x n s)
 
+-- the window that n turns leave, and the processor after them
+pub record IsLeft (x : Scenario) (s : State) (c : ℕ) (v : View) (n : ℕ) (w : View) (d : Cpu) : Type 0 where
+  pub keeps : Keeps v w
+  pub window : IsWindow x.setup c (state_after Calls x n s).memory w
+  pub processor : cpu_of (task_at (state_after Calls x n s) c) ≡ d
+
 module _ (x : Scenario) (s : State) (c : ℕ) (v : View) (sane : Sane x.setup s) (is : chosen x.setup s ≡ Some c) (current : s.current ≡ c) (window : IsWindow x.setup c s.memory v) where
   there : c < length s.tasks
   there = (chosen_is s c sane is).inside
@@ -326,3 +332,14 @@ module _ (x : Scenario) (s : State) (c : ℕ) (v : View) (sane : Sane x.setup s)
       silent_at k lt (u, e, g) =
           let before = gone k g.0 g.1 (λ j less. nothing j (omega (arith, lt, less))) g.2 in
           ap (λ (t : Turn). t.notes) (last_turn Calls x k s) ∙ (next_gone k g.0 u g.1 e before (nothing k lt) g.3).notes
+
+  -- the window that they leave, and the processor
+  pub window_then : (n : ℕ) (w : View) (d : Cpu) → ((k : ℕ) → k < n → events_of x.script (s.turn + k) ≡ []) → Glides v (cpu_of (task_at s c)) n w d → IsLeft x s c v n w d
+  unfolding with_task
+  window_then n w d nothing on =
+      let h = gone n w d nothing on in
+      record {
+        keeps = h.keeps;
+        window = subst (λ (y : State). IsWindow x.setup c y.memory w) (sym h.state) (window_again x.setup c s.memory v w window h.keeps);
+        processor = ap (λ (y : State). cpu_of (task_at y c)) h.state ∙ cpu_after s c d (with_bytes s.memory v.ram_base w.ram) n there;
+      }

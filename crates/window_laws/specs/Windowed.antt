@@ -1,17 +1,22 @@
 -- Turns of a task whose instructions stay within a window of its text and its data.
-use Rattle.std.specs.Prelude.{ℕ, ◌≡◌, ◌+◌, ◌<◌, ◌≤◌, true, length, [], Some}
+use Rattle.std.specs.Prelude.{ℕ, ◌≡◌, ◌⊎◌, false, ◌+◌, ◌<◌, ◌≤◌, true, length, [], Some}
+use Rattle.region_check.specs.declared.Region.{Region}
 use Rattle.region_check.specs.declared.Right.TheVariants.{Read, Write, Execute}
 use Rattle.mem_banks.specs.Memory.{Memory, bytes_at, with_bytes}
 use Rattle.mem_banks.specs.Loans.{IsInFlash, IsInRam}
 use Rattle.thumb_exec.specs.declared.cpu.Cpu.{Cpu}
-use Rattle.thumb_window.specs.Windows.{View}
+use Rattle.std.specs.List.{list_any}
+use Rattle.thumb_exec.specs.Effect.{Halts}
+use Rattle.thumb_step.specs.Fetch.{step_effect}
+use Rattle.thumb_window.specs.Windows.{View, refused_by, held_by}
+use Rattle.window_laws.specs.Reached.{is_flash_at, AreReached}
 use Rattle.task_table.specs.State.{Setup, State}
-use Rattle.task_table.specs.Reading.{task_at, chosen, is_ready}
+use Rattle.task_table.specs.Reading.{task_at, setup_at, register, program_counter, chosen, is_ready}
 use Rattle.task_table.specs.Sane.{Sane, IsCounted}
 use Rattle.task_table.specs.Effects.{with_task}
 use Rattle.board_model.specs.declared.told.Level.TheVariants.{Calls}
 use Rattle.board_model.specs.Script.{Scenario}
-use Rattle.board_model.specs.Turn.{may}
+use Rattle.board_model.specs.Turn.{may, cpu_of}
 use Rattle.board_model.specs.Run.{is_down, turn_after, state_after}
 
 -- a window of a task: its text stands in the flash and its data in the RAM, as memory has them, and the task may use
@@ -25,6 +30,26 @@ pub record IsWindow (g : Setup) (c : ℕ) (m : Memory) (v : View) : Type 0 where
   pub in_ram : IsInRam m (v.ram_base, length v.ram)
   pub text : bytes_at m v.text_base (length v.text) ≡ v.text
   pub ram : bytes_at m v.ram_base (length v.ram) ≡ v.ram
+
+-- a window of a task that has all of the region of the flash that has PC, and of that of the RAM that has SP
+pub record IsWholeWindow (g : Setup) (c : ℕ) (m : Memory) (pc sp : ℕ) (v : View) : Type 0 where
+  pub is : IsWindow g c m v
+  pub code : Region
+  pub stack : Region
+  pub reached : AreReached (setup_at g c).regions pc sp code stack
+  pub text : (v.text_base ≡ code.base) × (length v.text ≡ code.size)
+  pub readable : v.readable ≡ code.rights.read
+  pub ram : (v.ram_base ≡ stack.base) × (length v.ram ≡ stack.size)
+
+-- the next instruction of a task calls, faults or reaches beyond a window, of which PC and SP were these when it was opened
+pub record IsAtEnd (g : Setup) (c pc sp : ℕ) (s : State) : Type 0 where
+  pub window : View
+  pub whole : IsWholeWindow g c s.memory pc sp window
+  pub halts : Halts (step_effect (refused_by window) (held_by window) (cpu_of (task_at s c)))
+
+-- that, or the task fetches from no region of the flash
+abbrev pub MustStop : Setup → ℕ → ℕ → ℕ → State → Type 0
+MustStop g c pc sp s = IsAtEnd g c pc sp s ⊎ (list_any (is_flash_at (register s c program_counter)) (setup_at g c).regions ≡ false)
 
 -- n turns later, in which a task's processor and the memory alone changed
 abbrev pub later : State → ℕ → Cpu → Memory → ℕ → State

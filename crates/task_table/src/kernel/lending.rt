@@ -5,17 +5,21 @@ use mem_banks::Borrower;
 use region_check::Region;
 
 impl Kernel {
-    ghost use Rattle.std.specs.Prelude.{◌≡◌, true, false};
+    ghost use Rattle.std.specs.Prelude.{◌≡◌, ℕ, true, false};
     ghost use Rattle.task_table.specs.State.{Setup, Turn};
-    ghost use Rattle.task_table.specs.Holds.{Holds, memory_of, current_of};
+    ghost use Rattle.task_table.specs.Reading.{setup_at};
+    ghost use Rattle.task_table.specs.Holds.{Holds, memory_of, current_of, setup_of};
     ghost use Rattle.task_table.specs.Frames.{AddsNotes};
+    ghost use Rattle.task_table.specs.Lendable.{AreUsable};
     ghost use Rattle.task_table.specs.Lent.{IsLent};
 
-    /// Lends the bytes of a region of code and of one of the RAM, where each has a bank of its own; else
-    /// the answer is false. An entry of a lease table that has one of the bytes in the RAM is kept no
-    /// more, since the borrower may write over it.
+    /// Lends the bytes of a region of code and of one of the RAM, where each has a bank of its own, or of
+    /// one of code alone, where the other is empty and begins where the RAM does; else the answer is false.
+    /// Those of a task that lie so are lent. An entry of a lease table that has one of the bytes in the
+    /// RAM is kept no more, since the borrower may write over it.
     pub fn lend<B: Borrower>(&mut self, text: &Region, ram: &Region, borrower: &mut B) -> bool
         ensures lent { result ≡ true → IsLent B.did self.old text.now ram.now borrower.old borrower.new self.new }
+        ensures given { (task : ℕ) → AreUsable (setup_at (setup_of self.old) task).regions text.now ram.now → result ≡ true }
         ensures memory { result ≡ false → memory_of self.new ≡ memory_of self.old }
         ensures holds { result ≡ false → (g : Setup) (t : Turn) → Holds g self.old t → Holds g self.new t }
         ensures left { result ≡ false → borrower.new ≡ borrower.old }

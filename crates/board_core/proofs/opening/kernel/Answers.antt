@@ -1,4 +1,4 @@
-use Rattle.std.proofs.Common.{◌≡◌, length, sym, subst}
+use Rattle.std.proofs.Common.{◌≡◌, length, sym, ap, subst}
 use Rattle.std.specs.Prelude.{Result, Ok, Err, IfOk}
 use Rattle.image_format.specs.Images.{picture}
 use Rattle.task_table.specs.declared.kernel.Kernel.{Kernel}
@@ -7,8 +7,8 @@ use Rattle.task_table.specs.Start.{start, begun}
 use Rattle.task_table.specs.Parts.{IsSound}
 use Rattle.task_table.specs.Holds.{Stands}
 use Rattle.board_core.specs.Machine.{IsStarted}
-use Rattle.mem_banks.specs.Memory.{AreRegions}
-use Rattle.board_core.proofs.Opens.{parts_are, sound_setup, places_are, few_lines, few_tasks}
+use Rattle.mem_banks.specs.Memory.{Opened, AreRegions}
+use Rattle.board_core.proofs.Opens.{parts_are, sound_setup, places_are, lendable, few_lines, few_tasks}
 use Rattle.board_core.proofs.opening.kernel.Goals as goal
 
 started : {E : Type 0} (g g' : Setup) (r : Result Kernel E) → g ≡ g' → IfOk r (λ k. Stands g k (begun (start g))) → IfOk r (IsStarted g')
@@ -18,8 +18,14 @@ started g g' (Err e) same h = tt
 pub open-requires-clause-regions : goal.open-requires-clause-regions
 open-requires-clause-regions c =
     let p = picture c.args.image.now in
-    let at : AreRegions (length p.flash) p.ram c.deref.result.now = places_are p c.deref.result.now c.facts.ensures.facts (rw (← c.deref.ensures.value) at c.in_ok-places.ensures) in
+    let at : AreRegions (length p.flash) p.ram c.deref.result.now = places_are p c.deref.result.now c.facts.ensures.facts (rw (← c.deref.ensures.value) at c.in_ok-places.ensures.places) in
     rw (← c.flash-flash.ensures, ← c.ram.ensures) at at
+
+pub start-requires-clause-given : goal.start-requires-clause-given
+start-requires-clause-given c =
+    let p = picture c.args.image.now in
+    let given : c.in_ok-memory.memory.regions ≡ c.deref.result.now = ap (λ (o : Opened). o.regions) c.in_ok-memory.ensures.value in
+    rw given (lendable p c.deref.result.now c.deref-2.result.now (rw (← c.deref.ensures.value) at c.in_ok-places.ensures.all) (rw (← c.deref-2.ensures.value) at c.in_ok-tasks.ensures))
 
 pub start-requires-clause-few : goal.start-requires-clause-few
 start-requires-clause-few c =
@@ -34,8 +40,8 @@ start-requires-clause-few_owners c =
 pub returns : goal.returns
 returns c =
     let p = picture c.args.image.now in
-    let memory = rw (c.flash-flash.ensures, c.ram.ensures) at c.in_ok-memory.ensures.value in
+    let memory = ap (λ (o : Opened). o.bytes) (rw (c.flash-flash.ensures, c.ram.ensures) at c.in_ok-memory.ensures.value) in
     let tasks = rw (← c.deref-2.ensures.value) at c.in_ok-tasks.ensures in
     let lines = rw (← c.deref-3.ensures.value) at c.in_ok-lines.ensures in
-    let same = parts_are p c.in_ok-memory.memory c.fault_bits.result c.deref-2.result.now c.deref-3.result.now memory c.fault_bits.ensures tasks lines in
+    let same = parts_are p c.in_ok-memory.memory.bytes c.fault_bits.result c.deref-2.result.now c.deref-3.result.now memory c.fault_bits.ensures tasks lines in
     started _ _ c.start.result same (c.start.ensures.stands (subst IsSound (sym same) (sound_setup p c.facts.ensures.facts (rw c.flash-flash.ensures at c.open.ensures.bytes))))

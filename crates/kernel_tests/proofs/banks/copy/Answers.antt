@@ -1,5 +1,5 @@
 use Rattle.std.proofs.Common.{ℕ, ◌≡◌, ◌+◌, ◌≤◌, ◌∙◌, inr, length, length-take, ap, arith}
-use Rattle.mem_banks.specs.Memory.{Memory, bytes_at, copied}
+use Rattle.mem_banks.specs.Memory.{Memory, Opened, bytes_at, copied}
 use Rattle.mem_banks.proofs.Copies.{bytes_ram}
 use Rattle.task_table.proofs.Steps.{length-with_bytes}
 use Rattle.kernel_tests.proofs.banks.copy.Goals as goal
@@ -12,4 +12,4 @@ length-copied m from to n low high fits =
     length-with_bytes m to (bytes_at m from n) (inr (high, omega arith))
 
 pub returns : goal.returns
-returns c = ap (λ (m : Memory). length m.ram) c.copy.ensures ∙ (length-copied _ _ _ c.args.count (omega arith) (omega arith) (omega (arith, c.requires.size, c.requires.target)) ∙ c.requires.size)
+returns c = ap (λ (m : Opened). length m.bytes.ram) c.copy.ensures ∙ (length-copied _ _ _ c.args.count (omega arith) (omega arith) (omega (arith, c.requires.size, c.requires.target)) ∙ c.requires.size)

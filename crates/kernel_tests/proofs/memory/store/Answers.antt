@@ -1,7 +1,7 @@
 use Rattle.std.proofs.Common.{length, ap, ◌∙◌}
-use Rattle.mem_banks.specs.Memory.{Memory}
+use Rattle.mem_banks.specs.Memory.{Opened}
 use Rattle.task_table.proofs.Steps.{length-with_bytes}
 use Rattle.kernel_tests.proofs.memory.store.Goals as goal
 
 pub returns : goal.returns
-returns c = ap (λ (m : Memory). length m.ram) c.store.ensures ∙ length-with_bytes _ _ _ c.requires
+returns c = ap (λ (m : Opened). length m.bytes.ram) c.store.ensures ∙ length-with_bytes _ _ _ c.requires

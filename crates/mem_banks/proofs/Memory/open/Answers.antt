@@ -1,6 +1,6 @@
-use Rattle.std.proofs.Common.{rules, ◌<◌, get_or, ℕ, Fits, w8, refl}
+use Rattle.std.proofs.Common.{rules, ◌≡◌, ◌<◌, get_or, ℕ, Fits, w8, refl}
 use Rattle.mem_banks.proofs.Copies.{all_bytes}
-use Rattle.mem_banks.proofs.Opens.{kept_zeros, opened}
+use Rattle.mem_banks.proofs.Opens.{kept_zeros, opened_beside}
 use Rattle.mem_banks.proofs.Parting.{zeros_size}
 use Rattle.mem_banks.proofs.Memory.open.Goals as goal
 
@@ -10,7 +10,9 @@ returns-clause-bytes c =
     all_bytes c.args.flash.now small
 
 pub returns-clause-value : goal.returns-clause-value
-returns-clause-value c = opened c.in_ok-banks.banks.items c.args.flash.now c.args.ram _ c.store.new.self c.in_ok-banks.ensures.zeros refl c.store.ensures
+returns-clause-value c =
+    let same : c.in_ok-to_vec.field-0.items ≡ c.args.regions.now = search rules in
+    opened_beside _ c.args.regions.now c.in_ok-banks.banks.items c.args.flash.now c.args.ram _ c.store.new.self c.in_ok-banks.ensures.zeros refl same c.store.ensures
 
 pub invariant_of-memory : goal.invariant_of-memory
 invariant_of-memory c =

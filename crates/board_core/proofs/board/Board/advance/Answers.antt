@@ -1,4 +1,4 @@
-use Rattle.std.proofs.Common.{◌≡◌, ◌+◌, ◌-◌, ℕ, sym, arith, subst}
+use Rattle.std.proofs.Common.{◌≡◌, ◌-◌, ℕ, sym, arith, subst}
 use Rattle.board_model.specs.declared.told.Level.{Level}
 use Rattle.board_core.specs.Stands.{turns_of}
 use Rattle.board_core.specs.Advanced.{IsAdvanced}
@@ -7,17 +7,13 @@ use Rattle.board_core.proofs.board.Board.advance.Goals as goal
 
 pub returns-in-Calls-clause-advanced : goal.returns-in-Calls-clause-advanced
 returns-in-Calls-clause-advanced c = λ x s st.
-    let b = c.turn_at.new.self in
-    let b' = c.glide.new.self in
-    let first : IsAdvanced c.args.level x 0 s b = first_turn c.args.level x s b (c.turn_at.ensures.model x s st) (c.turn_at.ensures.notes x s st) in
-    let L : Level → Type 0 = λ l. IsAdvanced l x 0 s b in
-    let R : Level → Type 0 = λ l. IsAdvanced l x (0 + (turns_of b' - turns_of b)) s b' in
-    let e : 0 + (turns_of b' - turns_of b) ≡ turns_of b' - turns_of c.args.self.now - 1 = omega (arith, c.turn_at.ensures.turns) in
-    subst (λ (k : ℕ). IsAdvanced c.args.level x k s b') e (subst R (sym c.in-Calls.is) (c.glide.ensures.advanced x 0 s (subst L c.in-Calls.is first)))
+    let b = c.go_on.new.self in
+    let n : ℕ = turns_of b - turns_of c.args.self.now - 1 in
+    subst (λ (l : Level). IsAdvanced l x n s b) (sym c.in-Calls.is) (c.go_on.ensures.advanced x s st)
 
 pub returns-in-All-clause-advanced : goal.returns-in-All-clause-advanced
 returns-in-All-clause-advanced c = λ x s st.
     let b = c.turn_at.new.self in
-    let first : IsAdvanced c.args.level x 0 s b = first_turn c.args.level x s b (c.turn_at.ensures.model x s st) (c.turn_at.ensures.notes x s st) in
+    let first : IsAdvanced c.args.level x 0 s b = subst (λ (l : Level). IsAdvanced l x 0 s b) (sym c.in-All.is) (first_turn _ x s b (c.turn_at.ensures.model x s st) (c.turn_at.ensures.notes x s st)) in
     let e : 0 ≡ turns_of b - turns_of c.args.self.now - 1 = omega (arith, c.turn_at.ensures.turns) in
     subst (λ (k : ℕ). IsAdvanced c.args.level x k s b) e first

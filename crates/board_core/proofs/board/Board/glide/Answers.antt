@@ -1,5 +1,5 @@
-use Rattle.board_core.proofs.Stopping.{down_stops}
+use Rattle.board_core.proofs.Gliding.{none_made}
 use Rattle.board_core.proofs.board.Board.glide.Goals as goal
 
-pub returns-then-self-clause-far : goal.returns-then-self-clause-far
-returns-then-self-clause-far c = λ x s st none lt. down_stops x s c.args.self.now st c.if-self.true
+pub returns-then-self-until-clause-glided : goal.returns-then-self-until-clause-glided
+returns-then-self-until-clause-glided c = λ x s st. none_made x s c.args.self.now st

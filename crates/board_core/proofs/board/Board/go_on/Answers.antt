@@ -1,49 +1,52 @@
-use Rattle.std.proofs.Common.{◌≡◌, ◌+◌, ◌-◌, ℕ, ◌∙◌, subst, arith}
+use Rattle.std.proofs.Common.{◌≡◌, ◌-◌, ◌+◌, ℕ, suc, false, [], Option, Some, None, not, sym, ◌∙◌, ap, subst, arith}
+use Rattle.std.specs.Option.{is_some}
+use Rattle.std.proofs.lemmas.Bool.{false≢true}
+use Rattle.task_table.specs.State.{State}
+use Rattle.board_model.specs.declared.told.End.{End}
 use Rattle.board_model.specs.declared.told.Level.TheVariants.{Calls}
-use Rattle.board_core.specs.Stands.{turns_of}
+use Rattle.board_model.specs.Script.{Scenario}
+use Rattle.board_model.specs.Run.{ending, turn_after}
+use Rattle.board_core.specs.Stands.{notes_of, turns_of}
 use Rattle.board_core.specs.Advanced.{IsAdvanced}
+use Rattle.board_core.proofs.Turning.{empty_of}
+use Rattle.board_core.proofs.Gliding.{joined}
 use Rattle.board_core.proofs.board.Board.go_on.Goals as goal
 
-pub returns-then-self-few-clause-advanced : goal.returns-then-self-few-clause-advanced
-returns-then-self-few-clause-advanced c = λ x n s a.
-    let b = c.on.self in
-    let b1 = c.proceed_on.new.self in
-    let m : ℕ = n + (turns_of b - turns_of c.args.self.now) in
-    let from = c.on.invariant.from in
-    let gone = c.proceed_on.ensures.more in
-    let e : m + (turns_of b1 - turns_of b) ≡ n + (turns_of b1 - turns_of c.args.self.now) = omega (arith, from, gone) in
-    subst (λ (k : ℕ). IsAdvanced Calls x k s b1) e (c.proceed_on.ensures.advanced x m s (c.on.invariant.advanced x n s a))
+goes_on : (x : Scenario) (s : State) (r : Option End) → r ≡ ending x 1 s → is_some r ≡ false → ending x 1 s ≡ None
+goes_on x s None is none = sym is
+goes_on x s (Some end) is none = absurd (false≢true (sym none))
 
-pub returns-then-few-until-clause-advanced : goal.returns-then-few-until-clause-advanced
-returns-then-few-until-clause-advanced c = λ x n s a.
-    let b = c.on.self in
-    let b1 = c.proceed_on.new.self in
-    let m : ℕ = n + (turns_of b - turns_of c.args.self.now) in
-    let from = c.on.invariant.from in
-    let gone = c.proceed_on.ensures.more in
-    let e : m + (turns_of b1 - turns_of b) ≡ n + (turns_of b1 - turns_of c.args.self.now) = omega (arith, from, gone) in
-    subst (λ (k : ℕ). IsAdvanced Calls x k s b1) e (c.proceed_on.ensures.advanced x m s (c.on.invariant.advanced x n s a))
+pub ended-requires : goal.ended-requires
+ended-requires c =
+    let x : Scenario = c.requires.stood.0 in
+    let s : State = c.requires.stood.1 in
+    (x, (turn_after Calls x (turns_of c.on.self - turns_of c.args.self.now - 1) s).state, (c.on.invariant.advanced x s c.requires.stood.2).stands)
+
+pub glide_and_turn-requires-in-on-clause-stood : goal.glide_and_turn-requires-in-on-clause-stood
+glide_and_turn-requires-in-on-clause-stood c =
+    let x : Scenario = c.requires.stood.0 in
+    let s : State = c.requires.stood.1 in
+    (x, (turn_after Calls x (turns_of c.on.self - turns_of c.args.self.now - 1) s).state, (c.on.invariant.advanced x s c.requires.stood.2).stands)
 
 pub on-preserved : goal.on-preserved
 on-preserved c =
     let inv = c.on.invariant in
-    let b = c.on.self in
-    let b1 = c.proceed_on.new.self in
-    let b2 = c.glide_within.new.self in
-    let from = inv.from in
-    let gone = c.proceed_on.ensures.more in
-    let more = c.glide_within.ensures.more in
+    let b = c.args.self.now in
+    let b1 = c.on.self in
+    let b2 = c.glide_and_turn-in-on.new.self in
+    let none : notes_of b1 ≡ [] = sym c.notes.ensures ∙ empty_of c.notes.result.now (sym c.is_empty.ensures ∙ c.if-is_empty.true) in
+    let from = inv.more in
+    let more = c.glide_and_turn-in-on.ensures.more in
+    let n : ℕ = turns_of b1 - turns_of b - 1 in
+    let m : ℕ = turns_of b2 - turns_of b1 - 1 in
+    let e : n + suc m ≡ turns_of b2 - turns_of b - 1 = omega (arith, from, more) in
     record {
-      advanced = λ x n s a.
-          let m : ℕ = n + (turns_of b - turns_of c.args.self.now) in
-          let m1 : ℕ = m + (turns_of b1 - turns_of b) in
-          let e : m1 + (turns_of b2 - turns_of b1) ≡ n + (turns_of b2 - turns_of c.args.self.now) = omega (arith, from, gone, more) in
-          subst (λ (k : ℕ). IsAdvanced Calls x k s b2) e (c.glide_within.ensures.advanced x m1 s (c.proceed_on.ensures.advanced x m s (inv.advanced x n s a)));
-      stood = c.glide_within.ensures.stood;
-      nothing = c.glide_within.ensures.nothing;
-      text = c.glide_within.ensures.text;
-      from = omega (arith, from, gone, more);
-      within = c.glide_within.ensures.within;
-      due = c.glide_within.ensures.due ∙ c.proceed_on.ensures.due ∙ inv.due;
-      kept = c.glide_within.ensures.kept ∙ c.proceed_on.ensures.kept ∙ inv.kept;
+      advanced = λ x s st.
+          let before = inv.advanced x s st in
+          let u : State = (turn_after Calls x n s).state in
+          let goes : ending x 1 u ≡ None = goes_on x u c.ended.result (c.ended.ensures.before x u 1 before.stands (omega arith)) (c.is_none.ensures ∙ ap not c.if-is_none.true) in
+          subst (λ (k : ℕ). IsAdvanced Calls x k s b2) e (joined x n m s b1 b2 before none goes (c.glide_and_turn-in-on.ensures.advanced x u before.stands));
+      more = omega (arith, from, more);
+      within = c.glide_and_turn-in-on.ensures.within;
+      noted = c.glide_and_turn-in-on.ensures.noted;
     }

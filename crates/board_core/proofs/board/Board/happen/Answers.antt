@@ -26,7 +26,7 @@ pub returns-clause-midway : goal.returns-clause-midway
 returns-clause-midway c = λ x s due.
     let g = x.setup in
     let b = c.args.self.now in
-    let m : Machine = record { reach = c.save_context.new.self.reach; processor = c.save_context.new.self.processor; loaded = c.save_context.new.self.loaded } in
+    let m : Machine = c.save_context.new.self in
     let S : ScriptData → Type 0 = λ script. MachineStands g c.happen_all.new.self (fold (happened g) (begun s) (events_of script b.turns)) in
     let T : ℕ → Type 0 = λ turn. MachineStands g c.happen_all.new.self (fold (happened g) (begun s) (events_of x.script turn)) in
     let A : Turn → Type 0 = λ t. MachineStands g c.happen_all.new.self t in

@@ -1,19 +1,43 @@
-use Rattle.std.proofs.Common.{◌≡◌, ℕ, inl, refl, sym, ◌∙◌, subst, arith}
+use Rattle.std.proofs.Common.{◌≡◌, true, ℕ, inl, inr, refl, sym, ◌∙◌, ap, subst, arith}
+use Rattle.std.proofs.lemmas.Bool.{false≢true}
+use Rattle.std.specs.List.{list_any}
 use Rattle.mem_banks.specs.Memory.{Memory, with_bytes}
 use Rattle.mem_banks.specs.Loans.{bytes_of}
 use Rattle.thumb_exec.specs.declared.cpu.Cpu.{Cpu}
 use Rattle.thumb_window.specs.Windows.{View, Glides}
 use Rattle.task_table.specs.State.{Setup}
-use Rattle.task_table.specs.Reading.{setup_at, task_at}
+use Rattle.task_table.specs.Reading.{setup_at, task_at, register, stack_pointer, program_counter}
 use Rattle.task_table.specs.Holds.{current_of, memory_of}
 use Rattle.board_model.specs.Turn.{cpu_of}
-use Rattle.window_laws.specs.Windowed.{IsWindow, later}
+use Rattle.window_laws.specs.Reached.{is_flash_at, AreReached}
+use Rattle.window_laws.specs.Windowed.{IsWholeWindow, later}
 use Rattle.board_core.specs.Machine.{IsLoaded}
-use Rattle.board_core.specs.Gliding.{lent_view, AreWindow}
-use Rattle.board_core.proofs.Loading.{rest_of, loaded_cpu, loaded_by}
+use Rattle.board_core.specs.Gliding.{lent_view}
+use Rattle.board_core.proofs.Loading.{rest_of, loaded_cpu, loaded_by, loaded_register}
 use Rattle.board_core.proofs.Gliding.{current_seen}
-use Rattle.board_core.proofs.Windowing.{window_of, text_below, lent_loaded}
+use Rattle.board_core.proofs.Windowing.{are_usable, whole_window, text_below, lent_loaded}
 use Rattle.board_core.proofs.machine.Machine.glide.Goals as goal
+
+pub returns-in_default-clause-glided : goal.returns-in_default-clause-glided
+returns-in_default-clause-glided c = λ g t r.
+    let m = c.args.self.now in
+    let k = m.reach.kernel in
+    let pc : c.get-pc.result ≡ register t.state t.state.current program_counter = c.get-pc.ensures ∙ loaded_register program_counter g k m.processor t r.holds r.sane.steady.current in
+    inr record {
+      none = refl;
+      beyond =
+          ap (λ (at : ℕ). list_any (is_flash_at at) (setup_at g t.state.current).regions) (sym pc)
+          ∙ ap (λ (i : ℕ). list_any (is_flash_at c.get-pc.result) (setup_at g i).regions) (sym (current_seen g m t r))
+          ∙ ap (λ (x : Setup). list_any (is_flash_at c.get-pc.result) (setup_at x (current_of k)).regions) (sym r.holds.holds.setup)
+          ∙ c.in_default.ensures;
+      holds = loaded_by m.loaded g k m.processor t r.loaded r.holds;
+    }
+
+pub returns-then-not-lend-clause-glided : goal.returns-then-not-lend-clause-glided
+returns-then-not-lend-clause-glided c = λ g t r.
+    let k = c.args.self.now.reach.kernel in
+    let lent : c.lend.result ≡ true = c.lend.ensures.given (current_of k) (are_usable _ _ _ _ _ c.in-Some.ensures) in
+    absurd (false≢true (sym c.if-not-lend.true ∙ lent))
 
 pub returns-clause-glided : goal.returns-clause-glided
 returns-clause-glided c = λ g t r.
@@ -25,22 +49,29 @@ returns-clause-glided c = λ g t r.
     let loan = lent.loan in
     let a = c.aim.new.self in
     let b = c.lend.new.borrower in
-    let text = c.in-Some.text in
+    let flash = c.in-Some.flash in
     let ram = c.in-Some.ram in
-    let v : View = lent_view a (bytes_of (memory_of k) (text.base, text.size)) (bytes_of (memory_of k) (ram.base, ram.size)) in
+    let pc : ℕ = c.get-pc.result in
+    let sp : ℕ = c.get-sp.result in
+    let v : View = lent_view a (bytes_of (memory_of k) (flash.base, flash.size)) (bytes_of (memory_of k) (ram.base, ram.size)) in
+    let w : View = lent_view a (bytes_of (memory_of k) (flash.base, flash.size)) loan.after in
     let memory : memory_of k ≡ t.state.memory = h.holds.memory ∙ sym rest.memory in
-    let A : Setup → Type 0 = λ x. AreWindow (setup_at x (current_of k)).regions text ram in
-    let C : ℕ → Type 0 = λ i. AreWindow (setup_at g i).regions text ram in
+    let A : Setup → Type 0 = λ x. AreReached (setup_at x (current_of k)).regions pc sp flash ram in
+    let C : ℕ → Type 0 = λ i. AreReached (setup_at g i).regions pc sp flash ram in
     let are = subst C (current_seen g m t r) (subst A h.holds.setup c.in-Some.ensures) in
-    let W : Memory → Type 0 = λ y. IsWindow g t.state.current y v in
+    let stack : sp ≡ register t.state t.state.current stack_pointer = c.get-sp.ensures ∙ loaded_register stack_pointer g k m.processor t h r.sane.steady.current in
+    let there : pc ≡ register t.state t.state.current program_counter = c.get-pc.ensures ∙ loaded_register program_counter g k m.processor t h r.sane.steady.current in
+    let W : Memory → Type 0 = λ y. IsWholeWindow g t.state.current y pc sp v in
+    let P : ℕ → Type 0 = λ at. IsWholeWindow g t.state.current t.state.memory at sp v in
+    let S : ℕ → Type 0 = λ at. IsWholeWindow g t.state.current t.state.memory (register t.state t.state.current program_counter) at v in
     let own : m.processor ≡ cpu_of (task_at t.state t.state.current) = loaded_cpu g k m.processor t h r.sane.steady.current in
-    let G : Cpu → Type 0 = λ y. Glides v y b.made (lent_view a (bytes_of (memory_of k) (text.base, text.size)) loan.after) b.runner.processor in
+    let G : Cpu → Type 0 = λ y. Glides v y b.made w b.runner.processor in
     let H : ℕ → Type 0 = λ at. IsLoaded g c.lend.new.self b.runner.processor record t { state = later t.state t.state.current b.runner.processor (with_bytes t.state.memory at loan.after) b.made } in
     inl record {
       window = v;
-      after = lent_view a (bytes_of (memory_of k) (text.base, text.size)) loan.after;
-      is = subst W memory (window_of g t.state.current (memory_of k) text ram v are c.aim.ensures.text c.aim.ensures.readable c.aim.ensures.ram loan.text_there loan.ram_there refl refl);
-      far = λ lt. loan.work.far (text_below g t.state.current (memory_of k) text ram v are c.aim.ensures.text c.aim.ensures.readable c.aim.ensures.ram loan.text_there loan.ram_there refl refl) (let most = c.aim.ensures.most in omega (arith, lt, most));
+      after = w;
+      whole = subst S stack (subst P there (subst W memory (whole_window g t.state.current (memory_of k) pc sp flash ram v are c.aim.ensures.text c.aim.ensures.readable c.aim.ensures.ram loan.text_there loan.ram_there refl refl)));
+      far = λ lt. loan.work.far (text_below g t.state.current (memory_of k) pc sp flash ram v are c.aim.ensures.text c.aim.ensures.readable c.aim.ensures.ram loan.text_there loan.ram_there refl refl) (let most = c.aim.ensures.most in omega (arith, lt, most));
       glides = subst G (c.aim.ensures.processor ∙ own) loan.work.glides;
       holds = loaded_by m.loaded g c.lend.new.self b.runner.processor _ r.loaded (subst H (sym c.aim.ensures.ram) (lent_loaded g k c.lend.new.self m.processor b.runner.processor t ram.base loan.after b.made h r.sane.steady.current (λ u held. lent.holds g u held)));
     }

@@ -14,7 +14,7 @@ fetch-requires c =
     let g = c.requires.ready.0 in
     let t = c.requires.ready.1 in
     let r = c.requires.ready.2 in
-    even_pc g c.args.self.now t r c.get-at.result (c.get-at.ensures ∙ loaded_register g _ _ t r.holds r.sane.steady.current)
+    even_pc g c.args.self.now t r c.get-at.result (c.get-at.ensures ∙ loaded_register 15 g _ _ t r.holds r.sane.steady.current)
 
 pub execute-requires-clause-ready : goal.execute-requires-clause-ready
 execute-requires-clause-ready c =
@@ -25,7 +25,7 @@ execute-requires-clause-ready c =
 
 pub returns-in-Ok-clause-holds : goal.returns-in-Ok-clause-holds
 returns-in-Ok-clause-holds c = λ g t r.
-    let at = c.get-at.ensures ∙ loaded_register g _ _ t r.holds r.sane.steady.current in
+    let at = c.get-at.ensures ∙ loaded_register 15 g _ _ t r.holds r.sane.steady.current in
     let n = note.Insn t.state.current c.get-at.result c.in-Ok.fetched.code in
     let u = told c.args.level n t in
     let P : ℕ → Type 0 = λ i. MachineHolds g c.execute.new.self (executed g i c.in-Ok.fetched.insn u) in
@@ -34,6 +34,6 @@ returns-in-Ok-clause-holds c = λ g t r.
 
 pub returns-in-Err-clause-holds : goal.returns-in-Err-clause-holds
 returns-in-Err-clause-holds c = λ g t r.
-    let at = c.get-at.ensures ∙ loaded_register g _ _ t r.holds r.sane.steady.current in
+    let at = c.get-at.ensures ∙ loaded_register 15 g _ _ t r.holds r.sane.steady.current in
     let H : Turn → Type 0 = λ v. MachineHolds g c.fault.new.self v in
     subst H (fetched_stepped g c.args.self.now t r c.args.level c.get-at.result c.fetch.result _ at (omega arith) c.fetch.ensures.is c.in-Err.is) (c.fault.ensures.holds g t r)

@@ -14,7 +14,7 @@ overflow_cast-task c = let few = c.args.self.now.reach.kernel.few in omega (arit
 
 pub returns-in-All-clause-ready : goal.returns-in-All-clause-ready
 returns-in-All-clause-ready c = λ g t r.
-    let m : Machine = record { reach = record c.args.self.now.reach { kernel = c.note.new.self }; processor = c.args.self.now.processor; loaded = c.args.self.now.loaded } in
+    let m : Machine = record c.args.self.now { reach = record c.args.self.now.reach { kernel = c.note.new.self } } in
     let h = r.holds in
     let rest = rest_of h.saved t _ h.is in
     let task = c.current-task.ensures.holds g h.saved h.holds ∙ sym rest.current in

@@ -67,5 +67,5 @@ returns-in-Some-clause-turned c = λ g t n.
     let task = c.in-Some.task in
     let is = chosen_is t.state task n.stands.sane (sym n.is ∙ c.in-Some.is) in
     let loaded = c.load_context.ensures.holds g t n.stands.holds is.ready in
-    let at : c.get-at.result ≡ register t.state task 15 = c.get-at.ensures ∙ loaded_register g _ _ (with_current task t) loaded is.inside ∙ register_current t task in
+    let at : c.get-at.result ≡ register t.state task 15 = c.get-at.ensures ∙ loaded_register 15 g _ _ (with_current task t) loaded is.inside ∙ register_current t task in
     ap (Ran task) at ∙ ap (turned_of t.state) (sym c.in-Some.is)

@@ -1,6 +1,8 @@
-use Rattle.std.proofs.Common.{◌≡◌, ◌+◌, ◌*◌, ◌%◌, ◌^◌, ℕ, None, arith, sym, subst}
+use Rattle.std.proofs.Common.{◌≡◌, ◌+◌, ◌*◌, ◌%◌, ◌^◌, ℕ, List, true, None, arith, sym, ◌∙◌, subst}
+use Rattle.region_check.specs.declared.Region.{Region}
 use Rattle.task_table.specs.Holds.{setup_of, current_of}
 use Rattle.board_model.specs.Turn.{refusals}
+use Rattle.board_core.specs.Spans.{one_gives}
 use Rattle.board_core.proofs.Spanning.{given_none}
 use Rattle.board_core.proofs.reach.ReachBus.gives.Goals as goal
 
@@ -9,4 +11,6 @@ returns c = λ yes k lt.
     let a = c.args.addr in
     let near : (a + 4 * k) % 2 ^ 32 ≡ a + 4 * k = omega (arith, lt) in
     let P : ℕ → Type 0 = λ x. refusals (setup_of c.args.self.now.kernel) (current_of c.args.self.now.kernel) x 4 c.args.right ≡ None in
-    subst P (sym near) (given_none _ c.args.right a (4 * c.args.count) (a + 4 * k) 4 (c.region_gives.ensures yes) (omega arith) (omega (arith, lt)))
+    let Q : List Region → Type 0 = λ rs. one_gives c.args.right a (4 * c.args.count) rs ≡ true in
+    let one = subst Q c.regions-regions.ensures.value (sym c.one_gives.ensures ∙ yes) in
+    subst P (sym near) (given_none _ c.args.right a (4 * c.args.count) (a + 4 * k) 4 one (omega arith) (omega (arith, lt)))

@@ -11,10 +11,10 @@ invariant_of-self-clause-fresh c =
     let k = c.args.self.now in
     let watch = c.drop_met-self.result in
     let new = c.drop_met-self.new.entries in
-    let was : AreFresh k.memory k.watch.low k.watch.span c.deref_mut.result.now = rw c.deref_mut.ensures.value k.fresh in
-    let next : AreFresh k.memory watch.low watch.span new = fresh_left k.memory k.watch.low k.watch.span watch.low watch.span c.deref_mut.result.now new c.args.addr c.args.count was c.drop_met-self.ensures in
+    let was : AreFresh k.memory.bytes k.watch.low k.watch.span c.deref_mut.result.now = rw c.deref_mut.ensures.value k.fresh in
+    let next : AreFresh k.memory.bytes watch.low watch.span new = fresh_left k.memory.bytes k.watch.low k.watch.span watch.low watch.span c.deref_mut.result.now new c.args.addr c.args.count was c.drop_met-self.ensures in
     let count : length new ≡ k.entries.len = omega (arith, c.drop_met-self.ensures.count, c.deref_mut.ensures.len) in
-    subst (λ (xs : List (Option KeptEntry)). AreFresh k.memory watch.low watch.span xs) (sym (front k.entries.len new _ count)) next
+    subst (λ (xs : List (Option KeptEntry)). AreFresh k.memory.bytes watch.low watch.span xs) (sym (front k.entries.len new _ count)) next
 
 pub invariant_of-self-clause-of_calls : goal.invariant_of-self-clause-of_calls
 invariant_of-self-clause-of_calls c =

@@ -9,12 +9,12 @@ use Rattle.task_table.proofs.kernel.Kernel.hand_over.Goals as goal
 pub copy-requires-clause-source : goal.copy-requires-clause-source
 copy-requires-clause-source c =
     let message = c.args.call.now.message in
-    rw c.min-copied.ensures (within-front c.args.self.now.memory message.base _ message.length (min-le_left message.length c.args.buffer.length) c.requires.source)
+    rw c.min-copied.ensures (within-front c.args.self.now.memory.bytes message.base _ message.length (min-le_left message.length c.args.buffer.length) c.requires.source)
 
 pub copy-requires-clause-target : goal.copy-requires-clause-target
 copy-requires-clause-target c =
     let buffer = c.args.buffer in
-    rw c.min-copied.ensures (within_ram-front c.args.self.now.memory buffer.base buffer.length _ c.requires.target (min-le_right c.args.call.now.message.length buffer.length))
+    rw c.min-copied.ensures (within_ram-front c.args.self.now.memory.bytes buffer.base buffer.length _ c.requires.target (min-le_right c.args.call.now.message.length buffer.length))
 
 pub returns-clause-holds : goal.returns-clause-holds
 unfolding handed

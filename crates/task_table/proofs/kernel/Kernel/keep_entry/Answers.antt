@@ -24,8 +24,8 @@ invariant_of-self-clause-fresh c =
     let read = c.requires.read.2 in
     let watch = c.with-self.result in
     let there : c.args.task < length k.entries.items = omega (arith, c.requires.there, k.of_calls.count) in
-    let is : entry_at k.memory x.base ≡ x.entry = rw read.lent.stands.holds.memory read.is in
-    fresh_set k.memory k.watch.low k.watch.span watch.low watch.span k.entries.items c.args.task x there k.fresh is c.with-self.ensures.new c.with-self.ensures.old
+    let is : entry_at k.memory.bytes x.base ≡ x.entry = rw read.lent.stands.holds.memory read.is in
+    fresh_set k.memory.bytes k.watch.low k.watch.span watch.low watch.span k.entries.items c.args.task x there k.fresh is c.with-self.ensures.new c.with-self.ensures.old
 
 pub invariant_of-self-clause-of_calls : goal.invariant_of-self-clause-of_calls
 unfolding bad_byte

@@ -1,7 +1,10 @@
-use Rattle.std.proofs.Common.{◌∙◌}
+use Rattle.std.proofs.Common.{◌∙◌, ap, sym, subst, map}
+use Rattle.mem_banks.specs.Memory.{Opened}
 use Rattle.task_table.specs.Holds.{kept_of, setup_of, memory_of}
-use Rattle.task_table.specs.Lent.{span_of}
-use Rattle.task_table.proofs.Loans.{holds_overlaid, loan_of, lent_or_not, setup_lent, fresh_lent}
+use Rattle.task_table.specs.Lendable.{span_of, AreUsable}
+use Rattle.task_table.specs.Parts.{task_setup}
+use Rattle.task_table.specs.Reading.{setup_at}
+use Rattle.task_table.proofs.Loans.{holds_overlaid, loan_of, lent_or_not, setup_lent, fresh_lent, usable_given, lendable_same, answered}
 use Rattle.task_table.proofs.kernel.Kernel.lend.Goals as goal
 
 pub returns-clause-lent : goal.returns-clause-lent
@@ -9,10 +12,10 @@ returns-clause-lent g c = λ yes.
     let a = c.args in
     let k = c.touched.new.self in
     let loan = c.lend.ensures.lent yes in
-    let over = lent_or_not g.B.Borrower.did c.lend.result k.memory (span_of a.text.now) (span_of a.ram.now) a.borrower.now c.lend.new.borrower c.lend.new.self c.lend.ensures.lent c.lend.ensures.kept in
-    let same = setup_lent (λ flash ram. record (setup_of k) { flash = flash; ram = ram }) k.memory c.lend.new.self (span_of a.ram.now) over in
+    let over = lent_or_not g.B.Borrower.did c.lend.result k.memory.bytes (span_of a.text.now) (span_of a.ram.now) a.borrower.now c.lend.new.borrower c.lend.new.self.bytes c.lend.ensures.lent (λ refused. ap (λ (m : Opened). m.bytes) (c.lend.ensures.kept refused)) in
+    let same = setup_lent (λ flash ram. record (setup_of k) { flash = flash; ram = ram }) k.memory.bytes c.lend.new.self.bytes (span_of a.ram.now) over in
     record {
-      loan = loan_of g.B.Borrower.did (memory_of a.self.now) k.memory (span_of a.text.now) (span_of a.ram.now) a.borrower.now c.lend.new.borrower c.lend.new.self c.touched.ensures.memory loan;
+      loan = loan_of g.B.Borrower.did (memory_of a.self.now) k.memory.bytes (span_of a.text.now) (span_of a.ram.now) a.borrower.now c.lend.new.borrower c.lend.new.self.bytes c.touched.ensures.memory loan;
       holds = λ s t h. holds_overlaid s (kept_of k) t a.ram.now.base loan.after _ _ (c.touched.ensures.holds s t h) same loan.left;
     }
 
@@ -20,16 +23,28 @@ pub returns-clause-frame : goal.returns-clause-frame
 returns-clause-frame g c =
     let a = c.args in
     let k = c.touched.new.self in
-    let over = lent_or_not g.B.Borrower.did c.lend.result k.memory (span_of a.text.now) (span_of a.ram.now) a.borrower.now c.lend.new.borrower c.lend.new.self c.lend.ensures.lent c.lend.ensures.kept in
+    let over = lent_or_not g.B.Borrower.did c.lend.result k.memory.bytes (span_of a.text.now) (span_of a.ram.now) a.borrower.now c.lend.new.borrower c.lend.new.self.bytes c.lend.ensures.lent (λ refused. ap (λ (m : Opened). m.bytes) (c.lend.ensures.kept refused)) in
     record {
       notes = c.touched.ensures.frame.notes;
       tasks = c.touched.ensures.frame.tasks;
-      setup = setup_lent (λ flash ram. record (setup_of k) { flash = flash; ram = ram }) k.memory c.lend.new.self (span_of a.ram.now) over ∙ c.touched.ensures.frame.setup;
+      setup = setup_lent (λ flash ram. record (setup_of k) { flash = flash; ram = ram }) k.memory.bytes c.lend.new.self.bytes (span_of a.ram.now) over ∙ c.touched.ensures.frame.setup;
     }
 
 pub invariant_of-self-clause-fresh : goal.invariant_of-self-clause-fresh
 invariant_of-self-clause-fresh g c =
     let a = c.args in
     let k = c.touched.new.self in
-    let over = lent_or_not g.B.Borrower.did c.lend.result k.memory (span_of a.text.now) (span_of a.ram.now) a.borrower.now c.lend.new.borrower c.lend.new.self c.lend.ensures.lent c.lend.ensures.kept in
-    fresh_lent k.memory c.lend.new.self (span_of a.ram.now) k.watch.low k.watch.span k.entries.items k.fresh c.touched.ensures.apart over
+    let over = lent_or_not g.B.Borrower.did c.lend.result k.memory.bytes (span_of a.text.now) (span_of a.ram.now) a.borrower.now c.lend.new.borrower c.lend.new.self.bytes c.lend.ensures.lent (λ refused. ap (λ (m : Opened). m.bytes) (c.lend.ensures.kept refused)) in
+    fresh_lent k.memory.bytes c.lend.new.self.bytes (span_of a.ram.now) k.watch.low k.watch.span k.entries.items k.fresh c.touched.ensures.apart over
+
+pub returns-clause-given : goal.returns-clause-given
+returns-clause-given g c = λ task usable.
+    let a = c.args in
+    let k = c.touched.new.self in
+    let here : AreUsable (setup_at (setup_of k) task).regions a.text.now a.ram.now = subst (λ s. AreUsable (setup_at s task).regions a.text.now a.ram.now) (sym c.touched.ensures.frame.setup) usable in
+    answered c.lend.result k.lendable (λ lendable. c.lend.ensures.given (usable_given (setup_of k) k.memory.regions task a.text.now a.ram.now lendable here))
+
+pub invariant_of-self-clause-lendable : goal.invariant_of-self-clause-lendable
+invariant_of-self-clause-lendable g c =
+    let k = c.touched.new.self in
+    lendable_same k.memory.regions c.lend.new.self.regions (map task_setup k.tasks.items) c.lend.ensures.regions k.lendable

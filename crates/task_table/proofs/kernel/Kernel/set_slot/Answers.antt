@@ -52,7 +52,7 @@ pub invariant_of-self-clause-fresh : goal.invariant_of-self-clause-fresh
 invariant_of-self-clause-fresh c =
     let k = c.args.self.now in
     let there : c.args.task < length k.entries.items = omega (arith, c.requires, k.of_calls.count) in
-    fresh_cleared k.memory k.watch.low k.watch.span k.entries.items c.args.task there k.fresh
+    fresh_cleared k.memory.bytes k.watch.low k.watch.span k.entries.items c.args.task there k.fresh
 
 pub invariant_of-self-clause-of_calls : goal.invariant_of-self-clause-of_calls
 invariant_of-self-clause-of_calls c =

@@ -11,7 +11,7 @@ use Rattle.task_table.proofs.kernel.Kernel.start.Goals as goal
 
 pub returns-clause-holds : goal.returns-clause-holds
 returns-clause-holds c =
-    let m = c.args.memory in
+    let m = c.args.memory.bytes in
     let g = setup_of_parts m c.args.fault_bits c.args.tasks.now c.args.lines.now in
     let with : List TaskSetup → List LineSetup → Setup = λ ts ls. record g { tasks = ts; lines = ls } in
     let tasks : map task_setup c.in_ok-copies.copies.items ≡ map task_setup c.args.tasks.now = c.in_ok-copies.ensures.setup in
@@ -21,7 +21,7 @@ returns-clause-holds c =
 
 pub returns-clause-stands : goal.returns-clause-stands
 returns-clause-stands c = λ sound.
-    let m = c.args.memory in
+    let m = c.args.memory.bytes in
     let g = setup_of_parts m c.args.fault_bits c.args.tasks.now c.args.lines.now in
     let with : List TaskSetup → List LineSetup → Setup = λ ts ls. record g { tasks = ts; lines = ls } in
     let tasks : map task_setup c.in_ok-copies.copies.items ≡ map task_setup c.args.tasks.now = c.in_ok-copies.ensures.setup in
@@ -37,3 +37,6 @@ invariant_of-result-clause-offered_now c =
 pub invariant_of-result-clause-deadlines : goal.invariant_of-result-clause-deadlines
 invariant_of-result-clause-deadlines c =
     not_before-unset _ (λ x. packed_task (born (task_setup x)) Nothing) c.args.tasks.now c.in_ok-slots.slots.items c.in_ok-slots.ensures (λ x. refl)
+
+pub invariant_of-result-clause-lendable : goal.invariant_of-result-clause-lendable
+invariant_of-result-clause-lendable c = ∣ rw c.in_ok-copies.ensures.setup c.requires.given ∣₁

@@ -1,0 +1,87 @@
+use Rattle.std.proofs.Common.{◌≡◌, ◌≢◌, ◌⊎◌, inl, inr, ◌-◌, ◌≤◌, ◌<◌, ℕ, Bool, true, false, refl, leb, ltb, [], suc, arith, ap, subst}
+use Rattle.std.proofs.lemmas.Bool.{leb-true, leb-false, ltb-true, ltb-false}
+use Rattle.run_script.specs.Scripts.{events_of}
+use Rattle.task_table.specs.State.{State}
+use Rattle.board_model.specs.declared.told.Level.TheVariants.{Calls}
+use Rattle.board_model.specs.Run.{state_after}
+use Rattle.board_core.specs.declared.board.Board.{Board}
+use Rattle.board_core.specs.Stands.{turns_of}
+use Rattle.board_core.specs.Advanced.{IsAdvanced, HasGlidden, IsFar, NeedsTurn}
+use Rattle.board_core.proofs.Gliding.{one_more, all_made}
+use Rattle.board_core.proofs.Skipping.{lasts_from, due_now}
+use Rattle.board_core.proofs.board.Board.glide_and_turn.Goals as goal
+
+pub turn_at-requires-clause-stood : goal.turn_at-requires-clause-stood
+turn_at-requires-clause-stood c =
+    let x = c.requires.stood.0 in
+    let s = c.requires.stood.1 in
+    (x, state_after Calls x (turns_of c.glide.new.self - turns_of c.args.self.now) s, (c.glide.ensures.glided x s c.requires.stood.2).stands)
+
+pub returns-then-self-limit-clause-advanced : goal.returns-then-self-limit-clause-advanced
+returns-then-self-limit-clause-advanced c = λ x s st.
+    let b = c.args.self.now in
+    let b1 = c.glide.new.self in
+    let b2 = c.turn_at.new.self in
+    let e : turns_of b1 - turns_of b ≡ turns_of b2 - turns_of b - 1 = omega (arith, c.glide.ensures.more, c.turn_at.ensures.turns) in
+    subst (λ (n : ℕ). IsAdvanced Calls x n s b2) e (one_more x (turns_of b1 - turns_of b) s b1 b2 (c.glide.ensures.glided x s st) (λ u h. c.turn_at.ensures.model x u h) (λ u h. c.turn_at.ensures.notes x u h))
+
+pub returns-else-self-limit-clause-advanced : goal.returns-else-self-limit-clause-advanced
+returns-else-self-limit-clause-advanced c = λ x s st.
+    let b = c.args.self.now in
+    let b1 = c.glide.new.self in
+    let n : ℕ = turns_of b1 - turns_of b - 1 in
+    let e : turns_of b1 - turns_of b ≡ suc n = omega (arith, c.if-self-limit.false, c.requires.left) in
+    all_made x n s b1 (subst (λ (k : ℕ). HasGlidden x s k b1) e (c.glide.ensures.glided x s st))
+
+-- turns that stop at a place below the limit, or stay past it
+below_limit : (until from to limit : ℕ) → (from ≤ until → to ≤ until) → (until ≤ from → to ≡ from) → until ≤ limit → from < limit → to ≤ limit
+below_limit until from to limit within stays less left = by (leb from until) refl
+  where
+    by : (b : Bool) → leb from until ≡ b → to ≤ limit
+    by true e = let h = within (leb-true from until e) in omega (arith, h, less)
+    by false e = let h = stays (let gt = leb-false from until e in omega (arith, gt)) in omega (arith, h, left)
+
+pub returns-else-self-limit-clause-within : goal.returns-else-self-limit-clause-within
+returns-else-self-limit-clause-within c =
+    below_limit c.quiet_until.result (turns_of c.args.self.now) (turns_of c.glide.new.self) c.args.limit c.glide.ensures.within (λ h. ap (λ (b : Board). turns_of b) (c.glide.ensures.stays h)) c.quiet_until.ensures.within c.requires.left
+
+pub returns-else-self-limit-clause-noted : goal.returns-else-self-limit-clause-noted
+returns-else-self-limit-clause-noted c =
+    let made = c.glide.ensures.glided c.requires.stood.0 c.requires.stood.1 c.requires.stood.2 in
+    rw (made.notes (omega (arith, c.if-self-limit.false, c.requires.left))) (omega arith)
+
+-- the fast way stops before a turn, or has come to it
+either_way : (to until : ℕ) (P Q : Type 0) → (to < until → P) → (until ≤ to → Q) → Q ⊎ P
+either_way to until P Q before there = by (ltb to until) refl
+  where
+    by : (b : Bool) → ltb to until ≡ b → Q ⊎ P
+    by true e = inr (before (ltb-true to until e))
+    by false e = inl (there (ltb-false to until e))
+
+pub returns-then-self-limit-clause-needed : goal.returns-then-self-limit-clause-needed
+returns-then-self-limit-clause-needed c = λ x s st task loaded up lt.
+    let b = c.args.self.now in
+    let b1 = c.glide.new.self in
+    let b2 = c.turn_at.new.self in
+    let until : ℕ = c.quiet_until.result in
+    let n : ℕ = turns_of b1 - turns_of b in
+    let u : State = state_after Calls x n s in
+    let e : n ≡ turns_of b2 - turns_of b - 1 = omega (arith, c.glide.ensures.more, c.turn_at.ensures.turns) in
+    let made = c.glide.ensures.glided x s st in
+    subst (λ (k : ℕ). NeedsTurn x s (state_after Calls x k s)) e
+    (either_way (turns_of b1) until (IsFar x s u) (events_of x.script u.turn ≢ []) (λ less. c.glide.ensures.far x s st task loaded up less)
+    (λ over. due_now x s u b.due (turns_of b) (turns_of b1) until c.args.limit st.holds.due c.quiet_until.ensures.met st.holds.turns made.stands.holds.turns c.glide.ensures.within over (omega (arith, c.if-self-limit.true))))
+
+pub returns-then-self-limit-clause-idle : goal.returns-then-self-limit-clause-idle
+returns-then-self-limit-clause-idle c = λ x s st none up more lt.
+    let b = c.args.self.now in
+    let b1 = c.glide.new.self in
+    let b2 = c.turn_at.new.self in
+    let until : ℕ = c.quiet_until.result in
+    let n : ℕ = turns_of b1 - turns_of b in
+    let u : State = state_after Calls x n s in
+    let e : n ≡ turns_of b2 - turns_of b - 1 = omega (arith, c.glide.ensures.more, c.turn_at.ensures.turns) in
+    let made = c.glide.ensures.glided x s st in
+    let over = c.glide.ensures.idle x s st none up (lasts_from x.script until c.args.limit c.quiet_until.ensures.within more) in
+    subst (λ (k : ℕ). events_of x.script (state_after Calls x k s).turn ≢ []) e
+    (due_now x s u b.due (turns_of b) (turns_of b1) until c.args.limit st.holds.due c.quiet_until.ensures.met st.holds.turns made.stands.holds.turns c.glide.ensures.within over (omega (arith, c.if-self-limit.true)))

@@ -1,0 +1,55 @@
+use Rattle.std.proofs.Common.{sym, ◌∙◌, arith}
+use Rattle.board_core.specs.Machine.{MachineHolds}
+use Rattle.board_core.proofs.Running.{stores_hold, stores_notes, was_next, was_call, was_trap}
+use Rattle.board_model.proofs.Stepping.{trap_known}
+use Rattle.board_core.proofs.Loading.{effect_loaded, loaded_by, goes_on, next_loaded, acted_as, ready_same}
+use Rattle.board_core.proofs.machine.Machine.execute_own.Goals as goal
+
+pub fault-requires-clause-from_one : goal.fault-requires-clause-from_one
+fault-requires-clause-from_one c =
+    let g = c.requires.ready.0 in
+    let t = c.requires.ready.1 in
+    let r = c.requires.ready.2 in
+    let w = was_trap _ _ _ _ _ _ _ c.exec.ensures c.in-Trap.is in
+    let here = effect_loaded g _ _ t c.args.insn.now r.holds r.sane.steady.current in
+    (trap_known g t c.args.insn.now c.in-Trap.fault r.sane c.requires.coded (sym here ∙ w.0)).0
+
+pub fault-requires-clause-to_ten : goal.fault-requires-clause-to_ten
+fault-requires-clause-to_ten c =
+    let g = c.requires.ready.0 in
+    let t = c.requires.ready.1 in
+    let r = c.requires.ready.2 in
+    let w = was_trap _ _ _ _ _ _ _ c.exec.ensures c.in-Trap.is in
+    let here = effect_loaded g _ _ t c.args.insn.now r.holds r.sane.steady.current in
+    (trap_known g t c.args.insn.now c.in-Trap.fault r.sane c.requires.coded (sym here ∙ w.0)).1
+
+pub call-requires-clause-ready : goal.call-requires-clause-ready
+call-requires-clause-ready c =
+    let w = was_call _ _ _ _ _ _ c.exec.ensures c.in-Call.is in
+    (c.requires.ready.0, c.requires.ready.1, ready_same _ _ _ _ _ w.1 w.2 c.requires.ready.2, c.requires.ready.3)
+
+pub returns-in-Next-clause-holds : goal.returns-in-Next-clause-holds
+returns-in-Next-clause-holds c = λ g t r.
+    let w = was_next _ _ _ _ _ _ c.exec.ensures c.in-Next.is in
+    let here = effect_loaded g _ _ t c.args.insn.now r.holds r.sane.steady.current in
+    loaded_by _ g _ _ _ r.loaded
+    (next_loaded g _ t t.state.current _ w.processor c.exec.new.cpu w.stores (sym here ∙ w.is) w.after
+    (goes_on g _ _ _ c.exec.new.cpu t w.stores r.holds r.sane.steady.current (λ u h. stores_hold w.stores _ _ w.bus g u h)))
+
+pub returns-in-Call-clause-holds : goal.returns-in-Call-clause-holds
+returns-in-Call-clause-holds c = λ g t r.
+    let w = was_call _ _ _ _ _ _ c.exec.ensures c.in-Call.is in
+    let here = effect_loaded g _ _ t c.args.insn.now r.holds r.sane.steady.current in
+    acted_as g (MachineHolds g c.call.new.self) t.state.current t _ _ (sym here ∙ w.0) (c.call.ensures.holds g t (ready_same _ _ _ _ _ w.1 w.2 r))
+
+pub returns-in-Trap-clause-holds : goal.returns-in-Trap-clause-holds
+returns-in-Trap-clause-holds c = λ g t r.
+    let w = was_trap _ _ _ _ _ _ _ c.exec.ensures c.in-Trap.is in
+    let here = effect_loaded g _ _ t c.args.insn.now r.holds r.sane.steady.current in
+    acted_as g (MachineHolds g c.fault.new.self) t.state.current t _ _ (sym here ∙ w.0) (c.fault.ensures.holds g t (ready_same _ _ _ _ _ w.1 w.2 r))
+
+pub returns-in-Next-clause-count : goal.returns-in-Next-clause-count
+returns-in-Next-clause-count c =
+    let w = was_next _ _ _ _ _ _ c.exec.ensures c.in-Next.is in
+    let same = stores_notes w.stores _ _ w.bus in
+    omega (arith, same)

@@ -1,8 +1,0 @@
-use Rattle.std.proofs.Common.{◌≡◌, length, arith}
-use Rattle.std.proofs.lemmas.List.{take_at}
-use Rattle.mem_banks.proofs.Memory.store_near.Goals as goal
-
-pub returns : goal.returns
-returns c =
-    let e : length c.store_near.new.banks ≡ c.self.inside.banks.len = omega (arith, c.store_near.auto.banks, c.deref_mut.ensures.len) in
-    rw (← c.self.view_is, take_at c.store_near.new.banks _ c.self.inside.banks.len e) (rw c.deref_mut.ensures.value at c.store_near.ensures.value)
