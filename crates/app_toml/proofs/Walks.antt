@@ -161,12 +161,12 @@ clash_on of fault before after xs i x f found whole lt here more same none walk 
     ∙ sym (clash_step of fault before xs i x lt here) ∙ walk
 
 -- where nothing is refused the test fails
-pub not_told : {T : Type 0} (f : T → Refusal) (found : Option T) (b : Bool) (cause : ℕ) (site : Site)
+pub not_stated : {T : Type 0} (f : T → Refusal) (found : Option T) (b : Bool) (cause : ℕ) (site : Site)
     → option_map f found ≡ refuse_if b cause site → is_some found ≡ false → b ≡ false
-not_told f None true cause site e none = cc
-not_told f None false cause site e none = refl
-not_told f (Some x) b cause site e none = cc
+not_stated f None true cause site e none = cc
+not_stated f None false cause site e none = refl
+not_stated f (Some x) b cause site e none = cc
 
-pub none_told : {T : Type 0} (f : T → Refusal) (found : Option T) → is_some found ≡ false → option_map f found ≡ None
-none_told f None e = refl
-none_told f (Some x) e = cc
+pub none_stated : {T : Type 0} (f : T → Refusal) (found : Option T) → is_some found ≡ false → option_map f found ≡ None
+none_stated f None e = refl
+none_stated f (Some x) e = cc

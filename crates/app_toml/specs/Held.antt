@@ -48,7 +48,7 @@ tables_of flash ram fault tasks regions devices interrupts = record {
   interrupts = map interrupt_of interrupts;
 }
 
--- the cause and the place that it tells; none for want of memory
-abbrev pub told : AppFault → Option (ℕ × Text)
-told (fault.Refused cause place) = Some (cause, string_bytes place)
-told fault.Memory = None
+-- the cause and the place that it states; none for want of memory
+abbrev pub stated : AppFault → Option (ℕ × Text)
+stated (fault.Refused cause place) = Some (cause, string_bytes place)
+stated fault.Memory = None

@@ -2,7 +2,7 @@
 
 ghost use Rattle.std.specs.Prelude.{◌≡◌, ◌++◌, IfOk, IfSome, option_map, string_bytes};
 ghost use Rattle.std.specs.Result.{OnOk};
-ghost use Rattle.app_toml.specs.Held.{told};
+ghost use Rattle.app_toml.specs.Held.{stated};
 ghost use Rattle.app_toml.specs.Places.{at_entry, at_key, head_site, index_site, index_text, key_text, refusal_text, refuse, refuse_if, site_text};
 ghost use Rattle.app_toml.specs.Sites.{refusal_of, site_of};
 
@@ -124,8 +124,8 @@ fn place_text(alloc: Global, place: Place<'_>) -> Result<String, AllocError>
 }
 
 /// The cause with the text of its place.
-pub(crate) fn told(alloc: Global, fault: Fault<'_>) -> AppFault
-    ensures { IfSome (told result) (λ t. t ≡ refusal_text (refusal_of fault.entry)) }
+pub(crate) fn stated(alloc: Global, fault: Fault<'_>) -> AppFault
+    ensures { IfSome (stated result) (λ t. t ≡ refusal_text (refusal_of fault.entry)) }
 {
     match place_text(alloc, fault.place) {
         Ok(place) => AppFault::Refused {

@@ -3,22 +3,22 @@
 ghost use Rattle.std.specs.Prelude.{◌≡◌, IfErr, IfOk, IfSome, Err, None, Ok, Some};
 ghost use Rattle.toml.specs.View.{table_view};
 ghost use Rattle.app_toml.specs.Accepted.{IsAccepted};
-ghost use Rattle.app_toml.specs.Held.{app_of, parts_of, told};
+ghost use Rattle.app_toml.specs.Held.{app_of, parts_of, stated};
 ghost use Rattle.app_toml.specs.Reading.{app_or_fault, not_toml, parsed, read_app};
 
 use crate::app::App;
 use crate::crossed::cross_fault;
 use crate::document::form_fault;
 use crate::parts::{AppFault, Parts};
-use crate::places::{Fault, head_place, told};
+use crate::places::{Fault, head_place, stated};
 use crate::values::parts_in;
 use std::alloc::Global;
 use toml::Table;
 
 fn no_toml(alloc: Global) -> AppFault
-    ensures { IfSome (told result) (λ t. t ≡ not_toml) }
+    ensures { IfSome (stated result) (λ t. t ≡ not_toml) }
 {
-    told(
+    stated(
         alloc,
         Fault {
             cause: 1,
@@ -31,7 +31,7 @@ fn no_toml(alloc: Global) -> AppFault
 fn document_of(alloc: Global, bytes: &[u8]) -> Result<Table, AppFault>
     ensures ok { IfOk result (λ t. parsed bytes.now ≡ Some (table_view t)) }
     ensures refused { IfErr result (λ e.
-        IfSome (told e) (λ t. (parsed bytes.now ≡ None) × (t ≡ not_toml))) }
+        IfSome (stated e) (λ t. (parsed bytes.now ≡ None) × (t ≡ not_toml))) }
 {
     let text = match std::str::from_utf8(bytes) {
         Ok(text) => text,
@@ -68,10 +68,10 @@ pub(crate) fn app_of_parts(parts: Parts) -> App
 fn app_of_document(alloc: Global, document: &Table) -> Result<App, AppFault>
     ensures ok { IfOk result (λ a. app_or_fault (Some (table_view document.now)) ≡ Ok (app_of a)) }
     ensures refused { IfErr result (λ e.
-        IfSome (told e) (λ t. app_or_fault (Some (table_view document.now)) ≡ Err t)) }
+        IfSome (stated e) (λ t. app_or_fault (Some (table_view document.now)) ≡ Err t)) }
 {
     match form_fault(document) {
-        Some(fault) => return Err(told(alloc, fault)),
+        Some(fault) => return Err(stated(alloc, fault)),
         None => {}
     }
     let parts = match parts_in(alloc, document) {
@@ -83,7 +83,7 @@ fn app_of_document(alloc: Global, document: &Table) -> Result<App, AppFault>
         Err(_) => return Err(AppFault::Memory),
     };
     match found {
-        Some(fault) => Err(told(alloc, fault)),
+        Some(fault) => Err(stated(alloc, fault)),
         None => Ok(app_of_parts(parts)),
     }
 }
@@ -94,7 +94,7 @@ impl App {
     pub fn read(alloc: Global, bytes: &[u8]) -> Result<App, AppFault>
         ensures ok { IfOk result (λ a. read_app bytes.now ≡ Ok (app_of a)) }
         ensures refused { IfErr result (λ e.
-            IfSome (told e) (λ t. read_app bytes.now ≡ Err t)) }
+            IfSome (stated e) (λ t. read_app bytes.now ≡ Err t)) }
     {
         let document = match document_of(alloc, bytes) {
             Ok(document) => document,

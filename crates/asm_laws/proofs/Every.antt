@@ -6,12 +6,12 @@ use Rattle.thumb_insn.specs.declared.Insn.TheVariants.{ShiftImm, AddsReg, SubsRe
 use Rattle.thumb_insn.specs.Range.{IsCoded}
 use Rattle.thumb_encode.specs.Codes.{fit_of, HasList}
 use Rattle.asm_laws.specs.Reading.{HasTarget}
-use Rattle.asm_laws.proofs.Shapes.{Told}
+use Rattle.asm_laws.proofs.Shapes.{IsReadSo}
 use Rattle.asm_laws.proofs.Coded.{coded_fits, coded_list}
 use Rattle.asm_laws.proofs.Lists.{push, pop, stm, ldm}
 use Rattle.asm_laws.proofs.Rows.{shift_left, shift_right, shift_signed, adds_reg, subs_reg, adds_few, subs_few, movs_imm, cmp_imm, adds_imm, subs_imm, operate, add_high, cmp_high, mov_high, bx, blx, ldr_near, adr_near, store_reg, load_reg, store_imm, load_imm, store_sp, load_sp, add_sp, sp_add, sp_sub, change, bkpt, svc, fence, cpsie, cpsid, mrs, msr, branch_if, far_b, far_bl, hint}
 
-each : (i : Insn) (at : ℕ) → fit_of i ≡ None → HasList i → HasTarget i at → Told i at
+each : (i : Insn) (at : ℕ) → fit_of i ≡ None → HasList i → HasTarget i at → IsReadSo i at
 each (ShiftImm shift.Lsl d m by) at e l h = shift_left at d m by e
 each (ShiftImm shift.Lsr d m by) at e l h = shift_right at d m by e
 each (ShiftImm shift.Asr d m by) at e l h = shift_signed at d m by e
@@ -57,5 +57,5 @@ each (Fence b i) at e l h = fence at b i e
 each (Mrs d) at e l h = mrs at d e
 each (Msr n) at e l h = msr at n e
 
-pub every : (i : Insn) (at : ℕ) → IsCoded i → HasTarget i at → Told i at
+pub every : (i : Insn) (at : ℕ) → IsCoded i → HasTarget i at → IsReadSo i at
 every i at c h = each i at (coded_fits i c) (coded_list i c) h

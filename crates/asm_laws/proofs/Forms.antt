@@ -16,36 +16,36 @@ use Rattle.thumb_asm.proofs.Bytes.{is_solid}
 use Rattle.asm_laws.specs.Reading.{IsAddress}
 use Rattle.asm_laws.proofs.Numbers.{decimal_is, place_value}
 use Rattle.asm_laws.proofs.Operands.{reads_reg, reads_imm, reads_place, reads_sum, reads_beyond}
-use Rattle.asm_laws.proofs.Shapes.{Told, is_word, say, fixed_ok, fixed_at, filled_ok, filled_at, within_ok, within_at, near_ok, near_at, aimed_ok, aimed_at, IsNear}
+use Rattle.asm_laws.proofs.Shapes.{IsReadSo, is_word, say, fixed_ok, fixed_at, filled_ok, filled_at, within_ok, within_at, near_ok, near_at, aimed_ok, aimed_at, IsNear}
 
-pub one_reg : (i : Insn) (at : ℕ) (name : List ℕ) (m : Reg) → insn_text i at ≡ line name (reg_text m ∷ []) → is_word name ≡ true → list_all is_solid name ≡ true → (mnemonic name >>= λ q. shaped q (Register m ∷ [])) ≡ Some (Fixed i) → fit_of i ≡ None → m.number < 16 → Told i at
+pub one_reg : (i : Insn) (at : ℕ) (name : List ℕ) (m : Reg) → insn_text i at ≡ line name (reg_text m ∷ []) → is_word name ≡ true → list_all is_solid name ≡ true → (mnemonic name >>= λ q. shaped q (Register m ∷ [])) ≡ Some (Fixed i) → fit_of i ≡ None → m.number < 16 → IsReadSo i at
 one_reg i at name m t n s q e h = say i at name (reg_text m) ([]) (Register m) ([]) (Fixed i) t n s refl (reads_reg m h) tt q (fixed_ok i e) (λ env. fixed_at env at i e)
 
-pub two_regs : (i : Insn) (at : ℕ) (name : List ℕ) (d m : Reg) → insn_text i at ≡ line name (reg_text d ∷ reg_text m ∷ []) → is_word name ≡ true → list_all is_solid name ≡ true → (mnemonic name >>= λ q. shaped q (Register d ∷ Register m ∷ [])) ≡ Some (Fixed i) → fit_of i ≡ None → d.number < 16 → m.number < 16 → Told i at
+pub two_regs : (i : Insn) (at : ℕ) (name : List ℕ) (d m : Reg) → insn_text i at ≡ line name (reg_text d ∷ reg_text m ∷ []) → is_word name ≡ true → list_all is_solid name ≡ true → (mnemonic name >>= λ q. shaped q (Register d ∷ Register m ∷ [])) ≡ Some (Fixed i) → fit_of i ≡ None → d.number < 16 → m.number < 16 → IsReadSo i at
 two_regs i at name d m t n s q e h i' = say i at name (reg_text d) (reg_text m ∷ []) (Register d) (Register m ∷ []) (Fixed i) t n s refl (reads_reg d h) (reads_reg m i', tt) q (fixed_ok i e) (λ env. fixed_at env at i e)
 
-pub three_regs : (i : Insn) (at : ℕ) (name : List ℕ) (d n m : Reg) → insn_text i at ≡ line name (reg_text d ∷ reg_text n ∷ reg_text m ∷ []) → is_word name ≡ true → list_all is_solid name ≡ true → (mnemonic name >>= λ q. shaped q (Register d ∷ Register n ∷ Register m ∷ [])) ≡ Some (Fixed i) → fit_of i ≡ None → d.number < 16 → n.number < 16 → m.number < 16 → Told i at
+pub three_regs : (i : Insn) (at : ℕ) (name : List ℕ) (d n m : Reg) → insn_text i at ≡ line name (reg_text d ∷ reg_text n ∷ reg_text m ∷ []) → is_word name ≡ true → list_all is_solid name ≡ true → (mnemonic name >>= λ q. shaped q (Register d ∷ Register n ∷ Register m ∷ [])) ≡ Some (Fixed i) → fit_of i ≡ None → d.number < 16 → n.number < 16 → m.number < 16 → IsReadSo i at
 three_regs i at name d n m t u s q e h j k = say i at name (reg_text d) (reg_text n ∷ reg_text m ∷ []) (Register d) (Register n ∷ Register m ∷ []) (Fixed i) t u s refl (reads_reg d h) (reads_reg n j, (reads_reg m k, tt)) q (fixed_ok i e) (λ env. fixed_at env at i e)
 
-pub mem_reg : (i : Insn) (at : ℕ) (name : List ℕ) (p n m : Reg) → insn_text i at ≡ line name (reg_text p ∷ at_sum (reg_text n) (reg_text m) ∷ []) → is_word name ≡ true → list_all is_solid name ≡ true → (mnemonic name >>= λ q. shaped q (Register p ∷ MemoryRegister n m ∷ [])) ≡ Some (Fixed i) → fit_of i ≡ None → p.number < 16 → n.number < 16 → m.number < 16 → Told i at
+pub mem_reg : (i : Insn) (at : ℕ) (name : List ℕ) (p n m : Reg) → insn_text i at ≡ line name (reg_text p ∷ at_sum (reg_text n) (reg_text m) ∷ []) → is_word name ≡ true → list_all is_solid name ≡ true → (mnemonic name >>= λ q. shaped q (Register p ∷ MemoryRegister n m ∷ [])) ≡ Some (Fixed i) → fit_of i ≡ None → p.number < 16 → n.number < 16 → m.number < 16 → IsReadSo i at
 mem_reg i at name p n m t u s q e h j k = say i at name (reg_text p) (at_sum (reg_text n) (reg_text m) ∷ []) (Register p) (MemoryRegister n m ∷ []) (Fixed i) t u s refl (reads_reg p h) (reads_sum n m j k, tt) q (fixed_ok i e) (λ env. fixed_at env at i e)
 
-pub one_imm : (f : ℕ → Insn) (at : ℕ) (name : List ℕ) (v : ℕ) → insn_text (f v) at ≡ line name (imm v ∷ []) → is_word name ≡ true → list_all is_solid name ≡ true → (mnemonic name >>= λ q. shaped q (Immediate (decimal v) ∷ [])) ≡ Some (Filled (decimal v) f) → fit_of (f v) ≡ None → is_register_fit (fit_of (f 0)) ≡ false → v < 1024 → Told (f v) at
+pub one_imm : (f : ℕ → Insn) (at : ℕ) (name : List ℕ) (v : ℕ) → insn_text (f v) at ≡ line name (imm v ∷ []) → is_word name ≡ true → list_all is_solid name ≡ true → (mnemonic name >>= λ q. shaped q (Immediate (decimal v) ∷ [])) ≡ Some (Filled (decimal v) f) → fit_of (f v) ≡ None → is_register_fit (fit_of (f 0)) ≡ false → v < 1024 → IsReadSo (f v) at
 one_imm f at name v t u s q e r b = say (f v) at name (imm v) ([]) (Immediate (decimal v)) ([]) (Filled (decimal v) f) t u s refl (reads_imm v b) tt q (filled_ok (decimal v) f v r (decimal_is v b).is) (λ env. filled_at env at (decimal v) f v (decimal_is v b).is b e)
 
-pub reg_imm : (f : ℕ → Insn) (at : ℕ) (name : List ℕ) (d : Reg) (v : ℕ) → insn_text (f v) at ≡ line name (reg_text d ∷ imm v ∷ []) → is_word name ≡ true → list_all is_solid name ≡ true → (mnemonic name >>= λ q. shaped q (Register d ∷ Immediate (decimal v) ∷ [])) ≡ Some (Filled (decimal v) f) → fit_of (f v) ≡ None → is_register_fit (fit_of (f 0)) ≡ false → d.number < 16 → v < 1024 → Told (f v) at
+pub reg_imm : (f : ℕ → Insn) (at : ℕ) (name : List ℕ) (d : Reg) (v : ℕ) → insn_text (f v) at ≡ line name (reg_text d ∷ imm v ∷ []) → is_word name ≡ true → list_all is_solid name ≡ true → (mnemonic name >>= λ q. shaped q (Register d ∷ Immediate (decimal v) ∷ [])) ≡ Some (Filled (decimal v) f) → fit_of (f v) ≡ None → is_register_fit (fit_of (f 0)) ≡ false → d.number < 16 → v < 1024 → IsReadSo (f v) at
 reg_imm f at name d v t u s q e r h b = say (f v) at name (reg_text d) (imm v ∷ []) (Register d) (Immediate (decimal v) ∷ []) (Filled (decimal v) f) t u s refl (reads_reg d h) (reads_imm v b, tt) q (filled_ok (decimal v) f v r (decimal_is v b).is) (λ env. filled_at env at (decimal v) f v (decimal_is v b).is b e)
 
-pub reg_reg_imm : (f : ℕ → Insn) (at : ℕ) (name : List ℕ) (d n : Reg) (v : ℕ) → insn_text (f v) at ≡ line name (reg_text d ∷ reg_text n ∷ imm v ∷ []) → is_word name ≡ true → list_all is_solid name ≡ true → (mnemonic name >>= λ q. shaped q (Register d ∷ Register n ∷ Immediate (decimal v) ∷ [])) ≡ Some (Filled (decimal v) f) → fit_of (f v) ≡ None → is_register_fit (fit_of (f 0)) ≡ false → d.number < 16 → n.number < 16 → v < 1024 → Told (f v) at
+pub reg_reg_imm : (f : ℕ → Insn) (at : ℕ) (name : List ℕ) (d n : Reg) (v : ℕ) → insn_text (f v) at ≡ line name (reg_text d ∷ reg_text n ∷ imm v ∷ []) → is_word name ≡ true → list_all is_solid name ≡ true → (mnemonic name >>= λ q. shaped q (Register d ∷ Register n ∷ Immediate (decimal v) ∷ [])) ≡ Some (Filled (decimal v) f) → fit_of (f v) ≡ None → is_register_fit (fit_of (f 0)) ≡ false → d.number < 16 → n.number < 16 → v < 1024 → IsReadSo (f v) at
 reg_reg_imm f at name d n v t u s q e r h j b = say (f v) at name (reg_text d) (reg_text n ∷ imm v ∷ []) (Register d) (Register n ∷ Immediate (decimal v) ∷ []) (Filled (decimal v) f) t u s refl (reads_reg d h) (reads_reg n j, (reads_imm v b, tt)) q (filled_ok (decimal v) f v r (decimal_is v b).is) (λ env. filled_at env at (decimal v) f v (decimal_is v b).is b e)
 
-pub mem_imm : (f : ℕ → Insn) (at : ℕ) (name : List ℕ) (p n : Reg) (v : ℕ) → insn_text (f v) at ≡ line name (reg_text p ∷ at_sum (reg_text n) (imm v) ∷ []) → is_word name ≡ true → list_all is_solid name ≡ true → (mnemonic name >>= λ q. shaped q (Register p ∷ MemoryImmediate n (decimal v) ∷ [])) ≡ Some (Filled (decimal v) f) → fit_of (f v) ≡ None → is_register_fit (fit_of (f 0)) ≡ false → p.number < 16 → n.number < 16 → v < 1024 → Told (f v) at
+pub mem_imm : (f : ℕ → Insn) (at : ℕ) (name : List ℕ) (p n : Reg) (v : ℕ) → insn_text (f v) at ≡ line name (reg_text p ∷ at_sum (reg_text n) (imm v) ∷ []) → is_word name ≡ true → list_all is_solid name ≡ true → (mnemonic name >>= λ q. shaped q (Register p ∷ MemoryImmediate n (decimal v) ∷ [])) ≡ Some (Filled (decimal v) f) → fit_of (f v) ≡ None → is_register_fit (fit_of (f 0)) ≡ false → p.number < 16 → n.number < 16 → v < 1024 → IsReadSo (f v) at
 mem_imm f at name p n v t u s q e r h j b = say (f v) at name (reg_text p) (at_sum (reg_text n) (imm v) ∷ []) (Register p) (MemoryImmediate n (decimal v) ∷ []) (Filled (decimal v) f) t u s refl (reads_reg p h) (reads_beyond n v j b, tt) q (filled_ok (decimal v) f v r (decimal_is v b).is) (λ env. filled_at env at (decimal v) f v (decimal_is v b).is b e)
 
-pub one_within : (low top : ℕ) (f : ℕ → Insn) (at : ℕ) (name : List ℕ) (v : ℕ) → insn_text (f v) at ≡ line name (imm v ∷ []) → is_word name ≡ true → list_all is_solid name ≡ true → (mnemonic name >>= λ q. shaped q (Immediate (decimal v) ∷ [])) ≡ Some (Within low top (decimal v) f) → fit_of (f v) ≡ None → is_register_fit (fit_of (f 0)) ≡ false → low ≤ v → v ≤ top → v < 1024 → Told (f v) at
+pub one_within : (low top : ℕ) (f : ℕ → Insn) (at : ℕ) (name : List ℕ) (v : ℕ) → insn_text (f v) at ≡ line name (imm v ∷ []) → is_word name ≡ true → list_all is_solid name ≡ true → (mnemonic name >>= λ q. shaped q (Immediate (decimal v) ∷ [])) ≡ Some (Within low top (decimal v) f) → fit_of (f v) ≡ None → is_register_fit (fit_of (f 0)) ≡ false → low ≤ v → v ≤ top → v < 1024 → IsReadSo (f v) at
 one_within low top f at name v t u s q e r l m b = say (f v) at name (imm v) [] (Immediate (decimal v)) [] (Within low top (decimal v) f) t u s refl (reads_imm v b) tt q (within_ok low top (decimal v) f v r (decimal_is v b).is) (λ env. within_at env at low top (decimal v) f v (decimal_is v b).is l m e)
 
-pub regs_within : (low top : ℕ) (f : ℕ → Insn) (at : ℕ) (name : List ℕ) (d m : Reg) (v : ℕ) → insn_text (f v) at ≡ line name (reg_text d ∷ reg_text m ∷ imm v ∷ []) → is_word name ≡ true → list_all is_solid name ≡ true → (mnemonic name >>= λ q. shaped q (Register d ∷ Register m ∷ Immediate (decimal v) ∷ [])) ≡ Some (Within low top (decimal v) f) → fit_of (f v) ≡ None → is_register_fit (fit_of (f 0)) ≡ false → d.number < 16 → m.number < 16 → low ≤ v → v ≤ top → v < 1024 → Told (f v) at
+pub regs_within : (low top : ℕ) (f : ℕ → Insn) (at : ℕ) (name : List ℕ) (d m : Reg) (v : ℕ) → insn_text (f v) at ≡ line name (reg_text d ∷ reg_text m ∷ imm v ∷ []) → is_word name ≡ true → list_all is_solid name ≡ true → (mnemonic name >>= λ q. shaped q (Register d ∷ Register m ∷ Immediate (decimal v) ∷ [])) ≡ Some (Within low top (decimal v) f) → fit_of (f v) ≡ None → is_register_fit (fit_of (f 0)) ≡ false → d.number < 16 → m.number < 16 → low ≤ v → v ≤ top → v < 1024 → IsReadSo (f v) at
 regs_within low top f at name d m v t u s q e r h j l k b = say (f v) at name (reg_text d) (reg_text m ∷ imm v ∷ []) (Register d) (Register m ∷ Immediate (decimal v) ∷ []) (Within low top (decimal v) f) t u s refl (reads_reg d h) (reads_reg m j, (reads_imm v b, tt)) q (within_ok low top (decimal v) f v r (decimal_is v b).is) (λ env. within_at env at low top (decimal v) f v (decimal_is v b).is l k e)
 
 -- Targets.
@@ -72,7 +72,7 @@ minus x (suc b) h = refl
 literal_back : (b i : ℕ) → 0 < b → pos (b + i) -ℤ pos b ≡ pos i
 literal_back b i h = minus (b + i) b h ∙ sub_pos (b + i) b i refl
 
-pub near : (f : ℕ → Insn) (at : ℕ) (name : List ℕ) (d : Reg) (v : ℕ) → insn_text (f v) at ≡ line name (reg_text d ∷ place (literal_target at v) ∷ []) → is_word name ≡ true → list_all is_solid name ≡ true → (mnemonic name >>= λ q. shaped q (Register d ∷ Expression (place (literal_target at v)) ∷ [])) ≡ Some (Near (place (literal_target at v)) f) → fit_of (f v) ≡ None → is_register_fit (fit_of (f 0)) ≡ false → d.number < 16 → v < 1024 → (at + 4) / 4 * 4 + v < 4294967296 → Told (f v) at
+pub near : (f : ℕ → Insn) (at : ℕ) (name : List ℕ) (d : Reg) (v : ℕ) → insn_text (f v) at ≡ line name (reg_text d ∷ place (literal_target at v) ∷ []) → is_word name ≡ true → list_all is_solid name ≡ true → (mnemonic name >>= λ q. shaped q (Register d ∷ Expression (place (literal_target at v)) ∷ [])) ≡ Some (Near (place (literal_target at v)) f) → fit_of (f v) ≡ None → is_register_fit (fit_of (f 0)) ≡ false → d.number < 16 → v < 1024 → (at + 4) / 4 * 4 + v < 4294967296 → IsReadSo (f v) at
 near f at name d v t u s q e r h b w =
     let k = literal_is at v w in
     let n : literal_target at v < 4294967296 = omega arith in
@@ -110,7 +110,7 @@ branch_back at (negsuc n) b h = ⊎_elim
     (λ l. absurd (subst IsAddress (below_is at n l) h))
     (cases_lt n (at + 4))
 
-pub aims : (f : ℤ → Insn) (at : ℕ) (name : List ℕ) (z : ℤ) → insn_text (f z) at ≡ line name (place (branch_target at z) ∷ []) → is_word name ≡ true → list_all is_solid name ≡ true → (mnemonic name >>= λ q. shaped q (Expression (place (branch_target at z)) ∷ [])) ≡ Some (Aimed (place (branch_target at z)) f) → fit_of (f z) ≡ None → IsNear z → IsAddress (pos (at + 4) +ℤ z) → Told (f z) at
+pub aims : (f : ℤ → Insn) (at : ℕ) (name : List ℕ) (z : ℤ) → insn_text (f z) at ≡ line name (place (branch_target at z) ∷ []) → is_word name ≡ true → list_all is_solid name ≡ true → (mnemonic name >>= λ q. shaped q (Expression (place (branch_target at z)) ∷ [])) ≡ Some (Aimed (place (branch_target at z)) f) → fit_of (f z) ≡ None → IsNear z → IsAddress (pos (at + 4) +ℤ z) → IsReadSo (f z) at
 aims f at name z t u s q e b w =
     let g = place_value (branch_target at z) (branch_small at z) in
     say (f z) at name (place (branch_target at z)) [] (Expression (place (branch_target at z))) [] (Aimed (place (branch_target at z)) f) t u s refl (reads_place (branch_target at z)) tt q (aimed_ok (place (branch_target at z)) f (branch_target at z) g) (λ env. aimed_at env at (place (branch_target at z)) f (branch_target at z) z g (branch_back at z b w) b e)

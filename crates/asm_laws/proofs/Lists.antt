@@ -22,7 +22,7 @@ use Rattle.thumb_asm.proofs.Bytes.{both}
 use Rattle.thumb_asm.proofs.Lines.{Reads}
 use Rattle.asm_laws.proofs.Numbers.{le_of}
 use Rattle.asm_laws.proofs.Operands.{single, AllBelow, reads_list, reads_reg, reads_raised}
-use Rattle.asm_laws.proofs.Shapes.{Told, fits, two_false, three_false, low, say}
+use Rattle.asm_laws.proofs.Shapes.{IsReadSo, fits, two_false, three_false, low, say}
 
 abbrev pub same_bit : Bool → Bool → Bool
 same_bit a b = if a then b else not b
@@ -134,14 +134,14 @@ pop_at : (env : Env) (at list : ℕ) (has : Bool) (rs : List (ℕ × ℕ)) → m
 unfolding insn_at
 pop_at env at list has rs m l e = ap (λ x. fitting (Pop x (is_listed rs 15))) m ∙ ap (λ b. fitting (Pop list b)) l ∙ fitting_is (Pop list has) e
 
-pub push : (at list : ℕ) (lr : Bool) → list < 256 → fit_of (Push list lr) ≡ None → Told (Push list lr) at
+pub push : (at list : ℕ) (lr : Bool) → list < 256 → fit_of (Push list lr) ≡ None → IsReadSo (Push list lr) at
 unfolding insn_text mnemonic mnemonics1 mnemonics2 mnemonics3 mnemonics4 entry_at shaped
 push at list lr h e =
     let n = fits (nat_eq list 0 && not lr) false false e in
     let w = whole 14 lr list (pushed lr list h) n.0 in
     say (Push list lr) at (codes "push") (braces (whole_list 14 lr list)) [] (Registers (map single (whole_list 14 lr list))) [] (Listed false (map single (whole_list 14 lr list))) refl refl refl refl w.good.reads tt refl (listed_ok false (map single (whole_list 14 lr list)) w.good.stray w.good.list) (λ env. push_at env at list lr (map single (whole_list 14 lr list)) w.mask w.has_extra e)
 
-pub pop : (at list : ℕ) (has : Bool) → list < 256 → fit_of (Pop list has) ≡ None → Told (Pop list has) at
+pub pop : (at list : ℕ) (has : Bool) → list < 256 → fit_of (Pop list has) ≡ None → IsReadSo (Pop list has) at
 unfolding insn_text mnemonic mnemonics1 mnemonics2 mnemonics3 mnemonics4 entry_at shaped
 pop at list has h e =
     let n = fits (nat_eq list 0 && not has) false false e in
@@ -199,7 +199,7 @@ below_eight n e = grind (arith, nat_tests)
 both_same : (a b c d : Bool) → a ≡ c → b ≡ d → (c && d) ≡ false → (a && b) ≡ false
 both_same a b c d e f h = rw (e, f) h
 
-pub stm : (at list : ℕ) (n : Reg) → list < 256 → fit_of (Stm n list) ≡ None → Told (Stm n list) at
+pub stm : (at list : ℕ) (n : Reg) → list < 256 → fit_of (Stm n list) ≡ None → IsReadSo (Stm n list) at
 unfolding insn_text mnemonic mnemonics1 mnemonics2 mnemonics3 mnemonics4 entry_at shaped
 stm at list n h e =
     let f = fits (is_high n || nat_eq list 0 || is_later list n.number) false false e in
@@ -212,7 +212,7 @@ ldm_text : (at list : ℕ) (n : Reg) (b : Bool) → has_bit list n.number ≡ b 
 unfolding insn_text
 ldm_text at list n b h = ap (λ c. line (codes "ldm") ((if c then reg_text n else raised n) ∷ braces (low_registers list) ∷ [])) h
 
-ldm_by : (at list : ℕ) (n : Reg) (b : Bool) → has_bit list n.number ≡ b → list < 256 → fit_of (Ldm n list) ≡ None → Told (Ldm n list) at
+ldm_by : (at list : ℕ) (n : Reg) (b : Bool) → has_bit list n.number ≡ b → list < 256 → fit_of (Ldm n list) ≡ None → IsReadSo (Ldm n list) at
 unfolding mnemonic mnemonics1 mnemonics2 mnemonics3 mnemonics4 entry_at shaped
 ldm_by at list n true t h e =
     let f = fits (is_high n || nat_eq list 0) false false e in
@@ -225,5 +225,5 @@ ldm_by at list n false t h e =
     let b = blocks n.number list (below_eight n l.0) h l.1 in
     say (Ldm n list) at (codes "ldm") (raised n) (braces (low_registers list) ∷ []) (Raised n) (Registers (low_list list) ∷ []) (Block n true true (low_list list)) (ldm_text at list n false t) refl refl refl (reads_raised n (low n l.0)) (b.good.reads, tt) refl (block_ok n true true (low_list list) l.0 b.good.stray b.good.list (b.base ∙ t)) (λ env. ldm_at env at list true n (low_list list) b.mask e)
 
-pub ldm : (at list : ℕ) (n : Reg) → list < 256 → fit_of (Ldm n list) ≡ None → Told (Ldm n list) at
+pub ldm : (at list : ℕ) (n : Reg) → list < 256 → fit_of (Ldm n list) ≡ None → IsReadSo (Ldm n list) at
 ldm at list n h e = ldm_by at list n (has_bit list n.number) refl h e

@@ -190,10 +190,10 @@ pub place_is : (n : ℕ) → place n ≡ target (digits_of n)
 unfolding hex_word
 place_is n = refl
 
-told : (piece : List ℕ) (n : ℕ) → nat_lt 0 (length piece) ≡ true → list_all is_hex piece ≡ true → value_in 16 piece ≡ n → n < 4294967296 → hex_number_of piece ≡ Some n
-told piece n some all e h = let f : nat_le n 4294967295 ≡ true = grind (arith, nat_tests) in rw (some, all, e, f) refl
+read_so : (piece : List ℕ) (n : ℕ) → nat_lt 0 (length piece) ≡ true → list_all is_hex piece ≡ true → value_in 16 piece ≡ n → n < 4294967296 → hex_number_of piece ≡ Some n
+read_so piece n some all e h = let f : nat_le n 4294967295 ≡ true = grind (arith, nat_tests) in rw (some, all, e, f) refl
 
 pub place_value : (n : ℕ) → n < 4294967296 → expression (place n) ≡ Some (number n)
 place_value n h =
     let k = all_hex n in
-    ap expression (place_is n) ∙ target_expression (digits_of n) n k (told (hexes (digits_of n)) n refl (hexes_hex (digits_of n) k) (value_eight _ _ _ _ _ _ _ _ k ∙ whole n h) h)
+    ap expression (place_is n) ∙ target_expression (digits_of n) n k (read_so (hexes (digits_of n)) n refl (hexes_hex (digits_of n) k) (value_eight _ _ _ _ _ _ _ _ k ∙ whole n h) h)

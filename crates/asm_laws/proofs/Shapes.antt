@@ -114,20 +114,20 @@ abbrev pub is_word : List ℕ → Bool
 is_word name = not (is_nil name) && nat_le (length name) 9
 
 -- an instruction's text is read as it, and is a line
-pub record Told (i : Insn) (at : ℕ) : Type 0 where
+pub record IsReadSo (i : Insn) (at : ℕ) : Type 0 where
   pub read : IsRead i at
   pub allowed : list_all is_allowed (insn_text i at) ≡ true
   pub short : length (insn_text i at) ≤ 255
 
-told : (i : Insn) (at : ℕ) (text : List ℕ) (s : Shape) → insn_text i at ≡ text → Line text s → ((env : Env) → insn_at env at s ≡ Ok i) → Told i at
-told i at text s t l g = record {
+read_so : (i : Insn) (at : ℕ) (text : List ℕ) (s : Shape) → insn_text i at ≡ text → Line text s → ((env : Env) → insn_at env at s ≡ Ok i) → IsReadSo i at
+read_so i at text s t l g = record {
   read = rw t (l.label, (s, l.statement, g));
   allowed = rw t (all_by is_plain is_allowed allowed_of text l.plain);
   short = rw t (l.short);
 }
 
 -- a line of a word and operands is the instruction of its shape
-pub say : (i : Insn) (at : ℕ) (name x : List ℕ) (xs : List (List ℕ)) (o : Operand) (os : List Operand) (s : Shape) → insn_text i at ≡ line name (x ∷ xs) → is_word name ≡ true → list_all is_solid name ≡ true → nat_le (length xs) 2 ≡ true → Reads x o → AllRead xs os → (mnemonic name >>= λ m. shaped m (o ∷ os)) ≡ Some s → checked (Some s) ≡ Ok (Some s) → ((env : Env) → insn_at env at s ≡ Ok i) → Told i at
+pub say : (i : Insn) (at : ℕ) (name x : List ℕ) (xs : List (List ℕ)) (o : Operand) (os : List Operand) (s : Shape) → insn_text i at ≡ line name (x ∷ xs) → is_word name ≡ true → list_all is_solid name ≡ true → nat_le (length xs) 2 ≡ true → Reads x o → AllRead xs os → (mnemonic name >>= λ m. shaped m (o ∷ os)) ≡ Some s → checked (Some s) ≡ Ok (Some s) → ((env : Env) → insn_at env at s ≡ Ok i) → IsReadSo i at
 say i at name x xs o os s t n h v r rs e f g =
     let w = both (not (is_nil name)) (nat_le (length name) 9) n in
-    told i at (line name (x ∷ xs)) s t (line_shape name x xs o os s (not-true _ w.0) h (le_of _ _ w.1) (le_of _ _ v) r rs e f) g
+    read_so i at (line name (x ∷ xs)) s t (line_shape name x xs o os s (not-true _ w.0) h (le_of _ _ w.1) (le_of _ _ v) r rs e f) g

@@ -14,7 +14,7 @@ use Rattle.thumb_asm.specs.Assembly.{Assembles}
 use Rattle.thumb_asm.specs.Causes.{second_group, first_group, first_in, second_in, labels_from, first_cause, line_size}
 use Rattle.thumb_asm.proofs.Bytes.{both}
 use Rattle.asm_laws.specs.Reading.{IsAssembled}
-use Rattle.asm_laws.proofs.Shapes.{Told}
+use Rattle.asm_laws.proofs.Shapes.{IsReadSo}
 use Rattle.asm_laws.proofs.Spelling.{spelled, accepted}
 
 no_feed : (c : ℕ) → is_allowed c ≡ true → nat_eq c 10 ≡ false
@@ -80,7 +80,7 @@ no_names : (name : List ℕ) → None ≡ entry_at {A = ℕ} [] name
 unfolding entry_at
 no_names name = refl
 
-pub assembled : (i : Insn) (at : ℕ) → Told i at → IsAssembled i at
+pub assembled : (i : Insn) (at : ℕ) → IsReadSo i at → IsAssembled i at
 assembled i at p given h =
     let t : List ℕ = insn_text i at in
     let s = p.read.1.0 in

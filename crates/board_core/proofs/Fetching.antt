@@ -9,7 +9,7 @@ use Rattle.mem_banks.specs.Memory.{Memory, number_at}
 use Rattle.task_table.specs.Reading.{register}
 use Rattle.task_table.specs.State.{Setup, Turn}
 use Rattle.board_core.specs.declared.machine.Machine.{Machine}
-use Rattle.board_model.specs.declared.told.Level.{Level}
+use Rattle.board_model.specs.declared.outcomes.Level.{Level}
 use Rattle.board_core.specs.Machine.{IsReady}
 use Rattle.board_model.specs.Turn.{refusals, stepped}
 use Rattle.window_laws.proofs.Fetching.{carried, stepped_carried, even_near}

@@ -6,7 +6,7 @@ pub mod Views
 pub mod Turning
 pub mod Gliding
 pub mod Skipping
-pub mod Telling
-pub mod CallRows
+pub mod Noting
+pub mod SyscallRows
 pub mod Fetching
 pub mod Windowing

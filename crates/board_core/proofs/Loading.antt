@@ -41,14 +41,14 @@ pub rest_of : (saved t : Turn) (cpu : Cpu) → t ≡ with_cpu cpu saved → IsSa
 rest_of saved t cpu e = rw e (rest-with_cpu cpu saved)
 
 -- a turn that the kernel holds, with all but the registers and flags of the current task
-pub record IsTold (g : Setup) (k : Kernel) (t : Turn) : Type 0 where
+pub record HoldsRest (g : Setup) (k : Kernel) (t : Turn) : Type 0 where
   pub saved : Turn
   pub holds : Holds g k saved
   pub rest : IsSameRest saved t
 
-pub told_by : (loaded : Bool) (g : Setup) (k : Kernel) (cpu : Cpu) (t : Turn) → HoldsBy loaded g k cpu t → IsTold g k t
-told_by true g k cpu t h = record { saved = h.saved; holds = h.holds; rest = rest_of h.saved t cpu h.is }
-told_by false g k cpu t h = record { saved = t; holds = h; rest = record { count = refl; notes = refl; memory = refl; time = refl; lines = refl; current = refl; next_call = refl } }
+pub rest_held : (loaded : Bool) (g : Setup) (k : Kernel) (cpu : Cpu) (t : Turn) → HoldsBy loaded g k cpu t → HoldsRest g k t
+rest_held true g k cpu t h = record { saved = h.saved; holds = h.holds; rest = rest_of h.saved t cpu h.is }
+rest_held false g k cpu t h = record { saved = t; holds = h; rest = record { count = refl; notes = refl; memory = refl; time = refl; lines = refl; current = refl; next_call = refl } }
 
 -- ## loaded or not
 
@@ -186,7 +186,7 @@ stands_of g m t r = record { holds = loaded_by m.loaded g m.reach.kernel m.proce
 
 pub below : (loaded : Bool) (g : Setup) (k : Kernel) (cpu : Cpu) (t : Turn) (i : ℕ) → HoldsBy loaded g k cpu t → i < length t.state.tasks → i < task_count k
 below loaded g k cpu t i h inside =
-    let w = told_by loaded g k cpu t h in
+    let w = rest_held loaded g k cpu t h in
     let b : task_count k ≡ length w.saved.state.tasks = w.holds.count in
     let n : length t.state.tasks ≡ length w.saved.state.tasks = w.rest.count in
     omega arith
@@ -230,7 +230,7 @@ pub register_current : (t : Turn) (c : ℕ) → register (with_current c t).stat
 unfolding register task_at
 register_current t c = refl
 
--- ## something is told
+-- ## something is noted
 
 noted-with_cpu : (n : Note) (cpu : Cpu) (s : Turn) → noted n (with_cpu cpu s) ≡ with_cpu cpu (noted n s)
 unfolding noted with_processor with_task

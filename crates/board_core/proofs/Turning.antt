@@ -13,13 +13,13 @@ use Rattle.board_core.specs.declared.machine.Machine.{Machine}
 use Rattle.board_core.specs.declared.choice.Choice.{Choice}
 use Rattle.board_core.specs.declared.board.Board.{Board}
 use Rattle.board_core.specs.Machine.{IsNext, MachineHolds, MachineStands}
-use Rattle.board_model.specs.declared.told.Level.{Level}
+use Rattle.board_model.specs.declared.outcomes.Level.{Level}
 use Rattle.board_core.specs.Midway.{IsMidway}
 use Rattle.board_model.specs.Script.{Scenario}
 use Rattle.board_core.specs.Stands.{Stands}
 use Rattle.board_core.specs.Kept.{IsChoice}
 use Rattle.board_model.specs.Turn.{turn, ended, turn_of, after_events}
-use Rattle.board_core.proofs.Loading.{told_by, between_by}
+use Rattle.board_core.proofs.Loading.{rest_held, between_by}
 use Rattle.board_model.proofs.TurnChains.{sane-after, sane-after_events}
 use Rattle.board_model.proofs.Quiet.{quiet-turn}
 
@@ -28,7 +28,7 @@ abbrev pub rested : Machine → State → Turn
 rested m s = record { state = s; notes = notes_of m.reach.kernel; writes = []; reads = [] }
 
 pub noted_in : (g : Setup) (m : Machine) (t : Turn) → MachineHolds g m t → notes_of m.reach.kernel ≡ t.notes
-noted_in g m t h = let w = told_by m.loaded g m.reach.kernel m.processor t h in w.holds.notes ∙ sym w.rest.notes
+noted_in g m t h = let w = rest_held m.loaded g m.reach.kernel m.processor t h in w.holds.notes ∙ sym w.rest.notes
 
 some_left : (x : Note) (xs : List Note) → length (x ∷ xs) ≡ 0 → ⊥
 some_left x xs e = omega arith

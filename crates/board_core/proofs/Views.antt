@@ -1,4 +1,4 @@
--- What is told of a task while a context is loaded.
+-- What is shown of a task while a context is loaded.
 use Rattle.std.proofs.Common.{◌≡◌, ◌≢◌, ◌⊎◌, inl, inr, ◌%◌, ◌<◌, ℕ, Bool, true, false, length, sym, ◌∙◌, ap, subst}
 use Rattle.std.specs.Option.{option_map}
 use Rattle.std.proofs.lemmas.Bool.{false≢true}
@@ -9,8 +9,8 @@ use Rattle.task_table.specs.Reading.{task_at}
 use Rattle.task_table.specs.Effects.{with_task, with_processor}
 use Rattle.task_table.specs.Holds.{Holds, current_of}
 use Rattle.task_table.proofs.Changes.{task_at-with_task, task_at-with_task_other, call_of-with_task, listen_of-with_task, length-with_task}
-use Rattle.board_core.specs.declared.told.TaskView.{TaskView}
-use Rattle.board_core.specs.Told.{IsTask}
+use Rattle.board_core.specs.declared.shown.TaskView.{TaskView}
+use Rattle.board_core.specs.Shown.{IsTask}
 use Rattle.board_core.specs.Machine.{with_cpu, IsLoaded, HoldsBy}
 
 other_at : (cpu : Cpu) (s : Turn) (i : ℕ) (v : TaskView) → i ≢ s.state.current → IsTask s.state i v → IsTask (with_cpu cpu s).state i v

@@ -1,4 +1,5 @@
 -- Instructions on end within a window of the current task's memory are its turns.
+use Rattle.words_core.specs.Regs.{stack_pointer, program_counter}
 use Rattle.std.proofs.Common.{◌≡◌, ◌≢◌, inl, inr, ◌+◌, ◌-◌, ◌≤◌, ◌<◌, ℕ, zero, suc, Bool, true, false, not, ◌||◌, List, [], ◌∷◌, length, Option, Some, None, refl, sym, ◌∙◌, ap, subst, arith, leb}
 use Rattle.std.specs.Prelude.{Contains}
 use Rattle.std.proofs.lemmas.Bool.{le-leb, leb-true, ltb-true, false≢true}
@@ -17,7 +18,7 @@ use Rattle.thumb_step.specs.Fetch.{step_effect}
 use Rattle.thumb_window.specs.Windows.{View, refused_by, held_by}
 use Rattle.task_table.specs.State.{Setup, State, Task, Turn}
 use Rattle.task_table.specs.Start.{begun}
-use Rattle.task_table.specs.Reading.{setup_at, task_at, call_of, listen_of, is_ready, chosen, register, stack_pointer, program_counter}
+use Rattle.task_table.specs.Reading.{setup_at, task_at, call_of, listen_of, is_ready, chosen, register}
 use Rattle.task_table.specs.Effects.{with_task, with_processor}
 use Rattle.task_table.specs.Holds.{Holds, current_of, kept_of, note_count, notes_of as kernel_notes}
 use Rattle.task_table.specs.Lendable.{AreUsable}
@@ -25,7 +26,7 @@ use Rattle.task_table.specs.Lent.{overlaid}
 use Rattle.task_table.specs.declared.kernel.Kernel.{Kernel}
 use Rattle.task_table.proofs.Changes.{task_at-with_task}
 use Rattle.task_table.proofs.Steps.{holds_turn}
-use Rattle.board_model.specs.declared.told.Level.TheVariants.{Calls}
+use Rattle.board_model.specs.declared.outcomes.Level.TheVariants.{Brief}
 use Rattle.board_model.specs.Script.{Scenario}
 use Rattle.board_model.specs.Turn.{may}
 use Rattle.board_model.specs.Run.{ending, is_down, state_after}
@@ -39,7 +40,7 @@ use Rattle.board_core.specs.Gliding.{IsGlided, HasGlided}
 use Rattle.board_core.specs.declared.board.Board.{Board}
 use Rattle.board_core.specs.Stands.{Stands, turns_of}
 use Rattle.board_core.specs.Advanced.{HasGlidden}
-use Rattle.board_core.proofs.Loading.{rest_of, is_loaded, told_by}
+use Rattle.board_core.proofs.Loading.{rest_of, is_loaded, rest_held}
 use Rattle.board_core.proofs.Spanning.{both}
 use Rattle.board_core.proofs.Skipping.{quiet_before, quiet_begun, begun_board}
 use Rattle.board_core.proofs.Turning.{rested, rested_as, none_of}
@@ -126,7 +127,7 @@ pub are_usable : (regions : List Region) (pc sp : ℕ) (flash ram : Region) → 
 are_usable regions pc sp flash ram are =
     let f = flash_at pc flash are.flash in
     record {
-      text_usable = record { here = are.here; no_device = f.no_device; some = omega (arith, f.from, f.to) };
+      flash_usable = record { here = are.here; no_device = f.no_device; some = omega (arith, f.from, f.to) };
       below = f.below;
       ram_usable = elim are.ram [
         | inl x ↦ let h = ram_at sp ram x.1 in inr (record { here = x.0; no_device = h.no_device; some = h.some }, h.above)
@@ -135,17 +136,17 @@ are_usable regions pc sp flash ram are =
     }
 
 module _ (g : Setup) (c : ℕ) (m : Memory) (pc sp : ℕ) (flash ram : Region) (v : View)
-    (are : AreReached (setup_at g c).regions pc sp flash ram) (text_base : v.text_base ≡ flash.base) (readable : v.readable ≡ flash.rights.read) (ram_base : v.ram_base ≡ ram.base)
-    (text_there : IsInMemory m (flash.base, flash.size)) (ram_there : IsInRam m (ram.base, ram.size))
-    (text_bytes : v.text ≡ bytes_at m flash.base flash.size) (ram_bytes : v.ram ≡ bytes_at m ram.base ram.size) where
-  text_long : length v.text ≡ flash.size
-  text_long = ap (λ (xs : List ℕ). length xs) text_bytes ∙ region_length m flash.base flash.size text_there
+    (are : AreReached (setup_at g c).regions pc sp flash ram) (flash_base : v.flash_base ≡ flash.base) (readable : v.readable ≡ flash.rights.read) (ram_base : v.ram_base ≡ ram.base)
+    (flash_there : IsInMemory m (flash.base, flash.size)) (ram_there : IsInRam m (ram.base, ram.size))
+    (flash_bytes : v.flash ≡ bytes_at m flash.base flash.size) (ram_bytes : v.ram ≡ bytes_at m ram.base ram.size) where
+  flash_long : length v.flash ≡ flash.size
+  flash_long = ap (λ (xs : List ℕ). length xs) flash_bytes ∙ region_length m flash.base flash.size flash_there
 
   ram_long : length v.ram ≡ ram.size
   ram_long = ap (λ (xs : List ℕ). length xs) ram_bytes ∙ region_length m ram.base ram.size (inl ram_there)
 
-  of_text : (right : Right) → has_right flash.rights right ≡ true → (a : ℕ) → v.text_base ≤ a → a < v.text_base + length v.text → may g c right a ≡ true
-  of_text right has a low high = each_byte (setup_at g c).regions right flash a are.here has (omega (arith, low, text_base)) (omega (arith, high, text_base, text_long))
+  of_flash : (right : Right) → has_right flash.rights right ≡ true → (a : ℕ) → v.flash_base ≤ a → a < v.flash_base + length v.flash → may g c right a ≡ true
+  of_flash right has a low high = each_byte (setup_at g c).regions right flash a are.here has (omega (arith, low, flash_base)) (omega (arith, high, flash_base, flash_long))
 
   of_ram : (right : Right) → (IsRamAt sp ram → has_right ram.rights right ≡ true) → (a : ℕ) → v.ram_base ≤ a → a < v.ram_base + length v.ram → may g c right a ≡ true
   of_ram right has a low high = by are.ram
@@ -154,26 +155,26 @@ module _ (g : Setup) (c : ℕ) (m : Memory) (pc sp : ℕ) (flash ram : Region) (
       by (inl x) = each_byte (setup_at g c).regions right ram a x.0 (has (ram_at sp ram x.1)) (omega (arith, low, ram_base)) (omega (arith, high, ram_base, ram_long))
       by (inr x) = let none : ram.size ≡ 0 = x.0.1 in absurd (omega (arith, low, high, ram_long, none))
 
-  -- the text ends below the RAM
-  pub text_below : v.text_base + length v.text ≤ v.ram_base
-  text_below = let inside = in_flash m (flash.base, flash.size) (flash_at pc flash are.flash).below text_there in omega (arith, text_base, text_long, ram_base, inside.2, ram_there.0)
+  -- the flash ends below the RAM
+  pub flash_below : v.flash_base + length v.flash ≤ v.ram_base
+  flash_below = let inside = in_flash m (flash.base, flash.size) (flash_at pc flash are.flash).below flash_there in omega (arith, flash_base, flash_long, ram_base, inside.2, ram_there.0)
 
   window_of : IsWindow g c m v
   window_of =
       let f = flash_at pc flash are.flash in
       record {
-        executed = of_text Execute f.execute;
-        legible = λ e. of_text Read (sym readable ∙ e);
+        executed = of_flash Execute f.execute;
+        legible = λ e. of_flash Read (sym readable ∙ e);
         read = of_ram Read (λ h. h.read);
         written = of_ram Write (λ h. h.write);
-        in_flash = rw (text_base, text_long) (in_flash m (flash.base, flash.size) f.below text_there);
+        in_flash = rw (flash_base, flash_long) (in_flash m (flash.base, flash.size) f.below flash_there);
         in_ram = rw (ram_base, ram_long) ram_there;
-        text = rw (text_base, text_long) (sym text_bytes);
+        flash = rw (flash_base, flash_long) (sym flash_bytes);
         ram = rw (ram_base, ram_long) (sym ram_bytes);
       }
 
   pub whole_window : IsWholeWindow g c m pc sp v
-  whole_window = record { is = window_of; code = flash; stack = ram; reached = are; text = (text_base, text_long); readable = readable; ram = (ram_base, ram_long) }
+  whole_window = record { is = window_of; code = flash; stack = ram; reached = are; flash = (flash_base, flash_long); readable = readable; ram = (ram_base, ram_long) }
 
 -- ## the kernel that was lent from
 
@@ -237,7 +238,7 @@ due_later_on script turn (suc n) due next ne =
 -- a board after n turns within a window, and why there were no more
 pub record IsMade (x : Scenario) (u : State) (task until : ℕ) (b b' : Board) : Type 0 where
   pub glidden : HasGlidden x u (turns_of b' - turns_of b) b'
-  pub far : turns_of b' < until → MustStop x.setup task (register u task program_counter) (register u task stack_pointer) (state_after Calls x (turns_of b' - turns_of b) u)
+  pub far : turns_of b' < until → MustStop x.setup task (register u task program_counter) (register u task stack_pointer) (state_after Brief x (turns_of b' - turns_of b) u)
 
 module _ (x : Scenario) (u : State) (b : Board) (m : Machine) (task most n until : ℕ)
     (st : Stands x b u) (next : b.choice.next ≡ Some task) (up : b.choice.down ≡ false)
@@ -277,7 +278,7 @@ module _ (x : Scenario) (u : State) (b : Board) (m : Machine) (task most n until
   unfolding ending state_after
   made h =
       let are = turns_are h in
-      let v : State = state_after Calls x n u in
+      let v : State = state_after Brief x n u in
       let M : State → Type 0 = λ y. MachineHolds x.setup m (rested b.machine y) in
       let turns : v.turn ≡ u.turn + n = ap (λ (y : State). y.turn) are.state in
       let a = st.holds.turns in
@@ -302,9 +303,9 @@ module _ (x : Scenario) (u : State) (b : Board) (m : Machine) (task most n until
         notes = λ lt. none;
       }
     where
-      goes_at : (k : ℕ) → chosen x.setup (state_after Calls x k u) ≡ Some u.current → is_down (state_after Calls x k u) ≡ is_down u → ending x 1 (state_after Calls x k u) ≡ None
+      goes_at : (k : ℕ) → chosen x.setup (state_after Brief x k u) ≡ Some u.current → is_down (state_after Brief x k u) ≡ is_down u → ending x 1 (state_after Brief x k u) ≡ None
       goes_at k some same =
-          let down : is_down (state_after Calls x k u) ≡ false = same ∙ sym st.holds.choice.down ∙ up in
+          let down : is_down (state_after Brief x k u) ≡ false = same ∙ sym st.holds.choice.down ∙ up in
           rw (down, some) refl
 
   has_glidden : HasGlided x.setup m (rested b.machine u) most n → HasGlidden x u n record b { machine = m; turns = turns_of b + n }
@@ -312,7 +313,7 @@ module _ (x : Scenario) (u : State) (b : Board) (m : Machine) (task most n until
   has_glidden (inr h) = stayed h.none h.holds
 
   -- the window that is left is of the same regions
-  at_end : (h : IsGlided x.setup m (rested b.machine u) most n) → n < most → IsAtEnd x.setup u.current (register u u.current program_counter) (register u u.current stack_pointer) (state_after Calls x n u)
+  at_end : (h : IsGlided x.setup m (rested b.machine u) most n) → n < most → IsAtEnd x.setup u.current (register u u.current program_counter) (register u u.current stack_pointer) (state_after Brief x n u)
   at_end h lt =
       let left = window_then x u u.current h.window st.sane is_chosen refl h.whole.is n h.after m.processor nothing h.glides in
       let same = left.keeps in
@@ -323,14 +324,14 @@ module _ (x : Scenario) (u : State) (b : Board) (m : Machine) (task most n until
           code = h.whole.code;
           stack = h.whole.stack;
           reached = h.whole.reached;
-          text = (same.text_base ∙ h.whole.text.0, ap (λ (xs : List ℕ). length xs) same.text ∙ h.whole.text.1);
+          flash = (same.flash_base ∙ h.whole.flash.0, ap (λ (xs : List ℕ). length xs) same.flash ∙ h.whole.flash.1);
           readable = same.readable ∙ h.whole.readable;
           ram = (same.ram_base ∙ h.whole.ram.0, same.size ∙ h.whole.ram.1);
         };
         halts = subst (λ (d : Cpu). Halts (step_effect (refused_by h.after) (held_by h.after) d)) (sym left.processor) (h.far lt);
       }
 
-  must_stop : HasGlided x.setup m (rested b.machine u) most n → n < most → MustStop x.setup u.current (register u u.current program_counter) (register u u.current stack_pointer) (state_after Calls x n u)
+  must_stop : HasGlided x.setup m (rested b.machine u) most n → n < most → MustStop x.setup u.current (register u u.current program_counter) (register u u.current stack_pointer) (state_after Brief x n u)
   unfolding state_after
   must_stop (inl h) lt = inl (at_end h lt)
   must_stop (inr h) lt = inr (rw h.none h.beyond)
@@ -353,9 +354,9 @@ made_by x u b0 m m' task n until st0 holds loaded is_current next up few left wi
       glidden = subst (λ (k : ℕ). HasGlidden x u k b') e (has_glidden x u b m' task most n until st next up few over later_due is_current none h);
       far = λ lt.
           let stop = must_stop x u b m' task most n until st next up few over later_due is_current none h (omega (arith, lt)) in
-          subst (λ (k : ℕ). MustStop x.setup task (register u task program_counter) (register u task stack_pointer) (state_after Calls x k u)) e (subst (λ (i : ℕ). MustStop x.setup i (register u i program_counter) (register u i stack_pointer) (state_after Calls x n u)) is_current stop);
+          subst (λ (k : ℕ). MustStop x.setup task (register u task program_counter) (register u task stack_pointer) (state_after Brief x k u)) e (subst (λ (i : ℕ). MustStop x.setup i (register u i program_counter) (register u i stack_pointer) (state_after Brief x n u)) is_current stop);
     }
 
 -- the task that ran last is the kernel's
 pub current_now : (x : Scenario) (u : State) (b : Board) → Stands x b u → current_of b.machine.reach.kernel ≡ u.current
-current_now x u b st = let w = told_by _ x.setup _ _ _ st.holds.machine in w.holds.current ∙ sym w.rest.current
+current_now x u b st = let w = rest_held _ x.setup _ _ _ st.holds.machine in w.holds.current ∙ sym w.rest.current

@@ -1,11 +1,12 @@
 -- Several turns on end, of which only the last may note anything.
+use Rattle.words_core.specs.Regs.{stack_pointer, program_counter}
 use Rattle.std.specs.Prelude.{ℕ, ◌≡◌, ◌≢◌, ◌⊎◌, ◌<◌, [], None}
 use Rattle.task_table.specs.State.{State}
-use Rattle.task_table.specs.Reading.{register, stack_pointer, program_counter}
+use Rattle.task_table.specs.Reading.{register}
 use Rattle.run_script.specs.Scripts.{events_of}
 use Rattle.board_core.specs.declared.board.Board.{Board}
-use Rattle.board_model.specs.declared.told.Level.{Level}
-use Rattle.board_model.specs.declared.told.Level.TheVariants.{Calls}
+use Rattle.board_model.specs.declared.outcomes.Level.{Level}
+use Rattle.board_model.specs.declared.outcomes.Level.TheVariants.{Brief}
 use Rattle.board_model.specs.Script.{Scenario}
 use Rattle.board_model.specs.Run.{ending, turn_after, state_after}
 use Rattle.window_laws.specs.Windowed.{MustStop}
@@ -21,9 +22,9 @@ pub record IsAdvanced (level : Level) (x : Scenario) (n : ℕ) (s : State) (b : 
 
 -- the board stands for the state after n turns, none of which noted anything or ended the run
 pub record HasGlidden (x : Scenario) (s : State) (n : ℕ) (b : Board) : Type 0 where
-  pub stands : Stands x b (state_after Calls x n s)
-  pub nothing : (k : ℕ) → k < n → (turn_after Calls x k s).notes ≡ []
-  pub goes_on : (k : ℕ) → k < n → ending x 1 (turn_after Calls x k s).state ≡ None
+  pub stands : Stands x b (state_after Brief x n s)
+  pub nothing : (k : ℕ) → k < n → (turn_after Brief x k s).notes ≡ []
+  pub goes_on : (k : ℕ) → k < n → ending x 1 (turn_after Brief x k s).state ≡ None
   pub notes : 0 < n → notes_of b ≡ []
 
 -- a turn in which something happens from outside, or before which the run ends

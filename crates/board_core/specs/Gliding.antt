@@ -1,4 +1,5 @@
 -- Instructions on end within a window of the current task's memory.
+use Rattle.words_core.specs.Regs.{stack_pointer, program_counter}
 use Rattle.std.specs.Prelude.{ℕ, ◌≡◌, ◌⊎◌, ◌+◌, ◌≤◌, ◌<◌, List, length, false}
 use Rattle.std.specs.List.{list_any}
 use Rattle.mem_banks.specs.Memory.{with_bytes}
@@ -6,7 +7,7 @@ use Rattle.thumb_exec.specs.Effect.{Halts}
 use Rattle.thumb_step.specs.Fetch.{step_effect}
 use Rattle.thumb_window.specs.Windows.{View, Glides, refused_by, held_by}
 use Rattle.task_table.specs.State.{Setup, Turn}
-use Rattle.task_table.specs.Reading.{task_at, setup_at, register, stack_pointer, program_counter}
+use Rattle.task_table.specs.Reading.{task_at, setup_at, register}
 use Rattle.board_model.specs.Turn.{cpu_of}
 use Rattle.window_laws.specs.Reached.{is_flash_at}
 use Rattle.window_laws.specs.Windowed.{IsWholeWindow, later}
@@ -16,21 +17,21 @@ use Rattle.board_core.specs.Machine.{MachineHolds}
 
 -- what the processor reaches while it has these bytes
 abbrev pub lent_view : Glider → List ℕ → List ℕ → View
-lent_view a text ram =
+lent_view a flash ram =
     record {
-      text_base = a.runner.window.text_base;
-      text = text;
+      flash_base = a.runner.window.flash_base;
+      flash = flash;
       readable = a.runner.window.readable;
       ram_base = a.runner.window.ram_base;
       ram = ram;
     }
 
 -- it made instructions on end within the bytes that it was lent
-pub record HasWorked (a : Glider) (text ram : List ℕ) (b : Glider) (after : List ℕ) : Type 0 where
-  pub glides : Glides (lent_view a text ram) a.runner.processor b.made (lent_view a text after) b.runner.processor
+pub record HasWorked (a : Glider) (flash ram : List ℕ) (b : Glider) (after : List ℕ) : Type 0 where
+  pub glides : Glides (lent_view a flash ram) a.runner.processor b.made (lent_view a flash after) b.runner.processor
   pub within : b.made ≤ a.most
-  -- it stopped before that many only where the next one calls, faults or reaches elsewhere
-  pub far : a.runner.window.text_base + length text ≤ a.runner.window.ram_base → b.made < a.most → Halts (step_effect (refused_by (lent_view a text after)) (held_by (lent_view a text after)) b.runner.processor)
+  -- it stopped before that many only where the next one is a system call, faults or reaches elsewhere
+  pub far : a.runner.window.flash_base + length flash ≤ a.runner.window.ram_base → b.made < a.most → Halts (step_effect (refused_by (lent_view a flash after)) (held_by (lent_view a flash after)) b.runner.processor)
 
 -- n instructions on end of the current task within a window, of which as many go on as there may be
 pub record IsGlided (g : Setup) (m : Machine) (t : Turn) (most n : ℕ) : Type 0 where

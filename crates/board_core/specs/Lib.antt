@@ -6,6 +6,6 @@ pub mod Midway
 pub mod Stands
 pub mod Advanced
 pub mod Skipped
-pub mod Told
+pub mod Shown
 pub mod Regions
 pub mod Gliding

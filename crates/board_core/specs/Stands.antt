@@ -11,7 +11,7 @@ use Rattle.board_model.specs.Script.{Scenario}
 use Rattle.board_core.specs.Kept.{IsChoice}
 use Rattle.board_core.specs.Machine.{MachineHolds}
 
--- what is told of a board whatever it stands for: the notes of its last turn, how many turns it
+-- what is shown of a board whatever it stands for: the notes of its last turn, how many turns it
 -- has made, how many tasks it has
 abbrev pub notes_of : Board → List Note
 notes_of b = kernel_notes b.machine.reach.kernel

@@ -1,13 +1,14 @@
 //! The board and one turn of it.
+ghost use Rattle.words_core.specs.Regs.{stack_pointer, program_counter};
 ghost use Rattle.std.specs.Prelude.{ℕ, ◌≡◌, ◌≢◌, ◌<◌, ◌≤◌, ◌+◌, ◌-◌, ◌*◌, ◌&&◌, not, [], Option, Some, None, length, true, false, IfOk};
 ghost use Rattle.image_format.specs.Images.{picture};
 ghost use Rattle.task_table.specs.State.{Setup, State, Turn};
-ghost use Rattle.task_table.specs.Reading.{chosen, register, stack_pointer, program_counter};
+ghost use Rattle.task_table.specs.Reading.{chosen, register};
 ghost use Rattle.task_table.specs.Start.{start};
-ghost use Rattle.task_table.specs.Limits.{call_notes, turn_notes};
+ghost use Rattle.task_table.specs.Limits.{syscall_notes, turn_notes};
 ghost use Rattle.run_script.specs.Events.{script_data};
 ghost use Rattle.run_script.specs.Scripts.{events_of, lasts};
-ghost use Rattle.board_model.specs.declared.told.Level.TheVariants.{All, Calls};
+ghost use Rattle.board_model.specs.declared.outcomes.Level.TheVariants.{All, Brief};
 ghost use Rattle.board_model.specs.Script.{Scenario};
 ghost use Rattle.board_model.specs.Turn.{turn, turned};
 ghost use Rattle.board_model.specs.Run.{state_after};
@@ -106,7 +107,7 @@ impl Board {
     }
 
     /// One turn, and further ones after it as long as each notes nothing, the run goes on and fewer than
-    /// `limit` turns are made in all. With all instructions told each turn notes something, so that it is
+    /// `limit` turns are made in all. With all instructions noted each turn notes something, so that it is
     /// one turn.
     pub fn advance(&mut self, level: Level, limit: u32)
         requires stood { Stood self.old }
@@ -114,24 +115,24 @@ impl Board {
         requires few { limit ≤ 1000000000 }
         ensures advanced { (x : Scenario) (s : State) → Stands x self.old s → IsAdvanced level x (turns_of self.new - turns_of self.old - 1) s self.new }
         ensures more { turns_of self.old < turns_of self.new }
-        ensures far { level ≡ Calls → (x : Scenario) (s : State) → Stands x self.new s → notes_of self.new ≡ [] → turns_of self.new < limit → IsStopped x s }
+        ensures far { level ≡ Brief → (x : Scenario) (s : State) → Stands x self.new s → notes_of self.new ≡ [] → turns_of self.new < limit → IsStopped x s }
         ensures within { turns_of self.new ≤ limit }
         ensures noted { length (notes_of self.new) ≤ turn_notes }
     {
         match level {
-            Level::Calls => self.go_on(limit),
+            Level::Brief => self.go_on(limit),
             Level::All => {
                 self.turn_at(Level::All);
             }
         }
     }
 
-    /// The same, where instructions are not told.
+    /// The same, where instructions are not noted.
     fn go_on(&mut self, limit: u32)
         requires stood { Stood self.old }
         requires left { turns_of self.old < limit }
         requires few { limit ≤ 1000000000 }
-        ensures advanced { (x : Scenario) (s : State) → Stands x self.old s → IsAdvanced Calls x (turns_of self.new - turns_of self.old - 1) s self.new }
+        ensures advanced { (x : Scenario) (s : State) → Stands x self.old s → IsAdvanced Brief x (turns_of self.new - turns_of self.old - 1) s self.new }
         ensures more { turns_of self.old < turns_of self.new }
         ensures far { (x : Scenario) (s : State) → Stands x self.new s → notes_of self.new ≡ [] → turns_of self.new < limit → IsStopped x s }
         ensures within { turns_of self.new ≤ limit }
@@ -148,18 +149,18 @@ impl Board {
         requires stood { Stood self.old }
         requires left { turns_of self.old < limit }
         requires few { limit ≤ 1000000000 }
-        ensures advanced { (x : Scenario) (s : State) → Stands x self.old s → IsAdvanced Calls x (turns_of self.new - turns_of self.old - 1) s self.new }
+        ensures advanced { (x : Scenario) (s : State) → Stands x self.old s → IsAdvanced Brief x (turns_of self.new - turns_of self.old - 1) s self.new }
         ensures more { turns_of self.old < turns_of self.new }
         ensures within { turns_of self.new ≤ limit }
         ensures noted { length (notes_of self.new) ≤ turn_notes }
 
         // The whole turn is one that the fast way does not make.
-        ensures needed { (x : Scenario) (s : State) → Stands x self.old s → chosen x.setup s ≡ Some s.current → self.old.machine.loaded ≡ true → self.old.choice.down ≡ false → turns_of self.new < limit → NeedsTurn x s (state_after Calls x (turns_of self.new - turns_of self.old - 1) s) }
-        ensures idle { (x : Scenario) (s : State) → Stands x self.old s → chosen x.setup s ≡ None → self.old.choice.down ≡ false → lasts x.script limit ≡ true → turns_of self.new < limit → events_of x.script (state_after Calls x (turns_of self.new - turns_of self.old - 1) s).turn ≢ [] }
+        ensures needed { (x : Scenario) (s : State) → Stands x self.old s → chosen x.setup s ≡ Some s.current → self.old.machine.loaded ≡ true → self.old.choice.down ≡ false → turns_of self.new < limit → NeedsTurn x s (state_after Brief x (turns_of self.new - turns_of self.old - 1) s) }
+        ensures idle { (x : Scenario) (s : State) → Stands x self.old s → chosen x.setup s ≡ None → self.old.choice.down ≡ false → lasts x.script limit ≡ true → turns_of self.new < limit → events_of x.script (state_after Brief x (turns_of self.new - turns_of self.old - 1) s).turn ≢ [] }
     {
         self.glide(quiet_until(self.due, limit));
         if self.turns < limit {
-            self.turn_at(Level::Calls);
+            self.turn_at(Level::Brief);
         }
     }
 
@@ -175,8 +176,8 @@ impl Board {
         ensures within { turns_of self.old ≤ until → turns_of self.new ≤ until }
         ensures stays { until ≤ turns_of self.old → self.new ≡ self.old }
 
-        // It stops before only where the next instruction calls, faults or reaches beyond the window, or where there is none.
-        ensures far { (x : Scenario) (s : State) → Stands x self.old s → chosen x.setup s ≡ Some s.current → self.old.machine.loaded ≡ true → self.old.choice.down ≡ false → turns_of self.new < until → IsFar x s (state_after Calls x (turns_of self.new - turns_of self.old) s) }
+        // It stops before only where the next instruction is a system call, faults or reaches beyond the window, or where there is none.
+        ensures far { (x : Scenario) (s : State) → Stands x self.old s → chosen x.setup s ≡ Some s.current → self.old.machine.loaded ≡ true → self.old.choice.down ≡ false → turns_of self.new < until → IsFar x s (state_after Brief x (turns_of self.new - turns_of self.old) s) }
         ensures idle { (x : Scenario) (s : State) → Stands x self.old s → chosen x.setup s ≡ None → self.old.choice.down ≡ false → lasts x.script until ≡ true → until ≤ turns_of self.new }
     {
         if self.turns >= until || self.choice.down {
@@ -199,7 +200,7 @@ impl Board {
         ensures glided { (x : Scenario) (s : State) → Stands x self.old s → HasGlidden x s (turns_of self.new - turns_of self.old) self.new }
         ensures more { turns_of self.old ≤ turns_of self.new }
         ensures within { turns_of self.new ≤ until }
-        ensures far { (x : Scenario) (s : State) → Stands x self.old s → s.current ≡ task → self.old.machine.loaded ≡ true → turns_of self.new < until → MustStop x.setup task (register s task program_counter) (register s task stack_pointer) (state_after Calls x (turns_of self.new - turns_of self.old) s) }
+        ensures far { (x : Scenario) (s : State) → Stands x self.old s → s.current ≡ task → self.old.machine.loaded ≡ true → turns_of self.new < until → MustStop x.setup task (register s task program_counter) (register s task stack_pointer) (state_after Brief x (turns_of self.new - turns_of self.old) s) }
     {
         if self.machine.is_loaded_for(task) {
             self.machine.begin();
@@ -231,7 +232,7 @@ impl Board {
         requires from { turns_of self.old ≤ to }
         requires few { to ≤ 1000000000 }
         requires idle { (x : Scenario) (s : State) → Stands x self.old s → IsIdleUntil x s to }
-        ensures model { (x : Scenario) (s : State) → Stands x self.old s → Stands x self.new (state_after Calls x (to - s.turn) s) }
+        ensures model { (x : Scenario) (s : State) → Stands x self.old s → Stands x self.new (state_after Brief x (to - s.turn) s) }
         ensures nothing { notes_of self.new ≡ [] }
         ensures turns { turns_of self.new ≡ to }
     {
@@ -245,7 +246,7 @@ impl Board {
         requires few { turns_of self.old < 1000000000 }
         requires stood { Stood self.old }
         ensures midway { (x : Scenario) (s : State) → Stands x self.old s → IsMidway x self.new s }
-        ensures few { length (notes_of self.new) ≤ 9 * call_notes }
+        ensures few { length (notes_of self.new) ≤ 9 * syscall_notes }
         ensures turns { turns_of self.new ≡ turns_of self.old }
         ensures due { self.old.due ≢ Some (turns_of self.old) → self.new.due ≡ self.old.due }
         ensures kept { self.old.due ≢ Some (turns_of self.old) → self.new.choice ≡ self.old.choice }
@@ -262,7 +263,7 @@ impl Board {
         requires few { turns_of self.old < 1000000000 }
         requires stands { (x : Scenario) × (s : State) × IsDue x self.old s }
         ensures midway { (x : Scenario) (s : State) → IsDue x self.old s → IsMidway x self.new s }
-        ensures few { length (notes_of self.new) ≤ 9 * call_notes }
+        ensures few { length (notes_of self.new) ≤ 9 * syscall_notes }
         ensures turns { turns_of self.new ≡ turns_of self.old }
     {
         self.machine.happen_all(&self.script, self.turns);

@@ -13,7 +13,7 @@ use thumb_exec::cpu::Cpu;
 use thumb_window::{Runner, Window};
 use words_core::{Flags, Regs};
 
-/// A processor that makes instructions on end while it is lent the bytes of a region of text and of one of RAM. Between
+/// A processor that makes instructions on end while it is lent the bytes of a region of flash and of one of RAM. Between
 /// two loans its window has no bytes.
 #[derive(Drop)]
 pub struct Glider {
@@ -40,8 +40,8 @@ impl Glider {
                     flags,
                 },
                 window: Window {
-                    text: Vec::new(alloc),
-                    text_base: 0,
+                    flash: Vec::new(alloc),
+                    flash_base: 0,
                     readable: false,
                     ram: Vec::new(alloc),
                     ram_base: 0,
@@ -53,21 +53,21 @@ impl Glider {
     }
 
     /// It is to make so many instructions at most, of this processor, within these two regions.
-    pub fn aim(&mut self, processor: Cpu, text: &Region, ram: &Region, most: u32)
+    pub fn aim(&mut self, processor: Cpu, flash: &Region, ram: &Region, most: u32)
         ensures processor { self.new.runner.processor ≡ processor }
-        ensures text { self.new.runner.window.text_base ≡ text.now.base }
-        ensures readable { self.new.runner.window.readable ≡ text.now.rights.read }
+        ensures flash { self.new.runner.window.flash_base ≡ flash.now.base }
+        ensures readable { self.new.runner.window.readable ≡ flash.now.rights.read }
         ensures ram { self.new.runner.window.ram_base ≡ ram.now.base }
         ensures most { self.new.most ≡ most }
     {
         self.runner.processor = processor;
-        self.runner.window.text_base = text.base;
-        self.runner.window.readable = text.rights.read;
+        self.runner.window.flash_base = flash.base;
+        self.runner.window.readable = flash.rights.read;
         self.runner.window.ram_base = ram.base;
         self.most = most;
     }
 
-    /// The instructions, where the text lies below the RAM.
+    /// The instructions, where the flash lies below the RAM.
     fn glide(&mut self) -> u32
         ensures glides { Glides (view_of self.old.runner.window) self.old.runner.processor result (view_of self.new.runner.window) self.new.runner.processor }
         ensures within { result ≤ self.old.most }
@@ -76,7 +76,7 @@ impl Glider {
         ensures most { self.new.most ≡ self.old.most }
     {
         let window = &self.runner.window;
-        if window.text_base as usize + window.text.len() > window.ram_base as usize {
+        if window.flash_base as usize + window.flash.len() > window.ram_base as usize {
             return 0;
         }
         self.runner.glide(self.most)
@@ -84,13 +84,13 @@ impl Glider {
 }
 
 impl Borrower for Glider {
-    ghost did = { λ a text ram b after. HasWorked a text ram b after };
+    ghost did = { λ a flash ram b after. HasWorked a flash ram b after };
 
-    fn work(&mut self, text: &mut Vec<u8>, ram: &mut Vec<u8>) {
-        swap(&mut self.runner.window.text, text);
+    fn work(&mut self, flash: &mut Vec<u8>, ram: &mut Vec<u8>) {
+        swap(&mut self.runner.window.flash, flash);
         swap(&mut self.runner.window.ram, ram);
         self.made = self.glide();
         swap(&mut self.runner.window.ram, ram);
-        swap(&mut self.runner.window.text, text);
+        swap(&mut self.runner.window.flash, flash);
     }
 }

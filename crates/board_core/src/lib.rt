@@ -2,14 +2,14 @@
 #![tactic(auto)]
 
 mod board;
-mod calls;
+mod syscalls;
 mod choice;
 mod glider;
 mod machine;
 mod opening;
 mod reach;
-mod told;
+mod shown;
 
 pub use board::Board;
 pub use board_model::{End, Level, Turned};
-pub use told::TaskView;
+pub use shown::TaskView;

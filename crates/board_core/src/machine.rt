@@ -6,17 +6,17 @@ ghost use Rattle.task_table.specs.State.{Setup, Turn};
 ghost use Rattle.task_table.specs.Reading.{is_ready, task_at, setup_at};
 ghost use Rattle.task_table.specs.Start.{begun};
 ghost use Rattle.task_table.specs.Effects.{faulted};
-ghost use Rattle.task_table.specs.Rows.{call_noted};
-ghost use Rattle.task_table.specs.Calls.{called};
+ghost use Rattle.task_table.specs.Rows.{syscall_noted};
+ghost use Rattle.task_table.specs.Syscalls.{syscall_made};
 ghost use Rattle.task_table.specs.Holds.{Holds, task_count, note_count, current_of, setup_of};
-ghost use Rattle.task_table.specs.Limits.{call_notes, turn_notes};
+ghost use Rattle.task_table.specs.Limits.{syscall_notes, turn_notes};
 ghost use Rattle.task_table.specs.Frames.{AddsNotes};
 ghost use Rattle.thumb_insn.specs.Range.{IsCoded};
-ghost use Rattle.board_model.specs.Turn.{with_current, told, happened, stepped, executed, cpu_of, with_registers_told, turn_of, turned_of, happened_next};
+ghost use Rattle.board_model.specs.Turn.{with_current, noted_at, happened, stepped, executed, cpu_of, with_registers_noted, turn_of, turned_of, happened_next};
 ghost use Rattle.board_core.specs.Machine.{IsReady, IsNext, HasNumber, MachineHolds, MachineStands, IsLoaded};
 ghost use Rattle.board_core.specs.Gliding.{HasGlided};
 
-use crate::calls::call;
+use crate::syscalls::syscall;
 use crate::glider::Glider;
 use crate::reach::Reach;
 use board_model::{Level, Turned};
@@ -137,9 +137,9 @@ impl Machine {
     /// Something happens from outside.
     fn happen(&mut self, event: Event)
         requires stands { (g : Setup) × (t : Turn) × MachineStands g self.old t × (t.state.now + 1 < 2 ^ 64) }
-        requires room { note_count self.old.reach.kernel + call_notes ≤ turn_notes }
+        requires room { note_count self.old.reach.kernel + syscall_notes ≤ turn_notes }
         ensures stands { (g : Setup) (t : Turn) → MachineStands g self.old t → MachineStands g self.new (happened g t event) }
-        ensures count { note_count self.new.reach.kernel ≤ note_count self.old.reach.kernel + call_notes }
+        ensures count { note_count self.new.reach.kernel ≤ note_count self.old.reach.kernel + syscall_notes }
     {
         self.save_context();
         match event {
@@ -151,9 +151,9 @@ impl Machine {
     /// The k-th event of a turn happens; where there is none, the answer is false.
     fn happen_at(&mut self, script: &Script, turn: u32, k: u32) -> bool
         requires stands { (g : Setup) × (t : Turn) × MachineStands g self.old t × (t.state.now + 1 < 2 ^ 64) }
-        requires room { note_count self.old.reach.kernel + call_notes ≤ turn_notes }
+        requires room { note_count self.old.reach.kernel + syscall_notes ≤ turn_notes }
         ensures stands { (g : Setup) (t : Turn) → MachineStands g self.old t → MachineStands g self.new (happened_next g (slice_get (events_of (script_data script.now) turn) k) t) }
-        ensures count { note_count self.new.reach.kernel ≤ note_count self.old.reach.kernel + call_notes }
+        ensures count { note_count self.new.reach.kernel ≤ note_count self.old.reach.kernel + syscall_notes }
         ensures over { result ≡ false → slice_get (events_of (script_data script.now) turn) k ≡ None }
     {
         match script.event_at(turn, k) {
@@ -170,7 +170,7 @@ impl Machine {
         requires stands { (g : Setup) × (t : Turn) × MachineStands g self.old t × (t.state.now + 9 < 2 ^ 64) }
         requires room { note_count self.old.reach.kernel ≡ 0 }
         ensures stands { (g : Setup) (t : Turn) → MachineStands g self.old t → MachineStands g self.new (fold (happened g) t (events_of (script_data script.now) turn)) }
-        ensures count { note_count self.new.reach.kernel ≤ 9 * call_notes }
+        ensures count { note_count self.new.reach.kernel ≤ 9 * syscall_notes }
     {
         script.facts();
         for k in 0..9 {
@@ -181,7 +181,7 @@ impl Machine {
     }
 }
 
-/// What is told of the registers r0 to r7.
+/// What is noted of the registers r0 to r7.
 fn low_note(registers: &[u32; 16]) -> Note
     ensures { result ≡ Note.Low (take 8 registers.now) }
 {
@@ -191,7 +191,7 @@ fn low_note(registers: &[u32; 16]) -> Note
     }
 }
 
-/// What is told of the registers r8 to r15 and of the flags.
+/// What is noted of the registers r8 to r15 and of the flags.
 fn high_note(registers: &[u32; 16], flags: Flags) -> Note
     ensures { result ≡ Note.High (drop 8 registers.now) flags.n flags.z flags.c flags.v }
 {
@@ -206,15 +206,15 @@ fn high_note(registers: &[u32; 16], flags: Flags) -> Note
 }
 
 impl Machine {
-    /// With all instructions, that of the current task is told.
+    /// With all instructions, that of the current task is noted.
     #[inline(always)]
-    fn tell_insn(&mut self, level: Level, at: u32, code: u32)
+    fn note_insn(&mut self, level: Level, at: u32, code: u32)
         requires { note_count self.old.reach.kernel < turn_notes }
-        ensures ready { (g : Setup) (t : Turn) → IsReady g self.old t → IsReady g self.new (told level (Note.Insn t.state.current at code) t) }
+        ensures ready { (g : Setup) (t : Turn) → IsReady g self.old t → IsReady g self.new (noted_at level (Note.Insn t.state.current at code) t) }
         ensures count { note_count self.new.reach.kernel ≤ note_count self.old.reach.kernel + 1 }
     {
         match level {
-            Level::Calls => {}
+            Level::Brief => {}
             Level::All => {
                 let task = self.reach.kernel.current() as u16;
                 self.reach.kernel.note(Note::Insn { task, at, code });
@@ -222,23 +222,23 @@ impl Machine {
         }
     }
 
-    /// With all instructions, an idle turn is told.
-    fn tell_idle(&mut self, level: Level)
+    /// With all instructions, an idle turn is noted.
+    fn note_idle(&mut self, level: Level)
         requires room { note_count self.old.reach.kernel < turn_notes }
-        ensures holds { (g : Setup) (t : Turn) → MachineHolds g self.old t → MachineHolds g self.new (told level Note.Idle t) }
+        ensures holds { (g : Setup) (t : Turn) → MachineHolds g self.old t → MachineHolds g self.new (noted_at level Note.Idle t) }
         ensures count { note_count self.new.reach.kernel ≤ note_count self.old.reach.kernel + 1 }
     {
         match level {
-            Level::Calls => {}
+            Level::Brief => {}
             Level::All => self.reach.kernel.note(Note::Idle),
         }
     }
 
-    /// The registers and flags of a task are told.
-    fn tell_registers(&mut self, task: usize)
+    /// The registers and flags of a task are noted.
+    fn note_registers(&mut self, task: usize)
         requires there { task < task_count self.old.reach.kernel }
         requires room { note_count self.old.reach.kernel + 2 ≤ turn_notes }
-        ensures holds { (g : Setup) (t : Turn) → MachineHolds g self.old t → MachineHolds g self.new (with_registers_told Level.All task t) }
+        ensures holds { (g : Setup) (t : Turn) → MachineHolds g self.old t → MachineHolds g self.new (with_registers_noted Level.All task t) }
         ensures count { note_count self.new.reach.kernel ≤ note_count self.old.reach.kernel + 2 }
     {
         self.save_context();
@@ -248,17 +248,17 @@ impl Machine {
         self.reach.kernel.note(high_note(&registers, flags));
     }
 
-    /// With all instructions, the registers and flags of the task that ran are told.
+    /// With all instructions, the registers and flags of the task that ran are noted.
     #[inline(always)]
-    fn tell_task(&mut self, level: Level, task: usize)
+    fn note_task(&mut self, level: Level, task: usize)
         requires there { task < task_count self.old.reach.kernel }
         requires room { note_count self.old.reach.kernel + 2 ≤ turn_notes }
-        ensures holds { (g : Setup) (t : Turn) → MachineHolds g self.old t → MachineHolds g self.new (with_registers_told level task t) }
+        ensures holds { (g : Setup) (t : Turn) → MachineHolds g self.old t → MachineHolds g self.new (with_registers_noted level task t) }
         ensures count { note_count self.new.reach.kernel ≤ note_count self.old.reach.kernel + 2 }
     {
         match level {
-            Level::Calls => {}
-            Level::All => self.tell_registers(task),
+            Level::Brief => {}
+            Level::All => self.note_registers(task),
         }
     }
 }
@@ -268,12 +268,12 @@ impl Machine {
     fn execute(&mut self, insn: &Insn)
         requires coded { IsCoded insn.now }
         requires ready { (g : Setup) × (t : Turn) × IsReady g self.old t × HasNumber t.state }
-        requires room { note_count self.old.reach.kernel + call_notes + 1 ≤ turn_notes }
+        requires room { note_count self.old.reach.kernel + syscall_notes + 1 ≤ turn_notes }
         ensures holds { (g : Setup) (t : Turn) → IsReady g self.old t → MachineHolds g self.new (executed g t.state.current insn.now t) }
-        ensures count { note_count self.new.reach.kernel ≤ note_count self.old.reach.kernel + call_notes + 1 }
+        ensures count { note_count self.new.reach.kernel ≤ note_count self.old.reach.kernel + syscall_notes + 1 }
     {
         match insn {
-            Insn::Svc { .. } => self.call(),
+            Insn::Svc { .. } => self.syscall(),
             _ => self.execute_own(insn),
         }
     }
@@ -282,28 +282,28 @@ impl Machine {
     fn execute_own(&mut self, insn: &Insn)
         requires coded { IsCoded insn.now }
         requires ready { (g : Setup) × (t : Turn) × IsReady g self.old t × HasNumber t.state }
-        requires room { note_count self.old.reach.kernel + call_notes + 1 ≤ turn_notes }
+        requires room { note_count self.old.reach.kernel + syscall_notes + 1 ≤ turn_notes }
         ensures holds { (g : Setup) (t : Turn) → IsReady g self.old t → MachineHolds g self.new (executed g t.state.current insn.now t) }
-        ensures count { note_count self.new.reach.kernel ≤ note_count self.old.reach.kernel + call_notes + 1 }
+        ensures count { note_count self.new.reach.kernel ≤ note_count self.old.reach.kernel + syscall_notes + 1 }
     {
         match exec(&mut self.processor, insn, &mut self.reach) {
             Outcome::Next => {}
-            Outcome::Call => self.call(),
+            Outcome::Syscall => self.syscall(),
             Outcome::Trap(fault) => self.fault(fault),
         }
     }
 
-    /// The current task calls the kernel.
-    fn call(&mut self)
+    /// The current task makes a system call.
+    fn syscall(&mut self)
         requires ready { (g : Setup) × (t : Turn) × IsReady g self.old t × HasNumber t.state }
-        requires room { note_count self.old.reach.kernel + call_notes + 1 ≤ turn_notes }
-        ensures holds { (g : Setup) (t : Turn) → IsReady g self.old t → MachineHolds g self.new (called g t.state.current (call_noted t.state.current t)) }
-        ensures count { note_count self.new.reach.kernel ≤ note_count self.old.reach.kernel + call_notes + 1 }
+        requires room { note_count self.old.reach.kernel + syscall_notes + 1 ≤ turn_notes }
+        ensures holds { (g : Setup) (t : Turn) → IsReady g self.old t → MachineHolds g self.new (syscall_made g t.state.current (syscall_noted t.state.current t)) }
+        ensures count { note_count self.new.reach.kernel ≤ note_count self.old.reach.kernel + syscall_notes + 1 }
     {
         self.save_context();
         let task = self.reach.kernel.current();
-        self.reach.kernel.note_call(task);
-        call(&mut self.reach.kernel, task);
+        self.reach.kernel.note_syscall(task);
+        syscall(&mut self.reach.kernel, task);
     }
 
     /// The current task faults.
@@ -323,14 +323,14 @@ impl Machine {
     #[inline(never)]
     pub fn step(&mut self, level: Level)
         requires ready { (g : Setup) × (t : Turn) × IsReady g self.old t × HasNumber t.state }
-        requires room { note_count self.old.reach.kernel + call_notes + 2 ≤ turn_notes }
+        requires room { note_count self.old.reach.kernel + syscall_notes + 2 ≤ turn_notes }
         ensures holds { (g : Setup) (t : Turn) → IsReady g self.old t → MachineHolds g self.new (stepped level g t.state.current t) }
-        ensures count { note_count self.new.reach.kernel ≤ note_count self.old.reach.kernel + call_notes + 2 }
+        ensures count { note_count self.new.reach.kernel ≤ note_count self.old.reach.kernel + syscall_notes + 2 }
     {
         let at = self.processor.regs.get(15);
         match fetch(&self.reach, at) {
             Ok(fetched) => {
-                self.tell_insn(level, at, fetched.code);
+                self.note_insn(level, at, fetched.code);
                 self.execute(&fetched.insn);
             }
             Err(fault) => self.fault(fault),
@@ -343,21 +343,21 @@ impl Machine {
     /// nothing where none is chosen.
     pub fn turn(&mut self, level: Level, next: Option<usize>) -> Turned
         requires next { (g : Setup) × (t : Turn) × IsNext g self.old t next × HasNumber t.state }
-        requires room { note_count self.old.reach.kernel + call_notes + 4 ≤ turn_notes }
+        requires room { note_count self.old.reach.kernel + syscall_notes + 4 ≤ turn_notes }
         ensures holds { (g : Setup) (t : Turn) → IsNext g self.old t next → MachineHolds g self.new (turn_of level g next t) }
         ensures turned { (g : Setup) (t : Turn) → IsNext g self.old t next → result ≡ turned_of t.state next }
-        ensures count { note_count self.new.reach.kernel ≤ note_count self.old.reach.kernel + call_notes + 4 }
+        ensures count { note_count self.new.reach.kernel ≤ note_count self.old.reach.kernel + syscall_notes + 4 }
     {
         match next {
             None => {
-                self.tell_idle(level);
+                self.note_idle(level);
                 Turned::Idle
             }
             Some(task) => {
                 self.load_context(task);
                 let at = self.processor.regs.get(15);
                 self.step(level);
-                self.tell_task(level, task);
+                self.note_task(level, task);
                 Turned::Ran {
                     task: task as u16,
                     at,

@@ -12,16 +12,16 @@ use Rattle.thumb_exec.specs.Effect.{words, transfers, first_refused, stores_of, 
 use Rattle.mem_banks.specs.Memory.{bytes_at, with_bytes, copied as copied_memory}
 use Rattle.task_table.specs.State.{Setup}
 use Rattle.task_table.specs.Reading.{task_at, line_at, register, arguments, call_of, listen_of, dead_code_for, is_out, is_dead, is_ready, bad_byte, chosen, offer_by, best_sender}
-use Rattle.task_table.specs.Effects.{with_task, without_call, without_listen, with_listen, with_taken, noted, with_processor, with_health, stored, copied, looked, given, returned, past_call, bits_added, bits_cleared, woken, posted, with_timer, clocked, with_line, closed, faulted_as, handed}
+use Rattle.task_table.specs.Effects.{with_task, without_call, without_listen, with_listen, with_taken, noted, with_processor, with_health, stored, copied, looked, given, returned, past_syscall, bits_added, bits_cleared, woken, posted, with_timer, clocked, with_line, closed, faulted_as, handed}
 use Rattle.task_table.specs.Events.{ticked, owner_of, interrupted}
-use Rattle.task_table.specs.Rows.{panicked, timer_set, timer_told, irq_controlled, received, call_noted}
-use Rattle.task_table.specs.Calls.{called}
+use Rattle.task_table.specs.Rows.{panicked, timer_set, timer_answered, irq_controlled, received, syscall_noted}
+use Rattle.task_table.specs.Syscalls.{syscall_made}
 use Rattle.task_table.specs.Start.{start, begun}
-use Rattle.board_model.specs.declared.told.End.TheVariants.{Bound}
-use Rattle.board_model.specs.declared.told.Level.TheVariants.{Calls}
+use Rattle.board_model.specs.declared.outcomes.End.TheVariants.{Bound}
+use Rattle.board_model.specs.declared.outcomes.Level.TheVariants.{Brief}
 use Rattle.board_model.specs.Script.{Scenario}
 use Rattle.board_model.specs.Run.{Run, run, ending}
-use Rattle.board_model.specs.Turn.{after_events, stepped, with_registers_told, ended, turn}
+use Rattle.board_model.specs.Turn.{after_events, stepped, with_registers_noted, ended, turn}
 
 setup : Setup
 setup = record {
@@ -46,87 +46,87 @@ scenario = record {
 
 expected : List (ℕ × Note)
 expected =
-    (6, note.Call 0 1 (0 ∷ 0 ∷ 1 ∷ 2147549183 ∷ 0 ∷ 0 ∷ 0 ∷ [])) ∷
+    (6, note.Syscall 0 1 (0 ∷ 0 ∷ 1 ∷ 2147549183 ∷ 0 ∷ 0 ∷ 0 ∷ [])) ∷
     (6, note.Listen 0 listened.Kernel 1) ∷
-    (14, note.Call 1 7 (2 ∷ 1 ∷ 0 ∷ 0 ∷ 0 ∷ 0 ∷ 0 ∷ [])) ∷
+    (14, note.Syscall 1 7 (2 ∷ 1 ∷ 0 ∷ 0 ∷ 0 ∷ 0 ∷ 0 ∷ [])) ∷
     (14, note.Ret 1 (2 ∷ 1 ∷ 0 ∷ 0 ∷ 0 ∷ 0 ∷ [])) ∷
-    (17, note.Call 1 9 (2 ∷ 1 ∷ 0 ∷ 0 ∷ 0 ∷ 0 ∷ 0 ∷ [])) ∷
+    (17, note.Syscall 1 9 (2 ∷ 1 ∷ 0 ∷ 0 ∷ 0 ∷ 0 ∷ 0 ∷ [])) ∷
     (17, note.Ret 1 (0 ∷ 0 ∷ 0 ∷ 0 ∷ 0 ∷ 0 ∷ [])) ∷
-    (27, note.Call 1 3 (1 ∷ 4 ∷ 0 ∷ 1 ∷ 0 ∷ 0 ∷ 0 ∷ [])) ∷
+    (27, note.Syscall 1 3 (1 ∷ 4 ∷ 0 ∷ 1 ∷ 0 ∷ 0 ∷ 0 ∷ [])) ∷
     (27, note.Ret 1 (1 ∷ 4 ∷ 0 ∷ 1 ∷ 0 ∷ 0 ∷ [])) ∷
     (30, note.Tick 1) ∷
-    (36, note.Call 1 1 (0 ∷ 0 ∷ 3 ∷ 2147549183 ∷ 0 ∷ 0 ∷ 0 ∷ [])) ∷
+    (36, note.Syscall 1 1 (0 ∷ 0 ∷ 3 ∷ 2147549183 ∷ 0 ∷ 0 ∷ 0 ∷ [])) ∷
     (36, note.Listen 1 listened.Kernel 3) ∷
     (60, note.Tick 2) ∷
     (90, note.Tick 3) ∷
     (120, note.Tick 4) ∷
     (120, note.Post 1 1 1) ∷
     (120, note.Ret 1 (0 ∷ 65535 ∷ 1 ∷ 0 ∷ 0 ∷ 0 ∷ [])) ∷
-    (133, note.Call 1 9 (0 ∷ 65535 ∷ 1 ∷ 0 ∷ 0 ∷ 0 ∷ 0 ∷ [])) ∷
+    (133, note.Syscall 1 9 (0 ∷ 65535 ∷ 1 ∷ 0 ∷ 0 ∷ 0 ∷ 0 ∷ [])) ∷
     (133, note.Ret 1 (4 ∷ 0 ∷ 0 ∷ 0 ∷ 0 ∷ 0 ∷ [])) ∷
-    (143, note.Call 1 3 (1 ∷ 8 ∷ 0 ∷ 1 ∷ 0 ∷ 0 ∷ 0 ∷ [])) ∷
+    (143, note.Syscall 1 3 (1 ∷ 8 ∷ 0 ∷ 1 ∷ 0 ∷ 0 ∷ 0 ∷ [])) ∷
     (143, note.Ret 1 (1 ∷ 8 ∷ 0 ∷ 1 ∷ 0 ∷ 0 ∷ [])) ∷
     (150, note.Tick 5) ∷
-    (152, note.Call 1 1 (0 ∷ 0 ∷ 3 ∷ 2147549183 ∷ 0 ∷ 0 ∷ 0 ∷ [])) ∷
+    (152, note.Syscall 1 1 (0 ∷ 0 ∷ 3 ∷ 2147549183 ∷ 0 ∷ 0 ∷ 0 ∷ [])) ∷
     (152, note.Listen 1 listened.Kernel 3) ∷
     (180, note.Tick 6) ∷
     (200, note.Irq 5 handled.Posted) ∷
     (200, note.Post 1 2 2) ∷
     (200, note.Ret 1 (0 ∷ 65535 ∷ 2 ∷ 0 ∷ 0 ∷ 0 ∷ [])) ∷
-    (209, note.Call 1 7 (2 ∷ 1 ∷ 2 ∷ 0 ∷ 0 ∷ 0 ∷ 0 ∷ [])) ∷
+    (209, note.Syscall 1 7 (2 ∷ 1 ∷ 2 ∷ 0 ∷ 0 ∷ 0 ∷ 0 ∷ [])) ∷
     (209, note.Ret 1 (2 ∷ 1 ∷ 2 ∷ 0 ∷ 0 ∷ 0 ∷ [])) ∷
     (210, note.Tick 7) ∷
-    (221, note.Call 1 1 (0 ∷ 0 ∷ 3 ∷ 2147549183 ∷ 0 ∷ 0 ∷ 0 ∷ [])) ∷
+    (221, note.Syscall 1 1 (0 ∷ 0 ∷ 3 ∷ 2147549183 ∷ 0 ∷ 0 ∷ 0 ∷ [])) ∷
     (221, note.Listen 1 listened.Kernel 3) ∷
     (240, note.Tick 8) ∷
     (240, note.Post 1 1 1) ∷
     (240, note.Ret 1 (0 ∷ 65535 ∷ 1 ∷ 0 ∷ 0 ∷ 0 ∷ [])) ∷
-    (253, note.Call 1 9 (0 ∷ 65535 ∷ 1 ∷ 0 ∷ 0 ∷ 0 ∷ 0 ∷ [])) ∷
+    (253, note.Syscall 1 9 (0 ∷ 65535 ∷ 1 ∷ 0 ∷ 0 ∷ 0 ∷ 0 ∷ [])) ∷
     (253, note.Ret 1 (8 ∷ 0 ∷ 0 ∷ 0 ∷ 0 ∷ 0 ∷ [])) ∷
-    (263, note.Call 1 3 (1 ∷ 10 ∷ 0 ∷ 1 ∷ 0 ∷ 0 ∷ 0 ∷ [])) ∷
+    (263, note.Syscall 1 3 (1 ∷ 10 ∷ 0 ∷ 1 ∷ 0 ∷ 0 ∷ 0 ∷ [])) ∷
     (263, note.Ret 1 (1 ∷ 10 ∷ 0 ∷ 1 ∷ 0 ∷ 0 ∷ [])) ∷
     (270, note.Tick 9) ∷
-    (272, note.Call 1 1 (0 ∷ 0 ∷ 3 ∷ 2147549183 ∷ 0 ∷ 0 ∷ 0 ∷ [])) ∷
+    (272, note.Syscall 1 1 (0 ∷ 0 ∷ 3 ∷ 2147549183 ∷ 0 ∷ 0 ∷ 0 ∷ [])) ∷
     (272, note.Listen 1 listened.Kernel 3) ∷
     (300, note.Tick 10) ∷
     (300, note.Post 1 1 1) ∷
     (300, note.Ret 1 (0 ∷ 65535 ∷ 1 ∷ 0 ∷ 0 ∷ 0 ∷ [])) ∷
-    (313, note.Call 1 9 (0 ∷ 65535 ∷ 1 ∷ 0 ∷ 0 ∷ 0 ∷ 0 ∷ [])) ∷
+    (313, note.Syscall 1 9 (0 ∷ 65535 ∷ 1 ∷ 0 ∷ 0 ∷ 0 ∷ 0 ∷ [])) ∷
     (313, note.Ret 1 (10 ∷ 0 ∷ 0 ∷ 0 ∷ 0 ∷ 0 ∷ [])) ∷
-    (323, note.Call 1 3 (1 ∷ 12 ∷ 0 ∷ 1 ∷ 0 ∷ 0 ∷ 0 ∷ [])) ∷
+    (323, note.Syscall 1 3 (1 ∷ 12 ∷ 0 ∷ 1 ∷ 0 ∷ 0 ∷ 0 ∷ [])) ∷
     (323, note.Ret 1 (1 ∷ 12 ∷ 0 ∷ 1 ∷ 0 ∷ 0 ∷ [])) ∷
     (330, note.Tick 11) ∷
-    (332, note.Call 1 1 (0 ∷ 0 ∷ 3 ∷ 2147549183 ∷ 0 ∷ 0 ∷ 0 ∷ [])) ∷
+    (332, note.Syscall 1 1 (0 ∷ 0 ∷ 3 ∷ 2147549183 ∷ 0 ∷ 0 ∷ 0 ∷ [])) ∷
     (332, note.Listen 1 listened.Kernel 3) ∷
     (360, note.Tick 12) ∷
     (360, note.Post 1 1 1) ∷
     (360, note.Ret 1 (0 ∷ 65535 ∷ 1 ∷ 0 ∷ 0 ∷ 0 ∷ [])) ∷
-    (373, note.Call 1 9 (0 ∷ 65535 ∷ 1 ∷ 0 ∷ 0 ∷ 0 ∷ 0 ∷ [])) ∷
+    (373, note.Syscall 1 9 (0 ∷ 65535 ∷ 1 ∷ 0 ∷ 0 ∷ 0 ∷ 0 ∷ [])) ∷
     (373, note.Ret 1 (12 ∷ 0 ∷ 0 ∷ 0 ∷ 0 ∷ 0 ∷ [])) ∷
-    (383, note.Call 1 3 (1 ∷ 14 ∷ 0 ∷ 1 ∷ 0 ∷ 0 ∷ 0 ∷ [])) ∷
+    (383, note.Syscall 1 3 (1 ∷ 14 ∷ 0 ∷ 1 ∷ 0 ∷ 0 ∷ 0 ∷ [])) ∷
     (383, note.Ret 1 (1 ∷ 14 ∷ 0 ∷ 1 ∷ 0 ∷ 0 ∷ [])) ∷
     (390, note.Tick 13) ∷
-    (392, note.Call 1 1 (0 ∷ 0 ∷ 3 ∷ 2147549183 ∷ 0 ∷ 0 ∷ 0 ∷ [])) ∷
+    (392, note.Syscall 1 1 (0 ∷ 0 ∷ 3 ∷ 2147549183 ∷ 0 ∷ 0 ∷ 0 ∷ [])) ∷
     (392, note.Listen 1 listened.Kernel 3) ∷
     (400, note.Irq 5 handled.Posted) ∷
     (400, note.Post 1 2 2) ∷
     (400, note.Ret 1 (0 ∷ 65535 ∷ 2 ∷ 0 ∷ 0 ∷ 0 ∷ [])) ∷
     (403, note.Irq 5 handled.Held) ∷
-    (409, note.Call 1 7 (2 ∷ 1 ∷ 2 ∷ 0 ∷ 0 ∷ 0 ∷ 0 ∷ [])) ∷
+    (409, note.Syscall 1 7 (2 ∷ 1 ∷ 2 ∷ 0 ∷ 0 ∷ 0 ∷ 0 ∷ [])) ∷
     (409, note.Post 1 2 2) ∷
     (409, note.Ret 1 (2 ∷ 1 ∷ 2 ∷ 0 ∷ 0 ∷ 0 ∷ [])) ∷
     (420, note.Tick 14) ∷
     (420, note.Post 1 1 3) ∷
-    (421, note.Call 1 1 (0 ∷ 0 ∷ 3 ∷ 2147549183 ∷ 0 ∷ 0 ∷ 0 ∷ [])) ∷
+    (421, note.Syscall 1 1 (0 ∷ 0 ∷ 3 ∷ 2147549183 ∷ 0 ∷ 0 ∷ 0 ∷ [])) ∷
     (421, note.Ret 1 (0 ∷ 65535 ∷ 3 ∷ 0 ∷ 0 ∷ 0 ∷ [])) ∷
-    (432, note.Call 1 7 (2 ∷ 1 ∷ 3 ∷ 0 ∷ 0 ∷ 0 ∷ 0 ∷ [])) ∷
+    (432, note.Syscall 1 7 (2 ∷ 1 ∷ 3 ∷ 0 ∷ 0 ∷ 0 ∷ 0 ∷ [])) ∷
     (432, note.Ret 1 (2 ∷ 1 ∷ 3 ∷ 0 ∷ 0 ∷ 0 ∷ [])) ∷
-    (443, note.Call 1 9 (2 ∷ 1 ∷ 3 ∷ 0 ∷ 0 ∷ 0 ∷ 0 ∷ [])) ∷
+    (443, note.Syscall 1 9 (2 ∷ 1 ∷ 3 ∷ 0 ∷ 0 ∷ 0 ∷ 0 ∷ [])) ∷
     (443, note.Ret 1 (14 ∷ 0 ∷ 0 ∷ 0 ∷ 0 ∷ 0 ∷ [])) ∷
     (450, note.Tick 15) ∷
-    (453, note.Call 1 3 (1 ∷ 18 ∷ 0 ∷ 1 ∷ 0 ∷ 0 ∷ 0 ∷ [])) ∷
+    (453, note.Syscall 1 3 (1 ∷ 18 ∷ 0 ∷ 1 ∷ 0 ∷ 0 ∷ 0 ∷ [])) ∷
     (453, note.Ret 1 (1 ∷ 18 ∷ 0 ∷ 1 ∷ 0 ∷ 0 ∷ [])) ∷
-    (462, note.Call 1 1 (0 ∷ 0 ∷ 3 ∷ 2147549183 ∷ 0 ∷ 0 ∷ 0 ∷ [])) ∷
+    (462, note.Syscall 1 1 (0 ∷ 0 ∷ 3 ∷ 2147549183 ∷ 0 ∷ 0 ∷ 0 ∷ [])) ∷
     (462, note.Listen 1 listened.Kernel 3) ∷
     (480, note.Tick 16) ∷
     (500, note.Irq 9 handled.Unowned) ∷
@@ -134,12 +134,12 @@ expected =
     (540, note.Tick 18) ∷
     (540, note.Post 1 1 1) ∷
     (540, note.Ret 1 (0 ∷ 65535 ∷ 1 ∷ 0 ∷ 0 ∷ 0 ∷ [])) ∷
-    (553, note.Call 1 9 (0 ∷ 65535 ∷ 1 ∷ 0 ∷ 0 ∷ 0 ∷ 0 ∷ [])) ∷
+    (553, note.Syscall 1 9 (0 ∷ 65535 ∷ 1 ∷ 0 ∷ 0 ∷ 0 ∷ 0 ∷ [])) ∷
     (553, note.Ret 1 (18 ∷ 0 ∷ 0 ∷ 0 ∷ 0 ∷ 0 ∷ [])) ∷
-    (563, note.Call 1 3 (1 ∷ 22 ∷ 0 ∷ 1 ∷ 0 ∷ 0 ∷ 0 ∷ [])) ∷
+    (563, note.Syscall 1 3 (1 ∷ 22 ∷ 0 ∷ 1 ∷ 0 ∷ 0 ∷ 0 ∷ [])) ∷
     (563, note.Ret 1 (1 ∷ 22 ∷ 0 ∷ 1 ∷ 0 ∷ 0 ∷ [])) ∷
     (570, note.Tick 19) ∷
-    (572, note.Call 1 1 (0 ∷ 0 ∷ 3 ∷ 2147549183 ∷ 0 ∷ 0 ∷ 0 ∷ [])) ∷
+    (572, note.Syscall 1 1 (0 ∷ 0 ∷ 3 ∷ 2147549183 ∷ 0 ∷ 0 ∷ 0 ∷ [])) ∷
     (572, note.Listen 1 listened.Kernel 3) ∷
     []
 
@@ -147,6 +147,6 @@ expected =
 IsTrace : Run → Type 0
 IsTrace r = (r.notes ≡ expected) × (r.end ≡ Bound) × (r.last.now ≡ 19)
 
-agrees : IsTrace (run Calls scenario 600 (start setup))
-unfolding setup scenario expected IsTrace run ending after_events turn ended stepped begun start with_registers_told ticked interrupted owner_of panicked timer_set timer_told irq_controlled received call_noted called with_task without_call without_listen with_listen with_taken noted with_processor with_health stored copied looked given returned past_call bits_added bits_cleared woken posted with_timer clocked with_line closed faulted_as handed task_at line_at register arguments call_of listen_of dead_code_for is_out is_dead is_ready bad_byte chosen offer_by best_sender bytes_at with_bytes copied_memory first_bad words transfers first_refused stores_of loaded_all ones count effect rows narrow_of wide_rows wide_of
+agrees : IsTrace (run Brief scenario 600 (start setup))
+unfolding setup scenario expected IsTrace run ending after_events turn ended stepped begun start with_registers_noted ticked interrupted owner_of panicked timer_set timer_answered irq_controlled received syscall_noted syscall_made with_task without_call without_listen with_listen with_taken noted with_processor with_health stored copied looked given returned past_syscall bits_added bits_cleared woken posted with_timer clocked with_line closed faulted_as handed task_at line_at register arguments call_of listen_of dead_code_for is_out is_dead is_ready bad_byte chosen offer_by best_sender bytes_at with_bytes copied_memory first_bad words transfers first_refused stores_of loaded_all ones count effect rows narrow_of wide_rows wide_of
 agrees = (refl, refl, refl)

@@ -11,17 +11,17 @@ use Rattle.thumb_exec.specs.Effect.{words, transfers, first_refused, stores_of, 
 use Rattle.task_table.specs.State.{Setup}
 use Rattle.mem_banks.specs.Memory.{bytes_at, with_bytes, copied as copied_memory}
 use Rattle.task_table.specs.Reading.{task_at, line_at, register, arguments, call_of, listen_of, dead_code_for, is_out, is_dead, present_id, is_ready, bad_byte, chosen, offer_by, taken_by, best_sender}
-use Rattle.task_table.specs.Effects.{with_task, without_call, without_listen, with_listen, with_taken, noted, with_processor, with_health, stored, copied, looked, given, returned, past_call, bits_added, bits_cleared, woken, posted, with_timer, clocked, with_line, closed, faulted_as, with_call, offered, handed}
+use Rattle.task_table.specs.Effects.{with_task, without_call, without_listen, with_listen, with_taken, noted, with_processor, with_health, stored, copied, looked, given, returned, past_syscall, bits_added, bits_cleared, woken, posted, with_timer, clocked, with_line, closed, faulted_as, with_call, offered, handed}
 use Rattle.task_table.specs.Events.{ticked, owner_of, interrupted}
-use Rattle.task_table.specs.Rows.{panicked, timer_set, timer_told, irq_controlled, received, call_noted}
+use Rattle.task_table.specs.Rows.{panicked, timer_set, timer_answered, irq_controlled, received, syscall_noted}
 use Rattle.task_table.specs.Sends.{sent, replied, reply_faulted, post_made, refreshed}
-use Rattle.task_table.specs.Calls.{called}
+use Rattle.task_table.specs.Syscalls.{syscall_made}
 use Rattle.task_table.specs.Start.{start, begun}
-use Rattle.board_model.specs.declared.told.End.TheVariants.{Still}
-use Rattle.board_model.specs.declared.told.Level.TheVariants.{Calls}
+use Rattle.board_model.specs.declared.outcomes.End.TheVariants.{Still}
+use Rattle.board_model.specs.declared.outcomes.Level.TheVariants.{Brief}
 use Rattle.board_model.specs.Script.{Scenario}
 use Rattle.board_model.specs.Run.{Run, run, ending}
-use Rattle.board_model.specs.Turn.{after_events, stepped, with_registers_told, ended, turn}
+use Rattle.board_model.specs.Turn.{after_events, stepped, with_registers_noted, ended, turn}
 
 setup : Setup
 setup = record {
@@ -45,41 +45,41 @@ scenario = record { setup = setup; script = record { every = None; events = [] }
 
 expected : List (ℕ × Note)
 expected =
-    (3, note.Call 0 1 (0 ∷ 0 ∷ 1 ∷ 0 ∷ 0 ∷ 0 ∷ 0 ∷ [])) ∷
+    (3, note.Syscall 0 1 (0 ∷ 0 ∷ 1 ∷ 0 ∷ 0 ∷ 0 ∷ 0 ∷ [])) ∷
     (3, note.Listen 0 listened.Any 1) ∷
-    (10, note.Call 1 1 (536871232 ∷ 8 ∷ 0 ∷ 0 ∷ 0 ∷ 0 ∷ 0 ∷ [])) ∷
+    (10, note.Syscall 1 1 (536871232 ∷ 8 ∷ 0 ∷ 0 ∷ 0 ∷ 0 ∷ 0 ∷ [])) ∷
     (10, note.Listen 1 listened.Any 0) ∷
-    (26, note.Call 2 0 (65541 ∷ 536871488 ∷ 4 ∷ 536871488 ∷ 4 ∷ 0 ∷ 0 ∷ [])) ∷
+    (26, note.Syscall 2 0 (65541 ∷ 536871488 ∷ 4 ∷ 536871488 ∷ 4 ∷ 0 ∷ 0 ∷ [])) ∷
     (26, note.Offer 1 2 1) ∷
     (26, note.Take 1 4) ∷
     (26, note.Ret 1 (0 ∷ 2 ∷ 5 ∷ 4 ∷ 4 ∷ 0 ∷ [])) ∷
-    (36, note.Call 1 2 (2 ∷ 5 ∷ 536871232 ∷ 4 ∷ 4 ∷ 0 ∷ 0 ∷ [])) ∷
+    (36, note.Syscall 1 2 (2 ∷ 5 ∷ 536871232 ∷ 4 ∷ 4 ∷ 0 ∷ 0 ∷ [])) ∷
     (36, note.Close 1 ending.Reply) ∷
     (36, note.Ret 2 (5 ∷ 4 ∷ 4 ∷ 536871488 ∷ 4 ∷ 0 ∷ [])) ∷
     (36, note.Ret 1 (2 ∷ 5 ∷ 536871232 ∷ 4 ∷ 4 ∷ 0 ∷ [])) ∷
-    (44, note.Call 1 1 (536871232 ∷ 8 ∷ 0 ∷ 0 ∷ 4 ∷ 0 ∷ 0 ∷ [])) ∷
+    (44, note.Syscall 1 1 (536871232 ∷ 8 ∷ 0 ∷ 0 ∷ 4 ∷ 0 ∷ 0 ∷ [])) ∷
     (44, note.Listen 1 listened.Any 0) ∷
-    (59, note.Call 2 0 (65541 ∷ 536871488 ∷ 4 ∷ 536871488 ∷ 4 ∷ 0 ∷ 0 ∷ [])) ∷
+    (59, note.Syscall 2 0 (65541 ∷ 536871488 ∷ 4 ∷ 536871488 ∷ 4 ∷ 0 ∷ 0 ∷ [])) ∷
     (59, note.Offer 2 2 1) ∷
     (59, note.Take 2 4) ∷
     (59, note.Ret 1 (0 ∷ 2 ∷ 5 ∷ 4 ∷ 4 ∷ 0 ∷ [])) ∷
-    (69, note.Call 1 2 (2 ∷ 5 ∷ 536871232 ∷ 4 ∷ 4 ∷ 0 ∷ 0 ∷ [])) ∷
+    (69, note.Syscall 1 2 (2 ∷ 5 ∷ 536871232 ∷ 4 ∷ 4 ∷ 0 ∷ 0 ∷ [])) ∷
     (69, note.Close 2 ending.Reply) ∷
     (69, note.Ret 2 (5 ∷ 4 ∷ 4 ∷ 536871488 ∷ 4 ∷ 0 ∷ [])) ∷
     (69, note.Ret 1 (2 ∷ 5 ∷ 536871232 ∷ 4 ∷ 4 ∷ 0 ∷ [])) ∷
-    (77, note.Call 1 1 (536871232 ∷ 8 ∷ 0 ∷ 0 ∷ 4 ∷ 0 ∷ 0 ∷ [])) ∷
+    (77, note.Syscall 1 1 (536871232 ∷ 8 ∷ 0 ∷ 0 ∷ 4 ∷ 0 ∷ 0 ∷ [])) ∷
     (77, note.Listen 1 listened.Any 0) ∷
-    (92, note.Call 2 0 (65541 ∷ 536871488 ∷ 4 ∷ 536871488 ∷ 4 ∷ 0 ∷ 0 ∷ [])) ∷
+    (92, note.Syscall 2 0 (65541 ∷ 536871488 ∷ 4 ∷ 536871488 ∷ 4 ∷ 0 ∷ 0 ∷ [])) ∷
     (92, note.Offer 3 2 1) ∷
     (92, note.Take 3 4) ∷
     (92, note.Ret 1 (0 ∷ 2 ∷ 5 ∷ 4 ∷ 4 ∷ 0 ∷ [])) ∷
-    (102, note.Call 1 2 (2 ∷ 5 ∷ 536871232 ∷ 4 ∷ 4 ∷ 0 ∷ 0 ∷ [])) ∷
+    (102, note.Syscall 1 2 (2 ∷ 5 ∷ 536871232 ∷ 4 ∷ 4 ∷ 0 ∷ 0 ∷ [])) ∷
     (102, note.Close 3 ending.Reply) ∷
     (102, note.Ret 2 (5 ∷ 4 ∷ 4 ∷ 536871488 ∷ 4 ∷ 0 ∷ [])) ∷
     (102, note.Ret 1 (2 ∷ 5 ∷ 536871232 ∷ 4 ∷ 4 ∷ 0 ∷ [])) ∷
-    (110, note.Call 1 1 (536871232 ∷ 8 ∷ 0 ∷ 0 ∷ 4 ∷ 0 ∷ 0 ∷ [])) ∷
+    (110, note.Syscall 1 1 (536871232 ∷ 8 ∷ 0 ∷ 0 ∷ 4 ∷ 0 ∷ 0 ∷ [])) ∷
     (110, note.Listen 1 listened.Any 0) ∷
-    (118, note.Call 2 1 (5 ∷ 0 ∷ 0 ∷ 2147549183 ∷ 4 ∷ 0 ∷ 0 ∷ [])) ∷
+    (118, note.Syscall 2 1 (5 ∷ 0 ∷ 0 ∷ 2147549183 ∷ 4 ∷ 0 ∷ 0 ∷ [])) ∷
     (118, note.Listen 2 listened.Kernel 0) ∷
     []
 
@@ -87,6 +87,6 @@ expected =
 IsTrace : Run → Type 0
 IsTrace r = (r.notes ≡ expected) × (r.end ≡ Still) × (r.last.turn ≡ 119)
 
-agrees : IsTrace (run Calls scenario 200 (start setup))
-unfolding setup scenario expected IsTrace first_bad words transfers first_refused stores_of loaded_all ones count effect rows narrow_of wide_rows wide_of run ending after_events turn ended stepped with_registers_told bytes_at with_bytes copied_memory task_at line_at register arguments call_of listen_of dead_code_for is_out is_dead present_id is_ready bad_byte chosen offer_by taken_by best_sender with_task without_call without_listen with_listen with_taken noted with_processor with_health stored copied looked given returned past_call bits_added bits_cleared woken posted with_timer clocked with_line closed faulted_as with_call offered handed ticked owner_of interrupted panicked timer_set timer_told irq_controlled received call_noted sent replied reply_faulted post_made refreshed called start begun
+agrees : IsTrace (run Brief scenario 200 (start setup))
+unfolding setup scenario expected IsTrace first_bad words transfers first_refused stores_of loaded_all ones count effect rows narrow_of wide_rows wide_of run ending after_events turn ended stepped with_registers_noted bytes_at with_bytes copied_memory task_at line_at register arguments call_of listen_of dead_code_for is_out is_dead present_id is_ready bad_byte chosen offer_by taken_by best_sender with_task without_call without_listen with_listen with_taken noted with_processor with_health stored copied looked given returned past_syscall bits_added bits_cleared woken posted with_timer clocked with_line closed faulted_as with_call offered handed ticked owner_of interrupted panicked timer_set timer_answered irq_controlled received syscall_noted sent replied reply_faulted post_made refreshed syscall_made start begun
 agrees = (refl, refl, refl)

@@ -13,9 +13,9 @@ use Rattle.task_table.specs.Sane.{Sane, IsCounted}
 use Rattle.task_table.specs.Counts.{AreCounts}
 use Rattle.task_table.proofs.Counting.{time-aside, counts_same, chain_counts}
 use Rattle.task_table.proofs.Outside.{outside-ticked, now-ticked, aside-interrupted}
-use Rattle.board_model.specs.declared.told.Level.{Level}
+use Rattle.board_model.specs.declared.outcomes.Level.{Level}
 use Rattle.board_model.specs.Script.{Scenario}
-use Rattle.board_model.specs.Turn.{told, happened, after_events, with_current, turn_of, ended, turn}
+use Rattle.board_model.specs.Turn.{noted_at, happened, after_events, with_current, turn_of, ended, turn}
 use Rattle.board_model.proofs.TurnChains.{turn_chain, sane-after_events, idle-aside}
 
 -- at most so many ticks later
@@ -45,7 +45,7 @@ later-after_events x s = later_begun _ s _ (later-events x.setup (events_of x.sc
 
 -- from the events to the end of the turn
 turn_counts : (level : Level) (x : Scenario) (s : State) → Sane x.setup s → (o : Option ℕ) → chosen x.setup (after_events x s).state ≡ o → AreCounts (after_events x s).state (turn_of level x.setup o (after_events x s)).state
-turn_counts level x s h None e = let t = after_events x s in counts_same t.state (told level note.Idle t).state (time-aside t _ (idle-aside level t))
+turn_counts level x s h None e = let t = after_events x s in counts_same t.state (noted_at level note.Idle t).state (time-aside t _ (idle-aside level t))
 turn_counts level x s h (Some c) e =
     let u = with_current c (after_events x s) in
     let here : AreCounts u.state u.state = record { count = refl; turn = refl; now = refl; from = omega arith; upto = omega arith } in

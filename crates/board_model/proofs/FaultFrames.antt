@@ -91,8 +91,8 @@ both-woken_by i (Some l) t u a b h = by_bits (eqb (under t) 0) (eqb (under u) 0)
     cleared : Turn → Turn
     cleared v = bits_cleared i l.mask (changed (without_listen i) v)
 
-    told : Turn → Turn
-    told v = returned i (given i (0 ∷ 0xFFFF ∷ under v ∷ 0 ∷ 0 ∷ 0 ∷ []) (cleared v))
+    answered : Turn → Turn
+    answered v = returned i (given i (0 ∷ 0xFFFF ∷ under v ∷ 0 ∷ 0 ∷ 0 ∷ []) (cleared v))
 
     inside : (s : State) → i < length s.tasks → i < length (without_listen i s).tasks
     inside s lt = rw (same_but-without_listen s i).count lt
@@ -103,12 +103,12 @@ both-woken_by i (Some l) t u a b h = by_bits (eqb (under t) 0) (eqb (under u) 0)
     both_cleared : IsSameAt i (cleared t).state (cleared u).state
     both_cleared = both-with_task i _ _ _ _ (ap (λ (x : Task). record x { posted = bit_and x.posted (2 ^ 32 - 1 - l.mask) }) both_unlistened.task) (inside t.state a) (inside u.state b) both_unlistened
 
-    both_told : IsSameAt i (told t).state (told u).state
-    both_told = both-with_task i _ _ _ _ (λ j. let x = both_cleared.task j in record x { registers = with_results (0 ∷ 0xFFFF ∷ same_bits j ∷ 0 ∷ 0 ∷ 0 ∷ []) x.registers }) (there i i _ _ (inside t.state a)) (there i i _ _ (inside u.state b)) both_cleared
+    both_answered : IsSameAt i (answered t).state (answered u).state
+    both_answered = both-with_task i _ _ _ _ (λ j. let x = both_cleared.task j in record x { registers = with_results (0 ∷ 0xFFFF ∷ same_bits j ∷ 0 ∷ 0 ∷ 0 ∷ []) x.registers }) (there i i _ _ (inside t.state a)) (there i i _ _ (inside u.state b)) both_cleared
 
-    by_bits : (x y : Bool) → y ≡ x → IsSameAt i (cond x t (told t)).state (cond y u (told u)).state
+    by_bits : (x y : Bool) → y ≡ x → IsSameAt i (cond x t (answered t)).state (cond y u (answered u)).state
     by_bits true true e = h
-    by_bits false false e = both_told
+    by_bits false false e = both_answered
     by_bits true false e = absurd (false≢true e)
     by_bits false true e = absurd (false≢true (sym e))
 
@@ -140,7 +140,7 @@ module _ (g : Setup) (c : ℕ) (f : Fault) (t : Turn) where
   abbrev s : State
   s = t.state
 
-  -- it is Faulted and waits for nothing, and no one is told
+  -- it is Faulted and waits for nothing, and no one gets anything
   shut : Turn
   shut = closed c Client (noted (note.Fault c f) (changed (without_listen c) (with_health c (Faulted f) t)))
 
@@ -199,17 +199,17 @@ module _ (g : Setup) (c : ℕ) (f : Fault) (t : Turn) where
       } silent-shut.0 silent-shut.1
       by_zero false e =
           let u = posted 0 g.fault_bits shut in
-          let told = same_but-posted 0 g.fault_bits shut in
+          let answered = same_but-posted 0 g.fault_bits shut in
           let aside = (aside-posted 0 g.fault_bits shut).outside in
           let apart : c ≢ 0 = λ same. false≢true (sym e ∙ eq-eqb c 0 same) in
           let other : 0 ≢ c = λ same. apart (sym same) in
           lone u record {
-            task = faulted_is (task_at s c) (task_at u.state c) (told.task c apart ∙ task-shut inside);
-            idle = record { call = told.call c apart ∙ idle-shut.call; listen = told.listen c apart ∙ idle-shut.listen };
+            task = faulted_is (task_at s c) (task_at u.state c) (answered.task c apart ∙ task-shut inside);
+            idle = record { call = answered.call c apart ∙ idle-shut.call; listen = answered.listen c apart ∙ idle-shut.listen };
             supervisor = λ ne. both-posted 0 g.fault_bits (begun s) shut first (rw same_but-shut.count first) (same_at-shut 0 other);
-            others = λ i other above. let o = same_at-shut i other in record { task = told.task i above ∙ o.task; call = told.call i above ∙ o.call; listen = told.listen i above ∙ o.listen };
-            memory = told.memory ∙ same_but-shut.memory;
-            now = told.now ∙ same_but-shut.now;
-            next_call = told.next_call ∙ same_but-shut.next_call;
-            lines = told.lines ∙ same_but-shut.lines;
+            others = λ i other above. let o = same_at-shut i other in record { task = answered.task i above ∙ o.task; call = answered.call i above ∙ o.call; listen = answered.listen i above ∙ o.listen };
+            memory = answered.memory ∙ same_but-shut.memory;
+            now = answered.now ∙ same_but-shut.now;
+            next_call = answered.next_call ∙ same_but-shut.next_call;
+            lines = answered.lines ∙ same_but-shut.lines;
           } (aside.writes ∙ silent-shut.0) (aside.reads ∙ silent-shut.1)

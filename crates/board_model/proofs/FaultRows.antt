@@ -1,4 +1,4 @@
--- A call either faults its caller at once, which changes nothing else, or leaves the caller well.
+-- A system call either faults its caller at once, which changes nothing else, or leaves the caller well.
 use Rattle.std.proofs.Common.{◌≡◌, ◌≢◌, ◌%◌, ◌<◌, ℕ, Bool, true, false, cond, List, [], ◌∷◌, length, Option, Some, None, refl, sym, ◌∙◌, eqb, bit_and}
 use Rattle.std.specs.Prelude.{fold}
 use Rattle.std.specs.List.{range_with_len}
@@ -15,16 +15,16 @@ use Rattle.task_table.specs.declared.Line.{Line}
 use Rattle.task_table.specs.declared.slot.Range.{Range}
 use Rattle.task_table.specs.State.{Setup, State, Task, Call, Listen, Ground, Own, Message, Read, Turn}
 use Rattle.task_table.specs.Reading.{task_at, call_of, listen_of, is_ready, admits}
-use Rattle.task_table.specs.Effects.{with_task, with_call, without_listen, with_listen, with_taken, changed, noted, with_processor, with_health, stored, copied, looked, given, returned, past_call, bits_added, bits_cleared, woken_by, woken, posted, with_timer, with_line, closed, faulted_as, faulted, offered, handed, reborn, is_to, awaits, told_dead, restarted}
+use Rattle.task_table.specs.Effects.{with_task, with_call, without_listen, with_listen, with_taken, changed, noted, with_processor, with_health, stored, copied, looked, given, returned, past_syscall, bits_added, bits_cleared, woken_by, woken, posted, with_timer, with_line, closed, faulted_as, faulted, offered, handed, reborn, is_to, awaits, dead_answered, restarted}
 use Rattle.task_table.specs.Sends.{taken_at_once, offers_call}
-use Rattle.task_table.specs.Calls.{called}
+use Rattle.task_table.specs.Syscalls.{syscall_made}
 use Rattle.task_table.specs.Sane.{Sane}
-use Rattle.task_table.specs.Step.{Step, Notes, Gives, Returns, PassesCall, Runs, Clears, Posts, Times, Lines, Listens, Sends, Receives, Stores, Copies, Looks, Borrows, Ceases, Halts, Strikes, Restarts, Spares, Spared, Outcome as Rows, Faults, Goes}
+use Rattle.task_table.specs.Step.{Step, Notes, Gives, Returns, PassesSyscall, Runs, Clears, Posts, Times, Lines, Listens, Sends, Receives, Stores, Copies, Looks, Borrows, Ceases, Halts, Strikes, Restarts, Spares, Spared, Outcome as Rows, Faults, Goes}
 use Rattle.task_table.proofs.Chains.{chain_keeps}
 use Rattle.task_table.proofs.Changes.{task_at-with_task_other, task_at-without_call, task_at-without_listen}
 use Rattle.task_table.proofs.Quieting.{ready-with_task}
 use Rattle.task_table.proofs.Receives.{well-ready}
-use Rattle.task_table.proofs.RowChains.{comes-called}
+use Rattle.task_table.proofs.RowChains.{comes-syscall_made}
 use Rattle.task_table.proofs.Waiting.{task_at-with_listen}
 use Rattle.board_model.proofs.FaultFrames.{IsLoneFault, lone-faulted, lone_after}
 
@@ -53,9 +53,9 @@ module _ (c : ℕ) where
   unfolding returned
   well-returned i t h = well-noted _ t h
 
-  well-past_call : (i : ℕ) (t : Turn) → IsWell t → IsWell (past_call i t)
-  unfolding past_call
-  well-past_call i t h = well-task i _ t refl h
+  well-past_syscall : (i : ℕ) (t : Turn) → IsWell t → IsWell (past_syscall i t)
+  unfolding past_syscall
+  well-past_syscall i t h = well-task i _ t refl h
 
   well-cleared : (i mask : ℕ) (t : Turn) → IsWell t → IsWell (bits_cleared i mask t)
   unfolding bits_cleared
@@ -138,34 +138,34 @@ module _ (c : ℕ) where
       stopped : Turn
       stopped = changed (with_task i record (task_at t.state i) { health = Faulted fault }) t
 
-      told : Turn
-      told = noted (note.Fault i fault) (changed (without_listen i) stopped)
+      marked : Turn
+      marked = noted (note.Fault i fault) (changed (without_listen i) stopped)
 
-      shut : IsWell (closed i ending told)
-      shut = well-closed i ending told (well-noted _ _ (well-unlistened i stopped (well-other i _ t other h)))
+      shut : IsWell (closed i ending marked)
+      shut = well-closed i ending marked (well-noted _ _ (well-unlistened i stopped (well-other i _ t other h)))
 
-      by_zero : (b : Bool) → IsWell (cond b (closed i ending told) (posted 0 g.fault_bits (closed i ending told)))
+      by_zero : (b : Bool) → IsWell (cond b (closed i ending marked) (posted 0 g.fault_bits (closed i ending marked)))
       by_zero true = shut
       by_zero false = well-posted 0 g.fault_bits _ shut
 
-  well-told_dead : (i j : ℕ) (t : Turn) → IsWell t → IsWell (told_dead i t j)
-  well-told_dead i j t h = by_tests (is_to i (call_of t.state j)) (awaits i (listen_of t.state j))
+  well-noted_dead : (i j : ℕ) (t : Turn) → IsWell t → IsWell (dead_answered i t j)
+  well-noted_dead i j t h = by_tests (is_to i (call_of t.state j)) (awaits i (listen_of t.state j))
     where
       by_tests : (b d : Bool) → IsWell (cond b (returned j (given j (dead_code_of ((task_at t.state i).births % 64) ∷ 0 ∷ []) (closed j Restart t))) (cond d (returned j (given j (dead_code_of ((task_at t.state i).births % 64) ∷ 0 ∷ 0 ∷ 0 ∷ 0 ∷ 0 ∷ []) (changed (without_listen j) t))) t))
       by_tests true d = well-returned j _ (well-given j _ _ (well-closed j Restart t h))
       by_tests false true = well-returned j _ (well-given j _ _ (well-unlistened j t h))
       by_tests false false = h
 
-  well-told : (i : ℕ) (tasks : List ℕ) (t : Turn) → IsWell t → IsWell (fold (told_dead i) t tasks)
-  well-told i [] t h = h
-  well-told i (j ∷ tasks) t h = well-told i tasks (told_dead i t j) (well-told_dead i j t h)
+  well-answered : (i : ℕ) (tasks : List ℕ) (t : Turn) → IsWell t → IsWell (fold (dead_answered i) t tasks)
+  well-answered i [] t h = h
+  well-answered i (j ∷ tasks) t h = well-answered i tasks (dead_answered i t j) (well-noted_dead i j t h)
 
   well-restarted : (g : Setup) (i : ℕ) (start : Bool) (t : Turn) → i ≢ c → IsWell t → IsWell (restarted g i start t)
   unfolding restarted reborn
   well-restarted g i start t other h =
       let shut = closed i Restart t in
       let free = changed (without_listen i) shut in
-      well-told i (range_with_len 0 (length t.state.tasks)) _ (well-noted _ (changed (reborn g i start) free) (well-other i _ free other (well-unlistened i shut (well-closed i Restart t h))))
+      well-answered i (range_with_len 0 (length t.state.tasks)) _ (well-noted _ (changed (reborn g i start) free) (well-other i _ free other (well-unlistened i shut (well-closed i Restart t h))))
 
   -- ## a step that spares a task leaves it well
 
@@ -173,7 +173,7 @@ module _ (c : ℕ) where
   well-step g s _ _ (Notes n t plain) spared h = well-noted n t h
   well-step g s _ _ (Gives i values t lt few party) spared h = well-given i values t h
   well-step g s _ _ (Returns i t) spared h = well-returned i t h
-  well-step g s _ _ (PassesCall t lt) spared h = well-past_call c t h
+  well-step g s _ _ (PassesSyscall t lt) spared h = well-past_syscall c t h
   well-step g s _ _ (Runs registers flags t lt whole) spared h = well-processor c registers flags t h
   well-step g s _ _ (Clears mask t lt off) spared h = well-cleared c mask t h
   well-step g s _ _ (Posts i bits t lt) spared h = well-posted i bits t h
@@ -204,7 +204,7 @@ module _ (g : Setup) (c : ℕ) where
   pub outcome-faulted : (t : Turn) → c < length t.state.tasks → (f : Fault) → Outcome g c t (faulted g c f t)
   outcome-faulted t inside f = FaultsAlone (lone-faulted g c f t inside)
 
-  -- ## a call: the one walk over its rows is task_table's
+  -- ## a system call: the one walk over its rows is task_table's
 
   outcome-rows : (t u : Turn) → c < length t.state.tasks → IsWell c t → Rows g t.state c t u → Outcome g c t u
   outcome-rows _ _ inside h (Faults f t u there low high x state notes writes reads) =
@@ -212,6 +212,6 @@ module _ (g : Setup) (c : ℕ) where
   outcome-rows _ _ inside h (Goes t u x) =
       StaysWell (chain_keeps (Spared g t.state c) (IsWell c) (λ a b step. well-step c g t.state a b step.0 step.1) t u x h)
 
-  pub outcome-called : (t : Turn) → Sane g t.state → c < length t.state.tasks → is_ready t.state c ≡ true → Outcome g c t (called g c t)
-  outcome-called t sane inside ready =
-      outcome-rows t _ inside (well-ready t.state c ready) (comes-called g c t sane (rw (← sane.steady.as_many) inside) ready)
+  pub outcome-syscall_made : (t : Turn) → Sane g t.state → c < length t.state.tasks → is_ready t.state c ≡ true → Outcome g c t (syscall_made g c t)
+  outcome-syscall_made t sane inside ready =
+      outcome-rows t _ inside (well-ready t.state c ready) (comes-syscall_made g c t sane (rw (← sane.steady.as_many) inside) ready)

@@ -1,4 +1,4 @@
--- A turn whose task faults changes nothing else: so does its instruction, or its call, and what is told changes nothing.
+-- A turn whose task faults changes nothing else: so does its instruction, or its system call, and what is noted changes nothing.
 use Rattle.std.proofs.Common.{◌≡◌, ◌+◌, ◌*◌, ◌%◌, ◌^◌, ◌<◌, ℕ, true, not, List, [], length, Option, Some, None, refl, sym, ◌∙◌, ap, arith, inl, inr}
 use Rattle.std.specs.Prelude.{Contains, fold}
 use Rattle.std.proofs.lemmas.Bool.{false≢true}
@@ -10,40 +10,40 @@ use Rattle.thumb_insn.specs.declared.Insn.{Insn}
 use Rattle.thumb_insn.specs.declared.Decoded.{Decoded}
 use Rattle.thumb_insn.specs.declared.Decoded.TheVariants.{Narrow, Wide, Illegal, NeedsSecond}
 use Rattle.thumb_insn.specs.Table.{decoded_of, is_wide}
-use Rattle.thumb_exec.specs.Effect.{Effect, Next, Call, Trap, Store}
+use Rattle.thumb_exec.specs.Effect.{Effect, Next, Syscall, Trap, Store}
 use Rattle.mem_banks.specs.Memory.{number_at}
 use Rattle.task_table.specs.State.{Setup, State, Read, Turn}
 use Rattle.task_table.specs.Reading.{task_at, register, call_of, listen_of, chosen, is_faulted}
 use Rattle.task_table.specs.Effects.{noted}
-use Rattle.task_table.specs.Rows.{call_noted}
+use Rattle.task_table.specs.Rows.{syscall_noted}
 use Rattle.task_table.specs.Start.{begun}
 use Rattle.task_table.specs.Sane.{Sane}
 use Rattle.task_table.specs.Lives.{IsFresh}
 use Rattle.task_table.proofs.Receives.{well-ready}
 use Rattle.task_table.proofs.Sanity.{sane-current}
-use Rattle.board_model.specs.declared.told.Level.{Level}
-use Rattle.board_model.specs.declared.told.Level.TheVariants.{Calls, All}
+use Rattle.board_model.specs.declared.outcomes.Level.{Level}
+use Rattle.board_model.specs.declared.outcomes.Level.TheVariants.{Brief, All}
 use Rattle.board_model.specs.Script.{Scenario}
-use Rattle.board_model.specs.Turn.{put, acted, executed, told, decoded_as, is_text, stepped, after_events, with_current, low_note, high_note, with_registers_told, turn_of, ended, turn}
+use Rattle.board_model.specs.Turn.{put, acted, executed, noted_at, decoded_as, may_fetch, stepped, after_events, with_current, low_note, high_note, with_registers_noted, turn_of, ended, turn}
 use Rattle.board_model.specs.Faults.{IsSameButForFault, AreEntries}
 use Rattle.board_model.proofs.Events.{fresh-after_events}
 use Rattle.board_model.proofs.TurnChains.{IsChosen, chosen_is, as_current, sane-after_events}
 use Rattle.board_model.proofs.Stepping.{puts_state}
 use Rattle.board_model.proofs.FaultFrames.{both-posted, lone_after}
-use Rattle.board_model.proofs.FaultRows.{IsWell, well-processor, Outcome, FaultsAlone, StaysWell, by_outcome, outcome-faulted, outcome-called}
+use Rattle.board_model.proofs.FaultRows.{IsWell, well-processor, Outcome, FaultsAlone, StaysWell, by_outcome, outcome-faulted, outcome-syscall_made}
 
--- ## what is told before, and after
+-- ## what is noted before, and after
 
-told_before : (g : Setup) (c : ℕ) (n : Note) (t u : Turn) → Outcome g c (noted n t) u → Outcome g c t u
+noted_before : (g : Setup) (c : ℕ) (n : Note) (t u : Turn) → Outcome g c (noted n t) u → Outcome g c t u
 unfolding noted
-told_before g c n t u (FaultsAlone h) = FaultsAlone (lone_after g c t (noted n t) u refl refl (λ r here. inl here) h)
-told_before g c n t u (StaysWell w) = StaysWell w
+noted_before g c n t u (FaultsAlone h) = FaultsAlone (lone_after g c t (noted n t) u refl refl (λ r here. inl here) h)
+noted_before g c n t u (StaysWell w) = StaysWell w
 
-told_after : (level : Level) (g : Setup) (c : ℕ) (n : Note) (t u : Turn) → Outcome g c t u → Outcome g c t (told level n u)
+noted_after : (level : Level) (g : Setup) (c : ℕ) (n : Note) (t u : Turn) → Outcome g c t u → Outcome g c t (noted_at level n u)
 unfolding noted
-told_after Calls g c n t u x = x
-told_after All g c n t u (FaultsAlone h) = FaultsAlone record { same = h.same; writes = h.writes; reads = h.reads }
-told_after All g c n t u (StaysWell w) = StaysWell w
+noted_after Brief g c n t u x = x
+noted_after All g c n t u (FaultsAlone h) = FaultsAlone record { same = h.same; writes = h.writes; reads = h.reads }
+noted_after All g c n t u (StaysWell w) = StaysWell w
 
 -- ## an instruction
 
@@ -53,15 +53,15 @@ well-puts c stores t h = ap (λ (s : State). (task_at s c).health) (puts_state s
 
 module _ (g : Setup) (c : ℕ) where
   outcome-acted : (t : Turn) → Sane g t.state → IsChosen t.state c → (e : Effect) → Outcome g c t (acted g c e t)
-  unfolding call_noted noted
+  unfolding syscall_noted noted
   outcome-acted t h is (Next cpu stores) = StaysWell (well-processor c c cpu.regs.words cpu.flags _ (well-puts c stores t (well-ready t.state c is.ready)))
-  outcome-acted t h is Call = told_before g c _ t _ (outcome-called g c (call_noted c t) h is.inside is.ready)
+  outcome-acted t h is Syscall = noted_before g c _ t _ (outcome-syscall_made g c (syscall_noted c t) h is.inside is.ready)
   outcome-acted t h is (Trap f) = outcome-faulted g c t is.inside f
 
-  outcome-executed : (level : Level) (at code : ℕ) (insn : Insn) (t : Turn) → Sane g t.state → IsChosen t.state c → Outcome g c t (executed g c insn (told level (note.Insn c at code) t))
+  outcome-executed : (level : Level) (at code : ℕ) (insn : Insn) (t : Turn) → Sane g t.state → IsChosen t.state c → Outcome g c t (executed g c insn (noted_at level (note.Insn c at code) t))
   unfolding noted
-  outcome-executed Calls at code insn t h is = outcome-acted t h is _
-  outcome-executed All at code insn t h is = told_before g c (note.Insn c at code) t _ (outcome-acted (noted (note.Insn c at code) t) h is _)
+  outcome-executed Brief at code insn t h is = outcome-acted t h is _
+  outcome-executed All at code insn t h is = noted_before g c (note.Insn c at code) t _ (outcome-acted (noted (note.Insn c at code) t) h is _)
 
   module _ (level : Level) (t : Turn) (h : Sane g t.state) (is : IsChosen t.state c) where
     outcome-decoded : (at code : ℕ) (d : Decoded) → Outcome g c t (decoded_as level g c at code d t)
@@ -77,17 +77,17 @@ module _ (g : Setup) (c : ℕ) where
         let at = register t.state c 15 in
         let after = (at + 2) % 2 ^ 32 in
         let first = number_at m at 2 in
-        by_outcome (not (is_text g c at)) (outcome-faulted g c t is.inside _)
+        by_outcome (not (may_fetch g c at)) (outcome-faulted g c t is.inside _)
         (by_outcome (not (is_wide first)) (outcome-decoded at first (decoded_of first None))
-        (by_outcome (not (is_text g c after)) (outcome-faulted g c t is.inside _)
+        (by_outcome (not (may_fetch g c after)) (outcome-faulted g c t is.inside _)
         (outcome-decoded at (first * 2 ^ 16 + number_at m after 2) (decoded_of first (Some (number_at m after 2))))))
 
-    outcome-ran : Outcome g c t (with_registers_told level c (stepped level g c t))
-    unfolding with_registers_told
+    outcome-ran : Outcome g c t (with_registers_noted level c (stepped level g c t))
+    unfolding with_registers_noted
     outcome-ran =
         let u = stepped level g c t in
         let low = low_note (task_at u.state c) in
-        told_after level g c (high_note (task_at u.state c)) t (told level low u) (told_after level g c low t u outcome-stepped)
+        noted_after level g c (high_note (task_at u.state c)) t (noted_at level low u) (noted_after level g c low t u outcome-stepped)
 
 -- ## the turn
 
@@ -98,9 +98,9 @@ from_events g c n s u inside h = record {
   task = h.task;
   idle = record { call = h.idle.call; listen = h.idle.listen };
   supervisor = λ ne.
-      let told = h.supervisor ne in
+      let posted_to = h.supervisor ne in
       let same = both-posted 0 g.fault_bits (begun s) (begun record s { current = c }) inside inside record { task = refl; call = refl; listen = refl } in
-      record { task = told.task ∙ same.task; call = told.call ∙ same.call; listen = told.listen ∙ same.listen };
+      record { task = posted_to.task ∙ same.task; call = posted_to.call ∙ same.call; listen = posted_to.listen ∙ same.listen };
   others = λ i apart above. let o = h.others i apart above in record { task = o.task; call = o.call; listen = o.listen };
   memory = h.memory;
   now = h.now;
@@ -128,7 +128,7 @@ faulted_turn level x s c sane e = by_choice (chosen x.setup t.state) e
     u = with_current c t
 
     v : Turn
-    v = with_registers_told level c (stepped level x.setup c u)
+    v = with_registers_noted level c (stepped level x.setup c u)
 
     is : IsChosen t.state c
     is = chosen_is t.state c (sane-after_events x s sane) e

@@ -12,16 +12,16 @@ use Rattle.thumb_exec.specs.Effect.{words, transfers, first_refused, stores_of, 
 use Rattle.mem_banks.specs.Memory.{bytes_at, with_bytes, copied as copied_memory}
 use Rattle.task_table.specs.State.{Setup}
 use Rattle.task_table.specs.Reading.{task_at, line_at, register, arguments, call_of, listen_of, dead_code_for, is_out, is_dead, is_ready, bad_byte, chosen, offer_by, best_sender}
-use Rattle.task_table.specs.Effects.{with_task, without_call, without_listen, with_listen, with_taken, noted, with_processor, with_health, stored, copied, looked, given, returned, past_call, bits_added, bits_cleared, woken, posted, with_timer, clocked, with_line, closed, faulted_as, handed}
+use Rattle.task_table.specs.Effects.{with_task, without_call, without_listen, with_listen, with_taken, noted, with_processor, with_health, stored, copied, looked, given, returned, past_syscall, bits_added, bits_cleared, woken, posted, with_timer, clocked, with_line, closed, faulted_as, handed}
 use Rattle.task_table.specs.Events.{ticked, owner_of, interrupted}
-use Rattle.task_table.specs.Rows.{panicked, timer_set, timer_told, irq_controlled, received, call_noted}
-use Rattle.task_table.specs.Calls.{called}
+use Rattle.task_table.specs.Rows.{panicked, timer_set, timer_answered, irq_controlled, received, syscall_noted}
+use Rattle.task_table.specs.Syscalls.{syscall_made}
 use Rattle.task_table.specs.Start.{start, begun}
-use Rattle.board_model.specs.declared.told.End.TheVariants.{Bound}
-use Rattle.board_model.specs.declared.told.Level.TheVariants.{Calls}
+use Rattle.board_model.specs.declared.outcomes.End.TheVariants.{Bound}
+use Rattle.board_model.specs.declared.outcomes.Level.TheVariants.{Brief}
 use Rattle.board_model.specs.Script.{Scenario}
 use Rattle.board_model.specs.Run.{Run, run, ending}
-use Rattle.board_model.specs.Turn.{after_events, stepped, with_registers_told, ended, turn}
+use Rattle.board_model.specs.Turn.{after_events, stepped, with_registers_noted, ended, turn}
 
 setup : Setup
 setup = record {
@@ -53,32 +53,32 @@ scenario = record {
 expected : List (ℕ × Note)
 expected =
     (5, note.Irq 7 handled.Held) ∷
-    (6, note.Call 0 1 (0 ∷ 0 ∷ 1 ∷ 0 ∷ 0 ∷ 0 ∷ 0 ∷ [])) ∷
+    (6, note.Syscall 0 1 (0 ∷ 0 ∷ 1 ∷ 0 ∷ 0 ∷ 0 ∷ 0 ∷ [])) ∷
     (6, note.Listen 0 listened.Any 1) ∷
-    (10, note.Call 1 9 (0 ∷ 0 ∷ 0 ∷ 0 ∷ 0 ∷ 0 ∷ 0 ∷ [])) ∷
+    (10, note.Syscall 1 9 (0 ∷ 0 ∷ 0 ∷ 0 ∷ 0 ∷ 0 ∷ 0 ∷ [])) ∷
     (10, note.Ret 1 (0 ∷ 0 ∷ 0 ∷ 0 ∷ 0 ∷ 0 ∷ [])) ∷
-    (17, note.Call 1 3 (1 ∷ 2 ∷ 0 ∷ 2 ∷ 0 ∷ 0 ∷ 0 ∷ [])) ∷
+    (17, note.Syscall 1 3 (1 ∷ 2 ∷ 0 ∷ 2 ∷ 0 ∷ 0 ∷ 0 ∷ [])) ∷
     (17, note.Ret 1 (1 ∷ 2 ∷ 0 ∷ 2 ∷ 0 ∷ 0 ∷ [])) ∷
-    (24, note.Call 1 1 (0 ∷ 0 ∷ 2 ∷ 0 ∷ 0 ∷ 0 ∷ 0 ∷ [])) ∷
+    (24, note.Syscall 1 1 (0 ∷ 0 ∷ 2 ∷ 0 ∷ 0 ∷ 0 ∷ 0 ∷ [])) ∷
     (24, note.Listen 1 listened.Any 2) ∷
-    (29, note.Call 2 7 (1 ∷ 1 ∷ 0 ∷ 0 ∷ 0 ∷ 0 ∷ 0 ∷ [])) ∷
+    (29, note.Syscall 2 7 (1 ∷ 1 ∷ 0 ∷ 0 ∷ 0 ∷ 0 ∷ 0 ∷ [])) ∷
     (29, note.Post 2 1 1) ∷
     (29, note.Ret 2 (1 ∷ 1 ∷ 0 ∷ 0 ∷ 0 ∷ 0 ∷ [])) ∷
     (30, note.Tick 1) ∷
-    (38, note.Call 2 1 (536871488 ∷ 8 ∷ 1 ∷ 2147483652 ∷ 0 ∷ 0 ∷ 0 ∷ [])) ∷
+    (38, note.Syscall 2 1 (536871488 ∷ 8 ∷ 1 ∷ 2147483652 ∷ 0 ∷ 0 ∷ 0 ∷ [])) ∷
     (38, note.Ret 2 (0 ∷ 65535 ∷ 1 ∷ 0 ∷ 0 ∷ 0 ∷ [])) ∷
-    (44, note.Call 2 7 (1 ∷ 1 ∷ 1 ∷ 0 ∷ 0 ∷ 0 ∷ 0 ∷ [])) ∷
+    (44, note.Syscall 2 7 (1 ∷ 1 ∷ 1 ∷ 0 ∷ 0 ∷ 0 ∷ 0 ∷ [])) ∷
     (44, note.Ret 2 (1 ∷ 1 ∷ 1 ∷ 0 ∷ 0 ∷ 0 ∷ [])) ∷
-    (53, note.Call 2 1 (536871488 ∷ 8 ∷ 1 ∷ 2147483652 ∷ 0 ∷ 0 ∷ 0 ∷ [])) ∷
+    (53, note.Syscall 2 1 (536871488 ∷ 8 ∷ 1 ∷ 2147483652 ∷ 0 ∷ 0 ∷ 0 ∷ [])) ∷
     (53, note.Listen 2 (listened.One 4) 1) ∷
     (60, note.Tick 2) ∷
     (60, note.Post 1 2 2) ∷
     (60, note.Ret 1 (0 ∷ 65535 ∷ 2 ∷ 0 ∷ 0 ∷ 0 ∷ [])) ∷
-    (64, note.Call 1 9 (0 ∷ 65535 ∷ 2 ∷ 0 ∷ 0 ∷ 0 ∷ 0 ∷ [])) ∷
+    (64, note.Syscall 1 9 (0 ∷ 65535 ∷ 2 ∷ 0 ∷ 0 ∷ 0 ∷ 0 ∷ [])) ∷
     (64, note.Ret 1 (2 ∷ 0 ∷ 0 ∷ 0 ∷ 0 ∷ 0 ∷ [])) ∷
-    (71, note.Call 1 3 (1 ∷ 4 ∷ 0 ∷ 2 ∷ 0 ∷ 0 ∷ 0 ∷ [])) ∷
+    (71, note.Syscall 1 3 (1 ∷ 4 ∷ 0 ∷ 2 ∷ 0 ∷ 0 ∷ 0 ∷ [])) ∷
     (71, note.Ret 1 (1 ∷ 4 ∷ 0 ∷ 2 ∷ 0 ∷ 0 ∷ [])) ∷
-    (78, note.Call 1 1 (0 ∷ 0 ∷ 2 ∷ 0 ∷ 0 ∷ 0 ∷ 0 ∷ [])) ∷
+    (78, note.Syscall 1 1 (0 ∷ 0 ∷ 2 ∷ 0 ∷ 0 ∷ 0 ∷ 0 ∷ [])) ∷
     (78, note.Listen 1 listened.Any 2) ∷
     (90, note.Tick 3) ∷
     (90, note.Irq 7 handled.Posted) ∷
@@ -88,76 +88,76 @@ expected =
     (91, note.Tick 4) ∷
     (91, note.Post 1 2 2) ∷
     (91, note.Ret 1 (0 ∷ 65535 ∷ 2 ∷ 0 ∷ 0 ∷ 0 ∷ [])) ∷
-    (95, note.Call 1 9 (0 ∷ 65535 ∷ 2 ∷ 0 ∷ 0 ∷ 0 ∷ 0 ∷ [])) ∷
+    (95, note.Syscall 1 9 (0 ∷ 65535 ∷ 2 ∷ 0 ∷ 0 ∷ 0 ∷ 0 ∷ [])) ∷
     (95, note.Ret 1 (4 ∷ 0 ∷ 0 ∷ 0 ∷ 0 ∷ 0 ∷ [])) ∷
-    (102, note.Call 1 3 (1 ∷ 6 ∷ 0 ∷ 2 ∷ 0 ∷ 0 ∷ 0 ∷ [])) ∷
+    (102, note.Syscall 1 3 (1 ∷ 6 ∷ 0 ∷ 2 ∷ 0 ∷ 0 ∷ 0 ∷ [])) ∷
     (102, note.Ret 1 (1 ∷ 6 ∷ 0 ∷ 2 ∷ 0 ∷ 0 ∷ [])) ∷
-    (109, note.Call 1 1 (0 ∷ 0 ∷ 2 ∷ 0 ∷ 0 ∷ 0 ∷ 0 ∷ [])) ∷
+    (109, note.Syscall 1 1 (0 ∷ 0 ∷ 2 ∷ 0 ∷ 0 ∷ 0 ∷ 0 ∷ [])) ∷
     (109, note.Listen 1 listened.Any 2) ∷
-    (115, note.Call 2 7 (1 ∷ 1 ∷ 1 ∷ 0 ∷ 0 ∷ 0 ∷ 0 ∷ [])) ∷
+    (115, note.Syscall 2 7 (1 ∷ 1 ∷ 1 ∷ 0 ∷ 0 ∷ 0 ∷ 0 ∷ [])) ∷
     (115, note.Post 2 1 1) ∷
     (115, note.Ret 2 (1 ∷ 1 ∷ 1 ∷ 0 ∷ 0 ∷ 0 ∷ [])) ∷
     (120, note.Tick 5) ∷
-    (124, note.Call 2 1 (536871488 ∷ 8 ∷ 1 ∷ 2147483652 ∷ 0 ∷ 0 ∷ 0 ∷ [])) ∷
+    (124, note.Syscall 2 1 (536871488 ∷ 8 ∷ 1 ∷ 2147483652 ∷ 0 ∷ 0 ∷ 0 ∷ [])) ∷
     (124, note.Ret 2 (0 ∷ 65535 ∷ 1 ∷ 0 ∷ 0 ∷ 0 ∷ [])) ∷
-    (130, note.Call 2 7 (1 ∷ 1 ∷ 1 ∷ 0 ∷ 0 ∷ 0 ∷ 0 ∷ [])) ∷
+    (130, note.Syscall 2 7 (1 ∷ 1 ∷ 1 ∷ 0 ∷ 0 ∷ 0 ∷ 0 ∷ [])) ∷
     (130, note.Ret 2 (1 ∷ 1 ∷ 1 ∷ 0 ∷ 0 ∷ 0 ∷ [])) ∷
-    (139, note.Call 2 1 (536871488 ∷ 8 ∷ 1 ∷ 2147483652 ∷ 0 ∷ 0 ∷ 0 ∷ [])) ∷
+    (139, note.Syscall 2 1 (536871488 ∷ 8 ∷ 1 ∷ 2147483652 ∷ 0 ∷ 0 ∷ 0 ∷ [])) ∷
     (139, note.Listen 2 (listened.One 4) 1) ∷
     (150, note.Tick 6) ∷
     (150, note.Post 1 2 2) ∷
     (150, note.Ret 1 (0 ∷ 65535 ∷ 2 ∷ 0 ∷ 0 ∷ 0 ∷ [])) ∷
     (150, note.Irq 8 handled.Unowned) ∷
-    (154, note.Call 1 9 (0 ∷ 65535 ∷ 2 ∷ 0 ∷ 0 ∷ 0 ∷ 0 ∷ [])) ∷
+    (154, note.Syscall 1 9 (0 ∷ 65535 ∷ 2 ∷ 0 ∷ 0 ∷ 0 ∷ 0 ∷ [])) ∷
     (154, note.Ret 1 (6 ∷ 0 ∷ 0 ∷ 0 ∷ 0 ∷ 0 ∷ [])) ∷
-    (161, note.Call 1 3 (1 ∷ 8 ∷ 0 ∷ 2 ∷ 0 ∷ 0 ∷ 0 ∷ [])) ∷
+    (161, note.Syscall 1 3 (1 ∷ 8 ∷ 0 ∷ 2 ∷ 0 ∷ 0 ∷ 0 ∷ [])) ∷
     (161, note.Ret 1 (1 ∷ 8 ∷ 0 ∷ 2 ∷ 0 ∷ 0 ∷ [])) ∷
-    (168, note.Call 1 1 (0 ∷ 0 ∷ 2 ∷ 0 ∷ 0 ∷ 0 ∷ 0 ∷ [])) ∷
+    (168, note.Syscall 1 1 (0 ∷ 0 ∷ 2 ∷ 0 ∷ 0 ∷ 0 ∷ 0 ∷ [])) ∷
     (168, note.Listen 1 listened.Any 2) ∷
-    (169, note.Call 3 3 (1 ∷ 0 ∷ 0 ∷ 4 ∷ 0 ∷ 0 ∷ 0 ∷ [])) ∷
+    (169, note.Syscall 3 3 (1 ∷ 0 ∷ 0 ∷ 4 ∷ 0 ∷ 0 ∷ 0 ∷ [])) ∷
     (169, note.Post 3 4 4) ∷
     (169, note.Ret 3 (1 ∷ 0 ∷ 0 ∷ 4 ∷ 0 ∷ 0 ∷ [])) ∷
     (171, note.Irq 7 handled.Posted) ∷
     (171, note.Post 2 1 1) ∷
     (171, note.Ret 2 (0 ∷ 65535 ∷ 1 ∷ 0 ∷ 0 ∷ 0 ∷ [])) ∷
-    (175, note.Call 3 1 (0 ∷ 0 ∷ 4 ∷ 0 ∷ 0 ∷ 0 ∷ 0 ∷ [])) ∷
+    (175, note.Syscall 3 1 (0 ∷ 0 ∷ 4 ∷ 0 ∷ 0 ∷ 0 ∷ 0 ∷ [])) ∷
     (175, note.Ret 3 (0 ∷ 65535 ∷ 4 ∷ 0 ∷ 0 ∷ 0 ∷ [])) ∷
-    (179, note.Call 3 1 (0 ∷ 0 ∷ 6 ∷ 4294967295 ∷ 0 ∷ 0 ∷ 0 ∷ [])) ∷
+    (179, note.Syscall 3 1 (0 ∷ 0 ∷ 6 ∷ 4294967295 ∷ 0 ∷ 0 ∷ 0 ∷ [])) ∷
     (179, note.Listen 3 listened.Kernel 6) ∷
     (180, note.Tick 7) ∷
-    (185, note.Call 2 7 (1 ∷ 1 ∷ 1 ∷ 0 ∷ 0 ∷ 0 ∷ 0 ∷ [])) ∷
+    (185, note.Syscall 2 7 (1 ∷ 1 ∷ 1 ∷ 0 ∷ 0 ∷ 0 ∷ 0 ∷ [])) ∷
     (185, note.Ret 2 (1 ∷ 1 ∷ 1 ∷ 0 ∷ 0 ∷ 0 ∷ [])) ∷
-    (194, note.Call 2 1 (536871488 ∷ 8 ∷ 1 ∷ 2147483652 ∷ 0 ∷ 0 ∷ 0 ∷ [])) ∷
+    (194, note.Syscall 2 1 (536871488 ∷ 8 ∷ 1 ∷ 2147483652 ∷ 0 ∷ 0 ∷ 0 ∷ [])) ∷
     (194, note.Listen 2 (listened.One 4) 1) ∷
     (210, note.Tick 8) ∷
     (210, note.Post 1 2 2) ∷
     (210, note.Ret 1 (0 ∷ 65535 ∷ 2 ∷ 0 ∷ 0 ∷ 0 ∷ [])) ∷
-    (214, note.Call 1 9 (0 ∷ 65535 ∷ 2 ∷ 0 ∷ 0 ∷ 0 ∷ 0 ∷ [])) ∷
+    (214, note.Syscall 1 9 (0 ∷ 65535 ∷ 2 ∷ 0 ∷ 0 ∷ 0 ∷ 0 ∷ [])) ∷
     (214, note.Ret 1 (8 ∷ 0 ∷ 0 ∷ 0 ∷ 0 ∷ 0 ∷ [])) ∷
-    (221, note.Call 1 3 (1 ∷ 10 ∷ 0 ∷ 2 ∷ 0 ∷ 0 ∷ 0 ∷ [])) ∷
+    (221, note.Syscall 1 3 (1 ∷ 10 ∷ 0 ∷ 2 ∷ 0 ∷ 0 ∷ 0 ∷ [])) ∷
     (221, note.Ret 1 (1 ∷ 10 ∷ 0 ∷ 2 ∷ 0 ∷ 0 ∷ [])) ∷
-    (228, note.Call 1 1 (0 ∷ 0 ∷ 2 ∷ 0 ∷ 0 ∷ 0 ∷ 0 ∷ [])) ∷
+    (228, note.Syscall 1 1 (0 ∷ 0 ∷ 2 ∷ 0 ∷ 0 ∷ 0 ∷ 0 ∷ [])) ∷
     (228, note.Listen 1 listened.Any 2) ∷
     (240, note.Tick 9) ∷
     (270, note.Tick 10) ∷
     (270, note.Post 1 2 2) ∷
     (270, note.Ret 1 (0 ∷ 65535 ∷ 2 ∷ 0 ∷ 0 ∷ 0 ∷ [])) ∷
-    (274, note.Call 1 9 (0 ∷ 65535 ∷ 2 ∷ 0 ∷ 0 ∷ 0 ∷ 0 ∷ [])) ∷
+    (274, note.Syscall 1 9 (0 ∷ 65535 ∷ 2 ∷ 0 ∷ 0 ∷ 0 ∷ 0 ∷ [])) ∷
     (274, note.Ret 1 (10 ∷ 0 ∷ 0 ∷ 0 ∷ 0 ∷ 0 ∷ [])) ∷
-    (281, note.Call 1 3 (1 ∷ 12 ∷ 0 ∷ 2 ∷ 0 ∷ 0 ∷ 0 ∷ [])) ∷
+    (281, note.Syscall 1 3 (1 ∷ 12 ∷ 0 ∷ 2 ∷ 0 ∷ 0 ∷ 0 ∷ [])) ∷
     (281, note.Ret 1 (1 ∷ 12 ∷ 0 ∷ 2 ∷ 0 ∷ 0 ∷ [])) ∷
-    (288, note.Call 1 1 (0 ∷ 0 ∷ 2 ∷ 0 ∷ 0 ∷ 0 ∷ 0 ∷ [])) ∷
+    (288, note.Syscall 1 1 (0 ∷ 0 ∷ 2 ∷ 0 ∷ 0 ∷ 0 ∷ 0 ∷ [])) ∷
     (288, note.Listen 1 listened.Any 2) ∷
     (300, note.Tick 11) ∷
     (314, note.Fault 4 record { number = 3; x = 4; y = 0 }) ∷
     (314, note.Post 0 1 1) ∷
     (314, note.Ret 0 (0 ∷ 65535 ∷ 1 ∷ 0 ∷ 0 ∷ 0 ∷ [])) ∷
-    (322, note.Call 0 1 (0 ∷ 0 ∷ 1 ∷ 0 ∷ 0 ∷ 0 ∷ 0 ∷ [])) ∷
+    (322, note.Syscall 0 1 (0 ∷ 0 ∷ 1 ∷ 0 ∷ 0 ∷ 0 ∷ 0 ∷ [])) ∷
     (322, note.Listen 0 listened.Any 1) ∷
     (330, note.Tick 12) ∷
     (330, note.Post 1 2 2) ∷
     (330, note.Ret 1 (0 ∷ 65535 ∷ 2 ∷ 0 ∷ 0 ∷ 0 ∷ [])) ∷
-    (334, note.Call 1 9 (0 ∷ 65535 ∷ 2 ∷ 0 ∷ 0 ∷ 0 ∷ 0 ∷ [])) ∷
+    (334, note.Syscall 1 9 (0 ∷ 65535 ∷ 2 ∷ 0 ∷ 0 ∷ 0 ∷ 0 ∷ [])) ∷
     (334, note.Ret 1 (12 ∷ 0 ∷ 0 ∷ 0 ∷ 0 ∷ 0 ∷ [])) ∷
     []
 
@@ -165,6 +165,6 @@ expected =
 IsTrace : Run → Type 0
 IsTrace r = (r.notes ≡ expected) × (r.end ≡ Bound) × (r.last.now ≡ 12)
 
-agrees : IsTrace (run Calls scenario 340 (start setup))
-unfolding setup scenario expected IsTrace run ending after_events turn ended stepped begun start with_registers_told ticked interrupted owner_of panicked timer_set timer_told irq_controlled received call_noted called with_task without_call without_listen with_listen with_taken noted with_processor with_health stored copied looked given returned past_call bits_added bits_cleared woken posted with_timer clocked with_line closed faulted_as handed task_at line_at register arguments call_of listen_of dead_code_for is_out is_dead is_ready bad_byte chosen offer_by best_sender bytes_at with_bytes copied_memory first_bad words transfers first_refused stores_of loaded_all ones count effect rows narrow_of wide_rows wide_of
+agrees : IsTrace (run Brief scenario 340 (start setup))
+unfolding setup scenario expected IsTrace run ending after_events turn ended stepped begun start with_registers_noted ticked interrupted owner_of panicked timer_set timer_answered irq_controlled received syscall_noted syscall_made with_task without_call without_listen with_listen with_taken noted with_processor with_health stored copied looked given returned past_syscall bits_added bits_cleared woken posted with_timer clocked with_line closed faulted_as handed task_at line_at register arguments call_of listen_of dead_code_for is_out is_dead is_ready bad_byte chosen offer_by best_sender bytes_at with_bytes copied_memory first_bad words transfers first_refused stores_of loaded_all ones count effect rows narrow_of wide_rows wide_of
 agrees = (refl, refl, refl)

@@ -12,7 +12,7 @@ pub mod Outside
 pub mod Further
 pub mod FiveTasks
 pub mod Blinker
-pub mod AllTold
+pub mod AllNoted
 pub mod ClientServer
 pub mod TwoServers
 pub mod SumOfLease

@@ -9,19 +9,19 @@ use Rattle.task_table.specs.Sane.{Sane}
 use Rattle.task_table.specs.Grounds.{AreGrounded, AreAlive, with_writes}
 use Rattle.task_table.specs.Chain.{Chain}
 use Rattle.task_table.specs.Step.{Step}
-use Rattle.task_table.specs.Lives.{IsTold, IsFresh, IsClosed, IsSilent}
+use Rattle.task_table.specs.Lives.{IsAsNoted, IsFresh, IsClosed, IsSilent}
 use Rattle.task_table.proofs.Grounding.{IsHonest, honest_same, honest_alive, chain_honest}
 use Rattle.task_table.proofs.Writing.{chain_written}
 use Rattle.task_table.proofs.Closing.{chain_closed, chain_silent}
-use Rattle.task_table.proofs.Lives.{told-ledger}
-use Rattle.task_table.proofs.Ledgers.{told-start, told-aside, told-same, chain_told}
-use Rattle.board_model.specs.declared.told.End.{End}
-use Rattle.board_model.specs.declared.told.End.TheVariants.{Bound}
-use Rattle.board_model.specs.declared.told.Level.{Level}
+use Rattle.task_table.proofs.Lives.{as_noted-ledger}
+use Rattle.task_table.proofs.Ledgers.{as_noted-start, as_noted-aside, as_noted-same, chain_as_noted}
+use Rattle.board_model.specs.declared.outcomes.End.{End}
+use Rattle.board_model.specs.declared.outcomes.End.TheVariants.{Bound}
+use Rattle.board_model.specs.declared.outcomes.Level.{Level}
 use Rattle.board_model.specs.Script.{Scenario}
-use Rattle.board_model.specs.Turn.{after_events, with_current, stepped, with_registers_told, turn_of, ended, turn}
+use Rattle.board_model.specs.Turn.{after_events, with_current, stepped, with_registers_noted, turn_of, ended, turn}
 use Rattle.board_model.specs.Run.{run, ending, ended_at, with_front, unless, at_turn}
-use Rattle.board_model.specs.Lifetimes.{IsGroundedTurn, IsLedgerOfRun, told_in}
+use Rattle.board_model.specs.Lifetimes.{IsGroundedTurn, IsLedgerOfRun, notes_in}
 use Rattle.board_model.proofs.TurnChains.{turn_chain, sane-after, sane-after_events, idle-aside}
 use Rattle.board_model.proofs.Events.{outside-after_events, fresh_outside, fresh-after_events}
 
@@ -77,7 +77,7 @@ ended_grounded g s z o u h = record {
 }
   where
     honest_ended : (c : ℕ) → AreGrounded g z c u → AreAlive z c u → IsHonest g z c record u { state = record u.state { turn = u.state.turn + 1 } }
-    honest_ended c grounded alive = honest_same g z z c u _ refl refl refl refl refl record { grounded = grounded; read = alive.read; told = alive.told }
+    honest_ended c grounded alive = honest_same g z z c u _ refl refl refl refl refl record { grounded = grounded; read = alive.read; touches = alive.touches }
 
 module _ (level : Level) (x : Scenario) (s : State) (h : Sane x.setup s) where
   turn_grounded : (o : Option ℕ) → chosen x.setup (after_events x s).state ≡ o → IsGroundedBy x.setup s (after_events x s).state o (ended (turn_of level x.setup o (after_events x s)))
@@ -96,59 +96,59 @@ module _ (level : Level) (x : Scenario) (s : State) (h : Sane x.setup s) where
 
 -- ## the ledger
 
-ended_told : (old : List Note) (u : Turn) → IsTold (old ++ u.notes) u.state → IsTold (old ++ (ended u).notes) (ended u).state
+ended_as_noted : (old : List Note) (u : Turn) → IsAsNoted (old ++ u.notes) u.state → IsAsNoted (old ++ (ended u).notes) (ended u).state
 unfolding ended
-ended_told old u k = told-same old u (ended u) refl refl refl k
+ended_as_noted old u k = as_noted-same old u (ended u) refl refl refl k
 
-begun_told : (old : List Note) (s : State) → IsTold old s → IsTold (old ++ (begun s).notes) (begun s).state
+begun_as_noted : (old : List Note) (s : State) → IsAsNoted old s → IsAsNoted (old ++ (begun s).notes) (begun s).state
 unfolding begun
-begun_told old s k = rw append-nil k
+begun_as_noted old s k = rw append-nil k
 
 module _ (level : Level) (x : Scenario) where
   -- it goes on over a turn
-  told_turn : (s : State) (old : List Note) → Sane x.setup s → IsTold old s → IsTold (old ++ (turn level x s).notes) (turn level x s).state
+  as_noted_turn : (s : State) (old : List Note) → Sane x.setup s → IsAsNoted old s → IsAsNoted (old ++ (turn level x s).notes) (turn level x s).state
   unfolding turn
-  told_turn s old h o = by_choice (chosen x.setup (after_events x s).state) refl
+  as_noted_turn s old h o = by_choice (chosen x.setup (after_events x s).state) refl
     where
       t : Turn
       t = after_events x s
 
-      told : IsTold (old ++ t.notes) t.state
-      told = told-aside old (begun s) t (outside-after_events x s) (begun_told old s o)
+      as_noted : IsAsNoted (old ++ t.notes) t.state
+      as_noted = as_noted-aside old (begun s) t (outside-after_events x s) (begun_as_noted old s o)
 
-      by_choice : (o : Option ℕ) → chosen x.setup (after_events x s).state ≡ o → IsTold (old ++ (ended (turn_of level x.setup o t)).notes) (ended (turn_of level x.setup o t)).state
-      by_choice None e = ended_told old (turn_of level x.setup None t) (told-aside old t _ (idle-aside level t).outside told)
+      by_choice : (o : Option ℕ) → chosen x.setup (after_events x s).state ≡ o → IsAsNoted (old ++ (ended (turn_of level x.setup o t)).notes) (ended (turn_of level x.setup o t)).state
+      by_choice None e = ended_as_noted old (turn_of level x.setup None t) (as_noted-aside old t _ (idle-aside level t).outside as_noted)
       by_choice (Some c) e =
           let u = with_current c t in
-          let v = with_registers_told level c (stepped level x.setup c u) in
-          ended_told old v (chain_told x.setup u.state c (sane-after_events x s h).steady.placed old u v (turn_chain level x s c h e) (told-same old t u refl refl refl told))
+          let v = with_registers_noted level c (stepped level x.setup c u) in
+          ended_as_noted old v (chain_as_noted x.setup u.state c (sane-after_events x s h).steady.placed old u v (turn_chain level x s c h e) (as_noted-same old t u refl refl refl as_noted))
 
-  front_told : (n : ℕ) (ns : List Note) → told_in (at_turn n ns) ≡ ns
-  front_told n [] = refl
-  front_told n (y ∷ ys) = ap (λ zs. y ∷ zs) (front_told n ys)
+  front_as_noted : (n : ℕ) (ns : List Note) → notes_in (at_turn n ns) ≡ ns
+  front_as_noted n [] = refl
+  front_as_noted n (y ∷ ys) = ap (λ zs. y ∷ zs) (front_as_noted n ys)
 
-  joined_told : (xs ys : List (ℕ × Note)) → told_in (xs ++ ys) ≡ told_in xs ++ told_in ys
-  joined_told [] ys = refl
-  joined_told (y ∷ xs) ys = ap (λ zs. y.1 ∷ zs) (joined_told xs ys)
+  joined_as_noted : (xs ys : List (ℕ × Note)) → notes_in (xs ++ ys) ≡ notes_in xs ++ notes_in ys
+  joined_as_noted [] ys = refl
+  joined_as_noted (y ∷ xs) ys = ap (λ zs. y.1 ∷ zs) (joined_as_noted xs ys)
 
-  told_run : (n : ℕ) (s : State) (old : List Note) → Sane x.setup s → IsTold old s → IsTold (old ++ told_in (run level x n s).notes) (run level x n s).last
+  as_noted_run : (n : ℕ) (s : State) (old : List Note) → Sane x.setup s → IsAsNoted old s → IsAsNoted (old ++ notes_in (run level x n s).notes) (run level x n s).last
   unfolding run
-  told_run zero s old h o = by_end (ending x 0 s)
+  as_noted_run zero s old h o = by_end (ending x 0 s)
     where
-      by_end : (e : Option End) → IsTold (old ++ told_in (unless s e (ended_at s Bound)).notes) (unless s e (ended_at s Bound)).last
+      by_end : (e : Option End) → IsAsNoted (old ++ notes_in (unless s e (ended_at s Bound)).notes) (unless s e (ended_at s Bound)).last
       by_end None = rw append-nil o
       by_end (Some e) = rw append-nil o
-  told_run (suc n) s old h o =
+  as_noted_run (suc n) s old h o =
       let u = turn level x s in
-      by_end (ending x (suc n) s) (told_run n u.state (old ++ u.notes) (sane-after level x s h) (told_turn s old h o))
+      by_end (ending x (suc n) s) (as_noted_run n u.state (old ++ u.notes) (sane-after level x s h) (as_noted_turn s old h o))
     where
-      by_end : (e : Option End) → IsTold ((old ++ (turn level x s).notes) ++ told_in (run level x n (turn level x s).state).notes) (run level x n (turn level x s).state).last →
-          IsTold (old ++ told_in (unless s e (with_front (at_turn s.turn (turn level x s).notes) (run level x n (turn level x s).state))).notes) (unless s e (with_front (at_turn s.turn (turn level x s).notes) (run level x n (turn level x s).state))).last
+      by_end : (e : Option End) → IsAsNoted ((old ++ (turn level x s).notes) ++ notes_in (run level x n (turn level x s).state).notes) (run level x n (turn level x s).state).last →
+          IsAsNoted (old ++ notes_in (unless s e (with_front (at_turn s.turn (turn level x s).notes) (run level x n (turn level x s).state))).notes) (unless s e (with_front (at_turn s.turn (turn level x s).notes) (run level x n (turn level x s).state))).last
       by_end (Some e) k = rw append-nil o
       by_end None k =
           let ns = (turn level x s).notes in
           let r = run level x n (turn level x s).state in
-          subst (λ ms. IsTold ms r.last) (append_assoc old ns (told_in r.notes) ∙ ap (λ ms. old ++ ms) (ap (λ ms. ms ++ told_in r.notes) (sym (front_told s.turn ns)) ∙ sym (joined_told (at_turn s.turn ns) r.notes))) k
+          subst (λ ms. IsAsNoted ms r.last) (append_assoc old ns (notes_in r.notes) ∙ ap (λ ms. old ++ ms) (ap (λ ms. ms ++ notes_in r.notes) (sym (front_as_noted s.turn ns)) ∙ sym (joined_as_noted (at_turn s.turn ns) r.notes))) k
 
   pub ledger-run : (n : ℕ) → Sane x.setup (start x.setup) → IsLedgerOfRun level x n
-  ledger-run n h = told-ledger _ _ (told_run n (start x.setup) [] h (told-start x.setup))
+  ledger-run n h = as_noted-ledger _ _ (as_noted_run n (start x.setup) [] h (as_noted-start x.setup))

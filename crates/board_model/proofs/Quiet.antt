@@ -11,11 +11,11 @@ use Rattle.task_table.specs.Counts.{IsAsReady}
 use Rattle.task_table.specs.Sane.{Sane}
 use Rattle.task_table.proofs.Noting.{noted-noted}
 use Rattle.task_table.proofs.Quieting.{ready_same, ready_then, ready-with_task, chain_quiet}
-use Rattle.board_model.specs.declared.told.Level.{Level}
-use Rattle.board_model.specs.declared.told.Level.TheVariants.{Calls, All}
+use Rattle.board_model.specs.declared.outcomes.Level.{Level}
+use Rattle.board_model.specs.declared.outcomes.Level.TheVariants.{Brief, All}
 use Rattle.board_model.specs.Script.{Scenario}
 use Rattle.board_model.specs.Run.{is_down}
-use Rattle.board_model.specs.Turn.{told, stepped, after_events, with_current, with_registers_told, turn_of, ended, turn}
+use Rattle.board_model.specs.Turn.{noted_at, stepped, after_events, with_current, with_registers_noted, turn_of, ended, turn}
 use Rattle.board_model.proofs.TurnChains.{chosen_is, found_in, chosen_chain}
 
 -- who gets a processor is as ready
@@ -90,8 +90,8 @@ current-down : (s : State) (c : ℕ) → is_down record s { current = c } ≡ is
 unfolding task_at
 current-down s c = refl
 
-quiet-idle : (level : Level) (t : Turn) → (told level note.Idle t).notes ≡ [] → IsAsReady t.state (told level note.Idle t).state
-quiet-idle Calls t none = ready_same t.state
+quiet-idle : (level : Level) (t : Turn) → (noted_at level note.Idle t).notes ≡ [] → IsAsReady t.state (noted_at level note.Idle t).state
+quiet-idle Brief t none = ready_same t.state
 quiet-idle All t none = absurd (noted-noted note.Idle t none)
 
 -- who is ready, who is chosen next, and whether the supervisor has faulted, as in another state
@@ -110,11 +110,11 @@ quiet-turn level x s h none = by_choice (chosen x.setup t.state) refl none
 
     by_choice : (o : Option ℕ) → chosen x.setup t.state ≡ o → (turn_of level x.setup o t).notes ≡ [] → IsChosenAlike x.setup t.state (record (turn_of level x.setup o t).state { turn = (turn_of level x.setup o t).state.turn + 1 })
     by_choice None e none =
-        let v : Turn = told level note.Idle t in
+        let v : Turn = noted_at level note.Idle t in
         let same = ready_then t.state v.state _ (quiet-idle level t none) (ready-turn v.state (v.state.turn + 1)) in
         record { next = chosen_same x.setup t.state _ same; ready = same.ready; down = same-down t.state _ same }
     by_choice (Some c) e none =
         let u : Turn = with_current c t in
-        let v : Turn = with_registers_told level c (stepped level x.setup c u) in
+        let v : Turn = with_registers_noted level c (stepped level x.setup c u) in
         let same = ready_then u.state v.state _ (chain_quiet x.setup u.state c u v (chosen_chain level x.setup c t h e) none) (ready-turn v.state (v.state.turn + 1)) in
         record { next = chosen_same x.setup u.state _ same ∙ chosen_stays t.state c h e ∙ sym e; ready = λ i. same.ready i ∙ ready-current t.state c i; down = same-down u.state _ same ∙ current-down t.state c }

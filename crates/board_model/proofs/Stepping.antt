@@ -14,8 +14,8 @@ use Rattle.task_table.specs.State.{Setup, State, Own, Turn}
 use Rattle.task_table.specs.Reading.{register, task_at}
 use Rattle.task_table.specs.Effects.{stored, faulted}
 use Rattle.task_table.specs.Sane.{Sane}
-use Rattle.board_model.specs.declared.told.Level.{Level}
-use Rattle.board_model.specs.Turn.{refusals, cpu_of, bytes_of, put, is_text, decoded_as, stepped, stepped_wide}
+use Rattle.board_model.specs.declared.outcomes.Level.{Level}
+use Rattle.board_model.specs.Turn.{refusals, cpu_of, bytes_of, put, may_fetch, decoded_as, stepped, stepped_wide}
 use Rattle.board_model.proofs.TurnChains.{whole_cpu}
 
 -- ## its stores
@@ -52,21 +52,21 @@ rows level g c t at first text wide =
     cond (not text) (faulted g c record { number = 2; x = at; y = 0 } t)
     (cond (not wide) (decoded_as level g c at first (decoded_of first None) t) (stepped_wide level g c at first t))
 
-stepped_by : (level : Level) (g : Setup) (c : ℕ) (t : Turn) (at first : ℕ) (text wide : Bool) → at ≡ register t.state c 15 → first ≡ number_at t.state.memory at 2 → text ≡ is_text g c at → wide ≡ is_wide first →
+stepped_by : (level : Level) (g : Setup) (c : ℕ) (t : Turn) (at first : ℕ) (text wide : Bool) → at ≡ register t.state c 15 → first ≡ number_at t.state.memory at 2 → text ≡ may_fetch g c at → wide ≡ is_wide first →
     stepped level g c t ≡ rows level g c t at first text wide
 unfolding stepped rows
 stepped_by level g c t at first text wide same fetched is begins =
-    let at_place : ℕ → Turn = λ a. rows level g c t a (number_at t.state.memory a 2) (is_text g c a) (is_wide (number_at t.state.memory a 2)) in
-    let by_first : ℕ → Turn = λ f. rows level g c t at f (is_text g c at) (is_wide f) in
-    let by_text : Bool → Turn = λ b. rows level g c t at first b (is_wide first) in
+    let at_place : ℕ → Turn = λ a. rows level g c t a (number_at t.state.memory a 2) (may_fetch g c a) (is_wide (number_at t.state.memory a 2)) in
+    let by_first : ℕ → Turn = λ f. rows level g c t at f (may_fetch g c at) (is_wide f) in
+    let by_fetch : Bool → Turn = λ b. rows level g c t at first b (is_wide first) in
     let by_wide : Bool → Turn = λ w. rows level g c t at first text w in
-    ap at_place (sym same) ∙ ap by_first (sym fetched) ∙ ap by_text (sym is) ∙ ap by_wide (sym begins)
+    ap at_place (sym same) ∙ ap by_first (sym fetched) ∙ ap by_fetch (sym is) ∙ ap by_wide (sym begins)
 
 module _ (level : Level) (g : Setup) (t : Turn) (P : Turn → Type 0) (at first : ℕ) (b : Bool)
-    (same : at ≡ register t.state t.state.current 15) (is : b ≡ is_text g t.state.current at) where
-  pub text_refused : (f : Fault) → b ≡ false → f ≡ record { number = 2; x = at; y = 0 } → P (faulted g t.state.current f t) → P (stepped level g t.state.current t)
+    (same : at ≡ register t.state t.state.current 15) (is : b ≡ may_fetch g t.state.current at) where
+  pub fetch_refused : (f : Fault) → b ≡ false → f ≡ record { number = 2; x = at; y = 0 } → P (faulted g t.state.current f t) → P (stepped level g t.state.current t)
   unfolding rows
-  text_refused f refused fault h =
+  fetch_refused f refused fault h =
       let e = stepped_by level g t.state.current t at (number_at t.state.memory at 2) false (is_wide (number_at t.state.memory at 2)) same refl (sym refused ∙ is) refl in
       let F : Fault → Type 0 = λ x. P (faulted g t.state.current x t) in
       subst P (sym e) (subst F fault h)
@@ -91,14 +91,14 @@ wide_rows level g c t at first after text =
     cond (not text) (faulted g c record { number = 2; x = after; y = 0 } t)
     (decoded_as level g c at (first * 2 ^ 16 + number_at t.state.memory after 2) (decoded_of first (Some (number_at t.state.memory after 2))) t)
 
-wide_by : (level : Level) (g : Setup) (c : ℕ) (t : Turn) (at first after : ℕ) (b : Bool) → after ≡ (at + 2) % 2 ^ 32 → b ≡ is_text g c after → wide_rows level g c t at first after b ≡ stepped_wide level g c at first t
+wide_by : (level : Level) (g : Setup) (c : ℕ) (t : Turn) (at first after : ℕ) (b : Bool) → after ≡ (at + 2) % 2 ^ 32 → b ≡ may_fetch g c after → wide_rows level g c t at first after b ≡ stepped_wide level g c at first t
 unfolding wide_rows
 wide_by level g c t at first after b e is =
     let by : Bool → Turn = λ x. wide_rows level g c t at first after x in
-    let at_place : ℕ → Turn = λ a. wide_rows level g c t at first a (is_text g c a) in
+    let at_place : ℕ → Turn = λ a. wide_rows level g c t at first a (may_fetch g c a) in
     ap by is ∙ ap at_place e
 
-module _ (level : Level) (g : Setup) (t : Turn) (P : Turn → Type 0) (at first after : ℕ) (b : Bool) (e : after ≡ (at + 2) % 2 ^ 32) (is : b ≡ is_text g t.state.current after) where
+module _ (level : Level) (g : Setup) (t : Turn) (P : Turn → Type 0) (at first after : ℕ) (b : Bool) (e : after ≡ (at + 2) % 2 ^ 32) (is : b ≡ may_fetch g t.state.current after) where
   pub second_refused : (f : Fault) → b ≡ false → f ≡ record { number = 2; x = after; y = 0 } → P (faulted g t.state.current f t) → P (stepped_wide level g t.state.current at first t)
   unfolding wide_rows
   second_refused f refused fault h =

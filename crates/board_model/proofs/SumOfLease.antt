@@ -12,18 +12,18 @@ use Rattle.thumb_exec.specs.Effect.{words, transfers, first_refused, stores_of, 
 use Rattle.task_table.specs.State.{Setup}
 use Rattle.mem_banks.specs.Memory.{bytes_at, with_bytes, copied as copied_memory}
 use Rattle.task_table.specs.Reading.{task_at, line_at, register, arguments, call_of, listen_of, dead_code_for, is_out, is_dead, present_id, is_ready, bad_byte, chosen, offer_by, taken_by, best_sender}
-use Rattle.task_table.specs.Effects.{with_task, without_call, without_listen, with_listen, with_taken, noted, with_processor, with_health, stored, copied, looked, given, returned, past_call, bits_added, bits_cleared, woken, posted, with_timer, clocked, with_line, closed, faulted_as, with_call, offered, handed}
+use Rattle.task_table.specs.Effects.{with_task, without_call, without_listen, with_listen, with_taken, noted, with_processor, with_health, stored, copied, looked, given, returned, past_syscall, bits_added, bits_cleared, woken, posted, with_timer, clocked, with_line, closed, faulted_as, with_call, offered, handed}
 use Rattle.task_table.specs.Events.{ticked, owner_of, interrupted}
-use Rattle.task_table.specs.Rows.{panicked, timer_set, timer_told, irq_controlled, received, call_noted}
+use Rattle.task_table.specs.Rows.{panicked, timer_set, timer_answered, irq_controlled, received, syscall_noted}
 use Rattle.task_table.specs.Sends.{sent, replied, reply_faulted, post_made, refreshed}
 use Rattle.task_table.specs.Borrows.{grant, borrowed, informed}
-use Rattle.task_table.specs.Calls.{called}
+use Rattle.task_table.specs.Syscalls.{syscall_made}
 use Rattle.task_table.specs.Start.{start, begun}
-use Rattle.board_model.specs.declared.told.End.TheVariants.{Still}
-use Rattle.board_model.specs.declared.told.Level.TheVariants.{Calls}
+use Rattle.board_model.specs.declared.outcomes.End.TheVariants.{Still}
+use Rattle.board_model.specs.declared.outcomes.Level.TheVariants.{Brief}
 use Rattle.board_model.specs.Script.{Scenario}
 use Rattle.board_model.specs.Run.{Run, run, ending}
-use Rattle.board_model.specs.Turn.{after_events, stepped, with_registers_told, ended, turn}
+use Rattle.board_model.specs.Turn.{after_events, stepped, with_registers_noted, ended, turn}
 
 setup : Setup
 setup = record {
@@ -47,39 +47,39 @@ scenario = record { setup = setup; script = record { every = None; events = [] }
 
 expected : List (ℕ × Note)
 expected =
-    (3, note.Call 0 1 (0 ∷ 0 ∷ 1 ∷ 0 ∷ 0 ∷ 0 ∷ 0 ∷ [])) ∷
+    (3, note.Syscall 0 1 (0 ∷ 0 ∷ 1 ∷ 0 ∷ 0 ∷ 0 ∷ 0 ∷ [])) ∷
     (3, note.Listen 0 listened.Any 1) ∷
-    (10, note.Call 1 1 (0 ∷ 0 ∷ 0 ∷ 0 ∷ 0 ∷ 0 ∷ 0 ∷ [])) ∷
+    (10, note.Syscall 1 1 (0 ∷ 0 ∷ 0 ∷ 0 ∷ 0 ∷ 0 ∷ 0 ∷ [])) ∷
     (10, note.Listen 1 listened.Any 0) ∷
-    (357, note.Call 2 0 (65536 ∷ 0 ∷ 0 ∷ 0 ∷ 0 ∷ 536871552 ∷ 2 ∷ [])) ∷
+    (357, note.Syscall 2 0 (65536 ∷ 0 ∷ 0 ∷ 0 ∷ 0 ∷ 536871552 ∷ 2 ∷ [])) ∷
     (357, note.Offer 1 2 1) ∷
     (357, note.Take 1 0) ∷
     (357, note.Ret 1 (0 ∷ 2 ∷ 0 ∷ 0 ∷ 0 ∷ 2 ∷ [])) ∷
-    (368, note.Call 1 4 (2 ∷ 0 ∷ 0 ∷ 536871232 ∷ 16 ∷ 2 ∷ 0 ∷ [])) ∷
+    (368, note.Syscall 1 4 (2 ∷ 0 ∷ 0 ∷ 536871232 ∷ 16 ∷ 2 ∷ 0 ∷ [])) ∷
     (368, note.Borrow 1 borrow.Read 0 0 16) ∷
     (368, note.Ret 1 (0 ∷ 16 ∷ 0 ∷ 536871232 ∷ 16 ∷ 2 ∷ [])) ∷
-    (476, note.Call 1 4 (2 ∷ 0 ∷ 16 ∷ 536871232 ∷ 16 ∷ 2 ∷ 0 ∷ [])) ∷
+    (476, note.Syscall 1 4 (2 ∷ 0 ∷ 16 ∷ 536871232 ∷ 16 ∷ 2 ∷ 0 ∷ [])) ∷
     (476, note.Borrow 1 borrow.Read 0 16 16) ∷
     (476, note.Ret 1 (0 ∷ 16 ∷ 16 ∷ 536871232 ∷ 16 ∷ 2 ∷ [])) ∷
-    (584, note.Call 1 4 (2 ∷ 0 ∷ 32 ∷ 536871232 ∷ 16 ∷ 2 ∷ 0 ∷ [])) ∷
+    (584, note.Syscall 1 4 (2 ∷ 0 ∷ 32 ∷ 536871232 ∷ 16 ∷ 2 ∷ 0 ∷ [])) ∷
     (584, note.Borrow 1 borrow.Read 0 32 16) ∷
     (584, note.Ret 1 (0 ∷ 16 ∷ 32 ∷ 536871232 ∷ 16 ∷ 2 ∷ [])) ∷
-    (692, note.Call 1 4 (2 ∷ 0 ∷ 48 ∷ 536871232 ∷ 16 ∷ 2 ∷ 0 ∷ [])) ∷
+    (692, note.Syscall 1 4 (2 ∷ 0 ∷ 48 ∷ 536871232 ∷ 16 ∷ 2 ∷ 0 ∷ [])) ∷
     (692, note.Borrow 1 borrow.Read 0 48 16) ∷
     (692, note.Ret 1 (0 ∷ 16 ∷ 48 ∷ 536871232 ∷ 16 ∷ 2 ∷ [])) ∷
-    (800, note.Call 1 4 (2 ∷ 0 ∷ 64 ∷ 536871232 ∷ 16 ∷ 2 ∷ 0 ∷ [])) ∷
+    (800, note.Syscall 1 4 (2 ∷ 0 ∷ 64 ∷ 536871232 ∷ 16 ∷ 2 ∷ 0 ∷ [])) ∷
     (800, note.Borrow 1 borrow.Read 0 64 0) ∷
     (800, note.Ret 1 (0 ∷ 0 ∷ 64 ∷ 536871232 ∷ 16 ∷ 2 ∷ [])) ∷
-    (812, note.Call 1 5 (2 ∷ 1 ∷ 0 ∷ 536871232 ∷ 4 ∷ 2 ∷ 0 ∷ [])) ∷
+    (812, note.Syscall 1 5 (2 ∷ 1 ∷ 0 ∷ 536871232 ∷ 4 ∷ 2 ∷ 0 ∷ [])) ∷
     (812, note.Borrow 1 borrow.Write 1 0 4) ∷
     (812, note.Ret 1 (0 ∷ 4 ∷ 0 ∷ 536871232 ∷ 4 ∷ 2 ∷ [])) ∷
-    (819, note.Call 1 2 (2 ∷ 2208 ∷ 0 ∷ 0 ∷ 4 ∷ 2 ∷ 0 ∷ [])) ∷
+    (819, note.Syscall 1 2 (2 ∷ 2208 ∷ 0 ∷ 0 ∷ 4 ∷ 2 ∷ 0 ∷ [])) ∷
     (819, note.Close 1 ending.Reply) ∷
     (819, note.Ret 2 (2208 ∷ 0 ∷ 0 ∷ 0 ∷ 0 ∷ 536871552 ∷ [])) ∷
     (819, note.Ret 1 (2 ∷ 2208 ∷ 0 ∷ 0 ∷ 4 ∷ 2 ∷ [])) ∷
-    (827, note.Call 1 1 (0 ∷ 0 ∷ 0 ∷ 0 ∷ 4 ∷ 2 ∷ 0 ∷ [])) ∷
+    (827, note.Syscall 1 1 (0 ∷ 0 ∷ 0 ∷ 0 ∷ 4 ∷ 2 ∷ 0 ∷ [])) ∷
     (827, note.Listen 1 listened.Any 0) ∷
-    (834, note.Call 2 1 (2208 ∷ 0 ∷ 0 ∷ 2147549183 ∷ 0 ∷ 536871552 ∷ 2 ∷ [])) ∷
+    (834, note.Syscall 2 1 (2208 ∷ 0 ∷ 0 ∷ 2147549183 ∷ 0 ∷ 536871552 ∷ 2 ∷ [])) ∷
     (834, note.Listen 2 listened.Kernel 0) ∷
     []
 
@@ -87,6 +87,6 @@ expected =
 IsTrace : Run → Type 0
 IsTrace r = (r.notes ≡ expected) × (r.end ≡ Still) × (r.last.turn ≡ 835)
 
-agrees : IsTrace (run Calls scenario 1000 (start setup))
-unfolding setup scenario expected IsTrace first_bad words transfers first_refused stores_of loaded_all ones count effect rows narrow_of wide_rows wide_of run ending after_events turn ended stepped with_registers_told bytes_at with_bytes copied_memory task_at line_at register arguments call_of listen_of dead_code_for is_out is_dead present_id is_ready bad_byte chosen offer_by taken_by best_sender with_task without_call without_listen with_listen with_taken noted with_processor with_health stored copied looked given returned past_call bits_added bits_cleared woken posted with_timer clocked with_line closed faulted_as with_call offered handed ticked owner_of interrupted panicked timer_set timer_told irq_controlled received call_noted sent replied reply_faulted post_made refreshed grant borrowed informed called start begun
+agrees : IsTrace (run Brief scenario 1000 (start setup))
+unfolding setup scenario expected IsTrace first_bad words transfers first_refused stores_of loaded_all ones count effect rows narrow_of wide_rows wide_of run ending after_events turn ended stepped with_registers_noted bytes_at with_bytes copied_memory task_at line_at register arguments call_of listen_of dead_code_for is_out is_dead present_id is_ready bad_byte chosen offer_by taken_by best_sender with_task without_call without_listen with_listen with_taken noted with_processor with_health stored copied looked given returned past_syscall bits_added bits_cleared woken posted with_timer clocked with_line closed faulted_as with_call offered handed ticked owner_of interrupted panicked timer_set timer_answered irq_controlled received syscall_noted sent replied reply_faulted post_made refreshed grant borrowed informed syscall_made start begun
 agrees = (refl, refl, refl)

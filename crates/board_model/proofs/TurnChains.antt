@@ -1,4 +1,4 @@
--- A turn is a chain of steps: its instruction, or the row of its call, with what is told besides.
+-- A turn is a chain of steps: its instruction, or the row of its system call, with what is noted besides.
 use Rattle.std.proofs.Common.{◌≡◌, ◌≢◌, ◌+◌, ◌-◌, ◌*◌, ◌/◌, ◌%◌, ◌^◌, ◌<◌, ◌≤◌, ◌⊎◌, inl, inr, ℕ, zero, suc, Bool, true, false, cond, not, ◌&&◌, ◌||◌, List, [], ◌∷◌, length, take, drop, Option, Some, None, refl, sym, ◌∙◌, ap, arith, leb, ltb, IfSome}
 use Rattle.std.specs.Prelude.{Contains, fold, find}
 use Rattle.std.specs.List.{range_with_len, list_any}
@@ -17,14 +17,14 @@ use Rattle.thumb_insn.specs.declared.Insn.{Insn}
 use Rattle.thumb_insn.specs.declared.Decoded.{Decoded}
 use Rattle.thumb_insn.specs.declared.Decoded.TheVariants.{Narrow, Wide, Illegal, NeedsSecond}
 use Rattle.thumb_insn.specs.Table.{decoded_of, is_wide}
-use Rattle.thumb_exec.specs.Effect.{Effect, Next, Call, Trap, Store, effect}
+use Rattle.thumb_exec.specs.Effect.{Effect, Next, Syscall, Trap, Store, effect}
 use Rattle.mem_banks.specs.Memory.{Memory, IsWithinRam, number_at, number_of, bytes_at, is_ram, AreAllBytes}
 use Rattle.task_table.specs.State.{Setup, State, Ground, Own, Turn}
 use Rattle.task_table.specs.Reading.{setup_at, task_at, register, call_of, listen_of, chosen, qualifies, around, is_ready}
 use Rattle.task_table.specs.Effects.{noted, stored}
 use Rattle.task_table.specs.Events.{ticked, interrupted}
-use Rattle.task_table.specs.Rows.{call_noted}
-use Rattle.task_table.specs.Calls.{called}
+use Rattle.task_table.specs.Rows.{syscall_noted}
+use Rattle.task_table.specs.Syscalls.{syscall_made}
 use Rattle.task_table.specs.Start.{begun}
 use Rattle.task_table.specs.Placed.{ArePlaced}
 use Rattle.task_table.specs.Sane.{Sane}
@@ -40,11 +40,11 @@ use Rattle.task_table.specs.Step.{Step, Notes, Runs, Stores, Halts}
 use Rattle.task_table.proofs.Chains.{one, ◌▷◌, joined, by_chain}
 use Rattle.task_table.proofs.Moves.{IsAside, aside_here, aside-noted}
 use Rattle.task_table.proofs.Noting.{noted-noted, chain_noted}
-use Rattle.task_table.proofs.RowChains.{chain-called}
-use Rattle.board_model.specs.declared.told.Level.{Level}
-use Rattle.board_model.specs.declared.told.Level.TheVariants.{Calls, All}
+use Rattle.task_table.proofs.RowChains.{chain-syscall_made}
+use Rattle.board_model.specs.declared.outcomes.Level.{Level}
+use Rattle.board_model.specs.declared.outcomes.Level.TheVariants.{Brief, All}
 use Rattle.board_model.specs.Script.{Scenario}
-use Rattle.board_model.specs.Turn.{may, refusals, cpu_of, bytes_of, put, acted, executed, told, decoded_as, is_text, stepped, happened, after_events, with_current, low_note, high_note, with_registers_told, turn_of, ended, turn}
+use Rattle.board_model.specs.Turn.{may, refusals, cpu_of, bytes_of, put, acted, executed, noted_at, decoded_as, may_fetch, stepped, happened, after_events, with_current, low_note, high_note, with_registers_noted, turn_of, ended, turn}
 use Rattle.thumb_exec.specs.Keeps.{IsWholeCpu, IsPermitted, Keeps}
 use Rattle.thumb_exec.proofs.Keeping.{keeps}
 use Rattle.thumb_insn.specs.Table.{narrow_of, wide_of, narrow_result, wide_result, with_second}
@@ -181,13 +181,13 @@ pub whole_cpu : {g : Setup} (c : ℕ) (t : Turn) → Sane g t.state → c < leng
 whole_cpu c t h inside = let x = h.steady.tasks c inside in record { sixteen = x.sixteen; even = x.even; aligned = x.aligned }
 
 module _ (g : Setup) (c : ℕ) (t : Turn) (h : Sane g t.state) (inside : c < length g.tasks) (ready : is_ready t.state c ≡ true) where
-  calls_chain : Chain (Step g t.state c) t (called g c (call_noted c t))
-  unfolding call_noted noted
-  calls_chain = joined (Step g t.state c) t (call_noted c t) _ (one (Notes _ t refl)) (chain-called g c (call_noted c t) h inside ready)
+  calls_chain : Chain (Step g t.state c) t (syscall_made g c (syscall_noted c t))
+  unfolding syscall_noted noted
+  calls_chain = joined (Step g t.state c) t (syscall_noted c t) _ (one (Notes _ t refl)) (chain-syscall_made g c (syscall_noted c t) h inside ready)
 
   acted_chain : (e : Effect) → Keeps (refusals g c) e → Chain (Step g t.state c) t (acted g c e t)
   acted_chain (Next cpu stores) k = puts_chain g t.state c inside stores t h refl k.1 ▷ Runs cpu.regs.words cpu.flags _ inside record { sixteen = k.0.sixteen; even = k.0.even; aligned = k.0.aligned }
-  acted_chain Call k = calls_chain
+  acted_chain Syscall k = calls_chain
   acted_chain (Trap f) k = one (Halts f t inside (omega (arith, k.0)) (omega (arith, k.1)))
 
 narrow_coded : (h : ℕ) (o : Option Insn) (i : Insn) → narrow_of h ≡ o → h < 65536 → (narrow_result o ≡ Narrow i) ⊎ (narrow_result o ≡ Wide i) → IsCoded i
@@ -209,12 +209,12 @@ decoded_coded first (Some second) i f g true e = wide_coded first second (wide_o
 decoded_coded first None i f g true (inl e) = absurd cc
 decoded_coded first None i f g true (inr e) = absurd cc
 
--- a call is noted, whatever it comes to
-pub noted-call : (g : Setup) (c : ℕ) (t : Turn) → Sane g t.state → c < length t.state.tasks → is_ready t.state c ≡ true → IsNoted (called g c (call_noted c t))
-unfolding call_noted noted
+-- a system call is noted, whatever it comes to
+pub noted-call : (g : Setup) (c : ℕ) (t : Turn) → Sane g t.state → c < length t.state.tasks → is_ready t.state c ≡ true → IsNoted (syscall_made g c (syscall_noted c t))
+unfolding syscall_noted noted
 noted-call g c t h inside ready =
-    let u = call_noted c t in
-    chain_noted g t.state c u (called g c u) (chain-called g c u h (rw (← h.steady.as_many) inside) ready) (noted-noted _ t)
+    let u = syscall_noted c t in
+    chain_noted g t.state c u (syscall_made g c u) (chain-syscall_made g c u h (rw (← h.steady.as_many) inside) ready) (noted-noted _ t)
 
 keeps-here : {g : Setup} (c : ℕ) (t : Turn) (h : Sane g t.state) (inside : c < length t.state.tasks) (first : ℕ) (two : Option ℕ) (insn : Insn) → first < 65536 → IfSome two (λ x. x < 65536) → (decoded_of first two ≡ Narrow insn) ⊎ (decoded_of first two ≡ Wide insn) →
     Keeps (refusals g c) (effect (refusals g c) (number_at t.state.memory) (cpu_of (task_at t.state c)) insn)
@@ -224,9 +224,9 @@ module _ (level : Level) (g : Setup) (c : ℕ) (t : Turn) (h : Sane g t.state) (
   within : c < length t.state.tasks
   within = rw h.steady.as_many inside
 
-  executed_chain : (level : Level) (at code first : ℕ) (two : Option ℕ) (insn : Insn) → first < 65536 → IfSome two (λ x. x < 65536) → (decoded_of first two ≡ Narrow insn) ⊎ (decoded_of first two ≡ Wide insn) → Chain (Step g t.state c) t (executed g c insn (told level (note.Insn c at code) t))
+  executed_chain : (level : Level) (at code first : ℕ) (two : Option ℕ) (insn : Insn) → first < 65536 → IfSome two (λ x. x < 65536) → (decoded_of first two ≡ Narrow insn) ⊎ (decoded_of first two ≡ Wide insn) → Chain (Step g t.state c) t (executed g c insn (noted_at level (note.Insn c at code) t))
   unfolding noted
-  executed_chain Calls at code first two insn f1 f2 e = acted_chain g c t h inside ready _ (keeps-here c t h within first two insn f1 f2 e)
+  executed_chain Brief at code first two insn f1 f2 e = acted_chain g c t h inside ready _ (keeps-here c t h within first two insn f1 f2 e)
   executed_chain All at code first two insn f1 f2 e =
       let u = noted (note.Insn c at code) t in
       joined (Step g t.state c) t u _ (one (Notes (note.Insn c at code) t refl)) (acted_chain g c u h inside ready _ (keeps-here c u h within first two insn f1 f2 e))
@@ -247,23 +247,23 @@ module _ (level : Level) (g : Setup) (c : ℕ) (t : Turn) (h : Sane g t.state) (
       let second = number_at m after 2 in
       let small1 = half_small m at h.steady.text h.steady.bytes in
       let small2 = half_small m after h.steady.text h.steady.bytes in
-      by_chain (not (is_text g c at)) (λ bad. one (Halts _ t inside (omega arith) (omega arith))) (λ ok.
+      by_chain (not (may_fetch g c at)) (λ bad. one (Halts _ t inside (omega arith) (omega arith))) (λ ok.
       by_chain (not (is_wide first)) (λ narrow. decoded_chain at first first None (decoded_of first None) small1 tt refl) (λ wide.
-      by_chain (not (is_text g c after)) (λ bad. one (Halts _ t inside (omega arith) (omega arith))) (λ ok2.
+      by_chain (not (may_fetch g c after)) (λ bad. one (Halts _ t inside (omega arith) (omega arith))) (λ ok2.
       decoded_chain at (first * 2 ^ 16 + second) first (Some second) (decoded_of first (Some second)) small1 small2 refl)))
 
--- what is told besides
-tells : (g : Setup) (s : State) (c : ℕ) (level : Level) (n : Note) (t u : Turn) → Chain (Step g s c) t u → ((u : Turn) → Step g s c u (noted n u)) → Chain (Step g s c) t (told level n u)
-tells g s c Calls n t u x step = x
+-- what is noted besides
+tells : (g : Setup) (s : State) (c : ℕ) (level : Level) (n : Note) (t u : Turn) → Chain (Step g s c) t u → ((u : Turn) → Step g s c u (noted n u)) → Chain (Step g s c) t (noted_at level n u)
+tells g s c Brief n t u x step = x
 tells g s c All n t u x step = x ▷ step u
 
 -- from where the chosen task becomes the current one, to the end of its turn
-pub ran_chain : (level : Level) (g : Setup) (c : ℕ) (t : Turn) → Sane g t.state → c < length g.tasks → is_ready t.state c ≡ true → Chain (Step g t.state c) t (with_registers_told level c (stepped level g c t))
-unfolding with_registers_told
+pub ran_chain : (level : Level) (g : Setup) (c : ℕ) (t : Turn) → Sane g t.state → c < length g.tasks → is_ready t.state c ≡ true → Chain (Step g t.state c) t (with_registers_noted level c (stepped level g c t))
+unfolding with_registers_noted
 ran_chain level g c t h inside ready =
     let u = stepped level g c t in
     let low = low_note (task_at u.state c) in
-    tells g t.state c level (high_note (task_at u.state c)) t (told level low u)
+    tells g t.state c level (high_note (task_at u.state c)) t (noted_at level low u)
     (tells g t.state c level low t u (stepped_chain level g c t h inside ready) (λ v. Notes low v refl))
     (λ v. Notes (high_note (task_at u.state c)) v refl)
 
@@ -324,30 +324,30 @@ unfolding after_events
 sane-after_events x s h = sane-events x.setup (events_of x.script s.turn) (begun s) (begun_sane x.setup s h)
 
 -- an idle turn stands aside
-pub idle-aside : (level : Level) (t : Turn) → IsAside t (told level note.Idle t)
-idle-aside Calls t = aside_here t
+pub idle-aside : (level : Level) (t : Turn) → IsAside t (noted_at level note.Idle t)
+idle-aside Brief t = aside_here t
 idle-aside All t = aside-noted note.Idle t refl
 
 -- from where the chosen task becomes the current one, to the end of its turn
 pub chosen_chain : (level : Level) (g : Setup) (c : ℕ) (t : Turn) → Sane g t.state → chosen g t.state ≡ Some c →
-    Chain (Step g (with_current c t).state c) (with_current c t) (with_registers_told level c (stepped level g c (with_current c t)))
+    Chain (Step g (with_current c t).state c) (with_current c t) (with_registers_noted level c (stepped level g c (with_current c t)))
 chosen_chain level g c t h e =
     let is = chosen_is t.state c h e in
     ran_chain level g c (with_current c t) (sane-current c t h is.inside) (rw (← h.steady.as_many) is.inside) (as_current c c t.state is.ready)
 
 pub turn_chain : (level : Level) (x : Scenario) (s : State) (c : ℕ) → Sane x.setup s → chosen x.setup (after_events x s).state ≡ Some c →
-    Chain (Step x.setup (with_current c (after_events x s)).state c) (with_current c (after_events x s)) (with_registers_told level c (stepped level x.setup c (with_current c (after_events x s))))
+    Chain (Step x.setup (with_current c (after_events x s)).state c) (with_current c (after_events x s)) (with_registers_noted level c (stepped level x.setup c (with_current c (after_events x s))))
 turn_chain level x s c h e = chosen_chain level x.setup c (after_events x s) (sane-after_events x s h) e
 
--- what is told changes no state
-pub told_state : (level : Level) (n : Note) (t : Turn) → (told level n t).state ≡ t.state
+-- what is noted changes no state
+pub noted_state : (level : Level) (n : Note) (t : Turn) → (noted_at level n t).state ≡ t.state
 unfolding noted
-told_state Calls n t = refl
-told_state All n t = refl
+noted_state Brief n t = refl
+noted_state All n t = refl
 
-pub ready-call_noted : (c : ℕ) (t : Turn) → is_ready t.state c ≡ true → is_ready (call_noted c t).state c ≡ true
-unfolding call_noted noted
-ready-call_noted c t h = h
+pub ready-syscall_noted : (c : ℕ) (t : Turn) → is_ready t.state c ≡ true → is_ready (syscall_noted c t).state c ≡ true
+unfolding syscall_noted noted
+ready-syscall_noted c t h = h
 
 -- so an instruction and the turn keep a state sane
 pub sane-stepped : {g : Setup} (level : Level) (c : ℕ) (t : Turn) → Sane g t.state → c < length t.state.tasks → is_ready t.state c ≡ true → Sane g (stepped level g c t).state
@@ -356,9 +356,9 @@ sane-stepped {g} level c t h inside ready = chain_sane g t.state c t (stepped le
 pub sane-ran : {g : Setup} (level : Level) (c : ℕ) (t : Turn) → Sane g t.state → IsChosen t.state c → Sane g (stepped level g c (with_current c t)).state
 sane-ran level c t h is = sane-stepped level c (with_current c t) (sane-current c t h is.inside) is.inside (as_current c c t.state is.ready)
 
-sane-told : {g : Setup} (level : Level) (n : Note) (t : Turn) → Sane g t.state → Sane g (told level n t).state
-sane-told Calls n t h = h
-sane-told All n t h = keeps-noted n t h
+sane-noted : {g : Setup} (level : Level) (n : Note) (t : Turn) → Sane g t.state → Sane g (noted_at level n t).state
+sane-noted Brief n t h = h
+sane-noted All n t h = keeps-noted n t h
 
 sane-ended : {g : Setup} (u : Turn) → Sane g u.state → Sane g (ended u).state
 unfolding ended
@@ -369,7 +369,7 @@ unfolding turn
 sane-after level x s h = by_choice (chosen x.setup (after_events x s).state) refl
   where
     by_choice : (o : Option ℕ) → chosen x.setup (after_events x s).state ≡ o → Sane x.setup (ended (turn_of level x.setup o (after_events x s))).state
-    by_choice None e = sane-ended _ (sane-told level note.Idle (after_events x s) (sane-after_events x s h))
+    by_choice None e = sane-ended _ (sane-noted level note.Idle (after_events x s) (sane-after_events x s h))
     by_choice (Some c) e =
         let t = after_events x s in
         let u = with_current c t in

@@ -11,17 +11,17 @@ use Rattle.thumb_exec.specs.Effect.{words, transfers, first_refused, stores_of, 
 use Rattle.task_table.specs.State.{Setup}
 use Rattle.mem_banks.specs.Memory.{bytes_at, with_bytes, copied as copied_memory}
 use Rattle.task_table.specs.Reading.{task_at, line_at, register, arguments, call_of, listen_of, dead_code_for, is_out, is_dead, present_id, is_ready, bad_byte, chosen, offer_by, taken_by, best_sender}
-use Rattle.task_table.specs.Effects.{with_task, without_call, without_listen, with_listen, with_taken, noted, with_processor, with_health, stored, copied, looked, given, returned, past_call, bits_added, bits_cleared, woken, posted, with_timer, clocked, with_line, closed, faulted_as, with_call, offered, handed}
+use Rattle.task_table.specs.Effects.{with_task, without_call, without_listen, with_listen, with_taken, noted, with_processor, with_health, stored, copied, looked, given, returned, past_syscall, bits_added, bits_cleared, woken, posted, with_timer, clocked, with_line, closed, faulted_as, with_call, offered, handed}
 use Rattle.task_table.specs.Events.{ticked, owner_of, interrupted}
-use Rattle.task_table.specs.Rows.{panicked, timer_set, timer_told, irq_controlled, received, call_noted}
+use Rattle.task_table.specs.Rows.{panicked, timer_set, timer_answered, irq_controlled, received, syscall_noted}
 use Rattle.task_table.specs.Sends.{sent, replied, reply_faulted, post_made, refreshed}
-use Rattle.task_table.specs.Calls.{called}
+use Rattle.task_table.specs.Syscalls.{syscall_made}
 use Rattle.task_table.specs.Start.{start, begun}
-use Rattle.board_model.specs.declared.told.End.TheVariants.{Bound}
-use Rattle.board_model.specs.declared.told.Level.TheVariants.{Calls}
+use Rattle.board_model.specs.declared.outcomes.End.TheVariants.{Bound}
+use Rattle.board_model.specs.declared.outcomes.Level.TheVariants.{Brief}
 use Rattle.board_model.specs.Script.{Scenario}
 use Rattle.board_model.specs.Run.{Run, run, ending}
-use Rattle.board_model.specs.Turn.{after_events, stepped, with_registers_told, ended, turn}
+use Rattle.board_model.specs.Turn.{after_events, stepped, with_registers_noted, ended, turn}
 
 setup : Setup
 setup = record {
@@ -55,93 +55,93 @@ scenario = record { setup = setup; script = record { every = None; events = [] }
 
 expected : List (ℕ × Note)
 expected =
-    (3, note.Call 0 1 (0 ∷ 0 ∷ 1 ∷ 0 ∷ 0 ∷ 0 ∷ 0 ∷ [])) ∷
+    (3, note.Syscall 0 1 (0 ∷ 0 ∷ 1 ∷ 0 ∷ 0 ∷ 0 ∷ 0 ∷ [])) ∷
     (3, note.Listen 0 listened.Any 1) ∷
-    (19, note.Call 4 0 (131074 ∷ 536872000 ∷ 4 ∷ 536872000 ∷ 4 ∷ 0 ∷ 0 ∷ [])) ∷
+    (19, note.Syscall 4 0 (131074 ∷ 536872000 ∷ 4 ∷ 536872000 ∷ 4 ∷ 0 ∷ 0 ∷ [])) ∷
     (19, note.Offer 1 4 2) ∷
-    (35, note.Call 7 0 (65541 ∷ 536872768 ∷ 4 ∷ 536872768 ∷ 4 ∷ 0 ∷ 0 ∷ [])) ∷
+    (35, note.Syscall 7 0 (65541 ∷ 536872768 ∷ 4 ∷ 536872768 ∷ 4 ∷ 0 ∷ 0 ∷ [])) ∷
     (35, note.Offer 2 7 1) ∷
-    (42, note.Call 2 1 (536871488 ∷ 8 ∷ 0 ∷ 0 ∷ 0 ∷ 0 ∷ 0 ∷ [])) ∷
+    (42, note.Syscall 2 1 (536871488 ∷ 8 ∷ 0 ∷ 0 ∷ 0 ∷ 0 ∷ 0 ∷ [])) ∷
     (42, note.Take 1 4) ∷
     (42, note.Ret 2 (0 ∷ 4 ∷ 2 ∷ 4 ∷ 4 ∷ 0 ∷ [])) ∷
-    (52, note.Call 2 2 (4 ∷ 2 ∷ 536871488 ∷ 4 ∷ 4 ∷ 0 ∷ 0 ∷ [])) ∷
+    (52, note.Syscall 2 2 (4 ∷ 2 ∷ 536871488 ∷ 4 ∷ 4 ∷ 0 ∷ 0 ∷ [])) ∷
     (52, note.Close 1 ending.Reply) ∷
     (52, note.Ret 4 (2 ∷ 4 ∷ 4 ∷ 536872000 ∷ 4 ∷ 0 ∷ [])) ∷
     (52, note.Ret 2 (4 ∷ 2 ∷ 536871488 ∷ 4 ∷ 4 ∷ 0 ∷ [])) ∷
-    (67, note.Call 4 0 (131074 ∷ 536872000 ∷ 4 ∷ 536872000 ∷ 4 ∷ 0 ∷ 0 ∷ [])) ∷
+    (67, note.Syscall 4 0 (131074 ∷ 536872000 ∷ 4 ∷ 536872000 ∷ 4 ∷ 0 ∷ 0 ∷ [])) ∷
     (67, note.Offer 3 4 2) ∷
-    (83, note.Call 6 0 (131076 ∷ 536872512 ∷ 4 ∷ 536872512 ∷ 4 ∷ 0 ∷ 0 ∷ [])) ∷
+    (83, note.Syscall 6 0 (131076 ∷ 536872512 ∷ 4 ∷ 536872512 ∷ 4 ∷ 0 ∷ 0 ∷ [])) ∷
     (83, note.Offer 4 6 2) ∷
-    (91, note.Call 2 1 (536871488 ∷ 8 ∷ 0 ∷ 0 ∷ 4 ∷ 0 ∷ 0 ∷ [])) ∷
+    (91, note.Syscall 2 1 (536871488 ∷ 8 ∷ 0 ∷ 0 ∷ 4 ∷ 0 ∷ 0 ∷ [])) ∷
     (91, note.Take 3 4) ∷
     (91, note.Ret 2 (0 ∷ 4 ∷ 2 ∷ 4 ∷ 4 ∷ 0 ∷ [])) ∷
-    (101, note.Call 2 2 (4 ∷ 2 ∷ 536871488 ∷ 4 ∷ 4 ∷ 0 ∷ 0 ∷ [])) ∷
+    (101, note.Syscall 2 2 (4 ∷ 2 ∷ 536871488 ∷ 4 ∷ 4 ∷ 0 ∷ 0 ∷ [])) ∷
     (101, note.Close 3 ending.Reply) ∷
     (101, note.Ret 4 (2 ∷ 4 ∷ 4 ∷ 536872000 ∷ 4 ∷ 0 ∷ [])) ∷
     (101, note.Ret 2 (4 ∷ 2 ∷ 536871488 ∷ 4 ∷ 4 ∷ 0 ∷ [])) ∷
-    (116, note.Call 4 0 (131074 ∷ 536872000 ∷ 4 ∷ 536872000 ∷ 4 ∷ 0 ∷ 0 ∷ [])) ∷
+    (116, note.Syscall 4 0 (131074 ∷ 536872000 ∷ 4 ∷ 536872000 ∷ 4 ∷ 0 ∷ 0 ∷ [])) ∷
     (116, note.Offer 5 4 2) ∷
-    (124, note.Call 2 1 (536871488 ∷ 8 ∷ 0 ∷ 0 ∷ 4 ∷ 0 ∷ 0 ∷ [])) ∷
+    (124, note.Syscall 2 1 (536871488 ∷ 8 ∷ 0 ∷ 0 ∷ 4 ∷ 0 ∷ 0 ∷ [])) ∷
     (124, note.Take 5 4) ∷
     (124, note.Ret 2 (0 ∷ 4 ∷ 2 ∷ 4 ∷ 4 ∷ 0 ∷ [])) ∷
-    (134, note.Call 2 2 (4 ∷ 2 ∷ 536871488 ∷ 4 ∷ 4 ∷ 0 ∷ 0 ∷ [])) ∷
+    (134, note.Syscall 2 2 (4 ∷ 2 ∷ 536871488 ∷ 4 ∷ 4 ∷ 0 ∷ 0 ∷ [])) ∷
     (134, note.Close 5 ending.Reply) ∷
     (134, note.Ret 4 (2 ∷ 4 ∷ 4 ∷ 536872000 ∷ 4 ∷ 0 ∷ [])) ∷
     (134, note.Ret 2 (4 ∷ 2 ∷ 536871488 ∷ 4 ∷ 4 ∷ 0 ∷ [])) ∷
-    (142, note.Call 4 1 (2 ∷ 0 ∷ 0 ∷ 2147549183 ∷ 4 ∷ 0 ∷ 0 ∷ [])) ∷
+    (142, note.Syscall 4 1 (2 ∷ 0 ∷ 0 ∷ 2147549183 ∷ 4 ∷ 0 ∷ 0 ∷ [])) ∷
     (142, note.Listen 4 listened.Kernel 0) ∷
-    (150, note.Call 2 1 (536871488 ∷ 8 ∷ 0 ∷ 0 ∷ 4 ∷ 0 ∷ 0 ∷ [])) ∷
+    (150, note.Syscall 2 1 (536871488 ∷ 8 ∷ 0 ∷ 0 ∷ 4 ∷ 0 ∷ 0 ∷ [])) ∷
     (150, note.Take 4 4) ∷
     (150, note.Ret 2 (0 ∷ 6 ∷ 4 ∷ 4 ∷ 4 ∷ 0 ∷ [])) ∷
-    (160, note.Call 2 2 (6 ∷ 4 ∷ 536871488 ∷ 4 ∷ 4 ∷ 0 ∷ 0 ∷ [])) ∷
+    (160, note.Syscall 2 2 (6 ∷ 4 ∷ 536871488 ∷ 4 ∷ 4 ∷ 0 ∷ 0 ∷ [])) ∷
     (160, note.Close 4 ending.Reply) ∷
     (160, note.Ret 6 (4 ∷ 4 ∷ 4 ∷ 536872512 ∷ 4 ∷ 0 ∷ [])) ∷
     (160, note.Ret 2 (6 ∷ 4 ∷ 536871488 ∷ 4 ∷ 4 ∷ 0 ∷ [])) ∷
-    (168, note.Call 2 1 (536871488 ∷ 8 ∷ 0 ∷ 0 ∷ 4 ∷ 0 ∷ 0 ∷ [])) ∷
+    (168, note.Syscall 2 1 (536871488 ∷ 8 ∷ 0 ∷ 0 ∷ 4 ∷ 0 ∷ 0 ∷ [])) ∷
     (168, note.Listen 2 listened.Any 0) ∷
-    (176, note.Call 6 1 (4 ∷ 0 ∷ 0 ∷ 2147549183 ∷ 4 ∷ 0 ∷ 0 ∷ [])) ∷
+    (176, note.Syscall 6 1 (4 ∷ 0 ∷ 0 ∷ 2147549183 ∷ 4 ∷ 0 ∷ 0 ∷ [])) ∷
     (176, note.Listen 6 listened.Kernel 0) ∷
-    (192, note.Call 3 0 (65537 ∷ 536871744 ∷ 4 ∷ 536871744 ∷ 4 ∷ 0 ∷ 0 ∷ [])) ∷
+    (192, note.Syscall 3 0 (65537 ∷ 536871744 ∷ 4 ∷ 536871744 ∷ 4 ∷ 0 ∷ 0 ∷ [])) ∷
     (192, note.Offer 6 3 1) ∷
-    (208, note.Call 5 0 (65539 ∷ 536872256 ∷ 4 ∷ 536872256 ∷ 4 ∷ 0 ∷ 0 ∷ [])) ∷
+    (208, note.Syscall 5 0 (65539 ∷ 536872256 ∷ 4 ∷ 536872256 ∷ 4 ∷ 0 ∷ 0 ∷ [])) ∷
     (208, note.Offer 7 5 1) ∷
-    (215, note.Call 1 1 (536871232 ∷ 8 ∷ 0 ∷ 0 ∷ 0 ∷ 0 ∷ 0 ∷ [])) ∷
+    (215, note.Syscall 1 1 (536871232 ∷ 8 ∷ 0 ∷ 0 ∷ 0 ∷ 0 ∷ 0 ∷ [])) ∷
     (215, note.Take 2 4) ∷
     (215, note.Ret 1 (0 ∷ 7 ∷ 5 ∷ 4 ∷ 4 ∷ 0 ∷ [])) ∷
-    (225, note.Call 1 2 (7 ∷ 5 ∷ 536871232 ∷ 4 ∷ 4 ∷ 0 ∷ 0 ∷ [])) ∷
+    (225, note.Syscall 1 2 (7 ∷ 5 ∷ 536871232 ∷ 4 ∷ 4 ∷ 0 ∷ 0 ∷ [])) ∷
     (225, note.Close 2 ending.Reply) ∷
     (225, note.Ret 7 (5 ∷ 4 ∷ 4 ∷ 536872768 ∷ 4 ∷ 0 ∷ [])) ∷
     (225, note.Ret 1 (7 ∷ 5 ∷ 536871232 ∷ 4 ∷ 4 ∷ 0 ∷ [])) ∷
-    (240, note.Call 7 0 (65541 ∷ 536872768 ∷ 4 ∷ 536872768 ∷ 4 ∷ 0 ∷ 0 ∷ [])) ∷
+    (240, note.Syscall 7 0 (65541 ∷ 536872768 ∷ 4 ∷ 536872768 ∷ 4 ∷ 0 ∷ 0 ∷ [])) ∷
     (240, note.Offer 8 7 1) ∷
-    (248, note.Call 1 1 (536871232 ∷ 8 ∷ 0 ∷ 0 ∷ 4 ∷ 0 ∷ 0 ∷ [])) ∷
+    (248, note.Syscall 1 1 (536871232 ∷ 8 ∷ 0 ∷ 0 ∷ 4 ∷ 0 ∷ 0 ∷ [])) ∷
     (248, note.Take 8 4) ∷
     (248, note.Ret 1 (0 ∷ 7 ∷ 5 ∷ 4 ∷ 4 ∷ 0 ∷ [])) ∷
-    (258, note.Call 1 2 (7 ∷ 5 ∷ 536871232 ∷ 4 ∷ 4 ∷ 0 ∷ 0 ∷ [])) ∷
+    (258, note.Syscall 1 2 (7 ∷ 5 ∷ 536871232 ∷ 4 ∷ 4 ∷ 0 ∷ 0 ∷ [])) ∷
     (258, note.Close 8 ending.Reply) ∷
     (258, note.Ret 7 (5 ∷ 4 ∷ 4 ∷ 536872768 ∷ 4 ∷ 0 ∷ [])) ∷
     (258, note.Ret 1 (7 ∷ 5 ∷ 536871232 ∷ 4 ∷ 4 ∷ 0 ∷ [])) ∷
-    (266, note.Call 7 1 (5 ∷ 0 ∷ 0 ∷ 2147549183 ∷ 4 ∷ 0 ∷ 0 ∷ [])) ∷
+    (266, note.Syscall 7 1 (5 ∷ 0 ∷ 0 ∷ 2147549183 ∷ 4 ∷ 0 ∷ 0 ∷ [])) ∷
     (266, note.Listen 7 listened.Kernel 0) ∷
-    (274, note.Call 1 1 (536871232 ∷ 8 ∷ 0 ∷ 0 ∷ 4 ∷ 0 ∷ 0 ∷ [])) ∷
+    (274, note.Syscall 1 1 (536871232 ∷ 8 ∷ 0 ∷ 0 ∷ 4 ∷ 0 ∷ 0 ∷ [])) ∷
     (274, note.Take 6 4) ∷
     (274, note.Ret 1 (0 ∷ 3 ∷ 1 ∷ 4 ∷ 4 ∷ 0 ∷ [])) ∷
-    (284, note.Call 1 2 (3 ∷ 1 ∷ 536871232 ∷ 4 ∷ 4 ∷ 0 ∷ 0 ∷ [])) ∷
+    (284, note.Syscall 1 2 (3 ∷ 1 ∷ 536871232 ∷ 4 ∷ 4 ∷ 0 ∷ 0 ∷ [])) ∷
     (284, note.Close 6 ending.Reply) ∷
     (284, note.Ret 3 (1 ∷ 4 ∷ 4 ∷ 536871744 ∷ 4 ∷ 0 ∷ [])) ∷
     (284, note.Ret 1 (3 ∷ 1 ∷ 536871232 ∷ 4 ∷ 4 ∷ 0 ∷ [])) ∷
-    (299, note.Call 3 0 (65537 ∷ 536871744 ∷ 4 ∷ 536871744 ∷ 4 ∷ 0 ∷ 0 ∷ [])) ∷
+    (299, note.Syscall 3 0 (65537 ∷ 536871744 ∷ 4 ∷ 536871744 ∷ 4 ∷ 0 ∷ 0 ∷ [])) ∷
     (299, note.Offer 9 3 1) ∷
-    (307, note.Call 1 1 (536871232 ∷ 8 ∷ 0 ∷ 0 ∷ 4 ∷ 0 ∷ 0 ∷ [])) ∷
+    (307, note.Syscall 1 1 (536871232 ∷ 8 ∷ 0 ∷ 0 ∷ 4 ∷ 0 ∷ 0 ∷ [])) ∷
     (307, note.Take 9 4) ∷
     (307, note.Ret 1 (0 ∷ 3 ∷ 1 ∷ 4 ∷ 4 ∷ 0 ∷ [])) ∷
-    (317, note.Call 1 2 (3 ∷ 1 ∷ 536871232 ∷ 4 ∷ 4 ∷ 0 ∷ 0 ∷ [])) ∷
+    (317, note.Syscall 1 2 (3 ∷ 1 ∷ 536871232 ∷ 4 ∷ 4 ∷ 0 ∷ 0 ∷ [])) ∷
     (317, note.Close 9 ending.Reply) ∷
     (317, note.Ret 3 (1 ∷ 4 ∷ 4 ∷ 536871744 ∷ 4 ∷ 0 ∷ [])) ∷
     (317, note.Ret 1 (3 ∷ 1 ∷ 536871232 ∷ 4 ∷ 4 ∷ 0 ∷ [])) ∷
-    (325, note.Call 3 1 (1 ∷ 0 ∷ 0 ∷ 2147549183 ∷ 4 ∷ 0 ∷ 0 ∷ [])) ∷
+    (325, note.Syscall 3 1 (1 ∷ 0 ∷ 0 ∷ 2147549183 ∷ 4 ∷ 0 ∷ 0 ∷ [])) ∷
     (325, note.Listen 3 listened.Kernel 0) ∷
-    (333, note.Call 1 1 (536871232 ∷ 8 ∷ 0 ∷ 0 ∷ 4 ∷ 0 ∷ 0 ∷ [])) ∷
+    (333, note.Syscall 1 1 (536871232 ∷ 8 ∷ 0 ∷ 0 ∷ 4 ∷ 0 ∷ 0 ∷ [])) ∷
     (333, note.Take 7 4) ∷
     (333, note.Ret 1 (0 ∷ 5 ∷ 3 ∷ 4 ∷ 4 ∷ 0 ∷ [])) ∷
     []
@@ -150,6 +150,6 @@ expected =
 IsTrace : Run → Type 0
 IsTrace r = (r.notes ≡ expected) × (r.end ≡ Bound) × (r.last.turn ≡ 340)
 
-agrees : IsTrace (run Calls scenario 340 (start setup))
-unfolding setup scenario expected IsTrace first_bad words transfers first_refused stores_of loaded_all ones count effect rows narrow_of wide_rows wide_of run ending after_events turn ended stepped with_registers_told bytes_at with_bytes copied_memory task_at line_at register arguments call_of listen_of dead_code_for is_out is_dead present_id is_ready bad_byte chosen offer_by taken_by best_sender with_task without_call without_listen with_listen with_taken noted with_processor with_health stored copied looked given returned past_call bits_added bits_cleared woken posted with_timer clocked with_line closed faulted_as with_call offered handed ticked owner_of interrupted panicked timer_set timer_told irq_controlled received call_noted sent replied reply_faulted post_made refreshed called start begun
+agrees : IsTrace (run Brief scenario 340 (start setup))
+unfolding setup scenario expected IsTrace first_bad words transfers first_refused stores_of loaded_all ones count effect rows narrow_of wide_rows wide_of run ending after_events turn ended stepped with_registers_noted bytes_at with_bytes copied_memory task_at line_at register arguments call_of listen_of dead_code_for is_out is_dead present_id is_ready bad_byte chosen offer_by taken_by best_sender with_task without_call without_listen with_listen with_taken noted with_processor with_health stored copied looked given returned past_syscall bits_added bits_cleared woken posted with_timer clocked with_line closed faulted_as with_call offered handed ticked owner_of interrupted panicked timer_set timer_answered irq_controlled received syscall_noted sent replied reply_faulted post_made refreshed syscall_made start begun
 agrees = (refl, refl, refl)

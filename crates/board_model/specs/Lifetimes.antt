@@ -7,7 +7,7 @@ use Rattle.task_table.specs.Start.{start}
 use Rattle.task_table.specs.Grounds.{AreGrounded, AreAlive, with_writes}
 use Rattle.task_table.specs.Ledger.{IsLedger}
 use Rattle.task_table.specs.Lives.{IsClosed, IsSilent}
-use Rattle.board_model.specs.declared.told.Level.{Level}
+use Rattle.board_model.specs.declared.outcomes.Level.{Level}
 use Rattle.board_model.specs.Script.{Scenario}
 use Rattle.board_model.specs.Turn.{after_events, turn}
 use Rattle.board_model.specs.Run.{run}
@@ -25,9 +25,9 @@ pub record IsGroundedTurn (level : Level) (x : Scenario) (s : State) : Type 0 wh
   pub closed : (k : ℕ) → IsClosed s k → IsSilent (turn level x s) k × IsClosed (turn level x s).state k
 
 -- the notes of a run, without their turns
-abbrev pub told_in : List (ℕ × Note) → List Note
-told_in notes = map (λ n. n.1) notes
+abbrev pub notes_in : List (ℕ × Note) → List Note
+notes_in notes = map (λ n. n.1) notes
 
 -- what the notes of a run from the start say of calls is so, and agrees with the calls that are open at its end
 abbrev pub IsLedgerOfRun : Level → Scenario → ℕ → Type 0
-IsLedgerOfRun level x n = let r = run level x n (start x.setup) in IsLedger (told_in r.notes) r.last
+IsLedgerOfRun level x n = let r = run level x n (start x.setup) in IsLedger (notes_in r.notes) r.last

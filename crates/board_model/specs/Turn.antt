@@ -1,4 +1,5 @@
 -- One turn of the board: what happens from outside, then one instruction of the chosen task, or an idle turn.
+use Rattle.words_core.specs.Regs.{program_counter}
 use Rattle.kernel_abi.specs.Faults.{illegal_fault, illegal_text_fault}
 use Rattle.std.specs.Prelude.{ℕ, ◌+◌, ◌*◌, ◌/◌, ◌%◌, ◌^◌, Bool, ◌&&◌, not, List, [], ◌∷◌, Option, Some, None, find, fold, take, drop, if◌then◌else◌}
 use Rattle.std.specs.List.{range_with_len}
@@ -12,22 +13,22 @@ use Rattle.thumb_insn.specs.declared.Decoded.{Decoded}
 use Rattle.thumb_insn.specs.declared.Decoded.TheVariants.{Narrow, Wide, Illegal, NeedsSecond}
 use Rattle.thumb_insn.specs.Table.{decoded_of, is_wide}
 use Rattle.thumb_exec.specs.declared.cpu.Cpu.{Cpu}
-use Rattle.thumb_exec.specs.Effect.{Effect, Next, Call, Trap, Store, Refusals, effect}
+use Rattle.thumb_exec.specs.Effect.{Effect, Next, Syscall, Trap, Store, Refusals, effect}
 use Rattle.mem_banks.specs.Memory.{number_at, is_ram}
 use Rattle.task_table.specs.State.{Setup, Task, State, Own, Turn}
-use Rattle.task_table.specs.Reading.{task_at, setup_at, register, chosen, program_counter}
+use Rattle.task_table.specs.Reading.{task_at, setup_at, register, chosen}
 use Rattle.task_table.specs.Effects.{◌⨾◌, changed, noted, with_processor, stored, faulted}
 use Rattle.task_table.specs.Events.{ticked, interrupted}
-use Rattle.task_table.specs.Rows.{first_row, call_noted}
-use Rattle.task_table.specs.Calls.{called}
+use Rattle.task_table.specs.Rows.{first_row, syscall_noted}
+use Rattle.task_table.specs.Syscalls.{syscall_made}
 use Rattle.task_table.specs.Start.{begun}
 use Rattle.run_script.specs.declared.events.Event.{Event}
 use Rattle.run_script.specs.declared.events.Event.TheVariants.{Tick, Irq}
 use Rattle.run_script.specs.Scripts.{events_of}
-use Rattle.board_model.specs.declared.told.Level.{Level}
-use Rattle.board_model.specs.declared.told.Level.TheVariants.{Calls, All}
-use Rattle.board_model.specs.declared.told.Turned.{Turned}
-use Rattle.board_model.specs.declared.told.Turned.TheVariants.{Idle, Ran}
+use Rattle.board_model.specs.declared.outcomes.Level.{Level}
+use Rattle.board_model.specs.declared.outcomes.Level.TheVariants.{Brief, All}
+use Rattle.board_model.specs.declared.outcomes.Turned.{Turned}
+use Rattle.board_model.specs.declared.outcomes.Turned.TheVariants.{Idle, Ran}
 use Rattle.board_model.specs.Script.{Scenario}
 
 -- ## what an instruction of a task sees
@@ -57,7 +58,7 @@ put t x = if is_ram t.state.memory x.addr x.bytes then (t ⨾ stored Own x.addr 
 
 abbrev pub acted : Setup → ℕ → Effect → Turn → Turn
 acted g c (Next cpu stores) t = fold put t stores ⨾ with_processor c cpu.regs.words cpu.flags
-acted g c Call t = t ⨾ call_noted c ⨾ called g c
+acted g c Syscall t = t ⨾ syscall_noted c ⨾ syscall_made g c
 acted g c (Trap f) t = t ⨾ faulted g c f
 
 -- the effect of an instruction for task c, as things stand
@@ -67,21 +68,21 @@ effect_of g c insn t = effect (refusals g c) (number_at t.state.memory) (cpu_of 
 abbrev pub executed : Setup → ℕ → Insn → Turn → Turn
 executed g c insn t = t ⨾ acted g c (effect_of g c insn t)
 
--- what is told with all instructions alone
-abbrev pub told : Level → Note → Turn → Turn
-told Calls note t = t
-told All note t = t ⨾ noted note
+-- what is noted with all instructions alone
+abbrev pub noted_at : Level → Note → Turn → Turn
+noted_at Brief note t = t
+noted_at All note t = t ⨾ noted note
 
--- a code that is an instruction is told and executed (code: the halfword, or two, the first in the high half)
+-- a code that is an instruction is noted and executed (code: the halfword, or two, the first in the high half)
 abbrev pub decoded_as : Level → Setup → ℕ → ℕ → ℕ → Decoded → Turn → Turn
-decoded_as level g c at code (Narrow insn) t = t ⨾ told level (note.Insn c at code) ⨾ executed g c insn
-decoded_as level g c at code (Wide insn) t = t ⨾ told level (note.Insn c at code) ⨾ executed g c insn
+decoded_as level g c at code (Narrow insn) t = t ⨾ noted_at level (note.Insn c at code) ⨾ executed g c insn
+decoded_as level g c at code (Wide insn) t = t ⨾ noted_at level (note.Insn c at code) ⨾ executed g c insn
 decoded_as level g c at code Illegal t = t ⨾ faulted g c (illegal_fault at)
 decoded_as level g c at code NeedsSecond t = t ⨾ faulted g c (illegal_fault at)
 
 -- both bytes of a halfword may be executed
-abbrev pub is_text : Setup → ℕ → ℕ → Bool
-is_text g c a = may g c Execute a && may g c Execute ((a + 1) % 2 ^ 32)
+abbrev pub may_fetch : Setup → ℕ → ℕ → Bool
+may_fetch g c a = may g c Execute a && may g c Execute ((a + 1) % 2 ^ 32)
 
 -- a wide instruction, whose second halfword is fetched too
 abbrev pub stepped_wide : Level → Setup → ℕ → ℕ → ℕ → Turn → Turn
@@ -89,7 +90,7 @@ stepped_wide level g c at first t =
     let after = (at + 2) % 2 ^ 32 in
     let second = number_at t.state.memory after 2 in
     first_row (
-    (not (is_text g c after), t ⨾ faulted g c (illegal_text_fault after))
+    (not (may_fetch g c after), t ⨾ faulted g c (illegal_text_fault after))
     ∷ []) (t ⨾ decoded_as level g c at (first * 2 ^ 16 + second) (decoded_of first (Some second)))
 
 -- fetched, decoded, carried out: the first halfword that may not be executed decides
@@ -98,7 +99,7 @@ stepped level g c t =
     let at = register t.state c program_counter in
     let first = number_at t.state.memory at 2 in
     first_row (
-    (not (is_text g c at), t ⨾ faulted g c (illegal_text_fault at))
+    (not (may_fetch g c at), t ⨾ faulted g c (illegal_text_fault at))
     ∷ (not (is_wide first), t ⨾ decoded_as level g c at first (decoded_of first None))
     ∷ []) (t ⨾ stepped_wide level g c at first)
 
@@ -128,15 +129,15 @@ low_note x = note.Low (take 8 x.registers)
 abbrev pub high_note : Task → Note
 high_note x = note.High (drop 8 x.registers) x.flags.n x.flags.z x.flags.c x.flags.v
 
--- the registers and flags of the task that ran are told
-unfoldable pub with_registers_told : Level → ℕ → Turn → Turn
-with_registers_told level c t =
-    t ⨾ told level (low_note (task_at t.state c)) ⨾ told level (high_note (task_at t.state c))
+-- the registers and flags of the task that ran are noted
+unfoldable pub with_registers_noted : Level → ℕ → Turn → Turn
+with_registers_noted level c t =
+    t ⨾ noted_at level (low_note (task_at t.state c)) ⨾ noted_at level (high_note (task_at t.state c))
 
 -- the chosen task runs; where there is none, the turn is idle
 abbrev pub turn_of : Level → Setup → Option ℕ → Turn → Turn
-turn_of level g None t = t ⨾ told level note.Idle
-turn_of level g (Some c) t = t ⨾ with_current c ⨾ stepped level g c ⨾ with_registers_told level c
+turn_of level g None t = t ⨾ noted_at level note.Idle
+turn_of level g (Some c) t = t ⨾ with_current c ⨾ stepped level g c ⨾ with_registers_noted level c
 
 unfoldable pub ended : Turn → Turn
 ended t = t ⨾ changed (λ s. record s { turn = s.turn + 1 })
@@ -147,7 +148,7 @@ turn level x s =
     let t = after_events x s in
     t ⨾ turn_of level x.setup (chosen x.setup t.state) ⨾ ended
 
--- what is told of a turn: the chosen task and its PC before
+-- what is noted of a turn: the chosen task and its PC before
 abbrev pub turned_of : State → Option ℕ → Turned
 turned_of s None = Idle
 turned_of s (Some c) = Ran c (register s c program_counter)

@@ -14,15 +14,15 @@ ghost use Rattle.task_table.specs.Start.{begun, start};
 ghost use Rattle.task_table.specs.Sane.{Sane, IsCounted};
 ghost use Rattle.task_table.specs.Chain.{Chain};
 ghost use Rattle.task_table.specs.Step.{Step};
-ghost use Rattle.board_model.specs.declared.told.Level.{Level as Detail};
+ghost use Rattle.board_model.specs.declared.outcomes.Level.{Level as Detail};
 ghost use Rattle.board_model.specs.Script.{Scenario};
-ghost use Rattle.board_model.specs.Turn.{effect_of, put, told, stepped, happened, after_events, with_current, turn_of, turn};
+ghost use Rattle.board_model.specs.Turn.{effect_of, put, noted_at, stepped, happened, after_events, with_current, turn_of, turn};
 ghost use Rattle.board_model.specs.Faults.{IsFaulting, IsSameButForFault, AreEntries};
 ghost use Rattle.board_model.specs.Run.{is_down, end_at, ending};
 ghost use Rattle.board_model.specs.Lifetimes.{IsGroundedTurn, IsLedgerOfRun};
 
 /// The turn of the chosen task, from where it is the current one, is a chain of steps: those of its
-/// instruction or of its call's row, and what is told besides.
+/// instruction or of its system call's row, and what is noted besides.
 pub fn turns_are_chains_of_steps()
     ensures { (level : Detail) (g : Setup) (c : ℕ) (t : Turn) → Sane g t.state → chosen g t.state ≡ Some c → Chain (Step g (with_current c t).state c) (with_current c t) (turn_of level g (Some c) t) }
 {}
@@ -67,20 +67,20 @@ pub fn runs_keep_a_ledger()
     ensures { (level : Detail) (x : Scenario) (n : ℕ) → Sane x.setup (start x.setup) → IsLedgerOfRun level x n }
 {}
 
-/// A fault changes nothing else. Where an instruction or a call faults the task that was chosen, memory and all the
+/// A fault changes nothing else. Where an instruction or a system call faults the task that was chosen, memory and all the
 /// registers and flags of the task are after the turn as they were after its events, nothing was written for another
 /// task, nor read of one but entries of lease tables, and of the other tasks only task 0 changes: by the post of its
-/// fault bits. (Hubris Reference: supervision; that a refused instruction or call takes no effect is docs/FORMATS.md.)
+/// fault bits. (Hubris Reference: supervision; that a refused instruction or system call takes no effect is docs/FORMATS.md.)
 pub fn faults_change_nothing_else()
     ensures state { (level : Detail) (x : Scenario) (s : State) (c : ℕ) → Sane x.setup s → IsFaulting level x s c → IsSameButForFault x.setup c (after_events x s).state (turn level x s).state }
     ensures writes { (level : Detail) (x : Scenario) (s : State) (c : ℕ) → Sane x.setup s → IsFaulting level x s c → (turn level x s).writes ≡ [] }
     ensures reads { (level : Detail) (x : Scenario) (s : State) (c : ℕ) → Sane x.setup s → IsFaulting level x s c → AreEntries (turn level x s).reads }
 {}
 
-/// The stores of an instruction change nothing of a state but its memory, and what is told changes none.
+/// The stores of an instruction change nothing of a state but its memory, and what is noted changes none.
 pub fn stores_change_memory_alone()
     ensures stores { (stores : List Store) (t : Turn) → (fold put t stores).state ≡ record t.state { memory = (fold put t stores).state.memory } }
-    ensures told { (level : Detail) (n : Note) (t : Turn) → (told level n t).state ≡ t.state }
+    ensures noted_at { (level : Detail) (n : Note) (t : Turn) → (noted_at level n t).state ≡ t.state }
 {}
 
 /// The fault of an instruction that has a code has a number from 1 to 10.

@@ -2,7 +2,7 @@
 #![tactic(auto)]
 
 mod laws;
-mod told;
+mod outcomes;
 
 pub use laws::{
     faults_change_nothing_else, faults_of_instructions_are_known, stores_change_memory_alone,
@@ -10,4 +10,4 @@ pub use laws::{
     turns_without_events_begin_at_once, turns_without_notes_keep_the_choice,
     who_is_chosen_is_ready,
 };
-pub use told::{End, Level, Turned};
+pub use outcomes::{End, Level, Turned};

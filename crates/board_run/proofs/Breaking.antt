@@ -9,9 +9,9 @@ use Rattle.kernel_abi.specs.declared.Note.{Note}
 use Rattle.task_table.specs.Sane.{Sane}
 use Rattle.task_table.specs.State.{State}
 use Rattle.board_core.specs.declared.board.Board.{Board}
-use Rattle.board_model.specs.declared.told.End.{End}
-use Rattle.board_model.specs.declared.told.End.TheVariants.{Bound, Still, Supervisor}
-use Rattle.board_model.specs.declared.told.Level.{Level}
+use Rattle.board_model.specs.declared.outcomes.End.{End}
+use Rattle.board_model.specs.declared.outcomes.End.TheVariants.{Bound, Still, Supervisor}
+use Rattle.board_model.specs.declared.outcomes.Level.{Level}
 use Rattle.board_model.specs.Script.{Scenario}
 use Rattle.board_model.specs.Turn.{turn}
 use Rattle.board_core.specs.Stands.{Stands, turns_of}

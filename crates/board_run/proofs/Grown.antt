@@ -4,7 +4,7 @@ use Rattle.std.specs.Prelude.{Result}
 use Rattle.std.proofs.lemmas.List.Sums.{count_by-le-length}
 use Rattle.kernel_abi.specs.declared.Note.{Note}
 use Rattle.outside_io.specs.Outside.{Pushes}
-use Rattle.board_model.specs.declared.told.End.{End}
+use Rattle.board_model.specs.declared.outcomes.End.{End}
 use Rattle.board_model.specs.Run.{Run}
 use Rattle.board_run.specs.declared.counts.Counts.{Counts}
 use Rattle.board_run.specs.Counts.{Kind, Tick, Irq, Post, Call, Offer, Take, Listen, Borrow, Ret, Close, Fault, Restart, is_of, count_of, counts_text, summary_text}

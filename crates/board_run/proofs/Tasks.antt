@@ -11,8 +11,8 @@ use Rattle.task_table.specs.State as kernel
 use Rattle.task_table.specs.State.{State, Listen}
 use Rattle.task_table.specs.Holds.{wait_of}
 use Rattle.task_table.specs.Reading.{task_at, call_of, listen_of}
-use Rattle.board_core.specs.declared.told.TaskView.{TaskView}
-use Rattle.board_core.specs.Told.{IsTask}
+use Rattle.board_core.specs.declared.shown.TaskView.{TaskView}
+use Rattle.board_core.specs.Shown.{IsTask}
 use Rattle.board_run.specs.Text.{task_line, low_text, high_text, task_lines, task_text, tasks_text, wait_text}
 use Rattle.board_run.specs.ViewText.{view_text, wait_words, timer_of}
 use Rattle.board_run.proofs.Appending.{appends_more, range_more, range_fails}

@@ -33,7 +33,7 @@ abbrev pub counted : Counts → Note → Counts
 counted c (note.Tick _) = record c { tick = raised c.tick 1 }
 counted c (note.Irq _ _) = record c { irq = raised c.irq 1 }
 counted c (note.Post _ _ _) = record c { post = raised c.post 1 }
-counted c (note.Call _ _ _) = record c { call = raised c.call 1 }
+counted c (note.Syscall _ _ _) = record c { call = raised c.call 1 }
 counted c (note.Offer _ _ _) = record c { offer = raised c.offer 1 }
 counted c (note.Take _ _) = record c { take = raised c.take 1 }
 counted c (note.Listen _ _ _) = record c { listen = raised c.listen 1 }

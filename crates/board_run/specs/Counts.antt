@@ -25,7 +25,7 @@ abbrev pub is_of : Kind → Note → Bool
 is_of Tick (note.Tick _) = true
 is_of Irq (note.Irq _ _) = true
 is_of Post (note.Post _ _ _) = true
-is_of Call (note.Call _ _ _) = true
+is_of Call (note.Syscall _ _ _) = true
 is_of Offer (note.Offer _ _ _) = true
 is_of Take (note.Take _ _) = true
 is_of Listen (note.Listen _ _ _) = true

@@ -2,11 +2,11 @@
 use Rattle.std.specs.Prelude.{ℕ, ◌-◌, ◌==◌, if◌then◌else◌, List, ◌++◌, Option, Some, None}
 use Rattle.std.specs.Io.KnownBytes.{Appends}
 use Rattle.outside_io.specs.Outside.{IsFront}
-use Rattle.board_model.specs.declared.told.End.{End}
-use Rattle.board_model.specs.declared.told.End.TheVariants.{Bound, Still, Supervisor}
+use Rattle.board_model.specs.declared.outcomes.End.{End}
+use Rattle.board_model.specs.declared.outcomes.End.TheVariants.{Bound, Still, Supervisor}
 use Rattle.task_table.specs.State.{State}
 use Rattle.board_core.specs.declared.board.Board.{Board}
-use Rattle.board_model.specs.declared.told.Level.{Level}
+use Rattle.board_model.specs.declared.outcomes.Level.{Level}
 use Rattle.board_model.specs.Script.{Scenario}
 use Rattle.board_core.specs.Stands.{Stands, turns_of}
 use Rattle.board_model.specs.Run.{run}

@@ -12,8 +12,8 @@ use Rattle.task_table.specs.declared.slot.Phase.{Phase}
 use Rattle.task_table.specs.declared.slot.Phase.TheVariants.{Offered, Taken}
 use Rattle.task_table.specs.Reading.{task_at, call_of, listen_of}
 use Rattle.trace_text.specs.Text.{hex, spaced_hex, low_words, high_words, line_of}
-use Rattle.board_model.specs.declared.told.End.{End}
-use Rattle.board_model.specs.declared.told.End.TheVariants.{Bound, Still, Supervisor}
+use Rattle.board_model.specs.declared.outcomes.End.{End}
+use Rattle.board_model.specs.declared.outcomes.End.TheVariants.{Bound, Still, Supervisor}
 use Rattle.board_model.specs.Run.{Run}
 
 -- ## notes

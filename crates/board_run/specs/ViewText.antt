@@ -4,7 +4,7 @@ use Rattle.std.specs.Option.{option_map}
 use Rattle.kernel_abi.specs.declared.Timer.{Timer}
 use Rattle.task_table.specs.declared.slot.Wait.{Wait}
 use Rattle.task_table.specs.declared.slot.Wait.TheVariants as wait
-use Rattle.board_core.specs.declared.told.TaskView.{TaskView}
+use Rattle.board_core.specs.declared.shown.TaskView.{TaskView}
 use Rattle.board_run.specs.Text.{call_text, task_line, low_text, high_text}
 
 -- what it waits for

@@ -54,7 +54,7 @@ impl Counts {
             Note::Tick { .. } => self.tick = self.tick.saturating_add(1),
             Note::Irq { .. } => self.irq = self.irq.saturating_add(1),
             Note::Post { .. } => self.post = self.post.saturating_add(1),
-            Note::Call { .. } => self.call = self.call.saturating_add(1),
+            Note::Syscall { .. } => self.call = self.call.saturating_add(1),
             Note::Offer { .. } => self.offer = self.offer.saturating_add(1),
             Note::Take { .. } => self.take = self.take.saturating_add(1),
             Note::Listen { .. } => self.listen = self.listen.saturating_add(1),

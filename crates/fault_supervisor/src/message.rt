@@ -7,7 +7,7 @@ ghost use Rattle.task_table.specs.State.{Setup, Turn};
 ghost use Rattle.task_table.specs.Reading.{is_ready};
 ghost use Rattle.task_table.specs.Orders.{order_of, word_bytes, status_bytes, injected, obeyed, ordered};
 ghost use Rattle.task_table.specs.Holds.{Holds, Stands, Stood, task_count, note_count, memory_of};
-ghost use Rattle.task_table.specs.Limits.{call_notes, turn_notes};
+ghost use Rattle.task_table.specs.Limits.{syscall_notes, turn_notes};
 ghost use Rattle.task_table.specs.Frames.{AddsNotes, AddsAtMost};
 ghost use Rattle.fault_supervisor.specs.Restarts.{restart_notes};
 ghost use Rattle.fault_supervisor.specs.Meanings.{meaning, status_words};
@@ -145,11 +145,11 @@ fn carry_out(k: &mut Kernel, args: &SendArgs, order: Order, task: usize)
 /// An order of the caller, whose message and room for an answer are good.
 fn obey(k: &mut Kernel, caller: usize, args: &SendArgs, order: Order)
     requires there { caller < task_count k.old }
-    requires room { note_count k.old + call_notes ≤ turn_notes }
+    requires room { note_count k.old + syscall_notes ≤ turn_notes }
     requires message { args.now.message_base + args.now.message_length ≤ 2 ^ 32 }
     requires reply { IsWithinRam (memory_of k.old) args.now.reply_base args.now.reply_capacity }
     ensures holds { (g : Setup) (t : Turn) → Stands g k.old t → Holds g k.new (obeyed g caller args.now (Some (meaning order)) t) }
-    ensures frame { AddsAtMost k.old call_notes k.new }
+    ensures frame { AddsAtMost k.old syscall_notes k.new }
 {
     if args.message_length != order.message_length() || args.reply_capacity < order.reply_length() {
         return k.misuse(caller, Usage::BadKernelMessage);
@@ -168,10 +168,10 @@ fn obey(k: &mut Kernel, caller: usize, args: &SendArgs, order: Order)
 /// A kernel message to a kernel that stands.
 fn take_order(k: &mut Kernel, caller: usize)
     requires there { caller < task_count k.old }
-    requires room { note_count k.old + call_notes ≤ turn_notes }
+    requires room { note_count k.old + syscall_notes ≤ turn_notes }
     requires stood { Stood k.old }
     ensures holds { (g : Setup) (t : Turn) → Stands g k.old t → Holds g k.new (ordered g caller t) }
-    ensures frame { AddsAtMost k.old call_notes k.new }
+    ensures frame { AddsAtMost k.old syscall_notes k.new }
 {
     if caller != 0 {
         return k.misuse(caller, Usage::NotSupervisor);
@@ -212,9 +212,9 @@ fn take_order(k: &mut Kernel, caller: usize)
 pub fn kernel_message(k: &mut Kernel, caller: usize)
     requires there { caller < task_count k.old }
     requires ready { (g : Setup) × (t : Turn) × Stands g k.old t × (is_ready t.state caller ≡ true) }
-    requires room { note_count k.old + call_notes ≤ turn_notes }
+    requires room { note_count k.old + syscall_notes ≤ turn_notes }
     ensures stands { (g : Setup) (t : Turn) → Stands g k.old t → is_ready t.state caller ≡ true → Stands g k.new (ordered g caller t) }
-    ensures frame { AddsAtMost k.old call_notes k.new }
+    ensures frame { AddsAtMost k.old syscall_notes k.new }
 {
     take_order(k, caller);
 }

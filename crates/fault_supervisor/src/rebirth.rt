@@ -1,8 +1,8 @@
-//! A task is born again, and those that wait for it are told.
+//! A task is born again, and those that wait for it get its dead code.
 
 ghost use Rattle.std.specs.Prelude.{◌≡◌, ◌+◌, ◌<◌, ◌≤◌};
 ghost use Rattle.task_table.specs.State.{Setup, Turn};
-ghost use Rattle.task_table.specs.Effects.{told_dead, restarted};
+ghost use Rattle.task_table.specs.Effects.{dead_answered, restarted};
 ghost use Rattle.task_table.specs.Holds.{Holds, Stands, task_count, note_count};
 ghost use Rattle.task_table.specs.Limits.{turn_notes};
 ghost use Rattle.task_table.specs.Frames.{AddsAtMost};
@@ -12,12 +12,12 @@ ghost use Rattle.fault_supervisor.specs.Restarts.{restart_notes};
 use kernel_abi::{Ending, Note, dead_code};
 use task_table::Kernel;
 
-/// A task that waits for one that was born again is told so, and waits no more.
-fn tell_dead(k: &mut Kernel, task: usize, other: usize)
+/// A task that waits for one that was born again gets the dead code, and waits no more.
+fn answer_dead(k: &mut Kernel, task: usize, other: usize)
     requires there { task < task_count k.old }
     requires other { other < task_count k.old }
     requires room { note_count k.old + 2 ≤ turn_notes }
-    ensures holds { (g : Setup) (t : Turn) → Holds g k.old t → AreFew t.state → Holds g k.new (told_dead task t other) }
+    ensures holds { (g : Setup) (t : Turn) → Holds g k.old t → AreFew t.state → Holds g k.new (dead_answered task t other) }
     ensures frame { AddsAtMost k.old 2 k.new }
 {
     let code = dead_code(k.generation(task));
@@ -47,13 +47,13 @@ pub(crate) fn restart_task(k: &mut Kernel, task: usize, start: bool)
         generation: k.generation(task).number,
     });
     for other in 0..k.task_count() {
-        tell_dead(k, task, other);
+        answer_dead(k, task, other);
     }
 }
 
 /// A task is restarted: its call and its listen are dropped, and it is born again, well where it is to start
 /// and else stopped; its memory stays. Then each task in order that waits for an answer of it, or for a message
-/// of it alone, goes on and is told the dead code with its new generation (Hubris Reference, on supervision and
+/// of it alone, goes on and gets the dead code with its new generation (Hubris Reference, on supervision and
 /// on task ids).
 pub fn restart(k: &mut Kernel, task: usize, start: bool)
     requires there { task < task_count k.old }

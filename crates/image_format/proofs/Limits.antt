@@ -75,11 +75,11 @@ pub short_total : (h : Header) → field_fault h ≡ None → total h ≤ 209715
 short_total h e = let l = limits h e in omega (arith, l.tasks, l.regions, l.lines, l.flash)
 
 equal : (a b : ℕ) (r : Refusal) → cond (a == b) None (Some r) ≡ None → a ≡ b
-equal a b r e = eqb-true a b (told (a == b) e)
+equal a b r e = eqb-true a b (stated (a == b) e)
   where
-    told : (t : Bool) → cond t None (Some r) ≡ None → t ≡ true
-    told true e = refl
-    told false e = cc
+    stated : (t : Bool) → cond t None (Some r) ≡ None → t ≡ true
+    stated true e = refl
+    stated false e = cc
 
 -- the numbers of regions sum to the header's
 pub all_counted : (h : Header) (ts : List TaskRecord) → count_fault h ts ≡ None → counted ts ≡ h.regions

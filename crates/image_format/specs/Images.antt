@@ -21,7 +21,7 @@ records_in i = record {
 abbrev pub picture : Image → Picture
 picture i = picture_of (records_in i)
 
--- the cause and the place that it tells; none for want of memory
-abbrev pub told : ImageFault → Option Refusal
-told (fault.Refused cause place) = Some (cause, place)
-told fault.Memory = None
+-- the cause and the place that it states; none for want of memory
+abbrev pub stated : ImageFault → Option Refusal
+stated (fault.Refused cause place) = Some (cause, place)
+stated fault.Memory = None

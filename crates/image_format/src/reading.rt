@@ -2,7 +2,7 @@
 
 ghost use Rattle.std.specs.Prelude.{◌≡◌, length, IfOk, IfErr, IfSome, Ok, Err, Some, None};
 ghost use Rattle.image_format.specs.Records.{header_or_fault, records_fault, records_or_fault, total};
-ghost use Rattle.image_format.specs.Images.{picture, records_in, told};
+ghost use Rattle.image_format.specs.Images.{picture, records_in, stated};
 ghost use Rattle.image_format.specs.Picture.{Picture, Sound, Spells, image_or_fault};
 ghost use Rattle.image_format.specs.Steps.{field_fault};
 
@@ -47,7 +47,7 @@ fn header_of(bytes: &[u8]) -> Result<Header, (u8, u32)>
 }
 
 fn refused(fault: (u8, u32)) -> ImageFault
-    ensures { told result ≡ Some fault }
+    ensures { stated result ≡ Some fault }
 {
     ImageFault::Refused {
         cause: fault.0,
@@ -93,7 +93,7 @@ fn check_records(h: &Header, p: &Parts) -> Option<(u8, u32)>
 fn read_parts(alloc: Global, bytes: &[u8]) -> Result<Image, ImageFault>
     ensures ok { IfOk result (λ i. records_or_fault bytes.now ≡ Ok (records_in i)) }
     ensures refused { IfErr result (λ e.
-        IfSome (told e) (λ t. records_or_fault bytes.now ≡ Err t)) }
+        IfSome (stated e) (λ t. records_or_fault bytes.now ≡ Err t)) }
 {
     let header = match header_of(bytes) {
         Ok(header) => header,
@@ -121,7 +121,7 @@ impl Image {
     pub fn read(alloc: Global, bytes: &[u8]) -> Result<Image, ImageFault>
         ensures ok { IfOk result (λ i. image_or_fault bytes.now ≡ Ok (picture i)) }
         ensures refused { IfErr result (λ e.
-            IfSome (told e) (λ t. image_or_fault bytes.now ≡ Err t)) }
+            IfSome (stated e) (λ t. image_or_fault bytes.now ≡ Err t)) }
         ensures spelled { IfOk result (λ i. Spells (picture i) bytes.now) }
         ensures sound { IfOk result (λ i. Sound (picture i)) }
         ensures only { (p : Picture) → Spells p bytes.now → Sound p

@@ -3,7 +3,7 @@ use Rattle.insn_vectors.specs.Flat.{first_bad, number_of, IsStored, Banks, with_
 use Rattle.insn_vectors.specs.declared.case.Case.{Case}
 use Rattle.insn_vectors.specs.declared.memory.Memory.{Memory}
 use Rattle.std.specs.Prelude.{◌≡◌, length, ℕ, Bool, IsTrue, ◌↔◌, [], ◌∷◌, Option, Some, None}
-use Rattle.words_core.specs.Regs.{reg_at}
+use Rattle.words_core.specs.Regs.{reg_at, program_counter}
 use Rattle.thumb_exec.specs.Effect.{Refusals, Contents, Acts}
 use Rattle.thumb_exec.specs.declared.cpu.Cpu.{Cpu}
 use Rattle.thumb_exec.specs.declared.cpu.Outcome.{Outcome}
@@ -31,7 +31,7 @@ with_code m at first (Some second) = with_half (with_half m at first) (after at)
 
 -- before the instruction: the bytes that the case tells, its code at PC, and zeros
 abbrev pub banks_before : Case → Banks
-banks_before case = with_code (with_bytes zeros case.bytes.items) (reg_at case.cpu.regs 15) case.first case.second
+banks_before case = with_code (with_bytes zeros case.bytes.items) (reg_at case.cpu.regs program_counter) case.first case.second
 
 pub record IsBefore (case : Case) (m : Memory) : Type 0 where
   pub banks : banks_of m ≡ banks_before case

@@ -160,7 +160,7 @@ fn outcome(text: &str) -> Option<Outcome> {
         return Some(Outcome::Next);
     }
     if text == "call" {
-        return Some(Outcome::Call);
+        return Some(Outcome::Syscall);
     }
     let (name, rest) = text.split_once(':')?;
     let number = match name {

@@ -1,6 +1,6 @@
 //! Whether the instruction of a case does what is wanted.
 ghost use Rattle.std.specs.Prelude.{◌≡◌, ◌%◌, ◌↔◌, IsTrue, IfOk, false};
-ghost use Rattle.words_core.specs.Regs.{reg_at};
+ghost use Rattle.words_core.specs.Regs.{reg_at, program_counter};
 ghost use Rattle.insn_vectors.specs.Played.{banks_of, banks_before, IsBefore, IsWanted, Judges};
 ghost use Rattle.insn_vectors.specs.Flat.{with_bytes};
 
@@ -54,8 +54,8 @@ fn is_wanted(case: &Case, cpu: &Cpu, outcome: Outcome, memory: &Memory, wanted: 
 /// Whether the instruction of a case, with the case's bytes in a memory of zeros, does just what is
 /// wanted, to registers, flags and every byte. With an odd PC none does.
 pub fn passes(alloc: Global, case: &Case) -> Result<bool, AllocError>
-    ensures judged { IfOk result (λ passed. reg_at case.now.cpu.regs 15 % 2 ≡ 0 → Judges case.now passed) }
-    ensures odd { IfOk result (λ passed. reg_at case.now.cpu.regs 15 % 2 ≡ 1 → passed ≡ false) }
+    ensures judged { IfOk result (λ passed. reg_at case.now.cpu.regs program_counter % 2 ≡ 0 → Judges case.now passed) }
+    ensures odd { IfOk result (λ passed. reg_at case.now.cpu.regs program_counter % 2 ≡ 1 → passed ≡ false) }
 {
     if case.cpu.regs.get(15) % 2 != 0 {
         return Ok(false);

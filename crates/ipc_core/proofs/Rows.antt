@@ -1,4 +1,4 @@
--- The rows of calls by their arguments.
+-- The rows of system calls by their arguments.
 use Rattle.std.proofs.Common.{◌≡◌, ◌<◌, ◌≤◌, ℕ, true, false, not, ◌&&◌, ◌||◌, [], ◌∷◌, cond, eqb, ltb, Option, Some, None, MatchOption, refl, sym, arith, is_some}
 use Rattle.std.proofs.lemmas.Bool.{lt-ltb, le-ltb, false≢true}
 use Rattle.std.specs.Option.{option_map}

@@ -5,7 +5,7 @@ ghost use Rattle.task_table.specs.State.{Setup, Turn};
 ghost use Rattle.task_table.specs.Reading.{is_ready};
 ghost use Rattle.task_table.specs.Sends.{post_made, refreshed};
 ghost use Rattle.task_table.specs.Holds.{Holds, Stands, task_count, note_count};
-ghost use Rattle.task_table.specs.Limits.{call_notes, turn_notes};
+ghost use Rattle.task_table.specs.Limits.{syscall_notes, turn_notes};
 ghost use Rattle.task_table.specs.Frames.{AddsAtMost};
 
 use kernel_abi::{IdArgs, Usage, dead_code};
@@ -14,9 +14,9 @@ use task_table::{Found, Kernel};
 /// POST, of any caller.
 fn post_bits(k: &mut Kernel, caller: usize)
     requires there { caller < task_count k.old }
-    requires room { note_count k.old + call_notes ≤ turn_notes }
+    requires room { note_count k.old + syscall_notes ≤ turn_notes }
     ensures holds { (g : Setup) (t : Turn) → Holds g k.old t → Holds g k.new (post_made g caller t) }
-    ensures frame { AddsAtMost k.old call_notes k.new }
+    ensures frame { AddsAtMost k.old syscall_notes k.new }
 {
     let args = IdArgs::of(&k.arguments(caller));
     match k.lookup(args.id.number) {
@@ -31,22 +31,22 @@ fn post_bits(k: &mut Kernel, caller: usize)
 
 /// POST: r4 is the id of a task, r5 the bits to post to it. r4 is 0 then, or the dead code where the id is
 /// that of an earlier birth; an id of no task is a misuse (Hubris Reference, on notifications).
-pub fn post_call(k: &mut Kernel, caller: usize)
+pub fn post_syscall(k: &mut Kernel, caller: usize)
     requires there { caller < task_count k.old }
     requires ready { (g : Setup) × (t : Turn) × Stands g k.old t × (is_ready t.state caller ≡ true) }
-    requires room { note_count k.old + call_notes ≤ turn_notes }
+    requires room { note_count k.old + syscall_notes ≤ turn_notes }
     ensures stands { (g : Setup) (t : Turn) → Stands g k.old t → is_ready t.state caller ≡ true → Stands g k.new (post_made g caller t) }
-    ensures frame { AddsAtMost k.old call_notes k.new }
+    ensures frame { AddsAtMost k.old syscall_notes k.new }
 {
     post_bits(k, caller);
 }
 
 /// REFRESH_TASK_ID, of any caller.
-fn tell_present_id(k: &mut Kernel, caller: usize)
+fn answer_present_id(k: &mut Kernel, caller: usize)
     requires there { caller < task_count k.old }
-    requires room { note_count k.old + call_notes ≤ turn_notes }
+    requires room { note_count k.old + syscall_notes ≤ turn_notes }
     ensures holds { (g : Setup) (t : Turn) → Holds g k.old t → Holds g k.new (refreshed g caller t) }
-    ensures frame { AddsAtMost k.old call_notes k.new }
+    ensures frame { AddsAtMost k.old syscall_notes k.new }
 {
     let args = IdArgs::of(&k.arguments(caller));
     let task = usize::from(args.id.index());
@@ -62,9 +62,9 @@ fn tell_present_id(k: &mut Kernel, caller: usize)
 pub fn refresh(k: &mut Kernel, caller: usize)
     requires there { caller < task_count k.old }
     requires ready { (g : Setup) × (t : Turn) × Stands g k.old t × (is_ready t.state caller ≡ true) }
-    requires room { note_count k.old + call_notes ≤ turn_notes }
+    requires room { note_count k.old + syscall_notes ≤ turn_notes }
     ensures stands { (g : Setup) (t : Turn) → Stands g k.old t → is_ready t.state caller ≡ true → Stands g k.new (refreshed g caller t) }
-    ensures frame { AddsAtMost k.old call_notes k.new }
+    ensures frame { AddsAtMost k.old syscall_notes k.new }
 {
-    tell_present_id(k, caller);
+    answer_present_id(k, caller);
 }

@@ -5,7 +5,7 @@ ghost use Rattle.task_table.specs.State.{Setup, Turn};
 ghost use Rattle.task_table.specs.Reading.{arguments, is_ready, best_sender, offer_by, IsIdle};
 ghost use Rattle.task_table.specs.Rows.{asked, receives_or_listens, message_received, input_received, received};
 ghost use Rattle.task_table.specs.Holds.{Holds, Stands, Stood, task_count, note_count};
-ghost use Rattle.task_table.specs.Limits.{call_notes, turn_notes};
+ghost use Rattle.task_table.specs.Limits.{syscall_notes, turn_notes};
 ghost use Rattle.task_table.specs.Frames.{AddsAtMost};
 ghost use Rattle.task_table.specs.Messages.{from_of, IsListened, IsReceiving};
 ghost use Rattle.ipc_core.specs.Named.{IsSender, IsNamed, IsInside};
@@ -109,10 +109,10 @@ fn receive_input(k: &mut Kernel, caller: usize, mask: u32, sender: Sender, best:
 fn receive(k: &mut Kernel, caller: usize, best: Option<usize>)
     requires there { caller < task_count k.old }
     requires best { IfSome best (λ i. i < task_count k.old) }
-    requires room { note_count k.old + call_notes ≤ turn_notes }
+    requires room { note_count k.old + syscall_notes ≤ turn_notes }
     requires stood { Stood k.old }
     ensures holds { (g : Setup) (t : Turn) → Stands g k.old t → IsIdle t.state caller → Holds g k.new (received g caller best t) }
-    ensures frame { AddsAtMost k.old call_notes k.new }
+    ensures frame { AddsAtMost k.old syscall_notes k.new }
 {
     let args = RecvArgs::of(&k.arguments(caller));
     if !is_valid(args.buffer_base, args.buffer_length) {
@@ -136,9 +136,9 @@ pub fn recv(k: &mut Kernel, caller: usize, best: Option<usize>)
     requires there { caller < task_count k.old }
     requires best { IfSome best (λ i. i < task_count k.old) }
     requires ready { (g : Setup) × (t : Turn) × Stands g k.old t × (is_ready t.state caller ≡ true) }
-    requires room { note_count k.old + call_notes ≤ turn_notes }
+    requires room { note_count k.old + syscall_notes ≤ turn_notes }
     ensures stands { (g : Setup) (t : Turn) → Stands g k.old t → is_ready t.state caller ≡ true → best ≡ best_sender g t.state caller → Stands g k.new (received g caller best t) }
-    ensures frame { AddsAtMost k.old call_notes k.new }
+    ensures frame { AddsAtMost k.old syscall_notes k.new }
 {
     receive(k, caller, best);
 }

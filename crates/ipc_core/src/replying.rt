@@ -6,7 +6,7 @@ ghost use Rattle.task_table.specs.State.{Setup, Turn, Call};
 ghost use Rattle.task_table.specs.Reading.{is_ready, taken_by};
 ghost use Rattle.task_table.specs.Sends.{replied_to, replied, reply_faulted_to, reply_faulted};
 ghost use Rattle.task_table.specs.Holds.{Holds, Stands, Stood, kept_call, task_count, note_count};
-ghost use Rattle.task_table.specs.Limits.{call_notes, turn_notes};
+ghost use Rattle.task_table.specs.Limits.{syscall_notes, turn_notes};
 ghost use Rattle.task_table.specs.Frames.{AddsAtMost};
 ghost use Rattle.ipc_core.specs.Sending.{IsTaken};
 
@@ -19,10 +19,10 @@ use task_table::{Found, Kernel, OpenCall};
 fn answer_call(k: &mut Kernel, caller: usize, client: usize, call: &OpenCall, args: &ReplyArgs)
     requires there { caller < task_count k.old }
     requires client { client < task_count k.old }
-    requires room { note_count k.old + call_notes ≤ turn_notes }
+    requires room { note_count k.old + syscall_notes ≤ turn_notes }
     requires taken { IsTaken k.old caller client call.now }
     ensures holds { (g : Setup) (t : Turn) (c : Call) → Stands g k.old t → taken_by t.state client caller ≡ Some c → kept_call c ≡ call.now → Holds g k.new (replied_to g caller args.now (Some c) t) }
-    ensures frame { AddsAtMost k.old call_notes k.new }
+    ensures frame { AddsAtMost k.old syscall_notes k.new }
 {
     if !is_valid(args.reply_base, args.reply_length) {
         return k.misuse(caller, Usage::InvalidSlice);
@@ -40,10 +40,10 @@ fn answer_call(k: &mut Kernel, caller: usize, client: usize, call: &OpenCall, ar
 fn reply_to(k: &mut Kernel, caller: usize, client: usize, args: &ReplyArgs)
     requires there { caller < task_count k.old }
     requires client { client < task_count k.old }
-    requires room { note_count k.old + call_notes ≤ turn_notes }
+    requires room { note_count k.old + syscall_notes ≤ turn_notes }
     requires stood { Stood k.old }
     ensures holds { (g : Setup) (t : Turn) → Stands g k.old t → Holds g k.new (replied_to g caller args.now (taken_by t.state client caller) t) }
-    ensures frame { AddsAtMost k.old call_notes k.new }
+    ensures frame { AddsAtMost k.old syscall_notes k.new }
 {
     match k.taken(client, caller) {
         Some(call) => answer_call(k, caller, client, &call, args),
@@ -54,10 +54,10 @@ fn reply_to(k: &mut Kernel, caller: usize, client: usize, args: &ReplyArgs)
 /// REPLY, of any caller.
 fn reply_by(k: &mut Kernel, caller: usize)
     requires there { caller < task_count k.old }
-    requires room { note_count k.old + call_notes ≤ turn_notes }
+    requires room { note_count k.old + syscall_notes ≤ turn_notes }
     requires stood { Stood k.old }
     ensures holds { (g : Setup) (t : Turn) → Stands g k.old t → Holds g k.new (replied g caller t) }
-    ensures frame { AddsAtMost k.old call_notes k.new }
+    ensures frame { AddsAtMost k.old syscall_notes k.new }
 {
     let args = ReplyArgs::of(&k.arguments(caller));
     match k.lookup(args.client.number) {
@@ -74,9 +74,9 @@ fn reply_by(k: &mut Kernel, caller: usize)
 pub fn reply(k: &mut Kernel, caller: usize)
     requires there { caller < task_count k.old }
     requires ready { (g : Setup) × (t : Turn) × Stands g k.old t × (is_ready t.state caller ≡ true) }
-    requires room { note_count k.old + call_notes ≤ turn_notes }
+    requires room { note_count k.old + syscall_notes ≤ turn_notes }
     ensures stands { (g : Setup) (t : Turn) → Stands g k.old t → is_ready t.state caller ≡ true → Stands g k.new (replied g caller t) }
-    ensures frame { AddsAtMost k.old call_notes k.new }
+    ensures frame { AddsAtMost k.old syscall_notes k.new }
 {
     reply_by(k, caller);
 }
@@ -85,9 +85,9 @@ pub fn reply(k: &mut Kernel, caller: usize)
 fn fault_client(k: &mut Kernel, caller: usize, client: usize, reason: Reason)
     requires there { caller < task_count k.old }
     requires client { client < task_count k.old }
-    requires room { note_count k.old + call_notes ≤ turn_notes }
+    requires room { note_count k.old + syscall_notes ≤ turn_notes }
     ensures holds { (g : Setup) (t : Turn) → Stands g k.old t → Holds g k.new (reply_faulted_to g caller (reason_number reason) (taken_by t.state client caller) t) }
-    ensures frame { AddsAtMost k.old call_notes k.new }
+    ensures frame { AddsAtMost k.old syscall_notes k.new }
 {
     if k.taken(client, caller).is_some() {
         k.reply_fault(caller, client, reason);
@@ -97,11 +97,11 @@ fn fault_client(k: &mut Kernel, caller: usize, client: usize, reason: Reason)
 }
 
 /// REPLY_FAULT, of any caller.
-fn reply_fault_by(k: &mut Kernel, caller: usize)
+fn reply_fault_of(k: &mut Kernel, caller: usize)
     requires there { caller < task_count k.old }
-    requires room { note_count k.old + call_notes ≤ turn_notes }
+    requires room { note_count k.old + syscall_notes ≤ turn_notes }
     ensures holds { (g : Setup) (t : Turn) → Stands g k.old t → Holds g k.new (reply_faulted g caller t) }
-    ensures frame { AddsAtMost k.old call_notes k.new }
+    ensures frame { AddsAtMost k.old syscall_notes k.new }
 {
     let args = ReplyArgs::of(&k.arguments(caller));
     match (k.lookup(args.client.number), Reason::of(args.code)) {
@@ -118,9 +118,9 @@ fn reply_fault_by(k: &mut Kernel, caller: usize)
 pub fn reply_fault(k: &mut Kernel, caller: usize)
     requires there { caller < task_count k.old }
     requires ready { (g : Setup) × (t : Turn) × Stands g k.old t × (is_ready t.state caller ≡ true) }
-    requires room { note_count k.old + call_notes ≤ turn_notes }
+    requires room { note_count k.old + syscall_notes ≤ turn_notes }
     ensures stands { (g : Setup) (t : Turn) → Stands g k.old t → is_ready t.state caller ≡ true → Stands g k.new (reply_faulted g caller t) }
-    ensures frame { AddsAtMost k.old call_notes k.new }
+    ensures frame { AddsAtMost k.old syscall_notes k.new }
 {
-    reply_fault_by(k, caller);
+    reply_fault_of(k, caller);
 }

@@ -5,7 +5,7 @@ ghost use Rattle.task_table.specs.State.{Setup, Turn};
 ghost use Rattle.task_table.specs.Reading.{arguments, is_ready, is_valid, IsIdle};
 ghost use Rattle.task_table.specs.Sends.{message_of, reply_room, table_of, sent};
 ghost use Rattle.task_table.specs.Holds.{Holds, Stands, task_count, note_count, next_call_of};
-ghost use Rattle.task_table.specs.Limits.{call_notes, turn_notes};
+ghost use Rattle.task_table.specs.Limits.{syscall_notes, turn_notes};
 ghost use Rattle.task_table.specs.Frames.{AddsAtMost};
 ghost use Rattle.ipc_core.specs.Sending.{IsRecipient, IsRecipientOf, IsAmong, sent_to};
 
@@ -58,11 +58,11 @@ fn reaches_out(args: &SendArgs) -> bool
 fn send_to(k: &mut Kernel, caller: usize, recipient: Recipient, args: &SendArgs)
     requires there { caller < task_count k.old }
     requires recipient { IsAmong (task_count k.old) recipient }
-    requires room { note_count k.old + call_notes ≤ turn_notes }
+    requires room { note_count k.old + syscall_notes ≤ turn_notes }
     requires number { next_call_of k.old + 1 < 2 ^ 32 }
     requires idle { (g : Setup) × (t : Turn) × Stands g k.old t × IsIdle t.state caller }
     ensures holds { (g : Setup) (t : Turn) → Stands g k.old t → IsIdle t.state caller → IsRecipient t.state caller args.now.recipient.number recipient → Holds g k.new (sent_to g caller args.now t) }
-    ensures frame { AddsAtMost k.old call_notes k.new }
+    ensures frame { AddsAtMost k.old syscall_notes k.new }
 {
     if reaches_out(args) {
         return k.misuse(caller, Usage::InvalidSlice);
@@ -82,11 +82,11 @@ fn send_to(k: &mut Kernel, caller: usize, recipient: Recipient, args: &SendArgs)
 /// SEND of a caller that waits for nothing.
 fn send_by(k: &mut Kernel, caller: usize)
     requires there { caller < task_count k.old }
-    requires room { note_count k.old + call_notes ≤ turn_notes }
+    requires room { note_count k.old + syscall_notes ≤ turn_notes }
     requires number { next_call_of k.old + 1 < 2 ^ 32 }
     requires idle { (g : Setup) × (t : Turn) × Stands g k.old t × IsIdle t.state caller }
     ensures holds { (g : Setup) (t : Turn) → Stands g k.old t → IsIdle t.state caller → Holds g k.new (sent g caller t) }
-    ensures frame { AddsAtMost k.old call_notes k.new }
+    ensures frame { AddsAtMost k.old syscall_notes k.new }
 {
     let args = SendArgs::of(&k.arguments(caller));
     match recipient_of(k, caller, args.recipient) {
@@ -103,10 +103,10 @@ fn send_by(k: &mut Kernel, caller: usize)
 pub fn send(k: &mut Kernel, caller: usize)
     requires there { caller < task_count k.old }
     requires ready { (g : Setup) × (t : Turn) × Stands g k.old t × (is_ready t.state caller ≡ true) }
-    requires room { note_count k.old + call_notes ≤ turn_notes }
+    requires room { note_count k.old + syscall_notes ≤ turn_notes }
     requires number { next_call_of k.old + 1 < 2 ^ 32 }
     ensures stands { (g : Setup) (t : Turn) → Stands g k.old t → is_ready t.state caller ≡ true → Stands g k.new (sent g caller t) }
-    ensures frame { AddsAtMost k.old call_notes k.new }
+    ensures frame { AddsAtMost k.old syscall_notes k.new }
 {
     send_by(k, caller);
 }

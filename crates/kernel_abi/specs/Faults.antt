@@ -7,11 +7,11 @@ use Rattle.kernel_abi.specs.declared.Reason.{Reason}
 use Rattle.kernel_abi.specs.declared.Reason.TheVariants.{UndefinedOperation, BadMessageSize, BadMessageContents, BadLeases, ReplyBufferTooSmall, AccessViolation}
 use Rattle.kernel_abi.specs.declared.TaskId.{TaskId}
 use Rattle.kernel_abi.specs.declared.Usage.{Usage}
-use Rattle.kernel_abi.specs.declared.Usage.TheVariants.{BadCall, BadTaskIndex, InvalidSlice, BadKernelMessage, NotSupervisor, NoIrq, OffsetOutOfRange, LeaseOutOfRange, ReplyTooBig, BadReason}
+use Rattle.kernel_abi.specs.declared.Usage.TheVariants.{BadSyscall, BadTaskIndex, InvalidSlice, BadKernelMessage, NotSupervisor, NoIrq, OffsetOutOfRange, LeaseOutOfRange, ReplyTooBig, BadReason}
 
 -- the number of a misuse
 abbrev pub usage_number : Usage → ℕ
-usage_number BadCall = 1
+usage_number BadSyscall = 1
 usage_number BadTaskIndex = 2
 usage_number InvalidSlice = 3
 usage_number BadKernelMessage = 4
@@ -44,8 +44,12 @@ illegal_fault address = record { number = 1; x = address; y = 0 }
 abbrev pub illegal_text_fault : ℕ → Fault
 illegal_text_fault address = record { number = 2; x = address; y = 0 }
 
+-- by the number of the access
+abbrev pub access_fault_by : ℕ → ℕ → Fault
+access_fault_by address number = record { number = 3; x = address; y = number }
+
 abbrev pub access_fault : ℕ → Access → Fault
-access_fault address access = record { number = 3; x = address; y = access_number access }
+access_fault address access = access_fault_by address (access_number access)
 
 abbrev pub unaligned_fault : ℕ → Bool → Fault
 unaligned_fault address is_store = record { number = 4; x = address; y = (if is_store then 1 else 0) }
@@ -56,14 +60,22 @@ state_fault target = record { number = 5; x = target; y = 0 }
 abbrev pub breakpoint_fault : ℕ → Fault
 breakpoint_fault immediate = record { number = 6; x = immediate; y = 0 }
 
+-- by the number of the misuse
+abbrev pub usage_fault_by : ℕ → Fault
+usage_fault_by number = record { number = 7; x = number; y = 0 }
+
 abbrev pub usage_fault : Usage → Fault
-usage_fault usage = record { number = 7; x = usage_number usage; y = 0 }
+usage_fault usage = usage_fault_by (usage_number usage)
 
 abbrev pub panic_fault : ℕ → ℕ → Fault
-panic_fault r4 r5 = record { number = 8; x = r4; y = r5 }
+panic_fault first second = record { number = 8; x = first; y = second }
 
 abbrev pub injected_fault : Fault
 injected_fault = record { number = 9; x = 0; y = 0 }
 
+-- by the number of the server's id and of the reason
+abbrev pub reply_fault_by : ℕ → ℕ → Fault
+reply_fault_by server reason = record { number = 10; x = server; y = reason }
+
 abbrev pub reply_fault : TaskId → Reason → Fault
-reply_fault server reason = record { number = 10; x = server.number; y = reason_number reason }
+reply_fault server reason = reply_fault_by server.number (reason_number reason)

@@ -13,6 +13,6 @@ generation_of id = id / 1024 % 64
 abbrev pub id_of : ℕ → ℕ → ℕ
 id_of i b = i + 1024 * (b % 64)
 
--- what a caller is told of a dead id, with the present generation
+-- what a caller gets for a dead id, with the present generation
 abbrev pub dead_code_of : ℕ → ℕ
 dead_code_of generation = 0xFFFFFF00 + generation

@@ -1,4 +1,4 @@
-//! The words that a kernel and its tasks exchange: ids, faults, arguments of calls, lease entries,
+//! The words that a kernel and its tasks exchange: ids, faults, arguments of system calls, lease entries,
 //! and the lines of a trace as data.
 #![tactic(auto)]
 
@@ -78,7 +78,7 @@ pub fn dead_code(g: Generation) -> u32
 /// How a task misused a system call. The numbers are this project's own.
 #[derive(Clone, Copy, Debug, PartialEq, Eq)]
 pub enum Usage {
-    BadCall,
+    BadSyscall,
     BadTaskIndex,
     InvalidSlice,
     BadKernelMessage,
@@ -96,7 +96,7 @@ impl Usage {
         ensures { result ≡ usage_number self.now }
     {
         match self {
-            Usage::BadCall => 1,
+            Usage::BadSyscall => 1,
             Usage::BadTaskIndex => 2,
             Usage::InvalidSlice => 3,
             Usage::BadKernelMessage => 4,
@@ -160,9 +160,9 @@ pub enum Access {
     Load,
     /// By an instruction that stores.
     Store,
-    /// By the kernel, which reads for a call.
+    /// By the kernel, which reads for a system call.
     KernelRead,
-    /// By the kernel, which writes for a call.
+    /// By the kernel, which writes for a system call.
     KernelWrite,
 }
 
@@ -287,7 +287,7 @@ pub enum Borrow {
     Read,
     /// It writes bytes of the lease.
     Write,
-    /// It is told the attributes and the length.
+    /// It gets the attributes and the length.
     Info,
 }
 
@@ -310,7 +310,7 @@ pub enum Note {
         posted: u32,
     },
     /// A task made a system call, with its r11 and its r4 to r10.
-    Call {
+    Syscall {
         task: u16,
         number: u32,
         arguments: [u32; 7],

@@ -10,19 +10,19 @@ use Rattle.thumb_insn.specs.Table.{rows, narrow_of, wide_rows, wide_of}
 use Rattle.thumb_exec.specs.Effect.{words, transfers, first_refused, stores_of, loaded_all, ones, count, effect}
 use Rattle.mem_banks.specs.Memory.{bytes_at, with_bytes, copied as copied_memory}
 use Rattle.task_table.specs.Borrows.{grant, borrowed, informed}
-use Rattle.task_table.specs.Calls.{called}
-use Rattle.task_table.specs.Effects.{with_task, without_call, without_listen, with_listen, with_taken, noted, with_processor, with_health, stored, copied, looked, given, returned, past_call, bits_added, bits_cleared, woken, posted, with_timer, clocked, with_line, closed, faulted_as, with_call, offered, handed, reborn, restarted}
+use Rattle.task_table.specs.Syscalls.{called}
+use Rattle.task_table.specs.Effects.{with_task, without_call, without_listen, with_listen, with_taken, noted, with_processor, with_health, stored, copied, looked, given, returned, past_syscall, bits_added, bits_cleared, woken, posted, with_timer, clocked, with_line, closed, faulted_as, with_call, offered, handed, reborn, restarted}
 use Rattle.task_table.specs.Events.{ticked, owner_of, interrupted}
 use Rattle.task_table.specs.Orders.{injected, ordered}
 use Rattle.task_table.specs.Reading.{task_at, line_at, register, arguments, call_of, listen_of, is_out, is_dead, present_id, dead_code_for, is_ready, bad_byte, chosen, offer_by, taken_by, best_sender}
-use Rattle.task_table.specs.Rows.{panicked, timer_set, timer_told, irq_controlled, received, call_noted}
+use Rattle.task_table.specs.Rows.{panicked, timer_set, timer_answered, irq_controlled, received, syscall_noted}
 use Rattle.task_table.specs.Sends.{sent, replied, reply_faulted, post_made, refreshed}
 use Rattle.task_table.specs.Start.{start, begun}
 use Rattle.task_table.specs.State.{Setup}
 use Rattle.board_model.specs.Run.{ending as ending_of, run}
 use Rattle.board_model.specs.Script.{Scenario}
-use Rattle.board_model.specs.Turn.{stepped, after_events, with_registers_told, ended, turn}
-use Rattle.board_model.specs.declared.told.Level.TheVariants.{Calls}
+use Rattle.board_model.specs.Turn.{stepped, after_events, with_registers_noted, ended, turn}
+use Rattle.board_model.specs.declared.outcomes.Level.TheVariants.{Brief}
 use Rattle.run_script.specs.declared.events.Event.TheVariants.{Irq}
 
 setup : Setup
@@ -105,181 +105,181 @@ scenario = record { setup = setup; script = record { every = Some 64; events = (
 
 expected : List (ℕ × Note)
 expected =
-    (6, note.Call 0 1 (0 ∷ 0 ∷ 1 ∷ 0 ∷ 0 ∷ 0 ∷ 0 ∷ [])) ∷
+    (6, note.Syscall 0 1 (0 ∷ 0 ∷ 1 ∷ 0 ∷ 0 ∷ 0 ∷ 0 ∷ [])) ∷
     (6, note.Listen 0 listened.Any 1) ∷
-    (11, note.Call 1 7 (1 ∷ 1 ∷ 0 ∷ 0 ∷ 0 ∷ 0 ∷ 0 ∷ [])) ∷
+    (11, note.Syscall 1 7 (1 ∷ 1 ∷ 0 ∷ 0 ∷ 0 ∷ 0 ∷ 0 ∷ [])) ∷
     (11, note.Ret 1 (1 ∷ 1 ∷ 0 ∷ 0 ∷ 0 ∷ 0 ∷ [])) ∷
-    (18, note.Call 1 1 (536871232 ∷ 16 ∷ 1 ∷ 0 ∷ 0 ∷ 0 ∷ 0 ∷ [])) ∷
+    (18, note.Syscall 1 1 (536871232 ∷ 16 ∷ 1 ∷ 0 ∷ 0 ∷ 0 ∷ 0 ∷ [])) ∷
     (18, note.Listen 1 listened.Any 1) ∷
-    (23, note.Call 2 7 (1 ∷ 1 ∷ 0 ∷ 0 ∷ 0 ∷ 0 ∷ 0 ∷ [])) ∷
+    (23, note.Syscall 2 7 (1 ∷ 1 ∷ 0 ∷ 0 ∷ 0 ∷ 0 ∷ 0 ∷ [])) ∷
     (23, note.Ret 2 (1 ∷ 1 ∷ 0 ∷ 0 ∷ 0 ∷ 0 ∷ [])) ∷
     (28, note.Irq 0 handled.Posted) ∷
     (28, note.Post 1 1 1) ∷
     (28, note.Ret 1 (0 ∷ 65535 ∷ 1 ∷ 0 ∷ 0 ∷ 0 ∷ [])) ∷
-    (30, note.Call 2 1 (536871488 ∷ 16 ∷ 1 ∷ 0 ∷ 0 ∷ 0 ∷ 0 ∷ [])) ∷
+    (30, note.Syscall 2 1 (536871488 ∷ 16 ∷ 1 ∷ 0 ∷ 0 ∷ 0 ∷ 0 ∷ [])) ∷
     (30, note.Listen 2 listened.Any 1) ∷
     (34, note.Irq 7 handled.Unowned) ∷
-    (35, note.Call 3 7 (1 ∷ 1 ∷ 0 ∷ 0 ∷ 0 ∷ 0 ∷ 0 ∷ [])) ∷
+    (35, note.Syscall 3 7 (1 ∷ 1 ∷ 0 ∷ 0 ∷ 0 ∷ 0 ∷ 0 ∷ [])) ∷
     (35, note.Ret 3 (1 ∷ 1 ∷ 0 ∷ 0 ∷ 0 ∷ 0 ∷ [])) ∷
-    (42, note.Call 3 1 (536871744 ∷ 16 ∷ 1 ∷ 0 ∷ 0 ∷ 0 ∷ 0 ∷ [])) ∷
+    (42, note.Syscall 3 1 (536871744 ∷ 16 ∷ 1 ∷ 0 ∷ 0 ∷ 0 ∷ 0 ∷ [])) ∷
     (42, note.Listen 3 listened.Any 1) ∷
-    (47, note.Call 4 7 (1 ∷ 1 ∷ 0 ∷ 0 ∷ 0 ∷ 0 ∷ 0 ∷ [])) ∷
+    (47, note.Syscall 4 7 (1 ∷ 1 ∷ 0 ∷ 0 ∷ 0 ∷ 0 ∷ 0 ∷ [])) ∷
     (47, note.Ret 4 (1 ∷ 1 ∷ 0 ∷ 0 ∷ 0 ∷ 0 ∷ [])) ∷
     (50, note.Irq 7 handled.Unowned) ∷
-    (54, note.Call 4 1 (536872000 ∷ 16 ∷ 1 ∷ 0 ∷ 0 ∷ 0 ∷ 0 ∷ [])) ∷
+    (54, note.Syscall 4 1 (536872000 ∷ 16 ∷ 1 ∷ 0 ∷ 0 ∷ 0 ∷ 0 ∷ [])) ∷
     (54, note.Listen 4 listened.Any 1) ∷
-    (59, note.Call 5 7 (1 ∷ 1 ∷ 0 ∷ 0 ∷ 0 ∷ 0 ∷ 0 ∷ [])) ∷
+    (59, note.Syscall 5 7 (1 ∷ 1 ∷ 0 ∷ 0 ∷ 0 ∷ 0 ∷ 0 ∷ [])) ∷
     (59, note.Ret 5 (1 ∷ 1 ∷ 0 ∷ 0 ∷ 0 ∷ 0 ∷ [])) ∷
     (64, note.Tick 1) ∷
-    (66, note.Call 5 1 (536872256 ∷ 16 ∷ 1 ∷ 0 ∷ 0 ∷ 0 ∷ 0 ∷ [])) ∷
+    (66, note.Syscall 5 1 (536872256 ∷ 16 ∷ 1 ∷ 0 ∷ 0 ∷ 0 ∷ 0 ∷ [])) ∷
     (66, note.Listen 5 listened.Any 1) ∷
-    (71, note.Call 6 7 (1 ∷ 1 ∷ 0 ∷ 0 ∷ 0 ∷ 0 ∷ 0 ∷ [])) ∷
+    (71, note.Syscall 6 7 (1 ∷ 1 ∷ 0 ∷ 0 ∷ 0 ∷ 0 ∷ 0 ∷ [])) ∷
     (71, note.Ret 6 (1 ∷ 1 ∷ 0 ∷ 0 ∷ 0 ∷ 0 ∷ [])) ∷
     (76, note.Irq 3 handled.Posted) ∷
     (76, note.Post 4 1 1) ∷
     (76, note.Ret 4 (0 ∷ 65535 ∷ 1 ∷ 0 ∷ 0 ∷ 0 ∷ [])) ∷
-    (78, note.Call 6 1 (536872512 ∷ 16 ∷ 1 ∷ 0 ∷ 0 ∷ 0 ∷ 0 ∷ [])) ∷
+    (78, note.Syscall 6 1 (536872512 ∷ 16 ∷ 1 ∷ 0 ∷ 0 ∷ 0 ∷ 0 ∷ [])) ∷
     (78, note.Listen 6 listened.Any 1) ∷
-    (83, note.Call 7 7 (1 ∷ 1 ∷ 0 ∷ 0 ∷ 0 ∷ 0 ∷ 0 ∷ [])) ∷
+    (83, note.Syscall 7 7 (1 ∷ 1 ∷ 0 ∷ 0 ∷ 0 ∷ 0 ∷ 0 ∷ [])) ∷
     (83, note.Ret 7 (1 ∷ 1 ∷ 0 ∷ 0 ∷ 0 ∷ 0 ∷ [])) ∷
-    (90, note.Call 7 1 (536872768 ∷ 16 ∷ 1 ∷ 0 ∷ 0 ∷ 0 ∷ 0 ∷ [])) ∷
+    (90, note.Syscall 7 1 (536872768 ∷ 16 ∷ 1 ∷ 0 ∷ 0 ∷ 0 ∷ 0 ∷ [])) ∷
     (90, note.Listen 7 listened.Any 1) ∷
     (95, note.Irq 0 handled.Held) ∷
-    (98, note.Call 1 7 (1 ∷ 1 ∷ 1 ∷ 0 ∷ 0 ∷ 0 ∷ 0 ∷ [])) ∷
+    (98, note.Syscall 1 7 (1 ∷ 1 ∷ 1 ∷ 0 ∷ 0 ∷ 0 ∷ 0 ∷ [])) ∷
     (98, note.Post 1 1 1) ∷
     (98, note.Ret 1 (1 ∷ 1 ∷ 1 ∷ 0 ∷ 0 ∷ 0 ∷ [])) ∷
-    (105, note.Call 1 1 (536871232 ∷ 16 ∷ 1 ∷ 0 ∷ 0 ∷ 0 ∷ 0 ∷ [])) ∷
+    (105, note.Syscall 1 1 (536871232 ∷ 16 ∷ 1 ∷ 0 ∷ 0 ∷ 0 ∷ 0 ∷ [])) ∷
     (105, note.Ret 1 (0 ∷ 65535 ∷ 1 ∷ 0 ∷ 0 ∷ 0 ∷ [])) ∷
     (106, note.Irq 7 handled.Unowned) ∷
-    (113, note.Call 1 7 (1 ∷ 1 ∷ 1 ∷ 0 ∷ 0 ∷ 0 ∷ 0 ∷ [])) ∷
+    (113, note.Syscall 1 7 (1 ∷ 1 ∷ 1 ∷ 0 ∷ 0 ∷ 0 ∷ 0 ∷ [])) ∷
     (113, note.Ret 1 (1 ∷ 1 ∷ 1 ∷ 0 ∷ 0 ∷ 0 ∷ [])) ∷
     (116, note.Irq 3 handled.Held) ∷
-    (120, note.Call 1 1 (536871232 ∷ 16 ∷ 1 ∷ 0 ∷ 0 ∷ 0 ∷ 0 ∷ [])) ∷
+    (120, note.Syscall 1 1 (536871232 ∷ 16 ∷ 1 ∷ 0 ∷ 0 ∷ 0 ∷ 0 ∷ [])) ∷
     (120, note.Listen 1 listened.Any 1) ∷
     (128, note.Tick 2) ∷
-    (128, note.Call 4 7 (1 ∷ 1 ∷ 1 ∷ 0 ∷ 0 ∷ 0 ∷ 0 ∷ [])) ∷
+    (128, note.Syscall 4 7 (1 ∷ 1 ∷ 1 ∷ 0 ∷ 0 ∷ 0 ∷ 0 ∷ [])) ∷
     (128, note.Post 4 1 1) ∷
     (128, note.Ret 4 (1 ∷ 1 ∷ 1 ∷ 0 ∷ 0 ∷ 0 ∷ [])) ∷
-    (135, note.Call 4 1 (536872000 ∷ 16 ∷ 1 ∷ 0 ∷ 0 ∷ 0 ∷ 0 ∷ [])) ∷
+    (135, note.Syscall 4 1 (536872000 ∷ 16 ∷ 1 ∷ 0 ∷ 0 ∷ 0 ∷ 0 ∷ [])) ∷
     (135, note.Ret 4 (0 ∷ 65535 ∷ 1 ∷ 0 ∷ 0 ∷ 0 ∷ [])) ∷
     (136, note.Irq 2 handled.Posted) ∷
     (136, note.Post 3 1 1) ∷
     (136, note.Ret 3 (0 ∷ 65535 ∷ 1 ∷ 0 ∷ 0 ∷ 0 ∷ [])) ∷
-    (143, note.Call 4 7 (1 ∷ 1 ∷ 1 ∷ 0 ∷ 0 ∷ 0 ∷ 0 ∷ [])) ∷
+    (143, note.Syscall 4 7 (1 ∷ 1 ∷ 1 ∷ 0 ∷ 0 ∷ 0 ∷ 0 ∷ [])) ∷
     (143, note.Ret 4 (1 ∷ 1 ∷ 1 ∷ 0 ∷ 0 ∷ 0 ∷ [])) ∷
-    (150, note.Call 4 1 (536872000 ∷ 16 ∷ 1 ∷ 0 ∷ 0 ∷ 0 ∷ 0 ∷ [])) ∷
+    (150, note.Syscall 4 1 (536872000 ∷ 16 ∷ 1 ∷ 0 ∷ 0 ∷ 0 ∷ 0 ∷ [])) ∷
     (150, note.Listen 4 listened.Any 1) ∷
     (153, note.Irq 4 handled.Posted) ∷
     (153, note.Post 5 1 1) ∷
     (153, note.Ret 5 (0 ∷ 65535 ∷ 1 ∷ 0 ∷ 0 ∷ 0 ∷ [])) ∷
-    (158, note.Call 3 7 (1 ∷ 1 ∷ 1 ∷ 0 ∷ 0 ∷ 0 ∷ 0 ∷ [])) ∷
+    (158, note.Syscall 3 7 (1 ∷ 1 ∷ 1 ∷ 0 ∷ 0 ∷ 0 ∷ 0 ∷ [])) ∷
     (158, note.Ret 3 (1 ∷ 1 ∷ 1 ∷ 0 ∷ 0 ∷ 0 ∷ [])) ∷
     (165, note.Irq 0 handled.Posted) ∷
     (165, note.Post 1 1 1) ∷
     (165, note.Ret 1 (0 ∷ 65535 ∷ 1 ∷ 0 ∷ 0 ∷ 0 ∷ [])) ∷
-    (165, note.Call 3 1 (536871744 ∷ 16 ∷ 1 ∷ 0 ∷ 0 ∷ 0 ∷ 0 ∷ [])) ∷
+    (165, note.Syscall 3 1 (536871744 ∷ 16 ∷ 1 ∷ 0 ∷ 0 ∷ 0 ∷ 0 ∷ [])) ∷
     (165, note.Listen 3 listened.Any 1) ∷
-    (173, note.Call 5 7 (1 ∷ 1 ∷ 1 ∷ 0 ∷ 0 ∷ 0 ∷ 0 ∷ [])) ∷
+    (173, note.Syscall 5 7 (1 ∷ 1 ∷ 1 ∷ 0 ∷ 0 ∷ 0 ∷ 0 ∷ [])) ∷
     (173, note.Ret 5 (1 ∷ 1 ∷ 1 ∷ 0 ∷ 0 ∷ 0 ∷ [])) ∷
     (179, note.Irq 5 handled.Posted) ∷
     (179, note.Post 6 1 1) ∷
     (179, note.Ret 6 (0 ∷ 65535 ∷ 1 ∷ 0 ∷ 0 ∷ 0 ∷ [])) ∷
-    (180, note.Call 5 1 (536872256 ∷ 16 ∷ 1 ∷ 0 ∷ 0 ∷ 0 ∷ 0 ∷ [])) ∷
+    (180, note.Syscall 5 1 (536872256 ∷ 16 ∷ 1 ∷ 0 ∷ 0 ∷ 0 ∷ 0 ∷ [])) ∷
     (180, note.Listen 5 listened.Any 1) ∷
-    (188, note.Call 6 7 (1 ∷ 1 ∷ 1 ∷ 0 ∷ 0 ∷ 0 ∷ 0 ∷ [])) ∷
+    (188, note.Syscall 6 7 (1 ∷ 1 ∷ 1 ∷ 0 ∷ 0 ∷ 0 ∷ 0 ∷ [])) ∷
     (188, note.Ret 6 (1 ∷ 1 ∷ 1 ∷ 0 ∷ 0 ∷ 0 ∷ [])) ∷
     (192, note.Tick 3) ∷
-    (195, note.Call 6 1 (536872512 ∷ 16 ∷ 1 ∷ 0 ∷ 0 ∷ 0 ∷ 0 ∷ [])) ∷
+    (195, note.Syscall 6 1 (536872512 ∷ 16 ∷ 1 ∷ 0 ∷ 0 ∷ 0 ∷ 0 ∷ [])) ∷
     (195, note.Listen 6 listened.Any 1) ∷
     (197, note.Irq 0 handled.Held) ∷
-    (203, note.Call 1 7 (1 ∷ 1 ∷ 1 ∷ 0 ∷ 0 ∷ 0 ∷ 0 ∷ [])) ∷
+    (203, note.Syscall 1 7 (1 ∷ 1 ∷ 1 ∷ 0 ∷ 0 ∷ 0 ∷ 0 ∷ [])) ∷
     (203, note.Post 1 1 1) ∷
     (203, note.Ret 1 (1 ∷ 1 ∷ 1 ∷ 0 ∷ 0 ∷ 0 ∷ [])) ∷
-    (210, note.Call 1 1 (536871232 ∷ 16 ∷ 1 ∷ 0 ∷ 0 ∷ 0 ∷ 0 ∷ [])) ∷
+    (210, note.Syscall 1 1 (536871232 ∷ 16 ∷ 1 ∷ 0 ∷ 0 ∷ 0 ∷ 0 ∷ [])) ∷
     (210, note.Ret 1 (0 ∷ 65535 ∷ 1 ∷ 0 ∷ 0 ∷ 0 ∷ [])) ∷
     (216, note.Irq 5 handled.Posted) ∷
     (216, note.Post 6 1 1) ∷
     (216, note.Ret 6 (0 ∷ 65535 ∷ 1 ∷ 0 ∷ 0 ∷ 0 ∷ [])) ∷
-    (218, note.Call 1 7 (1 ∷ 1 ∷ 1 ∷ 0 ∷ 0 ∷ 0 ∷ 0 ∷ [])) ∷
+    (218, note.Syscall 1 7 (1 ∷ 1 ∷ 1 ∷ 0 ∷ 0 ∷ 0 ∷ 0 ∷ [])) ∷
     (218, note.Ret 1 (1 ∷ 1 ∷ 1 ∷ 0 ∷ 0 ∷ 0 ∷ [])) ∷
-    (225, note.Call 1 1 (536871232 ∷ 16 ∷ 1 ∷ 0 ∷ 0 ∷ 0 ∷ 0 ∷ [])) ∷
+    (225, note.Syscall 1 1 (536871232 ∷ 16 ∷ 1 ∷ 0 ∷ 0 ∷ 0 ∷ 0 ∷ [])) ∷
     (225, note.Listen 1 listened.Any 1) ∷
     (231, note.Irq 5 handled.Held) ∷
-    (233, note.Call 6 7 (1 ∷ 1 ∷ 1 ∷ 0 ∷ 0 ∷ 0 ∷ 0 ∷ [])) ∷
+    (233, note.Syscall 6 7 (1 ∷ 1 ∷ 1 ∷ 0 ∷ 0 ∷ 0 ∷ 0 ∷ [])) ∷
     (233, note.Post 6 1 1) ∷
     (233, note.Ret 6 (1 ∷ 1 ∷ 1 ∷ 0 ∷ 0 ∷ 0 ∷ [])) ∷
-    (240, note.Call 6 1 (536872512 ∷ 16 ∷ 1 ∷ 0 ∷ 0 ∷ 0 ∷ 0 ∷ [])) ∷
+    (240, note.Syscall 6 1 (536872512 ∷ 16 ∷ 1 ∷ 0 ∷ 0 ∷ 0 ∷ 0 ∷ [])) ∷
     (240, note.Ret 6 (0 ∷ 65535 ∷ 1 ∷ 0 ∷ 0 ∷ 0 ∷ [])) ∷
     (242, note.Irq 1 handled.Posted) ∷
     (242, note.Post 2 1 1) ∷
     (242, note.Ret 2 (0 ∷ 65535 ∷ 1 ∷ 0 ∷ 0 ∷ 0 ∷ [])) ∷
-    (248, note.Call 6 7 (1 ∷ 1 ∷ 1 ∷ 0 ∷ 0 ∷ 0 ∷ 0 ∷ [])) ∷
+    (248, note.Syscall 6 7 (1 ∷ 1 ∷ 1 ∷ 0 ∷ 0 ∷ 0 ∷ 0 ∷ [])) ∷
     (248, note.Ret 6 (1 ∷ 1 ∷ 1 ∷ 0 ∷ 0 ∷ 0 ∷ [])) ∷
-    (255, note.Call 6 1 (536872512 ∷ 16 ∷ 1 ∷ 0 ∷ 0 ∷ 0 ∷ 0 ∷ [])) ∷
+    (255, note.Syscall 6 1 (536872512 ∷ 16 ∷ 1 ∷ 0 ∷ 0 ∷ 0 ∷ 0 ∷ [])) ∷
     (255, note.Listen 6 listened.Any 1) ∷
     (256, note.Tick 4) ∷
-    (263, note.Call 2 7 (1 ∷ 1 ∷ 1 ∷ 0 ∷ 0 ∷ 0 ∷ 0 ∷ [])) ∷
+    (263, note.Syscall 2 7 (1 ∷ 1 ∷ 1 ∷ 0 ∷ 0 ∷ 0 ∷ 0 ∷ [])) ∷
     (263, note.Ret 2 (1 ∷ 1 ∷ 1 ∷ 0 ∷ 0 ∷ 0 ∷ [])) ∷
     (265, note.Irq 2 handled.Posted) ∷
     (265, note.Post 3 1 1) ∷
     (265, note.Ret 3 (0 ∷ 65535 ∷ 1 ∷ 0 ∷ 0 ∷ 0 ∷ [])) ∷
-    (270, note.Call 2 1 (536871488 ∷ 16 ∷ 1 ∷ 0 ∷ 0 ∷ 0 ∷ 0 ∷ [])) ∷
+    (270, note.Syscall 2 1 (536871488 ∷ 16 ∷ 1 ∷ 0 ∷ 0 ∷ 0 ∷ 0 ∷ [])) ∷
     (270, note.Listen 2 listened.Any 1) ∷
     (274, note.Irq 2 handled.Held) ∷
-    (278, note.Call 3 7 (1 ∷ 1 ∷ 1 ∷ 0 ∷ 0 ∷ 0 ∷ 0 ∷ [])) ∷
+    (278, note.Syscall 3 7 (1 ∷ 1 ∷ 1 ∷ 0 ∷ 0 ∷ 0 ∷ 0 ∷ [])) ∷
     (278, note.Post 3 1 1) ∷
     (278, note.Ret 3 (1 ∷ 1 ∷ 1 ∷ 0 ∷ 0 ∷ 0 ∷ [])) ∷
-    (285, note.Call 3 1 (536871744 ∷ 16 ∷ 1 ∷ 0 ∷ 0 ∷ 0 ∷ 0 ∷ [])) ∷
+    (285, note.Syscall 3 1 (536871744 ∷ 16 ∷ 1 ∷ 0 ∷ 0 ∷ 0 ∷ 0 ∷ [])) ∷
     (285, note.Ret 3 (0 ∷ 65535 ∷ 1 ∷ 0 ∷ 0 ∷ 0 ∷ [])) ∷
-    (293, note.Call 3 7 (1 ∷ 1 ∷ 1 ∷ 0 ∷ 0 ∷ 0 ∷ 0 ∷ [])) ∷
+    (293, note.Syscall 3 7 (1 ∷ 1 ∷ 1 ∷ 0 ∷ 0 ∷ 0 ∷ 0 ∷ [])) ∷
     (293, note.Ret 3 (1 ∷ 1 ∷ 1 ∷ 0 ∷ 0 ∷ 0 ∷ [])) ∷
     (298, note.Irq 3 handled.Posted) ∷
     (298, note.Post 4 1 1) ∷
     (298, note.Ret 4 (0 ∷ 65535 ∷ 1 ∷ 0 ∷ 0 ∷ 0 ∷ [])) ∷
-    (300, note.Call 3 1 (536871744 ∷ 16 ∷ 1 ∷ 0 ∷ 0 ∷ 0 ∷ 0 ∷ [])) ∷
+    (300, note.Syscall 3 1 (536871744 ∷ 16 ∷ 1 ∷ 0 ∷ 0 ∷ 0 ∷ 0 ∷ [])) ∷
     (300, note.Listen 3 listened.Any 1) ∷
-    (308, note.Call 4 7 (1 ∷ 1 ∷ 1 ∷ 0 ∷ 0 ∷ 0 ∷ 0 ∷ [])) ∷
+    (308, note.Syscall 4 7 (1 ∷ 1 ∷ 1 ∷ 0 ∷ 0 ∷ 0 ∷ 0 ∷ [])) ∷
     (308, note.Ret 4 (1 ∷ 1 ∷ 1 ∷ 0 ∷ 0 ∷ 0 ∷ [])) ∷
     (311, note.Irq 7 handled.Unowned) ∷
-    (315, note.Call 4 1 (536872000 ∷ 16 ∷ 1 ∷ 0 ∷ 0 ∷ 0 ∷ 0 ∷ [])) ∷
+    (315, note.Syscall 4 1 (536872000 ∷ 16 ∷ 1 ∷ 0 ∷ 0 ∷ 0 ∷ 0 ∷ [])) ∷
     (315, note.Listen 4 listened.Any 1) ∷
     (320, note.Tick 5) ∷
     (320, note.Irq 1 handled.Posted) ∷
     (320, note.Post 2 1 1) ∷
     (320, note.Ret 2 (0 ∷ 65535 ∷ 1 ∷ 0 ∷ 0 ∷ 0 ∷ [])) ∷
-    (327, note.Call 2 7 (1 ∷ 1 ∷ 1 ∷ 0 ∷ 0 ∷ 0 ∷ 0 ∷ [])) ∷
+    (327, note.Syscall 2 7 (1 ∷ 1 ∷ 1 ∷ 0 ∷ 0 ∷ 0 ∷ 0 ∷ [])) ∷
     (327, note.Ret 2 (1 ∷ 1 ∷ 1 ∷ 0 ∷ 0 ∷ 0 ∷ [])) ∷
-    (334, note.Call 2 1 (536871488 ∷ 16 ∷ 1 ∷ 0 ∷ 0 ∷ 0 ∷ 0 ∷ [])) ∷
+    (334, note.Syscall 2 1 (536871488 ∷ 16 ∷ 1 ∷ 0 ∷ 0 ∷ 0 ∷ 0 ∷ [])) ∷
     (334, note.Listen 2 listened.Any 1) ∷
-    (340, note.Call 8 10 (5 ∷ 0 ∷ 0 ∷ 0 ∷ 0 ∷ 0 ∷ 0 ∷ [])) ∷
+    (340, note.Syscall 8 10 (5 ∷ 0 ∷ 0 ∷ 0 ∷ 0 ∷ 0 ∷ 0 ∷ [])) ∷
     (340, note.Ret 8 (5 ∷ 0 ∷ 0 ∷ 0 ∷ 0 ∷ 0 ∷ [])) ∷
     (350, note.Irq 4 handled.Posted) ∷
     (350, note.Post 5 1 1) ∷
     (350, note.Ret 5 (0 ∷ 65535 ∷ 1 ∷ 0 ∷ 0 ∷ 0 ∷ [])) ∷
-    (357, note.Call 5 7 (1 ∷ 1 ∷ 1 ∷ 0 ∷ 0 ∷ 0 ∷ 0 ∷ [])) ∷
+    (357, note.Syscall 5 7 (1 ∷ 1 ∷ 1 ∷ 0 ∷ 0 ∷ 0 ∷ 0 ∷ [])) ∷
     (357, note.Ret 5 (1 ∷ 1 ∷ 1 ∷ 0 ∷ 0 ∷ 0 ∷ [])) ∷
     (363, note.Irq 5 handled.Posted) ∷
     (363, note.Post 6 1 1) ∷
     (363, note.Ret 6 (0 ∷ 65535 ∷ 1 ∷ 0 ∷ 0 ∷ 0 ∷ [])) ∷
-    (364, note.Call 5 1 (536872256 ∷ 16 ∷ 1 ∷ 0 ∷ 0 ∷ 0 ∷ 0 ∷ [])) ∷
+    (364, note.Syscall 5 1 (536872256 ∷ 16 ∷ 1 ∷ 0 ∷ 0 ∷ 0 ∷ 0 ∷ [])) ∷
     (364, note.Listen 5 listened.Any 1) ∷
-    (372, note.Call 6 7 (1 ∷ 1 ∷ 1 ∷ 0 ∷ 0 ∷ 0 ∷ 0 ∷ [])) ∷
+    (372, note.Syscall 6 7 (1 ∷ 1 ∷ 1 ∷ 0 ∷ 0 ∷ 0 ∷ 0 ∷ [])) ∷
     (372, note.Ret 6 (1 ∷ 1 ∷ 1 ∷ 0 ∷ 0 ∷ 0 ∷ [])) ∷
-    (379, note.Call 6 1 (536872512 ∷ 16 ∷ 1 ∷ 0 ∷ 0 ∷ 0 ∷ 0 ∷ [])) ∷
+    (379, note.Syscall 6 1 (536872512 ∷ 16 ∷ 1 ∷ 0 ∷ 0 ∷ 0 ∷ 0 ∷ [])) ∷
     (379, note.Listen 6 listened.Any 1) ∷
     (380, note.Irq 2 handled.Posted) ∷
     (380, note.Post 3 1 1) ∷
     (380, note.Ret 3 (0 ∷ 65535 ∷ 1 ∷ 0 ∷ 0 ∷ 0 ∷ [])) ∷
     (384, note.Tick 6) ∷
-    (387, note.Call 3 7 (1 ∷ 1 ∷ 1 ∷ 0 ∷ 0 ∷ 0 ∷ 0 ∷ [])) ∷
+    (387, note.Syscall 3 7 (1 ∷ 1 ∷ 1 ∷ 0 ∷ 0 ∷ 0 ∷ 0 ∷ [])) ∷
     (387, note.Ret 3 (1 ∷ 1 ∷ 1 ∷ 0 ∷ 0 ∷ 0 ∷ [])) ∷
     (394, note.Irq 1 handled.Posted) ∷
     (394, note.Post 2 1 1) ∷
     (394, note.Ret 2 (0 ∷ 65535 ∷ 1 ∷ 0 ∷ 0 ∷ 0 ∷ [])) ∷
-    (394, note.Call 3 1 (536871744 ∷ 16 ∷ 1 ∷ 0 ∷ 0 ∷ 0 ∷ 0 ∷ [])) ∷
+    (394, note.Syscall 3 1 (536871744 ∷ 16 ∷ 1 ∷ 0 ∷ 0 ∷ 0 ∷ 0 ∷ [])) ∷
     (394, note.Listen 3 listened.Any 1) ∷
     []
 
-agrees : (run Calls scenario 400 (start setup)).notes ≡ expected
-unfolding setup scenario expected first_bad rows narrow_of wide_rows wide_of words transfers first_refused stores_of loaded_all ones count effect bytes_at with_bytes copied_memory grant borrowed informed called with_task without_call without_listen with_listen with_taken noted with_processor with_health stored copied looked given returned past_call bits_added bits_cleared woken posted with_timer clocked with_line closed faulted_as with_call offered handed reborn restarted ticked owner_of interrupted injected ordered task_at line_at register arguments call_of listen_of is_out is_dead present_id dead_code_for is_ready bad_byte chosen offer_by taken_by best_sender panicked timer_set timer_told irq_controlled received call_noted sent replied reply_faulted post_made refreshed start begun ending_of run stepped after_events with_registers_told ended turn
+agrees : (run Brief scenario 400 (start setup)).notes ≡ expected
+unfolding setup scenario expected first_bad rows narrow_of wide_rows wide_of words transfers first_refused stores_of loaded_all ones count effect bytes_at with_bytes copied_memory grant borrowed informed called with_task without_call without_listen with_listen with_taken noted with_processor with_health stored copied looked given returned past_syscall bits_added bits_cleared woken posted with_timer clocked with_line closed faulted_as with_call offered handed reborn restarted ticked owner_of interrupted injected ordered task_at line_at register arguments call_of listen_of is_out is_dead present_id dead_code_for is_ready bad_byte chosen offer_by taken_by best_sender panicked timer_set timer_answered irq_controlled received syscall_noted sent replied reply_faulted post_made refreshed start begun ending_of run stepped after_events with_registers_noted ended turn
 agrees = refl

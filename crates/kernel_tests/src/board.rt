@@ -53,7 +53,7 @@ fn go_on(board: &mut Board) -> Turned
     ensures stood { Stood board.new }
     ensures turns { turns_of board.new ≡ turns_of board.old + 1 }
 {
-    board.turn_at(Level::Calls)
+    board.turn_at(Level::Brief)
 }
 
 // Turns on end.
@@ -87,7 +87,7 @@ fn a_board_opens(rt: HostRuntime) -> Result<(), Fail> {
 #[test]
 fn a_turn_moves_the_task(rt: HostRuntime) -> Result<(), Fail> {
     let mut board = board(&rt, rt.alloc(), 0x2001, 0xe7fe)?;
-    let turned = board.turn_at(Level::Calls);
+    let turned = board.turn_at(Level::Brief);
     assert_eq!(rt;
         turned,
         Turned::Ran {
@@ -194,7 +194,7 @@ fn a_tick_comes_every_second_turn(rt: HostRuntime) -> Result<(), Fail> {
 #[test]
 fn quiet_turns_are_made_up_to_the_limit(rt: HostRuntime) -> Result<(), Fail> {
     let mut board = board(&rt, rt.alloc(), 0x2001, 0xe7fe)?;
-    advance(&mut board, Level::Calls, 100);
+    advance(&mut board, Level::Brief, 100);
     assert_eq!(rt; board.turns(), 100);
     assert_eq!(rt; board.notes().len(), 0);
     let task = board.task(0).expect(&rt, "there is a task");
@@ -206,10 +206,10 @@ fn quiet_turns_are_made_up_to_the_limit(rt: HostRuntime) -> Result<(), Fail> {
 #[test]
 fn quiet_turns_end_before_an_event(rt: HostRuntime) -> Result<(), Fail> {
     let mut board = with_script(&rt, rt.alloc(), 0x2001, 0xe7fe, b"at 7 tick\n")?;
-    advance(&mut board, Level::Calls, 100);
+    advance(&mut board, Level::Brief, 100);
     assert_eq!(rt; board.turns(), 7);
     assert_eq!(rt; board.now(), 0);
-    advance(&mut board, Level::Calls, 200);
+    advance(&mut board, Level::Brief, 200);
     assert_eq!(rt; board.turns(), 8);
     assert_eq!(rt; board.notes().get(0).copied(), Some(Note::Tick { now: 1 }));
     Ok(())
@@ -218,7 +218,7 @@ fn quiet_turns_end_before_an_event(rt: HostRuntime) -> Result<(), Fail> {
 #[test]
 fn quiet_turns_end_with_a_note(rt: HostRuntime) -> Result<(), Fail> {
     let mut board = board(&rt, rt.alloc(), 0x2001, 0xde00)?;
-    advance(&mut board, Level::Calls, 100);
+    advance(&mut board, Level::Brief, 100);
     assert_eq!(rt; board.turns(), 2);
     assert_eq!(rt; board.notes().len(), 1);
     assert_eq!(rt; board.ended(), Some(End::Supervisor));

@@ -13,11 +13,11 @@ pub struct Stamp {
 }
 
 impl Borrower for Stamp {
-    ghost did = { λ old text ram new after. after ≡ slice_set ram 0 old.byte };
+    ghost did = { λ old flash ram new after. after ≡ slice_set ram 0 old.byte };
 
-    fn work(&mut self, text: &mut Vec<u8>, ram: &mut Vec<u8>) {
-        if text.len() > 0 {
-            self.seen = text[0];
+    fn work(&mut self, flash: &mut Vec<u8>, ram: &mut Vec<u8>) {
+        if flash.len() > 0 {
+            self.seen = flash[0];
         }
         if ram.len() > 0 {
             ram[0] = self.byte;
@@ -28,27 +28,27 @@ impl Borrower for Stamp {
 /// Counts the bytes of both regions.
 #[derive(Drop)]
 struct Sizes {
-    text: usize,
+    flash: usize,
     ram: usize,
 }
 
 impl Borrower for Sizes {
-    ghost did = { λ old text ram new after. (new.text ≡ length text) × (new.ram ≡ length ram) };
+    ghost did = { λ old flash ram new after. (new.flash ≡ length flash) × (new.ram ≡ length ram) };
 
-    fn work(&mut self, text: &mut Vec<u8>, ram: &mut Vec<u8>) {
-        self.text = text.len();
+    fn work(&mut self, flash: &mut Vec<u8>, ram: &mut Vec<u8>) {
+        self.flash = flash.len();
         self.ram = ram.len();
     }
 }
 
 /// Whether two regions are lent. What the stamp saw and wrote is right then, and else nothing is written.
-fn is_lent(memory: &mut Memory, text: (u32, u32), ram: (u32, u32), byte: u8) -> Option<bool> {
+fn is_lent(memory: &mut Memory, flash: (u32, u32), ram: (u32, u32), byte: u8) -> Option<bool> {
     let before = memory.byte(ram.0);
     let mut stamp = Stamp { seen: 0, byte };
-    let lent = memory.lend(text, ram, &mut stamp);
+    let lent = memory.lend(flash, ram, &mut stamp);
     let after = memory.byte(ram.0);
     let right = if lent {
-        stamp.seen == memory.byte(text.0) && after == byte
+        stamp.seen == memory.byte(flash.0) && after == byte
     } else {
         stamp.seen == 0 && after == before
     };
@@ -66,12 +66,12 @@ fn regions_of_a_memory_are_lent(rt: HostRuntime) -> Result<(), Fail> {
         (RAM + 64, 256),
     ];
     let mut memory = Memory::open(rt.alloc(), &[7; 64], 512, &regions)?;
-    for text in 0..5usize {
+    for flash in 0..5usize {
         for ram in 2..5usize {
-            let wanted = Some(text != ram);
-            let byte = (16 * text + ram) as u8;
+            let wanted = Some(flash != ram);
+            let byte = (16 * flash + ram) as u8;
             assert_eq!(rt;
-                is_lent(&mut memory, regions[text], regions[ram], byte),
+                is_lent(&mut memory, regions[flash], regions[ram], byte),
                 wanted
             );
         }
@@ -97,9 +97,9 @@ fn regions_of_a_memory_are_lent(rt: HostRuntime) -> Result<(), Fail> {
 fn a_text_alone_is_lent(rt: HostRuntime) -> Result<(), Fail> {
     let regions = [(FLASH, 32), (RAM, 8)];
     let mut memory = Memory::open(rt.alloc(), &[7; 64], 16, &regions)?;
-    let mut sizes = Sizes { text: 99, ram: 99 };
+    let mut sizes = Sizes { flash: 99, ram: 99 };
     assert!(rt; memory.lend((FLASH, 32), (RAM, 0), &mut sizes));
-    assert_eq!(rt; sizes.text, 32);
+    assert_eq!(rt; sizes.flash, 32);
     assert_eq!(rt; sizes.ram, 0);
     sizes.ram = 99;
     assert!(rt; !memory.lend((FLASH, 31), (RAM, 0), &mut sizes));

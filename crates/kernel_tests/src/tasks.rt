@@ -189,7 +189,7 @@ fn a_task_panics(rt: HostRuntime) -> Result<(), Fail> {
         flags,
     );
     assert_eq!(rt; kernel.flags(0), flags);
-    kernel.note_call(0);
+    kernel.note_syscall(0);
     kernel.panic(0);
     let fault = Fault {
         number: 8,
@@ -197,7 +197,7 @@ fn a_task_panics(rt: HostRuntime) -> Result<(), Fail> {
         y: 5,
     };
     assert_eq!(rt; kernel.health(0), Health::Faulted(fault));
-    let call = Note::Call {
+    let call = Note::Syscall {
         task: 0,
         number: 8,
         arguments: [4, 5, 6, 7, 8, 9, 10],

@@ -72,7 +72,7 @@ fn faults(rt: HostRuntime) {
 #[test]
 fn misuses(rt: HostRuntime) {
     let usages = [
-        Usage::BadCall,
+        Usage::BadSyscall,
         Usage::BadTaskIndex,
         Usage::InvalidSlice,
         Usage::BadKernelMessage,
@@ -127,7 +127,7 @@ fn lease_entries(rt: HostRuntime) {
 
 #[test]
 fn notes(rt: HostRuntime) {
-    let call = Note::Call {
+    let call = Note::Syscall {
         task: 1,
         number: 0,
         arguments: [0x0002_0005, 0x2000_0140, 10, 0, 0, 0, 0],

@@ -15,7 +15,7 @@ use Rattle.task_table.specs.Holds.{Holds}
 use Rattle.task_table.specs.declared.kernel.Kernel.{Kernel}
 use Rattle.task_table.specs.Effects.{noted}
 use Rattle.task_table.specs.Rows.{misused, denied, goes_on_with}
-use Rattle.task_table.specs.Borrows.{Way, entry_range, grant, lease_range, entry_read, moved, no_lease, refused, untold, lent, granted, borrowed_by, grant_told, informed_by}
+use Rattle.task_table.specs.Borrows.{Way, entry_range, grant, lease_range, entry_read, moved, no_lease, refused, uninformed, lent, granted, borrowed_by, grant_answered, informed_by}
 
 -- ## the lender's bytes
 
@@ -46,21 +46,21 @@ entry_good g way c x k i e t client listed good entry =
     let here : bad_byte g k.client.index Read (entry_range k x.lease) ≡ None = ap (λ j. bad_byte g j Read (entry_range k x.lease)) client ∙ good in
     rw (listed, here, ← entry) refl
 
--- ## the same for what is told of a lease
+-- ## the same for what gets of a lease
 
-pub told_invalid : (g : Setup) (c lease : ℕ) (k : Call) (i : ℕ) (e : LeaseEntry) (t : Turn) → k.client.index ≡ i → is_valid (lease_range e) ≡ false → grant_told g c lease k e t ≡ untold c no_lease (misused g i 3 t)
-told_invalid g c lease k i e t client invalid = rw (← client, invalid) refl
+pub answered_invalid : (g : Setup) (c lease : ℕ) (k : Call) (i : ℕ) (e : LeaseEntry) (t : Turn) → k.client.index ≡ i → is_valid (lease_range e) ≡ false → grant_answered g c lease k e t ≡ uninformed c no_lease (misused g i 3 t)
+answered_invalid g c lease k i e t client invalid = rw (← client, invalid) refl
 
-pub told_valid : (g : Setup) (c lease : ℕ) (k : Call) (n : ℕ) (e : LeaseEntry) (t : Turn) → k.number ≡ n → is_valid (lease_range e) ≡ true → grant_told g c lease k e t ≡ goes_on_with c (0 ∷ bit_and e.attributes 3 ∷ e.len ∷ []) (noted (note.Borrow n borrow.Info lease 0 0) t)
-told_valid g c lease k n e t number valid = rw (← number, valid) refl
+pub answered_valid : (g : Setup) (c lease : ℕ) (k : Call) (n : ℕ) (e : LeaseEntry) (t : Turn) → k.number ≡ n → is_valid (lease_range e) ≡ true → grant_answered g c lease k e t ≡ goes_on_with c (0 ∷ bit_and e.attributes 3 ∷ e.len ∷ []) (noted (note.Borrow n borrow.Info lease 0 0) t)
+answered_valid g c lease k n e t number valid = rw (← number, valid) refl
 
-pub told_bad : (g : Setup) (c lease : ℕ) (k : Call) (i at : ℕ) (t : Turn) → k.client.index ≡ i → leb k.leases lease ≡ false → bad_byte g i Read (entry_range k lease) ≡ Some at → informed_by g c lease (Some k) t ≡ untold c no_lease (denied g i 2 (Some at) t)
-told_bad g c lease k i at t client listed bad =
+pub answered_bad : (g : Setup) (c lease : ℕ) (k : Call) (i at : ℕ) (t : Turn) → k.client.index ≡ i → leb k.leases lease ≡ false → bad_byte g i Read (entry_range k lease) ≡ Some at → informed_by g c lease (Some k) t ≡ uninformed c no_lease (denied g i 2 (Some at) t)
+answered_bad g c lease k i at t client listed bad =
     let here : bad_byte g k.client.index Read (entry_range k lease) ≡ Some at = ap (λ j. bad_byte g j Read (entry_range k lease)) client ∙ bad in
     rw (← client, listed, here) refl
 
-pub told_good : (g : Setup) (c lease : ℕ) (k : Call) (i : ℕ) (e : LeaseEntry) (t : Turn) → k.client.index ≡ i → leb k.leases lease ≡ false → bad_byte g i Read (entry_range k lease) ≡ None → grant t.state k lease ≡ e → informed_by g c lease (Some k) t ≡ grant_told g c lease k e (entry_read k lease e t)
-told_good g c lease k i e t client listed good entry =
+pub answered_good : (g : Setup) (c lease : ℕ) (k : Call) (i : ℕ) (e : LeaseEntry) (t : Turn) → k.client.index ≡ i → leb k.leases lease ≡ false → bad_byte g i Read (entry_range k lease) ≡ None → grant t.state k lease ≡ e → informed_by g c lease (Some k) t ≡ grant_answered g c lease k e (entry_read k lease e t)
+answered_good g c lease k i e t client listed good entry =
     let here : bad_byte g k.client.index Read (entry_range k lease) ≡ None = ap (λ j. bad_byte g j Read (entry_range k lease)) client ∙ good in
     rw (listed, here, ← entry) refl
 
@@ -74,4 +74,4 @@ Borrowed g k way c t x =
 abbrev pub Informed : Setup → Kernel → ℕ → Turn → InfoArgs → Type 0
 Informed g k c t x =
     let id = x.lender.number in
-    Holds g k (cond (is_out t.state id) (misused g c 2 t) (cond (is_dead t.state id) (untold c (dead_code_for t.state id) t) (informed_by g c x.lease (taken_by t.state (index_of id) c) t)))
+    Holds g k (cond (is_out t.state id) (misused g c 2 t) (cond (is_dead t.state id) (uninformed c (dead_code_for t.state id) t) (informed_by g c x.lease (taken_by t.state (index_of id) c) t)))

@@ -14,7 +14,7 @@ use Rattle.kernel_abi.specs.declared.Note.TheVariants as note
 use Rattle.region_check.specs.declared.Right.TheVariants.{Read}
 use Rattle.task_table.specs.State.{Setup, State, Task, Call, Listen, Turn}
 use Rattle.task_table.specs.Reading.{task_at, register, arguments, listen_of, is_out, is_dead, dead_code_for, is_valid, bad_byte, taken_by}
-use Rattle.task_table.specs.Effects.{with_task, without_listen, changed, noted, with_health, with_results, given, returned, past_call, bits_added, bits_cleared, woken_by, woken, posted, closed, faulted_as, faulted}
+use Rattle.task_table.specs.Effects.{with_task, without_listen, changed, noted, with_health, with_results, given, returned, past_syscall, bits_added, bits_cleared, woken_by, woken, posted, closed, faulted_as, faulted}
 use Rattle.task_table.specs.Rows.{goes_on_with}
 use Rattle.task_table.specs.Borrows.{Way as Needs, entry_range, grant, lease_range, entry_read, buffer_of, part_of, borrowed_by, borrowed, informed_by, informed}
 use Rattle.task_table.specs.Holds.{kept_call}
@@ -22,7 +22,7 @@ use Rattle.task_table.specs.declared.slot.OpenCall.{OpenCall}
 use Rattle.task_table.specs.Sane.{Sane}
 use Rattle.task_table.proofs.Changes.{task_at-with_task, task_at-without_call, task_at-without_listen}
 use Rattle.task_table.proofs.Clients.{found_call, taken_call}
-use Rattle.task_table.proofs.DeadRows.{told-goes_on_with}
+use Rattle.task_table.proofs.DeadRows.{answered-goes_on_with}
 use Rattle.task_table.proofs.Handing.{keeps-looked}
 use Rattle.task_table.proofs.Posting.{still}
 use Rattle.task_table.proofs.Quieting.{ready-with_task}
@@ -82,7 +82,7 @@ well_faulted fault e = cc
 faulted_ill : (g : Setup) (c : ℕ) (fault : Fault) (t : Turn) → c < length t.state.tasks → WentWell c (faulted g c fault t) → ⊥
 faulted_ill g c fault t inside well = well_faulted fault (sym (well-ready (faulted g c fault t).state c well.ready) ∙ health-faulted g c fault t inside)
 
--- ## who is told another code
+-- ## who gets another code
 
 fourth : (code : ℕ) (values registers : List ℕ) → 4 ≤ length registers → get_or (with_results (code ∷ values) registers) 4 0 ≡ code
 fourth code values [] many = absurd (omega arith)
@@ -91,28 +91,28 @@ fourth code values (a ∷ b ∷ []) many = absurd (omega arith)
 fourth code values (a ∷ b ∷ d ∷ []) many = absurd (omega arith)
 fourth code values (a ∷ b ∷ d ∷ e ∷ registers) many = refl
 
-code_told : (c code : ℕ) (values : List ℕ) (t : Turn) → c < length t.state.tasks → length (task_at t.state c).registers ≡ 16 → length (code ∷ values) ≤ 6 → register (goes_on_with c (code ∷ values) t).state c 4 ≡ code
+code_answered : (c code : ℕ) (values : List ℕ) (t : Turn) → c < length t.state.tasks → length (task_at t.state c).registers ≡ 16 → length (code ∷ values) ≤ 6 → register (goes_on_with c (code ∷ values) t).state c 4 ≡ code
 unfolding register
-code_told c code values t inside sixteen few =
-    let told = told-goes_on_with c (code ∷ values) t inside sixteen few in
+code_answered c code values t inside sixteen few =
+    let answered = answered-goes_on_with c (code ∷ values) t inside sixteen few in
     let registers = (task_at t.state c).registers in
-    rw told.registers (get_or-set_other (with_results (code ∷ values) registers) 15 4 _ 0 (omega arith) ∙ fourth code values registers (omega (arith, sixteen)))
+    rw answered.registers (get_or-set_other (with_results (code ∷ values) registers) 15 4 _ 0 (omega arith) ∙ fourth code values registers (omega (arith, sixteen)))
 
 writes-goes_on : (c : ℕ) (values : List ℕ) (n : Note) (t : Turn) → (goes_on_with c values (noted n t)).writes ≡ t.writes
-unfolding given past_call returned noted
+unfolding given past_syscall returned noted
 writes-goes_on c values n t = refl
 
 module _ (g : Setup) where
-  told_ill : (c code : ℕ) (values : List ℕ) (t : Turn) → Sane g t.state → c < length t.state.tasks → 0 < code → length (code ∷ values) ≤ 6 → WentWell c (goes_on_with c (code ∷ values) t) → ⊥
-  told_ill c code values t h inside some few well =
-      let same = code_told c code values t inside (h.steady.tasks c inside).sixteen few in
+  answered_ill : (c code : ℕ) (values : List ℕ) (t : Turn) → Sane g t.state → c < length t.state.tasks → 0 < code → length (code ∷ values) ≤ 6 → WentWell c (goes_on_with c (code ∷ values) t) → ⊥
+  answered_ill c code values t h inside some few well =
+      let same = code_answered c code values t inside (h.steady.tasks c inside).sixteen few in
       absurd (omega (arith, some, same, well.code))
 
   -- the same after another task has faulted
-  fault_told_ill : (c i code : ℕ) (fault : Fault) (values : List ℕ) (t : Turn) → Sane g t.state → c < length t.state.tasks → i < length t.state.tasks → 1 ≤ fault.number → fault.number ≤ 10 → 0 < code → length (code ∷ values) ≤ 6 → WentWell c (goes_on_with c (code ∷ values) (faulted g i fault t)) → ⊥
-  fault_told_ill c i code fault values t h inside there low high some few well =
+  fault_answered_ill : (c i code : ℕ) (fault : Fault) (values : List ℕ) (t : Turn) → Sane g t.state → c < length t.state.tasks → i < length t.state.tasks → 1 ≤ fault.number → fault.number ≤ 10 → 0 < code → length (code ∷ values) ≤ 6 → WentWell c (goes_on_with c (code ∷ values) (faulted g i fault t)) → ⊥
+  fault_answered_ill c i code fault values t h inside there low high some few well =
       let after = sane-faulted i fault t h there low high in
-      told_ill c code values (faulted g i fault t) after (still h after inside) some few well
+      answered_ill c code values (faulted g i fault t) after (still h after inside) some few well
 
 -- ## of the rows the last
 
@@ -154,13 +154,13 @@ module _ (g : Setup) (t : Turn) (h : Sane g t.state) where
       let part = part_of x.args e in
       let P : Turn → Type 0 = λ v. Went c base v in
       let r1 = passed P (leb k.leases lease) w (λ p. faulted_ill g c _ t inside p.0) in
-      let r2 = passed P (is_some (bad_byte g i Read (entry_range k lease))) r1.1 (λ p. fault_told_ill g c i 1 _ (0 ∷ []) t h inside there (omega arith) (omega arith) (omega arith) (omega arith) p.0) in
-      let r3 = passed P (not (is_valid (lease_range e))) r2.1 (λ p. fault_told_ill g c i 1 record { number = 7; x = 3; y = 0 } (0 ∷ []) u after inside_after there_after (omega arith) (omega arith) (omega arith) (omega arith) p.0) in
-      let r4 = passed P (eqb (bit_and e.attributes (way_of x.way).bit) 0) r3.1 (λ p. told_ill g c 1 (0 ∷ []) u after inside_after (omega arith) (omega arith) p.0) in
+      let r2 = passed P (is_some (bad_byte g i Read (entry_range k lease))) r1.1 (λ p. fault_answered_ill g c i 1 _ (0 ∷ []) t h inside there (omega arith) (omega arith) (omega arith) (omega arith) p.0) in
+      let r3 = passed P (not (is_valid (lease_range e))) r2.1 (λ p. fault_answered_ill g c i 1 record { number = 7; x = 3; y = 0 } (0 ∷ []) u after inside_after there_after (omega arith) (omega arith) (omega arith) (omega arith) p.0) in
+      let r4 = passed P (eqb (bit_and e.attributes (way_of x.way).bit) 0) r3.1 (λ p. answered_ill g c 1 (0 ∷ []) u after inside_after (omega arith) (omega arith) p.0) in
       let r5 = passed P (ltb e.len x.args.offset) r4.1 (λ p. faulted_ill g c _ u inside_after p.0) in
       let r6 = passed P (not (is_valid (buffer_of x.args))) r5.1 (λ p. faulted_ill g c _ u inside_after p.0) in
       let r7 = passed P (is_some (bad_byte g c (way_of x.way).own (buffer_of x.args))) r6.1 (λ p. faulted_ill g c _ u inside_after p.0) in
-      let r8 = passed P (is_some (bad_byte g i (way_of x.way).lender part)) r7.1 (λ p. fault_told_ill g c i 1 _ (0 ∷ []) u after inside_after there_after (omega arith) (omega arith) (omega arith) (omega arith) p.0) in
+      let r8 = passed P (is_some (bad_byte g i (way_of x.way).lender part)) r7.1 (λ p. fault_answered_ill g c i 1 _ (0 ∷ []) u after inside_after there_after (omega arith) (omega arith) (omega arith) (omega arith) p.0) in
       let readable : bad_byte g i Read (entry_range k lease) ≡ None = none_left _ r2.0 in
       let own : bad_byte g c (way_of x.way).own (buffer_of x.args) ≡ None = none_left _ r7.0 in
       let lender : bad_byte g i (way_of x.way).lender part ≡ None = none_left _ r8.0 in
@@ -173,8 +173,8 @@ module _ (g : Setup) (t : Turn) (h : Sane g t.state) where
         clear,
       )
 
-  pub told_by : (c i lease : ℕ) (k : Call) → c < length t.state.tasks → taken_by t.state i c ≡ Some k → WentWell c (informed_by g c lease (Some k) t) → IsEntryRead g i k lease × (is_valid (lease_range (grant t.state k lease)) ≡ true)
-  told_by c i lease k inside taken w =
+  pub answered_by : (c i lease : ℕ) (k : Call) → c < length t.state.tasks → taken_by t.state i c ≡ Some k → WentWell c (informed_by g c lease (Some k) t) → IsEntryRead g i k lease × (is_valid (lease_range (grant t.state k lease)) ≡ true)
+  answered_by c i lease k inside taken w =
       let j = k.client.index in
       let client : j ≡ i = of_lender g t.state i c k h taken in
       let there = client_there i c k taken in
@@ -183,8 +183,8 @@ module _ (g : Setup) (t : Turn) (h : Sane g t.state) where
       let after = read_sane k lease e in
       let P : Turn → Type 0 = λ v. WentWell c v in
       let r1 = passed P (leb k.leases lease) w (λ p. faulted_ill g c _ t inside p) in
-      let r2 = passed P (is_some (bad_byte g j Read (entry_range k lease))) r1.1 (λ p. fault_told_ill g c j 1 _ (0 ∷ 0 ∷ []) t h inside there (omega arith) (omega arith) (omega arith) (omega arith) p) in
-      let r3 = passed P (not (is_valid (lease_range e))) r2.1 (λ p. fault_told_ill g c j 1 record { number = 7; x = 3; y = 0 } (0 ∷ 0 ∷ []) u after (still h after inside) (still h after there) (omega arith) (omega arith) (omega arith) (omega arith) p) in
+      let r2 = passed P (is_some (bad_byte g j Read (entry_range k lease))) r1.1 (λ p. fault_answered_ill g c j 1 _ (0 ∷ 0 ∷ []) t h inside there (omega arith) (omega arith) (omega arith) (omega arith) p) in
+      let r3 = passed P (not (is_valid (lease_range e))) r2.1 (λ p. fault_answered_ill g c j 1 record { number = 7; x = 3; y = 0 } (0 ∷ 0 ∷ []) u after (still h after inside) (still h after there) (omega arith) (omega arith) (omega arith) (omega arith) p) in
       (record { listed = r1.0; readable = subst (λ m. bad_byte g m Read (entry_range k lease) ≡ None) client (none_left _ r2.0) }, not_false _ r3.0)
 
   -- the caller names a live task
@@ -194,16 +194,16 @@ module _ (g : Setup) (t : Turn) (h : Sane g t.state) where
       let y = borrow_args (arguments t.state c) in
       let P : Turn → Type 0 = λ v. Went c base v in
       let r1 = passed P (is_out t.state y.lender.number) w (λ p. faulted_ill g c _ t inside p.0) in
-      let r2 = passed P (is_dead t.state y.lender.number) r1.1 (λ p. told_ill g c _ (0 ∷ []) t h inside (omega arith) (omega arith) p.0) in
+      let r2 = passed P (is_dead t.state y.lender.number) r1.1 (λ p. answered_ill g c _ (0 ∷ []) t h inside (omega arith) (omega arith) p.0) in
       subst (λ (z : BorrowArgs). (is_out t.state z.lender.number ≡ false) × (is_dead t.state z.lender.number ≡ false) × Went c base (borrowed_by g way c z (taken_by t.state (index_of z.lender.number) c) t)) (sym same) (r1.0, r2.0, r2.1)
 
-  pub told_on : (c : ℕ) (x : InfoArgs) → x ≡ info_args (arguments t.state c) → c < length t.state.tasks → WentWell c (informed g c t) → (is_out t.state x.lender.number ≡ false) × (is_dead t.state x.lender.number ≡ false) × WentWell c (informed_by g c x.lease (taken_by t.state (index_of x.lender.number) c) t)
+  pub answered_on : (c : ℕ) (x : InfoArgs) → x ≡ info_args (arguments t.state c) → c < length t.state.tasks → WentWell c (informed g c t) → (is_out t.state x.lender.number ≡ false) × (is_dead t.state x.lender.number ≡ false) × WentWell c (informed_by g c x.lease (taken_by t.state (index_of x.lender.number) c) t)
   unfolding informed dead_code_for
-  told_on c x same inside w =
+  answered_on c x same inside w =
       let y = info_args (arguments t.state c) in
       let P : Turn → Type 0 = λ v. WentWell c v in
       let r1 = passed P (is_out t.state y.lender.number) w (λ p. faulted_ill g c _ t inside p) in
-      let r2 = passed P (is_dead t.state y.lender.number) r1.1 (λ p. told_ill g c _ (0 ∷ 0 ∷ []) t h inside (omega arith) (omega arith) p) in
+      let r2 = passed P (is_dead t.state y.lender.number) r1.1 (λ p. answered_ill g c _ (0 ∷ 0 ∷ []) t h inside (omega arith) (omega arith) p) in
       subst (λ (z : InfoArgs). (is_out t.state z.lender.number ≡ false) × (is_dead t.state z.lender.number ≡ false) × WentWell c (informed_by g c z.lease (taken_by t.state (index_of z.lender.number) c) t)) (sym same) (r1.0, r2.0, r2.1)
 
 -- the call that was found is the one that is kept

@@ -1,4 +1,5 @@
 -- Borrows as the code carries them, and when one leaves the entry of its lease kept.
+use Rattle.kernel_abi.specs.Arguments.{r4}
 use Rattle.std.specs.Prelude.{ℕ, ◌≡◌, ◌+◌, ◌*◌, ◌<◌, ◌≤◌, ◌⊎◌, true, false, not, List, [], ◌∷◌, None, Some, Result, Ok, Err, is_some, Contains, ◌==◌, nat_lt, nat_le, bit_and}
 use Rattle.kernel_abi.specs.Faults.{usage_number, access_number}
 use Rattle.kernel_abi.specs.declared.LeaseEntry.{LeaseEntry}
@@ -25,9 +26,9 @@ abbrev pub way_of : Way → Needs
 way_of way.Read = reading
 way_of way.Write = writing
 
--- the borrow is noted, and the borrower told how many bytes moved
-abbrev pub told_lent : Loan → ℕ → Turn → Turn
-told_lent x count t =
+-- the borrow is noted, and the borrower gets how many bytes moved
+abbrev pub lent_answered : Loan → ℕ → Turn → Turn
+lent_answered x count t =
     t ⨾ noted (note.Borrow x.call (way_of x.way).borrow x.args.lease x.args.offset count) ⨾ goes_on_with x.borrower (0 ∷ count ∷ [])
 
 -- the borrower's buffer, and the lender's bytes, are where the way needs them
@@ -65,10 +66,10 @@ buffered g way c x k e t =
 
 -- ## a borrow that went well leaves the entry of its lease kept
 
--- the borrower goes on and is told code 0
+-- the borrower goes on and gets code 0
 pub record WentWell (borrower : ℕ) (t : Turn) : Type 0 where
   pub ready : is_ready t.state borrower ≡ true
-  pub code : register t.state borrower 4 ≡ 0
+  pub code : register t.state borrower r4 ≡ 0
 
 -- none of the bytes that a turn writes is one of n bytes from an address on
 abbrev pub WritesNone : List Write → ℕ → ℕ → Type 0

@@ -9,13 +9,13 @@ ghost use Rattle.kernel_abi.specs.declared.Note.TheVariants as note;
 ghost use Rattle.task_table.specs.State.{Setup, Turn, Call};
 ghost use Rattle.task_table.specs.Reading.{arguments, is_valid, is_ready, bad_byte, taken_by};
 ghost use Rattle.task_table.specs.Effects.{noted};
-ghost use Rattle.task_table.specs.Borrows.{reading, writing, moved, refused, untold, lent, granted, grant, part_of, lease_range, borrowed_by, borrowed, grant_told, informed_by, informed};
+ghost use Rattle.task_table.specs.Borrows.{reading, writing, moved, refused, uninformed, lent, granted, grant, part_of, lease_range, borrowed_by, borrowed, grant_answered, informed_by, informed};
 ghost use Rattle.task_table.specs.Holds.{Holds, Stands, Stood, kept_call, task_count, note_count, memory_of, entries_of};
 ghost use Rattle.task_table.specs.Entries.{IsKeptFor};
 ghost use Rattle.task_table.specs.Messages.{IsLent};
-ghost use Rattle.task_table.specs.Limits.{call_notes, turn_notes};
+ghost use Rattle.task_table.specs.Limits.{syscall_notes, turn_notes};
 ghost use Rattle.task_table.specs.Frames.{AddsNotes, AddsAtMost};
-ghost use Rattle.lease_core.specs.Loans.{way_of, IsBuffer, IsLeased, IsLoanOf, IsEntry, IsEntryAt, buffered, told_lent, WentWell, WritesNone, IsHeldAfter, IsEntryRead, IsGranted, target, IsClear, StayKept};
+ghost use Rattle.lease_core.specs.Loans.{way_of, IsBuffer, IsLeased, IsLoanOf, IsEntry, IsEntryAt, buffered, lent_answered, WentWell, WritesNone, IsHeldAfter, IsEntryRead, IsGranted, target, IsClear, StayKept};
 
 mod way;
 
@@ -38,7 +38,7 @@ struct Loan {
     call: u32,
 }
 
-/// A borrower is told a code, and that nothing moved.
+/// A borrower gets a code, and that nothing moved.
 fn refuse(k: &mut Kernel, borrower: usize, code: u32)
     requires there { borrower < task_count k.old }
     requires room { note_count k.old < turn_notes }
@@ -64,11 +64,11 @@ fn move_bytes(k: &mut Kernel, loan: &Loan, leased: u32, count: u32)
     }
 }
 
-/// The borrow is noted, and the borrower is told how many bytes moved.
-fn tell(k: &mut Kernel, loan: &Loan, count: u32)
+/// The borrow is noted, and the borrower gets how many bytes moved.
+fn answer_lent(k: &mut Kernel, loan: &Loan, count: u32)
     requires there { loan.now.borrower < task_count k.old }
     requires room { note_count k.old + 2 ≤ turn_notes }
-    ensures holds { (g : Setup) (t : Turn) → Holds g k.old t → Holds g k.new (told_lent loan.now count t) }
+    ensures holds { (g : Setup) (t : Turn) → Holds g k.old t → Holds g k.new (lent_answered loan.now count t) }
     ensures entries { entries_of k.new ≡ entries_of k.old }
     ensures frame { AddsNotes k.old 2 k.new }
 {
@@ -101,7 +101,7 @@ fn lend_bytes(k: &mut Kernel, loan: &Loan, leased: u32, count: u32)
         return refuse(k, loan.borrower, NO_LEASE);
     }
     move_bytes(k, loan, leased, count);
-    tell(k, loan, count);
+    answer_lent(k, loan, count);
 }
 
 /// As many bytes from the offset on as buffer and lease have; the borrower's buffer is good.
@@ -120,7 +120,7 @@ fn lend(k: &mut Kernel, loan: &Loan, entry: &LeaseEntry)
     let count = loan.args.buffer_length.min(entry.len - loan.args.offset);
     if count == 0 {
         // the lease may end with the address space, where no address is left
-        tell(k, loan, 0);
+        answer_lent(k, loan, 0);
     } else {
         lend_bytes(k, loan, entry.base + loan.args.offset, count);
     }
@@ -260,11 +260,11 @@ fn borrow_from(k: &mut Kernel, loan: &Loan, call: &OpenCall)
 /// A borrow, which way it may be.
 fn borrow(k: &mut Kernel, caller: usize, way: Way)
     requires there { caller < task_count k.old }
-    requires room { note_count k.old + call_notes ≤ turn_notes }
+    requires room { note_count k.old + syscall_notes ≤ turn_notes }
     requires stood { Stood k.old }
     ensures holds { (g : Setup) (t : Turn) → Stands g k.old t → Holds g k.new (borrowed g (way_of way) caller t) }
     ensures held { (g : Setup) (t : Turn) (c : Call) → let x = borrow_args (arguments t.state caller) in Stands g k.old t → taken_by t.state (index_of x.lender.number) caller ≡ Some c → WentWell caller (borrowed g (way_of way) caller t) → WritesNone (borrowed g (way_of way) caller t).writes (c.table + 12 * x.lease) 12 → IsHeldAfter k.new t.state c x.lease }
-    ensures frame { AddsAtMost k.old call_notes k.new }
+    ensures frame { AddsAtMost k.old syscall_notes k.new }
 {
     let args = BorrowArgs::of(&k.arguments(caller));
     match k.lookup(args.lender.number) {
@@ -286,17 +286,17 @@ fn borrow(k: &mut Kernel, caller: usize, way: Way)
     }
 }
 
-/// A caller is told a code, and nothing of a lease.
-fn tell_nothing(k: &mut Kernel, caller: usize, code: u32)
+/// A caller gets a code, and nothing of a lease.
+fn answer_nothing(k: &mut Kernel, caller: usize, code: u32)
     requires there { caller < task_count k.old }
     requires room { note_count k.old < turn_notes }
-    ensures holds { (g : Setup) (t : Turn) → Holds g k.old t → Holds g k.new (untold caller code t) }
+    ensures holds { (g : Setup) (t : Turn) → Holds g k.old t → Holds g k.new (uninformed caller code t) }
     ensures frame { AddsNotes k.old 1 k.new }
 {
     k.answer(caller, &[code, 0, 0]);
 }
 
-/// What a caller is told of a lease whose entry was read.
+/// What a caller gets for a lease whose entry was read.
 fn inform_entry(
     k: &mut Kernel,
     caller: usize,
@@ -308,13 +308,13 @@ fn inform_entry(
     requires there { caller < task_count k.old }
     requires lender { lender < task_count k.old }
     requires room { note_count k.old + 5 ≤ turn_notes }
-    ensures holds { (g : Setup) (t : Turn) (c : Call) → Holds g k.old t → c.client.index ≡ lender → c.number ≡ call → Holds g k.new (grant_told g caller lease c entry.now t) }
+    ensures holds { (g : Setup) (t : Turn) (c : Call) → Holds g k.old t → c.client.index ≡ lender → c.number ≡ call → Holds g k.new (grant_answered g caller lease c entry.now t) }
     ensures entries { is_valid (lease_range entry.now) ≡ true → entries_of k.new ≡ entries_of k.old }
     ensures frame { AddsAtMost k.old 5 k.new }
 {
     if !is_lease_valid(entry) {
         k.misuse(lender, Usage::InvalidSlice);
-        return tell_nothing(k, caller, NO_LEASE);
+        return answer_nothing(k, caller, NO_LEASE);
     }
     k.note(Note::Borrow {
         call,
@@ -326,7 +326,7 @@ fn inform_entry(
     k.answer(caller, &[0, entry.attributes & 3, entry.len]);
 }
 
-/// What a caller is told of a lease of a call that it has taken.
+/// What a caller gets for a lease of a call that it has taken.
 fn inform_of(k: &mut Kernel, caller: usize, lender: usize, call: &OpenCall, lease: u32)
     requires there { caller < task_count k.old }
     requires lender { lender < task_count k.old }
@@ -343,7 +343,7 @@ fn inform_of(k: &mut Kernel, caller: usize, lender: usize, call: &OpenCall, leas
     match entry_of(k, lender, call, lease) {
         Err(at) => {
             k.deny(lender, at, Access::KernelRead);
-            tell_nothing(k, caller, NO_LEASE);
+            answer_nothing(k, caller, NO_LEASE);
         }
         Ok(entry) => inform_entry(k, caller, lender, call.number, lease, &entry),
     }
@@ -352,18 +352,18 @@ fn inform_of(k: &mut Kernel, caller: usize, lender: usize, call: &OpenCall, leas
 /// BORROW_INFO of a kernel that stands.
 fn inform(k: &mut Kernel, caller: usize)
     requires there { caller < task_count k.old }
-    requires room { note_count k.old + call_notes ≤ turn_notes }
+    requires room { note_count k.old + syscall_notes ≤ turn_notes }
     requires stood { Stood k.old }
     ensures holds { (g : Setup) (t : Turn) → Stands g k.old t → Holds g k.new (informed g caller t) }
     ensures held { (g : Setup) (t : Turn) (c : Call) → let x = info_args (arguments t.state caller) in Stands g k.old t → taken_by t.state (index_of x.lender.number) caller ≡ Some c → WentWell caller (informed g caller t) → IsHeldAfter k.new t.state c x.lease }
-    ensures frame { AddsAtMost k.old call_notes k.new }
+    ensures frame { AddsAtMost k.old syscall_notes k.new }
 {
     let args = InfoArgs::of(&k.arguments(caller));
     match k.lookup(args.lender.number) {
         Found::Out => k.misuse(caller, Usage::BadTaskIndex),
-        Found::Dead(generation) => tell_nothing(k, caller, dead_code(generation)),
+        Found::Dead(generation) => answer_nothing(k, caller, dead_code(generation)),
         Found::Live(lender) => match k.taken(lender, caller) {
-            None => tell_nothing(k, caller, NO_LEASE),
+            None => answer_nothing(k, caller, NO_LEASE),
             Some(call) => inform_of(k, caller, lender, &call, args.lease),
         },
     }
@@ -377,10 +377,10 @@ fn inform(k: &mut Kernel, caller: usize)
 pub fn borrow_read(k: &mut Kernel, caller: usize)
     requires there { caller < task_count k.old }
     requires ready { (g : Setup) × (t : Turn) × Stands g k.old t × (is_ready t.state caller ≡ true) }
-    requires room { note_count k.old + call_notes ≤ turn_notes }
+    requires room { note_count k.old + syscall_notes ≤ turn_notes }
     ensures stands { (g : Setup) (t : Turn) → Stands g k.old t → is_ready t.state caller ≡ true → Stands g k.new (borrowed g reading caller t) }
     ensures held { (g : Setup) (t : Turn) (c : Call) → let x = borrow_args (arguments t.state caller) in Stands g k.old t → is_ready t.state caller ≡ true → taken_by t.state (index_of x.lender.number) caller ≡ Some c → WentWell caller (borrowed g reading caller t) → WritesNone (borrowed g reading caller t).writes (c.table + 12 * x.lease) 12 → IsHeldAfter k.new t.state c x.lease }
-    ensures frame { AddsAtMost k.old call_notes k.new }
+    ensures frame { AddsAtMost k.old syscall_notes k.new }
 {
     borrow(k, caller, Way::Read);
 }
@@ -390,10 +390,10 @@ pub fn borrow_read(k: &mut Kernel, caller: usize)
 pub fn borrow_write(k: &mut Kernel, caller: usize)
     requires there { caller < task_count k.old }
     requires ready { (g : Setup) × (t : Turn) × Stands g k.old t × (is_ready t.state caller ≡ true) }
-    requires room { note_count k.old + call_notes ≤ turn_notes }
+    requires room { note_count k.old + syscall_notes ≤ turn_notes }
     ensures stands { (g : Setup) (t : Turn) → Stands g k.old t → is_ready t.state caller ≡ true → Stands g k.new (borrowed g writing caller t) }
     ensures held { (g : Setup) (t : Turn) (c : Call) → let x = borrow_args (arguments t.state caller) in Stands g k.old t → is_ready t.state caller ≡ true → taken_by t.state (index_of x.lender.number) caller ≡ Some c → WentWell caller (borrowed g writing caller t) → WritesNone (borrowed g writing caller t).writes (c.table + 12 * x.lease) 12 → IsHeldAfter k.new t.state c x.lease }
-    ensures frame { AddsAtMost k.old call_notes k.new }
+    ensures frame { AddsAtMost k.old syscall_notes k.new }
 {
     borrow(k, caller, Way::Write);
 }
@@ -405,10 +405,10 @@ pub fn borrow_write(k: &mut Kernel, caller: usize)
 pub fn borrow_info(k: &mut Kernel, caller: usize)
     requires there { caller < task_count k.old }
     requires ready { (g : Setup) × (t : Turn) × Stands g k.old t × (is_ready t.state caller ≡ true) }
-    requires room { note_count k.old + call_notes ≤ turn_notes }
+    requires room { note_count k.old + syscall_notes ≤ turn_notes }
     ensures stands { (g : Setup) (t : Turn) → Stands g k.old t → is_ready t.state caller ≡ true → Stands g k.new (informed g caller t) }
     ensures held { (g : Setup) (t : Turn) (c : Call) → let x = info_args (arguments t.state caller) in Stands g k.old t → is_ready t.state caller ≡ true → taken_by t.state (index_of x.lender.number) caller ≡ Some c → WentWell caller (informed g caller t) → IsHeldAfter k.new t.state c x.lease }
-    ensures frame { AddsAtMost k.old call_notes k.new }
+    ensures frame { AddsAtMost k.old syscall_notes k.new }
 {
     inform(k, caller);
 }

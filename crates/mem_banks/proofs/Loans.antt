@@ -79,16 +79,16 @@ region_high m base len high (ram_side x y) = (x, y)
 region_high m base len high (flash_side x y z) = absurd (omega arith)
 
 -- the banks after it
-pub lent_done : {B : Type 0} (did : B → List ℕ → List ℕ → B → List ℕ → Type 0) (table : List ℕ) (banks after : List Bank) (i j : ℕ) (text ram : ℕ × ℕ) (s s' : B) → AreKept table banks → IsBankOf banks i text → IsBankOf banks j ram → i ≢ j → (lent : AreLent did banks i j s s' after) → IsDone table banks after ram.0 lent.after
-lent_done did table banks after i j text ram s s' kept of_i of_j other lent =
+pub lent_done : {B : Type 0} (did : B → List ℕ → List ℕ → B → List ℕ → Type 0) (table : List ℕ) (banks after : List Bank) (i j : ℕ) (flash ram : ℕ × ℕ) (s s' : B) → AreKept table banks → IsBankOf banks i flash → IsBankOf banks j ram → i ≢ j → (lent : AreLent did banks i j s s' after) → IsDone table banks after ram.0 lent.after
+lent_done did table banks after i j flash ram s s' kept of_i of_j other lent =
     let d : Bank = first_of banks i of_i.0 in
-    let first = put_done table banks lent.between i 0 text.0 [] d kept of_i.0 (omega (arith, (of_i.1 d).0)) (omega arith) lent.first in
+    let first = put_done table banks lent.between i 0 flash.0 [] d kept of_i.0 (omega (arith, (of_i.1 d).0)) (omega arith) lent.first in
     let count : length lent.between ≡ length banks = rw lent.first.1 (length-set banks i lent.first.0) in
     let stays : get_or lent.between j d ≡ get_or banks j d = rw lent.first.1 (get_or-set_other banks i j lent.first.0 d (λ e. other (sym e))) in
     let begins : (get_or lent.between j d).base + 0 ≡ ram.0 = rw stays (omega (arith, (of_j.1 d).0)) in
     let fits : 0 + length lent.after ≤ length (get_or lent.between j d).bytes.items = rw stays (omega (arith, lent.size d)) in
     let second = put_done table lent.between after j 0 ram.0 lent.after d first.kept (omega (arith, count, of_j.0)) begins fits lent.second in
-    let same : seen lent.between ≡ seen banks = first.value ∙ sym (with_bytes_none (seen banks) text.0 [] refl) in
+    let same : seen lent.between ≡ seen banks = first.value ∙ sym (with_bytes_none (seen banks) flash.0 [] refl) in
     record { kept = second.kept; spans = second.spans ∙ first.spans; value = second.value ∙ ap (λ m. with_bytes m ram.0 lent.after) same }
 
 take_all : (xs : List ℕ) (n : ℕ) → length xs ≡ n → take n (drop 0 xs) ≡ xs
@@ -101,46 +101,46 @@ bank_bytes table banks k r d kept there =
     let all = bytes_in banks k 0 r.0 r.1 d kept.laid kept.flash there.0 (omega (arith, (there.1 d).0)) (omega (arith, len)) in
     all ∙ take_all (get_or banks k d).bytes.items r.1 len
 
-pub lent_loan : {B : Type 0} (did : B → List ℕ → List ℕ → B → List ℕ → Type 0) (table : List ℕ) (banks after : List Bank) (i j : ℕ) (text ram : ℕ × ℕ) (s s' : B) → AreKept table banks → IsBankOf banks i text → IsBankOf banks j ram → i ≢ j → 0x20000000 ≤ ram.0 → AreLent did banks i j s s' after → IsLoan did (seen banks) text ram s s' (seen after)
-lent_loan did table banks after i j text ram s s' kept of_i of_j other high lent =
+pub lent_loan : {B : Type 0} (did : B → List ℕ → List ℕ → B → List ℕ → Type 0) (table : List ℕ) (banks after : List Bank) (i j : ℕ) (flash ram : ℕ × ℕ) (s s' : B) → AreKept table banks → IsBankOf banks i flash → IsBankOf banks j ram → i ≢ j → 0x20000000 ≤ ram.0 → AreLent did banks i j s s' after → IsLoan did (seen banks) flash ram s s' (seen after)
+lent_loan did table banks after i j flash ram s s' kept of_i of_j other high lent =
     let d : Bank = first_of banks i of_i.0 in
-    let side_i = side_in table banks i 0 text.0 text.1 d kept of_i.0 (omega (arith, (of_i.1 d).0)) (omega (arith, (of_i.1 d).1)) in
+    let side_i = side_in table banks i 0 flash.0 flash.1 d kept of_i.0 (omega (arith, (of_i.1 d).0)) (omega (arith, (of_i.1 d).1)) in
     let side_j = side_in table banks j 0 ram.0 ram.1 d kept of_j.0 (omega (arith, (of_j.1 d).0)) (omega (arith, (of_j.1 d).1)) in
     let apart = banks_apart 0x08000000 0x20000000 banks i j d kept.laid (omega (arith, kept.flash)) of_i.0 of_j.0 other in
     record {
-      text_there = region_there (seen banks) text.0 text.1 kept.flash side_i;
+      flash_there = region_there (seen banks) flash.0 flash.1 kept.flash side_i;
       ram_there = region_high (seen banks) ram.0 ram.1 high side_j;
       apart = rw ((of_i.1 d).0, (of_i.1 d).1, (of_j.1 d).0, (of_j.1 d).1) at apart;
       after = lent.after;
-      work = rw (bank_bytes table banks i text d kept of_i, bank_bytes table banks j ram d kept of_j) (lent.work d);
+      work = rw (bank_bytes table banks i flash d kept of_i, bank_bytes table banks j ram d kept of_j) (lent.work d);
       size = omega (arith, lent.size d, (of_j.1 d).1);
-      left = (lent_done did table banks after i j text ram s s' kept of_i of_j other lent).value;
+      left = (lent_done did table banks after i j flash ram s s' kept of_i of_j other lent).value;
     }
 
 -- ## the loan of one bank
-pub alone_done : {B : Type 0} (did : B → List ℕ → List ℕ → B → List ℕ → Type 0) (table : List ℕ) (banks after : List Bank) (i : ℕ) (text : ℕ × ℕ) (s s' : B) → AreKept table banks → IsBankOf banks i text → IsLentAlone did banks i s s' after → IsDone table banks after text.0 []
-alone_done did table banks after i text s s' kept of_i lent =
+pub alone_done : {B : Type 0} (did : B → List ℕ → List ℕ → B → List ℕ → Type 0) (table : List ℕ) (banks after : List Bank) (i : ℕ) (flash : ℕ × ℕ) (s s' : B) → AreKept table banks → IsBankOf banks i flash → IsLentAlone did banks i s s' after → IsDone table banks after flash.0 []
+alone_done did table banks after i flash s s' kept of_i lent =
     let d : Bank = first_of banks i of_i.0 in
-    put_done table banks after i 0 text.0 [] d kept of_i.0 (omega (arith, (of_i.1 d).0)) (omega arith) lent.put
+    put_done table banks after i 0 flash.0 [] d kept of_i.0 (omega (arith, (of_i.1 d).0)) (omega arith) lent.put
 
-below_or_in : (m : Memory) (text ram : ℕ × ℕ) → IsInMemory m text → ram.0 ≡ 0x20000000 → ram.1 ≡ 0 → AreApart text ram
-below_or_in m text ram (inl x) e n = inr (omega (arith, x.0))
-below_or_in m text ram (inr x) e n = inl (omega (arith, x.2))
+below_or_in : (m : Memory) (flash ram : ℕ × ℕ) → IsInMemory m flash → ram.0 ≡ 0x20000000 → ram.1 ≡ 0 → AreApart flash ram
+below_or_in m flash ram (inl x) e n = inr (omega (arith, x.0))
+below_or_in m flash ram (inr x) e n = inl (omega (arith, x.2))
 
-pub alone_loan : {B : Type 0} (did : B → List ℕ → List ℕ → B → List ℕ → Type 0) (table : List ℕ) (banks after : List Bank) (i : ℕ) (text ram : ℕ × ℕ) (s s' : B) → AreKept table banks → IsBankOf banks i text → ram.0 ≡ 0x20000000 → ram.1 ≡ 0 → IsLentAlone did banks i s s' after → IsLoan did (seen banks) text ram s s' (seen after)
-alone_loan did table banks after i text ram s s' kept of_i begins none lent =
+pub alone_loan : {B : Type 0} (did : B → List ℕ → List ℕ → B → List ℕ → Type 0) (table : List ℕ) (banks after : List Bank) (i : ℕ) (flash ram : ℕ × ℕ) (s s' : B) → AreKept table banks → IsBankOf banks i flash → ram.0 ≡ 0x20000000 → ram.1 ≡ 0 → IsLentAlone did banks i s s' after → IsLoan did (seen banks) flash ram s s' (seen after)
+alone_loan did table banks after i flash ram s s' kept of_i begins none lent =
     let d : Bank = first_of banks i of_i.0 in
-    let side = side_in table banks i 0 text.0 text.1 d kept of_i.0 (omega (arith, (of_i.1 d).0)) (omega (arith, (of_i.1 d).1)) in
-    let there = region_there (seen banks) text.0 text.1 kept.flash side in
+    let side = side_in table banks i 0 flash.0 flash.1 d kept of_i.0 (omega (arith, (of_i.1 d).0)) (omega (arith, (of_i.1 d).1)) in
+    let there = region_there (seen banks) flash.0 flash.1 kept.flash side in
     let at_ram : IsInRam (seen banks) ram = (omega arith, omega arith) in
     let empty : bytes_of (seen banks) ram ≡ [] = nil_from_length _ (region_length (seen banks) ram.0 ram.1 (inl at_ram) ∙ none) in
-    let same : seen after ≡ seen banks = (alone_done did table banks after i text s s' kept of_i lent).value ∙ sym (with_bytes_none (seen banks) text.0 [] refl) in
+    let same : seen after ≡ seen banks = (alone_done did table banks after i flash s s' kept of_i lent).value ∙ sym (with_bytes_none (seen banks) flash.0 [] refl) in
     record {
-      text_there = there;
+      flash_there = there;
       ram_there = at_ram;
-      apart = below_or_in (seen banks) text ram there begins none;
+      apart = below_or_in (seen banks) flash ram there begins none;
       after = [];
-      work = rw (bank_bytes table banks i text d kept of_i, empty) (lent.work d);
+      work = rw (bank_bytes table banks i flash d kept of_i, empty) (lent.work d);
       size = sym none;
       left = same ∙ with_bytes_none (seen banks) ram.0 [] refl;
     }
@@ -189,20 +189,20 @@ given_bank regions banks r parts given =
 given_found : (regions : List (ℕ × ℕ)) (banks : List Bank) (r : ℕ × ℕ) → AreParts regions (spans_of banks) → Contains regions r → 0 < r.1 → HasNoBank banks r → ⊥
 given_found regions banks r parts given some none = let b = given_bank regions banks r parts given in none b.0 some b.1
 
-pub text_found : (regions : List (ℕ × ℕ)) (banks : List Bank) (text ram : ℕ × ℕ) → AreParts regions (spans_of banks) → AreGiven regions text ram → HasNoBank banks text → ⊥
-text_found regions banks text ram parts given none = given_found regions banks text parts given.text_given given.text_some none
+pub text_found : (regions : List (ℕ × ℕ)) (banks : List Bank) (flash ram : ℕ × ℕ) → AreParts regions (spans_of banks) → AreGiven regions flash ram → HasNoBank banks flash → ⊥
+text_found regions banks flash ram parts given none = given_found regions banks flash parts given.flash_given given.flash_some none
 
-pub ram_found : (regions : List (ℕ × ℕ)) (banks : List Bank) (text ram : ℕ × ℕ) → AreParts regions (spans_of banks) → AreGiven regions text ram → (IsNoRegion ram → ⊥) → HasNoBank banks ram → ⊥
-ram_found regions banks text ram parts given some none = elim given.ram_given [
+pub ram_found : (regions : List (ℕ × ℕ)) (banks : List Bank) (flash ram : ℕ × ℕ) → AreParts regions (spans_of banks) → AreGiven regions flash ram → (IsNoRegion ram → ⊥) → HasNoBank banks ram → ⊥
+ram_found regions banks flash ram parts given some none = elim given.ram_given [
   | inl x ↦ some x
   | inr x ↦ given_found regions banks ram parts x.0 x.1 none
 ]
 
-pub ram_in : (regions : List (ℕ × ℕ)) (text ram : ℕ × ℕ) → AreGiven regions text ram → ram.0 < 0x20000000 → ⊥
-ram_in regions text ram given low = elim given.ram_given [ inl x ↦ omega arith | inr x ↦ omega arith ]
+pub ram_in : (regions : List (ℕ × ℕ)) (flash ram : ℕ × ℕ) → AreGiven regions flash ram → ram.0 < 0x20000000 → ⊥
+ram_in regions flash ram given low = elim given.ram_given [ inl x ↦ omega arith | inr x ↦ omega arith ]
 
-pub two_banks : (regions : List (ℕ × ℕ)) (banks : List Bank) (i j : ℕ) (text ram : ℕ × ℕ) → AreGiven regions text ram → (IsNoRegion ram → ⊥) → IsBankOf banks i text → IsBankOf banks j ram → i ≡ j → ⊥
-two_banks regions banks i j text ram given some of_i of_j same = elim given.ram_given [
+pub two_banks : (regions : List (ℕ × ℕ)) (banks : List Bank) (i j : ℕ) (flash ram : ℕ × ℕ) → AreGiven regions flash ram → (IsNoRegion ram → ⊥) → IsBankOf banks i flash → IsBankOf banks j ram → i ≡ j → ⊥
+two_banks regions banks i j flash ram given some of_i of_j same = elim given.ram_given [
   | inl x ↦ some x
   | inr x ↦
       let d : Bank = first_of banks i of_i.0 in

@@ -24,12 +24,12 @@ bytes_of m r = bytes_at m r.0 r.1
 
 -- a borrower b did its work with the bytes of two regions of a memory; then it is b', and the bytes
 -- that it left of the second region stand there
-pub record IsLoan {B : Type 0} (did : B → List ℕ → List ℕ → B → List ℕ → Type 0) (m : Memory) (text ram : ℕ × ℕ) (b b' : B) (m' : Memory) : Type 0 where
-  pub text_there : IsInMemory m text
+pub record IsLoan {B : Type 0} (did : B → List ℕ → List ℕ → B → List ℕ → Type 0) (m : Memory) (flash ram : ℕ × ℕ) (b b' : B) (m' : Memory) : Type 0 where
+  pub flash_there : IsInMemory m flash
   pub ram_there : IsInRam m ram
-  pub apart : AreApart text ram
+  pub apart : AreApart flash ram
   pub after : List ℕ
-  pub work : did b (bytes_of m text) (bytes_of m ram) b' after
+  pub work : did b (bytes_of m flash) (bytes_of m ram) b' after
   pub size : length after ≡ ram.1
   pub left : m' ≡ with_bytes m ram.0 after
 
@@ -38,10 +38,10 @@ abbrev pub IsNoRegion : ℕ × ℕ → Type 0
 IsNoRegion r = (r.0 ≡ 0x20000000) × (r.1 ≡ 0)
 
 -- two of some regions: one in the flash, and one in the RAM, or none
-pub record AreGiven (regions : List (ℕ × ℕ)) (text ram : ℕ × ℕ) : Type 0 where
-  pub text_given : Contains regions text
-  pub text_some : 0 < text.1
-  pub below : text.0 < 0x20000000
+pub record AreGiven (regions : List (ℕ × ℕ)) (flash ram : ℕ × ℕ) : Type 0 where
+  pub flash_given : Contains regions flash
+  pub flash_some : 0 < flash.1
+  pub below : flash.0 < 0x20000000
   pub ram_given : IsNoRegion ram ⊎ (Contains regions ram × (0 < ram.1) × (0x20000000 ≤ ram.0))
 
 -- a bank has the bytes of a region and no others

@@ -15,9 +15,9 @@ pub trait Borrower {
     ghost did: { Self → List ℕ → List ℕ → Self → List ℕ → Type 0 };
 
     /// Does its work. No region gets longer or shorter.
-    fn work(&mut self, text: &mut Vec<u8>, ram: &mut Vec<u8>)
-        ensures did { did self.old text.old.items ram.old.items self.new ram.new.items }
-        ensures text { text.new.items ≡ text.old.items }
+    fn work(&mut self, flash: &mut Vec<u8>, ram: &mut Vec<u8>)
+        ensures did { did self.old flash.old.items ram.old.items self.new ram.new.items }
+        ensures flash { flash.new.items ≡ flash.old.items }
         ensures length { length ram.new.items ≡ length ram.old.items };
 }
 
@@ -52,28 +52,28 @@ fn bank_beyond(banks: &[Bank], table: &[u16], region: (u32, u32)) -> Option<usiz
 }
 
 /// Lends the bytes of two banks.
-fn lend_two<B: Borrower>(banks: &mut [Bank], text: usize, ram: usize, borrower: &mut B)
-    requires text { text < length banks.old }
+fn lend_two<B: Borrower>(banks: &mut [Bank], flash: usize, ram: usize, borrower: &mut B)
+    requires flash { flash < length banks.old }
     requires ram { ram < length banks.old }
-    requires apart { text ≡ ram → ⊥ }
-    ensures { AreLent B.did banks.old text ram borrower.old borrower.new banks.new }
+    requires apart { flash ≡ ram → ⊥ }
+    ensures { AreLent B.did banks.old flash ram borrower.old borrower.new banks.new }
 {
-    if text < ram {
+    if flash < ram {
         let (front, back) = banks.split_at_mut(ram);
-        borrower.work(&mut front[text].bytes, &mut back[0].bytes);
+        borrower.work(&mut front[flash].bytes, &mut back[0].bytes);
     } else {
-        let (front, back) = banks.split_at_mut(text);
+        let (front, back) = banks.split_at_mut(flash);
         borrower.work(&mut back[0].bytes, &mut front[ram].bytes);
     }
 }
 
 /// Lends the bytes of one bank, and no bytes beside them.
-fn lend_one<B: Borrower>(banks: &mut [Bank], text: usize, alloc: Global, borrower: &mut B)
-    requires { text < length banks.old }
-    ensures { IsLentAlone B.did banks.old text borrower.old borrower.new banks.new }
+fn lend_one<B: Borrower>(banks: &mut [Bank], flash: usize, alloc: Global, borrower: &mut B)
+    requires { flash < length banks.old }
+    ensures { IsLentAlone B.did banks.old flash borrower.old borrower.new banks.new }
 {
     let mut none = Vec::new(alloc);
-    borrower.work(&mut banks[text].bytes, &mut none);
+    borrower.work(&mut banks[flash].bytes, &mut none);
 }
 
 impl Memory {
@@ -84,14 +84,14 @@ impl Memory {
     /// second one lies in the RAM; or those of one region and no bytes, where the second one is empty
     /// and begins where the RAM does. Else nothing changes, and the answer is false. Regions that were
     /// given to `open` are lent.
-    pub fn lend<B: Borrower>(&mut self, text: (u32, u32), ram: (u32, u32), borrower: &mut B) -> bool
-        ensures lent { result ≡ true → IsLoan B.did self.old.bytes text ram borrower.old borrower.new self.new.bytes }
-        ensures given { AreGiven self.old.regions text ram → result ≡ true }
+    pub fn lend<B: Borrower>(&mut self, flash: (u32, u32), ram: (u32, u32), borrower: &mut B) -> bool
+        ensures lent { result ≡ true → IsLoan B.did self.old.bytes flash ram borrower.old borrower.new self.new.bytes }
+        ensures given { AreGiven self.old.regions flash ram → result ≡ true }
         ensures regions { self.new.regions ≡ self.old.regions }
         ensures kept { result ≡ false → self.new ≡ self.old }
         ensures left { result ≡ false → borrower.new ≡ borrower.old }
     {
-        let Some(code) = bank_of(&self.banks, &self.table, text) else {
+        let Some(code) = bank_of(&self.banks, &self.table, flash) else {
             return false;
         };
         if ram == (RAM, 0) {

@@ -8,8 +8,8 @@ use Rattle.outside_io.specs.Outside.{raised, short_name}
 use Rattle.outside_io.specs.Calls.{is_next_listed}
 
 -- the contents under each name that is held
-abbrev pub told_by : MemFiles → List ℕ → Option (List ℕ)
-told_by m = contents_under m.held
+abbrev pub contents_by : MemFiles → List ℕ → Option (List ℕ)
+contents_by m = contents_under m.held
 
 -- the room under each name that is held
 abbrev pub rooms_of : MemFiles → List ℕ → Option ℕ
@@ -50,7 +50,7 @@ tally_after_put t name (Err _) = record t { calls = raised t.calls 1; put_faults
 
 -- a read fails where its number is listed, or nothing is held under its name
 abbrev pub fails_read : MemFiles → List ℕ → Bool
-fails_read m name = is_next_listed m.fails.items m.calls || is_none (told_by m name)
+fails_read m name = is_next_listed m.fails.items m.calls || is_none (contents_by m name)
 
 -- a put fails where its number is listed, nothing is held under its name, or the room there is less than its length
 abbrev pub fails_put : MemFiles → List ℕ → ℕ → Bool

@@ -1,10 +1,10 @@
--- What reads, puts and pushes do, by what an object tells of itself and by its counts.
+-- What reads, puts and pushes do, by what an object shows of itself and by its counts.
 use Rattle.std.specs.Prelude.{◌≡◌, ◌⊎◌, ℕ, ◌+◌, ◌-◌, ◌^◌, ◌<◌, ◌≤◌, min, List, ◌++◌, length, take, drop, Option, Some, Result, MatchResult, OnErr}
 use Rattle.std.specs.Io.KnownBytes.{Appends}
 
--- where an object tells a value, it has P
-abbrev pub WhereTold : {T : Type 0} → Option T → (T → Type 0) → Type 0
-WhereTold {T} told P = (value : T) → told ≡ Some value → P value
+-- where an object shows a value, it has P
+abbrev pub WhereSeen : {T : Type 0} → Option T → (T → Type 0) → Type 0
+WhereSeen {T} contents P = (value : T) → contents ≡ Some value → P value
 
 -- a count of 64 bits that rises by so much, and at most to its type's end
 abbrev pub raised : ℕ → ℕ → ℕ
@@ -33,9 +33,9 @@ pub record IsPart (all : List ℕ) (at n : ℕ) (buf : List ℕ) : Type 0 where
   pub within : n ≤ length all - at
   pub at_end : n ≡ 0 → 0 < length buf → length all ≤ at
 
--- a read fills at most the buffer, and where the contents are told, with a part of them
+-- a read fills at most the buffer, and where the contents are seen, with a part of them
 abbrev pub Reads : {E : Type 0} → Option (List ℕ) → ℕ → List ℕ → Result ℕ E → Type 0
-Reads told at buf result = MatchResult result (λ n. (n ≤ length buf) × WhereTold told (λ all. IsPart all at n buf)) (λ _. Unit {0})
+Reads contents at buf result = MatchResult result (λ n. (n ≤ length buf) × WhereSeen contents (λ all. IsPart all at n buf)) (λ _. Unit {0})
 
 -- the count of bytes given rises by what the read gave, at most to its type's end
 abbrev pub Gives : {E : Type 0} → ℕ → ℕ → Result ℕ E → Type 0
@@ -45,11 +45,11 @@ Gives before now result = MatchResult result (λ n. now ≡ raised before n) (λ
 abbrev pub IsFront : List ℕ → List ℕ → Type 0
 IsFront front bytes = (back : List ℕ) × (bytes ≡ front ++ back)
 
--- what a put leaves under its name, where it is told: the new bytes, or after a failure the old ones or a front of the new ones
+-- what a put leaves under its name, where it is seen: the new bytes, or after a failure the old ones or a front of the new ones
 abbrev pub Puts : {E : Type 0} → Option (List ℕ) → Option (List ℕ) → List ℕ → Result (Unit {0}) E → Type 0
 Puts old new bytes result = MatchResult result
-    (λ _. WhereTold new (λ c. c ≡ bytes))
-    (λ _. WhereTold new (λ c. (old ≡ Some c) ⊎ IsFront c bytes))
+    (λ _. WhereSeen new (λ c. c ≡ bytes))
+    (λ _. WhereSeen new (λ c. (old ≡ Some c) ⊎ IsFront c bytes))
 
 -- a front of the text was appended
 abbrev pub AppendsFront : Option (List ℕ) → Option (List ℕ) → List ℕ → Type 0

@@ -1,7 +1,7 @@
-//! Real files and a real output. They tell no contents and no failing name.
+//! Real files and a real output. They show no contents and no failing name.
 ghost use Rattle.std.specs.Prelude.{◌≡◌, ◌≢◌, ℕ, List, None, IfOk, MatchResult, OnErr, OnOk, ◌≤◌, length};
 ghost use Rattle.std.specs.Io.KnownBytes.{Keeps};
-ghost use Rattle.outside_io.specs.Outside.{CountsFailure, Gives, HasCause, Puts, Pushes, Reads, WhereTold, short_name};
+ghost use Rattle.outside_io.specs.Outside.{CountsFailure, Gives, HasCause, Puts, Pushes, Reads, WhereSeen, short_name};
 ghost use Rattle.outside_io.specs.Host.{counts_of, out_of, faults_of};
 
 use crate::{Failed, Files, Sink};
@@ -41,7 +41,7 @@ fn read_at<R: rt::Files>(rt: &R, name: &str, at: u64, buf: &mut [u8]) -> io::Res
 }
 
 impl<R: rt::Files> Files for HostFiles<R> {
-    ghost seen = { λ f. record { told = λ _. None; read_faults = f.read_faults; put_faults = f.put_faults; given = f.given; last_failing = None } };
+    ghost seen = { λ f. record { contents = λ _. None; read_faults = f.read_faults; put_faults = f.put_faults; given = f.given; last_failing = None } };
 
     /// One read of the file that is opened at the path, from the place on.
     fn read(&mut self, name: &str, at: u64, buf: &mut [u8]) -> Result<usize, Failed>
@@ -140,7 +140,7 @@ fn write_whole<W: Write>(out: &mut W, bytes: &[u8]) -> Result<(), Failed>
 impl<W: Write> Sink for HostSink<W> {
     ghost seen = { λ s. record { written = None; faults = s.faults } };
 
-    /// Writes the whole piece to the output, which then has it wherever it tells its bytes.
+    /// Writes the whole piece to the output, which then has it wherever it shows its bytes.
     fn push(&mut self, piece: &[u8]) -> Result<(), Failed>
         ensures cause { HasCause (faults_of self.old) (faults_of self.new) result }
 

@@ -1,4 +1,4 @@
-//! The outside of a program: files by name and a sink for its text, with what they tell of
+//! The outside of a program: files by name and a sink for its text, with what they show of
 //! themselves and their counts of faults. Real ones are the trusted edge; those in memory fail at
 //! the calls that they are given, and are pinned whole by their contracts.
 #![tactic(auto)]

@@ -1,7 +1,7 @@
 //! Files and a sink in memory, which fail at the calls of a list.
 ghost use Rattle.std.specs.Prelude.{◌≡◌, ◌≢◌, ◌≤◌, ◌<◌, ◌+◌, ◌-◌, ◌++◌, ◌||◌, ℕ, [], List, length, take, drop, min, true, false, not, nat_le, vec_len, vec_capacity, Some, None, IfOk, OnOk, OnErr, IsNone, IsSome, is_none, is_some, is_ok, is_err, if◌then◌else◌};
 ghost use Rattle.std.specs.Option.{option_map};
-ghost use Rattle.outside_io.specs.Outside.{raised, short_name, Gives, HasCause, Puts, Pushes, Reads, WhereTold};
+ghost use Rattle.outside_io.specs.Outside.{raised, short_name, Gives, HasCause, Puts, Pushes, Reads, WhereSeen};
 
 use crate::held::Held;
 use crate::{Failed, Files, Sink};
@@ -104,11 +104,11 @@ pub struct MemFiles {
 }
 
 impl MemFiles {
-    ghost use Rattle.outside_io.specs.Memory.{told_by, rooms_of, tally_of, fresh_tally};
+    ghost use Rattle.outside_io.specs.Memory.{contents_by, rooms_of, tally_of, fresh_tally};
 
     /// No files, and the numbers of the calls that are to fail, from 1.
     pub fn open(alloc: Global, fails: &[u64]) -> Result<MemFiles, AllocError>
-        ensures nothing { IfOk result (λ m. (name : List ℕ) → told_by m name ≡ None) }
+        ensures nothing { IfOk result (λ m. (name : List ℕ) → contents_by m name ≡ None) }
         ensures fresh { IfOk result (λ m. tally_of m ≡ fresh_tally fails.now) }
     {
         Ok(MemFiles {
@@ -125,7 +125,7 @@ impl MemFiles {
 
     /// Whether a file is held under the name.
     pub fn is_held(&self, name: &str) -> bool
-        ensures { result ≡ is_some (told_by self.now name.now) }
+        ensures { result ≡ is_some (contents_by self.now name.now) }
     {
         self.held.contains_key(name)
     }
@@ -133,13 +133,13 @@ impl MemFiles {
     /// Holds a file under a new name, with room for contents of so many bytes. It is no call that
     /// is numbered. Where memory is wanting nothing changes.
     pub fn hold(&mut self, name: &str, bytes: &[u8], room: usize) -> Result<(), AllocError>
-        requires new { told_by self.old name.now ≡ None }
+        requires new { contents_by self.old name.now ≡ None }
         requires fits { length bytes.now ≤ room }
-        ensures held { OnOk result (told_by self.new name.now ≡ Some bytes.now) }
+        ensures held { OnOk result (contents_by self.new name.now ≡ Some bytes.now) }
         ensures room { OnOk result (rooms_of self.new name.now ≡ Some room) }
-        ensures others { (other : List ℕ) → other ≢ name.now → told_by self.new other ≡ told_by self.old other }
+        ensures others { (other : List ℕ) → other ≢ name.now → contents_by self.new other ≡ contents_by self.old other }
         ensures other_rooms { (other : List ℕ) → other ≢ name.now → rooms_of self.new other ≡ rooms_of self.old other }
-        ensures err { OnErr result ((other : List ℕ) → told_by self.new other ≡ told_by self.old other) }
+        ensures err { OnErr result ((other : List ℕ) → contents_by self.new other ≡ contents_by self.old other) }
         ensures err_rooms { OnErr result ((other : List ℕ) → rooms_of self.new other ≡ rooms_of self.old other) }
         ensures tally { tally_of self.new ≡ tally_of self.old }
     {
@@ -156,22 +156,22 @@ impl MemFiles {
 }
 
 impl Files for MemFiles {
-    ghost use Rattle.outside_io.specs.Memory.{told_by, rooms_of, tally_of, tally_after_read, tally_after_put, fails_read, fails_put};
+    ghost use Rattle.outside_io.specs.Memory.{contents_by, rooms_of, tally_of, tally_after_read, tally_after_put, fails_read, fails_put};
 
-    ghost seen = { λ m. record { told = contents_under m.held; read_faults = m.read_faults; put_faults = m.put_faults; given = m.given; last_failing = option_map (λ n. (n.len, take n.shown n.front)) m.last } };
+    ghost seen = { λ m. record { contents = contents_under m.held; read_faults = m.read_faults; put_faults = m.put_faults; given = m.given; last_failing = option_map (λ n. (n.len, take n.shown n.front)) m.last } };
 
     /// Gives all bytes from the place on that the buffer has room for.
     fn read(&mut self, name: &str, at: u64, buf: &mut [u8]) -> Result<usize, Failed>
-        ensures bytes { Reads (told_by self.old name.now) at buf.new result }
+        ensures bytes { Reads (contents_by self.old name.now) at buf.new result }
         ensures count { Gives (tally_of self.old).given (tally_of self.new).given result }
         ensures grown { (tally_of self.old).given ≤ (tally_of self.new).given }
         ensures cause { HasCause (tally_of self.old).read_faults (tally_of self.new).read_faults result }
-        ensures named { OnErr result (WhereTold (tally_of self.new).last_failing (λ n. n ≡ short_name name.now)) }
-        ensures contents { told_by self.new ≡ told_by self.old }
+        ensures named { OnErr result (WhereSeen (tally_of self.new).last_failing (λ n. n ≡ short_name name.now)) }
+        ensures contents { contents_by self.new ≡ contents_by self.old }
         ensures puts { (tally_of self.new).put_faults ≡ (tally_of self.old).put_faults }
 
         ensures fails { is_err result ≡ fails_read self.old name.now }
-        ensures whole { IfOk result (λ n. WhereTold (told_by self.old name.now) (λ all. IsWholePart all at n buf.old buf.new)) }
+        ensures whole { IfOk result (λ n. WhereSeen (contents_by self.old name.now) (λ all. IsWholePart all at n buf.old buf.new)) }
         ensures nothing { OnErr result (buf.new ≡ buf.old) }
         ensures rooms { rooms_of self.new ≡ rooms_of self.old }
         ensures tally { tally_of self.new ≡ tally_after_read (tally_of self.old) name.now result }
@@ -190,16 +190,16 @@ impl Files for MemFiles {
 
     /// Puts the bytes in the place of the whole contents; the room stays.
     fn put(&mut self, name: &str, bytes: &[u8]) -> Result<(), Failed>
-        ensures bytes { Puts (told_by self.old name.now) (told_by self.new name.now) bytes.now result }
-        ensures others { (other : List ℕ) → other ≢ name.now → told_by self.new other ≡ told_by self.old other }
+        ensures bytes { Puts (contents_by self.old name.now) (contents_by self.new name.now) bytes.now result }
+        ensures others { (other : List ℕ) → other ≢ name.now → contents_by self.new other ≡ contents_by self.old other }
         ensures cause { HasCause (tally_of self.old).put_faults (tally_of self.new).put_faults result }
-        ensures named { OnErr result (WhereTold (tally_of self.new).last_failing (λ n. n ≡ short_name name.now)) }
+        ensures named { OnErr result (WhereSeen (tally_of self.new).last_failing (λ n. n ≡ short_name name.now)) }
         ensures count { (tally_of self.new).given ≡ (tally_of self.old).given }
         ensures reads { (tally_of self.new).read_faults ≡ (tally_of self.old).read_faults }
 
         ensures fails { is_err result ≡ fails_put self.old name.now (length bytes.now) }
-        ensures whole { OnOk result (told_by self.new name.now ≡ Some bytes.now) }
-        ensures nothing { OnErr result (told_by self.new ≡ told_by self.old) }
+        ensures whole { OnOk result (contents_by self.new name.now ≡ Some bytes.now) }
+        ensures nothing { OnErr result (contents_by self.new ≡ contents_by self.old) }
         ensures rooms { (other : List ℕ) → rooms_of self.new other ≡ rooms_of self.old other }
         ensures tally { tally_of self.new ≡ tally_after_put (tally_of self.old) name.now result }
     {

@@ -1,5 +1,5 @@
 ghost use Rattle.std.specs.Prelude.{◌≡◌, ◌⊎◌, ℕ, List, Some, ◌+◌, ◌-◌, ◌^◌, ◌<◌, ◌≤◌, length, min, IfOk, OnOk, OnErr, IsErrOf, Err};
-ghost use Rattle.outside_io.specs.Outside.{WhereTold, Rose, raised, short_name};
+ghost use Rattle.outside_io.specs.Outside.{WhereSeen, Rose, raised, short_name};
 ghost use Rattle.outside_io.specs.declared.reading.ReadAll.TheVariants.{Failed as ReadFailed, TooLong, Memory};
 
 use crate::{Failed, Files};
@@ -41,20 +41,20 @@ pub fn read_all<F: Files>(
 ) -> Result<Vec<u8>, ReadAll>
     requires { limit < 2 ^ 32 }
 
-    ensures whole { IfOk result (λ v. (length v.items ≤ limit) × WhereTold ((F.seen files.old).told name.now) (λ all. v.items ≡ all)) }
+    ensures whole { IfOk result (λ v. (length v.items ≤ limit) × WhereSeen ((F.seen files.old).contents name.now) (λ all. v.items ≡ all)) }
     ensures counted { IfOk result (λ v. (F.seen files.new).given ≡ raised (F.seen files.old).given (length v.items)) }
 
     ensures failed { IsErrOf result ReadFailed → Rose (F.seen files.old).read_faults (F.seen files.new).read_faults }
-    ensures named { IsErrOf result ReadFailed → WhereTold (F.seen files.new).last_failing (λ n. n ≡ short_name name.now) }
+    ensures named { IsErrOf result ReadFailed → WhereSeen (F.seen files.new).last_failing (λ n. n ≡ short_name name.now) }
     ensures too_long { IsErrOf result TooLong → raised (F.seen files.old).given (limit + 1) ≤ (F.seen files.new).given }
-    ensures long_told { IsErrOf result TooLong → WhereTold ((F.seen files.old).told name.now) (λ all. limit < length all) }
+    ensures long_seen { IsErrOf result TooLong → WhereSeen ((F.seen files.old).contents name.now) (λ all. limit < length all) }
 
     // More than `limit` bytes are refused as too long, unless a read fails or memory is wanting.
-    ensures refused { WhereTold ((F.seen files.old).told name.now) (λ all. limit < length all → ¬ Rose (F.seen files.old).read_faults (F.seen files.new).read_faults → IsErrOf result TooLong ⊎ IsErrOf result Memory) }
+    ensures refused { WhereSeen ((F.seen files.old).contents name.now) (λ all. limit < length all → ¬ Rose (F.seen files.old).read_faults (F.seen files.new).read_faults → IsErrOf result TooLong ⊎ IsErrOf result Memory) }
 
     ensures later { (F.seen files.old).read_faults ≤ (F.seen files.new).read_faults }
     ensures grown { (F.seen files.old).given ≤ (F.seen files.new).given }
-    ensures contents { (F.seen files.new).told ≡ (F.seen files.old).told }
+    ensures contents { (F.seen files.new).contents ≡ (F.seen files.old).contents }
     ensures puts { (F.seen files.new).put_faults ≡ (F.seen files.old).put_faults }
 {
     let mut out = Vec::new(alloc);

@@ -1,6 +1,6 @@
 ghost use Rattle.std.specs.Prelude.{◌≡◌, ◌≢◌, ℕ, ◌≤◌, List, OnErr};
 ghost use Rattle.outside_io.specs.Seen.{FilesSeen, SinkSeen};
-ghost use Rattle.outside_io.specs.Outside.{WhereTold, HasCause, short_name, Reads, Gives, Puts, Pushes};
+ghost use Rattle.outside_io.specs.Outside.{WhereSeen, HasCause, short_name, Reads, Gives, Puts, Pushes};
 
 /// A read, a put or a push failed.
 #[derive(Clone, Copy, Debug, PartialEq, Eq)]
@@ -8,34 +8,34 @@ pub struct Failed;
 
 /// Files by name. Their counts never fall.
 pub trait Files {
-    /// What it tells of itself.
+    /// What it shows of itself.
     ghost seen: { Self → FilesSeen };
 
     /// Fills the front of the buffer with bytes from a place on, and answers how many: none only at
     /// the end of the contents or where the buffer has no room. Fails only where it counts a failed read.
     fn read(&mut self, name: &str, at: u64, buf: &mut [u8]) -> Result<usize, Failed>
-        ensures bytes { Reads ((seen self.old).told name.now) at buf.new result }
+        ensures bytes { Reads ((seen self.old).contents name.now) at buf.new result }
         ensures count { Gives ((seen self.old).given) ((seen self.new).given) result }
         ensures grown { (seen self.old).given ≤ (seen self.new).given }
         ensures cause { HasCause ((seen self.old).read_faults) ((seen self.new).read_faults) result }
-        ensures named { OnErr result (WhereTold ((seen self.new).last_failing) (λ n. n ≡ short_name name.now)) }
-        ensures contents { (seen self.new).told ≡ (seen self.old).told }
+        ensures named { OnErr result (WhereSeen ((seen self.new).last_failing) (λ n. n ≡ short_name name.now)) }
+        ensures contents { (seen self.new).contents ≡ (seen self.old).contents }
         ensures puts { (seen self.new).put_faults ≡ (seen self.old).put_faults };
 
     /// Replaces the contents under a name. Fails only where it counts a failed put, and may then
     /// leave the old contents or any front of the new ones. Other names stay.
     fn put(&mut self, name: &str, bytes: &[u8]) -> Result<(), Failed>
-        ensures bytes { Puts ((seen self.old).told name.now) ((seen self.new).told name.now) bytes.now result }
-        ensures others { (other : List ℕ) → other ≢ name.now → (seen self.new).told other ≡ (seen self.old).told other }
+        ensures bytes { Puts ((seen self.old).contents name.now) ((seen self.new).contents name.now) bytes.now result }
+        ensures others { (other : List ℕ) → other ≢ name.now → (seen self.new).contents other ≡ (seen self.old).contents other }
         ensures cause { HasCause ((seen self.old).put_faults) ((seen self.new).put_faults) result }
-        ensures named { OnErr result (WhereTold ((seen self.new).last_failing) (λ n. n ≡ short_name name.now)) }
+        ensures named { OnErr result (WhereSeen ((seen self.new).last_failing) (λ n. n ≡ short_name name.now)) }
         ensures count { (seen self.new).given ≡ (seen self.old).given }
         ensures reads { (seen self.new).read_faults ≡ (seen self.old).read_faults };
 }
 
 /// Takes pieces in order.
 pub trait Sink {
-    /// What it tells of itself.
+    /// What it shows of itself.
     ghost seen: { Self → SinkSeen };
 
     /// Appends the whole piece, or fails, counts that, and has appended a front of it.

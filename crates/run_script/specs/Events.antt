@@ -9,7 +9,7 @@ use Rattle.run_script.specs.Scripts.{Refusal, ScriptData}
 abbrev pub script_data : Script → ScriptData
 script_data s = record { every = s.every; events = s.events.items }
 
--- the cause and the line that it tells; none for want of memory
-abbrev pub told : ScriptFault → Option Refusal
-told (fault.Refused cause line) = Some (cause, line)
-told fault.Memory = None
+-- the cause and the line that it states; none for want of memory
+abbrev pub stated : ScriptFault → Option Refusal
+stated (fault.Refused cause line) = Some (cause, line)
+stated fault.Memory = None

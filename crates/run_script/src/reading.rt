@@ -2,7 +2,7 @@
 
 ghost use Rattle.std.specs.Prelude.{◌≡◌, IfOk, IfErr, IfSome, Ok, Err};
 ghost use Rattle.run_script.specs.Drafts.{drafted};
-ghost use Rattle.run_script.specs.Events.{script_data, told};
+ghost use Rattle.run_script.specs.Events.{script_data, stated};
 ghost use Rattle.run_script.specs.Scripts.{script_or_fault};
 
 use crate::draft::{Draft, empty_draft, take};
@@ -15,7 +15,7 @@ use text_lines::Lines;
 fn draft_of(alloc: Global, bytes: &[u8]) -> Result<Draft, ScriptFault>
     ensures ok { IfOk result (λ d. script_or_fault bytes.now ≡ Ok (drafted d)) }
     ensures refused { IfErr result (λ e.
-        IfSome (told e) (λ t. script_or_fault bytes.now ≡ Err t)) }
+        IfSome (stated e) (λ t. script_or_fault bytes.now ≡ Err t)) }
 {
     let mut draft = empty_draft(alloc);
     let mut number = 0usize;
@@ -37,7 +37,7 @@ impl Script {
     pub fn read(alloc: Global, bytes: &[u8]) -> Result<Script, ScriptFault>
         ensures ok { IfOk result (λ s. script_or_fault bytes.now ≡ Ok (script_data s)) }
         ensures refused { IfErr result (λ e.
-            IfSome (told e) (λ t. script_or_fault bytes.now ≡ Err t)) }
+            IfSome (stated e) (λ t. script_or_fault bytes.now ≡ Err t)) }
     {
         match draft_of(alloc, bytes) {
             Err(fault) => Err(fault),

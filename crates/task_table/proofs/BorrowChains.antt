@@ -15,7 +15,7 @@ use Rattle.task_table.specs.State.{Setup, Call, Own, Lease, Read, Entry, Leased,
 use Rattle.task_table.specs.Reading.{arguments, is_out, is_dead, dead_code_for, taken_by, is_valid, bad_byte}
 use Rattle.task_table.specs.Effects.{looked, faulted}
 use Rattle.task_table.specs.Rows.{misused, denied}
-use Rattle.task_table.specs.Borrows.{entry_range, grant, lease_range, entry_read, Way, reading, writing, moved, refused, buffer_of, part_of, borrowed_by, borrowed, untold, informed_by, informed}
+use Rattle.task_table.specs.Borrows.{entry_range, grant, lease_range, entry_read, Way, reading, writing, moved, refused, buffer_of, part_of, borrowed_by, borrowed, uninformed, informed_by, informed}
 use Rattle.task_table.specs.Sane.{Sane}
 use Rattle.task_table.specs.Grounds.{IsTakenBy, IsAlive}
 use Rattle.task_table.specs.Chain.{Here}
@@ -45,13 +45,13 @@ unfolding looked
 reads-looked r t entry x here = elim (added_in t.reads r x here) [ inl old ↦ inl old | inr new ↦ inr (rw new entry) ]
 
 module _ (g : Setup) (c : ℕ) (t : Turn) (h : Sane g t.state) (inside : c < length g.tasks) where
-  -- ## what is told to the borrower
+  -- ## what the borrower gets
 
   refuses : (code : ℕ) (u : Turn) → Leads g c t u → Comes g c t (refused c code u)
   refuses code u x = goes_with g c t inside (code ∷ 0 ∷ []) u (omega arith) x
 
-  untells : (code : ℕ) (u : Turn) → Leads g c t u → Comes g c t (untold c code u)
-  untells code u x = goes_with g c t inside (code ∷ 0 ∷ 0 ∷ []) u (omega arith) x
+  uninforms : (code : ℕ) (u : Turn) → Leads g c t u → Comes g c t (uninformed c code u)
+  uninforms code u x = goes_with g c t inside (code ∷ 0 ∷ 0 ∷ []) u (omega arith) x
 
   -- ## with a call that c has taken
 
@@ -163,10 +163,10 @@ module _ (g : Setup) (c : ℕ) (t : Turn) (h : Sane g t.state) (inside : c < len
   pub comes-written : Comes g c t (borrowed g writing c t)
   comes-written = borrows writing write_moves
 
-  -- ## what is told of a lease
+  -- ## what it gets for a lease
 
   informs : (lease i : ℕ) (o : Option Call) → taken_by t.state i c ≡ o → Comes g c t (informed_by g c lease o t)
-  informs lease i None found = untells 1 t (Here t)
+  informs lease i None found = uninforms 1 t (Here t)
   informs lease i (Some k) found =
       let f = found_taken t.state i c k found in
       let bad = bad_byte g k.client.index right.Read (entry_range k lease) in
@@ -174,8 +174,8 @@ module _ (g : Setup) (c : ℕ) (t : Turn) (h : Sane g t.state) (inside : c < len
       let t1 = entry_read k lease e t in
       let x1 = reads_entry k f lease e in
       by_outcome (leb k.leases lease) (λ out. comes-misused g c t inside 8) (λ there.
-      by_outcome (is_some bad) (λ b. untells 1 (denied g k.client.index 2 bad t) (denies_lender k f 2 bad t (Here t))) (λ readable.
-      by_outcome (not (is_valid (lease_range e))) (λ b. untells 1 (misused g k.client.index 3 t1) (misuses_lender k f 3 t1 x1)) (λ valid.
+      by_outcome (is_some bad) (λ b. uninforms 1 (denied g k.client.index 2 bad t) (denies_lender k f 2 bad t (Here t))) (λ readable.
+      by_outcome (not (is_valid (lease_range e))) (λ b. uninforms 1 (misused g k.client.index 3 t1) (misuses_lender k f 3 t1 x1)) (λ valid.
       goes_with g c t inside (0 ∷ bit_and e.attributes 3 ∷ e.len ∷ []) _ (omega arith) (x1 ▷ (Borrows k.number borrow.Info lease 0 0 t1 (alive k f t1), tt)))))
 
   pub comes-informed : Comes g c t (informed g c t)
@@ -185,5 +185,5 @@ module _ (g : Setup) (c : ℕ) (t : Turn) (h : Sane g t.state) (inside : c < len
       let x = info_args (arguments s c) in
       let id = x.lender.number in
       by_outcome (is_out s id) (λ out. comes-misused g c t inside 2) (λ there.
-      by_outcome (is_dead s id) (λ dead. untells (dead_code_for s id) t (Here t)) (λ live.
+      by_outcome (is_dead s id) (λ dead. uninforms (dead_code_for s id) t (Here t)) (λ live.
       informs x.lease (index_of id) (taken_by s (index_of id) c) refl))

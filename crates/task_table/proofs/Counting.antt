@@ -8,7 +8,7 @@ use Rattle.kernel_abi.specs.declared.Note.TheVariants as note
 use Rattle.words_core.specs.declared.Flags.{Flags}
 use Rattle.task_table.specs.State.{Setup, State, Turn, Ground}
 use Rattle.task_table.specs.Effects.{with_task, with_call, without_call, without_listen, with_taken, changed, noted, with_processor, with_health, stored, copied, looked, posted, closed, faulted_as, faulted, offered}
-use Rattle.task_table.specs.Rows.{call_noted}
+use Rattle.task_table.specs.Rows.{syscall_noted}
 use Rattle.task_table.specs.Placed.{ArePlaced}
 use Rattle.task_table.specs.Sane.{IsCounted}
 use Rattle.task_table.specs.Counts.{IsSameTime, AreCounts}
@@ -58,9 +58,9 @@ time-faulted g i fault t = go (eqb i 0)
     go true = same
     go false = time-joined t.state shut.state (posted 0 g.fault_bits shut).state same (time-posted 0 g.fault_bits shut)
 
-pub time-call_noted : (c : ℕ) (t : Turn) → IsSameTime t.state (call_noted c t).state
-unfolding call_noted
-time-call_noted c t = time-noted _ t
+pub time-syscall_noted : (c : ℕ) (t : Turn) → IsSameTime t.state (syscall_noted c t).state
+unfolding syscall_noted
+time-syscall_noted c t = time-noted _ t
 
 -- ## chains
 

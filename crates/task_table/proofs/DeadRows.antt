@@ -1,4 +1,4 @@
--- Calls that name an earlier birth of a task.
+-- System calls that name an earlier birth of a task.
 use Rattle.std.proofs.Common.{◌≡◌, ◌+◌, ◌%◌, ◌^◌, ◌<◌, ◌≤◌, ℕ, List, [], ◌∷◌, ◌++◌, length, refl, sym, ◌∙◌, ap, arith}
 use Rattle.std.specs.Prelude.{take, drop, slice_set, slice_index}
 use Rattle.std.proofs.lemmas.Bool.{ne_eqb, le-ltb, lt-ltb}
@@ -7,50 +7,50 @@ use Rattle.task_table.proofs.Posting.{kept_at}
 use Rattle.task_table.proofs.Changes.{task_at-with_task, task_at-with_task_other, length-with_task}
 use Rattle.task_table.specs.State.{Setup, State, Task, Turn}
 use Rattle.task_table.specs.Reading.{task_at, register, dead_code_for}
-use Rattle.task_table.specs.Effects.{given, returned, past_call, noted, with_task, with_results}
+use Rattle.task_table.specs.Effects.{given, returned, past_syscall, noted, with_task, with_results}
 use Rattle.task_table.specs.Rows.{misused, goes_on, goes_on_with, received}
 use Rattle.task_table.specs.Sends.{last_reason, sent, replied, reply_faulted, post_made}
 use Rattle.task_table.specs.Borrows.{borrowed, informed}
-use Rattle.task_table.specs.Calls.{called}
-use Rattle.task_table.specs.DeadIds.{Calls, IsDeadId, MaySend, MayReceiveFrom, IsToldAlone, recipient, sender, client, lender, asked_lender, posted_to, reason}
+use Rattle.task_table.specs.Syscalls.{syscall_made}
+use Rattle.task_table.specs.DeadIds.{Calls, IsDeadId, MaySend, MayReceiveFrom, IsAnsweredAlone, recipient, sender, client, lender, asked_lender, posted_to, reason}
 
-pub dead-replied : (g : Setup) (c : ℕ) (t : Turn) → Calls 2 c t → IsDeadId t.state (client t.state c) → called g c t ≡ goes_on c t
-unfolding called replied
+pub dead-replied : (g : Setup) (c : ℕ) (t : Turn) → Calls 2 c t → IsDeadId t.state (client t.state c) → syscall_made g c t ≡ goes_on c t
+unfolding syscall_made replied
 dead-replied g c t e d = rw (e, d.inside, d.dead) refl
 
-pub dead-sent : (g : Setup) (c : ℕ) (t : Turn) → Calls 0 c t → IsDeadId t.state (recipient t.state c) → MaySend g c t.state → called g c t ≡ goes_on_with c (dead_code_for t.state (recipient t.state c) ∷ 0 ∷ []) t
-unfolding called sent
+pub dead-sent : (g : Setup) (c : ℕ) (t : Turn) → Calls 0 c t → IsDeadId t.state (recipient t.state c) → MaySend g c t.state → syscall_made g c t ≡ goes_on_with c (dead_code_for t.state (recipient t.state c) ∷ 0 ∷ []) t
+unfolding syscall_made sent
 dead-sent g c t e d m = let other = ne_eqb _ _ m.other in rw (e, m.task, d.inside, other, m.message, m.reply, m.table, m.readable, m.writable, d.dead) refl
 
-pub dead-received : (g : Setup) (c : ℕ) (t : Turn) → Calls 1 c t → IsDeadId t.state (sender t.state c) → MayReceiveFrom g c t.state → called g c t ≡ goes_on_with c (dead_code_for t.state (sender t.state c) ∷ 0 ∷ 0 ∷ 0 ∷ 0 ∷ 0 ∷ []) t
-unfolding called received
+pub dead-received : (g : Setup) (c : ℕ) (t : Turn) → Calls 1 c t → IsDeadId t.state (sender t.state c) → MayReceiveFrom g c t.state → syscall_made g c t ≡ goes_on_with c (dead_code_for t.state (sender t.state c) ∷ 0 ∷ 0 ∷ 0 ∷ 0 ∷ 0 ∷ []) t
+unfolding syscall_made received
 dead-received g c t e d m =
     let other = ne_eqb _ _ m.other in
     let task = ne_eqb _ _ m.task in
     rw (e, m.valid, m.writable, m.closed, task, d.inside, other, m.quiet, d.dead) refl
 
-pub dead-read : (g : Setup) (c : ℕ) (t : Turn) → Calls 4 c t → IsDeadId t.state (lender t.state c) → called g c t ≡ goes_on_with c (dead_code_for t.state (lender t.state c) ∷ 0 ∷ []) t
-unfolding called borrowed
+pub dead-read : (g : Setup) (c : ℕ) (t : Turn) → Calls 4 c t → IsDeadId t.state (lender t.state c) → syscall_made g c t ≡ goes_on_with c (dead_code_for t.state (lender t.state c) ∷ 0 ∷ []) t
+unfolding syscall_made borrowed
 dead-read g c t e d = rw (e, d.inside, d.dead) refl
 
-pub dead-written : (g : Setup) (c : ℕ) (t : Turn) → Calls 5 c t → IsDeadId t.state (lender t.state c) → called g c t ≡ goes_on_with c (dead_code_for t.state (lender t.state c) ∷ 0 ∷ []) t
-unfolding called borrowed
+pub dead-written : (g : Setup) (c : ℕ) (t : Turn) → Calls 5 c t → IsDeadId t.state (lender t.state c) → syscall_made g c t ≡ goes_on_with c (dead_code_for t.state (lender t.state c) ∷ 0 ∷ []) t
+unfolding syscall_made borrowed
 dead-written g c t e d = rw (e, d.inside, d.dead) refl
 
-pub dead-informed : (g : Setup) (c : ℕ) (t : Turn) → Calls 6 c t → IsDeadId t.state (asked_lender t.state c) → called g c t ≡ goes_on_with c (dead_code_for t.state (asked_lender t.state c) ∷ 0 ∷ 0 ∷ []) t
-unfolding called informed
+pub dead-informed : (g : Setup) (c : ℕ) (t : Turn) → Calls 6 c t → IsDeadId t.state (asked_lender t.state c) → syscall_made g c t ≡ goes_on_with c (dead_code_for t.state (asked_lender t.state c) ∷ 0 ∷ 0 ∷ []) t
+unfolding syscall_made informed
 dead-informed g c t e d = rw (e, d.inside, d.dead) refl
 
-pub dead-posted : (g : Setup) (c : ℕ) (t : Turn) → Calls 11 c t → IsDeadId t.state (posted_to t.state c) → called g c t ≡ goes_on_with c (dead_code_for t.state (posted_to t.state c) ∷ []) t
-unfolding called post_made
+pub dead-posted : (g : Setup) (c : ℕ) (t : Turn) → Calls 11 c t → IsDeadId t.state (posted_to t.state c) → syscall_made g c t ≡ goes_on_with c (dead_code_for t.state (posted_to t.state c) ∷ []) t
+unfolding syscall_made post_made
 dead-posted g c t e d = rw (e, d.inside, d.dead) refl
 
-pub dead-reply_faulted : (g : Setup) (c : ℕ) (t : Turn) → Calls 12 c t → IsDeadId t.state (client t.state c) → reason t.state c ≤ last_reason → called g c t ≡ goes_on c t
-unfolding called reply_faulted
+pub dead-reply_faulted : (g : Setup) (c : ℕ) (t : Turn) → Calls 12 c t → IsDeadId t.state (client t.state c) → reason t.state c ≤ last_reason → syscall_made g c t ≡ goes_on c t
+unfolding syscall_made reply_faulted
 dead-reply_faulted g c t e d few = let known = le-ltb 5 (reason t.state c) few in rw (e, d.inside, known, d.dead) refl
 
-pub dead-no_reason : (g : Setup) (c : ℕ) (t : Turn) → Calls 12 c t → IsDeadId t.state (client t.state c) → last_reason < reason t.state c → called g c t ≡ misused g c 10 t
-unfolding called reply_faulted
+pub dead-no_reason : (g : Setup) (c : ℕ) (t : Turn) → Calls 12 c t → IsDeadId t.state (client t.state c) → last_reason < reason t.state c → syscall_made g c t ≡ misused g c 10 t
+unfolding syscall_made reply_faulted
 dead-no_reason g c t e d many = let unknown = lt-ltb 5 (reason t.state c) many in rw (e, d.inside, unknown) refl
 
 -- all but the tasks is the same
@@ -69,9 +69,9 @@ beside_task c x s = record { calls = refl; listens = refl; memory = refl; now = 
 no_results : (registers : List ℕ) → with_results [] registers ≡ registers
 no_results registers = ap (λ xs. xs ++ drop 4 registers) (append-nil (take 4 registers)) ∙ take-append-drop 4 registers
 
-pub told-goes_on : (c : ℕ) (t : Turn) → c < length t.state.tasks → length (task_at t.state c).registers ≡ 16 → IsToldAlone c [] t (goes_on c t)
-unfolding past_call returned noted register
-told-goes_on c t inside sixteen =
+pub answered-goes_on : (c : ℕ) (t : Turn) → c < length t.state.tasks → length (task_at t.state c).registers ≡ 16 → IsAnsweredAlone c [] t (goes_on c t)
+unfolding past_syscall returned noted register
+answered-goes_on c t inside sixteen =
     let task = task_at-with_task t.state c record (task_at t.state c) { registers = slice_set (task_at t.state c).registers 15 ((slice_index (task_at t.state c).registers 15 + 2) % 2 ^ 32) } inside in
     let same = beside_task c record (task_at t.state c) { registers = slice_set (task_at t.state c).registers 15 ((slice_index (task_at t.state c).registers 15 + 2) % 2 ^ 32) } t.state in
     let all = no_results (task_at t.state c).registers in
@@ -94,9 +94,9 @@ told-goes_on c t inside sixteen =
 counter_kept : (values registers : List ℕ) → length registers ≡ 16 → length values ≤ 6 → slice_index (with_results values registers) 15 ≡ slice_index registers 15
 counter_kept values registers sixteen few = kept_at values registers 15 sixteen few (omega arith) (omega arith)
 
-pub told-goes_on_with : (c : ℕ) (values : List ℕ) (t : Turn) → c < length t.state.tasks → length (task_at t.state c).registers ≡ 16 → length values ≤ 6 → IsToldAlone c values t (goes_on_with c values t)
-unfolding given past_call returned noted register
-told-goes_on_with c values t inside sixteen few =
+pub answered-goes_on_with : (c : ℕ) (values : List ℕ) (t : Turn) → c < length t.state.tasks → length (task_at t.state c).registers ≡ 16 → length values ≤ 6 → IsAnsweredAlone c values t (goes_on_with c values t)
+unfolding given past_syscall returned noted register
+answered-goes_on_with c values t inside sixteen few =
     let x = record (task_at t.state c) { registers = with_results values (task_at t.state c).registers } in
     let y = record x { registers = slice_set x.registers 15 ((slice_index x.registers 15 + 2) % 2 ^ 32) } in
     let inner = task_at-with_task t.state c x inside in

@@ -8,7 +8,7 @@ use Rattle.kernel_abi.specs.declared.TaskId.{TaskId}
 use Rattle.mem_banks.specs.Memory.{IsWithinRam}
 use Rattle.task_table.specs.State.{Setup, Call, Listen, State, Birth, From, Any, One, KernelOnly, Range, Message, Turn}
 use Rattle.task_table.specs.Reading.{task_at, call_of, listen_of, present, admits, is_taken, taken_by, IsIdle, IsSameBut}
-use Rattle.task_table.specs.Effects.{with_task, with_call, returned, handed, past_call, offered, noted}
+use Rattle.task_table.specs.Effects.{with_task, with_call, returned, handed, past_syscall, offered, noted}
 use Rattle.task_table.specs.Sends.{taken_at_once}
 use Rattle.task_table.specs.Messages.{buffer_for}
 use Rattle.task_table.specs.Sane.{Sane}
@@ -170,13 +170,13 @@ listener_ram g s client j buffer sane e = go (listen_of s j) refl e
 
 -- ## what going past a call and offering one leave alone
 
-pub listen_of-past_call : (c : ℕ) (t : Turn) (j : ℕ) → listen_of (past_call c t).state j ≡ listen_of t.state j
-unfolding past_call
-listen_of-past_call c t j = listen_of-with_task t.state c j _
+pub listen_of-past_syscall : (c : ℕ) (t : Turn) (j : ℕ) → listen_of (past_syscall c t).state j ≡ listen_of t.state j
+unfolding past_syscall
+listen_of-past_syscall c t j = listen_of-with_task t.state c j _
 
-pub next_call-past_call : (c : ℕ) (t : Turn) → (past_call c t).state.next_call ≡ t.state.next_call
-unfolding past_call with_task
-next_call-past_call c t = refl
+pub next_call-past_syscall : (c : ℕ) (t : Turn) → (past_syscall c t).state.next_call ≡ t.state.next_call
+unfolding past_syscall with_task
+next_call-past_syscall c t = refl
 
 pub memory-offered : (k : Call) (t : Turn) → (offered k t).state.memory ≡ t.state.memory
 unfolding offered noted with_call

@@ -28,7 +28,7 @@ pub record IsMoved (g : Setup) (s : State) (c : ℕ) (u v : Turn) : Type 0 where
   pub reads : (r : Read) → Contains u.reads r → Contains v.reads r
   pub written : (w : Written) → Contains v.writes w → Contains u.writes w ⊎ MayChange g s c v w.on w.address
   pub read : (r : Read) → Contains v.reads r → Contains u.reads r ⊎ IsAlive s c v r.call
-  pub told : (n : Note) → Contains v.notes n → Contains u.notes n ⊎ IfSome (touched n) (IsAlive s c v)
+  pub touches : (n : Note) → Contains v.notes n → Contains u.notes n ⊎ IfSome (touched n) (IsAlive s c v)
 
 -- what is alive stays so
 alive_stays : (s : State) (c : ℕ) (u v : Turn) (k : ℕ) → ((n : Note) → Contains u.notes n → Contains v.notes n) → IsAlive s c u k → IsAlive s c v k
@@ -50,8 +50,8 @@ one_in y x (zero, lt, same) = same
 one_in y x (suc k, lt, same) = absurd (omega arith)
 
 -- the last note is the only new one
-told_one : (s : State) (c : ℕ) (v : Turn) (xs : List Note) (m : Note) → IfSome (touched m) (IsAlive s c v) → (n : Note) → Contains (xs ++ m ∷ []) n → Contains xs n ⊎ IfSome (touched n) (IsAlive s c v)
-told_one s c v xs m h n here = elim (Contains-append_cases xs (m ∷ []) n here) [ inl a ↦ inl a | inr b ↦ inr (rw (← one_in m n b) h) ]
+touches_one : (s : State) (c : ℕ) (v : Turn) (xs : List Note) (m : Note) → IfSome (touched m) (IsAlive s c v) → (n : Note) → Contains (xs ++ m ∷ []) n → Contains xs n ⊎ IfSome (touched n) (IsAlive s c v)
+touches_one s c v xs m h n here = elim (Contains-append_cases xs (m ∷ []) n here) [ inl a ↦ inl a | inr b ↦ inr (rw (← one_in m n b) h) ]
 
 -- a plain note touches no call
 plain_touched : (n : Note) → is_plain n ≡ true → touched n ≡ None
@@ -62,7 +62,7 @@ plain_touched (note.Borrow call borrow lease offset moved) h = absurd (false≢t
 plain_touched (note.Tick now) h = refl
 plain_touched (note.Irq line handled) h = refl
 plain_touched (note.Post task bits posted) h = refl
-plain_touched (note.Call task number arguments) h = refl
+plain_touched (note.Syscall task number arguments) h = refl
 plain_touched (note.Ret task results) h = refl
 plain_touched (note.Fault task fault) h = refl
 plain_touched (note.Restart task generation) h = refl
@@ -82,7 +82,7 @@ module _ (g : Setup) (s : State) (c : ℕ) where
     reads = λ r h. rw a.reads h;
     written = λ w h. inl (rw a.writes at h);
     read = λ r h. inl (rw a.reads at h);
-    told = λ n h. elim (Contains-append_cases u.notes a.new n (rw a.notes at h)) [
+    touches = λ n h. elim (Contains-append_cases u.notes a.new n (rw a.notes at h)) [
       | inl old ↦ inl old
       | inr new ↦ inr (plain_alive s c v n (plain_one a.new n a.plain new))
     ];
@@ -98,7 +98,7 @@ module _ (g : Setup) (s : State) (c : ℕ) where
       | inr new ↦ let r = writes_in on at bytes w new in inr (rw r.0 (may_stays g s c u (stored on at bytes u) on w.address (λ n h. h) (λ x h. h) (may w.address r.1 r.2)))
     ];
     read = λ r h. inl h;
-    told = λ n h. inl h;
+    touches = λ n h. inl h;
   }
 
   moved-looked : (r : Read) (u : Turn) → IsAlive s c u r.call → IsMoved g s c u (looked r u)
@@ -108,7 +108,7 @@ module _ (g : Setup) (s : State) (c : ℕ) where
     reads = λ x h. Contains-append_left u.reads (r ∷ []) x h;
     written = λ w h. inl h;
     read = λ x h. elim (Contains-append_cases u.reads (r ∷ []) x h) [ inl old ↦ inl old | inr new ↦ inr (rw (← one_in r x new) alive) ];
-    told = λ n h. inl h;
+    touches = λ n h. inl h;
   }
 
   moved-noted : (m : Note) (u : Turn) → IfSome (touched m) (IsAlive s c u) → IsMoved g s c u (noted m u)
@@ -118,7 +118,7 @@ module _ (g : Setup) (s : State) (c : ℕ) where
     reads = λ r h. h;
     written = λ w h. inl h;
     read = λ r h. inl h;
-    told = told_one s c (noted m u) u.notes m (by_touch (touched m) alive);
+    touches = touches_one s c (noted m u) u.notes m (by_touch (touched m) alive);
   }
     where
       by_touch : (o : Option ℕ) → IfSome o (IsAlive s c u) → IfSome o (IsAlive s c (noted m u))
@@ -132,7 +132,7 @@ module _ (g : Setup) (s : State) (c : ℕ) where
     reads = λ r h. h;
     written = λ w h. inl h;
     read = λ r h. inl h;
-    told = told_one s c (offered k u) u.notes (note.Offer k.number k.client.index k.server.index) tt;
+    touches = touches_one s c (offered k u) u.notes (note.Offer k.number k.client.index k.server.index) tt;
   }
 
   moved-taken : (on : Ground) (k : Call) (buffer : Range) (u : Turn) → IsTaking g s c u on k buffer → IsMoved g s c u (taken_over on k buffer u)
@@ -154,7 +154,7 @@ module _ (g : Setup) (s : State) (c : ℕ) where
               inr (rw i.0 (t.may w.address (i.1, omega (arith, i.2, few))))
         ];
         read = λ x h. elim (Contains-append_cases u.reads (r ∷ []) x h) [ inl old ↦ inl old | inr new ↦ inr (rw (← one_in r x new) alive) ];
-        told = told_one s c v u.notes (note.Take k.number n) alive;
+        touches = touches_one s c v u.notes (note.Take k.number n) alive;
       }
 
   moved-closed : (i : ℕ) (ending : Ending) (u : Turn) → IsMoved g s c u (closed i ending u)
@@ -164,7 +164,7 @@ module _ (g : Setup) (s : State) (c : ℕ) where
     reads = λ r h. h;
     written = λ w h. inl h;
     read = λ r h. inl h;
-    told = λ n h. elim (Contains-append_cases u.notes (close_notes ending (call_of u.state i)) n h) [ inl old ↦ inl old | inr new ↦ inr (by_call (call_of u.state i) n new) ];
+    touches = λ n h. elim (Contains-append_cases u.notes (close_notes ending (call_of u.state i)) n h) [ inl old ↦ inl old | inr new ↦ inr (by_call (call_of u.state i) n new) ];
   }
     where
       by_call : (o : Option Call) (n : Note) → Contains (close_notes ending o) n → IfSome (touched n) (IsAlive s c (closed i ending u))
@@ -186,7 +186,7 @@ module _ (g : Setup) (s : State) (c : ℕ) where
 pub record IsHonest (g : Setup) (s : State) (c : ℕ) (u : Turn) : Type 0 where
   pub grounded : AreGrounded g s c u
   pub read : (r : Read) → Contains u.reads r → IsAlive s c u r.call
-  pub told : (n : Note) → Contains u.notes n → IfSome (touched n) (IsAlive s c u)
+  pub touches : (n : Note) → Contains u.notes n → IfSome (touched n) (IsAlive s c u)
 
 some_stays : (s : State) (c : ℕ) (u v : Turn) (o : Option ℕ) → ((n : Note) → Contains u.notes n → Contains v.notes n) → IfSome o (IsAlive s c u) → IfSome o (IsAlive s c v)
 some_stays s c u v None more h = tt
@@ -198,7 +198,7 @@ move_honest g s c u v m h =
     record {
       grounded = λ w here. elim (f.written w here) [ inl old ↦ may_stays g s c u v w.on w.address f.notes f.reads (h.grounded w old) | inr new ↦ new ];
       read = λ r here. elim (f.read r here) [ inl old ↦ alive_stays s c u v r.call f.notes (h.read r old) | inr new ↦ new ];
-      told = λ n here. elim (f.told n here) [ inl old ↦ some_stays s c u v (touched n) f.notes (h.told n old) | inr new ↦ new ];
+      touches = λ n here. elim (f.touches n here) [ inl old ↦ some_stays s c u v (touched n) f.notes (h.touches n old) | inr new ↦ new ];
     }
 
 -- who writes on the ground of a call finds it alive
@@ -209,14 +209,14 @@ ground_alive g s c u (Reply k) a h = inl (h.call, h.taken.here, h.taken.number)
 ground_alive g s c u (Lease k) a h = inl (h.call, h.taken.here, h.taken.number)
 
 pub honest_alive : (g : Setup) (s : State) (c : ℕ) (u : Turn) → IsHonest g s c u → AreAlive s c u
-honest_alive g s c u h = record { written = λ w here. ground_alive g s c u w.on w.address (h.grounded w here); read = h.read; told = h.told }
+honest_alive g s c u h = record { written = λ w here. ground_alive g s c u w.on w.address (h.grounded w here); read = h.read; touches = h.touches }
 
 -- where nothing has happened yet
 fresh_honest : (g : Setup) (s : State) (c : ℕ) (u : Turn) → IsFresh s u → IsHonest g s c u
 fresh_honest g s c u f = record {
   grounded = λ w here. absurd (omega (arith, (rw f.writes at here).1));
   read = λ r here. absurd (omega (arith, (rw f.reads at here).1));
-  told = λ n here. plain_alive s c u n (f.plain n here);
+  touches = λ n here. plain_alive s c u n (f.plain n here);
 }
 
 pub chain_honest : (g : Setup) (s : State) (c : ℕ) → ArePlaced g s.memory → (u v : Turn) → Chain (Step g s c) u v → IsFresh s u → IsHonest g s c v
@@ -236,7 +236,7 @@ pub honest_same : (g : Setup) (s z : State) (c : ℕ) (u v : Turn) → z.calls �
 honest_same g s z c u v calls listens notes reads writes h = record {
   grounded = λ w here. may_same g s z c u v calls listens notes reads w.on w.address (h.grounded w (rw writes at here));
   read = λ r here. alive_same s z c u v calls notes r.call (h.read r (rw reads at here));
-  told = λ n here. by_touch (touched n) (h.told n (rw notes at here));
+  touches = λ n here. by_touch (touched n) (h.touches n (rw notes at here));
 }
   where
     by_touch : (o : Option ℕ) → IfSome o (IsAlive s c u) → IfSome o (IsAlive z c v)

@@ -15,17 +15,17 @@ use Rattle.region_check.proofs.FirstBad.{first_bad_none}
 use Rattle.mem_banks.specs.Memory.{bytes_at, copied as copied_memory}
 use Rattle.task_table.specs.State.{Setup, State, Call, Listen, Range, Ground, Own, Message, Turn}
 use Rattle.task_table.specs.Reading.{setup_at, call_of, listen_of, bad_byte, admits}
-use Rattle.task_table.specs.Effects.{with_task, with_call, without_listen, changed, noted, with_health, stored, copied, looked, given, returned, closed, posted, faulted_as, offered, handed, reborn, is_to, awaits, told_dead, restarted}
+use Rattle.task_table.specs.Effects.{with_task, with_call, without_listen, changed, noted, with_health, stored, copied, looked, given, returned, closed, posted, faulted_as, offered, handed, reborn, is_to, awaits, dead_answered, restarted}
 use Rattle.task_table.specs.Sends.{taken_at_once, offers_call}
 use Rattle.task_table.specs.Placed.{ArePlaced}
 use Rattle.task_table.specs.Grounds.{Lies, MayWrite}
 use Rattle.task_table.specs.Chain.{Chain, Here}
-use Rattle.task_table.specs.Step.{MayOffer, MayReceive, IsTarget, MayChangeAll, Ends, Step, Notes, Gives, Returns, PassesCall, Runs, Clears, Posts, Times, Lines, Listens, Sends, Receives, Stores, Copies, Looks, Borrows, Ceases, Halts, Strikes, Restarts}
+use Rattle.task_table.specs.Step.{MayOffer, MayReceive, IsTarget, MayChangeAll, Ends, Step, Notes, Gives, Returns, PassesSyscall, Runs, Clears, Posts, Times, Lines, Listens, Sends, Receives, Stores, Copies, Looks, Borrows, Ceases, Halts, Strikes, Restarts}
 use Rattle.task_table.proofs.Chains.{one, ◌▷◌, joined, refined, chain-fold}
 use Rattle.task_table.proofs.Handing.{few_bytes}
 use Rattle.task_table.proofs.Ranges.{within_ram-good, within_ram-front}
 use Rattle.task_table.proofs.Posting.{found_listen}
-use Rattle.task_table.proofs.Moves.{IsAside, aside-noted, aside-given, aside-returned, aside-past_call, aside-cleared, aside-unlistened, aside-listening, aside-timer, aside-line, aside-health, aside-processor, aside-reborn, aside-posted, taken_over, IsTaking, Move, Aside, Writes, Reads, Lends, Offers, Takes, Closes}
+use Rattle.task_table.proofs.Moves.{IsAside, aside-noted, aside-given, aside-returned, aside-past_syscall, aside-cleared, aside-unlistened, aside-listening, aside-timer, aside-line, aside-health, aside-processor, aside-reborn, aside-posted, taken_over, IsTaking, Move, Aside, Writes, Reads, Lends, Offers, Takes, Closes}
 
 -- the bytes of a range that is good may each be written
 may-write : (g : Setup) (i : ℕ) (r : Range) (a : ℕ) → bad_byte g i Write r ≡ None → Lies r a → MayWrite g i a
@@ -121,8 +121,8 @@ module _ (g : Setup) (s : State) (c : ℕ) where
       by_zero true = shut
       by_zero false = shut ▷ aside (aside-posted 0 g.fault_bits (closed i ending d))
 
-  tells_dead : (i j : ℕ) (u : Turn) → Moves u (told_dead i u j)
-  tells_dead i j u = by_call (is_to i (call_of u.state j)) (awaits i (listen_of u.state j)) (dead_code_of _)
+  answers_dead : (i j : ℕ) (u : Turn) → Moves u (dead_answered i u j)
+  answers_dead i j u = by_call (is_to i (call_of u.state j)) (awaits i (listen_of u.state j)) (dead_code_of _)
     where
       shut : Turn
       shut = closed j Restart u
@@ -143,7 +143,7 @@ module _ (g : Setup) (s : State) (c : ℕ) where
       let d = changed (reborn g i start) b in
       joined (Move g s c) u _ _
       (one (Closes i Restart u tt) ▷ aside (aside-unlistened i a) ▷ aside (aside-reborn g i start b) ▷ aside (aside-noted (note.Restart i _) d refl))
-      (chain-fold (told_dead i) (range_with_len 0 (length u.state.tasks)) _ (λ j v here. tells_dead i j v))
+      (chain-fold (dead_answered i) (range_with_len 0 (length u.state.tasks)) _ (λ j v here. answers_dead i j v))
 
   -- the bytes that were there go to the front of a range that is good
   copies : ArePlaced g s.memory → (on : Ground) (from at n i : ℕ) (r : Range) (u : Turn) → IsTarget g i r at n → MayChangeAll g s c u on at n → Moves u (copied on from at n u)
@@ -158,7 +158,7 @@ module _ (g : Setup) (s : State) (c : ℕ) where
   step_moves placed _ _ (Notes n u plain) = one (aside (aside-noted n u plain))
   step_moves placed _ _ (Gives i values u lt few party) = one (aside (aside-given i values u))
   step_moves placed _ _ (Returns i u) = one (aside (aside-returned i u))
-  step_moves placed _ _ (PassesCall u lt) = one (aside (aside-past_call c u))
+  step_moves placed _ _ (PassesSyscall u lt) = one (aside (aside-past_syscall c u))
   step_moves placed _ _ (Runs registers flags u lt whole) = one (aside (aside-processor c registers flags u))
   step_moves placed _ _ (Clears mask u lt none) = one (aside (aside-cleared c mask u))
   step_moves placed _ _ (Posts i bits u lt) = one (aside (aside-posted i bits u))

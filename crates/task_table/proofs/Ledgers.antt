@@ -17,7 +17,7 @@ use Rattle.task_table.specs.Chain.{Chain}
 use Rattle.task_table.specs.Placed.{ArePlaced}
 use Rattle.task_table.specs.Start.{start}
 use Rattle.task_table.specs.Step.{is_plain, IsNew, Ends, Step}
-use Rattle.task_table.specs.Lives.{Life, New, Waiting, Held, Over, Wrong, after_offer, after_take, after_close, after, lived, AreApart, Lives, IsTold}
+use Rattle.task_table.specs.Lives.{Life, New, Waiting, Held, Over, Wrong, after_offer, after_take, after_close, after, lived, AreApart, Lives, IsAsNoted}
 use Rattle.task_table.proofs.Chains.{chain_keeps}
 use Rattle.task_table.proofs.Lives.{lived_on}
 use Rattle.task_table.proofs.Moves.{ArePlain, IsOutside, taken_over, IsTaking, Move, Aside, Writes, Reads, Lends, Offers, Takes, Closes}
@@ -233,9 +233,9 @@ live-close s i ending d a found ends j l h = elim (eqb_tells d.number j) [
 
 -- ## the ledger goes on
 
--- once more notes are told
-told_on : (old ns new : List Note) (s v : State) → AreApart v → ((k : ℕ) (l : Life) → Lives s k l → Lives v k (lived k l new)) → IsTold (old ++ ns) s → IsTold (old ++ (ns ++ new)) v
-told_on old ns new s v apart lives h = record {
+-- once more is noted
+as_noted_on : (old ns new : List Note) (s v : State) → AreApart v → ((k : ℕ) (l : Life) → Lives s k l → Lives v k (lived k l new)) → IsAsNoted (old ++ ns) s → IsAsNoted (old ++ (ns ++ new)) v
+as_noted_on old ns new s v apart lives h = record {
   apart = apart;
   lives = λ k. rw (← append_assoc old ns new, lived_on k New (old ++ ns) new) (lives k (lived k New (old ++ ns)) (h.lives k));
 }
@@ -249,7 +249,7 @@ plain_says (note.Borrow call borrow lease offset moved) h = absurd (false≢true
 plain_says (note.Tick now) h = refl
 plain_says (note.Irq line handled) h = refl
 plain_says (note.Post task bits posted) h = refl
-plain_says (note.Call task number arguments) h = refl
+plain_says (note.Syscall task number arguments) h = refl
 plain_says (note.Ret task results) h = refl
 plain_says (note.Fault task fault) h = refl
 plain_says (note.Restart task generation) h = refl
@@ -263,58 +263,58 @@ plain_lived : (k : ℕ) (l : Life) (ns : List Note) → ArePlain ns → lived k 
 plain_lived k l [] h = refl
 plain_lived k l (n ∷ ns) h = ap (λ x. lived k (after k x l) ns) (plain_says n h.0) ∙ plain_lived k l ns h.1
 
-pub told-aside : (old : List Note) (u v : Turn) → IsOutside u v → IsTold (old ++ u.notes) u.state → IsTold (old ++ v.notes) v.state
-told-aside old u v a h =
-    subst (λ ns. IsTold (old ++ ns) v.state) (sym a.notes)
-    (told_on old u.notes a.new u.state v.state (apart_same u.state v.state a.calls a.next_call h.apart) (λ k l x. rw (plain_lived k l a.new a.plain) (lives_same u.state v.state k l a.calls a.next_call x)) h)
+pub as_noted-aside : (old : List Note) (u v : Turn) → IsOutside u v → IsAsNoted (old ++ u.notes) u.state → IsAsNoted (old ++ v.notes) v.state
+as_noted-aside old u v a h =
+    subst (λ ns. IsAsNoted (old ++ ns) v.state) (sym a.notes)
+    (as_noted_on old u.notes a.new u.state v.state (apart_same u.state v.state a.calls a.next_call h.apart) (λ k l x. rw (plain_lived k l a.new a.plain) (lives_same u.state v.state k l a.calls a.next_call x)) h)
 
 -- calls stay, and so do the notes
-pub told-same : (old : List Note) (u v : Turn) → v.state.calls ≡ u.state.calls → v.state.next_call ≡ u.state.next_call → v.notes ≡ u.notes → IsTold (old ++ u.notes) u.state → IsTold (old ++ v.notes) v.state
-told-same old u v e n same h = rw same record { apart = apart_same u.state v.state e n h.apart; lives = λ k. lives_same u.state v.state k (lived k New (old ++ u.notes)) e n (h.lives k) }
+pub as_noted-same : (old : List Note) (u v : Turn) → v.state.calls ≡ u.state.calls → v.state.next_call ≡ u.state.next_call → v.notes ≡ u.notes → IsAsNoted (old ++ u.notes) u.state → IsAsNoted (old ++ v.notes) v.state
+as_noted-same old u v e n same h = rw same record { apart = apart_same u.state v.state e n h.apart; lives = λ k. lives_same u.state v.state k (lived k New (old ++ u.notes)) e n (h.lives k) }
 
-told-closed : (old : List Note) (i : ℕ) (ending : Ending) (u : Turn) → Ends ending (call_of u.state i) → IsTold (old ++ u.notes) u.state → IsTold (old ++ (closed i ending u).notes) (closed i ending u).state
+as_noted-closed : (old : List Note) (i : ℕ) (ending : Ending) (u : Turn) → Ends ending (call_of u.state i) → IsAsNoted (old ++ u.notes) u.state → IsAsNoted (old ++ (closed i ending u).notes) (closed i ending u).state
 unfolding closed
-told-closed old i ending u ends h = by_call (call_of u.state i) refl ends
+as_noted-closed old i ending u ends h = by_call (call_of u.state i) refl ends
   where
-    by_call : (o : Option Call) → call_of u.state i ≡ o → Ends ending o → IsTold (old ++ (u.notes ++ close_notes ending o)) (without_call i u.state)
-    by_call None e ends = told_on old u.notes [] u.state (without_call i u.state) (apart-close u.state i h.apart) (λ k l x. live-rest u.state i k l (λ c here same. idle_call u.state i c e here) x) h
-    by_call (Some d) e ends = told_on old u.notes (note.Close d.number ending ∷ []) u.state (without_call i u.state) (apart-close u.state i h.apart) (live-close u.state i ending d h.apart e ends) h
+    by_call : (o : Option Call) → call_of u.state i ≡ o → Ends ending o → IsAsNoted (old ++ (u.notes ++ close_notes ending o)) (without_call i u.state)
+    by_call None e ends = as_noted_on old u.notes [] u.state (without_call i u.state) (apart-close u.state i h.apart) (λ k l x. live-rest u.state i k l (λ c here same. idle_call u.state i c e here) x) h
+    by_call (Some d) e ends = as_noted_on old u.notes (note.Close d.number ending ∷ []) u.state (without_call i u.state) (apart-close u.state i h.apart) (live-close u.state i ending d h.apart e ends) h
 
-told-offered : (g : Setup) (s : State) (c : ℕ) (old : List Note) (k : Call) (u : Turn) → IsNew s c u k → IsTold (old ++ u.notes) u.state → IsTold (old ++ (offered k u).notes) (offered k u).state
+as_noted-offered : (g : Setup) (s : State) (c : ℕ) (old : List Note) (k : Call) (u : Turn) → IsNew s c u k → IsAsNoted (old ++ u.notes) u.state → IsAsNoted (old ++ (offered k u).notes) (offered k u).state
 unfolding offered noted
-told-offered g s c old k u new h =
+as_noted-offered g s c old k u new h =
     let free : call_of u.state k.client.index ≡ None = rw new.client new.free in
-    told_on old u.notes (note.Offer k.number k.client.index k.server.index ∷ []) u.state (with_call k u.state) (apart-offer u.state k h.apart new.number free) (live-offer u.state k h.apart new.number new.phase) h
+    as_noted_on old u.notes (note.Offer k.number k.client.index k.server.index ∷ []) u.state (with_call k u.state) (apart-offer u.state k h.apart new.number free) (live-offer u.state k h.apart new.number new.phase) h
 
-told-taken : (g : Setup) (s : State) (c : ℕ) (old : List Note) (on : Ground) (k : Call) (buffer : Range) (u : Turn) → IsTaking g s c u on k buffer → IsTold (old ++ u.notes) u.state → IsTold (old ++ (taken_over on k buffer u).notes) (taken_over on k buffer u).state
+as_noted-taken : (g : Setup) (s : State) (c : ℕ) (old : List Note) (on : Ground) (k : Call) (buffer : Range) (u : Turn) → IsTaking g s c u on k buffer → IsAsNoted (old ++ u.notes) u.state → IsAsNoted (old ++ (taken_over on k buffer u).notes) (taken_over on k buffer u).state
 unfolding noted copied looked
-told-taken g s c old on k buffer u t h = go (min k.message.length buffer.length) _ refl refl
+as_noted-taken g s c old on k buffer u t h = go (min k.message.length buffer.length) _ refl refl
   where
-    go : (m : ℕ) (v : State) → v.calls ≡ u.state.calls → v.next_call ≡ u.state.next_call → IsTold (old ++ (u.notes ++ note.Take k.number m ∷ [])) (with_taken k.client.index v)
-    go m v e n = told_on old u.notes (note.Take k.number m ∷ []) u.state (with_taken k.client.index v) (apart-take v k.client.index (apart_same u.state v e n h.apart)) (λ j l x. live-take v k (apart_same u.state v e n h.apart) (rw e t.here) t.offered j l (lives_same u.state v j l e n x)) h
+    go : (m : ℕ) (v : State) → v.calls ≡ u.state.calls → v.next_call ≡ u.state.next_call → IsAsNoted (old ++ (u.notes ++ note.Take k.number m ∷ [])) (with_taken k.client.index v)
+    go m v e n = as_noted_on old u.notes (note.Take k.number m ∷ []) u.state (with_taken k.client.index v) (apart-take v k.client.index (apart_same u.state v e n h.apart)) (λ j l x. live-take v k (apart_same u.state v e n h.apart) (rw e t.here) t.offered j l (lives_same u.state v j l e n x)) h
 
-told-stored : (old : List Note) (on : Ground) (at : ℕ) (bytes : List ℕ) (u : Turn) → IsTold (old ++ u.notes) u.state → IsTold (old ++ (stored on at bytes u).notes) (stored on at bytes u).state
+as_noted-stored : (old : List Note) (on : Ground) (at : ℕ) (bytes : List ℕ) (u : Turn) → IsAsNoted (old ++ u.notes) u.state → IsAsNoted (old ++ (stored on at bytes u).notes) (stored on at bytes u).state
 unfolding stored
-told-stored old on at bytes u h = told-same old u (stored on at bytes u) refl refl refl h
+as_noted-stored old on at bytes u h = as_noted-same old u (stored on at bytes u) refl refl refl h
 
-move_told : (g : Setup) (s : State) (c : ℕ) (old : List Note) (u v : Turn) → Move g s c u v → IsTold (old ++ u.notes) u.state → IsTold (old ++ v.notes) v.state
+move_as_noted : (g : Setup) (s : State) (c : ℕ) (old : List Note) (u v : Turn) → Move g s c u v → IsAsNoted (old ++ u.notes) u.state → IsAsNoted (old ++ v.notes) v.state
 unfolding looked noted
-move_told g s c old _ _ (Aside u v a) h = told-aside old u v a.outside h
-move_told g s c old _ _ (Writes on at bytes u within may) h = told-stored old on at bytes u h
-move_told g s c old _ _ (Reads r u alive) h = told-same old u (looked r u) refl refl refl h
-move_told g s c old _ _ (Lends k borrow lease offset n u alive) h = told_on old u.notes (note.Borrow k borrow lease offset n ∷ []) u.state u.state h.apart (λ j l x. x) h
-move_told g s c old _ _ (Offers k u new) h = told-offered g s c old k u new h
-move_told g s c old _ _ (Takes on k buffer u t) h = told-taken g s c old on k buffer u t h
-move_told g s c old _ _ (Closes i ending u ends) h = told-closed old i ending u ends h
+move_as_noted g s c old _ _ (Aside u v a) h = as_noted-aside old u v a.outside h
+move_as_noted g s c old _ _ (Writes on at bytes u within may) h = as_noted-stored old on at bytes u h
+move_as_noted g s c old _ _ (Reads r u alive) h = as_noted-same old u (looked r u) refl refl refl h
+move_as_noted g s c old _ _ (Lends k borrow lease offset n u alive) h = as_noted_on old u.notes (note.Borrow k borrow lease offset n ∷ []) u.state u.state h.apart (λ j l x. x) h
+move_as_noted g s c old _ _ (Offers k u new) h = as_noted-offered g s c old k u new h
+move_as_noted g s c old _ _ (Takes on k buffer u t) h = as_noted-taken g s c old on k buffer u t h
+move_as_noted g s c old _ _ (Closes i ending u ends) h = as_noted-closed old i ending u ends h
 
 -- over a whole chain
-pub chain_told : (g : Setup) (s : State) (c : ℕ) → ArePlaced g s.memory → (old : List Note) (u v : Turn) → Chain (Step g s c) u v → IsTold (old ++ u.notes) u.state → IsTold (old ++ v.notes) v.state
-chain_told g s c placed old u v x h = chain_keeps (Move g s c) (λ w. IsTold (old ++ w.notes) w.state) (move_told g s c old) u v (chain_moves g s c placed u v x) h
+pub chain_as_noted : (g : Setup) (s : State) (c : ℕ) → ArePlaced g s.memory → (old : List Note) (u v : Turn) → Chain (Step g s c) u v → IsAsNoted (old ++ u.notes) u.state → IsAsNoted (old ++ v.notes) v.state
+chain_as_noted g s c placed old u v x h = chain_keeps (Move g s c) (λ w. IsAsNoted (old ++ w.notes) w.state) (move_as_noted g s c old) u v (chain_moves g s c placed u v x) h
 
 -- at the start there is no call
-pub told-start : (g : Setup) → IsTold [] (start g)
+pub as_noted-start : (g : Setup) → IsAsNoted [] (start g)
 unfolding start
-told-start g = record {
+as_noted-start g = record {
   apart = record { some = omega arith; from = λ c here. absurd (omega (arith, here.1)); below = λ c here. absurd (omega (arith, here.1)); client = λ c d here. absurd (omega (arith, here.1)); number = λ c d here. absurd (omega (arith, here.1)) };
   lives = λ k. begun_or_zero k;
 }

@@ -7,7 +7,7 @@ use Rattle.std.proofs.lemmas.Bool.{false≢true}
 use Rattle.kernel_abi.specs.declared.Note.{Note}
 use Rattle.task_table.specs.State.{State, Call}
 use Rattle.task_table.specs.Ledger.{Saying, Offers, Takes, Closes, Nothing, saying, is_answer, says_offer, says_take, says_close, says_answer, is_offer_of, is_take_of, is_close_of, IsOpen, IsLedger}
-use Rattle.task_table.specs.Lives.{Life, New, Waiting, Held, Over, Wrong, after_offer, after_take, after_close, after, lived, AreApart, Lives, IsTold}
+use Rattle.task_table.specs.Lives.{Life, New, Waiting, Held, Over, Wrong, after_offer, after_take, after_close, after, lived, AreApart, Lives, IsAsNoted}
 
 pub lived_on : (k : ℕ) (l : Life) (xs ys : List Note) → lived k l (xs ++ ys) ≡ lived k (lived k l xs) ys
 lived_on k l [] ys = refl
@@ -273,7 +273,7 @@ answer_where k (Closes call ending) l e h = let two = both_true (eqb call k) (is
     go Wrong h = absurd (h refl)
 answer_where k Nothing l e h = absurd (false≢true e)
 
-module _ (notes : List Note) (s : State) (h : IsTold notes s) where
+module _ (notes : List Note) (s : State) (h : IsAsNoted notes s) where
   fine : (k : ℕ) → lived k New notes ≢ Wrong
   fine k = not_wrong s k (lived k New notes) (h.lives k)
 
@@ -284,8 +284,8 @@ module _ (notes : List Note) (s : State) (h : IsTold notes s) where
   before_wrong : (k : ℕ) (before later : List Note) (n : Note) → notes ≡ before ++ n ∷ later → lived k New before ≢ Wrong
   before_wrong k before later n e = λ w. before_fine k before later n e (ap (after k (saying n)) w ∙ wrong_after k (saying n))
 
-  pub told-ledger : IsLedger notes s
-  told-ledger = record {
+  pub as_noted-ledger : IsLedger notes s
+  as_noted-ledger = record {
     offered = λ k one lt. let c = counted k notes New (fine k) in let b = begun_offers s k (lived k New notes) (h.lives k) one lt in omega (arith, c.offers, b);
     no_other = λ k out. let c = counted k notes New (fine k) in let b = unbegun_offers s k (lived k New notes) h.apart (h.lives k) out in omega (arith, c.offers, b);
     taken = λ k. let c = counted k notes New (fine k) in let f = few_takes (lived k New notes) in omega (arith, c.takes, f);

@@ -32,13 +32,13 @@ holds_overlaid g k t a bytes setup memory h same e = record {
 }
 
 -- the same loan of the same memory
-abbrev pub loan_of : {B : Type 0} (did : B → List ℕ → List ℕ → B → List ℕ → Type 0) (m n : Memory) (text ram : ℕ × ℕ) (b b' : B) (m' : Memory) → n ≡ m → IsLoan did n text ram b b' m' → IsLoan did m text ram b b' m'
-loan_of did m n text ram b b' m' e l = record {
-  text_there = subst (λ x. IsInMemory x text) e l.text_there;
+abbrev pub loan_of : {B : Type 0} (did : B → List ℕ → List ℕ → B → List ℕ → Type 0) (m n : Memory) (flash ram : ℕ × ℕ) (b b' : B) (m' : Memory) → n ≡ m → IsLoan did n flash ram b b' m' → IsLoan did m flash ram b b' m'
+loan_of did m n flash ram b b' m' e l = record {
+  flash_there = subst (λ x. IsInMemory x flash) e l.flash_there;
   ram_there = subst (λ x. IsInRam x ram) e l.ram_there;
   apart = l.apart;
   after = l.after;
-  work = subst (λ x. did b (bytes_of x text) (bytes_of x ram) b' l.after) e l.work;
+  work = subst (λ x. did b (bytes_of x flash) (bytes_of x ram) b' l.after) e l.work;
   size = l.size;
   left = subst (λ x. m' ≡ with_bytes x ram.0 l.after) e l.left;
 }
@@ -47,12 +47,12 @@ loan_of did m n text ram b b' m' e l = record {
 abbrev pub Overlaid : Memory → ℕ × ℕ → Memory → Type 0
 Overlaid m ram m' = (m' ≡ m) ⊎ ((ys : List ℕ) × (length ys ≡ ram.1) × IsWithinRam m ram.0 (length ys) × (m' ≡ with_bytes m ram.0 ys))
 
-pub overlaid_by : {B : Type 0} (did : B → List ℕ → List ℕ → B → List ℕ → Type 0) (m : Memory) (text ram : ℕ × ℕ) (b b' : B) (m' : Memory) → IsLoan did m text ram b b' m' → Overlaid m ram m'
-overlaid_by did m text ram b b' m' l = inr (l.after, l.size, inr (l.ram_there.0, omega (arith, l.ram_there.1, l.size)), l.left)
+pub overlaid_by : {B : Type 0} (did : B → List ℕ → List ℕ → B → List ℕ → Type 0) (m : Memory) (flash ram : ℕ × ℕ) (b b' : B) (m' : Memory) → IsLoan did m flash ram b b' m' → Overlaid m ram m'
+overlaid_by did m flash ram b b' m' l = inr (l.after, l.size, inr (l.ram_there.0, omega (arith, l.ram_there.1, l.size)), l.left)
 
-pub lent_or_not : {B : Type 0} (did : B → List ℕ → List ℕ → B → List ℕ → Type 0) (r : Bool) (m : Memory) (text ram : ℕ × ℕ) (b b' : B) (m' : Memory) → (r ≡ true → IsLoan did m text ram b b' m') → (r ≡ false → m' ≡ m) → Overlaid m ram m'
-lent_or_not did true m text ram b b' m' lent kept = overlaid_by did m text ram b b' m' (lent refl)
-lent_or_not did false m text ram b b' m' lent kept = inl (kept refl)
+pub lent_or_not : {B : Type 0} (did : B → List ℕ → List ℕ → B → List ℕ → Type 0) (r : Bool) (m : Memory) (flash ram : ℕ × ℕ) (b b' : B) (m' : Memory) → (r ≡ true → IsLoan did m flash ram b b' m') → (r ≡ false → m' ≡ m) → Overlaid m ram m'
+lent_or_not did true m flash ram b b' m' lent kept = overlaid_by did m flash ram b b' m' (lent refl)
+lent_or_not did false m flash ram b b' m' lent kept = inl (kept refl)
 
 -- the setup that is kept stays
 pub setup_lent : (f : List ℕ → ℕ → Setup) (m m' : Memory) (ram : ℕ × ℕ) → Overlaid m ram m' → f m'.flash (length m'.ram) ≡ f m.flash (length m.ram)
@@ -73,10 +73,10 @@ task_there (x ∷ xs) (suc i) r h = let c = task_there xs i r h in (suc c.0, ome
 given_span : (s : Setup) (regions : List (ℕ × ℕ)) (task : ℕ) (r : Region) → AreLendable regions s.tasks → IsUsable (setup_at s task).regions r → Contains regions (span_of r)
 given_span s regions task r lendable u = lendable (setup_at s task) r (task_there s.tasks task r u.here) u.here u.no_device
 
-pub usable_given : (s : Setup) (regions : List (ℕ × ℕ)) (task : ℕ) (text ram : Region) → AreLendable regions s.tasks → AreUsable (setup_at s task).regions text ram → AreGiven regions (span_of text) (span_of ram)
-usable_given s regions task text ram lendable u = record {
-  text_given = given_span s regions task text lendable u.text_usable;
-  text_some = u.text_usable.some;
+pub usable_given : (s : Setup) (regions : List (ℕ × ℕ)) (task : ℕ) (flash ram : Region) → AreLendable regions s.tasks → AreUsable (setup_at s task).regions flash ram → AreGiven regions (span_of flash) (span_of ram)
+usable_given s regions task flash ram lendable u = record {
+  flash_given = given_span s regions task flash lendable u.flash_usable;
+  flash_some = u.flash_usable.some;
   below = u.below;
   ram_given = elim u.ram_usable [
     | inl x ↦ inl x

@@ -1,6 +1,6 @@
--- What holds of each call of a list.
+-- What holds of each system call of a list.
 use Rattle.std.proofs.Common.{ℕ, List, [], ◌∷◌}
-use Rattle.task_table.specs.Calls.{Meaning}
+use Rattle.task_table.specs.Syscalls.{Meaning}
 
 abbrev pub EachMeaning : (Meaning → Type 0) → List (ℕ × Meaning) → Type 0
 EachMeaning P [] = Unit {0}

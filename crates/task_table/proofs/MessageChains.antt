@@ -9,18 +9,18 @@ use Rattle.kernel_abi.specs.declared.arguments.ReplyArgs.{ReplyArgs}
 use Rattle.region_check.specs.declared.Right.TheVariants as right
 use Rattle.task_table.specs.State.{Setup, State, Call, Phase, Offered, Taken, Ground, Reply, Turn}
 use Rattle.task_table.specs.Reading.{arguments, call_of, is_ready, is_out, is_dead, present_id, is_taken, taken_by, is_valid, bad_byte, IsIdle}
-use Rattle.task_table.specs.Effects.{copied, past_call, posted}
-use Rattle.task_table.specs.Sends.{message_of, reply_room, table_of, call_made, sent, reply_of, replied_to, replied, reply_fault_by, reply_faulted_to, reply_faulted, post_made, refreshed}
+use Rattle.task_table.specs.Effects.{copied, past_syscall, posted}
+use Rattle.task_table.specs.Sends.{message_of, reply_room, table_of, call_made, sent, reply_of, replied_to, replied, reply_fault_of, reply_faulted_to, reply_faulted, post_made, refreshed}
 use Rattle.task_table.specs.Sane.{Sane}
 use Rattle.task_table.specs.Grounds.{Lies, IsTakenBy}
 use Rattle.task_table.specs.Chain.{Here}
-use Rattle.task_table.specs.Step.{Gives, Returns, PassesCall, Posts, Sends, Copies, Ceases, Strikes, Goes}
+use Rattle.task_table.specs.Step.{Gives, Returns, PassesSyscall, Posts, Sends, Copies, Ceases, Strikes, Goes}
 use Rattle.task_table.proofs.Chains.{one, ◌▷◌}
 use Rattle.task_table.proofs.Frames.{idle-ready}
 use Rattle.task_table.proofs.Keeps.{found_in}
 use Rattle.task_table.proofs.Outcomes.{Comes, by_outcome, comes-misused, comes-denied, goes, goes_with}
 use Rattle.task_table.proofs.Ranges.{may-write}
-use Rattle.task_table.proofs.Receives.{health-past_call, idle-past_call, listens-past_call, next-past_call, well-ready, is_there, none_left}
+use Rattle.task_table.proofs.Receives.{health-past_syscall, idle-past_syscall, listens-past_syscall, next-past_syscall, well-ready, is_there, none_left}
 
 -- ## what is found of a taken call
 
@@ -65,8 +65,8 @@ module _ (g : Setup) (c : ℕ) (t : Turn) (h : Sane g t.state) (inside : c < len
     within : c < length t.state.tasks
     within = rw h.steady.as_many inside
 
-    idle : IsIdle (past_call c t).state c
-    idle = idle-past_call c t c (idle-ready t.state c ready)
+    idle : IsIdle (past_syscall c t).state c
+    idle = idle-past_syscall c t c (idle-ready t.state c ready)
 
     pub comes-sent : Comes g c t (sent g c t)
     unfolding sent
@@ -82,10 +82,10 @@ module _ (g : Setup) (c : ℕ) (t : Turn) (h : Sane g t.state) (inside : c < len
         let two = or_parts (is_out s id) (eqb (index_of id) c) named in
         let three = or_parts (not (is_valid (message_of x))) (not (is_valid (reply_room x)) || not (is_valid (table_of x))) valid in
         let rest = or_parts (not (is_valid (reply_room x))) (not (is_valid (table_of x))) three.1 in
-        let u = past_call c t in
+        let u = past_syscall c t in
         let server = index_of id in
         let there : server < length g.tasks = rw (← h.steady.as_many) (is_there s id two.0) in
-        Goes t _ (one (PassesCall t inside, tt) ▷ (
+        Goes t _ (one (PassesSyscall t inside, tt) ▷ (
           Sends (call_made u.state c x server) u record {
             fit = record {
               client = inside;
@@ -95,12 +95,12 @@ module _ (g : Setup) (c : ℕ) (t : Turn) (h : Sane g t.state) (inside : c < len
               readable = none_left _ readable;
               writable = none_left _ writable;
             };
-            new = record { client = refl; free = idle.call; number = refl; next = next-past_call c t; phase = refl };
+            new = record { client = refl; free = idle.call; number = refl; next = next-past_syscall c t; phase = refl };
             idle = idle;
-            well = health-past_call c t c within ∙ well-ready s c ready;
+            well = health-past_syscall c t c within ∙ well-ready s c ready;
             client_birth = refl;
             server_birth = refl;
-            listens = listens-past_call c t;
+            listens = listens-past_syscall c t;
             fit_listens = h.steady.listens.fit;
           },
           tt,
@@ -142,7 +142,7 @@ module _ (g : Setup) (c : ℕ) (t : Turn) (h : Sane g t.state) (inside : c < len
   reply_faults reason i None e = goes g c t inside t (Here t)
   reply_faults reason i (Some k) e =
       let f = found_taken t.state i c k e in
-      goes g c t inside _ (one (Strikes k.client.index (reply_fault_by t.state c reason) ending.ReplyFault t (another h c k f) (h.steady.calls.fit k f.here).client (omega arith) (omega arith) (inl (inr (k, f.here, refl))) (call_taken t.state h k f.here f.phase), tt))
+      goes g c t inside _ (one (Strikes k.client.index (reply_fault_of t.state c reason) ending.ReplyFault t (another h c k f) (h.steady.calls.fit k f.here).client (omega arith) (omega arith) (inl (inr (k, f.here, refl))) (call_taken t.state h k f.here f.phase), tt))
 
   pub comes-reply_faulted : Comes g c t (reply_faulted g c t)
   unfolding reply_faulted

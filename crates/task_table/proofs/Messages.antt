@@ -10,7 +10,7 @@ use Rattle.kernel_abi.specs.declared.Listened.TheVariants as listened
 use Rattle.mem_banks.specs.Memory.{Memory, bytes_at, copied as copied_memory, IsWithin, IsWithinRam}
 use Rattle.task_table.specs.State.{Setup, Task, Call, Listen, State, Birth, One, Ground, Read, Turn}
 use Rattle.task_table.specs.Reading.{task_at, register, arguments, call_of, listen_of, present, is_offered, offer_by, IsIdle}
-use Rattle.task_table.specs.Effects.{with_listen, with_taken, taken_from, past_call, copied, looked}
+use Rattle.task_table.specs.Effects.{with_listen, with_taken, taken_from, past_syscall, copied, looked}
 use Rattle.task_table.specs.Rows.{listened_from}
 use Rattle.task_table.specs.Messages.{from_of}
 use Rattle.task_table.specs.Sane.{Sane}
@@ -21,7 +21,7 @@ use Rattle.task_table.specs.declared.slot.Wait.TheVariants as wait
 use Rattle.task_table.proofs.Steps.{kept_same, setup_stored}
 use Rattle.task_table.proofs.Handing.{few_bytes}
 use Rattle.task_table.proofs.Ranges.{within_ram-front}
-use Rattle.task_table.proofs.Receives.{births-past_call}
+use Rattle.task_table.proofs.Receives.{births-past_syscall}
 use Rattle.task_table.proofs.Changes.{task_at-with_task}
 use Rattle.task_table.proofs.Waiting.{listen_of-with_listen, call_of-with_listen, task_at-with_listen, call_of-with_taken, listen_of-with_taken, task_at-with_taken}
 use Rattle.task_table.proofs.Clients.{option_cases, found_call, client_is, offer_by_none, offer_by_call}
@@ -91,32 +91,32 @@ kept-with_listen s l slot w h idle e = record {
   alone = rw (call_of-with_listen, idle.call) tt;
 }
 
-pub told_as : (s : State) (from : Listened) → listened_from (from_of s from) ≡ from
-told_as s listened.Any = refl
-told_as s listened.Kernel = refl
-told_as s (listened.One i) = refl
+pub answered_as : (s : State) (from : Listened) → listened_from (from_of s from) ≡ from
+answered_as s listened.Any = refl
+answered_as s listened.Kernel = refl
+answered_as s (listened.One i) = refl
 
 -- ## who goes past a call keeps its arguments, its births and the memory
 
-task-past_call : (c : ℕ) (t : Turn) → c < length t.state.tasks → task_at (past_call c t).state c ≡ record (task_at t.state c) { registers = set (task_at t.state c).registers 15 ((register t.state c 15 + 2) % 2 ^ 32) }
-unfolding past_call
-task-past_call c t h = task_at-with_task t.state c _ h
+task-past_syscall : (c : ℕ) (t : Turn) → c < length t.state.tasks → task_at (past_syscall c t).state c ≡ record (task_at t.state c) { registers = set (task_at t.state c).registers 15 ((register t.state c 15 + 2) % 2 ^ 32) }
+unfolding past_syscall
+task-past_syscall c t h = task_at-with_task t.state c _ h
 
 before_last : (rs : List ℕ) (x : ℕ) → slice_range (set rs 15 x) 4 12 ≡ slice_range rs 4 12
 before_last rs x = ap (take 8) (drop-set-add 4 rs 11 x) ∙ take-set-le 8 (drop 4 rs) 11 x (omega arith)
 
-pub arguments-past_call : (c : ℕ) (t : Turn) → c < length t.state.tasks → arguments (past_call c t).state c ≡ arguments t.state c
+pub arguments-past_syscall : (c : ℕ) (t : Turn) → c < length t.state.tasks → arguments (past_syscall c t).state c ≡ arguments t.state c
 unfolding arguments
-arguments-past_call c t h =
-    ap (λ (x : Task). slice_range x.registers 4 12) (task-past_call c t h) ∙ before_last (task_at t.state c).registers _
+arguments-past_syscall c t h =
+    ap (λ (x : Task). slice_range x.registers 4 12) (task-past_syscall c t h) ∙ before_last (task_at t.state c).registers _
 
-pub present-past_call : (c : ℕ) (t : Turn) (j : ℕ) → c < length t.state.tasks → present (past_call c t).state j ≡ present t.state j
-present-past_call c t j h = ap (λ b. let x : Birth = record { index = j; birth = b } in x) (births-past_call c t j h)
+pub present-past_syscall : (c : ℕ) (t : Turn) (j : ℕ) → c < length t.state.tasks → present (past_syscall c t).state j ≡ present t.state j
+present-past_syscall c t j h = ap (λ b. let x : Birth = record { index = j; birth = b } in x) (births-past_syscall c t j h)
 
-pub from-past_call : (c : ℕ) (t : Turn) (from : Listened) → c < length t.state.tasks → from_of (past_call c t).state from ≡ from_of t.state from
-from-past_call c t listened.Any h = refl
-from-past_call c t listened.Kernel h = refl
-from-past_call c t (listened.One i) h = ap One (present-past_call c t i h)
+pub from-past_syscall : (c : ℕ) (t : Turn) (from : Listened) → c < length t.state.tasks → from_of (past_syscall c t).state from ≡ from_of t.state from
+from-past_syscall c t listened.Any h = refl
+from-past_syscall c t listened.Kernel h = refl
+from-past_syscall c t (listened.One i) h = ap One (present-past_syscall c t i h)
 
 -- ## bytes are copied, and a call is handed over
 

@@ -1,4 +1,4 @@
--- What happens to calls, to memory and to what is told of them; and what stands aside.
+-- What happens to calls, to memory and to what is noted of them; and what stands aside.
 use Rattle.std.proofs.Common.{◌≡◌, ◌+◌, ℕ, zero, suc, Bool, true, false, cond, List, [], ◌∷◌, ◌++◌, length, Option, Some, None, refl, sym, ◌∙◌, ap, arith, eqb, bit_and, append_assoc, append-nil, length-set, min}
 use Rattle.std.specs.Prelude.{Contains, fold}
 use Rattle.kernel_abi.specs.declared.Borrow.{Borrow}
@@ -12,7 +12,7 @@ use Rattle.task_table.specs.declared.Line.{Line}
 use Rattle.mem_banks.specs.Memory.{IsWithinRam}
 use Rattle.task_table.specs.State.{Setup, State, Call, Listen, Range, Offered, Ground, Read, MessageFront, Turn}
 use Rattle.task_table.specs.Reading.{task_at, call_of, listen_of}
-use Rattle.task_table.specs.Effects.{with_task, without_listen, with_listen, with_taken, changed, noted, with_processor, with_health, stored, copied, looked, given, returned, past_call, bits_added, bits_cleared, woken_by, woken, posted, with_timer, clocked, with_line, closed, offered, reborn}
+use Rattle.task_table.specs.Effects.{with_task, without_listen, with_listen, with_taken, changed, noted, with_processor, with_health, stored, copied, looked, given, returned, past_syscall, bits_added, bits_cleared, woken_by, woken, posted, with_timer, clocked, with_line, closed, offered, reborn}
 use Rattle.task_table.specs.Grounds.{Lies, MayChange, IsAlive}
 use Rattle.task_table.specs.Step.{is_plain, IsNew, MayChangeAll, Ends}
 
@@ -97,9 +97,9 @@ pub aside-returned : (i : ℕ) (u : Turn) → IsAside u (returned i u)
 unfolding returned
 aside-returned i u = aside-noted _ u refl
 
-pub aside-past_call : (i : ℕ) (u : Turn) → IsAside u (past_call i u)
-unfolding past_call with_task
-aside-past_call i u = aside_state u _ refl refl refl refl (length-set u.state.tasks i _) refl
+pub aside-past_syscall : (i : ℕ) (u : Turn) → IsAside u (past_syscall i u)
+unfolding past_syscall with_task
+aside-past_syscall i u = aside_state u _ refl refl refl refl (length-set u.state.tasks i _) refl
 
 pub aside-cleared : (i mask : ℕ) (u : Turn) → IsAside u (bits_cleared i mask u)
 unfolding bits_cleared with_task

@@ -11,11 +11,11 @@ use Rattle.kernel_abi.specs.declared.Note.{Note}
 use Rattle.kernel_abi.specs.declared.Note.TheVariants as note
 use Rattle.task_table.specs.State.{Setup, State, Call, Listen, Range, Ground, Own, Message, Turn}
 use Rattle.task_table.specs.Reading.{task_at, call_of, listen_of, admits}
-use Rattle.task_table.specs.Effects.{without_listen, with_listen, changed, noted, with_processor, with_health, stored, copied, looked, given, returned, past_call, bits_added, bits_cleared, woken_by, woken, posted, with_timer, with_line, close_notes, closed, faulted_as, faulted, offered, handed, reborn, is_to, awaits, told_dead, restarted}
+use Rattle.task_table.specs.Effects.{without_listen, with_listen, changed, noted, with_processor, with_health, stored, copied, looked, given, returned, past_syscall, bits_added, bits_cleared, woken_by, woken, posted, with_timer, with_line, close_notes, closed, faulted_as, faulted, offered, handed, reborn, is_to, awaits, dead_answered, restarted}
 use Rattle.task_table.specs.Sends.{taken_at_once, offers_call}
 use Rattle.task_table.specs.Counts.{AreNoted, IsNoted}
 use Rattle.task_table.specs.Chain.{Chain}
-use Rattle.task_table.specs.Step.{Step, Notes, Gives, Returns, PassesCall, Runs, Clears, Posts, Times, Lines, Listens, Sends, Receives, Stores, Copies, Looks, Borrows, Ceases, Halts, Strikes, Restarts}
+use Rattle.task_table.specs.Step.{Step, Notes, Gives, Returns, PassesSyscall, Runs, Clears, Posts, Times, Lines, Listens, Sends, Receives, Stores, Copies, Looks, Borrows, Ceases, Halts, Strikes, Restarts}
 use Rattle.task_table.proofs.Chains.{chain_keeps}
 
 -- ## how many lines
@@ -85,26 +85,26 @@ module _ (g : Setup) (i : ℕ) (fault : Fault) (ending : Ending) (u : Turn) wher
   stopped : Turn
   stopped = changed (without_listen i) (with_health i (Faulted fault) u)
 
-  told : Turn
-  told = noted (note.Fault i fault) stopped
+  as_noted : Turn
+  as_noted = noted (note.Fault i fault) stopped
 
-  fault_told : AreNoted 1 u told
-  unfolding stopped told with_health noted
-  fault_told = record { new = note.Fault i fault ∷ []; notes = refl; few = omega arith }
+  fault_as_noted : AreNoted 1 u as_noted
+  unfolding stopped as_noted with_health noted
+  fault_as_noted = record { new = note.Fault i fault ∷ []; notes = refl; few = omega arith }
 
-  after_fault : AreNoted 3 told (faulted_as g i fault ending u)
-  unfolding faulted_as stopped told
+  after_fault : AreNoted 3 as_noted (faulted_as g i fault ending u)
+  unfolding faulted_as stopped as_noted
   after_fault = by_zero (eqb i 0)
     where
       shut : Turn
-      shut = closed i ending told
+      shut = closed i ending as_noted
 
-      by_zero : (b : Bool) → AreNoted 3 told (cond b shut (posted 0 g.fault_bits shut))
-      by_zero true = more 1 3 told shut (omega arith) (closes i ending told)
-      by_zero false = then 1 2 told shut (posted 0 g.fault_bits shut) (closes i ending told) (posts 0 g.fault_bits shut)
+      by_zero : (b : Bool) → AreNoted 3 as_noted (cond b shut (posted 0 g.fault_bits shut))
+      by_zero true = more 1 3 as_noted shut (omega arith) (closes i ending as_noted)
+      by_zero false = then 1 2 as_noted shut (posted 0 g.fault_bits shut) (closes i ending as_noted) (posts 0 g.fault_bits shut)
 
   faults : AreNoted 4 u (faulted_as g i fault ending u)
-  faults = then 1 3 u told _ fault_told after_fault
+  faults = then 1 3 u as_noted _ fault_as_noted after_fault
 
 hands : (on : Ground) (k : Call) (buffer : Range) (u : Turn) → AreNoted 1 u (handed on k buffer u)
 unfolding handed looked copied noted given
@@ -112,9 +112,9 @@ hands on k buffer u = record { new = note.Take k.number _ ∷ []; notes = refl; 
 
 -- ## a call is offered
 
-offer_told : (k : Call) (u : Turn) → AreNoted 1 u (offered k u)
+offer_as_noted : (k : Call) (u : Turn) → AreNoted 1 u (offered k u)
 unfolding offered noted
-offer_told k u = record { new = note.Offer k.number k.client.index k.server.index ∷ []; notes = refl; few = omega arith }
+offer_as_noted k u = record { new = note.Offer k.number k.client.index k.server.index ∷ []; notes = refl; few = omega arith }
 
 takes : (k : Call) (lo : Option Listen) (u : Turn) → AreNoted 2 u (taken_at_once k lo u)
 takes k None u = same 2 u u refl
@@ -131,12 +131,12 @@ after_offer : (k : Call) (u : Turn) → AreNoted 2 (offered k u) (offers_call k 
 after_offer k u = takes k (listen_of u.state k.server.index) (offered k u)
 
 offers : (k : Call) (u : Turn) → AreNoted 3 u (offers_call k u)
-offers k u = then 1 2 u (offered k u) (offers_call k u) (offer_told k u) (after_offer k u)
+offers k u = then 1 2 u (offered k u) (offers_call k u) (offer_as_noted k u) (after_offer k u)
 
 -- ## a task is born again
 
-tells_dead : (i j : ℕ) (u : Turn) → AreNoted 2 u (told_dead i u j)
-tells_dead i j u = go (is_to i (call_of u.state j)) (awaits i (listen_of u.state j))
+answers_dead : (i j : ℕ) (u : Turn) → AreNoted 2 u (dead_answered i u j)
+answers_dead i j u = go (is_to i (call_of u.state j)) (awaits i (listen_of u.state j))
   where
     shut : Turn
     shut = closed j Restart u
@@ -155,9 +155,9 @@ tells_dead i j u = go (is_to i (call_of u.state j)) (awaits i (listen_of u.state
     go false true = then 1 1 u heard (returned j heard) (same 1 u heard (quiet-given j _ deaf)) (noted-returned j heard)
     go false false = same 2 u u refl
 
-tell_dead : (i a n : ℕ) (u : Turn) → AreNoted (2 * n) u (fold (told_dead i) u (range_with_len a n))
-tell_dead i a zero u = same _ u u refl
-tell_dead i a (suc n) u = more (2 + 2 * n) (2 * suc n) u _ (omega arith) (then 2 (2 * n) u (told_dead i u a) _ (tells_dead i a u) (tell_dead i (a + 1) n (told_dead i u a)))
+answer_dead : (i a n : ℕ) (u : Turn) → AreNoted (2 * n) u (fold (dead_answered i) u (range_with_len a n))
+answer_dead i a zero u = same _ u u refl
+answer_dead i a (suc n) u = more (2 + 2 * n) (2 * suc n) u _ (omega arith) (then 2 (2 * n) u (dead_answered i u a) _ (answers_dead i a u) (answer_dead i (a + 1) n (dead_answered i u a)))
 
 module _ (g : Setup) (i : ℕ) (start : Bool) (u : Turn) where
   born : Turn
@@ -166,16 +166,16 @@ module _ (g : Setup) (i : ℕ) (start : Bool) (u : Turn) where
   birth : Turn
   birth = noted (note.Restart i ((task_at born.state i).births % 64)) born
 
-  birth_told : AreNoted 2 u birth
+  birth_as_noted : AreNoted 2 u birth
   unfolding birth born noted
-  birth_told = then 1 1 u (closed i Restart u) birth (closes i Restart u) record { new = note.Restart i ((task_at born.state i).births % 64) ∷ []; notes = refl; few = omega arith }
+  birth_as_noted = then 1 1 u (closed i Restart u) birth (closes i Restart u) record { new = note.Restart i ((task_at born.state i).births % 64) ∷ []; notes = refl; few = omega arith }
 
   after_birth : AreNoted (2 * length u.state.tasks) birth (restarted g i start u)
   unfolding restarted birth born
-  after_birth = tell_dead i 0 (length u.state.tasks) birth
+  after_birth = answer_dead i 0 (length u.state.tasks) birth
 
   restarts : AreNoted (4 + 2 * length u.state.tasks) u (restarted g i start u)
-  restarts = more (2 + 2 * length u.state.tasks) (4 + 2 * length u.state.tasks) u _ (omega arith) (then 2 (2 * length u.state.tasks) u birth _ birth_told after_birth)
+  restarts = more (2 + 2 * length u.state.tasks) (4 + 2 * length u.state.tasks) u _ (omega arith) (then 2 (2 * length u.state.tasks) u birth _ birth_as_noted after_birth)
 
 -- ## steps and chains
 
@@ -186,11 +186,11 @@ at_most : (n : ℕ) (u v : Turn) → n ≤ 4 → AreNoted n u v → AreNoted (4 
 at_most n u v le a = more n (4 + 2 * length u.state.tasks) u v (omega (arith, le)) a
 
 pub step_noted : (g : Setup) (s : State) (c : ℕ) (u v : Turn) → Step g s c u v → AreNoted (4 + 2 * length u.state.tasks) u v
-unfolding past_call with_processor with_timer with_line stored copied looked
+unfolding past_syscall with_processor with_timer with_line stored copied looked
 step_noted g s c _ _ (Notes n u plain) = at_most 1 u _ (omega arith) (one n u)
 step_noted g s c _ _ (Gives i values u lt few party) = none u _ (quiet-given i values u)
 step_noted g s c _ _ (Returns i u) = at_most 1 u _ (omega arith) (noted-returned i u)
-step_noted g s c _ _ (PassesCall u lt) = none u (past_call c u) refl
+step_noted g s c _ _ (PassesSyscall u lt) = none u (past_syscall c u) refl
 step_noted g s c _ _ (Runs registers flags u lt whole) = none u (with_processor c registers flags u) refl
 step_noted g s c _ _ (Clears mask u lt off) = none u _ (quiet-cleared c mask u)
 step_noted g s c _ _ (Posts i bits u lt) = at_most 2 u _ (omega arith) (posts i bits u)
@@ -233,12 +233,12 @@ pub noted-posted : (i bits : ℕ) (t : Turn) → IsNoted (posted i bits t)
 unfolding posted woken
 noted-posted i bits t = still_noted 1 (bits_added i bits t) _ (awake i (listen_of (bits_added i bits t).state i) (bits_added i bits t)) (noted-added i bits t)
 
-noted-told : (i : ℕ) (fault : Fault) (ending : Ending) (g : Setup) (t : Turn) → IsNoted (told g i fault ending t)
-unfolding told
-noted-told i fault ending g t = noted-noted _ _
+noted-as_noted : (i : ℕ) (fault : Fault) (ending : Ending) (g : Setup) (t : Turn) → IsNoted (as_noted g i fault ending t)
+unfolding as_noted
+noted-as_noted i fault ending g t = noted-noted _ _
 
 pub noted-faulted_as : (g : Setup) (i : ℕ) (fault : Fault) (ending : Ending) (t : Turn) → IsNoted (faulted_as g i fault ending t)
-noted-faulted_as g i fault ending t = still_noted 3 (told g i fault ending t) _ (after_fault g i fault ending t) (noted-told i fault ending g t)
+noted-faulted_as g i fault ending t = still_noted 3 (as_noted g i fault ending t) _ (after_fault g i fault ending t) (noted-as_noted i fault ending g t)
 
 pub noted-faulted : (g : Setup) (i : ℕ) (fault : Fault) (t : Turn) → IsNoted (faulted g i fault t)
 noted-faulted g i fault t = noted-faulted_as g i fault Client t

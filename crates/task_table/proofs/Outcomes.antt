@@ -1,11 +1,11 @@
--- How a call comes out: its caller faults, or goes on by steps that spare it.
+-- How a system call comes out: its caller faults, or goes on by steps that spare it.
 use Rattle.std.proofs.Common.{◌≡◌, ◌<◌, ◌≤◌, inl, ℕ, Bool, true, false, cond, List, length, Option, refl, arith}
 use Rattle.kernel_abi.specs.declared.Fault.{Fault}
 use Rattle.task_table.specs.State.{Setup, State, Turn}
-use Rattle.task_table.specs.Effects.{given, past_call, faulted}
+use Rattle.task_table.specs.Effects.{given, past_syscall, faulted}
 use Rattle.task_table.specs.Rows.{misused, denied, goes_on, goes_on_with}
 use Rattle.task_table.specs.Chain.{Chain, Here}
-use Rattle.task_table.specs.Step.{Step, Gives, Returns, PassesCall, Halts, Spared, Outcome, Faults, Goes}
+use Rattle.task_table.specs.Step.{Step, Gives, Returns, PassesSyscall, Halts, Spared, Outcome, Faults, Goes}
 use Rattle.task_table.proofs.Chains.{one, ◌▷◌, refined}
 
 -- ## an outcome is a chain of steps
@@ -43,7 +43,7 @@ module _ (g : Setup) (c : ℕ) (t : Turn) (inside : c < length g.tasks) where
 
   -- it goes on
   pub goes : (u : Turn) → Leads g c t u → Comes g c t (goes_on c u)
-  goes u x = Goes t (goes_on c u) (x ▷ (PassesCall u inside, tt) ▷ (Returns c (past_call c u), tt))
+  goes u x = Goes t (goes_on c u) (x ▷ (PassesSyscall u inside, tt) ▷ (Returns c (past_syscall c u), tt))
 
   pub goes_with : (values : List ℕ) (u : Turn) → length values ≤ 6 → Leads g c t u → Comes g c t (goes_on_with c values u)
   goes_with values u few x = goes (given c values u) (x ▷ (Gives c values u inside few (inl refl), tt))

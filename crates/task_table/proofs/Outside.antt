@@ -47,15 +47,15 @@ aside-interrupted g k t = by_owner (owner_of g k)
     by_owner None = aside-noted (note.Irq k Unowned) t refl
     by_owner (Some o) = by_line (line_at t.state k).enabled
       where
-        told : Turn
-        told = noted (note.Irq k Posted) t
+        as_noted : Turn
+        as_noted = noted (note.Irq k Posted) t
 
         off : Turn
-        off = with_line k (line_off false) told
+        off = with_line k (line_off false) as_noted
 
         held : Turn
         held = noted (note.Irq k Held) t
 
         by_line : (b : Bool) → IsAside t (cond b (posted o.owner o.bits off) (with_line k (line_off true) held))
-        by_line true = aside_then t off (posted o.owner o.bits off) (aside_then t told off (aside-noted (note.Irq k Posted) t refl) (aside-line k (line_off false) told)) (aside-posted o.owner o.bits off)
+        by_line true = aside_then t off (posted o.owner o.bits off) (aside_then t as_noted off (aside-noted (note.Irq k Posted) t refl) (aside-line k (line_off false) as_noted)) (aside-posted o.owner o.bits off)
         by_line false = aside_then t held (with_line k (line_off true) held) (aside-noted (note.Irq k Held) t refl) (aside-line k (line_off true) held)

@@ -8,7 +8,7 @@ use Rattle.kernel_abi.specs.declared.Note.{Note}
 use Rattle.kernel_abi.specs.declared.Timer.{Timer}
 use Rattle.task_table.specs.State.{Setup, Task, Listen, State, Turn}
 use Rattle.task_table.specs.Reading.{task_at, register, listen_of}
-use Rattle.task_table.specs.Effects.{with_task, without_listen, changed, noted, with_results, given, returned, past_call, bits_added, bits_cleared, woken_by, woken, posted, with_timer}
+use Rattle.task_table.specs.Effects.{with_task, without_listen, changed, noted, with_results, given, returned, past_syscall, bits_added, bits_cleared, woken_by, woken, posted, with_timer}
 use Rattle.task_table.specs.Sane.{IsSaneBut, Every, IsSaneTask, AreUnmet}
 use Rattle.task_table.proofs.Changes.{listen_of-without_listen}
 use Rattle.task_table.proofs.Keeps.{idle_listen, found_in, keeps-with_task, keeps-without_listen, dropped_listen}
@@ -62,9 +62,9 @@ module _ {M F T : ℕ → Type 0} {W : ℕ → ℕ → Type 0} {g : Setup} where
   unfolding given
   keeps-given i values t h inside six = keeps-registers i _ h inside (results_sane (task_at t.state i) values six (h.steady.tasks i inside))
 
-  pub keeps-past_call : (i : ℕ) (t : Turn) → IsSaneBut M F T W g t.state → i < length t.state.tasks → IsSaneBut M F T W g (past_call i t).state
-  unfolding past_call register
-  keeps-past_call i t h inside =
+  pub keeps-past_syscall : (i : ℕ) (t : Turn) → IsSaneBut M F T W g t.state → i < length t.state.tasks → IsSaneBut M F T W g (past_syscall i t).state
+  unfolding past_syscall register
+  keeps-past_syscall i t h inside =
       let x = h.steady.tasks i inside in
       let pc = slice_index (task_at t.state i).registers 15 in
       let here : 15 < length (task_at t.state i).registers = omega (arith, x.sixteen) in
@@ -100,10 +100,10 @@ module _ {M F T : ℕ → Type 0} {W : ℕ → ℕ → Type 0} {g : Setup} where
       }
 
 -- a caller goes on, with results or without
-pub keeps-goes_on : {M F T : ℕ → Type 0} {W : ℕ → ℕ → Type 0} {g : Setup} (c : ℕ) (t : Turn) → IsSaneBut M F T W g t.state → c < length t.state.tasks → IsSaneBut M F T W g (returned c (past_call c t)).state
-keeps-goes_on c t h inside = keeps-returned c (past_call c t) (keeps-past_call c t h inside)
+pub keeps-goes_on : {M F T : ℕ → Type 0} {W : ℕ → ℕ → Type 0} {g : Setup} (c : ℕ) (t : Turn) → IsSaneBut M F T W g t.state → c < length t.state.tasks → IsSaneBut M F T W g (returned c (past_syscall c t)).state
+keeps-goes_on c t h inside = keeps-returned c (past_syscall c t) (keeps-past_syscall c t h inside)
 
-pub keeps-goes_on_with : {M F T : ℕ → Type 0} {W : ℕ → ℕ → Type 0} {g : Setup} (c : ℕ) (values : List ℕ) (t : Turn) → IsSaneBut M F T W g t.state → c < length t.state.tasks → length values ≤ 6 → IsSaneBut M F T W g (returned c (past_call c (given c values t))).state
+pub keeps-goes_on_with : {M F T : ℕ → Type 0} {W : ℕ → ℕ → Type 0} {g : Setup} (c : ℕ) (values : List ℕ) (t : Turn) → IsSaneBut M F T W g t.state → c < length t.state.tasks → length values ≤ 6 → IsSaneBut M F T W g (returned c (past_syscall c (given c values t))).state
 keeps-goes_on_with c values t h inside six = let h1 = keeps-given c values t h inside six in keeps-goes_on c (given c values t) h1 (still h h1 inside)
 
 -- ## bits are posted

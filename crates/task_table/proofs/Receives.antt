@@ -1,4 +1,4 @@
--- What an go_past_call leaves alone, and what the tests of RECV tell.
+-- What going past a system call leaves alone, and what the tests of RECV tell.
 use Rattle.std.proofs.Common.{◌≡◌, ◌<◌, ℕ, Bool, true, false, not, ◌&&◌, ◌||◌, length, Option, Some, None, refl, sym, ◌∙◌, eqb, is_some}
 use Rattle.std.proofs.lemmas.Bool.{eqb-true, leb-false, false≢true, and_parts}
 use Rattle.kernel_abi.specs.Ids.{index_of}
@@ -6,43 +6,43 @@ use Rattle.kernel_abi.specs.declared.Health.{Health}
 use Rattle.kernel_abi.specs.declared.Health.TheVariants.{Well, Stopped, Faulted}
 use Rattle.task_table.specs.State.{State, Birth, Any, One, KernelOnly, Turn}
 use Rattle.task_table.specs.Reading.{task_at, is_ready, is_well, is_out, same_birth, IsIdle}
-use Rattle.task_table.specs.Effects.{with_task, past_call}
+use Rattle.task_table.specs.Effects.{with_task, past_syscall}
 use Rattle.task_table.proofs.Changes.{call_of-with_task, listen_of-with_task}
 use Rattle.task_table.proofs.Keeps.{task_rule, births_kept}
 
--- ## what an go_past_call leaves alone
+-- ## what an go_past_syscall leaves alone
 
-pub births-past_call : (c : ℕ) (t : Turn) (j : ℕ) → c < length t.state.tasks → (task_at (past_call c t).state j).births ≡ (task_at t.state j).births
-unfolding past_call
-births-past_call c t j inside = births_kept t.state c _ j inside refl
+pub births-past_syscall : (c : ℕ) (t : Turn) (j : ℕ) → c < length t.state.tasks → (task_at (past_syscall c t).state j).births ≡ (task_at t.state j).births
+unfolding past_syscall
+births-past_syscall c t j inside = births_kept t.state c _ j inside refl
 
-pub health-past_call : (c : ℕ) (t : Turn) (j : ℕ) → c < length t.state.tasks → (task_at (past_call c t).state j).health ≡ (task_at t.state j).health
-unfolding past_call
-health-past_call c t j inside = task_rule (λ k x. x.health ≡ (task_at t.state k).health) t.state c _ j inside (λ same. rw same refl) (λ ne. refl)
+pub health-past_syscall : (c : ℕ) (t : Turn) (j : ℕ) → c < length t.state.tasks → (task_at (past_syscall c t).state j).health ≡ (task_at t.state j).health
+unfolding past_syscall
+health-past_syscall c t j inside = task_rule (λ k x. x.health ≡ (task_at t.state k).health) t.state c _ j inside (λ same. rw same refl) (λ ne. refl)
 
-pub posted-past_call : (c : ℕ) (t : Turn) (j : ℕ) → c < length t.state.tasks → (task_at (past_call c t).state j).posted ≡ (task_at t.state j).posted
-unfolding past_call
-posted-past_call c t j inside = task_rule (λ k x. x.posted ≡ (task_at t.state k).posted) t.state c _ j inside (λ same. rw same refl) (λ ne. refl)
+pub posted-past_syscall : (c : ℕ) (t : Turn) (j : ℕ) → c < length t.state.tasks → (task_at (past_syscall c t).state j).posted ≡ (task_at t.state j).posted
+unfolding past_syscall
+posted-past_syscall c t j inside = task_rule (λ k x. x.posted ≡ (task_at t.state k).posted) t.state c _ j inside (λ same. rw same refl) (λ ne. refl)
 
-pub idle-past_call : (c : ℕ) (t : Turn) (j : ℕ) → IsIdle t.state j → IsIdle (past_call c t).state j
-unfolding past_call
-idle-past_call c t j h = record { call = call_of-with_task t.state c j _ ∙ h.call; listen = listen_of-with_task t.state c j _ ∙ h.listen }
+pub idle-past_syscall : (c : ℕ) (t : Turn) (j : ℕ) → IsIdle t.state j → IsIdle (past_syscall c t).state j
+unfolding past_syscall
+idle-past_syscall c t j h = record { call = call_of-with_task t.state c j _ ∙ h.call; listen = listen_of-with_task t.state c j _ ∙ h.listen }
 
-pub calls-past_call : (c : ℕ) (t : Turn) → (past_call c t).state.calls ≡ t.state.calls
-unfolding past_call with_task
-calls-past_call c t = refl
+pub calls-past_syscall : (c : ℕ) (t : Turn) → (past_syscall c t).state.calls ≡ t.state.calls
+unfolding past_syscall with_task
+calls-past_syscall c t = refl
 
-pub listens-past_call : (c : ℕ) (t : Turn) → (past_call c t).state.listens ≡ t.state.listens
-unfolding past_call with_task
-listens-past_call c t = refl
+pub listens-past_syscall : (c : ℕ) (t : Turn) → (past_syscall c t).state.listens ≡ t.state.listens
+unfolding past_syscall with_task
+listens-past_syscall c t = refl
 
-pub next-past_call : (c : ℕ) (t : Turn) → (past_call c t).state.next_call ≡ t.state.next_call
-unfolding past_call with_task
-next-past_call c t = refl
+pub next-past_syscall : (c : ℕ) (t : Turn) → (past_syscall c t).state.next_call ≡ t.state.next_call
+unfolding past_syscall with_task
+next-past_syscall c t = refl
 
-pub memory-past_call : (c : ℕ) (t : Turn) → (past_call c t).state.memory ≡ t.state.memory
-unfolding past_call with_task
-memory-past_call c t = refl
+pub memory-past_syscall : (c : ℕ) (t : Turn) → (past_syscall c t).state.memory ≡ t.state.memory
+unfolding past_syscall with_task
+memory-past_syscall c t = refl
 
 -- ## what the tests of the rows tell
 

@@ -1,4 +1,4 @@
--- Each row of each call faults its caller, or is a chain of steps that spare it: the one walk over the rows.
+-- Each row of each system call faults its caller, or is a chain of steps that spare it: the one walk over the rows.
 use Rattle.std.proofs.Common.{◌≡◌, ◌≢◌, ◌/◌, ◌%◌, ◌^◌, ◌<◌, ◌≤◌, ℕ, Bool, true, false, cond, not, ◌&&◌, ◌||◌, List, [], ◌∷◌, length, Option, Some, None, refl, sym, ◌∙◌, arith, eqb, leb, bit_and, is_some}
 use Rattle.std.specs.Prelude.{Contains, filter}
 use Rattle.std.specs.List.{list_any}
@@ -11,14 +11,14 @@ use Rattle.region_check.specs.declared.Right.TheVariants.{Write}
 use Rattle.task_table.specs.declared.Line.{Line}
 use Rattle.task_table.specs.State.{Setup, LineSetup, Birth, Call, Listen, From, Any, One, KernelOnly, Offered, Turn}
 use Rattle.task_table.specs.Reading.{task_at, line_at, line_off, line_on, register, arguments, is_ready, is_out, is_dead, present, is_valid, bad_byte, offer_by, best_sender, admits, IsIdle}
-use Rattle.task_table.specs.Effects.{past_call, bits_cleared, posted, with_timer, with_line}
-use Rattle.task_table.specs.Rows.{panicked, timer_set, timer_words, timer_told, owns_with, line_controlled, irq_controlled, buffer_of, listens, receives, receives_or_listens, takes_bits, offer_of, received, call_noted}
+use Rattle.task_table.specs.Effects.{past_syscall, bits_cleared, posted, with_timer, with_line}
+use Rattle.task_table.specs.Rows.{panicked, timer_set, timer_words, timer_answered, owns_with, line_controlled, irq_controlled, buffer_of, listens, receives, receives_or_listens, takes_bits, offer_of, received, syscall_noted}
 use Rattle.task_table.specs.Orders.{ordered}
 use Rattle.task_table.specs.Sends.{sent}
-use Rattle.task_table.specs.Calls.{Meaning, is_to_kernel, calls, meaning_among, called}
+use Rattle.task_table.specs.Syscalls.{Meaning, is_to_kernel, syscalls, meaning_among, syscall_made}
 use Rattle.task_table.specs.Sane.{Sane, IsOwned}
 use Rattle.task_table.specs.Chain.{Chain, Here}
-use Rattle.task_table.specs.Step.{Step, Notes, Returns, PassesCall, Clears, Posts, Times, Lines, Listens, Receives, Spared, Goes}
+use Rattle.task_table.specs.Step.{Step, Notes, Returns, PassesSyscall, Clears, Posts, Times, Lines, Listens, Receives, Spared, Goes}
 use Rattle.task_table.proofs.BorrowChains.{comes-read, comes-written, comes-informed}
 use Rattle.task_table.proofs.Chains.{one, ◌▷◌, chain-fold}
 use Rattle.task_table.proofs.Frames.{idle-ready}
@@ -28,13 +28,13 @@ use Rattle.task_table.proofs.MessageChains.{comes-sent, comes-replied, comes-rep
 use Rattle.task_table.proofs.Offers.{offer_is, no_offer, IsBestOf, best_is_best}
 use Rattle.task_table.proofs.OrderChains.{comes-ordered}
 use Rattle.task_table.proofs.Outcomes.{chain-outcome, Comes, by_outcome, comes-faulted, comes-misused, comes-denied, goes, goes_with}
-use Rattle.task_table.proofs.Receives.{births-past_call, health-past_call, posted-past_call, idle-past_call, calls-past_call, well-ready, is_there, none_left, same_index, no_kernel_birth, no_any_birth, one_birth, names_another}
+use Rattle.task_table.proofs.Receives.{births-past_syscall, health-past_syscall, posted-past_syscall, idle-past_syscall, calls-past_syscall, well-ready, is_there, none_left, same_index, no_kernel_birth, no_any_birth, one_birth, names_another}
 
 -- ## what needs nothing but the caller
 
-pub chain-call_noted : (g : Setup) (c : ℕ) (t : Turn) → Chain (Step g t.state c) t (call_noted c t)
-unfolding call_noted
-chain-call_noted g c t = one (Notes _ t refl)
+pub chain-syscall_noted : (g : Setup) (c : ℕ) (t : Turn) → Chain (Step g t.state c) t (syscall_noted c t)
+unfolding syscall_noted
+chain-syscall_noted g c t = one (Notes _ t refl)
 
 module _ (g : Setup) (c : ℕ) (t : Turn) (inside : c < length g.tasks) where
   -- ## PANIC, timers, interrupts
@@ -53,9 +53,9 @@ module _ (g : Setup) (c : ℕ) (t : Turn) (inside : c < length g.tasks) where
       by_outcome (leb x.deadline t.state.now) (λ due. goes g c t inside (posted c x.bits off) (one (Times None t inside tt, tt) ▷ (Posts c x.bits off inside, tt))) (λ ahead.
       goes g c t inside (with_timer c (Some timer) t) (one (Times (Some timer) t inside (leb-false x.deadline t.state.now ahead), tt))))
 
-  pub comes-timer_told : Comes g c t (timer_told c t)
-  unfolding timer_told
-  comes-timer_told = goes_with g c t inside (t.state.now % 2 ^ 32 ∷ t.state.now / 2 ^ 32 ∷ timer_words (task_at t.state c).timer) t (few (task_at t.state c).timer) (Here t)
+  pub comes-timer_answered : Comes g c t (timer_answered c t)
+  unfolding timer_answered
+  comes-timer_answered = goes_with g c t inside (t.state.now % 2 ^ 32 ∷ t.state.now / 2 ^ 32 ∷ timer_words (task_at t.state c).timer) t (few (task_at t.state c).timer) (Here t)
     where
       few : (timer : Option Timer) → length (t.state.now % 2 ^ 32 ∷ t.state.now / 2 ^ 32 ∷ timer_words timer) ≤ 6
       few None = omega arith
@@ -92,14 +92,14 @@ module _ (g : Setup) (c : ℕ) (t : Turn) (h : Sane g t.state) (inside : c < len
   listen : (x : RecvArgs) (from : From) → is_valid (buffer_of x) ≡ true → bad_byte g c Write (buffer_of x) ≡ None → bit_and (task_at t.state c).posted x.mask ≡ 0 → ((b : Birth) → from ≡ One b → (b.index < length g.tasks) × (b.index ≢ c) × ((task_at t.state b.index).births ≡ b.birth)) → ((k : Call) → Contains t.state.calls k → k.phase ≡ Offered → k.server.index ≡ c → admits from k.client ≡ false) → Comes g c t (listens c x from t)
   listen x from valid writable unmet names unfit =
       let l : Listen = record { task = c; from = from; mask = x.mask; buffer = buffer_of x } in
-      Goes t _ (one (PassesCall t inside, tt) ▷ (
-        Listens l (past_call c t) refl record {
+      Goes t _ (one (PassesSyscall t inside, tt) ▷ (
+        Listens l (past_syscall c t) refl record {
           fit = record { there = inside; names = λ b e. let n = names b e in (n.0, n.1); valid = valid; writable = writable };
-          well = health-past_call c t c within ∙ well-ready t.state c ready;
-          idle = idle-past_call c t c idle;
-          named = λ b e. births-past_call c t b.index within ∙ (names b e).2;
-          unmet = rw (posted-past_call c t c within) unmet;
-          unfit = λ k here. unfit k (rw (calls-past_call c t) at here);
+          well = health-past_syscall c t c within ∙ well-ready t.state c ready;
+          idle = idle-past_syscall c t c idle;
+          named = λ b e. births-past_syscall c t b.index within ∙ (names b e).2;
+          unmet = rw (posted-past_syscall c t c within) unmet;
+          unfit = λ k here. unfit k (rw (calls-past_syscall c t) at here);
         },
         tt,
       ))
@@ -107,8 +107,8 @@ module _ (g : Setup) (c : ℕ) (t : Turn) (h : Sane g t.state) (inside : c < len
   receive : (x : RecvArgs) (k : Call) → Contains t.state.calls k → k.phase ≡ Offered → k.server.index ≡ c → bad_byte g c Write (buffer_of x) ≡ None → Comes g c t (receives c x k t)
   receive x k here offered server writable =
       Goes t _
-      (one (PassesCall t inside, tt)
-      ▷ (Receives k (buffer_of x) (past_call c t) record { here = rw (calls-past_call c t) here; before = here; offered = offered; server = server; good = writable }, tt)
+      (one (PassesSyscall t inside, tt)
+      ▷ (Receives k (buffer_of x) (past_syscall c t) record { here = rw (calls-past_syscall c t) here; before = here; offered = offered; server = server; good = writable }, tt)
       ▷ (Returns c _, tt))
 
   take_bits : (mask : ℕ) → Comes g c t (takes_bits c mask t)
@@ -153,9 +153,9 @@ module _ (g : Setup) (c : ℕ) (t : Turn) (h : Sane g t.state) (inside : c < len
       from_one x valid writable unmet (offer_by s (index_of id) c) (index_of id) refl (is_there s id another.0) (λ e. absurd (false≢true (sym another.1 ∙ eq-eqb _ _ e))))
       (λ any. from_any x valid writable unmet best (offer_of s c best) refl (rw is (best_is_best t.state c h)))))))))
 
-  -- ## every call
+  -- ## every system call
 
-  -- a call of a list is one of its meanings, or a misuse
+  -- a system call of a list is one of its meanings, or a misuse
   among : (list : List (ℕ × Meaning)) (n : ℕ) → EachMeaning (λ m. Comes g c t (m g c t)) list → Comes g c t (meaning_among list n g c t)
   among [] n each = comes-misused g c t inside 1
   among (call ∷ list) n each = by_outcome (eqb n call.0) (λ is. each.0) (λ other. among list n each.1)
@@ -183,7 +183,7 @@ module _ (g : Setup) (c : ℕ) (t : Turn) (h : Sane g t.state) (inside : c < len
                   (
                     comes-panicked g c t inside,
                     (
-                      comes-timer_told g c t inside,
+                      comes-timer_answered g c t inside,
                       (
                         comes-refreshed g c t h inside,
                         (
@@ -205,9 +205,9 @@ module _ (g : Setup) (c : ℕ) (t : Turn) (h : Sane g t.state) (inside : c < len
     ),
   )
 
-  pub comes-called : Comes g c t (called g c t)
-  unfolding called
-  comes-called = among calls (register t.state c 11) each
+  pub comes-syscall_made : Comes g c t (syscall_made g c t)
+  unfolding syscall_made
+  comes-syscall_made = among calls (register t.state c 11) each
 
-  pub chain-called : Chain (Step g t.state c) t (called g c t)
-  chain-called = chain-outcome g t.state c t _ comes-called
+  pub chain-syscall_made : Chain (Step g t.state c) t (syscall_made g c t)
+  chain-syscall_made = chain-outcome g t.state c t _ comes-syscall_made

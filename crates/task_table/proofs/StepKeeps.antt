@@ -3,14 +3,14 @@ use Rattle.std.proofs.Common.{◌≡◌, ◌<◌, ℕ, true, length, Option}
 use Rattle.kernel_abi.specs.declared.Ending.TheVariants.{Client}
 use Rattle.task_table.specs.State.{Setup, State, Turn, Own}
 use Rattle.task_table.specs.Reading.{is_ready, best_sender}
-use Rattle.task_table.specs.Rows.{misused, panicked, timer_set, timer_told, irq_controlled, received, call_noted}
+use Rattle.task_table.specs.Rows.{misused, panicked, timer_set, timer_answered, irq_controlled, received, syscall_noted}
 use Rattle.task_table.specs.Sends.{sent, replied, reply_faulted, post_made, refreshed}
 use Rattle.task_table.specs.Borrows.{reading, writing, borrowed, informed}
 use Rattle.task_table.specs.Orders.{ordered}
-use Rattle.task_table.specs.Calls.{called}
+use Rattle.task_table.specs.Syscalls.{syscall_made}
 use Rattle.task_table.specs.Sane.{Sane}
 use Rattle.task_table.specs.Chain.{Chain}
-use Rattle.task_table.specs.Step.{Step, Notes, Gives, Returns, PassesCall, Runs, Clears, Posts, Times, Lines, Listens, Sends, Receives, Stores, Copies, Looks, Borrows, Ceases, Halts, Strikes, Restarts, Outcome}
+use Rattle.task_table.specs.Step.{Step, Notes, Gives, Returns, PassesSyscall, Runs, Clears, Posts, Times, Lines, Listens, Sends, Receives, Stores, Copies, Looks, Borrows, Ceases, Halts, Strikes, Restarts, Outcome}
 use Rattle.task_table.proofs.BorrowChains.{comes-read, comes-written, comes-informed}
 use Rattle.task_table.proofs.Chains.{chain_keeps}
 use Rattle.task_table.proofs.Handing.{keeps-looked, keeps-copied, keeps-handed}
@@ -19,9 +19,9 @@ use Rattle.task_table.proofs.MessageChains.{comes-sent, comes-replied, comes-rep
 use Rattle.task_table.proofs.Offering.{keeps-closed, sane-offers, sane-restarted}
 use Rattle.task_table.proofs.OrderChains.{comes-ordered}
 use Rattle.task_table.proofs.Outcomes.{chain-outcome, comes-misused}
-use Rattle.task_table.proofs.Posting.{keeps-noted, keeps-given, keeps-returned, keeps-past_call, keeps-cleared, keeps-timer, sane-posted}
+use Rattle.task_table.proofs.Posting.{keeps-noted, keeps-given, keeps-returned, keeps-past_syscall, keeps-cleared, keeps-timer, sane-posted}
 use Rattle.task_table.proofs.Ranges.{within_ram-good, within_ram-front}
-use Rattle.task_table.proofs.RowChains.{chain-call_noted, comes-panicked, comes-timer_set, comes-timer_told, comes-irq_controlled, comes-received, comes-called}
+use Rattle.task_table.proofs.RowChains.{chain-syscall_noted, comes-panicked, comes-timer_set, comes-timer_answered, comes-irq_controlled, comes-received, comes-syscall_made}
 use Rattle.task_table.proofs.Sanity.{sane-processor, sane-stored, sane-faulted_as}
 use Rattle.task_table.proofs.Timing.{keeps-line}
 
@@ -33,7 +33,7 @@ module _ (g : Setup) (s : State) (c : ℕ) where
   step_sane _ _ (Notes n u plain) h = keeps-noted n u h
   step_sane _ _ (Gives i values u lt few party) h = keeps-given i values u h (here h lt) few
   step_sane _ _ (Returns i u) h = keeps-returned i u h
-  step_sane _ _ (PassesCall u lt) h = keeps-past_call c u h (here h lt)
+  step_sane _ _ (PassesSyscall u lt) h = keeps-past_syscall c u h (here h lt)
   step_sane _ _ (Runs registers flags u lt whole) h = sane-processor c registers flags u h (here h lt) whole
   step_sane _ _ (Clears mask u lt none) h = keeps-cleared c mask u h (here h lt) none
   step_sane _ _ (Posts i bits u lt) h = sane-posted i bits u h (here h lt)
@@ -66,8 +66,8 @@ module _ {g : Setup} (c : ℕ) (t : Turn) (h : Sane g t.state) (within : c < len
   pub sane-misused : (usage : ℕ) → Sane g (misused g c usage t).state
   sane-misused usage = kept _ (comes-misused g c t inside usage)
 
-  pub sane-call_noted : Sane g (call_noted c t).state
-  sane-call_noted = chain_sane g t.state c t _ (chain-call_noted g c t) h
+  pub sane-syscall_noted : Sane g (syscall_noted c t).state
+  sane-syscall_noted = chain_sane g t.state c t _ (chain-syscall_noted g c t) h
 
   pub sane-panicked : Sane g (panicked g c t).state
   sane-panicked = kept _ (comes-panicked g c t inside)
@@ -75,8 +75,8 @@ module _ {g : Setup} (c : ℕ) (t : Turn) (h : Sane g t.state) (within : c < len
   pub sane-timer_set : Sane g (timer_set c t).state
   sane-timer_set = kept _ (comes-timer_set g c t inside)
 
-  pub sane-timer_told : Sane g (timer_told c t).state
-  sane-timer_told = kept _ (comes-timer_told g c t inside)
+  pub sane-timer_answered : Sane g (timer_answered c t).state
+  sane-timer_answered = kept _ (comes-timer_answered g c t inside)
 
   pub sane-irq_controlled : Sane g (irq_controlled g c t).state
   sane-irq_controlled = kept _ (comes-irq_controlled g c t inside)
@@ -112,5 +112,5 @@ module _ {g : Setup} (c : ℕ) (t : Turn) (h : Sane g t.state) (within : c < len
     pub sane-received : (best : Option ℕ) → best ≡ best_sender g t.state c → Sane g (received g c best t).state
     sane-received best is = kept _ (comes-received g c t h inside ready best is)
 
-    pub sane-called : Sane g (called g c t).state
-    sane-called = kept _ (comes-called g c t h inside ready)
+    pub sane-syscall_made : Sane g (syscall_made g c t).state
+    sane-syscall_made = kept _ (comes-syscall_made g c t h inside ready)

@@ -72,7 +72,7 @@ moved borrow.Info k leased own n t = t
 abbrev pub no_lease : ℕ
 no_lease = 1
 
--- the borrower is told a code, and that nothing moved
+-- the borrower gets a code, and that nothing moved
 abbrev pub refused : ℕ → ℕ → Turn → Turn
 refused c code t = t ⨾ goes_on_with c (code ∷ 0 ∷ [])
 
@@ -128,25 +128,25 @@ borrowed g way c t =
 
 -- ## BORROW_INFO: r4 lender, r5 lease
 
--- the borrower is told a code, and nothing of the lease
-abbrev pub untold : ℕ → ℕ → Turn → Turn
-untold c code t = t ⨾ goes_on_with c (code ∷ 0 ∷ 0 ∷ [])
+-- the borrower gets a code, and nothing of the lease
+abbrev pub uninformed : ℕ → ℕ → Turn → Turn
+uninformed c code t = t ⨾ goes_on_with c (code ∷ 0 ∷ 0 ∷ [])
 
-abbrev pub grant_told : Setup → ℕ → ℕ → Call → LeaseEntry → Turn → Turn
-grant_told g c lease k e t =
+abbrev pub grant_answered : Setup → ℕ → ℕ → Call → LeaseEntry → Turn → Turn
+grant_answered g c lease k e t =
     first_row (
-    (not (is_valid (lease_range e)), t ⨾ misused g k.client.index (usage_number InvalidSlice) ⨾ untold c no_lease)
+    (not (is_valid (lease_range e)), t ⨾ misused g k.client.index (usage_number InvalidSlice) ⨾ uninformed c no_lease)
     ∷ []) (t ⨾ noted (note.Borrow k.number borrow.Info lease 0 0) ⨾ goes_on_with c (0 ∷ bit_and e.attributes 3 ∷ e.len ∷ []))
 
 abbrev pub informed_by : Setup → ℕ → ℕ → Option Call → Turn → Turn
-informed_by g c lease None t = t ⨾ untold c no_lease
+informed_by g c lease None t = t ⨾ uninformed c no_lease
 informed_by g c lease (Some k) t =
     let bad = bad_byte g k.client.index Read (entry_range k lease) in
     let e = grant t.state k lease in
     first_row (
     (nat_le k.leases lease, t ⨾ misused g c (usage_number LeaseOutOfRange))
-    ∷ (is_some bad, t ⨾ denied g k.client.index (access_number KernelRead) bad ⨾ untold c no_lease)
-    ∷ []) (t ⨾ entry_read k lease e ⨾ grant_told g c lease k e)
+    ∷ (is_some bad, t ⨾ denied g k.client.index (access_number KernelRead) bad ⨾ uninformed c no_lease)
+    ∷ []) (t ⨾ entry_read k lease e ⨾ grant_answered g c lease k e)
 
 unfoldable pub informed : Setup → ℕ → Turn → Turn
 informed g c t =
@@ -155,5 +155,5 @@ informed g c t =
     let id = x.lender.number in
     first_row (
     (is_out s id, t ⨾ misused g c (usage_number BadTaskIndex))
-    ∷ (is_dead s id, t ⨾ untold c (dead_code_for s id))
+    ∷ (is_dead s id, t ⨾ uninformed c (dead_code_for s id))
     ∷ []) (t ⨾ informed_by g c x.lease (taken_by s (index_of id) c))

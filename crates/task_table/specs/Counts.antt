@@ -1,8 +1,9 @@
 -- What happens within a turn leaves as it was, and what registers may become.
+use Rattle.words_core.specs.Regs.{stack_pointer, program_counter}
 use Rattle.std.specs.Prelude.{ℕ, ◌≡◌, ◌≢◌, ◌+◌, ◌%◌, ◌≤◌, List, [], ◌++◌, length, slice_index}
 use Rattle.kernel_abi.specs.declared.Note.{Note}
 use Rattle.task_table.specs.State.{State, Turn}
-use Rattle.task_table.specs.Reading.{task_at, is_ready, stack_pointer, program_counter}
+use Rattle.task_table.specs.Reading.{task_at, is_ready}
 
 -- sixteen registers, bit 0 of PC and the two low bits of SP are 0
 pub record AreWhole (registers : List ℕ) : Type 0 where

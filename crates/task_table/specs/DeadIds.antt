@@ -1,19 +1,20 @@
 -- What a call comes to that names an earlier birth of a task. (Hubris Reference: task ids and generations.)
+use Rattle.words_core.specs.Regs.{program_counter}
 use Rattle.std.specs.Prelude.{ℕ, ◌≡◌, ◌≢◌, ◌+◌, ◌%◌, ◌^◌, true, false, List, [], ◌∷◌, ◌++◌, None, slice_set, bit_and, slice_range}
 use Rattle.kernel_abi.specs.Arguments.{send_args, recv_args, reply_args, id_args, borrow_args, info_args}
 use Rattle.kernel_abi.specs.Ids.{index_of}
 use Rattle.kernel_abi.specs.declared.Note.TheVariants as note
 use Rattle.region_check.specs.declared.Right.TheVariants.{Read, Write}
 use Rattle.task_table.specs.State.{Setup, State, Turn}
-use Rattle.task_table.specs.Reading.{task_at, register, arguments, is_out, is_dead, is_valid, bad_byte, call_selector, program_counter}
+use Rattle.task_table.specs.Reading.{task_at, register, arguments, is_out, is_dead, is_valid, bad_byte, syscall_selector}
 use Rattle.task_table.specs.Effects.{with_results}
 use Rattle.task_table.specs.Rows.{buffer_of}
 use Rattle.task_table.specs.Sends.{message_of, reply_room, table_of}
-use Rattle.task_table.specs.Calls.{is_to_kernel}
+use Rattle.task_table.specs.Syscalls.{is_to_kernel}
 
 -- the caller makes the call with this number
 abbrev pub Calls : ℕ → ℕ → Turn → Type 0
-Calls n c t = register t.state c call_selector ≡ n
+Calls n c t = register t.state c syscall_selector ≡ n
 
 -- the ids that calls of c name: of a SEND, a RECV, a REPLY or REPLY_FAULT, a borrow, BORROW_INFO, and POST
 abbrev pub recipient : State → ℕ → ℕ
@@ -65,7 +66,7 @@ pub record MayReceiveFrom (g : Setup) (c : ℕ) (s : State) : Type 0 where
 -- the caller has these results from r4 on, is past its call and else as it was, and that is noted; every other task with
 -- its call and its listen is as it was, and so are the open calls, the listens, the memory, the time, the lines and the
 -- number of the next call; nothing was written, and nothing read for another task
-pub record IsToldAlone (c : ℕ) (values : List ℕ) (t u : Turn) : Type 0 where
+pub record IsAnsweredAlone (c : ℕ) (values : List ℕ) (t u : Turn) : Type 0 where
   pub caller : task_at u.state c ≡ record (task_at t.state c) { registers = (task_at u.state c).registers }
   pub registers : (task_at u.state c).registers ≡ slice_set (with_results values (task_at t.state c).registers) program_counter ((register t.state c program_counter + 2) % 2 ^ 32)
   pub others : (i : ℕ) → i ≢ c → task_at u.state i ≡ task_at t.state i

@@ -1,5 +1,6 @@
 -- What happens to a state within a turn. Each effect takes what the turn has come to so far, and
 -- appends its own notes and writes. (Hubris Reference: tasks, syscalls, supervision.)
+use Rattle.words_core.specs.Regs.{program_counter}
 use Rattle.std.specs.Prelude.{ℕ, ◌+◌, ◌-◌, ◌%◌, ◌^◌, Bool, false, not, List, [], ◌∷◌, ◌++◌, length, take, drop, filter, map, min, slice_set, slice_range, Option, None, Some, ◌==◌, if◌then◌else◌, bit_and, bit_or, fold}
 use Rattle.std.specs.List.{range_with_len}
 use Rattle.kernel_abi.specs.Ids.{id_of, dead_code_of}
@@ -15,7 +16,7 @@ use Rattle.words_core.specs.declared.Flags.{Flags}
 use Rattle.task_table.specs.declared.Line.{Line}
 use Rattle.mem_banks.specs.Memory.{with_bytes, bytes_at, copied as copied_memory}
 use Rattle.task_table.specs.State.{Setup, TaskSetup, Task, Call, Taken, Listen, Any, One, KernelOnly, Range, State, Ground, Write, Read, MessageFront, Turn}
-use Rattle.task_table.specs.Reading.{task_at, setup_at, register, call_of, listen_of, no_flags, program_counter}
+use Rattle.task_table.specs.Reading.{task_at, setup_at, register, call_of, listen_of, no_flags}
 
 -- ## one part of a state changed
 
@@ -89,7 +90,7 @@ copied on from to n t =
 unfoldable pub looked : Read → Turn → Turn
 looked r t = record t { reads = t.reads ++ r ∷ [] }
 
--- ## a call ends
+-- ## a system call ends
 
 -- these registers with values from r4 on
 abbrev pub with_results : List ℕ → List ℕ → List ℕ
@@ -100,13 +101,13 @@ unfoldable pub given : ℕ → List ℕ → Turn → Turn
 given i values t =
     t ⨾ changed (with_task i record (task_at t.state i) { registers = with_results values (task_at t.state i).registers })
 
--- a call of the task has ended, with its r4 to r9
+-- a system call of the task has ended, with its r4 to r9
 unfoldable pub returned : ℕ → Turn → Turn
 returned i t = t ⨾ noted (note.Ret i (slice_range (task_at t.state i).registers 4 10))
 
--- the program counter goes past the call
-unfoldable pub past_call : ℕ → Turn → Turn
-past_call i t =
+-- the program counter goes past the system call
+unfoldable pub past_syscall : ℕ → Turn → Turn
+past_syscall i t =
     t ⨾ changed (with_task i record (task_at t.state i) { registers = slice_set (task_at t.state i).registers program_counter ((register t.state i program_counter + 2) % 2 ^ 32) })
 
 -- ## bits are posted
@@ -226,18 +227,18 @@ abbrev pub awaits : ℕ → Option Listen → Bool
 awaits i None = false
 awaits i (Some l) = elim l.from [ Any ↦ false | One b ↦ b.index == i | KernelOnly ↦ false ]
 
--- another task that waited for task i is told the dead code, with the generation that i has now
-abbrev pub told_dead : ℕ → Turn → ℕ → Turn
-told_dead i t j =
+-- another task that waited for task i gets the dead code, with the generation that i has now
+abbrev pub dead_answered : ℕ → Turn → ℕ → Turn
+dead_answered i t j =
     let code = dead_code_of ((task_at t.state i).births % 64) in
     if is_to i (call_of t.state j) then (t ⨾ closed j Restart ⨾ given j (code ∷ 0 ∷ []) ⨾ returned j)
     else (if awaits i (listen_of t.state j)
     then (t ⨾ changed (without_listen j) ⨾ given j (code ∷ 0 ∷ 0 ∷ 0 ∷ 0 ∷ 0 ∷ []) ⨾ returned j)
     else t)
 
--- its own call and listen are dropped, it is born again, and then each other task in order is told
+-- its own call and listen are dropped, it is born again, and then each other task that waited gets that, in order
 unfoldable pub restarted : Setup → ℕ → Bool → Turn → Turn
 restarted g i start t =
     let born = t ⨾ closed i Restart ⨾ changed (without_listen i) ⨾ changed (reborn g i start) in
-    let told = born ⨾ noted (note.Restart i ((task_at born.state i).births % 64)) in
-    fold (told_dead i) told (range_with_len 0 (length t.state.tasks))
+    let marked = born ⨾ noted (note.Restart i ((task_at born.state i).births % 64)) in
+    fold (dead_answered i) marked (range_with_len 0 (length t.state.tasks))

@@ -91,7 +91,7 @@ touched (note.Borrow call borrow lease offset moved) = Some call
 touched (note.Tick now) = None
 touched (note.Irq line handled) = None
 touched (note.Post task bits posted) = None
-touched (note.Call task number arguments) = None
+touched (note.Syscall task number arguments) = None
 touched (note.Ret task results) = None
 touched (note.Offer call client server) = None
 touched (note.Close call ending) = None
@@ -107,4 +107,4 @@ touched (note.High registers n z c v) = None
 pub record AreAlive (s : State) (c : ℕ) (u : Turn) : Type 0 where
   pub written : (w : Written) → Contains u.writes w → IfSome (call_of_ground w.on) (IsAlive s c u)
   pub read : (r : Read) → Contains u.reads r → IsAlive s c u r.call
-  pub told : (n : Note) → Contains u.notes n → IfSome (touched n) (IsAlive s c u)
+  pub touches : (n : Note) → Contains u.notes n → IfSome (touched n) (IsAlive s c u)

@@ -19,7 +19,7 @@ pub record IsUsable (regions : List Region) (r : Region) : Type 0 where
   pub some : 0 < r.size
 
 -- two of some regions: one in the flash, and one in the RAM, or none
-pub record AreUsable (regions : List Region) (text ram : Region) : Type 0 where
-  pub text_usable : IsUsable regions text
-  pub below : text.base < 0x20000000
+pub record AreUsable (regions : List Region) (flash ram : Region) : Type 0 where
+  pub flash_usable : IsUsable regions flash
+  pub below : flash.base < 0x20000000
   pub ram_usable : IsNoRegion (span_of ram) ⊎ (IsUsable regions ram × (0x20000000 ≤ ram.base))

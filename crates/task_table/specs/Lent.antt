@@ -15,6 +15,6 @@ overlaid at bytes t = changed (λ s. record s { memory = with_bytes s.memory at 
 
 -- a borrower b did its work with the bytes of two regions; then it is b', and the kernel stands for
 -- what it stood for, but for the bytes that it left of the second region
-pub record IsLent {B : Type 0} (did : B → List ℕ → List ℕ → B → List ℕ → Type 0) (k : Kernel) (text ram : Region) (b b' : B) (k' : Kernel) : Type 0 where
-  pub loan : IsLoan did (memory_of k) (span_of text) (span_of ram) b b' (memory_of k')
+pub record IsLent {B : Type 0} (did : B → List ℕ → List ℕ → B → List ℕ → Type 0) (k : Kernel) (flash ram : Region) (b b' : B) (k' : Kernel) : Type 0 where
+  pub loan : IsLoan did (memory_of k) (span_of flash) (span_of ram) b b' (memory_of k')
   pub holds : (g : Setup) (t : Turn) → Holds g k t → Holds g k' (overlaid ram.base loan.after t)

@@ -8,7 +8,7 @@ pub mod Deadlines
 pub mod Entries
 pub mod Effects
 pub mod Rows
-pub mod Calls
+pub mod Syscalls
 pub mod Events
 pub mod Placed
 pub mod Sane

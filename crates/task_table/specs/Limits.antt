@@ -14,8 +14,8 @@ abbrev pub board_lines : ℕ
 board_lines = 32
 
 -- notes of one system call, and of one event from outside
-abbrev pub call_notes : ℕ
-call_notes = 100
+abbrev pub syscall_notes : ℕ
+syscall_notes = 100
 
 -- notes of one turn
 abbrev pub turn_notes : ℕ

@@ -1,4 +1,4 @@
--- The lives of calls, as the notes of a run tell them, and what a turn begins with.
+-- The lives of calls, as the notes of a run say them, and what a turn begins with.
 use Rattle.std.specs.Prelude.{ℕ, ◌<◌, ◌≤◌, ◌≡◌, ◌≢◌, ◌⊎◌, Bool, List, [], ◌∷◌, Contains, Some, ◌==◌, if◌then◌else◌, true}
 use Rattle.kernel_abi.specs.declared.Note.{Note}
 use Rattle.task_table.specs.State.{State, Call, Phase, Offered, Taken, Write as Written, Turn}
@@ -6,7 +6,7 @@ use Rattle.task_table.specs.Grounds.{call_of_ground}
 use Rattle.task_table.specs.Ledger.{Saying, Offers, Takes, Closes, Nothing, saying, is_answer, IsOpen}
 use Rattle.task_table.specs.Step.{is_plain}
 
--- ## what notes tell
+-- ## what notes say
 
 -- not offered yet; offered; taken; closed; what cannot be
 pub data Life : Type 0 where
@@ -71,8 +71,8 @@ Lives s k Held = IsOpenAs s k Taken
 Lives s k Over = (1 ≤ k) × (k < s.next_call) × ((c : Call) → Contains s.calls c → c.number ≢ k)
 Lives s k Wrong = ⊥
 
--- as the notes of a run tell it, so it is
-pub record IsTold (notes : List Note) (s : State) : Type 0 where
+-- as the notes of a run say it, so it is
+pub record IsAsNoted (notes : List Note) (s : State) : Type 0 where
   pub apart : AreApart s
   pub lives : (k : ℕ) → Lives s k (lived k New notes)
 

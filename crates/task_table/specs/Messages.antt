@@ -1,4 +1,4 @@
--- What the code's kernel is told about messages.
+-- What the code's kernel is handed about messages.
 use Rattle.std.specs.Prelude.{ℕ, ◌≡◌, ◌<◌, ◌≤◌, ◌+◌, ◌*◌, Option, None, Some, if◌then◌else◌}
 use Rattle.std.specs.Option.{option_map}
 use Rattle.kernel_abi.specs.Arguments.{recv_args}

@@ -40,21 +40,15 @@ line_on = record { enabled = true; pending = false }
 unfoldable pub line_at : State → ℕ → Line
 line_at s k = slice_index_or s.lines k no_line
 
--- the numbers of the registers that have a part of their own: SP, PC, and the one that holds a call's number
-abbrev pub stack_pointer : ℕ
-stack_pointer = 13
-
-abbrev pub program_counter : ℕ
-program_counter = 15
-
-abbrev pub call_selector : ℕ
-call_selector = 11
+-- the register that holds the number of a system call
+abbrev pub syscall_selector : ℕ
+syscall_selector = 11
 
 -- a register of a task
 unfoldable pub register : State → ℕ → ℕ → ℕ
 register s i r = slice_index (task_at s i).registers r
 
--- the registers r4 to r11 of a task: the arguments of its call, and the call's number
+-- the registers r4 to r11 of a task: the arguments of its system call, and its number
 unfoldable pub arguments : State → ℕ → List ℕ
 arguments s c = slice_range (task_at s c).registers 4 12
 
@@ -90,7 +84,7 @@ present s i = record { index = i; birth = (task_at s i).births }
 unfoldable pub present_id : State → ℕ → ℕ
 present_id s i = id_of i (task_at s i).births
 
--- what a caller is told of an id of an earlier birth, with the present generation
+-- what a caller gets for an id of an earlier birth, with the present generation
 unfoldable pub dead_code_for : State → ℕ → ℕ
 dead_code_for s id = dead_code_of ((task_at s (index_of id)).births % 64)
 

@@ -1,10 +1,10 @@
--- The rows of the calls. Of the rows of a call the first applies whose condition holds.
+-- The rows of the system calls. Of the rows of one the first applies whose condition holds.
 use Rattle.kernel_abi.specs.declared.Access.TheVariants.{KernelWrite}
 use Rattle.kernel_abi.specs.declared.Usage.TheVariants.{NoIrq, InvalidSlice, BadTaskIndex}
-use Rattle.kernel_abi.specs.Faults.{usage_number, access_number, panic_fault}
+use Rattle.kernel_abi.specs.Faults.{usage_number, access_number, usage_fault_by, access_fault_by, panic_fault}
 use Rattle.std.specs.Prelude.{ℕ, ◌/◌, ◌%◌, ◌^◌, Bool, ◌&&◌, ◌||◌, not, false, List, [], ◌∷◌, Option, None, Some, is_some, unwrap_or, ◌==◌, nat_le, bit_and, cond, if◌then◌else◌, filter, fold, slice_range}
 use Rattle.std.specs.List.{list_any}
-use Rattle.kernel_abi.specs.Arguments.{recv_args, timer_args, irq_args}
+use Rattle.kernel_abi.specs.Arguments.{r4, r5, recv_args, timer_args, irq_args}
 use Rattle.kernel_abi.specs.Ids.{index_of}
 use Rattle.kernel_abi.specs.declared.Listened.{Listened}
 use Rattle.kernel_abi.specs.declared.Listened.TheVariants as listened
@@ -13,8 +13,8 @@ use Rattle.kernel_abi.specs.declared.Note.TheVariants as note
 use Rattle.kernel_abi.specs.declared.Timer.{Timer}
 use Rattle.region_check.specs.declared.Right.TheVariants.{Write}
 use Rattle.task_table.specs.State.{Setup, LineSetup, State, Call, From, Any, One, KernelOnly, Range, Own, Turn}
-use Rattle.task_table.specs.Reading.{task_at, line_at, line_off, line_on, register, arguments, present, is_out, is_dead, dead_code_for, is_valid, bad_byte, offer_by, call_selector}
-use Rattle.task_table.specs.Effects.{◌⨾◌, changed, noted, given, returned, past_call, bits_cleared, posted, with_listen, with_timer, with_line, handed, faulted}
+use Rattle.task_table.specs.Reading.{task_at, line_at, line_off, line_on, register, arguments, present, is_out, is_dead, dead_code_for, is_valid, bad_byte, offer_by, syscall_selector}
+use Rattle.task_table.specs.Effects.{◌⨾◌, changed, noted, given, returned, past_syscall, bits_cleared, posted, with_listen, with_timer, with_line, handed, faulted}
 
 -- ## how rows are written
 
@@ -24,23 +24,23 @@ first_row (row ∷ rows) otherwise = cond row.0 row.1 (first_row rows otherwise)
 
 -- the caller faults by its usage
 abbrev pub misused : Setup → ℕ → ℕ → Turn → Turn
-misused g c usage t = t ⨾ faulted g c record { number = 7; x = usage; y = 0 }
+misused g c usage t = t ⨾ faulted g c (usage_fault_by usage)
 
 -- the caller faults at a byte that the kernel may not read or write for it (y: the number of that access)
 abbrev pub denied : Setup → ℕ → ℕ → Option ℕ → Turn → Turn
-denied g c y bad t = t ⨾ faulted g c record { number = 3; x = unwrap_or bad 0; y = y }
+denied g c y bad t = t ⨾ faulted g c (access_fault_by (unwrap_or bad 0) y)
 
--- the caller goes on after its call, and with results from r4 on
+-- the caller goes on after its system call, and with results from r4 on
 abbrev pub goes_on : ℕ → Turn → Turn
-goes_on c t = t ⨾ past_call c ⨾ returned c
+goes_on c t = t ⨾ past_syscall c ⨾ returned c
 
 abbrev pub goes_on_with : ℕ → List ℕ → Turn → Turn
 goes_on_with c values t = t ⨾ given c values ⨾ goes_on c
 
--- ## PANIC: r4 and r5 are told, nothing is read
+-- ## PANIC: r4 and r5 are its x and y, nothing is read
 
 unfoldable pub panicked : Setup → ℕ → Turn → Turn
-panicked g c t = t ⨾ faulted g c (panic_fault (register t.state c 4) (register t.state c 5))
+panicked g c t = t ⨾ faulted g c (panic_fault (register t.state c r4) (register t.state c r5))
 
 -- ## SET_TIMER: r4 whether to set, r5 and r6 the deadline's low and high word, r7 bits
 
@@ -59,8 +59,8 @@ abbrev pub timer_words : Option Timer → List ℕ
 timer_words None = 0 ∷ 0 ∷ 0 ∷ 0 ∷ []
 timer_words (Some x) = 1 ∷ x.deadline % 2 ^ 32 ∷ x.deadline / 2 ^ 32 ∷ x.bits ∷ []
 
-unfoldable pub timer_told : ℕ → Turn → Turn
-timer_told c t =
+unfoldable pub timer_answered : ℕ → Turn → Turn
+timer_answered c t =
     t ⨾ goes_on_with c (t.state.now % 2 ^ 32 ∷ t.state.now / 2 ^ 32 ∷ timer_words (task_at t.state c).timer)
 
 -- ## IRQ_CONTROL: r4 bits, r5 bit 0 whether to enable
@@ -99,17 +99,17 @@ asked s c = recv_args (arguments s c)
 abbrev pub buffer_of : RecvArgs → Range
 buffer_of x = record { base = x.buffer_base; length = x.buffer_length }
 
--- the caller listens, and goes past its call
+-- the caller listens, and goes past its system call
 abbrev pub listens : ℕ → RecvArgs → From → Turn → Turn
 listens c x from t =
     t
-    ⨾ past_call c
+    ⨾ past_syscall c
     ⨾ changed (with_listen record { task = c; from = from; mask = x.mask; buffer = buffer_of x })
     ⨾ noted (note.Listen c (listened_from from) x.mask)
 
 -- the caller takes an offered call
 abbrev pub receives : ℕ → RecvArgs → Call → Turn → Turn
-receives c x k t = t ⨾ past_call c ⨾ handed Own k (buffer_of x) ⨾ returned c
+receives c x k t = t ⨾ past_syscall c ⨾ handed Own k (buffer_of x) ⨾ returned c
 
 -- it takes the call that is offered, where one is; else it listens
 abbrev pub receives_or_listens : ℕ → RecvArgs → From → Option Call → Turn → Turn
@@ -160,8 +160,8 @@ received g c best t =
     ∷ (x.closed && not (id == 0xFFFF) && (is_out s id || (index_of id == c)), t ⨾ misused g c (usage_number BadTaskIndex))
     ∷ []) (t ⨾ input_received c best)
 
--- ## a call
+-- ## a system call
 
--- the line of a call: its number in r11, its arguments in r4 to r10
-unfoldable pub call_noted : ℕ → Turn → Turn
-call_noted c t = t ⨾ noted (note.Call c (register t.state c call_selector) (slice_range (task_at t.state c).registers 4 11))
+-- the line of a system call: its number in r11, its arguments in r4 to r10
+unfoldable pub syscall_noted : ℕ → Turn → Turn
+syscall_noted c t = t ⨾ noted (note.Syscall c (register t.state c syscall_selector) (slice_range (task_at t.state c).registers 4 11))

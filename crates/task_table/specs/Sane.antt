@@ -1,4 +1,5 @@
 -- What holds of a state after every event and instruction, in parts, and between turns besides.
+use Rattle.words_core.specs.Regs.{stack_pointer, program_counter}
 use Rattle.std.specs.Prelude.{ℕ, ◌+◌, ◌*◌, ◌%◌, ◌<◌, ◌≤◌, ◌≡◌, ◌≢◌, true, false, List, length, None, Contains, slice_index, IfSome, bit_and, ◌==◌}
 use Rattle.std.specs.List.{count_by}
 use Rattle.kernel_abi.specs.declared.Health.{Health}
@@ -7,7 +8,7 @@ use Rattle.region_check.specs.declared.Right.TheVariants.{Read, Write}
 use Rattle.mem_banks.specs.Memory.{AreAllBytes}
 use Rattle.task_table.specs.Placed.{ArePlaced}
 use Rattle.task_table.specs.State.{Setup, LineSetup, Task, Call, Listen, State, Birth, Offered, One}
-use Rattle.task_table.specs.Reading.{task_at, line_at, admits, is_valid, bad_byte, stack_pointer, program_counter}
+use Rattle.task_table.specs.Reading.{task_at, line_at, admits, is_valid, bad_byte}
 
 -- ## the parts, each over no more of a state than it speaks of
 

@@ -1,7 +1,7 @@
 -- The rows of SEND, REPLY, REPLY_FAULT, POST and REFRESH_TASK_ID. (Hubris Reference: IPC, task ids.)
 use Rattle.std.specs.Prelude.{ℕ, ◌*◌, ◌||◌, not, [], ◌∷◌, Option, None, Some, is_some, ◌==◌, nat_lt, if◌then◌else◌}
 use Rattle.kernel_abi.specs.Arguments.{send_args, reply_args, id_args}
-use Rattle.kernel_abi.specs.Faults.{usage_number, access_number}
+use Rattle.kernel_abi.specs.Faults.{usage_number, access_number, reply_fault_by}
 use Rattle.kernel_abi.specs.Ids.{index_of}
 use Rattle.kernel_abi.specs.declared.Access.TheVariants.{KernelRead, KernelWrite}
 use Rattle.kernel_abi.specs.declared.Ending.TheVariants as ending
@@ -12,7 +12,7 @@ use Rattle.kernel_abi.specs.declared.arguments.SendArgs.{SendArgs}
 use Rattle.region_check.specs.declared.Right.TheVariants.{Read, Write}
 use Rattle.task_table.specs.State.{Setup, State, Call, Listen, Offered, Range, Message, Reply, Turn}
 use Rattle.task_table.specs.Reading.{arguments, present, present_id, listen_of, is_out, is_dead, dead_code_for, admits, is_valid, bad_byte, taken_by}
-use Rattle.task_table.specs.Effects.{◌⨾◌, given, returned, past_call, closed, copied, offered, handed, posted, faulted_as}
+use Rattle.task_table.specs.Effects.{◌⨾◌, given, returned, past_syscall, closed, copied, offered, handed, posted, faulted_as}
 use Rattle.task_table.specs.Rows.{first_row, misused, denied, goes_on, goes_on_with}
 
 -- ## SEND: r4 bits 31 to 16 recipient, 15 to 0 operation, r5 and r6 message, r7 and r8 reply buffer, r9 lease table, r10 leases
@@ -52,9 +52,9 @@ taken_at_once k (Some l) t =
 abbrev pub offers_call : Call → Turn → Turn
 offers_call k t = t ⨾ offered k ⨾ taken_at_once k (listen_of t.state k.server.index)
 
--- the caller goes past its call, and waits
+-- the caller goes past its system call, and waits
 abbrev pub sends : ℕ → SendArgs → ℕ → Turn → Turn
-sends c x server t = let u = t ⨾ past_call c in u ⨾ offers_call (call_made u.state c x server)
+sends c x server t = let u = t ⨾ past_syscall c in u ⨾ offers_call (call_made u.state c x server)
 
 -- to a task; message, reply buffer and lease table are checked in this order
 unfoldable pub sent : Setup → ℕ → Turn → Turn
@@ -107,9 +107,9 @@ replied g c t =
 
 -- ## REPLY_FAULT: r4 client, r5 reason
 
--- its x is the server's id, its y the reason
-abbrev pub reply_fault_by : State → ℕ → ℕ → Fault
-reply_fault_by s c reason = record { number = 10; x = present_id s c; y = reason }
+-- that of the client, by its server and for a reason
+abbrev pub reply_fault_of : State → ℕ → ℕ → Fault
+reply_fault_of s c reason = reply_fault_by (present_id s c) reason
 
 -- reasons are numbered from 0 to 5
 abbrev pub last_reason : ℕ
@@ -117,7 +117,7 @@ last_reason = 5
 
 -- the client of a call faults, and its server goes on
 abbrev pub faults_client : Setup → ℕ → Call → ℕ → Turn → Turn
-faults_client g c k reason t = t ⨾ faulted_as g k.client.index (reply_fault_by t.state c reason) ending.ReplyFault ⨾ goes_on c
+faults_client g c k reason t = t ⨾ faulted_as g k.client.index (reply_fault_of t.state c reason) ending.ReplyFault ⨾ goes_on c
 
 abbrev pub reply_faulted_to : Setup → ℕ → ℕ → Option Call → Turn → Turn
 reply_faulted_to g c reason None t = t ⨾ goes_on c

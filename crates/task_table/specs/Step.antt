@@ -17,7 +17,7 @@ use Rattle.task_table.specs.declared.Line.{Line}
 use Rattle.mem_banks.specs.Memory.{IsWithinRam, AreAllBytes}
 use Rattle.task_table.specs.State.{Setup, State, Birth, Call, Listen, Range, Part, MessageFront, Entry, Leased, Read, One, Offered, Taken, Ground, Own, Turn}
 use Rattle.task_table.specs.Reading.{task_at, call_of, listen_of, bad_byte, admits, IsIdle}
-use Rattle.task_table.specs.Effects.{◌⨾◌, with_listen, changed, noted, with_processor, stored, copied, looked, given, returned, past_call, bits_cleared, posted, with_timer, with_line, closed, faulted_as, faulted, handed, restarted}
+use Rattle.task_table.specs.Effects.{◌⨾◌, with_listen, changed, noted, with_processor, stored, copied, looked, given, returned, past_syscall, bits_cleared, posted, with_timer, with_line, closed, faulted_as, faulted, handed, restarted}
 use Rattle.task_table.specs.Rows.{listened_from}
 use Rattle.task_table.specs.Sends.{offers_call}
 use Rattle.task_table.specs.Sane.{IsFitCall, IsFitListen, IsOwned}
@@ -34,7 +34,7 @@ is_plain (note.Borrow call borrow lease offset moved) = false
 is_plain (note.Tick now) = true
 is_plain (note.Irq line handled) = true
 is_plain (note.Post task bits posted) = true
-is_plain (note.Call task number arguments) = true
+is_plain (note.Syscall task number arguments) = true
 is_plain (note.Ret task results) = true
 is_plain (note.Fault task fault) = true
 is_plain (note.Restart task generation) = true
@@ -105,7 +105,7 @@ pub data Step (g : Setup) (s : State) (c : ℕ) : Turn → Turn → Type 0 where
   Notes : (n : Note) (u : Turn) → is_plain n ≡ true → Step g s c u (noted n u)
   Gives : (i : ℕ) (values : List ℕ) (u : Turn) → i < length g.tasks → length values ≤ 6 → IsParty s c i → Step g s c u (given i values u)
   Returns : (i : ℕ) (u : Turn) → Step g s c u (returned i u)
-  PassesCall : (u : Turn) → c < length g.tasks → Step g s c u (past_call c u)
+  PassesSyscall : (u : Turn) → c < length g.tasks → Step g s c u (past_syscall c u)
   Runs : (registers : List ℕ) (flags : Flags) (u : Turn) → c < length g.tasks → AreWhole registers → Step g s c u (with_processor c registers flags u)
   Clears : (mask : ℕ) (u : Turn) → c < length g.tasks → listen_of u.state c ≡ None → Step g s c u (bits_cleared c mask u)
   Posts : (i bits : ℕ) (u : Turn) → i < length g.tasks → Step g s c u (posted i bits u)
@@ -130,7 +130,7 @@ abbrev pub Spares : {g : Setup} {s : State} {c : ℕ} {u v : Turn} → Step g s 
 Spares (Notes n u a) = Unit {0}
 Spares (Gives i values u a b d) = Unit {0}
 Spares (Returns i u) = Unit {0}
-Spares (PassesCall u a) = Unit {0}
+Spares (PassesSyscall u a) = Unit {0}
 Spares (Runs registers flags u a b) = Unit {0}
 Spares (Clears mask u a b) = Unit {0}
 Spares (Posts i bits u a) = Unit {0}
@@ -162,7 +162,7 @@ IsEntry Leased = ⊥
 abbrev pub ReadsEntries : Turn → Turn → Type 0
 ReadsEntries u v = (r : Read) → Contains v.reads r → Contains u.reads r ⊎ IsEntry r.part
 
--- c faults at once, or after steps that changed nothing, told nothing, wrote nothing and read entries alone; or steps
+-- c faults at once, or after steps that changed nothing, noted nothing, wrote nothing and read entries alone; or steps
 -- that spare it
 pub data Outcome (g : Setup) (s : State) (c : ℕ) : Turn → Turn → Type 0 where
   Faults : (fault : Fault) (u v : Turn) → c < length g.tasks → 1 ≤ fault.number → fault.number ≤ 10 → Chain (Spared g s c) u v → v.state ≡ u.state → v.notes ≡ u.notes → v.writes ≡ u.writes → ReadsEntries u v → Outcome g s c u (faulted g c fault v)

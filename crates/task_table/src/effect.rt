@@ -1,4 +1,4 @@
-//! What may be done to one task: results of its calls, posts.
+//! What may be done to one task: results of its system calls, posts.
 
 use crate::kernel::Kernel;
 use kernel_abi::Note;
@@ -7,13 +7,13 @@ impl Kernel {
     ghost use Rattle.std.specs.Prelude.{◌≡◌, ◌+◌, ◌<◌, ◌≤◌, length};
     ghost use Rattle.task_table.specs.State.{Setup, Turn};
     ghost use Rattle.task_table.specs.Reading.{arguments};
-    ghost use Rattle.task_table.specs.Effects.{given, returned, past_call, bits_added, bits_cleared, woken, posted};
+    ghost use Rattle.task_table.specs.Effects.{given, returned, past_syscall, bits_added, bits_cleared, woken, posted};
     ghost use Rattle.task_table.specs.Rows.{goes_on, goes_on_with};
     ghost use Rattle.task_table.specs.Holds.{Holds, Stands, task_count, note_count, entries_of};
     ghost use Rattle.task_table.specs.Limits.{turn_notes};
     ghost use Rattle.task_table.specs.Frames.{AddsNotes, AddsAtMost};
 
-    /// The registers r4 to r11 of a task: the arguments of its call, and the call's number.
+    /// The registers r4 to r11 of a task: the arguments of its system call, and its number.
     pub fn arguments(&self, task: usize) -> [u32; 8]
         requires { task < task_count self.now }
         ensures { (g : Setup) (t : Turn) → Holds g self.now t → result ≡ arguments t.state task }
@@ -35,7 +35,7 @@ impl Kernel {
         self.set_rest(task, &slot);
     }
 
-    /// Notes that a call of a task has ended, with its r4 to r9.
+    /// Notes that a system call of a task has ended, with its r4 to r9.
     pub fn note_return(&mut self, task: usize)
         requires there { task < task_count self.old }
         requires room { note_count self.old < turn_notes }
@@ -51,10 +51,10 @@ impl Kernel {
         });
     }
 
-    /// The program counter of a task goes past its call.
-    pub(crate) fn go_past_call(&mut self, task: usize)
+    /// The program counter of a task goes past its system call.
+    pub(crate) fn go_past_syscall(&mut self, task: usize)
         requires { task < task_count self.old }
-        ensures holds { (g : Setup) (t : Turn) → Holds g self.old t → Holds g self.new (past_call task t) }
+        ensures holds { (g : Setup) (t : Turn) → Holds g self.old t → Holds g self.new (past_syscall task t) }
         ensures entries { entries_of self.new ≡ entries_of self.old }
         ensures frame { AddsNotes self.old 0 self.new }
     {
@@ -63,7 +63,7 @@ impl Kernel {
         self.set_rest(task, &slot);
     }
 
-    /// A caller goes on after its call.
+    /// A caller goes on after its system call.
     pub fn go_on(&mut self, task: usize)
         requires there { task < task_count self.old }
         requires room { note_count self.old < turn_notes }
@@ -71,11 +71,11 @@ impl Kernel {
         ensures entries { entries_of self.new ≡ entries_of self.old }
         ensures frame { AddsNotes self.old 1 self.new }
     {
-        self.go_past_call(task);
+        self.go_past_syscall(task);
         self.note_return(task);
     }
 
-    /// A caller goes on after its call, with results from r4 on.
+    /// A caller goes on after its system call, with results from r4 on.
     pub fn answer(&mut self, task: usize, values: &[u32])
         requires there { task < task_count self.old }
         requires few { length values.now ≤ 6 }

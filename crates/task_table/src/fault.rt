@@ -12,7 +12,7 @@ impl Kernel {
     ghost use Rattle.task_table.specs.State.{Setup, Turn};
     ghost use Rattle.task_table.specs.Reading.{call_of, listen_of};
     ghost use Rattle.task_table.specs.Effects.{changed, with_health, without_listen, closed, faulted_as, faulted, is_to, awaits};
-    ghost use Rattle.task_table.specs.Rows.{misused, panicked, call_noted};
+    ghost use Rattle.task_table.specs.Rows.{misused, panicked, syscall_noted};
     ghost use Rattle.task_table.specs.Holds.{Holds, Stands, task_count, note_count};
     ghost use Rattle.task_table.specs.Waits.{AreFew};
     ghost use Rattle.task_table.specs.Limits.{turn_notes};
@@ -78,7 +78,7 @@ impl Kernel {
         slot.wait.awaits(task)
     }
 
-    /// A task faults, and its call is closed as told.
+    /// A task faults, and its call is closed with this ending.
     pub(crate) fn fault_as(&mut self, task: usize, fault: Fault, ending: Ending)
         requires there { task < task_count self.old }
         requires room { note_count self.old + 4 ≤ turn_notes }
@@ -127,21 +127,21 @@ impl Kernel {
 
     /// Notes the system call that a task makes by its registers: the number in r11, the arguments in
     /// r4 to r10.
-    pub fn note_call(&mut self, task: usize)
+    pub fn note_syscall(&mut self, task: usize)
         requires there { task < task_count self.old }
         requires room { note_count self.old < turn_notes }
-        ensures holds { (g : Setup) (t : Turn) → Holds g self.old t → Holds g self.new (call_noted task t) }
+        ensures holds { (g : Setup) (t : Turn) → Holds g self.old t → Holds g self.new (syscall_noted task t) }
         ensures frame { AddsNotes self.old 1 self.new }
     {
         let slot = self.slot(task);
-        self.note(Note::Call {
+        self.note(Note::Syscall {
             task: task as u16,
             number: slot.registers[11],
             arguments: arguments_in(&slot.registers),
         });
     }
 
-    /// PANIC: the caller faults, and its r4 and r5 are told (Hubris Reference, on PANIC).
+    /// PANIC: the caller faults, and its r4 and r5 are its x and y (Hubris Reference, on PANIC).
     pub fn panic(&mut self, caller: usize)
         requires there { caller < task_count self.old }
         requires room { note_count self.old + 4 ≤ turn_notes }

@@ -13,11 +13,11 @@ ghost use Rattle.mem_banks.specs.Memory.{Memory, IsWithin, IsWithinRam, AreAllBy
 ghost use Rattle.task_table.specs.State.{Setup, State, Turn, Ground, Read};
 ghost use Rattle.task_table.specs.Reading.{setup_at, is_ready, best_sender, IsIdle, IsSameAt};
 ghost use Rattle.task_table.specs.Effects.{changed, noted, looked, with_processor, given, posted, with_timer, with_line, stored, faulted};
-ghost use Rattle.task_table.specs.Rows.{misused, panicked, timer_set, timer_told, irq_controlled, received, call_noted};
+ghost use Rattle.task_table.specs.Rows.{misused, panicked, timer_set, timer_answered, irq_controlled, received, syscall_noted};
 ghost use Rattle.task_table.specs.Sends.{sent, replied, reply_faulted, post_made, refreshed};
 ghost use Rattle.task_table.specs.Borrows.{reading, writing, borrowed, informed};
 ghost use Rattle.task_table.specs.Orders.{ordered};
-ghost use Rattle.task_table.specs.Calls.{called};
+ghost use Rattle.task_table.specs.Syscalls.{syscall_made};
 ghost use Rattle.task_table.specs.Events.{ticked, interrupted};
 ghost use Rattle.task_table.specs.Placed.{ArePlaced};
 ghost use Rattle.task_table.specs.Sane.{Sane, IsCounted};
@@ -26,7 +26,7 @@ ghost use Rattle.task_table.specs.Chain.{Chain};
 ghost use Rattle.task_table.specs.Step.{Step, Outcome};
 ghost use Rattle.task_table.specs.Grounds.{AreGrounded, AreAlive, with_writes};
 ghost use Rattle.task_table.specs.Ledger.{IsLedger};
-ghost use Rattle.task_table.specs.Lives.{IsTold, IsFresh, IsClosed, IsSilent};
+ghost use Rattle.task_table.specs.Lives.{IsAsNoted, IsFresh, IsClosed, IsSilent};
 ghost use Rattle.task_table.specs.Parts.{IsSound};
 ghost use Rattle.task_table.specs.Start.{start};
 ghost use Rattle.task_table.specs.Holds.{Holds};
@@ -43,14 +43,14 @@ pub fn effects_keep_sane()
     ensures faulted { (g : Setup) (i : ℕ) (fault : Fault) (t : Turn) → Sane g t.state → i < length t.state.tasks → 1 ≤ fault.number → fault.number ≤ 10 → Sane g (faulted g i fault t).state }
 {}
 
-/// Each row of a call leaves a sane state sane.
+/// Each row of a system call leaves a sane state sane.
 pub fn rows_keep_sane()
     ensures misused { (g : Setup) (c : ℕ) (usage : ℕ) (t : Turn) → Sane g t.state → c < length t.state.tasks → Sane g (misused g c usage t).state }
     ensures panicked { (g : Setup) (c : ℕ) (t : Turn) → Sane g t.state → c < length t.state.tasks → Sane g (panicked g c t).state }
     ensures timer_set { (g : Setup) (c : ℕ) (t : Turn) → Sane g t.state → c < length t.state.tasks → Sane g (timer_set c t).state }
-    ensures timer_told { (g : Setup) (c : ℕ) (t : Turn) → Sane g t.state → c < length t.state.tasks → Sane g (timer_told c t).state }
+    ensures timer_answered { (g : Setup) (c : ℕ) (t : Turn) → Sane g t.state → c < length t.state.tasks → Sane g (timer_answered c t).state }
     ensures irq_controlled { (g : Setup) (c : ℕ) (t : Turn) → Sane g t.state → c < length t.state.tasks → Sane g (irq_controlled g c t).state }
-    ensures call_noted { (g : Setup) (c : ℕ) (t : Turn) → Sane g t.state → c < length t.state.tasks → Sane g (call_noted c t).state }
+    ensures syscall_noted { (g : Setup) (c : ℕ) (t : Turn) → Sane g t.state → c < length t.state.tasks → Sane g (syscall_noted c t).state }
     ensures received { (g : Setup) (c : ℕ) (best : Option ℕ) (t : Turn) → Sane g t.state → c < length t.state.tasks → is_ready t.state c ≡ true → best ≡ best_sender g t.state c → Sane g (received g c best t).state }
     ensures sent { (g : Setup) (c : ℕ) (t : Turn) → Sane g t.state → c < length t.state.tasks → is_ready t.state c ≡ true → Sane g (sent g c t).state }
     ensures replied { (g : Setup) (c : ℕ) (t : Turn) → Sane g t.state → c < length t.state.tasks → is_ready t.state c ≡ true → Sane g (replied g c t).state }
@@ -61,18 +61,18 @@ pub fn rows_keep_sane()
     ensures written { (g : Setup) (c : ℕ) (t : Turn) → Sane g t.state → c < length t.state.tasks → is_ready t.state c ≡ true → Sane g (borrowed g writing c t).state }
     ensures informed { (g : Setup) (c : ℕ) (t : Turn) → Sane g t.state → c < length t.state.tasks → is_ready t.state c ≡ true → Sane g (informed g c t).state }
     ensures ordered { (g : Setup) (c : ℕ) (t : Turn) → Sane g t.state → c < length t.state.tasks → is_ready t.state c ≡ true → Sane g (ordered g c t).state }
-    ensures called { (g : Setup) (c : ℕ) (t : Turn) → Sane g t.state → c < length t.state.tasks → is_ready t.state c ≡ true → Sane g (called g c t).state }
+    ensures syscall_made { (g : Setup) (c : ℕ) (t : Turn) → Sane g t.state → c < length t.state.tasks → is_ready t.state c ≡ true → Sane g (syscall_made g c t).state }
 {}
 
-/// Every call faults its caller at once, or after steps that changed nothing, or is a chain of steps that spare
+/// Every system call faults its caller at once, or after steps that changed nothing, or is a chain of steps that spare
 /// its caller: the one walk over the rows, from which follows whatever holds of each step.
-pub fn calls_fault_at_once_or_spare_their_caller()
-    ensures { (g : Setup) (c : ℕ) (t : Turn) → Sane g t.state → c < length t.state.tasks → is_ready t.state c ≡ true → Outcome g t.state c t (called g c t) }
+pub fn syscalls_fault_at_once_or_spare_their_caller()
+    ensures { (g : Setup) (c : ℕ) (t : Turn) → Sane g t.state → c < length t.state.tasks → is_ready t.state c ≡ true → Outcome g t.state c t (syscall_made g c t) }
 {}
 
-/// So every call is a chain of steps, each with what makes it good.
-pub fn calls_are_chains_of_steps()
-    ensures { (g : Setup) (c : ℕ) (t : Turn) → Sane g t.state → c < length t.state.tasks → is_ready t.state c ≡ true → Chain (Step g t.state c) t (called g c t) }
+/// So every system call is a chain of steps, each with what makes it good.
+pub fn syscalls_are_chains_of_steps()
+    ensures { (g : Setup) (c : ℕ) (t : Turn) → Sane g t.state → c < length t.state.tasks → is_ready t.state c ≡ true → Chain (Step g t.state c) t (syscall_made g c t) }
 {}
 
 /// A chain of steps leaves a sane state sane, changes no turn and no time, and makes at most one call. It
@@ -97,11 +97,11 @@ pub fn chains_stand_on_their_grounds()
     ensures silent { (g : Setup) (s : State) (c k : ℕ) (u v : Turn) → ArePlaced g s.memory → Chain (Step g s c) u v → IsFresh s u → IsClosed s k → IsSilent v k }
 {}
 
-/// What the notes so far tell of the lives of calls stays so over a chain of steps, and gives the ledger.
+/// What the notes so far say of the lives of calls stays so over a chain of steps, and gives the ledger.
 pub fn chains_keep_the_ledger()
-    ensures start { (g : Setup) → IsTold [] (start g) }
-    ensures told { (g : Setup) (s : State) (c : ℕ) (old : List Note) (u v : Turn) → ArePlaced g s.memory → Chain (Step g s c) u v → IsTold (old ++ u.notes) u.state → IsTold (old ++ v.notes) v.state }
-    ensures ledger { (notes : List Note) (s : State) → IsTold notes s → IsLedger notes s }
+    ensures start { (g : Setup) → IsAsNoted [] (start g) }
+    ensures as_noted { (g : Setup) (s : State) (c : ℕ) (old : List Note) (u v : Turn) → ArePlaced g s.memory → Chain (Step g s c) u v → IsAsNoted (old ++ u.notes) u.state → IsAsNoted (old ++ v.notes) v.state }
+    ensures ledger { (notes : List Note) (s : State) → IsAsNoted notes s → IsLedger notes s }
 {}
 
 /// A post and a fault are noted.
@@ -131,8 +131,8 @@ pub fn counts_stay_in_order()
     ensures current { (i : ℕ) (t : Turn) → IsSameTime t.state (changed (λ s. record s { current = i }) t).state }
     ensures posted { (i bits : ℕ) (t : Turn) → IsSameTime t.state (posted i bits t).state }
     ensures faulted { (g : Setup) (i : ℕ) (fault : Fault) (t : Turn) → IsSameTime t.state (faulted g i fault t).state }
-    ensures call_noted { (c : ℕ) (t : Turn) → IsSameTime t.state (call_noted c t).state }
-    ensures called { (g : Setup) (c : ℕ) (t : Turn) → Sane g t.state → c < length t.state.tasks → is_ready t.state c ≡ true → AreCounts t.state (called g c t).state }
+    ensures syscall_noted { (c : ℕ) (t : Turn) → IsSameTime t.state (syscall_noted c t).state }
+    ensures syscall_made { (g : Setup) (c : ℕ) (t : Turn) → Sane g t.state → c < length t.state.tasks → is_ready t.state c ≡ true → AreCounts t.state (syscall_made g c t).state }
     ensures joined { (s u v : State) → IsSameTime s u → IsSameTime u v → IsSameTime s v }
     ensures same { (s u : State) → IsSameTime s u → AreCounts s u }
     ensures turn { (s u : State) → IsCounted s → AreCounts s u → IsCounted record u { turn = u.turn + 1 } }

@@ -10,7 +10,7 @@ pub const TASK_WORDS: usize = 1;
 pub const LINES: usize = 32;
 
 /// Notes of one system call, and of one event from outside.
-pub const CALL_NOTES: usize = 100;
+pub const SYSCALL_NOTES: usize = 100;
 
 /// Notes of one turn: of nine events at most, of one system call, and of four lines on the
 /// instruction itself.

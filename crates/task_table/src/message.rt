@@ -45,7 +45,7 @@ impl Kernel {
         may_range(self.regions(task), base, len, right)
     }
 
-    /// A task faults at a byte that the kernel may not read or write for its call.
+    /// A task faults at a byte that the kernel may not read or write for its system call.
     pub fn deny(&mut self, task: usize, at: u32, access: Access)
         requires there { task < task_count self.old }
         requires room { note_count self.old + 4 ≤ turn_notes }
@@ -112,7 +112,7 @@ impl Kernel {
         });
     }
 
-    /// A caller that waits for nothing goes past its call and listens, with the buffer and the mask of
+    /// A caller that waits for nothing goes past its system call and listens, with the buffer and the mask of
     /// its registers r4 to r6 (Hubris Reference, on RECV).
     pub fn listen(&mut self, task: usize, from: Listened)
         requires there { task < task_count self.old }
@@ -121,7 +121,7 @@ impl Kernel {
         ensures holds { (g : Setup) (t : Turn) → Holds g self.old t → IsIdle t.state task → Holds g self.new (listens task (asked t.state task) (from_of t.state from) t) }
         ensures frame { AddsNotes self.old 1 self.new }
     {
-        self.go_past_call(task);
+        self.go_past_syscall(task);
         self.start_listening(task, from);
     }
 
@@ -167,7 +167,7 @@ impl Kernel {
         );
     }
 
-    /// A caller goes past its call and takes the call that a client offers to it, with as much of the
+    /// A caller goes past its system call and takes the call that a client offers to it, with as much of the
     /// message as fits into the buffer of its registers r4 and r5: r4 is 0, r5 the client's id, r6 the
     /// operation, r7 the message's length, r8 the room for a reply, r9 the number of leases (Hubris
     /// Reference, on RECV).
@@ -180,7 +180,7 @@ impl Kernel {
         ensures frame { AddsNotes self.old 2 self.new }
     {
         let args = RecvArgs::of(&self.arguments(server));
-        self.go_past_call(server);
+        self.go_past_syscall(server);
         self.hand_over(client, server, call, buffer_of(&args));
         self.note_return(server);
     }

@@ -73,7 +73,7 @@ impl Kernel {
         });
     }
 
-    /// A caller that waits for nothing goes past its call and offers a call to a server, under the next
+    /// A caller that waits for nothing goes past its system call and offers a call to a server, under the next
     /// number and with the ids that both have now. A server that listens for it takes it at once (Hubris
     /// Reference, on SEND).
     pub fn send(&mut self, caller: usize, server: usize, args: &SendArgs)
@@ -86,7 +86,7 @@ impl Kernel {
         ensures frame { AddsAtMost self.old 3 self.new }
     {
         let buffer = self.buffer_for(server, caller);
-        self.go_past_call(caller);
+        self.go_past_syscall(caller);
         let call = self.call_to(caller, server, args);
         self.offer(caller, server, &call);
         if let Some(buffer) = buffer {

@@ -98,7 +98,7 @@ fn calls_have_their_lines(rt: HostRuntime) {
     for (turn, note, want) in [
         (
             2,
-            Note::Call {
+            Note::Syscall {
                 task: 1,
                 number: 8,
                 arguments: [1, 2, 3, 4, 5, 6, 0xabcd_ef07],
@@ -286,7 +286,7 @@ fn the_longest_lines_fit(rt: HostRuntime) {
             40,
         ),
         (
-            Note::Call {
+            Note::Syscall {
                 task,
                 number: most,
                 arguments: [most; 7],

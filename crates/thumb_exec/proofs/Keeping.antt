@@ -23,7 +23,7 @@ use Rattle.thumb_insn.proofs.InRange.{coded_in_range}
 use Rattle.thumb_exec.specs.declared.cpu.Cpu.{Cpu}
 use Rattle.thumb_exec.specs.Sizes.{IsSize}
 use Rattle.thumb_exec.specs.Keeps.{IsWholeCpu, IsPermitted, Keeps}
-use Rattle.thumb_exec.specs.Effect.{Effect, Next, Trap, Store, Refusals, Contents, put, with_flags, advance, result, tested, data_effect, load_effect, store_effect, size_of, load_size, widened, unless_unaligned, unless_refused, get, jump, branch_to, place, linked, link_to, pc, sum, operand, target, holds_if, word_of, words, transfers, first_refused, stores_of, loaded_all, store_all, load_all, with_regs, lowered, count, with_bit, ldm_next, pop_next, effect}
+use Rattle.thumb_exec.specs.Effect.{Effect, Next, Trap, Store, Refusals, Contents, put, with_flags, go_past, result, tested, data_effect, load_effect, store_effect, size_of, load_size, widened, unless_unaligned, unless_refused, get, jump, branch_to, place, linked, link_to, pc, sum, operand, target, holds_if, word_of, words, transfers, first_refused, stores_of, loaded_all, store_all, load_all, with_regs, lowered, count, with_bit, ldm_next, pop_next, effect}
 use Rattle.thumb_exec.proofs.Transfers.{allowed_here, allowed_later}
 use Rattle.thumb_exec.proofs.Fields.{IsPlain, IsExtra, coded_extra}
 
@@ -82,8 +82,8 @@ whole_sp c v e h =
       aligned = rw (get_or-set_same c.regs.words 13 v 0 here) e;
     }
 
-whole_advance : (n : ℕ) (c : Cpu) → n % 2 ≡ 0 → IsWholeCpu c → IsWholeCpu (advance n c)
-whole_advance n c e h = whole_to c ((pc c + n) % 2 ^ 32) (even_sum (pc c) n h.even e) h
+whole_past : (n : ℕ) (c : Cpu) → n % 2 ≡ 0 → IsWholeCpu c → IsWholeCpu (go_past n c)
+whole_past n c e h = whole_to c ((pc c + n) % 2 ^ 32) (even_sum (pc c) n h.even e) h
   where
     even_sum : (a b : ℕ) → a % 2 ≡ 0 → b % 2 ≡ 0 → (a + b) % 2 ^ 32 % 2 ≡ 0
     even_sum a b x y = omega arith
@@ -93,10 +93,10 @@ module _ (refuses : Refusals) where
   keeps_next c h = (h, λ x here. absurd (omega (arith, here.1)))
 
   keeps_result : (c : Cpu) (d : Reg) (v : ℕ) (f : Flags) → IsPlain d.number → IsWholeCpu c → Keeps refuses (result c d v f)
-  keeps_result c d v f p h = keeps_next _ (whole_advance 2 _ refl (whole_flags (put c d.number v) f (whole_put c d.number v p h)))
+  keeps_result c d v f p h = keeps_next _ (whole_past 2 _ refl (whole_flags (put c d.number v) f (whole_put c d.number v p h)))
 
   keeps_tested : (c : Cpu) (f : Flags) → IsWholeCpu c → Keeps refuses (tested c f)
-  keeps_tested c f h = keeps_next _ (whole_advance 2 _ refl (whole_flags c f h))
+  keeps_tested c f h = keeps_next _ (whole_past 2 _ refl (whole_flags c f h))
 
   keeps_aligned : (addr n : ℕ) (is_store : Bool) (e : Effect) → (addr % n ≡ 0 → Keeps refuses e) → Keeps refuses (unless_unaligned addr n is_store e)
   keeps_aligned addr n is_store e k = go (nat_eq (addr % n) 0) refl
@@ -112,14 +112,14 @@ module _ (refuses : Refusals) where
   keeps_load : (holds : Contents) (c : Cpu) (kind : Load) (t : Reg) (addr : ℕ) → IsPlain t.number → IsWholeCpu c → Keeps refuses (load_effect refuses holds c kind t addr)
   keeps_load holds c kind t addr p h =
       let v = widened kind (holds addr (load_size kind)) in
-      let next = Next (advance 2 (put c t.number v)) [] in
-      keeps_aligned addr (load_size kind) false (unless_refused (refuses addr (load_size kind) right.Read) access.Load next) (λ _. keeps_checked (refuses addr (load_size kind) right.Read) access.Load next (λ _. keeps_next _ (whole_advance 2 _ refl (whole_put c t.number v p h))))
+      let next = Next (go_past 2 (put c t.number v)) [] in
+      keeps_aligned addr (load_size kind) false (unless_refused (refuses addr (load_size kind) right.Read) access.Load next) (λ _. keeps_checked (refuses addr (load_size kind) right.Read) access.Load next (λ _. keeps_next _ (whole_past 2 _ refl (whole_put c t.number v p h))))
 
   keeps_store : (c : Cpu) (s : Size) (t : Reg) (addr : ℕ) → IsWholeCpu c → Keeps refuses (store_effect refuses c s t addr)
   keeps_store c s t addr h =
       let it : Store = record { addr = addr; bytes = size_of s; value = get c t % 2 ^ (8 * size_of s) } in
-      let next = Next (advance 2 c) (it ∷ []) in
-      keeps_aligned addr (size_of s) true (unless_refused (refuses addr (size_of s) right.Write) access.Store next) (λ al. keeps_checked (refuses addr (size_of s) right.Write) access.Store next (λ free. (whole_advance 2 c refl h, one it record { size = sizes s; aligned = al; allowed = free })))
+      let next = Next (go_past 2 c) (it ∷ []) in
+      keeps_aligned addr (size_of s) true (unless_refused (refuses addr (size_of s) right.Write) access.Store next) (λ al. keeps_checked (refuses addr (size_of s) right.Write) access.Store next (λ free. (whole_past 2 c refl h, one it record { size = sizes s; aligned = al; allowed = free })))
     where
       sizes : (s : Size) → IsSize (size_of s)
       sizes size.Word = inr (inr refl)
@@ -140,10 +140,10 @@ module _ (refuses : Refusals) where
   keeps_place : (c : Cpu) (d : Reg) (v : ℕ) → IsWholeCpu c → Keeps refuses (place c d v)
   keeps_place c d v h = go (nat_eq d.number 15) (nat_eq d.number 13) refl refl
     where
-      go : (a b : Bool) → nat_eq d.number 15 ≡ a → nat_eq d.number 13 ≡ b → Keeps refuses (cond a (jump c (v / 2 * 2)) (cond b (Next (advance 2 (put c 13 (v / 4 * 4))) []) (Next (advance 2 (put c d.number v)) [])))
+      go : (a b : Bool) → nat_eq d.number 15 ≡ a → nat_eq d.number 13 ≡ b → Keeps refuses (cond a (jump c (v / 2 * 2)) (cond b (Next (go_past 2 (put c 13 (v / 4 * 4))) []) (Next (go_past 2 (put c d.number v)) [])))
       go true b e f = keeps_next _ (whole_to c (v / 2 * 2) (omega arith) h)
-      go false true e f = keeps_next _ (whole_advance 2 _ refl (whole_sp c (v / 4 * 4) (omega arith) h))
-      go false false e f = keeps_next _ (whole_advance 2 _ refl (whole_put c d.number v (λ s. false≢true (sym f ∙ eq-eqb _ _ s), λ s. false≢true (sym e ∙ eq-eqb _ _ s)) h))
+      go false true e f = keeps_next _ (whole_past 2 _ refl (whole_sp c (v / 4 * 4) (omega arith) h))
+      go false false e f = keeps_next _ (whole_past 2 _ refl (whole_put c d.number v (λ s. false≢true (sym f ∙ eq-eqb _ _ s), λ s. false≢true (sym e ∙ eq-eqb _ _ s)) h))
 
   keeps_data : (o : Op) (c : Cpu) (d m : Reg) → IsPlain d.number → IsWholeCpu c → Keeps refuses (data_effect o c d m)
   keeps_data op.Ands c d m p h = keeps_result c d _ _ p h
@@ -317,42 +317,42 @@ module _ (refuses : Refusals) (holds : Contents) (c : Cpu) (h : IsWholeCpu c) wh
   keeps_effect (LoadImm s t n i) e = keeps_load refuses holds c (load.Whole s) t _ e h
   keeps_effect (StoreSp t i) e = keeps_store refuses c size.Word t _ h
   keeps_effect (LoadSp t i) e = keeps_load refuses holds c (load.Whole size.Word) t _ e h
-  keeps_effect (Adr d i) e = keeps_next refuses _ (whole_advance 2 _ refl (whole_put c d.number _ e h))
-  keeps_effect (AddSp d i) e = keeps_next refuses _ (whole_advance 2 _ refl (whole_put c d.number _ e h))
-  keeps_effect (RaiseSp i) e = keeps_next refuses _ (whole_advance 2 _ refl (whole_sp c (sum (reg_at c.regs 13) i) (sp_sum (reg_at c.regs 13) i h.aligned e) h))
-  keeps_effect (LowerSp i) e = keeps_next refuses _ (whole_advance 2 _ refl (whole_sp c (sum (reg_at c.regs 13) (2 ^ 32 - i)) (sp_sum (reg_at c.regs 13) (2 ^ 32 - i) h.aligned e) h))
-  keeps_effect (Change b d m) e = keeps_next refuses _ (whole_advance 2 _ refl (whole_put c d.number _ e h))
-  keeps_effect Cpsie e = keeps_next refuses _ (whole_advance 2 c refl h)
-  keeps_effect Cpsid e = keeps_next refuses _ (whole_advance 2 c refl h)
+  keeps_effect (Adr d i) e = keeps_next refuses _ (whole_past 2 _ refl (whole_put c d.number _ e h))
+  keeps_effect (AddSp d i) e = keeps_next refuses _ (whole_past 2 _ refl (whole_put c d.number _ e h))
+  keeps_effect (RaiseSp i) e = keeps_next refuses _ (whole_past 2 _ refl (whole_sp c (sum (reg_at c.regs 13) i) (sp_sum (reg_at c.regs 13) i h.aligned e) h))
+  keeps_effect (LowerSp i) e = keeps_next refuses _ (whole_past 2 _ refl (whole_sp c (sum (reg_at c.regs 13) (2 ^ 32 - i)) (sp_sum (reg_at c.regs 13) (2 ^ 32 - i) h.aligned e) h))
+  keeps_effect (Change b d m) e = keeps_next refuses _ (whole_past 2 _ refl (whole_put c d.number _ e h))
+  keeps_effect Cpsie e = keeps_next refuses _ (whole_past 2 c refl h)
+  keeps_effect Cpsid e = keeps_next refuses _ (whole_past 2 c refl h)
   keeps_effect (Bkpt i) e = (omega arith, omega arith)
-  keeps_effect (Hint i) e = keeps_next refuses _ (whole_advance 2 c refl h)
+  keeps_effect (Hint i) e = keeps_next refuses _ (whole_past 2 c refl h)
   keeps_effect (BranchIf cc' offset) e = go (holds_if cc' c.flags)
     where
-      go : (b : Bool) → Keeps refuses (cond b (jump c (target c offset)) (Next (advance 2 c) []))
+      go : (b : Bool) → Keeps refuses (cond b (jump c (target c offset)) (Next (go_past 2 c) []))
       go true = keeps_next refuses _ (whole_to c (target c offset) (pc_sum (pc c) (word_of offset) h.even e) h)
-      go false = keeps_next refuses _ (whole_advance 2 c refl h)
+      go false = keeps_next refuses _ (whole_past 2 c refl h)
   keeps_effect (Svc i) e = tt
   keeps_effect (Branch offset) e = keeps_next refuses _ (whole_to c (target c offset) (pc_sum (pc c) (word_of offset) h.even e) h)
   keeps_effect (Bl offset) e = keeps_next refuses _ (whole_to (linked c 4) (target c offset) (pc_sum (pc c) (word_of offset) h.even e) (whole_put c 14 _ (λ s. absurd (omega arith), λ s. absurd (omega arith)) h))
-  keeps_effect (Fence barrier i) e = keeps_next refuses _ (whole_advance 4 c refl h)
-  keeps_effect (Mrs d) e = keeps_next refuses _ (whole_advance 4 _ refl (whole_put c d.number _ e h))
-  keeps_effect (Msr n) e = keeps_next refuses _ (whole_advance 4 _ refl (whole_flags c _ h))
-  keeps_effect (Stm n list) e = keeps_store_all refuses c list (get c n) _ (whole_advance 2 _ refl (whole_put c n.number _ e h))
-  keeps_effect (Push list lr) e = keeps_store_all refuses c (with_bit list lr 14) (lowered c (with_bit list lr 14)) _ (whole_advance 2 _ refl (whole_sp c (lowered c (with_bit list lr 14)) (sp_less (reg_at c.regs 13) (count (with_bit list lr 14)) h.aligned) h))
+  keeps_effect (Fence barrier i) e = keeps_next refuses _ (whole_past 4 c refl h)
+  keeps_effect (Mrs d) e = keeps_next refuses _ (whole_past 4 _ refl (whole_put c d.number _ e h))
+  keeps_effect (Msr n) e = keeps_next refuses _ (whole_past 4 _ refl (whole_flags c _ h))
+  keeps_effect (Stm n list) e = keeps_store_all refuses c list (get c n) _ (whole_past 2 _ refl (whole_put c n.number _ e h))
+  keeps_effect (Push list lr) e = keeps_store_all refuses c (with_bit list lr 14) (lowered c (with_bit list lr 14)) _ (whole_past 2 _ refl (whole_sp c (lowered c (with_bit list lr 14)) (sp_less (reg_at c.regs 13) (count (with_bit list lr 14)) h.aligned) h))
   keeps_effect (Ldm n list) e =
       let clear = clear_low list e.1 in
       let rs = loaded_all holds c.regs (transfers list (get c n)) in
       let w = loaded_whole holds c list (get c n) clear.0 clear.1 h in
       keeps_load_all refuses holds c list (get c n) (ldm_next c n list) (go (nat_eq (list / 2 ^ n.number % 2) 1) w)
     where
-      go : (b : Bool) → IsWholeCpu (with_regs c (loaded_all holds c.regs (transfers list (get c n)))) → Keeps refuses (Next (advance 2 (cond b (with_regs c (loaded_all holds c.regs (transfers list (get c n)))) (put (with_regs c (loaded_all holds c.regs (transfers list (get c n)))) n.number (sum (get c n) (4 * count list))))) [])
-      go true w = keeps_next refuses _ (whole_advance 2 _ refl w)
-      go false w = keeps_next refuses _ (whole_advance 2 _ refl (whole_put _ n.number _ e.0 w))
+      go : (b : Bool) → IsWholeCpu (with_regs c (loaded_all holds c.regs (transfers list (get c n)))) → Keeps refuses (Next (go_past 2 (cond b (with_regs c (loaded_all holds c.regs (transfers list (get c n)))) (put (with_regs c (loaded_all holds c.regs (transfers list (get c n)))) n.number (sum (get c n) (4 * count list))))) [])
+      go true w = keeps_next refuses _ (whole_past 2 _ refl w)
+      go false w = keeps_next refuses _ (whole_past 2 _ refl (whole_put _ n.number _ e.0 w))
   keeps_effect (Pop list false) e =
       let clear = clear_low list e in
       let rs = loaded_all holds c.regs (transfers list (reg_at c.regs 13)) in
       let w = loaded_whole holds c list (reg_at c.regs 13) clear.0 clear.1 h in
-      keeps_load_all refuses holds c list (reg_at c.regs 13) (pop_next c list false) (keeps_next refuses _ (whole_advance 2 _ refl (whole_sp (with_regs c rs) (sum (reg_at c.regs 13) (4 * count list)) (sp_sum (reg_at c.regs 13) (4 * count list) h.aligned (omega arith)) w)))
+      keeps_load_all refuses holds c list (reg_at c.regs 13) (pop_next c list false) (keeps_next refuses _ (whole_past 2 _ refl (whole_sp (with_regs c rs) (sum (reg_at c.regs 13) (4 * count list)) (sp_sum (reg_at c.regs 13) (4 * count list) h.aligned (omega arith)) w)))
   keeps_effect (Pop list true) e =
       let mask = list + 2 ^ 15 in
       let rs = loaded_all holds c.regs (transfers mask (reg_at c.regs 13)) in

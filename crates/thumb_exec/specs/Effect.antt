@@ -4,7 +4,7 @@
 use Rattle.std.specs.Prelude.{◌≡◌, ℕ, zero, suc, ◌+◌, ◌-◌, ◌*◌, ◌/◌, ◌%◌, ◌^◌, Bool, true, false, ℤ, pos, negsuc, nat_eq, if◌then◌else◌, List, [], ◌∷◌, bit_and, bit_or, bit_xor, Option, Some, None, ◌&&◌, not}
 use Rattle.words_core.specs.declared.Flags.{Flags}
 use Rattle.words_core.specs.declared.Regs.{Regs}
-use Rattle.words_core.specs.Regs.{reg_at, with_reg}
+use Rattle.words_core.specs.Regs.{reg_at, with_reg, link_register, program_counter, stack_pointer}
 use Rattle.words_core.specs.Words.{awc, complement, negative, is_zero, lsl_of, lsr_of, asr_of, ror_of, extend_of}
 use Rattle.region_check.specs.declared.Right.{Right}
 use Rattle.region_check.specs.declared.Right.TheVariants as right
@@ -37,10 +37,10 @@ pub record Store : Type 0 where
   pub bytes : ℕ
   pub value : ℕ
 
--- An instruction goes on with a new processor and stores in order; or calls the kernel, which leaves the processor as it is; or faults.
+-- An instruction goes on with a new processor and stores in order; or is a system call, which leaves the processor as it is; or faults.
 pub data Effect : Type 0 where
   Next : Cpu → List Store → Effect
-  Call : Effect
+  Syscall : Effect
   Trap : Fault → Effect
 
 -- ## Registers
@@ -50,11 +50,11 @@ abbrev pub get : Cpu → Reg → ℕ
 get c r = reg_at c.regs r.number
 
 abbrev pub pc : Cpu → ℕ
-pc c = reg_at c.regs 15
+pc c = reg_at c.regs program_counter
 
 -- a register as an operand: PC reads as the address plus 4
 abbrev pub operand : Cpu → Reg → ℕ
-operand c r = if nat_eq r.number 15 then (pc c + 4) % 2 ^ 32 else get c r
+operand c r = if nat_eq r.number program_counter then (pc c + 4) % 2 ^ 32 else get c r
 
 -- the processor with a word in a register
 abbrev pub put : Cpu → ℕ → ℕ → Cpu
@@ -64,8 +64,8 @@ abbrev pub with_flags : Cpu → Flags → Cpu
 with_flags c f = record c { flags = f }
 
 -- on to the next instruction
-abbrev pub advance : ℕ → Cpu → Cpu
-advance n c = put c 15 ((pc c + n) % 2 ^ 32)
+abbrev pub go_past : ℕ → Cpu → Cpu
+go_past n c = put c program_counter ((pc c + n) % 2 ^ 32)
 
 -- N and Z follow the result
 abbrev pub nz : Flags → ℕ → Flags
@@ -77,11 +77,11 @@ nzc f v c = record f { n = negative v; z = is_zero v; c = c }
 
 -- A result with flags goes to a register.
 abbrev pub result : Cpu → Reg → ℕ → Flags → Effect
-result c d v f = Next (advance 2 (with_flags (put c d.number v) f)) []
+result c d v f = Next (go_past 2 (with_flags (put c d.number v) f)) []
 
 -- Flags alone.
 abbrev pub tested : Cpu → Flags → Effect
-tested c f = Next (advance 2 (with_flags c f)) []
+tested c f = Next (go_past 2 (with_flags c f)) []
 
 -- A sum with its flags.
 abbrev pub sum_to : Cpu → Reg → ℕ × Flags → Effect
@@ -165,10 +165,10 @@ widened load.SignedByte v = extend_of v 8 true
 
 -- a load to a register, and a store of a register's low bytes
 abbrev pub load_effect : Refusals → Contents → Cpu → Load → Reg → ℕ → Effect
-load_effect refuses holds c kind t addr = load_with refuses addr (load_size kind) (Next (advance 2 (put c t.number (widened kind (holds addr (load_size kind))))) [])
+load_effect refuses holds c kind t addr = load_with refuses addr (load_size kind) (Next (go_past 2 (put c t.number (widened kind (holds addr (load_size kind))))) [])
 
 abbrev pub store_effect : Refusals → Cpu → Size → Reg → ℕ → Effect
-store_effect refuses c s t addr = store_with refuses addr (size_of s) (Next (advance 2 c) (record { addr = addr; bytes = size_of s; value = get c t % 2 ^ (8 * size_of s) } ∷ []))
+store_effect refuses c s t addr = store_with refuses addr (size_of s) (Next (go_past 2 c) (record { addr = addr; bytes = size_of s; value = get c t % 2 ^ (8 * size_of s) } ∷ []))
 
 -- a sum of words
 abbrev pub sum : ℕ → ℕ → ℕ
@@ -204,7 +204,7 @@ target c offset = (pc c + 4 + word_of offset) % 2 ^ 32
 
 -- on at another address
 abbrev pub jump : Cpu → ℕ → Effect
-jump c to = Next (put c 15 to) []
+jump c to = Next (put c program_counter to) []
 
 -- a branch to a value with bit 0 set; State without it
 abbrev pub branch_to : Cpu → ℕ → Effect
@@ -263,19 +263,19 @@ with_regs c rs = record c { regs = rs }
 
 -- SP below the words of a mask
 abbrev pub lowered : Cpu → ℕ → ℕ
-lowered c mask = (reg_at c.regs 13 + (2 ^ 32 - 4 * count mask)) % 2 ^ 32
+lowered c mask = (reg_at c.regs stack_pointer + (2 ^ 32 - 4 * count mask)) % 2 ^ 32
 
 -- stored below SP, which is lowered
 abbrev pub push_effect : Refusals → Cpu → ℕ → Effect
-push_effect refuses c mask = store_all refuses c mask (lowered c mask) (advance 2 (put c 13 (lowered c mask)))
+push_effect refuses c mask = store_all refuses c mask (lowered c mask) (go_past 2 (put c stack_pointer (lowered c mask)))
 
 -- stored from register n on, which is raised
 abbrev pub stm_effect : Refusals → Cpu → Reg → ℕ → Effect
-stm_effect refuses c n mask = store_all refuses c mask (get c n) (advance 2 (put c n.number (sum (get c n) (4 * count mask))))
+stm_effect refuses c n mask = store_all refuses c mask (get c n) (go_past 2 (put c n.number (sum (get c n) (4 * count mask))))
 
 -- loaded from register n on, which is raised unless it is loaded itself
 abbrev pub ldm_next : Cpu → Reg → ℕ → Regs → Effect
-ldm_next c n mask rs = Next (advance 2 (if nat_eq (mask / 2 ^ n.number % 2) 1 then with_regs c rs else put (with_regs c rs) n.number (sum (get c n) (4 * count mask)))) []
+ldm_next c n mask rs = Next (go_past 2 (if nat_eq (mask / 2 ^ n.number % 2) 1 then with_regs c rs else put (with_regs c rs) n.number (sum (get c n) (4 * count mask)))) []
 
 abbrev pub ldm_effect : Refusals → Contents → Cpu → Reg → ℕ → Effect
 ldm_effect refuses holds c n mask = load_all refuses holds c mask (get c n) (ldm_next c n mask)
@@ -283,28 +283,28 @@ ldm_effect refuses holds c n mask = load_all refuses holds c mask (get c n) (ldm
 -- loaded from SP on, which is raised; PC, bit 15 of the mask, is last, and a branch
 abbrev pub pop_next : Cpu → ℕ → Bool → Regs → Effect
 pop_next c mask has_pc rs =
-    if has_pc then branch_to (put (with_regs c rs) 13 (sum (reg_at c.regs 13) (4 * count mask))) (reg_at rs 15)
-    else Next (advance 2 (put (with_regs c rs) 13 (sum (reg_at c.regs 13) (4 * count mask)))) []
+    if has_pc then branch_to (put (with_regs c rs) stack_pointer (sum (reg_at c.regs stack_pointer) (4 * count mask))) (reg_at rs program_counter)
+    else Next (go_past 2 (put (with_regs c rs) stack_pointer (sum (reg_at c.regs stack_pointer) (4 * count mask)))) []
 
 abbrev pub pop_effect : Refusals → Contents → Cpu → ℕ → Bool → Effect
-pop_effect refuses holds c mask has_pc = load_all refuses holds c mask (reg_at c.regs 13) (pop_next c mask has_pc)
+pop_effect refuses holds c mask has_pc = load_all refuses holds c mask (reg_at c.regs stack_pointer) (pop_next c mask has_pc)
 
 -- ## Other forms
 
 -- A result without flags: a branch where it goes to PC, and aligned where it goes to SP.
 abbrev pub place : Cpu → Reg → ℕ → Effect
 place c d v =
-    if nat_eq d.number 15 then jump c (v / 2 * 2)
-    else if nat_eq d.number 13 then Next (advance 2 (put c 13 (v / 4 * 4))) []
-    else Next (advance 2 (put c d.number v)) []
+    if nat_eq d.number program_counter then jump c (v / 2 * 2)
+    else if nat_eq d.number stack_pointer then Next (go_past 2 (put c stack_pointer (v / 4 * 4))) []
+    else Next (go_past 2 (put c d.number v)) []
 
 -- with lr = the address of the next instruction with bit 0 set
 abbrev pub linked : Cpu → ℕ → Cpu
-linked c n = put c 14 (sum (pc c) n / 2 * 2 + 1)
+linked c n = put c link_register (sum (pc c) n / 2 * 2 + 1)
 
 -- a branch to a value, with lr
 abbrev pub link_to : Cpu → ℕ → Effect
-link_to c v = if nat_eq (v % 2) 1 then Next (put (linked c 2) 15 (v - 1)) [] else Trap (state_fault v)
+link_to c v = if nat_eq (v % 2) 1 then Next (put (linked c 2) program_counter (v - 1)) [] else Trap (state_fault v)
 
 -- PC as a base: the address plus 4, aligned down
 abbrev pub base : Cpu → ℕ
@@ -355,28 +355,28 @@ effect refuses holds c (StoreReg s t n m) = store_effect refuses c s t (sum (get
 effect refuses holds c (LoadReg k t n m) = load_effect refuses holds c k t (sum (get c n) (get c m))
 effect refuses holds c (StoreImm s t n i) = store_effect refuses c s t (sum (get c n) i)
 effect refuses holds c (LoadImm s t n i) = load_effect refuses holds c (load.Whole s) t (sum (get c n) i)
-effect refuses holds c (StoreSp t i) = store_effect refuses c size.Word t (sum (reg_at c.regs 13) i)
-effect refuses holds c (LoadSp t i) = load_effect refuses holds c (load.Whole size.Word) t (sum (reg_at c.regs 13) i)
-effect refuses holds c (Adr d i) = Next (advance 2 (put c d.number (sum (base c) i))) []
-effect refuses holds c (AddSp d i) = Next (advance 2 (put c d.number (sum (reg_at c.regs 13) i))) []
-effect refuses holds c (RaiseSp i) = Next (advance 2 (put c 13 (sum (reg_at c.regs 13) i))) []
-effect refuses holds c (LowerSp i) = Next (advance 2 (put c 13 (sum (reg_at c.regs 13) (2 ^ 32 - i)))) []
-effect refuses holds c (Change bytes d m) = Next (advance 2 (put c d.number (changed bytes (get c m)))) []
-effect refuses holds c (Push list lr) = push_effect refuses c (with_bit list lr 14)
-effect refuses holds c (Pop list has_pc) = pop_effect refuses holds c (with_bit list has_pc 15) has_pc
-effect refuses holds c Cpsie = Next (advance 2 c) []
-effect refuses holds c Cpsid = Next (advance 2 c) []
+effect refuses holds c (StoreSp t i) = store_effect refuses c size.Word t (sum (reg_at c.regs stack_pointer) i)
+effect refuses holds c (LoadSp t i) = load_effect refuses holds c (load.Whole size.Word) t (sum (reg_at c.regs stack_pointer) i)
+effect refuses holds c (Adr d i) = Next (go_past 2 (put c d.number (sum (base c) i))) []
+effect refuses holds c (AddSp d i) = Next (go_past 2 (put c d.number (sum (reg_at c.regs stack_pointer) i))) []
+effect refuses holds c (RaiseSp i) = Next (go_past 2 (put c stack_pointer (sum (reg_at c.regs stack_pointer) i))) []
+effect refuses holds c (LowerSp i) = Next (go_past 2 (put c stack_pointer (sum (reg_at c.regs stack_pointer) (2 ^ 32 - i)))) []
+effect refuses holds c (Change bytes d m) = Next (go_past 2 (put c d.number (changed bytes (get c m)))) []
+effect refuses holds c (Push list lr) = push_effect refuses c (with_bit list lr link_register)
+effect refuses holds c (Pop list has_pc) = pop_effect refuses holds c (with_bit list has_pc program_counter) has_pc
+effect refuses holds c Cpsie = Next (go_past 2 c) []
+effect refuses holds c Cpsid = Next (go_past 2 c) []
 effect refuses holds c (Bkpt i) = Trap (breakpoint_fault i)
-effect refuses holds c (Hint i) = Next (advance 2 c) []
+effect refuses holds c (Hint i) = Next (go_past 2 c) []
 effect refuses holds c (Stm n list) = stm_effect refuses c n list
 effect refuses holds c (Ldm n list) = ldm_effect refuses holds c n list
-effect refuses holds c (BranchIf cond offset) = if holds_if cond c.flags then jump c (target c offset) else Next (advance 2 c) []
-effect refuses holds c (Svc i) = Call
+effect refuses holds c (BranchIf cond offset) = if holds_if cond c.flags then jump c (target c offset) else Next (go_past 2 c) []
+effect refuses holds c (Svc i) = Syscall
 effect refuses holds c (Branch offset) = jump c (target c offset)
-effect refuses holds c (Bl offset) = Next (put (linked c 4) 15 (target c offset)) []
-effect refuses holds c (Fence barrier i) = Next (advance 4 c) []
-effect refuses holds c (Mrs d) = Next (advance 4 (put c d.number (apsr c.flags))) []
-effect refuses holds c (Msr n) = Next (advance 4 (with_flags c (flags_from (get c n)))) []
+effect refuses holds c (Bl offset) = Next (put (linked c 4) program_counter (target c offset)) []
+effect refuses holds c (Fence barrier i) = Next (go_past 4 c) []
+effect refuses holds c (Mrs d) = Next (go_past 4 (put c d.number (apsr c.flags))) []
+effect refuses holds c (Msr n) = Next (go_past 4 (with_flags c (flags_from (get c n)))) []
 
 -- ## What comes of an effect
 
@@ -385,21 +385,21 @@ abbrev pub Stores : {B : Type 0} → (B → ℕ → ℕ → ℕ → B → Type 0
 Stores stored b [] b' = b' ≡ b
 Stores {B} stored b (s ∷ ss) b' = (m : B) × stored b s.addr s.bytes s.value m × Stores stored m ss b'
 
--- What an effect makes of the processor c and the bus b, and the outcome that tells it. A call and a fault change nothing.
+-- What an effect makes of the processor c and the bus b, and the outcome that tells it. A system call and a fault change nothing.
 abbrev pub Acts : {B : Type 0} → (B → ℕ → ℕ → ℕ → B → Type 0) → Cpu → Cpu → B → B → Outcome → Effect → Type 0
 Acts stored c c' b b' o (Next d ss) = (o ≡ outcome.Next) × (c' ≡ d) × Stores stored b ss b'
-Acts stored c c' b b' o Call = (o ≡ outcome.Call) × (c' ≡ c) × (b' ≡ b)
+Acts stored c c' b b' o Syscall = (o ≡ outcome.Syscall) × (c' ≡ c) × (b' ≡ b)
 Acts stored c c' b b' o (Trap f) = (o ≡ outcome.Trap f) × (c' ≡ c) × (b' ≡ b)
 
 -- What comes of an effect that stores nothing, without a bus.
 abbrev pub Effects : Cpu → Cpu → Outcome → Effect → Type 0
 Effects c c' o (Next d []) = (o ≡ outcome.Next) × (c' ≡ d)
 Effects c c' o (Next d (s ∷ ss)) = ⊥
-Effects c c' o Call = (o ≡ outcome.Call) × (c' ≡ c)
+Effects c c' o Syscall = (o ≡ outcome.Syscall) × (c' ≡ c)
 Effects c c' o (Trap f) = (o ≡ outcome.Trap f) × (c' ≡ c)
 
 -- An effect after which the instruction does not simply go on.
 abbrev pub Halts : Effect → Type 0
 Halts (Next d ss) = ⊥
-Halts Call = Unit {0}
+Halts Syscall = Unit {0}
 Halts (Trap f) = Unit {0}

@@ -79,7 +79,7 @@ IsSystem (Fence barrier i) = Unit {0}
 IsSystem (Msr n) = Unit {0}
 IsSystem i = ⊥
 
--- what moves several words, branches to a register, calls, or is rare
+-- what moves several words, branches to a register, is a system call, or is rare
 abbrev pub IsRest : Insn → Type 0
 IsRest (AddsReg d n m) = ⊥
 IsRest (SubsReg d n m) = ⊥

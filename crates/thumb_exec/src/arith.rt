@@ -1,6 +1,6 @@
 //! Instructions that reach no memory.
 ghost use Rattle.std.specs.Prelude.{◌≡◌, ◌<◌, ℕ, Bool, [], true, false, if◌then◌else◌};
-ghost use Rattle.thumb_exec.specs.Effect.{Next, advance, put, get, with_flags, nz, nzc, data_effect, sum_to, tested};
+ghost use Rattle.thumb_exec.specs.Effect.{Next, go_past, put, get, with_flags, nz, nzc, data_effect, sum_to, tested};
 ghost use Rattle.thumb_exec.specs.Families.{is_test};
 ghost use Rattle.words_core.specs.Words.{awc, complement};
 
@@ -17,9 +17,9 @@ pub fn get(cpu: &Cpu, r: Reg) -> u32
 }
 
 /// Moves PC on by n bytes.
-pub fn advance(cpu: &mut Cpu, n: u32)
+pub fn go_past(cpu: &mut Cpu, n: u32)
     requires { n < 8 }
-    ensures { cpu.new ≡ advance n cpu.old }
+    ensures { cpu.new ≡ go_past n cpu.old }
 {
     let at = cpu.regs.get(15);
     cpu.regs.set(15, at.wrapping_add(n));
@@ -29,10 +29,10 @@ pub fn advance(cpu: &mut Cpu, n: u32)
 pub fn set(cpu: &mut Cpu, d: Reg, value: u32, n: u32)
     requires place { d.number < 16 }
     requires step { n < 8 }
-    ensures { cpu.new ≡ advance n (put cpu.old d.number value) }
+    ensures { cpu.new ≡ go_past n (put cpu.old d.number value) }
 {
     cpu.regs.set(usize::from(d.number), value);
-    advance(cpu, n);
+    go_past(cpu, n);
 }
 
 /// Sets the flags, each by itself: set together they are put into one word and taken apart again.
@@ -50,11 +50,11 @@ fn set_flags(cpu: &mut Cpu, flags: Flags)
 #[inline(always)]
 pub fn finish(cpu: &mut Cpu, d: Reg, value: u32, flags: Flags)
     requires { d.number < 16 }
-    ensures { cpu.new ≡ advance 2 (with_flags (put cpu.old d.number value) flags) }
+    ensures { cpu.new ≡ go_past 2 (with_flags (put cpu.old d.number value) flags) }
 {
     cpu.regs.set(usize::from(d.number), value);
     set_flags(cpu, flags);
-    advance(cpu, 2);
+    go_past(cpu, 2);
 }
 
 /// N and Z follow the result.
@@ -99,7 +99,7 @@ pub fn finish_test(cpu: &mut Cpu, flags: Flags)
     ensures { tested cpu.old flags ≡ Next cpu.new [] }
 {
     set_flags(cpu, flags);
-    advance(cpu, 2);
+    go_past(cpu, 2);
 }
 
 /// The flags of a subtraction alone, and goes on.

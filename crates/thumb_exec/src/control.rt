@@ -2,7 +2,7 @@
 ghost use Rattle.std.specs.Prelude.{◌≡◌, ◌<◌, ◌/◌, ◌*◌, ℕ, Bool, [], true, false};
 ghost use Rattle.thumb_exec.specs.Effect.{Next, Acts, operand, sum, place, holds_if, jump, target, word_of, branch_to, link_to, linked, base, changed, apsr, flags_from, put, pc, Effects};
 
-use crate::arith::{advance, get};
+use crate::arith::{go_past, get};
 use crate::cpu::{Cpu, Outcome};
 use kernel_abi::Fault;
 use thumb_insn::{Bytes, Cond, Reg};
@@ -29,10 +29,10 @@ pub fn put_any(cpu: &mut Cpu, d: Reg, value: u32)
         cpu.regs.set(15, value / 2 * 2);
     } else if d.number == 13 {
         cpu.regs.set(13, value / 4 * 4);
-        advance(cpu, 2);
+        go_past(cpu, 2);
     } else {
         cpu.regs.set(usize::from(d.number), value);
-        advance(cpu, 2);
+        go_past(cpu, 2);
     }
 }
 

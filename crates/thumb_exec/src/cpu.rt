@@ -9,10 +9,10 @@ pub struct Cpu {
     pub flags: Flags,
 }
 
-/// How an instruction ends: done, as a call of the kernel, or in a fault.
+/// How an instruction ends: done, as a system call, or in a fault.
 #[derive(Clone, Copy, PartialEq, Eq)]
 pub enum Outcome {
     Next,
-    Call,
+    Syscall,
     Trap(Fault),
 }

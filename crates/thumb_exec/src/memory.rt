@@ -3,7 +3,7 @@ ghost use Rattle.std.specs.Prelude.{◌≡◌, ◌<◌, ◌*◌, ◌%◌, ◌^�
 ghost use Rattle.thumb_exec.specs.declared.cpu.Outcome.TheVariants as outcome;
 ghost use Rattle.thumb_exec.specs.Effect.{Next, Acts, load_effect, store_effect, widened, load_size, size_of};
 
-use crate::arith::{advance, get};
+use crate::arith::{go_past, get};
 use crate::bus::Bus;
 use crate::cpu::{Cpu, Outcome};
 use kernel_abi::{Access, Fault};
@@ -68,7 +68,7 @@ pub fn load<B: Bus>(cpu: &mut Cpu, bus: &mut B, kind: Load, t: Reg, addr: u32) -
         Err(at) => Outcome::Trap(Fault::access(at, Access::Load)),
         Ok(value) => {
             cpu.regs.set(usize::from(t.number), widen(kind, value));
-            advance(cpu, 2);
+            go_past(cpu, 2);
             Outcome::Next
         }
     }
@@ -88,7 +88,7 @@ pub fn store<B: Bus>(cpu: &mut Cpu, bus: &mut B, size: Size, t: Reg, addr: u32) 
     match bus.store(addr, n, value) {
         Err(at) => Outcome::Trap(Fault::access(at, Access::Store)),
         Ok(()) => {
-            advance(cpu, 2);
+            go_past(cpu, 2);
             Outcome::Next
         }
     }

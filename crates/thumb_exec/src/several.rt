@@ -3,10 +3,10 @@
 ghost use Rattle.std.specs.Prelude.{◌≡◌, ◌<◌, ◌≤◌, ◌+◌, ◌%◌, ◌^◌, ℕ, Bool, [], ◌∷◌, true, false, if◌then◌else◌, None};
 ghost use Rattle.region_check.specs.declared.Right.{Right as Rights};
 ghost use Rattle.region_check.specs.declared.Right.TheVariants as rights;
-ghost use Rattle.thumb_exec.specs.Effect.{Acts, Stores, transfers, first_refused, stores_of, loaded_all, count, store_all, effect, advance, put};
+ghost use Rattle.thumb_exec.specs.Effect.{Acts, Stores, transfers, first_refused, stores_of, loaded_all, count, store_all, effect, go_past, put};
 ghost use Rattle.thumb_insn.specs.declared.Insn.TheVariants as insns;
 
-use crate::arith::{advance, get, set};
+use crate::arith::{go_past, get, set};
 use crate::bus::Bus;
 use crate::cpu::{Cpu, Outcome};
 use kernel_abi::{Access, Fault};
@@ -134,7 +134,7 @@ pub fn store_all<B: Bus>(
     value: u32,
 ) -> Outcome
     requires { d.number < 16 }
-    ensures { Acts B.stored cpu.old cpu.new bus.old bus.new result (store_all (B.refuses bus.old) cpu.old mask addr (advance 2 (put cpu.old d.number value))) }
+    ensures { Acts B.stored cpu.old cpu.new bus.old bus.new result (store_all (B.refuses bus.old) cpu.old mask addr (go_past 2 (put cpu.old d.number value))) }
 {
     if addr % 4 != 0 {
         return Outcome::Trap(Fault::unaligned(addr, true));
@@ -165,7 +165,7 @@ pub fn ldm<B: Bus>(cpu: &mut Cpu, bus: &mut B, n: Reg, list: u8) -> Outcome
     if (mask >> n.number) % 2 == 0 {
         cpu.regs.set(usize::from(n.number), addr.wrapping_add(4 * count_of(mask)));
     }
-    advance(cpu, 2);
+    go_past(cpu, 2);
     Outcome::Next
 }
 
@@ -193,7 +193,7 @@ pub fn pop<B: Bus>(cpu: &mut Cpu, bus: &mut B, list: u8, has_pc: bool) -> Outcom
         }
         cpu.regs.set(15, target - 1);
     } else {
-        advance(cpu, 2);
+        go_past(cpu, 2);
     }
     Outcome::Next
 }

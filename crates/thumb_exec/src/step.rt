@@ -1,12 +1,12 @@
 //! One instruction, row by row of the table, in families that each a function executes.
 ghost use Rattle.std.specs.Prelude.{◌≡◌, ◌<◌, ℕ, Bool, [], true, false};
-ghost use Rattle.thumb_exec.specs.Effect.{Acts, Effects, Halts, Next, Refusals, Contents, effect, load_effect, store_effect, store_all, sum_to, put, advance, shifted};
+ghost use Rattle.thumb_exec.specs.Effect.{Acts, Effects, Halts, Next, Refusals, Contents, effect, load_effect, store_effect, store_all, sum_to, put, go_past, shifted};
 ghost use Rattle.thumb_exec.specs.declared.cpu.Outcome.TheVariants as outcome;
 ghost use Rattle.words_core.specs.Words.{awc};
 ghost use Rattle.thumb_exec.specs.Families.{IsSum, IsData, IsAddress, IsBranch, IsJump, IsSystem, IsLoad, IsStore, IsStoreAll, IsRest};
 ghost use Rattle.thumb_insn.specs.Range.{InRange, IsCoded};
 
-use crate::arith::{advance, compare, data, finish_sum, get, set, with_nz, with_nzc};
+use crate::arith::{go_past, compare, data, finish_sum, get, set, with_nz, with_nzc};
 use crate::bus::Bus;
 use crate::control::{
     base, branch_to, change, flags_of, flags_word, holds, link, link_to, operand, put_any, target,
@@ -154,7 +154,7 @@ fn branch(cpu: &mut Cpu, insn: Insn)
                 let to = target(cpu, offset);
                 cpu.regs.set(15, to);
             } else {
-                advance(cpu, 2);
+                go_past(cpu, 2);
             }
         }
         Insn::Branch { offset } => {
@@ -200,11 +200,11 @@ fn system(cpu: &mut Cpu, insn: Insn)
     ensures { (refuses : Refusals) (holds : Contents) → effect refuses holds cpu.old insn ≡ Next cpu.new [] }
 {
     match insn {
-        Insn::Cpsie | Insn::Cpsid | Insn::Hint { .. } => advance(cpu, 2),
-        Insn::Fence { .. } => advance(cpu, 4),
+        Insn::Cpsie | Insn::Cpsid | Insn::Hint { .. } => go_past(cpu, 2),
+        Insn::Fence { .. } => go_past(cpu, 4),
         Insn::Msr { n } => {
             cpu.flags = flags_of(get(cpu, n));
-            advance(cpu, 4);
+            go_past(cpu, 4);
         }
         _ => unreachable!(),
     }
@@ -272,7 +272,7 @@ fn storing(cpu: &Cpu, insn: Insn) -> (Size, Reg, u32)
 fn storing_all(cpu: &Cpu, insn: Insn) -> (u16, u32, Reg, u32)
     requires family { IsStoreAll insn }
     requires range { InRange insn }
-    ensures effect { (refuses : Refusals) (holds : Contents) → effect refuses holds cpu.now insn ≡ store_all refuses cpu.now result.0 result.1 (advance 2 (put cpu.now result.2.number result.3)) }
+    ensures effect { (refuses : Refusals) (holds : Contents) → effect refuses holds cpu.now insn ≡ store_all refuses cpu.now result.0 result.1 (go_past 2 (put cpu.now result.2.number result.3)) }
     ensures register { result.2.number < 16 }
 {
     match insn {
@@ -290,7 +290,7 @@ fn storing_all(cpu: &Cpu, insn: Insn) -> (u16, u32, Reg, u32)
     }
 }
 
-/// Executes what moves several words, branches to a register, calls, or is rare.
+/// Executes what moves several words, branches to a register, is a system call, or is rare.
 #[tactic(auto, using(crate::proofs::Acting::acts_next, crate::proofs::Acting::acts_of), unfolding(crate::specs::Effect::effect))]
 #[inline(never)]
 fn rest<B: Bus>(cpu: &mut Cpu, insn: Insn, bus: &mut B) -> Outcome
@@ -306,7 +306,7 @@ fn rest<B: Bus>(cpu: &mut Cpu, insn: Insn, bus: &mut B) -> Outcome
         Insn::Ldm { n, list } => ldm(cpu, bus, n, list),
         Insn::Pop { list, pc } => pop(cpu, bus, list, pc),
         Insn::Bx { .. } | Insn::Blx { .. } => jump(cpu, insn),
-        Insn::Svc { .. } => Outcome::Call,
+        Insn::Svc { .. } => Outcome::Syscall,
         Insn::Bkpt { value } => Outcome::Trap(Fault::breakpoint(value)),
         Insn::Cpsie | Insn::Cpsid | Insn::Hint { .. } | Insn::Fence { .. } | Insn::Msr { .. } => {
             system(cpu, insn);
@@ -375,8 +375,8 @@ fn step<B: Bus>(cpu: &mut Cpu, insn: Insn, bus: &mut B) -> Outcome
 /// table of instructions tells (docs/FORMATS.md; ARMv6-M Architecture Reference Manual, A6.7).
 ///
 /// A fault comes in this order: Unaligned, Access at the first byte in order of transfer that lacks
-/// its right, State, Breakpoint. A fault and a call leave processor and bus as they are; the kernel
-/// advances PC after a call.
+/// its right, State, Breakpoint. A fault and a system call leave processor and bus as they are; the kernel
+/// moves PC past a system call.
 #[tactic(auto, using(thumb_insn::proofs::InRange::coded_in_range))]
 #[inline(never)]
 pub fn exec<B: Bus>(cpu: &mut Cpu, insn: &Insn, bus: &mut B) -> Outcome
@@ -386,7 +386,7 @@ pub fn exec<B: Bus>(cpu: &mut Cpu, insn: &Insn, bus: &mut B) -> Outcome
     step(cpu, *insn, bus)
 }
 
-/// Executes an instruction at PC, one that some code means, as `exec` does, where it goes on. Where it calls
+/// Executes an instruction at PC, one that some code means, as `exec` does, where it goes on. Where it is a system call
 /// or faults nothing changes, and the answer is false.
 #[tactic(auto, using(thumb_insn::proofs::InRange::coded_in_range, crate::proofs::Acting::acts_halted))]
 #[inline(always)]

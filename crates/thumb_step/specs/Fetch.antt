@@ -5,7 +5,7 @@ use Rattle.std.specs.Prelude.{◌≡◌, ℕ, ◌+◌, ◌*◌, ◌%◌, ◌^◌
 use Rattle.kernel_abi.specs.declared.Fault.{Fault}
 use Rattle.kernel_abi.specs.Faults.{illegal_fault, illegal_text_fault}
 use Rattle.region_check.specs.declared.Right.TheVariants.{Execute}
-use Rattle.words_core.specs.Regs.{reg_at}
+use Rattle.words_core.specs.Regs.{reg_at, program_counter}
 use Rattle.thumb_insn.specs.Table.{decoded_of, is_wide}
 use Rattle.thumb_insn.specs.declared.Decoded.{Decoded}
 use Rattle.thumb_insn.specs.declared.Decoded.TheVariants as decoded
@@ -52,9 +52,9 @@ executed refuses holds c (Err fault) = Trap fault
 
 -- the instruction at PC
 abbrev pub step_effect : Refusals → Contents → Cpu → Effect
-step_effect refuses holds c = executed refuses holds c (fetched refuses holds (reg_at c.regs 15))
+step_effect refuses holds c = executed refuses holds c (fetched refuses holds (reg_at c.regs program_counter))
 
 -- what one list of refusals grants the other grants too, and where a byte may be read, or a halfword executed, they hold the same
-pub record WidensText (refuses wider : Refusals) (holds held : Contents) : Type 0 where
+pub record WidensFetch (refuses wider : Refusals) (holds held : Contents) : Type 0 where
   pub widens : Widens refuses wider holds held
   pub text : (a : ℕ) → refuses a 2 Execute ≡ None → holds a 2 ≡ held a 2

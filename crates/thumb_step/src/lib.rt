@@ -5,7 +5,7 @@
 pub mod laws;
 
 ghost use Rattle.std.specs.Prelude.{◌≡◌, ◌≤◌, ◌%◌, IfOk, IfErr};
-ghost use Rattle.words_core.specs.Regs.{reg_at};
+ghost use Rattle.words_core.specs.Regs.{reg_at, program_counter};
 ghost use Rattle.thumb_insn.specs.Range.{IsCoded, GivesCoded};
 ghost use Rattle.thumb_exec.specs.Effect.{Acts};
 ghost use Rattle.thumb_step.specs.Fetch.{instruction, fetched, fetched_wide, step_effect};
@@ -82,11 +82,11 @@ pub fn fetch<B: Bus>(bus: &B, at: u32) -> Result<Fetched, Fault>
     }
 }
 
-/// Fetches, decodes and executes the instruction at PC. A fault and a call leave processor and bus as
+/// Fetches, decodes and executes the instruction at PC. A fault and a system call leave processor and bus as
 /// they are.
 #[inline(always)]
 pub fn step<B: Bus>(cpu: &mut Cpu, bus: &mut B) -> Outcome
-    requires { reg_at cpu.old.regs 15 % 2 ≡ 0 }
+    requires { reg_at cpu.old.regs program_counter % 2 ≡ 0 }
     ensures { Acts B.stored cpu.old cpu.new bus.old bus.new result (step_effect (B.refuses bus.old) (B.holds bus.old) cpu.old) }
 {
     let at = cpu.regs.get(15);

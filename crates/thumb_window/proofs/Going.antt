@@ -1,4 +1,4 @@
--- An instruction of the text, and what comes of it.
+-- An instruction of the flash, and what comes of it.
 use Rattle.std.proofs.Common.{◌≡◌, ◌≤◌, ◌+◌, ◌*◌, ◌^◌, ℕ, zero, suc, Bool, true, false, ◌&&◌, List, [], ◌∷◌, length, Some, None, fold, refl, sym, ◌∙◌, ap, arith}
 use Rattle.std.specs.Prelude.{nat_le}
 use Rattle.std.proofs.lemmas.Bool.{leb-true, false≢true}
@@ -8,7 +8,7 @@ use Rattle.thumb_insn.specs.declared.Decoded.TheVariants.{Narrow, Wide, Illegal,
 use Rattle.thumb_insn.specs.Table.{narrow_of, narrow_result, decoded_of, is_wide}
 use Rattle.thumb_exec.specs.declared.cpu.Cpu.{Cpu}
 use Rattle.thumb_exec.specs.declared.cpu.Outcome.TheVariants as outcome
-use Rattle.thumb_exec.specs.Effect.{Effect, Next, Call, Trap, Store, Stores, Acts, Halts, Refusals, Contents}
+use Rattle.thumb_exec.specs.Effect.{Effect, Next, Syscall, Trap, Store, Stores, Acts, Halts, Refusals, Contents}
 use Rattle.thumb_step.specs.Fetch.{instruction, after, executed, step_effect}
 use Rattle.words_core.specs.Regs.{reg_at}
 use Rattle.thumb_window.specs.declared.Window.{Window}
@@ -19,12 +19,12 @@ use Rattle.thumb_window.specs.Did.{IsStored, Did}
 -- ## Stores
 
 pub kept : (v v' : View) → v' ≡ v → Keeps v v'
-kept v v' e = rw e record { text_base = refl; text = refl; readable = refl; ram_base = refl; size = refl }
+kept v v' e = rw e record { flash_base = refl; flash = refl; readable = refl; ram_base = refl; size = refl }
 
 pub kept_on : (u v w : View) → Keeps u v → Keeps v w → Keeps u w
 kept_on u v w a b = record {
-  text_base = b.text_base ∙ a.text_base;
-  text = b.text ∙ a.text;
+  flash_base = b.flash_base ∙ a.flash_base;
+  flash = b.flash ∙ a.flash;
   readable = b.readable ∙ a.readable;
   ram_base = b.ram_base ∙ a.ram_base;
   size = b.size ∙ a.size;
@@ -56,7 +56,7 @@ pub record Went (c' : Cpu) (w w' : Window) (e : Effect) : Type 0 where
 
 pub went_on : (c c' : Cpu) (w w' : Window) (e : Effect) → Acts IsStored c c' w w' outcome.Next e → Went c' w w' e
 went_on c c' w w' (Next d ss) h = record { stores = ss; is = ap (λ (x : Cpu). Next x ss) (sym h.1); inside = stores_inside ss w w' h.2; put = stores_put ss w w' h.2; keeps = stores_keep ss w w' h.2 }
-went_on c c' w w' Call h = absurd (cc h.0)
+went_on c c' w w' Syscall h = absurd (cc h.0)
 went_on c c' w w' (Trap f) h = absurd (cc h.0)
 
 pub goes_so : (c c' : Cpu) (w w' : Window) (e : Effect) → step_effect (refused_by (view_of w)) (held_by (view_of w)) c ≡ e → Acts IsStored c c' w w' outcome.Next e → GoesOn (view_of w) c (view_of w') c'
@@ -67,7 +67,7 @@ pub keeps_by : (c c' : Cpu) (w w' : Window) (e : Effect) (r : Bool) → (r ≡ t
 keeps_by c c' w w' e true goes stays = (went_on c c' w w' e (goes refl)).keeps
 keeps_by c c' w w' e false goes stays = kept (view_of w) (view_of w') (ap view_of (stays refl))
 
--- ## The text
+-- ## The flash
 
 both : (a b : Bool) → (a && b) ≡ true → (a ≡ true) × (b ≡ true)
 both true b h = (refl, h)
@@ -83,11 +83,11 @@ outside false h = refl
 pub has_not : (base : ℕ) (xs : List ℕ) (a n : ℕ) → (base ≤ a → a + n ≤ base + length xs → ⊥) → has base xs a n ≡ false
 has_not base xs a n h = outside (has base xs a n) (λ k. let two = within base xs a n k in h two.0 two.1)
 
--- the text is no part of the RAM
-pub held_text : (v : View) (a : ℕ) → v.text_base + length v.text ≤ v.ram_base → has v.text_base v.text a 2 ≡ true → held_by v a 2 ≡ number_in v.text_base v.text a 2
-held_text v a apart h =
-    let two = within v.text_base v.text a 2 h in
-    let low : a + 2 ≤ v.text_base + length v.text = two.1 in
+-- the flash is no part of the RAM
+pub held_flash : (v : View) (a : ℕ) → v.flash_base + length v.flash ≤ v.ram_base → has v.flash_base v.flash a 2 ≡ true → held_by v a 2 ≡ number_in v.flash_base v.flash a 2
+held_flash v a apart h =
+    let two = within v.flash_base v.flash a 2 h in
+    let low : a + 2 ≤ v.flash_base + length v.flash = two.1 in
     rw (has_not v.ram_base v.ram a 2 (λ from to. omega (arith, from, low, apart))) refl
 
 -- ## The instruction at PC
@@ -103,10 +103,10 @@ module _ (refuses : Refusals) (holds : Contents) (c : Cpu) (at first : ℕ) (her
 fetched_may : (v : View) (at half : ℕ) → IsFetched v at half → refused_by v at 2 Execute ≡ None
 fetched_may v at half f = ap (λ (b : Bool). given b at) f.there
 
-fetched_is : (v : View) (at half : ℕ) → v.text_base + length v.text ≤ v.ram_base → IsFetched v at half → half ≡ held_by v at 2
-fetched_is v at half apart f = f.is ∙ sym (held_text v at apart f.there)
+fetched_is : (v : View) (at half : ℕ) → v.flash_base + length v.flash ≤ v.ram_base → IsFetched v at half → half ≡ held_by v at 2
+fetched_is v at half apart f = f.is ∙ sym (held_flash v at apart f.there)
 
-module _ (v : View) (c : Cpu) (at first : ℕ) (apart : v.text_base + length v.text ≤ v.ram_base) (here : at ≡ reg_at c.regs 15) (f : IsFetched v at first) where
+module _ (v : View) (c : Cpu) (at first : ℕ) (apart : v.flash_base + length v.flash ≤ v.ram_base) (here : at ≡ reg_at c.regs 15) (f : IsFetched v at first) where
   pub narrow_here : is_wide first ≡ false → step_effect (refused_by v) (held_by v) c ≡ executed (refused_by v) (held_by v) c (instruction at first (narrow_result (narrow_of first)))
   narrow_here narrow = narrow_effect (refused_by v) (held_by v) c at first here (fetched_may v at first f) (fetched_is v at first apart f) narrow
 

@@ -21,7 +21,7 @@ pub record IsStored (w : Window) (a n x : ℕ) (w' : Window) : Type 0 where
 abbrev pub effect_on : Runner → Insn → Effect
 effect_on r i = effect (refused_by (view_of r.window)) (held_by (view_of r.window)) r.processor i
 
--- by the answer: it went on, or it calls, faults or is illegal, and nothing changed
+-- by the answer: it went on, or it is a system call, faults or is illegal, and nothing changed
 abbrev pub Did : Runner → Decoded → Bool → Runner → Type 0
 Did a (Narrow i) true b = Acts IsStored a.processor b.processor a.window b.window outcome.Next (effect_on a i)
 Did a (Narrow i) false b = Halts (effect_on a i) × (b ≡ a)

@@ -10,8 +10,8 @@ use Rattle.thumb_window.specs.declared.Window.{Window}
 
 -- what a processor reaches: bytes from an address on that it may execute, and perhaps read, and bytes that it may read and write
 pub record View : Type 0 where
-  pub text_base : ℕ
-  pub text : List ℕ
+  pub flash_base : ℕ
+  pub flash : List ℕ
   pub readable : Bool
   pub ram_base : ℕ
   pub ram : List ℕ
@@ -32,17 +32,17 @@ given true a = None
 given false a = Some a
 
 abbrev pub refused_by : View → Refusals
-refused_by v a n Execute = given (has v.text_base v.text a n) a
-refused_by v a n Read = given (has v.ram_base v.ram a n || (v.readable && has v.text_base v.text a n)) a
+refused_by v a n Execute = given (has v.flash_base v.flash a n) a
+refused_by v a n Read = given (has v.ram_base v.ram a n || (v.readable && has v.flash_base v.flash a n)) a
 refused_by v a n Write = given (has v.ram_base v.ram a n) a
 
 abbrev pub held_by : View → Contents
-held_by v a n = if has v.ram_base v.ram a n then number_in v.ram_base v.ram a n else number_in v.text_base v.text a n
+held_by v a n = if has v.ram_base v.ram a n then number_in v.ram_base v.ram a n else number_in v.flash_base v.flash a n
 
--- a halfword that the text has
+-- a halfword that the flash has
 pub record IsFetched (v : View) (a half : ℕ) : Type 0 where
-  pub there : has v.text_base v.text a 2 ≡ true
-  pub is : half ≡ number_in v.text_base v.text a 2
+  pub there : has v.flash_base v.flash a 2 ≡ true
+  pub is : half ≡ number_in v.flash_base v.flash a 2
 
 -- ## Stores
 
@@ -74,8 +74,8 @@ Glides v c (suc n) v' c' = (w : View) × (d : Cpu) × Glides v c n w d × GoesOn
 
 -- what no instruction changes
 pub record Keeps (v v' : View) : Type 0 where
-  pub text_base : v'.text_base ≡ v.text_base
-  pub text : v'.text ≡ v.text
+  pub flash_base : v'.flash_base ≡ v.flash_base
+  pub flash : v'.flash ≡ v.flash
   pub readable : v'.readable ≡ v.readable
   pub ram_base : v'.ram_base ≡ v.ram_base
   pub size : length v'.ram ≡ length v.ram
@@ -83,8 +83,8 @@ pub record Keeps (v v' : View) : Type 0 where
 -- ## The code's window
 
 abbrev pub view_of : Window → View
-view_of w = record { text_base = w.text_base; text = w.text.items; readable = w.readable; ram_base = w.ram_base; ram = w.ram.items }
+view_of w = record { flash_base = w.flash_base; flash = w.flash.items; readable = w.readable; ram_base = w.ram_base; ram = w.ram.items }
 
--- the text ends below the RAM
+-- the flash ends below the RAM
 abbrev pub IsApart : Window → Type 0
-IsApart w = w.text_base + length w.text.items ≤ w.ram_base
+IsApart w = w.flash_base + length w.flash.items ≤ w.ram_base

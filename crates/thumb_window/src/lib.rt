@@ -1,4 +1,4 @@
-//! Instructions on end of a processor whose text and RAM lie in two vectors of bytes. An access is one
+//! Instructions on end of a processor whose flash and RAM lie in two vectors of bytes. An access is one
 //! test of its place, and no look-up.
 #![tactic(auto)]
 
@@ -8,7 +8,7 @@ ghost use Rattle.region_check.specs.declared.Right.TheVariants.{Read};
 ghost use Rattle.thumb_exec.specs.Effect.{Halts};
 ghost use Rattle.thumb_exec.specs.Sizes.{IsSize};
 ghost use Rattle.thumb_step.specs.Fetch.{step_effect};
-ghost use Rattle.words_core.specs.Regs.{reg_at};
+ghost use Rattle.words_core.specs.Regs.{reg_at, program_counter};
 ghost use Rattle.thumb_window.specs.Windows.{has, IsFetched, refused_by, held_by, view_of, Glides, GoesOn, Keeps, IsApart};
 ghost use Rattle.thumb_window.specs.Did.{Did, IsStored};
 
@@ -19,14 +19,14 @@ use thumb_exec::cpu::Cpu;
 use thumb_exec::step::proceed;
 use thumb_insn::{Decoded, Insn};
 
-/// What a processor reaches: the text, which it may execute, and perhaps read, and the RAM, which it may
+/// What a processor reaches: the flash, which it may execute, and perhaps read, and the RAM, which it may
 /// read and write, each from an address on.
 #[derive(Drop)]
 pub struct Window {
-    pub text: Vec<u8>,
-    pub text_base: u32,
+    pub flash: Vec<u8>,
+    pub flash_base: u32,
 
-    /// Whether the text may be read.
+    /// Whether the flash may be read.
     pub readable: bool,
     pub ram: Vec<u8>,
     pub ram_base: u32,
@@ -113,26 +113,26 @@ impl Window {
         has(self.ram_base, &self.ram, addr, n)
     }
 
-    /// Whether the text has all of n bytes.
+    /// Whether the flash has all of n bytes.
     #[inline(always)]
-    fn has_text(&self, addr: u32, n: u32) -> bool
-        ensures { result ≡ has self.now.text_base self.now.text.items addr n }
+    fn has_flash(&self, addr: u32, n: u32) -> bool
+        ensures { result ≡ has self.now.flash_base self.now.flash.items addr n }
     {
-        has(self.text_base, &self.text, addr, n)
+        has(self.flash_base, &self.flash, addr, n)
     }
 
-    /// The halfword at an address, where the text has it. The text ends within the address space, since it
+    /// The halfword at an address, where the flash has it. The flash ends within the address space, since it
     /// ends below the RAM: so one comparison tells.
     #[inline(always)]
-    fn text_half(&self, addr: u32) -> Option<u16>
+    fn flash_half(&self, addr: u32) -> Option<u16>
         requires apart { IsApart self.now }
-        ensures { MatchOption result (has self.now.text_base self.now.text.items addr 2 ≡ false) (λ half. IsFetched (view_of self.now) addr half) }
+        ensures { MatchOption result (has self.now.flash_base self.now.flash.items addr 2 ≡ false) (λ half. IsFetched (view_of self.now) addr half) }
     {
         // It is below 2^32.
         let _end = self.ram_base;
-        let at = addr.wrapping_sub(self.text_base) as usize;
-        if at + 2 <= self.text.len() {
-            Some(half(&self.text, at))
+        let at = addr.wrapping_sub(self.flash_base) as usize;
+        if at + 2 <= self.flash.len() {
+            Some(half(&self.flash, at))
         } else {
             None
         }
@@ -140,13 +140,13 @@ impl Window {
 
     /// A load of bytes that the RAM does not have.
     #[inline(never)]
-    fn load_text(&self, addr: u32, n: u32) -> Result<u32, u32>
+    fn load_flash(&self, addr: u32, n: u32) -> Result<u32, u32>
         requires size { IsSize n }
         requires beyond { has self.now.ram_base self.now.ram.items addr n ≡ false }
         ensures { MatchResult result (λ value. (refused_by (view_of self.now) addr n Read ≡ None) × (value ≡ held_by (view_of self.now) addr n)) (λ at. refused_by (view_of self.now) addr n Read ≡ Some at) }
     {
-        if self.readable && self.has_text(addr, n) {
-            Ok(number(&self.text, (addr - self.text_base) as usize, n))
+        if self.readable && self.has_flash(addr, n) {
+            Ok(number(&self.flash, (addr - self.flash_base) as usize, n))
         } else {
             Err(addr)
         }
@@ -163,21 +163,21 @@ impl Bus for Window {
     #[inline(always)]
     fn allows(&self, addr: u32, n: u32, right: Right) -> Option<u32> {
         let is_given = match right {
-            Right::Read => self.has_ram(addr, n) || (self.readable && self.has_text(addr, n)),
+            Right::Read => self.has_ram(addr, n) || (self.readable && self.has_flash(addr, n)),
             Right::Write => self.has_ram(addr, n),
-            Right::Execute => self.has_text(addr, n),
+            Right::Execute => self.has_flash(addr, n),
         };
         if is_given { None } else { Some(addr) }
     }
 
     fn fetch(&self, addr: u32) -> Result<u16, u32> {
-        if !self.has_text(addr, 2) {
+        if !self.has_flash(addr, 2) {
             return Err(addr);
         }
         if self.has_ram(addr, 2) {
             Ok(half(&self.ram, (addr - self.ram_base) as usize))
         } else {
-            Ok(half(&self.text, (addr - self.text_base) as usize))
+            Ok(half(&self.flash, (addr - self.flash_base) as usize))
         }
     }
 
@@ -186,7 +186,7 @@ impl Bus for Window {
         if self.has_ram(addr, n) {
             Ok(number(&self.ram, (addr - self.ram_base) as usize, n))
         } else {
-            self.load_text(addr, n)
+            self.load_flash(addr, n)
         }
     }
 
@@ -208,7 +208,7 @@ impl Bus for Window {
         }
         match right {
             Right::Read | Right::Write => self.has_ram(addr, 4 * count),
-            Right::Execute => self.has_text(addr, 4 * count),
+            Right::Execute => self.has_flash(addr, 4 * count),
         }
     }
 }
@@ -228,7 +228,7 @@ impl Taker for Runner {
 }
 
 impl Runner {
-    /// One instruction, where it is fetched from the text and goes on within the window; else nothing
+    /// One instruction, where it is fetched from the flash and goes on within the window; else nothing
     /// changes, and the answer is false.
     #[inline(always)]
     fn step(&mut self) -> bool
@@ -239,7 +239,7 @@ impl Runner {
         ensures fixed { Keeps (view_of self.old.window) (view_of self.new.window) }
     {
         let at = self.processor.regs.get(15);
-        let Some(first) = self.window.text_half(at) else {
+        let Some(first) = self.window.flash_half(at) else {
             return false;
         };
         if first / 2048 >= 29 {
@@ -252,7 +252,7 @@ impl Runner {
     #[inline(never)]
     fn step_wide(&mut self, at: u32, first: u16) -> bool
         requires apart { IsApart self.old.window }
-        requires here { at ≡ reg_at self.old.processor.regs 15 }
+        requires here { at ≡ reg_at self.old.processor.regs program_counter }
         requires first { IsFetched (view_of self.old.window) at first }
         requires wide { 29 ≤ first / 2048 }
         ensures goes { result ≡ true → GoesOn (view_of self.old.window) self.old.processor (view_of self.new.window) self.new.processor }
@@ -260,7 +260,7 @@ impl Runner {
         ensures kept { result ≡ false → self.new ≡ self.old }
         ensures fixed { Keeps (view_of self.old.window) (view_of self.new.window) }
     {
-        let Some(second) = self.window.text_half(at.wrapping_add(2)) else {
+        let Some(second) = self.window.flash_half(at.wrapping_add(2)) else {
             return false;
         };
         match decode(first, Some(second)) {
@@ -269,14 +269,14 @@ impl Runner {
         }
     }
 
-    /// Instructions on end, at most so many: as long as each is fetched from the text and goes on within the
+    /// Instructions on end, at most so many: as long as each is fetched from the flash and goes on within the
     /// window. How many there were.
     pub fn glide(&mut self, most: u32) -> u32
-        requires apart { self.old.window.text_base + length self.old.window.text.items ≤ self.old.window.ram_base }
+        requires apart { self.old.window.flash_base + length self.old.window.flash.items ≤ self.old.window.ram_base }
         ensures glides { Glides (view_of self.old.window) self.old.processor result (view_of self.new.window) self.new.processor }
         ensures within { result ≤ most }
 
-        // It stops before that many only where the next one calls, faults or reaches beyond the window.
+        // It stops before that many only where the next one is a system call, faults or reaches beyond the window.
         ensures far { result < most → Halts (step_effect (refused_by (view_of self.new.window)) (held_by (view_of self.new.window)) self.new.processor) }
         ensures fixed { Keeps (view_of self.old.window) (view_of self.new.window) }
     {

@@ -2,7 +2,7 @@
 //! Timers and interrupt lines: ticks and interrupts, which come from outside, and the system calls
 //! SET_TIMER, GET_TIMER and IRQ_CONTROL (Hubris Reference: timers, interrupts; docs/FORMATS.md, Script).
 //!
-//! Each event and each call asks for room for `CALL_NOTES` notes and makes no more.
+//! Each event and each system call asks for room for `SYSCALL_NOTES` notes and makes no more.
 
 ghost use Rattle.std.specs.Prelude.{◌≡◌, ◌+◌, ◌*◌, ◌<◌, ◌≤◌, ◌%◌, ◌/◌, ◌^◌, ◌∷◌, ◌==◌, ◌&&◌, true, Some, Option, ℕ, length, filter, fold, slice_get};
 ghost use Rattle.std.specs.Option.{option_map};
@@ -10,11 +10,11 @@ ghost use Rattle.std.specs.List.{list_any, range_with_len};
 ghost use Rattle.task_table.specs.State.{Setup, Turn};
 ghost use Rattle.task_table.specs.Reading.{is_ready, line_at, line_off};
 ghost use Rattle.task_table.specs.Effects.{with_line};
-ghost use Rattle.task_table.specs.Rows.{timer_set, timer_words, timer_told, owns_with, line_controlled, irq_controlled};
+ghost use Rattle.task_table.specs.Rows.{timer_set, timer_words, timer_answered, owns_with, line_controlled, irq_controlled};
 ghost use Rattle.task_table.specs.Events.{expired, ticked, owner_of, interrupted_by, interrupted};
 ghost use Rattle.task_table.specs.Parts.{line_setup};
 ghost use Rattle.task_table.specs.Holds.{Holds, Stands, Stood, task_count, note_count, clock_of};
-ghost use Rattle.task_table.specs.Limits.{most_tasks, board_lines, call_notes, turn_notes};
+ghost use Rattle.task_table.specs.Limits.{most_tasks, board_lines, syscall_notes, turn_notes};
 ghost use Rattle.task_table.specs.Frames.{AddsNotes, AddsAtMost};
 ghost use Rattle.timer_irq.specs.Midway.{with_next};
 
@@ -50,10 +50,10 @@ fn expire_all(k: &mut Kernel)
 /// The time goes on, and each task whose timer is due is posted; the timers are looked at only where one
 /// may be due.
 fn tick_all(k: &mut Kernel)
-    requires room { note_count k.old + call_notes ≤ turn_notes }
+    requires room { note_count k.old + syscall_notes ≤ turn_notes }
     requires small { clock_of k.old + 1 < 2 ^ 64 }
     ensures holds { (g : Setup) (t : Turn) → Holds g k.old t → Holds g k.new (ticked t) }
-    ensures frame { AddsAtMost k.old call_notes k.new }
+    ensures frame { AddsAtMost k.old syscall_notes k.new }
 {
     k.step_clock();
     if k.is_any_due() {
@@ -65,10 +65,10 @@ fn tick_all(k: &mut Kernel)
 /// A tick: the time rises by one; then each task in order whose deadline is at most that time has its
 /// timer off and is posted the timer's bits.
 pub fn tick(k: &mut Kernel)
-    requires room { note_count k.old + call_notes ≤ turn_notes }
+    requires room { note_count k.old + syscall_notes ≤ turn_notes }
     requires small { clock_of k.old + 1 < 2 ^ 64 }
     ensures stands { (g : Setup) (t : Turn) → Stands g k.old t → Stands g k.new (ticked t) }
-    ensures frame { AddsAtMost k.old call_notes k.new }
+    ensures frame { AddsAtMost k.old syscall_notes k.new }
 {
     tick_all(k);
 }
@@ -115,9 +115,9 @@ fn disable(k: &mut Kernel, number: usize, pending: bool)
 /// An interrupt on a line that has this owner.
 fn interrupt_owned(k: &mut Kernel, line: u8, owner: &LineStart)
     requires there { owner.now.task < task_count k.old }
-    requires room { note_count k.old + call_notes ≤ turn_notes }
+    requires room { note_count k.old + syscall_notes ≤ turn_notes }
     ensures holds { (g : Setup) (t : Turn) → Holds g k.old t → Holds g k.new (interrupted_by line (Some (line_setup owner.now)) t) }
-    ensures frame { AddsAtMost k.old call_notes k.new }
+    ensures frame { AddsAtMost k.old syscall_notes k.new }
 {
     let number = usize::from(line);
     let before = line_of(k, number);
@@ -142,9 +142,9 @@ fn interrupt_owned(k: &mut Kernel, line: u8, owner: &LineStart)
 /// nothing happens.
 pub fn interrupt(k: &mut Kernel, line: u8)
     requires stood { Stood k.old }
-    requires room { note_count k.old + call_notes ≤ turn_notes }
+    requires room { note_count k.old + syscall_notes ≤ turn_notes }
     ensures stands { (g : Setup) (t : Turn) → Stands g k.old t → Stands g k.new (interrupted g line t) }
-    ensures frame { AddsAtMost k.old call_notes k.new }
+    ensures frame { AddsAtMost k.old syscall_notes k.new }
 {
     match owner_of(k, line) {
         Some(owner) => interrupt_owned(k, line, &owner),
@@ -158,9 +158,9 @@ pub fn interrupt(k: &mut Kernel, line: u8)
 /// SET_TIMER, in whatever state.
 fn start_timer(k: &mut Kernel, caller: usize)
     requires there { caller < task_count k.old }
-    requires room { note_count k.old + call_notes ≤ turn_notes }
+    requires room { note_count k.old + syscall_notes ≤ turn_notes }
     ensures holds { (g : Setup) (t : Turn) → Holds g k.old t → Holds g k.new (timer_set caller t) }
-    ensures frame { AddsAtMost k.old call_notes k.new }
+    ensures frame { AddsAtMost k.old syscall_notes k.new }
 {
     let args = TimerArgs::of(&k.arguments(caller));
     if !args.set {
@@ -187,15 +187,15 @@ fn start_timer(k: &mut Kernel, caller: usize)
 /// posted at once (Hubris Reference, on SET_TIMER).
 pub fn set_timer(k: &mut Kernel, caller: usize)
     requires there { caller < task_count k.old }
-    requires room { note_count k.old + call_notes ≤ turn_notes }
+    requires room { note_count k.old + syscall_notes ≤ turn_notes }
     ensures stands { (g : Setup) (t : Turn) → Stands g k.old t → is_ready t.state caller ≡ true → Stands g k.new (timer_set caller t) }
-    ensures frame { AddsAtMost k.old call_notes k.new }
+    ensures frame { AddsAtMost k.old syscall_notes k.new }
 {
     start_timer(k, caller);
 }
 
 /// What GET_TIMER answers in r4 to r9.
-fn told(now: u64, timer: Option<Timer>) -> [u32; 6]
+fn timer_results(now: u64, timer: Option<Timer>) -> [u32; 6]
     ensures { result ≡ now % 2 ^ 32 ∷ now / 2 ^ 32 ∷ timer_words timer }
 {
     let low = (now % 0x1_0000_0000) as u32;
@@ -217,11 +217,11 @@ fn told(now: u64, timer: Option<Timer>) -> [u32; 6]
 /// and r8 are then its deadline and r9 its bits, else r6 to r9 are 0 (the call is this project's own).
 pub fn get_timer(k: &mut Kernel, caller: usize)
     requires there { caller < task_count k.old }
-    requires room { note_count k.old + call_notes ≤ turn_notes }
-    ensures stands { (g : Setup) (t : Turn) → Stands g k.old t → is_ready t.state caller ≡ true → Stands g k.new (timer_told caller t) }
-    ensures frame { AddsAtMost k.old call_notes k.new }
+    requires room { note_count k.old + syscall_notes ≤ turn_notes }
+    ensures stands { (g : Setup) (t : Turn) → Stands g k.old t → is_ready t.state caller ≡ true → Stands g k.new (timer_answered caller t) }
+    ensures frame { AddsAtMost k.old syscall_notes k.new }
 {
-    let words = told(k.now(), k.timer(caller));
+    let words = timer_results(k.now(), k.timer(caller));
     k.answer(caller, &words);
 }
 
@@ -326,9 +326,9 @@ fn control_all(k: &mut Kernel, caller: usize, bits: u32, enable: bool)
 /// IRQ_CONTROL, in whatever state.
 fn control_lines(k: &mut Kernel, caller: usize)
     requires there { caller < task_count k.old }
-    requires room { note_count k.old + call_notes ≤ turn_notes }
+    requires room { note_count k.old + syscall_notes ≤ turn_notes }
     ensures holds { (g : Setup) (t : Turn) → Holds g k.old t → Holds g k.new (irq_controlled g caller t) }
-    ensures frame { AddsAtMost k.old call_notes k.new }
+    ensures frame { AddsAtMost k.old syscall_notes k.new }
 {
     let args = IrqArgs::of(&k.arguments(caller));
     if owns(k, caller, args.bits) {
@@ -345,9 +345,9 @@ fn control_lines(k: &mut Kernel, caller: usize)
 /// it faults by usage 6, NoIrq (Hubris Reference, on IRQ_CONTROL).
 pub fn irq_control(k: &mut Kernel, caller: usize)
     requires there { caller < task_count k.old }
-    requires room { note_count k.old + call_notes ≤ turn_notes }
+    requires room { note_count k.old + syscall_notes ≤ turn_notes }
     ensures stands { (g : Setup) (t : Turn) → Stands g k.old t → is_ready t.state caller ≡ true → Stands g k.new (irq_controlled g caller t) }
-    ensures frame { AddsAtMost k.old call_notes k.new }
+    ensures frame { AddsAtMost k.old syscall_notes k.new }
 {
     control_lines(k, caller);
 }

@@ -1,8 +1,8 @@
--- Where the contents are told: a reason gives the one verdict, but that a file cannot be read.
+-- Where the contents are seen: a reason gives the one verdict, but that a file cannot be read.
 use Rattle.std.proofs.Common.{◌≡◌, ℕ, zero, suc, ◌<◌, ◌⊎◌, Bool, false, List, length, Option, Some, None, refl, sym, ap, subst, ◌∙◌, inl, inr, arith, cond}
 use Rattle.std.specs.Prelude.{slice_get}
 use Rattle.std.proofs.lemmas.Option.{same_Some}
-use Rattle.outside_io.specs.Outside.{WhereTold}
+use Rattle.outside_io.specs.Outside.{WhereSeen}
 use Rattle.image_format.specs.Picture.{Picture}
 use Rattle.app_toml.specs.Apps.{AppData}
 use Rattle.image_build.specs.Built.{Built}
@@ -19,8 +19,8 @@ use Rattle.trace_cli.specs.Verdict as verdict
 use Rattle.trace_cli.specs.Verdict.{Verdict, IsVerdict, Does, runs, lists, builds, samples, usage, refused, unread, ran, listed, built, sampled}
 use Rattle.trace_cli.specs.Answer.{Reason, cannot_read, refuses, does, IsUnread, IsRefused, Ground, no_job, of_job}
 use Rattle.trace_cli.proofs.Lists.{is_below}
-use Rattle.trace_cli.proofs.Stopping.{where_told}
-use Rattle.trace_cli.proofs.Agreeing.{same_files, told_further, may_further, same_contents}
+use Rattle.trace_cli.proofs.Stopping.{where_seen}
+use Rattle.trace_cli.proofs.Agreeing.{same_files, seen_further, may_further, same_contents}
 
 -- ## what is done with files is one thing
 
@@ -30,15 +30,15 @@ same_image cs a b p q = one_picture (described cs) (sources_in cs) a b p.built q
 same_run : (job : Asked) (cs : List (List ℕ)) (n n' : ℕ) (m m' : Detail) (x y : Scenario) → IsRun job cs n m x → IsRun job cs n' m' y → ran n m x ≡ ran n' m' y
 same_run (run image script steps detail) cs n n' m m' x y p q =
     let bound : n ≡ n' = p.0 ∙ sym q.0 in
-    let told : m ≡ m' = p.1 ∙ sym q.1 in
+    let seen : m ≡ m' = p.1 ∙ sym q.1 in
     let scenario : x ≡ y = p.2 ∙ sym q.2 in
-    ap (λ (k : ℕ). ran k m x) bound ∙ ap (λ (d : Detail). ran n' d x) told ∙ ap (ran n' m') scenario
+    ap (λ (k : ℕ). ran k m x) bound ∙ ap (λ (d : Detail). ran n' d x) seen ∙ ap (ran n' m') scenario
 same_run (go app script steps detail) cs n n' m m' x y p q =
     let bound : n ≡ n' = p.0 ∙ sym q.0 in
-    let told : m ≡ m' = p.1 ∙ sym q.1 in
+    let seen : m ≡ m' = p.1 ∙ sym q.1 in
     let image : p.2.0 ≡ q.2.0 = same_image cs p.2.0 q.2.0 p.2.1 q.2.1 in
     let scenario : x ≡ y = p.2.2 ∙ ap (λ (i : Picture). scenario_of i (script_in cs)) image ∙ sym q.2.2 in
-    ap (λ (k : ℕ). ran k m x) bound ∙ ap (λ (d : Detail). ran n' d x) told ∙ ap (ran n' m') scenario
+    ap (λ (k : ℕ). ran k m x) bound ∙ ap (λ (d : Detail). ran n' d x) seen ∙ ap (ran n' m') scenario
 same_run (build app out) cs n n' m m' x y p q = absurd p
 same_run (list image) cs n n' m m' x y p q = absurd p
 same_run (sample seed steps) cs n n' m m' x y p q = absurd p
@@ -145,22 +145,22 @@ meets zero (suc n) = less (omega arith)
 meets (suc m) zero = more (omega arith)
 meets (suc m) (suc n) = meets_more m n (meets m n)
 
--- ## a refusal by told contents, and one by contents that may be
+-- ## a refusal by seen contents, and one by contents that may be
 
 pub no_refusal : (f : File) (c : List ℕ) (why : Why) → f.refusal c ≡ Some why → f.refusal c ≡ None → ⊥
 no_refusal f c why e d = let both : Some why ≡ None = sym e ∙ d in absurd (cc)
 
--- a file that is refused where it is told is none that told contents of it were accepted
-not_accepted : (told : List ℕ → Option (List ℕ)) (f g : File) (why : Why) (c : List ℕ) → f ≡ g → WhereTold (told f.name) (λ all. f.refusal all ≡ Some why)
-    → told g.name ≡ Some c → g.refusal c ≡ None → ⊥
-not_accepted told f g why c alike where_told is none =
-    no_refusal g c why (subst (λ (h : File). WhereTold (told h.name) (λ all. h.refusal all ≡ Some why)) alike where_told c is) none
+-- a file that is refused where it is seen is none that seen contents of it were accepted
+not_accepted : (seen : List ℕ → Option (List ℕ)) (f g : File) (why : Why) (c : List ℕ) → f ≡ g → WhereSeen (seen f.name) (λ all. f.refusal all ≡ Some why)
+    → seen g.name ≡ Some c → g.refusal c ≡ None → ⊥
+not_accepted seen f g why c alike where_seen is none =
+    no_refusal g c why (subst (λ (h : File). WhereSeen (seen h.name) (λ all. h.refusal all ≡ Some why)) alike where_seen c is) none
 
 -- the other way
-not_refused : (told : List ℕ → Option (List ℕ)) (f g : File) (why : Why) (c d : List ℕ) → f ≡ g → told f.name ≡ Some c → f.refusal c ≡ Some why
-    → MayBe told g.name d → g.refusal d ≡ None → ⊥
-not_refused told f g why c d alike is refusal may none =
-    let held : d ≡ c = subst (λ (h : File). MayBe told h.name d) (sym alike) may c is in
+not_refused : (seen : List ℕ → Option (List ℕ)) (f g : File) (why : Why) (c d : List ℕ) → f ≡ g → seen f.name ≡ Some c → f.refusal c ≡ Some why
+    → MayBe seen g.name d → g.refusal d ≡ None → ⊥
+not_refused seen f g why c d alike is refusal may none =
+    let held : d ≡ c = subst (λ (h : File). MayBe seen h.name d) (sym alike) may c is in
     no_refusal f c why refusal (subst (λ (b : List ℕ). f.refusal b ≡ None) held (subst (λ (h : File). h.refusal d ≡ None) (sym alike) none))
 
 -- at the end there is no file
@@ -168,64 +168,64 @@ no_file : (files : List File) (k : ℕ) (f : File) → length files ≡ k → sl
 no_file files k f e at = let below = is_below files k f at in absurd (omega arith)
 
 -- two refusals are one
-same_refusal : (told : List ℕ → Option (List ℕ)) (job : Asked) (f g : File) (why why' : Why) (cs : List (List ℕ)) (c : List ℕ) → IsRefused job told f why
-    → Reaches (Are told) job cs g → told g.name ≡ Some c → g.refusal c ≡ Some why' → refused f.name why ≡ refused g.name why'
-same_refusal told job f g why why' cs c h r is refusal = by_length (meets (length cs) (length h.contents)) where
+same_refusal : (seen : List ℕ → Option (List ℕ)) (job : Asked) (f g : File) (why why' : Why) (cs : List (List ℕ)) (c : List ℕ) → IsRefused job seen f why
+    → Reaches (Are seen) job cs g → seen g.name ≡ Some c → g.refusal c ≡ Some why' → refused f.name why ≡ refused g.name why'
+same_refusal seen job f g why why' cs c h r is refusal = by_length (meets (length cs) (length h.contents)) where
   by_length : Meets (length cs) (length h.contents) → refused f.name why ≡ refused g.name why'
   by_length (less lt) =
-      let t = may_further told job cs h.contents r.takes h.reached.takes lt in
-      absurd (not_refused told g t.0 why' c t.2.0 (same_Some g t.0 (sym r.next ∙ t.1)) is refusal t.2.1 t.2.2)
+      let t = may_further seen job cs h.contents r.takes h.reached.takes lt in
+      absurd (not_refused seen g t.0 why' c t.2.0 (same_Some g t.0 (sym r.next ∙ t.1)) is refusal t.2.1 t.2.2)
   by_length (more lt) =
-      let t = told_further told job cs h.contents r.takes h.reached.takes lt in
-      absurd (not_accepted told f t.0 why t.2.0 (same_Some f t.0 (sym h.reached.next ∙ t.1)) (where_told told f why h.refused) t.2.1 t.2.2)
+      let t = seen_further seen job cs h.contents r.takes h.reached.takes lt in
+      absurd (not_accepted seen f t.0 why t.2.0 (same_Some f t.0 (sym h.reached.next ∙ t.1)) (where_seen seen f why h.refused) t.2.1 t.2.2)
   by_length (same e) =
-      let files = same_files told job cs h.contents r.takes h.reached.takes (length cs) (omega arith) (omega arith) in
+      let files = same_files seen job cs h.contents r.takes h.reached.takes (length cs) (omega arith) (omega arith) in
       let there : slice_get (files_by job h.contents) (length cs) ≡ Some f = ap (λ (k : ℕ). slice_get (files_by job h.contents) k) e ∙ h.reached.next in
       let file : g ≡ f = same_Some g f (sym r.next ∙ files ∙ there) in
-      let mine : g.refusal c ≡ Some why = subst (λ (i : File). WhereTold (told i.name) (λ all. i.refusal all ≡ Some why)) (sym file) (where_told told f why h.refused) c is in
+      let mine : g.refusal c ≡ Some why = subst (λ (i : File). WhereSeen (seen i.name) (λ all. i.refusal all ≡ Some why)) (sym file) (where_seen seen f why h.refused) c is in
       let reason : why ≡ why' = same_Some why why' (sym mine ∙ refusal) in
       ap (λ (i : File). refused i.name why) (sym file) ∙ ap (refused g.name) reason
 
 -- where a file is refused, not all are accepted
-refused_not_done : (told : List ℕ → Option (List ℕ)) (job : Asked) (f : File) (why : Why) (cs : List (List ℕ)) → IsRefused job told f why → TakesAll (Are told) job cs → ⊥
-refused_not_done told job f why cs h all = by_length (meets (length cs) (length h.contents)) where
+refused_not_done : (seen : List ℕ → Option (List ℕ)) (job : Asked) (f : File) (why : Why) (cs : List (List ℕ)) → IsRefused job seen f why → TakesAll (Are seen) job cs → ⊥
+refused_not_done seen job f why cs h all = by_length (meets (length cs) (length h.contents)) where
   by_length : Meets (length cs) (length h.contents) → ⊥
   by_length (less lt) =
-      let t = may_further told job cs h.contents all.takes h.reached.takes lt in
+      let t = may_further seen job cs h.contents all.takes h.reached.takes lt in
       no_file (files_by job cs) (length cs) t.0 all.all t.1
   by_length (more lt) =
-      let t = told_further told job cs h.contents all.takes h.reached.takes lt in
-      not_accepted told f t.0 why t.2.0 (same_Some f t.0 (sym h.reached.next ∙ t.1)) (where_told told f why h.refused) t.2.1 t.2.2
+      let t = seen_further seen job cs h.contents all.takes h.reached.takes lt in
+      not_accepted seen f t.0 why t.2.0 (same_Some f t.0 (sym h.reached.next ∙ t.1)) (where_seen seen f why h.refused) t.2.1 t.2.2
   by_length (same e) =
-      let files = same_files told job cs h.contents all.takes h.reached.takes (length cs) (omega arith) (omega arith) in
+      let files = same_files seen job cs h.contents all.takes h.reached.takes (length cs) (omega arith) (omega arith) in
       let there : slice_get (files_by job h.contents) (length cs) ≡ Some f = ap (λ (k : ℕ). slice_get (files_by job h.contents) k) e ∙ h.reached.next in
       no_file (files_by job cs) (length cs) f all.all (files ∙ there)
 
-done_not_refused : (told : List ℕ → Option (List ℕ)) (job : Asked) (ds cs : List (List ℕ)) (g : File) (why : Why) (c : List ℕ) → TakesAll (MayBe told) job ds
-    → Reaches (Are told) job cs g → told g.name ≡ Some c → g.refusal c ≡ Some why → ⊥
-done_not_refused told job ds cs g why c all r is refusal = by_length (meets (length cs) (length ds)) where
+done_not_refused : (seen : List ℕ → Option (List ℕ)) (job : Asked) (ds cs : List (List ℕ)) (g : File) (why : Why) (c : List ℕ) → TakesAll (MayBe seen) job ds
+    → Reaches (Are seen) job cs g → seen g.name ≡ Some c → g.refusal c ≡ Some why → ⊥
+done_not_refused seen job ds cs g why c all r is refusal = by_length (meets (length cs) (length ds)) where
   by_length : Meets (length cs) (length ds) → ⊥
   by_length (less lt) =
-      let t = may_further told job cs ds r.takes all.takes lt in
-      not_refused told g t.0 why c t.2.0 (same_Some g t.0 (sym r.next ∙ t.1)) is refusal t.2.1 t.2.2
+      let t = may_further seen job cs ds r.takes all.takes lt in
+      not_refused seen g t.0 why c t.2.0 (same_Some g t.0 (sym r.next ∙ t.1)) is refusal t.2.1 t.2.2
   by_length (more lt) =
-      let t = told_further told job cs ds r.takes all.takes lt in
+      let t = seen_further seen job cs ds r.takes all.takes lt in
       no_file (files_by job ds) (length ds) t.0 all.all t.1
   by_length (same e) =
-      let files = same_files told job cs ds r.takes all.takes (length cs) (omega arith) (omega arith) in
+      let files = same_files seen job cs ds r.takes all.takes (length cs) (omega arith) (omega arith) in
       no_file (files_by job ds) (length cs) g (all.all ∙ sym e) (sym files ∙ r.next)
 
-all_same : (told : List ℕ → Option (List ℕ)) (job : Asked) (cs ds : List (List ℕ)) (u v : Verdict) → TakesAll (Are told) job cs → TakesAll (MayBe told) job ds → Does job cs u → Does job ds v → v ≡ u
-all_same told job cs ds u v are may p q = by_length (meets (length cs) (length ds)) where
+all_same : (seen : List ℕ → Option (List ℕ)) (job : Asked) (cs ds : List (List ℕ)) (u v : Verdict) → TakesAll (Are seen) job cs → TakesAll (MayBe seen) job ds → Does job cs u → Does job ds v → v ≡ u
+all_same seen job cs ds u v are may p q = by_length (meets (length cs) (length ds)) where
   by_length : Meets (length cs) (length ds) → v ≡ u
   by_length (less lt) =
-      let t = may_further told job cs ds are.takes may.takes lt in
+      let t = may_further seen job cs ds are.takes may.takes lt in
       absurd (no_file (files_by job cs) (length cs) t.0 are.all t.1)
   by_length (more lt) =
-      let t = told_further told job cs ds are.takes may.takes lt in
+      let t = seen_further seen job cs ds are.takes may.takes lt in
       absurd (no_file (files_by job ds) (length ds) t.0 may.all t.1)
   by_length (same e) =
-      let contents = same_contents told job cs ds are.takes may.takes e in
+      let contents = same_contents seen job cs ds are.takes may.takes e in
       same_done job ds v u q (subst (λ (xs : List (List ℕ)). Does job xs u) contents p)
 
 -- ## the verdict
@@ -234,16 +234,16 @@ abbrev CannotRead : Asked → FilesSeen → FilesSeen → Verdict → Type 0
 CannotRead job before after v = (f : File) × IsUnread job before after f × (v ≡ unread f.name)
 
 on_refusal : (job : Asked) (before after : FilesSeen) (v u : Verdict) (cs : List (List ℕ)) (g : File) (c : List ℕ) (why : Why) → Reason job before after v
-    → Reaches (Are before.told) job cs g → before.told g.name ≡ Some c → g.refusal c ≡ Some why → u ≡ refused g.name why → (v ≡ u) ⊎ CannotRead job before after v
+    → Reaches (Are before.contents) job cs g → before.contents g.name ≡ Some c → g.refusal c ≡ Some why → u ≡ refused g.name why → (v ≡ u) ⊎ CannotRead job before after v
 on_refusal job before after v u cs g c why (cannot_read f h e) r is refusal d = inr (f, h, e)
-on_refusal job before after v u cs g c why (refuses f why' h e) r is refusal d = inl (e ∙ same_refusal before.told job f g why' why cs c h r is refusal ∙ sym d)
-on_refusal job before after v u cs g c why (does ds all p) r is refusal d = absurd (done_not_refused before.told job ds cs g why c all r is refusal)
+on_refusal job before after v u cs g c why (refuses f why' h e) r is refusal d = inl (e ∙ same_refusal before.contents job f g why' why cs c h r is refusal ∙ sym d)
+on_refusal job before after v u cs g c why (does ds all p) r is refusal d = absurd (done_not_refused before.contents job ds cs g why c all r is refusal)
 
 on_done : (job : Asked) (before after : FilesSeen) (v u : Verdict) (cs : List (List ℕ)) → Reason job before after v
-    → TakesAll (Are before.told) job cs → Does job cs u → (v ≡ u) ⊎ CannotRead job before after v
+    → TakesAll (Are before.contents) job cs → Does job cs u → (v ≡ u) ⊎ CannotRead job before after v
 on_done job before after v u cs (cannot_read f h e) all p = inr (f, h, e)
-on_done job before after v u cs (refuses f why h e) all p = absurd (refused_not_done before.told job f why cs h all)
-on_done job before after v u cs (does ds may q) all p = inl (all_same before.told job cs ds u v all may p q)
+on_done job before after v u cs (refuses f why h e) all p = absurd (refused_not_done before.contents job f why cs h all)
+on_done job before after v u cs (does ds may q) all p = inl (all_same before.contents job cs ds u v all may p q)
 
 pub no_job_in : (words : List (List ℕ)) → is_taken words ≡ false → job_in words ≡ None
 no_job_in words e = ap (λ (b : Bool). cond b (job_of words) None) e
@@ -251,20 +251,20 @@ no_job_in words e = ap (λ (b : Bool). cond b (job_of words) None) e
 pub no_job_of : (words : List (List ℕ)) (job : Asked) → is_taken words ≡ false → job_in words ≡ Some job → ⊥
 no_job_of words job e d = let none : None ≡ Some job = sym (no_job_in words e) ∙ d in absurd (cc)
 
-on_job : (words : List (List ℕ)) (job : Asked) (before after : FilesSeen) (v u : Verdict) → job_in words ≡ Some job → Reason job before after v → IsVerdict words before.told u
+on_job : (words : List (List ℕ)) (job : Asked) (before after : FilesSeen) (v u : Verdict) → job_in words ≡ Some job → Reason job before after v → IsVerdict words before.contents u
     → (v ≡ u) ⊎ CannotRead job before after v
 on_job words job before after v u is why (verdict.no_job none e) = absurd (no_job_of words job none is)
 on_job words job before after v u is why (verdict.refuses job' cs g c reason is' r held refusal e) =
     let alike : job' ≡ job = same_Some job' job (sym is' ∙ is) in
-    on_refusal job before after v u cs g c reason why (subst (λ (j : Asked). Reaches (Are before.told) j cs g) alike r) held refusal e
+    on_refusal job before after v u cs g c reason why (subst (λ (j : Asked). Reaches (Are before.contents) j cs g) alike r) held refusal e
 on_job words job before after v u is why (verdict.does job' cs is' all p) =
     let alike : job' ≡ job = same_Some job' job (sym is' ∙ is) in
-    on_done job before after v u cs why (subst (λ (j : Asked). TakesAll (Are before.told) j cs) alike all) (subst (λ (j : Asked). Does j cs u) alike p)
+    on_done job before after v u cs why (subst (λ (j : Asked). TakesAll (Are before.contents) j cs) alike all) (subst (λ (j : Asked). Does j cs u) alike p)
 
-on_no_job : (words : List (List ℕ)) (told : List ℕ → Option (List ℕ)) (v u : Verdict) → is_taken words ≡ false → v ≡ usage → IsVerdict words told u → v ≡ u
-on_no_job words told v u none e (verdict.no_job none' d) = e ∙ sym d
-on_no_job words told v u none e (verdict.refuses job cs g c reason is r held refusal d) = absurd (no_job_of words job none is)
-on_no_job words told v u none e (verdict.does job cs is all p) = absurd (no_job_of words job none is)
+on_no_job : (words : List (List ℕ)) (seen : List ℕ → Option (List ℕ)) (v u : Verdict) → is_taken words ≡ false → v ≡ usage → IsVerdict words seen u → v ≡ u
+on_no_job words seen v u none e (verdict.no_job none' d) = e ∙ sym d
+on_no_job words seen v u none e (verdict.refuses job cs g c reason is r held refusal d) = absurd (no_job_of words job none is)
+on_no_job words seen v u none e (verdict.does job cs is all p) = absurd (no_job_of words job none is)
 
 -- a verdict that was told is the one verdict, or that a file cannot be read
 pub data Decided (words : List (List ℕ)) (before after : FilesSeen) (v u : Verdict) : Type 0 where
@@ -275,6 +275,6 @@ by_reason : (words : List (List ℕ)) (job : Asked) (before after : FilesSeen) (
 by_reason words job before after v u is (inl e) = agreed e
 by_reason words job before after v u is (inr h) = not_read job h.0 is h.1 h.2
 
-pub decided : (words : List (List ℕ)) (before after : FilesSeen) (v u : Verdict) → Ground words before after v → IsVerdict words before.told u → Decided words before after v u
-decided words before after v u (no_job none e) is = agreed (on_no_job words before.told v u none e is)
+pub decided : (words : List (List ℕ)) (before after : FilesSeen) (v u : Verdict) → Ground words before after v → IsVerdict words before.contents u → Decided words before after v u
+decided words before after v u (no_job none e) is = agreed (on_no_job words before.contents v u none e is)
 decided words before after v u (of_job job at why) is = by_reason words job before after v u at (on_job words job before after v u at why is)

@@ -9,32 +9,32 @@ use Rattle.trace_cli.specs.Verdict.{Verdict, IsVerdict}
 use Rattle.trace_cli.specs.Answer.{refuses, does, Ground, no_job, of_job}
 use Rattle.trace_cli.proofs.Deciding.{Decided, agreed, not_read, decided}
 
--- what is told may be
-held_may : (told : List ℕ → Option (List ℕ)) (name bytes : List ℕ) → Are told name bytes → MayBe told name bytes
-held_may told name bytes is = λ all at. same_Some bytes all (sym is ∙ at)
+-- what is seen may be
+held_may : (seen : List ℕ → Option (List ℕ)) (name bytes : List ℕ) → Are seen name bytes → MayBe seen name bytes
+held_may seen name bytes is = λ all at. same_Some bytes all (sym is ∙ at)
 
-takes_may : (told : List ℕ → Option (List ℕ)) (files : List File) (cs : List (List ℕ)) → Takes (Are told) files cs → Takes (MayBe told) files cs
-takes_may told files cs takes = λ k bytes e. let t = takes k bytes e in (t.0, t.1, held_may told t.0.name bytes t.2, t.3)
+takes_may : (seen : List ℕ → Option (List ℕ)) (files : List File) (cs : List (List ℕ)) → Takes (Are seen) files cs → Takes (MayBe seen) files cs
+takes_may seen files cs takes = λ k bytes e. let t = takes k bytes e in (t.0, t.1, held_may seen t.0.name bytes t.2, t.3)
 
 -- files of which no call has failed
 abbrev seen : (List ℕ → Option (List ℕ)) → FilesSeen
-seen told = record { told = told; read_faults = 0; put_faults = 0; given = 0; last_failing = None }
+seen seen = record { seen = seen; read_faults = 0; put_faults = 0; given = 0; last_failing = None }
 
-grounded : (words : List (List ℕ)) (told : List ℕ → Option (List ℕ)) (v : Verdict) → IsVerdict words told v → Ground words (seen told) (seen told) v
-grounded words told v (verdict.no_job none e) = no_job none e
-grounded words told v (verdict.refuses job cs f c why at r held refusal e) = of_job job at (refuses f why (record {
+grounded : (words : List (List ℕ)) (seen : List ℕ → Option (List ℕ)) (v : Verdict) → IsVerdict words seen v → Ground words (seen seen) (seen seen) v
+grounded words seen v (verdict.no_job none e) = no_job none e
+grounded words seen v (verdict.refuses job cs f c why at r held refusal e) = of_job job at (refuses f why (record {
   contents = cs;
-  reached = record { takes = takes_may told _ cs r.takes; next = r.next };
-  refused = record { bytes = c; held = held_may told f.name c held; refused = refusal };
+  reached = record { takes = takes_may seen _ cs r.takes; next = r.next };
+  refused = record { bytes = c; held = held_may seen f.name c held; refused = refusal };
 }) e)
-grounded words told v (verdict.does job cs at all p) = of_job job at (does cs (record { takes = takes_may told _ cs all.takes; all = all.all }) p)
+grounded words seen v (verdict.does job cs at all p) = of_job job at (does cs (record { takes = takes_may seen _ cs all.takes; all = all.all }) p)
 
 none_rose : Rose 0 0 → ⊥
 none_rose rose = absurd (omega arith)
 
-when_decided : (words : List (List ℕ)) (told : List ℕ → Option (List ℕ)) (u v : Verdict) → Decided words (seen told) (seen told) u v → u ≡ v
-when_decided words told u v (agreed e) = e
-when_decided words told u v (not_read job f at h e) = absurd (none_rose h.rose)
+when_decided : (words : List (List ℕ)) (seen : List ℕ → Option (List ℕ)) (u v : Verdict) → Decided words (seen seen) (seen seen) u v → u ≡ v
+when_decided words seen u v (agreed e) = e
+when_decided words seen u v (not_read job f at h e) = absurd (none_rose h.rose)
 
-pub one_verdict : (words : List (List ℕ)) (told : List ℕ → Option (List ℕ)) (u v : Verdict) → IsVerdict words told u → IsVerdict words told v → u ≡ v
-one_verdict words told u v p q = when_decided words told u v (decided words (seen told) (seen told) u v (grounded words told u p) q)
+pub one_verdict : (words : List (List ℕ)) (seen : List ℕ → Option (List ℕ)) (u v : Verdict) → IsVerdict words seen u → IsVerdict words seen v → u ≡ v
+one_verdict words seen u v p q = when_decided words seen u v (decided words (seen seen) (seen seen) u v (grounded words seen u p) q)

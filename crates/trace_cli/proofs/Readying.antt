@@ -18,7 +18,7 @@ use Rattle.trace_cli.specs.Sources.{File, image_file, script_file, files_to_buil
 use Rattle.trace_cli.specs.Stops.{HaltsAt}
 use Rattle.trace_cli.specs.Building.{IsImage, HaltsInApp}
 use Rattle.trace_cli.specs.Ready.{IsImageFile, IsSet, IsReady, Halts}
-use Rattle.trace_cli.specs.Told.{Pushed, whole, cut, Says, pushed, silent, IsSilent, SaysHalt}
+use Rattle.trace_cli.specs.Pushed.{Pushed, whole, cut, Says, pushed, silent, IsSilent, SaysHalt}
 use Rattle.trace_cli.specs.Verdict.{Verdict, runs, lists, builds, refused, unread, ran, listed, built}
 use Rattle.trace_cli.specs.Answer as answer
 use Rattle.trace_cli.specs.Answer.{Reason, cannot_read, refuses, does, IsShort, HasPut, HasSpoiled, Tells, AnswersJob}
@@ -28,16 +28,16 @@ use Rattle.trace_cli.proofs.Taking.{as_many_sources}
 
 -- ## `run`
 
-one_file : (told : List ℕ → Option (List ℕ)) (name : List ℕ) (image : Picture) (more : List File) (h : IsImageFile told name image) → Takes (MayBe told) (image_file name ∷ more) (h.bytes ∷ [])
-one_file told name image more h = takes_first (MayBe told) (image_file name) more h.bytes [] h.held h.accepted (takes_none (MayBe told) more)
+one_file : (seen : List ℕ → Option (List ℕ)) (name : List ℕ) (image : Picture) (more : List File) (h : IsImageFile seen name image) → Takes (MayBe seen) (image_file name ∷ more) (h.bytes ∷ [])
+one_file seen name image more h = takes_first (MayBe seen) (image_file name) more h.bytes [] h.held h.accepted (takes_none (MayBe seen) more)
 
-pub run_ready : (told : List ℕ → Option (List ℕ)) (image script : List ℕ) (n : ℕ) (detail : Detail) (picture : Picture) (b : Board) → IsImageFile told image picture → IsSet told picture script b
-    → IsReady (run image script n detail) told n detail b
-run_ready told image script n detail picture b i s = record {
+pub run_ready : (seen : List ℕ → Option (List ℕ)) (image script : List ℕ) (n : ℕ) (detail : Detail) (picture : Picture) (b : Board) → IsImageFile seen image picture → IsSet seen picture script b
+    → IsReady (run image script n detail) seen n detail b
+run_ready seen image script n detail picture b i s = record {
   contents = i.bytes ∷ s.script ∷ [];
   accepted = record {
-    takes = takes_first (MayBe told) (image_file image) (script_file script ∷ []) i.bytes (s.script ∷ []) i.held i.accepted
-        (takes_first (MayBe told) (script_file script) [] s.script [] s.held s.accepted (takes_none (MayBe told) []));
+    takes = takes_first (MayBe seen) (image_file image) (script_file script ∷ []) i.bytes (s.script ∷ []) i.held i.accepted
+        (takes_first (MayBe seen) (script_file script) [] s.script [] s.held s.accepted (takes_none (MayBe seen) []));
     all = refl;
   };
   scenario = scenario_of picture s.script;
@@ -49,18 +49,18 @@ run_ready told image script n detail picture b i s = record {
 pub run_image_halts : (a c : FilesSeen) (image script : List ℕ) (n : ℕ) (detail : Detail) (h : Halt) → HaltsAt a c (image_file image) h → Halts (run image script n detail) a c h
 run_image_halts a c image script n detail h halts = record {
   contents = [];
-  at = record { takes = takes_none (MayBe a.told) (image_file image ∷ script_file script ∷ []); file = image_file image; next = refl; halts = halts };
+  at = record { takes = takes_none (MayBe a.contents) (image_file image ∷ script_file script ∷ []); file = image_file image; next = refl; halts = halts };
 }
 
-pub run_script_halts : (a b c : FilesSeen) (image script : List ℕ) (n : ℕ) (detail : Detail) (picture : Picture) (h : Halt) → IsImageFile a.told image picture → b.told ≡ a.told
+pub run_script_halts : (a b c : FilesSeen) (image script : List ℕ) (n : ℕ) (detail : Detail) (picture : Picture) (h : Halt) → IsImageFile a.contents image picture → b.contents ≡ a.contents
     → a.read_faults ≤ b.read_faults → HaltsAt b c (script_file script) h → Halts (run image script n detail) a c h
-run_script_halts a b c image script n detail picture h i told later halts = record {
+run_script_halts a b c image script n detail picture h i seen later halts = record {
   contents = i.bytes ∷ [];
   at = record {
-    takes = one_file a.told image picture (script_file script ∷ []) i;
+    takes = one_file a.contents image picture (script_file script ∷ []) i;
     file = script_file script;
     next = refl;
-    halts = halts_earlier a b c (script_file script) h told later halts;
+    halts = halts_earlier a b c (script_file script) h seen later halts;
   };
 }
 
@@ -69,15 +69,15 @@ run_script_halts a b c image script n detail picture h i told later halts = reco
 pub list_halts : (a c : FilesSeen) (image : List ℕ) (h : Halt) → HaltsAt a c (image_file image) h → Halts (list image) a c h
 list_halts a c image h halts = record {
   contents = [];
-  at = record { takes = takes_none (MayBe a.told) (image_file image ∷ []); file = image_file image; next = refl; halts = halts };
+  at = record { takes = takes_none (MayBe a.contents) (image_file image ∷ []); file = image_file image; next = refl; halts = halts };
 }
 
-pub list_reason : (a b : FilesSeen) (image : List ℕ) (picture : Picture) → IsImageFile a.told image picture → Reason (list image) a b (listed picture)
-list_reason a b image picture i = does (i.bytes ∷ []) (record { takes = one_file a.told image picture [] i; all = refl }) (lists picture i.is refl)
+pub list_reason : (a b : FilesSeen) (image : List ℕ) (picture : Picture) → IsImageFile a.contents image picture → Reason (list image) a b (listed picture)
+list_reason a b image picture i = does (i.bytes ∷ []) (record { takes = one_file a.contents image picture [] i; all = refl }) (lists picture i.is refl)
 
 -- ## `build`
 
-pub build_reason : (a b : FilesSeen) (app out : List ℕ) (picture : Picture) → IsImage a.told app picture → Reason (build app out) a b (built out picture)
+pub build_reason : (a b : FilesSeen) (app out : List ℕ) (picture : Picture) → IsImage a.contents app picture → Reason (build app out) a b (built out picture)
 build_reason a b app out picture i =
     does (i.bytes ∷ i.sources) (record { takes = i.each.takes; all = i.each.all }) (builds out picture (refl, i.is) refl)
 
@@ -104,16 +104,16 @@ go_image bytes sources script picture count h =
 pub go_script : (bytes : List ℕ) (sources : List (List ℕ)) (script : List ℕ) → length (application_of bytes).tasks ≡ length sources → script_in (bytes ∷ (sources ++ script ∷ [])) ≡ script
 go_script bytes sources script count = ap (λ n. get_or (sources ++ script ∷ []) n []) count ∙ at_end sources script []
 
-pub go_ready : (told : List ℕ → Option (List ℕ)) (app script : List ℕ) (n : ℕ) (detail : Detail) (picture : Picture) (b : Board) → IsImage told app picture → IsSet told picture script b
-    → IsReady (go app script n detail) told n detail b
-go_ready told app script n detail picture b i s =
+pub go_ready : (seen : List ℕ → Option (List ℕ)) (app script : List ℕ) (n : ℕ) (detail : Detail) (picture : Picture) (b : Board) → IsImage seen app picture → IsSet seen picture script b
+    → IsReady (go app script n detail) seen n detail b
+go_ready seen app script n detail picture b i s =
     let files = files_to_build app i.bytes in
     let count : length (application_of i.bytes).tasks ≡ length i.sources = (let all = i.each.all in let many = as_many_sources (application_of i.bytes) in omega arith) in
     record {
       contents = i.bytes ∷ (i.sources ++ s.script ∷ []);
       accepted = record {
-        takes = takes_last (MayBe told) (files ++ script_file script ∷ []) (i.bytes ∷ i.sources) (script_file script) s.script
-            (takes_wider (MayBe told) files (script_file script ∷ []) (i.bytes ∷ i.sources) i.each.takes)
+        takes = takes_last (MayBe seen) (files ++ script_file script ∷ []) (i.bytes ∷ i.sources) (script_file script) s.script
+            (takes_wider (MayBe seen) files (script_file script ∷ []) (i.bytes ∷ i.sources) i.each.takes)
             (files_then files (script_file script) (length (i.bytes ∷ i.sources)) i.each.all) s.held s.accepted;
         all = longer files (script_file script) ∙ ap suc i.each.all ∙ sym (longer (i.bytes ∷ i.sources) s.script);
       };
@@ -129,47 +129,47 @@ go_app_halts a c app script n detail h i =
     record {
       contents = i.contents;
       at = record {
-        takes = takes_wider (MayBe a.told) files (script_file script ∷ []) i.contents i.at.takes;
+        takes = takes_wider (MayBe a.contents) files (script_file script ∷ []) i.contents i.at.takes;
         file = i.at.file;
         next = get_more files (script_file script ∷ []) (length i.contents) i.at.file i.at.next;
         halts = i.at.halts;
       };
     }
 
-pub go_script_halts : (a b c : FilesSeen) (app script : List ℕ) (n : ℕ) (detail : Detail) (picture : Picture) (h : Halt) → IsImage a.told app picture → b.told ≡ a.told
+pub go_script_halts : (a b c : FilesSeen) (app script : List ℕ) (n : ℕ) (detail : Detail) (picture : Picture) (h : Halt) → IsImage a.contents app picture → b.contents ≡ a.contents
     → a.read_faults ≤ b.read_faults → HaltsAt b c (script_file script) h → Halts (go app script n detail) a c h
-go_script_halts a b c app script n detail picture h i told later halts =
+go_script_halts a b c app script n detail picture h i seen later halts =
     let files = files_to_build app i.bytes in
     record {
       contents = i.bytes ∷ i.sources;
       at = record {
-        takes = takes_wider (MayBe a.told) files (script_file script ∷ []) (i.bytes ∷ i.sources) i.each.takes;
+        takes = takes_wider (MayBe a.contents) files (script_file script ∷ []) (i.bytes ∷ i.sources) i.each.takes;
         file = script_file script;
         next = files_then files (script_file script) (length (i.bytes ∷ i.sources)) i.each.all;
-        halts = halts_earlier a b c (script_file script) h told later halts;
+        halts = halts_earlier a b c (script_file script) h seen later halts;
       };
     }
 
 -- ## the answer
 
-silent_short : (a b : FilesSeen) (w w' : SinkSeen) (r : ℕ) → b.told ≡ a.told → IsSilent w w' r → IsShort a b w w' r
+silent_short : (a b : FilesSeen) (w w' : SinkSeen) (r : ℕ) → b.contents ≡ a.contents → IsSilent w w' r → IsShort a b w w' r
 silent_short a b w w' r same s = record { status = s.status; written = s.written; faults = s.faults; files = same }
 
-put_nothing : (a b : FilesSeen) (v : Verdict) → b.told ≡ a.told → v.put ≡ None → HasPut a.told b.told v.put
-put_nothing a b v same none = let P : Option (List ℕ × List ℕ) → Type 0 = HasPut a.told b.told in subst P (sym none) same
+put_nothing : (a b : FilesSeen) (v : Verdict) → b.contents ≡ a.contents → v.put ≡ None → HasPut a.contents b.contents v.put
+put_nothing a b v same none = let P : Option (List ℕ × List ℕ) → Type 0 = HasPut a.contents b.contents in subst P (sym none) same
 
-pub tells_pushed : (a b : FilesSeen) (w w' : SinkSeen) (v : Verdict) (r : ℕ) → HasPut a.told b.told v.put → Pushed w w' v r → Tells a b w w' v r
+pub tells_pushed : (a b : FilesSeen) (w w' : SinkSeen) (v : Verdict) (r : ℕ) → HasPut a.contents b.contents v.put → Pushed w w' v r → Tells a b w w' v r
 tells_pushed a b w w' v r put (whole is text) = answer.whole is put text
 tells_pushed a b w w' v r put (cut is rose front) = answer.cut is rose put front
 
-pub answers_pushed : (job : Asked) (a b : FilesSeen) (w w' : SinkSeen) (v : Verdict) (r : ℕ) → b.told ≡ a.told → v.put ≡ None → Reason job a b v → Pushed w w' v r → AnswersJob job a b w w' r
+pub answers_pushed : (job : Asked) (a b : FilesSeen) (w w' : SinkSeen) (v : Verdict) (r : ℕ) → b.contents ≡ a.contents → v.put ≡ None → Reason job a b v → Pushed w w' v r → AnswersJob job a b w w' r
 answers_pushed job a b w w' v r same none why p = inr (v, why, tells_pushed a b w w' v r (put_nothing a b v same none) p)
 
-pub answers_said : (job : Asked) (a b : FilesSeen) (w w' : SinkSeen) (v : Verdict) (r : ℕ) → b.told ≡ a.told → v.put ≡ None → Reason job a b v → Says w w' v r → AnswersJob job a b w w' r
+pub answers_said : (job : Asked) (a b : FilesSeen) (w w' : SinkSeen) (v : Verdict) (r : ℕ) → b.contents ≡ a.contents → v.put ≡ None → Reason job a b v → Says w w' v r → AnswersJob job a b w w' r
 answers_said job a b w w' v r same none why (pushed p) = answers_pushed job a b w w' v r same none why p
 answers_said job a b w w' v r same none why (silent s) = inl (silent_short a b w w' r same s)
 
-pub answers_halt : (job : Asked) (a b : FilesSeen) (w w' : SinkSeen) (h : Halt) (r : ℕ) → b.told ≡ a.told → Halts job a b h → SaysHalt w w' h r → AnswersJob job a b w w' r
+pub answers_halt : (job : Asked) (a b : FilesSeen) (w w' : SinkSeen) (h : Halt) (r : ℕ) → b.contents ≡ a.contents → Halts job a b h → SaysHalt w w' h r → AnswersJob job a b w w' r
 answers_halt job a b w w' halts.Memory r same h s = inl (silent_short a b w w' r same s)
 answers_halt job a b w w' (halts.CannotRead name) r same h s =
     let at = h.at.halts in
@@ -183,27 +183,27 @@ answers_halt job a b w w' (halts.Refused name cause place) r same h s =
     let why = refuses file reason (record { contents = h.contents; reached = record { takes = h.at.takes; next = h.at.next }; refused = at.1 }) (ap (λ (n : List ℕ). refused n reason) at.0) in
     answers_said job a b w w' (refused (string_bytes name) reason) r same refl why s
 
-pub answers_run : (job : Asked) (a b : FilesSeen) (w w' : SinkSeen) (n : ℕ) (detail : Detail) (bd : Board) (r : ℕ) → b.told ≡ a.told → IsReady job a.told n detail bd
+pub answers_run : (job : Asked) (a b : FilesSeen) (w w' : SinkSeen) (n : ℕ) (detail : Detail) (bd : Board) (r : ℕ) → b.contents ≡ a.contents → IsReady job a.contents n detail bd
     → ((x : Scenario) → Stands x bd (start x.setup) → Pushed w w' (ran n detail x) r) → AnswersJob job a b w w' r
 answers_run job a b w w' n detail bd r same ready tells =
     answers_pushed job a b w w' (ran n detail ready.scenario) r same refl (does ready.contents ready.accepted (runs n detail ready.scenario ready.is refl)) (tells ready.scenario ready.stands)
 
-pub ready_stood : (job : Asked) (told : List ℕ → Option (List ℕ)) (n : ℕ) (detail : Detail) (bd : Board) → IsReady job told n detail bd → Stood bd × (turns_of bd ≡ 0)
-ready_stood job told n detail bd h = ((h.scenario, start h.scenario.setup, h.stands), h.turns)
+pub ready_stood : (job : Asked) (seen : List ℕ → Option (List ℕ)) (n : ℕ) (detail : Detail) (bd : Board) → IsReady job seen n detail bd → Stood bd × (turns_of bd ≡ 0)
+ready_stood job seen n detail bd h = ((h.scenario, start h.scenario.setup, h.stands), h.turns)
 
 -- ## what an image is put under
 
-earlier_puts : (a b c : FilesSeen) (v : Verdict) → b.told ≡ a.told → HasPut b.told c.told v.put → HasPut a.told c.told v.put
-earlier_puts a b c v same p = subst (λ (t : List ℕ → Option (List ℕ)). HasPut t c.told v.put) same p
+earlier_puts : (a b c : FilesSeen) (v : Verdict) → b.contents ≡ a.contents → HasPut b.contents c.contents v.put → HasPut a.contents c.contents v.put
+earlier_puts a b c v same p = subst (λ (t : List ℕ → Option (List ℕ)). HasPut t c.contents v.put) same p
 
-tells_earlier : (a b c : FilesSeen) (w w' : SinkSeen) (v : Verdict) (r : ℕ) → b.told ≡ a.told → b.put_faults ≡ a.put_faults → Tells b c w w' v r → Tells a c w w' v r
+tells_earlier : (a b c : FilesSeen) (w w' : SinkSeen) (v : Verdict) (r : ℕ) → b.contents ≡ a.contents → b.put_faults ≡ a.put_faults → Tells b c w w' v r → Tells a c w w' v r
 tells_earlier a b c w w' v r same puts (answer.whole is put text) = answer.whole is (earlier_puts a b c v same put) text
 tells_earlier a b c w w' v r same puts (answer.cut is rose put front) = answer.cut is rose (earlier_puts a b c v same put) front
 tells_earlier a b c w w' v r same puts (answer.spoiled is rose left none) =
-    answer.spoiled is (subst (λ (n : ℕ). Rose n c.put_faults) puts rose) (subst (λ (t : List ℕ → Option (List ℕ)). HasSpoiled t c.told v.put) same left) none
+    answer.spoiled is (subst (λ (n : ℕ). Rose n c.put_faults) puts rose) (subst (λ (t : List ℕ → Option (List ℕ)). HasSpoiled t c.contents v.put) same left) none
 tells_earlier a b c w w' v r same puts (answer.short s) =
     answer.short (record { status = s.status; written = s.written; faults = s.faults; files = s.files ∙ same })
 
-pub answers_built : (a b c : FilesSeen) (w w' : SinkSeen) (app out : List ℕ) (image : Picture) (r : ℕ) → b.told ≡ a.told → b.put_faults ≡ a.put_faults → IsImage a.told app image
+pub answers_built : (a b c : FilesSeen) (w w' : SinkSeen) (app out : List ℕ) (image : Picture) (r : ℕ) → b.contents ≡ a.contents → b.put_faults ≡ a.put_faults → IsImage a.contents app image
     → Tells b c w w' (built out image) r → AnswersJob (build app out) a c w w' r
 answers_built a b c w w' app out image r same puts i t = inr (built out image, build_reason a c app out image i, tells_earlier a b c w w' (built out image) r same puts t)

@@ -54,15 +54,15 @@ app_by_room bytes app le is = short bytes _ le ∙ ap (λ r. or_later (fault_in 
 pub lacks_flash : (app : AppData) (needed : ℕ) → LacksRoom app (fault.Flash needed) → room_refusal app ≡ Some (21, codes "flash:" ++ decimal needed)
 lacks_flash app needed h =
     let lacks : ltb app.flash (flash_needed app) ≡ true = let lt = h.0 in grind (arith, nat_tests) in
-    let told : List ℕ → Option Why = λ p. Some (21, codes "flash:" ++ p) in
-    rw lacks (ap (λ n. told (decimal n)) (sym h.1))
+    let seen : List ℕ → Option Why = λ p. Some (21, codes "flash:" ++ p) in
+    rw lacks (ap (λ n. seen (decimal n)) (sym h.1))
 
 pub lacks_ram : (app : AppData) (needed : ℕ) → LacksRoom app (fault.Ram needed) → room_refusal app ≡ Some (21, codes "ram:" ++ decimal needed)
 lacks_ram app needed h =
     let flash : ltb app.flash (flash_needed app) ≡ false = let le = h.0 in grind (arith, nat_tests) in
     let ram : ltb app.ram (ram_needed app) ≡ true = let lt = h.1 in grind (arith, nat_tests) in
-    let told : List ℕ → Option Why = λ p. Some (21, codes "ram:" ++ p) in
-    rw (flash, ram) (ap (λ n. told (decimal n)) (sym h.2))
+    let seen : List ℕ → Option Why = λ p. Some (21, codes "ram:" ++ p) in
+    rw (flash, ram) (ap (λ n. seen (decimal n)) (sym h.2))
 
 pub has_room : (app : AppData) → HasRoom app → room_refusal app ≡ None
 has_room app h =

@@ -2,7 +2,7 @@
 use Rattle.std.proofs.Common.{◌≡◌, ◌≢◌, ℕ, suc, List, [], ◌∷◌, ◌++◌, length, Option, Some, None, refl, sym, ap, subst, ◌∙◌, arith}
 use Rattle.std.specs.Prelude.{slice_get}
 use Rattle.std.proofs.lemmas.Option.{same_Some}
-use Rattle.outside_io.specs.Outside.{WhereTold}
+use Rattle.outside_io.specs.Outside.{WhereSeen}
 use Rattle.image_format.specs.Picture.{Picture, spelling}
 use Rattle.command_line.specs.CommandLine.{Asked, build, run, go, sample}
 use Rattle.command_line.specs.declared.job.Detail.{Detail}
@@ -20,23 +20,23 @@ use Rattle.trace_cli.proofs.Spelling.{spelling_taken}
 
 -- ## what was built
 
--- the files of an application are told and accepted, and this is the image that is built of them
-record HasImage (told : List ℕ → Option (List ℕ)) (app : List ℕ) (image : Picture) : Type 0 where
+-- the files of an application are seen and accepted, and this is the image that is built of them
+record HasImage (seen : List ℕ → Option (List ℕ)) (app : List ℕ) (image : Picture) : Type 0 where
   bytes : List ℕ
   sources : List (List ℕ)
-  takes : Takes (Are told) (files_to_build app bytes) (bytes ∷ sources)
+  takes : Takes (Are seen) (files_to_build app bytes) (bytes ∷ sources)
   all : length (files_to_build app bytes) ≡ length (bytes ∷ sources)
   is : IsBuilt (bytes ∷ sources) image
 
 -- and it was put under a name
-record IsMade (told : List ℕ → Option (List ℕ)) (app out : List ℕ) (b : Verdict) : Type 0 where
+record IsMade (seen : List ℕ → Option (List ℕ)) (app out : List ℕ) (b : Verdict) : Type 0 where
   image : Picture
-  has : HasImage told app image
+  has : HasImage seen app image
   put : b.put ≡ Some (out, spelling image)
 
-has_image : (told : List ℕ → Option (List ℕ)) (app out : List ℕ) (cs : List (List ℕ)) (image : Picture) → TakesAll (Are told) (build app out) cs → IsBuilt cs image → HasImage told app image
-has_image told app out [] image all is = let none = all.all in absurd (omega arith)
-has_image told app out (c ∷ cs) image all is = record { bytes = c; sources = cs; takes = all.takes; all = all.all; is = is }
+has_image : (seen : List ℕ → Option (List ℕ)) (app out : List ℕ) (cs : List (List ℕ)) (image : Picture) → TakesAll (Are seen) (build app out) cs → IsBuilt cs image → HasImage seen app image
+has_image seen app out [] image all is = let none = all.all in absurd (omega arith)
+has_image seen app out (c ∷ cs) image all is = record { bytes = c; sources = cs; takes = all.takes; all = all.all; is = is }
 
 -- another command is no sample
 no_sample : (app out : List ℕ) (s n : ℕ) → build app out ≡ sample s n → ⊥
@@ -45,89 +45,89 @@ no_sample app out s n e = cc
 no_sample_run : (image script : List ℕ) (n : ℕ) (detail : Detail) (s k : ℕ) → run image script n detail ≡ sample s k → ⊥
 no_sample_run image script n detail s k e = cc
 
-made_by : (told : List ℕ → Option (List ℕ)) (app out : List ℕ) (cs : List (List ℕ)) (b : Verdict) → TakesAll (Are told) (build app out) cs → Does (build app out) cs b → IsMade told app out b
-made_by told app out cs b all (runs n m x is e) = absurd is
-made_by told app out cs b all (lists i is e) = absurd is
-made_by told app out cs b all (samples s n x is e) = absurd (no_sample app out s n is.is)
-made_by told app out cs b all (builds o i is e) = record {
+made_by : (seen : List ℕ → Option (List ℕ)) (app out : List ℕ) (cs : List (List ℕ)) (b : Verdict) → TakesAll (Are seen) (build app out) cs → Does (build app out) cs b → IsMade seen app out b
+made_by seen app out cs b all (runs n m x is e) = absurd is
+made_by seen app out cs b all (lists i is e) = absurd is
+made_by seen app out cs b all (samples s n x is e) = absurd (no_sample app out s n is.is)
+made_by seen app out cs b all (builds o i is e) = record {
   image = i;
-  has = has_image told app out cs i all is.1;
+  has = has_image seen app out cs i all is.1;
   put = ap (λ (u : Verdict). u.put) e ∙ ap (λ (name : List ℕ). Some (name, spelling i)) is.0;
 }
 
-made : (words : List (List ℕ)) (told : List ℕ → Option (List ℕ)) (app out : List ℕ) (b : Verdict) → job_in words ≡ Some (build app out) → IsVerdict words told b → b.status ≡ 0 → IsMade told app out b
-made words told app out b at (no_job none e) zero = absurd (no_job_of words (build app out) none at)
-made words told app out b at (refuses job cs f c why is r held refusal e) zero = let one : b.status ≡ 1 = ap (λ (u : Verdict). u.status) e in absurd (omega arith)
-made words told app out b at (does job cs is all p) zero =
+made : (words : List (List ℕ)) (seen : List ℕ → Option (List ℕ)) (app out : List ℕ) (b : Verdict) → job_in words ≡ Some (build app out) → IsVerdict words seen b → b.status ≡ 0 → IsMade seen app out b
+made words seen app out b at (no_job none e) zero = absurd (no_job_of words (build app out) none at)
+made words seen app out b at (refuses job cs f c why is r held refusal e) zero = let one : b.status ≡ 1 = ap (λ (u : Verdict). u.status) e in absurd (omega arith)
+made words seen app out b at (does job cs is all p) zero =
     let alike : job ≡ build app out = same_Some job (build app out) (sym is ∙ at) in
-    made_by told app out cs b (subst (λ (j : Asked). TakesAll (Are told) j cs) alike all) (subst (λ (j : Asked). Does j cs b) alike p)
+    made_by seen app out cs b (subst (λ (j : Asked). TakesAll (Are seen) j cs) alike all) (subst (λ (j : Asked). Does j cs b) alike p)
 
 -- ## the verdicts of `go`
 
-go_refuses : (words : List (List ℕ)) (told : List ℕ → Option (List ℕ)) (app script : List ℕ) (n : ℕ) (detail : Detail) (image : Picture) (bytes : List ℕ) (why : Why) (w : Verdict)
-    → job_in words ≡ Some (go app script n detail) → HasImage told app image → told script ≡ Some bytes → script_refusal bytes ≡ Some why → w ≡ refused script why → IsVerdict words told w
-go_refuses words told app script n detail image bytes why w at h held refusal e =
+go_refuses : (words : List (List ℕ)) (seen : List ℕ → Option (List ℕ)) (app script : List ℕ) (n : ℕ) (detail : Detail) (image : Picture) (bytes : List ℕ) (why : Why) (w : Verdict)
+    → job_in words ≡ Some (go app script n detail) → HasImage seen app image → seen script ≡ Some bytes → script_refusal bytes ≡ Some why → w ≡ refused script why → IsVerdict words seen w
+go_refuses words seen app script n detail image bytes why w at h held refusal e =
     let files = files_to_build app h.bytes in
     refuses (go app script n detail) (h.bytes ∷ h.sources) (script_file script) bytes why at (record {
-      takes = takes_wider (Are told) files (script_file script ∷ []) (h.bytes ∷ h.sources) h.takes;
+      takes = takes_wider (Are seen) files (script_file script ∷ []) (h.bytes ∷ h.sources) h.takes;
       next = files_then files (script_file script) (length (h.bytes ∷ h.sources)) h.all;
     }) held refusal e
 
-go_runs : (words : List (List ℕ)) (told : List ℕ → Option (List ℕ)) (app script : List ℕ) (n : ℕ) (detail : Detail) (image : Picture) (bytes : List ℕ) (w : Verdict)
-    → job_in words ≡ Some (go app script n detail) → HasImage told app image → told script ≡ Some bytes → script_refusal bytes ≡ None → w ≡ ran n detail (scenario_of image bytes) → IsVerdict words told w
-go_runs words told app script n detail image bytes w at h held accepted e =
+go_runs : (words : List (List ℕ)) (seen : List ℕ → Option (List ℕ)) (app script : List ℕ) (n : ℕ) (detail : Detail) (image : Picture) (bytes : List ℕ) (w : Verdict)
+    → job_in words ≡ Some (go app script n detail) → HasImage seen app image → seen script ≡ Some bytes → script_refusal bytes ≡ None → w ≡ ran n detail (scenario_of image bytes) → IsVerdict words seen w
+go_runs words seen app script n detail image bytes w at h held accepted e =
     let files = files_to_build app h.bytes in
     let count : length (application_of h.bytes).tasks ≡ length h.sources = (let all = h.all in let many = as_many_sources (application_of h.bytes) in omega arith) in
     let contents = h.bytes ∷ (h.sources ++ bytes ∷ []) in
     let scenario : scenario_of image bytes ≡ scenario_of image (script_in contents) = ap (λ (t : List ℕ). scenario_of image t) (sym (go_script h.bytes h.sources bytes count)) in
     does (go app script n detail) contents at (record {
-      takes = takes_last (Are told) (files ++ script_file script ∷ []) (h.bytes ∷ h.sources) (script_file script) bytes
-          (takes_wider (Are told) files (script_file script ∷ []) (h.bytes ∷ h.sources) h.takes)
+      takes = takes_last (Are seen) (files ++ script_file script ∷ []) (h.bytes ∷ h.sources) (script_file script) bytes
+          (takes_wider (Are seen) files (script_file script ∷ []) (h.bytes ∷ h.sources) h.takes)
           (files_then files (script_file script) (length (h.bytes ∷ h.sources)) h.all) held accepted;
       all = longer files (script_file script) ∙ ap suc h.all ∙ sym (longer (h.bytes ∷ h.sources) bytes);
     }) (runs n detail (scenario_of image bytes) (refl, refl, (image, go_image h.bytes h.sources bytes image count h.is, scenario)) e)
 
 -- ## from the verdict of `run` to that of `go`
 
--- what stands after the build: the image under OUT where that is told, and the same script
-record Rebuilt (told told' : List ℕ → Option (List ℕ)) (app out script : List ℕ) : Type 0 where
+-- what stands after the build: the image under OUT where that is seen, and the same script
+record Rebuilt (seen seen' : List ℕ → Option (List ℕ)) (app out script : List ℕ) : Type 0 where
   image : Picture
-  has : HasImage told app image
-  put : WhereTold (told' out) (λ all. all ≡ spelling image)
-  script_stays : told' script ≡ told script
+  has : HasImage seen app image
+  put : WhereSeen (seen' out) (λ all. all ≡ spelling image)
+  script_stays : seen' script ≡ seen script
 
-rebuilt : (told told' : List ℕ → Option (List ℕ)) (app out script : List ℕ) (b : Verdict) → IsMade told app out b → script ≢ out → HasPut told told' b.put → Rebuilt told told' app out script
-rebuilt told told' app out script b m other put =
-    let P : Option (List ℕ × List ℕ) → Type 0 = HasPut told told' in
+rebuilt : (seen seen' : List ℕ → Option (List ℕ)) (app out script : List ℕ) (b : Verdict) → IsMade seen app out b → script ≢ out → HasPut seen seen' b.put → Rebuilt seen seen' app out script
+rebuilt seen seen' app out script b m other put =
+    let P : Option (List ℕ × List ℕ) → Type 0 = HasPut seen seen' in
     let mine = subst P m.put put in
     record { image = m.image; has = m.has; put = mine.0; script_stays = mine.1 script other }
 
 -- the image file is accepted
-not_the_image : (told told' : List ℕ → Option (List ℕ)) (app out script : List ℕ) (f : File) (c : List ℕ) (why : Why) → Rebuilt told told' app out script → image_file out ≡ f
-    → told' f.name ≡ Some c → f.refusal c ≡ Some why → ⊥
-not_the_image told told' app out script f c why r same held refusal =
-    let there : told' out ≡ Some c = subst (λ (g : File). told' g.name ≡ Some c) (sym same) held in
+not_the_image : (seen seen' : List ℕ → Option (List ℕ)) (app out script : List ℕ) (f : File) (c : List ℕ) (why : Why) → Rebuilt seen seen' app out script → image_file out ≡ f
+    → seen' f.name ≡ Some c → f.refusal c ≡ Some why → ⊥
+not_the_image seen seen' app out script f c why r same held refusal =
+    let there : seen' out ≡ Some c = subst (λ (g : File). seen' g.name ≡ Some c) (sym same) held in
     let bytes : c ≡ spelling r.image = r.put c there in
     let mine : image_refusal c ≡ Some why = subst (λ (g : File). g.refusal c ≡ Some why) (sym same) refusal in
     let taken = spelling_taken r.image r.has.is.sound in
     no_refusal (image_file out) c why mine (ap image_refusal bytes ∙ taken.0)
 
-after_refusal : (words : List (List ℕ)) (told told' : List ℕ → Option (List ℕ)) (app out script : List ℕ) (n : ℕ) (detail : Detail) (cs : List (List ℕ)) (f : File) (c : List ℕ) (why : Why) (w : Verdict)
-    → job_in words ≡ Some (go app script n detail) → Rebuilt told told' app out script → slice_get (image_file out ∷ script_file script ∷ []) (length cs) ≡ Some f
-    → told' f.name ≡ Some c → f.refusal c ≡ Some why → w ≡ refused f.name why → IsVerdict words told w
-after_refusal words told told' app out script n detail [] f c why w at r next held refusal e =
-    absurd (not_the_image told told' app out script f c why r (same_Some (image_file out) f next) held refusal)
-after_refusal words told told' app out script n detail (d ∷ []) f c why w at r next held refusal e =
+after_refusal : (words : List (List ℕ)) (seen seen' : List ℕ → Option (List ℕ)) (app out script : List ℕ) (n : ℕ) (detail : Detail) (cs : List (List ℕ)) (f : File) (c : List ℕ) (why : Why) (w : Verdict)
+    → job_in words ≡ Some (go app script n detail) → Rebuilt seen seen' app out script → slice_get (image_file out ∷ script_file script ∷ []) (length cs) ≡ Some f
+    → seen' f.name ≡ Some c → f.refusal c ≡ Some why → w ≡ refused f.name why → IsVerdict words seen w
+after_refusal words seen seen' app out script n detail [] f c why w at r next held refusal e =
+    absurd (not_the_image seen seen' app out script f c why r (same_Some (image_file out) f next) held refusal)
+after_refusal words seen seen' app out script n detail (d ∷ []) f c why w at r next held refusal e =
     let file : f ≡ script_file script = sym (same_Some (script_file script) f next) in
-    let there : told' script ≡ Some c = subst (λ (g : File). told' g.name ≡ Some c) file held in
+    let there : seen' script ≡ Some c = subst (λ (g : File). seen' g.name ≡ Some c) file held in
     let mine : script_refusal c ≡ Some why = subst (λ (g : File). g.refusal c ≡ Some why) file refusal in
-    go_refuses words told app script n detail r.image c why w at r.has (sym r.script_stays ∙ there) mine (e ∙ ap (λ (g : File). refused g.name why) file)
-after_refusal words told told' app out script n detail (d ∷ d' ∷ ds) f c why w at r next held refusal e =
+    go_refuses words seen app script n detail r.image c why w at r.has (sym r.script_stays ∙ there) mine (e ∙ ap (λ (g : File). refused g.name why) file)
+after_refusal words seen seen' app out script n detail (d ∷ d' ∷ ds) f c why w at r next held refusal e =
     let below = is_below (image_file out ∷ script_file script ∷ []) (length (d ∷ d' ∷ ds)) f next in absurd (omega arith)
 
 -- the contents of a file that is known
-held_of : (told : List ℕ → Option (List ℕ)) (f g : File) (c : List ℕ) → Some f ≡ Some g → told g.name ≡ Some c → told f.name ≡ Some c
-held_of told f g c e held = subst (λ (h : File). told h.name ≡ Some c) (sym (same_Some f g e)) held
+held_of : (seen : List ℕ → Option (List ℕ)) (f g : File) (c : List ℕ) → Some f ≡ Some g → seen g.name ≡ Some c → seen f.name ≡ Some c
+held_of seen f g c e held = subst (λ (h : File). seen h.name ≡ Some c) (sym (same_Some f g e)) held
 
 accepted_of : (f g : File) (c : List ℕ) → Some f ≡ Some g → g.refusal c ≡ None → f.refusal c ≡ None
 accepted_of f g c e accepted = subst (λ (h : File). h.refusal c ≡ None) (sym (same_Some f g e)) accepted
@@ -140,35 +140,35 @@ ran_of out script n detail image c s w same (lists i is e) = absurd is
 ran_of out script n detail image c s w same (builds o i is e) = absurd is
 ran_of out script n detail image c s w same (samples seed k x is e) = absurd (no_sample_run out script n detail seed k is.is)
 
-after_run : (words : List (List ℕ)) (told told' : List ℕ → Option (List ℕ)) (app out script : List ℕ) (n : ℕ) (detail : Detail) (cs : List (List ℕ)) (w : Verdict)
-    → job_in words ≡ Some (go app script n detail) → Rebuilt told told' app out script → TakesAll (Are told') (run out script n detail) cs → Does (run out script n detail) cs w → IsVerdict words told w
-after_run words told told' app out script n detail [] w at r all p = let two = all.all in absurd (omega arith)
-after_run words told told' app out script n detail (c ∷ []) w at r all p = let two = all.all in absurd (omega arith)
-after_run words told told' app out script n detail (c ∷ s ∷ []) w at r all p =
+after_run : (words : List (List ℕ)) (seen seen' : List ℕ → Option (List ℕ)) (app out script : List ℕ) (n : ℕ) (detail : Detail) (cs : List (List ℕ)) (w : Verdict)
+    → job_in words ≡ Some (go app script n detail) → Rebuilt seen seen' app out script → TakesAll (Are seen') (run out script n detail) cs → Does (run out script n detail) cs w → IsVerdict words seen w
+after_run words seen seen' app out script n detail [] w at r all p = let two = all.all in absurd (omega arith)
+after_run words seen seen' app out script n detail (c ∷ []) w at r all p = let two = all.all in absurd (omega arith)
+after_run words seen seen' app out script n detail (c ∷ s ∷ []) w at r all p =
     let first = all.takes 0 c refl in
     let second = all.takes 1 s refl in
-    let bytes : c ≡ spelling r.image = r.put c (held_of told' (image_file out) first.0 c first.1 first.2) in
+    let bytes : c ≡ spelling r.image = r.put c (held_of seen' (image_file out) first.0 c first.1 first.2) in
     let taken = spelling_taken r.image r.has.is.sound in
     let image : picture_of c ≡ r.image = ap picture_of bytes ∙ sym taken.1 in
-    let held : told script ≡ Some s = sym r.script_stays ∙ held_of told' (script_file script) second.0 s second.1 second.2 in
-    go_runs words told app script n detail r.image s w at r.has held (accepted_of (script_file script) second.0 s second.1 second.3) (ran_of out script n detail r.image c s w image p)
-after_run words told told' app out script n detail (c ∷ s ∷ t ∷ more) w at r all p = let two = all.all in absurd (omega arith)
+    let held : seen script ≡ Some s = sym r.script_stays ∙ held_of seen' (script_file script) second.0 s second.1 second.2 in
+    go_runs words seen app script n detail r.image s w at r.has held (accepted_of (script_file script) second.0 s second.1 second.3) (ran_of out script n detail r.image c s w image p)
+after_run words seen seen' app out script n detail (c ∷ s ∷ t ∷ more) w at r all p = let two = all.all in absurd (omega arith)
 
-go_by_run : (go_words run_words : List (List ℕ)) (told told' : List ℕ → Option (List ℕ)) (app out script : List ℕ) (n : ℕ) (detail : Detail) (w : Verdict)
-    → job_in go_words ≡ Some (go app script n detail) → job_in run_words ≡ Some (run out script n detail) → Rebuilt told told' app out script → IsVerdict run_words told' w → IsVerdict go_words told w
-go_by_run go_words run_words told told' app out script n detail w at too r (no_job none e) = absurd (no_job_of run_words (run out script n detail) none too)
-go_by_run go_words run_words told told' app out script n detail w at too r (refuses job cs f c why is reached held refusal e) =
+go_by_run : (go_words run_words : List (List ℕ)) (seen seen' : List ℕ → Option (List ℕ)) (app out script : List ℕ) (n : ℕ) (detail : Detail) (w : Verdict)
+    → job_in go_words ≡ Some (go app script n detail) → job_in run_words ≡ Some (run out script n detail) → Rebuilt seen seen' app out script → IsVerdict run_words seen' w → IsVerdict go_words seen w
+go_by_run go_words run_words seen seen' app out script n detail w at too r (no_job none e) = absurd (no_job_of run_words (run out script n detail) none too)
+go_by_run go_words run_words seen seen' app out script n detail w at too r (refuses job cs f c why is reached held refusal e) =
     let alike : job ≡ run out script n detail = same_Some job (run out script n detail) (sym is ∙ too) in
-    let mine : Reaches (Are told') (run out script n detail) cs f = subst (λ (j : Asked). Reaches (Are told') j cs f) alike reached in
-    after_refusal go_words told told' app out script n detail cs f c why w at r mine.next held refusal e
-go_by_run go_words run_words told told' app out script n detail w at too r (does job cs is all p) =
+    let mine : Reaches (Are seen') (run out script n detail) cs f = subst (λ (j : Asked). Reaches (Are seen') j cs f) alike reached in
+    after_refusal go_words seen seen' app out script n detail cs f c why w at r mine.next held refusal e
+go_by_run go_words run_words seen seen' app out script n detail w at too r (does job cs is all p) =
     let alike : job ≡ run out script n detail = same_Some job (run out script n detail) (sym is ∙ too) in
-    after_run go_words told told' app out script n detail cs w at r (subst (λ (j : Asked). TakesAll (Are told') j cs) alike all) (subst (λ (j : Asked). Does j cs w) alike p)
+    after_run go_words seen seen' app out script n detail cs w at r (subst (λ (j : Asked). TakesAll (Are seen') j cs) alike all) (subst (λ (j : Asked). Does j cs w) alike p)
 
-pub build_then_run : (build_words go_words run_words : List (List ℕ)) (told told' : List ℕ → Option (List ℕ)) (app out script : List ℕ) (n : ℕ) (detail : Detail) (b v w : Verdict)
+pub build_then_run : (build_words go_words run_words : List (List ℕ)) (seen seen' : List ℕ → Option (List ℕ)) (app out script : List ℕ) (n : ℕ) (detail : Detail) (b v w : Verdict)
     → job_in build_words ≡ Some (build app out) → job_in go_words ≡ Some (go app script n detail) → job_in run_words ≡ Some (run out script n detail)
-    → script ≢ out → IsVerdict build_words told b → b.status ≡ 0 → HasPut told told' b.put
-    → IsVerdict go_words told v → IsVerdict run_words told' w → v ≡ w
-build_then_run build_words go_words run_words told told' app out script n detail b v w first second third other built zero put going running =
-    let r = rebuilt told told' app out script b (made build_words told app out b first built zero) other put in
-    one_verdict go_words told v w going (go_by_run go_words run_words told told' app out script n detail w second third r running)
+    → script ≢ out → IsVerdict build_words seen b → b.status ≡ 0 → HasPut seen seen' b.put
+    → IsVerdict go_words seen v → IsVerdict run_words seen' w → v ≡ w
+build_then_run build_words go_words run_words seen seen' app out script n detail b v w first second third other built zero put going running =
+    let r = rebuilt seen seen' app out script b (made build_words seen app out b first built zero) other put in
+    one_verdict go_words seen v w going (go_by_run go_words run_words seen seen' app out script n detail w second third r running)

@@ -19,7 +19,7 @@ use Rattle.trace_cli.specs.Contents.{sample_scenario}
 use Rattle.outside_io.specs.Seen.{FilesSeen, SinkSeen}
 use Rattle.trace_cli.specs.Sources.{MayBe}
 use Rattle.trace_cli.specs.Ready.{IsSampleReady}
-use Rattle.trace_cli.specs.Told.{Pushed}
+use Rattle.trace_cli.specs.Pushed.{Pushed}
 use Rattle.trace_cli.specs.Verdict.{samples, sampled}
 use Rattle.trace_cli.specs.Answer.{Reason, does, AnswersJob}
 use Rattle.trace_cli.proofs.Lists.{takes_none}
@@ -45,10 +45,10 @@ refused_as_sample seed app sources f is are law h =
 
 pub sample_ready : (seed : ℕ) (app : AppData) (sources : List (List ℕ)) (script : ScriptData) (image : Picture) (b : Board) → app ≡ sample_app seed → sources ≡ sample_sources seed
     → script ≡ sample_script seed → Built app sources image → Stands (opened.scenario_of image script) b (start (opened.setup_of image)) → turns_of b ≡ 0 → IsSampleReady seed b
-sample_ready seed app sources script image b is are told built stands turns = record {
+sample_ready seed app sources script image b is are seen built stands turns = record {
   image = image;
   built = subst (λ (ss : List (List ℕ)). Built (sample_app seed) ss image) are (subst (λ (a : AppData). Built a sources image) is built);
-  stands = subst (λ (s : ScriptData). Stands (opened.scenario_of image s) b (start (opened.setup_of image))) told stands;
+  stands = subst (λ (s : ScriptData). Stands (opened.scenario_of image s) b (start (opened.setup_of image))) seen stands;
   turns = turns;
 }
 
@@ -58,10 +58,10 @@ sample_stood seed b h = ((sample_scenario seed h.image, start (sample_scenario s
 -- ## the answer
 
 sample_reason : (a b : FilesSeen) (seed n : ℕ) (bd : Board) (r : IsSampleReady seed bd) → Reason (sample seed n) a b (sampled n (sample_scenario seed r.image))
-sample_reason a b seed n bd r = does [] (record { takes = takes_none (MayBe a.told) []; all = refl })
+sample_reason a b seed n bd r = does [] (record { takes = takes_none (MayBe a.contents) []; all = refl })
     (samples seed n (sample_scenario seed r.image) (record { is = refl; image = r.image; built = r.built; scenario = refl }) refl)
 
-pub answers_sample : (seed n : ℕ) (a b : FilesSeen) (w w' : SinkSeen) (bd : Board) (r : ℕ) → b.told ≡ a.told → IsSampleReady seed bd
+pub answers_sample : (seed n : ℕ) (a b : FilesSeen) (w w' : SinkSeen) (bd : Board) (r : ℕ) → b.contents ≡ a.contents → IsSampleReady seed bd
     → ((x : Scenario) → Stands x bd (start x.setup) → Pushed w w' (sampled n x) r) → AnswersJob (sample seed n) a b w w' r
 answers_sample seed n a b w w' bd r same ready tells =
     let x = sample_scenario seed ready.image in

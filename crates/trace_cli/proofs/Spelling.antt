@@ -33,8 +33,8 @@ lines_length : (ls : List LineRecord) → length (flat_map line_bytes ls) ≡ 8 
 lines_length [] = refl
 lines_length (l ∷ ls) = omega (arith, lines_length ls)
 
-as_told : (r : Records) → Accepted r → length (bytes_of r) ≡ total r.header
-as_told r s =
+as_seen : (r : Records) → Accepted r → length (bytes_of r) ≡ total r.header
+as_seen r s =
     let front = header_bytes r.header in
     let ts = flat_map task_bytes r.tasks in
     let rs = flat_map region_bytes r.regions in
@@ -56,7 +56,7 @@ as_told r s =
     )
 
 short_spelling : (r : Records) → Accepted r → length (bytes_of r) ≤ 2097152
-short_spelling r s = omega (arith, as_told r s, short_total r.header s.fields)
+short_spelling r s = omega (arith, as_seen r s, short_total r.header s.fields)
 
 -- ## what they say
 

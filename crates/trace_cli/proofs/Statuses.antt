@@ -3,30 +3,30 @@ use Rattle.std.proofs.Common.{◌≡◌, ◌≢◌, ℕ, ◌≤◌, ◌⊎◌, B
 use Rattle.std.specs.Io.KnownBytes.{Appends}
 use Rattle.outside_io.specs.Outside.{Rose}
 use Rattle.image_format.specs.Picture.{Picture, spelling}
-use Rattle.board_model.specs.declared.told.Level.TheVariants.{Calls}
+use Rattle.board_model.specs.declared.outcomes.Level.TheVariants.{Brief}
 use Rattle.board_model.specs.Script.{Scenario}
-use Rattle.board_model.specs.declared.told.End.{End}
-use Rattle.board_model.specs.declared.told.End.TheVariants.{Bound, Still, Supervisor}
+use Rattle.board_model.specs.declared.outcomes.End.{End}
+use Rattle.board_model.specs.declared.outcomes.End.TheVariants.{Bound, Still, Supervisor}
 use Rattle.command_line.specs.CommandLine.{Asked, build, run, go, list, sample, is_taken, job_of}
 use Rattle.outside_io.specs.Seen.{FilesSeen, SinkSeen}
 use Rattle.trace_cli.specs.Words.{job_in, out_of}
 use Rattle.trace_cli.specs.Sources.{IsBuild, IsSample}
 use Rattle.trace_cli.specs.Verdict.{Verdict, IsVerdict, Does, runs, lists, builds, samples, usage, usage_line, refused, unread, ran, listed, built, sampled, run_of, level_of, status_of}
 use Rattle.trace_cli.specs.Answer.{Reason, cannot_read, refuses, does, Ground, no_job, of_job, HasPut, HasSpoiled, Tells, whole, cut, spoiled, short, AnswersJob, Answers, HasSampled, HasPlayed, HasDone, HasRefused, HasUnread, HasFront, Answered, IsComplete}
-use Rattle.trace_cli.specs.Told as told
-use Rattle.trace_cli.specs.Told.{Pushed, Says, pushed, silent}
+use Rattle.trace_cli.specs.Pushed as seen
+use Rattle.trace_cli.specs.Pushed.{Pushed, Says, pushed, silent}
 use Rattle.trace_cli.proofs.Deciding.{Decided, agreed, not_read, decided}
 
--- ## where the contents are told
+-- ## where the contents are seen
 
-same_told : (a b : FilesSeen) (w w' : SinkSeen) (v u : Verdict) (r : ℕ) → v ≡ u → Tells a b w w' v r → Tells a b w w' u r
-same_told a b w w' v u r e t = let P : Verdict → Type 0 = λ x. Tells a b w w' x r in subst P e t
+same_seen : (a b : FilesSeen) (w w' : SinkSeen) (v u : Verdict) (r : ℕ) → v ≡ u → Tells a b w w' v r → Tells a b w w' u r
+same_seen a b w w' v u r e t = let P : Verdict → Type 0 = λ x. Tells a b w w' x r in subst P e t
 
 by_decision : (words : List (List ℕ)) (a b : FilesSeen) (w w' : SinkSeen) (v u : Verdict) (r : ℕ) → Decided words a b v u → Tells a b w w' v r → Answered words a b w w' u r
-by_decision words a b w w' v u r (agreed e) t = inl (same_told a b w w' v u r e t)
-by_decision words a b w w' v u r (not_read job f at is e) t = inr (record { job = job; command = at; file = f; is = is; tells = same_told a b w w' v (unread f.name) r e t })
+by_decision words a b w w' v u r (agreed e) t = inl (same_seen a b w w' v u r e t)
+by_decision words a b w w' v u r (not_read job f at is e) t = inr (record { job = job; command = at; file = f; is = is; tells = same_seen a b w w' v (unread f.name) r e t })
 
-pub answered : (words : List (List ℕ)) (a b : FilesSeen) (w w' : SinkSeen) (u : Verdict) (r : ℕ) → Answers words a b w w' r → IsVerdict words a.told u → Answered words a b w w' u r
+pub answered : (words : List (List ℕ)) (a b : FilesSeen) (w w' : SinkSeen) (u : Verdict) (r : ℕ) → Answers words a b w w' r → IsVerdict words a.contents u → Answered words a b w w' u r
 answered words a b w w' u r (inl s) is = inl (short s)
 answered words a b w w' u r (inr h) is = by_decision words a b w w' h.0 u r (decided words a b h.0 u h.1 is) h.2
 
@@ -69,7 +69,7 @@ done_status : (job : Asked) (cs : List (List ℕ)) (v : Verdict) → Does job cs
 done_status job cs v (runs n m x p e) = end_status (run_of (level_of m) n x).end v.status (ap (λ (u : Verdict). u.status) e)
 done_status job cs v (lists i p e) = inl (ap (λ (u : Verdict). u.status) e)
 done_status job cs v (builds o i p e) = inl (ap (λ (u : Verdict). u.status) e)
-done_status job cs v (samples s n x p e) = end_status (run_of Calls n x).end v.status (ap (λ (u : Verdict). u.status) e)
+done_status job cs v (samples s n x p e) = end_status (run_of Brief n x).end v.status (ap (λ (u : Verdict). u.status) e)
 
 not_done : (v : Verdict) (n : ℕ) → (v.status ≡ 0) ⊎ (v.status ≡ 6) → v.status ≡ n → (n ≡ 0 → ⊥) → (n ≡ 6 → ⊥) → ⊥
 not_done v n (inl z) e not0 not6 = not0 (sym e ∙ z)
@@ -118,7 +118,7 @@ was_cut words a b w w' r (inl s) e = let is = s.status in absurd (omega arith)
 was_cut words a b w w' r (inr h) e = cut_by words a b w w' h.0 r e h.1 h.2
 
 abbrev Nothing : FilesSeen → FilesSeen → SinkSeen → SinkSeen → Type 0
-Nothing a b w w' = (w'.written ≡ w.written) × (w'.faults ≡ w.faults) × (b.told ≡ a.told)
+Nothing a b w w' = (w'.written ≡ w.written) × (w'.faults ≡ w.faults) × (b.contents ≡ a.contents)
 
 short_by : (words : List (List ℕ)) (a b : FilesSeen) (w w' : SinkSeen) (v : Verdict) (r : ℕ) → r ≡ 5 → Ground words a b v → Tells a b w w' v r → Nothing a b w w'
 short_by words a b w w' v r e g (whole is put text) = absurd (not_four_or_five v (ground_status words a b v g) (omega arith) (omega arith))
@@ -135,7 +135,7 @@ record IsWhole (words : List (List ℕ)) (a b : FilesSeen) (w w' : SinkSeen) (r 
   verdict : Verdict
   ground : Ground words a b verdict
   status : verdict.status ≡ r
-  put : HasPut a.told b.told verdict.put
+  put : HasPut a.contents b.contents verdict.put
   text : Appends w.written w'.written verdict.text
 
 whole_by : (words : List (List ℕ)) (a b : FilesSeen) (w w' : SinkSeen) (v : Verdict) (r : ℕ) → (r ≡ 4 → ⊥) → (r ≡ 5 → ⊥) → Ground words a b v → Tells a b w w' v r → IsWhole words a b w w' r
@@ -144,26 +144,26 @@ whole_by words a b w w' v r not4 not5 g (cut is rose put front) = absurd (not4 i
 whole_by words a b w w' v r not4 not5 g (spoiled is rose left same) = absurd (not4 is)
 whole_by words a b w w' v r not4 not5 g (short s) = absurd (not5 s.status)
 
-told_whole : (words : List (List ℕ)) (a b : FilesSeen) (w w' : SinkSeen) (r : ℕ) → Answers words a b w w' r → (r ≡ 4 → ⊥) → (r ≡ 5 → ⊥) → IsWhole words a b w w' r
-told_whole words a b w w' r (inl s) not4 not5 = absurd (not5 s.status)
-told_whole words a b w w' r (inr h) not4 not5 = whole_by words a b w w' h.0 r not4 not5 h.1 h.2
+seen_whole : (words : List (List ℕ)) (a b : FilesSeen) (w w' : SinkSeen) (r : ℕ) → Answers words a b w w' r → (r ≡ 4 → ⊥) → (r ≡ 5 → ⊥) → IsWhole words a b w w' r
+seen_whole words a b w w' r (inl s) not4 not5 = absurd (not5 s.status)
+seen_whole words a b w w' r (inr h) not4 not5 = whole_by words a b w w' h.0 r not4 not5 h.1 h.2
 
 same_text : (w w' : SinkSeen) (v u : Verdict) → v ≡ u → Appends w.written w'.written v.text → Appends w.written w'.written u.text
 same_text w w' v u e t = let P : Verdict → Type 0 = λ x. Appends w.written w'.written x.text in subst P e t
 
-same_put : (a b : FilesSeen) (v u : Verdict) → v ≡ u → HasPut a.told b.told v.put → HasPut a.told b.told u.put
-same_put a b v u e p = let P : Verdict → Type 0 = λ x. HasPut a.told b.told x.put in subst P e p
+same_put : (a b : FilesSeen) (v u : Verdict) → v ≡ u → HasPut a.contents b.contents v.put → HasPut a.contents b.contents u.put
+same_put a b v u e p = let P : Verdict → Type 0 = λ x. HasPut a.contents b.contents x.put in subst P e p
 
-refused_by : (words : List (List ℕ)) (a b : FilesSeen) (w w' : SinkSeen) (v : Verdict) → v.status ≡ 1 → Appends w.written w'.written v.text → Ground words a b v → HasRefused words a.told w w'
+refused_by : (words : List (List ℕ)) (a b : FilesSeen) (w w' : SinkSeen) (v : Verdict) → v.status ≡ 1 → Appends w.written w'.written v.text → Ground words a b v → HasRefused words a.contents w w'
 refused_by words a b w w' v e t (no_job none is) = let s : v.status ≡ 2 = ap (λ (u : Verdict). u.status) is in absurd (omega arith)
 refused_by words a b w w' v e t (of_job job at (cannot_read f h is)) = let s : v.status ≡ 3 = ap (λ (u : Verdict). u.status) is in absurd (omega arith)
 refused_by words a b w w' v e t (of_job job at (refuses f why h is)) =
     record { job = job; command = at; file = f; why = why; is = h; line = same_text w w' v (refused f.name why) is t }
 refused_by words a b w w' v e t (of_job job at (does cs all p)) = absurd (not_done v 1 (done_status job cs v p) e (λ z. omega arith) (λ s. omega arith))
 
-pub was_refused : (words : List (List ℕ)) (a b : FilesSeen) (w w' : SinkSeen) (r : ℕ) → Answers words a b w w' r → r ≡ 1 → HasRefused words a.told w w'
+pub was_refused : (words : List (List ℕ)) (a b : FilesSeen) (w w' : SinkSeen) (r : ℕ) → Answers words a b w w' r → r ≡ 1 → HasRefused words a.contents w w'
 was_refused words a b w w' r h e =
-    let t = told_whole words a b w w' r h (λ is. omega arith) (λ is. omega arith) in
+    let t = seen_whole words a b w w' r h (λ is. omega arith) (λ is. omega arith) in
     refused_by words a b w w' t.verdict (t.status ∙ e) t.text t.ground
 
 no_command_by : (words : List (List ℕ)) (a b : FilesSeen) (w w' : SinkSeen) (v : Verdict) → v.status ≡ 2 → Appends w.written w'.written v.text → Ground words a b v
@@ -175,7 +175,7 @@ no_command_by words a b w w' v e t (of_job job at (does cs all p)) = absurd (not
 
 pub was_no_command : (words : List (List ℕ)) (a b : FilesSeen) (w w' : SinkSeen) (r : ℕ) → Answers words a b w w' r → r ≡ 2 → (is_taken words ≡ false) × Appends w.written w'.written usage_line
 was_no_command words a b w w' r h e =
-    let t = told_whole words a b w w' r h (λ is. omega arith) (λ is. omega arith) in
+    let t = seen_whole words a b w w' r h (λ is. omega arith) (λ is. omega arith) in
     no_command_by words a b w w' t.verdict (t.status ∙ e) t.text t.ground
 
 unread_by : (words : List (List ℕ)) (a b : FilesSeen) (w w' : SinkSeen) (v : Verdict) → v.status ≡ 3 → Appends w.written w'.written v.text → Ground words a b v → HasUnread words a b w w'
@@ -187,7 +187,7 @@ unread_by words a b w w' v e t (of_job job at (does cs all p)) = absurd (not_don
 
 pub was_unread : (words : List (List ℕ)) (a b : FilesSeen) (w w' : SinkSeen) (r : ℕ) → Answers words a b w w' r → r ≡ 3 → HasUnread words a b w w'
 was_unread words a b w w' r h e =
-    let t = told_whole words a b w w' r h (λ is. omega arith) (λ is. omega arith) in
+    let t = seen_whole words a b w w' r h (λ is. omega arith) (λ is. omega arith) in
     unread_by words a b w w' t.verdict (t.status ∙ e) t.text t.ground
 
 has_sampled : (words : List (List ℕ)) (w w' : SinkSeen) (job : Asked) (s n : ℕ) (x : Scenario) (v : Verdict) (r : ℕ) → job_in words ≡ Some job → IsSample job s n x → v ≡ sampled n x
@@ -203,7 +203,7 @@ has_sampled words w w' job s n x v r at h is e t = record {
   text = same_text w w' v (sampled n x) is t;
 }
 
-done_by : (words : List (List ℕ)) (a b : FilesSeen) (w w' : SinkSeen) (v : Verdict) → v.status ≡ 0 → HasPut a.told b.told v.put → Appends w.written w'.written v.text → Ground words a b v → HasDone words a b w w'
+done_by : (words : List (List ℕ)) (a b : FilesSeen) (w w' : SinkSeen) (v : Verdict) → v.status ≡ 0 → HasPut a.contents b.contents v.put → Appends w.written w'.written v.text → Ground words a b v → HasDone words a b w w'
 done_by words a b w w' v e p t (no_job none is) = let s : v.status ≡ 2 = ap (λ (u : Verdict). u.status) is in absurd (omega arith)
 done_by words a b w w' v e p t (of_job job at (cannot_read f h is)) = let s : v.status ≡ 3 = ap (λ (u : Verdict). u.status) is in absurd (omega arith)
 done_by words a b w w' v e p t (of_job job at (refuses f why h is)) = let s : v.status ≡ 1 = ap (λ (u : Verdict). u.status) is in absurd (omega arith)
@@ -236,10 +236,10 @@ done_by words a b w w' v e p t (of_job job at (does cs all (builds o i h is))) =
 
 pub was_done : (words : List (List ℕ)) (a b : FilesSeen) (w w' : SinkSeen) (r : ℕ) → Answers words a b w w' r → r ≡ 0 → HasDone words a b w w'
 was_done words a b w w' r h e =
-    let t = told_whole words a b w w' r h (λ is. omega arith) (λ is. omega arith) in
+    let t = seen_whole words a b w w' r h (λ is. omega arith) (λ is. omega arith) in
     done_by words a b w w' t.verdict (t.status ∙ e) t.put t.text t.ground
 
-ran_by : (words : List (List ℕ)) (a b : FilesSeen) (w w' : SinkSeen) (v : Verdict) → v.status ≡ 6 → Appends w.written w'.written v.text → Ground words a b v → HasPlayed words a.told w w' 6
+ran_by : (words : List (List ℕ)) (a b : FilesSeen) (w w' : SinkSeen) (v : Verdict) → v.status ≡ 6 → Appends w.written w'.written v.text → Ground words a b v → HasPlayed words a.contents w w' 6
 ran_by words a b w w' v e t (no_job none is) = let s : v.status ≡ 2 = ap (λ (u : Verdict). u.status) is in absurd (omega arith)
 ran_by words a b w w' v e t (of_job job at (cannot_read f h is)) = let s : v.status ≡ 3 = ap (λ (u : Verdict). u.status) is in absurd (omega arith)
 ran_by words a b w w' v e t (of_job job at (refuses f why h is)) = let s : v.status ≡ 1 = ap (λ (u : Verdict). u.status) is in absurd (omega arith)
@@ -259,9 +259,9 @@ ran_by words a b w w' v e t (of_job job at (does cs all (runs n m x h is))) = in
 ran_by words a b w w' v e t (of_job job at (does cs all (lists i h is))) = let s : v.status ≡ 0 = ap (λ (u : Verdict). u.status) is in absurd (omega arith)
 ran_by words a b w w' v e t (of_job job at (does cs all (builds o i h is))) = let s : v.status ≡ 0 = ap (λ (u : Verdict). u.status) is in absurd (omega arith)
 
-pub was_ran : (words : List (List ℕ)) (a b : FilesSeen) (w w' : SinkSeen) (r : ℕ) → Answers words a b w w' r → r ≡ 6 → HasPlayed words a.told w w' 6
+pub was_ran : (words : List (List ℕ)) (a b : FilesSeen) (w w' : SinkSeen) (r : ℕ) → Answers words a b w w' r → r ≡ 6 → HasPlayed words a.contents w w' 6
 was_ran words a b w w' r h e =
-    let t = told_whole words a b w w' r h (λ is. omega arith) (λ is. omega arith) in
+    let t = seen_whole words a b w w' r h (λ is. omega arith) (λ is. omega arith) in
     ran_by words a b w w' t.verdict (t.status ∙ e) t.text t.ground
 
 -- ## which file is changed, and when
@@ -288,57 +288,57 @@ ground_puts words a b v (of_job job at (does cs all (samples s n x h is))) = put
 ground_puts words a b v (of_job job at (does cs all (builds o i h is))) =
     puts_out o (spelling i) (ap (λ (u : Verdict). u.put) is) (ap out_of at ∙ built_out job cs o i h) (ap (λ (u : Verdict). u.status) is)
 
-put_elsewhere : (told told' : List ℕ → Option (List ℕ)) (words : List (List ℕ)) (v : Verdict) (name : List ℕ) → Puts words v → HasPut told told' v.put
-    → out_of (job_in words) ≢ Some name → told' name ≡ told name
-put_elsewhere told told' words v name (puts_none e) p not =
-    let P : Option (List ℕ × List ℕ) → Type 0 = HasPut told told' in
-    let same : told' ≡ told = subst P e p in
+put_elsewhere : (seen seen' : List ℕ → Option (List ℕ)) (words : List (List ℕ)) (v : Verdict) (name : List ℕ) → Puts words v → HasPut seen seen' v.put
+    → out_of (job_in words) ≢ Some name → seen' name ≡ seen name
+put_elsewhere seen seen' words v name (puts_none e) p not =
+    let P : Option (List ℕ × List ℕ) → Type 0 = HasPut seen seen' in
+    let same : seen' ≡ seen = subst P e p in
     ap (λ (t : List ℕ → Option (List ℕ)). t name) same
-put_elsewhere told told' words v name (puts_out o bytes e out is) p not =
-    let P : Option (List ℕ × List ℕ) → Type 0 = HasPut told told' in
+put_elsewhere seen seen' words v name (puts_out o bytes e out is) p not =
+    let P : Option (List ℕ × List ℕ) → Type 0 = HasPut seen seen' in
     (subst P e p).1 name (λ same. not (out ∙ ap Some (sym same)))
 
-spoiled_elsewhere : (told told' : List ℕ → Option (List ℕ)) (words : List (List ℕ)) (v : Verdict) (name : List ℕ) → Puts words v → HasSpoiled told told' v.put
-    → out_of (job_in words) ≢ Some name → told' name ≡ told name
-spoiled_elsewhere told told' words v name (puts_none e) p not =
-    let P : Option (List ℕ × List ℕ) → Type 0 = HasSpoiled told told' in
+spoiled_elsewhere : (seen seen' : List ℕ → Option (List ℕ)) (words : List (List ℕ)) (v : Verdict) (name : List ℕ) → Puts words v → HasSpoiled seen seen' v.put
+    → out_of (job_in words) ≢ Some name → seen' name ≡ seen name
+spoiled_elsewhere seen seen' words v name (puts_none e) p not =
+    let P : Option (List ℕ × List ℕ) → Type 0 = HasSpoiled seen seen' in
     absurd (subst P e p)
-spoiled_elsewhere told told' words v name (puts_out o bytes e out is) p not =
-    let P : Option (List ℕ × List ℕ) → Type 0 = HasSpoiled told told' in
+spoiled_elsewhere seen seen' words v name (puts_out o bytes e out is) p not =
+    let P : Option (List ℕ × List ℕ) → Type 0 = HasSpoiled seen seen' in
     (subst P e p).1 name (λ same. not (out ∙ ap Some (sym same)))
 
 others_by : (words : List (List ℕ)) (a b : FilesSeen) (w w' : SinkSeen) (v : Verdict) (r : ℕ) (name : List ℕ) → Puts words v → Tells a b w w' v r
-    → out_of (job_in words) ≢ Some name → b.told name ≡ a.told name
-others_by words a b w w' v r name g (whole is put text) not = put_elsewhere a.told b.told words v name g put not
-others_by words a b w w' v r name g (cut is rose put front) not = put_elsewhere a.told b.told words v name g put not
-others_by words a b w w' v r name g (spoiled is rose left same) not = spoiled_elsewhere a.told b.told words v name g left not
+    → out_of (job_in words) ≢ Some name → b.contents name ≡ a.contents name
+others_by words a b w w' v r name g (whole is put text) not = put_elsewhere a.contents b.contents words v name g put not
+others_by words a b w w' v r name g (cut is rose put front) not = put_elsewhere a.contents b.contents words v name g put not
+others_by words a b w w' v r name g (spoiled is rose left same) not = spoiled_elsewhere a.contents b.contents words v name g left not
 others_by words a b w w' v r name g (short s) not = ap (λ (t : List ℕ → Option (List ℕ)). t name) s.files
 
-pub others : (words : List (List ℕ)) (a b : FilesSeen) (w w' : SinkSeen) (r : ℕ) (name : List ℕ) → Answers words a b w w' r → out_of (job_in words) ≢ Some name → b.told name ≡ a.told name
+pub others : (words : List (List ℕ)) (a b : FilesSeen) (w w' : SinkSeen) (r : ℕ) (name : List ℕ) → Answers words a b w w' r → out_of (job_in words) ≢ Some name → b.contents name ≡ a.contents name
 others words a b w w' r name (inl s) not = ap (λ (t : List ℕ → Option (List ℕ)). t name) s.files
 others words a b w w' r name (inr h) not = others_by words a b w w' h.0 r name (ground_puts words a b h.0 h.1) h.2 not
 
-put_none : (told told' : List ℕ → Option (List ℕ)) (words : List (List ℕ)) (v : Verdict) (r : ℕ) → r ≡ v.status → r ≢ 0 → Puts words v → HasPut told told' v.put → told' ≡ told
-put_none told told' words v r is not (puts_none e) p =
-    let P : Option (List ℕ × List ℕ) → Type 0 = HasPut told told' in
+put_none : (seen seen' : List ℕ → Option (List ℕ)) (words : List (List ℕ)) (v : Verdict) (r : ℕ) → r ≡ v.status → r ≢ 0 → Puts words v → HasPut seen seen' v.put → seen' ≡ seen
+put_none seen seen' words v r is not (puts_none e) p =
+    let P : Option (List ℕ × List ℕ) → Type 0 = HasPut seen seen' in
     subst P e p
-put_none told told' words v r is not (puts_out o bytes e out z) p = absurd (not (is ∙ z))
+put_none seen seen' words v r is not (puts_out o bytes e out z) p = absurd (not (is ∙ z))
 
-kept_by : (words : List (List ℕ)) (a b : FilesSeen) (w w' : SinkSeen) (v : Verdict) (r : ℕ) → r ≢ 0 → r ≢ 4 → Puts words v → Tells a b w w' v r → b.told ≡ a.told
-kept_by words a b w w' v r not0 not4 g (whole is put text) = put_none a.told b.told words v r is not0 g put
+kept_by : (words : List (List ℕ)) (a b : FilesSeen) (w w' : SinkSeen) (v : Verdict) (r : ℕ) → r ≢ 0 → r ≢ 4 → Puts words v → Tells a b w w' v r → b.contents ≡ a.contents
+kept_by words a b w w' v r not0 not4 g (whole is put text) = put_none a.contents b.contents words v r is not0 g put
 kept_by words a b w w' v r not0 not4 g (cut is rose put front) = absurd (not4 is)
 kept_by words a b w w' v r not0 not4 g (spoiled is rose left same) = absurd (not4 is)
 kept_by words a b w w' v r not0 not4 g (short s) = s.files
 
-pub kept : (words : List (List ℕ)) (a b : FilesSeen) (w w' : SinkSeen) (r : ℕ) → Answers words a b w w' r → r ≢ 0 → r ≢ 4 → b.told ≡ a.told
+pub kept : (words : List (List ℕ)) (a b : FilesSeen) (w w' : SinkSeen) (r : ℕ) → Answers words a b w w' r → r ≢ 0 → r ≢ 4 → b.contents ≡ a.contents
 kept words a b w w' r (inl s) not0 not4 = s.files
 kept words a b w w' r (inr h) not0 not4 = kept_by words a b w w' h.0 r not0 not4 (ground_puts words a b h.0 h.1) h.2
 
 -- ## words that are not taken
 
 usage_said : (words : List (List ℕ)) (a : FilesSeen) (w w' : SinkSeen) (r : ℕ) → is_taken words ≡ false → Pushed w w' usage r → Tells a a w w' usage r
-usage_said words a w w' r none (told.whole is text) = whole is refl text
-usage_said words a w w' r none (told.cut is rose front) = cut is rose refl front
+usage_said words a w w' r none (seen.whole is text) = whole is refl text
+usage_said words a w w' r none (seen.cut is rose front) = cut is rose refl front
 
 pub answers_usage : (words : List (List ℕ)) (a : FilesSeen) (w w' : SinkSeen) (r : ℕ) → is_taken words ≡ false → Says w w' usage r → Answers words a a w w' r
 answers_usage words a w w' r none (pushed p) = inr (usage, no_job none refl, usage_said words a w w' r none p)

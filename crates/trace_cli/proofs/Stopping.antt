@@ -4,7 +4,7 @@ use Rattle.std.proofs.lemmas.Bool.Decides.{nat_tests}
 use Rattle.std.proofs.lemmas.Option.{same_Some}
 use Rattle.std.proofs.lemmas.List.{length-replicate}
 use Rattle.std.specs.Prelude.{replicate}
-use Rattle.outside_io.specs.Outside.{WhereTold, Rose}
+use Rattle.outside_io.specs.Outside.{WhereSeen, Rose}
 use Rattle.trace_cli.specs.declared.stops.Stop.{Stop}
 use Rattle.trace_cli.specs.declared.stops.Stop.TheVariants as stops
 use Rattle.trace_cli.specs.declared.stops.Halt.{Halt}
@@ -42,29 +42,29 @@ long_source app i bytes lt = long_refused bytes _ lt
 pub short : (bytes : List ℕ) (r : Option Why) → length bytes ≤ 2097152 → unless_long bytes r ≡ r
 short bytes r le = let e : ltb 2097152 (length bytes) ≡ false = grind (arith, nat_tests) in rw e refl
 
--- what may be there where nothing is told
+-- what may be there where nothing is seen
 a_longer : (n : ℕ) → (bytes : List ℕ) × (n < length bytes)
 a_longer n =
     let zeros : List ℕ = replicate (suc n) 0 in
     let many : length zeros ≡ suc n = length-replicate (suc n) 0 in
     (zeros, omega (arith, many))
 
-longer_than : (n : ℕ) (o : Option (List ℕ)) → WhereTold o (λ all. n < length all) → (bytes : List ℕ) × WhereTold o (λ all. bytes ≡ all) × (n < length bytes)
+longer_than : (n : ℕ) (o : Option (List ℕ)) → WhereSeen o (λ all. n < length all) → (bytes : List ℕ) × WhereSeen o (λ all. bytes ≡ all) × (n < length bytes)
 longer_than n None long = let more = a_longer n in (more.0, (λ all is. absurd (cc)), more.1)
 longer_than n (Some all) long = (all, (λ c is. same_Some all c is), long all refl)
 
-may_be_long : (told : List ℕ → Option (List ℕ)) (name : List ℕ) → WhereTold (told name) (λ all. 2097152 < length all) → MayBeLong told name
-may_be_long told name long = let more = longer_than 2097152 (told name) long in record { bytes = more.0; held = more.1; long = more.2 }
+may_be_long : (seen : List ℕ → Option (List ℕ)) (name : List ℕ) → WhereSeen (seen name) (λ all. 2097152 < length all) → MayBeLong seen name
+may_be_long seen name long = let more = longer_than 2097152 (seen name) long in record { bytes = more.0; held = more.1; long = more.2 }
 
 -- a file that is too long
-pub by_length : (a b : FilesSeen) (name : List ℕ) (stop : Stop) → StopsAt (Some (at_number (0, 2097152))) stop → WhereTold (a.told name) (λ all. 2097152 < length all)
+pub by_length : (a b : FilesSeen) (name : List ℕ) (stop : Stop) → StopsAt (Some (at_number (0, 2097152))) stop → WhereSeen (a.contents name) (λ all. 2097152 < length all)
     → CannotTake a b name stop
 by_length a b name stops.Memory at long = tt
 by_length a b name stops.CannotRead at long = absurd at
 by_length a b name (stops.Refused cause place) at long =
     let why : Why = (cause, string_bytes place) in
     let same : at_number (0, 2097152) ≡ why = same_Some (at_number (0, 2097152)) why at in
-    (ap (λ (p : Why). p.0) (sym same), ap (λ (p : Why). p.1) (sym same), may_be_long a.told name long)
+    (ap (λ (p : Why). p.0) (sym same), ap (λ (p : Why). p.1) (sym same), may_be_long a.contents name long)
 
 -- ## from contents to their file
 
@@ -77,14 +77,14 @@ cannot_take a b f (stops.Refused cause place) long t =
     let number : ℕ → Option Why = λ n. Some (n, string_bytes place) in
     record { bytes = t.2.bytes; held = t.2.held; refused = long t.2.bytes t.2.long ∙ ap reason (sym t.1) ∙ ap number (sym t.0) }
 
-pub refused_in : (a b : FilesSeen) (f : File) (bytes : List ℕ) (stop : Stop) → MayBe a.told f.name bytes → StopsAt (f.refusal bytes) stop → Stops a b f stop
+pub refused_in : (a b : FilesSeen) (f : File) (bytes : List ℕ) (stop : Stop) → MayBe a.contents f.name bytes → StopsAt (f.refusal bytes) stop → Stops a b f stop
 refused_in a b f bytes stops.Memory may t = tt
 refused_in a b f bytes stops.CannotRead may t = absurd t
 refused_in a b f bytes (stops.Refused cause place) may t = record { bytes = bytes; held = may; refused = t }
 
--- where its contents are told, they are those that are refused
-pub where_told : (told : List ℕ → Option (List ℕ)) (f : File) (why : Why) → MayBeRefused told f why → WhereTold (told f.name) (λ all. f.refusal all ≡ Some why)
-where_told told f why h = λ all is. ap f.refusal (sym (h.held all is)) ∙ h.refused
+-- where its contents are seen, they are those that are refused
+pub where_seen : (seen : List ℕ → Option (List ℕ)) (f : File) (why : Why) → MayBeRefused seen f why → WhereSeen (seen f.name) (λ all. f.refusal all ≡ Some why)
+where_seen seen f why h = λ all is. ap f.refusal (sym (h.held all is)) ∙ h.refused
 
 -- ## from an earlier call on
 
@@ -94,7 +94,7 @@ rose_earlier a b c le rose = omega arith
 read_earlier : (a b c : FilesSeen) (name : List ℕ) → a.read_faults ≤ b.read_faults → IsCannotRead b c name → IsCannotRead a c name
 read_earlier a b c name le h = record { rose = rose_earlier a.read_faults b.read_faults c.read_faults le h.rose; named = h.named }
 
-pub halts_earlier : (a b c : FilesSeen) (f : File) (halt : Halt) → b.told ≡ a.told → a.read_faults ≤ b.read_faults → HaltsAt b c f halt → HaltsAt a c f halt
+pub halts_earlier : (a b c : FilesSeen) (f : File) (halt : Halt) → b.contents ≡ a.contents → a.read_faults ≤ b.read_faults → HaltsAt b c f halt → HaltsAt a c f halt
 halts_earlier a b c f halts.Memory same le h = tt
 halts_earlier a b c f (halts.CannotRead name) same le h = (h.0, read_earlier a b c f.name le h.1)
 halts_earlier a b c f (halts.Refused name cause place) same le h =

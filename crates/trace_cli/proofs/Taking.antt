@@ -60,18 +60,18 @@ as_many_sources app = as_many app 0 app.tasks
 -- ## sources one by one
 
 -- these sources were taken of the first files, so many
-pub record HasFirst (told : List ℕ → Option (List ℕ)) (app : AppData) (builder : Builder) (k : ℕ) : Type 0 where
+pub record HasFirst (seen : List ℕ → Option (List ℕ)) (app : AppData) (builder : Builder) (k : ℕ) : Type 0 where
   pub sources : List (List ℕ)
   pub count : length sources ≡ k
-  pub takes : Takes (MayBe told) (source_files app) sources
+  pub takes : Takes (MayBe seen) (source_files app) sources
   pub taken : HasTaken sources builder
 
-pub none_yet : (told : List ℕ → Option (List ℕ)) (app : AppData) (builder : Builder) → HasTaken [] builder → HasFirst told app builder 0
-none_yet told app builder h = record { sources = []; count = refl; takes = takes_none (MayBe told) (source_files app); taken = h }
+pub none_yet : (seen : List ℕ → Option (List ℕ)) (app : AppData) (builder : Builder) → HasTaken [] builder → HasFirst seen app builder 0
+none_yet seen app builder h = record { sources = []; count = refl; takes = takes_none (MayBe seen) (source_files app); taken = h }
 
-pub one_more : (told : List ℕ → Option (List ℕ)) (app : AppData) (old new : Builder) (k : ℕ) (t : TaskData) (h : HasFirst told app old k) → described old ≡ app
-    → slice_get app.tasks k ≡ Some t → HasNext told t.source h.sources old new → HasFirst told app new (k + 1)
-one_more told app old new k t h same at next =
+pub one_more : (seen : List ℕ → Option (List ℕ)) (app : AppData) (old new : Builder) (k : ℕ) (t : TaskData) (h : HasFirst seen app old k) → described old ≡ app
+    → slice_get app.tasks k ≡ Some t → HasNext seen t.source h.sources old new → HasFirst seen app new (k + 1)
+one_more seen app old new k t h same at next =
     let index : next_task old ≡ k = h.taken.next ∙ h.count in
     let file : slice_get (source_files app) (length h.sources) ≡ Some (source_file app k t) = ap (λ n. slice_get (source_files app) n) h.count ∙ source_at_index app k t at in
     let mine : source_refusal app (next_task old) next.bytes ≡ None = subst (λ (a : AppData). source_refusal a (next_task old) next.bytes ≡ None) same next.accepted in
@@ -79,25 +79,25 @@ one_more told app old new k t h same at next =
     record {
       sources = h.sources ++ next.bytes ∷ [];
       count = (let more = longer h.sources next.bytes in let count = h.count in omega arith);
-      takes = takes_last (MayBe told) (source_files app) h.sources (source_file app k t) next.bytes h.takes file next.held accepted;
+      takes = takes_last (MayBe seen) (source_files app) h.sources (source_file app k t) next.bytes h.takes file next.held accepted;
       taken = next.taken;
     }
 
-pub all_taken : (told : List ℕ → Option (List ℕ)) (app : AppData) (builder : Builder) (k : ℕ) → k ≡ length app.tasks → HasFirst told app builder k → HasAll told app builder
-all_taken told app builder k all h =
+pub all_taken : (seen : List ℕ → Option (List ℕ)) (app : AppData) (builder : Builder) (k : ℕ) → k ≡ length app.tasks → HasFirst seen app builder k → HasAll seen app builder
+all_taken seen app builder k all h =
     record { sources = h.sources; each = record { takes = h.takes; all = as_many_sources app ∙ sym all ∙ sym h.count }; taken = h.taken }
 
 -- ## an application before its sources
 
-pub app_then_sources : (told : List ℕ → Option (List ℕ)) (name bytes : List ℕ) (app : AppData) (sources : List (List ℕ)) → MayBe told name bytes → (app_file name).refusal bytes ≡ None
-    → Takes (MayBe told) (source_files app) sources → Takes (MayBe told) (app_file name ∷ source_files app) (bytes ∷ sources)
-app_then_sources told name bytes app sources held accepted takes = takes_first (MayBe told) (app_file name) (source_files app) bytes sources held accepted takes
+pub app_then_sources : (seen : List ℕ → Option (List ℕ)) (name bytes : List ℕ) (app : AppData) (sources : List (List ℕ)) → MayBe seen name bytes → (app_file name).refusal bytes ≡ None
+    → Takes (MayBe seen) (source_files app) sources → Takes (MayBe seen) (app_file name ∷ source_files app) (bytes ∷ sources)
+app_then_sources seen name bytes app sources held accepted takes = takes_first (MayBe seen) (app_file name) (source_files app) bytes sources held accepted takes
 
 -- the next source is not taken
-pub halts_next : (a b c : FilesSeen) (app : AppData) (builder : Builder) (k : ℕ) (t : TaskData) (halt : Halt) → HasFirst a.told app builder k → b.told ≡ a.told → a.read_faults ≤ b.read_faults
+pub halts_next : (a b c : FilesSeen) (app : AppData) (builder : Builder) (k : ℕ) (t : TaskData) (halt : Halt) → HasFirst a.contents app builder k → b.contents ≡ a.contents → a.read_faults ≤ b.read_faults
     → described builder ≡ app → slice_get app.tasks k ≡ Some t → HaltsAt b c record { name = t.source; refusal = source_refusal (described builder) (next_task builder) } halt
     → HaltsInSources a c app halt
-halts_next a b c app builder k t halt h told le same at halts =
+halts_next a b c app builder k t halt h seen le same at halts =
     let index : next_task builder ≡ k = h.taken.next ∙ h.count in
     let at_app : AppData → File = λ x. record { name = t.source; refusal = source_refusal x (next_task builder) } in
     let at_index : ℕ → File = λ i. record { name = t.source; refusal = source_refusal app i } in
@@ -109,7 +109,7 @@ halts_next a b c app builder k t halt h told le same at halts =
         takes = h.takes;
         file = source_file app k t;
         next = ap (λ n. slice_get (source_files app) n) h.count ∙ source_at_index app k t at;
-        halts = halts_earlier a b c (source_file app k t) halt told le mine;
+        halts = halts_earlier a b c (source_file app k t) halt seen le mine;
       };
     }
 
@@ -120,16 +120,16 @@ get_mapped f (x ∷ xs) (suc k) d lt = get_mapped f xs k d (omega arith)
 
 -- ## an application's files
 
-sources_are : (told : List ℕ → Option (List ℕ)) (name bytes : List ℕ) (app : AppData) (image : Picture) → application_of bytes ≡ app → MayBe told name bytes → app_refusal bytes ≡ None
-    → IsImageOf told app image → IsImage told name image
-sources_are told name bytes app image is held accepted h =
-    let mine : IsImageOf told (application_of bytes) image = subst (λ (a : AppData). IsImageOf told a image) (sym is) h in
+sources_are : (seen : List ℕ → Option (List ℕ)) (name bytes : List ℕ) (app : AppData) (image : Picture) → application_of bytes ≡ app → MayBe seen name bytes → app_refusal bytes ≡ None
+    → IsImageOf seen app image → IsImage seen name image
+sources_are seen name bytes app image is held accepted h =
+    let mine : IsImageOf seen (application_of bytes) image = subst (λ (a : AppData). IsImageOf seen a image) (sym is) h in
     let count : length mine.sources ≡ length (application_of bytes).tasks = sym mine.each.all ∙ as_many_sources (application_of bytes) in
     record {
       bytes = bytes;
       sources = mine.sources;
       each = record {
-        takes = app_then_sources told name bytes (application_of bytes) mine.sources held accepted mine.each.takes;
+        takes = app_then_sources seen name bytes (application_of bytes) mine.sources held accepted mine.each.takes;
         all = ap suc mine.each.all;
       };
       is = record {
@@ -138,25 +138,25 @@ sources_are told name bytes app image is held accepted h =
       };
     }
 
-pub image_of_files : (told : List ℕ → Option (List ℕ)) (name bytes : List ℕ) (app : AppData) (image : Picture) → length bytes ≤ 2097152 → read_app bytes ≡ Ok app → room_refusal app ≡ None
-    → MayBe told name bytes → IsImageOf told app image → IsImage told name image
-image_of_files told name bytes app image le is room held h =
-    sources_are told name bytes app image (is_application bytes app is) held (app_by_room bytes app le is ∙ room) h
+pub image_of_files : (seen : List ℕ → Option (List ℕ)) (name bytes : List ℕ) (app : AppData) (image : Picture) → length bytes ≤ 2097152 → read_app bytes ≡ Ok app → room_refusal app ≡ None
+    → MayBe seen name bytes → IsImageOf seen app image → IsImage seen name image
+image_of_files seen name bytes app image le is room held h =
+    sources_are seen name bytes app image (is_application bytes app is) held (app_by_room bytes app le is ∙ room) h
 
 -- a source is not taken
 pub halts_in_app : (a b c : FilesSeen) (name bytes : List ℕ) (app : AppData) (halt : Halt) → length bytes ≤ 2097152 → read_app bytes ≡ Ok app → room_refusal app ≡ None
-    → MayBe a.told name bytes → b.told ≡ a.told → a.read_faults ≤ b.read_faults → HaltsInSources b c app halt → HaltsInApp a c name halt
-halts_in_app a b c name bytes app halt le is room held told later h =
+    → MayBe a.contents name bytes → b.contents ≡ a.contents → a.read_faults ≤ b.read_faults → HaltsInSources b c app halt → HaltsInApp a c name halt
+halts_in_app a b c name bytes app halt le is room held seen later h =
     let mine : HaltsInSources b c (application_of bytes) halt = subst (λ (x : AppData). HaltsInSources b c x halt) (sym (is_application bytes app is)) h in
-    let takes : Takes (MayBe a.told) (source_files (application_of bytes)) mine.sources =
-    subst (λ (t : List ℕ → Option (List ℕ)). Takes (MayBe t) (source_files (application_of bytes)) mine.sources) told mine.at.takes in
+    let takes : Takes (MayBe a.contents) (source_files (application_of bytes)) mine.sources =
+    subst (λ (t : List ℕ → Option (List ℕ)). Takes (MayBe t) (source_files (application_of bytes)) mine.sources) seen mine.at.takes in
     record {
       contents = bytes ∷ mine.sources;
       at = record {
-        takes = app_then_sources a.told name bytes (application_of bytes) mine.sources held (app_by_room bytes app le is ∙ room) takes;
+        takes = app_then_sources a.contents name bytes (application_of bytes) mine.sources held (app_by_room bytes app le is ∙ room) takes;
         file = mine.at.file;
         next = mine.at.next;
-        halts = halts_earlier a b c mine.at.file halt told later mine.at.halts;
+        halts = halts_earlier a b c mine.at.file halt seen later mine.at.halts;
       };
     }
 
@@ -165,28 +165,28 @@ pub halts_at_app : (a c : FilesSeen) (name : List ℕ) (halt : Halt) → HaltsAt
 halts_at_app a c name halt h = record {
   contents = [];
   at = record {
-    takes = takes_none (MayBe a.told) (files_to_build name (first_of []));
+    takes = takes_none (MayBe a.contents) (files_to_build name (first_of []));
     file = app_file name;
     next = refl;
     halts = h;
   };
 }
 
-pub image_of_all : (told : List ℕ → Option (List ℕ)) (app : AppData) (builder : Builder) (image : Picture) → described builder ≡ app → HasAll told app builder
-    → ((sources : List (List ℕ)) → HasTaken sources builder → Built (described builder) sources image) → Sound image → IsImageOf told app image
-image_of_all told app builder image same all built sound =
+pub image_of_all : (seen : List ℕ → Option (List ℕ)) (app : AppData) (builder : Builder) (image : Picture) → described builder ≡ app → HasAll seen app builder
+    → ((sources : List (List ℕ)) → HasTaken sources builder → Built (described builder) sources image) → Sound image → IsImageOf seen app image
+image_of_all seen app builder image same all built sound =
     record { sources = all.sources; each = all.each; built = subst (λ (a : AppData). Built a all.sources image) same (built all.sources all.taken); sound = sound }
 
 pub memory_in_app : (a c : FilesSeen) (name : List ℕ) (halt : Halt) → halt ≡ halts.Memory → HaltsInApp a c name halt
 memory_in_app a c name halt is = subst (λ (h : Halt). HaltsInApp a c name h) (sym is) (halts_at_app a c name halts.Memory tt)
 
-pub all_next : (told : List ℕ → Option (List ℕ)) (app : AppData) (builder : Builder) → described builder ≡ app → HasAll told app builder → next_task builder ≡ length (described builder).tasks
-all_next told app builder same all =
+pub all_next : (seen : List ℕ → Option (List ℕ)) (app : AppData) (builder : Builder) → described builder ≡ app → HasAll seen app builder → next_task builder ≡ length (described builder).tasks
+all_next seen app builder same all =
     let count : length app.tasks ≡ length all.sources = sym (as_many_sources app) ∙ all.each.all in
     all.taken.next ∙ sym count ∙ ap (λ (a : AppData). length a.tasks) (sym same)
 
 -- memory is short, or a source is not taken
 pub halts_later : (a b c : FilesSeen) (name bytes : List ℕ) (app : AppData) (halt : Halt) → length bytes ≤ 2097152 → read_app bytes ≡ Ok app → room_refusal app ≡ None
-    → MayBe a.told name bytes → b.told ≡ a.told → a.read_faults ≤ b.read_faults → (halt ≡ halts.Memory) ⊎ HaltsInSources b c app halt → HaltsInApp a c name halt
-halts_later a b c name bytes app halt le is room held told later (inl memory) = memory_in_app a c name halt memory
-halts_later a b c name bytes app halt le is room held told later (inr h) = halts_in_app a b c name bytes app halt le is room held told later h
+    → MayBe a.contents name bytes → b.contents ≡ a.contents → a.read_faults ≤ b.read_faults → (halt ≡ halts.Memory) ⊎ HaltsInSources b c app halt → HaltsInApp a c name halt
+halts_later a b c name bytes app halt le is room held seen later (inl memory) = memory_in_app a c name halt memory
+halts_later a b c name bytes app halt le is room held seen later (inr h) = halts_in_app a b c name bytes app halt le is room held seen later h

@@ -1,7 +1,7 @@
 -- What an answer of the program says of the words, of the files and of the sink.
 use Rattle.std.specs.Prelude.{◌≡◌, ◌≢◌, ◌⊎◌, ℕ, false, List, Option, Some, None}
 use Rattle.std.specs.Io.KnownBytes.{Appends}
-use Rattle.outside_io.specs.Outside.{WhereTold, Rose, AppendsFront, IsFront, short_name}
+use Rattle.outside_io.specs.Outside.{WhereSeen, Rose, AppendsFront, IsFront, short_name}
 use Rattle.image_format.specs.Picture.{Picture, spelling}
 use Rattle.board_model.specs.Script.{Scenario}
 use Rattle.command_line.specs.CommandLine.{Asked, is_taken}
@@ -17,24 +17,24 @@ use Rattle.trace_cli.specs.Verdict.{Verdict, usage, refused, refused_line, unrea
 -- each file before is accepted, and a read of this one failed, by the count and the name of the last failing call
 pub record IsUnread (job : Asked) (before after : FilesSeen) (f : File) : Type 0 where
   pub contents : List (List ℕ)
-  pub reached : Reaches (MayBe before.told) job contents f
+  pub reached : Reaches (MayBe before.contents) job contents f
   pub rose : Rose before.read_faults after.read_faults
-  pub named : WhereTold after.last_failing (λ name. name ≡ short_name f.name)
+  pub named : WhereSeen after.last_failing (λ name. name ≡ short_name f.name)
 
--- each file before is accepted, and this one may hold contents that are refused so; where they are told, it is those
-pub record IsRefused (job : Asked) (told : List ℕ → Option (List ℕ)) (f : File) (why : Why) : Type 0 where
+-- each file before is accepted, and this one may hold contents that are refused so; where they are seen, it is those
+pub record IsRefused (job : Asked) (seen : List ℕ → Option (List ℕ)) (f : File) (why : Why) : Type 0 where
   pub contents : List (List ℕ)
-  pub reached : Reaches (MayBe told) job contents f
-  pub refused : MayBeRefused told f why
+  pub reached : Reaches (MayBe seen) job contents f
+  pub refused : MayBeRefused seen f why
 
 -- each file is accepted
 abbrev pub IsAccepted : Asked → (List ℕ → Option (List ℕ)) → List (List ℕ) → Type 0
-IsAccepted job told contents = TakesAll (MayBe told) job contents
+IsAccepted job seen contents = TakesAll (MayBe seen) job contents
 
 pub data Reason (job : Asked) (before after : FilesSeen) (v : Verdict) : Type 0 where
   cannot_read : (f : File) → IsUnread job before after f → v ≡ unread f.name → Reason job before after v
-  refuses : (f : File) (why : Why) → IsRefused job before.told f why → v ≡ refused f.name why → Reason job before after v
-  does : (contents : List (List ℕ)) → IsAccepted job before.told contents → Does job contents v → Reason job before after v
+  refuses : (f : File) (why : Why) → IsRefused job before.contents f why → v ≡ refused f.name why → Reason job before after v
+  does : (contents : List (List ℕ)) → IsAccepted job before.contents contents → Does job contents v → Reason job before after v
 
 -- ## and on words
 
@@ -44,33 +44,33 @@ pub data Ground (words : List (List ℕ)) (before after : FilesSeen) (v : Verdic
 
 -- ## what became of a verdict
 
--- other names keep what is told of them
+-- other names keep what is seen of them
 abbrev pub OthersStay : (List ℕ → Option (List ℕ)) → (List ℕ → Option (List ℕ)) → List ℕ → Type 0
-OthersStay told told' name = (other : List ℕ) → other ≢ name → told' other ≡ told other
+OthersStay seen seen' name = (other : List ℕ) → other ≢ name → seen' other ≡ seen other
 
 -- the file of the verdict, if it has one, was put
 abbrev pub HasPut : (List ℕ → Option (List ℕ)) → (List ℕ → Option (List ℕ)) → Option (List ℕ × List ℕ) → Type 0
-HasPut told told' None = told' ≡ told
-HasPut told told' (Some (name, bytes)) = WhereTold (told' name) (λ all. all ≡ bytes) × OthersStay told told' name
+HasPut seen seen' None = seen' ≡ seen
+HasPut seen seen' (Some (name, bytes)) = WhereSeen (seen' name) (λ all. all ≡ bytes) × OthersStay seen seen' name
 
 -- its put failed: under its name are the old contents or a front of the new ones
 abbrev pub HasSpoiled : (List ℕ → Option (List ℕ)) → (List ℕ → Option (List ℕ)) → Option (List ℕ × List ℕ) → Type 0
-HasSpoiled told told' None = ⊥
-HasSpoiled told told' (Some (name, bytes)) = WhereTold (told' name) (λ all. (told name ≡ Some all) ⊎ IsFront all bytes) × OthersStay told told' name
+HasSpoiled seen seen' None = ⊥
+HasSpoiled seen seen' (Some (name, bytes)) = WhereSeen (seen' name) (λ all. (seen name ≡ Some all) ⊎ IsFront all bytes) × OthersStay seen seen' name
 
 -- nothing was pushed and nothing was put, for want of memory
 pub record IsShort (before after : FilesSeen) (w w' : SinkSeen) (r : ℕ) : Type 0 where
   pub status : r ≡ 5
   pub written : w'.written ≡ w.written
   pub faults : w'.faults ≡ w.faults
-  pub files : after.told ≡ before.told
+  pub files : after.contents ≡ before.contents
 
 -- The file was put and the text pushed whole, under the verdict's status; or, under 4, a push failed after the file was put
 -- and a front of the text pushed; or, under 4, the put failed and nothing was pushed; or memory is short.
 pub data Tells (before after : FilesSeen) (w w' : SinkSeen) (v : Verdict) (r : ℕ) : Type 0 where
-  whole : r ≡ v.status → HasPut before.told after.told v.put → Appends w.written w'.written v.text → Tells before after w w' v r
-  cut : r ≡ 4 → Rose w.faults w'.faults → HasPut before.told after.told v.put → AppendsFront w.written w'.written v.text → Tells before after w w' v r
-  spoiled : r ≡ 4 → Rose before.put_faults after.put_faults → HasSpoiled before.told after.told v.put → w'.written ≡ w.written → Tells before after w w' v r
+  whole : r ≡ v.status → HasPut before.contents after.contents v.put → Appends w.written w'.written v.text → Tells before after w w' v r
+  cut : r ≡ 4 → Rose w.faults w'.faults → HasPut before.contents after.contents v.put → AppendsFront w.written w'.written v.text → Tells before after w w' v r
+  spoiled : r ≡ 4 → Rose before.put_faults after.put_faults → HasSpoiled before.contents after.contents v.put → w'.written ≡ w.written → Tells before after w w' v r
   short : IsShort before after w w' r → Tells before after w w' v r
 
 -- the answer to a job, and to words: some verdict, for its reason, was told, or memory is short
@@ -83,11 +83,11 @@ Answers words before after w w' r = IsShort before after w w' r ⊎ ((v : Verdic
 -- ## by status
 
 -- the whole text of a run that ended so, with its memory where it was asked for
-pub record HasRun (words : List (List ℕ)) (told : List ℕ → Option (List ℕ)) (w w' : SinkSeen) (r : ℕ) : Type 0 where
+pub record HasRun (words : List (List ℕ)) (seen : List ℕ → Option (List ℕ)) (w w' : SinkSeen) (r : ℕ) : Type 0 where
   pub job : Asked
   pub command : job_in words ≡ Some job
   pub contents : List (List ℕ)
-  pub accepted : IsAccepted job told contents
+  pub accepted : IsAccepted job seen contents
   pub bound : ℕ
   pub detail : Detail
   pub scenario : Scenario
@@ -96,25 +96,25 @@ pub record HasRun (words : List (List ℕ)) (told : List ℕ → Option (List �
   pub text : Appends w.written w'.written (ran bound detail scenario).text
 
 -- the line of a listing
-pub record HasListed (words : List (List ℕ)) (told : List ℕ → Option (List ℕ)) (w w' : SinkSeen) : Type 0 where
+pub record HasListed (words : List (List ℕ)) (seen : List ℕ → Option (List ℕ)) (w w' : SinkSeen) : Type 0 where
   pub job : Asked
   pub command : job_in words ≡ Some job
   pub contents : List (List ℕ)
-  pub accepted : IsAccepted job told contents
+  pub accepted : IsAccepted job seen contents
   pub image : Picture
   pub is : IsListing job contents image
   pub text : Appends w.written w'.written (listed image).text
 
 -- an image was put, and its line pushed
-pub record HasBuilt (words : List (List ℕ)) (told told' : List ℕ → Option (List ℕ)) (w w' : SinkSeen) : Type 0 where
+pub record HasBuilt (words : List (List ℕ)) (seen seen' : List ℕ → Option (List ℕ)) (w w' : SinkSeen) : Type 0 where
   pub job : Asked
   pub command : job_in words ≡ Some job
   pub contents : List (List ℕ)
-  pub accepted : IsAccepted job told contents
+  pub accepted : IsAccepted job seen contents
   pub out : List ℕ
   pub image : Picture
   pub is : IsBuild job contents out image
-  pub file : WhereTold (told' out) (λ all. all ≡ spelling image)
+  pub file : WhereSeen (seen' out) (λ all. all ≡ spelling image)
   pub text : Appends w.written w'.written (built out image).text
 
 -- the two lines of the run of a sample that ended so
@@ -130,19 +130,19 @@ pub record HasSampled (words : List (List ℕ)) (w w' : SinkSeen) (r : ℕ) : Ty
 
 -- what is told of a run that ended so, of files or of a sample: 6 where the supervisor faulted
 abbrev pub HasPlayed : List (List ℕ) → (List ℕ → Option (List ℕ)) → SinkSeen → SinkSeen → ℕ → Type 0
-HasPlayed words told w w' r = HasRun words told w w' r ⊎ HasSampled words w w' r
+HasPlayed words seen w w' r = HasRun words seen w w' r ⊎ HasSampled words w w' r
 
 -- 0: the job was done
 abbrev pub HasDone : List (List ℕ) → FilesSeen → FilesSeen → SinkSeen → SinkSeen → Type 0
-HasDone words before after w w' = HasPlayed words before.told w w' 0 ⊎ (HasListed words before.told w w' ⊎ HasBuilt words before.told after.told w w')
+HasDone words before after w w' = HasPlayed words before.contents w w' 0 ⊎ (HasListed words before.contents w w' ⊎ HasBuilt words before.contents after.contents w w')
 
 -- 1: the line of the file that is refused
-pub record HasRefused (words : List (List ℕ)) (told : List ℕ → Option (List ℕ)) (w w' : SinkSeen) : Type 0 where
+pub record HasRefused (words : List (List ℕ)) (seen : List ℕ → Option (List ℕ)) (w w' : SinkSeen) : Type 0 where
   pub job : Asked
   pub command : job_in words ≡ Some job
   pub file : File
   pub why : Why
-  pub is : IsRefused job told file why
+  pub is : IsRefused job seen file why
   pub line : Appends w.written w'.written (refused_line file.name why.0 why.1)
 
 -- 3: the line of the file that cannot be read
@@ -157,18 +157,18 @@ pub record HasUnread (words : List (List ℕ)) (before after : FilesSeen) (w w' 
 -- nothing was pushed
 abbrev pub IsCut : FilesSeen → FilesSeen → SinkSeen → SinkSeen → Verdict → Type 0
 IsCut before after w w' v =
-    (Rose w.faults w'.faults × HasPut before.told after.told v.put × AppendsFront w.written w'.written v.text)
-    ⊎ (Rose before.put_faults after.put_faults × HasSpoiled before.told after.told v.put × (w'.written ≡ w.written))
+    (Rose w.faults w'.faults × HasPut before.contents after.contents v.put × AppendsFront w.written w'.written v.text)
+    ⊎ (Rose before.put_faults after.put_faults × HasSpoiled before.contents after.contents v.put × (w'.written ≡ w.written))
 
 pub record HasFront (words : List (List ℕ)) (before after : FilesSeen) (w w' : SinkSeen) : Type 0 where
   pub verdict : Verdict
   pub ground : Ground words before after verdict
   pub front : IsCut before after w w' verdict
 
--- ## where the contents are told
+-- ## where the contents are seen
 
--- the verdict on them, or a read failed and that is told
-pub record HasUnreadTold (words : List (List ℕ)) (before after : FilesSeen) (w w' : SinkSeen) (r : ℕ) : Type 0 where
+-- the verdict on them, or a read failed and that is seen
+pub record HasUnreadSeen (words : List (List ℕ)) (before after : FilesSeen) (w w' : SinkSeen) (r : ℕ) : Type 0 where
   pub job : Asked
   pub command : job_in words ≡ Some job
   pub file : File
@@ -176,9 +176,9 @@ pub record HasUnreadTold (words : List (List ℕ)) (before after : FilesSeen) (w
   pub tells : Tells before after w w' (unread file.name) r
 
 abbrev pub Answered : List (List ℕ) → FilesSeen → FilesSeen → SinkSeen → SinkSeen → Verdict → ℕ → Type 0
-Answered words before after w w' v r = Tells before after w w' v r ⊎ HasUnreadTold words before after w w' r
+Answered words before after w w' v r = Tells before after w w' v r ⊎ HasUnreadSeen words before after w w' r
 
 -- where no count of faults rose: the file was put and the whole text pushed under its status, or memory is short
 abbrev pub IsComplete : FilesSeen → FilesSeen → SinkSeen → SinkSeen → Verdict → ℕ → Type 0
 IsComplete before after w w' v r =
-    ((r ≡ v.status) × HasPut before.told after.told v.put × Appends w.written w'.written v.text) ⊎ IsShort before after w w' r
+    ((r ≡ v.status) × HasPut before.contents after.contents v.put × Appends w.written w'.written v.text) ⊎ IsShort before after w w' r

@@ -86,13 +86,13 @@ unfoldable pub application_of : List ℕ → AppData
 application_of bytes = app_in (read_app bytes)
 
 -- how many bytes are needed, as far as a number of 64 bits says it
-abbrev pub told_need : ℕ → List ℕ
-told_need needed = decimal (min needed (2 ^ 64 - 1))
+abbrev pub need_text : ℕ → List ℕ
+need_text needed = decimal (min needed (2 ^ 64 - 1))
 
 -- the board has no room for its memory: flash first (docs/FORMATS.md, Building)
 abbrev pub room_refusal : AppData → Option Why
-room_refusal app = if nat_lt app.flash (flash_needed app) then Some (21, codes "flash:" ++ told_need (flash_needed app))
-    else if nat_lt app.ram (ram_needed app) then Some (21, codes "ram:" ++ told_need (ram_needed app))
+room_refusal app = if nat_lt app.flash (flash_needed app) then Some (21, codes "flash:" ++ need_text (flash_needed app))
+    else if nat_lt app.ram (ram_needed app) then Some (21, codes "ram:" ++ need_text (ram_needed app))
     else None
 
 -- why an application is refused, if it is: its description (docs/FORMATS.md, Application), or its plan

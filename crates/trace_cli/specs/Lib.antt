@@ -4,6 +4,6 @@ pub mod Contents
 pub mod Ready
 pub mod Sources
 pub mod Stops
-pub mod Told
+pub mod Pushed
 pub mod Verdict
 pub mod Words

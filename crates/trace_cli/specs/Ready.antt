@@ -16,24 +16,24 @@ use Rattle.trace_cli.specs.Sources.{MayBe, TakesAll, files_by, IsRun}
 use Rattle.trace_cli.specs.Building.{HaltsAfter}
 
 -- an image is that which the file of this name spells
-pub record IsImageFile (told : List ℕ → Option (List ℕ)) (name : List ℕ) (image : Picture) : Type 0 where
+pub record IsImageFile (seen : List ℕ → Option (List ℕ)) (name : List ℕ) (image : Picture) : Type 0 where
   pub bytes : List ℕ
-  pub held : MayBe told name bytes
+  pub held : MayBe seen name bytes
   pub accepted : image_refusal bytes ≡ None
   pub is : image ≡ picture_of bytes
 
 -- the board stands for the start of the image's run with the script of this name
-pub record IsSet (told : List ℕ → Option (List ℕ)) (image : Picture) (name : List ℕ) (b : Board) : Type 0 where
+pub record IsSet (seen : List ℕ → Option (List ℕ)) (image : Picture) (name : List ℕ) (b : Board) : Type 0 where
   pub script : List ℕ
-  pub held : MayBe told name script
+  pub held : MayBe seen name script
   pub accepted : script_refusal script ≡ None
   pub stands : Stands (scenario_of image script) b (start (scenario_of image script).setup)
   pub turns : turns_of b ≡ 0
 
 -- each file of the job is accepted, and the board stands for the start of its run
-pub record IsReady (job : Asked) (told : List ℕ → Option (List ℕ)) (n : ℕ) (detail : Detail) (b : Board) : Type 0 where
+pub record IsReady (job : Asked) (seen : List ℕ → Option (List ℕ)) (n : ℕ) (detail : Detail) (b : Board) : Type 0 where
   pub contents : List (List ℕ)
-  pub accepted : TakesAll (MayBe told) job contents
+  pub accepted : TakesAll (MayBe seen) job contents
   pub scenario : Scenario
   pub is : IsRun job contents n detail scenario
   pub stands : Stands scenario b (start scenario.setup)

@@ -1,6 +1,6 @@
 -- The files of a job, in the order in which they are taken.
 use Rattle.std.specs.Prelude.{◌≡◌, ℕ, ◌+◌, List, [], ◌∷◌, ◌++◌, length, drop, take, slice_get, slice_index_or, Option, Some, None}
-use Rattle.outside_io.specs.Outside.{WhereTold}
+use Rattle.outside_io.specs.Outside.{WhereSeen}
 use Rattle.app_toml.specs.Apps.{AppData, TaskData}
 use Rattle.image_format.specs.Picture.{Picture, Sound}
 use Rattle.image_build.specs.Built.{Built}
@@ -56,20 +56,20 @@ first_of contents = slice_index_or contents 0 []
 abbrev pub files_by : Asked → List (List ℕ) → List File
 files_by job contents = files_of job (first_of contents)
 
--- ## contents, by what is told of them
+-- ## contents, by what is seen of them
 
--- they may be the contents under the name: where those are told, they are these
+-- they may be the contents under the name: where those are seen, they are these
 abbrev pub MayBe : (List ℕ → Option (List ℕ)) → List ℕ → List ℕ → Type 0
-MayBe told name bytes = WhereTold (told name) (λ all. bytes ≡ all)
+MayBe seen name bytes = WhereSeen (seen name) (λ all. bytes ≡ all)
 
--- they are told to be the contents under the name
+-- they are seen to be the contents under the name
 abbrev pub Are : (List ℕ → Option (List ℕ)) → List ℕ → List ℕ → Type 0
-Are told name bytes = told name ≡ Some bytes
+Are seen name bytes = seen name ≡ Some bytes
 
 -- there are contents that may be the file's, and they are refused so
-pub record MayBeRefused (told : List ℕ → Option (List ℕ)) (f : File) (why : Why) : Type 0 where
+pub record MayBeRefused (seen : List ℕ → Option (List ℕ)) (f : File) (why : Why) : Type 0 where
   pub bytes : List ℕ
-  pub held : MayBe told f.name bytes
+  pub held : MayBe seen f.name bytes
   pub refused : f.refusal bytes ≡ Some why
 
 -- these are contents of the first of the files, and each of them is accepted

@@ -3,12 +3,12 @@ use Rattle.std.specs.Prelude.{◌≡◌, ℕ, Bool, false, if◌then◌else◌, 
 use Rattle.serde_json.specs.Written.{compact_text}
 use Rattle.image_format.specs.Picture.{Picture, spelling}
 use Rattle.image_list.specs.Listing.{image_data}
-use Rattle.board_model.specs.declared.told.End.{End}
-use Rattle.board_model.specs.declared.told.End.TheVariants.{Bound, Still, Supervisor}
+use Rattle.board_model.specs.declared.outcomes.End.{End}
+use Rattle.board_model.specs.declared.outcomes.End.TheVariants.{Bound, Still, Supervisor}
 use Rattle.task_table.specs.Start.{start}
 use Rattle.task_table.specs.State.{Setup, State}
-use Rattle.board_model.specs.declared.told.Level.{Level}
-use Rattle.board_model.specs.declared.told.Level.TheVariants.{Calls, All}
+use Rattle.board_model.specs.declared.outcomes.Level.{Level}
+use Rattle.board_model.specs.declared.outcomes.Level.TheVariants.{Brief, All}
 use Rattle.board_model.specs.Script.{Scenario}
 use Rattle.board_model.specs.Run as board
 use Rattle.board_run.specs.Text.{trace_text}
@@ -65,9 +65,9 @@ status_of Bound = 0
 status_of Still = 0
 status_of Supervisor = 6
 
--- all instructions are told, or not
+-- all instructions are noted, or not
 abbrev pub level_of : Detail → Level
-level_of detail = if detail.instructions then All else Calls
+level_of detail = if detail.instructions then All else Brief
 
 -- the run of a scenario from its start, of at most n turns
 abbrev pub run_of : Level → ℕ → Scenario → board.Run
@@ -97,7 +97,7 @@ built out image = record { status = 0; text = built_line (length (spelling image
 -- the sample of a seed was run: how the run ended, and how many notes of each kind it had
 abbrev pub sampled : ℕ → Scenario → Verdict
 sampled n x =
-    let r = run_of Calls n x in
+    let r = run_of Brief n x in
     line_alone (status_of r.end) (summary_text r)
 
 -- ## what comes of accepted files with these contents
@@ -108,13 +108,13 @@ pub data Does (job : Asked) (contents : List (List ℕ)) (v : Verdict) : Type 0 
   builds : (out : List ℕ) (image : Picture) → IsBuild job contents out image → v ≡ built out image → Does job contents v
   samples : (seed n : ℕ) (x : Scenario) → IsSample job seed n x → v ≡ sampled n x → Does job contents v
 
--- ## the verdict on words and contents, where they are told as far as they count
+-- ## the verdict on words and contents, where they are seen as far as they count
 
 -- Words that are not taken are answered by the usage line, the first file that is refused by its line, and accepted files
 -- by what the job is. There is at most one verdict.
-pub data IsVerdict (words : List (List ℕ)) (told : List ℕ → Option (List ℕ)) (v : Verdict) : Type 0 where
-  no_job : is_taken words ≡ false → v ≡ usage → IsVerdict words told v
+pub data IsVerdict (words : List (List ℕ)) (seen : List ℕ → Option (List ℕ)) (v : Verdict) : Type 0 where
+  no_job : is_taken words ≡ false → v ≡ usage → IsVerdict words seen v
   refuses : (job : Asked) (contents : List (List ℕ)) (f : File) (bytes : List ℕ) (why : Why) → job_in words ≡ Some job
-      → Reaches (Are told) job contents f → Are told f.name bytes → f.refusal bytes ≡ Some why → v ≡ refused f.name why → IsVerdict words told v
+      → Reaches (Are seen) job contents f → Are seen f.name bytes → f.refusal bytes ≡ Some why → v ≡ refused f.name why → IsVerdict words seen v
   does : (job : Asked) (contents : List (List ℕ)) → job_in words ≡ Some job
-      → TakesAll (Are told) job contents → Does job contents v → IsVerdict words told v
+      → TakesAll (Are seen) job contents → Does job contents v → IsVerdict words seen v

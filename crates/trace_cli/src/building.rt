@@ -53,10 +53,10 @@ fn take_source<F: Files>(
 ) -> Result<(), Halt>
     requires next { next_task builder.old < length (described builder.old).tasks }
     ensures described { described builder.new ≡ described builder.old }
-    ensures taken { (sources : List (List ℕ)) → HasTaken sources builder.old → OnOk result (HasNext (F.seen files.old).told name.now sources builder.old builder.new) }
+    ensures taken { (sources : List (List ℕ)) → HasTaken sources builder.old → OnOk result (HasNext (F.seen files.old).contents name.now sources builder.old builder.new) }
     ensures halt { IfErr result (HaltsAt (F.seen files.old) (F.seen files.new) record { name = name.now; refusal = source_refusal (described builder.old) (next_task builder.old) }) }
     ensures later { (F.seen files.old).read_faults ≤ (F.seen files.new).read_faults }
-    ensures contents { (F.seen files.new).told ≡ (F.seen files.old).told }
+    ensures contents { (F.seen files.new).contents ≡ (F.seen files.old).contents }
     ensures puts { (F.seen files.new).put_faults ≡ (F.seen files.old).put_faults }
 {
     let bytes = match read_contents(alloc, files, name) {
@@ -79,10 +79,10 @@ fn take_sources<F: Files>(
     requires described { described builder.old ≡ app_of app.now }
     requires none { HasTaken [] builder.old }
     ensures described { described builder.new ≡ described builder.old }
-    ensures taken { OnOk result (HasAll (F.seen files.old).told (app_of app.now) builder.new) }
+    ensures taken { OnOk result (HasAll (F.seen files.old).contents (app_of app.now) builder.new) }
     ensures halt { IfErr result (HaltsInSources (F.seen files.old) (F.seen files.new) (app_of app.now)) }
     ensures later { (F.seen files.old).read_faults ≤ (F.seen files.new).read_faults }
-    ensures contents { (F.seen files.new).told ≡ (F.seen files.old).told }
+    ensures contents { (F.seen files.new).contents ≡ (F.seen files.old).contents }
     ensures puts { (F.seen files.new).put_faults ≡ (F.seen files.old).put_faults }
 {
     for task in app.tasks() {
@@ -103,10 +103,10 @@ fn image_of<F: Files>(
 ) -> Result<Image, Halt>
     requires described { described builder ≡ app_of app.now }
     requires none { HasTaken [] builder }
-    ensures image { IfOk result (λ i. IsImageOf (F.seen files.old).told (app_of app.now) (picture i)) }
+    ensures image { IfOk result (λ i. IsImageOf (F.seen files.old).contents (app_of app.now) (picture i)) }
     ensures halt { IfErr result (λ h. (h ≡ Halt.Memory) ⊎ HaltsInSources (F.seen files.old) (F.seen files.new) (app_of app.now) h) }
     ensures later { (F.seen files.old).read_faults ≤ (F.seen files.new).read_faults }
-    ensures contents { (F.seen files.new).told ≡ (F.seen files.old).told }
+    ensures contents { (F.seen files.new).contents ≡ (F.seen files.old).contents }
     ensures puts { (F.seen files.new).put_faults ≡ (F.seen files.old).put_faults }
 {
     let mut builder = builder;
@@ -122,10 +122,10 @@ fn image_of<F: Files>(
 
 /// The image of the application under a name.
 pub fn built_image<F: Files>(alloc: Global, files: &mut F, name: &str) -> Result<Image, Halt>
-    ensures image { IfOk result (λ i. IsImage (F.seen files.old).told name.now (picture i)) }
+    ensures image { IfOk result (λ i. IsImage (F.seen files.old).contents name.now (picture i)) }
     ensures halt { IfErr result (HaltsInApp (F.seen files.old) (F.seen files.new) name.now) }
     ensures later { (F.seen files.old).read_faults ≤ (F.seen files.new).read_faults }
-    ensures contents { (F.seen files.new).told ≡ (F.seen files.old).told }
+    ensures contents { (F.seen files.new).contents ≡ (F.seen files.old).contents }
     ensures puts { (F.seen files.new).put_faults ≡ (F.seen files.old).put_faults }
 {
     let bytes = match read_contents(alloc, files, name) {

@@ -10,8 +10,8 @@ ghost use Rattle.trace_cli.specs.Answer.{HasPut};
 /// `build` and then `run` write what `go` writes: where an application was built and put under OUT, and no other name
 /// changed, the run of OUT with a script of another name has the verdict of `go`.
 pub fn build_then_run_is_go()
-    ensures { (build_words go_words run_words : List (List ℕ)) (told told' : List ℕ → Option (List ℕ)) (app out script : List ℕ) (n : ℕ) (detail : Detail) (b v w : Verdict)
+    ensures { (build_words go_words run_words : List (List ℕ)) (seen seen' : List ℕ → Option (List ℕ)) (app out script : List ℕ) (n : ℕ) (detail : Detail) (b v w : Verdict)
         → job_in build_words ≡ Some (build_job app out) → job_in go_words ≡ Some (go_job app script n detail) → job_in run_words ≡ Some (run_job out script n detail)
-        → script ≢ out → IsVerdict build_words told b → b.status ≡ 0 → HasPut told told' b.put
-        → IsVerdict go_words told v → IsVerdict run_words told' w → v ≡ w }
+        → script ≢ out → IsVerdict build_words seen b → b.status ≡ 0 → HasPut seen seen' b.put
+        → IsVerdict go_words seen v → IsVerdict run_words seen' w → v ≡ w }
 {}

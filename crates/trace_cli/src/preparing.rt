@@ -17,10 +17,10 @@ use std::alloc::Global;
 
 /// The image under a name.
 pub fn read_image<F: Files>(alloc: Global, files: &mut F, name: &str) -> Result<Image, Halt>
-    ensures image { IfOk result (λ i. IsImageFile (F.seen files.old).told name.now (picture i)) }
+    ensures image { IfOk result (λ i. IsImageFile (F.seen files.old).contents name.now (picture i)) }
     ensures halt { IfErr result (HaltsAt (F.seen files.old) (F.seen files.new) (image_file name.now)) }
     ensures later { (F.seen files.old).read_faults ≤ (F.seen files.new).read_faults }
-    ensures contents { (F.seen files.new).told ≡ (F.seen files.old).told }
+    ensures contents { (F.seen files.new).contents ≡ (F.seen files.old).contents }
     ensures puts { (F.seen files.new).put_faults ≡ (F.seen files.old).put_faults }
 {
     let bytes = match read_contents(alloc, files, name) {
@@ -40,10 +40,10 @@ fn set_up<F: Files>(
     image: &Image,
     script: &str,
 ) -> Result<Board, Halt>
-    ensures set { IfOk result (IsSet (F.seen files.old).told (picture image.now) script.now) }
+    ensures set { IfOk result (IsSet (F.seen files.old).contents (picture image.now) script.now) }
     ensures halt { IfErr result (HaltsAt (F.seen files.old) (F.seen files.new) (script_file script.now)) }
     ensures later { (F.seen files.old).read_faults ≤ (F.seen files.new).read_faults }
-    ensures contents { (F.seen files.new).told ≡ (F.seen files.old).told }
+    ensures contents { (F.seen files.new).contents ≡ (F.seen files.old).contents }
     ensures puts { (F.seen files.new).put_faults ≡ (F.seen files.old).put_faults }
 {
     let bytes = match read_contents(alloc, files, script) {
@@ -67,10 +67,10 @@ pub fn prepare_run<F: Files>(
     image: &str,
     script: &str,
 ) -> Result<Board, Halt>
-    ensures ready { (n : ℕ) (detail : Detail) → IfOk result (IsReady (run_job image.now script.now n detail) (F.seen files.old).told n detail) }
+    ensures ready { (n : ℕ) (detail : Detail) → IfOk result (IsReady (run_job image.now script.now n detail) (F.seen files.old).contents n detail) }
     ensures halt { (n : ℕ) (detail : Detail) → IfErr result (Halts (run_job image.now script.now n detail) (F.seen files.old) (F.seen files.new)) }
     ensures later { (F.seen files.old).read_faults ≤ (F.seen files.new).read_faults }
-    ensures contents { (F.seen files.new).told ≡ (F.seen files.old).told }
+    ensures contents { (F.seen files.new).contents ≡ (F.seen files.old).contents }
     ensures puts { (F.seen files.new).put_faults ≡ (F.seen files.old).put_faults }
 {
     match read_image(alloc, files, image) {
@@ -86,10 +86,10 @@ pub fn prepare_go<F: Files>(
     app: &str,
     script: &str,
 ) -> Result<Board, Halt>
-    ensures ready { (n : ℕ) (detail : Detail) → IfOk result (IsReady (go_job app.now script.now n detail) (F.seen files.old).told n detail) }
+    ensures ready { (n : ℕ) (detail : Detail) → IfOk result (IsReady (go_job app.now script.now n detail) (F.seen files.old).contents n detail) }
     ensures halt { (n : ℕ) (detail : Detail) → IfErr result (Halts (go_job app.now script.now n detail) (F.seen files.old) (F.seen files.new)) }
     ensures later { (F.seen files.old).read_faults ≤ (F.seen files.new).read_faults }
-    ensures contents { (F.seen files.new).told ≡ (F.seen files.old).told }
+    ensures contents { (F.seen files.new).contents ≡ (F.seen files.old).contents }
     ensures puts { (F.seen files.new).put_faults ≡ (F.seen files.old).put_faults }
 {
     match built_image(alloc, files, app) {

@@ -10,7 +10,7 @@ ghost use Rattle.command_line.specs.CommandLine.{Asked, is_taken, build as build
 ghost use Rattle.outside_io.specs.Seen.{FilesSeen};
 ghost use Rattle.trace_cli.specs.Words.{texts_of, job_in, out_of};
 ghost use Rattle.trace_cli.specs.Verdict.{Verdict, IsVerdict, usage_line, ran, built, level_of, run_of, status_of};
-ghost use Rattle.trace_cli.specs.Told.{Pushed, Says, SaysHalt};
+ghost use Rattle.trace_cli.specs.Pushed.{Pushed, Says, SaysHalt};
 ghost use Rattle.trace_cli.specs.Ready.{IsReady, Halts};
 ghost use Rattle.trace_cli.specs.Answer.{Tells, AnswersJob, Answers, Answered, IsComplete, HasPlayed, HasDone, HasRefused, HasUnread, HasFront};
 
@@ -32,7 +32,7 @@ fn level_of(detail: Detail) -> Level
     if detail.instructions {
         Level::All
     } else {
-        Level::Calls
+        Level::Brief
     }
 }
 
@@ -80,8 +80,8 @@ fn play<S: Sink>(
 ) -> u8
     requires few { steps ≤ 1000000000 }
     requires ready { IfOk prepared (λ b. Stood b × (turns_of b ≡ 0)) }
-    ensures { (job : Asked) (before after : FilesSeen) → after.told ≡ before.told
-        → IfOk prepared (IsReady job before.told steps detail) → IfErr prepared (Halts job before after)
+    ensures { (job : Asked) (before after : FilesSeen) → after.contents ≡ before.contents
+        → IfOk prepared (IsReady job before.contents steps detail) → IfErr prepared (Halts job before after)
         → AnswersJob job before after (S.seen out.old) (S.seen out.new) result }
 {
     match prepared {
@@ -106,7 +106,7 @@ fn run_files<F: Files, S: Sink>(
     requires few { steps ≤ 1000000000 }
     ensures answer { AnswersJob (run_job image.now script.now steps detail) (F.seen files.old) (F.seen files.new) (S.seen out.old) (S.seen out.new) result }
     ensures later { (F.seen files.old).read_faults ≤ (F.seen files.new).read_faults }
-    ensures contents { (F.seen files.new).told ≡ (F.seen files.old).told }
+    ensures contents { (F.seen files.new).contents ≡ (F.seen files.old).contents }
     ensures puts { (F.seen files.new).put_faults ≡ (F.seen files.old).put_faults }
 {
     let prepared = prepare_run(alloc, files, image, script);
@@ -126,7 +126,7 @@ fn go_files<F: Files, S: Sink>(
     requires few { steps ≤ 1000000000 }
     ensures answer { AnswersJob (go_job app.now script.now steps detail) (F.seen files.old) (F.seen files.new) (S.seen out.old) (S.seen out.new) result }
     ensures later { (F.seen files.old).read_faults ≤ (F.seen files.new).read_faults }
-    ensures contents { (F.seen files.new).told ≡ (F.seen files.old).told }
+    ensures contents { (F.seen files.new).contents ≡ (F.seen files.old).contents }
     ensures puts { (F.seen files.new).put_faults ≡ (F.seen files.old).put_faults }
 {
     let prepared = prepare_go(alloc, files, app, script);
@@ -137,7 +137,7 @@ fn go_files<F: Files, S: Sink>(
 fn list_file<F: Files, S: Sink>(alloc: Global, image: &str, files: &mut F, out: &mut S) -> u8
     ensures answer { AnswersJob (list_job image.now) (F.seen files.old) (F.seen files.new) (S.seen out.old) (S.seen out.new) result }
     ensures later { (F.seen files.old).read_faults ≤ (F.seen files.new).read_faults }
-    ensures contents { (F.seen files.new).told ≡ (F.seen files.old).told }
+    ensures contents { (F.seen files.new).contents ≡ (F.seen files.old).contents }
     ensures puts { (F.seen files.new).put_faults ≡ (F.seen files.old).put_faults }
 {
     match read_image(alloc, files, image) {
@@ -240,29 +240,29 @@ pub fn hubris_main<F: Files, S: Sink>(
     files: &mut F,
     out: &mut S,
 ) -> u8
-    // Where the words and the told contents give a verdict (of accepted words and files: the trace of
+    // Where the words and the seen contents give a verdict (of accepted words and files: the trace of
     // their run, the listing, the image that is built, or the two lines of a sample), its file was put, its whole text was pushed
     // under its status; or the sink's count of faults rose, the status is 4, and a front of the text was
     // pushed; or the count of failed puts rose, the status is 4, and nothing was pushed; or memory is
     // short, the status is 5, and nothing was pushed or put; or the count of failed reads rose, and the
     // same holds of the line of a file that cannot be read.
-    ensures told { (v : Verdict) → IsVerdict (texts_of words.now) (F.seen files.old).told v → Answered (texts_of words.now) (F.seen files.old) (F.seen files.new) (S.seen out.old) (S.seen out.new) v result }
+    ensures seen { (v : Verdict) → IsVerdict (texts_of words.now) (F.seen files.old).contents v → Answered (texts_of words.now) (F.seen files.old) (F.seen files.new) (S.seen out.old) (S.seen out.new) v result }
     ensures complete { ¬ Rose (F.seen files.old).read_faults (F.seen files.new).read_faults → ¬ Rose (F.seen files.old).put_faults (F.seen files.new).put_faults → ¬ Rose (S.seen out.old).faults (S.seen out.new).faults →
-        (v : Verdict) → IsVerdict (texts_of words.now) (F.seen files.old).told v → IsComplete (F.seen files.old) (F.seen files.new) (S.seen out.old) (S.seen out.new) v result }
+        (v : Verdict) → IsVerdict (texts_of words.now) (F.seen files.old).contents v → IsComplete (F.seen files.old) (F.seen files.new) (S.seen out.old) (S.seen out.new) v result }
 
     // When each status comes, and what was pushed and put with it.
     ensures done { result ≡ 0 → HasDone (texts_of words.now) (F.seen files.old) (F.seen files.new) (S.seen out.old) (S.seen out.new) }
-    ensures refused { result ≡ 1 → HasRefused (texts_of words.now) (F.seen files.old).told (S.seen out.old) (S.seen out.new) }
+    ensures refused { result ≡ 1 → HasRefused (texts_of words.now) (F.seen files.old).contents (S.seen out.old) (S.seen out.new) }
     ensures no_command { result ≡ 2 → (is_taken (texts_of words.now) ≡ false) × Appends (S.seen out.old).written (S.seen out.new).written usage_line }
     ensures unread { result ≡ 3 → HasUnread (texts_of words.now) (F.seen files.old) (F.seen files.new) (S.seen out.old) (S.seen out.new) }
     ensures cut { result ≡ 4 → HasFront (texts_of words.now) (F.seen files.old) (F.seen files.new) (S.seen out.old) (S.seen out.new) }
-    ensures short { result ≡ 5 → ((S.seen out.new).written ≡ (S.seen out.old).written) × ((S.seen out.new).faults ≡ (S.seen out.old).faults) × ((F.seen files.new).told ≡ (F.seen files.old).told) }
-    ensures supervisor { result ≡ 6 → HasPlayed (texts_of words.now) (F.seen files.old).told (S.seen out.old) (S.seen out.new) 6 }
+    ensures short { result ≡ 5 → ((S.seen out.new).written ≡ (S.seen out.old).written) × ((S.seen out.new).faults ≡ (S.seen out.old).faults) × ((F.seen files.new).contents ≡ (F.seen files.old).contents) }
+    ensures supervisor { result ≡ 6 → HasPlayed (texts_of words.now) (F.seen files.old).contents (S.seen out.old) (S.seen out.new) 6 }
     ensures known { result ≤ 6 }
 
     // Only the file under OUT is changed, and only under the statuses 0 and 4.
-    ensures others { (name : List ℕ) → out_of (job_in (texts_of words.now)) ≢ Some name → (F.seen files.new).told name ≡ (F.seen files.old).told name }
-    ensures kept { result ≢ 0 → result ≢ 4 → (F.seen files.new).told ≡ (F.seen files.old).told }
+    ensures others { (name : List ℕ) → out_of (job_in (texts_of words.now)) ≢ Some name → (F.seen files.new).contents name ≡ (F.seen files.old).contents name }
+    ensures kept { result ≢ 0 → result ≢ 4 → (F.seen files.new).contents ≡ (F.seen files.old).contents }
     ensures no_put { out_of (job_in (texts_of words.now)) ≡ None → (F.seen files.new).put_faults ≡ (F.seen files.old).put_faults }
     ensures later { ((F.seen files.old).read_faults ≤ (F.seen files.new).read_faults) × ((F.seen files.old).put_faults ≤ (F.seen files.new).put_faults) }
 {

@@ -11,7 +11,7 @@ ghost use Rattle.task_table.specs.Start.{start};
 ghost use Rattle.trace_cli.specs.Answer.{AnswersJob};
 ghost use Rattle.trace_cli.specs.Ready.{IsSampleReady};
 ghost use Rattle.outside_io.specs.Seen.{FilesSeen};
-ghost use Rattle.trace_cli.specs.Told.{Pushed};
+ghost use Rattle.trace_cli.specs.Pushed.{Pushed};
 ghost use Rattle.trace_cli.specs.Verdict.{sampled};
 
 use crate::telling::status_by;
@@ -71,7 +71,7 @@ fn tell_sample<S: Sink>(board: &mut Board, steps: u32, out: &mut S) -> u8
 /// `sample SEED STEPS`.
 pub fn run_sample<S: Sink>(alloc: Global, seed: u32, steps: u32, out: &mut S) -> u8
     requires few { steps ≤ 1000000000 }
-    ensures { (before after : FilesSeen) → after.told ≡ before.told
+    ensures { (before after : FilesSeen) → after.contents ≡ before.contents
         → AnswersJob (sample_job seed steps) before after (S.seen out.old) (S.seen out.new) result }
 {
     match prepare_sample(alloc, seed) {

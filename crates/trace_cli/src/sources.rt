@@ -20,11 +20,11 @@ const LIMIT: usize = 2_097_152;
 
 /// The contents under a name.
 pub fn read_contents<F: Files>(alloc: Global, files: &mut F, name: &str) -> Result<Vec<u8>, Stop>
-    ensures held { IfOk result (λ v. MayBe (F.seen files.old).told name.now v.items) }
+    ensures held { IfOk result (λ v. MayBe (F.seen files.old).contents name.now v.items) }
     ensures few { IfOk result (λ v. length v.items ≤ 2097152) }
     ensures stop { IfErr result (CannotTake (F.seen files.old) (F.seen files.new) name.now) }
     ensures later { (F.seen files.old).read_faults ≤ (F.seen files.new).read_faults }
-    ensures contents { (F.seen files.new).told ≡ (F.seen files.old).told }
+    ensures contents { (F.seen files.new).contents ≡ (F.seen files.old).contents }
     ensures puts { (F.seen files.new).put_faults ≡ (F.seen files.old).put_faults }
 {
     match read_all(alloc, files, name, LIMIT) {

@@ -1,7 +1,7 @@
 //! One line, and the status that goes with it.
 ghost use Rattle.std.specs.Prelude.{◌≡◌, ℕ, IfOk, string_bytes};
 ghost use Rattle.image_format.specs.Images.{picture};
-ghost use Rattle.trace_cli.specs.Told.{Pushed, Says, SaysHalt};
+ghost use Rattle.trace_cli.specs.Pushed.{Pushed, Says, SaysHalt};
 ghost use Rattle.trace_cli.specs.Verdict.{Verdict, usage, unread, refused, refused_front, refused_line, unread_line, built_line, listed, listing_line, status_of};
 
 use crate::stops::Halt;

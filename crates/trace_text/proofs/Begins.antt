@@ -5,7 +5,7 @@ use Rattle.std.specs.Prelude.{decimal}
 use Rattle.std.specs.String.Boundary.{IsSplitPoint}
 use Rattle.kernel_abi.specs.declared.Note.{Note}
 use Rattle.kernel_abi.specs.declared.Note.TheVariants as note
-use Rattle.trace_text.specs.Text.{line_of, tick_line, irq_line, post_line, call_line, ret_line, close_line, fault_line, listen_line, take_line, offer_line, borrow_line, restart_line, insn_line, idle_line, low_line, high_line}
+use Rattle.trace_text.specs.Text.{line_of, tick_line, irq_line, post_line, syscall_line, ret_line, close_line, fault_line, listen_line, take_line, offer_line, borrow_line, restart_line, insn_line, idle_line, low_line, high_line}
 
 -- first these bytes, then a space
 abbrev pub Begins : List ℕ → List ℕ → Type 0
@@ -18,11 +18,11 @@ longer : (xs ys zs : List ℕ) → Begins xs ys → Begins xs (ys ++ zs)
 longer xs ys zs b = (b.0 ++ zs, ap (λ (w : List ℕ). w ++ zs) b.1 ∙ append_assoc xs (32 ∷ b.0) zs)
 
 pub line_begins : (turn : ℕ) (n : Note) → Begins (decimal turn) (line_of turn n)
-unfolding tick_line irq_line post_line call_line ret_line close_line fault_line listen_line take_line offer_line borrow_line restart_line insn_line idle_line low_line high_line
+unfolding tick_line irq_line post_line syscall_line ret_line close_line fault_line listen_line take_line offer_line borrow_line restart_line insn_line idle_line low_line high_line
 line_begins turn (note.Tick now) = longer _ _ _ (longer _ _ _ (first _ _))
 line_begins turn (note.Irq line handled) = longer _ _ _ (longer _ _ _ (longer _ _ _ (longer _ _ _ (first _ _))))
 line_begins turn (note.Post task bits posted) = longer _ _ _ (longer _ _ _ (longer _ _ _ (longer _ _ _ (first _ _))))
-line_begins turn (note.Call task number arguments) = longer _ _ _ (longer _ _ _ (longer _ _ _ (longer _ _ _ (longer _ _ _ (first _ _)))))
+line_begins turn (note.Syscall task number arguments) = longer _ _ _ (longer _ _ _ (longer _ _ _ (longer _ _ _ (longer _ _ _ (first _ _)))))
 line_begins turn (note.Ret task results) = longer _ _ _ (longer _ _ _ (longer _ _ _ (first _ _)))
 line_begins turn (note.Close call ending) = longer _ _ _ (longer _ _ _ (longer _ _ _ (longer _ _ _ (first _ _))))
 line_begins turn (note.Fault task fault) = longer _ _ _ (longer _ _ _ (longer _ _ _ (longer _ _ _ (longer _ _ _ (longer _ _ _ (first _ _))))))

@@ -20,9 +20,9 @@ use Rattle.mem_banks.specs.Memory.{number_of}
 use Rattle.task_table.specs.State.{Setup, Call, Listen, Own, Lease, Entry, Leased, Read, Turn}
 use Rattle.task_table.specs.declared.slot.Range.{Range}
 use Rattle.task_table.specs.Reading.{task_at, listen_of, arguments, is_out, is_dead, is_valid, bad_byte}
-use Rattle.task_table.specs.Effects.{changed, without_listen, with_health, noted, given, returned, past_call, bits_added, bits_cleared, woken_by, woken, posted, closed, faulted_as, copied, looked}
+use Rattle.task_table.specs.Effects.{changed, without_listen, with_health, noted, given, returned, past_syscall, bits_added, bits_cleared, woken_by, woken, posted, closed, faulted_as, copied, looked}
 use Rattle.task_table.specs.Rows.{goes_on_with}
-use Rattle.task_table.specs.Borrows.{entry_range, grant, lease_range, entry_read, Way, reading, writing, moved, no_lease, refused, buffer_of, part_of, lent, granted, borrowed_by, borrowed, untold, grant_told, informed_by, informed}
+use Rattle.task_table.specs.Borrows.{entry_range, grant, lease_range, entry_read, Way, reading, writing, moved, no_lease, refused, buffer_of, part_of, lent, granted, borrowed_by, borrowed, uninformed, grant_answered, informed_by, informed}
 use Rattle.two_runs.specs.Alike.{Viewer, IsAttentive, seen_call, IsAlike, AreSeen, IsAlikeWhereSeen}
 use Rattle.two_runs.proofs.Alike.{taken_alike, bytes_alike}
 use Rattle.two_runs.proofs.AlikeRows.{by_test, by_same, by_case, surely, alike-noted, alike-copied, alike-looked, alike-misused, alike-denied, alike-goes_on_with, alike-answers, args, is_out_same, is_dead_same, dead_code_same}
@@ -59,7 +59,7 @@ reads-faulted_as g i fault ending t = go (eqb i 0)
     go false = reads-posted 0 g.fault_bits shut
 
 reads-goes_on_with : (c : ℕ) (values : List ℕ) (t : Turn) → (goes_on_with c values t).reads ≡ t.reads
-unfolding returned noted past_call given
+unfolding returned noted past_syscall given
 reads-goes_on_with c values t = refl
 
 -- a read that is there stays there
@@ -99,8 +99,8 @@ keeps-granted r g way c x k e t h =
     keeps-row r (is_some bad) (keeps-on r c _ _ (keeps-faulted r g _ _ _ t h))
     (keeps-on r c _ _ (keeps-noted_borrow r k.number way.borrow x.lease x.offset part.length _ (keeps-moved r way.borrow k part.base x.buffer_base part.length t h))))))))
 
-keeps-grant_told : (r : Read) (g : Setup) (c lease : ℕ) (k : Call) (e : LeaseEntry) (t : Turn) → Keeps r t → Keeps r (grant_told g c lease k e t)
-keeps-grant_told r g c lease k e t h =
+keeps-grant_answered : (r : Read) (g : Setup) (c lease : ℕ) (k : Call) (e : LeaseEntry) (t : Turn) → Keeps r t → Keeps r (grant_answered g c lease k e t)
+keeps-grant_answered r g c lease k e t h =
     keeps-row r (not (is_valid (lease_range e))) (keeps-on r c _ _ (keeps-faulted r g _ _ _ t h))
     (keeps-on r c _ _ (keeps-noted_borrow r k.number borrow.Info lease 0 0 t h))
 
@@ -135,12 +135,12 @@ module _ (w : Viewer) (a : IsAttentive w) where
   alike-refused : (c code : ℕ) (t u : Turn) → IsAlike w t u → IsAlike w (refused c code t) (refused c code u)
   alike-refused c code t u h = alike-goes_on_with w a c (code ∷ 0 ∷ []) t u h
 
-  alike-untold : (c code : ℕ) (t u : Turn) → IsAlike w t u → IsAlike w (untold c code t) (untold c code u)
-  alike-untold c code t u h = alike-goes_on_with w a c (code ∷ 0 ∷ 0 ∷ []) t u h
+  alike-uninformed : (c code : ℕ) (t u : Turn) → IsAlike w t u → IsAlike w (uninformed c code t) (uninformed c code u)
+  alike-uninformed c code t u h = alike-goes_on_with w a c (code ∷ 0 ∷ 0 ∷ []) t u h
 
   -- after bytes have moved
   alike-borrowed : (c : ℕ) (values : List ℕ) (number : ℕ) (b : Borrow) (lease offset n : ℕ) (t u : Turn) → IsAlikeWhereSeen w t u → IsAlikeWhereSeen w (goes_on_with c values (noted (note.Borrow number b lease offset n) t)) (goes_on_with c values (noted (note.Borrow number b lease offset n) u))
-  unfolding returned noted past_call given
+  unfolding returned noted past_syscall given
   alike-borrowed c values number b lease offset n t u h = record { alike = λ see. alike-goes_on_with w a c values _ _ (alike-noted w a (note.Borrow number b lease offset n) t u refl (h.alike see)) }
 
   alike-lent : (g : Setup) (way : Way) (c : ℕ) (x : BorrowArgs) (k : Call) (part : Range) (t u : Turn) → ((y : ℕ) → x.buffer_base ≤ y → y < x.buffer_base + part.length → w.sees y ≡ true) → IsAlike w t u → IsAlikeWhereSeen w (lent g way c x k part t) (lent g way c x k part u)
@@ -216,22 +216,22 @@ module _ (w : Viewer) (a : IsAttentive w) where
   alike-writing g c t u open_to h = alike-borrow g writing c t u (blind-writing g c) open_to h
 
   -- BORROW_INFO
-  alike-grant_told : (g : Setup) (c lease : ℕ) (k : Call) (e : LeaseEntry) (t u : Turn) → IsAlike w t u → IsAlikeWhereSeen w (grant_told g c lease k e t) (grant_told g c lease k e u)
-  alike-grant_told g c lease k e t u h =
-      by_same (IsAlikeWhereSeen w) (not (is_valid (lease_range e))) (surely w a (alike-untold c no_lease _ _ (alike-misused w a g k.client.index (usage_number InvalidSlice) t u h)))
+  alike-grant_answered : (g : Setup) (c lease : ℕ) (k : Call) (e : LeaseEntry) (t u : Turn) → IsAlike w t u → IsAlikeWhereSeen w (grant_answered g c lease k e t) (grant_answered g c lease k e u)
+  alike-grant_answered g c lease k e t u h =
+      by_same (IsAlikeWhereSeen w) (not (is_valid (lease_range e))) (surely w a (alike-uninformed c no_lease _ _ (alike-misused w a g k.client.index (usage_number InvalidSlice) t u h)))
       (alike-borrowed c (0 ∷ bit_and e.attributes 3 ∷ e.len ∷ []) k.number borrow.Info lease 0 0 t u (surely w a h))
 
   alike-informed_by : (g : Setup) (c lease : ℕ) (o p : Option Call) (t u : Turn) → option_map (seen_call w.birth) o ≡ option_map (seen_call w.birth) p → IsAlike w t u → IsAlikeWhereSeen w (informed_by g c lease o t) (informed_by g c lease p u)
   unfolding grant
-  alike-informed_by g c lease None None t u e h = surely w a (alike-untold c no_lease t u h)
+  alike-informed_by g c lease None None t u e h = surely w a (alike-uninformed c no_lease t u h)
   alike-informed_by g c lease None (Some m) t u e h = absurd cc
   alike-informed_by g c lease (Some k) None t u e h = absurd cc
   alike-informed_by g c lease (Some k) (Some m) t u e h =
       let bad = bad_byte g k.client.index ToRead (entry_range k lease) in
       by_seen w a (IsAlikeWhereSeen w) (λ y. informed_by g c lease (Some y) u) (λ y. refl) k m inner _
       (by_same (IsAlikeWhereSeen w) (leb k.leases lease) (surely w a (alike-misused w a g c (usage_number LeaseOutOfRange) t u h)) (
-      by_same (IsAlikeWhereSeen w) (is_some bad) (surely w a (alike-untold c no_lease _ _ (alike-denied w a g k.client.index (access_number KernelRead) bad t u h)))
-      (alike-entry k lease (λ y z. grant_told g c lease k y z) (λ r y z q. keeps-grant_told r g c lease k y z q) (λ y p q r. alike-grant_told g c lease k y p q r) t u h)))
+      by_same (IsAlikeWhereSeen w) (is_some bad) (surely w a (alike-uninformed c no_lease _ _ (alike-denied w a g k.client.index (access_number KernelRead) bad t u h)))
+      (alike-entry k lease (λ y z. grant_answered g c lease k y z) (λ r y z q. keeps-grant_answered r g c lease k y z q) (λ y p q r. alike-grant_answered g c lease k y p q r) t u h)))
     where
       inner : seen_call w.birth k ≡ seen_call w.birth m
       inner = cc

@@ -17,13 +17,13 @@ use Rattle.region_check.specs.declared.Right.TheVariants.{Read as ToRead, Write 
 use Rattle.mem_banks.specs.Memory.{number_at, number_of}
 use Rattle.task_table.specs.State.{Setup, Task, Call, From, Any, One, KernelOnly, Listen, Own, Turn}
 use Rattle.task_table.specs.Reading.{task_at, setup_at, arguments, call_of, listen_of, is_valid, bad_byte}
-use Rattle.task_table.specs.Effects.{without_listen, changed, given, returned, closed, stored, at_birth, reborn, is_to, awaits, told_dead, restarted}
+use Rattle.task_table.specs.Effects.{without_listen, changed, given, returned, closed, stored, at_birth, reborn, is_to, awaits, dead_answered, restarted}
 use Rattle.task_table.specs.Rows.{misused, goes_on_with}
 use Rattle.task_table.specs.Sends.{message_of, reply_room}
 use Rattle.task_table.specs.Orders.{Order, status_bytes, status_given, restart_made, injected_by, injected, orders, obeyed, order_of, ordered}
 use Rattle.two_runs.specs.Alike.{Viewer, IsAttentive, seen_call, seen_from, seen_listen, IsAlike}
 use Rattle.two_runs.proofs.Alike.{call_alike, listen_alike, count_alike, bytes_alike}
-use Rattle.two_runs.proofs.AlikeRows.{by_test, by_same, by_case, the_task, alike-told, alike-task, alike-stored, alike-fold, alike-given, alike-closed, alike-no_listen, alike-returned, alike-faulted, alike-misused, alike-denied, alike-goes_on_with, args, generation_same}
+use Rattle.two_runs.proofs.AlikeRows.{by_test, by_same, by_case, the_task, alike-noted, alike-task, alike-stored, alike-fold, alike-given, alike-closed, alike-no_listen, alike-returned, alike-faulted, alike-misused, alike-denied, alike-goes_on_with, args, generation_same}
 use Rattle.two_runs.proofs.Sight.{IsOpen, checked_seen}
 
 -- what holds of each order of a list holds of the one that is found in it
@@ -77,9 +77,9 @@ module _ (w : Viewer) (a : IsAttentive w) where
       blind None = refl
       blind (Some l) = by_from l.from
 
-  alike-told_dead : (i j : ℕ) (t u : Turn) → IsAlike w t u → IsAlike w (told_dead i t j) (told_dead i u j)
-  alike-told_dead i j t u h =
-      subst (λ n. IsAlike w (told_dead i t j) (dead_by (dead_code_of n) u)) (generation_same w a i t u h)
+  alike-noted_dead : (i j : ℕ) (t u : Turn) → IsAlike w t u → IsAlike w (dead_answered i t j) (dead_answered i u j)
+  alike-noted_dead i j t u h =
+      subst (λ n. IsAlike w (dead_answered i t j) (dead_by (dead_code_of n) u)) (generation_same w a i t u h)
       (by_test (IsAlike w) (is_to i (call_of t.state j)) (is_to i (call_of u.state j)) (is_to_same i _ _ (call_alike w.birth t.state u.state j h.state))
       (alike-returned w a j _ _ (alike-given w a j (code ∷ 0 ∷ []) _ _ (alike-closed w a j Restart t u h)))
       (by_test (IsAlike w) (awaits i (listen_of t.state j)) (awaits i (listen_of u.state j)) (awaits_same i _ _ (listen_alike w.birth t.state u.state j h.state))
@@ -100,8 +100,8 @@ module _ (w : Viewer) (a : IsAttentive w) where
   alike-restarted g i start t u h =
       let born = alike-reborn g i start _ _ (alike-no_listen w a i _ _ (alike-closed w a i Restart t u h)) in
       let n = sym (count_alike w.birth t.state u.state h.state) in
-      rw n (alike-fold w a (told_dead i) (range_with_len 0 (length t.state.tasks)) _ _ (λ j p q k. alike-told_dead i j p q k)
-      (alike-told w a _ _ _ _ (ap (λ k. note.Restart i k) (generation_same w a i _ _ born)) refl born))
+      rw n (alike-fold w a (dead_answered i) (range_with_len 0 (length t.state.tasks)) _ _ (λ j p q k. alike-noted_dead i j p q k)
+      (alike-noted w a _ _ _ _ (ap (λ k. note.Restart i k) (generation_same w a i _ _ born)) refl born))
 
   -- ## what a kernel message asks for
 

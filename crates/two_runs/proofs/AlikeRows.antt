@@ -24,10 +24,10 @@ use Rattle.mem_banks.specs.Memory.{Memory, bytes_at, copied as copied_memory}
 use Rattle.task_table.specs.State.{Setup, LineSetup, Task, State, Call, From, Any, One, KernelOnly, Listen, Turn, Ground, Own, Read, MessageFront}
 use Rattle.task_table.specs.declared.slot.Range.{Range}
 use Rattle.task_table.specs.Reading.{task_at, line_at, line_off, line_on, register, arguments, call_of, is_out, is_dead, dead_code_for, present, is_valid, bad_byte}
-use Rattle.task_table.specs.Effects.{with_task, without_call, without_listen, with_listen, with_taken, changed, noted, with_processor, with_health, writes_on, stored, copied, looked, with_results, given, returned, past_call, bits_added, bits_cleared, woken_by, woken, posted, with_timer, clocked, with_line, close_notes, closed, faulted_as, faulted, handed}
-use Rattle.task_table.specs.Rows.{goes_on, goes_on_with, misused, denied, panicked, timer_set, timer_words, timer_told, owns_with, line_controlled, irq_controlled, listened_from, buffer_of, listens, receives_or_listens, offer_of, received, call_noted}
+use Rattle.task_table.specs.Effects.{with_task, without_call, without_listen, with_listen, with_taken, changed, noted, with_processor, with_health, writes_on, stored, copied, looked, with_results, given, returned, past_syscall, bits_added, bits_cleared, woken_by, woken, posted, with_timer, clocked, with_line, close_notes, closed, faulted_as, faulted, handed}
+use Rattle.task_table.specs.Rows.{goes_on, goes_on_with, misused, denied, panicked, timer_set, timer_words, timer_answered, owns_with, line_controlled, irq_controlled, listened_from, buffer_of, listens, receives_or_listens, offer_of, received, syscall_noted}
 use Rattle.task_table.specs.Events.{expired_by, expired, ticked, owner_of, interrupted_by, interrupted}
-use Rattle.two_runs.specs.Levels.{is_told_always}
+use Rattle.two_runs.specs.Levels.{is_noted_always}
 use Rattle.two_runs.specs.Alike.{Viewer, IsAttentive, seen_task, seen_call, seen_from, seen_listen, seen, IsAlike, IsAlikeWhereSeen}
 use Rattle.std.proofs.lemmas.List.Elements.{filter-append}
 use Rattle.two_runs.proofs.Alike.{shown, task_alike, registers_alike, arguments_alike, register_alike, count_alike, call_alike, offer_alike, listen_alike, line_alike, now_alike, alike-with_task, alike-without_call, alike-without_listen, alike-with_listen, alike-with_taken, alike-with_bytes, bytes_alike}
@@ -84,12 +84,12 @@ module _ (w : Viewer) (a : IsAttentive w) where
     reads = h.reads;
   }
 
-  pub alike-noted : (n : Note) (t u : Turn) → is_told_always n ≡ true → IsAlike w t u → IsAlike w (noted n t) (noted n u)
+  pub alike-noted : (n : Note) (t u : Turn) → is_noted_always n ≡ true → IsAlike w t u → IsAlike w (noted n t) (noted n u)
   alike-noted n t u always h = alike-heard n t u (a.hears n always) h
 
   -- a note that is the same in both
-  pub alike-told : (n m : Note) (t u : Turn) → n ≡ m → is_told_always n ≡ true → IsAlike w t u → IsAlike w (noted n t) (noted m u)
-  alike-told n m t u e always h = rw (sym e) (alike-noted n t u always h)
+  pub alike-noted : (n m : Note) (t u : Turn) → n ≡ m → is_noted_always n ≡ true → IsAlike w t u → IsAlike w (noted n t) (noted m u)
+  alike-noted n m t u e always h = rw (sym e) (alike-noted n t u always h)
 
   pub alike-changed : (s x : State) (t u : Turn) → shown w.birth s ≡ shown w.birth x → s.memory ≡ t.state.memory → x.memory ≡ u.state.memory → IsAlike w t u → IsAlike w record t { state = s } record u { state = x }
   alike-changed s x t u e m n h = record { state = e; memory = rw (m, n) h.memory; notes = h.notes; writes = h.writes; reads = h.reads }
@@ -113,9 +113,9 @@ module _ (w : Viewer) (a : IsAttentive w) where
   unfolding given
   alike-given i values t u h = alike-task i _ _ t u (ap (λ (x : Task). record x { registers = with_results values x.registers }) (the_task i t u h)) h
 
-  pub alike-past_call : (i : ℕ) (t u : Turn) → IsAlike w t u → IsAlike w (past_call i t) (past_call i u)
-  unfolding past_call register
-  alike-past_call i t u h = alike-task i _ _ t u (ap (λ (x : Task). record x { registers = slice_set x.registers 15 ((slice_index x.registers 15 + 2) % 2 ^ 32) }) (the_task i t u h)) h
+  pub alike-past_syscall : (i : ℕ) (t u : Turn) → IsAlike w t u → IsAlike w (past_syscall i t) (past_syscall i u)
+  unfolding past_syscall register
+  alike-past_syscall i t u h = alike-task i _ _ t u (ap (λ (x : Task). record x { registers = slice_set x.registers 15 ((slice_index x.registers 15 + 2) % 2 ^ 32) }) (the_task i t u h)) h
 
   pub alike-cleared : (i mask : ℕ) (t u : Turn) → IsAlike w t u → IsAlike w (bits_cleared i mask t) (bits_cleared i mask u)
   unfolding bits_cleared
@@ -140,7 +140,7 @@ module _ (w : Viewer) (a : IsAttentive w) where
   pub alike-clocked : (t u : Turn) → IsAlike w t u → IsAlike w (clocked t) (clocked u)
   unfolding clocked seen
   alike-clocked t u h =
-      alike-told _ _ _ _ (ap (λ k. note.Tick (k + 1)) (now_alike w.birth t.state u.state h.state)) refl
+      alike-noted _ _ _ _ (ap (λ k. note.Tick (k + 1)) (now_alike w.birth t.state u.state h.state)) refl
       (alike-changed _ _ t u (ap (λ (s : State). record s { now = s.now + 1 }) h.state) refl refl h)
 
   pub alike-no_listen : (i : ℕ) (t u : Turn) → IsAlike w t u → IsAlike w (changed (without_listen i) t) (changed (without_listen i) u)
@@ -257,8 +257,8 @@ module _ (w : Viewer) (a : IsAttentive w) where
         let r = front_of k buffer in
         let front : (x : ℕ) → k.message.base ≤ x → x < k.message.base + n → w.sees x ≡ true = see r (Contains-append_right t.reads (r ∷ []) r (0, zero-lt, refl)) in
         let taken = alike-copied on k.message.base buffer.base n _ _ front (alike-looked r t u h) in
-        let told = alike-noted (note.Take k.number n) _ _ refl (alike-changed _ _ _ _ (alike-with_taken w.birth k.client.index _ _ taken.state) refl refl taken) in
-        alike-given k.server.index _ _ _ (alike-no_listen k.server.index _ _ told);
+        let noted_at = alike-noted (note.Take k.number n) _ _ refl (alike-changed _ _ _ _ (alike-with_taken w.birth k.client.index _ _ taken.state) refl refl taken) in
+        alike-given k.server.index _ _ _ (alike-no_listen k.server.index _ _ noted_at);
   }
     where
       zero-lt : 0 < 1
@@ -290,10 +290,10 @@ module _ (w : Viewer) (a : IsAttentive w) where
   unfolding returned noted
   where_seen-returned c t u h = record { alike = λ see. alike-returned c t u (h.alike see) }
 
-  -- ## the rows of the calls
+  -- ## the rows of the system calls
 
   pub alike-goes_on : (c : ℕ) (t u : Turn) → IsAlike w t u → IsAlike w (goes_on c t) (goes_on c u)
-  alike-goes_on c t u h = alike-returned c _ _ (alike-past_call c t u h)
+  alike-goes_on c t u h = alike-returned c _ _ (alike-past_syscall c t u h)
 
   pub alike-goes_on_with : (c : ℕ) (values : List ℕ) (t u : Turn) → IsAlike w t u → IsAlike w (goes_on_with c values t) (goes_on_with c values u)
   alike-goes_on_with c values t u h = alike-goes_on c _ _ (alike-given c values t u h)
@@ -326,9 +326,9 @@ module _ (w : Viewer) (a : IsAttentive w) where
       (alike-goes_on c _ _ (alike-posted c x.bits _ _ (alike-timer c None t u h)))
       (alike-goes_on c _ _ (alike-timer c (Some record { deadline = x.deadline; bits = x.bits }) t u h))))
 
-  pub alike-timer_told : (c : ℕ) (t u : Turn) → IsAlike w t u → IsAlike w (timer_told c t) (timer_told c u)
-  unfolding timer_told
-  alike-timer_told c t u h =
+  pub alike-timer_answered : (c : ℕ) (t u : Turn) → IsAlike w t u → IsAlike w (timer_answered c t) (timer_answered c u)
+  unfolding timer_answered
+  alike-timer_answered c t u h =
       let now = now_alike w.birth t.state u.state h.state in
       let timer : (task_at t.state c).timer ≡ (task_at u.state c).timer = ap (λ (x : Task). x.timer) (the_task c t u h) in
       alike-answers c _ _ t u (λ j. now j % 2 ^ 32 ∷ now j / 2 ^ 32 ∷ timer_words (timer j)) h
@@ -362,12 +362,12 @@ module _ (w : Viewer) (a : IsAttentive w) where
       by_same (IsAlike w) (not (list_any (owns_with c x.bits) g.lines)) (alike-misused g c 6 t u h)
       (alike-goes_on c _ _ (alike-fold (λ v (o : LineSetup). line_controlled c x.bits x.enable o.line v) (filter (owns_with c x.bits) g.lines) t u (λ o p q k. alike-line_controlled c x.bits x.enable o.line p q k) h)))
 
-  pub alike-call_noted : (c : ℕ) (t u : Turn) → IsAlike w t u → IsAlike w (call_noted c t) (call_noted c u)
-  unfolding call_noted
-  alike-call_noted c t u h =
+  pub alike-syscall_noted : (c : ℕ) (t u : Turn) → IsAlike w t u → IsAlike w (syscall_noted c t) (syscall_noted c u)
+  unfolding syscall_noted
+  alike-syscall_noted c t u h =
       let x = register_alike w.birth t.state u.state c 11 h.state in
       let y = registers_alike w.birth t.state u.state c h.state in
-      alike-told _ _ t u (λ j. note.Call c (x j) (slice_range (y j) 4 11)) refl h
+      alike-noted _ _ t u (λ j. note.Syscall c (x j) (slice_range (y j) 4 11)) refl h
 
   -- ## RECV
 
@@ -395,18 +395,18 @@ module _ (w : Viewer) (a : IsAttentive w) where
   alike-listens : (c : ℕ) (x : RecvArgs) (from other : From) (t u : Turn) → seen_from w.birth from ≡ seen_from w.birth other → IsAlike w t u → IsAlike w (listens c x from t) (listens c x other u)
   unfolding with_listen
   alike-listens c x from other t u same h =
-      let k = alike-past_call c t u h in
+      let k = alike-past_syscall c t u h in
       let e : listened_from from ≡ listened_from other = sym (listened_same w.birth from) ∙ ap listened_from same ∙ listened_same w.birth other in
       let l : seen_listen w.birth record { task = c; from = from; mask = x.mask; buffer = buffer_of x } ≡ seen_listen w.birth record { task = c; from = other; mask = x.mask; buffer = buffer_of x } = ap (λ f. record { task = c; from = f; mask = x.mask; buffer = buffer_of x }) same in
-      alike-told _ _ _ _ (ap (λ f. note.Listen c f x.mask) e) refl
-      (alike-changed _ _ _ _ (alike-with_listen w.birth _ _ (past_call c t).state (past_call c u).state l k.state) refl refl k)
+      alike-noted _ _ _ _ (ap (λ f. note.Listen c f x.mask) e) refl
+      (alike-changed _ _ _ _ (alike-with_listen w.birth _ _ (past_syscall c t).state (past_syscall c u).state l k.state) refl refl k)
 
   alike-receives_or_listens : (c : ℕ) (x : RecvArgs) (from other : From) (o p : Option Call) (t u : Turn) → seen_from w.birth from ≡ seen_from w.birth other → option_map (seen_call w.birth) o ≡ option_map (seen_call w.birth) p → IsAlike w t u → IsAlikeWhereSeen w (receives_or_listens c x from o t) (receives_or_listens c x other p u)
   alike-receives_or_listens c x from other None None t u same e h = surely (alike-listens c x from other t u same h)
   alike-receives_or_listens c x from other (Some k) None t u same e h = absurd cc
   alike-receives_or_listens c x from other None (Some m) t u same e h = absurd cc
   alike-receives_or_listens c x from other (Some k) (Some m) t u same e h =
-      where_seen-returned c _ _ (alike-handed Own k m (buffer_of x) _ _ inner (alike-past_call c t u h))
+      where_seen-returned c _ _ (alike-handed Own k m (buffer_of x) _ _ inner (alike-past_syscall c t u h))
     where
       inner : seen_call w.birth k ≡ seen_call w.birth m
       inner = cc

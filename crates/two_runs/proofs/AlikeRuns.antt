@@ -9,9 +9,9 @@ use Rattle.task_table.specs.Sane.{Sane}
 use Rattle.two_runs.specs.Levels.{without_instructions}
 use Rattle.task_table.specs.Start.{begun}
 use Rattle.std.proofs.lemmas.List.Elements.{filter-append}
-use Rattle.board_model.specs.declared.told.End.{End}
-use Rattle.board_model.specs.declared.told.Level.{Level}
-use Rattle.board_model.specs.declared.told.Level.TheVariants.{Calls, All}
+use Rattle.board_model.specs.declared.outcomes.End.{End}
+use Rattle.board_model.specs.declared.outcomes.Level.{Level}
+use Rattle.board_model.specs.declared.outcomes.Level.TheVariants.{Brief, All}
 use Rattle.board_model.specs.Script.{Scenario}
 use Rattle.board_model.specs.Turn.{after_events, turn}
 use Rattle.board_model.proofs.TurnChains.{sane-after_events, sane-after}
@@ -89,15 +89,15 @@ module _ (w : Viewer) (a : IsAttentive w) (l m : Level) (heard : IsHeardAs w l m
       let more = alike-run n (turn l x s).state (turn m x u).state (next s i) (next' u j) record { state = t.state; memory = t.memory } in
       alike-unless s u _ _ _ _ (ending_same (suc n) s u h) h (alike-front s.turn u.turn (turn l x s) (turn m x u) _ _ (turn_alike w.birth s u h.state) t.notes more)
 
--- ## what is told on request
+-- ## what is noted on request
 
 -- so the run is the same without it
-pub less_told-run : (x : Scenario) (n : ℕ) (s : State) → run Calls x n s ≡ without_instructions (run All x n s)
+pub less_noted-run : (x : Scenario) (n : ℕ) (s : State) → run Brief x n s ≡ without_instructions (run All x n s)
 unfolding listener begun
-less_told-run x n s =
+less_noted-run x n s =
     let start = alike_of_told (begun s) (begun s) record { state = refl; writes = refl; reads = refl; notes = refl } in
-    let r = alike-run listener attentive_listener Calls All (λ k request. request) x (open_listener x.setup) (λ b. refl) (λ u. Unit {0}) (λ u. Unit {0}) (λ u i. told_plainly (after_events x u).state) (λ u i. told_plainly (after_events x u).state) (λ u i. tt) (λ u i. tt) n s s tt tt record { state = start.state; memory = start.memory } in
-    let last = (told_of_alike (begun (run Calls x n s).last) (begun (run All x n s).last) (alike_begun listener _ _ r.last)).state in
+    let r = alike-run listener attentive_listener Brief All (λ k request. request) x (open_listener x.setup) (λ b. refl) (λ u. Unit {0}) (λ u. Unit {0}) (λ u i. told_plainly (after_events x u).state) (λ u i. told_plainly (after_events x u).state) (λ u i. tt) (λ u i. tt) n s s tt tt record { state = start.state; memory = start.memory } in
+    let last = (told_of_alike (begun (run Brief x n s).last) (begun (run All x n s).last) (alike_begun listener _ _ r.last)).state in
     λ i. record { last = last i; notes = r.notes i; end = r.end i }
 
 -- ## births modulo 64
@@ -111,9 +111,9 @@ pub reduced-run : (level : Level) (x : Scenario) (n : ℕ) (s : State) → Sane 
 unfolding archivist begun
 reduced-run level x n s sane =
     let births : ℕ → ℕ = λ b. b % 64 in
-    let told : (u : State) → Sane x.setup u → AreTellable births (after_events x u).state = λ u h. told_sanely births x.setup (after_events x u).state (sane-after_events x u h) in
+    let noted_at : (u : State) → Sane x.setup u → AreTellable births (after_events x u).state = λ u h. told_sanely births x.setup (after_events x u).state (sane-after_events x u h) in
     let start = alike-reduced s in
-    let r = alike-run archivist attentive_archivist level level (level_heard level) x (λ c. record { rights = λ right b e. refl; beyond = λ b e. refl }) (λ b. refl) (Sane x.setup) (Sane x.setup) told told (λ u h. sane-after level x u h) (λ u h. sane-after level x u h) n (reduced s) s (sane-reduced x.setup s sane) sane record { state = start.state; memory = start.memory } in
+    let r = alike-run archivist attentive_archivist level level (level_heard level) x (λ c. record { rights = λ right b e. refl; beyond = λ b e. refl }) (λ b. refl) (Sane x.setup) (Sane x.setup) noted_at noted_at (λ u h. sane-after level x u h) (λ u h. sane-after level x u h) n (reduced s) s (sane-reduced x.setup s sane) sane record { state = start.state; memory = start.memory } in
     record {
       last = reduced_from _ _ r.last.state (memories_same _ _ r.last.memory);
       notes = r.notes ∙ sym (all_heard (run level x n s).notes);

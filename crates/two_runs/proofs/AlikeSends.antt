@@ -13,14 +13,14 @@ use Rattle.kernel_abi.specs.declared.arguments.SendArgs.{SendArgs}
 use Rattle.region_check.specs.declared.Right.TheVariants.{Read as ToRead, Write as ToWrite}
 use Rattle.task_table.specs.State.{Setup, Task, State, Birth, Call, One, Listen, Turn, Message, Reply}
 use Rattle.task_table.specs.Reading.{task_at, arguments, present, present_id, listen_of, is_out, is_dead, admits, is_valid, bad_byte}
-use Rattle.task_table.specs.Effects.{with_call, returned, past_call, offered, handed, faulted_as}
+use Rattle.task_table.specs.Effects.{with_call, returned, past_syscall, offered, handed, faulted_as}
 use Rattle.task_table.specs.Rows.{goes_on}
-use Rattle.task_table.specs.Sends.{message_of, reply_room, table_of, call_made, taken_at_once, sends, sent, reply_of, replied_to, replied, reply_fault_by, last_reason, reply_faulted_to, reply_faulted, post_made, refreshed}
+use Rattle.task_table.specs.Sends.{message_of, reply_room, table_of, call_made, taken_at_once, sends, sent, reply_of, replied_to, replied, reply_fault_of, last_reason, reply_faulted_to, reply_faulted, post_made, refreshed}
 use Rattle.two_runs.specs.Alike.{Viewer, IsAttentive, seen_birth, seen_call, seen_from, seen_listen, IsAlike, IsAlikeWhereSeen}
 use Rattle.two_runs.proofs.Alike.{listen_alike, taken_alike, next_call_alike, alike-with_call}
-use Rattle.two_runs.proofs.AlikeRows.{by_test, by_same, by_case, the_task, surely, alike-told, alike-changed, alike-given, alike-past_call, alike-closed, alike-returned, alike-copied, alike-posted, alike-faulted_as, alike-handed, where_seen-returned, alike-misused, alike-denied, alike-goes_on, alike-goes_on_with, alike-answers, args, is_out_same, is_dead_same, dead_code_same, generation_same}
+use Rattle.two_runs.proofs.AlikeRows.{by_test, by_same, by_case, the_task, surely, alike-noted, alike-changed, alike-given, alike-past_syscall, alike-closed, alike-returned, alike-copied, alike-posted, alike-faulted_as, alike-handed, where_seen-returned, alike-misused, alike-denied, alike-goes_on, alike-goes_on_with, alike-answers, args, is_out_same, is_dead_same, dead_code_same, generation_same}
 use Rattle.two_runs.proofs.Sight.{IsOpen, checked_seen}
-use Rattle.two_runs.proofs.Births.{AreTellable, tellable_past_call, admits_same}
+use Rattle.two_runs.proofs.Births.{AreTellable, notable_past_syscall, admits_same}
 
 module _ (w : Viewer) (a : IsAttentive w) where
   -- what takes a call, and does not look at its births
@@ -34,7 +34,7 @@ module _ (w : Viewer) (a : IsAttentive w) where
   alike-offered : (k m : Call) (t u : Turn) → seen_call w.birth k ≡ seen_call w.birth m → IsAlike w t u → IsAlike w (offered k t) (offered m u)
   unfolding offered with_call
   alike-offered k m t u same h =
-      alike-told w a _ _ _ _ (ap (λ (x : Call). note.Offer x.number x.client.index x.server.index) same) refl
+      alike-noted w a _ _ _ _ (ap (λ (x : Call). note.Offer x.number x.client.index x.server.index) same) refl
       (alike-changed w a _ _ t u (alike-with_call w.birth k m t.state u.state same h.state) refl refl h)
 
   alike-taken_at_once : (k m : Call) (l n : Option Listen) (t u : Turn) → seen_call w.birth k ≡ seen_call w.birth m → option_map (seen_listen w.birth) l ≡ option_map (seen_listen w.birth) n →
@@ -65,15 +65,15 @@ module _ (w : Viewer) (a : IsAttentive w) where
   -- SEND
   alike-sends : (c server : ℕ) (x : SendArgs) (t u : Turn) → AreTellable w.birth t.state → AreTellable w.birth u.state → IsAlike w t u → IsAlikeWhereSeen w (sends c x server t) (sends c x server u)
   alike-sends c server x t u tell tell' h =
-      let p = past_call c t in
-      let q = past_call c u in
-      let k = alike-past_call w a c t u h in
+      let p = past_syscall c t in
+      let q = past_syscall c u in
+      let k = alike-past_syscall w a c t u h in
       let births : (i : ℕ) → seen_birth w.birth (present p.state i) ≡ seen_birth w.birth (present q.state i) = λ i. ap (λ (y : Task). record { index = i; birth = y.births }) (the_task w a i p q k) in
       let number = next_call_alike w.birth p.state q.state k.state in
       let same : seen_call w.birth (call_made p.state c x server) ≡ seen_call w.birth (call_made q.state c x server) = λ j. record (seen_call w.birth (call_made p.state c x server)) { number = number j; client = births c j; server = births server j } in
       alike-taken_at_once (call_made p.state c x server) (call_made q.state c x server) _ _ _ _ same (listen_alike w.birth p.state q.state server k.state)
       (λ l n e r. admits_same w.birth l.from n.from (present p.state c) (present q.state c) (listens_same (listen_of p.state server) (listen_of q.state server) l n (listen_alike w.birth p.state q.state server k.state) e r) (births c)
-      (λ b f i v. told_at p.state (tellable_past_call w.birth c t tell) server l b e f c i v) (λ b f i v. told_at q.state (tellable_past_call w.birth c u tell') server n b r f c i v))
+      (λ b f i v. noted_so_at p.state (notable_past_syscall w.birth c t tell) server l b e f c i v) (λ b f i v. noted_so_at q.state (notable_past_syscall w.birth c u tell') server n b r f c i v))
       (alike-offered _ _ p q same k)
     where
       listens_same : (o p : Option Listen) (l n : Listen) → option_map (seen_listen w.birth) o ≡ option_map (seen_listen w.birth) p → o ≡ Some l → p ≡ Some n → seen_from w.birth l.from ≡ seen_from w.birth n.from
@@ -82,8 +82,8 @@ module _ (w : Viewer) (a : IsAttentive w) where
           some_same : {A : Type 0} {f k : A} → Some f ≡ Some k → f ≡ k
           some_same z = cc
 
-      told_at : (s : State) → AreTellable w.birth s → (i : ℕ) (l : Listen) (b : Birth) → listen_of s i ≡ Some l → l.from ≡ One b → (j : ℕ) → b.index ≡ j → w.birth b.birth ≡ w.birth (task_at s j).births → b.birth ≡ (task_at s j).births
-      told_at s tells i l b e f j same v = tells i l b e f (v ∙ ap (λ n. w.birth (task_at s n).births) (sym same)) ∙ ap (λ n. (task_at s n).births) same
+      noted_so_at : (s : State) → AreTellable w.birth s → (i : ℕ) (l : Listen) (b : Birth) → listen_of s i ≡ Some l → l.from ≡ One b → (j : ℕ) → b.index ≡ j → w.birth b.birth ≡ w.birth (task_at s j).births → b.birth ≡ (task_at s j).births
+      noted_so_at s tells i l b e f j same v = tells i l b e f (v ∙ ap (λ n. w.birth (task_at s n).births) (sym same)) ∙ ap (λ n. (task_at s n).births) same
 
   pub alike-sent : (g : Setup) (c : ℕ) (t u : Turn) → AreTellable w.birth t.state → AreTellable w.birth u.state → IsAlike w t u → IsAlikeWhereSeen w (sent g c t) (sent g c u)
   unfolding sent
@@ -134,9 +134,9 @@ module _ (w : Viewer) (a : IsAttentive w) where
   alike-reply_faulted_to g c reason (Some k) None t u e h = absurd cc
   alike-reply_faulted_to g c reason (Some k) (Some m) t u e h =
       by_seen (IsAlike w) (λ y. reply_faulted_to g c reason (Some y) u) (λ y. refl) k m inner _
-      (subst (λ (n : ℕ). IsAlike w (goes_on c (faulted_as g k.client.index (reply_fault_by t.state c reason) ending.ReplyFault t)) (goes_on c (faulted_as g k.client.index record { number = 10; x = n; y = reason } ending.ReplyFault u)))
+      (subst (λ (n : ℕ). IsAlike w (goes_on c (faulted_as g k.client.index (reply_fault_of t.state c reason) ending.ReplyFault t)) (goes_on c (faulted_as g k.client.index record { number = 10; x = n; y = reason } ending.ReplyFault u)))
       (id_same c t u h)
-      (alike-goes_on w a c _ _ (alike-faulted_as w a g k.client.index (reply_fault_by t.state c reason) ending.ReplyFault t u h)))
+      (alike-goes_on w a c _ _ (alike-faulted_as w a g k.client.index (reply_fault_of t.state c reason) ending.ReplyFault t u h)))
     where
       inner : seen_call w.birth k ≡ seen_call w.birth m
       inner = cc

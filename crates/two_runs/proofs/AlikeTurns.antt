@@ -12,69 +12,69 @@ use Rattle.mem_banks.specs.Memory.{number_at, number_of, is_ram}
 use Rattle.task_table.specs.State.{Setup, State, Own, Turn}
 use Rattle.task_table.specs.Reading.{task_at, listen_of, chosen}
 use Rattle.task_table.specs.Effects.{noted, stored}
-use Rattle.task_table.specs.Rows.{call_noted}
-use Rattle.two_runs.specs.Levels.{is_told_always}
+use Rattle.task_table.specs.Rows.{syscall_noted}
+use Rattle.two_runs.specs.Levels.{is_noted_always}
 use Rattle.task_table.specs.Start.{begun}
-use Rattle.board_model.specs.declared.told.Level.{Level}
-use Rattle.board_model.specs.declared.told.Level.TheVariants.{Calls, All}
+use Rattle.board_model.specs.declared.outcomes.Level.{Level}
+use Rattle.board_model.specs.declared.outcomes.Level.TheVariants.{Brief, All}
 use Rattle.board_model.specs.Script.{Scenario}
-use Rattle.board_model.specs.Turn.{may, cpu_of, bytes_of, put, told, is_text, stepped, happened, after_events, with_current, low_note, high_note, with_registers_told, turn_of, ended, turn}
+use Rattle.board_model.specs.Turn.{may, cpu_of, bytes_of, put, noted_at, may_fetch, stepped, happened, after_events, with_current, low_note, high_note, with_registers_noted, turn_of, ended, turn}
 use Rattle.two_runs.specs.Alike.{Viewer, IsAttentive, IsAlike, IsAlikeWhereSeen}
 use Rattle.two_runs.specs.Agreement.{rest_of}
 use Rattle.two_runs.proofs.Alike.{register_alike, chosen_alike, bytes_alike, turn_alike}
-use Rattle.two_runs.proofs.AlikeRows.{by_test, alike-heard, alike-unheard, the_task, alike-processor, alike-current, alike-next_turn, alike-stored, alike-faulted, surely, alike-call_noted, alike-ticked, alike-interrupted, alike-fold}
-use Rattle.two_runs.proofs.AlikeCalls.{alike-called}
+use Rattle.two_runs.proofs.AlikeRows.{by_test, alike-heard, alike-unheard, the_task, alike-processor, alike-current, alike-next_turn, alike-stored, alike-faulted, surely, alike-syscall_noted, alike-ticked, alike-interrupted, alike-fold}
+use Rattle.two_runs.proofs.AlikeSyscalls.{alike-syscall_made}
 use Rattle.two_runs.proofs.Sight.{IsOpen, none_lacking}
 use Rattle.two_runs.proofs.Births.{AreTellable}
 use Rattle.two_runs.proofs.Following.{IsFollowed, follow-stepped}
 
--- how much is told of the two turns: as much, and all is heard; or the first tells no more than what is heard
+-- how much is noted of the two turns: as much, and all is heard; or the first tells no more than what is heard
 abbrev pub IsHeardAs : Viewer → Level → Level → Type 0
-IsHeardAs w Calls Calls = Unit {0}
+IsHeardAs w Brief Brief = Unit {0}
 IsHeardAs w All All = (n : Note) → w.hears n ≡ true
-IsHeardAs w Calls All = (n : Note) → is_told_always n ≡ false → w.hears n ≡ false
-IsHeardAs w All Calls = ⊥
+IsHeardAs w Brief All = (n : Note) → is_noted_always n ≡ false → w.hears n ≡ false
+IsHeardAs w All Brief = ⊥
 
 -- alike, and what listens name is told apart in both
-record AreAlikeAndTold (w : Viewer) (t u : Turn) : Type 0 where
+record AreAlikeAndNoted (w : Viewer) (t u : Turn) : Type 0 where
   alike : IsAlike w t u
   first : AreTellable w.birth t.state
   second : AreTellable w.birth u.state
 
-tellable_told : (v : ℕ → ℕ) (l : Level) (n : Note) (t : Turn) → AreTellable v t.state → AreTellable v (told l n t).state
+notable_noted : (v : ℕ → ℕ) (l : Level) (n : Note) (t : Turn) → AreTellable v t.state → AreTellable v (noted_at l n t).state
 unfolding noted
-tellable_told v Calls n t h = h
-tellable_told v All n t h = h
+notable_noted v Brief n t h = h
+notable_noted v All n t h = h
 
-tellable_put : (v : ℕ → ℕ) (t : Turn) (x : Store) → AreTellable v t.state → AreTellable v (put t x).state
+notable_put : (v : ℕ → ℕ) (t : Turn) (x : Store) → AreTellable v t.state → AreTellable v (put t x).state
 unfolding stored listen_of task_at
-tellable_put v t x h = go (is_ram t.state.memory x.addr x.bytes)
+notable_put v t x h = go (is_ram t.state.memory x.addr x.bytes)
   where
     go : (b : Bool) → AreTellable v (cond b (stored Own x.addr (bytes_of x.value x.bytes) t) t).state
     go true = h
     go false = h
 
-tellable_current : (v : ℕ → ℕ) (c : ℕ) (t : Turn) → AreTellable v t.state → AreTellable v (with_current c t).state
+notable_current : (v : ℕ → ℕ) (c : ℕ) (t : Turn) → AreTellable v t.state → AreTellable v (with_current c t).state
 unfolding listen_of task_at
-tellable_current v c t h = h
+notable_current v c t h = h
 
-tellable_call_noted : (v : ℕ → ℕ) (c : ℕ) (t : Turn) → AreTellable v t.state → AreTellable v (call_noted c t).state
-unfolding call_noted noted
-tellable_call_noted v c t h = h
+notable_syscall_noted : (v : ℕ → ℕ) (c : ℕ) (t : Turn) → AreTellable v t.state → AreTellable v (syscall_noted c t).state
+unfolding syscall_noted noted
+notable_syscall_noted v c t h = h
 
 pub both : (a b : Bool) → (a && b) ≡ true → (a ≡ true) × (b ≡ true)
 both true b h = (refl, h)
 both false b h = cc
 
 module _ (w : Viewer) (a : IsAttentive w) where
-  alike-told_at : (l m : Level) → IsHeardAs w l m → (n k : Note) (t u : Turn) → n ≡ k → is_told_always n ≡ false → IsAlike w t u → IsAlike w (told l n t) (told m k u)
-  alike-told_at l m heard n k t u e request h = rw (sym e) (go l m heard)
+  alike-noted_at : (l m : Level) → IsHeardAs w l m → (n k : Note) (t u : Turn) → n ≡ k → is_noted_always n ≡ false → IsAlike w t u → IsAlike w (noted_at l n t) (noted_at m k u)
+  alike-noted_at l m heard n k t u e request h = rw (sym e) (go l m heard)
     where
-      go : (x y : Level) → IsHeardAs w x y → IsAlike w (told x n t) (told y n u)
-      go Calls Calls q = h
+      go : (x y : Level) → IsHeardAs w x y → IsAlike w (noted_at x n t) (noted_at y n u)
+      go Brief Brief q = h
       go All All q = alike-heard w a n t u (q n) h
-      go Calls All q = alike-unheard w a n t u (q n request) h
-      go All Calls q = absurd q
+      go Brief All q = alike-unheard w a n t u (q n request) h
+      go All Brief q = absurd q
 
   alike-put : (x : Store) (t u : Turn) → IsAlike w t u → IsAlike w (put t x) (put u x)
   alike-put x t u h =
@@ -84,7 +84,7 @@ module _ (w : Viewer) (a : IsAttentive w) where
 
   -- the walk of an instruction, to this viewer
   module _ (l m : Level) (heard : IsHeardAs w l m) (g : Setup) (c : ℕ) (open_to : IsOpen w g c) where
-    half_alike : (t u : Turn) (at : ℕ) → IsAlike w t u → is_text g c at ≡ true → number_at t.state.memory at 2 ≡ number_at u.state.memory at 2
+    half_alike : (t u : Turn) (at : ℕ) → IsAlike w t u → may_fetch g c at ≡ true → number_at t.state.memory at 2 ≡ number_at u.state.memory at 2
     half_alike t u at h text =
         let e = both (may g c Execute at) (may g c Execute ((at + 1) % 2 ^ 32)) text in
         ap number_of (bytes_alike w.sees t.state.memory u.state.memory at 2 h.memory (λ x lo hi. seen_at x lo hi e))
@@ -107,7 +107,7 @@ module _ (w : Viewer) (a : IsAttentive w) where
           | inr above ↦ let same : x ≡ at + 1 = omega arith in ap w.sees same ∙ second e.1
         ]
 
-    followed : IsFollowed l m g g c c (AreAlikeAndTold w) (IsAlikeWhereSeen w)
+    followed : IsFollowed l m g g c c (AreAlikeAndNoted w) (IsAlikeWhereSeen w)
     followed = record {
       text = λ x. refl;
       refused = refl;
@@ -115,34 +115,34 @@ module _ (w : Viewer) (a : IsAttentive w) where
       cpu = λ t u h. ap cpu_of (the_task w a c t u h.alike);
       half = λ t u at h text. half_alike t u at h.alike text;
       loads = λ t u h at n e. ap number_of (bytes_alike w.sees t.state.memory u.state.memory at n h.alike.memory (λ x lo hi. open_to.rights Read x (none_lacking (may g c Read) at n e x lo hi)));
-      told = λ at code t u h. record { alike = alike-told_at l m heard (note.Insn c at code) (note.Insn c at code) t u refl refl h.alike; first = tellable_told w.birth l _ t h.first; second = tellable_told w.birth m _ u h.second };
-      put = λ x t u h. record { alike = alike-put x t u h.alike; first = tellable_put w.birth t x h.first; second = tellable_put w.birth u x h.second };
+      noted_at = λ at code t u h. record { alike = alike-noted_at l m heard (note.Insn c at code) (note.Insn c at code) t u refl refl h.alike; first = notable_noted w.birth l _ t h.first; second = notable_noted w.birth m _ u h.second };
+      put = λ x t u h. record { alike = alike-put x t u h.alike; first = notable_put w.birth t x h.first; second = notable_put w.birth u x h.second };
       processor = λ registers flags t u h. surely w a (alike-processor w a c registers flags t u h.alike);
       fault = λ x t u h. surely w a (alike-faulted w a g c x t u h.alike);
-      call = λ t u h. alike-called w a g c _ _ open_to (tellable_call_noted w.birth c t h.first) (tellable_call_noted w.birth c u h.second) (alike-call_noted w a c t u h.alike);
+      call = λ t u h. alike-syscall_made w a g c _ _ open_to (notable_syscall_noted w.birth c t h.first) (notable_syscall_noted w.birth c u h.second) (alike-syscall_noted w a c t u h.alike);
     }
 
-    alike-stepped : (t u : Turn) → AreAlikeAndTold w t u → IsAlikeWhereSeen w (stepped l g c t) (stepped m g c u)
-    alike-stepped t u h = follow-stepped l m g g c c (AreAlikeAndTold w) (IsAlikeWhereSeen w) followed t u h
+    alike-stepped : (t u : Turn) → AreAlikeAndNoted w t u → IsAlikeWhereSeen w (stepped l g c t) (stepped m g c u)
+    alike-stepped t u h = follow-stepped l m g g c c (AreAlikeAndNoted w) (IsAlikeWhereSeen w) followed t u h
 
   -- ## the turn
 
   module _ (l m : Level) (heard : IsHeardAs w l m) where
-    alike-registers_told : (c : ℕ) (t u : Turn) → IsAlike w t u → IsAlike w (with_registers_told l c t) (with_registers_told m c u)
-    unfolding with_registers_told
-    alike-registers_told c t u h =
-        alike-told_at l m heard _ _ _ _ (ap high_note (the_task w a c t u h)) refl
-        (alike-told_at l m heard _ _ t u (ap low_note (the_task w a c t u h)) refl h)
+    alike-registers_noted : (c : ℕ) (t u : Turn) → IsAlike w t u → IsAlike w (with_registers_noted l c t) (with_registers_noted m c u)
+    unfolding with_registers_noted
+    alike-registers_noted c t u h =
+        alike-noted_at l m heard _ _ _ _ (ap high_note (the_task w a c t u h)) refl
+        (alike-noted_at l m heard _ _ t u (ap low_note (the_task w a c t u h)) refl h)
 
-    reads_told : (c : ℕ) (t : Turn) → (with_registers_told l c t).reads ≡ t.reads
-    unfolding with_registers_told noted
-    reads_told c t = elim l as (λ (x : Level). (told x (high_note (task_at t.state c)) (told x (low_note (task_at t.state c)) t)).reads ≡ t.reads) [ Calls ↦ refl | All ↦ refl ]
+    reads_told : (c : ℕ) (t : Turn) → (with_registers_noted l c t).reads ≡ t.reads
+    unfolding with_registers_noted noted
+    reads_told c t = elim l as (λ (x : Level). (noted_at x (high_note (task_at t.state c)) (noted_at x (low_note (task_at t.state c)) t)).reads ≡ t.reads) [ Brief ↦ refl | All ↦ refl ]
 
-    alike-turn_of : (g : Setup) (o : Option ℕ) (t u : Turn) → ((c : ℕ) → o ≡ Some c → IsOpen w g c) → AreAlikeAndTold w t u → IsAlikeWhereSeen w (turn_of l g o t) (turn_of m g o u)
-    alike-turn_of g None t u sight h = surely w a (alike-told_at l m heard note.Idle note.Idle t u refl refl h.alike)
+    alike-turn_of : (g : Setup) (o : Option ℕ) (t u : Turn) → ((c : ℕ) → o ≡ Some c → IsOpen w g c) → AreAlikeAndNoted w t u → IsAlikeWhereSeen w (turn_of l g o t) (turn_of m g o u)
+    alike-turn_of g None t u sight h = surely w a (alike-noted_at l m heard note.Idle note.Idle t u refl refl h.alike)
     alike-turn_of g (Some c) t u sight h =
-        let k = alike-stepped l m heard g c (sight c refl) (with_current c t) (with_current c u) record { alike = alike-current w a c t u h.alike; first = tellable_current w.birth c t h.first; second = tellable_current w.birth c u h.second } in
-        record { alike = λ see. alike-registers_told c _ _ (k.alike (rw reads_told at see)) }
+        let k = alike-stepped l m heard g c (sight c refl) (with_current c t) (with_current c u) record { alike = alike-current w a c t u h.alike; first = notable_current w.birth c t h.first; second = notable_current w.birth c u h.second } in
+        record { alike = λ see. alike-registers_noted c _ _ (k.alike (rw reads_told at see)) }
 
     pub alike-rest : (g : Setup) (t u : Turn) → ((c : ℕ) → chosen g t.state ≡ Some c → IsOpen w g c) → AreTellable w.birth t.state → AreTellable w.birth u.state → IsAlike w t u → IsAlikeWhereSeen w (rest_of l g t) (rest_of m g u)
     unfolding ended

@@ -5,7 +5,7 @@ use Rattle.std.proofs.Math.Seq.{map-set_same}
 use Rattle.std.proofs.lemmas.Bool.{false≢true}
 use Rattle.task_table.specs.State.{Task, State, Birth, From, Any, One, KernelOnly, Listen, Turn}
 use Rattle.task_table.specs.Reading.{task_at, listen_of, admits, same_birth, no_task}
-use Rattle.task_table.specs.Effects.{with_task, past_call}
+use Rattle.task_table.specs.Effects.{with_task, past_syscall}
 use Rattle.two_runs.specs.Alike.{seen_birth, seen_from}
 
 -- what listens are closed to is told apart as it is seen
@@ -54,7 +54,7 @@ admits_same v (One x) (One y) b d e q m n = go (eqb x.index b.index) refl
         by_index false f k h = (λ z. f z && eqb x.birth b.birth) ∙ (λ z. sym k z && eqb y.birth d.birth)
         by_index true f k h = (λ z. f z && eqb x.birth b.birth) ∙ h (eqb-true _ _ f) ∙ (λ z. sym k z && eqb y.birth d.birth)
 
--- ## a task that goes past its call is born no more than before
+-- ## a task that goes past its system call is born no more than before
 
 births_kept : (s : State) (c i : ℕ) (x : Task) → x.births ≡ (task_at s c).births → (task_at (with_task c x s) i).births ≡ (task_at s i).births
 unfolding with_task task_at
@@ -64,15 +64,15 @@ births_kept s c i x e =
     ∙ ap (λ l. get_or l i 0) (map-set_same births s.tasks c x no_task e)
     ∙ get_or-map births s.tasks i no_task
 
-births_past_call : (c i : ℕ) (t : Turn) → (task_at (past_call c t).state i).births ≡ (task_at t.state i).births
-unfolding past_call
-births_past_call c i t = births_kept t.state c i _ refl
+births_past_syscall : (c i : ℕ) (t : Turn) → (task_at (past_syscall c t).state i).births ≡ (task_at t.state i).births
+unfolding past_syscall
+births_past_syscall c i t = births_kept t.state c i _ refl
 
-listen_past_call : (c i : ℕ) (t : Turn) → listen_of (past_call c t).state i ≡ listen_of t.state i
-unfolding past_call listen_of with_task
-listen_past_call c i t = refl
+listen_past_syscall : (c i : ℕ) (t : Turn) → listen_of (past_syscall c t).state i ≡ listen_of t.state i
+unfolding past_syscall listen_of with_task
+listen_past_syscall c i t = refl
 
-pub tellable_past_call : (v : ℕ → ℕ) (c : ℕ) (t : Turn) → AreTellable v t.state → AreTellable v (past_call c t).state
-tellable_past_call v c t h i l b here e same =
-    let births = births_past_call c b.index t in
-    h i l b (sym (listen_past_call c i t) ∙ here) e (same ∙ ap v births) ∙ sym births
+pub notable_past_syscall : (v : ℕ → ℕ) (c : ℕ) (t : Turn) → AreTellable v t.state → AreTellable v (past_syscall c t).state
+notable_past_syscall v c t h i l b here e same =
+    let births = births_past_syscall c b.index t in
+    h i l b (sym (listen_past_syscall c i t) ∙ here) e (same ∙ ap v births) ∙ sym births

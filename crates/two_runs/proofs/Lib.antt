@@ -5,7 +5,7 @@ pub mod AlikeRows
 pub mod AlikeSends
 pub mod AlikeBorrows
 pub mod AlikeOrders
-pub mod AlikeCalls
+pub mod AlikeSyscalls
 pub mod Following
 pub mod AlikeTurns
 pub mod SaneReduced

@@ -7,20 +7,20 @@ use Rattle.std.proofs.lemmas.List.Folds.{list_any_at}
 use Rattle.std.proofs.Math.Nat.{mod-mod}
 use Rattle.mem_banks.specs.Memory.{Memory}
 use Rattle.task_table.specs.State.{Setup, Task, Call, From, Any, One, KernelOnly, Listen, State, Read, Turn}
-use Rattle.two_runs.specs.Levels.{is_told_always, IsLessTold}
+use Rattle.two_runs.specs.Levels.{is_noted_always, IsLessNoted}
 use Rattle.task_table.specs.Reading.{listen_of}
 use Rattle.task_table.specs.Sane.{Sane}
 use Rattle.task_table.proofs.Keeps.{found_in}
-use Rattle.task_table.specs.Calls.{called}
+use Rattle.task_table.specs.Syscalls.{syscall_made}
 use Rattle.task_table.specs.Start.{begun}
-use Rattle.board_model.specs.declared.told.Level.{Level}
-use Rattle.board_model.specs.declared.told.Level.TheVariants.{Calls, All}
+use Rattle.board_model.specs.declared.outcomes.Level.{Level}
+use Rattle.board_model.specs.declared.outcomes.Level.TheVariants.{Brief, All}
 use Rattle.board_model.specs.Script.{Scenario}
 use Rattle.board_model.specs.Turn.{after_events, turn}
 use Rattle.board_model.proofs.TurnChains.{sane-after_events}
 use Rattle.two_runs.specs.Alike.{Viewer, IsAttentive, seen_task, seen_call, seen_from, seen_listen, seen, but_memory, reduced, AreAlikeMemories, IsAlike, AreSeen, IsAlikeWhereSeen}
 use Rattle.two_runs.proofs.Alike.{shown, memories_same}
-use Rattle.two_runs.proofs.AlikeCalls.{alike-called}
+use Rattle.two_runs.proofs.AlikeSyscalls.{alike-syscall_made}
 use Rattle.two_runs.proofs.Births.{AreTellable}
 use Rattle.two_runs.proofs.SaneReduced.{sane-reduced}
 use Rattle.two_runs.proofs.AlikeTurns.{IsHeardAs, alike-turn}
@@ -81,10 +81,10 @@ same_but_memory s u e = sym (ap but_memory (seen_plain s)) ∙ e ∙ ap but_memo
 joined : (s u : State) → but_memory s ≡ but_memory u → s.memory ≡ u.memory → s ≡ u
 joined s u e m = λ i. record (e i) { memory = m i }
 
--- ## the listener: hears only what is told always
+-- ## the listener: hears only what is noted always
 
 unfoldable pub listener : Viewer
-listener = record { birth = λ b. b; sees = λ a. true; hears = is_told_always }
+listener = record { birth = λ b. b; sees = λ a. true; hears = is_noted_always }
 
 pub attentive_listener : IsAttentive listener
 unfolding listener
@@ -93,7 +93,7 @@ attentive_listener = record { hears = λ n h. h; generation = λ b. refl; next =
 memory_itself : (sees : ℕ → Bool) (m : Memory) → AreAlikeMemories sees m m
 memory_itself sees m = record { flash_length = refl; ram_length = refl; flash = λ k e. refl; ram = λ k e. refl }
 
-pub alike_of_told : (t u : Turn) → IsLessTold t u → IsAlike listener t u
+pub alike_of_told : (t u : Turn) → IsLessNoted t u → IsAlike listener t u
 unfolding listener
 alike_of_told t u h = record {
   state = ap (shown (λ b. b)) h.state;
@@ -103,7 +103,7 @@ alike_of_told t u h = record {
   reads = h.reads;
 }
 
-pub told_of_alike : (t u : Turn) → IsAlike listener t u → IsLessTold t u
+pub told_of_alike : (t u : Turn) → IsAlike listener t u → IsLessNoted t u
 unfolding listener
 told_of_alike t u h = record {
   state = joined t.state u.state (same_but_memory t.state u.state h.state) (memories_same t.state.memory u.state.memory h.memory);
@@ -116,7 +116,7 @@ told_of_alike t u h = record {
 pub all_seen : (reads : List Read) → AreSeen (λ a. true) reads
 all_seen reads r here a lo hi = refl
 
-listening : (t u : Turn) → IsAlikeWhereSeen listener t u → IsLessTold t u
+listening : (t u : Turn) → IsAlikeWhereSeen listener t u → IsLessNoted t u
 unfolding listener
 listening t u h = told_of_alike t u (h.alike (all_seen t.reads))
 
@@ -128,14 +128,14 @@ open_listener g c = record { rights = λ right a e. refl; beyond = λ a e. refl 
 pub told_plainly : (s : State) → AreTellable (λ b. b) s
 told_plainly s i l b here e same = same
 
-pub less_told-called : (g : Setup) (c : ℕ) (t u : Turn) → IsLessTold t u → IsLessTold (called g c t) (called g c u)
+pub less_noted-syscall_made : (g : Setup) (c : ℕ) (t u : Turn) → IsLessNoted t u → IsLessNoted (syscall_made g c t) (syscall_made g c u)
 unfolding listener
-less_told-called g c t u h = listening _ _ (alike-called listener attentive_listener g c t u (open_listener g c) (told_plainly t.state) (told_plainly u.state) (alike_of_told t u h))
+less_noted-syscall_made g c t u h = listening _ _ (alike-syscall_made listener attentive_listener g c t u (open_listener g c) (told_plainly t.state) (told_plainly u.state) (alike_of_told t u h))
 
-pub less_told-turn : (x : Scenario) (s : State) → IsLessTold (turn Calls x s) (turn All x s)
+pub less_noted-turn : (x : Scenario) (s : State) → IsLessNoted (turn Brief x s) (turn All x s)
 unfolding listener begun
-less_told-turn x s =
-    listening _ _ (alike-turn listener attentive_listener Calls All (λ n request. request) x s s (open_listener x.setup) (told_plainly (after_events x s).state) (told_plainly (after_events x s).state) (alike_of_told (begun s) (begun s) record { state = refl; writes = refl; reads = refl; notes = refl }))
+less_noted-turn x s =
+    listening _ _ (alike-turn listener attentive_listener Brief All (λ n request. request) x s s (open_listener x.setup) (told_plainly (after_events x s).state) (told_plainly (after_events x s).state) (alike_of_told (begun s) (begun s) record { state = refl; writes = refl; reads = refl; notes = refl }))
 
 -- ## the one who takes births modulo 64
 
@@ -164,7 +164,7 @@ seen_again s =
 
 pub level_heard : (level : Level) → IsHeardAs archivist level level
 unfolding archivist
-level_heard Calls = tt
+level_heard Brief = tt
 level_heard All = λ n. refl
 
 memory_reduced : (s : State) → (reduced s).memory ≡ s.memory

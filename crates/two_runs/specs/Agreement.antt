@@ -6,7 +6,7 @@ use Rattle.region_check.specs.Rights.{is_inside}
 use Rattle.mem_banks.specs.Memory.{Memory, byte_at}
 use Rattle.task_table.specs.State.{Setup, State, Read, Turn}
 use Rattle.task_table.specs.Reading.{setup_at, chosen}
-use Rattle.board_model.specs.declared.told.Level.{Level}
+use Rattle.board_model.specs.declared.outcomes.Level.{Level}
 use Rattle.board_model.specs.Script.{Scenario}
 use Rattle.board_model.specs.Turn.{turn, turn_of, ended, after_events}
 use Rattle.two_runs.specs.Alike.{but_memory}

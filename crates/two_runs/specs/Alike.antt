@@ -3,7 +3,7 @@
 use Rattle.std.specs.Prelude.{◌≡◌, ℕ, ◌+◌, ◌%◌, ◌<◌, ◌≤◌, Bool, true, List, [], map, length, filter, slice_get, Contains}
 use Rattle.kernel_abi.specs.declared.Note.{Note}
 use Rattle.mem_banks.specs.Memory.{Memory}
-use Rattle.two_runs.specs.Levels.{is_told_always}
+use Rattle.two_runs.specs.Levels.{is_noted_always}
 use Rattle.task_table.specs.State.{Birth, Task, Call, From, Any, One, KernelOnly, Listen, State, Read, Turn}
 
 pub record Viewer : Type 0 where
@@ -66,8 +66,8 @@ AreSeen sees reads = (r : Read) → Contains reads r → (a : ℕ) → r.base �
 pub record IsAlikeWhereSeen (w : Viewer) (t u : Turn) : Type 0 where
   pub alike : AreSeen w.sees t.reads → IsAlike w t u
 
--- it hears all that is told always; what it sees of a birth has the generation of it, and decides what it sees of the next
+-- it hears all that is noted always; what it sees of a birth has the generation of it, and decides what it sees of the next
 pub record IsAttentive (w : Viewer) : Type 0 where
-  pub hears : (n : Note) → is_told_always n ≡ true → w.hears n ≡ true
+  pub hears : (n : Note) → is_noted_always n ≡ true → w.hears n ≡ true
   pub generation : (b : ℕ) → w.birth b % 64 ≡ b % 64
   pub next : (b : ℕ) → w.birth (b + 1) ≡ w.birth (w.birth b + 1)

@@ -1,35 +1,35 @@
 //! Laws of two turns, or two runs, that go on side by side. Nothing runs here.
 //!
-//! - What is told on request alone decides nothing (`what_is_told_decides_nothing`), so a run without it is
-//!   the run with it, but for its notes (`instructions_are_told_beside`).
+//! - What is noted on request alone decides nothing (`what_is_noted_decides_nothing`), so a run without it is
+//!   the run with it, but for its notes (`instructions_are_noted_beside`).
 //! - A turn depends on memory only where it reads (`a_turn_depends_on_what_it_reads`).
 //! - Of a number of births its generation alone decides anything (`generations_decide`).
 #![tactic(auto)]
 
 ghost use Rattle.std.specs.Prelude.{◌≡◌, ℕ};
 ghost use Rattle.task_table.specs.State.{Setup, State, Turn};
-ghost use Rattle.task_table.specs.Calls.{called};
+ghost use Rattle.task_table.specs.Syscalls.{syscall_made};
 ghost use Rattle.task_table.specs.Sane.{Sane};
-ghost use Rattle.board_model.specs.declared.told.Level.{Level as Detail};
-ghost use Rattle.board_model.specs.declared.told.Level.TheVariants.{Calls, All};
+ghost use Rattle.board_model.specs.declared.outcomes.Level.{Level as Detail};
+ghost use Rattle.board_model.specs.declared.outcomes.Level.TheVariants.{Brief, All};
 ghost use Rattle.board_model.specs.Script.{Scenario};
 ghost use Rattle.board_model.specs.Turn.{turn};
 ghost use Rattle.board_model.specs.Run.{run};
-ghost use Rattle.two_runs.specs.Levels.{IsLessTold, without_instructions};
+ghost use Rattle.two_runs.specs.Levels.{IsLessNoted, without_instructions};
 ghost use Rattle.two_runs.specs.Alike.{reduced};
 ghost use Rattle.two_runs.specs.Agreement.{DependsOnReads};
 
-/// What is told on request decides nothing: two turns that differ in it alone still do after a call of a
-/// task, and so do the turns from one state of which calls alone, or all instructions, are told.
-pub fn what_is_told_decides_nothing()
-    ensures called { (g : Setup) (c : ℕ) (t u : Turn) → IsLessTold t u → IsLessTold (called g c t) (called g c u) }
-    ensures turn { (x : Scenario) (s : State) → IsLessTold (turn Calls x s) (turn All x s) }
+/// What is noted on request decides nothing: two turns that differ in it alone still do after a system call of a
+/// task, and so do the turns from one state of which system calls alone, or all instructions, are noted.
+pub fn what_is_noted_decides_nothing()
+    ensures syscall_made { (g : Setup) (c : ℕ) (t u : Turn) → IsLessNoted t u → IsLessNoted (syscall_made g c t) (syscall_made g c u) }
+    ensures turn { (x : Scenario) (s : State) → IsLessNoted (turn Brief x s) (turn All x s) }
 {}
 
-/// Instructions, registers and idle turns are told beside the rest of a run: without them it is the
-/// run of which calls, events and faults alone are told.
-pub fn instructions_are_told_beside()
-    ensures { (x : Scenario) (n : ℕ) (s : State) → run Calls x n s ≡ without_instructions (run All x n s) }
+/// Instructions, registers and idle turns are noted beside the rest of a run: without them it is the
+/// run of which system calls, events and faults alone are noted.
+pub fn instructions_are_noted_beside()
+    ensures { (x : Scenario) (n : ℕ) (s : State) → run Brief x n s ≡ without_instructions (run All x n s) }
 {}
 
 /// What a turn does after its events depends on memory only where it reads: in the regions of its own task

@@ -6,7 +6,7 @@ use Rattle.task_table.specs.Borrows.{lease_range}
 use Rattle.task_table.specs.Holds.{Holds, kept_of}
 use Rattle.task_table.specs.declared.slot.OpenCall.{OpenCall}
 use Rattle.task_table.proofs.Messages.{holds_looked}
-use Rattle.lease_core.proofs.Rows.{told_bad, told_good}
+use Rattle.lease_core.proofs.Rows.{answered_bad, answered_good}
 use Rattle.lease_core.proofs.Stays.{held_on}
 use Rattle.lease_core.proofs.inform_of.Goals as goal
 
@@ -16,7 +16,7 @@ returns-in-Err-clause-holds c = λ g t k h same lender.
     let leases : k.leases ≡ a.call.now.leases = ap (λ (y : OpenCall). y.leases) same in
     let listed : leb k.leases a.lease ≡ false = rw leases (lt-leb _ _ c.if-call-lease.false) in
     let bad = rw c.in-Err.is at (c.entry_of.ensures.entry g t k h same) in
-    subst (Holds g c.tell_nothing.new.k) (sym (told_bad g a.caller a.lease k a.lender _ t lender listed bad)) (c.tell_nothing.ensures.holds g _ (c.deny.ensures.holds g t (c.entry_of.ensures.holds g t h)))
+    subst (Holds g c.answer_nothing.new.k) (sym (answered_bad g a.caller a.lease k a.lender _ t lender listed bad)) (c.answer_nothing.ensures.holds g _ (c.deny.ensures.holds g t (c.entry_of.ensures.holds g t h)))
 
 pub returns-in-Ok-clause-holds : goal.returns-in-Ok-clause-holds
 returns-in-Ok-clause-holds c = λ g t k h same lender.
@@ -25,7 +25,7 @@ returns-in-Ok-clause-holds c = λ g t k h same lender.
     let listed : leb k.leases a.lease ≡ false = rw leases (lt-leb _ _ c.if-call-lease.false) in
     let e = rw c.in-Ok.is at (c.entry_of.ensures.entry g t k h same) in
     let number : k.number ≡ a.call.now.number = ap (λ (y : OpenCall). y.number) same in
-    subst (Holds g c.inform_entry.new.k) (sym (told_good g a.caller a.lease k a.lender _ t lender listed e.0 e.1)) (c.inform_entry.ensures.holds g _ k (holds_looked g (kept_of c.entry_of.new.k) t _ (c.entry_of.ensures.holds g t h)) lender number)
+    subst (Holds g c.inform_entry.new.k) (sym (answered_good g a.caller a.lease k a.lender _ t lender listed e.0 e.1)) (c.inform_entry.ensures.holds g _ k (holds_looked g (kept_of c.entry_of.new.k) t _ (c.entry_of.ensures.holds g t h)) lender number)
 
 pub returns-in-Ok-clause-held : goal.returns-in-Ok-clause-held
 returns-in-Ok-clause-held c = λ g t k h same lender read valid.

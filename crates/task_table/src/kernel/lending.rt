@@ -17,9 +17,9 @@ impl Kernel {
     /// one of code alone, where the other is empty and begins where the RAM does; else the answer is false.
     /// Those of a task that lie so are lent. An entry of a lease table that has one of the bytes in the
     /// RAM is kept no more, since the borrower may write over it.
-    pub fn lend<B: Borrower>(&mut self, text: &Region, ram: &Region, borrower: &mut B) -> bool
-        ensures lent { result ≡ true → IsLent B.did self.old text.now ram.now borrower.old borrower.new self.new }
-        ensures given { (task : ℕ) → AreUsable (setup_at (setup_of self.old) task).regions text.now ram.now → result ≡ true }
+    pub fn lend<B: Borrower>(&mut self, flash: &Region, ram: &Region, borrower: &mut B) -> bool
+        ensures lent { result ≡ true → IsLent B.did self.old flash.now ram.now borrower.old borrower.new self.new }
+        ensures given { (task : ℕ) → AreUsable (setup_at (setup_of self.old) task).regions flash.now ram.now → result ≡ true }
         ensures memory { result ≡ false → memory_of self.new ≡ memory_of self.old }
         ensures holds { result ≡ false → (g : Setup) (t : Turn) → Holds g self.old t → Holds g self.new t }
         ensures left { result ≡ false → borrower.new ≡ borrower.old }
@@ -28,6 +28,6 @@ impl Kernel {
     {
         self.touched(ram.base, ram.size as usize);
         self.memory
-            .lend((text.base, text.size), (ram.base, ram.size), borrower)
+            .lend((flash.base, flash.size), (ram.base, ram.size), borrower)
     }
 }

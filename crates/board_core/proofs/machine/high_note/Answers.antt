@@ -1,6 +1,6 @@
 use Rattle.std.proofs.Common.{◌≡◌, ℕ, List, length, ap, rules}
 use Rattle.kernel_abi.specs.declared.Note.TheVariants as note
-use Rattle.board_core.proofs.Telling.{last_eight}
+use Rattle.board_core.proofs.Noting.{last_eight}
 use Rattle.board_core.proofs.machine.high_note.Goals as goal
 
 pub returns : goal.returns

@@ -1,5 +1,5 @@
 use Rattle.std.proofs.Common.{◌≡◌, ◌∙◌, ◌-◌, ℕ, sym, ap, Option}
-use Rattle.board_model.specs.declared.told.End.{End}
+use Rattle.board_model.specs.declared.outcomes.End.{End}
 use Rattle.board_run.specs.Running.{end_within}
 use Rattle.board_run.proofs.Going.{turns_seen, end_within_is}
 use Rattle.board_run.proofs.running.ending.Goals as goal

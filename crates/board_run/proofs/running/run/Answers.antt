@@ -1,7 +1,7 @@
 use Rattle.std.proofs.Common.{◌-◌, Ok, Err, arith}
 use Rattle.std.proofs.lemmas.Result.{err_from_is_err_and}
 use Rattle.outside_io.specs.declared.traits.Failed.{Failed}
-use Rattle.board_model.specs.declared.told.End.{End}
+use Rattle.board_model.specs.declared.outcomes.End.{End}
 use Rattle.board_model.specs.Run.{run}
 use Rattle.board_model.proofs.Lifetimes.{ledger-run}
 use Rattle.board_run.proofs.Breaking.{broken_text, breaks_off, breaks_at_end, ended_text}

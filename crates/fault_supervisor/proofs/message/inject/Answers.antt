@@ -20,26 +20,26 @@ pub returns-in-Well-clause-holds : goal.returns-in-Well-clause-holds
 unfolding injected
 returns-in-Well-clause-holds c = λ g t h.
     let health : (task_at t.state c.args.task).health ≡ Well = sym (c.health.ensures g t h) ∙ c.in-Well.is in
-    let told = rw c.injected.ensures at (c.fault.ensures.holds g t h) in
-    rw health told
+    let answered = rw c.injected.ensures at (c.fault.ensures.holds g t h) in
+    rw health answered
 
 pub returns-in-Well-clause-stands : goal.returns-in-Well-clause-stands
 unfolding injected
 returns-in-Well-clause-stands c = λ g t h.
     let health : (task_at t.state c.args.task).health ≡ Well = sym (c.health.ensures g t h.holds) ∙ c.in-Well.is in
-    let told = rw c.injected.ensures at (c.fault.ensures.stands g t h) in
-    rw health told
+    let answered = rw c.injected.ensures at (c.fault.ensures.stands g t h) in
+    rw health answered
 
 pub returns-in-Stopped-clause-holds : goal.returns-in-Stopped-clause-holds
 unfolding injected
 returns-in-Stopped-clause-holds c = λ g t h.
     let health : (task_at t.state c.args.task).health ≡ Stopped = sym (c.health.ensures g t h) ∙ c.in-Stopped.is in
-    let told = rw c.injected-in-Stopped.ensures at (c.fault-in-Stopped.ensures.holds g t h) in
-    rw health told
+    let answered = rw c.injected-in-Stopped.ensures at (c.fault-in-Stopped.ensures.holds g t h) in
+    rw health answered
 
 pub returns-in-Stopped-clause-stands : goal.returns-in-Stopped-clause-stands
 unfolding injected
 returns-in-Stopped-clause-stands c = λ g t h.
     let health : (task_at t.state c.args.task).health ≡ Stopped = sym (c.health.ensures g t h.holds) ∙ c.in-Stopped.is in
-    let told = rw c.injected-in-Stopped.ensures at (c.fault-in-Stopped.ensures.stands g t h) in
-    rw health told
+    let answered = rw c.injected-in-Stopped.ensures at (c.fault-in-Stopped.ensures.stands g t h) in
+    rw health answered

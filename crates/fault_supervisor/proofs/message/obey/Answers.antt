@@ -19,5 +19,5 @@ returns-clause-holds c = λ g t h.
       | else-task-eq0-via-else-task-eq0 w ↦ ap (λ b. b && not o.on_supervisor) (ne_eqb _ _ w.if-task-eq0.false)
     ] in
     let row = obeyed_row g c.args.caller x o t i (sym (c.number-task.ensures.holds g t h.holds)) long room there whom in
-    let told = rw c.reply_length-2.ensures at (c.answer.ensures.holds g _ (c.carry_out.ensures.holds g t h)) in
-    subst (Holds g c.answer.new.self) (sym row) told
+    let answered = rw c.reply_length-2.ensures at (c.answer.ensures.holds g _ (c.carry_out.ensures.holds g t h)) in
+    subst (Holds g c.answer.new.self) (sym row) answered

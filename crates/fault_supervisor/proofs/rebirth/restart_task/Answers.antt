@@ -4,17 +4,17 @@ use Rattle.kernel_abi.specs.declared.Ending.TheVariants.{Restart}
 use Rattle.kernel_abi.specs.declared.Note.TheVariants as note
 use Rattle.task_table.specs.Effects.{changed, closed, without_listen, reborn, restarted}
 use Rattle.task_table.proofs.Births.{few_sane}
-use Rattle.fault_supervisor.proofs.Telling.{few-noted, few-closed, few-unlistened, few-reborn, few-all_told, fold_range_more}
+use Rattle.fault_supervisor.proofs.Answering.{few-noted, few-closed, few-unlistened, few-reborn, few-all_answered, fold_range_more}
 use Rattle.fault_supervisor.proofs.rebirth.restart_task.Goals as goal
 
 pub loop-other-preserved : goal.loop-other-preserved
 loop-other-preserved c = record {
   frame = record {
-    notes = omega (arith, c.tell_dead.ensures.frame.notes, c.loop-other.invariant.frame.notes);
-    tasks = c.tell_dead.ensures.frame.tasks ∙ c.loop-other.invariant.frame.tasks;
-    setup = c.tell_dead.ensures.frame.setup ∙ c.loop-other.invariant.frame.setup;
+    notes = omega (arith, c.answer_dead.ensures.frame.notes, c.loop-other.invariant.frame.notes);
+    tasks = c.answer_dead.ensures.frame.tasks ∙ c.loop-other.invariant.frame.tasks;
+    setup = c.answer_dead.ensures.frame.setup ∙ c.loop-other.invariant.frame.setup;
   };
-  holds = λ g t h few. rw fold_range_more (c.tell_dead.ensures.holds g _ (c.loop-other.invariant.holds g t h few) (few-all_told c.args.task (range_with_len 0 c.loop-other.other) t few));
+  holds = λ g t h few. rw fold_range_more (c.answer_dead.ensures.holds g _ (c.loop-other.invariant.holds g t h few) (few-all_answered c.args.task (range_with_len 0 c.loop-other.other) t few));
 }
 
 pub returns-clause-holds : goal.returns-clause-holds

@@ -5,4 +5,4 @@ use Rattle.ipc_core.proofs.posting.refresh.Goals as goal
 pub returns-clause-stands : goal.returns-clause-stands
 returns-clause-stands c = λ g t h ready.
     let inside : c.args.caller < length t.state.tasks = omega (arith, c.requires.there, h.holds.count) in
-    record { holds = c.tell_present_id.ensures.holds g t h.holds; sane = sane-refreshed c.args.caller t h.sane inside }
+    record { holds = c.answer_present_id.ensures.holds g t h.holds; sane = sane-refreshed c.args.caller t h.sane inside }

@@ -5,4 +5,4 @@ use Rattle.ipc_core.proofs.replying.reply_fault.Goals as goal
 pub returns-clause-stands : goal.returns-clause-stands
 returns-clause-stands c = λ g t h ready.
     let inside : c.args.caller < length t.state.tasks = omega (arith, c.requires.there, h.holds.count) in
-    record { holds = c.reply_fault_by.ensures.holds g t h; sane = sane-reply_faulted c.args.caller t h.sane inside }
+    record { holds = c.reply_fault_of.ensures.holds g t h; sane = sane-reply_faulted c.args.caller t h.sane inside }

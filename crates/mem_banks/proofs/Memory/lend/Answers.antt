@@ -10,9 +10,9 @@ invariant_of-self g c =
     let banks = c.self.inside.banks.items in
     let after = c.lend_one.new.banks in
     let e : length after ≡ c.self.inside.banks.len = omega (arith, c.lend_one.auto.banks, c.deref_mut.ensures.len) in
-    let of_i : IsBankOf banks c.in-Some.code a.text = rw c.deref.ensures.value at c.in-Some.ensures.found in
+    let of_i : IsBankOf banks c.in-Some.code a.flash = rw c.deref.ensures.value at c.in-Some.ensures.found in
     let lent = rw c.deref_mut.ensures.value at c.lend_one.ensures in
-    let done = alone_done g.B.Borrower.did c.self.inside.table.items banks after c.in-Some.code a.text a.borrower.now c.lend_one.new.borrower c.self.invariant.0 of_i lent in
+    let done = alone_done g.B.Borrower.did c.self.inside.table.items banks after c.in-Some.code a.flash a.borrower.now c.lend_one.new.borrower c.self.invariant.0 of_i lent in
     rw (take_at after _ c.self.inside.banks.len e, done.spans) (done.kept, c.self.invariant.1, c.self.invariant.2)
 
 pub returns-then-eq-clause-lent : goal.returns-then-eq-clause-lent
@@ -21,31 +21,31 @@ returns-then-eq-clause-lent g c = λ _.
     let banks = c.self.inside.banks.items in
     let after = c.lend_one.new.banks in
     let e : length after ≡ c.self.inside.banks.len = omega (arith, c.lend_one.auto.banks, c.deref_mut.ensures.len) in
-    let of_i : IsBankOf banks c.in-Some.code a.text = rw c.deref.ensures.value at c.in-Some.ensures.found in
+    let of_i : IsBankOf banks c.in-Some.code a.flash = rw c.deref.ensures.value at c.in-Some.ensures.found in
     let lent = rw c.deref_mut.ensures.value at c.lend_one.ensures in
     let none = no_region a.ram c.eq.result c.eq.ensures c.if-eq.true in
     rw (← c.self.view_is, take_at after _ c.self.inside.banks.len e)
-    (alone_loan g.B.Borrower.did c.self.inside.table.items banks after c.in-Some.code a.text a.ram a.borrower.now c.lend_one.new.borrower c.self.invariant.0 of_i none.0 none.1 lent)
+    (alone_loan g.B.Borrower.did c.self.inside.table.items banks after c.in-Some.code a.flash a.ram a.borrower.now c.lend_one.new.borrower c.self.invariant.0 of_i none.0 none.1 lent)
 
 pub returns-in_default-clause-given : goal.returns-in_default-clause-given
 returns-in_default-clause-given g c = λ given.
     let here = rw (← c.self.view_is) at given in
-    let none : HasNoBank c.self.inside.banks.items c.args.text = rw c.deref.ensures.value at c.in_default.ensures.none in
-    absurd (text_found c.self.inside.regions.items c.self.inside.banks.items c.args.text c.args.ram c.self.invariant.1 here none)
+    let none : HasNoBank c.self.inside.banks.items c.args.flash = rw c.deref.ensures.value at c.in_default.ensures.none in
+    absurd (text_found c.self.inside.regions.items c.self.inside.banks.items c.args.flash c.args.ram c.self.invariant.1 here none)
 
 pub returns-in_default-bank_of-clause-given : goal.returns-in_default-bank_of-clause-given
 returns-in_default-bank_of-clause-given g c = λ given.
     let here = rw (← c.self.view_is) at given in
     let none : HasNoBank c.self.inside.banks.items c.args.ram = rw c.deref-3.ensures.value at c.in_default-bank_of.ensures.none in
-    absurd (ram_found c.self.inside.regions.items c.self.inside.banks.items c.args.text c.args.ram c.self.invariant.1 here (some_region c.args.ram c.eq.result c.eq.ensures c.if-eq.false) none)
+    absurd (ram_found c.self.inside.regions.items c.self.inside.banks.items c.args.flash c.args.ram c.self.invariant.1 here (some_region c.args.ram c.eq.result c.eq.ensures c.if-eq.false) none)
 
 pub returns-then-code-bank-clause-given : goal.returns-then-code-bank-clause-given
 returns-then-code-bank-clause-given g c = λ given.
     let banks = c.self.inside.banks.items in
     let here = rw (← c.self.view_is) at given in
-    let of_i : IsBankOf banks c.in-Some.code c.args.text = rw c.deref.ensures.value at c.in-Some.ensures.found in
+    let of_i : IsBankOf banks c.in-Some.code c.args.flash = rw c.deref.ensures.value at c.in-Some.ensures.found in
     let of_j : IsBankOf banks c.in-Some-bank_of.bank c.args.ram = rw c.deref-3.ensures.value at c.in-Some-bank_of.ensures.found in
-    absurd (two_banks c.self.inside.regions.items banks c.in-Some.code c.in-Some-bank_of.bank c.args.text c.args.ram here (some_region c.args.ram c.eq.result c.eq.ensures c.if-eq.false) of_i of_j c.if-code-bank.true)
+    absurd (two_banks c.self.inside.regions.items banks c.in-Some.code c.in-Some-bank_of.bank c.args.flash c.args.ram here (some_region c.args.ram c.eq.result c.eq.ensures c.if-eq.false) of_i of_j c.if-code-bank.true)
 
 pub invariant_of-self-2 : goal.invariant_of-self-2
 invariant_of-self-2 g c =
@@ -53,10 +53,10 @@ invariant_of-self-2 g c =
     let banks = c.self.inside.banks.items in
     let after = c.lend_two.new.banks in
     let e : length after ≡ c.self.inside.banks.len = omega (arith, c.lend_two.auto.banks, c.deref_mut-2.ensures.len) in
-    let of_i : IsBankOf banks c.in-Some.code a.text = rw c.deref.ensures.value at c.in-Some.ensures.found in
+    let of_i : IsBankOf banks c.in-Some.code a.flash = rw c.deref.ensures.value at c.in-Some.ensures.found in
     let of_j : IsBankOf banks c.in-Some-bank_of.bank a.ram = rw c.deref-3.ensures.value at c.in-Some-bank_of.ensures.found in
     let lent = rw c.deref_mut-2.ensures.value at c.lend_two.ensures in
-    let done = lent_done g.B.Borrower.did c.self.inside.table.items banks after c.in-Some.code c.in-Some-bank_of.bank a.text a.ram a.borrower.now c.lend_two.new.borrower c.self.invariant.0 of_i of_j c.if-code-bank.false lent in
+    let done = lent_done g.B.Borrower.did c.self.inside.table.items banks after c.in-Some.code c.in-Some-bank_of.bank a.flash a.ram a.borrower.now c.lend_two.new.borrower c.self.invariant.0 of_i of_j c.if-code-bank.false lent in
     rw (take_at after _ c.self.inside.banks.len e, done.spans) (done.kept, c.self.invariant.1, c.self.invariant.2)
 
 pub returns-clause-lent : goal.returns-clause-lent
@@ -65,8 +65,8 @@ returns-clause-lent g c = λ _.
     let banks = c.self.inside.banks.items in
     let after = c.lend_two.new.banks in
     let e : length after ≡ c.self.inside.banks.len = omega (arith, c.lend_two.auto.banks, c.deref_mut-2.ensures.len) in
-    let of_i : IsBankOf banks c.in-Some.code a.text = rw c.deref.ensures.value at c.in-Some.ensures.found in
+    let of_i : IsBankOf banks c.in-Some.code a.flash = rw c.deref.ensures.value at c.in-Some.ensures.found in
     let of_j : IsBankOf banks c.in-Some-bank_of.bank a.ram = rw c.deref-3.ensures.value at c.in-Some-bank_of.ensures.found in
     let lent = rw c.deref_mut-2.ensures.value at c.lend_two.ensures in
     rw (← c.self.view_is, take_at after _ c.self.inside.banks.len e)
-    (lent_loan g.B.Borrower.did c.self.inside.table.items banks after c.in-Some.code c.in-Some-bank_of.bank a.text a.ram a.borrower.now c.lend_two.new.borrower c.self.invariant.0 of_i of_j c.if-code-bank.false c.if-ram-lt-RAM.false lent)
+    (lent_loan g.B.Borrower.did c.self.inside.table.items banks after c.in-Some.code c.in-Some-bank_of.bank a.flash a.ram a.borrower.now c.lend_two.new.borrower c.self.invariant.0 of_i of_j c.if-code-bank.false c.if-ram-lt-RAM.false lent)

@@ -6,7 +6,7 @@ use Rattle.mem_banks.proofs.lending.lend_one.Goals as goal
 
 pub returns : goal.returns
 returns g c =
-    let p = get_or c.args.banks.now c.args.text c.index-banks-text.result in
-    let x : Bank = record { base = p.base; bytes = c.work.new.text } in
-    let is_p : p ≡ get_or c.args.banks.now c.args.text p = get_or_default c.args.banks.now c.args.text c.index-banks-text.result p c.requires in
-    alone_by g.B.Borrower.did c.args.banks.now _ c.args.text c.args.borrower.now c.work.new.self x p c.new-none.result.items c.work.new.ram.items c.requires is_p refl refl c.work.ensures.text c.new-none.ensures.items c.work.ensures.length c.work.ensures.did
+    let p = get_or c.args.banks.now c.args.flash c.index-banks-flash.result in
+    let x : Bank = record { base = p.base; bytes = c.work.new.flash } in
+    let is_p : p ≡ get_or c.args.banks.now c.args.flash p = get_or_default c.args.banks.now c.args.flash c.index-banks-flash.result p c.requires in
+    alone_by g.B.Borrower.did c.args.banks.now _ c.args.flash c.args.borrower.now c.work.new.self x p c.new-none.result.items c.work.new.ram.items c.requires is_p refl refl c.work.ensures.flash c.new-none.ensures.items c.work.ensures.length c.work.ensures.did

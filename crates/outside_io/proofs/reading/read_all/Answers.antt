@@ -20,9 +20,9 @@ returns-then-count-eq0-clause-whole g c = (
   omega (arith, c.pieces.out.ok.0),
   λ all h.
       let front = (c.pieces.invariant.front all h).0 in
-      let told = ap (λ (t : List ℕ → _). t c.args.name.now) c.pieces.invariant.contents ∙ h in
+      let contents = ap (λ (t : List ℕ → _). t c.args.name.now) c.pieces.invariant.contents ∙ h in
       let none : c.in_ok-count.count ≡ 0 = omega arith in
-      let part = rw none at (c.in_ok-count.ensures.bytes.1 all told) in
+      let part = rw none at (c.in_ok-count.ensures.bytes.1 all contents) in
       read_end all _ _ (vec_len c.pieces.out) _ front (omega arith) part (omega arith),
 )
 
@@ -33,8 +33,8 @@ pieces-preserved g c =
     record {
       front = λ all h.
           let front = c.pieces.invariant.front all h in
-          let told = ap (λ (t : List ℕ → _). t c.args.name.now) c.pieces.invariant.contents ∙ h in
-          let part = c.in_ok-count.ensures.bytes.1 all told in
+          let contents = ap (λ (t : List ℕ → _). t c.args.name.now) c.pieces.invariant.contents ∙ h in
+          let part = c.in_ok-count.ensures.bytes.1 all contents in
           let more = read_more all _ _ (vec_len c.pieces.out) _ c.in_ok-count.count front.0 front.1 (omega arith) part in
           (c.in_ok-extend_from_slice.ensures.items ∙ more.0 ∙ ap (λ (k : ℕ). take k all) (sym len), omega (arith, more.1));
       given = omega (arith, c.in_ok-count.ensures.count, c.pieces.invariant.given);

@@ -29,7 +29,7 @@ pub returns-clause-no_reason : goal.returns-clause-no_reason
 returns-clause-no_reason c = λ g c t e d h. dead.dead-no_reason g c t e d h
 
 pub returns-clause-past : goal.returns-clause-past
-returns-clause-past c = λ c t inside sixteen. dead.told-goes_on c t inside sixteen
+returns-clause-past c = λ c t inside sixteen. dead.answered-goes_on c t inside sixteen
 
 pub returns-clause-alone : goal.returns-clause-alone
-returns-clause-alone c = λ c values t inside sixteen few. dead.told-goes_on_with c values t inside sixteen few
+returns-clause-alone c = λ c values t inside sixteen few. dead.answered-goes_on_with c values t inside sixteen few

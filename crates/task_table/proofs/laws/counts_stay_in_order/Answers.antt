@@ -1,5 +1,5 @@
 use Rattle.task_table.proofs.Counting as counting
-use Rattle.task_table.proofs.RowChains.{chain-called}
+use Rattle.task_table.proofs.RowChains.{chain-syscall_made}
 use Rattle.task_table.proofs.laws.counts_stay_in_order.Goals as goal
 
 pub returns-clause-noted : goal.returns-clause-noted
@@ -20,11 +20,11 @@ returns-clause-faulted c = λ g i fault t. counting.time-faulted g i fault t
 pub returns-clause-posted : goal.returns-clause-posted
 returns-clause-posted c = λ i bits t. counting.time-posted i bits t
 
-pub returns-clause-call_noted : goal.returns-clause-call_noted
-returns-clause-call_noted c = λ c t. counting.time-call_noted c t
+pub returns-clause-syscall_noted : goal.returns-clause-syscall_noted
+returns-clause-syscall_noted c = λ c t. counting.time-syscall_noted c t
 
-pub returns-clause-called : goal.returns-clause-called
-returns-clause-called c = λ g c t h inside ready. counting.chain_counts g t.state c h.steady.placed t _ (chain-called g c t h (rw (← h.steady.as_many) inside) ready) (counting.counts_here t.state)
+pub returns-clause-syscall_made : goal.returns-clause-syscall_made
+returns-clause-syscall_made c = λ g c t h inside ready. counting.chain_counts g t.state c h.steady.placed t _ (chain-syscall_made g c t h (rw (← h.steady.as_many) inside) ready) (counting.counts_here t.state)
 
 pub returns-clause-joined : goal.returns-clause-joined
 returns-clause-joined c = λ s u v a b. counting.time-joined s u v a b

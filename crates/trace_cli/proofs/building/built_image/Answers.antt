@@ -22,7 +22,7 @@ returns-in-Err-app_in-clause-halt g c =
     let a = g.F.Files.seen c.args.files.now in
     let b = g.F.Files.seen c.read_contents.new.files in
     let f = app_file c.args.name.now in
-    let held = subst (λ (x : List ℕ). MayBe (g.F.Files.seen c.args.files.now).told c.args.name.now x) (sym c.deref.ensures.value) c.in-Ok.ensures.held in
+    let held = subst (λ (x : List ℕ). MayBe (g.F.Files.seen c.args.files.now).contents c.args.name.now x) (sym c.deref.ensures.value) c.in-Ok.ensures.held in
     halts_at_app a b c.args.name.now c.halted-in-Err-app_in.result (c.halted-in-Err-app_in.ensures a b f refl
     (refused_in a b f c.deref.result.now c.in-Err-app_in.stop held c.in-Err-app_in.ensures.stop))
 
@@ -31,7 +31,7 @@ returns-clause-halt g c =
     let a = g.F.Files.seen c.args.files.now in
     let b = g.F.Files.seen c.read_contents.new.files in
     let f = app_file c.args.name.now in
-    let held = subst (λ (x : List ℕ). MayBe (g.F.Files.seen c.args.files.now).told c.args.name.now x) (sym c.deref.ensures.value) c.in-Ok.ensures.held in
+    let held = subst (λ (x : List ℕ). MayBe (g.F.Files.seen c.args.files.now).contents c.args.name.now x) (sym c.deref.ensures.value) c.in-Ok.ensures.held in
     let few = subst (λ (x : List ℕ). length x ≤ 2097152) (sym c.deref.ensures.value) c.in-Ok.ensures.few in
     let app = app_of c.in-Ok-app_in.app in
     let stops = subst (λ r. StopsAt r c.in-Err-opened.stop) (sym (app_by_room c.deref.result.now app few c.in-Ok-app_in.ensures.app)) c.in-Err-opened.ensures.stop in
@@ -40,11 +40,11 @@ returns-clause-halt g c =
 
 pub returns-in-Ok-opened-clause-image : goal.returns-in-Ok-opened-clause-image
 returns-in-Ok-opened-clause-image g c =
-    let held = subst (λ (x : List ℕ). MayBe (g.F.Files.seen c.args.files.now).told c.args.name.now x) (sym c.deref.ensures.value) c.in-Ok.ensures.held in
+    let held = subst (λ (x : List ℕ). MayBe (g.F.Files.seen c.args.files.now).contents c.args.name.now x) (sym c.deref.ensures.value) c.in-Ok.ensures.held in
     let few = subst (λ (x : List ℕ). length x ≤ 2097152) (sym c.deref.ensures.value) c.in-Ok.ensures.few in
     let app = app_of c.in-Ok-app_in.app in
-    let told = (g.F.Files.seen c.args.files.now).told in
-    IfOk-weaker c.image_of.result _ _ (λ i h. image_of_files told c.args.name.now c.deref.result.now app (picture i) few c.in-Ok-app_in.ensures.app c.in-Ok-opened.ensures.room held
+    let seen = (g.F.Files.seen c.args.files.now).contents in
+    IfOk-weaker c.image_of.result _ _ (λ i h. image_of_files seen c.args.name.now c.deref.result.now app (picture i) few c.in-Ok-app_in.ensures.app c.in-Ok-opened.ensures.room held
     (subst (λ t. IsImageOf t app (picture i)) c.in-Ok.ensures.contents h)) c.image_of.ensures.image
 
 pub returns-in-Ok-opened-clause-halt : goal.returns-in-Ok-opened-clause-halt
@@ -52,7 +52,7 @@ returns-in-Ok-opened-clause-halt g c =
     let a = g.F.Files.seen c.args.files.now in
     let b = g.F.Files.seen c.read_contents.new.files in
     let e = g.F.Files.seen c.image_of.new.files in
-    let held = subst (λ (x : List ℕ). MayBe (g.F.Files.seen c.args.files.now).told c.args.name.now x) (sym c.deref.ensures.value) c.in-Ok.ensures.held in
+    let held = subst (λ (x : List ℕ). MayBe (g.F.Files.seen c.args.files.now).contents c.args.name.now x) (sym c.deref.ensures.value) c.in-Ok.ensures.held in
     let few = subst (λ (x : List ℕ). length x ≤ 2097152) (sym c.deref.ensures.value) c.in-Ok.ensures.few in
     let app = app_of c.in-Ok-app_in.app in
     IfErr-weaker c.image_of.result _ _ (λ h is. halts_later a b e c.args.name.now c.deref.result.now app h few c.in-Ok-app_in.ensures.app c.in-Ok-opened.ensures.room held

@@ -15,5 +15,5 @@ returns-in-Err-clause-halt g c =
 pub returns-clause-halt : goal.returns-clause-halt
 returns-clause-halt g c =
     let f : File = record { name = c.args.name.now; refusal = source_refusal (described c.args.builder.now) (next_task c.args.builder.now) } in
-    let held = subst (λ (b : List ℕ). MayBe (g.F.Files.seen c.args.files.now).told c.args.name.now b) (sym c.deref.ensures.value) c.in-Ok.ensures.held in
+    let held = subst (λ (b : List ℕ). MayBe (g.F.Files.seen c.args.files.now).contents c.args.name.now b) (sym c.deref.ensures.value) c.in-Ok.ensures.held in
     c.halted-in-Err-take_bytes.ensures _ _ f refl (refused_in _ _ f c.deref.result.now c.in-Err-take_bytes.stop held c.in-Err-take_bytes.ensures.stop)

@@ -23,7 +23,7 @@ returns-in-Err-clause-halt g c =
     let a = g.F.Files.seen c.args.files.now in
     let b = g.F.Files.seen c.loop-task.files in
     let e = g.F.Files.seen c.take_source.new.files in
-    halts_next a b e (app_of c.args.app.now) c.loop-task.builder k t c.in-Err.halt inv.first inv.told inv.later inv.described at
+    halts_next a b e (app_of c.args.app.now) c.loop-task.builder k t c.in-Err.halt inv.first inv.contents inv.later inv.described at
     (subst (λ (n : List ℕ). HaltsAt b e (f n) c.in-Err.halt) c.deref.ensures c.in-Err.ensures.halt)
 
 pub loop-task-preserved : goal.loop-task-preserved
@@ -34,13 +34,13 @@ loop-task-preserved g c =
     let at : slice_get (app_of c.args.app.now).tasks k ≡ Some t =
     subst (λ (ts : List TaskData). slice_get ts k ≡ Some t) inv.items (subst (λ x. slice_get (map task_of c.tasks-task-items.result.now) k ≡ Some (task_of x)) (sym c.task-item.is) (get_mapped task_of c.tasks-task-items.result.now k _ c.loop-task-test.true)) in
     let one = c.in-Ok.ensures.taken inv.first.sources inv.first.taken in
-    let next = subst (λ told. HasNext told t.source inv.first.sources c.loop-task.builder c.take_source.new.builder) inv.told
-    (subst (λ (n : List ℕ). HasNext (g.F.Files.seen c.loop-task.files).told n inv.first.sources c.loop-task.builder c.take_source.new.builder) c.deref.ensures one) in
+    let next = subst (λ seen. HasNext seen t.source inv.first.sources c.loop-task.builder c.take_source.new.builder) inv.contents
+    (subst (λ (n : List ℕ). HasNext (g.F.Files.seen c.loop-task.files).contents n inv.first.sources c.loop-task.builder c.take_source.new.builder) c.deref.ensures one) in
     record {
       described = c.in-Ok.ensures.described ∙ inv.described;
       items = inv.items;
-      first = one_more (g.F.Files.seen c.args.files.now).told (app_of c.args.app.now) c.loop-task.builder c.take_source.new.builder k t inv.first inv.described at next;
-      told = c.in-Ok.ensures.contents ∙ inv.told;
+      first = one_more (g.F.Files.seen c.args.files.now).contents (app_of c.args.app.now) c.loop-task.builder c.take_source.new.builder k t inv.first inv.described at next;
+      seen = c.in-Ok.ensures.contents ∙ inv.contents;
       later = omega (arith, inv.later, c.in-Ok.ensures.later);
       puts = c.in-Ok.ensures.puts ∙ inv.puts;
     }
@@ -51,4 +51,4 @@ returns-clause-taken g c =
     let count : length (map task_of c.tasks-task-items.result.now) ≡ length (app_of c.args.app.now).tasks = ap (λ (ts : List TaskData). length ts) inv.items in
     let k = c.loop-task.task-index in
     let all : k ≡ length (app_of c.args.app.now).tasks = omega (arith, c.loop-task-test.false, c.loop-task.auto.task-index-end, length-map c.tasks-task-items.result.now task_of, count) in
-    all_taken (g.F.Files.seen c.args.files.now).told (app_of c.args.app.now) c.loop-task.builder k all inv.first
+    all_taken (g.F.Files.seen c.args.files.now).contents (app_of c.args.app.now) c.loop-task.builder k all inv.first

@@ -9,8 +9,8 @@ abbrev pub invariant-loop-task : goal.invariant-loop-task
 invariant-loop-task g l = record {
   described : described l.builder ≡ app_of l.app;
   items : map task_of l.task-items ≡ (app_of l.app).tasks;
-  first : HasFirst (g.F.Files.seen l.fn.files).told (app_of l.app) l.builder l.task-index;
-  told : (g.F.Files.seen l.files).told ≡ (g.F.Files.seen l.fn.files).told;
+  first : HasFirst (g.F.Files.seen l.fn.files).contents (app_of l.app) l.builder l.task-index;
+  seen : (g.F.Files.seen l.files).contents ≡ (g.F.Files.seen l.fn.files).contents;
   later : (g.F.Files.seen l.fn.files).read_faults ≤ (g.F.Files.seen l.files).read_faults;
   puts : (g.F.Files.seen l.files).put_faults ≡ (g.F.Files.seen l.fn.files).put_faults;
 }

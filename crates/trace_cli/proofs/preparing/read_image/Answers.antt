@@ -15,5 +15,5 @@ returns-clause-halt g c =
     let a = g.F.Files.seen c.args.files.now in
     let b = g.F.Files.seen c.read_contents.new.files in
     let f = image_file c.args.name.now in
-    let held = subst (λ (x : List ℕ). MayBe (g.F.Files.seen c.args.files.now).told c.args.name.now x) (sym c.deref.ensures.value) c.in-Ok.ensures.held in
+    let held = subst (λ (x : List ℕ). MayBe (g.F.Files.seen c.args.files.now).contents c.args.name.now x) (sym c.deref.ensures.value) c.in-Ok.ensures.held in
     c.halted-in-Err-image_in.ensures a b f refl (refused_in a b f c.deref.result.now c.in-Err-image_in.stop held c.in-Err-image_in.ensures.stop)

@@ -15,5 +15,5 @@ returns-in-Err-script_in-clause-halt g c =
     let a = g.F.Files.seen c.args.files.now in
     let b = g.F.Files.seen c.read_contents.new.files in
     let f = script_file c.args.script.now in
-    let held = subst (λ (x : List ℕ). MayBe (g.F.Files.seen c.args.files.now).told c.args.script.now x) (sym c.deref.ensures.value) c.in-Ok.ensures.held in
+    let held = subst (λ (x : List ℕ). MayBe (g.F.Files.seen c.args.files.now).contents c.args.script.now x) (sym c.deref.ensures.value) c.in-Ok.ensures.held in
     c.halted-in-Err-script_in.ensures a b f refl (refused_in a b f c.deref.result.now c.in-Err-script_in.stop held c.in-Err-script_in.ensures.stop)

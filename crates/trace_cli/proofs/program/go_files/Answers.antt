@@ -5,7 +5,7 @@ use Rattle.trace_cli.proofs.program.go_files.Goals as goal
 
 pub play-requires-clause-ready : goal.play-requires-clause-ready
 play-requires-clause-ready g c =
-    IfOk-weaker c.prepare_go-prepared.result _ _ (λ b h. ready_stood (go c.args.app.now c.args.script.now c.args.steps c.args.detail) (g.F.Files.seen c.args.files.now).told c.args.steps c.args.detail b h) (c.prepare_go-prepared.ensures.ready c.args.steps c.args.detail)
+    IfOk-weaker c.prepare_go-prepared.result _ _ (λ b h. ready_stood (go c.args.app.now c.args.script.now c.args.steps c.args.detail) (g.F.Files.seen c.args.files.now).contents c.args.steps c.args.detail b h) (c.prepare_go-prepared.ensures.ready c.args.steps c.args.detail)
 
 pub returns-clause-answer : goal.returns-clause-answer
 returns-clause-answer g c =

@@ -1,8 +1,8 @@
 use Rattle.trace_cli.proofs.Statuses.{answered, completed, was_cut, was_done, was_refused, was_no_command, was_unread, was_short, was_ran, known, others, kept}
 use Rattle.trace_cli.proofs.program.hubris_main.Goals as goal
 
-pub returns-clause-told : goal.returns-clause-told
-returns-clause-told g c = λ v e. answered _ _ _ _ _ v _ c.answer.ensures.answer e
+pub returns-clause-seen : goal.returns-clause-seen
+returns-clause-seen g c = λ v e. answered _ _ _ _ _ v _ c.answer.ensures.answer e
 
 pub returns-clause-complete : goal.returns-clause-complete
 returns-clause-complete g c = λ no_read no_put no_push v e. completed _ _ _ _ _ v _ no_read no_put no_push (answered _ _ _ _ _ v _ c.answer.ensures.answer e)

@@ -5,7 +5,7 @@ use Rattle.std.specs.Io.KnownBytes.{Appends}
 use Rattle.outside_io.specs.Outside.{AppendsFront}
 use Rattle.task_table.specs.Start.{start}
 use Rattle.board_model.specs.Run.{Run}
-use Rattle.board_model.specs.declared.told.Level.{Level}
+use Rattle.board_model.specs.declared.outcomes.Level.{Level}
 use Rattle.board_core.specs.Stands.{Stands}
 use Rattle.board_run.specs.Text.{trace_text}
 use Rattle.board_run.specs.MemoryText.{memory_text}

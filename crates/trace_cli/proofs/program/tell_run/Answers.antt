@@ -1,5 +1,5 @@
 use Rattle.std.proofs.Common.{◌∙◌, ap, refl}
-use Rattle.trace_cli.specs.Told.{whole, cut}
+use Rattle.trace_cli.specs.Pushed.{whole, cut}
 use Rattle.trace_cli.specs.Verdict.{status_of}
 use Rattle.trace_cli.proofs.program.tell_run.Goals as goal
 

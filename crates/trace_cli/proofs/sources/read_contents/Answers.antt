@@ -4,5 +4,5 @@ use Rattle.trace_cli.proofs.sources.read_contents.Goals as goal
 
 pub returns-in-Err-TooLong-clause-stop : goal.returns-in-Err-TooLong-clause-stop
 returns-in-Err-TooLong-clause-stop g c =
-    let told = rw c.in-Err-TooLong.field-0-is at c.in-Err-TooLong.ensures.long_told in
-    by_length _ _ c.args.name.now c.refused_at_number.result c.refused_at_number.ensures (told refl)
+    let seen = rw c.in-Err-TooLong.field-0-is at c.in-Err-TooLong.ensures.long_seen in
+    by_length _ _ c.args.name.now c.refused_at_number.result c.refused_at_number.ensures (seen refl)

@@ -1,7 +1,7 @@
 use Rattle.std.proofs.Common.{refl, sym, ◌∙◌}
 use Rattle.image_format.specs.Images.{picture}
 use Rattle.trace_cli.specs.Verdict.{listed}
-use Rattle.trace_cli.specs.Told.{pushed}
+use Rattle.trace_cli.specs.Pushed.{pushed}
 use Rattle.trace_cli.proofs.telling.tell_listing.Goals as goal
 
 pub returns-in-Ok : goal.returns-in-Ok

@@ -1,6 +1,6 @@
 use Rattle.std.proofs.Common.{refl, sym, ◌∙◌}
 use Rattle.trace_cli.specs.Verdict.{refused}
-use Rattle.trace_cli.specs.Told.{pushed}
+use Rattle.trace_cli.specs.Pushed.{pushed}
 use Rattle.trace_cli.proofs.telling.tell_refused.Goals as goal
 
 pub returns-in-Ok : goal.returns-in-Ok

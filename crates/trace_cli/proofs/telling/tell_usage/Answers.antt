@@ -1,5 +1,5 @@
 use Rattle.std.proofs.Common.{refl, sym}
-use Rattle.trace_cli.specs.Told.{pushed}
+use Rattle.trace_cli.specs.Pushed.{pushed}
 use Rattle.trace_cli.specs.Verdict.{usage}
 use Rattle.trace_cli.proofs.telling.tell_usage.Goals as goal
 

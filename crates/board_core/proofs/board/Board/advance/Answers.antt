@@ -1,15 +1,15 @@
 use Rattle.std.proofs.Common.{◌≡◌, ◌-◌, ℕ, sym, arith, subst}
-use Rattle.board_model.specs.declared.told.Level.{Level}
+use Rattle.board_model.specs.declared.outcomes.Level.{Level}
 use Rattle.board_core.specs.Stands.{turns_of}
 use Rattle.board_core.specs.Advanced.{IsAdvanced}
 use Rattle.board_core.proofs.Gliding.{first_turn}
 use Rattle.board_core.proofs.board.Board.advance.Goals as goal
 
-pub returns-in-Calls-clause-advanced : goal.returns-in-Calls-clause-advanced
-returns-in-Calls-clause-advanced c = λ x s st.
+pub returns-in-Brief-clause-advanced : goal.returns-in-Brief-clause-advanced
+returns-in-Brief-clause-advanced c = λ x s st.
     let b = c.go_on.new.self in
     let n : ℕ = turns_of b - turns_of c.args.self.now - 1 in
-    subst (λ (l : Level). IsAdvanced l x n s b) (sym c.in-Calls.is) (c.go_on.ensures.advanced x s st)
+    subst (λ (l : Level). IsAdvanced l x n s b) (sym c.in-Brief.is) (c.go_on.ensures.advanced x s st)
 
 pub returns-in-All-clause-advanced : goal.returns-in-All-clause-advanced
 returns-in-All-clause-advanced c = λ x s st.

@@ -1,9 +1,9 @@
 use Rattle.std.proofs.Common.{sym, ◌∙◌, ap}
 use Rattle.mem_banks.specs.Memory.{Memory, byte_at}
-use Rattle.board_core.proofs.Loading.{told_by}
+use Rattle.board_core.proofs.Loading.{rest_held}
 use Rattle.board_core.proofs.board.Board.byte.Goals as goal
 
 pub returns : goal.returns
 returns c = λ x s st.
-    let w = told_by _ x.setup _ _ _ st.holds.machine in
+    let w = rest_held _ x.setup _ _ _ st.holds.machine in
     c.byte.ensures x.setup w.saved w.holds ∙ ap (λ (m : Memory). byte_at m c.args.addr) (sym w.rest.memory)

@@ -1,8 +1,8 @@
 use Rattle.std.proofs.Common.{sym, ◌∙◌}
-use Rattle.board_core.proofs.Loading.{told_by}
+use Rattle.board_core.proofs.Loading.{rest_held}
 use Rattle.board_core.proofs.board.Board.next_call.Goals as goal
 
 pub returns : goal.returns
 returns c = λ x s st.
-    let w = told_by _ x.setup _ _ _ st.holds.machine in
+    let w = rest_held _ x.setup _ _ _ st.holds.machine in
     c.next_call.ensures x.setup w.saved w.holds ∙ sym w.rest.next_call

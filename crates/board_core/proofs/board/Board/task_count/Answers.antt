@@ -1,8 +1,8 @@
 use Rattle.std.proofs.Common.{sym, ◌∙◌}
-use Rattle.board_core.proofs.Loading.{told_by}
+use Rattle.board_core.proofs.Loading.{rest_held}
 use Rattle.board_core.proofs.board.Board.task_count.Goals as goal
 
 pub returns-clause-tasks : goal.returns-clause-tasks
 returns-clause-tasks c = λ x s st.
-    let w = told_by _ x.setup _ _ _ st.holds.machine in
+    let w = rest_held _ x.setup _ _ _ st.holds.machine in
     c.task_count.ensures.holds x.setup w.saved w.holds ∙ sym w.rest.count

@@ -1,6 +1,6 @@
 use Rattle.std.proofs.Common.{sym, ◌∙◌, arith}
 use Rattle.board_core.specs.Machine.{MachineHolds}
-use Rattle.board_core.proofs.Running.{stores_hold, stores_notes, was_next, was_call, was_trap}
+use Rattle.board_core.proofs.Running.{stores_hold, stores_notes, was_next, was_syscall, was_trap}
 use Rattle.board_model.proofs.Stepping.{trap_known}
 use Rattle.board_core.proofs.Loading.{effect_loaded, loaded_by, goes_on, next_loaded, acted_as, ready_same}
 use Rattle.board_core.proofs.machine.Machine.execute_own.Goals as goal
@@ -25,7 +25,7 @@ fault-requires-clause-to_ten c =
 
 pub call-requires-clause-ready : goal.call-requires-clause-ready
 call-requires-clause-ready c =
-    let w = was_call _ _ _ _ _ _ c.exec.ensures c.in-Call.is in
+    let w = was_syscall _ _ _ _ _ _ c.exec.ensures c.in-Call.is in
     (c.requires.ready.0, c.requires.ready.1, ready_same _ _ _ _ _ w.1 w.2 c.requires.ready.2, c.requires.ready.3)
 
 pub returns-in-Next-clause-holds : goal.returns-in-Next-clause-holds
@@ -38,7 +38,7 @@ returns-in-Next-clause-holds c = λ g t r.
 
 pub returns-in-Call-clause-holds : goal.returns-in-Call-clause-holds
 returns-in-Call-clause-holds c = λ g t r.
-    let w = was_call _ _ _ _ _ _ c.exec.ensures c.in-Call.is in
+    let w = was_syscall _ _ _ _ _ _ c.exec.ensures c.in-Call.is in
     let here = effect_loaded g _ _ t c.args.insn.now r.holds r.sane.steady.current in
     acted_as g (MachineHolds g c.call.new.self) t.state.current t _ _ (sym here ∙ w.0) (c.call.ensures.holds g t (ready_same _ _ _ _ _ w.1 w.2 r))
 

@@ -1,3 +1,4 @@
+use Rattle.words_core.specs.Regs.{stack_pointer, program_counter}
 use Rattle.std.proofs.Common.{◌≡◌, true, ℕ, inl, inr, refl, sym, ◌∙◌, ap, subst, arith}
 use Rattle.std.proofs.lemmas.Bool.{false≢true}
 use Rattle.std.specs.List.{list_any}
@@ -6,7 +7,7 @@ use Rattle.mem_banks.specs.Loans.{bytes_of}
 use Rattle.thumb_exec.specs.declared.cpu.Cpu.{Cpu}
 use Rattle.thumb_window.specs.Windows.{View, Glides}
 use Rattle.task_table.specs.State.{Setup}
-use Rattle.task_table.specs.Reading.{setup_at, task_at, register, stack_pointer, program_counter}
+use Rattle.task_table.specs.Reading.{setup_at, task_at, register}
 use Rattle.task_table.specs.Holds.{current_of, memory_of}
 use Rattle.board_model.specs.Turn.{cpu_of}
 use Rattle.window_laws.specs.Reached.{is_flash_at, AreReached}
@@ -15,7 +16,7 @@ use Rattle.board_core.specs.Machine.{IsLoaded}
 use Rattle.board_core.specs.Gliding.{lent_view}
 use Rattle.board_core.proofs.Loading.{rest_of, loaded_cpu, loaded_by, loaded_register}
 use Rattle.board_core.proofs.Gliding.{current_seen}
-use Rattle.board_core.proofs.Windowing.{are_usable, whole_window, text_below, lent_loaded}
+use Rattle.board_core.proofs.Windowing.{are_usable, whole_window, flash_below, lent_loaded}
 use Rattle.board_core.proofs.machine.Machine.glide.Goals as goal
 
 pub returns-in_default-clause-glided : goal.returns-in_default-clause-glided
@@ -70,8 +71,8 @@ returns-clause-glided c = λ g t r.
     inl record {
       window = v;
       after = w;
-      whole = subst S stack (subst P there (subst W memory (whole_window g t.state.current (memory_of k) pc sp flash ram v are c.aim.ensures.text c.aim.ensures.readable c.aim.ensures.ram loan.text_there loan.ram_there refl refl)));
-      far = λ lt. loan.work.far (text_below g t.state.current (memory_of k) pc sp flash ram v are c.aim.ensures.text c.aim.ensures.readable c.aim.ensures.ram loan.text_there loan.ram_there refl refl) (let most = c.aim.ensures.most in omega (arith, lt, most));
+      whole = subst S stack (subst P there (subst W memory (whole_window g t.state.current (memory_of k) pc sp flash ram v are c.aim.ensures.flash c.aim.ensures.readable c.aim.ensures.ram loan.flash_there loan.ram_there refl refl)));
+      far = λ lt. loan.work.far (flash_below g t.state.current (memory_of k) pc sp flash ram v are c.aim.ensures.flash c.aim.ensures.readable c.aim.ensures.ram loan.flash_there loan.ram_there refl refl) (let most = c.aim.ensures.most in omega (arith, lt, most));
       glides = subst G (c.aim.ensures.processor ∙ own) loan.work.glides;
       holds = loaded_by m.loaded g c.lend.new.self b.runner.processor _ r.loaded (subst H (sym c.aim.ensures.ram) (lent_loaded g k c.lend.new.self m.processor b.runner.processor t ram.base loan.after b.made h r.sane.steady.current (λ u held. lent.holds g u held)));
     }

@@ -4,7 +4,7 @@ use Rattle.run_script.specs.Events.{script_data}
 use Rattle.run_script.specs.Scripts.{events_of}
 use Rattle.task_table.specs.State.{Setup, Turn}
 use Rattle.task_table.specs.Holds.{note_count}
-use Rattle.task_table.specs.Limits.{call_notes}
+use Rattle.task_table.specs.Limits.{syscall_notes}
 use Rattle.board_model.specs.Turn.{happened}
 use Rattle.board_core.specs.Machine.{MachineStands}
 use Rattle.board_core.proofs.machine.Machine.happen_all.Given as goal
@@ -12,6 +12,6 @@ use Rattle.board_core.proofs.machine.Machine.happen_all.Given as goal
 -- so far the first events have happened
 abbrev pub invariant-loop-k : goal.invariant-loop-k
 invariant-loop-k l = record {
-  room : note_count l.self.reach.kernel ≤ call_notes * l.k;
+  room : note_count l.self.reach.kernel ≤ syscall_notes * l.k;
   stands : (g : Setup) (t : Turn) → MachineStands g l.initial.self t → MachineStands g l.self (fold (happened g) t (take l.k (events_of (script_data l.script) l.turn)));
 }

@@ -2,11 +2,11 @@ use Rattle.std.proofs.Common.{◌∙◌, ℕ, sym, subst, arith}
 use Rattle.kernel_abi.specs.declared.Note.TheVariants as note
 use Rattle.task_table.specs.State.{Turn}
 use Rattle.board_core.specs.Machine.{MachineHolds, HasNumber}
-use Rattle.board_model.specs.Turn.{told, executed}
-use Rattle.board_model.proofs.TurnChains.{told_state}
+use Rattle.board_model.specs.Turn.{noted_at, executed}
+use Rattle.board_model.proofs.TurnChains.{noted_state}
 use Rattle.board_core.proofs.Fetching.{even_pc, fetched_stepped}
 use Rattle.board_core.proofs.Loading.{loaded_register}
-use Rattle.board_core.proofs.Telling.{told_current}
+use Rattle.board_core.proofs.Noting.{noted_current}
 use Rattle.board_core.proofs.machine.Machine.step.Goals as goal
 
 pub fetch-requires : goal.fetch-requires
@@ -21,16 +21,16 @@ execute-requires-clause-ready c =
     let g = c.requires.ready.0 in
     let t = c.requires.ready.1 in
     let n = note.Insn t.state.current c.get-at.result c.in-Ok.fetched.code in
-    (g, told c.args.level n t, c.tell_insn.ensures.ready g t c.requires.ready.2, subst HasNumber (sym (told_state c.args.level n t)) c.requires.ready.3)
+    (g, noted_at c.args.level n t, c.note_insn.ensures.ready g t c.requires.ready.2, subst HasNumber (sym (noted_state c.args.level n t)) c.requires.ready.3)
 
 pub returns-in-Ok-clause-holds : goal.returns-in-Ok-clause-holds
 returns-in-Ok-clause-holds c = λ g t r.
     let at = c.get-at.ensures ∙ loaded_register 15 g _ _ t r.holds r.sane.steady.current in
     let n = note.Insn t.state.current c.get-at.result c.in-Ok.fetched.code in
-    let u = told c.args.level n t in
+    let u = noted_at c.args.level n t in
     let P : ℕ → Type 0 = λ i. MachineHolds g c.execute.new.self (executed g i c.in-Ok.fetched.insn u) in
     let H : Turn → Type 0 = λ v. MachineHolds g c.execute.new.self v in
-    subst H (fetched_stepped g c.args.self.now t r c.args.level c.get-at.result c.fetch.result _ at (omega arith) c.fetch.ensures.is c.in-Ok.is) (subst P (told_current c.args.level n t) (c.execute.ensures.holds g u (c.tell_insn.ensures.ready g t r)))
+    subst H (fetched_stepped g c.args.self.now t r c.args.level c.get-at.result c.fetch.result _ at (omega arith) c.fetch.ensures.is c.in-Ok.is) (subst P (noted_current c.args.level n t) (c.execute.ensures.holds g u (c.note_insn.ensures.ready g t r)))
 
 pub returns-in-Err-clause-holds : goal.returns-in-Err-clause-holds
 returns-in-Err-clause-holds c = λ g t r.

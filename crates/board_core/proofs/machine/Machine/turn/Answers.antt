@@ -1,7 +1,7 @@
 use Rattle.std.proofs.Common.{◌≡◌, ◌<◌, ℕ, Option, length, sym, ◌∙◌, ap, arith, subst}
 use Rattle.task_table.specs.Reading.{register}
 use Rattle.task_table.proofs.Sanity.{sane-current}
-use Rattle.board_model.specs.declared.told.Turned.TheVariants.{Ran}
+use Rattle.board_model.specs.declared.outcomes.Turned.TheVariants.{Ran}
 use Rattle.board_core.specs.Machine.{IsReady, MachineHolds}
 use Rattle.board_model.specs.Turn.{turn_of, turned_of, stepped, with_current}
 use Rattle.board_model.proofs.TurnChains.{chosen_is, sane-ran}
@@ -28,8 +28,8 @@ step-requires-clause-ready c =
       c.requires.next.3,
     )
 
-pub tell_task-requires-clause-there : goal.tell_task-requires-clause-there
-tell_task-requires-clause-there c =
+pub note_task-requires-clause-there : goal.note_task-requires-clause-there
+note_task-requires-clause-there c =
     let g = c.requires.next.0 in
     let t = c.requires.next.1 in
     let n = c.requires.next.2 in
@@ -59,8 +59,8 @@ returns-in-Some-clause-holds c = λ g t n.
     let task = c.in-Some.task in
     let is = chosen_is t.state task n.stands.sane (sym n.is ∙ c.in-Some.is) in
     let ready : IsReady g c.load_context.new.self (with_current task t) = record { loaded = c.load_context.ensures.loaded; holds = c.load_context.ensures.holds g t n.stands.holds is.ready; sane = sane-current task t n.stands.sane is.inside } in
-    let P : Option ℕ → Type 0 = λ o. MachineHolds g c.tell_task.new.self (turn_of c.args.level g o t) in
-    subst P (sym c.in-Some.is) (c.tell_task.ensures.holds g _ (c.step.ensures.holds g (with_current task t) ready))
+    let P : Option ℕ → Type 0 = λ o. MachineHolds g c.note_task.new.self (turn_of c.args.level g o t) in
+    subst P (sym c.in-Some.is) (c.note_task.ensures.holds g _ (c.step.ensures.holds g (with_current task t) ready))
 
 pub returns-in-Some-clause-turned : goal.returns-in-Some-clause-turned
 returns-in-Some-clause-turned c = λ g t n.

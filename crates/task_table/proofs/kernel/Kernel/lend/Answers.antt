@@ -12,10 +12,10 @@ returns-clause-lent g c = λ yes.
     let a = c.args in
     let k = c.touched.new.self in
     let loan = c.lend.ensures.lent yes in
-    let over = lent_or_not g.B.Borrower.did c.lend.result k.memory.bytes (span_of a.text.now) (span_of a.ram.now) a.borrower.now c.lend.new.borrower c.lend.new.self.bytes c.lend.ensures.lent (λ refused. ap (λ (m : Opened). m.bytes) (c.lend.ensures.kept refused)) in
+    let over = lent_or_not g.B.Borrower.did c.lend.result k.memory.bytes (span_of a.flash.now) (span_of a.ram.now) a.borrower.now c.lend.new.borrower c.lend.new.self.bytes c.lend.ensures.lent (λ refused. ap (λ (m : Opened). m.bytes) (c.lend.ensures.kept refused)) in
     let same = setup_lent (λ flash ram. record (setup_of k) { flash = flash; ram = ram }) k.memory.bytes c.lend.new.self.bytes (span_of a.ram.now) over in
     record {
-      loan = loan_of g.B.Borrower.did (memory_of a.self.now) k.memory.bytes (span_of a.text.now) (span_of a.ram.now) a.borrower.now c.lend.new.borrower c.lend.new.self.bytes c.touched.ensures.memory loan;
+      loan = loan_of g.B.Borrower.did (memory_of a.self.now) k.memory.bytes (span_of a.flash.now) (span_of a.ram.now) a.borrower.now c.lend.new.borrower c.lend.new.self.bytes c.touched.ensures.memory loan;
       holds = λ s t h. holds_overlaid s (kept_of k) t a.ram.now.base loan.after _ _ (c.touched.ensures.holds s t h) same loan.left;
     }
 
@@ -23,7 +23,7 @@ pub returns-clause-frame : goal.returns-clause-frame
 returns-clause-frame g c =
     let a = c.args in
     let k = c.touched.new.self in
-    let over = lent_or_not g.B.Borrower.did c.lend.result k.memory.bytes (span_of a.text.now) (span_of a.ram.now) a.borrower.now c.lend.new.borrower c.lend.new.self.bytes c.lend.ensures.lent (λ refused. ap (λ (m : Opened). m.bytes) (c.lend.ensures.kept refused)) in
+    let over = lent_or_not g.B.Borrower.did c.lend.result k.memory.bytes (span_of a.flash.now) (span_of a.ram.now) a.borrower.now c.lend.new.borrower c.lend.new.self.bytes c.lend.ensures.lent (λ refused. ap (λ (m : Opened). m.bytes) (c.lend.ensures.kept refused)) in
     record {
       notes = c.touched.ensures.frame.notes;
       tasks = c.touched.ensures.frame.tasks;
@@ -34,15 +34,15 @@ pub invariant_of-self-clause-fresh : goal.invariant_of-self-clause-fresh
 invariant_of-self-clause-fresh g c =
     let a = c.args in
     let k = c.touched.new.self in
-    let over = lent_or_not g.B.Borrower.did c.lend.result k.memory.bytes (span_of a.text.now) (span_of a.ram.now) a.borrower.now c.lend.new.borrower c.lend.new.self.bytes c.lend.ensures.lent (λ refused. ap (λ (m : Opened). m.bytes) (c.lend.ensures.kept refused)) in
+    let over = lent_or_not g.B.Borrower.did c.lend.result k.memory.bytes (span_of a.flash.now) (span_of a.ram.now) a.borrower.now c.lend.new.borrower c.lend.new.self.bytes c.lend.ensures.lent (λ refused. ap (λ (m : Opened). m.bytes) (c.lend.ensures.kept refused)) in
     fresh_lent k.memory.bytes c.lend.new.self.bytes (span_of a.ram.now) k.watch.low k.watch.span k.entries.items k.fresh c.touched.ensures.apart over
 
 pub returns-clause-given : goal.returns-clause-given
 returns-clause-given g c = λ task usable.
     let a = c.args in
     let k = c.touched.new.self in
-    let here : AreUsable (setup_at (setup_of k) task).regions a.text.now a.ram.now = subst (λ s. AreUsable (setup_at s task).regions a.text.now a.ram.now) (sym c.touched.ensures.frame.setup) usable in
-    answered c.lend.result k.lendable (λ lendable. c.lend.ensures.given (usable_given (setup_of k) k.memory.regions task a.text.now a.ram.now lendable here))
+    let here : AreUsable (setup_at (setup_of k) task).regions a.flash.now a.ram.now = subst (λ s. AreUsable (setup_at s task).regions a.flash.now a.ram.now) (sym c.touched.ensures.frame.setup) usable in
+    answered c.lend.result k.lendable (λ lendable. c.lend.ensures.given (usable_given (setup_of k) k.memory.regions task a.flash.now a.ram.now lendable here))
 
 pub invariant_of-self-clause-lendable : goal.invariant_of-self-clause-lendable
 invariant_of-self-clause-lendable g c =

@@ -28,6 +28,6 @@ returns-else-generation-clause-found c = λ g t h.
     let kept : c.slot-slot.result.generation.number ≡ (task_at t.state c.from-index.result).births % 64 = ap (λ (o : Slot). o.generation.number) (c.slot-slot.ensures g t h).is in
     let here = rw index at kept in
     let same : c.slot-slot.result.generation.number % 64 ≡ (task_at t.state (index_of c.args.id)).births % 64 = omega (arith, here) in
-    let told : c.generation.result.number ≡ generation_of c.args.id = omega (arith, c.generation.ensures.value, c.of-id.ensures) in
-    let other : generation_of c.args.id ≢ (task_at t.state (index_of c.args.id)).births % 64 = λ e. c.if-generation.false (same ∙ sym e ∙ sym told) in
+    let as_noted : c.generation.result.number ≡ generation_of c.args.id = omega (arith, c.generation.ensures.value, c.of-id.ensures) in
+    let other : generation_of c.args.id ≢ (task_at t.state (index_of c.args.id)).births % 64 = λ e. c.if-generation.false (same ∙ sym e ∙ sym as_noted) in
     (lt-leb _ _ there, ap not (ne_eqb _ _ other), same)

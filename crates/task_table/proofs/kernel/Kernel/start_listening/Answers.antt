@@ -8,7 +8,7 @@ use Rattle.task_table.specs.Messages.{from_of}
 use Rattle.task_table.specs.Holds.{kept_listen, source_of}
 use Rattle.task_table.specs.declared.slot.Wait.TheVariants as wait
 use Rattle.task_table.proofs.Changes.{timers_same}
-use Rattle.task_table.proofs.Messages.{kept-with_listen, told_as}
+use Rattle.task_table.proofs.Messages.{kept-with_listen, answered_as}
 use Rattle.task_table.proofs.Waiting.{task_at-with_listen, same_but-with_listen}
 use Rattle.task_table.proofs.kernel.Kernel.start_listening.Goals as goal
 
@@ -25,4 +25,4 @@ returns-clause-holds c = λ g t h idle.
     let kept = c.slot-slot.ensures g t h in
     let is : wait.Listen record { from = c.source.result; mask = c.of-args.result.mask; buffer = c.buffer_of.result } ≡ wait.Listen (kept_listen l) = rw (source, mask, buffer) refl in
     let next = c.set_slot.ensures.holds g t _ h (kept-with_listen t.state l _ _ kept idle is) (same_but-with_listen t.state l) (timers_same _ _ i (task_at-with_listen t.state l i)) in
-    rw (told_as t.state c.args.from) (rw mask at (c.note.ensures.holds g _ next))
+    rw (answered_as t.state c.args.from) (rw mask at (c.note.ensures.holds g _ next))

@@ -1,0 +1,198 @@
+-- The first turns of the five tasks with each instruction noted, by computing; the lines come from another program.
+use Rattle.std.proofs.Common.{◌≡◌, ℕ, true, false, List, [], ◌∷◌, ◌++◌, Some, refl}
+use Rattle.std.specs.Prelude.{replicate}
+use Rattle.kernel_abi.specs.declared.Handled.TheVariants as handled
+use Rattle.kernel_abi.specs.declared.Listened.TheVariants as listened
+use Rattle.kernel_abi.specs.declared.Note.{Note}
+use Rattle.kernel_abi.specs.declared.Note.TheVariants as note
+use Rattle.region_check.specs.Rights.{first_bad}
+use Rattle.run_script.specs.declared.events.Event.TheVariants.{Tick, Irq}
+use Rattle.thumb_insn.specs.Table.{rows, narrow_of, wide_rows, wide_of}
+use Rattle.thumb_exec.specs.Effect.{words, transfers, first_refused, stores_of, loaded_all, ones, count, effect}
+use Rattle.mem_banks.specs.Memory.{bytes_at, with_bytes, copied as copied_memory}
+use Rattle.task_table.specs.State.{Setup}
+use Rattle.task_table.specs.Reading.{task_at, line_at, register, arguments, call_of, listen_of, dead_code_for, is_out, is_dead, is_ready, bad_byte, chosen, offer_by, best_sender}
+use Rattle.task_table.specs.Effects.{with_task, without_call, without_listen, with_listen, with_taken, noted, with_processor, with_health, stored, copied, looked, given, returned, past_syscall, bits_added, bits_cleared, woken, posted, with_timer, clocked, with_line, closed, faulted_as, handed}
+use Rattle.task_table.specs.Events.{ticked, owner_of, interrupted}
+use Rattle.task_table.specs.Rows.{panicked, timer_set, timer_answered, irq_controlled, received, syscall_noted}
+use Rattle.task_table.specs.Syscalls.{syscall_made}
+use Rattle.task_table.specs.Start.{start, begun}
+use Rattle.board_model.specs.declared.outcomes.End.TheVariants.{Bound}
+use Rattle.board_model.specs.declared.outcomes.Level.TheVariants.{All}
+use Rattle.board_model.specs.Script.{Scenario}
+use Rattle.board_model.specs.Run.{Run, run, ending}
+use Rattle.board_model.specs.Turn.{after_events, stepped, with_registers_noted, ended, turn}
+
+setup : Setup
+setup = record {
+  tasks =
+      record { priority = 0; entry = 134217729; stack = 536870976; start = true; regions = record { base = 134217728; size = 256; rights = record { read = true; write = false; execute = true; device = false } } ∷ record { base = 536870912; size = 256; rights = record { read = true; write = true; execute = false; device = false } } ∷ [] } ∷
+      record { priority = 1; entry = 134217985; stack = 536871232; start = true; regions = record { base = 134217984; size = 256; rights = record { read = true; write = false; execute = true; device = false } } ∷ record { base = 536871168; size = 256; rights = record { read = true; write = true; execute = false; device = false } } ∷ [] } ∷
+      record { priority = 2; entry = 134218241; stack = 536871488; start = true; regions = record { base = 134218240; size = 256; rights = record { read = true; write = false; execute = true; device = false } } ∷ record { base = 536871424; size = 256; rights = record { read = true; write = true; execute = false; device = false } } ∷ [] } ∷
+      record { priority = 2; entry = 134218497; stack = 536871744; start = true; regions = record { base = 134218496; size = 256; rights = record { read = true; write = false; execute = true; device = false } } ∷ record { base = 536871680; size = 256; rights = record { read = true; write = true; execute = false; device = false } } ∷ [] } ∷
+      record { priority = 3; entry = 134218753; stack = 536872000; start = true; regions = record { base = 134218752; size = 256; rights = record { read = true; write = false; execute = true; device = false } } ∷ record { base = 536871936; size = 256; rights = record { read = true; write = true; execute = false; device = false } } ∷ [] } ∷
+      [];
+  lines = record { line = 7; owner = 2; bits = 1 } ∷ [];
+  fault_bits = 1;
+  ram = 1280;
+  line_count = 32;
+  flash =
+      (0 ∷ 36 ∷ 0 ∷ 37 ∷ 1 ∷ 38 ∷ 0 ∷ 39 ∷ 1 ∷ 32 ∷ 131 ∷ 70 ∷ 0 ∷ 223 ∷ 247 ∷ 231 ∷ []) ++ replicate 240 0 ++
+      (0 ∷ 35 ∷ 9 ∷ 32 ∷ 131 ∷ 70 ∷ 0 ∷ 223 ∷ 165 ∷ 28 ∷ 0 ∷ 38 ∷ 1 ∷ 36 ∷ 2 ∷ 39 ∷ 3 ∷ 32 ∷ 131 ∷ 70 ∷ 0 ∷ 223 ∷ 0 ∷ 36 ∷ 0 ∷ 37 ∷ 2 ∷ 38 ∷ 0 ∷ 39 ∷ 1 ∷ 32 ∷ 131 ∷ 70 ∷ 0 ∷ 223 ∷ 1 ∷ 51 ∷ 236 ∷ 231 ∷ []) ++ replicate 216 0 ++
+      (1 ∷ 36 ∷ 1 ∷ 37 ∷ 7 ∷ 32 ∷ 131 ∷ 70 ∷ 0 ∷ 223 ∷ 108 ∷ 70 ∷ 8 ∷ 37 ∷ 1 ∷ 38 ∷ 1 ∷ 39 ∷ 255 ∷ 7 ∷ 4 ∷ 55 ∷ 1 ∷ 32 ∷ 131 ∷ 70 ∷ 0 ∷ 223 ∷ 240 ∷ 231 ∷ []) ++ replicate 226 0 ++
+      (0 ∷ 35 ∷ 110 ∷ 70 ∷ 8 ∷ 62 ∷ 51 ∷ 96 ∷ 1 ∷ 51 ∷ 4 ∷ 43 ∷ 251 ∷ 209 ∷ 72 ∷ 181 ∷ 72 ∷ 188 ∷ 1 ∷ 176 ∷ 1 ∷ 36 ∷ 0 ∷ 37 ∷ 4 ∷ 39 ∷ 0 ∷ 38 ∷ 3 ∷ 32 ∷ 131 ∷ 70 ∷ 0 ∷ 223 ∷ 0 ∷ 36 ∷ 4 ∷ 38 ∷ 0 ∷ 39 ∷ 1 ∷ 32 ∷ 131 ∷ 70 ∷ 0 ∷ 223 ∷ 6 ∷ 38 ∷ 231 ∷ 67 ∷ 0 ∷ 37 ∷ 0 ∷ 223 ∷ 3 ∷ 222 ∷ []) ++ replicate 200 0 ++
+      (40 ∷ 35 ∷ 1 ∷ 59 ∷ 253 ∷ 209 ∷ 88 ∷ 104 ∷ []) ++ replicate 248 0;
+}
+
+scenario : Scenario
+scenario = record {
+  setup = setup;
+  script = record { every = Some 30; events = (5, Irq 7) ∷ (90, Irq 7) ∷ (90, Irq 7) ∷ (91, Tick) ∷ (150, Irq 8) ∷ (171, Irq 7) ∷ [] };
+}
+
+expected : List (ℕ × Note)
+expected =
+    (0, note.Insn 0 134217728 9216) ∷
+    (0, note.Low (0 ∷ 0 ∷ 0 ∷ 0 ∷ 0 ∷ 0 ∷ 0 ∷ 0 ∷ [])) ∷
+    (0, note.High (0 ∷ 0 ∷ 0 ∷ 0 ∷ 0 ∷ 536870976 ∷ 4294967295 ∷ 134217730 ∷ []) false true false false) ∷
+    (1, note.Insn 0 134217730 9472) ∷
+    (1, note.Low (0 ∷ 0 ∷ 0 ∷ 0 ∷ 0 ∷ 0 ∷ 0 ∷ 0 ∷ [])) ∷
+    (1, note.High (0 ∷ 0 ∷ 0 ∷ 0 ∷ 0 ∷ 536870976 ∷ 4294967295 ∷ 134217732 ∷ []) false true false false) ∷
+    (2, note.Insn 0 134217732 9729) ∷
+    (2, note.Low (0 ∷ 0 ∷ 0 ∷ 0 ∷ 0 ∷ 0 ∷ 1 ∷ 0 ∷ [])) ∷
+    (2, note.High (0 ∷ 0 ∷ 0 ∷ 0 ∷ 0 ∷ 536870976 ∷ 4294967295 ∷ 134217734 ∷ []) false false false false) ∷
+    (3, note.Insn 0 134217734 9984) ∷
+    (3, note.Low (0 ∷ 0 ∷ 0 ∷ 0 ∷ 0 ∷ 0 ∷ 1 ∷ 0 ∷ [])) ∷
+    (3, note.High (0 ∷ 0 ∷ 0 ∷ 0 ∷ 0 ∷ 536870976 ∷ 4294967295 ∷ 134217736 ∷ []) false true false false) ∷
+    (4, note.Insn 0 134217736 8193) ∷
+    (4, note.Low (1 ∷ 0 ∷ 0 ∷ 0 ∷ 0 ∷ 0 ∷ 1 ∷ 0 ∷ [])) ∷
+    (4, note.High (0 ∷ 0 ∷ 0 ∷ 0 ∷ 0 ∷ 536870976 ∷ 4294967295 ∷ 134217738 ∷ []) false false false false) ∷
+    (5, note.Irq 7 handled.Held) ∷
+    (5, note.Insn 0 134217738 18051) ∷
+    (5, note.Low (1 ∷ 0 ∷ 0 ∷ 0 ∷ 0 ∷ 0 ∷ 1 ∷ 0 ∷ [])) ∷
+    (5, note.High (0 ∷ 0 ∷ 0 ∷ 1 ∷ 0 ∷ 536870976 ∷ 4294967295 ∷ 134217740 ∷ []) false false false false) ∷
+    (6, note.Insn 0 134217740 57088) ∷
+    (6, note.Syscall 0 1 (0 ∷ 0 ∷ 1 ∷ 0 ∷ 0 ∷ 0 ∷ 0 ∷ [])) ∷
+    (6, note.Listen 0 listened.Any 1) ∷
+    (6, note.Low (1 ∷ 0 ∷ 0 ∷ 0 ∷ 0 ∷ 0 ∷ 1 ∷ 0 ∷ [])) ∷
+    (6, note.High (0 ∷ 0 ∷ 0 ∷ 1 ∷ 0 ∷ 536870976 ∷ 4294967295 ∷ 134217742 ∷ []) false false false false) ∷
+    (7, note.Insn 1 134217984 8960) ∷
+    (7, note.Low (0 ∷ 0 ∷ 0 ∷ 0 ∷ 0 ∷ 0 ∷ 0 ∷ 0 ∷ [])) ∷
+    (7, note.High (0 ∷ 0 ∷ 0 ∷ 0 ∷ 0 ∷ 536871232 ∷ 4294967295 ∷ 134217986 ∷ []) false true false false) ∷
+    (8, note.Insn 1 134217986 8201) ∷
+    (8, note.Low (9 ∷ 0 ∷ 0 ∷ 0 ∷ 0 ∷ 0 ∷ 0 ∷ 0 ∷ [])) ∷
+    (8, note.High (0 ∷ 0 ∷ 0 ∷ 0 ∷ 0 ∷ 536871232 ∷ 4294967295 ∷ 134217988 ∷ []) false false false false) ∷
+    (9, note.Insn 1 134217988 18051) ∷
+    (9, note.Low (9 ∷ 0 ∷ 0 ∷ 0 ∷ 0 ∷ 0 ∷ 0 ∷ 0 ∷ [])) ∷
+    (9, note.High (0 ∷ 0 ∷ 0 ∷ 9 ∷ 0 ∷ 536871232 ∷ 4294967295 ∷ 134217990 ∷ []) false false false false) ∷
+    (10, note.Insn 1 134217990 57088) ∷
+    (10, note.Syscall 1 9 (0 ∷ 0 ∷ 0 ∷ 0 ∷ 0 ∷ 0 ∷ 0 ∷ [])) ∷
+    (10, note.Ret 1 (0 ∷ 0 ∷ 0 ∷ 0 ∷ 0 ∷ 0 ∷ [])) ∷
+    (10, note.Low (9 ∷ 0 ∷ 0 ∷ 0 ∷ 0 ∷ 0 ∷ 0 ∷ 0 ∷ [])) ∷
+    (10, note.High (0 ∷ 0 ∷ 0 ∷ 9 ∷ 0 ∷ 536871232 ∷ 4294967295 ∷ 134217992 ∷ []) false false false false) ∷
+    (11, note.Insn 1 134217992 7333) ∷
+    (11, note.Low (9 ∷ 0 ∷ 0 ∷ 0 ∷ 0 ∷ 2 ∷ 0 ∷ 0 ∷ [])) ∷
+    (11, note.High (0 ∷ 0 ∷ 0 ∷ 9 ∷ 0 ∷ 536871232 ∷ 4294967295 ∷ 134217994 ∷ []) false false false false) ∷
+    (12, note.Insn 1 134217994 9728) ∷
+    (12, note.Low (9 ∷ 0 ∷ 0 ∷ 0 ∷ 0 ∷ 2 ∷ 0 ∷ 0 ∷ [])) ∷
+    (12, note.High (0 ∷ 0 ∷ 0 ∷ 9 ∷ 0 ∷ 536871232 ∷ 4294967295 ∷ 134217996 ∷ []) false true false false) ∷
+    (13, note.Insn 1 134217996 9217) ∷
+    (13, note.Low (9 ∷ 0 ∷ 0 ∷ 0 ∷ 1 ∷ 2 ∷ 0 ∷ 0 ∷ [])) ∷
+    (13, note.High (0 ∷ 0 ∷ 0 ∷ 9 ∷ 0 ∷ 536871232 ∷ 4294967295 ∷ 134217998 ∷ []) false false false false) ∷
+    (14, note.Insn 1 134217998 9986) ∷
+    (14, note.Low (9 ∷ 0 ∷ 0 ∷ 0 ∷ 1 ∷ 2 ∷ 0 ∷ 2 ∷ [])) ∷
+    (14, note.High (0 ∷ 0 ∷ 0 ∷ 9 ∷ 0 ∷ 536871232 ∷ 4294967295 ∷ 134218000 ∷ []) false false false false) ∷
+    (15, note.Insn 1 134218000 8195) ∷
+    (15, note.Low (3 ∷ 0 ∷ 0 ∷ 0 ∷ 1 ∷ 2 ∷ 0 ∷ 2 ∷ [])) ∷
+    (15, note.High (0 ∷ 0 ∷ 0 ∷ 9 ∷ 0 ∷ 536871232 ∷ 4294967295 ∷ 134218002 ∷ []) false false false false) ∷
+    (16, note.Insn 1 134218002 18051) ∷
+    (16, note.Low (3 ∷ 0 ∷ 0 ∷ 0 ∷ 1 ∷ 2 ∷ 0 ∷ 2 ∷ [])) ∷
+    (16, note.High (0 ∷ 0 ∷ 0 ∷ 3 ∷ 0 ∷ 536871232 ∷ 4294967295 ∷ 134218004 ∷ []) false false false false) ∷
+    (17, note.Insn 1 134218004 57088) ∷
+    (17, note.Syscall 1 3 (1 ∷ 2 ∷ 0 ∷ 2 ∷ 0 ∷ 0 ∷ 0 ∷ [])) ∷
+    (17, note.Ret 1 (1 ∷ 2 ∷ 0 ∷ 2 ∷ 0 ∷ 0 ∷ [])) ∷
+    (17, note.Low (3 ∷ 0 ∷ 0 ∷ 0 ∷ 1 ∷ 2 ∷ 0 ∷ 2 ∷ [])) ∷
+    (17, note.High (0 ∷ 0 ∷ 0 ∷ 3 ∷ 0 ∷ 536871232 ∷ 4294967295 ∷ 134218006 ∷ []) false false false false) ∷
+    (18, note.Insn 1 134218006 9216) ∷
+    (18, note.Low (3 ∷ 0 ∷ 0 ∷ 0 ∷ 0 ∷ 2 ∷ 0 ∷ 2 ∷ [])) ∷
+    (18, note.High (0 ∷ 0 ∷ 0 ∷ 3 ∷ 0 ∷ 536871232 ∷ 4294967295 ∷ 134218008 ∷ []) false true false false) ∷
+    (19, note.Insn 1 134218008 9472) ∷
+    (19, note.Low (3 ∷ 0 ∷ 0 ∷ 0 ∷ 0 ∷ 0 ∷ 0 ∷ 2 ∷ [])) ∷
+    (19, note.High (0 ∷ 0 ∷ 0 ∷ 3 ∷ 0 ∷ 536871232 ∷ 4294967295 ∷ 134218010 ∷ []) false true false false) ∷
+    (20, note.Insn 1 134218010 9730) ∷
+    (20, note.Low (3 ∷ 0 ∷ 0 ∷ 0 ∷ 0 ∷ 0 ∷ 2 ∷ 2 ∷ [])) ∷
+    (20, note.High (0 ∷ 0 ∷ 0 ∷ 3 ∷ 0 ∷ 536871232 ∷ 4294967295 ∷ 134218012 ∷ []) false false false false) ∷
+    (21, note.Insn 1 134218012 9984) ∷
+    (21, note.Low (3 ∷ 0 ∷ 0 ∷ 0 ∷ 0 ∷ 0 ∷ 2 ∷ 0 ∷ [])) ∷
+    (21, note.High (0 ∷ 0 ∷ 0 ∷ 3 ∷ 0 ∷ 536871232 ∷ 4294967295 ∷ 134218014 ∷ []) false true false false) ∷
+    (22, note.Insn 1 134218014 8193) ∷
+    (22, note.Low (1 ∷ 0 ∷ 0 ∷ 0 ∷ 0 ∷ 0 ∷ 2 ∷ 0 ∷ [])) ∷
+    (22, note.High (0 ∷ 0 ∷ 0 ∷ 3 ∷ 0 ∷ 536871232 ∷ 4294967295 ∷ 134218016 ∷ []) false false false false) ∷
+    (23, note.Insn 1 134218016 18051) ∷
+    (23, note.Low (1 ∷ 0 ∷ 0 ∷ 0 ∷ 0 ∷ 0 ∷ 2 ∷ 0 ∷ [])) ∷
+    (23, note.High (0 ∷ 0 ∷ 0 ∷ 1 ∷ 0 ∷ 536871232 ∷ 4294967295 ∷ 134218018 ∷ []) false false false false) ∷
+    (24, note.Insn 1 134218018 57088) ∷
+    (24, note.Syscall 1 1 (0 ∷ 0 ∷ 2 ∷ 0 ∷ 0 ∷ 0 ∷ 0 ∷ [])) ∷
+    (24, note.Listen 1 listened.Any 2) ∷
+    (24, note.Low (1 ∷ 0 ∷ 0 ∷ 0 ∷ 0 ∷ 0 ∷ 2 ∷ 0 ∷ [])) ∷
+    (24, note.High (0 ∷ 0 ∷ 0 ∷ 1 ∷ 0 ∷ 536871232 ∷ 4294967295 ∷ 134218020 ∷ []) false false false false) ∷
+    (25, note.Insn 2 134218240 9217) ∷
+    (25, note.Low (0 ∷ 0 ∷ 0 ∷ 0 ∷ 1 ∷ 0 ∷ 0 ∷ 0 ∷ [])) ∷
+    (25, note.High (0 ∷ 0 ∷ 0 ∷ 0 ∷ 0 ∷ 536871488 ∷ 4294967295 ∷ 134218242 ∷ []) false false false false) ∷
+    (26, note.Insn 2 134218242 9473) ∷
+    (26, note.Low (0 ∷ 0 ∷ 0 ∷ 0 ∷ 1 ∷ 1 ∷ 0 ∷ 0 ∷ [])) ∷
+    (26, note.High (0 ∷ 0 ∷ 0 ∷ 0 ∷ 0 ∷ 536871488 ∷ 4294967295 ∷ 134218244 ∷ []) false false false false) ∷
+    (27, note.Insn 2 134218244 8199) ∷
+    (27, note.Low (7 ∷ 0 ∷ 0 ∷ 0 ∷ 1 ∷ 1 ∷ 0 ∷ 0 ∷ [])) ∷
+    (27, note.High (0 ∷ 0 ∷ 0 ∷ 0 ∷ 0 ∷ 536871488 ∷ 4294967295 ∷ 134218246 ∷ []) false false false false) ∷
+    (28, note.Insn 2 134218246 18051) ∷
+    (28, note.Low (7 ∷ 0 ∷ 0 ∷ 0 ∷ 1 ∷ 1 ∷ 0 ∷ 0 ∷ [])) ∷
+    (28, note.High (0 ∷ 0 ∷ 0 ∷ 7 ∷ 0 ∷ 536871488 ∷ 4294967295 ∷ 134218248 ∷ []) false false false false) ∷
+    (29, note.Insn 2 134218248 57088) ∷
+    (29, note.Syscall 2 7 (1 ∷ 1 ∷ 0 ∷ 0 ∷ 0 ∷ 0 ∷ 0 ∷ [])) ∷
+    (29, note.Post 2 1 1) ∷
+    (29, note.Ret 2 (1 ∷ 1 ∷ 0 ∷ 0 ∷ 0 ∷ 0 ∷ [])) ∷
+    (29, note.Low (7 ∷ 0 ∷ 0 ∷ 0 ∷ 1 ∷ 1 ∷ 0 ∷ 0 ∷ [])) ∷
+    (29, note.High (0 ∷ 0 ∷ 0 ∷ 7 ∷ 0 ∷ 536871488 ∷ 4294967295 ∷ 134218250 ∷ []) false false false false) ∷
+    (30, note.Tick 1) ∷
+    (30, note.Insn 2 134218250 18028) ∷
+    (30, note.Low (7 ∷ 0 ∷ 0 ∷ 0 ∷ 536871488 ∷ 1 ∷ 0 ∷ 0 ∷ [])) ∷
+    (30, note.High (0 ∷ 0 ∷ 0 ∷ 7 ∷ 0 ∷ 536871488 ∷ 4294967295 ∷ 134218252 ∷ []) false false false false) ∷
+    (31, note.Insn 2 134218252 9480) ∷
+    (31, note.Low (7 ∷ 0 ∷ 0 ∷ 0 ∷ 536871488 ∷ 8 ∷ 0 ∷ 0 ∷ [])) ∷
+    (31, note.High (0 ∷ 0 ∷ 0 ∷ 7 ∷ 0 ∷ 536871488 ∷ 4294967295 ∷ 134218254 ∷ []) false false false false) ∷
+    (32, note.Insn 2 134218254 9729) ∷
+    (32, note.Low (7 ∷ 0 ∷ 0 ∷ 0 ∷ 536871488 ∷ 8 ∷ 1 ∷ 0 ∷ [])) ∷
+    (32, note.High (0 ∷ 0 ∷ 0 ∷ 7 ∷ 0 ∷ 536871488 ∷ 4294967295 ∷ 134218256 ∷ []) false false false false) ∷
+    (33, note.Insn 2 134218256 9985) ∷
+    (33, note.Low (7 ∷ 0 ∷ 0 ∷ 0 ∷ 536871488 ∷ 8 ∷ 1 ∷ 1 ∷ [])) ∷
+    (33, note.High (0 ∷ 0 ∷ 0 ∷ 7 ∷ 0 ∷ 536871488 ∷ 4294967295 ∷ 134218258 ∷ []) false false false false) ∷
+    (34, note.Insn 2 134218258 2047) ∷
+    (34, note.Low (7 ∷ 0 ∷ 0 ∷ 0 ∷ 536871488 ∷ 8 ∷ 1 ∷ 2147483648 ∷ [])) ∷
+    (34, note.High (0 ∷ 0 ∷ 0 ∷ 7 ∷ 0 ∷ 536871488 ∷ 4294967295 ∷ 134218260 ∷ []) true false false false) ∷
+    (35, note.Insn 2 134218260 14084) ∷
+    (35, note.Low (7 ∷ 0 ∷ 0 ∷ 0 ∷ 536871488 ∷ 8 ∷ 1 ∷ 2147483652 ∷ [])) ∷
+    (35, note.High (0 ∷ 0 ∷ 0 ∷ 7 ∷ 0 ∷ 536871488 ∷ 4294967295 ∷ 134218262 ∷ []) true false false false) ∷
+    (36, note.Insn 2 134218262 8193) ∷
+    (36, note.Low (1 ∷ 0 ∷ 0 ∷ 0 ∷ 536871488 ∷ 8 ∷ 1 ∷ 2147483652 ∷ [])) ∷
+    (36, note.High (0 ∷ 0 ∷ 0 ∷ 7 ∷ 0 ∷ 536871488 ∷ 4294967295 ∷ 134218264 ∷ []) false false false false) ∷
+    (37, note.Insn 2 134218264 18051) ∷
+    (37, note.Low (1 ∷ 0 ∷ 0 ∷ 0 ∷ 536871488 ∷ 8 ∷ 1 ∷ 2147483652 ∷ [])) ∷
+    (37, note.High (0 ∷ 0 ∷ 0 ∷ 1 ∷ 0 ∷ 536871488 ∷ 4294967295 ∷ 134218266 ∷ []) false false false false) ∷
+    (38, note.Insn 2 134218266 57088) ∷
+    (38, note.Syscall 2 1 (536871488 ∷ 8 ∷ 1 ∷ 2147483652 ∷ 0 ∷ 0 ∷ 0 ∷ [])) ∷
+    (38, note.Ret 2 (0 ∷ 65535 ∷ 1 ∷ 0 ∷ 0 ∷ 0 ∷ [])) ∷
+    (38, note.Low (1 ∷ 0 ∷ 0 ∷ 0 ∷ 0 ∷ 65535 ∷ 1 ∷ 0 ∷ [])) ∷
+    (38, note.High (0 ∷ 0 ∷ 0 ∷ 1 ∷ 0 ∷ 536871488 ∷ 4294967295 ∷ 134218268 ∷ []) false false false false) ∷
+    (39, note.Insn 2 134218268 59376) ∷
+    (39, note.Low (1 ∷ 0 ∷ 0 ∷ 0 ∷ 0 ∷ 65535 ∷ 1 ∷ 0 ∷ [])) ∷
+    (39, note.High (0 ∷ 0 ∷ 0 ∷ 1 ∷ 0 ∷ 536871488 ∷ 4294967295 ∷ 134218240 ∷ []) false false false false) ∷
+    []
+
+-- the notes, how the run ended, and the time then
+IsTrace : Run → Type 0
+IsTrace r = (r.notes ≡ expected) × (r.end ≡ Bound) × (r.last.now ≡ 1)
+
+agrees : IsTrace (run All scenario 40 (start setup))
+unfolding setup scenario expected IsTrace run ending after_events turn ended stepped begun start with_registers_noted ticked interrupted owner_of panicked timer_set timer_answered irq_controlled received syscall_noted syscall_made with_task without_call without_listen with_listen with_taken noted with_processor with_health stored copied looked given returned past_syscall bits_added bits_cleared woken posted with_timer clocked with_line closed faulted_as handed task_at line_at register arguments call_of listen_of dead_code_for is_out is_dead is_ready bad_byte chosen offer_by best_sender bytes_at with_bytes copied_memory first_bad words transfers first_refused stores_of loaded_all ones count effect rows narrow_of wide_rows wide_of
+agrees = (refl, refl, refl)

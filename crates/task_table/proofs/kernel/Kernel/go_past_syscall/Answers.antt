@@ -1,0 +1,18 @@
+use Rattle.std.proofs.Common.{◌+◌, ◌^◌, ◌%◌, ◌<◌, ap, arith, length, get_or, set, refl}
+use Rattle.task_table.specs.State.{Task}
+use Rattle.task_table.specs.Reading.{task_at, register}
+use Rattle.task_table.specs.declared.slot.Slot.{Slot}
+use Rattle.task_table.proofs.Steps as steps
+use Rattle.task_table.proofs.Changes.{same_but-with_task, waits_alike, timers_alike}
+use Rattle.task_table.specs.Effects.{past_syscall}
+use Rattle.task_table.proofs.kernel.Kernel.go_past_syscall.Goals as goal
+
+pub returns-clause-holds : goal.returns-clause-holds
+unfolding past_syscall register
+returns-clause-holds c = λ g t h.
+    let kept = c.slot-slot.ensures g t h in
+    let task = task_at t.state c.args.task in
+    let x : Task = record task { registers = set task.registers 15 ((get_or task.registers 15 0 + 2) % 2 ^ 32) } in
+    let there : c.args.task < length t.state.tasks = omega (arith, h.count) in
+    let is = ap (λ (o : Slot). record o { registers = set o.registers 15 ((get_or o.registers 15 0 + 2) % 2 ^ 32) }) kept.is in
+    c.set_rest.ensures.holds g t _ h (steps.kept_task t.state c.args.task x _ _ there kept is) (same_but-with_task t.state c.args.task x) (waits_alike t.state c.args.task x there refl) (timers_alike t.state c.args.task x there refl)

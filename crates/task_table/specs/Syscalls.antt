@@ -1,0 +1,45 @@
+-- The system calls: each has a number, which the caller has in r11, and a meaning. (Hubris Reference: syscalls.)
+use Rattle.kernel_abi.specs.declared.Usage.TheVariants.{BadSyscall}
+use Rattle.kernel_abi.specs.Faults.{usage_number}
+use Rattle.std.specs.Prelude.{ℕ, Bool, List, [], ◌∷◌, ◌==◌, if◌then◌else◌}
+use Rattle.kernel_abi.specs.Arguments.{send_args}
+use Rattle.task_table.specs.State.{Setup, State, Turn}
+use Rattle.task_table.specs.Reading.{register, arguments, best_sender, syscall_selector}
+use Rattle.task_table.specs.Rows.{misused, received, timer_set, timer_answered, irq_controlled, panicked}
+use Rattle.task_table.specs.Sends.{sent, replied, reply_faulted, post_made, refreshed}
+use Rattle.task_table.specs.Borrows.{reading, writing, borrowed, informed}
+use Rattle.task_table.specs.Orders.{ordered}
+
+-- what a system call makes of its caller's turn
+abbrev pub Meaning : Type 0
+Meaning = Setup → ℕ → Turn → Turn
+
+-- a SEND to the kernel is a kernel message
+abbrev pub is_to_kernel : State → ℕ → Bool
+is_to_kernel s c = (send_args (arguments s c)).recipient.number == 0xFFFF
+
+abbrev pub syscalls : List (ℕ × Meaning)
+syscalls =
+    (0, λ g c t. if is_to_kernel t.state c then ordered g c t else sent g c t)
+    ∷ (1, λ g c t. received g c (best_sender g t.state c) t)
+    ∷ (2, replied)
+    ∷ (3, λ g c t. timer_set c t)
+    ∷ (4, λ g c t. borrowed g reading c t)
+    ∷ (5, λ g c t. borrowed g writing c t)
+    ∷ (6, informed)
+    ∷ (7, irq_controlled)
+    ∷ (8, panicked)
+    ∷ (9, λ g c t. timer_answered c t)
+    ∷ (10, refreshed)
+    ∷ (11, post_made)
+    ∷ (12, reply_faulted)
+    ∷ []
+
+-- what a number means among some system calls; one that none of them has is usage 1, BadSyscall
+abbrev pub meaning_among : List (ℕ × Meaning) → ℕ → Meaning
+meaning_among [] n g c t = misused g c (usage_number BadSyscall) t
+meaning_among (call ∷ syscalls) n g c t = if n == call.0 then call.1 g c t else meaning_among syscalls n g c t
+
+-- the system call whose number is in r11
+unfoldable pub syscall_made : Meaning
+syscall_made g c t = meaning_among syscalls (register t.state c syscall_selector) g c t
