@@ -110,8 +110,9 @@ instructions() {
     awk -v what="$what" -v n=$((many - few)) -v most="$most" 'BEGIN { printf "%-28s %7.1f host instructions a turn, at most %d\n", what, n / 1e6, most; exit n / 1e6 > most }' || short=1
 }
 for image in $compiled; do instructions "$image" 66 "out/$image.img" out/empty.txt; done
-instructions "32 tasks with timers" 450 out/timers.img timers/script.txt
-instructions "16 clients, 4 servers" 320 out/messages.img out/empty.txt
-instructions "8 lenders, 1 server" 330 out/leases.img out/empty.txt
-instructions "large sample" 220 sample/sample.img sample/script.txt
+instructions "two instructions" 40 "$data/a.img" out/empty.txt
+instructions "32 tasks with timers" 410 out/timers.img timers/script.txt
+instructions "16 clients, 4 servers" 290 out/messages.img out/empty.txt
+instructions "8 lenders, 1 server" 300 out/leases.img out/empty.txt
+instructions "large sample" 190 sample/sample.img sample/script.txt
 exit $short

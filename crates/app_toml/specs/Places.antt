@@ -52,7 +52,7 @@ abbrev pub site_text : Site → Text
 site_text site =
     site.head ++ index_text site.index ++ key_text site.key ++ index_text site.entry
 
--- what is told of a refusal: its cause, and its place as a text
+-- what is stated of a refusal: its cause, and its place as a text
 abbrev pub refusal_text : Refusal → ℕ × Text
 refusal_text r = (r.cause, site_text r.site)
 

@@ -19,7 +19,7 @@ pub(crate) struct Place<'a> {
     pub(crate) nth: Option<usize>,
 }
 
-/// A cause, and the place whose text is made only when it is told.
+/// A cause, and the place whose text is made only when it is stated.
 #[derive(Clone, Copy)]
 pub(crate) struct Fault<'a> {
     pub(crate) cause: u8,

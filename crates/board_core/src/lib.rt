@@ -2,13 +2,13 @@
 #![tactic(auto)]
 
 mod board;
-mod syscalls;
 mod choice;
 mod glider;
 mod machine;
 mod opening;
 mod reach;
 mod shown;
+mod syscalls;
 
 pub use board::Board;
 pub use board_model::{End, Level, Turned};

@@ -16,9 +16,9 @@ ghost use Rattle.board_model.specs.Turn.{with_current, noted_at, happened, stepp
 ghost use Rattle.board_core.specs.Machine.{IsReady, IsNext, HasNumber, MachineHolds, MachineStands, IsLoaded};
 ghost use Rattle.board_core.specs.Gliding.{HasGlided};
 
-use crate::syscalls::syscall;
 use crate::glider::Glider;
 use crate::reach::Reach;
+use crate::syscalls::syscall;
 use board_model::{Level, Turned};
 use kernel_abi::{Fault, Note};
 use run_script::{Event, Script};

@@ -126,7 +126,7 @@ fn ram_plan(alloc: Global, app: &App) -> Result<(Vec<u32>, u32), BuildFault>
     }
 }
 
-/// Where the application's memory lies. Flash first: where neither has room, the flash is what is told.
+/// Where the application's memory lies. Flash first: where neither has room, the flash is what is refused.
 pub(crate) fn laid_out(alloc: Global, app: &App) -> Result<Layout, BuildFault>
     ensures laid { IfOk result (IsLaid (app_of app.now)) }
     ensures refused { IfErr result (LacksRoom (app_of app.now)) }

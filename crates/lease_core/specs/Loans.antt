@@ -9,7 +9,7 @@ use Rattle.kernel_abi.specs.declared.arguments.BorrowArgs.{BorrowArgs}
 use Rattle.region_check.specs.declared.Right.TheVariants.{Read}
 use Rattle.mem_banks.specs.Memory.{Memory, IsWithin, IsWithinRam}
 use Rattle.task_table.specs.State.{Setup, State, Call, Write, Turn}
-use Rattle.task_table.specs.Reading.{register, is_ready, is_valid, bad_byte}
+use Rattle.task_table.specs.Reading.{register, is_ready, is_valid, bad_byte, taken_by}
 use Rattle.task_table.specs.Entries.{kept_at, IsKeptFor, entry_at}
 use Rattle.task_table.specs.Effects.{◌⨾◌, noted}
 use Rattle.task_table.specs.Rows.{first_row, misused, denied, goes_on_with}
@@ -78,6 +78,11 @@ WritesNone ws a n = (w : Write) → Contains ws w → (w.address < a) ⊎ (a + n
 -- the entry of a lease of a call is kept for its client, as it stood in memory
 abbrev pub IsHeldAfter : Kernel → State → Call → ℕ → Type 0
 IsHeldAfter k s c lease = IsKeptFor (entries_of k) c.client.index (c.table + 12 * lease) (grant s c lease)
+
+-- a borrow of a lease that went well, with these writes of which none is in the lease's entry, leaves the entry kept
+abbrev pub KeepsEntry : Kernel → ℕ → State → Turn → List Write → ℕ → ℕ → Type 0
+KeepsEntry k borrower s u writes lender lease =
+    (c : Call) → taken_by s lender borrower ≡ Some c → WentWell borrower u → WritesNone writes (c.table + 12 * lease) 12 → IsHeldAfter k s c lease
 
 -- ## the same, as the code goes on: which tests it passed, and where it writes
 

@@ -2,12 +2,12 @@
 //! Borrows of what a client has leased to its server: the system calls BORROW_READ, BORROW_WRITE and
 //! BORROW_INFO (Hubris Reference, on leases).
 
-ghost use Rattle.std.specs.Prelude.{◌≡◌, ◌+◌, ◌*◌, ◌<◌, ◌≤◌, ◌^◌, ℕ, true, None, Some, IfOk};
+ghost use Rattle.std.specs.Prelude.{◌≡◌, ◌+◌, ◌*◌, ◌<◌, ◌≤◌, ◌^◌, ℕ, [], true, None, Some, IfOk};
 ghost use Rattle.kernel_abi.specs.Arguments.{borrow_args, info_args};
 ghost use Rattle.kernel_abi.specs.Ids.{index_of};
 ghost use Rattle.kernel_abi.specs.declared.Note.TheVariants as note;
 ghost use Rattle.task_table.specs.State.{Setup, Turn, Call};
-ghost use Rattle.task_table.specs.Reading.{arguments, is_valid, is_ready, bad_byte, taken_by};
+ghost use Rattle.task_table.specs.Reading.{arguments, is_valid, is_ready, bad_byte};
 ghost use Rattle.task_table.specs.Effects.{noted};
 ghost use Rattle.task_table.specs.Borrows.{reading, writing, moved, refused, uninformed, lent, granted, grant, part_of, lease_range, borrowed_by, borrowed, grant_answered, informed_by, informed};
 ghost use Rattle.task_table.specs.Holds.{Holds, Stands, Stood, kept_call, task_count, note_count, memory_of, entries_of};
@@ -15,7 +15,7 @@ ghost use Rattle.task_table.specs.Entries.{IsKeptFor};
 ghost use Rattle.task_table.specs.Messages.{IsLent};
 ghost use Rattle.task_table.specs.Limits.{syscall_notes, turn_notes};
 ghost use Rattle.task_table.specs.Frames.{AddsNotes, AddsAtMost};
-ghost use Rattle.lease_core.specs.Loans.{way_of, IsBuffer, IsLeased, IsLoanOf, IsEntry, IsEntryAt, buffered, lent_answered, WentWell, WritesNone, IsHeldAfter, IsEntryRead, IsGranted, target, IsClear, StayKept};
+ghost use Rattle.lease_core.specs.Loans.{way_of, IsBuffer, IsLeased, IsLoanOf, IsEntry, IsEntryAt, buffered, lent_answered, KeepsEntry, IsHeldAfter, IsEntryRead, IsGranted, target, IsClear, StayKept};
 
 mod way;
 
@@ -263,7 +263,7 @@ fn borrow(k: &mut Kernel, caller: usize, way: Way)
     requires room { note_count k.old + syscall_notes ≤ turn_notes }
     requires stood { Stood k.old }
     ensures holds { (g : Setup) (t : Turn) → Stands g k.old t → Holds g k.new (borrowed g (way_of way) caller t) }
-    ensures held { (g : Setup) (t : Turn) (c : Call) → let x = borrow_args (arguments t.state caller) in Stands g k.old t → taken_by t.state (index_of x.lender.number) caller ≡ Some c → WentWell caller (borrowed g (way_of way) caller t) → WritesNone (borrowed g (way_of way) caller t).writes (c.table + 12 * x.lease) 12 → IsHeldAfter k.new t.state c x.lease }
+    ensures held { (g : Setup) (t : Turn) → let x = borrow_args (arguments t.state caller) in let u = borrowed g (way_of way) caller t in Stands g k.old t → KeepsEntry k.new caller t.state u u.writes (index_of x.lender.number) x.lease }
     ensures frame { AddsAtMost k.old syscall_notes k.new }
 {
     let args = BorrowArgs::of(&k.arguments(caller));
@@ -355,7 +355,7 @@ fn inform(k: &mut Kernel, caller: usize)
     requires room { note_count k.old + syscall_notes ≤ turn_notes }
     requires stood { Stood k.old }
     ensures holds { (g : Setup) (t : Turn) → Stands g k.old t → Holds g k.new (informed g caller t) }
-    ensures held { (g : Setup) (t : Turn) (c : Call) → let x = info_args (arguments t.state caller) in Stands g k.old t → taken_by t.state (index_of x.lender.number) caller ≡ Some c → WentWell caller (informed g caller t) → IsHeldAfter k.new t.state c x.lease }
+    ensures held { (g : Setup) (t : Turn) → let x = info_args (arguments t.state caller) in Stands g k.old t → KeepsEntry k.new caller t.state (informed g caller t) [] (index_of x.lender.number) x.lease }
     ensures frame { AddsAtMost k.old syscall_notes k.new }
 {
     let args = InfoArgs::of(&k.arguments(caller));
@@ -379,7 +379,7 @@ pub fn borrow_read(k: &mut Kernel, caller: usize)
     requires ready { (g : Setup) × (t : Turn) × Stands g k.old t × (is_ready t.state caller ≡ true) }
     requires room { note_count k.old + syscall_notes ≤ turn_notes }
     ensures stands { (g : Setup) (t : Turn) → Stands g k.old t → is_ready t.state caller ≡ true → Stands g k.new (borrowed g reading caller t) }
-    ensures held { (g : Setup) (t : Turn) (c : Call) → let x = borrow_args (arguments t.state caller) in Stands g k.old t → is_ready t.state caller ≡ true → taken_by t.state (index_of x.lender.number) caller ≡ Some c → WentWell caller (borrowed g reading caller t) → WritesNone (borrowed g reading caller t).writes (c.table + 12 * x.lease) 12 → IsHeldAfter k.new t.state c x.lease }
+    ensures held { (g : Setup) (t : Turn) → let x = borrow_args (arguments t.state caller) in let u = borrowed g reading caller t in Stands g k.old t → is_ready t.state caller ≡ true → KeepsEntry k.new caller t.state u u.writes (index_of x.lender.number) x.lease }
     ensures frame { AddsAtMost k.old syscall_notes k.new }
 {
     borrow(k, caller, Way::Read);
@@ -392,7 +392,7 @@ pub fn borrow_write(k: &mut Kernel, caller: usize)
     requires ready { (g : Setup) × (t : Turn) × Stands g k.old t × (is_ready t.state caller ≡ true) }
     requires room { note_count k.old + syscall_notes ≤ turn_notes }
     ensures stands { (g : Setup) (t : Turn) → Stands g k.old t → is_ready t.state caller ≡ true → Stands g k.new (borrowed g writing caller t) }
-    ensures held { (g : Setup) (t : Turn) (c : Call) → let x = borrow_args (arguments t.state caller) in Stands g k.old t → is_ready t.state caller ≡ true → taken_by t.state (index_of x.lender.number) caller ≡ Some c → WentWell caller (borrowed g writing caller t) → WritesNone (borrowed g writing caller t).writes (c.table + 12 * x.lease) 12 → IsHeldAfter k.new t.state c x.lease }
+    ensures held { (g : Setup) (t : Turn) → let x = borrow_args (arguments t.state caller) in let u = borrowed g writing caller t in Stands g k.old t → is_ready t.state caller ≡ true → KeepsEntry k.new caller t.state u u.writes (index_of x.lender.number) x.lease }
     ensures frame { AddsAtMost k.old syscall_notes k.new }
 {
     borrow(k, caller, Way::Write);
@@ -407,7 +407,7 @@ pub fn borrow_info(k: &mut Kernel, caller: usize)
     requires ready { (g : Setup) × (t : Turn) × Stands g k.old t × (is_ready t.state caller ≡ true) }
     requires room { note_count k.old + syscall_notes ≤ turn_notes }
     ensures stands { (g : Setup) (t : Turn) → Stands g k.old t → is_ready t.state caller ≡ true → Stands g k.new (informed g caller t) }
-    ensures held { (g : Setup) (t : Turn) (c : Call) → let x = info_args (arguments t.state caller) in Stands g k.old t → is_ready t.state caller ≡ true → taken_by t.state (index_of x.lender.number) caller ≡ Some c → WentWell caller (informed g caller t) → IsHeldAfter k.new t.state c x.lease }
+    ensures held { (g : Setup) (t : Turn) → let x = info_args (arguments t.state caller) in Stands g k.old t → is_ready t.state caller ≡ true → KeepsEntry k.new caller t.state (informed g caller t) [] (index_of x.lender.number) x.lease }
     ensures frame { AddsAtMost k.old syscall_notes k.new }
 {
     inform(k, caller);

@@ -84,7 +84,12 @@ impl Memory {
     /// second one lies in the RAM; or those of one region and no bytes, where the second one is empty
     /// and begins where the RAM does. Else nothing changes, and the answer is false. Regions that were
     /// given to `open` are lent.
-    pub fn lend<B: Borrower>(&mut self, flash: (u32, u32), ram: (u32, u32), borrower: &mut B) -> bool
+    pub fn lend<B: Borrower>(
+        &mut self,
+        flash: (u32, u32),
+        ram: (u32, u32),
+        borrower: &mut B,
+    ) -> bool
         ensures lent { result ≡ true → IsLoan B.did self.old.bytes flash ram borrower.old borrower.new self.new.bytes }
         ensures given { AreGiven self.old.regions flash ram → result ≡ true }
         ensures regions { self.new.regions ≡ self.old.regions }

@@ -4,4 +4,4 @@ use Rattle.task_table.specs.Syscalls.{Meaning}
 
 abbrev pub EachMeaning : (Meaning → Type 0) → List (ℕ × Meaning) → Type 0
 EachMeaning P [] = Unit {0}
-EachMeaning P (call ∷ calls) = P call.1 × EachMeaning P calls
+EachMeaning P (syscall ∷ syscalls) = P syscall.1 × EachMeaning P syscalls

@@ -163,7 +163,7 @@ module _ (g : Setup) (c : ℕ) (t : Turn) (h : Sane g t.state) (inside : c < len
   comes-sent_or_ordered : Comes g c t (cond (is_to_kernel t.state c) (ordered g c t) (sent g c t))
   comes-sent_or_ordered = by_outcome (is_to_kernel t.state c) (λ kernel. comes-ordered g c t h inside) (λ other. comes-sent g c t h inside ready)
 
-  each : EachMeaning (λ m. Comes g c t (m g c t)) calls
+  each : EachMeaning (λ m. Comes g c t (m g c t)) syscalls
   each = (
     comes-sent_or_ordered,
     (
@@ -207,7 +207,7 @@ module _ (g : Setup) (c : ℕ) (t : Turn) (h : Sane g t.state) (inside : c < len
 
   pub comes-syscall_made : Comes g c t (syscall_made g c t)
   unfolding syscall_made
-  comes-syscall_made = among calls (register t.state c 11) each
+  comes-syscall_made = among syscalls (register t.state c 11) each
 
   pub chain-syscall_made : Chain (Step g t.state c) t (syscall_made g c t)
   chain-syscall_made = chain-outcome g t.state c t _ comes-syscall_made

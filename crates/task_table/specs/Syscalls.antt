@@ -38,7 +38,7 @@ syscalls =
 -- what a number means among some system calls; one that none of them has is usage 1, BadSyscall
 abbrev pub meaning_among : List (ℕ × Meaning) → ℕ → Meaning
 meaning_among [] n g c t = misused g c (usage_number BadSyscall) t
-meaning_among (call ∷ syscalls) n g c t = if n == call.0 then call.1 g c t else meaning_among syscalls n g c t
+meaning_among (syscall ∷ syscalls) n g c t = if n == syscall.0 then syscall.1 g c t else meaning_among syscalls n g c t
 
 -- the system call whose number is in r11
 unfoldable pub syscall_made : Meaning

@@ -213,7 +213,7 @@ fn operand_at<'a>(first: u8, rest: &'a [u8], piece: &'a [u8]) -> Option<Operand<
     }
 }
 
-/// The kind of an operand is told by its first character.
+/// The kind of an operand is known by its first character.
 #[tactic(auto, unfolding(crate::specs::Operands::operand))]
 pub(crate) fn parse(piece: &[u8]) -> Option<Operand<'_>>
     ensures { option_map operand_of result ≡ operand piece.now }

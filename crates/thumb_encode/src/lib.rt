@@ -10,7 +10,7 @@ ghost use Rattle.thumb_insn.specs.Table.{is_later, branch_bit};
 use thumb_insn::{Barrier, Bytes, Code, Insn, Load, Reg, Shift, Size};
 
 /// Why an instruction has no code. Where several hold, the first in the order `Register`,
-/// `Offset`, `Align` is told.
+/// `Offset`, `Align` is answered.
 #[derive(Clone, Copy, PartialEq, Eq, Debug)]
 pub enum Fit {
     /// An immediate or a branch's offset is outside the range of its row.

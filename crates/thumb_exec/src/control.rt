@@ -2,7 +2,7 @@
 ghost use Rattle.std.specs.Prelude.{◌≡◌, ◌<◌, ◌/◌, ◌*◌, ℕ, Bool, [], true, false};
 ghost use Rattle.thumb_exec.specs.Effect.{Next, Acts, operand, sum, place, holds_if, jump, target, word_of, branch_to, link_to, linked, base, changed, apsr, flags_from, put, pc, Effects};
 
-use crate::arith::{go_past, get};
+use crate::arith::{get, go_past};
 use crate::cpu::{Cpu, Outcome};
 use kernel_abi::Fault;
 use thumb_insn::{Bytes, Cond, Reg};

@@ -3,7 +3,7 @@ ghost use Rattle.std.specs.Prelude.{◌≡◌, ◌<◌, ◌*◌, ◌%◌, ◌^�
 ghost use Rattle.thumb_exec.specs.declared.cpu.Outcome.TheVariants as outcome;
 ghost use Rattle.thumb_exec.specs.Effect.{Next, Acts, load_effect, store_effect, widened, load_size, size_of};
 
-use crate::arith::{go_past, get};
+use crate::arith::{get, go_past};
 use crate::bus::Bus;
 use crate::cpu::{Cpu, Outcome};
 use kernel_abi::{Access, Fault};

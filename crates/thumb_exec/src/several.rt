@@ -6,7 +6,7 @@ ghost use Rattle.region_check.specs.declared.Right.TheVariants as rights;
 ghost use Rattle.thumb_exec.specs.Effect.{Acts, Stores, transfers, first_refused, stores_of, loaded_all, count, store_all, effect, go_past, put};
 ghost use Rattle.thumb_insn.specs.declared.Insn.TheVariants as insns;
 
-use crate::arith::{go_past, get, set};
+use crate::arith::{get, go_past, set};
 use crate::bus::Bus;
 use crate::cpu::{Cpu, Outcome};
 use kernel_abi::{Access, Fault};

@@ -6,7 +6,7 @@ ghost use Rattle.words_core.specs.Words.{awc};
 ghost use Rattle.thumb_exec.specs.Families.{IsSum, IsData, IsAddress, IsBranch, IsJump, IsSystem, IsLoad, IsStore, IsStoreAll, IsRest};
 ghost use Rattle.thumb_insn.specs.Range.{InRange, IsCoded};
 
-use crate::arith::{go_past, compare, data, finish_sum, get, set, with_nz, with_nzc};
+use crate::arith::{compare, data, finish_sum, get, go_past, set, with_nz, with_nzc};
 use crate::bus::Bus;
 use crate::control::{
     base, branch_to, change, flags_of, flags_word, holds, link, link_to, operand, put_any, target,

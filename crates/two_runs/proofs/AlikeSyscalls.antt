@@ -30,7 +30,7 @@ module _ (w : Viewer) (a : IsAttentive w) where
   alike-among (call ∷ list) n g c t u h each = by_same (IsAlikeWhereSeen w) (eqb n call.0) each.0 (alike-among list n g c t u h each.1)
 
   -- one fact for each system call
-  alike-each : (g : Setup) (c : ℕ) (t u : Turn) → IsOpen w g c → AreTellable w.birth t.state → AreTellable w.birth u.state → IsAlike w t u → EachMeaning (λ m. IsAlikeWhereSeen w (m g c t) (m g c u)) calls
+  alike-each : (g : Setup) (c : ℕ) (t u : Turn) → IsOpen w g c → AreTellable w.birth t.state → AreTellable w.birth u.state → IsAlike w t u → EachMeaning (λ m. IsAlikeWhereSeen w (m g c t) (m g c u)) syscalls
   alike-each g c t u open_to tell tell' h = (
     alike-sent_anywhere g c t u open_to tell tell' h,
     (
@@ -70,4 +70,4 @@ module _ (w : Viewer) (a : IsAttentive w) where
   unfolding syscall_made
   alike-syscall_made g c t u open_to tell tell' h =
       let e = word w a c syscall_selector t u h in
-      rw e (alike-among calls (register t.state c syscall_selector) g c t u h (alike-each g c t u open_to tell tell' h))
+      rw e (alike-among syscalls (register t.state c syscall_selector) g c t u h (alike-each g c t u open_to tell tell' h))

@@ -61,7 +61,7 @@ borrow_from-requires-clause-lent c =
     (c.args.caller, record { setup = s.0; turn = s.1; stands = s.2; taken = sym (c.in-Some.ensures s.0 s.1 s.2) })
 
 pub returns-in-Out-clause-held : goal.returns-in-Out-clause-held
-returns-in-Out-clause-held c = λ g t k h taken well none.
+returns-in-Out-clause-held c = λ g t h k taken well none.
     let i = c.args.caller in
     let same : c.of-args.result ≡ borrow_args (arguments t.state i) = c.of-args.ensures ∙ ap borrow_args (c.arguments.ensures g t h.holds) in
     let inside : i < length t.state.tasks = omega (arith, c.requires.there, h.holds.count) in
@@ -69,7 +69,7 @@ returns-in-Out-clause-held c = λ g t k h taken well none.
     absurd (false≢true (sym went.0 ∙ c.in-Out.ensures.found g t h.holds))
 
 pub returns-in-Dead-clause-held : goal.returns-in-Dead-clause-held
-returns-in-Dead-clause-held c = λ g t k h taken well none.
+returns-in-Dead-clause-held c = λ g t h k taken well none.
     let i = c.args.caller in
     let same : c.of-args.result ≡ borrow_args (arguments t.state i) = c.of-args.ensures ∙ ap borrow_args (c.arguments.ensures g t h.holds) in
     let inside : i < length t.state.tasks = omega (arith, c.requires.there, h.holds.count) in
@@ -78,7 +78,7 @@ returns-in-Dead-clause-held c = λ g t k h taken well none.
     absurd (false≢true (sym went.1 ∙ dead.1))
 
 pub returns-in-Some-clause-held : goal.returns-in-Some-clause-held
-returns-in-Some-clause-held c = λ g t k h taken well none.
+returns-in-Some-clause-held c = λ g t h k taken well none.
     let i = c.args.caller in
     let args = c.of-args.result in
     let same : args ≡ borrow_args (arguments t.state i) = c.of-args.ensures ∙ ap borrow_args (c.arguments.ensures g t h.holds) in

@@ -8,4 +8,4 @@ returns-clause-stands c = λ g t h ready.
     record { holds = c.inform.ensures.holds g t h; sane = sane-informed c.args.caller t h.sane inside }
 
 pub returns-clause-held : goal.returns-clause-held
-returns-clause-held c = λ g t k h ready. c.inform.ensures.held g t k h
+returns-clause-held c = λ g t h ready. c.inform.ensures.held g t h

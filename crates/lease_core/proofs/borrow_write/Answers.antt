@@ -8,4 +8,4 @@ returns-clause-stands c = λ g t h ready.
     record { holds = c.borrow.ensures.holds g t h; sane = sane-written c.args.caller t h.sane inside }
 
 pub returns-clause-held : goal.returns-clause-held
-returns-clause-held c = λ g t k h ready. c.borrow.ensures.held g t k h
+returns-clause-held c = λ g t h ready. c.borrow.ensures.held g t h

@@ -59,7 +59,7 @@ inform_of-requires-clause-lent c =
     (c.args.caller, record { setup = s.0; turn = s.1; stands = s.2; taken = sym (c.in-Some.ensures s.0 s.1 s.2) })
 
 pub returns-in-Out-clause-held : goal.returns-in-Out-clause-held
-returns-in-Out-clause-held c = λ g t k h taken well.
+returns-in-Out-clause-held c = λ g t h k taken well none.
     let i = c.args.caller in
     let same : c.of-args.result ≡ info_args (arguments t.state i) = c.of-args.ensures ∙ ap info_args (c.arguments.ensures g t h.holds) in
     let inside : i < length t.state.tasks = omega (arith, c.requires.there, h.holds.count) in
@@ -67,7 +67,7 @@ returns-in-Out-clause-held c = λ g t k h taken well.
     absurd (false≢true (sym answered.0 ∙ c.in-Out.ensures.found g t h.holds))
 
 pub returns-in-Dead-clause-held : goal.returns-in-Dead-clause-held
-returns-in-Dead-clause-held c = λ g t k h taken well.
+returns-in-Dead-clause-held c = λ g t h k taken well none.
     let i = c.args.caller in
     let same : c.of-args.result ≡ info_args (arguments t.state i) = c.of-args.ensures ∙ ap info_args (c.arguments.ensures g t h.holds) in
     let inside : i < length t.state.tasks = omega (arith, c.requires.there, h.holds.count) in
@@ -76,7 +76,7 @@ returns-in-Dead-clause-held c = λ g t k h taken well.
     absurd (false≢true (sym answered.1 ∙ dead.1))
 
 pub returns-in-Some-clause-held : goal.returns-in-Some-clause-held
-returns-in-Some-clause-held c = λ g t k h taken well.
+returns-in-Some-clause-held c = λ g t h k taken well none.
     let i = c.args.caller in
     let args = c.of-args.result in
     let same : args ≡ info_args (arguments t.state i) = c.of-args.ensures ∙ ap info_args (c.arguments.ensures g t h.holds) in

@@ -16,9 +16,9 @@ returns-in_err-source-clause-refused c =
     let below : k < length all = omega (arith, c.loop-source-test.true, length-map c.args.sources.now (λ v. v.items)) in
     let at : c.as_slice.result.now ≡ get_or all k [] =
     c.as_slice.ensures.value ∙ ap (λ v. v.items) c.source-item.is ∙ sym (get_or-map (λ v. v.items) c.args.sources.now k c.source-item.result [] c.loop-source-test.true) in
-    let told = refuses_next (app_of c.args.app.now) all k c.loop-source.builder c.as_slice.result.now c.in_err-source.field-0.0 c.loop-source.invariant.same below
+    let stopped = refuses_next (app_of c.args.app.now) all k c.loop-source.builder c.as_slice.result.now c.in_err-source.field-0.0 c.loop-source.invariant.same below
     (length-map c.args.sources.now (λ v. v.items) ∙ c.requires) at c.loop-source.invariant.taken c.in_err-source.ensures.refused in
-    search (told, rules)
+    search (stopped, rules)
 
 pub loop-source-preserved : goal.loop-source-preserved
 loop-source-preserved c =

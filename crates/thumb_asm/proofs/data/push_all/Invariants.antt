@@ -10,7 +10,7 @@ use Rattle.thumb_asm.proofs.data.push_all.Given as goal
 
 abbrev pub invariant-pieces : goal.invariant-pieces
 invariant-pieces l = record {
-  told : l.out.items ++ data_bytes (env_in l.names.labels.now l.names.symbols.now) (scale l.size) (pieces_left (option_map (λ r. r.now) l.left.rest)) ≡ l.fn.out.items ++ data_bytes (env_in l.names.labels.now l.names.symbols.now) (scale l.size) (operand_pieces l.pieces);
+  so_far : l.out.items ++ data_bytes (env_in l.names.labels.now l.names.symbols.now) (scale l.size) (pieces_left (option_map (λ r. r.now) l.left.rest)) ≡ l.fn.out.items ++ data_bytes (env_in l.names.labels.now l.names.symbols.now) (scale l.size) (operand_pieces l.pieces);
   known : list_any (λ e. is_unknown (value (env_in l.names.labels.now l.names.symbols.now) e)) (pieces_left (option_map (λ r. r.now) l.left.rest)) ≡ false;
   within : list_any (λ e. is_beyond (scale l.size) (value (env_in l.names.labels.now l.names.symbols.now) e)) (pieces_left (option_map (λ r. r.now) l.left.rest)) ≡ false;
 }

@@ -6,7 +6,7 @@ use Rattle.thumb_asm.proofs.lists.is_double.Given as goal
 
 abbrev pub invariant-each : goal.invariant-each
 invariant-each l = record {
-  told : count_by (λ range. is_in range l.r) (ranges_in l.text) ≡ l.count + count_by (λ range. is_in range l.r) (ranges_left (option_map (λ r. r.now) l.ranges.rest));
+  so_far : count_by (λ range. is_in range l.r) (ranges_in l.text) ≡ l.count + count_by (λ range. is_in range l.r) (ranges_left (option_map (λ r. r.now) l.ranges.rest));
   few : l.count ≤ 1;
 }
 

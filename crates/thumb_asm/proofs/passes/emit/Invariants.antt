@@ -6,7 +6,7 @@ use Rattle.thumb_asm.proofs.passes.emit.Given as goal
 
 abbrev pub invariant-lines : goal.invariant-lines
 invariant-lines l = record {
-  told : Emitting (env_in l.names.labels.now l.names.symbols.now) l.base (lines_of l.text) (lines_of l.lines.rest.now) l.out.items l.number;
+  so_far : Emitting (env_in l.names.labels.now l.names.symbols.now) l.base (lines_of l.text) (lines_of l.lines.rest.now) l.out.items l.number;
   few : l.number + length l.lines.rest.now ≤ length l.text;
 }
 

@@ -10,7 +10,7 @@ abbrev pub invariant-lines : goal.invariant-lines
 invariant-lines l = record {
   earlier : Names;
   same : Indexes l.labels earlier;
-  told : Surveyed (get_by_text l.symbols) l.base (lines_of l.text) (lines_of l.lines.rest.now) earlier l.used l.number;
+  so_far : Surveyed (get_by_text l.symbols) l.base (lines_of l.text) (lines_of l.lines.rest.now) earlier l.used l.number;
   few : l.number + length l.lines.rest.now ≤ length l.text;
 }
 

@@ -4,7 +4,7 @@ use Rattle.thumb_asm.proofs.quotes.count.Given as goal
 
 abbrev pub invariant-bytes : goal.invariant-bytes
 invariant-bytes l = record {
-  told : length (good_text false l.text) ≡ l.count + length (good_text false l.left.rest.now);
+  so_far : length (good_text false l.text) ≡ l.count + length (good_text false l.left.rest.now);
   few : l.count + length l.left.rest.now ≤ length l.text;
 }
 
