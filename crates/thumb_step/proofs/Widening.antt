@@ -32,7 +32,7 @@ by_wider : (R R' : Refusals) (H H' : Contents) → WidensFetch R R' H H' → (at
 by_wider R R' H H' w at first = either (is_wide first) _ _ _ (wide_wider R R' H H' w at first)
 
 fetched_wider : (R R' : Refusals) (H H' : Contents) → WidensFetch R R' H H' → (at : ℕ) → Gives (fetched R H at) (fetched R' H' at)
-fetched_wider R R' H H' w at = granted (R at 2 Execute) (R' at 2 Execute) at _ _ (w.widens.granted at 2 Execute) (λ e. rw (sym (w.text at e)) (by_wider R R' H H' w at (H at 2)))
+fetched_wider R R' H H' w at = granted (R at 2 Execute) (R' at 2 Execute) at _ _ (w.widens.granted at 2 Execute) (λ e. rw (sym (w.fetches at e)) (by_wider R R' H H' w at (H at 2)))
 
 executed_wider : (R R' : Refusals) (H H' : Contents) → WidensFetch R R' H H' → (c : Cpu) (a b : Result Fetched Fault) → Gives a b → (d : Cpu) (ss : List Store) → executed R H c a ≡ Next d ss → executed R' H' c b ≡ Next d ss
 executed_wider R R' H H' w c (Ok f) b g d ss s = rw (g f refl) (effect_wider R R' H H' w.widens c f.insn d ss s)

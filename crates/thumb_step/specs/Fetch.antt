@@ -57,4 +57,4 @@ step_effect refuses holds c = executed refuses holds c (fetched refuses holds (r
 -- what one list of refusals grants the other grants too, and where a byte may be read, or a halfword executed, they hold the same
 pub record WidensFetch (refuses wider : Refusals) (holds held : Contents) : Type 0 where
   pub widens : Widens refuses wider holds held
-  pub text : (a : ℕ) → refuses a 2 Execute ≡ None → holds a 2 ≡ held a 2
+  pub fetches : (a : ℕ) → refuses a 2 Execute ≡ None → holds a 2 ≡ held a 2

@@ -23,7 +23,7 @@ use Rattle.task_table.specs.Sends.{message_of, reply_room}
 use Rattle.task_table.specs.Orders.{Order, status_bytes, status_given, restart_made, injected_by, injected, orders, obeyed, order_of, ordered}
 use Rattle.two_runs.specs.Alike.{Viewer, IsAttentive, seen_call, seen_from, seen_listen, IsAlike}
 use Rattle.two_runs.proofs.Alike.{call_alike, listen_alike, count_alike, bytes_alike}
-use Rattle.two_runs.proofs.AlikeRows.{by_test, by_same, by_case, the_task, alike-noted, alike-task, alike-stored, alike-fold, alike-given, alike-closed, alike-no_listen, alike-returned, alike-faulted, alike-misused, alike-denied, alike-goes_on_with, args, generation_same}
+use Rattle.two_runs.proofs.AlikeRows.{by_test, by_same, by_case, the_task, alike-noted_always, alike-task, alike-stored, alike-fold, alike-given, alike-closed, alike-no_listen, alike-returned, alike-faulted, alike-misused, alike-denied, alike-goes_on_with, args, generation_same}
 use Rattle.two_runs.proofs.Sight.{IsOpen, checked_seen}
 
 -- what holds of each order of a list holds of the one that is found in it
@@ -101,7 +101,7 @@ module _ (w : Viewer) (a : IsAttentive w) where
       let born = alike-reborn g i start _ _ (alike-no_listen w a i _ _ (alike-closed w a i Restart t u h)) in
       let n = sym (count_alike w.birth t.state u.state h.state) in
       rw n (alike-fold w a (dead_answered i) (range_with_len 0 (length t.state.tasks)) _ _ (λ j p q k. alike-noted_dead i j p q k)
-      (alike-noted w a _ _ _ _ (ap (λ k. note.Restart i k) (generation_same w a i _ _ born)) refl born))
+      (alike-noted_always w a _ _ _ _ (ap (λ k. note.Restart i k) (generation_same w a i _ _ born)) refl born))
 
   -- ## what a kernel message asks for
 

@@ -88,8 +88,8 @@ module _ (w : Viewer) (a : IsAttentive w) where
   alike-noted n t u always h = alike-heard n t u (a.hears n always) h
 
   -- a note that is the same in both
-  pub alike-noted : (n m : Note) (t u : Turn) → n ≡ m → is_noted_always n ≡ true → IsAlike w t u → IsAlike w (noted n t) (noted m u)
-  alike-noted n m t u e always h = rw (sym e) (alike-noted n t u always h)
+  pub alike-noted_always : (n m : Note) (t u : Turn) → n ≡ m → is_noted_always n ≡ true → IsAlike w t u → IsAlike w (noted n t) (noted m u)
+  alike-noted_always n m t u e always h = rw (sym e) (alike-noted n t u always h)
 
   pub alike-changed : (s x : State) (t u : Turn) → shown w.birth s ≡ shown w.birth x → s.memory ≡ t.state.memory → x.memory ≡ u.state.memory → IsAlike w t u → IsAlike w record t { state = s } record u { state = x }
   alike-changed s x t u e m n h = record { state = e; memory = rw (m, n) h.memory; notes = h.notes; writes = h.writes; reads = h.reads }
@@ -140,7 +140,7 @@ module _ (w : Viewer) (a : IsAttentive w) where
   pub alike-clocked : (t u : Turn) → IsAlike w t u → IsAlike w (clocked t) (clocked u)
   unfolding clocked seen
   alike-clocked t u h =
-      alike-noted _ _ _ _ (ap (λ k. note.Tick (k + 1)) (now_alike w.birth t.state u.state h.state)) refl
+      alike-noted_always _ _ _ _ (ap (λ k. note.Tick (k + 1)) (now_alike w.birth t.state u.state h.state)) refl
       (alike-changed _ _ t u (ap (λ (s : State). record s { now = s.now + 1 }) h.state) refl refl h)
 
   pub alike-no_listen : (i : ℕ) (t u : Turn) → IsAlike w t u → IsAlike w (changed (without_listen i) t) (changed (without_listen i) u)
@@ -367,7 +367,7 @@ module _ (w : Viewer) (a : IsAttentive w) where
   alike-syscall_noted c t u h =
       let x = register_alike w.birth t.state u.state c 11 h.state in
       let y = registers_alike w.birth t.state u.state c h.state in
-      alike-noted _ _ t u (λ j. note.Syscall c (x j) (slice_range (y j) 4 11)) refl h
+      alike-noted_always _ _ t u (λ j. note.Syscall c (x j) (slice_range (y j) 4 11)) refl h
 
   -- ## RECV
 
@@ -398,7 +398,7 @@ module _ (w : Viewer) (a : IsAttentive w) where
       let k = alike-past_syscall c t u h in
       let e : listened_from from ≡ listened_from other = sym (listened_same w.birth from) ∙ ap listened_from same ∙ listened_same w.birth other in
       let l : seen_listen w.birth record { task = c; from = from; mask = x.mask; buffer = buffer_of x } ≡ seen_listen w.birth record { task = c; from = other; mask = x.mask; buffer = buffer_of x } = ap (λ f. record { task = c; from = f; mask = x.mask; buffer = buffer_of x }) same in
-      alike-noted _ _ _ _ (ap (λ f. note.Listen c f x.mask) e) refl
+      alike-noted_always _ _ _ _ (ap (λ f. note.Listen c f x.mask) e) refl
       (alike-changed _ _ _ _ (alike-with_listen w.birth _ _ (past_syscall c t).state (past_syscall c u).state l k.state) refl refl k)
 
   alike-receives_or_listens : (c : ℕ) (x : RecvArgs) (from other : From) (o p : Option Call) (t u : Turn) → seen_from w.birth from ≡ seen_from w.birth other → option_map (seen_call w.birth) o ≡ option_map (seen_call w.birth) p → IsAlike w t u → IsAlikeWhereSeen w (receives_or_listens c x from o t) (receives_or_listens c x other p u)

@@ -18,7 +18,7 @@ use Rattle.task_table.specs.Rows.{goes_on}
 use Rattle.task_table.specs.Sends.{message_of, reply_room, table_of, call_made, taken_at_once, sends, sent, reply_of, replied_to, replied, reply_fault_of, last_reason, reply_faulted_to, reply_faulted, post_made, refreshed}
 use Rattle.two_runs.specs.Alike.{Viewer, IsAttentive, seen_birth, seen_call, seen_from, seen_listen, IsAlike, IsAlikeWhereSeen}
 use Rattle.two_runs.proofs.Alike.{listen_alike, taken_alike, next_call_alike, alike-with_call}
-use Rattle.two_runs.proofs.AlikeRows.{by_test, by_same, by_case, the_task, surely, alike-noted, alike-changed, alike-given, alike-past_syscall, alike-closed, alike-returned, alike-copied, alike-posted, alike-faulted_as, alike-handed, where_seen-returned, alike-misused, alike-denied, alike-goes_on, alike-goes_on_with, alike-answers, args, is_out_same, is_dead_same, dead_code_same, generation_same}
+use Rattle.two_runs.proofs.AlikeRows.{by_test, by_same, by_case, the_task, surely, alike-noted_always, alike-changed, alike-given, alike-past_syscall, alike-closed, alike-returned, alike-copied, alike-posted, alike-faulted_as, alike-handed, where_seen-returned, alike-misused, alike-denied, alike-goes_on, alike-goes_on_with, alike-answers, args, is_out_same, is_dead_same, dead_code_same, generation_same}
 use Rattle.two_runs.proofs.Sight.{IsOpen, checked_seen}
 use Rattle.two_runs.proofs.Births.{AreTellable, notable_past_syscall, admits_same}
 
@@ -34,7 +34,7 @@ module _ (w : Viewer) (a : IsAttentive w) where
   alike-offered : (k m : Call) (t u : Turn) → seen_call w.birth k ≡ seen_call w.birth m → IsAlike w t u → IsAlike w (offered k t) (offered m u)
   unfolding offered with_call
   alike-offered k m t u same h =
-      alike-noted w a _ _ _ _ (ap (λ (x : Call). note.Offer x.number x.client.index x.server.index) same) refl
+      alike-noted_always w a _ _ _ _ (ap (λ (x : Call). note.Offer x.number x.client.index x.server.index) same) refl
       (alike-changed w a _ _ t u (alike-with_call w.birth k m t.state u.state same h.state) refl refl h)
 
   alike-taken_at_once : (k m : Call) (l n : Option Listen) (t u : Turn) → seen_call w.birth k ≡ seen_call w.birth m → option_map (seen_listen w.birth) l ≡ option_map (seen_listen w.birth) n →

@@ -75,4 +75,4 @@ module _ (g : Setup) (c : ℕ) (m : Memory) (v : View) (w : IsWindow g c m v) wh
   flash_same a e = held_in (has v.ram_base v.ram a 2) a 2 refl (λ no. flash_here a 2 (all_there _ a e))
 
   pub widens : WidensFetch (refused_by v) (refusals g c) (held_by v) (number_at m)
-  widens = record { widens = record { granted = granted; same = same }; flash = flash_same }
+  widens = record { widens = record { granted = granted; same = same }; fetches = flash_same }
