@@ -26,7 +26,7 @@ same : (a b : Result Fetched Fault) → a ≡ b → Gives a b
 same a b s f e = sym s ∙ e
 
 wide_wider : (R R' : Refusals) (H H' : Contents) → WidensFetch R R' H H' → (at first : ℕ) → Gives (fetched_wide R H at first) (fetched_wide R' H' at first)
-wide_wider R R' H H' w at first = granted (R (after at) 2 Execute) (R' (after at) 2 Execute) (after at) _ _ (w.widens.granted (after at) 2 Execute) (λ e. same _ _ (ap (λ (second : ℕ). instruction at (first * 2 ^ 16 + second) (decoded_of first (Some second))) (w.text (after at) e)))
+wide_wider R R' H H' w at first = granted (R (after at) 2 Execute) (R' (after at) 2 Execute) (after at) _ _ (w.widens.granted (after at) 2 Execute) (λ e. same _ _ (ap (λ (second : ℕ). instruction at (first * 2 ^ 16 + second) (decoded_of first (Some second))) (w.fetches (after at) e)))
 
 by_wider : (R R' : Refusals) (H H' : Contents) → WidensFetch R R' H H' → (at first : ℕ) → Gives (fetched_by R H at first) (fetched_by R' H' at first)
 by_wider R R' H H' w at first = either (is_wide first) _ _ _ (wide_wider R R' H H' w at first)
