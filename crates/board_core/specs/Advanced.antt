@@ -31,10 +31,10 @@ pub record HasGlidden (x : Scenario) (s : State) (n : ℕ) (b : Board) : Type 0 
 abbrev pub IsStopped : Scenario → State → Type 0
 IsStopped x s = (events_of x.script s.turn ≢ []) ⊎ (ending x 1 s ≢ None)
 
--- from a state, a task can go on the fast way no further than to another one
+-- the task that runs from a state goes no further the fast way than to another one
 abbrev pub IsFar : Scenario → State → State → Type 0
 IsFar x s u = MustStop x.setup s.current (register s s.current program_counter) (register s s.current stack_pointer) u
 
--- nor past a turn in which something happens
+-- its turn there is a whole one: something happens in it, or the fast way ends
 abbrev pub NeedsTurn : Scenario → State → State → Type 0
 NeedsTurn x s u = (events_of x.script u.turn ≢ []) ⊎ IsFar x s u

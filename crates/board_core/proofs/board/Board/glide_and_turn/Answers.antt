@@ -43,7 +43,7 @@ below_limit until from to limit within stays less left = by (leb from until) ref
 
 pub returns-else-self-limit-clause-within : goal.returns-else-self-limit-clause-within
 returns-else-self-limit-clause-within c =
-    below_limit c.quiet_until.result (turns_of c.args.self.now) (turns_of c.glide.new.self) c.args.limit c.glide.ensures.within (λ h. ap (λ (b : Board). turns_of b) (c.glide.ensures.stays h)) c.quiet_until.ensures.within c.requires.left
+    below_limit c.quiet_until.result (turns_of c.args.self.now) (turns_of c.glide.new.self) c.args.limit c.glide.ensures.within (λ h. ap (λ (b : Board). turns_of b) (c.glide.ensures.stays h)) (omega (arith, c.quiet_until.ensures.within, c.requires.left)) c.requires.left
 
 pub returns-else-self-limit-clause-noted : goal.returns-else-self-limit-clause-noted
 returns-else-self-limit-clause-noted c =
@@ -82,6 +82,6 @@ returns-then-self-limit-clause-idle c = λ x s st none up more lt.
     let u : State = state_after Brief x n s in
     let e : n ≡ turns_of b2 - turns_of b - 1 = omega (arith, c.glide.ensures.more, c.turn_at.ensures.turns) in
     let made = c.glide.ensures.glided x s st in
-    let over = c.glide.ensures.idle x s st none up (lasts_from x.script until c.args.limit c.quiet_until.ensures.within more) in
+    let over = c.glide.ensures.idle x s st none up (lasts_from x.script until c.args.limit (omega (arith, c.quiet_until.ensures.within, c.requires.left)) more) in
     subst (λ (k : ℕ). events_of x.script (state_after Brief x k s).turn ≢ []) e
     (due_now x s u b.due (turns_of b) (turns_of b1) until c.args.limit st.holds.due c.quiet_until.ensures.met st.holds.turns made.stands.holds.turns c.glide.ensures.within over (omega (arith, c.if-self-limit.true)))
