@@ -162,7 +162,7 @@ lendable p xs ts have same task r has here none =
 
 pub sound_setup : (p : Picture) → Facts p → AreAllBytes p.flash → IsSound (setup_of p)
 unfolding start
-sound_setup p f flash =
+sound_setup p f bytes =
     let zeros : List ℕ = replicate p.ram 0 in
     let ram : length zeros ≡ p.ram = length-replicate p.ram 0 in
     let count : length (map setup_of_task p.tasks) ≡ length p.tasks = length-map p.tasks setup_of_task in
@@ -182,5 +182,5 @@ sound_setup p f flash =
         owners = λ o here. rw count (owned p.lines (length p.tasks) (λ k below. f.lines.owners k below) o here);
         stack = λ i. rw (setup_is p i) (f.tasks.stacks i);
       };
-      flash = flash;
+      flash_bytes = bytes;
     }

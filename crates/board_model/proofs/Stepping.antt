@@ -48,18 +48,18 @@ trap_known g t insn f sane coded is =
 
 -- what is carried out, by whether the first halfword is text and whether it begins a wide instruction
 rows : Level → Setup → ℕ → Turn → ℕ → ℕ → Bool → Bool → Turn
-rows level g c t at first text wide =
-    cond (not text) (faulted g c record { number = 2; x = at; y = 0 } t)
+rows level g c t at first fetch wide =
+    cond (not fetch) (faulted g c record { number = 2; x = at; y = 0 } t)
     (cond (not wide) (decoded_as level g c at first (decoded_of first None) t) (stepped_wide level g c at first t))
 
-stepped_by : (level : Level) (g : Setup) (c : ℕ) (t : Turn) (at first : ℕ) (text wide : Bool) → at ≡ register t.state c 15 → first ≡ number_at t.state.memory at 2 → text ≡ may_fetch g c at → wide ≡ is_wide first →
-    stepped level g c t ≡ rows level g c t at first text wide
+stepped_by : (level : Level) (g : Setup) (c : ℕ) (t : Turn) (at first : ℕ) (fetch wide : Bool) → at ≡ register t.state c 15 → first ≡ number_at t.state.memory at 2 → fetch ≡ may_fetch g c at → wide ≡ is_wide first →
+    stepped level g c t ≡ rows level g c t at first fetch wide
 unfolding stepped rows
-stepped_by level g c t at first text wide same fetched is begins =
+stepped_by level g c t at first fetch wide same fetched is begins =
     let at_place : ℕ → Turn = λ a. rows level g c t a (number_at t.state.memory a 2) (may_fetch g c a) (is_wide (number_at t.state.memory a 2)) in
     let by_first : ℕ → Turn = λ f. rows level g c t at f (may_fetch g c at) (is_wide f) in
     let by_fetch : Bool → Turn = λ b. rows level g c t at first b (is_wide first) in
-    let by_wide : Bool → Turn = λ w. rows level g c t at first text w in
+    let by_wide : Bool → Turn = λ w. rows level g c t at first fetch w in
     ap at_place (sym same) ∙ ap by_first (sym fetched) ∙ ap by_fetch (sym is) ∙ ap by_wide (sym begins)
 
 module _ (level : Level) (g : Setup) (t : Turn) (P : Turn → Type 0) (at first : ℕ) (b : Bool)
@@ -87,8 +87,8 @@ module _ (level : Level) (g : Setup) (t : Turn) (P : Turn → Type 0) (at first 
 -- ## by the second halfword
 
 wide_rows : Level → Setup → ℕ → Turn → ℕ → ℕ → ℕ → Bool → Turn
-wide_rows level g c t at first after text =
-    cond (not text) (faulted g c record { number = 2; x = after; y = 0 } t)
+wide_rows level g c t at first after fetch =
+    cond (not fetch) (faulted g c record { number = 2; x = after; y = 0 } t)
     (decoded_as level g c at (first * 2 ^ 16 + number_at t.state.memory after 2) (decoded_of first (Some (number_at t.state.memory after 2))) t)
 
 wide_by : (level : Level) (g : Setup) (c : ℕ) (t : Turn) (at first after : ℕ) (b : Bool) → after ≡ (at + 2) % 2 ^ 32 → b ≡ may_fetch g c after → wide_rows level g c t at first after b ≡ stepped_wide level g c at first t

@@ -245,8 +245,8 @@ module _ (level : Level) (g : Setup) (c : ℕ) (t : Turn) (h : Sane g t.state) (
       let after = (at + 2) % 2 ^ 32 in
       let first = number_at m at 2 in
       let second = number_at m after 2 in
-      let small1 = half_small m at h.steady.text h.steady.bytes in
-      let small2 = half_small m after h.steady.text h.steady.bytes in
+      let small1 = half_small m at h.steady.flash_bytes h.steady.bytes in
+      let small2 = half_small m after h.steady.flash_bytes h.steady.bytes in
       by_chain (not (may_fetch g c at)) (λ bad. one (Halts _ t inside (omega arith) (omega arith))) (λ ok.
       by_chain (not (is_wide first)) (λ narrow. decoded_chain at first first None (decoded_of first None) small1 tt refl) (λ wide.
       by_chain (not (may_fetch g c after)) (λ bad. one (Halts _ t inside (omega arith) (omega arith))) (λ ok2.

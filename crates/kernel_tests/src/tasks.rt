@@ -247,7 +247,7 @@ fn a_kernel_lends_its_memory(rt: HostRuntime) -> Result<(), Fail> {
         execute: true,
         device: false,
     };
-    let text = Region {
+    let flash = Region {
         base: FLASH,
         size: 3,
         rights,
@@ -261,8 +261,8 @@ fn a_kernel_lends_its_memory(rt: HostRuntime) -> Result<(), Fail> {
         seen: 0,
         byte: 0x5A,
     };
-    assert!(rt; !kernel.lend(&ram, &text, &mut stamp));
-    assert!(rt; kernel.lend(&text, &ram, &mut stamp));
+    assert!(rt; !kernel.lend(&ram, &flash, &mut stamp));
+    assert!(rt; kernel.lend(&flash, &ram, &mut stamp));
     assert_eq!(rt; stamp.seen, 0x20);
     assert_eq!(rt; kernel.number(RAM, 2), 0x5A);
     Ok(())

@@ -29,14 +29,14 @@ few_bytes m a n = go (leb 0x20000000 a) (leb 0x08000000 a)
 
 pub all_bytes_at : (m : Memory) (a n : ℕ) → AreAllBytes m.flash → AreAllBytes m.ram → AreAllBytes (bytes_at m a n)
 unfolding bytes_at
-all_bytes_at m a n text ram = go (leb 0x20000000 a) (leb 0x08000000 a)
+all_bytes_at m a n flash_bytes ram = go (leb 0x20000000 a) (leb 0x08000000 a)
   where
     part : (i : ℕ) (xs : List ℕ) → AreAllBytes xs → AreAllBytes (take n (drop i xs))
     part i xs all = λ b here. all b (drop_in i xs b (take_in n (drop i xs) b here))
 
     go : (b d : Bool) → AreAllBytes (cond b (take n (drop (a - 0x20000000) m.ram)) (cond d (take n (drop (a - 0x08000000) m.flash)) []))
     go true d = part (a - 0x20000000) m.ram ram
-    go false true = part (a - 0x08000000) m.flash text
+    go false true = part (a - 0x08000000) m.flash flash_bytes
     go false false = λ b here. absurd (omega (arith, here.1))
 
 -- ## effects
@@ -53,7 +53,7 @@ module _ {M F T : ℕ → Type 0} {W : ℕ → ℕ → Type 0} {g : Setup} where
       let m = t.state.memory in
       let bytes = bytes_at m from n in
       let front = within_ram-front m to n (length bytes) within (few_bytes m from n) in
-      keeps-memory (with_bytes m to bytes) h (flash-with_bytes m to bytes front) (written_bytes m to bytes h.steady.bytes (all_bytes_at m from n h.steady.text h.steady.bytes))
+      keeps-memory (with_bytes m to bytes) h (flash-with_bytes m to bytes front) (written_bytes m to bytes h.steady.bytes (all_bytes_at m from n h.steady.flash_bytes h.steady.bytes))
       (placed_same g m (with_bytes m to bytes) h.steady.placed (flash-with_bytes m to bytes front) (length-with_bytes m to bytes front))
 
   -- F: of all clients it is said, or of all but that of the call, that no offer fits a listen

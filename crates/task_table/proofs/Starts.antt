@@ -55,7 +55,7 @@ sane-start g sound = record {
     as_many = length-map g.tasks born;
     current = rw length-map sound.some;
     flash = refl;
-    text = sound.text;
+    flash_bytes = sound.flash_bytes;
     bytes = zero_bytes g.ram;
     placed = sound.placed;
   };

@@ -30,4 +30,4 @@ setup_of_parts memory fault_bits tasks lines =
 pub record IsSound (g : Setup) : Type 0 where
   pub some : 0 < length g.tasks
   pub placed : ArePlaced g (start g).memory
-  pub text : AreAllBytes g.flash
+  pub flash_bytes : AreAllBytes g.flash

@@ -94,7 +94,7 @@ pub record IsSteady (g : Setup) (s : State) : Type 0 where
   pub as_many : length s.tasks ≡ length g.tasks
   pub current : s.current < length s.tasks
   pub flash : s.memory.flash ≡ g.flash
-  pub text : AreAllBytes s.memory.flash
+  pub flash_bytes : AreAllBytes s.memory.flash
   pub bytes : AreAllBytes s.memory.ram
   pub placed : ArePlaced g s.memory
 

@@ -85,8 +85,8 @@ module _ (w : Viewer) (a : IsAttentive w) where
   -- the walk of an instruction, to this viewer
   module _ (l m : Level) (heard : IsHeardAs w l m) (g : Setup) (c : ℕ) (open_to : IsOpen w g c) where
     half_alike : (t u : Turn) (at : ℕ) → IsAlike w t u → may_fetch g c at ≡ true → number_at t.state.memory at 2 ≡ number_at u.state.memory at 2
-    half_alike t u at h text =
-        let e = both (may g c Execute at) (may g c Execute ((at + 1) % 2 ^ 32)) text in
+    half_alike t u at h fetch =
+        let e = both (may g c Execute at) (may g c Execute ((at + 1) % 2 ^ 32)) fetch in
         ap number_of (bytes_alike w.sees t.state.memory u.state.memory at 2 h.memory (λ x lo hi. seen_at x lo hi e))
       where
         second : may g c Execute ((at + 1) % 2 ^ 32) ≡ true → w.sees (at + 1) ≡ true
@@ -109,11 +109,11 @@ module _ (w : Viewer) (a : IsAttentive w) where
 
     followed : IsFollowed l m g g c c (AreAlikeAndNoted w) (IsAlikeWhereSeen w)
     followed = record {
-      text = λ x. refl;
+      fetch = λ x. refl;
       refused = refl;
       pc = λ t u h. register_alike w.birth t.state u.state c 15 h.alike.state;
       cpu = λ t u h. ap cpu_of (the_task w a c t u h.alike);
-      half = λ t u at h text. half_alike t u at h.alike text;
+      half = λ t u at h fetch. half_alike t u at h.alike fetch;
       loads = λ t u h at n e. ap number_of (bytes_alike w.sees t.state.memory u.state.memory at n h.alike.memory (λ x lo hi. open_to.rights Read x (none_lacking (may g c Read) at n e x lo hi)));
       noted_at = λ at code t u h. record { alike = alike-noted_at l m heard (note.Insn c at code) (note.Insn c at code) t u refl refl h.alike; first = notable_noted w.birth l _ t h.first; second = notable_noted w.birth m _ u h.second };
       put = λ x t u h. record { alike = alike-put x t u h.alike; first = notable_put w.birth t x h.first; second = notable_put w.birth u x h.second };

@@ -25,7 +25,7 @@ use Rattle.board_model.specs.Turn.{refusals, cpu_of, put, acted, executed, noted
 -- what the walk needs of a relation R before and W after, between the turn of task c under g and that of d under k
 pub record IsFollowed (l m : Level) (g k : Setup) (c d : ℕ) (R W : Turn → Turn → Type 0) : Type 0 where
   -- the two tasks have the same rights, registers and flags, and read the same
-  pub text : (a : ℕ) → may_fetch g c a ≡ may_fetch k d a
+  pub fetch : (a : ℕ) → may_fetch g c a ≡ may_fetch k d a
   pub refused : refusals g c ≡ refusals k d
   pub pc : (t u : Turn) → R t u → register t.state c 15 ≡ register u.state d 15
   pub cpu : (t u : Turn) → R t u → cpu_of (task_at t.state c) ≡ cpu_of (task_at u.state d)
@@ -68,7 +68,7 @@ module _ (l m : Level) (g k : Setup) (c d : ℕ) (R W : Turn → Turn → Type 0
   -- unless there is no text, the two halfwords are the same
   by_fetch : (a : ℕ) {t u : Turn} {p q : ℕ → Turn} → R t u → W (faulted g c record { number = 2; x = a; y = 0 } t) (faulted k d record { number = 2; x = a; y = 0 } u) → ((x : ℕ) → W (p x) (q x)) →
       W (cond (not (may_fetch g c a)) (faulted g c record { number = 2; x = a; y = 0 } t) (p (number_at t.state.memory a 2))) (cond (not (may_fetch k d a)) (faulted k d record { number = 2; x = a; y = 0 } u) (q (number_at u.state.memory a 2)))
-  by_fetch a {t} {u} {p} {q} h bad good = go (may_fetch g c a) (may_fetch k d a) refl (f.text a)
+  by_fetch a {t} {u} {p} {q} h bad good = go (may_fetch g c a) (may_fetch k d a) refl (f.fetch a)
     where
       rest : (x y : ℕ) → x ≡ y → W (p x) (q y)
       rest x y e = rw (sym e) (good x)

@@ -99,7 +99,7 @@ sane-reduced g s h = record {
     as_many = reduced_count s ∙ h.steady.as_many;
     current = rw (reduced_count, same_current) h.steady.current;
     flash = ap (λ (m : Memory). m.flash) same_memory ∙ h.steady.flash;
-    text = rw same_memory h.steady.text;
+    flash_bytes = rw same_memory h.steady.flash_bytes;
     bytes = rw same_memory h.steady.bytes;
     placed = rw same_memory h.steady.placed;
   };

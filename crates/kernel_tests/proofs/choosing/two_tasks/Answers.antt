@@ -44,7 +44,7 @@ bare_sound x y a b p q = record {
     owners = λ o here. nothing_in [] o refl here;
     stack = aligned x y p q;
   };
-  text = λ byte here. nothing_in [] byte refl here;
+  flash_bytes = λ byte here. nothing_in [] byte refl here;
 }
 
 some_stood : {E : Type 0} (g : Setup) (t : Turn) (r : Result Kernel E) → IfOk r (λ k. Stands g k t) → IfOk r Stood

@@ -54,7 +54,7 @@ sound x y a b p q = record {
     owners = λ o here. nothing_in [] o refl here;
     stack = aligned x y p q;
   };
-  text = λ byte here. nothing_in [] byte refl here;
+  flash_bytes = λ byte here. nothing_in [] byte refl here;
 }
 
 first_ready : (x y : TaskStart) → x.started ≡ true → is_ready (begun (start (setup x y))).state 0 ≡ true
