@@ -114,6 +114,9 @@ loaded_own g k cpu t h ready e = record { saved = t; holds = h; ready = ready; i
 pub loaded_again : (g : Setup) (k : Kernel) (cpu : Cpu) (t : Turn) (task : ℕ) → task ≡ t.state.current → IsLoaded g k cpu t → IsLoaded g k cpu (with_current task t)
 loaded_again g k cpu t task e h = rw e h
 
+pub loaded_still : (g : Setup) (k : Kernel) (cpu : Cpu) (t : Turn) (task : ℕ) → task ≡ t.state.current → IsLoaded g k cpu (with_current task t) → IsLoaded g k cpu t
+loaded_still g k cpu t task e h = rw e at h
+
 -- ## an instruction goes on
 
 put-with_cpu : (c : ℕ) (registers : List ℕ) (flags : Flags) (t : Turn) (x : Store) → put (with_processor c registers flags t) x ≡ with_processor c registers flags (put t x)

@@ -155,7 +155,7 @@ impl Board {
         ensures noted { length (notes_of self.new) ≤ turn_notes }
 
         // The whole turn is one that the fast way does not make.
-        ensures needed { (x : Scenario) (s : State) → Stands x self.old s → chosen x.setup s ≡ Some s.current → self.old.machine.loaded ≡ true → self.old.choice.down ≡ false → turns_of self.new < limit → NeedsTurn x s (state_after Brief x (turns_of self.new - turns_of self.old - 1) s) }
+        ensures needed { (x : Scenario) (s : State) → Stands x self.old s → chosen x.setup s ≡ Some s.current → self.old.choice.down ≡ false → turns_of self.new < limit → NeedsTurn x s (state_after Brief x (turns_of self.new - turns_of self.old - 1) s) }
         ensures idle { (x : Scenario) (s : State) → Stands x self.old s → chosen x.setup s ≡ None → self.old.choice.down ≡ false → lasts x.script limit ≡ true → turns_of self.new < limit → events_of x.script (state_after Brief x (turns_of self.new - turns_of self.old - 1) s).turn ≢ [] }
     {
         self.glide(quiet_until(self.due, limit));
@@ -165,8 +165,8 @@ impl Board {
     }
 
     /// The fast way: turns before turn `until`, before which nothing is due, none of which notes anything. They are those
-    /// of the task that is chosen, within a window of its memory, as far as it goes there, where the processor has its
-    /// context; or all idle ones, where no task is ready.
+    /// of the task that is chosen, within a window of its memory, as far as it goes there, where it was the one that ran
+    /// last; or all idle ones, where no task is ready.
     fn glide(&mut self, until: u32)
         requires stood { Stood self.old }
         requires few { until ≤ 1000000000 }
@@ -177,7 +177,7 @@ impl Board {
         ensures stays { until ≤ turns_of self.old → self.new ≡ self.old }
 
         // It stops before only where the next instruction is a system call, faults or reaches beyond the window, or where there is none.
-        ensures far { (x : Scenario) (s : State) → Stands x self.old s → chosen x.setup s ≡ Some s.current → self.old.machine.loaded ≡ true → self.old.choice.down ≡ false → turns_of self.new < until → IsFar x s (state_after Brief x (turns_of self.new - turns_of self.old) s) }
+        ensures far { (x : Scenario) (s : State) → Stands x self.old s → chosen x.setup s ≡ Some s.current → self.old.choice.down ≡ false → turns_of self.new < until → IsFar x s (state_after Brief x (turns_of self.new - turns_of self.old) s) }
         ensures idle { (x : Scenario) (s : State) → Stands x self.old s → chosen x.setup s ≡ None → self.old.choice.down ≡ false → lasts x.script until ≡ true → until ≤ turns_of self.new }
     {
         if self.turns >= until || self.choice.down {
@@ -200,9 +200,9 @@ impl Board {
         ensures glided { (x : Scenario) (s : State) → Stands x self.old s → HasGlidden x s (turns_of self.new - turns_of self.old) self.new }
         ensures more { turns_of self.old ≤ turns_of self.new }
         ensures within { turns_of self.new ≤ until }
-        ensures far { (x : Scenario) (s : State) → Stands x self.old s → s.current ≡ task → self.old.machine.loaded ≡ true → turns_of self.new < until → MustStop x.setup task (register s task program_counter) (register s task stack_pointer) (state_after Brief x (turns_of self.new - turns_of self.old) s) }
+        ensures far { (x : Scenario) (s : State) → Stands x self.old s → s.current ≡ task → turns_of self.new < until → MustStop x.setup task (register s task program_counter) (register s task stack_pointer) (state_after Brief x (turns_of self.new - turns_of self.old) s) }
     {
-        if self.machine.is_loaded_for(task) {
+        if self.machine.reload_context(task) {
             self.machine.begin();
             self.turns += self.machine.glide(until - self.turns);
         }

@@ -121,6 +121,24 @@ impl Machine {
         self.processor = cpu(&self.reach.kernel, task);
         self.loaded = true;
     }
+
+    /// The processor has the context of a task from now on, where it is the current one; else nothing changes, and the
+    /// answer is false.
+    pub fn reload_context(&mut self, task: usize) -> bool
+        requires { task < task_count self.old.reach.kernel }
+        ensures loaded { result ≡ true → self.new.loaded ≡ true }
+        ensures current { result ≡ true → current_of self.old.reach.kernel ≡ task }
+        ensures holds { (g : Setup) (t : Turn) → MachineHolds g self.old t → is_ready t.state task ≡ true → MachineHolds g self.new t }
+        ensures other { result ≡ false → current_of self.old.reach.kernel ≢ task }
+        ensures same { result ≡ false → self.new ≡ self.old }
+        ensures count { note_count self.new.reach.kernel ≡ note_count self.old.reach.kernel }
+    {
+        if self.reach.kernel.current() != task {
+            return false;
+        }
+        self.load_context(task);
+        true
+    }
 }
 
 impl Machine {
