@@ -17,10 +17,10 @@ takes_may : (seen : List ℕ → Option (List ℕ)) (files : List File) (cs : Li
 takes_may seen files cs takes = λ k bytes e. let t = takes k bytes e in (t.0, t.1, held_may seen t.0.name bytes t.2, t.3)
 
 -- files of which no call has failed
-abbrev seen : (List ℕ → Option (List ℕ)) → FilesSeen
-seen seen = record { seen = seen; read_faults = 0; put_faults = 0; given = 0; last_failing = None }
+abbrev unfailed : (List ℕ → Option (List ℕ)) → FilesSeen
+unfailed seen = record { contents = seen; read_faults = 0; put_faults = 0; given = 0; last_failing = None }
 
-grounded : (words : List (List ℕ)) (seen : List ℕ → Option (List ℕ)) (v : Verdict) → IsVerdict words seen v → Ground words (seen seen) (seen seen) v
+grounded : (words : List (List ℕ)) (seen : List ℕ → Option (List ℕ)) (v : Verdict) → IsVerdict words seen v → Ground words (unfailed seen) (unfailed seen) v
 grounded words seen v (verdict.no_job none e) = no_job none e
 grounded words seen v (verdict.refuses job cs f c why at r held refusal e) = of_job job at (refuses f why (record {
   contents = cs;
@@ -32,9 +32,9 @@ grounded words seen v (verdict.does job cs at all p) = of_job job at (does cs (r
 none_rose : Rose 0 0 → ⊥
 none_rose rose = absurd (omega arith)
 
-when_decided : (words : List (List ℕ)) (seen : List ℕ → Option (List ℕ)) (u v : Verdict) → Decided words (seen seen) (seen seen) u v → u ≡ v
+when_decided : (words : List (List ℕ)) (seen : List ℕ → Option (List ℕ)) (u v : Verdict) → Decided words (unfailed seen) (unfailed seen) u v → u ≡ v
 when_decided words seen u v (agreed e) = e
 when_decided words seen u v (not_read job f at h e) = absurd (none_rose h.rose)
 
 pub one_verdict : (words : List (List ℕ)) (seen : List ℕ → Option (List ℕ)) (u v : Verdict) → IsVerdict words seen u → IsVerdict words seen v → u ≡ v
-one_verdict words seen u v p q = when_decided words seen u v (decided words (seen seen) (seen seen) u v (grounded words seen u p) q)
+one_verdict words seen u v p q = when_decided words seen u v (decided words (unfailed seen) (unfailed seen) u v (grounded words seen u p) q)

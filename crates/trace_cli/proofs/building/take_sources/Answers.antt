@@ -40,7 +40,7 @@ loop-task-preserved g c =
       described = c.in-Ok.ensures.described ∙ inv.described;
       items = inv.items;
       first = one_more (g.F.Files.seen c.args.files.now).contents (app_of c.args.app.now) c.loop-task.builder c.take_source.new.builder k t inv.first inv.described at next;
-      seen = c.in-Ok.ensures.contents ∙ inv.contents;
+      contents = c.in-Ok.ensures.contents ∙ inv.contents;
       later = omega (arith, inv.later, c.in-Ok.ensures.later);
       puts = c.in-Ok.ensures.puts ∙ inv.puts;
     }

@@ -10,7 +10,7 @@ invariant-loop-task g l = record {
   described : described l.builder ≡ app_of l.app;
   items : map task_of l.task-items ≡ (app_of l.app).tasks;
   first : HasFirst (g.F.Files.seen l.fn.files).contents (app_of l.app) l.builder l.task-index;
-  seen : (g.F.Files.seen l.files).contents ≡ (g.F.Files.seen l.fn.files).contents;
+  contents : (g.F.Files.seen l.files).contents ≡ (g.F.Files.seen l.fn.files).contents;
   later : (g.F.Files.seen l.fn.files).read_faults ≤ (g.F.Files.seen l.files).read_faults;
   puts : (g.F.Files.seen l.files).put_faults ≡ (g.F.Files.seen l.fn.files).put_faults;
 }
