@@ -204,13 +204,11 @@ fn quiet_turns_are_made_up_to_the_limit(rt: HostRuntime) -> Result<(), Fail> {
 }
 
 #[test]
-fn quiet_turns_end_before_an_event(rt: HostRuntime) -> Result<(), Fail> {
+fn quiet_turns_end_with_an_event(rt: HostRuntime) -> Result<(), Fail> {
     let mut board = with_script(&rt, rt.alloc(), 0x2001, 0xe7fe, b"at 7 tick\n")?;
     advance(&mut board, Level::Brief, 100);
-    assert_eq!(rt; board.turns(), 7);
-    assert_eq!(rt; board.now(), 0);
-    advance(&mut board, Level::Brief, 200);
     assert_eq!(rt; board.turns(), 8);
+    assert_eq!(rt; board.now(), 1);
     assert_eq!(rt; board.notes().get(0).copied(), Some(Note::Tick { now: 1 }));
     Ok(())
 }
