@@ -1,16 +1,16 @@
 -- Several turns on end, of which only the last may note anything.
 use Rattle.words_core.specs.Regs.{stack_pointer, program_counter}
-use Rattle.std.specs.Prelude.{ℕ, ◌≡◌, ◌≢◌, ◌⊎◌, ◌<◌, [], None}
+use Rattle.std.specs.Prelude.{ℕ, ◌≡◌, ◌≢◌, ◌⊎◌, ◌<◌, ◌-◌, [], None, Some, true, false}
 use Rattle.task_table.specs.State.{State}
-use Rattle.task_table.specs.Reading.{register}
-use Rattle.run_script.specs.Scripts.{events_of}
+use Rattle.task_table.specs.Reading.{register, chosen}
+use Rattle.run_script.specs.Scripts.{events_of, lasts}
 use Rattle.board_core.specs.declared.board.Board.{Board}
 use Rattle.board_model.specs.declared.outcomes.Level.{Level}
 use Rattle.board_model.specs.declared.outcomes.Level.TheVariants.{Brief}
 use Rattle.board_model.specs.Script.{Scenario}
 use Rattle.board_model.specs.Run.{ending, turn_after, state_after}
 use Rattle.window_laws.specs.Windowed.{MustStop}
-use Rattle.board_core.specs.Stands.{Stands, notes_of}
+use Rattle.board_core.specs.Stands.{Stands, notes_of, turns_of}
 
 -- the board stands for the state after n turns and one more, and tells the notes of that one: the n
 -- turns noted nothing, and none of them ended the run
@@ -31,10 +31,41 @@ pub record HasGlidden (x : Scenario) (s : State) (n : ℕ) (b : Board) : Type 0 
 abbrev pub IsStopped : Scenario → State → Type 0
 IsStopped x s = (events_of x.script s.turn ≢ []) ⊎ (ending x 1 s ≢ None)
 
--- the task that runs from a state goes no further the fast way than to another one
-abbrev pub IsFar : Scenario → State → State → Type 0
-IsFar x s u = MustStop x.setup s.current (register s s.current program_counter) (register s s.current stack_pointer) u
+-- a task that runs from a state goes no further the fast way than to another one
+abbrev pub IsFar : Scenario → ℕ → State → State → Type 0
+IsFar x c s u = MustStop x.setup c (register s c program_counter) (register s c stack_pointer) u
 
--- its turn there is a whole one: something happens in it, or the fast way ends
+-- the state that a board has come to from another one, and that before its last turn
+abbrev pub state_now : Scenario → Board → State → Board → State
+state_now x old s new = state_after Brief x (turns_of new - turns_of old) s
+
+abbrev pub state_before : Scenario → Board → State → Board → State
+state_before x old s new = state_after Brief x (turns_of new - turns_of old - 1) s
+
+-- the next turn of the task that ran from a state is a whole one: something happens in it, or the fast way ends
 abbrev pub NeedsTurn : Scenario → State → State → Type 0
-NeedsTurn x s u = (events_of x.script u.turn ≢ []) ⊎ IsFar x s u
+NeedsTurn x s u = (events_of x.script u.turn ≢ []) ⊎ IsFar x s.current s u
+
+-- of the task that ran last, where it is chosen: it went on to turn `until`, or as far as the fast way goes
+abbrev pub WentFar : ℕ → Board → Board → Type 0
+WentFar until old new =
+    (x : Scenario) (s : State) → Stands x old s → chosen x.setup s ≡ Some s.current → old.choice.down ≡ false →
+    turns_of new < until → IsFar x s.current s (state_now x old s new)
+
+-- the same of a task that is known to be the one
+abbrev pub WentFarOn : ℕ → ℕ → Board → Board → Type 0
+WentFarOn task until old new =
+    (x : Scenario) (s : State) → Stands x old s → s.current ≡ task →
+    turns_of new < until → IsFar x task s (state_now x old s new)
+
+-- the last turn had to be a whole one
+abbrev pub NeededTurn : ℕ → Board → Board → Type 0
+NeededTurn limit old new =
+    (x : Scenario) (s : State) → Stands x old s → chosen x.setup s ≡ Some s.current → old.choice.down ≡ false →
+    turns_of new < limit → NeedsTurn x s (state_before x old s new)
+
+-- where no task is ready, the last turn is the one in which something happened
+abbrev pub WaitedFor : ℕ → Board → Board → Type 0
+WaitedFor limit old new =
+    (x : Scenario) (s : State) → Stands x old s → chosen x.setup s ≡ None → old.choice.down ≡ false →
+    lasts x.script limit ≡ true → turns_of new < limit → events_of x.script (state_before x old s new).turn ≢ []

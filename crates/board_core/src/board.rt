@@ -1,13 +1,12 @@
 //! The board and one turn of it.
-ghost use Rattle.words_core.specs.Regs.{stack_pointer, program_counter};
 ghost use Rattle.std.specs.Prelude.{ℕ, ◌≡◌, ◌≢◌, ◌<◌, ◌≤◌, ◌+◌, ◌-◌, ◌*◌, ◌&&◌, not, [], Option, Some, None, length, true, false, IfOk};
 ghost use Rattle.image_format.specs.Images.{picture};
 ghost use Rattle.task_table.specs.State.{Setup, State, Turn};
-ghost use Rattle.task_table.specs.Reading.{chosen, register};
+ghost use Rattle.task_table.specs.Reading.{chosen};
 ghost use Rattle.task_table.specs.Start.{start};
 ghost use Rattle.task_table.specs.Limits.{syscall_notes, turn_notes};
 ghost use Rattle.run_script.specs.Events.{script_data};
-ghost use Rattle.run_script.specs.Scripts.{events_of, lasts};
+ghost use Rattle.run_script.specs.Scripts.{lasts};
 ghost use Rattle.board_model.specs.declared.outcomes.Level.TheVariants.{All, Brief};
 ghost use Rattle.board_model.specs.Script.{Scenario};
 ghost use Rattle.board_model.specs.Turn.{turn, turned};
@@ -18,8 +17,7 @@ ghost use Rattle.board_core.specs.Opened.{scenario_of, setup_of};
 ghost use Rattle.board_core.specs.Stands.{Stands, Stood, notes_of, turns_of};
 ghost use Rattle.board_core.specs.Machine.{MachineHolds, MachineStands};
 ghost use Rattle.board_core.specs.Kept.{IsChoice, WasChoice};
-ghost use Rattle.window_laws.specs.Windowed.{MustStop};
-ghost use Rattle.board_core.specs.Advanced.{IsAdvanced, IsStopped, HasGlidden, IsFar, NeedsTurn};
+ghost use Rattle.board_core.specs.Advanced.{IsAdvanced, IsStopped, HasGlidden, WentFar, WentFarOn, NeededTurn, WaitedFor};
 ghost use Rattle.board_core.specs.Skipped.{IsIdleUntil};
 ghost use Rattle.board_core.specs.Midway.{IsDue, IsMidway};
 
@@ -155,8 +153,8 @@ impl Board {
         ensures noted { length (notes_of self.new) ≤ turn_notes }
 
         // The whole turn is one that the fast way does not make.
-        ensures needed { (x : Scenario) (s : State) → Stands x self.old s → chosen x.setup s ≡ Some s.current → self.old.choice.down ≡ false → turns_of self.new < limit → NeedsTurn x s (state_after Brief x (turns_of self.new - turns_of self.old - 1) s) }
-        ensures idle { (x : Scenario) (s : State) → Stands x self.old s → chosen x.setup s ≡ None → self.old.choice.down ≡ false → lasts x.script limit ≡ true → turns_of self.new < limit → events_of x.script (state_after Brief x (turns_of self.new - turns_of self.old - 1) s).turn ≢ [] }
+        ensures needed { NeededTurn limit self.old self.new }
+        ensures idle { WaitedFor limit self.old self.new }
     {
         self.glide(quiet_until(self.due, limit));
         if self.turns < limit {
@@ -177,7 +175,7 @@ impl Board {
         ensures stays { until ≤ turns_of self.old → self.new ≡ self.old }
 
         // It stops before only where the next instruction is a system call, faults or reaches beyond the window, or where there is none.
-        ensures far { (x : Scenario) (s : State) → Stands x self.old s → chosen x.setup s ≡ Some s.current → self.old.choice.down ≡ false → turns_of self.new < until → IsFar x s (state_after Brief x (turns_of self.new - turns_of self.old) s) }
+        ensures far { WentFar until self.old self.new }
         ensures idle { (x : Scenario) (s : State) → Stands x self.old s → chosen x.setup s ≡ None → self.old.choice.down ≡ false → lasts x.script until ≡ true → until ≤ turns_of self.new }
     {
         if self.turns >= until || self.choice.down {
@@ -200,7 +198,7 @@ impl Board {
         ensures glided { (x : Scenario) (s : State) → Stands x self.old s → HasGlidden x s (turns_of self.new - turns_of self.old) self.new }
         ensures more { turns_of self.old ≤ turns_of self.new }
         ensures within { turns_of self.new ≤ until }
-        ensures far { (x : Scenario) (s : State) → Stands x self.old s → s.current ≡ task → turns_of self.new < until → MustStop x.setup task (register s task program_counter) (register s task stack_pointer) (state_after Brief x (turns_of self.new - turns_of self.old) s) }
+        ensures far { WentFarOn task until self.old self.new }
     {
         if self.machine.reload_context(task) {
             self.machine.begin();

@@ -1,16 +1,13 @@
 -- The first turns of the five tasks with each instruction noted, by computing; the lines come from another program.
-use Rattle.std.proofs.Common.{◌≡◌, ℕ, true, false, List, [], ◌∷◌, ◌++◌, Some, refl}
-use Rattle.std.specs.Prelude.{replicate}
+use Rattle.std.proofs.Common.{◌≡◌, ℕ, true, false, List, [], ◌∷◌, refl}
 use Rattle.kernel_abi.specs.declared.Handled.TheVariants as handled
 use Rattle.kernel_abi.specs.declared.Listened.TheVariants as listened
 use Rattle.kernel_abi.specs.declared.Note.{Note}
 use Rattle.kernel_abi.specs.declared.Note.TheVariants as note
 use Rattle.region_check.specs.Rights.{first_bad}
-use Rattle.run_script.specs.declared.events.Event.TheVariants.{Tick, Irq}
 use Rattle.thumb_insn.specs.Table.{rows, narrow_of, wide_rows, wide_of}
 use Rattle.thumb_exec.specs.Effect.{words, transfers, first_refused, stores_of, loaded_all, ones, count, effect}
 use Rattle.mem_banks.specs.Memory.{bytes_at, with_bytes, copied as copied_memory}
-use Rattle.task_table.specs.State.{Setup}
 use Rattle.task_table.specs.Reading.{task_at, line_at, register, arguments, call_of, listen_of, dead_code_for, is_out, is_dead, is_ready, bad_byte, chosen, offer_by, best_sender}
 use Rattle.task_table.specs.Effects.{with_task, without_call, without_listen, with_listen, with_taken, noted, with_processor, with_health, stored, copied, looked, given, returned, past_syscall, bits_added, bits_cleared, woken, posted, with_timer, clocked, with_line, closed, faulted_as, handed}
 use Rattle.task_table.specs.Events.{ticked, owner_of, interrupted}
@@ -19,36 +16,9 @@ use Rattle.task_table.specs.Syscalls.{syscall_made}
 use Rattle.task_table.specs.Start.{start, begun}
 use Rattle.board_model.specs.declared.outcomes.End.TheVariants.{Bound}
 use Rattle.board_model.specs.declared.outcomes.Level.TheVariants.{All}
-use Rattle.board_model.specs.Script.{Scenario}
 use Rattle.board_model.specs.Run.{Run, run, ending}
 use Rattle.board_model.specs.Turn.{after_events, stepped, with_registers_noted, ended, turn}
-
-setup : Setup
-setup = record {
-  tasks =
-      record { priority = 0; entry = 134217729; stack = 536870976; start = true; regions = record { base = 134217728; size = 256; rights = record { read = true; write = false; execute = true; device = false } } ∷ record { base = 536870912; size = 256; rights = record { read = true; write = true; execute = false; device = false } } ∷ [] } ∷
-      record { priority = 1; entry = 134217985; stack = 536871232; start = true; regions = record { base = 134217984; size = 256; rights = record { read = true; write = false; execute = true; device = false } } ∷ record { base = 536871168; size = 256; rights = record { read = true; write = true; execute = false; device = false } } ∷ [] } ∷
-      record { priority = 2; entry = 134218241; stack = 536871488; start = true; regions = record { base = 134218240; size = 256; rights = record { read = true; write = false; execute = true; device = false } } ∷ record { base = 536871424; size = 256; rights = record { read = true; write = true; execute = false; device = false } } ∷ [] } ∷
-      record { priority = 2; entry = 134218497; stack = 536871744; start = true; regions = record { base = 134218496; size = 256; rights = record { read = true; write = false; execute = true; device = false } } ∷ record { base = 536871680; size = 256; rights = record { read = true; write = true; execute = false; device = false } } ∷ [] } ∷
-      record { priority = 3; entry = 134218753; stack = 536872000; start = true; regions = record { base = 134218752; size = 256; rights = record { read = true; write = false; execute = true; device = false } } ∷ record { base = 536871936; size = 256; rights = record { read = true; write = true; execute = false; device = false } } ∷ [] } ∷
-      [];
-  lines = record { line = 7; owner = 2; bits = 1 } ∷ [];
-  fault_bits = 1;
-  ram = 1280;
-  line_count = 32;
-  flash =
-      (0 ∷ 36 ∷ 0 ∷ 37 ∷ 1 ∷ 38 ∷ 0 ∷ 39 ∷ 1 ∷ 32 ∷ 131 ∷ 70 ∷ 0 ∷ 223 ∷ 247 ∷ 231 ∷ []) ++ replicate 240 0 ++
-      (0 ∷ 35 ∷ 9 ∷ 32 ∷ 131 ∷ 70 ∷ 0 ∷ 223 ∷ 165 ∷ 28 ∷ 0 ∷ 38 ∷ 1 ∷ 36 ∷ 2 ∷ 39 ∷ 3 ∷ 32 ∷ 131 ∷ 70 ∷ 0 ∷ 223 ∷ 0 ∷ 36 ∷ 0 ∷ 37 ∷ 2 ∷ 38 ∷ 0 ∷ 39 ∷ 1 ∷ 32 ∷ 131 ∷ 70 ∷ 0 ∷ 223 ∷ 1 ∷ 51 ∷ 236 ∷ 231 ∷ []) ++ replicate 216 0 ++
-      (1 ∷ 36 ∷ 1 ∷ 37 ∷ 7 ∷ 32 ∷ 131 ∷ 70 ∷ 0 ∷ 223 ∷ 108 ∷ 70 ∷ 8 ∷ 37 ∷ 1 ∷ 38 ∷ 1 ∷ 39 ∷ 255 ∷ 7 ∷ 4 ∷ 55 ∷ 1 ∷ 32 ∷ 131 ∷ 70 ∷ 0 ∷ 223 ∷ 240 ∷ 231 ∷ []) ++ replicate 226 0 ++
-      (0 ∷ 35 ∷ 110 ∷ 70 ∷ 8 ∷ 62 ∷ 51 ∷ 96 ∷ 1 ∷ 51 ∷ 4 ∷ 43 ∷ 251 ∷ 209 ∷ 72 ∷ 181 ∷ 72 ∷ 188 ∷ 1 ∷ 176 ∷ 1 ∷ 36 ∷ 0 ∷ 37 ∷ 4 ∷ 39 ∷ 0 ∷ 38 ∷ 3 ∷ 32 ∷ 131 ∷ 70 ∷ 0 ∷ 223 ∷ 0 ∷ 36 ∷ 4 ∷ 38 ∷ 0 ∷ 39 ∷ 1 ∷ 32 ∷ 131 ∷ 70 ∷ 0 ∷ 223 ∷ 6 ∷ 38 ∷ 231 ∷ 67 ∷ 0 ∷ 37 ∷ 0 ∷ 223 ∷ 3 ∷ 222 ∷ []) ++ replicate 200 0 ++
-      (40 ∷ 35 ∷ 1 ∷ 59 ∷ 253 ∷ 209 ∷ 88 ∷ 104 ∷ []) ++ replicate 248 0;
-}
-
-scenario : Scenario
-scenario = record {
-  setup = setup;
-  script = record { every = Some 30; events = (5, Irq 7) ∷ (90, Irq 7) ∷ (90, Irq 7) ∷ (91, Tick) ∷ (150, Irq 8) ∷ (171, Irq 7) ∷ [] };
-}
+use Rattle.board_model.proofs.FiveTasks.{setup, scenario}
 
 expected : List (ℕ × Note)
 expected =

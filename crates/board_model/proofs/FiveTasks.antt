@@ -23,7 +23,7 @@ use Rattle.board_model.specs.Script.{Scenario}
 use Rattle.board_model.specs.Run.{Run, run, ending}
 use Rattle.board_model.specs.Turn.{after_events, stepped, with_registers_noted, ended, turn}
 
-setup : Setup
+unfoldable pub setup : Setup
 setup = record {
   tasks =
       record { priority = 0; entry = 134217729; stack = 536870976; start = true; regions = record { base = 134217728; size = 256; rights = record { read = true; write = false; execute = true; device = false } } ∷ record { base = 536870912; size = 256; rights = record { read = true; write = true; execute = false; device = false } } ∷ [] } ∷
@@ -44,7 +44,7 @@ setup = record {
       (40 ∷ 35 ∷ 1 ∷ 59 ∷ 253 ∷ 209 ∷ 88 ∷ 104 ∷ []) ++ replicate 248 0;
 }
 
-scenario : Scenario
+unfoldable pub scenario : Scenario
 scenario = record {
   setup = setup;
   script = record { every = Some 30; events = (5, Irq 7) ∷ (90, Irq 7) ∷ (90, Irq 7) ∷ (91, Tick) ∷ (150, Irq 8) ∷ (171, Irq 7) ∷ [] };

@@ -1,5 +1,6 @@
 -- Borrows as the code carries them, and when one leaves the entry of its lease kept.
-use Rattle.kernel_abi.specs.Arguments.{r4}
+use Rattle.kernel_abi.specs.Arguments.{r4, borrow_args, info_args}
+use Rattle.kernel_abi.specs.Ids.{index_of}
 use Rattle.std.specs.Prelude.{ℕ, ◌≡◌, ◌+◌, ◌*◌, ◌<◌, ◌≤◌, ◌⊎◌, true, false, not, List, [], ◌∷◌, None, Some, Result, Ok, Err, is_some, Contains, ◌==◌, nat_lt, nat_le, bit_and}
 use Rattle.kernel_abi.specs.Faults.{usage_number, access_number}
 use Rattle.kernel_abi.specs.declared.LeaseEntry.{LeaseEntry}
@@ -9,11 +10,11 @@ use Rattle.kernel_abi.specs.declared.arguments.BorrowArgs.{BorrowArgs}
 use Rattle.region_check.specs.declared.Right.TheVariants.{Read}
 use Rattle.mem_banks.specs.Memory.{Memory, IsWithin, IsWithinRam}
 use Rattle.task_table.specs.State.{Setup, State, Call, Write, Turn}
-use Rattle.task_table.specs.Reading.{register, is_ready, is_valid, bad_byte, taken_by}
+use Rattle.task_table.specs.Reading.{register, arguments, is_ready, is_valid, bad_byte, taken_by}
 use Rattle.task_table.specs.Entries.{kept_at, IsKeptFor, entry_at}
 use Rattle.task_table.specs.Effects.{◌⨾◌, noted}
 use Rattle.task_table.specs.Rows.{first_row, misused, denied, goes_on_with}
-use Rattle.task_table.specs.Borrows.{Way as Needs, reading, writing, entry_range, grant, lease_range, buffer_of, part_of, lent}
+use Rattle.task_table.specs.Borrows.{Way as Needs, reading, writing, entry_range, grant, lease_range, buffer_of, part_of, lent, borrowed, informed}
 use Rattle.task_table.specs.Holds.{entries_of}
 use Rattle.task_table.specs.declared.entry.KeptEntry.{KeptEntry}
 use Rattle.task_table.specs.declared.kernel.Kernel.{Kernel}
@@ -84,6 +85,19 @@ abbrev pub KeepsEntry : Kernel → ℕ → State → Turn → List Write → ℕ
 KeepsEntry k borrower s u writes lender lease =
     (c : Call) → taken_by s lender borrower ≡ Some c → WentWell borrower u → WritesNone writes (c.table + 12 * lease) 12 → IsHeldAfter k s c lease
 
+-- so does a BORROW_READ or BORROW_WRITE
+abbrev pub KeepsBorrowed : Setup → Needs → ℕ → Turn → Kernel → Type 0
+KeepsBorrowed g way caller t k =
+    let x = borrow_args (arguments t.state caller) in
+    let u = borrowed g way caller t in
+    KeepsEntry k caller t.state u u.writes (index_of x.lender.number) x.lease
+
+-- and a BORROW_INFO, which writes nothing
+abbrev pub KeepsInformed : Setup → ℕ → Turn → Kernel → Type 0
+KeepsInformed g caller t k =
+    let x = info_args (arguments t.state caller) in
+    KeepsEntry k caller t.state (informed g caller t) [] (index_of x.lender.number) x.lease
+
 -- ## the same, as the code goes on: which tests it passed, and where it writes
 
 -- the lease is one of the call, and the lender may read its entry
@@ -108,6 +122,14 @@ target way.Write leased own = leased
 -- none of n bytes from an address on is one of the entry that begins at another
 abbrev pub IsClear : ℕ → ℕ → ℕ → Type 0
 IsClear base a n = (b : ℕ) → a ≤ b → b < a + n → (b < base) ⊎ (base + 12 ≤ b)
+
+-- a loan that is granted and writes no byte of its lease's entry leaves the entry kept
+abbrev pub HoldsGranted : Setup → Loan → Call → State → Kernel → Type 0
+HoldsGranted g x c s k =
+    let lease = x.args.lease in
+    let e = grant s c lease in
+    let part = part_of x.args e in
+    IsGranted g x e → IsClear (c.table + 12 * lease) (target x.way part.base x.args.buffer_base) part.length → IsHeldAfter k s c lease
 
 -- entries stay kept but for those that a loan of n bytes of the lease from an address on writes
 abbrev pub StayKept : Kernel → Loan → ℕ → ℕ → Kernel → Type 0

@@ -2,9 +2,7 @@
 //! Borrows of what a client has leased to its server: the system calls BORROW_READ, BORROW_WRITE and
 //! BORROW_INFO (Hubris Reference, on leases).
 
-ghost use Rattle.std.specs.Prelude.{◌≡◌, ◌+◌, ◌*◌, ◌<◌, ◌≤◌, ◌^◌, ℕ, [], true, None, Some, IfOk};
-ghost use Rattle.kernel_abi.specs.Arguments.{borrow_args, info_args};
-ghost use Rattle.kernel_abi.specs.Ids.{index_of};
+ghost use Rattle.std.specs.Prelude.{◌≡◌, ◌+◌, ◌*◌, ◌<◌, ◌≤◌, ◌^◌, ℕ, true, None, Some, IfOk};
 ghost use Rattle.kernel_abi.specs.declared.Note.TheVariants as note;
 ghost use Rattle.task_table.specs.State.{Setup, Turn, Call};
 ghost use Rattle.task_table.specs.Reading.{arguments, is_valid, is_ready, bad_byte};
@@ -15,7 +13,7 @@ ghost use Rattle.task_table.specs.Entries.{IsKeptFor};
 ghost use Rattle.task_table.specs.Messages.{IsLent};
 ghost use Rattle.task_table.specs.Limits.{syscall_notes, turn_notes};
 ghost use Rattle.task_table.specs.Frames.{AddsNotes, AddsAtMost};
-ghost use Rattle.lease_core.specs.Loans.{way_of, IsBuffer, IsLeased, IsLoanOf, IsEntry, IsEntryAt, buffered, lent_answered, KeepsEntry, IsHeldAfter, IsEntryRead, IsGranted, target, IsClear, StayKept};
+ghost use Rattle.lease_core.specs.Loans.{way_of, IsBuffer, IsLeased, IsLoanOf, IsEntry, IsEntryAt, buffered, lent_answered, KeepsBorrowed, KeepsInformed, IsHeldAfter, IsEntryRead, HoldsGranted, IsGranted, StayKept};
 
 mod way;
 
@@ -241,7 +239,7 @@ fn borrow_from(k: &mut Kernel, loan: &Loan, call: &OpenCall)
     requires fits { call.now.table + 12 * call.now.leases ≤ 2 ^ 32 }
     requires lent { (borrower : ℕ) × IsLent k.old loan.now.lender borrower call.now }
     ensures holds { let x = loan.now in (g : Setup) (t : Turn) (c : Call) → Holds g k.old t → kept_call c ≡ call.now → IsLoanOf x c → Holds g k.new (borrowed_by g (way_of x.way) x.borrower x.args (Some c) t) }
-    ensures held { let x = loan.now in (g : Setup) (t : Turn) (c : Call) → Holds g k.old t → kept_call c ≡ call.now → IsLoanOf x c → IsEntryRead g x.lender c x.args.lease → (let e = grant t.state c x.args.lease in let part = part_of x.args e in IsGranted g x e → IsClear (c.table + 12 * x.args.lease) (target x.way part.base x.args.buffer_base) part.length → IsHeldAfter k.new t.state c x.args.lease) }
+    ensures held { let x = loan.now in (g : Setup) (t : Turn) (c : Call) → Holds g k.old t → kept_call c ≡ call.now → IsLoanOf x c → IsEntryRead g x.lender c x.args.lease → HoldsGranted g x c t.state k.new }
     ensures frame { AddsAtMost k.old 5 k.new }
 {
     let lease = loan.args.lease;
@@ -263,7 +261,7 @@ fn borrow(k: &mut Kernel, caller: usize, way: Way)
     requires room { note_count k.old + syscall_notes ≤ turn_notes }
     requires stood { Stood k.old }
     ensures holds { (g : Setup) (t : Turn) → Stands g k.old t → Holds g k.new (borrowed g (way_of way) caller t) }
-    ensures held { (g : Setup) (t : Turn) → let x = borrow_args (arguments t.state caller) in let u = borrowed g (way_of way) caller t in Stands g k.old t → KeepsEntry k.new caller t.state u u.writes (index_of x.lender.number) x.lease }
+    ensures held { (g : Setup) (t : Turn) → Stands g k.old t → KeepsBorrowed g (way_of way) caller t k.new }
     ensures frame { AddsAtMost k.old syscall_notes k.new }
 {
     let args = BorrowArgs::of(&k.arguments(caller));
@@ -355,7 +353,7 @@ fn inform(k: &mut Kernel, caller: usize)
     requires room { note_count k.old + syscall_notes ≤ turn_notes }
     requires stood { Stood k.old }
     ensures holds { (g : Setup) (t : Turn) → Stands g k.old t → Holds g k.new (informed g caller t) }
-    ensures held { (g : Setup) (t : Turn) → let x = info_args (arguments t.state caller) in Stands g k.old t → KeepsEntry k.new caller t.state (informed g caller t) [] (index_of x.lender.number) x.lease }
+    ensures held { (g : Setup) (t : Turn) → Stands g k.old t → KeepsInformed g caller t k.new }
     ensures frame { AddsAtMost k.old syscall_notes k.new }
 {
     let args = InfoArgs::of(&k.arguments(caller));
@@ -379,7 +377,7 @@ pub fn borrow_read(k: &mut Kernel, caller: usize)
     requires ready { (g : Setup) × (t : Turn) × Stands g k.old t × (is_ready t.state caller ≡ true) }
     requires room { note_count k.old + syscall_notes ≤ turn_notes }
     ensures stands { (g : Setup) (t : Turn) → Stands g k.old t → is_ready t.state caller ≡ true → Stands g k.new (borrowed g reading caller t) }
-    ensures held { (g : Setup) (t : Turn) → let x = borrow_args (arguments t.state caller) in let u = borrowed g reading caller t in Stands g k.old t → is_ready t.state caller ≡ true → KeepsEntry k.new caller t.state u u.writes (index_of x.lender.number) x.lease }
+    ensures held { (g : Setup) (t : Turn) → Stands g k.old t → is_ready t.state caller ≡ true → KeepsBorrowed g reading caller t k.new }
     ensures frame { AddsAtMost k.old syscall_notes k.new }
 {
     borrow(k, caller, Way::Read);
@@ -392,7 +390,7 @@ pub fn borrow_write(k: &mut Kernel, caller: usize)
     requires ready { (g : Setup) × (t : Turn) × Stands g k.old t × (is_ready t.state caller ≡ true) }
     requires room { note_count k.old + syscall_notes ≤ turn_notes }
     ensures stands { (g : Setup) (t : Turn) → Stands g k.old t → is_ready t.state caller ≡ true → Stands g k.new (borrowed g writing caller t) }
-    ensures held { (g : Setup) (t : Turn) → let x = borrow_args (arguments t.state caller) in let u = borrowed g writing caller t in Stands g k.old t → is_ready t.state caller ≡ true → KeepsEntry k.new caller t.state u u.writes (index_of x.lender.number) x.lease }
+    ensures held { (g : Setup) (t : Turn) → Stands g k.old t → is_ready t.state caller ≡ true → KeepsBorrowed g writing caller t k.new }
     ensures frame { AddsAtMost k.old syscall_notes k.new }
 {
     borrow(k, caller, Way::Write);
@@ -407,7 +405,7 @@ pub fn borrow_info(k: &mut Kernel, caller: usize)
     requires ready { (g : Setup) × (t : Turn) × Stands g k.old t × (is_ready t.state caller ≡ true) }
     requires room { note_count k.old + syscall_notes ≤ turn_notes }
     ensures stands { (g : Setup) (t : Turn) → Stands g k.old t → is_ready t.state caller ≡ true → Stands g k.new (informed g caller t) }
-    ensures held { (g : Setup) (t : Turn) → let x = info_args (arguments t.state caller) in Stands g k.old t → is_ready t.state caller ≡ true → KeepsEntry k.new caller t.state (informed g caller t) [] (index_of x.lender.number) x.lease }
+    ensures held { (g : Setup) (t : Turn) → Stands g k.old t → is_ready t.state caller ≡ true → KeepsInformed g caller t k.new }
     ensures frame { AddsAtMost k.old syscall_notes k.new }
 {
     inform(k, caller);

@@ -77,7 +77,7 @@ const TAKEN: [(&str, &[u8]); 24] = [
         ],
     ),
     (
-        "push {r2-r5, lr}\npop {r0, R7, pc}\npush {LR}\nstm r1!, {r1, r2}\nldm r1!, {r0, r2}\nldm r1, {r0-r2}\n",
+        "push {r2-r5, lr}\npop {r0, r7, PC}\npush {LR}\nstm r1!, {r1, r2}\nldm r1!, {r0, r2}\nldm r1, {r0-r2}\n",
         &[0x3C, 0xB5, 0x81, 0xBD, 0, 0xB5, 6, 0xC1, 5, 0xC9, 7, 0xC9],
     ),
     (
@@ -154,7 +154,7 @@ const REFUSED: [(&str, u8, usize); 86] = [
     ("push {}\n", 11, 1),
     (".space 1048576\n.byte 1\n", 12, 2),
     ("far: nop\n", 13, 1),
-    ("R0: nop\n", 13, 1),
+    ("SP: nop\n", 13, 1),
     ("\x01: frob\n", 1, 1),
     ("1a: frob\n", 2, 1),
     ("r0: frob\n", 13, 1),

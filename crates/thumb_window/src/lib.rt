@@ -47,8 +47,9 @@ fn has(base: u32, bytes: &[u8], addr: u32, n: u32) -> bool
     addr >= base && (addr - base) as usize + n as usize <= bytes.len()
 }
 
-/// The number that two bytes from a place on spell, the lowest first.
-#[inline(always)]
+/// The number that two bytes from a place on spell, the lowest first. The hint is not `always`: LLVM makes one load of it
+/// in the function itself, and no more once the decoder, which looks at the high byte alone, is around it.
+#[inline]
 fn half(bytes: &[u8], at: usize) -> u16
     requires { at + 2 ≤ length bytes.now }
     ensures { result ≡ number_of (take 2 (drop at bytes.now)) }

@@ -69,7 +69,7 @@ returns-then-self-limit-clause-needed c = λ x s st task up lt.
     let e : n ≡ turns_of b2 - turns_of b - 1 = omega (arith, c.glide.ensures.more, c.turn_at.ensures.turns) in
     let made = c.glide.ensures.glided x s st in
     subst (λ (k : ℕ). NeedsTurn x s (state_after Brief x k s)) e
-    (either_way (turns_of b1) until (IsFar x s u) (events_of x.script u.turn ≢ []) (λ less. c.glide.ensures.far x s st task up less)
+    (either_way (turns_of b1) until (IsFar x s.current s u) (events_of x.script u.turn ≢ []) (λ less. c.glide.ensures.far x s st task up less)
     (λ over. due_now x s u b.due (turns_of b) (turns_of b1) until c.args.limit st.holds.due c.quiet_until.ensures.met st.holds.turns made.stands.holds.turns c.glide.ensures.within over (omega (arith, c.if-self-limit.true))))
 
 pub returns-then-self-limit-clause-idle : goal.returns-then-self-limit-clause-idle
