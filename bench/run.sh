@@ -20,7 +20,7 @@ gcc -O2 -Wall -o out/loop loop.c
 gcc -O2 -Wall -o out/interpreter interpreter.c kernel.c processor.c text.c
 gcc -O2 -Wall -o out/measure measure.c
 data=../crates/hubris/data
-images=../crates/image_runs/data
+images=../crates/stored_runs/data
 : > out/empty.txt
 # each client of messages/ has a server of its own number
 for k in 1 2 3 4; do sed "s/task_server/&$k/" messages/client.s > "out/client$k.s"; done
@@ -81,6 +81,9 @@ done
 for image in $compiled; do
     for steps in 10000000 100000000; do play "$image (gcc, Cortex-M0)" "out/$image.img" out/empty.txt "$steps"; done
 done
+read -r once _ < <(measure "$program" run out/crc32.img out/empty.txt --steps 20000000)
+read -r fourfold _ < <(measure "$program" run out/crc32.img out/empty.txt --steps 80000000)
+awk -v a="$once" -v b="$fourfold" 'BEGIN { printf "%-28s %11d steps take %.2f times as long as a fourth of them\n", "crc32 (gcc, Cortex-M0)", 80000000, b / a }'
 for steps in 1000000 10000000; do play "32 tasks with timers" out/timers.img timers/script.txt "$steps"; done
 for steps in 1000000 10000000; do play "16 clients, 4 servers" out/messages.img out/empty.txt "$steps"; done
 play "16 clients, 4 servers, --all" out/messages.img out/empty.txt 1000000 --all
@@ -110,9 +113,9 @@ instructions() {
     awk -v what="$what" -v n=$((many - few)) -v most="$most" 'BEGIN { printf "%-28s %7.1f host instructions a turn, at most %d\n", what, n / 1e6, most; exit n / 1e6 > most }' || short=1
 }
 for image in $compiled; do instructions "$image" 66 "out/$image.img" out/empty.txt; done
-instructions "two instructions" 40 "$data/a.img" out/empty.txt
-instructions "32 tasks with timers" 410 out/timers.img timers/script.txt
+instructions "two instructions" 26 "$data/a.img" out/empty.txt
+instructions "32 tasks with timers" 400 out/timers.img timers/script.txt
 instructions "16 clients, 4 servers" 290 out/messages.img out/empty.txt
-instructions "8 lenders, 1 server" 300 out/leases.img out/empty.txt
-instructions "large sample" 190 sample/sample.img sample/script.txt
+instructions "8 lenders, 1 server" 280 out/leases.img out/empty.txt
+instructions "large sample" 180 sample/sample.img sample/script.txt
 exit $short

@@ -131,11 +131,11 @@ fn one_task_is_built(rt: HostRuntime) -> Result<(), Fail> {
     let app = App::read(rt.alloc(), ONE.as_bytes())?;
     let mut sources = Vec::new(rt.alloc());
     sources.push(LOOP.to_vec(rt.alloc())?)?;
-    assert_eq!(rt; app.tasks().len(), 1);
+    assert!(rt; app.tasks().len() == 1);
     let image = build(rt.alloc(), &app, sources.as_slice())?;
     let mut bytes = ONE_IMAGE.to_vec(rt.alloc())?;
     bytes.resize(312, 0)?;
-    assert_eq!(rt; image.write()?.as_slice(), bytes.as_slice());
+    assert!(rt; image.write()?.as_slice() == bytes.as_slice());
     Ok(())
 }
 
@@ -151,9 +151,9 @@ fn three_tasks_are_built_a_source_at_a_time(rt: HostRuntime) -> Result<(), Fail>
     builder.source(CLIENT)?;
     assert!(rt; builder.next() < app.tasks().len());
     builder.source(SERVER)?;
-    assert_eq!(rt; builder.next(), app.tasks().len());
+    assert!(rt; builder.next() == app.tasks().len());
     let bytes = builder.finish()?.write()?;
-    assert_eq!(rt; bytes.len(), 1204);
+    assert!(rt; bytes.len() == 1204);
     let mut wanted = THREE_IMAGE.to_vec(rt.alloc())?;
     wanted.resize(1204, 0)?;
     for (at, code) in &THREE_CODE {
@@ -163,7 +163,7 @@ fn three_tasks_are_built_a_source_at_a_time(rt: HostRuntime) -> Result<(), Fail>
             }
         }
     }
-    assert_eq!(rt; bytes.as_slice(), wanted.as_slice());
+    assert!(rt; bytes.as_slice() == wanted.as_slice());
     Ok(())
 }
 
@@ -175,9 +175,9 @@ fn a_refused_source_may_be_followed_by_another(rt: HostRuntime) -> Result<(), Fa
     assert!(rt; builder.source(b".space 257").is_err());
     assert!(rt; builder.next() < app.tasks().len());
     builder.source(LOOP)?;
-    assert_eq!(rt; builder.next(), app.tasks().len());
+    assert!(rt; builder.next() == app.tasks().len());
     let bytes = builder.finish()?.write()?;
-    assert_eq!(rt; bytes.as_slice().get(..60), Some(ONE_IMAGE.as_slice()));
+    assert!(rt; bytes.as_slice().get(..60) == Some(ONE_IMAGE.as_slice()));
     Ok(())
 }
 

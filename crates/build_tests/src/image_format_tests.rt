@@ -211,9 +211,8 @@ fn answer(alloc: Global, bytes: &[u8]) -> (u8, u32) {
 fn first_causes(rt: HostRuntime) -> Result<(), Fail> {
     for (len, changes, cause, place) in &ROWS {
         let bytes = file(rt.alloc(), &FRONT, *len, changes)?;
-        assert_eq!(rt;
-            answer(rt.alloc(), &bytes),
-            (*cause, *place),
+        assert!(rt;
+            answer(rt.alloc(), &bytes) == (*cause, *place),
             "{len} {changes:?}"
         );
     }
@@ -224,12 +223,12 @@ fn first_causes(rt: HostRuntime) -> Result<(), Fail> {
 fn an_image_read_and_written(rt: HostRuntime) -> Result<(), Fail> {
     let bytes = file(rt.alloc(), &FRONT, 300, &[(13, 1), (16, 6), (28, 4)])?;
     let image = Image::read(rt.alloc(), &bytes)?;
-    assert_eq!(rt; image.task_count(), 1);
+    assert!(rt; image.task_count() == 1);
     assert!(rt; 0 < image.task_count());
-    assert_eq!(rt; image.priority(0), 0);
+    assert!(rt; image.priority(0) == 0);
     assert!(rt; image.is_started(0));
-    assert_eq!(rt; image.entry(0), 0x0800_0001);
-    assert_eq!(rt; image.sp(0), 0x2000_0004);
+    assert!(rt; image.entry(0) == 0x0800_0001);
+    assert!(rt; image.sp(0) == 0x2000_0004);
     let rights = Rights {
         read: true,
         write: false,
@@ -241,15 +240,12 @@ fn an_image_read_and_written(rt: HostRuntime) -> Result<(), Fail> {
         size: 0x100,
         rights,
     };
-    assert_eq!(rt;
-        image.regions(rt.alloc(), 0)?.as_slice(),
-        [region].as_slice()
-    );
-    assert_eq!(rt; image.line_count(), 0);
-    assert_eq!(rt; image.fault_bits(), 6);
-    assert_eq!(rt; image.ram(), 256);
-    assert_eq!(rt; Some(image.flash()), bytes.get(44..));
-    assert_eq!(rt; image.write()?.as_slice(), bytes.as_slice());
+    assert!(rt; image.regions(rt.alloc(), 0)?.as_slice() == [region].as_slice());
+    assert!(rt; image.line_count() == 0);
+    assert!(rt; image.fault_bits() == 6);
+    assert!(rt; image.ram() == 256);
+    assert!(rt; Some(image.flash()) == bytes.get(44..));
+    assert!(rt; image.write()?.as_slice() == bytes.as_slice());
     Ok(())
 }
 
@@ -257,9 +253,8 @@ fn an_image_read_and_written(rt: HostRuntime) -> Result<(), Fail> {
 fn first_causes_at_later_records(rt: HostRuntime) -> Result<(), Fail> {
     for (len, changes, cause, place) in &THREE_ROWS {
         let bytes = file(rt.alloc(), &THREE, *len, changes)?;
-        assert_eq!(rt;
-            answer(rt.alloc(), &bytes),
-            (*cause, *place),
+        assert!(rt;
+            answer(rt.alloc(), &bytes) == (*cause, *place),
             "{len} {changes:?}"
         );
     }
@@ -270,14 +265,14 @@ fn first_causes_at_later_records(rt: HostRuntime) -> Result<(), Fail> {
 fn three_tasks_and_two_interrupts(rt: HostRuntime) -> Result<(), Fail> {
     let bytes = file(rt.alloc(), &THREE, 936, &[])?;
     let image = Image::read(rt.alloc(), &bytes)?;
-    assert_eq!(rt; image.task_count(), 3);
+    assert!(rt; image.task_count() == 3);
     assert!(rt; 2 < image.task_count());
-    assert_eq!(rt; image.priority(1), 2);
-    assert_eq!(rt; image.priority(2), 1);
+    assert!(rt; image.priority(1) == 2);
+    assert!(rt; image.priority(2) == 1);
     assert!(rt; image.is_started(1));
     assert!(rt; !image.is_started(2));
-    assert_eq!(rt; image.entry(2), 0x0800_0201);
-    assert_eq!(rt; image.sp(1), 0x2000_0140);
+    assert!(rt; image.entry(2) == 0x0800_0201);
+    assert!(rt; image.sp(1) == 0x2000_0140);
     let shared = Region {
         base: 0x2000_0300,
         size: 0x100,
@@ -289,13 +284,13 @@ fn three_tasks_and_two_interrupts(rt: HostRuntime) -> Result<(), Fail> {
         },
     };
     let own = image.regions(rt.alloc(), 2)?;
-    assert_eq!(rt; own.as_slice().get(2), Some(&shared));
-    assert_eq!(rt; image.line_count(), 2);
+    assert!(rt; own.as_slice().get(2) == Some(&shared));
+    assert!(rt; image.line_count() == 2);
     assert!(rt; 1 < image.line_count());
-    assert_eq!(rt; image.line(1), 30);
-    assert_eq!(rt; image.line_task(1), 2);
-    assert_eq!(rt; image.line_bits(1), 4);
-    assert_eq!(rt; image.write()?.as_slice(), bytes.as_slice());
+    assert!(rt; image.line(1) == 30);
+    assert!(rt; image.line_task(1) == 2);
+    assert!(rt; image.line_bits(1) == 4);
+    assert!(rt; image.write()?.as_slice() == bytes.as_slice());
     Ok(())
 }
 
@@ -331,9 +326,8 @@ fn at_most_32_tasks_and_32_interrupts(rt: HostRuntime) -> Result<(), Fail> {
     ];
     for (tasks, lines, cause, place) in &rows {
         let bytes = crowd(rt.alloc(), *tasks, *lines)?;
-        assert_eq!(rt;
-            answer(rt.alloc(), &bytes),
-            (*cause, *place),
+        assert!(rt;
+            answer(rt.alloc(), &bytes) == (*cause, *place),
             "{tasks} {lines}"
         );
     }

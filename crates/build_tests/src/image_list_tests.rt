@@ -51,9 +51,9 @@ fn list_of(alloc: Global, front: &[u8], len: usize) -> Result<String, ImageFault
 #[test]
 fn one_task(rt: HostRuntime) -> Result<(), Fail> {
     let text = list_of(rt.alloc(), &SMALL, 300)?;
-    assert_eq!(rt;
-        text.as_str(),
-        "{\"flash\":256,\"interrupts\":[],\"ram\":0,\"supervisor\":1,\"tasks\":[{\"entry\":134217729,\"priority\":0,\"regions\":[{\"base\":134217728,\"rights\":5,\"size\":256}],\"sp\":536870912,\"start\":1}]}"
+    assert!(rt;
+        text.as_str()
+            == "{\"flash\":256,\"interrupts\":[],\"ram\":0,\"supervisor\":1,\"tasks\":[{\"entry\":134217729,\"priority\":0,\"regions\":[{\"base\":134217728,\"rights\":5,\"size\":256}],\"sp\":536870912,\"start\":1}]}"
     );
     Ok(())
 }
@@ -61,9 +61,9 @@ fn one_task(rt: HostRuntime) -> Result<(), Fail> {
 #[test]
 fn three_regions(rt: HostRuntime) -> Result<(), Fail> {
     let text = list_of(rt.alloc(), &LARGE, 324)?;
-    assert_eq!(rt;
-        text.as_str(),
-        "{\"flash\":256,\"interrupts\":[],\"ram\":512,\"supervisor\":2147483649,\"tasks\":[{\"entry\":134217857,\"priority\":0,\"regions\":[{\"base\":134217728,\"rights\":5,\"size\":256},{\"base\":536871168,\"rights\":3,\"size\":256},{\"base\":1073741824,\"rights\":11,\"size\":1024}],\"sp\":536871424,\"start\":1}]}"
+    assert!(rt;
+        text.as_str()
+            == "{\"flash\":256,\"interrupts\":[],\"ram\":512,\"supervisor\":2147483649,\"tasks\":[{\"entry\":134217857,\"priority\":0,\"regions\":[{\"base\":134217728,\"rights\":5,\"size\":256},{\"base\":536871168,\"rights\":3,\"size\":256},{\"base\":1073741824,\"rights\":11,\"size\":1024}],\"sp\":536871424,\"start\":1}]}"
     );
     Ok(())
 }
@@ -71,9 +71,9 @@ fn three_regions(rt: HostRuntime) -> Result<(), Fail> {
 #[test]
 fn three_tasks_and_two_interrupts(rt: HostRuntime) -> Result<(), Fail> {
     let text = list_of(rt.alloc(), &THREE, 912)?;
-    assert_eq!(rt;
-        text.as_str(),
-        "{\"flash\":768,\"interrupts\":[{\"bits\":2,\"line\":3,\"task\":1},{\"bits\":4,\"line\":30,\"task\":2}],\"ram\":768,\"supervisor\":1,\"tasks\":[{\"entry\":134217729,\"priority\":0,\"regions\":[{\"base\":134217728,\"rights\":5,\"size\":256},{\"base\":536870912,\"rights\":3,\"size\":256}],\"sp\":536871040,\"start\":1},{\"entry\":134217985,\"priority\":2,\"regions\":[{\"base\":134217984,\"rights\":5,\"size\":256},{\"base\":536871168,\"rights\":3,\"size\":256}],\"sp\":536871232,\"start\":1},{\"entry\":134218241,\"priority\":1,\"regions\":[{\"base\":134218240,\"rights\":5,\"size\":256},{\"base\":536871424,\"rights\":3,\"size\":256}],\"sp\":536871488,\"start\":0}]}"
+    assert!(rt;
+        text.as_str()
+            == "{\"flash\":768,\"interrupts\":[{\"bits\":2,\"line\":3,\"task\":1},{\"bits\":4,\"line\":30,\"task\":2}],\"ram\":768,\"supervisor\":1,\"tasks\":[{\"entry\":134217729,\"priority\":0,\"regions\":[{\"base\":134217728,\"rights\":5,\"size\":256},{\"base\":536870912,\"rights\":3,\"size\":256}],\"sp\":536871040,\"start\":1},{\"entry\":134217985,\"priority\":2,\"regions\":[{\"base\":134217984,\"rights\":5,\"size\":256},{\"base\":536871168,\"rights\":3,\"size\":256}],\"sp\":536871232,\"start\":1},{\"entry\":134218241,\"priority\":1,\"regions\":[{\"base\":134218240,\"rights\":5,\"size\":256},{\"base\":536871424,\"rights\":3,\"size\":256}],\"sp\":536871488,\"start\":0}]}"
     );
     Ok(())
 }

@@ -34,7 +34,7 @@ pub(crate) fn answers(
     let words = words_of(alloc, words)?;
     let mut out = MemSink::open(alloc, 10000, failing_pushes)?;
     let found = hubris_main(alloc, &words, files, &mut out);
-    assert_eq!(rt; found, status, "{name}");
-    assert_eq!(rt; out.text(), text.as_bytes(), "{name}");
+    assert!(rt; found == status, "{name}");
+    assert!(rt; out.text() == text.as_bytes(), "{name}");
     Ok(())
 }

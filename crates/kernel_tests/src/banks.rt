@@ -107,14 +107,14 @@ fn a_copy_over_three_regions(rt: HostRuntime) -> Result<(), Fail> {
     let mut memory = open(rt.alloc(), &regions)?;
     fill(&mut memory);
     copy(&mut memory, 0xF0, 0x110, 300);
-    assert_eq!(rt; memory.byte(RAM + 0x110), 0xF0);
-    assert_eq!(rt; memory.byte(RAM + 0x23B), 0x1B);
-    assert_eq!(rt; memory.byte(RAM + 0x23C), 0x3C);
+    assert!(rt; memory.byte(RAM + 0x110) == 0xF0);
+    assert!(rt; memory.byte(RAM + 0x23B) == 0x1B);
+    assert!(rt; memory.byte(RAM + 0x23C) == 0x3C);
     fill(&mut memory);
     copy(&mut memory, 0x110, 0xF0, 300);
-    assert_eq!(rt; memory.byte(RAM + 0xF0), 0x10);
-    assert_eq!(rt; memory.byte(RAM + 0x21B), 0x3B);
-    assert_eq!(rt; memory.byte(RAM + 0x21C), 0x1C);
+    assert!(rt; memory.byte(RAM + 0xF0) == 0x10);
+    assert!(rt; memory.byte(RAM + 0x21B) == 0x3B);
+    assert!(rt; memory.byte(RAM + 0x21C) == 0x1C);
     Ok(())
 }
 

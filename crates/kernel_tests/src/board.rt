@@ -70,14 +70,14 @@ fn advance(board: &mut Board, level: Level, limit: u32)
 #[test]
 fn a_board_opens(rt: HostRuntime) -> Result<(), Fail> {
     let board = board(&rt, rt.alloc(), 0x2001, 0xe7fe)?;
-    assert_eq!(rt; board.turns(), 0);
-    assert_eq!(rt; board.ended(), None);
-    assert_eq!(rt; board.task_count(), 1);
-    assert_eq!(rt; board.next_call(), 1);
-    assert_eq!(rt; board.byte(0x0800_0001), Some(0x20));
-    assert_eq!(rt; board.byte(0x0800_0100), None);
-    assert_eq!(rt; board.irq_line(31), Some((false, false)));
-    assert_eq!(rt; board.irq_line(32), None);
+    assert!(rt; board.turns() == 0);
+    assert!(rt; board.ended() == None);
+    assert!(rt; board.task_count() == 1);
+    assert!(rt; board.next_call() == 1);
+    assert!(rt; board.byte(0x0800_0001) == Some(0x20));
+    assert!(rt; board.byte(0x0800_0100) == None);
+    assert!(rt; board.irq_line(31) == Some((false, false)));
+    assert!(rt; board.irq_line(32) == None);
     assert!(rt; board.region(0, 0).is_some());
     assert!(rt; board.region(0, 1).is_none());
     assert!(rt; board.task(1).is_none());
@@ -88,17 +88,17 @@ fn a_board_opens(rt: HostRuntime) -> Result<(), Fail> {
 fn a_turn_moves_the_task(rt: HostRuntime) -> Result<(), Fail> {
     let mut board = board(&rt, rt.alloc(), 0x2001, 0xe7fe)?;
     let turned = board.turn_at(Level::Brief);
-    assert_eq!(rt;
-        turned,
-        Turned::Ran {
-            task: 0,
-            at: 0x0800_0000
-        }
+    assert!(rt;
+        turned
+            == Turned::Ran {
+                task: 0,
+                at: 0x0800_0000
+            }
     );
     let task = board.task(0).expect(&rt, "there is a task");
-    assert_eq!(rt; task.registers[0], 1);
-    assert_eq!(rt; task.registers[15], 0x0800_0002);
-    assert_eq!(rt; board.notes().len(), 0);
+    assert!(rt; task.registers[0] == 1);
+    assert!(rt; task.registers[15] == 0x0800_0002);
+    assert!(rt; board.notes().len() == 0);
     Ok(())
 }
 
@@ -107,30 +107,30 @@ fn all_instructions_are_told_with_the_registers(rt: HostRuntime) -> Result<(), F
     let mut board = board(&rt, rt.alloc(), 0x2001, 0xe7fe)?;
     board.turn();
     let notes = board.notes();
-    assert_eq!(rt; notes.len(), 3);
-    assert_eq!(rt;
-        notes.get(0).copied(),
-        Some(Note::Insn {
-            task: 0,
-            at: 0x0800_0000,
-            code: 0x2001,
-        })
+    assert!(rt; notes.len() == 3);
+    assert!(rt;
+        notes.get(0).copied()
+            == Some(Note::Insn {
+                task: 0,
+                at: 0x0800_0000,
+                code: 0x2001,
+            })
     );
-    assert_eq!(rt;
-        notes.get(1).copied(),
-        Some(Note::Low {
-            registers: [1, 0, 0, 0, 0, 0, 0, 0],
-        })
+    assert!(rt;
+        notes.get(1).copied()
+            == Some(Note::Low {
+                registers: [1, 0, 0, 0, 0, 0, 0, 0],
+            })
     );
-    assert_eq!(rt;
-        notes.get(2).copied(),
-        Some(Note::High {
-            registers: [0, 0, 0, 0, 0, 0x2000_0000, 0xFFFF_FFFF, 0x0800_0002],
-            n: false,
-            z: false,
-            c: false,
-            v: false,
-        })
+    assert!(rt;
+        notes.get(2).copied()
+            == Some(Note::High {
+                registers: [0, 0, 0, 0, 0, 0x2000_0000, 0xFFFF_FFFF, 0x0800_0002],
+                n: false,
+                z: false,
+                c: false,
+                v: false,
+            })
     );
     Ok(())
 }
@@ -139,12 +139,12 @@ fn all_instructions_are_told_with_the_registers(rt: HostRuntime) -> Result<(), F
 fn an_illegal_instruction_is_noted(rt: HostRuntime) -> Result<(), Fail> {
     let mut board = board(&rt, rt.alloc(), 0xde00, 0)?;
     board.turn();
-    assert_eq!(rt; board.notes().len(), 3);
+    assert!(rt; board.notes().len() == 3);
     match board.notes()[0] {
         Note::Fault { task, fault } => {
-            assert_eq!(rt; task, 0);
-            assert_eq!(rt; fault.number, 1);
-            assert_eq!(rt; fault.x, 0x0800_0000);
+            assert!(rt; task == 0);
+            assert!(rt; fault.number == 1);
+            assert!(rt; fault.x == 0x0800_0000);
         }
         _ => assert!(rt; false),
     }
@@ -157,21 +157,21 @@ fn events_come_in_their_turn(rt: HostRuntime) -> Result<(), Fail> {
     let mut board = with_script(&rt, rt.alloc(), 0x2001, 0xe7fe, script)?;
     go_on(&mut board);
     go_on(&mut board);
-    assert_eq!(rt; board.notes().len(), 0);
-    assert_eq!(rt; board.now(), 0);
+    assert!(rt; board.notes().len() == 0);
+    assert!(rt; board.now() == 0);
     go_on(&mut board);
-    assert_eq!(rt; board.now(), 1);
+    assert!(rt; board.now() == 1);
     let notes = board.notes();
-    assert_eq!(rt; notes.len(), 2);
-    assert_eq!(rt; notes.get(0).copied(), Some(Note::Tick { now: 1 }));
+    assert!(rt; notes.len() == 2);
+    assert!(rt; notes.get(0).copied() == Some(Note::Tick { now: 1 }));
     let irq = Note::Irq {
         line: 7,
         handled: Handled::Unowned,
     };
-    assert_eq!(rt; notes.get(1).copied(), Some(irq));
+    assert!(rt; notes.get(1).copied() == Some(irq));
     go_on(&mut board);
-    assert_eq!(rt; board.notes().len(), 0);
-    assert_eq!(rt; board.now(), 1);
+    assert!(rt; board.notes().len() == 0);
+    assert!(rt; board.now() == 1);
     Ok(())
 }
 
@@ -180,14 +180,14 @@ fn a_tick_comes_every_second_turn(rt: HostRuntime) -> Result<(), Fail> {
     let mut board = with_script(&rt, rt.alloc(), 0xe7fe, 0, b"every 2 tick\n")?;
     go_on(&mut board);
     go_on(&mut board);
-    assert_eq!(rt; board.now(), 0);
+    assert!(rt; board.now() == 0);
     go_on(&mut board);
-    assert_eq!(rt; board.now(), 1);
+    assert!(rt; board.now() == 1);
     go_on(&mut board);
-    assert_eq!(rt; board.now(), 1);
+    assert!(rt; board.now() == 1);
     go_on(&mut board);
-    assert_eq!(rt; board.now(), 2);
-    assert_eq!(rt; board.turns(), 5);
+    assert!(rt; board.now() == 2);
+    assert!(rt; board.turns() == 5);
     Ok(())
 }
 
@@ -195,11 +195,11 @@ fn a_tick_comes_every_second_turn(rt: HostRuntime) -> Result<(), Fail> {
 fn quiet_turns_are_made_up_to_the_limit(rt: HostRuntime) -> Result<(), Fail> {
     let mut board = board(&rt, rt.alloc(), 0x2001, 0xe7fe)?;
     advance(&mut board, Level::Brief, 100);
-    assert_eq!(rt; board.turns(), 100);
-    assert_eq!(rt; board.notes().len(), 0);
+    assert!(rt; board.turns() == 100);
+    assert!(rt; board.notes().len() == 0);
     let task = board.task(0).expect(&rt, "there is a task");
-    assert_eq!(rt; task.registers[0], 1);
-    assert_eq!(rt; task.registers[15], 0x0800_0002);
+    assert!(rt; task.registers[0] == 1);
+    assert!(rt; task.registers[15] == 0x0800_0002);
     Ok(())
 }
 
@@ -207,9 +207,9 @@ fn quiet_turns_are_made_up_to_the_limit(rt: HostRuntime) -> Result<(), Fail> {
 fn quiet_turns_end_with_an_event(rt: HostRuntime) -> Result<(), Fail> {
     let mut board = with_script(&rt, rt.alloc(), 0x2001, 0xe7fe, b"at 7 tick\n")?;
     advance(&mut board, Level::Brief, 100);
-    assert_eq!(rt; board.turns(), 8);
-    assert_eq!(rt; board.now(), 1);
-    assert_eq!(rt; board.notes().get(0).copied(), Some(Note::Tick { now: 1 }));
+    assert!(rt; board.turns() == 8);
+    assert!(rt; board.now() == 1);
+    assert!(rt; board.notes().get(0).copied() == Some(Note::Tick { now: 1 }));
     Ok(())
 }
 
@@ -217,9 +217,9 @@ fn quiet_turns_end_with_an_event(rt: HostRuntime) -> Result<(), Fail> {
 fn quiet_turns_end_with_a_note(rt: HostRuntime) -> Result<(), Fail> {
     let mut board = board(&rt, rt.alloc(), 0x2001, 0xde00)?;
     advance(&mut board, Level::Brief, 100);
-    assert_eq!(rt; board.turns(), 2);
-    assert_eq!(rt; board.notes().len(), 1);
-    assert_eq!(rt; board.ended(), Some(End::Supervisor));
+    assert!(rt; board.turns() == 2);
+    assert!(rt; board.notes().len() == 1);
+    assert!(rt; board.ended() == Some(End::Supervisor));
     Ok(())
 }
 
@@ -227,17 +227,17 @@ fn quiet_turns_end_with_a_note(rt: HostRuntime) -> Result<(), Fail> {
 fn turns_are_made_one_by_one_where_all_is_told(rt: HostRuntime) -> Result<(), Fail> {
     let mut board = board(&rt, rt.alloc(), 0x2001, 0xe7fe)?;
     advance(&mut board, Level::All, 100);
-    assert_eq!(rt; board.turns(), 1);
-    assert_eq!(rt; board.notes().len(), 3);
+    assert!(rt; board.turns() == 1);
+    assert!(rt; board.notes().len() == 3);
     Ok(())
 }
 
 #[test]
 fn the_supervisor_ends_a_run(rt: HostRuntime) -> Result<(), Fail> {
     let mut board = with_script(&rt, rt.alloc(), 0xde00, 0, b"at 1 tick\n")?;
-    assert_eq!(rt; board.ended(), None);
+    assert!(rt; board.ended() == None);
     go_on(&mut board);
-    assert_eq!(rt; board.ended(), Some(End::Supervisor));
+    assert!(rt; board.ended() == Some(End::Supervisor));
     Ok(())
 }
 
@@ -246,10 +246,10 @@ fn an_idle_turn_has_its_events(rt: HostRuntime) -> Result<(), Fail> {
     let mut board = with_script(&rt, rt.alloc(), 0xde00, 0, b"at 1 tick\n")?;
     go_on(&mut board);
     let turned = board.turn();
-    assert_eq!(rt; turned, Turned::Idle);
+    assert!(rt; turned == Turned::Idle);
     let notes = board.notes();
-    assert_eq!(rt; notes.len(), 2);
-    assert_eq!(rt; notes.get(0).copied(), Some(Note::Tick { now: 1 }));
-    assert_eq!(rt; notes.get(1).copied(), Some(Note::Idle));
+    assert!(rt; notes.len() == 2);
+    assert!(rt; notes.get(0).copied() == Some(Note::Tick { now: 1 }));
+    assert!(rt; notes.get(1).copied() == Some(Note::Idle));
     Ok(())
 }

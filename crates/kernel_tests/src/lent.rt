@@ -70,25 +70,16 @@ fn regions_of_a_memory_are_lent(rt: HostRuntime) -> Result<(), Fail> {
         for ram in 2..5usize {
             let wanted = Some(flash != ram);
             let byte = (16 * flash + ram) as u8;
-            assert_eq!(rt;
-                is_lent(&mut memory, regions[flash], regions[ram], byte),
-                wanted
-            );
+            assert!(rt; is_lent(&mut memory, regions[flash], regions[ram], byte) == wanted);
         }
     }
     let code = (FLASH, 32);
-    assert_eq!(rt;
-        is_lent(&mut memory, code, (FLASH + 32, 16), 9),
-        Some(false)
-    );
-    assert_eq!(rt;
-        is_lent(&mut memory, (FLASH, 31), (RAM + 3, 5), 9),
-        Some(false)
-    );
-    assert_eq!(rt; is_lent(&mut memory, code, (RAM + 3, 4), 9), Some(false));
-    assert_eq!(rt; is_lent(&mut memory, code, (RAM + 3, 29), 9), Some(false));
-    assert_eq!(rt; is_lent(&mut memory, code, (RAM + 4, 5), 9), Some(false));
-    assert_eq!(rt; is_lent(&mut memory, code, (RAM + 512, 5), 9), Some(false));
+    assert!(rt; is_lent(&mut memory, code, (FLASH + 32, 16), 9) == Some(false));
+    assert!(rt; is_lent(&mut memory, (FLASH, 31), (RAM + 3, 5), 9) == Some(false));
+    assert!(rt; is_lent(&mut memory, code, (RAM + 3, 4), 9) == Some(false));
+    assert!(rt; is_lent(&mut memory, code, (RAM + 3, 29), 9) == Some(false));
+    assert!(rt; is_lent(&mut memory, code, (RAM + 4, 5), 9) == Some(false));
+    assert!(rt; is_lent(&mut memory, code, (RAM + 512, 5), 9) == Some(false));
     Ok(())
 }
 
@@ -99,11 +90,11 @@ fn a_text_alone_is_lent(rt: HostRuntime) -> Result<(), Fail> {
     let mut memory = Memory::open(rt.alloc(), &[7; 64], 16, &regions)?;
     let mut sizes = Sizes { flash: 99, ram: 99 };
     assert!(rt; memory.lend((FLASH, 32), (RAM, 0), &mut sizes));
-    assert_eq!(rt; sizes.flash, 32);
-    assert_eq!(rt; sizes.ram, 0);
+    assert!(rt; sizes.flash == 32);
+    assert!(rt; sizes.ram == 0);
     sizes.ram = 99;
     assert!(rt; !memory.lend((FLASH, 31), (RAM, 0), &mut sizes));
     assert!(rt; !memory.lend((FLASH, 32), (RAM + 8, 0), &mut sizes));
-    assert_eq!(rt; sizes.ram, 99);
+    assert!(rt; sizes.ram == 99);
     Ok(())
 }

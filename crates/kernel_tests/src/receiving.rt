@@ -288,15 +288,15 @@ fn receives(rt: &impl Abort, alloc: Global, case: &Case) -> Result<(), AllocErro
     let [r4, r5, r6, r7] = case.arguments;
     let mut kernel = two_tasks(alloc)?;
     receive(&mut kernel, case.posted, r4, r5, r6, r7);
-    assert_eq!(rt; kernel.notes().len(), 1, "{name}");
+    assert!(rt; kernel.notes().len() == 1, "{name}");
     if let Some(note) = kernel.notes().get(0).copied() {
         assert!(rt; told_by(note) == Some((case.kind, case.told)), "{name}");
     }
-    assert_eq!(rt; kernel.wait(0), awaited(case), "{name}");
-    assert_eq!(rt; kernel.posted_bits(0), case.left, "{name}");
-    assert_eq!(rt; kernel.register(0, 15), case.pc, "{name}");
+    assert!(rt; kernel.wait(0) == awaited(case), "{name}");
+    assert!(rt; kernel.posted_bits(0) == case.left, "{name}");
+    assert!(rt; kernel.register(0, 15) == case.pc, "{name}");
     let well = kernel.health(0) == Health::Well;
-    assert_eq!(rt; well, case.kind != Kind::Faults, "{name}");
+    assert!(rt; well == (case.kind != Kind::Faults), "{name}");
     Ok(())
 }
 

@@ -21,15 +21,15 @@ fn memory_at_its_edges(rt: HostRuntime) -> Result<(), Fail> {
     assert!(rt; memory.holds(RAM + 7));
     assert!(rt; !memory.holds(RAM + 8));
     assert!(rt; !memory.holds(u32::MAX));
-    assert_eq!(rt; memory.byte(FLASH), 0x11);
-    assert_eq!(rt; memory.byte(FLASH + 4), 0x55);
-    assert_eq!(rt; memory.byte(RAM + 7), 0);
-    assert_eq!(rt; memory.half(FLASH), 0x2211);
-    assert_eq!(rt; memory.half(FLASH + 4), 0x55);
-    assert_eq!(rt; memory.half(FLASH - 1), 0);
-    assert_eq!(rt; memory.word(FLASH + 1), 0x5544_3322);
-    assert_eq!(rt; memory.number(FLASH + 2, 1), 0x33);
-    assert_eq!(rt; memory.word(u32::MAX), 0);
+    assert!(rt; memory.byte(FLASH) == 0x11);
+    assert!(rt; memory.byte(FLASH + 4) == 0x55);
+    assert!(rt; memory.byte(RAM + 7) == 0);
+    assert!(rt; memory.half(FLASH) == 0x2211);
+    assert!(rt; memory.half(FLASH + 4) == 0x55);
+    assert!(rt; memory.half(FLASH - 1) == 0);
+    assert!(rt; memory.word(FLASH + 1) == 0x5544_3322);
+    assert!(rt; memory.number(FLASH + 2, 1) == 0x33);
+    assert!(rt; memory.word(u32::MAX) == 0);
     Ok(())
 }
 
@@ -37,9 +37,9 @@ fn memory_at_its_edges(rt: HostRuntime) -> Result<(), Fail> {
 fn memory_is_stored_to(rt: HostRuntime) -> Result<(), Fail> {
     let mut memory = memory_of(rt.alloc(), &[], 8)?;
     memory.store(RAM + 4, &[0xAA, 0xBB, 0xCC, 0xDD]);
-    assert_eq!(rt; memory.word(RAM + 4), 0xDDCC_BBAA);
-    assert_eq!(rt; memory.word(RAM + 2), 0xBBAA_0000);
-    assert_eq!(rt; memory.half(RAM + 7), 0xDD);
+    assert!(rt; memory.word(RAM + 4) == 0xDDCC_BBAA);
+    assert!(rt; memory.word(RAM + 2) == 0xBBAA_0000);
+    assert!(rt; memory.half(RAM + 7) == 0xDD);
     Ok(())
 }
 
@@ -48,13 +48,13 @@ fn memory_is_copied_where_ranges_overlap(rt: HostRuntime) -> Result<(), Fail> {
     let mut upwards = memory_of(rt.alloc(), &[], 8)?;
     store(&mut upwards, RAM, &[1, 2, 3, 4, 5, 6]);
     upwards.copy(RAM, RAM + 2, 6);
-    assert_eq!(rt; upwards.word(RAM), 0x0201_0201);
-    assert_eq!(rt; upwards.word(RAM + 4), 0x0605_0403);
+    assert!(rt; upwards.word(RAM) == 0x0201_0201);
+    assert!(rt; upwards.word(RAM + 4) == 0x0605_0403);
     let mut downwards = memory_of(rt.alloc(), &[], 8)?;
     store(&mut downwards, RAM + 2, &[1, 2, 3, 4, 5, 6]);
     downwards.copy(RAM + 2, RAM, 6);
-    assert_eq!(rt; downwards.word(RAM), 0x0403_0201);
-    assert_eq!(rt; downwards.word(RAM + 4), 0x0605_0605);
+    assert!(rt; downwards.word(RAM) == 0x0403_0201);
+    assert!(rt; downwards.word(RAM + 4) == 0x0605_0605);
     Ok(())
 }
 
@@ -62,7 +62,7 @@ fn memory_is_copied_where_ranges_overlap(rt: HostRuntime) -> Result<(), Fail> {
 fn memory_is_copied_from_flash(rt: HostRuntime) -> Result<(), Fail> {
     let mut memory = memory_of(rt.alloc(), &[0x11, 0x22, 0x33], 4)?;
     memory.copy(FLASH + 1, RAM + 1, 2);
-    assert_eq!(rt; memory.word(RAM), 0x0033_2200);
+    assert!(rt; memory.word(RAM) == 0x0033_2200);
     Ok(())
 }
 
@@ -108,32 +108,32 @@ fn two_tasks(alloc: Global) -> Result<Kernel, AllocError>
 #[test]
 fn the_start_of_a_run(rt: HostRuntime) -> Result<(), Fail> {
     let kernel = two_tasks(rt.alloc())?;
-    assert_eq!(rt; kernel.task_count(), 2);
-    assert_eq!(rt; kernel.notes().len(), 0);
-    assert_eq!(rt; kernel.current(), 0);
-    assert_eq!(rt; kernel.now(), 0);
-    assert_eq!(rt; kernel.next_call(), 1);
-    assert_eq!(rt; kernel.fault_bits(), 0x8000_0000);
+    assert!(rt; kernel.task_count() == 2);
+    assert!(rt; kernel.notes().len() == 0);
+    assert!(rt; kernel.current() == 0);
+    assert!(rt; kernel.now() == 0);
+    assert!(rt; kernel.next_call() == 1);
+    assert!(rt; kernel.fault_bits() == 0x8000_0000);
     let off = Line {
         enabled: false,
         pending: false,
     };
-    assert_eq!(rt; kernel.line(31), Some(off));
-    assert_eq!(rt; kernel.line(32), None);
+    assert!(rt; kernel.line(31) == Some(off));
+    assert!(rt; kernel.line(32) == None);
     Ok(())
 }
 
 #[test]
 fn the_tasks_at_birth(rt: HostRuntime) -> Result<(), Fail> {
     let kernel = two_tasks(rt.alloc())?;
-    assert_eq!(rt; kernel.priority(1), 3);
-    assert_eq!(rt; kernel.regions(0).len(), 1);
-    assert_eq!(rt; kernel.regions(1).len(), 0);
-    assert_eq!(rt; kernel.health(0), Health::Well);
-    assert_eq!(rt; kernel.health(1), Health::Stopped);
+    assert!(rt; kernel.priority(1) == 3);
+    assert!(rt; kernel.regions(0).len() == 1);
+    assert!(rt; kernel.regions(1).len() == 0);
+    assert!(rt; kernel.health(0) == Health::Well);
+    assert!(rt; kernel.health(1) == Health::Stopped);
     assert!(rt; kernel.is_ready(0));
     assert!(rt; !kernel.is_ready(1));
-    assert_eq!(rt; kernel.generation(1), Generation { number: 0 });
+    assert!(rt; kernel.generation(1) == Generation { number: 0 });
     let born = [
         0,
         0,
@@ -152,25 +152,22 @@ fn the_tasks_at_birth(rt: HostRuntime) -> Result<(), Fail> {
         0xFFFF_FFFF,
         0x0800_0000,
     ];
-    assert_eq!(rt; kernel.registers(0), born);
-    assert_eq!(rt; kernel.register(1, 13), 0x2000_0004);
-    assert_eq!(rt; kernel.register(1, 15), 0x0800_0002);
-    assert_eq!(rt; kernel.posted_bits(0), 0);
-    assert_eq!(rt; kernel.timer(0), None);
-    assert_eq!(rt; kernel.wait(0), Wait::Nothing);
+    assert!(rt; kernel.registers(0) == born);
+    assert!(rt; kernel.register(1, 13) == 0x2000_0004);
+    assert!(rt; kernel.register(1, 15) == 0x0800_0002);
+    assert!(rt; kernel.posted_bits(0) == 0);
+    assert!(rt; kernel.timer(0) == None);
+    assert!(rt; kernel.wait(0) == Wait::Nothing);
     Ok(())
 }
 
 #[test]
 fn what_an_id_names(rt: HostRuntime) -> Result<(), Fail> {
     let kernel = two_tasks(rt.alloc())?;
-    assert_eq!(rt; kernel.lookup(1), Found::Live(1));
-    assert_eq!(rt;
-        kernel.lookup(1 + 5 * 1024),
-        Found::Dead(Generation { number: 0 })
-    );
-    assert_eq!(rt; kernel.lookup(2), Found::Out);
-    assert_eq!(rt; kernel.lookup(0xFFFF), Found::Out);
+    assert!(rt; kernel.lookup(1) == Found::Live(1));
+    assert!(rt; kernel.lookup(1 + 5 * 1024) == Found::Dead(Generation { number: 0 }));
+    assert!(rt; kernel.lookup(2) == Found::Out);
+    assert!(rt; kernel.lookup(0xFFFF) == Found::Out);
     Ok(())
 }
 
@@ -188,7 +185,7 @@ fn a_task_panics(rt: HostRuntime) -> Result<(), Fail> {
         [0, 1, 2, 3, 4, 5, 6, 7, 8, 9, 10, 8, 12, RAM, 14, FLASH],
         flags,
     );
-    assert_eq!(rt; kernel.flags(0), flags);
+    assert!(rt; kernel.flags(0) == flags);
     kernel.note_syscall(0);
     kernel.panic(0);
     let fault = Fault {
@@ -196,15 +193,15 @@ fn a_task_panics(rt: HostRuntime) -> Result<(), Fail> {
         x: 4,
         y: 5,
     };
-    assert_eq!(rt; kernel.health(0), Health::Faulted(fault));
+    assert!(rt; kernel.health(0) == Health::Faulted(fault));
     let call = Note::Syscall {
         task: 0,
         number: 8,
         arguments: [4, 5, 6, 7, 8, 9, 10],
     };
-    assert_eq!(rt; kernel.notes().len(), 2);
-    assert_eq!(rt; kernel.notes()[0], call);
-    assert_eq!(rt; kernel.notes()[1], Note::Fault { task: 0, fault });
+    assert!(rt; kernel.notes().len() == 2);
+    assert!(rt; kernel.notes()[0] == call);
+    assert!(rt; kernel.notes()[1] == Note::Fault { task: 0, fault });
     Ok(())
 }
 
@@ -212,20 +209,17 @@ fn a_task_panics(rt: HostRuntime) -> Result<(), Fail> {
 fn a_call_is_misused(rt: HostRuntime) -> Result<(), Fail> {
     let mut kernel = two_tasks(rt.alloc())?;
     kernel.misuse(1, Usage::BadReason);
-    assert_eq!(rt;
-        kernel.health(1),
-        Health::Faulted(Fault::usage(Usage::BadReason))
-    );
+    assert!(rt; kernel.health(1) == Health::Faulted(Fault::usage(Usage::BadReason)));
     let told = Note::Post {
         task: 0,
         bits: 0x8000_0000,
         posted: 0x8000_0000,
     };
-    assert_eq!(rt; kernel.notes().len(), 2);
-    assert_eq!(rt; kernel.notes()[1], told);
-    assert_eq!(rt; kernel.posted_bits(0), 0x8000_0000);
+    assert!(rt; kernel.notes().len() == 2);
+    assert!(rt; kernel.notes()[1] == told);
+    assert!(rt; kernel.posted_bits(0) == 0x8000_0000);
     kernel.clear_notes();
-    assert_eq!(rt; kernel.notes().len(), 0);
+    assert!(rt; kernel.notes().len() == 0);
     Ok(())
 }
 
@@ -233,8 +227,8 @@ fn a_call_is_misused(rt: HostRuntime) -> Result<(), Fail> {
 fn the_kernel_stores(rt: HostRuntime) -> Result<(), Fail> {
     let mut kernel = two_tasks(rt.alloc())?;
     kernel.store(RAM, &[1, 2]);
-    assert_eq!(rt; kernel.number(RAM, 4), 0x0201);
-    assert_eq!(rt; kernel.byte(FLASH + 1), Some(0x21));
+    assert!(rt; kernel.number(RAM, 4) == 0x0201);
+    assert!(rt; kernel.byte(FLASH + 1) == Some(0x21));
     Ok(())
 }
 
@@ -263,7 +257,7 @@ fn a_kernel_lends_its_memory(rt: HostRuntime) -> Result<(), Fail> {
     };
     assert!(rt; !kernel.lend(&ram, &flash, &mut stamp));
     assert!(rt; kernel.lend(&flash, &ram, &mut stamp));
-    assert_eq!(rt; stamp.seen, 0x20);
-    assert_eq!(rt; kernel.number(RAM, 2), 0x5A);
+    assert!(rt; stamp.seen == 0x20);
+    assert!(rt; kernel.number(RAM, 2) == 0x5A);
     Ok(())
 }

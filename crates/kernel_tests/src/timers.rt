@@ -109,18 +109,18 @@ fn a_deadline_that_is_past_posts_at_once(rt: HostRuntime) -> Result<(), Fail> {
         task: 0,
         results: [1, 0, 0, 4, 0, 0],
     };
-    assert_eq!(rt; kernel.notes().len(), 2);
-    assert_eq!(rt; kernel.notes().get(0).copied(), Some(post));
-    assert_eq!(rt; kernel.notes().get(1).copied(), Some(ret));
-    assert_eq!(rt; kernel.timer(0), None);
-    assert_eq!(rt; kernel.posted_bits(0), 4);
-    assert_eq!(rt; kernel.register(0, 15), 0x0800_0002);
+    assert!(rt; kernel.notes().len() == 2);
+    assert!(rt; kernel.notes().get(0).copied() == Some(post));
+    assert!(rt; kernel.notes().get(1).copied() == Some(ret));
+    assert!(rt; kernel.timer(0) == None);
+    assert!(rt; kernel.posted_bits(0) == 4);
+    assert!(rt; kernel.register(0, 15) == 0x0800_0002);
     get_timer(&mut kernel, 0);
     let none = Note::Ret {
         task: 0,
         results: [0, 0, 0, 0, 0, 0],
     };
-    assert_eq!(rt; kernel.notes().get(2).copied(), Some(none));
+    assert!(rt; kernel.notes().get(2).copied() == Some(none));
     Ok(())
 }
 
@@ -133,18 +133,18 @@ fn a_timer_that_is_set_is_told_and_cleared(rt: HostRuntime) -> Result<(), Fail> 
         deadline: 0x2_0000_0007,
         bits: 6,
     };
-    assert_eq!(rt; kernel.timer(1), Some(timer));
-    assert_eq!(rt; kernel.notes().len(), 1);
+    assert!(rt; kernel.timer(1) == Some(timer));
+    assert!(rt; kernel.notes().len() == 1);
     get_timer(&mut kernel, 1);
     let told = Note::Ret {
         task: 1,
         results: [0, 0, 1, 7, 2, 6],
     };
-    assert_eq!(rt; kernel.notes().get(1).copied(), Some(told));
+    assert!(rt; kernel.notes().get(1).copied() == Some(told));
     with_arguments(&mut kernel, 1, 0, 9, 9, 9);
     set_timer(&mut kernel, 1);
-    assert_eq!(rt; kernel.timer(1), None);
-    assert_eq!(rt; kernel.posted_bits(1), 0);
+    assert!(rt; kernel.timer(1) == None);
+    assert!(rt; kernel.posted_bits(1) == 0);
     Ok(())
 }
 
@@ -164,10 +164,10 @@ fn a_tick_posts_what_is_due(rt: HostRuntime) -> Result<(), Fail> {
         bits: 8,
         posted: 8,
     };
-    assert_eq!(rt; kernel.notes().len(), 2);
-    assert_eq!(rt; kernel.notes().get(0).copied(), Some(Note::Tick { now: 1 }));
-    assert_eq!(rt; kernel.notes().get(1).copied(), Some(post));
-    assert_eq!(rt; kernel.timer(1), None);
+    assert!(rt; kernel.notes().len() == 2);
+    assert!(rt; kernel.notes().get(0).copied() == Some(Note::Tick { now: 1 }));
+    assert!(rt; kernel.notes().get(1).copied() == Some(post));
+    assert!(rt; kernel.timer(1) == None);
     assert!(rt; kernel.timer(0).is_some());
     Ok(())
 }
@@ -181,14 +181,14 @@ fn lines_are_enabled_and_disabled(rt: HostRuntime) -> Result<(), Fail> {
         enabled: true,
         pending: false,
     });
-    assert_eq!(rt; kernel.line(3), on);
-    assert_eq!(rt; kernel.line(5), on);
-    assert_eq!(rt; kernel.line(9), off(false));
-    assert_eq!(rt; kernel.notes().len(), 1);
+    assert!(rt; kernel.line(3) == on);
+    assert!(rt; kernel.line(5) == on);
+    assert!(rt; kernel.line(9) == off(false));
+    assert!(rt; kernel.notes().len() == 1);
     with_arguments(&mut kernel, 0, 2, 2, 0, 0);
     irq_control(&mut kernel, 0);
-    assert_eq!(rt; kernel.line(3), off(false));
-    assert_eq!(rt; kernel.line(5), off(false));
+    assert!(rt; kernel.line(3) == off(false));
+    assert!(rt; kernel.line(5) == off(false));
     Ok(())
 }
 
@@ -198,9 +198,9 @@ fn bits_of_no_line_of_the_caller_are_misuse(rt: HostRuntime) -> Result<(), Fail>
     with_arguments(&mut kernel, 1, 2, 1, 0, 0);
     irq_control(&mut kernel, 1);
     let fault = Fault::usage(Usage::NoIrq);
-    assert_eq!(rt; kernel.health(1), Health::Faulted(fault));
+    assert!(rt; kernel.health(1) == Health::Faulted(fault));
     let told = Note::Fault { task: 1, fault };
-    assert_eq!(rt; kernel.notes().get(0).copied(), Some(told));
-    assert_eq!(rt; kernel.line(3), off(false));
+    assert!(rt; kernel.notes().get(0).copied() == Some(told));
+    assert!(rt; kernel.line(3) == off(false));
     Ok(())
 }

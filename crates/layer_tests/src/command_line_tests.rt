@@ -435,7 +435,7 @@ fn the_first_word_is_passed_over(rt: HostRuntime) -> Result<(), Fail> {
     named.push(String::from_str(alloc, "list")?)?;
     named.push(String::from_str(alloc, "a.img")?)?;
     match read_words(alloc, &named) {
-        Ok(Job::List { image }) => assert_eq!(rt; image, "a.img"),
+        Ok(Job::List { image }) => assert!(rt; image == "a.img"),
         _ => assert!(rt; false),
     }
     Ok(())

@@ -20,16 +20,13 @@ const REGISTERS: [u32; 8] = [
 #[test]
 fn ids(rt: HostRuntime) {
     let id = TaskId::of(0x0C05);
-    assert_eq!(rt; id.index(), 5);
-    assert_eq!(rt; id.generation(), Generation { number: 3 });
-    assert_eq!(rt; TaskId::new(5, Generation { number: 3 }), id);
-    assert_eq!(rt; TaskId::of(TaskId::KERNEL).index(), 1023);
-    assert_eq!(rt;
-        TaskId::of(TaskId::KERNEL).generation(),
-        Generation { number: 63 }
-    );
-    assert_eq!(rt; dead_code(Generation { number: 1 }), 0xFFFF_FF01);
-    assert_eq!(rt; dead_code(Generation { number: 63 }), 0xFFFF_FF3F);
+    assert!(rt; id.index() == 5);
+    assert!(rt; id.generation() == Generation { number: 3 });
+    assert!(rt; TaskId::new(5, Generation { number: 3 }) == id);
+    assert!(rt; TaskId::of(TaskId::KERNEL).index() == 1023);
+    assert!(rt; TaskId::of(TaskId::KERNEL).generation() == Generation { number: 63 });
+    assert!(rt; dead_code(Generation { number: 1 }) == 0xFFFF_FF01);
+    assert!(rt; dead_code(Generation { number: 63 }) == 0xFFFF_FF3F);
 }
 
 #[test]
@@ -59,14 +56,14 @@ fn faults(rt: HostRuntime) {
         (10, 0x0402, 3),
     ];
     for (fault, (number, x, y)) in found.iter().zip(wanted.iter()) {
-        assert_eq!(rt; fault.number, *number);
-        assert_eq!(rt; fault.x, *x);
-        assert_eq!(rt; fault.y, *y);
+        assert!(rt; fault.number == *number);
+        assert!(rt; fault.x == *x);
+        assert!(rt; fault.y == *y);
     }
-    assert_eq!(rt; Fault::access(0, Access::Load).y, 0);
-    assert_eq!(rt; Fault::access(0, Access::KernelRead).y, 2);
-    assert_eq!(rt; Fault::access(0, Access::KernelWrite).y, 3);
-    assert_eq!(rt; Fault::unaligned(0, false).y, 0);
+    assert!(rt; Fault::access(0, Access::Load).y == 0);
+    assert!(rt; Fault::access(0, Access::KernelRead).y == 2);
+    assert!(rt; Fault::access(0, Access::KernelWrite).y == 3);
+    assert!(rt; Fault::unaligned(0, false).y == 0);
 }
 
 #[test]
@@ -84,33 +81,33 @@ fn misuses(rt: HostRuntime) {
         Usage::BadReason,
     ];
     for (usage, number) in usages.iter().zip(1..11_u32) {
-        assert_eq!(rt; usage.number(), number);
+        assert!(rt; usage.number() == number);
     }
 }
 
 #[test]
 fn reasons(rt: HostRuntime) {
-    assert_eq!(rt; Reason::of(0), Some(Reason::UndefinedOperation));
-    assert_eq!(rt; Reason::of(1), Some(Reason::BadMessageSize));
-    assert_eq!(rt; Reason::of(2), Some(Reason::BadMessageContents));
-    assert_eq!(rt; Reason::of(3), Some(Reason::BadLeases));
-    assert_eq!(rt; Reason::of(4), Some(Reason::ReplyBufferTooSmall));
-    assert_eq!(rt; Reason::of(5), Some(Reason::AccessViolation));
-    assert_eq!(rt; Reason::AccessViolation.number(), 5);
-    assert_eq!(rt; Reason::of(6), None);
-    assert_eq!(rt; Reason::of(u32::MAX), None);
+    assert!(rt; Reason::of(0) == Some(Reason::UndefinedOperation));
+    assert!(rt; Reason::of(1) == Some(Reason::BadMessageSize));
+    assert!(rt; Reason::of(2) == Some(Reason::BadMessageContents));
+    assert!(rt; Reason::of(3) == Some(Reason::BadLeases));
+    assert!(rt; Reason::of(4) == Some(Reason::ReplyBufferTooSmall));
+    assert!(rt; Reason::of(5) == Some(Reason::AccessViolation));
+    assert!(rt; Reason::AccessViolation.number() == 5);
+    assert!(rt; Reason::of(6) == None);
+    assert!(rt; Reason::of(u32::MAX) == None);
 }
 
 #[test]
 fn ranges(rt: HostRuntime) -> Result<(), Fail> {
     let last = Range::of(0xFFFF_FFFC, 4).ok_or("the last word")?;
-    assert_eq!(rt; last.base, 0xFFFF_FFFC);
-    assert_eq!(rt; last.len, 4);
-    assert_eq!(rt; Range::of(0xFFFF_FFFC, 5), None);
+    assert!(rt; last.base == 0xFFFF_FFFC);
+    assert!(rt; last.len == 4);
+    assert!(rt; Range::of(0xFFFF_FFFC, 5) == None);
     let whole = Range::of(0, 0x1_0000_0000).ok_or("the whole address space")?;
-    assert_eq!(rt; whole.len, 0x1_0000_0000);
-    assert_eq!(rt; Range::of(0, 0x1_0000_0001), None);
-    assert_eq!(rt; Range::of(u32::MAX, u64::MAX), None);
+    assert!(rt; whole.len == 0x1_0000_0000);
+    assert!(rt; Range::of(0, 0x1_0000_0001) == None);
+    assert!(rt; Range::of(u32::MAX, u64::MAX) == None);
     Ok(())
 }
 
@@ -122,7 +119,7 @@ fn lease_entries(rt: HostRuntime) {
         base: 0x2000_0180,
         len: 4,
     };
-    assert_eq!(rt; entry, wanted);
+    assert!(rt; entry == wanted);
 }
 
 #[test]
@@ -132,71 +129,71 @@ fn notes(rt: HostRuntime) {
         number: 0,
         arguments: [0x0002_0005, 0x2000_0140, 10, 0, 0, 0, 0],
     };
-    assert_ne!(rt; call, Note::default());
+    assert!(rt; call != Note::default());
 }
 
 #[test]
 fn send(rt: HostRuntime) {
     let args = SendArgs::of(&REGISTERS);
-    assert_eq!(rt; args.recipient.number, 0x0402);
-    assert_eq!(rt; args.operation, 0x0C05);
-    assert_eq!(rt; args.message_base, 0x5555_0001);
-    assert_eq!(rt; args.message_length, 0x6666_0002);
-    assert_eq!(rt; args.reply_base, 0x8007_0803);
-    assert_eq!(rt; args.reply_capacity, 0x8888_0004);
-    assert_eq!(rt; args.table, 0x9999_0005);
-    assert_eq!(rt; args.leases, 0xAAAA_0006);
+    assert!(rt; args.recipient.number == 0x0402);
+    assert!(rt; args.operation == 0x0C05);
+    assert!(rt; args.message_base == 0x5555_0001);
+    assert!(rt; args.message_length == 0x6666_0002);
+    assert!(rt; args.reply_base == 0x8007_0803);
+    assert!(rt; args.reply_capacity == 0x8888_0004);
+    assert!(rt; args.table == 0x9999_0005);
+    assert!(rt; args.leases == 0xAAAA_0006);
 }
 
 #[test]
 fn recv(rt: HostRuntime) {
     let args = RecvArgs::of(&REGISTERS);
-    assert_eq!(rt; args.buffer_base, 0x0402_0C05);
-    assert_eq!(rt; args.buffer_length, 0x5555_0001);
-    assert_eq!(rt; args.mask, 0x6666_0002);
+    assert!(rt; args.buffer_base == 0x0402_0C05);
+    assert!(rt; args.buffer_length == 0x5555_0001);
+    assert!(rt; args.mask == 0x6666_0002);
     assert!(rt; args.closed);
-    assert_eq!(rt; args.sender.number, 0x0803);
+    assert!(rt; args.sender.number == 0x0803);
     assert!(rt; !RecvArgs::of(&[0, 0, 0, 0x7FFF_FFFF, 0, 0, 0, 0]).closed);
 }
 
 #[test]
 fn reply(rt: HostRuntime) {
     let args = ReplyArgs::of(&REGISTERS);
-    assert_eq!(rt; args.client.number, 0x0C05);
-    assert_eq!(rt; args.code, 0x5555_0001);
-    assert_eq!(rt; args.reply_base, 0x6666_0002);
-    assert_eq!(rt; args.reply_length, 0x8007_0803);
+    assert!(rt; args.client.number == 0x0C05);
+    assert!(rt; args.code == 0x5555_0001);
+    assert!(rt; args.reply_base == 0x6666_0002);
+    assert!(rt; args.reply_length == 0x8007_0803);
 }
 
 #[test]
 fn timer(rt: HostRuntime) {
     let args = TimerArgs::of(&REGISTERS);
     assert!(rt; args.set);
-    assert_eq!(rt; args.deadline, 0x6666_0002_5555_0001);
-    assert_eq!(rt; args.bits, 0x8007_0803);
+    assert!(rt; args.deadline == 0x6666_0002_5555_0001);
+    assert!(rt; args.bits == 0x8007_0803);
     assert!(rt; !TimerArgs::of(&[0, 1, 1, 1, 1, 1, 1, 1]).set);
 }
 
 #[test]
 fn borrow(rt: HostRuntime) {
     let args = BorrowArgs::of(&REGISTERS);
-    assert_eq!(rt; args.lender.number, 0x0C05);
-    assert_eq!(rt; args.lease, 0x5555_0001);
-    assert_eq!(rt; args.offset, 0x6666_0002);
-    assert_eq!(rt; args.buffer_base, 0x8007_0803);
-    assert_eq!(rt; args.buffer_length, 0x8888_0004);
+    assert!(rt; args.lender.number == 0x0C05);
+    assert!(rt; args.lease == 0x5555_0001);
+    assert!(rt; args.offset == 0x6666_0002);
+    assert!(rt; args.buffer_base == 0x8007_0803);
+    assert!(rt; args.buffer_length == 0x8888_0004);
     let info = InfoArgs::of(&REGISTERS);
-    assert_eq!(rt; info.lender.number, 0x0C05);
-    assert_eq!(rt; info.lease, 0x5555_0001);
+    assert!(rt; info.lender.number == 0x0C05);
+    assert!(rt; info.lease == 0x5555_0001);
 }
 
 #[test]
 fn lines_and_ids(rt: HostRuntime) {
     let irq = IrqArgs::of(&REGISTERS);
-    assert_eq!(rt; irq.bits, 0x0402_0C05);
+    assert!(rt; irq.bits == 0x0402_0C05);
     assert!(rt; irq.enable);
     assert!(rt; !IrqArgs::of(&[2, 2, 1, 1, 1, 1, 1, 1]).enable);
     let id = IdArgs::of(&REGISTERS);
-    assert_eq!(rt; id.id.number, 0x0C05);
-    assert_eq!(rt; id.bits, 0x5555_0001);
+    assert!(rt; id.id.number == 0x0C05);
+    assert!(rt; id.bits == 0x5555_0001);
 }

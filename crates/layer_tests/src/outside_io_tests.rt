@@ -35,12 +35,12 @@ fn reads_up_to_the_end(rt: HostRuntime) -> Result<(), Fail> {
         (u64::MAX, 0, b"___"),
     ] {
         let mut buf = *b"___";
-        assert_eq!(rt; files.read("a.img", at, &mut buf), Ok(want), "at {at}");
-        assert_eq!(rt; buf.as_slice(), left.as_slice(), "at {at}");
+        assert!(rt; files.read("a.img", at, &mut buf) == Ok(want), "at {at}");
+        assert!(rt; buf.as_slice() == left.as_slice(), "at {at}");
     }
     let mut buf = *b"___";
-    assert_eq!(rt; files.read("b.img", 0, &mut buf), Err(Failed));
-    assert_eq!(rt; buf.as_slice(), b"___".as_slice());
+    assert!(rt; files.read("b.img", 0, &mut buf) == Err(Failed));
+    assert!(rt; buf.as_slice() == b"___".as_slice());
     Ok(())
 }
 
@@ -59,9 +59,9 @@ fn puts_whole_contents_within_the_room(rt: HostRuntime) -> Result<(), Fail> {
         ("b.img", b"z", Err(Failed), b"xy"),
         ("a.img", b"", Ok(()), b""),
     ] {
-        assert_eq!(rt; files.put(name, bytes), want, "{name}");
+        assert!(rt; files.put(name, bytes) == want, "{name}");
         let all = read_all(rt.alloc(), &mut files, "a.img", 8)?;
-        assert_eq!(rt; all.as_slice(), held, "{name}");
+        assert!(rt; all.as_slice() == held, "{name}");
     }
     Ok(())
 }
@@ -79,10 +79,10 @@ fn fails_at_the_listed_calls(rt: HostRuntime) -> Result<(), Fail> {
     ] {
         let mut files = one_file(rt.alloc(), &fails)?;
         let mut buf = [0u8; 8];
-        assert_eq!(rt; files.read("a.img", 0, &mut buf).is_ok(), first);
-        assert_eq!(rt; files.put("a.img", b"one").is_ok(), second);
-        assert_eq!(rt; files.read("a.img", 0, &mut buf).is_ok(), third);
-        assert_eq!(rt; files.put("a.img", b"two").is_ok(), fourth);
+        assert!(rt; files.read("a.img", 0, &mut buf).is_ok() == first);
+        assert!(rt; files.put("a.img", b"one").is_ok() == second);
+        assert!(rt; files.read("a.img", 0, &mut buf).is_ok() == third);
+        assert!(rt; files.put("a.img", b"two").is_ok() == fourth);
     }
     Ok(())
 }
@@ -96,33 +96,21 @@ fn reads_all_within_the_limit(rt: HostRuntime) -> Result<(), Fail> {
         files.hold("long", &long, 9000)?;
     }
     // Calls 1 to 4, of which the last, at the end, fails.
-    assert_eq!(rt;
-        read_all(rt.alloc(), &mut files, "long", 9000).err(),
-        Some(ReadAll::Failed)
-    );
+    assert!(rt; read_all(rt.alloc(), &mut files, "long", 9000).err() == Some(ReadAll::Failed));
     // Calls 5 to 7.
-    assert_eq!(rt;
-        read_all(rt.alloc(), &mut files, "long", 8999).err(),
-        Some(ReadAll::TooLong)
-    );
+    assert!(rt; read_all(rt.alloc(), &mut files, "long", 8999).err() == Some(ReadAll::TooLong));
     // Call 8.
-    assert_eq!(rt;
-        read_all(rt.alloc(), &mut files, "long", 9000).err(),
-        Some(ReadAll::Failed)
-    );
-    assert_eq!(rt;
-        read_all(rt.alloc(), &mut files, "short", 9000).err(),
-        Some(ReadAll::Failed)
-    );
+    assert!(rt; read_all(rt.alloc(), &mut files, "long", 9000).err() == Some(ReadAll::Failed));
+    assert!(rt; read_all(rt.alloc(), &mut files, "short", 9000).err() == Some(ReadAll::Failed));
     let all = read_all(rt.alloc(), &mut files, "long", 9000)?;
-    assert_eq!(rt; all.as_slice(), long.as_slice());
+    assert!(rt; all.as_slice() == long.as_slice());
     Ok(())
 }
 
 #[test]
 fn pushes_within_the_room(rt: HostRuntime) -> Result<(), Fail> {
     let mut sink = MemSink::open(rt.alloc(), 6, &[2])?;
-    assert_eq!(rt; sink.text(), b"".as_slice());
+    assert!(rt; sink.text() == b"".as_slice());
     for (piece, want, text) in [
         (b"abc".as_slice(), Ok(()), b"abc".as_slice()),
         (b"d", Err(Failed), b"abc"),
@@ -131,8 +119,8 @@ fn pushes_within_the_room(rt: HostRuntime) -> Result<(), Fail> {
         (b"", Ok(()), b"abcdef"),
         (b"g", Err(Failed), b"abcdef"),
     ] {
-        assert_eq!(rt; sink.push(piece), want);
-        assert_eq!(rt; sink.text(), text);
+        assert!(rt; sink.push(piece) == want);
+        assert!(rt; sink.text() == text);
     }
     Ok(())
 }
@@ -141,11 +129,11 @@ fn pushes_within_the_room(rt: HostRuntime) -> Result<(), Fail> {
 fn writes_to_an_output_until_it_takes_nothing(rt: HostRuntime) -> Result<(), Fail> {
     let mut taken = *b"_____";
     let mut sink = HostSink::new(Cursor::new(taken.as_mut_slice()));
-    assert_eq!(rt; sink.push(b"abc"), Ok(()));
-    assert_eq!(rt; sink.push(b"def"), Err(Failed));
-    assert_eq!(rt; sink.push(b"g"), Err(Failed));
-    assert_eq!(rt; sink.push(b""), Ok(()));
-    assert_eq!(rt; taken.as_slice(), b"abcde".as_slice());
+    assert!(rt; sink.push(b"abc") == Ok(()));
+    assert!(rt; sink.push(b"def") == Err(Failed));
+    assert!(rt; sink.push(b"g") == Err(Failed));
+    assert!(rt; sink.push(b"") == Ok(()));
+    assert!(rt; taken.as_slice() == b"abcde".as_slice());
     Ok(())
 }
 
@@ -155,12 +143,12 @@ fn a_flush_passes_on_what_is_held_back(rt: HostRuntime) -> Result<(), Fail> {
     let output = Cursor::new(taken.as_mut_slice());
     let held = BufWriter::with_capacity(rt.alloc(), 16, output).expect(&rt, "there is memory");
     let mut sink = HostSink::new(held);
-    assert_eq!(rt; sink.push(b"abc"), Ok(()));
-    assert_eq!(rt; sink.flush(), Ok(()));
-    assert_eq!(rt; sink.push(b"def"), Ok(()));
-    assert_eq!(rt; sink.flush(), Err(Failed));
+    assert!(rt; sink.push(b"abc") == Ok(()));
+    assert!(rt; sink.flush() == Ok(()));
+    assert!(rt; sink.push(b"def") == Ok(()));
+    assert!(rt; sink.flush() == Err(Failed));
     drop(sink);
-    assert_eq!(rt; taken.as_slice(), b"abcde".as_slice());
+    assert!(rt; taken.as_slice() == b"abcde".as_slice());
     Ok(())
 }
 
@@ -168,13 +156,13 @@ fn a_flush_passes_on_what_is_held_back(rt: HostRuntime) -> Result<(), Fail> {
 fn puts_and_reads_a_real_file(rt: HostRuntime) -> Result<(), Fail> {
     let name = "outside_io_put_and_read.tmp";
     let mut files = HostFiles::new(&rt);
-    assert_eq!(rt; files.put(name, b"longer"), Ok(()));
-    assert_eq!(rt; files.put(name, b"abcde"), Ok(()));
+    assert!(rt; files.put(name, b"longer") == Ok(()));
+    assert!(rt; files.put(name, b"abcde") == Ok(()));
     let all = read_all(rt.alloc(), &mut files, name, 5)?;
     fs::remove_file(&rt, name)?;
-    assert_eq!(rt; all.as_slice(), b"abcde".as_slice());
+    assert!(rt; all.as_slice() == b"abcde".as_slice());
     let mut buf = [0u8; 3];
-    assert_eq!(rt; files.read(name, 0, &mut buf), Err(Failed));
-    assert_eq!(rt; files.put("no such folder/put.tmp", b"abcde"), Err(Failed));
+    assert!(rt; files.read(name, 0, &mut buf) == Err(Failed));
+    assert!(rt; files.put("no such folder/put.tmp", b"abcde") == Err(Failed));
     Ok(())
 }

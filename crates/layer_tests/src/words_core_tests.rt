@@ -25,7 +25,7 @@ fn sums(rt: HostRuntime) {
         (0xFFFF_FFFF, 0x0000_0000, true, 0x0000_0000, 0b0110),
     ];
     for (x, y, c, sum, nzcv) in cases {
-        assert_eq!(rt; add_with_carry(x, y, c), (sum, flags(nzcv)));
+        assert!(rt; add_with_carry(x, y, c) == (sum, flags(nzcv)));
     }
 }
 
@@ -40,7 +40,7 @@ fn differences(rt: HostRuntime) {
         (0x8000_0000, 0x0000_0001, true, 0x7FFF_FFFF, 0b0011),
     ];
     for (x, y, c, difference, nzcv) in cases {
-        assert_eq!(rt; add_with_carry(x, !y, c), (difference, flags(nzcv)));
+        assert!(rt; add_with_carry(x, !y, c) == (difference, flags(nzcv)));
     }
 }
 
@@ -57,7 +57,7 @@ fn left_shifts(rt: HostRuntime) {
         (0x1234_5678, 0, true, 0x1234_5678, true),
     ];
     for (x, by, c, shifted, carry) in cases {
-        assert_eq!(rt; lsl(x, by, c), (shifted, carry));
+        assert!(rt; lsl(x, by, c) == (shifted, carry));
     }
 }
 
@@ -74,7 +74,7 @@ fn right_shifts(rt: HostRuntime) {
         (0x1234_5678, 0, true, 0x1234_5678, true),
     ];
     for (x, by, c, shifted, carry) in cases {
-        assert_eq!(rt; lsr(x, by, c), (shifted, carry));
+        assert!(rt; lsr(x, by, c) == (shifted, carry));
     }
 }
 
@@ -91,7 +91,7 @@ fn signed_right_shifts(rt: HostRuntime) {
         (0x8000_0000, 0, false, 0x8000_0000, false),
     ];
     for (x, by, c, shifted, carry) in cases {
-        assert_eq!(rt; asr(x, by, c), (shifted, carry));
+        assert!(rt; asr(x, by, c) == (shifted, carry));
     }
 }
 
@@ -108,18 +108,18 @@ fn rotations(rt: HostRuntime) {
         (0x8000_0001, 0, false, 0x8000_0001, false),
     ];
     for (x, by, c, rotated, carry) in cases {
-        assert_eq!(rt; ror(x, by, c), (rotated, carry));
+        assert!(rt; ror(x, by, c) == (rotated, carry));
     }
 }
 
 #[test]
 fn extensions(rt: HostRuntime) {
-    assert_eq!(rt; extend(0xBEC0_B6C2, 16, true), 0xFFFF_B6C2);
-    assert_eq!(rt; extend(0x0000_0072, 16, true), 0x0000_0072);
-    assert_eq!(rt; extend(0x0000_00D7, 8, true), 0xFFFF_FFD7);
-    assert_eq!(rt; extend(0x0000_8000, 8, true), 0x0000_0000);
-    assert_eq!(rt; extend(0x29A5_BA8C, 16, false), 0x0000_BA8C);
-    assert_eq!(rt; extend(0x856B_7C82, 8, false), 0x0000_0082);
+    assert!(rt; extend(0xBEC0_B6C2, 16, true) == 0xFFFF_B6C2);
+    assert!(rt; extend(0x0000_0072, 16, true) == 0x0000_0072);
+    assert!(rt; extend(0x0000_00D7, 8, true) == 0xFFFF_FFD7);
+    assert!(rt; extend(0x0000_8000, 8, true) == 0x0000_0000);
+    assert!(rt; extend(0x29A5_BA8C, 16, false) == 0x0000_BA8C);
+    assert!(rt; extend(0x856B_7C82, 8, false) == 0x0000_0082);
 }
 
 #[test]
@@ -127,10 +127,10 @@ fn registers(rt: HostRuntime) {
     let mut regs = Regs::of([0; 16]);
     regs.set(3, 7);
     regs.set(15, 0x0800_0000);
-    assert_eq!(rt; regs.get(3), 7);
-    assert_eq!(rt; regs.get(4), 0);
+    assert!(rt; regs.get(3) == 7);
+    assert!(rt; regs.get(4) == 0);
     let words = regs.words();
-    assert_eq!(rt; words[3], 7);
-    assert_eq!(rt; words[15], 0x0800_0000);
-    assert_eq!(rt; Regs::of(words), regs);
+    assert!(rt; words[3] == 7);
+    assert!(rt; words[15] == 0x0800_0000);
+    assert!(rt; Regs::of(words) == regs);
 }

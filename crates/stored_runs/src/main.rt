@@ -1,5 +1,5 @@
 //! Hands the program stored files, malformed and hostile ones among them, and counts the cases in which it answers what a
-//! second reading of the rules, in a language of its own, answers.
+//! second reading of the rules, in a language of its own, answers; then runs two images compiled by gcc, and each halfword.
 //!
 //! A case begins with a line `= STATUS NAME`. Each of its parts begins with a line `+ KEY`: `words`, the command line after
 //! the program's name; `failing calls` and `failing pushes`, the numbers of the reads and puts, and of the pushes, that
@@ -8,6 +8,8 @@
 //! is the name of a file that stands there as it is. Last comes `text`, the text that is wanted, or `sum`, its checksum.
 #![tactic(auto)]
 
+mod halfwords;
+mod images;
 mod players;
 
 use outside_io::{MemFiles, MemSink};
@@ -226,5 +228,6 @@ fn main(rt: HostRuntime) -> io::Result<()> {
         }
         println!(rt; "{path}: {agreed} agree")?;
     }
-    Ok(())
+    images::run_both(&rt)?;
+    halfwords::run_all(&rt)
 }

@@ -250,7 +250,7 @@ fn sources_have_their_bytes(rt: HostRuntime) -> Result<(), Fail> {
     let symbols = symbols(rt.alloc())?;
     for (source, bytes) in &TAKEN {
         let object = assemble(rt.alloc(), source.as_bytes(), BASE, &symbols)?;
-        assert_eq!(rt; object.bytes.as_slice(), *bytes, "{source}");
+        assert!(rt; object.bytes.as_slice() == *bytes, "{source}");
     }
     Ok(())
 }
@@ -259,9 +259,8 @@ fn sources_have_their_bytes(rt: HostRuntime) -> Result<(), Fail> {
 fn first_causes(rt: HostRuntime) -> Result<(), Fail> {
     let symbols = symbols(rt.alloc())?;
     for (source, cause, line) in &REFUSED {
-        assert_eq!(rt;
-            refusal(rt.alloc(), source.as_bytes(), &symbols),
-            (*cause, *line),
+        assert!(rt;
+            refusal(rt.alloc(), source.as_bytes(), &symbols) == (*cause, *line),
             "{source}"
         );
     }
@@ -278,13 +277,10 @@ fn blanks(alloc: Global, count: usize, end: &[u8]) -> Result<Vec<u8>, AllocError
 #[test]
 fn long_lines(rt: HostRuntime) -> Result<(), Fail> {
     let alloc = rt.alloc();
-    assert_eq!(rt; refusal(alloc, &blanks(alloc, 255, b"")?, &[]), (0, 0));
-    assert_eq!(rt; refusal(alloc, &blanks(alloc, 255, b"\r\n")?, &[]), (0, 0));
-    assert_eq!(rt; refusal(alloc, &blanks(alloc, 255, b"\r")?, &[]), (14, 1));
-    assert_eq!(rt;
-        refusal(alloc, &blanks(alloc, 255, b"\x01\n")?, &[]),
-        (14, 1)
-    );
+    assert!(rt; refusal(alloc, &blanks(alloc, 255, b"")?, &[]) == (0, 0));
+    assert!(rt; refusal(alloc, &blanks(alloc, 255, b"\r\n")?, &[]) == (0, 0));
+    assert!(rt; refusal(alloc, &blanks(alloc, 255, b"\r")?, &[]) == (14, 1));
+    assert!(rt; refusal(alloc, &blanks(alloc, 255, b"\x01\n")?, &[]) == (14, 1));
     Ok(())
 }
 
@@ -292,23 +288,17 @@ fn long_lines(rt: HostRuntime) -> Result<(), Fail> {
 fn labels_have_their_addresses(rt: HostRuntime) -> Result<(), Fail> {
     let source = b"nop\nhere:\n.byte 1\nnext: .align 2\nHERE: .word here\n";
     let object = assemble(rt.alloc(), source, BASE, &[])?;
-    assert_eq!(rt; object.labels.len(), 3);
-    assert_eq!(rt; object.labels.get("here").copied(), Some(BASE + 2));
-    assert_eq!(rt; object.labels.get("next").copied(), Some(BASE + 3));
-    assert_eq!(rt; object.labels.get("HERE").copied(), Some(BASE + 4));
+    assert!(rt; object.labels.len() == 3);
+    assert!(rt; object.labels.get("here").copied() == Some(BASE + 2));
+    assert!(rt; object.labels.get("next").copied() == Some(BASE + 3));
+    assert!(rt; object.labels.get("HERE").copied() == Some(BASE + 4));
     Ok(())
 }
 
 #[test]
 fn faults_are_told(rt: HostRuntime) -> Result<(), Fail> {
     let text = format!(in rt.alloc(); "{}", AsmFault::Refused(Cause::BadList, 3))?;
-    assert_eq!(rt;
-        text.as_str(),
-        "line 3: a list of registers that is not allowed"
-    );
-    assert_eq!(rt;
-        format!(in rt.alloc(); "{}", AsmFault::Memory)?.as_str(),
-        "out of memory"
-    );
+    assert!(rt; text.as_str() == "line 3: a list of registers that is not allowed");
+    assert!(rt; format!(in rt.alloc(); "{}", AsmFault::Memory)?.as_str() == "out of memory");
     Ok(())
 }

@@ -153,7 +153,7 @@ fn codes_have_these_texts(rt: HostRuntime) {
         let (first, second) = code.split_at_checked(4).expect(&rt, "a halfword");
         let first = halfword(first).expect(&rt, "a halfword");
         let text = text(first, halfword(second), at);
-        assert_eq!(rt; text.as_str(), want, "at {code}");
+        assert!(rt; text.as_str() == want, "at {code}");
     }
 }
 
@@ -211,6 +211,6 @@ fn the_halfwords_are_counted(rt: HostRuntime) {
     let longer = (0..=0xffff_u16)
         .filter(|first| matches!(decode(*first, None), Decoded::NeedsSecond))
         .count();
-    assert_eq!(rt; legal, 55_933);
-    assert_eq!(rt; longer, 6_144);
+    assert!(rt; legal == 55_933);
+    assert!(rt; longer == 6_144);
 }

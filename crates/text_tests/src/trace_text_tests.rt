@@ -51,7 +51,7 @@ fn events_have_their_lines(rt: HostRuntime) {
         ),
     ] {
         let text = text(turn, note);
-        assert_eq!(rt; text.as_str(), want);
+        assert!(rt; text.as_str() == want);
     }
 }
 
@@ -65,7 +65,7 @@ fn a_line_stands_in_the_place_of_the_line_before(rt: HostRuntime) {
         (Note::Tick { now: 7 }, "1234567890 tick 7\n"),
     ] {
         lines.write(&note);
-        assert_eq!(rt; lines.text(), want);
+        assert!(rt; lines.text() == want);
     }
 }
 
@@ -89,7 +89,7 @@ fn short_numbers_have_their_digits(rt: HostRuntime) {
             moved,
         };
         let text = text(0, note);
-        assert_eq!(rt; text.as_str(), want);
+        assert!(rt; text.as_str() == want);
     }
 }
 
@@ -145,7 +145,7 @@ fn calls_have_their_lines(rt: HostRuntime) {
         ),
     ] {
         let text = text(turn, note);
-        assert_eq!(rt; text.as_str(), want);
+        assert!(rt; text.as_str() == want);
     }
 }
 
@@ -158,7 +158,7 @@ fn each_ending_has_its_name(rt: HostRuntime) {
         (Ending::Restart, "9 close 3 restart\n"),
     ] {
         let text = text(9, Note::Close { call: 3, ending });
-        assert_eq!(rt; text.as_str(), want);
+        assert!(rt; text.as_str() == want);
     }
 }
 
@@ -170,7 +170,7 @@ fn a_listen_has_its_sender_and_mask(rt: HostRuntime) {
         (5, 2, Listened::One(1), 0xffff, "5 listen 2 1 0000ffff\n"),
     ] {
         let text = text(turn, Note::Listen { task, from, mask });
-        assert_eq!(rt; text.as_str(), want);
+        assert!(rt; text.as_str() == want);
     }
 }
 
@@ -189,7 +189,7 @@ fn a_borrow_has_its_name_and_what_moved(rt: HostRuntime) {
             moved: 300,
         };
         let text = text(8, note);
-        assert_eq!(rt; text.as_str(), want);
+        assert!(rt; text.as_str() == want);
     }
 }
 
@@ -219,23 +219,23 @@ fn an_instruction_has_its_code_and_text(rt: HostRuntime) {
         (9, 0x0800_0014, 0xf000_0000, "9 insn 0 08000014 f0000000 \n"),
     ] {
         let text = text(turn, Note::Insn { task: 0, at, code });
-        assert_eq!(rt; text.as_str(), want);
+        assert!(rt; text.as_str() == want);
     }
 }
 
 #[test]
 fn a_turn_without_a_task_is_idle(rt: HostRuntime) {
     let text = text(7, Note::Idle);
-    assert_eq!(rt; text.as_str(), "7 idle\n");
+    assert!(rt; text.as_str() == "7 idle\n");
 }
 
 #[test]
 fn registers_have_two_lines(rt: HostRuntime) {
     let registers = [0, 1, 2, 3, 4, 5, 6, 7];
     let low = text(3, Note::Low { registers });
-    assert_eq!(rt;
-        low.as_str(),
-        "3 low 00000000 00000001 00000002 00000003 00000004 00000005 00000006 00000007\n"
+    assert!(rt;
+        low.as_str()
+            == "3 low 00000000 00000001 00000002 00000003 00000004 00000005 00000006 00000007\n"
     );
     let high = text(
         3,
@@ -247,9 +247,9 @@ fn registers_have_two_lines(rt: HostRuntime) {
             v: false,
         },
     );
-    assert_eq!(rt;
-        high.as_str(),
-        "3 high 00000008 00000009 0000000a 0000000b 0000000c 20000100 ffffffff 08000002 1010\n"
+    assert!(rt;
+        high.as_str()
+            == "3 high 00000008 00000009 0000000a 0000000b 0000000c 20000100 ffffffff 08000002 1010\n"
     );
 }
 
@@ -360,6 +360,6 @@ fn the_longest_lines_fit(rt: HostRuntime) {
         (high, 93),
     ] {
         let text = text(most, note);
-        assert_eq!(rt; text.len(), len);
+        assert!(rt; text.len() == len);
     }
 }

@@ -1,8 +1,6 @@
 //! Runs each of the 65,536 halfwords as the first instruction of an image, one turn each, with `--all`,
 //! and counts how the runs end and which instructions are told. The numbers that it is to print come
 //! from a second, slow emulator in Python, whose reading of the rules is its own.
-#![tactic(auto)]
-
 use outside_io::{MemFiles, MemSink};
 use std::alloc::{AllocError, Global};
 use std::io;
@@ -108,7 +106,8 @@ fn run(
     }
 }
 
-fn main(rt: HostRuntime) -> io::Result<()> {
+/// Runs each halfword, and writes the counts.
+pub fn run_all(rt: &HostRuntime) -> io::Result<()> {
     let alloc = rt.alloc();
     let words = words(alloc)?;
     let (mut bound, mut supervisor) = (0_u64, 0_u64);
