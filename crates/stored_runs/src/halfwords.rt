@@ -1,6 +1,7 @@
 //! Runs each of the 65,536 halfwords as the first instruction of an image, one turn each, with `--all`,
 //! and counts how the runs end and which instructions are told. The numbers that it is to print come
 //! from a second, slow emulator in Python, whose reading of the rules is its own.
+use crate::{hold, words};
 use outside_io::{MemFiles, MemSink};
 use std::alloc::{AllocError, Global};
 use std::io;
@@ -72,14 +73,6 @@ fn with_text(told: Told, text: &str) -> Told {
     told
 }
 
-fn words(alloc: Global) -> Result<Vec<String>, AllocError> {
-    let mut words = Vec::new(alloc);
-    for word in ["hubris", "run", "a.img", "e.txt", "--steps", "1", "--all"] {
-        words.push(String::from_str(alloc, word)?)?;
-    }
-    Ok(words)
-}
-
 /// The ending of the run of the halfword's image with the empty script, None where it tells none.
 fn run(
     alloc: Global,
@@ -89,12 +82,8 @@ fn run(
 ) -> Result<Option<Ending>, AllocError> {
     let image = image(halfword);
     let mut files = MemFiles::open(alloc, &[])?;
-    if !files.is_held("a.img") {
-        files.hold("a.img", &image, image.len())?;
-    }
-    if !files.is_held("e.txt") {
-        files.hold("e.txt", &[], 0)?;
-    }
+    hold(&mut files, "a.img", &image, image.len())?;
+    hold(&mut files, "e.txt", &[], 0)?;
     let mut out = MemSink::open(alloc, 1000, &[])?;
     let status = hubris_main(alloc, words, &mut files, &mut out);
     match str::from_utf8(out.text()) {
@@ -107,9 +96,9 @@ fn run(
 }
 
 /// Runs each halfword, and writes the counts.
-pub fn run_all(rt: &HostRuntime) -> io::Result<()> {
+pub(crate) fn run_all(rt: &HostRuntime) -> io::Result<()> {
     let alloc = rt.alloc();
-    let words = words(alloc)?;
+    let words = words(alloc, "run a.img e.txt --steps 1 --all")?;
     let (mut bound, mut supervisor) = (0_u64, 0_u64);
     let mut told = Told {
         lines: 0,
