@@ -1,15 +1,10 @@
-//! Tests of applications, plans of memory, images, their building and the large sample, over public calls. Nothing else
-//! is here.
+//! Tests of applications, plans of memory, the builder and the large sample, over public calls. Nothing else is here.
 #![tactic(auto)]
 
 #[cfg(test)]
 mod app_toml_tests;
 #[cfg(test)]
 mod image_build_tests;
-#[cfg(test)]
-mod image_format_tests;
-#[cfg(test)]
-mod image_list_tests;
 #[cfg(test)]
 mod mem_plan_tests;
 #[cfg(test)]

@@ -7,8 +7,7 @@ use kernel_abi::{Fault, Generation, Health, Note, Usage};
 use region_check::{Region, Rights};
 use std::alloc::{AllocError, Global};
 use std::test::Fail;
-use task_table::{FLASH, Found, Kernel, Line, LineStart, RAM, TaskStart, Wait};
-use words_core::Flags;
+use task_table::{FLASH, Found, Kernel, Line, LineStart, RAM, TaskStart};
 
 #[test]
 fn memory_at_its_edges(rt: HostRuntime) -> Result<(), Fail> {
@@ -124,84 +123,12 @@ fn the_start_of_a_run(rt: HostRuntime) -> Result<(), Fail> {
 }
 
 #[test]
-fn the_tasks_at_birth(rt: HostRuntime) -> Result<(), Fail> {
-    let kernel = two_tasks(rt.alloc())?;
-    assert!(rt; kernel.priority(1) == 3);
-    assert!(rt; kernel.regions(0).len() == 1);
-    assert!(rt; kernel.regions(1).len() == 0);
-    assert!(rt; kernel.health(0) == Health::Well);
-    assert!(rt; kernel.health(1) == Health::Stopped);
-    assert!(rt; kernel.is_ready(0));
-    assert!(rt; !kernel.is_ready(1));
-    assert!(rt; kernel.generation(1) == Generation { number: 0 });
-    let born = [
-        0,
-        0,
-        0,
-        0,
-        0,
-        0,
-        0,
-        0,
-        0,
-        0,
-        0,
-        0,
-        0,
-        0x2000_0008,
-        0xFFFF_FFFF,
-        0x0800_0000,
-    ];
-    assert!(rt; kernel.registers(0) == born);
-    assert!(rt; kernel.register(1, 13) == 0x2000_0004);
-    assert!(rt; kernel.register(1, 15) == 0x0800_0002);
-    assert!(rt; kernel.posted_bits(0) == 0);
-    assert!(rt; kernel.timer(0) == None);
-    assert!(rt; kernel.wait(0) == Wait::Nothing);
-    Ok(())
-}
-
-#[test]
 fn what_an_id_names(rt: HostRuntime) -> Result<(), Fail> {
     let kernel = two_tasks(rt.alloc())?;
     assert!(rt; kernel.lookup(1) == Found::Live(1));
     assert!(rt; kernel.lookup(1 + 5 * 1024) == Found::Dead(Generation { number: 0 }));
     assert!(rt; kernel.lookup(2) == Found::Out);
     assert!(rt; kernel.lookup(0xFFFF) == Found::Out);
-    Ok(())
-}
-
-#[test]
-fn a_task_panics(rt: HostRuntime) -> Result<(), Fail> {
-    let mut kernel = two_tasks(rt.alloc())?;
-    let flags = Flags {
-        n: true,
-        z: false,
-        c: true,
-        v: false,
-    };
-    kernel.set_processor(
-        0,
-        [0, 1, 2, 3, 4, 5, 6, 7, 8, 9, 10, 8, 12, RAM, 14, FLASH],
-        flags,
-    );
-    assert!(rt; kernel.flags(0) == flags);
-    kernel.note_syscall(0);
-    kernel.panic(0);
-    let fault = Fault {
-        number: 8,
-        x: 4,
-        y: 5,
-    };
-    assert!(rt; kernel.health(0) == Health::Faulted(fault));
-    let call = Note::Syscall {
-        task: 0,
-        number: 8,
-        arguments: [4, 5, 6, 7, 8, 9, 10],
-    };
-    assert!(rt; kernel.notes().len() == 2);
-    assert!(rt; kernel.notes()[0] == call);
-    assert!(rt; kernel.notes()[1] == Note::Fault { task: 0, fault });
     Ok(())
 }
 

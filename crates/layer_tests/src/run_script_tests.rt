@@ -1,113 +1,9 @@
-//! Scripts taken and refused, and the events of their turns, by the rules of docs/FORMATS.md, Script.
+//! The events of scripts, and how many there may be (docs/FORMATS.md, Script). Other scripts that are refused are stored rows
+//! (crates/stored_runs).
 
 use run_script::{Event, Script, ScriptFault};
 use std::alloc::{AllocError, Global};
 use std::test::Fail;
-
-/// Texts with the cause and line of their refusal; 0 and 0 where they are taken.
-const ROWS: [(&[u8], u8, usize); 69] = [
-    (b"", 0, 0),
-    (b"\n\r\n", 0, 0),
-    (b" \t\n# at 1 tock\n#\n \t#every\n", 0, 0),
-    (b"every 5 tick", 0, 0),
-    (b"every\t5\t tick \r\n", 0, 0),
-    (b"\tat 7 tick\n", 0, 0),
-    (b"at 0 irq 31\nat 0 irq 0\n", 0, 0),
-    (b"every 1000000000 tick\nat 999999999 irq 31\n", 0, 0),
-    (
-        b"every 0000000001 tick\nat 0000000007 irq 0000000003\n",
-        0,
-        0,
-    ),
-    (b"at 5 tick\nat 5 tick\n", 0, 0),
-    (b"\x80\n", 1, 1),
-    (b"at 1 tick\n# caf\xC3\xA9\n", 1, 2),
-    (b"\x7F", 1, 1),
-    (b"\0\n", 1, 1),
-    (b"at 1 tick\r", 1, 1),
-    (b"at 1\r tick\n", 1, 1),
-    (b"at 1 tick\r\r\n", 1, 1),
-    (b"x\n", 2, 1),
-    (b"every\n", 2, 1),
-    (b"every tick\n", 2, 1),
-    (b"every 5 tick 6\n", 2, 1),
-    (b"every 5 tock\n", 2, 1),
-    (b"every 5 ticks\n", 2, 1),
-    (b"every 5 irq 1\n", 2, 1),
-    (b"Every 5 tick\n", 2, 1),
-    (b"every 5 Tick\n", 2, 1),
-    (b"at\n", 2, 1),
-    (b"at 1\n", 2, 1),
-    (b"at tick\n", 2, 1),
-    (b"at 1 tick 2\n", 2, 1),
-    (b"at 1 tick # now\n", 2, 1),
-    (b"at 1 irq\n", 2, 1),
-    (b"at 1 irq 2 3\n", 2, 1),
-    (b"at 1 IRQ 2\n", 2, 1),
-    (b"At 1 tick\n", 2, 1),
-    (b"tick\n", 2, 1),
-    (b"at x tick\n", 3, 1),
-    (b"at -1 tick\n", 3, 1),
-    (b"at +1 tick\n", 3, 1),
-    (b"at 0x1 tick\n", 3, 1),
-    (b"at 1000000000 tick\n", 3, 1),
-    (b"at 00000000001 tick\n", 3, 1),
-    (b"at 5 irq 32\n", 3, 1),
-    (b"at 1 irq tick\n", 3, 1),
-    (b"at irq irq 1\n", 3, 1),
-    (b"at 1 irq 18446744073709551617\n", 3, 1),
-    (b"every 0 tick\n", 3, 1),
-    (b"every 1000000001 tick\n", 3, 1),
-    (b"every tick tick\n", 3, 1),
-    (b"at 5 tick\nat 4 tick\n", 4, 2),
-    (b"at 5 tick\n\n# 4\nat 4 irq 1\n", 4, 4),
-    (b"at 5 tick\nevery 3 tick\n", 4, 2),
-    (b"every 3 tick\nevery 3 tick\n", 4, 2),
-    (b"every 3 tick\nat 0 tick\nevery 4 tick\n", 4, 3),
-    (b"x \x80\n", 1, 1),
-    (b"at x tick\x80\n", 1, 1),
-    (b"at x tock\n", 2, 1),
-    (b"at 5 tick\nat 4 tock\n", 2, 2),
-    (b"at 5 tick\nat 4 irq 32\n", 3, 2),
-    (b"at 5 tick\nevery 0 tick\n", 3, 2),
-    (b"at x tick\n\x80\n", 3, 1),
-    (b"at 5 tick\nat 4 tick\nx\n", 4, 2),
-    (
-        b"at 5 tick\nat 5 irq 1\nat 5 tick\nat 5 tick\nat 5 tick\nat 5 tick\nat 5 tick\nat 5 irq 1\n",
-        0,
-        0,
-    ),
-    (
-        b"at 5 tick\nat 5 irq 1\nat 5 tick\nat 5 tick\nat 5 tick\nat 5 tick\nat 5 tick\nat 5 irq 1\nat 5 tick",
-        5,
-        9,
-    ),
-    (
-        b"at 5 tick\nat 5 irq 1\nat 5 tick\nat 5 tick\nat 5 tick\nat 5 tick\nat 5 tick\nat 5 irq 1\nat 5 irq 32",
-        3,
-        9,
-    ),
-    (
-        b"at 5 tick\nat 5 irq 1\nat 5 tick\nat 5 tick\nat 5 tick\nat 5 tick\nat 5 tick\nat 5 irq 1\nat 6 tick",
-        0,
-        0,
-    ),
-    (
-        b"at 5 tick\nat 5 irq 1\nat 5 tick\nat 5 tick\nat 5 tick\nat 5 tick\nat 5 tick\nat 5 irq 1\nat 6 tick\nat 5 tick",
-        4,
-        10,
-    ),
-    (
-        b"every 5 tick\nat 5 tick\nat 5 tick\nat 5 tick\nat 5 tick\nat 5 tick\nat 5 tick\nat 5 tick\nat 5 tick\n",
-        0,
-        0,
-    ),
-    (
-        b"at 0 tick\nat 0 tick\nat 0 tick\nat 0 tick\nat 0 tick\nat 0 tick\nat 0 tick\nat 0 tick\n\nat 0 tick\n",
-        5,
-        10,
-    ),
-];
 
 /// The cause and line; 0 and 0 where the text is taken.
 fn answer(alloc: Global, text: &[u8]) -> (u8, usize) {
@@ -115,13 +11,6 @@ fn answer(alloc: Global, text: &[u8]) -> (u8, usize) {
         Ok(_) => (0, 0),
         Err(ScriptFault::Refused { cause, line }) => (cause, line),
         Err(ScriptFault::Memory) => (255, 0),
-    }
-}
-
-#[test]
-fn first_causes(rt: HostRuntime) {
-    for (text, cause, line) in &ROWS {
-        assert!(rt; answer(rt.alloc(), *text) == (*cause, *line), "{text:?}");
     }
 }
 

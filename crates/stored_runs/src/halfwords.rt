@@ -1,7 +1,7 @@
 //! Runs each of the 65,536 halfwords as the first instruction of an image, one turn each, with `--all`,
 //! and counts how the runs end and which instructions are told. The numbers that it is to print come
 //! from a second, slow emulator in Python, whose reading of the rules is its own.
-use crate::{hold, words};
+use crate::{Words, hold, words_of};
 use outside_io::{MemFiles, MemSink};
 use std::alloc::{AllocError, Global};
 use std::io;
@@ -98,7 +98,7 @@ fn run(
 /// Runs each halfword, and writes the counts.
 pub(crate) fn run_all(rt: &HostRuntime) -> io::Result<()> {
     let alloc = rt.alloc();
-    let words = words(alloc, "run a.img e.txt --steps 1 --all")?;
+    let words = words_of(alloc, Words::InLine("run a.img e.txt --steps 1 --all"))?;
     let (mut bound, mut supervisor) = (0_u64, 0_u64);
     let mut told = Told {
         lines: 0,
