@@ -27,7 +27,7 @@ use thiserror::Error;
 use thumb_insn::{Barrier, Bytes, Cond, Load, Op, Shift, Size};
 
 /// What the first word of a statement names.
-#[derive(Clone, Copy, PartialEq, Eq, Debug)]
+#[derive(Clone, Copy)]
 pub(crate) enum Mnemonic {
     Shift(Shift),
     Movs,
@@ -137,7 +137,7 @@ pub enum AsmFault {
 }
 
 /// Why a line is not emitted.
-#[derive(Debug, Drop)]
+#[derive(Drop)]
 pub(crate) enum Stop {
     Memory,
     Cause(Cause),

@@ -10,15 +10,13 @@ ghost use Rattle.thumb_asm.specs.Views.{shape_of};
 ghost use Rattle.thumb_asm.specs.declared.Mnemonic.TheVariants.{Values};
 
 mod mnemonics;
-mod operands;
 mod shapes;
 
 use super::Mnemonic;
-use super::operand::{Operands, parse, parse_all};
+use super::operand::{Operand, Operands, parse, parse_all};
 use super::parts::Pieces;
 use super::shape::Shape;
 pub(crate) use mnemonics::mnemonic;
-use operands::as_expression;
 use thumb_insn::Size;
 
 /// The shape of a statement with up to three operands.
@@ -110,8 +108,5 @@ fn are_expressions(rest: &[u8]) -> bool
 fn is_expression(piece: &[u8]) -> bool
     ensures { result ≡ is_expression piece.now }
 {
-    match parse(piece) {
-        None => false,
-        Some(operand) => as_expression(operand).is_some(),
-    }
+    matches!(parse(piece), Some(Operand::Expression(_)))
 }

@@ -1,9 +1,9 @@
 //! Characters, blanks, names and registers.
 
-ghost use Rattle.std.specs.Prelude.{◌≡◌, ◌<◌, ◌≤◌, IfSome, length, option_map, map, bytes_eq, nat_eq};
+ghost use Rattle.std.specs.Prelude.{◌≡◌, ◌<◌, ◌≤◌, IfSome, length, option_map, map, take, drop, bytes_eq, nat_eq};
 ghost use Rattle.std.specs.List.{list_all};
 ghost use Rattle.text_lines.specs.Text.{is_between};
-ghost use Rattle.thumb_asm.specs.Chars.{starts_by, is_nil, is_blank, is_letter, is_word, is_allowed, lower, strip_front, strip_end, strip, is_name, register};
+ghost use Rattle.thumb_asm.specs.Chars.{starts_by, is_nil, is_blank, is_letter, is_word, is_allowed, lower, strip_front, strip_end, strip, is_name, entry_at, register_names, register};
 
 use thumb_insn::Reg;
 
@@ -129,52 +129,64 @@ pub(crate) fn is_any_case(word: &[u8], name: &[u8]) -> bool
     true
 }
 
+/// The value of the first of these names that the word is, in any case.
+macro_rules! pick {
+    ($word:expr; $($name:literal => $value:expr),* $(,)?) => {{
+        $(if $crate::words::is_any_case($word, $name) {
+            return Some($value);
+        })*
+        None
+    }};
+}
+
+pub(crate) use pick;
+
+#[tactic(auto, unfolding(crate::specs::Chars::register_names, crate::specs::Chars::entry_at))]
+fn low_register(word: &[u8]) -> Option<u8>
+    ensures value { result ≡ entry_at (take 8 register_names) (map lower word.now) }
+    ensures bound { IfSome result (λ n. n < 16) }
+{
+    pick!(word;
+        b"r0" => 0,
+        b"r1" => 1,
+        b"r2" => 2,
+        b"r3" => 3,
+        b"r4" => 4,
+        b"r5" => 5,
+        b"r6" => 6,
+        b"r7" => 7,
+    )
+}
+
+#[tactic(auto, unfolding(crate::specs::Chars::register_names, crate::specs::Chars::entry_at))]
+fn high_register(word: &[u8]) -> Option<u8>
+    ensures value { result ≡ entry_at (drop 8 register_names) (map lower word.now) }
+    ensures bound { IfSome result (λ n. n < 16) }
+{
+    pick!(word;
+        b"r8" => 8,
+        b"r9" => 9,
+        b"r10" => 10,
+        b"r11" => 11,
+        b"r12" => 12,
+        b"r13" => 13,
+        b"r14" => 14,
+        b"r15" => 15,
+        b"sp" => 13,
+        b"lr" => 14,
+        b"pc" => 15,
+    )
+}
+
 /// The register of a name, in any case.
 #[tactic(auto, unfolding(crate::specs::Chars::register, crate::specs::Chars::register_names, crate::specs::Chars::entry_at))]
 pub(crate) fn register(word: &[u8]) -> Option<Reg>
     ensures value { option_map (λ r. r.number) result ≡ register word.now }
     ensures bound { IfSome result (λ r. r.number < 16) }
 {
-    let number = if is_any_case(word, b"r0") {
-        0
-    } else if is_any_case(word, b"r1") {
-        1
-    } else if is_any_case(word, b"r2") {
-        2
-    } else if is_any_case(word, b"r3") {
-        3
-    } else if is_any_case(word, b"r4") {
-        4
-    } else if is_any_case(word, b"r5") {
-        5
-    } else if is_any_case(word, b"r6") {
-        6
-    } else if is_any_case(word, b"r7") {
-        7
-    } else if is_any_case(word, b"r8") {
-        8
-    } else if is_any_case(word, b"r9") {
-        9
-    } else if is_any_case(word, b"r10") {
-        10
-    } else if is_any_case(word, b"r11") {
-        11
-    } else if is_any_case(word, b"r12") {
-        12
-    } else if is_any_case(word, b"r13") {
-        13
-    } else if is_any_case(word, b"r14") {
-        14
-    } else if is_any_case(word, b"r15") {
-        15
-    } else if is_any_case(word, b"sp") {
-        13
-    } else if is_any_case(word, b"lr") {
-        14
-    } else if is_any_case(word, b"pc") {
-        15
-    } else {
-        return None;
+    let number = match low_register(word) {
+        Some(number) => number,
+        None => high_register(word)?,
     };
     Some(Reg { number })
 }

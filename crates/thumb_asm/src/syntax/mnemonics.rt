@@ -5,18 +5,8 @@ ghost use Rattle.thumb_asm.specs.Syntax.{mnemonic, mnemonics1, mnemonics2, mnemo
 ghost use Rattle.thumb_asm.specs.Chars.{entry_at, lower};
 
 use crate::Mnemonic;
-use crate::words::is_any_case;
+use crate::words::pick;
 use thumb_insn::{Barrier, Bytes, Cond, Load, Op, Shift, Size};
-
-/// The first of these names that the word is.
-macro_rules! pick {
-    ($word:expr; $($name:literal => $value:expr),* $(,)?) => {{
-        $(if is_any_case($word, $name) {
-            return Some($value);
-        })*
-        None
-    }};
-}
 
 #[tactic(auto, unfolding(crate::specs::Syntax::mnemonics1, crate::specs::Chars::entry_at))]
 fn mnemonic1(word: &[u8]) -> Option<Mnemonic>
