@@ -1,6 +1,6 @@
 //! Statements.
 
-ghost use Rattle.std.specs.Prelude.{◌≡◌, ◌++◌, ◌<◌, ◌≤◌, ◌+◌, ◌*◌, ◌/◌, ◌^◌, false, option_map, length, OnOk, IfOk, IfErr, IfSome, MatchOption, MatchResult, nat_abs, pos, ◌≤ℤ◌, Result, Ok, Err, None, Some};
+ghost use Rattle.std.specs.Prelude.{◌≡◌, ◌++◌, ◌<◌, ◌≤◌, ◌+◌, ◌*◌, ◌/◌, ◌^◌, false, option_map, length, OnOk, IfOk, IfErr, IfSome, MatchOption, MatchResult, nat_abs, pos, ◌-ℤ◌, ◌≤ℤ◌, Result, Ok, Err, None, Some};
 ghost use Rattle.thumb_asm.specs.Sizes.{statement_of, shape_size, list_insn, block_insn, extra_of, natural_part, padding, has_bad_count, has_bad_number, has_bad_register, has_bad_list, is_off, is_no_expr, is_no_number, checked};
 ghost use Rattle.thumb_asm.specs.Operands.{signed, expression};
 ghost use Rattle.thumb_asm.specs.Parts.{operand_pieces};
@@ -385,11 +385,12 @@ fn aimed(at: u32, piece: &[u8], insn: Insn, names: &Names<'_>) -> Result<Insn, C
     }
 }
 
-/// What a literal's distance counts from: the address plus 4, aligned down.
-fn aligned_base(at: u32) -> u64
-    ensures { result ≡ (at + 4) / 4 * 4 }
+/// How far a target lies from the address plus 4, aligned down to a multiple of 4.
+fn aligned_distance(at: u32, target: i64) -> i64
+    requires { nat_abs target < 2 ^ 34 }
+    ensures { result ≡ target -ℤ pos ((at + 4) / 4 * 4) }
 {
-    (u64::from(at) + 4) / 4 * 4
+    target - (i64::from(at) + 4) / 4 * 4
 }
 
 /// The same from the address aligned down.
@@ -399,7 +400,7 @@ fn near(at: u32, piece: &[u8], insn: Insn, names: &Names<'_>) -> Result<Insn, Ca
 {
     match value(piece, names) {
         None => Err(Cause::UnknownSymbol),
-        Some(target) => match with_value(insn, target - aligned_base(at) as i64) {
+        Some(target) => match with_value(insn, aligned_distance(at, target)) {
             Some(insn) => Ok(insn),
             None => Err(Cause::OutOfRange),
         },
