@@ -141,6 +141,7 @@ macro_rules! pick {
 
 pub(crate) use pick;
 
+/// The number of `r0` to `r7`.
 #[tactic(auto, unfolding(crate::specs::Chars::register_names, crate::specs::Chars::entry_at))]
 fn low_register(word: &[u8]) -> Option<u8>
     ensures value { result ≡ entry_at (take 8 register_names) (map lower word.now) }
@@ -158,6 +159,7 @@ fn low_register(word: &[u8]) -> Option<u8>
     )
 }
 
+/// The number of a register that is named otherwise.
 #[tactic(auto, unfolding(crate::specs::Chars::register_names, crate::specs::Chars::entry_at))]
 fn high_register(word: &[u8]) -> Option<u8>
     ensures value { result ≡ entry_at (drop 8 register_names) (map lower word.now) }

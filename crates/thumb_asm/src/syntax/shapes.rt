@@ -3,12 +3,11 @@
 #![tactic(auto, unfolding(crate::specs::Syntax::shaped))]
 
 ghost use Rattle.std.specs.Prelude.{◌≡◌, option_map};
-ghost use Rattle.thumb_asm.specs.Syntax.{shaped, at_sp, compared, loaded, stored, literal, plain_load, keyword, top_shift, shift_op, Fixed};
+ghost use Rattle.thumb_asm.specs.Syntax.{shaped, at_sp, compared, loaded, stored, keyword, top_shift, shift_op, Fixed};
 ghost use Rattle.thumb_asm.specs.Kinds.{operands_of};
 ghost use Rattle.thumb_asm.specs.Views.{shape_of, fill};
 ghost use Rattle.thumb_asm.specs.declared.Mnemonic.TheVariants as kind;
 ghost use Rattle.thumb_asm.specs.declared.Mnemonic.TheVariants.{Movs, Adds, Subs, Cmp, Rors, Rsbs, Pair, Add, Sub, Mov, Bx, Blx, Store, Adr, Change, Push, Pop, Cpsie, Cpsid, Bkpt, Hint, Named, Stm, Ldm, BranchIf, Svc, Branch, Bl, Fence, Mrs, Msr, Ascii, Space, Align};
-ghost use Rattle.thumb_insn.specs.declared.Load.TheVariants as loads;
 
 use crate::operand::Operand::{
     Expression, Immediate, Memory, MemoryImmediate, MemoryRegister, Quoted, Raised, Register,
@@ -278,54 +277,26 @@ fn stored(size: Size, t: Reg, n: Reg) -> Insn
     }
 }
 
-/// A load with an immediate, without one, or of a literal.
-fn load_whole(size: Size, operands: Operands<'_>) -> Option<Shape<'_>>
-    ensures { option_map shape_of result ≡ plain_load (loads.Whole size) (operands_of operands.entry) }
-{
-    match operands {
-        Two(Register(t), MemoryImmediate(n, e)) => Some(Shape::Filled(e, loaded(size, t, n))),
-        Two(Register(t), Memory(n)) => Some(Shape::Fixed(loaded(size, t, n))),
-        _ => literal(size, operands),
-    }
-}
-
-/// A literal's load, which has the size of a word.
-fn literal(size: Size, operands: Operands<'_>) -> Option<Shape<'_>>
-    ensures { option_map shape_of result ≡ literal size (operands_of operands.entry) }
-{
-    match size {
-        Size::Word => match operands {
-            Two(Register(t), Expression(e)) => Some(Shape::Near(
-                e,
-                Insn::LdrLiteral { t, offset: 0 },
-            )),
-            _ => None,
-        },
-        Size::Half | Size::Byte => None,
-    }
-}
-
-/// A load whose offset is no register.
-fn plain_load(load: Load, operands: Operands<'_>) -> Option<Shape<'_>>
-    ensures { option_map shape_of result ≡ plain_load load (operands_of operands.entry) }
-{
-    match load {
-        Load::Whole(size) => load_whole(size, operands),
-        Load::SignedHalf | Load::SignedByte => None,
-    }
-}
-
 pub(super) fn load(load: Load, operands: Operands<'_>) -> Option<Shape<'_>>
     ensures { option_map shape_of result ≡ shaped (kind.Load load) (operands_of operands.entry) }
 {
-    match operands {
-        Two(Register(t), MemoryRegister(n, m)) => Some(Shape::Fixed(Insn::LoadReg {
+    match (load, operands) {
+        (_, Two(Register(t), MemoryRegister(n, m))) => Some(Shape::Fixed(Insn::LoadReg {
             load,
             t,
             n,
             m,
         })),
-        _ => plain_load(load, operands),
+        (Load::Whole(size), Two(Register(t), MemoryImmediate(n, e))) => Some(Shape::Filled(
+            e,
+            loaded(size, t, n),
+        )),
+        (Load::Whole(size), Two(Register(t), Memory(n))) => Some(Shape::Fixed(loaded(size, t, n))),
+        (Load::Whole(Size::Word), Two(Register(t), Expression(e))) => Some(Shape::Near(
+            e,
+            Insn::LdrLiteral { t, offset: 0 },
+        )),
+        _ => None,
     }
 }
 
