@@ -1,8 +1,8 @@
 //! What `clap` is told: the program, a function for each command and for each kind of argument.
-ghost use Rattle.std.specs.Prelude.{◌≡◌, IfOk, false, map, [], ◌∷◌, codes};
-ghost use Rattle.clap.specs.Words.{app_of, rule_of, with_rule};
+ghost use Rattle.std.specs.Prelude.{◌≡◌, IfOk, false, [], ◌∷◌, codes};
+ghost use Rattle.clap.specs.Words.{app_of, rule_of, with_subcommand};
 ghost use Rattle.clap.specs.declared.builder.command.Command.TheViews.{out-Command as fields_of};
-ghost use Rattle.command_line.specs.CommandLine.{hubris_app, most_seed, most_steps, positional_rule, number_parser, number_rule, steps_rule, flag_rule, app_of_form, shape_of_form, build_form, run_form, go_form, list_form, sample_form};
+ghost use Rattle.command_line.specs.CommandLine.{Form, hubris_app, most_seed, most_steps, positional_rule, number_parser, number_rule, steps_rule, flag_rule, app_of_form, shape_of_form, build_form, run_form, go_form, list_form, sample_form};
 
 use clap::builder::ValueParser;
 use clap::{Arg, ArgAction, Command};
@@ -67,38 +67,35 @@ fn build_command<'a>(alloc: Global) -> Result<Command<'a>, AllocError>
         .arg(positional(alloc, "out"))
 }
 
-// A command with what may be told of a run besides: its instructions, its memory.
-fn with_flags<'a>(alloc: Global, command: Command<'a>) -> Result<Command<'a>, AllocError>
-    ensures shape { IfOk result (λ c. app_of c ≡ with_rule (with_rule (app_of command.entry) (flag_rule (codes "all"))) (flag_rule (codes "mem"))) }
-    ensures local { (fields_of command.entry).has_globals ≡ false → IfOk result (λ c. (fields_of c).has_globals ≡ false) }
+// `run` and `go`: a command that runs what its first word names.
+fn running_command<'a>(
+    alloc: Global,
+    name: &'a str,
+    subject: &'a str,
+) -> Result<Command<'a>, AllocError>
+    ensures shape { IfOk result (λ c. app_of c ≡ app_of_form (record run_form { name = name.entry.now; rules = positional_rule subject.entry.now ∷ positional_rule (codes "script") ∷ steps_rule ∷ flag_rule (codes "all") ∷ flag_rule (codes "mem") ∷ [] })) }
+    ensures local { IfOk result (λ c. (fields_of c).has_globals ≡ false) }
 {
-    command.arg(flag(alloc, "all"))?.arg(flag(alloc, "mem"))
+    Command::new(alloc, name)
+        .arg(positional(alloc, subject))?
+        .arg(positional(alloc, "script"))?
+        .arg(steps(alloc))?
+        .arg(flag(alloc, "all"))?
+        .arg(flag(alloc, "mem"))
 }
 
 fn run_command<'a>(alloc: Global) -> Result<Command<'a>, AllocError>
     ensures shape { IfOk result (λ c. app_of c ≡ app_of_form run_form) }
     ensures local { IfOk result (λ c. (fields_of c).has_globals ≡ false) }
 {
-    with_flags(
-        alloc,
-        Command::new(alloc, "run")
-            .arg(positional(alloc, "image"))?
-            .arg(positional(alloc, "script"))?
-            .arg(steps(alloc))?,
-    )
+    running_command(alloc, "run", "image")
 }
 
 fn go_command<'a>(alloc: Global) -> Result<Command<'a>, AllocError>
     ensures shape { IfOk result (λ c. app_of c ≡ app_of_form go_form) }
     ensures local { IfOk result (λ c. (fields_of c).has_globals ≡ false) }
 {
-    with_flags(
-        alloc,
-        Command::new(alloc, "go")
-            .arg(positional(alloc, "app"))?
-            .arg(positional(alloc, "script"))?
-            .arg(steps(alloc))?,
-    )
+    running_command(alloc, "go", "app")
 }
 
 fn list_command<'a>(alloc: Global) -> Result<Command<'a>, AllocError>
@@ -117,22 +114,25 @@ fn sample_command<'a>(alloc: Global) -> Result<Command<'a>, AllocError>
         .arg(steps_word(alloc))
 }
 
-// The commands that make or run an image; the program wants one of its commands.
-fn with_build_and_run<'a>(alloc: Global) -> Result<Command<'a>, AllocError>
-    ensures shape { IfOk result (λ c. app_of c ≡ record hubris_app { subs = map shape_of_form (build_form ∷ run_form ∷ []) }) }
+// A program with one command more. It takes the outcome of making that one, so that a program whose
+// command could not be made is dropped in one place.
+fn with_command<'a>(
+    program: Command<'a>,
+    command: Result<Command<'a>, AllocError>,
+) -> Result<Command<'a>, AllocError>
+    ensures { (form : Form) → IfOk command.entry (λ d. app_of d ≡ app_of_form form) → IfOk command.entry (λ d. (fields_of d).has_globals ≡ false) → IfOk result (λ c. app_of c ≡ with_subcommand (app_of program.entry) (shape_of_form form)) }
 {
-    Command::new(alloc, "hubris")
-        .subcommand_required(true)
-        .subcommand(build_command(alloc)?)?
-        .subcommand(run_command(alloc)?)
+    program.subcommand(command?)
 }
 
 /// The program's command line: one command of those above is wanted.
 pub fn hubris_command<'a>(alloc: Global) -> Result<Command<'a>, AllocError>
     ensures shape { IfOk result (λ c. app_of c ≡ hubris_app) }
 {
-    with_build_and_run(alloc)?
-        .subcommand(go_command(alloc)?)?
-        .subcommand(list_command(alloc)?)?
-        .subcommand(sample_command(alloc)?)
+    let hubris = Command::new(alloc, "hubris").subcommand_required(true);
+    let hubris = with_command(hubris, build_command(alloc))?;
+    let hubris = with_command(hubris, run_command(alloc))?;
+    let hubris = with_command(hubris, go_command(alloc))?;
+    let hubris = with_command(hubris, list_command(alloc))?;
+    with_command(hubris, sample_command(alloc))
 }

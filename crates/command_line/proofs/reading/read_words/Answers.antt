@@ -3,7 +3,7 @@ use Rattle.std.specs.Prelude.{option_and_then}
 use Rattle.clap.specs.Words.{found_of, rows_of}
 use Rattle.command_line.specs.CommandLine.{asked_by}
 use Rattle.command_line.specs.Required.{IsWhole}
-use Rattle.command_line.proofs.Taking.{named, not_taken, taken}
+use Rattle.command_line.proofs.Taking.{named, not_taken, taken, unnamed}
 use Rattle.command_line.proofs.Whole.{whole}
 use Rattle.command_line.proofs.reading.read_words.Goals as goal
 
@@ -27,3 +27,12 @@ returns-in-Some-clause-few c =
     c.in-Ok-try_get_matches_from.ensures.matches c.in-Some.ensures.name c.in-Some.ensures.rows in
     let all = subst IsWhole is (whole words (taken _ words c.in-Ok.ensures.shape c.in-Ok-try_get_matches_from.ensures.kinds)) in
     c.job_by.ensures.few all
+
+pub returns-in-Some-clause-taken : goal.returns-in-Some-clause-taken
+returns-in-Some-clause-taken c = taken _ _ c.in-Ok.ensures.shape c.in-Ok-try_get_matches_from.ensures.kinds
+
+pub returns-clause-refused : goal.returns-clause-refused
+returns-clause-refused c = λ _.
+    let words = map string_bytes c.args.words.now in
+    let none = unnamed _ words c.in-Ok-try_get_matches_from.matches c.in-Ok.ensures.shape c.in-Ok-try_get_matches_from.ensures.matches c.in-None.ensures.rows in
+    absurd (subst IsWhole none (whole words (taken _ words c.in-Ok.ensures.shape c.in-Ok-try_get_matches_from.ensures.kinds)))
