@@ -1,4 +1,4 @@
-use Rattle.std.proofs.Common.{◌≡◌, ◌-◌, ◌+◌, ℕ, suc, false, [], Option, Some, None, not, sym, ◌∙◌, ap, subst, arith}
+use Rattle.std.proofs.Common.{◌≡◌, ◌-◌, ◌+◌, ℕ, suc, eqb, length, true, false, [], Option, Some, None, inr, not, sym, ◌∙◌, ap, subst, arith}
 use Rattle.std.specs.Option.{is_some}
 use Rattle.std.proofs.lemmas.Bool.{false≢true}
 use Rattle.task_table.specs.State.{State}
@@ -50,3 +50,16 @@ on-preserved c =
       within = c.glide_and_turn-in-on.ensures.within;
       noted = c.glide_and_turn-in-on.ensures.noted;
     }
+
+pub returns-else-is_none-clause-far : goal.returns-else-is_none-clause-far
+returns-else-is_none-clause-far c = λ x s st none few.
+    let ends : c.ended.result ≡ ending x 1 s = c.ended.ensures.before x s 1 st (omega arith) in
+    let some : is_some c.ended.result ≡ true = c.is_none.ensures ∙ ap not c.if-is_none.false in
+    inr (λ goes. false≢true (sym (ap is_some (ends ∙ goes)) ∙ some))
+
+pub returns-else-is_empty-clause-far : goal.returns-else-is_empty-clause-far
+returns-else-is_empty-clause-far c = λ x s st none few.
+    absurd (false≢true (sym c.if-is_empty.false ∙ c.is_empty.ensures ∙ ap (λ notes. eqb (length notes) 0) (c.notes.ensures ∙ none)))
+
+pub returns-after-on-clause-far : goal.returns-after-on-clause-far
+returns-after-on-clause-far c = λ x s st none few. absurd (omega (arith, few, c.on-test.false))

@@ -67,3 +67,18 @@ unfolding turned
 returns-clause-turned c = λ x s st.
     let mid = c.begin.ensures.midway x s st in
     c.turn-turned.ensures.turned x.setup _ (next_of x s c.begin.new.self mid) ∙ ap (turned_of (after_events x s).state) mid.choice.next
+
+pub turn-turned-requires-clause-room : goal.turn-turned-requires-clause-room
+turn-turned-requires-clause-room c = omega (arith, c.begin.ensures.few)
+
+pub returns-clause-few : goal.returns-clause-few
+returns-clause-few c = omega (arith, c.renew.ensures.count, c.turn-turned.ensures.count, c.begin.ensures.few)
+
+pub returns-clause-turns : goal.returns-clause-turns
+returns-clause-turns c = omega (arith, c.renew.ensures.turns, c.begin.ensures.turns)
+
+pub returns-clause-due : goal.returns-clause-due
+returns-clause-due c = λ not_due. c.renew.ensures.due ∙ c.begin.ensures.due not_due
+
+pub returns-clause-kept : goal.returns-clause-kept
+returns-clause-kept c = λ not_due none. c.renew.ensures.kept none ∙ c.begin.ensures.kept not_due
