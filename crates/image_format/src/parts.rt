@@ -74,7 +74,6 @@ fn line_at(bytes: &[u8]) -> LineRecord
     }
 }
 
-#[tactic(auto, using(crate::proofs::Steps::tasks_more))]
 fn tasks_of(alloc: Global, n: usize, bytes: &[u8]) -> Result<Vec<TaskRecord>, AllocError>
     requires few { n < 2 ^ 16 }
     requires long { 12 * n ≤ length bytes.now }
@@ -91,7 +90,6 @@ fn tasks_of(alloc: Global, n: usize, bytes: &[u8]) -> Result<Vec<TaskRecord>, Al
     Ok(tasks)
 }
 
-#[tactic(auto, using(crate::proofs::Steps::regions_more))]
 fn regions_of(alloc: Global, n: usize, bytes: &[u8]) -> Result<Vec<RegionRecord>, AllocError>
     requires few { n < 2 ^ 16 }
     requires long { 12 * n ≤ length bytes.now }
@@ -108,7 +106,6 @@ fn regions_of(alloc: Global, n: usize, bytes: &[u8]) -> Result<Vec<RegionRecord>
     Ok(regions)
 }
 
-#[tactic(auto, using(crate::proofs::Steps::lines_more))]
 fn lines_of(alloc: Global, n: usize, bytes: &[u8]) -> Result<Vec<LineRecord>, AllocError>
     requires few { n < 2 ^ 16 }
     requires long { 8 * n ≤ length bytes.now }

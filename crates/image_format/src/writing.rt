@@ -14,29 +14,24 @@ use std::alloc::AllocError;
 fn push_half(out: &mut Vec<u8>, n: u16) -> Result<(), AllocError>
     ensures { OnOk result (out.new.items ≡ out.old.items ++ half_bytes n) }
 {
-    out.push((n % 256) as u8)?;
-    out.push((n / 256) as u8)?;
-    Ok(())
+    out.extend_from_slice(&[(n % 256) as u8, (n / 256) as u8])
 }
 
 fn push_num(out: &mut Vec<u8>, n: u32) -> Result<(), AllocError>
     ensures { OnOk result (out.new.items ≡ out.old.items ++ num_bytes n) }
 {
-    out.push((n % 256) as u8)?;
-    out.push((n / 256 % 256) as u8)?;
-    out.push((n / 65536 % 256) as u8)?;
-    out.push((n / 16777216) as u8)?;
-    Ok(())
+    out.extend_from_slice(&[
+        (n % 256) as u8,
+        (n / 256 % 256) as u8,
+        (n / 65536 % 256) as u8,
+        (n / 16777216) as u8,
+    ])
 }
 
 fn push_four(out: &mut Vec<u8>, a: u8, b: u8, c: u8, d: u8) -> Result<(), AllocError>
     ensures { OnOk result (out.new.items ≡ out.old.items ++ (a ∷ b ∷ c ∷ d ∷ [])) }
 {
-    out.push(a)?;
-    out.push(b)?;
-    out.push(c)?;
-    out.push(d)?;
-    Ok(())
+    out.extend_from_slice(&[a, b, c, d])
 }
 
 fn push_counts(out: &mut Vec<u8>, h: &Header) -> Result<(), AllocError>
@@ -116,15 +111,21 @@ fn push_lines(out: &mut Vec<u8>, lines: &[LineRecord]) -> Result<(), AllocError>
     Ok(())
 }
 
+fn push_records(out: &mut Vec<u8>, image: &Image) -> Result<(), AllocError>
+    ensures { OnOk result (out.new.items ≡ out.old.items ++ bytes_of (records_in image.now)) }
+{
+    push_header(out, &image.header)?;
+    push_tasks(out, image.tasks.as_slice())?;
+    push_regions(out, image.regions.as_slice())?;
+    push_lines(out, image.lines.as_slice())?;
+    out.extend_from_slice(image.flash.as_slice())
+}
+
 fn bytes_of(image: &Image) -> Result<Vec<u8>, AllocError>
     ensures { IfOk result (λ v. v.items ≡ bytes_of (records_in image.now)) }
 {
     let mut out = Vec::new(*image.flash.allocator());
-    push_header(&mut out, &image.header)?;
-    push_tasks(&mut out, image.tasks.as_slice())?;
-    push_regions(&mut out, image.regions.as_slice())?;
-    push_lines(&mut out, image.lines.as_slice())?;
-    out.extend_from_slice(image.flash.as_slice())?;
+    push_records(&mut out, image)?;
     Ok(out)
 }
 

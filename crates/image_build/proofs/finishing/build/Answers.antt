@@ -1,4 +1,5 @@
 use Rattle.std.proofs.Common.{◌≡◌, ◌∙◌, ◌<◌, ℕ, List, ap, arith, get_or, length, map, rules, subst, sym, []}
+use Rattle.std.proofs.lemmas.Grind.{common_steps}
 use Rattle.std.proofs.lemmas.List.{get_or-map, length-map}
 use Rattle.std.proofs.lemmas.Result.{IfOk-weaker}
 use Rattle.app_toml.specs.Apps.{AppData}
@@ -49,3 +50,12 @@ returns-clause-accepted c =
     let all : List (List ℕ) = map (λ v. v.items) c.args.sources.now in
     let count : length all ≡ length app.tasks = length-map c.args.sources.now (λ v. v.items) ∙ c.requires in
     IfOk-weaker c.finish.result _ _ (λ i h. all_accepted app all c.loop-source.builder c.loop-source.invariant.same count (taken c)) c.finish.ensures.sound
+
+pub loop-source-init : goal.loop-source-init
+loop-source-init c = record { same = c.in_ok-builder.ensures.described; taken = c.in_ok-builder.ensures.none }
+
+pub returns-clause-sound : goal.returns-clause-sound
+returns-clause-sound c = c.finish.ensures.sound
+
+pub returns-clause-refused : goal.returns-clause-refused
+returns-clause-refused c = grind (arith, common_steps)

@@ -1,4 +1,5 @@
 use Rattle.std.proofs.Common.{◌∙◌, arith, sym}
+use Rattle.std.proofs.lemmas.Grind.{common_steps}
 use Rattle.image_format.proofs.Chunks.{counted_step, entries_step, none_found}
 use Rattle.image_format.proofs.regions.check_entries.Goals as goal
 
@@ -13,3 +14,9 @@ loop-i-preserved c =
           entries_step c.args.tasks.now c.args.regions.now c.loop-i.place c.loop-i.start c.loop-i.i c.from.result c.check_entry-found.result c.loop-i-test.true c.from.ensures c.check_entry-found.ensures none
           ∙ c.loop-i.invariant.left;
     }
+
+pub returns-then-is_some : goal.returns-then-is_some
+returns-then-is_some c = grind (arith, common_steps)
+
+pub returns : goal.returns
+returns c = grind (arith, common_steps)
