@@ -16,7 +16,7 @@ below_first : (app : AppData) (all : List (List ℕ)) (k : ℕ) → k ≤ length
 below_first app all k le h = λ i lt.
     subst (IsTaken app i) (get_or-take k all i [] lt) (h i (omega (arith, lt, length-take-le k all le)))
 
-next_is : (all : List (List ℕ)) (k : ℕ) (b : Builder) → k ≤ length all → HasTaken (take k all) b → next_task b ≡ k
+pub next_is : (all : List (List ℕ)) (k : ℕ) (b : Builder) → k ≤ length all → HasTaken (take k all) b → next_task b ≡ k
 next_is all k b le h = h.next ∙ length-take-le k all le
 
 pub one_more : (all : List (List ℕ)) (k : ℕ) (source : List ℕ) (b : Builder) → k < length all → source ≡ get_or all k []

@@ -111,21 +111,15 @@ fn push_lines(out: &mut Vec<u8>, lines: &[LineRecord]) -> Result<(), AllocError>
     Ok(())
 }
 
-fn push_records(out: &mut Vec<u8>, image: &Image) -> Result<(), AllocError>
-    ensures { OnOk result (out.new.items ≡ out.old.items ++ bytes_of (records_in image.now)) }
-{
-    push_header(out, &image.header)?;
-    push_tasks(out, image.tasks.as_slice())?;
-    push_regions(out, image.regions.as_slice())?;
-    push_lines(out, image.lines.as_slice())?;
-    out.extend_from_slice(image.flash.as_slice())
-}
-
 fn bytes_of(image: &Image) -> Result<Vec<u8>, AllocError>
     ensures { IfOk result (λ v. v.items ≡ bytes_of (records_in image.now)) }
 {
     let mut out = Vec::new(*image.flash.allocator());
-    push_records(&mut out, image)?;
+    push_header(&mut out, &image.header)?;
+    push_tasks(&mut out, image.tasks.as_slice())?;
+    push_regions(&mut out, image.regions.as_slice())?;
+    push_lines(&mut out, image.lines.as_slice())?;
+    out.extend_from_slice(image.flash.as_slice())?;
     Ok(out)
 }
 

@@ -7,7 +7,7 @@ use Rattle.app_toml.specs.Held.{app_of}
 use Rattle.image_format.specs.Images.{picture}
 use Rattle.image_build.specs.Built.{Built}
 use Rattle.image_build.specs.Taken.{HasTaken}
-use Rattle.image_build.proofs.Whole.{all_accepted, all_taken, one_more, refuses_next}
+use Rattle.image_build.proofs.Whole.{all_accepted, all_taken, next_is, one_more, refuses_next}
 use Rattle.image_build.proofs.finishing.build.Goals as goal
 
 pub returns-in_err-source-clause-refused : goal.returns-in_err-source-clause-refused
@@ -32,6 +32,22 @@ loop-source-preserved c =
       same = c.in_ok-source.ensures.described ∙ c.loop-source.invariant.same;
       taken = one_more all k c.as_slice.result.now c.source.new.self below at (c.in_ok-source.ensures.taken _ c.loop-source.invariant.taken);
     }
+
+pub source-requires : goal.source-requires
+source-requires c =
+    let all : List (List ℕ) = map (λ v. v.items) c.args.sources.now in
+    let k = c.loop-source.source-index in
+    let count = length-map c.args.sources.now (λ v. v.items) in
+    let tasks = ap (λ a. length a.tasks) c.loop-source.invariant.same in
+    omega (arith, c.loop-source-test.true, tasks, next_is all k c.loop-source.builder (omega (arith, c.loop-source-test.true, count)) c.loop-source.invariant.taken)
+
+pub finish-requires : goal.finish-requires
+finish-requires c =
+    let all : List (List ℕ) = map (λ v. v.items) c.args.sources.now in
+    let k = c.loop-source.source-index in
+    let count = length-map c.args.sources.now (λ v. v.items) in
+    let tasks = ap (λ a. length a.tasks) c.loop-source.invariant.same in
+    omega (arith, c.loop-source-test.false, tasks, next_is all k c.loop-source.builder (omega (arith, count)) c.loop-source.invariant.taken)
 
 done : (c : goal.After-finish) → length (map (λ v. v.items) c.args.sources.now) ≡ c.loop-source.source-index
 done c = omega (arith, c.loop-source-test.false, c.loop-source.auto.source-index-end, length-map c.args.sources.now (λ v. v.items))
