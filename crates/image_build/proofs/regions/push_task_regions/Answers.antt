@@ -1,4 +1,5 @@
-use Rattle.std.proofs.Common.{◌∙◌, ap, map, string_bytes}
+use Rattle.std.proofs.Common.{◌∙◌, ap, arith, map, string_bytes}
+use Rattle.std.proofs.lemmas.Grind.{common_steps}
 use Rattle.app_toml.specs.Apps.{TaskData}
 use Rattle.app_toml.specs.Held.{app_of}
 use Rattle.image_build.specs.Layout.{task_at}
@@ -21,3 +22,6 @@ push_named-requires-2-clause-known c =
     known_names app (task_at app i).reads c.as_slice-2.result.now
     (ap (map string_bytes) c.as_slice-2.ensures.value ∙ ap (λ (t : TaskData). t.reads) c.task-task.ensures.task)
     (read_known app c.facts.ensures i c.requires.task)
+
+pub returns : goal.returns
+returns c = grind (arith, common_steps)

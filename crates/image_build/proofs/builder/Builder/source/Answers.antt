@@ -1,4 +1,5 @@
 use Rattle.std.proofs.Common.{◌≡◌, ◌∙◌, ◌++◌, ◌∷◌, ℕ, List, [], ap, arith, get_or, length, length-append, refl, rules, subst, sym}
+use Rattle.std.proofs.lemmas.Grind.{common_steps}
 use Rattle.std.specs.BTreeMap.{get_by_text}
 use Rattle.std.specs.Vec.{with_items}
 use Rattle.std.proofs.lemmas.List.{with_items_is}
@@ -74,3 +75,6 @@ returns-clause-taken c = λ sources h. record {
   most = omega (arith, h.next, c.requires, length-append sources (c.args.bytes.now ∷ []));
   holds = holds c sources h;
 }
+
+pub invariant_of-self : goal.invariant_of-self
+invariant_of-self c = record { laid = c.args.self.now.laid; filled = grind (arith, common_steps) }
