@@ -1,16 +1,20 @@
 -- Names that are kept in the order of their bytes, as one more is added.
-use Rattle.std.proofs.Common.{◌≡◌, ◌∙◌, ◌<◌, ◌+◌, ◌||◌, ℕ, List, [], ◌∷◌, ◌++◌, length, get_or, map, take, Bool, true, false, cond, inl, inr, Option, Some, None, is_some, String, string_bytes, refl, sym, ap, subst, add-one}
+use Rattle.std.proofs.Common.{◌≡◌, ◌∙◌, ◌<◌, ◌+◌, ◌||◌, ℕ, List, [], ◌∷◌, ◌++◌, length, drop, get_or, map, take, Bool, true, false, cond, inl, inr, Option, Some, None, is_some, String, refl, sym, ap, subst, add-one}
 use Rattle.std.specs.BTreeMap.{BTreeMap, get_by_text}
-use Rattle.std.specs.BTreeSet.{BTreeSet, contains_text}
+use Rattle.std.specs.BTreeSet.{BTreeSet}
 use Rattle.std.specs.List.{list_any}
 use Rattle.std.specs.Str.{bytes_eq}
 use Rattle.std.proofs.lemmas.Bool.{cases_Bool}
-use Rattle.std.proofs.lemmas.List.{map-append}
+use Rattle.std.proofs.lemmas.List.{append_assoc, drop_more, map-append}
 use Rattle.std.proofs.Math.Seq.{take-suc}
+use Rattle.toml.specs.Data.{Members}
+use Rattle.toml.specs.View.{items_view, view}
+use Rattle.toml.specs.declared.value.Value.{Value}
 use Rattle.app_toml.specs.Apps.{TaskData}
 use Rattle.app_toml.specs.Crossed.{has_task, is_among, notifications_of}
 use Rattle.app_toml.specs.Known.{HasJust, IsKept}
 use Rattle.app_toml.specs.Places.{Text}
+use Rattle.app_toml.specs.Values.{each_in, table_of}
 use Rattle.app_toml.proofs.Walks.{or_false, same_text}
 
 swapped : (a b c : Bool) → (a || (b || c)) ≡ (b || (a || c))
@@ -42,6 +46,25 @@ pub joined_more : {T U : Type 0} (f : T → U) (test : U → Bool) (xs : List T)
 joined_more f test xs i x first old new lt h before after =
     after ∙ ap (λ t. test (f x) || t) before ∙ swapped (test (f x)) first (list_any test (map f (take i xs)))
     ∙ ap (λ t. first || t) (sym (any_more test (map f (take i xs)) (f x)) ∙ ap (list_any test) (sym (taken_more f xs i x lt h)))
+
+-- items that are made of those of a list one by one
+pub pushed_more : {S T U : Type 0} (g : S → U) (f : T → U) (old new : List S) (y : S) (xs : List T) (i : ℕ) (x : T) → i < length xs → x ≡ get_or xs i x
+    → new ≡ old ++ y ∷ [] → g y ≡ f x → map g old ++ map f (drop i xs) ≡ map f xs → map g new ++ map f (drop (i + 1) xs) ≡ map f xs
+pushed_more g f old new y xs i x lt here pushed same walk =
+    let rest = map f (drop (i + 1) xs) in
+    ap (λ ys. map g ys ++ rest) pushed ∙ ap (λ us. us ++ rest) (map-append g old (y ∷ [])) ∙ append_assoc (map g old) (g y ∷ []) rest
+    ∙ ap (λ u. map g old ++ u ∷ rest) same
+    ∙ ap (λ ys. map g old ++ map f ys) (ap (λ z. z ∷ drop (i + 1) xs) here ∙ sym (drop_more xs i x lt)) ∙ walk
+
+-- items that are read from those of a list one by one
+pub read_more : {S U : Type 0} (g : S → U) (read : Members → U) (old new : List S) (y : S) (xs : List Value) (i : ℕ) (x : Value) (whole : List U) → i < length xs
+    → x ≡ get_or xs i x → new ≡ old ++ y ∷ [] → g y ≡ read (table_of (view x)) → map g old ++ each_in read (items_view (drop i xs)) ≡ whole
+    → map g new ++ each_in read (items_view (drop (i + 1) xs)) ≡ whole
+read_more g read old new y xs i x whole lt here pushed same walk =
+    let rest = each_in read (items_view (drop (i + 1) xs)) in
+    ap (λ ys. map g ys ++ rest) pushed ∙ ap (λ us. us ++ rest) (map-append g old (y ∷ [])) ∙ append_assoc (map g old) (g y ∷ []) rest
+    ∙ ap (λ u. map g old ++ u ∷ rest) same
+    ∙ ap (λ ys. map g old ++ each_in read (items_view ys)) (ap (λ z. z ∷ drop (i + 1) xs) here ∙ sym (drop_more xs i x lt)) ∙ walk
 
 pub as_or : (a b : Bool) → cond a true b ≡ (a || b)
 as_or true b = refl

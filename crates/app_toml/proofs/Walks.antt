@@ -121,7 +121,7 @@ some_first : {T : Type 0} (f : T → Refusal) (o : Option T) (rest : Option Refu
 some_first f None rest e = cc
 some_first f (Some x) rest e = refl
 
-none_first : {T : Type 0} (f : T → Refusal) (o : Option T) (rest : Option Refusal) → is_some o ≡ false → or_else (option_map f o) rest ≡ rest
+pub none_first : {T : Type 0} (f : T → Refusal) (o : Option T) (rest : Option Refusal) → is_some o ≡ false → or_else (option_map f o) rest ≡ rest
 none_first f None rest e = refl
 none_first f (Some x) rest e = cc
 

@@ -36,6 +36,5 @@ pub(crate) fn cross_fault(
     if start.is_some() {
         return Ok(start);
     }
-    let line = line_fault(alloc, parts)?;
-    Ok(line)
+    line_fault(alloc, parts)
 }

@@ -15,12 +15,10 @@ use toml::{Table, Value};
 fn is_top(name: &str) -> bool
     ensures { result ≡ is_top name.now }
 {
-    name == "board"
-        || name == "supervisor"
-        || name == "task"
-        || name == "region"
-        || name == "device"
-        || name == "interrupt"
+    matches!(
+        name,
+        "board" | "supervisor" | "task" | "region" | "device" | "interrupt"
+    )
 }
 
 /// The first unknown key in byte order at the top.

@@ -1,12 +1,13 @@
 //! Cause 7: a name used before.
 
-ghost use Rattle.std.specs.Prelude.{◌≡◌, IfOk, [], map, option_map, string_bytes};
+ghost use Rattle.std.specs.Prelude.{◌≡◌, IfOk, [], codes, map, option_map, string_bytes};
+ghost use Rattle.std.specs.BTreeSet.{contains_text};
 ghost use Rattle.app_toml.specs.Crossed.{device_twice, entries_twice, lists_twice, name_twice, region_twice, task_twice};
 ghost use Rattle.app_toml.specs.Held.{parts_of};
-ghost use Rattle.app_toml.specs.Places.{first_clash};
+ghost use Rattle.app_toml.specs.Places.{at_key, first_clash, index_site, refuse_if};
 ghost use Rattle.app_toml.specs.Sites.{device_of, refusal_of, region_of, site_of, task_of};
 
-use crate::known::{is_known, known_names, known_regions, learn};
+use crate::known::{Names, is_known, known_names, known_regions, learn};
 use crate::parts::{Device, Parts, SharedRegion, Task};
 use crate::places::{Fault, Place, entry_place, fault_if, index_place, key_place};
 use std::alloc::{AllocError, Global};
@@ -33,6 +34,15 @@ fn entries_twice<'a>(
         learn(alloc, &mut known, name)?;
     }
     Ok(None)
+}
+
+/// The fault of a table of a list whose name is known.
+fn known_fault(known: &Names, head: &'static str, i: usize, name: &str) -> Option<Fault<'static>>
+    ensures { option_map refusal_of result
+        ≡ refuse_if (contains_text known.now name.now) 7 (at_key (codes "name") (index_site head.now i)) }
+{
+    let place = key_place(index_place(head, i), "name");
+    fault_if(is_known(known, name), 7, place)
 }
 
 /// Of the k-th task: its notifications, then what it uses and reads together.
@@ -68,13 +78,13 @@ fn tasks_twice(alloc: Global, tasks: &[Task]) -> Result<Option<Fault<'static>>, 
 {
     let mut known = BTreeSet::new(alloc);
     for i in 0..tasks.len() {
-        let name = tasks[i].name.as_str();
-        let twice = is_known(&known, name);
-        let found = fault_if(twice, 7, key_place(index_place("task", i), "name"));
+        let task = &tasks[i];
+        let name = task.name.as_str();
+        let found = known_fault(&known, "task", i, name);
         if found.is_some() {
             return Ok(found);
         }
-        let lists = lists_twice(alloc, i, &tasks[i])?;
+        let lists = lists_twice(alloc, i, task)?;
         if lists.is_some() {
             return Ok(lists);
         }
@@ -92,9 +102,9 @@ fn regions_twice(
 {
     let mut known = BTreeSet::new(alloc);
     for i in 0..regions.len() {
-        let name = regions[i].name.as_str();
-        let twice = is_known(&known, name);
-        let found = fault_if(twice, 7, key_place(index_place("region", i), "name"));
+        let region = &regions[i];
+        let name = region.name.as_str();
+        let found = known_fault(&known, "region", i, name);
         if found.is_some() {
             return Ok(found);
         }
@@ -114,9 +124,9 @@ fn devices_twice(
 {
     let mut known = known_regions(alloc, regions)?;
     for i in 0..devices.len() {
-        let name = devices[i].name.as_str();
-        let twice = is_known(&known, name);
-        let found = fault_if(twice, 7, key_place(index_place("device", i), "name"));
+        let device = &devices[i];
+        let name = device.name.as_str();
+        let found = known_fault(&known, "device", i, name);
         if found.is_some() {
             return Ok(found);
         }

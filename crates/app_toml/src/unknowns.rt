@@ -46,8 +46,9 @@ fn unknown_bit(kept: &TaskNames, interrupts: &[Interrupt]) -> Option<Fault<'stat
         ≡ first_fault (unknown_bit tasks) 0 (map interrupt_of interrupts.now) }
 {
     for i in 0..interrupts.len() {
-        let owner = interrupts[i].task.as_str();
-        let known = has_bit(kept, owner, interrupts[i].notification.as_str());
+        let interrupt = &interrupts[i];
+        let bit = interrupt.notification.as_str();
+        let known = has_bit(kept, interrupt.task.as_str(), bit);
         let found = fault_if(
             !known,
             9,

@@ -2,7 +2,7 @@
 //! ARMv6-M Architecture Reference Manual, chapter A5 and section A6.7).
 #![tactic(auto)]
 
-ghost use Rattle.std.specs.Prelude.{◌≡◌, ◌<◌, ◌≤◌, ◌*◌, ◌/◌, ◌^◌, None, Some, pos, ◌<ℤ◌, ◌≤ℤ◌, nat_abs, IfOk, IfErr, OnOk};
+ghost use Rattle.std.specs.Prelude.{◌≡◌, ◌<◌, ◌≤◌, ◌*◌, ◌/◌, ◌^◌, None, Some, pos, ◌<ℤ◌, ◌≤ℤ◌, nat_abs, IfOk, IfErr, OnOk, ◌||◌};
 ghost use Rattle.thumb_encode.specs.Codes.{fit_of, is_high, low3, low2, half_offset, code_of, split, load_code, store_code, imm_code, bytes_code, shift_code, barrier_code, scale, long_first, long_second, HasList, DecodesTo, IsOnlyCode, UndoesNarrow, UndoesWide, code_size, insn_size, misfit, is_no_register, outside, is_odd};
 ghost use Rattle.thumb_insn.specs.Range.{insn_of, IsCode};
 ghost use Rattle.thumb_insn.specs.Table.{is_later, branch_bit};
@@ -327,34 +327,59 @@ fn scale(size: Size) -> u32
     }
 }
 
+fn is_either_high(d: Reg, m: Reg) -> bool
+    ensures { result ≡ (is_high d || is_high m) }
+{
+    is_high(d) || is_high(m)
+}
+
+fn is_any_high(d: Reg, n: Reg, m: Reg) -> bool
+    ensures { result ≡ (is_high d || is_high n || is_high m) }
+{
+    is_high(d) || is_high(n) || is_high(m)
+}
+
+fn lacks_either(d: Reg, m: Reg) -> bool
+    ensures { result ≡ (is_no_register d || is_no_register m) }
+{
+    is_no_register(d) || is_no_register(m)
+}
+
 /// Why an instruction has no code.
 fn misfit_of(insn: &Insn) -> Option<Fit>
     ensures { result ≡ fit_of insn.now }
 {
     match *insn {
         Insn::ShiftImm { shift, d, m, by } => first_of(
-            is_high(d) || is_high(m),
+            is_either_high(d, m),
             match shift {
                 Shift::Lsl => 31 < by,
                 Shift::Lsr | Shift::Asr => by == 0 || 32 < by,
             },
             false,
         ),
-        Insn::AddsReg { d, n, m } => first_of(is_high(d) || is_high(n) || is_high(m), false, false),
-        Insn::AddsImm3 { d, n, value } => first_of(is_high(d) || is_high(n), 7 < value, false),
+        Insn::AddsReg { d, n, m }
+        | Insn::SubsReg { d, n, m }
+        | Insn::StoreReg { t: d, n, m, .. }
+        | Insn::LoadReg { t: d, n, m, .. } => first_of(is_any_high(d, n, m), false, false),
+        Insn::AddsImm3 { d, n, value } | Insn::SubsImm3 { d, n, value } => first_of(
+            is_either_high(d, n),
+            7 < value,
+            false,
+        ),
         Insn::AddHigh { d, m } => first_of(
-            is_no_register(d) || is_no_register(m) || (d.number == 15 && m.number == 15),
+            lacks_either(d, m) || (d.number == 15 && m.number == 15),
             false,
             false,
         ),
-        Insn::LdrLiteral { t, offset } => first_of(is_high(t), 1020 < offset, offset % 4 != 0),
-        Insn::StoreImm { size, t, n, offset } => {
+        Insn::LdrLiteral { t, offset }
+        | Insn::StoreSp { t, offset }
+        | Insn::LoadSp { t, offset }
+        | Insn::Adr { d: t, offset }
+        | Insn::AddSp { d: t, offset } => first_of(is_high(t), 1020 < offset, offset % 4 != 0),
+        Insn::StoreImm { size, t, n, offset } | Insn::LoadImm { size, t, n, offset } => {
             let unit = scale(size);
-            first_of(
-                is_high(t) || is_high(n),
-                31 * unit < offset,
-                offset % unit != 0,
-            )
+            first_of(is_either_high(t, n), 31 * unit < offset, offset % unit != 0)
         }
         Insn::Push { list, lr } => first_of(list == 0 && !lr, false, false),
         Insn::Stm { n, list } => first_of(
@@ -367,70 +392,48 @@ fn misfit_of(insn: &Insn) -> Option<Fit>
             is_outside(offset, -256, 254),
             is_odd(offset),
         ),
-        Insn::SubsReg { d, n, m } => first_of(is_high(d) || is_high(n) || is_high(m), false, false),
-        Insn::SubsImm3 { d, n, value } => first_of(is_high(d) || is_high(n), 7 < value, false),
         Insn::MovsImm { d, value } => first_of(is_high(d), 255 < value, false),
-        Insn::CmpImm { n, value } => first_of(is_high(n), 255 < value, false),
-        Insn::AddsImm8 { d, value } => first_of(is_high(d), 255 < value, false),
-        Insn::SubsImm8 { d, value } => first_of(is_high(d), 255 < value, false),
-        Insn::Data { d, m, .. } => first_of(is_high(d) || is_high(m), false, false),
+        Insn::CmpImm { n, value }
+        | Insn::AddsImm8 { d: n, value }
+        | Insn::SubsImm8 { d: n, value } => first_of(is_high(n), 255 < value, false),
+        Insn::Data { d, m, .. } | Insn::Change { d, m, .. } => first_of(
+            is_either_high(d, m),
+            false,
+            false,
+        ),
         Insn::CmpHigh { n, m } => first_of(
-            is_no_register(n)
-                || is_no_register(m)
-                || !(is_high(n) || is_high(m))
-                || n.number == 15
-                || m.number == 15,
+            lacks_either(n, m) || !(is_high(n) || is_high(m)) || n.number == 15 || m.number == 15,
             false,
             false,
         ),
-        Insn::MovHigh { d, m } => first_of(is_no_register(d) || is_no_register(m), false, false),
-        Insn::Bx { m } => first_of(is_no_register(m) || m.number == 15, false, false),
-        Insn::Blx { m } => first_of(is_no_register(m) || m.number == 15, false, false),
-        Insn::StoreReg { t, n, m, .. } => first_of(
-            is_high(t) || is_high(n) || is_high(m),
+        Insn::MovHigh { d, m } => first_of(lacks_either(d, m), false, false),
+        Insn::Bx { m } | Insn::Blx { m } => first_of(
+            is_no_register(m) || m.number == 15,
             false,
             false,
         ),
-        Insn::LoadReg { t, n, m, .. } => first_of(
-            is_high(t) || is_high(n) || is_high(m),
+        Insn::RaiseSp { offset } | Insn::LowerSp { offset } => first_of(
             false,
-            false,
+            508 < offset,
+            offset % 4 != 0,
         ),
-        Insn::LoadImm { size, t, n, offset } => {
-            let unit = scale(size);
-            first_of(
-                is_high(t) || is_high(n),
-                31 * unit < offset,
-                offset % unit != 0,
-            )
-        }
-        Insn::StoreSp { t, offset } => first_of(is_high(t), 1020 < offset, offset % 4 != 0),
-        Insn::LoadSp { t, offset } => first_of(is_high(t), 1020 < offset, offset % 4 != 0),
-        Insn::Adr { d, offset } => first_of(is_high(d), 1020 < offset, offset % 4 != 0),
-        Insn::AddSp { d, offset } => first_of(is_high(d), 1020 < offset, offset % 4 != 0),
-        Insn::RaiseSp { offset } => first_of(false, 508 < offset, offset % 4 != 0),
-        Insn::LowerSp { offset } => first_of(false, 508 < offset, offset % 4 != 0),
-        Insn::Change { d, m, .. } => first_of(is_high(d) || is_high(m), false, false),
         Insn::Pop { list, pc } => first_of(list == 0 && !pc, false, false),
         Insn::Cpsie | Insn::Cpsid => None,
-        Insn::Bkpt { value } => first_of(false, 255 < value, false),
-        Insn::Hint { value } => first_of(false, 15 < value, false),
+        Insn::Bkpt { value } | Insn::Svc { value } => first_of(false, 255 < value, false),
+        Insn::Hint { value } | Insn::Fence { option: value, .. } => first_of(
+            false,
+            15 < value,
+            false,
+        ),
         Insn::Ldm { n, list } => first_of(is_high(n) || list == 0, false, false),
-        Insn::Svc { value } => first_of(false, 255 < value, false),
         Insn::Branch { offset } => first_of(false, is_outside(offset, -2048, 2046), is_odd(offset)),
         Insn::Bl { offset } => first_of(
             false,
             is_outside(offset, -16_777_216, 16_777_214),
             is_odd(offset),
         ),
-        Insn::Fence { option, .. } => first_of(false, 15 < option, false),
-        Insn::Mrs { d } => first_of(
+        Insn::Mrs { d } | Insn::Msr { n: d } => first_of(
             is_no_register(d) || d.number == 13 || d.number == 15,
-            false,
-            false,
-        ),
-        Insn::Msr { n } => first_of(
-            is_no_register(n) || n.number == 13 || n.number == 15,
             false,
             false,
         ),

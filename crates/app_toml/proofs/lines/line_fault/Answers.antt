@@ -1,4 +1,4 @@
-use Rattle.std.proofs.Common.{◌≡◌, ◌∙◌, None, map, sym}
+use Rattle.std.proofs.Common.{◌∙◌, map, sym}
 use Rattle.app_toml.specs.Crossed.{bad_device}
 use Rattle.app_toml.specs.Relations.{IsPlaced}
 use Rattle.app_toml.specs.Sites.{device_of, refusal_of}

@@ -1,6 +1,6 @@
-use Rattle.std.proofs.Common.{◌≡◌, List, Option, length, map, sym, subst, arith}
+use Rattle.std.proofs.Common.{◌≡◌, ℕ, false, List, Option, Some, length, map, sym, subst, arith, refl}
 use Rattle.task_table.specs.Parts.{task_setup}
-use Rattle.task_table.specs.Entries.{AreFresh, AreEntriesOf}
+use Rattle.task_table.specs.Entries.{AreFresh, AreEntriesOf, kept_at, meets}
 use Rattle.task_table.specs.declared.entry.KeptEntry.{KeptEntry}
 use Rattle.task_table.proofs.Written.{front}
 use Rattle.task_table.proofs.Kept.{fresh_left, of_left}
@@ -26,3 +26,60 @@ invariant_of-self-clause-of_calls c =
     let next : AreEntriesOf tasks k.slots.items new = of_left tasks k.slots.items watch.low watch.span c.deref_mut.result.now new c.args.addr c.args.count was c.drop_met-self.ensures in
     let count : length new ≡ k.entries.len = omega (arith, c.drop_met-self.ensures.count, c.deref_mut.ensures.len) in
     subst (λ (xs : List (Option KeptEntry)). AreEntriesOf tasks k.slots.items xs) (sym (front k.entries.len new _ count)) next
+
+pub invariant_of-self-clause-few : goal.invariant_of-self-clause-few
+invariant_of-self-clause-few c = c.args.self.now.few
+
+pub invariant_of-self-clause-all_lines : goal.invariant_of-self-clause-all_lines
+invariant_of-self-clause-all_lines c = c.args.self.now.all_lines
+
+pub invariant_of-self-clause-few_owners : goal.invariant_of-self-clause-few_owners
+invariant_of-self-clause-few_owners c = c.args.self.now.few_owners
+
+pub invariant_of-self-clause-many : goal.invariant_of-self-clause-many
+invariant_of-self-clause-many c = c.args.self.now.many
+
+pub invariant_of-self-clause-there : goal.invariant_of-self-clause-there
+invariant_of-self-clause-there c = c.args.self.now.there
+
+pub invariant_of-self-clause-levels_are : goal.invariant_of-self-clause-levels_are
+invariant_of-self-clause-levels_are c = c.args.self.now.levels_are
+
+pub invariant_of-self-clause-ready_now : goal.invariant_of-self-clause-ready_now
+invariant_of-self-clause-ready_now c = c.args.self.now.ready_now
+
+pub invariant_of-self-clause-offered_now : goal.invariant_of-self-clause-offered_now
+invariant_of-self-clause-offered_now c = c.args.self.now.offered_now
+
+pub invariant_of-self-clause-deadlines : goal.invariant_of-self-clause-deadlines
+invariant_of-self-clause-deadlines c = c.args.self.now.deadlines
+
+pub invariant_of-self-clause-lendable : goal.invariant_of-self-clause-lendable
+invariant_of-self-clause-lendable c = c.args.self.now.lendable
+
+pub returns-clause-holds : goal.returns-clause-holds
+returns-clause-holds c = λ g t h. h
+
+pub returns-clause-memory : goal.returns-clause-memory
+returns-clause-memory c = refl
+
+pub returns-clause-current : goal.returns-clause-current
+returns-clause-current c = refl
+
+pub returns-clause-frame : goal.returns-clause-frame
+returns-clause-frame c = record { notes = omega arith; tasks = refl; setup = refl }
+
+pub returns-clause-apart : goal.returns-clause-apart
+returns-clause-apart c =
+    let k = c.args.self.now in
+    let new = c.drop_met-self.new.entries in
+    let count : length new ≡ k.entries.len = omega (arith, c.drop_met-self.ensures.count, c.deref_mut.ensures.len) in
+    subst (λ (xs : List (Option KeptEntry)). (i : ℕ) (x : KeptEntry) → kept_at xs i ≡ Some x → meets x c.args.addr c.args.count ≡ false) (sym (front k.entries.len new _ count)) c.drop_met-self.ensures.apart
+
+pub returns-clause-stay : goal.returns-clause-stay
+returns-clause-stay c =
+    let k = c.args.self.now in
+    let new = c.drop_met-self.new.entries in
+    let count : length new ≡ k.entries.len = omega (arith, c.drop_met-self.ensures.count, c.deref_mut.ensures.len) in
+    let stay = subst (λ (xs : List (Option KeptEntry)). (i : ℕ) (x : KeptEntry) → kept_at xs i ≡ Some x → meets x c.args.addr c.args.count ≡ false → kept_at new i ≡ Some x) c.deref_mut.ensures.value c.drop_met-self.ensures.stay in
+    subst (λ (xs : List (Option KeptEntry)). (i : ℕ) (x : KeptEntry) → kept_at k.entries.items i ≡ Some x → meets x c.args.addr c.args.count ≡ false → kept_at xs i ≡ Some x) (sym (front k.entries.len new _ count)) stay

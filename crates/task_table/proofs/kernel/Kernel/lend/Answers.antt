@@ -48,3 +48,33 @@ pub invariant_of-self-clause-lendable : goal.invariant_of-self-clause-lendable
 invariant_of-self-clause-lendable g c =
     let k = c.touched.new.self in
     lendable_same k.memory.regions c.lend.new.self.regions (map task_setup k.tasks.items) c.lend.ensures.regions k.lendable
+
+pub invariant_of-self-clause-few : goal.invariant_of-self-clause-few
+invariant_of-self-clause-few g c = c.touched.new.self.few
+
+pub invariant_of-self-clause-all_lines : goal.invariant_of-self-clause-all_lines
+invariant_of-self-clause-all_lines g c = c.touched.new.self.all_lines
+
+pub invariant_of-self-clause-few_owners : goal.invariant_of-self-clause-few_owners
+invariant_of-self-clause-few_owners g c = c.touched.new.self.few_owners
+
+pub invariant_of-self-clause-many : goal.invariant_of-self-clause-many
+invariant_of-self-clause-many g c = c.touched.new.self.many
+
+pub invariant_of-self-clause-there : goal.invariant_of-self-clause-there
+invariant_of-self-clause-there g c = c.touched.new.self.there
+
+pub invariant_of-self-clause-levels_are : goal.invariant_of-self-clause-levels_are
+invariant_of-self-clause-levels_are g c = c.touched.new.self.levels_are
+
+pub invariant_of-self-clause-ready_now : goal.invariant_of-self-clause-ready_now
+invariant_of-self-clause-ready_now g c = c.touched.new.self.ready_now
+
+pub invariant_of-self-clause-offered_now : goal.invariant_of-self-clause-offered_now
+invariant_of-self-clause-offered_now g c = c.touched.new.self.offered_now
+
+pub invariant_of-self-clause-deadlines : goal.invariant_of-self-clause-deadlines
+invariant_of-self-clause-deadlines g c = c.touched.new.self.deadlines
+
+pub invariant_of-self-clause-of_calls : goal.invariant_of-self-clause-of_calls
+invariant_of-self-clause-of_calls g c = c.touched.new.self.of_calls

@@ -1,6 +1,15 @@
+use Rattle.std.proofs.Common.{refl, arith}
 use Rattle.task_table.specs.Holds.{kept_of}
 use Rattle.task_table.proofs.Steps as steps
 use Rattle.task_table.proofs.kernel.Kernel.set_current.Goals as goal
 
+pub invariant_of-self : goal.invariant_of-self
+invariant_of-self c =
+    let k = c.args.self.now in
+    record { few = k.few; all_lines = k.all_lines; few_owners = k.few_owners; many = k.many; there = c.requires; levels_are = k.levels_are; ready_now = k.ready_now; offered_now = k.offered_now; deadlines = k.deadlines; lendable = k.lendable; fresh = k.fresh; of_calls = k.of_calls }
+
 pub returns-clause-holds : goal.returns-clause-holds
 returns-clause-holds c = λ g t h. steps.holds_current g (kept_of c.args.self.now) t c.args.task h
+
+pub returns-clause-frame : goal.returns-clause-frame
+returns-clause-frame c = record { notes = omega arith; tasks = refl; setup = refl }

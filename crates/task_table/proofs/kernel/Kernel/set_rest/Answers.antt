@@ -1,4 +1,5 @@
-use Rattle.std.proofs.Common.{refl, sym, ◌∙◌, arith, map, length-set}
+use Rattle.std.proofs.Common.{refl, sym, ◌∙◌, arith, map, length-set, ◌≤◌, ℕ, subst}
+use Rattle.task_table.specs.Limits.{most_tasks}
 use Rattle.task_table.specs.Holds.{kept_of}
 use Rattle.task_table.proofs.Steps as steps
 use Rattle.task_table.specs.Readiness.{is_free}
@@ -48,3 +49,30 @@ invariant_of-self-clause-of_calls c =
     let k = a.self.now in
     let old = c.index_mut-slot.result.now in
     of_same (map task_setup k.tasks.items) k.slots.items k.entries.items a.task old record a.rest.now { health = old.health; wait = old.wait; timer = old.timer } c.requires c.index_mut-slot.ensures.value refl k.of_calls
+
+pub invariant_of-self-clause-all_lines : goal.invariant_of-self-clause-all_lines
+invariant_of-self-clause-all_lines c = c.args.self.now.all_lines
+
+pub invariant_of-self-clause-few_owners : goal.invariant_of-self-clause-few_owners
+invariant_of-self-clause-few_owners c = c.args.self.now.few_owners
+
+pub invariant_of-self-clause-levels_are : goal.invariant_of-self-clause-levels_are
+invariant_of-self-clause-levels_are c = c.args.self.now.levels_are
+
+pub invariant_of-self-clause-lendable : goal.invariant_of-self-clause-lendable
+invariant_of-self-clause-lendable c = c.args.self.now.lendable
+
+pub invariant_of-self-clause-fresh : goal.invariant_of-self-clause-fresh
+invariant_of-self-clause-fresh c = c.args.self.now.fresh
+
+pub invariant_of-self-clause-few : goal.invariant_of-self-clause-few
+invariant_of-self-clause-few c =
+    let a = c.args in
+    let old = c.index_mut-slot.result.now in
+    subst (λ (n : ℕ). n ≤ most_tasks) (sym (length-set a.self.now.slots.items a.task record a.rest.now { health = old.health; wait = old.wait; timer = old.timer })) a.self.now.few
+
+pub returns-clause-frame : goal.returns-clause-frame
+returns-clause-frame c =
+    let a = c.args in
+    let old = c.index_mut-slot.result.now in
+    record { notes = omega arith; tasks = length-set a.self.now.slots.items a.task record a.rest.now { health = old.health; wait = old.wait; timer = old.timer }; setup = refl }

@@ -1,13 +1,24 @@
-use Rattle.std.proofs.Common.{rules, ◌≡◌, refl, ap, map, length, List}
+use Rattle.std.proofs.Common.{rules, ◌≡◌, ◌<◌, ◌≤◌, ◌∙◌, ℕ, refl, ap, sym, subst, map, length, List}
+use Rattle.std.proofs.lemmas.List.{length-map}
+use Rattle.std.proofs.lemmas.Result.{IfOk-from_err}
 use Rattle.task_table.specs.State.{Setup, TaskSetup, LineSetup}
 use Rattle.task_table.specs.Parts.{setup_of_parts, task_setup, line_setup}
 use Rattle.task_table.specs.Start.{born}
 use Rattle.task_table.specs.Holds.{packed_task}
 use Rattle.task_table.specs.declared.slot.Wait.TheVariants.{Nothing}
+use Rattle.task_table.specs.Levels.{AreLevels}
+use Rattle.task_table.specs.Limits.{most_tasks, board_lines}
+use Rattle.task_table.specs.Readiness.{is_free, AreThose}
+use Rattle.task_table.specs.declared.slot.Slot.{Slot}
+use Rattle.task_table.specs.declared.start.TaskStart.{TaskStart}
 use Rattle.task_table.proofs.Members.{no_offers}
 use Rattle.task_table.proofs.Deadlines.{not_before-unset}
 use Rattle.task_table.proofs.Starts.{shows_start, sane-begun}
 use Rattle.task_table.proofs.kernel.Kernel.start.Goals as goal
+
+-- as many slots as tasks
+as_many : (slots : List Slot) (tasks : List TaskStart) → slots ≡ map (λ x. packed_task (born (task_setup x)) Nothing) tasks → length slots ≡ length tasks
+as_many slots tasks is = ap length is ∙ length-map tasks (λ x. packed_task (born (task_setup x)) Nothing)
 
 pub returns-clause-holds : goal.returns-clause-holds
 returns-clause-holds c =
@@ -40,3 +51,102 @@ invariant_of-result-clause-deadlines c =
 
 pub invariant_of-result-clause-lendable : goal.invariant_of-result-clause-lendable
 invariant_of-result-clause-lendable c = ∣ rw c.in_ok-copies.ensures.setup c.requires.given ∣₁
+
+pub invariant_of-result-clause-few : goal.invariant_of-result-clause-few
+invariant_of-result-clause-few c = subst (λ (n : ℕ). n ≤ most_tasks) (sym (as_many c.in_ok-slots.slots.items c.args.tasks.now c.in_ok-slots.ensures)) c.requires.few
+
+pub invariant_of-result-clause-all_lines : goal.invariant_of-result-clause-all_lines
+invariant_of-result-clause-all_lines c = refl
+
+pub invariant_of-result-clause-few_owners : goal.invariant_of-result-clause-few_owners
+invariant_of-result-clause-few_owners c = subst (λ (n : ℕ). n ≤ board_lines) (sym (ap length c.in_ok-owners.ensures.items)) c.requires.few_owners
+
+pub invariant_of-result-clause-many : goal.invariant_of-result-clause-many
+invariant_of-result-clause-many c = c.in_ok-copies.ensures.length ∙ sym (as_many c.in_ok-slots.slots.items c.args.tasks.now c.in_ok-slots.ensures)
+
+pub invariant_of-result-clause-there : goal.invariant_of-result-clause-there
+invariant_of-result-clause-there c = subst (λ (n : ℕ). 0 < n) (sym (as_many c.in_ok-slots.slots.items c.args.tasks.now c.in_ok-slots.ensures)) c.requires.some
+
+pub invariant_of-result-clause-levels_are : goal.invariant_of-result-clause-levels_are
+invariant_of-result-clause-levels_are c = subst (λ (ts : List TaskStart). AreLevels (map task_setup ts) c.in_ok-levels.levels.items) c.deref.ensures.value c.in_ok-levels.ensures
+
+pub invariant_of-result-clause-ready_now : goal.invariant_of-result-clause-ready_now
+invariant_of-result-clause-ready_now c = subst (λ (ss : List Slot). AreThose is_free ss c.ready_tasks-ready.result.words) c.deref-2.ensures.value c.ready_tasks-ready.ensures
+
+pub returns-clause-count : goal.returns-clause-count
+returns-clause-count c = as_many c.in_ok-slots.slots.items c.args.tasks.now c.in_ok-slots.ensures
+
+pub returns-clause-notes : goal.returns-clause-notes
+returns-clause-notes c = ap length c.new.ensures
+
+pub returns-in_err-copies-clause-holds : goal.returns-in_err-copies-clause-holds
+returns-in_err-copies-clause-holds c = IfOk-from_err c.from_residual.result _ c.from_residual.ensures.0
+
+pub returns-in_err-copies-clause-stands : goal.returns-in_err-copies-clause-stands
+returns-in_err-copies-clause-stands c = λ sound. IfOk-from_err c.from_residual.result _ c.from_residual.ensures.0
+
+pub returns-in_err-copies-clause-count : goal.returns-in_err-copies-clause-count
+returns-in_err-copies-clause-count c = IfOk-from_err c.from_residual.result _ c.from_residual.ensures.0
+
+pub returns-in_err-copies-clause-notes : goal.returns-in_err-copies-clause-notes
+returns-in_err-copies-clause-notes c = IfOk-from_err c.from_residual.result _ c.from_residual.ensures.0
+
+pub returns-in_err-levels-clause-holds : goal.returns-in_err-levels-clause-holds
+returns-in_err-levels-clause-holds c = IfOk-from_err c.from_residual-in_err-levels.result _ c.from_residual-in_err-levels.ensures.0
+
+pub returns-in_err-levels-clause-stands : goal.returns-in_err-levels-clause-stands
+returns-in_err-levels-clause-stands c = λ sound. IfOk-from_err c.from_residual-in_err-levels.result _ c.from_residual-in_err-levels.ensures.0
+
+pub returns-in_err-levels-clause-count : goal.returns-in_err-levels-clause-count
+returns-in_err-levels-clause-count c = IfOk-from_err c.from_residual-in_err-levels.result _ c.from_residual-in_err-levels.ensures.0
+
+pub returns-in_err-levels-clause-notes : goal.returns-in_err-levels-clause-notes
+returns-in_err-levels-clause-notes c = IfOk-from_err c.from_residual-in_err-levels.result _ c.from_residual-in_err-levels.ensures.0
+
+pub returns-in_err-owners-clause-holds : goal.returns-in_err-owners-clause-holds
+returns-in_err-owners-clause-holds c = IfOk-from_err c.from_residual-in_err-owners.result _ c.from_residual-in_err-owners.ensures.0
+
+pub returns-in_err-owners-clause-stands : goal.returns-in_err-owners-clause-stands
+returns-in_err-owners-clause-stands c = λ sound. IfOk-from_err c.from_residual-in_err-owners.result _ c.from_residual-in_err-owners.ensures.0
+
+pub returns-in_err-owners-clause-count : goal.returns-in_err-owners-clause-count
+returns-in_err-owners-clause-count c = IfOk-from_err c.from_residual-in_err-owners.result _ c.from_residual-in_err-owners.ensures.0
+
+pub returns-in_err-owners-clause-notes : goal.returns-in_err-owners-clause-notes
+returns-in_err-owners-clause-notes c = IfOk-from_err c.from_residual-in_err-owners.result _ c.from_residual-in_err-owners.ensures.0
+
+pub returns-in_err-slots-clause-holds : goal.returns-in_err-slots-clause-holds
+returns-in_err-slots-clause-holds c = IfOk-from_err c.from_residual-in_err-slots.result _ c.from_residual-in_err-slots.ensures.0
+
+pub returns-in_err-slots-clause-stands : goal.returns-in_err-slots-clause-stands
+returns-in_err-slots-clause-stands c = λ sound. IfOk-from_err c.from_residual-in_err-slots.result _ c.from_residual-in_err-slots.ensures.0
+
+pub returns-in_err-slots-clause-count : goal.returns-in_err-slots-clause-count
+returns-in_err-slots-clause-count c = IfOk-from_err c.from_residual-in_err-slots.result _ c.from_residual-in_err-slots.ensures.0
+
+pub returns-in_err-slots-clause-notes : goal.returns-in_err-slots-clause-notes
+returns-in_err-slots-clause-notes c = IfOk-from_err c.from_residual-in_err-slots.result _ c.from_residual-in_err-slots.ensures.0
+
+pub returns-in_err-offers-clause-holds : goal.returns-in_err-offers-clause-holds
+returns-in_err-offers-clause-holds c = IfOk-from_err c.from_residual-in_err-offers.result _ c.from_residual-in_err-offers.ensures.0
+
+pub returns-in_err-offers-clause-stands : goal.returns-in_err-offers-clause-stands
+returns-in_err-offers-clause-stands c = λ sound. IfOk-from_err c.from_residual-in_err-offers.result _ c.from_residual-in_err-offers.ensures.0
+
+pub returns-in_err-offers-clause-count : goal.returns-in_err-offers-clause-count
+returns-in_err-offers-clause-count c = IfOk-from_err c.from_residual-in_err-offers.result _ c.from_residual-in_err-offers.ensures.0
+
+pub returns-in_err-offers-clause-notes : goal.returns-in_err-offers-clause-notes
+returns-in_err-offers-clause-notes c = IfOk-from_err c.from_residual-in_err-offers.result _ c.from_residual-in_err-offers.ensures.0
+
+pub returns-in_err-entries-clause-holds : goal.returns-in_err-entries-clause-holds
+returns-in_err-entries-clause-holds c = IfOk-from_err c.from_residual-in_err-entries.result _ c.from_residual-in_err-entries.ensures.0
+
+pub returns-in_err-entries-clause-stands : goal.returns-in_err-entries-clause-stands
+returns-in_err-entries-clause-stands c = λ sound. IfOk-from_err c.from_residual-in_err-entries.result _ c.from_residual-in_err-entries.ensures.0
+
+pub returns-in_err-entries-clause-count : goal.returns-in_err-entries-clause-count
+returns-in_err-entries-clause-count c = IfOk-from_err c.from_residual-in_err-entries.result _ c.from_residual-in_err-entries.ensures.0
+
+pub returns-in_err-entries-clause-notes : goal.returns-in_err-entries-clause-notes
+returns-in_err-entries-clause-notes c = IfOk-from_err c.from_residual-in_err-entries.result _ c.from_residual-in_err-entries.ensures.0

@@ -6,3 +6,8 @@ use Rattle.task_table.proofs.kernel.Kernel.step_clock.Goals as goal
 pub returns-clause-holds : goal.returns-clause-holds
 unfolding clocked
 returns-clause-holds c = λ g t h. rw h.now at (c.note.ensures.holds g _ (steps.holds_now g (kept_of c.args.self.now) t _ h h.now))
+
+pub invariant_of-self : goal.invariant_of-self
+invariant_of-self c =
+    let k = c.args.self.now in
+    record { few = k.few; all_lines = k.all_lines; few_owners = k.few_owners; many = k.many; there = k.there; levels_are = k.levels_are; ready_now = k.ready_now; offered_now = k.offered_now; deadlines = k.deadlines; lendable = k.lendable; fresh = k.fresh; of_calls = k.of_calls }

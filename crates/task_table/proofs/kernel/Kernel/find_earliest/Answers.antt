@@ -1,0 +1,14 @@
+use Rattle.std.proofs.Common.{arith, subst, refl}
+use Rattle.task_table.specs.Deadlines.{AreNotBefore}
+use Rattle.task_table.proofs.kernel.Kernel.find_earliest.Goals as goal
+
+pub invariant_of-self : goal.invariant_of-self
+invariant_of-self c =
+    let k = c.args.self.now in
+    record { few = k.few; all_lines = k.all_lines; few_owners = k.few_owners; many = k.many; there = k.there; levels_are = k.levels_are; ready_now = k.ready_now; offered_now = k.offered_now; deadlines = subst (AreNotBefore c.earliest_in-self.result) c.deref.ensures.value c.earliest_in-self.ensures; lendable = k.lendable; fresh = k.fresh; of_calls = k.of_calls }
+
+pub returns-clause-holds : goal.returns-clause-holds
+returns-clause-holds c = λ g t h. h
+
+pub returns-clause-frame : goal.returns-clause-frame
+returns-clause-frame c = record { notes = omega arith; tasks = refl; setup = refl }
