@@ -5,9 +5,9 @@
 //! the program's name, or `each word`, the same with one word a line, or neither where not even the program's name is
 //! handed over; `failing calls` and `failing pushes`, the numbers of the reads and puts, and of the pushes, that fail;
 //! `hex NAME`, a file as bytes, where `00*9` is nine of one; `room NAME`, a file with room for so many bytes, and those
-//! that it holds; `player NAME` and `server NAME`, the source of a task that makes the calls of a table, and the table; `left NAME`, the
-//! bytes that stand there in the end; and any other key is the name of a file that stands there as it is. Last comes `text`,
-//! the lines that are wanted, or `sum`, the checksum of the text.
+//! that it holds; `player NAME` and `server NAME`, the source of a task that makes the calls of a table, and the table;
+//! `left NAME`, the bytes that stand there in the end; and any other key is the name of a file that stands there as it is.
+//! Last comes `text`, the lines that are wanted, or `sum`, the checksum of the text.
 #![tactic(auto)]
 
 mod halfwords;
