@@ -2,7 +2,6 @@
 
 use app_toml::App;
 use std::alloc::{AllocError, Global};
-use std::test::Fail;
 
 /// A description with each of its keys.
 const FULL: &str = r#"[board]
@@ -62,26 +61,6 @@ task = "sup"
 notification = "tick"
 "#;
 
-/// The description of docs/FORMATS.md.
-const ONE: &str = r#"[board]
-flash = 65536
-ram = 16384
-[supervisor]
-fault = "fault"
-[[task]]
-name = "sup"
-source = "sup.s"
-priority = 0
-flash = 256
-ram = 256
-stack = 64
-notifications = ["fault"]
-"#;
-
-const ONE_SHOWN: &str = r#"65536 16384 fault
-[Task { name: "sup", source: "sup.s", priority: 0, start: true, flash: 256, ram: 256, stack: 64, notifications: ["fault"], uses: [], reads: [] }]
-[] [] []"#;
-
 const FULL_SHOWN: &str = r#"65536 16384 fault
 [Task { name: "sup", source: "sup.s", priority: 0, start: true, flash: 256, ram: 256, stack: 64, notifications: ["fault", "tick"], uses: [], reads: [] }, Task { name: "echo", source: "echo.s", priority: 1, start: false, flash: 512, ram: 1024, stack: 1024, notifications: ["line"], uses: ["buffer", "uart"], reads: ["log"] }]
 [SharedRegion { name: "buffer", size: 300 }, SharedRegion { name: "log", size: 1 }] [Device { name: "uart", base: 1073741824, size: 256 }, Device { name: "timer", base: 1610611712, size: 1024 }] [Interrupt { line: 31, task: "echo", notification: "line" }, Interrupt { line: 3, task: "sup", notification: "tick" }]"#;
@@ -96,17 +75,15 @@ fn shown(alloc: Global, app: &App) -> Result<String, AllocError> {
 }
 
 #[test]
-fn what_descriptions_say(rt: HostRuntime) -> Result<(), Fail> {
-    let one = App::read(rt.alloc(), ONE.as_bytes())?;
-    assert!(rt; shown(rt.alloc(), &one)?.as_str() == ONE_SHOWN);
-    let full = App::read(rt.alloc(), FULL.as_bytes())?;
-    assert!(rt; shown(rt.alloc(), &full)?.as_str() == FULL_SHOWN);
-    Ok(())
+fn what_a_description_says(rt: HostRuntime) {
+    let app = App::read(rt.alloc(), FULL.as_bytes()).expect(&rt, "a description");
+    let text = shown(rt.alloc(), &app).expect(&rt, "memory");
+    assert!(rt; text.as_str() == FULL_SHOWN);
 }
 
 #[test]
-fn one_made_of_tables_says_the_same(rt: HostRuntime) -> Result<(), Fail> {
-    let full = App::read(rt.alloc(), FULL.as_bytes())?;
+fn one_made_of_tables_says_the_same(rt: HostRuntime) {
+    let full = App::read(rt.alloc(), FULL.as_bytes()).expect(&rt, "a description");
     full.facts();
     let made = App::of(
         rt.alloc(),
@@ -117,7 +94,7 @@ fn one_made_of_tables_says_the_same(rt: HostRuntime) -> Result<(), Fail> {
         full.regions(),
         full.devices(),
         full.interrupts(),
-    )?;
-    assert!(rt; shown(rt.alloc(), &made)?.as_str() == FULL_SHOWN);
-    Ok(())
+    );
+    let text = shown(rt.alloc(), &made.expect(&rt, "a description")).expect(&rt, "memory");
+    assert!(rt; text.as_str() == FULL_SHOWN);
 }

@@ -2,7 +2,6 @@
 
 use app_toml::App;
 use image_build::Builder;
-use std::test::Fail;
 
 const ONE: &str = "[board]
 flash = 65536
@@ -29,15 +28,15 @@ const ONE_IMAGE: [u8; 60] = [
 const LOOP: &[u8] = b" movs r0, #1\nhere: b here\n";
 
 #[test]
-fn a_refused_source_may_be_followed_by_another(rt: HostRuntime) -> Result<(), Fail> {
-    let app = App::read(rt.alloc(), ONE.as_bytes())?;
-    let mut builder = Builder::open(rt.alloc(), &app)?;
+fn a_refused_source_may_be_followed_by_another(rt: HostRuntime) {
+    let app = App::read(rt.alloc(), ONE.as_bytes()).expect(&rt, "a description");
+    let mut builder = Builder::open(rt.alloc(), &app).expect(&rt, "a builder");
     assert!(rt; builder.next() < app.tasks().len());
     assert!(rt; builder.source(b".space 257").is_err());
     assert!(rt; builder.next() < app.tasks().len());
-    builder.source(LOOP)?;
+    assert!(rt; builder.source(LOOP).is_ok());
     assert!(rt; builder.next() == app.tasks().len());
-    let bytes = builder.finish()?.write()?;
+    let image = builder.finish().expect(&rt, "an image");
+    let bytes = image.write().expect(&rt, "its bytes");
     assert!(rt; bytes.as_slice().get(..60) == Some(ONE_IMAGE.as_slice()));
-    Ok(())
 }

@@ -3,6 +3,8 @@
 #![tactic(auto)]
 
 #[cfg(test)]
+mod read_back_tests;
+#[cfg(test)]
 mod text_lines_tests;
 #[cfg(test)]
 mod thumb_asm_tests;
@@ -10,7 +12,5 @@ mod thumb_asm_tests;
 mod thumb_decode_tests;
 #[cfg(test)]
 mod thumb_encode_tests;
-#[cfg(test)]
-mod thumb_insn_tests;
 #[cfg(test)]
 mod trace_text_tests;

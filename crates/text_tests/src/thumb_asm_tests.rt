@@ -229,14 +229,38 @@ const REFUSED: [(&str, u8, usize); 86] = [
     ),
 ];
 
+/// How many blanks a line begins with, how it ends, and the cause and line for which it is refused.
+const LONG_LINES: [(usize, &[u8], (u8, usize)); 4] = [
+    (255, b"", (0, 0)),
+    (255, b"\r\n", (0, 0)),
+    (255, b"\r", (14, 1)),
+    (255, b"\x01\n", (14, 1)),
+];
+
+const TOLD: [(AsmFault, &str); 2] = [
+    (
+        AsmFault::Refused(Cause::BadList, 3),
+        "line 3: a list of registers that is not allowed",
+    ),
+    (AsmFault::Memory, "out of memory"),
+];
+
 fn symbols(alloc: Global) -> Result<Vec<(String, u32)>, AllocError> {
     let mut symbols = Vec::new(alloc);
-    symbols.push((String::from_str(alloc, "far")?, 0x0800_1004))?;
-    symbols.push((String::from_str(alloc, "given")?, 7))?;
-    symbols.push((String::from_str(alloc, "far")?, 1))?;
+    for (name, value) in [("far", 0x0800_1004), ("given", 7), ("far", 1)] {
+        symbols.push((String::from_str(alloc, name)?, value))?;
+    }
     Ok(symbols)
 }
 
+fn has_bytes(alloc: Global, source: &str, symbols: &[(String, u32)], bytes: &[u8]) -> bool {
+    match assemble(alloc, source.as_bytes(), BASE, symbols) {
+        Ok(object) => object.bytes.as_slice() == bytes,
+        Err(_) => false,
+    }
+}
+
+/// The cause and the line; 0 and 0 where the source is taken.
 fn refusal(alloc: Global, source: &[u8], symbols: &[(String, u32)]) -> (u8, usize) {
     match assemble(alloc, source, BASE, symbols) {
         Ok(_) => (0, 0),
@@ -249,8 +273,7 @@ fn refusal(alloc: Global, source: &[u8], symbols: &[(String, u32)]) -> (u8, usiz
 fn sources_have_their_bytes(rt: HostRuntime) -> Result<(), Fail> {
     let symbols = symbols(rt.alloc())?;
     for (source, bytes) in &TAKEN {
-        let object = assemble(rt.alloc(), source.as_bytes(), BASE, &symbols)?;
-        assert!(rt; object.bytes.as_slice() == *bytes, "{source}");
+        assert!(rt; has_bytes(rt.alloc(), source, &symbols, bytes), "{source}");
     }
     Ok(())
 }
@@ -259,10 +282,8 @@ fn sources_have_their_bytes(rt: HostRuntime) -> Result<(), Fail> {
 fn first_causes(rt: HostRuntime) -> Result<(), Fail> {
     let symbols = symbols(rt.alloc())?;
     for (source, cause, line) in &REFUSED {
-        assert!(rt;
-            refusal(rt.alloc(), source.as_bytes(), &symbols) == (*cause, *line),
-            "{source}"
-        );
+        let found = refusal(rt.alloc(), source.as_bytes(), &symbols);
+        assert!(rt; found == (*cause, *line), "{source}");
     }
     Ok(())
 }
@@ -276,29 +297,35 @@ fn blanks(alloc: Global, count: usize, end: &[u8]) -> Result<Vec<u8>, AllocError
 
 #[test]
 fn long_lines(rt: HostRuntime) -> Result<(), Fail> {
-    let alloc = rt.alloc();
-    assert!(rt; refusal(alloc, &blanks(alloc, 255, b"")?, &[]) == (0, 0));
-    assert!(rt; refusal(alloc, &blanks(alloc, 255, b"\r\n")?, &[]) == (0, 0));
-    assert!(rt; refusal(alloc, &blanks(alloc, 255, b"\r")?, &[]) == (14, 1));
-    assert!(rt; refusal(alloc, &blanks(alloc, 255, b"\x01\n")?, &[]) == (14, 1));
+    for (count, end, wanted) in LONG_LINES {
+        let source = blanks(rt.alloc(), count, end)?;
+        assert!(rt; refusal(rt.alloc(), &source, &[]) == wanted);
+    }
     Ok(())
 }
 
+/// The addresses of three labels, and how many there are.
+fn labels(alloc: Global, source: &[u8]) -> Option<([Option<u32>; 3], usize)> {
+    let object = assemble(alloc, source, BASE, &[]).ok()?;
+    let address = |name: &str| object.labels.get(name).copied();
+    Some((
+        [address("here"), address("next"), address("HERE")],
+        object.labels.len(),
+    ))
+}
+
 #[test]
-fn labels_have_their_addresses(rt: HostRuntime) -> Result<(), Fail> {
+fn labels_have_their_addresses(rt: HostRuntime) {
     let source = b"nop\nhere:\n.byte 1\nnext: .align 2\nHERE: .word here\n";
-    let object = assemble(rt.alloc(), source, BASE, &[])?;
-    assert!(rt; object.labels.len() == 3);
-    assert!(rt; object.labels.get("here").copied() == Some(BASE + 2));
-    assert!(rt; object.labels.get("next").copied() == Some(BASE + 3));
-    assert!(rt; object.labels.get("HERE").copied() == Some(BASE + 4));
-    Ok(())
+    let wanted = [Some(BASE + 2), Some(BASE + 3), Some(BASE + 4)];
+    assert!(rt; labels(rt.alloc(), source) == Some((wanted, 3)));
 }
 
 #[test]
 fn faults_are_told(rt: HostRuntime) -> Result<(), Fail> {
-    let text = format!(in rt.alloc(); "{}", AsmFault::Refused(Cause::BadList, 3))?;
-    assert!(rt; text.as_str() == "line 3: a list of registers that is not allowed");
-    assert!(rt; format!(in rt.alloc(); "{}", AsmFault::Memory)?.as_str() == "out of memory");
+    for (fault, text) in &TOLD {
+        let found = format!(in rt.alloc(); "{fault}")?;
+        assert!(rt; found.as_str() == *text);
+    }
     Ok(())
 }

@@ -129,37 +129,8 @@ c002 08000000 stm r0!, {r1}
 4b0f 08000002 ldr r3, 0x08000040
 ";
 
-/// The text of what a code is, or why it is none.
-fn text(first: u16, second: Option<u16>, at: u32) -> ArrayString<64> {
-    let mut out = ArrayString::new();
-    match decode(first, second) {
-        Decoded::Narrow(insn) | Decoded::Wide(insn) => insn.text(at, &mut out),
-        Decoded::Illegal => out.push_str("illegal"),
-        Decoded::NeedsSecond => out.push_str("needs second"),
-    }
-    out
-}
-
-fn halfword(digits: &str) -> Option<u16> {
-    u16::from_str_radix(digits, 16).ok()
-}
-
-#[test]
-fn codes_have_these_texts(rt: HostRuntime) {
-    for line in TEXTS.lines() {
-        let (code, rest) = line.split_once(' ').expect(&rt, "a code");
-        let (at, want) = rest.split_once(' ').expect(&rt, "an address");
-        let at = u32::from_str_radix(at, 16).expect(&rt, "an address");
-        let (first, second) = code.split_at_checked(4).expect(&rt, "a halfword");
-        let first = halfword(first).expect(&rt, "a halfword");
-        let text = text(first, halfword(second), at);
-        assert!(rt; text.as_str() == want, "at {code}");
-    }
-}
-
-#[test]
-fn codes_outside_the_table_are_illegal(rt: HostRuntime) {
-    for (first, second) in [
+/// Codes that no row of the table has.
+const ILLEGAL: [(u16, Option<u16>); 31] = [
         (0xde00, None),
         (0x44ff, None),
         (0x4500, None),
@@ -191,7 +162,52 @@ fn codes_outside_the_table_are_illegal(rt: HostRuntime) {
         (0xf000, Some(0xc000)),
         (0xf3ef, Some(0x0000)),
         (0xf000, Some(0x8000)),
-    ] {
+];
+
+/// The text of what a code is, or why it is none.
+fn text(first: u16, second: Option<u16>, at: u32) -> ArrayString<64> {
+    let mut out = ArrayString::new();
+    match decode(first, second) {
+        Decoded::Narrow(insn) | Decoded::Wide(insn) => insn.text(at, &mut out),
+        Decoded::Illegal => out.push_str("illegal"),
+        Decoded::NeedsSecond => out.push_str("needs second"),
+    }
+    out
+}
+
+/// A line of TEXTS.
+#[derive(Clone, Copy)]
+struct Line<'a> {
+    first: u16,
+    second: Option<u16>,
+    at: u32,
+    text: &'a str,
+}
+
+fn read(line: &str) -> Option<Line<'_>> {
+    let (code, rest) = line.split_once(' ')?;
+    let (at, text) = rest.split_once(' ')?;
+    let (first, second) = code.split_at_checked(4)?;
+    Some(Line {
+        first: u16::from_str_radix(first, 16).ok()?,
+        second: u16::from_str_radix(second, 16).ok(),
+        at: u32::from_str_radix(at, 16).ok()?,
+        text,
+    })
+}
+
+#[test]
+fn codes_have_these_texts(rt: HostRuntime) {
+    for line in TEXTS.lines() {
+        let wanted = read(line).expect(&rt, line);
+        let found = text(wanted.first, wanted.second, wanted.at);
+        assert!(rt; found.as_str() == wanted.text, "{line}");
+    }
+}
+
+#[test]
+fn codes_outside_the_table_are_illegal(rt: HostRuntime) {
+    for (first, second) in ILLEGAL {
         assert!(&rt; matches!(decode(first, second), Decoded::Illegal));
     }
 }

@@ -1,10 +1,7 @@
-//! Does the assembler read what an instruction's text says? Each code of one halfword that is an
-//! instruction, and many of two, are decoded, written as text at an address, and assembled there.
-#![tactic(auto)]
-
+//! Does the assembler read what an instruction's text says? Each code of one halfword that is an instruction, and many of two,
+//! are decoded, written as text at an address, and assembled there.
 use arrayvec::ArrayString;
 use std::alloc::Global;
-use std::io;
 use thumb_asm::assemble;
 use thumb_decode::decode;
 use thumb_insn::{Decoded, Insn};
@@ -13,7 +10,7 @@ use thumb_insn::{Decoded, Insn};
 const AT: u32 = 0x0800_1000;
 
 /// How many texts gave their code, and how many did not.
-#[derive(Clone, Copy)]
+#[derive(Clone, Copy, PartialEq, Eq)]
 struct Count {
     same: u32,
     other: u32,
@@ -49,7 +46,7 @@ fn narrow(alloc: Global) -> Count {
     count
 }
 
-fn wide(alloc: Global, count: &mut Count, first: u16, second: u16) {
+fn add_wide(alloc: Global, count: &mut Count, first: u16, second: u16) {
     if let Decoded::Wide(insn) = decode(first, Some(second)) {
         let [a, b] = first.to_le_bytes();
         let [c, d] = second.to_le_bytes();
@@ -61,7 +58,7 @@ fn branches(alloc: Global) -> Count {
     let mut count = Count { same: 0, other: 0 };
     for first in 0xF000..=0xF7FF_u16 {
         for second in [0xD000, 0xD7FF, 0xF000, 0xF801, 0xFFFE, 0xDC00, 0xF3FF] {
-            wide(alloc, &mut count, first, second);
+            add_wide(alloc, &mut count, first, second);
         }
     }
     count
@@ -70,28 +67,23 @@ fn branches(alloc: Global) -> Count {
 fn others(alloc: Global) -> Count {
     let mut count = Count { same: 0, other: 0 };
     for second in 0x8000..=0x8FFF_u16 {
-        wide(alloc, &mut count, 0xF3BF, second);
-        wide(alloc, &mut count, 0xF3EF, second);
+        add_wide(alloc, &mut count, 0xF3BF, second);
+        add_wide(alloc, &mut count, 0xF3EF, second);
     }
     for first in 0xF380..=0xF38F_u16 {
-        wide(alloc, &mut count, first, 0x8800);
+        add_wide(alloc, &mut count, first, 0x8800);
     }
     count
 }
 
-fn main(rt: HostRuntime) -> io::Result<()> {
-    let alloc = rt.alloc();
-    let count = narrow(alloc);
-    println!(rt;
-        "one halfword: {} texts read, {} not",
-        count.same, count.other
-    )?;
-    let count = branches(alloc);
-    println!(rt; "bl: {} texts read, {} not", count.same, count.other)?;
-    let count = others(alloc);
-    println!(rt;
-        "other codes of two halfwords: {} texts read, {} not",
-        count.same, count.other
-    )?;
-    Ok(())
+/// So many texts gave their code, and each of them.
+fn all(same: u32) -> Count {
+    Count { same, other: 0 }
+}
+
+#[test]
+fn every_text_is_read_back(rt: HostRuntime) {
+    assert!(rt; narrow(rt.alloc()) == all(55_933));
+    assert!(rt; branches(rt.alloc()) == all(14_336));
+    assert!(rt; others(rt.alloc()) == all(76));
 }
