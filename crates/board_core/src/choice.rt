@@ -11,7 +11,7 @@ use task_table::{Kernel, TaskSet};
 
 /// Which task runs next, None where none is ready; which tasks are ready; and whether the supervisor has
 /// faulted.
-#[derive(Clone, Copy, Debug, PartialEq, Eq)]
+#[derive(Clone, Copy)]
 pub struct Choice {
     pub next: Option<usize>,
     pub ready: TaskSet,

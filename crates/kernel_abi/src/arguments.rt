@@ -33,7 +33,7 @@ fn high_half(word: u32) -> u16
 }
 
 /// SEND: to whom and what, the message, the buffer for the reply, and the lease table.
-#[derive(Clone, Copy, Debug, PartialEq, Eq)]
+#[derive(Clone, Copy, PartialEq, Eq)]
 pub struct SendArgs {
     pub recipient: TaskId,
     pub operation: u16,
@@ -68,7 +68,7 @@ impl SendArgs {
 
 /// RECV: the buffer for a message, the notifications that may wake the caller, and, where it is
 /// closed, the one sender to hear.
-#[derive(Clone, Copy, Debug, PartialEq, Eq)]
+#[derive(Clone, Copy, PartialEq, Eq)]
 pub struct RecvArgs {
     pub buffer_base: u32,
     pub buffer_length: u32,
@@ -97,7 +97,7 @@ impl RecvArgs {
 
 /// REPLY: to whom, the response code and the reply. REPLY_FAULT: to whom, and as `code` the number
 /// of the reason.
-#[derive(Clone, Copy, Debug, PartialEq, Eq)]
+#[derive(Clone, Copy, PartialEq, Eq)]
 pub struct ReplyArgs {
     pub client: TaskId,
     pub code: u32,
@@ -122,7 +122,7 @@ impl ReplyArgs {
 }
 
 /// SET_TIMER: whether to set or to clear, the deadline in ticks, and the bits to post then.
-#[derive(Clone, Copy, Debug, PartialEq, Eq)]
+#[derive(Clone, Copy, PartialEq, Eq)]
 pub struct TimerArgs {
     pub set: bool,
     pub deadline: u64,
@@ -145,7 +145,7 @@ impl TimerArgs {
 
 /// BORROW_READ and BORROW_WRITE: whose lease and which, where in it to begin, and the caller's
 /// buffer.
-#[derive(Clone, Copy, Debug, PartialEq, Eq)]
+#[derive(Clone, Copy, PartialEq, Eq)]
 pub struct BorrowArgs {
     pub lender: TaskId,
     pub lease: u32,
@@ -172,7 +172,7 @@ impl BorrowArgs {
 }
 
 /// BORROW_INFO: whose lease and which.
-#[derive(Clone, Copy, Debug, PartialEq, Eq)]
+#[derive(Clone, Copy, PartialEq, Eq)]
 pub struct InfoArgs {
     pub lender: TaskId,
     pub lease: u32,
@@ -193,7 +193,7 @@ impl InfoArgs {
 }
 
 /// IRQ_CONTROL: the notification of the caller's lines, and whether to enable them.
-#[derive(Clone, Copy, Debug, PartialEq, Eq)]
+#[derive(Clone, Copy, PartialEq, Eq)]
 pub struct IrqArgs {
     pub bits: u32,
     pub enable: bool,
@@ -212,7 +212,7 @@ impl IrqArgs {
 }
 
 /// REFRESH_TASK_ID and POST: which task, and for POST the bits.
-#[derive(Clone, Copy, Debug, PartialEq, Eq)]
+#[derive(Clone, Copy, PartialEq, Eq)]
 pub struct IdArgs {
     pub id: TaskId,
     pub bits: u32,

@@ -9,7 +9,7 @@ use crate::words::{are_allowed, first_word, is_word};
 use text_lines::number;
 
 /// What a line says.
-#[derive(Clone, Copy, Debug)]
+#[derive(Clone, Copy)]
 pub(crate) enum Statement {
     /// It is blank or a comment.
     Nothing,

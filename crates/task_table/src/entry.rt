@@ -7,7 +7,7 @@ use kernel_abi::LeaseEntry;
 use std::alloc::{AllocError, Global};
 
 /// An entry of the lease table of a call: of which lease, where it begins, and what memory has there.
-#[derive(Clone, Copy, Debug, PartialEq, Eq)]
+#[derive(Clone, Copy)]
 pub struct KeptEntry {
     pub lease: u32,
     pub base: u32,

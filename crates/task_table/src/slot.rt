@@ -247,7 +247,7 @@ impl Wait {
 }
 
 /// What is kept of a task and may change.
-#[derive(Clone, Copy, Debug, PartialEq, Eq)]
+#[derive(Clone, Copy)]
 pub struct Slot {
     pub generation: Generation,
     pub registers: [u32; 16],
@@ -277,7 +277,7 @@ impl Slot {
 }
 
 /// What an id names (Hubris Reference, on task ids).
-#[derive(Clone, Copy, Debug, PartialEq, Eq)]
+#[derive(Clone, Copy, PartialEq, Eq)]
 pub enum Found {
     /// The task with this index.
     Live(usize),
