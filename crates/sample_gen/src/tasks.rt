@@ -4,12 +4,19 @@ ghost use Rattle.std.specs.Prelude.{◌≡◌, ◌+◌, ◌≤◌, ℕ, IfOk, ma
 ghost use Rattle.std.specs.List.{range_with_len};
 ghost use Rattle.app_toml.specs.Sites.{task_of};
 ghost use Rattle.sample_gen.specs.Draws.{number};
-ghost use Rattle.sample_gen.specs.Sample.{client_priority, draws_before, operation, period, sample_sources, server, size, source_of, task_by, task_with};
+ghost use Rattle.sample_gen.specs.Sample.{client_priority, draws_before, note_name, operation, period, sample_sources, server, size, source_of, task_by, task_with};
 
 use crate::numbers::Numbers;
 use crate::programs::{client_source, server_source, supervisor_source};
 use app_toml::Task;
 use std::alloc::{AllocError, Global};
+
+/// The one notification of task ti: the supervisor's is told of faults.
+fn note_name(i: u32) -> &'static str
+    ensures { result.now ≡ note_name i }
+{
+    if i == 0 { "fault" } else { "go" }
+}
 
 /// Task ti with this priority.
 fn task(alloc: Global, i: u32, priority: u8) -> Result<Task, AllocError>
@@ -17,7 +24,7 @@ fn task(alloc: Global, i: u32, priority: u8) -> Result<Task, AllocError>
 {
     let name = format!(in alloc; "t{i}")?;
     let source = format!(in alloc; "t{i}.s")?;
-    let notification = String::from_str(alloc, if i == 0 { "fault" } else { "go" })?;
+    let notification = String::from_str(alloc, note_name(i))?;
     let mut notifications = Vec::new(alloc);
     notifications.push(notification)?;
     Ok(Task {
