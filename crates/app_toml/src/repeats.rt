@@ -9,7 +9,7 @@ ghost use Rattle.app_toml.specs.Sites.{device_of, refusal_of, region_of, site_of
 
 use crate::known::{Names, is_known, known_names, known_regions, learn};
 use crate::parts::{Device, Parts, SharedRegion, Task};
-use crate::places::{Fault, Place, entry_place, fault_if, index_place, key_place};
+use crate::places::{Fault, Place, entry_place, fault_if, first_of, index_place, key_place};
 use std::alloc::{AllocError, Global};
 use std::collections::BTreeSet;
 
@@ -56,20 +56,14 @@ fn lists_twice(alloc: Global, k: usize, task: &Task) -> Result<Option<Fault<'sta
         key_place(place, "notifications"),
         task.notifications.as_slice(),
     )?;
-    if bits.is_some() {
-        return Ok(bits);
-    }
     let uses = entries_twice(alloc, &[], key_place(place, "uses"), task.uses.as_slice())?;
-    if uses.is_some() {
-        return Ok(uses);
-    }
     let reads = entries_twice(
         alloc,
         task.uses.as_slice(),
         key_place(place, "reads"),
         task.reads.as_slice(),
     )?;
-    Ok(reads)
+    Ok(first_of(bits, first_of(uses, reads)))
 }
 
 /// Of the tasks: each one's name, then its lists.
@@ -139,13 +133,9 @@ fn devices_twice(
 pub(crate) fn name_twice(alloc: Global, parts: &Parts) -> Result<Option<Fault<'static>>, AllocError>
     ensures { IfOk result (λ found. option_map refusal_of found ≡ name_twice (parts_of parts.now)) }
 {
-    let tasks = tasks_twice(alloc, parts.tasks.as_slice())?;
-    if tasks.is_some() {
-        return Ok(tasks);
-    }
-    let regions = regions_twice(alloc, parts.regions.as_slice())?;
-    if regions.is_some() {
-        return Ok(regions);
-    }
-    devices_twice(alloc, parts.regions.as_slice(), parts.devices.as_slice())
+    let regions = parts.regions.as_slice();
+    let of_tasks = tasks_twice(alloc, parts.tasks.as_slice())?;
+    let of_regions = regions_twice(alloc, regions)?;
+    let of_devices = devices_twice(alloc, regions, parts.devices.as_slice())?;
+    Ok(first_of(of_tasks, first_of(of_regions, of_devices)))
 }

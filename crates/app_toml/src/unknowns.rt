@@ -11,7 +11,7 @@ ghost use Rattle.app_toml.specs.Sites.{interrupt_of, refusal_of, site_of, task_o
 use crate::known::{Names, TaskNames, has_bit, is_area, is_kept, kept_tasks, known_areas};
 use crate::names::is_among;
 use crate::parts::{Interrupt, Parts, Task};
-use crate::places::{Fault, Place, entry_place, fault_if, head_place, index_place, key_place};
+use crate::places::{Fault, Place, entry_place, fault_if, first_of, head_place, index_place, key_place};
 use std::alloc::{AllocError, Global};
 
 /// The first interrupt whose task there is not.
@@ -90,10 +90,8 @@ fn unknown_region(known: &Names, k: usize, task: &Task) -> Option<Fault<'static>
 {
     let place = index_place("task", k);
     let uses = unknown_entry(known, key_place(place, "uses"), task.uses.as_slice());
-    if uses.is_some() {
-        return uses;
-    }
-    unknown_entry(known, key_place(place, "reads"), task.reads.as_slice())
+    let reads = unknown_entry(known, key_place(place, "reads"), task.reads.as_slice());
+    first_of(uses, reads)
 }
 
 fn unknown_regions(known: &Names, tasks: &[Task]) -> Option<Fault<'static>>
@@ -120,17 +118,9 @@ pub(crate) fn unknown_name(
     let interrupts = parts.interrupts.as_slice();
     let kept = kept_tasks(alloc, tasks)?;
     let owner = unknown_owner(&kept, interrupts);
-    if owner.is_some() {
-        return Ok(owner);
-    }
-    let fault = unknown_fault_bit(parts.fault.as_str(), tasks);
-    if fault.is_some() {
-        return Ok(fault);
-    }
     let bit = unknown_bit(&kept, interrupts);
-    if bit.is_some() {
-        return Ok(bit);
-    }
+    let fault = unknown_fault_bit(parts.fault.as_str(), tasks);
     let known = known_areas(alloc, parts.regions.as_slice(), parts.devices.as_slice())?;
-    Ok(unknown_regions(&known, tasks))
+    let regions = unknown_regions(&known, tasks);
+    Ok(first_of(owner, first_of(fault, first_of(bit, regions))))
 }
