@@ -2,27 +2,31 @@
 
 ghost use Rattle.std.specs.Prelude.{◌≡◌, IfOk, [], codes, map, option_map, string_bytes};
 ghost use Rattle.std.specs.BTreeSet.{contains_text};
-ghost use Rattle.app_toml.specs.Crossed.{device_twice, entries_twice, lists_twice, name_twice, region_twice, task_twice};
+ghost use Rattle.app_toml.specs.Crossed.{device_twice, entries_twice, lists_twice, name_twice, region_twice, task_site, task_twice};
 ghost use Rattle.app_toml.specs.Held.{parts_of};
 ghost use Rattle.app_toml.specs.Places.{at_key, first_clash, index_site, refuse_if};
-ghost use Rattle.app_toml.specs.Sites.{device_of, refusal_of, region_of, site_of, task_of};
+ghost use Rattle.app_toml.specs.Sites.{device_of, refusal_of, region_of, task_of};
 
 use crate::known::{Names, is_known, known_names, known_regions, learn};
 use crate::parts::{Device, Parts, SharedRegion, Task};
-use crate::places::{Fault, Place, entry_place, fault_if, first_of, index_place, key_place};
+use crate::places::{Fault, entry_place, fault_if, first_of, index_place, key_place};
+use crate::tasks::task_place;
 use std::alloc::{AllocError, Global};
 use std::collections::BTreeSet;
 
-/// The first name that is among the earlier ones, or before it in its own list.
-fn entries_twice<'a>(
+/// Of a list of the k-th task: the first name that is among the earlier ones, or before it in its own
+/// list.
+fn entries_twice(
     alloc: Global,
     earlier: &[String],
-    place: Place<'a>,
+    k: usize,
+    key: &'static str,
     names: &[String],
-) -> Result<Option<Fault<'a>>, AllocError>
+) -> Result<Option<Fault<'static>>, AllocError>
     ensures { IfOk result (λ found. option_map refusal_of found
-        ≡ entries_twice (map string_bytes earlier.now) (site_of place.entry) (map string_bytes names.now)) }
+        ≡ entries_twice (map string_bytes earlier.now) (task_site k key.now) (map string_bytes names.now)) }
 {
+    let place = task_place(k, key);
     let mut known = known_names(alloc, earlier)?;
     for i in 0..names.len() {
         let name = names[i].as_str();
@@ -49,21 +53,11 @@ fn known_fault(known: &Names, head: &'static str, i: usize, name: &str) -> Optio
 fn lists_twice(alloc: Global, k: usize, task: &Task) -> Result<Option<Fault<'static>>, AllocError>
     ensures { IfOk result (λ found. option_map refusal_of found ≡ lists_twice k (task_of task.now)) }
 {
-    let place = index_place("task", k);
-    let bits = entries_twice(
-        alloc,
-        &[],
-        key_place(place, "notifications"),
-        task.notifications.as_slice(),
-    )?;
-    let uses = entries_twice(alloc, &[], key_place(place, "uses"), task.uses.as_slice())?;
-    let reads = entries_twice(
-        alloc,
-        task.uses.as_slice(),
-        key_place(place, "reads"),
-        task.reads.as_slice(),
-    )?;
-    Ok(first_of(bits, first_of(uses, reads)))
+    let uses = task.uses.as_slice();
+    let of_bits = entries_twice(alloc, &[], k, "notifications", task.notifications.as_slice())?;
+    let of_uses = entries_twice(alloc, &[], k, "uses", uses)?;
+    let of_reads = entries_twice(alloc, uses, k, "reads", task.reads.as_slice())?;
+    Ok(first_of(of_bits, first_of(of_uses, of_reads)))
 }
 
 /// Of the tasks: each one's name, then its lists.

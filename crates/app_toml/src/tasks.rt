@@ -9,7 +9,7 @@ ghost use Rattle.app_toml.specs.Sites.{refusal_of, site_of, task_of};
 use crate::parts::Task;
 use crate::places::{Fault, Place, fault_if, first_of, head_place, index_place, key_place};
 
-fn task_place(k: usize, key: &'static str) -> Place<'static>
+pub(crate) fn task_place(k: usize, key: &'static str) -> Place<'static>
     ensures { site_of result ≡ task_site k key.now }
 {
     key_place(index_place("task", k), key)
@@ -72,8 +72,10 @@ fn task_count(tasks: &[Task]) -> Option<Fault<'static>>
     ensures { option_map refusal_of result ≡ task_count (map task_of tasks.now) }
 {
     let many = fault_if(tasks.len() > 32, 11, index_place("task", 32));
-    let none = fault_if(tasks.is_empty(), 12, head_place("task"));
-    first_of(many, none)
+    if many.is_some() {
+        return many;
+    }
+    fault_if(tasks.is_empty(), 12, head_place("task"))
 }
 
 /// The first fault of causes 11 to 14.

@@ -2,7 +2,7 @@
 
 ghost use Rattle.std.specs.Prelude.{◌≡◌, IfOk, List, map, option_map, string_bytes};
 ghost use Rattle.app_toml.specs.Apps.{DeviceData, RegionData, TaskData};
-ghost use Rattle.app_toml.specs.Crossed.{unknown_bit, unknown_entry, unknown_fault_bit, unknown_name, unknown_owner, unknown_region};
+ghost use Rattle.app_toml.specs.Crossed.{task_site, unknown_bit, unknown_entry, unknown_fault_bit, unknown_name, unknown_owner, unknown_region};
 ghost use Rattle.app_toml.specs.Held.{parts_of};
 ghost use Rattle.app_toml.specs.Known.{Keeps, NamesAreas};
 ghost use Rattle.app_toml.specs.Places.{first_fault};
@@ -12,6 +12,7 @@ use crate::known::{Names, TaskNames, has_bit, is_area, is_kept, kept_tasks, know
 use crate::names::is_among;
 use crate::parts::{Interrupt, Parts, Task};
 use crate::places::{Fault, Place, entry_place, fault_if, first_of, head_place, index_place, key_place};
+use crate::tasks::task_place;
 use std::alloc::{AllocError, Global};
 
 /// The first interrupt whose task there is not.
@@ -61,19 +62,17 @@ fn unknown_bit(kept: &TaskNames, interrupts: &[Interrupt]) -> Option<Fault<'stat
     None
 }
 
-/// Of the j-th name of a list, which is neither a region's nor a device's.
-fn unknown_area<'a>(known: &Names, place: Place<'a>, j: usize, name: &str) -> Option<Fault<'a>>
+/// The first name of a list of the k-th task that is neither a region's nor a device's.
+fn unknown_entry(
+    known: &Names,
+    k: usize,
+    key: &'static str,
+    names: &[String],
+) -> Option<Fault<'static>>
     ensures { (regions : List RegionData) (devices : List DeviceData) → NamesAreas known.now regions devices → option_map refusal_of result
-        ≡ unknown_entry regions devices (site_of place.entry) j name.now }
+        ≡ first_fault (unknown_entry regions devices (task_site k key.now)) 0 (map string_bytes names.now) }
 {
-    fault_if(!is_area(known, name), 10, entry_place(place, j))
-}
-
-/// The first name of a list that is neither a region's nor a device's.
-fn unknown_entry<'a>(known: &Names, place: Place<'a>, names: &[String]) -> Option<Fault<'a>>
-    ensures { (regions : List RegionData) (devices : List DeviceData) → NamesAreas known.now regions devices → option_map refusal_of result
-        ≡ first_fault (unknown_entry regions devices (site_of place.entry)) 0 (map string_bytes names.now) }
-{
+    let place = task_place(k, key);
     for i in 0..names.len() {
         let found = unknown_area(known, place, i, names[i].as_str());
         if found.is_some() {
@@ -83,15 +82,24 @@ fn unknown_entry<'a>(known: &Names, place: Place<'a>, names: &[String]) -> Optio
     None
 }
 
+/// Of the j-th name of a list, which is neither a region's nor a device's.
+fn unknown_area<'a>(known: &Names, place: Place<'a>, j: usize, name: &str) -> Option<Fault<'a>>
+    ensures { (regions : List RegionData) (devices : List DeviceData) → NamesAreas known.now regions devices → option_map refusal_of result
+        ≡ unknown_entry regions devices (site_of place.entry) j name.now }
+{
+    fault_if(!is_area(known, name), 10, entry_place(place, j))
+}
+
 /// Of what the k-th task uses, then of what it reads.
 fn unknown_region(known: &Names, k: usize, task: &Task) -> Option<Fault<'static>>
     ensures { (regions : List RegionData) (devices : List DeviceData) → NamesAreas known.now regions devices → option_map refusal_of result
         ≡ unknown_region regions devices k (task_of task.now) }
 {
-    let place = index_place("task", k);
-    let uses = unknown_entry(known, key_place(place, "uses"), task.uses.as_slice());
-    let reads = unknown_entry(known, key_place(place, "reads"), task.reads.as_slice());
-    first_of(uses, reads)
+    let uses = unknown_entry(known, k, "uses", task.uses.as_slice());
+    if uses.is_some() {
+        return uses;
+    }
+    unknown_entry(known, k, "reads", task.reads.as_slice())
 }
 
 fn unknown_regions(known: &Names, tasks: &[Task]) -> Option<Fault<'static>>

@@ -1,8 +1,8 @@
 use Rattle.std.proofs.Common.{[], ap, arith, map, string_bytes, subst, sym, take, ◌+◌, ◌||◌, ◌∙◌, ◌≡◌}
 use Rattle.std.specs.BTreeSet.{contains_text}
 use Rattle.std.specs.Str.{bytes_eq}
-use Rattle.app_toml.specs.Crossed.{entry_twice, is_among}
-use Rattle.app_toml.specs.Places.{first_clash, refuse_if}
+use Rattle.app_toml.specs.Crossed.{entry_twice, is_among, task_site}
+use Rattle.app_toml.specs.Places.{at_entry, first_clash, refuse_if}
 use Rattle.app_toml.specs.Sites.{refusal_of, site_of}
 use Rattle.app_toml.proofs.Gathered.{joined_more, taken_more}
 use Rattle.app_toml.proofs.Walks.{clash_on}
@@ -15,9 +15,9 @@ loop-i-preserved c =
     let quiet = sym c.is_some.ensures ∙ c.if-is_some.false in
     let stated = c.fault_if-found.ensures
     ∙ ap (λ b. refuse_if b 7 (site_of c.entry_place.result)) (c.is_known-twice.ensures ∙ ap (contains_text c.loop-i.known) c.as_str-name.ensures.value ∙ c.loop-i.invariant.1 here)
-    ∙ ap (refuse_if (is_among here (map string_bytes c.args.earlier.now) || is_among here before) 7) c.entry_place.ensures in (
-      clash_on string_bytes (entry_twice (map string_bytes c.args.earlier.now) (site_of c.args.place)) before (map string_bytes (take (c.loop-i.i + 1) c.args.names.now)) c.args.names.now c.loop-i.i c.index-names-i.result refusal_of c.fault_if-found.result
-          (first_clash (entry_twice (map string_bytes c.args.earlier.now) (site_of c.args.place)) [] 0 (map string_bytes c.args.names.now)) (omega arith) c.index-names-i.is
+    ∙ ap (refuse_if (is_among here (map string_bytes c.args.earlier.now) || is_among here before) 7) (c.entry_place.ensures ∙ ap (at_entry c.loop-i.i) c.task_place-place.ensures) in (
+      clash_on string_bytes (entry_twice (map string_bytes c.args.earlier.now) (task_site c.args.k c.args.key.now)) before (map string_bytes (take (c.loop-i.i + 1) c.args.names.now)) c.args.names.now c.loop-i.i c.index-names-i.result refusal_of c.fault_if-found.result
+          (first_clash (entry_twice (map string_bytes c.args.earlier.now) (task_site c.args.k c.args.key.now)) [] 0 (map string_bytes c.args.names.now)) (omega arith) c.index-names-i.is
           (taken_more string_bytes c.args.names.now c.loop-i.i c.index-names-i.result (omega arith) c.index-names-i.is) stated quiet c.loop-i.invariant.0,
       λ q. joined_more string_bytes (λ n. bytes_eq n q) c.args.names.now c.loop-i.i c.index-names-i.result
           (is_among q (map string_bytes c.args.earlier.now)) (contains_text c.loop-i.known q) (contains_text c.learn.new.known q) (omega arith) c.index-names-i.is (c.loop-i.invariant.1 q)
