@@ -81,18 +81,10 @@ fn lists_fault<'a>(document: &'a Table) -> Option<Fault<'a>>
     ensures { option_map refusal_of result ≡ lists_fault (table_view document.now) }
 {
     let tasks = listed_fault("task", true, &TASK_KEYS, document);
-    if tasks.is_some() {
-        return tasks;
-    }
     let regions = listed_fault("region", false, &REGION_KEYS, document);
-    if regions.is_some() {
-        return regions;
-    }
     let devices = listed_fault("device", false, &DEVICE_KEYS, document);
-    if devices.is_some() {
-        return devices;
-    }
-    listed_fault("interrupt", false, &INTERRUPT_KEYS, document)
+    let interrupts = listed_fault("interrupt", false, &INTERRUPT_KEYS, document);
+    first_of(tasks, first_of(regions, first_of(devices, interrupts)))
 }
 
 /// The first fault of causes 2 to 6.

@@ -2,7 +2,7 @@
 
 ghost use Rattle.std.specs.Prelude.{◌≡◌, IfOk, List, map, option_map, string_bytes};
 ghost use Rattle.app_toml.specs.Apps.{DeviceData, RegionData, TaskData};
-ghost use Rattle.app_toml.specs.Crossed.{task_site, unknown_bit, unknown_entry, unknown_fault_bit, unknown_name, unknown_owner, unknown_region};
+ghost use Rattle.app_toml.specs.Crossed.{interrupt_site, task_site, unknown_bit, unknown_entry, unknown_fault_bit, unknown_name, unknown_owner, unknown_region};
 ghost use Rattle.app_toml.specs.Held.{parts_of};
 ghost use Rattle.app_toml.specs.Known.{Keeps, NamesAreas};
 ghost use Rattle.app_toml.specs.Places.{first_fault};
@@ -11,9 +11,15 @@ ghost use Rattle.app_toml.specs.Sites.{interrupt_of, refusal_of, site_of, task_o
 use crate::known::{Names, TaskNames, has_bit, is_area, is_kept, kept_tasks, known_areas};
 use crate::names::is_among;
 use crate::parts::{Interrupt, Parts, Task};
-use crate::places::{Fault, Place, entry_place, fault_if, first_of, head_place, index_place, key_place};
+use crate::places::{Fault, Place, entry_place, fault_at, fault_if, first_of, head_place, index_place, key_place};
 use crate::tasks::task_place;
 use std::alloc::{AllocError, Global};
+
+pub(crate) fn interrupt_place(k: usize, key: &'static str) -> Place<'static>
+    ensures { site_of result ≡ interrupt_site k key.now }
+{
+    key_place(index_place("interrupt", k), key)
+}
 
 /// The first interrupt whose task there is not.
 fn unknown_owner(kept: &TaskNames, interrupts: &[Interrupt]) -> Option<Fault<'static>>
@@ -21,10 +27,8 @@ fn unknown_owner(kept: &TaskNames, interrupts: &[Interrupt]) -> Option<Fault<'st
         ≡ first_fault (unknown_owner tasks) 0 (map interrupt_of interrupts.now) }
 {
     for i in 0..interrupts.len() {
-        let known = is_kept(kept, interrupts[i].task.as_str());
-        let found = fault_if(!known, 8, key_place(index_place("interrupt", i), "task"));
-        if found.is_some() {
-            return found;
+        if !is_kept(kept, interrupts[i].task.as_str()) {
+            return fault_at(8, interrupt_place(i, "task"));
         }
     }
     None
@@ -49,14 +53,8 @@ fn unknown_bit(kept: &TaskNames, interrupts: &[Interrupt]) -> Option<Fault<'stat
     for i in 0..interrupts.len() {
         let interrupt = &interrupts[i];
         let bit = interrupt.notification.as_str();
-        let known = has_bit(kept, interrupt.task.as_str(), bit);
-        let found = fault_if(
-            !known,
-            9,
-            key_place(index_place("interrupt", i), "notification"),
-        );
-        if found.is_some() {
-            return found;
+        if !has_bit(kept, interrupt.task.as_str(), bit) {
+            return fault_at(9, interrupt_place(i, "notification"));
         }
     }
     None
