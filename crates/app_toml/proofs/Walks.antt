@@ -160,6 +160,20 @@ clash_on of fault before after xs i x f found whole lt here more same none walk 
     ∙ ap (λ r. or_else r (first_clash fault (before ++ of x ∷ []) (i + 1) (map of (drop (i + 1) xs)))) same
     ∙ sym (clash_step of fault before xs i x lt here) ∙ walk
 
+pub clash_passes : {S T : Type 0} (of : S → T) (fault : List T → ℕ → T → Option Refusal) (before after : List T) (xs : List S) (i : ℕ) (x : S) (whole : Option Refusal)
+    → i < length xs → x ≡ get_or xs i x → after ≡ before ++ of x ∷ [] → fault before i (of x) ≡ None
+    → first_clash fault before i (map of (drop i xs)) ≡ whole → first_clash fault after (i + 1) (map of (drop (i + 1) xs)) ≡ whole
+clash_passes of fault before after xs i x whole lt here more none walk =
+    ap (λ b. first_clash fault b (i + 1) (map of (drop (i + 1) xs))) more
+    ∙ sym (ap (λ r. or_else r (first_clash fault (before ++ of x ∷ []) (i + 1) (map of (drop (i + 1) xs)))) none)
+    ∙ sym (clash_step of fault before xs i x lt here) ∙ walk
+
+-- what is new was not there
+pub was_absent : (is_new was_there : Bool) → is_new ≡ not was_there → is_new ≡ true → was_there ≡ false
+was_absent true true e new = cc
+was_absent true false e new = refl
+was_absent false b e new = cc
+
 -- where nothing is refused the test fails
 pub not_stated : {T : Type 0} (f : T → Refusal) (found : Option T) (b : Bool) (cause : ℕ) (site : Site)
     → option_map f found ≡ refuse_if b cause site → is_some found ≡ false → b ≡ false

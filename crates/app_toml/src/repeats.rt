@@ -1,15 +1,14 @@
 //! Cause 7: a name used before.
 
 ghost use Rattle.std.specs.Prelude.{◌≡◌, IfOk, [], codes, map, option_map, string_bytes};
-ghost use Rattle.std.specs.BTreeSet.{contains_text};
 ghost use Rattle.app_toml.specs.Crossed.{device_twice, entries_twice, lists_twice, name_twice, region_twice, task_site, task_twice};
 ghost use Rattle.app_toml.specs.Held.{parts_of};
-ghost use Rattle.app_toml.specs.Places.{at_key, first_clash, index_site, refuse_if};
+ghost use Rattle.app_toml.specs.Places.{at_key, first_clash, index_site, refuse};
 ghost use Rattle.app_toml.specs.Sites.{device_of, refusal_of, region_of, task_of};
 
-use crate::known::{Names, is_known, known_names, known_regions, learn};
+use crate::known::{known_names, known_regions, learn};
 use crate::parts::{Device, Parts, SharedRegion, Task};
-use crate::places::{Fault, entry_place, fault_if, first_of, index_place, key_place};
+use crate::places::{Fault, entry_place, fault_at, first_of, index_place, key_place};
 use crate::tasks::task_place;
 use std::alloc::{AllocError, Global};
 use std::collections::BTreeSet;
@@ -30,23 +29,19 @@ fn entries_twice(
     let mut known = known_names(alloc, earlier)?;
     for i in 0..names.len() {
         let name = names[i].as_str();
-        let twice = is_known(&known, name);
-        let found = fault_if(twice, 7, entry_place(place, i));
-        if found.is_some() {
-            return Ok(found);
+        let is_new = learn(alloc, &mut known, name)?;
+        if !is_new {
+            return Ok(fault_at(7, entry_place(place, i)));
         }
-        learn(alloc, &mut known, name)?;
     }
     Ok(None)
 }
 
-/// The fault of a table of a list whose name is known.
-fn known_fault(known: &Names, head: &'static str, i: usize, name: &str) -> Option<Fault<'static>>
-    ensures { option_map refusal_of result
-        ≡ refuse_if (contains_text known.now name.now) 7 (at_key (codes "name") (index_site head.now i)) }
+/// The fault of the i-th table of a list, whose name is not new.
+fn named_twice(head: &'static str, i: usize) -> Option<Fault<'static>>
+    ensures { option_map refusal_of result ≡ refuse 7 (at_key (codes "name") (index_site head.now i)) }
 {
-    let place = key_place(index_place(head, i), "name");
-    fault_if(is_known(known, name), 7, place)
+    fault_at(7, key_place(index_place(head, i), "name"))
 }
 
 /// Of the k-th task: its notifications, then what it uses and reads together.
@@ -68,15 +63,14 @@ fn tasks_twice(alloc: Global, tasks: &[Task]) -> Result<Option<Fault<'static>>, 
     for i in 0..tasks.len() {
         let task = &tasks[i];
         let name = task.name.as_str();
-        let found = known_fault(&known, "task", i, name);
-        if found.is_some() {
-            return Ok(found);
+        let is_new = learn(alloc, &mut known, name)?;
+        if !is_new {
+            return Ok(named_twice("task", i));
         }
         let lists = lists_twice(alloc, i, task)?;
         if lists.is_some() {
             return Ok(lists);
         }
-        learn(alloc, &mut known, name)?;
     }
     Ok(None)
 }
@@ -92,11 +86,10 @@ fn regions_twice(
     for i in 0..regions.len() {
         let region = &regions[i];
         let name = region.name.as_str();
-        let found = known_fault(&known, "region", i, name);
-        if found.is_some() {
-            return Ok(found);
+        let is_new = learn(alloc, &mut known, name)?;
+        if !is_new {
+            return Ok(named_twice("region", i));
         }
-        learn(alloc, &mut known, name)?;
     }
     Ok(None)
 }
@@ -114,11 +107,10 @@ fn devices_twice(
     for i in 0..devices.len() {
         let device = &devices[i];
         let name = device.name.as_str();
-        let found = known_fault(&known, "device", i, name);
-        if found.is_some() {
-            return Ok(found);
+        let is_new = learn(alloc, &mut known, name)?;
+        if !is_new {
+            return Ok(named_twice("device", i));
         }
-        learn(alloc, &mut known, name)?;
     }
     Ok(None)
 }
