@@ -72,20 +72,11 @@ fn unknown_entry(
 {
     let place = task_place(k, key);
     for i in 0..names.len() {
-        let found = unknown_area(known, place, i, names[i].as_str());
-        if found.is_some() {
-            return found;
+        if !is_area(known, names[i].as_str()) {
+            return fault_at(10, entry_place(place, i));
         }
     }
     None
-}
-
-/// Of the j-th name of a list, which is neither a region's nor a device's.
-fn unknown_area<'a>(known: &Names, place: Place<'a>, j: usize, name: &str) -> Option<Fault<'a>>
-    ensures { (regions : List RegionData) (devices : List DeviceData) → NamesAreas known.now regions devices → option_map refusal_of result
-        ≡ unknown_entry regions devices (site_of place.entry) j name.now }
-{
-    fault_if(!is_area(known, name), 10, entry_place(place, j))
 }
 
 /// Of what the k-th task uses, then of what it reads.
