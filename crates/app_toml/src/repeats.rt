@@ -49,7 +49,13 @@ fn lists_twice(alloc: Global, k: usize, task: &Task) -> Result<Option<Fault<'sta
     ensures { IfOk result (λ found. option_map refusal_of found ≡ lists_twice k (task_of task.now)) }
 {
     let uses = task.uses.as_slice();
-    let of_bits = entries_twice(alloc, &[], k, "notifications", task.notifications.as_slice())?;
+    let of_bits = entries_twice(
+        alloc,
+        &[],
+        k,
+        "notifications",
+        task.notifications.as_slice(),
+    )?;
     let of_uses = entries_twice(alloc, &[], k, "uses", uses)?;
     let of_reads = entries_twice(alloc, uses, k, "reads", task.reads.as_slice())?;
     Ok(first_of(of_bits, first_of(of_uses, of_reads)))

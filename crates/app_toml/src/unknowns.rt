@@ -11,7 +11,9 @@ ghost use Rattle.app_toml.specs.Sites.{interrupt_of, refusal_of, site_of, task_o
 use crate::known::{Names, TaskNames, has_bit, is_area, is_kept, kept_tasks, known_areas};
 use crate::names::is_among;
 use crate::parts::{Interrupt, Parts, Task};
-use crate::places::{Fault, Place, entry_place, fault_at, fault_if, first_of, head_place, index_place, key_place};
+use crate::places::{
+    Fault, Place, entry_place, fault_at, fault_if, first_of, head_place, index_place, key_place,
+};
 use crate::tasks::task_place;
 use std::alloc::{AllocError, Global};
 
