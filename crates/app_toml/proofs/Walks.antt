@@ -10,7 +10,7 @@ use Rattle.std.proofs.lemmas.List.Folds.{Any-from_list_any}
 use Rattle.std.proofs.lemmas.List.Kept.{AllPairs-cons}
 use Rattle.std.proofs.lemmas.Slice.Eq.{bytes_eq-Decides}
 use Rattle.std.proofs.Math.Seq.{get_or-append_seam}
-use Rattle.app_toml.specs.Places.{Refusal, Site, Text, first_clash, first_fault, or_else, refuse_if}
+use Rattle.app_toml.specs.Places.{Refusal, Text, first_clash, first_fault, or_else}
 use Rattle.app_toml.proofs.Passed.{both_none}
 
 -- ---- tests
@@ -117,55 +117,24 @@ all_clear fault R fact xs e = (clear_walk fault R fact [] 0 xs e).1
 
 -- ---- a walk that stops at the first fault, item by item
 
-some_first : {T : Type 0} (f : T → Refusal) (o : Option T) (rest : Option Refusal) → is_some o ≡ true → option_map f o ≡ or_else (option_map f o) rest
-some_first f None rest e = cc
-some_first f (Some x) rest e = refl
-
-pub none_first : {T : Type 0} (f : T → Refusal) (o : Option T) (rest : Option Refusal) → is_some o ≡ false → or_else (option_map f o) rest ≡ rest
-none_first f None rest e = refl
-none_first f (Some x) rest e = cc
-
-stepped : {S T : Type 0} (of : S → T) (fault : ℕ → T → Option Refusal) (xs : List S) (i : ℕ) (x : S) → i < length xs → x ≡ get_or xs i x
-    → first_fault fault i (map of (drop i xs)) ≡ or_else (fault i (of x)) (first_fault fault (i + 1) (map of (drop (i + 1) xs)))
-stepped of fault xs i x lt here =
-    ap (λ ys. first_fault fault i (map of ys)) (drop_more xs i x lt ∙ ap (λ y. y ∷ drop (i + 1) xs) (sym here))
-
-pub walk_ends : {S T U : Type 0} (of : S → T) (fault : ℕ → T → Option Refusal) (xs : List S) (i : ℕ) (x : S) (f : U → Refusal) (found : Option U) (whole : Option Refusal)
-    → i < length xs → x ≡ get_or xs i x → option_map f found ≡ fault i (of x) → is_some found ≡ true
-    → first_fault fault i (map of (drop i xs)) ≡ whole → option_map f found ≡ whole
-walk_ends of fault xs i x f found whole lt here same some walk =
-    some_first f found (first_fault fault (i + 1) (map of (drop (i + 1) xs))) some
-    ∙ ap (λ r. or_else r (first_fault fault (i + 1) (map of (drop (i + 1) xs)))) same
-    ∙ sym (stepped of fault xs i x lt here) ∙ walk
-
-pub walk_on : {S T U : Type 0} (of : S → T) (fault : ℕ → T → Option Refusal) (xs : List S) (i : ℕ) (x : S) (f : U → Refusal) (found : Option U) (whole : Option Refusal)
-    → i < length xs → x ≡ get_or xs i x → option_map f found ≡ fault i (of x) → is_some found ≡ false
-    → first_fault fault i (map of (drop i xs)) ≡ whole → first_fault fault (i + 1) (map of (drop (i + 1) xs)) ≡ whole
-walk_on of fault xs i x f found whole lt here same none walk =
-    sym (none_first f found (first_fault fault (i + 1) (map of (drop (i + 1) xs))) none)
-    ∙ ap (λ r. or_else r (first_fault fault (i + 1) (map of (drop (i + 1) xs)))) same
-    ∙ sym (stepped of fault xs i x lt here) ∙ walk
-
 clash_step : {S T : Type 0} (of : S → T) (fault : List T → ℕ → T → Option Refusal) (before : List T) (xs : List S) (i : ℕ) (x : S) → i < length xs → x ≡ get_or xs i x
     → first_clash fault before i (map of (drop i xs)) ≡ or_else (fault before i (of x)) (first_clash fault (before ++ of x ∷ []) (i + 1) (map of (drop (i + 1) xs)))
 clash_step of fault before xs i x lt here =
     ap (λ ys. first_clash fault before i (map of ys)) (drop_more xs i x lt ∙ ap (λ y. y ∷ drop (i + 1) xs) (sym here))
 
-pub clash_on : {S T U : Type 0} (of : S → T) (fault : List T → ℕ → T → Option Refusal) (before after : List T) (xs : List S) (i : ℕ) (x : S) (f : U → Refusal) (found : Option U) (whole : Option Refusal)
-    → i < length xs → x ≡ get_or xs i x → after ≡ before ++ of x ∷ [] → option_map f found ≡ fault before i (of x) → is_some found ≡ false
+pub clash_passes : {S T : Type 0} (of : S → T) (fault : List T → ℕ → T → Option Refusal) (before after : List T) (xs : List S) (i : ℕ) (x : S) (whole : Option Refusal)
+    → i < length xs → x ≡ get_or xs i x → after ≡ before ++ of x ∷ [] → fault before i (of x) ≡ None
     → first_clash fault before i (map of (drop i xs)) ≡ whole → first_clash fault after (i + 1) (map of (drop (i + 1) xs)) ≡ whole
-clash_on of fault before after xs i x f found whole lt here more same none walk =
+clash_passes of fault before after xs i x whole lt here more none walk =
     ap (λ b. first_clash fault b (i + 1) (map of (drop (i + 1) xs))) more
-    ∙ sym (none_first f found (first_clash fault (before ++ of x ∷ []) (i + 1) (map of (drop (i + 1) xs))) none)
-    ∙ ap (λ r. or_else r (first_clash fault (before ++ of x ∷ []) (i + 1) (map of (drop (i + 1) xs)))) same
+    ∙ sym (ap (λ r. or_else r (first_clash fault (before ++ of x ∷ []) (i + 1) (map of (drop (i + 1) xs)))) none)
     ∙ sym (clash_step of fault before xs i x lt here) ∙ walk
 
--- where nothing is refused the test fails
-pub not_stated : {T : Type 0} (f : T → Refusal) (found : Option T) (b : Bool) (cause : ℕ) (site : Site)
-    → option_map f found ≡ refuse_if b cause site → is_some found ≡ false → b ≡ false
-not_stated f None true cause site e none = cc
-not_stated f None false cause site e none = refl
-not_stated f (Some x) b cause site e none = cc
+-- what is new was not there
+pub was_absent : (is_new was_there : Bool) → is_new ≡ not was_there → is_new ≡ true → was_there ≡ false
+was_absent true true e new = cc
+was_absent true false e new = refl
+was_absent false b e new = cc
 
 pub none_stated : {T : Type 0} (f : T → Refusal) (found : Option T) → is_some found ≡ false → option_map f found ≡ None
 none_stated f None e = refl

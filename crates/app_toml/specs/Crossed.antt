@@ -1,6 +1,6 @@
 -- Causes 7 to 20 of docs/FORMATS.md, Application: each at its first place in the order of the
 -- document.
-use Rattle.std.specs.Prelude.{ℕ, Bool, not, ◌+◌, ◌%◌, ◌==◌, ◌&&◌, ◌||◌, List, [], ◌∷◌, Option, None, codes, if◌then◌else◌, length, map, nat_le, nat_lt}
+use Rattle.std.specs.Prelude.{ℕ, Bool, not, ◌+◌, ◌%◌, ◌==◌, ◌&&◌, ◌||◌, List, [], ◌∷◌, Option, None, codes, if◌then◌else◌, length, nat_le, nat_lt}
 use Rattle.std.specs.List.{list_any}
 use Rattle.std.specs.Str.{bytes_eq}
 use Rattle.region_check.specs.Sizes.{is_size}

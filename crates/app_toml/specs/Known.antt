@@ -5,7 +5,6 @@ use Rattle.std.specs.BTreeSet.{BTreeSet, contains_text}
 use Rattle.app_toml.specs.Apps.{DeviceData, RegionData, TaskData}
 use Rattle.app_toml.specs.Crossed.{has_device, has_region, has_task, is_among, notifications_of}
 use Rattle.app_toml.specs.Places.{Text}
-use Prim.Native.Nat.{ℕ}
 use mathlib.Core.List.{List}
 
 -- a set has just the names that pass

@@ -9,6 +9,7 @@ pub mod Known
 pub mod Places
 pub mod Reading
 pub mod Relations
+pub mod Rules
 pub mod Sites
 pub mod Spread
 pub mod Values

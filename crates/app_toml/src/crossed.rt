@@ -7,7 +7,7 @@ ghost use Rattle.app_toml.specs.Sites.{refusal_of};
 
 use crate::lines::line_fault;
 use crate::parts::Parts;
-use crate::places::Fault;
+use crate::places::{Fault, first_of};
 use crate::repeats::name_twice;
 use crate::tasks::{count_fault, start_fault};
 use crate::unknowns::unknown_name;
@@ -20,21 +20,10 @@ pub(crate) fn cross_fault(
 ) -> Result<Option<Fault<'static>>, AllocError>
     ensures { IfOk result (λ found. option_map refusal_of found ≡ cross_fault (parts_of parts.now)) }
 {
+    let tasks = parts.tasks.as_slice();
     let twice = name_twice(alloc, parts)?;
-    if twice.is_some() {
-        return Ok(twice);
-    }
     let unknown = unknown_name(alloc, parts)?;
-    if unknown.is_some() {
-        return Ok(unknown);
-    }
-    let count = count_fault(parts.tasks.as_slice());
-    if count.is_some() {
-        return Ok(count);
-    }
-    let start = start_fault(parts.tasks.as_slice());
-    if start.is_some() {
-        return Ok(start);
-    }
-    line_fault(alloc, parts)
+    let line = line_fault(alloc, parts)?;
+    let late = first_of(count_fault(tasks), first_of(start_fault(tasks), line));
+    Ok(first_of(twice, first_of(unknown, late)))
 }

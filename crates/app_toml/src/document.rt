@@ -6,7 +6,7 @@ ghost use Rattle.app_toml.specs.Document.{form_fault, is_top, listed_fault, list
 ghost use Rattle.app_toml.specs.Sites.{keys_of, refusal_of, site_of};
 
 use crate::keys::{Key, member, table_fault};
-use crate::places::{Fault, fault_at, fault_if, head_place, index_place};
+use crate::places::{Fault, fault_at, fault_if, first_of, head_place, index_place};
 use crate::tables::{
     BOARD_KEYS, DEVICE_KEYS, INTERRUPT_KEYS, REGION_KEYS, SUPERVISOR_KEYS, TASK_KEYS,
 };
@@ -81,18 +81,10 @@ fn lists_fault<'a>(document: &'a Table) -> Option<Fault<'a>>
     ensures { option_map refusal_of result ≡ lists_fault (table_view document.now) }
 {
     let tasks = listed_fault("task", true, &TASK_KEYS, document);
-    if tasks.is_some() {
-        return tasks;
-    }
     let regions = listed_fault("region", false, &REGION_KEYS, document);
-    if regions.is_some() {
-        return regions;
-    }
     let devices = listed_fault("device", false, &DEVICE_KEYS, document);
-    if devices.is_some() {
-        return devices;
-    }
-    listed_fault("interrupt", false, &INTERRUPT_KEYS, document)
+    let interrupts = listed_fault("interrupt", false, &INTERRUPT_KEYS, document);
+    first_of(tasks, first_of(regions, first_of(devices, interrupts)))
 }
 
 /// The first fault of causes 2 to 6.
@@ -100,16 +92,8 @@ pub(crate) fn form_fault<'a>(document: &'a Table) -> Option<Fault<'a>>
     ensures { option_map refusal_of result ≡ form_fault (table_view document.now) }
 {
     let top = top_fault(document);
-    if top.is_some() {
-        return top;
-    }
     let board = single_fault("board", &BOARD_KEYS, document);
-    if board.is_some() {
-        return board;
-    }
     let supervisor = single_fault("supervisor", &SUPERVISOR_KEYS, document);
-    if supervisor.is_some() {
-        return supervisor;
-    }
-    lists_fault(document)
+    let lists = lists_fault(document);
+    first_of(top, first_of(board, first_of(supervisor, lists)))
 }

@@ -1,6 +1,6 @@
 //! Names kept in the order of their bytes, so that one among many is found in few steps, whatever the names are.
 
-ghost use Rattle.std.specs.Prelude.{◌≡◌, ◌||◌, ◌++◌, ◌∷◌, [], IfOk, List, OnOk, map, string_bytes};
+ghost use Rattle.std.specs.Prelude.{◌≡◌, ◌||◌, ◌++◌, ◌∷◌, [], IfOk, List, OnOk, map, not, string_bytes};
 ghost use Rattle.std.specs.BTreeSet.{contains_text};
 ghost use Rattle.std.specs.Str.{bytes_eq};
 ghost use Rattle.app_toml.specs.Apps.{DeviceData, RegionData, TaskData};
@@ -24,12 +24,13 @@ pub(crate) fn is_known(known: &Names, name: &str) -> bool
     known.contains(name)
 }
 
-/// Adds a name.
-pub(crate) fn learn(alloc: Global, known: &mut Names, name: &str) -> Result<(), AllocError>
-    ensures { OnOk result ((q : Text) → contains_text known.new q ≡ (bytes_eq name.now q || contains_text known.old q)) }
+/// Adds a name, and tells whether it is a new one.
+pub(crate) fn learn(alloc: Global, known: &mut Names, name: &str) -> Result<bool, AllocError>
+    ensures new { IfOk result (λ added. added ≡ not (contains_text known.old name.now)) }
+    ensures known { OnOk result ((q : Text) → contains_text known.new q ≡ (bytes_eq name.now q || contains_text known.old q)) }
 {
-    known.insert(String::from_str(alloc, name)?)?;
-    Ok(())
+    let added = known.insert(String::from_str(alloc, name)?)?;
+    Ok(added)
 }
 
 pub(crate) fn known_names(alloc: Global, names: &[String]) -> Result<Names, AllocError>

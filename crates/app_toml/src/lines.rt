@@ -9,7 +9,8 @@ ghost use Rattle.app_toml.specs.Sites.{device_of, interrupt_of, refusal_of};
 
 use crate::overlaps::overlap;
 use crate::parts::{Device, Interrupt, Parts};
-use crate::places::{Fault, fault_if, index_place, key_place};
+use crate::places::{Fault, fault_at, index_place};
+use crate::unknowns::interrupt_place;
 use region_check::is_size;
 use std::alloc::{AllocError, Global};
 
@@ -29,10 +30,8 @@ fn line_twice(interrupts: &[Interrupt]) -> Option<Fault<'static>>
         ≡ first_clash line_twice [] 0 (map interrupt_of interrupts.now) }
 {
     for i in 0..interrupts.len() {
-        let twice = has_line(interrupts[i].line, &interrupts[..i]);
-        let found = fault_if(twice, 18, key_place(index_place("interrupt", i), "line"));
-        if found.is_some() {
-            return found;
+        if has_line(interrupts[i].line, &interrupts[..i]) {
+            return fault_at(18, interrupt_place(i, "line"));
         }
     }
     None
@@ -51,10 +50,8 @@ fn bad_device(devices: &[Device]) -> Option<Fault<'static>>
     ensures { option_map refusal_of result ≡ first_fault bad_device 0 (map device_of devices.now) }
 {
     for i in 0..devices.len() {
-        let placed = is_placed(&devices[i]);
-        let found = fault_if(!placed, 19, index_place("device", i));
-        if found.is_some() {
-            return found;
+        if !is_placed(&devices[i]) {
+            return fault_at(19, index_place("device", i));
         }
     }
     None

@@ -2,7 +2,9 @@
 
 ghost use Rattle.std.specs.Prelude.{◌≡◌, IfOk, map, string_bytes};
 ghost use Rattle.app_toml.specs.Accepted.{IsAccepted};
+ghost use Rattle.app_toml.specs.Apps.{DeviceData, InterruptData, RegionData, TaskData};
 ghost use Rattle.app_toml.specs.Held.{app_of, parts_of, tables_of};
+ghost use Rattle.app_toml.specs.Places.{Text};
 ghost use Rattle.app_toml.specs.Sites.{device_of, interrupt_of, region_of, task_of};
 
 use crate::app::App;
@@ -10,107 +12,103 @@ use crate::parts::{Device, Interrupt, Parts, SharedRegion, Task};
 use crate::reading::app_of_parts;
 use std::alloc::{AllocError, Global};
 
-fn texts_from(alloc: Global, texts: &[String]) -> Result<Vec<String>, AllocError>
-    ensures { IfOk result (λ v. map string_bytes v.items ≡ map string_bytes texts.now) }
-{
-    let mut copies = Vec::new(alloc);
-    for text in texts {
-        copies.push(String::from_str(alloc, text.as_str())?)?;
+/// What a description has lists of. A copy says the same.
+trait Item: Sized {
+    ghost Data: { Type 0 };
+
+    ghost said: { Self → Data };
+
+    fn copied(&self, alloc: Global) -> Result<Self, AllocError>
+        ensures { IfOk result (λ copy. said copy ≡ said self.now) };
+}
+
+impl Item for String {
+    ghost Data = { Text };
+
+    ghost said = { string_bytes };
+
+    fn copied(&self, alloc: Global) -> Result<String, AllocError> {
+        String::from_str(alloc, self.as_str())
     }
-    Ok(copies)
 }
 
-fn task_from(alloc: Global, task: &Task) -> Result<Task, AllocError>
-    ensures { IfOk result (λ t. task_of t ≡ task_of task.now) }
-{
-    let name = String::from_str(alloc, task.name.as_str())?;
-    let source = String::from_str(alloc, task.source.as_str())?;
-    let notifications = texts_from(alloc, task.notifications.as_slice())?;
-    let uses = texts_from(alloc, task.uses.as_slice())?;
-    let reads = texts_from(alloc, task.reads.as_slice())?;
-    Ok(Task {
-        name,
-        source,
-        priority: task.priority,
-        start: task.start,
-        flash: task.flash,
-        ram: task.ram,
-        stack: task.stack,
-        notifications,
-        uses,
-        reads,
-    })
-}
+impl Item for Task {
+    ghost Data = { TaskData };
 
-fn region_from(alloc: Global, region: &SharedRegion) -> Result<SharedRegion, AllocError>
-    ensures { IfOk result (λ r. region_of r ≡ region_of region.now) }
-{
-    let name = String::from_str(alloc, region.name.as_str())?;
-    Ok(SharedRegion {
-        name,
-        size: region.size,
-    })
-}
+    ghost said = { task_of };
 
-fn device_from(alloc: Global, device: &Device) -> Result<Device, AllocError>
-    ensures { IfOk result (λ d. device_of d ≡ device_of device.now) }
-{
-    let name = String::from_str(alloc, device.name.as_str())?;
-    Ok(Device {
-        name,
-        base: device.base,
-        size: device.size,
-    })
-}
-
-fn interrupt_from(alloc: Global, interrupt: &Interrupt) -> Result<Interrupt, AllocError>
-    ensures { IfOk result (λ i. interrupt_of i ≡ interrupt_of interrupt.now) }
-{
-    let task = String::from_str(alloc, interrupt.task.as_str())?;
-    let notification = String::from_str(alloc, interrupt.notification.as_str())?;
-    Ok(Interrupt {
-        line: interrupt.line,
-        task,
-        notification,
-    })
-}
-
-fn tasks_from(alloc: Global, tasks: &[Task]) -> Result<Vec<Task>, AllocError>
-    ensures { IfOk result (λ v. map task_of v.items ≡ map task_of tasks.now) }
-{
-    let mut copies = Vec::new(alloc);
-    for task in tasks {
-        copies.push(task_from(alloc, task)?)?;
+    fn copied(&self, alloc: Global) -> Result<Task, AllocError> {
+        let name = self.name.copied(alloc)?;
+        let source = self.source.copied(alloc)?;
+        let notifications = copies_of(alloc, self.notifications.as_slice())?;
+        let uses = copies_of(alloc, self.uses.as_slice())?;
+        let reads = copies_of(alloc, self.reads.as_slice())?;
+        Ok(Task {
+            name,
+            source,
+            priority: self.priority,
+            start: self.start,
+            flash: self.flash,
+            ram: self.ram,
+            stack: self.stack,
+            notifications,
+            uses,
+            reads,
+        })
     }
-    Ok(copies)
 }
 
-fn regions_from(alloc: Global, regions: &[SharedRegion]) -> Result<Vec<SharedRegion>, AllocError>
-    ensures { IfOk result (λ v. map region_of v.items ≡ map region_of regions.now) }
-{
-    let mut copies = Vec::new(alloc);
-    for region in regions {
-        copies.push(region_from(alloc, region)?)?;
+impl Item for SharedRegion {
+    ghost Data = { RegionData };
+
+    ghost said = { region_of };
+
+    fn copied(&self, alloc: Global) -> Result<SharedRegion, AllocError> {
+        let name = self.name.copied(alloc)?;
+        Ok(SharedRegion {
+            name,
+            size: self.size,
+        })
     }
-    Ok(copies)
 }
 
-fn devices_from(alloc: Global, devices: &[Device]) -> Result<Vec<Device>, AllocError>
-    ensures { IfOk result (λ v. map device_of v.items ≡ map device_of devices.now) }
-{
-    let mut copies = Vec::new(alloc);
-    for device in devices {
-        copies.push(device_from(alloc, device)?)?;
+impl Item for Device {
+    ghost Data = { DeviceData };
+
+    ghost said = { device_of };
+
+    fn copied(&self, alloc: Global) -> Result<Device, AllocError> {
+        let name = self.name.copied(alloc)?;
+        Ok(Device {
+            name,
+            base: self.base,
+            size: self.size,
+        })
     }
-    Ok(copies)
 }
 
-fn interrupts_from(alloc: Global, interrupts: &[Interrupt]) -> Result<Vec<Interrupt>, AllocError>
-    ensures { IfOk result (λ v. map interrupt_of v.items ≡ map interrupt_of interrupts.now) }
+impl Item for Interrupt {
+    ghost Data = { InterruptData };
+
+    ghost said = { interrupt_of };
+
+    fn copied(&self, alloc: Global) -> Result<Interrupt, AllocError> {
+        let task = self.task.copied(alloc)?;
+        let notification = self.notification.copied(alloc)?;
+        Ok(Interrupt {
+            line: self.line,
+            task,
+            notification,
+        })
+    }
+}
+
+fn copies_of<T: Item + Drop>(alloc: Global, items: &[T]) -> Result<Vec<T>, AllocError>
+    ensures { IfOk result (λ v. map T.said v.items ≡ map T.said items.now) }
 {
     let mut copies = Vec::new(alloc);
-    for interrupt in interrupts {
-        copies.push(interrupt_from(alloc, interrupt)?)?;
+    for item in items {
+        copies.push(item.copied(alloc)?)?;
     }
     Ok(copies)
 }
@@ -137,10 +135,10 @@ impl App {
             ≡ tables_of flash ram fault.now tasks.now regions.now devices.now interrupts.now) }
     {
         let fault = String::from_str(alloc, fault)?;
-        let tasks = tasks_from(alloc, tasks)?;
-        let regions = regions_from(alloc, regions)?;
-        let devices = devices_from(alloc, devices)?;
-        let interrupts = interrupts_from(alloc, interrupts)?;
+        let tasks = copies_of(alloc, tasks)?;
+        let regions = copies_of(alloc, regions)?;
+        let devices = copies_of(alloc, devices)?;
+        let interrupts = copies_of(alloc, interrupts)?;
         Ok(app_of_parts(Parts {
             flash,
             ram,

@@ -12,7 +12,7 @@ ghost use Rattle.app_toml.specs.Sites.{device_of, refusal_of};
 ghost use Rattle.app_toml.specs.Spread.{IsByBase, IsSpread};
 
 use crate::parts::Device;
-use crate::places::{Fault, fault_if, index_place};
+use crate::places::{Fault, fault_at, index_place};
 use std::alloc::{AllocError, Global};
 use std::collections::BTreeMap;
 
@@ -67,9 +67,8 @@ pub(crate) fn overlap(
     for i in 0..devices.len() {
         let device = &devices[i];
         let met = is_met(&bases, device);
-        let found = fault_if(met, 20, index_place("device", i));
-        if found.is_some() {
-            return Ok(found);
+        if met {
+            return Ok(fault_at(20, index_place("device", i)));
         }
         keep(&mut bases, device)?;
     }

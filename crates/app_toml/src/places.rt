@@ -3,7 +3,7 @@
 ghost use Rattle.std.specs.Prelude.{◌≡◌, ◌++◌, IfOk, IfSome, option_map, string_bytes};
 ghost use Rattle.std.specs.Result.{OnOk};
 ghost use Rattle.app_toml.specs.Held.{stated};
-ghost use Rattle.app_toml.specs.Places.{at_entry, at_key, head_site, index_site, index_text, key_text, refusal_text, refuse, refuse_if, site_text};
+ghost use Rattle.app_toml.specs.Places.{at_entry, at_key, head_site, index_site, index_text, key_text, or_else, refusal_text, refuse, refuse_if, site_text};
 ghost use Rattle.app_toml.specs.Sites.{refusal_of, site_of};
 
 use crate::parts::AppFault;
@@ -85,6 +85,13 @@ pub(crate) fn fault_if<'a>(refused: bool, cause: u8, place: Place<'a>) -> Option
     } else {
         None
     }
+}
+
+/// The first fault, and where there is none the next.
+pub(crate) fn first_of<'a>(first: Option<Fault<'a>>, next: Option<Fault<'a>>) -> Option<Fault<'a>>
+    ensures { option_map refusal_of result ≡ or_else (option_map refusal_of first.entry) (option_map refusal_of next.entry) }
+{
+    first.or(next)
 }
 
 fn push_index(out: &mut String, index: Option<usize>) -> Result<(), AllocError>

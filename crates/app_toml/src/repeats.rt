@@ -1,75 +1,64 @@
 //! Cause 7: a name used before.
 
 ghost use Rattle.std.specs.Prelude.{◌≡◌, IfOk, [], codes, map, option_map, string_bytes};
-ghost use Rattle.std.specs.BTreeSet.{contains_text};
-ghost use Rattle.app_toml.specs.Crossed.{device_twice, entries_twice, lists_twice, name_twice, region_twice, task_twice};
+ghost use Rattle.app_toml.specs.Crossed.{device_twice, entries_twice, lists_twice, name_twice, region_twice, task_site, task_twice};
 ghost use Rattle.app_toml.specs.Held.{parts_of};
-ghost use Rattle.app_toml.specs.Places.{at_key, first_clash, index_site, refuse_if};
-ghost use Rattle.app_toml.specs.Sites.{device_of, refusal_of, region_of, site_of, task_of};
+ghost use Rattle.app_toml.specs.Places.{at_key, first_clash, index_site, refuse};
+ghost use Rattle.app_toml.specs.Sites.{device_of, refusal_of, region_of, task_of};
 
-use crate::known::{Names, is_known, known_names, known_regions, learn};
+use crate::known::{known_names, known_regions, learn};
 use crate::parts::{Device, Parts, SharedRegion, Task};
-use crate::places::{Fault, Place, entry_place, fault_if, index_place, key_place};
+use crate::places::{Fault, entry_place, fault_at, first_of, index_place, key_place};
+use crate::tasks::task_place;
 use std::alloc::{AllocError, Global};
 use std::collections::BTreeSet;
 
-/// The first name that is among the earlier ones, or before it in its own list.
-fn entries_twice<'a>(
+/// Of a list of the k-th task: the first name that is among the earlier ones, or before it in its own
+/// list.
+fn entries_twice(
     alloc: Global,
     earlier: &[String],
-    place: Place<'a>,
+    k: usize,
+    key: &'static str,
     names: &[String],
-) -> Result<Option<Fault<'a>>, AllocError>
+) -> Result<Option<Fault<'static>>, AllocError>
     ensures { IfOk result (λ found. option_map refusal_of found
-        ≡ entries_twice (map string_bytes earlier.now) (site_of place.entry) (map string_bytes names.now)) }
+        ≡ entries_twice (map string_bytes earlier.now) (task_site k key.now) (map string_bytes names.now)) }
 {
+    let place = task_place(k, key);
     let mut known = known_names(alloc, earlier)?;
     for i in 0..names.len() {
         let name = names[i].as_str();
-        let twice = is_known(&known, name);
-        let found = fault_if(twice, 7, entry_place(place, i));
-        if found.is_some() {
-            return Ok(found);
+        let is_new = learn(alloc, &mut known, name)?;
+        if !is_new {
+            return Ok(fault_at(7, entry_place(place, i)));
         }
-        learn(alloc, &mut known, name)?;
     }
     Ok(None)
 }
 
-/// The fault of a table of a list whose name is known.
-fn known_fault(known: &Names, head: &'static str, i: usize, name: &str) -> Option<Fault<'static>>
-    ensures { option_map refusal_of result
-        ≡ refuse_if (contains_text known.now name.now) 7 (at_key (codes "name") (index_site head.now i)) }
+/// The fault of the i-th table of a list, whose name is not new.
+fn named_twice(head: &'static str, i: usize) -> Option<Fault<'static>>
+    ensures { option_map refusal_of result ≡ refuse 7 (at_key (codes "name") (index_site head.now i)) }
 {
-    let place = key_place(index_place(head, i), "name");
-    fault_if(is_known(known, name), 7, place)
+    fault_at(7, key_place(index_place(head, i), "name"))
 }
 
 /// Of the k-th task: its notifications, then what it uses and reads together.
 fn lists_twice(alloc: Global, k: usize, task: &Task) -> Result<Option<Fault<'static>>, AllocError>
     ensures { IfOk result (λ found. option_map refusal_of found ≡ lists_twice k (task_of task.now)) }
 {
-    let place = index_place("task", k);
-    let bits = entries_twice(
+    let uses = task.uses.as_slice();
+    let of_bits = entries_twice(
         alloc,
         &[],
-        key_place(place, "notifications"),
+        k,
+        "notifications",
         task.notifications.as_slice(),
     )?;
-    if bits.is_some() {
-        return Ok(bits);
-    }
-    let uses = entries_twice(alloc, &[], key_place(place, "uses"), task.uses.as_slice())?;
-    if uses.is_some() {
-        return Ok(uses);
-    }
-    let reads = entries_twice(
-        alloc,
-        task.uses.as_slice(),
-        key_place(place, "reads"),
-        task.reads.as_slice(),
-    )?;
-    Ok(reads)
+    let of_uses = entries_twice(alloc, &[], k, "uses", uses)?;
+    let of_reads = entries_twice(alloc, uses, k, "reads", task.reads.as_slice())?;
+    Ok(first_of(of_bits, first_of(of_uses, of_reads)))
 }
 
 /// Of the tasks: each one's name, then its lists.
@@ -80,15 +69,14 @@ fn tasks_twice(alloc: Global, tasks: &[Task]) -> Result<Option<Fault<'static>>, 
     for i in 0..tasks.len() {
         let task = &tasks[i];
         let name = task.name.as_str();
-        let found = known_fault(&known, "task", i, name);
-        if found.is_some() {
-            return Ok(found);
+        let is_new = learn(alloc, &mut known, name)?;
+        if !is_new {
+            return Ok(named_twice("task", i));
         }
         let lists = lists_twice(alloc, i, task)?;
         if lists.is_some() {
             return Ok(lists);
         }
-        learn(alloc, &mut known, name)?;
     }
     Ok(None)
 }
@@ -104,11 +92,10 @@ fn regions_twice(
     for i in 0..regions.len() {
         let region = &regions[i];
         let name = region.name.as_str();
-        let found = known_fault(&known, "region", i, name);
-        if found.is_some() {
-            return Ok(found);
+        let is_new = learn(alloc, &mut known, name)?;
+        if !is_new {
+            return Ok(named_twice("region", i));
         }
-        learn(alloc, &mut known, name)?;
     }
     Ok(None)
 }
@@ -126,11 +113,10 @@ fn devices_twice(
     for i in 0..devices.len() {
         let device = &devices[i];
         let name = device.name.as_str();
-        let found = known_fault(&known, "device", i, name);
-        if found.is_some() {
-            return Ok(found);
+        let is_new = learn(alloc, &mut known, name)?;
+        if !is_new {
+            return Ok(named_twice("device", i));
         }
-        learn(alloc, &mut known, name)?;
     }
     Ok(None)
 }
@@ -139,13 +125,9 @@ fn devices_twice(
 pub(crate) fn name_twice(alloc: Global, parts: &Parts) -> Result<Option<Fault<'static>>, AllocError>
     ensures { IfOk result (λ found. option_map refusal_of found ≡ name_twice (parts_of parts.now)) }
 {
-    let tasks = tasks_twice(alloc, parts.tasks.as_slice())?;
-    if tasks.is_some() {
-        return Ok(tasks);
-    }
-    let regions = regions_twice(alloc, parts.regions.as_slice())?;
-    if regions.is_some() {
-        return Ok(regions);
-    }
-    devices_twice(alloc, parts.regions.as_slice(), parts.devices.as_slice())
+    let regions = parts.regions.as_slice();
+    let of_tasks = tasks_twice(alloc, parts.tasks.as_slice())?;
+    let of_regions = regions_twice(alloc, regions)?;
+    let of_devices = devices_twice(alloc, regions, parts.devices.as_slice())?;
+    Ok(first_of(of_tasks, first_of(of_regions, of_devices)))
 }

@@ -2,7 +2,7 @@
 
 ghost use Rattle.std.specs.Prelude.{◌≡◌, IfOk, List, map, option_map, string_bytes};
 ghost use Rattle.app_toml.specs.Apps.{DeviceData, RegionData, TaskData};
-ghost use Rattle.app_toml.specs.Crossed.{unknown_bit, unknown_entry, unknown_fault_bit, unknown_name, unknown_owner, unknown_region};
+ghost use Rattle.app_toml.specs.Crossed.{interrupt_site, task_site, unknown_bit, unknown_entry, unknown_fault_bit, unknown_name, unknown_owner, unknown_region};
 ghost use Rattle.app_toml.specs.Held.{parts_of};
 ghost use Rattle.app_toml.specs.Known.{Keeps, NamesAreas};
 ghost use Rattle.app_toml.specs.Places.{first_fault};
@@ -11,8 +11,17 @@ ghost use Rattle.app_toml.specs.Sites.{interrupt_of, refusal_of, site_of, task_o
 use crate::known::{Names, TaskNames, has_bit, is_area, is_kept, kept_tasks, known_areas};
 use crate::names::is_among;
 use crate::parts::{Interrupt, Parts, Task};
-use crate::places::{Fault, Place, entry_place, fault_if, head_place, index_place, key_place};
+use crate::places::{
+    Fault, Place, entry_place, fault_at, fault_if, first_of, head_place, index_place, key_place,
+};
+use crate::tasks::task_place;
 use std::alloc::{AllocError, Global};
+
+pub(crate) fn interrupt_place(k: usize, key: &'static str) -> Place<'static>
+    ensures { site_of result ≡ interrupt_site k key.now }
+{
+    key_place(index_place("interrupt", k), key)
+}
 
 /// The first interrupt whose task there is not.
 fn unknown_owner(kept: &TaskNames, interrupts: &[Interrupt]) -> Option<Fault<'static>>
@@ -20,10 +29,8 @@ fn unknown_owner(kept: &TaskNames, interrupts: &[Interrupt]) -> Option<Fault<'st
         ≡ first_fault (unknown_owner tasks) 0 (map interrupt_of interrupts.now) }
 {
     for i in 0..interrupts.len() {
-        let known = is_kept(kept, interrupts[i].task.as_str());
-        let found = fault_if(!known, 8, key_place(index_place("interrupt", i), "task"));
-        if found.is_some() {
-            return found;
+        if !is_kept(kept, interrupts[i].task.as_str()) {
+            return fault_at(8, interrupt_place(i, "task"));
         }
     }
     None
@@ -48,36 +55,27 @@ fn unknown_bit(kept: &TaskNames, interrupts: &[Interrupt]) -> Option<Fault<'stat
     for i in 0..interrupts.len() {
         let interrupt = &interrupts[i];
         let bit = interrupt.notification.as_str();
-        let known = has_bit(kept, interrupt.task.as_str(), bit);
-        let found = fault_if(
-            !known,
-            9,
-            key_place(index_place("interrupt", i), "notification"),
-        );
-        if found.is_some() {
-            return found;
+        if !has_bit(kept, interrupt.task.as_str(), bit) {
+            return fault_at(9, interrupt_place(i, "notification"));
         }
     }
     None
 }
 
-/// Of the j-th name of a list, which is neither a region's nor a device's.
-fn unknown_area<'a>(known: &Names, place: Place<'a>, j: usize, name: &str) -> Option<Fault<'a>>
+/// The first name of a list of the k-th task that is neither a region's nor a device's.
+fn unknown_entry(
+    known: &Names,
+    k: usize,
+    key: &'static str,
+    names: &[String],
+) -> Option<Fault<'static>>
     ensures { (regions : List RegionData) (devices : List DeviceData) → NamesAreas known.now regions devices → option_map refusal_of result
-        ≡ unknown_entry regions devices (site_of place.entry) j name.now }
+        ≡ first_fault (unknown_entry regions devices (task_site k key.now)) 0 (map string_bytes names.now) }
 {
-    fault_if(!is_area(known, name), 10, entry_place(place, j))
-}
-
-/// The first name of a list that is neither a region's nor a device's.
-fn unknown_entry<'a>(known: &Names, place: Place<'a>, names: &[String]) -> Option<Fault<'a>>
-    ensures { (regions : List RegionData) (devices : List DeviceData) → NamesAreas known.now regions devices → option_map refusal_of result
-        ≡ first_fault (unknown_entry regions devices (site_of place.entry)) 0 (map string_bytes names.now) }
-{
+    let place = task_place(k, key);
     for i in 0..names.len() {
-        let found = unknown_area(known, place, i, names[i].as_str());
-        if found.is_some() {
-            return found;
+        if !is_area(known, names[i].as_str()) {
+            return fault_at(10, entry_place(place, i));
         }
     }
     None
@@ -88,12 +86,11 @@ fn unknown_region(known: &Names, k: usize, task: &Task) -> Option<Fault<'static>
     ensures { (regions : List RegionData) (devices : List DeviceData) → NamesAreas known.now regions devices → option_map refusal_of result
         ≡ unknown_region regions devices k (task_of task.now) }
 {
-    let place = index_place("task", k);
-    let uses = unknown_entry(known, key_place(place, "uses"), task.uses.as_slice());
+    let uses = unknown_entry(known, k, "uses", task.uses.as_slice());
     if uses.is_some() {
         return uses;
     }
-    unknown_entry(known, key_place(place, "reads"), task.reads.as_slice())
+    unknown_entry(known, k, "reads", task.reads.as_slice())
 }
 
 fn unknown_regions(known: &Names, tasks: &[Task]) -> Option<Fault<'static>>
@@ -120,17 +117,9 @@ pub(crate) fn unknown_name(
     let interrupts = parts.interrupts.as_slice();
     let kept = kept_tasks(alloc, tasks)?;
     let owner = unknown_owner(&kept, interrupts);
-    if owner.is_some() {
-        return Ok(owner);
-    }
-    let fault = unknown_fault_bit(parts.fault.as_str(), tasks);
-    if fault.is_some() {
-        return Ok(fault);
-    }
     let bit = unknown_bit(&kept, interrupts);
-    if bit.is_some() {
-        return Ok(bit);
-    }
+    let fault = unknown_fault_bit(parts.fault.as_str(), tasks);
     let known = known_areas(alloc, parts.regions.as_slice(), parts.devices.as_slice())?;
-    Ok(unknown_regions(&known, tasks))
+    let regions = unknown_regions(&known, tasks);
+    Ok(first_of(owner, first_of(fault, first_of(bit, regions))))
 }

@@ -1,8 +1,9 @@
 //! What a document says.
 
 ghost use Rattle.std.specs.Prelude.{◌≡◌, IfOk, map, string_bytes};
-ghost use Rattle.toml.specs.Data.{no_members};
+ghost use Rattle.toml.specs.Data.{Members, no_members};
 ghost use Rattle.toml.specs.View.{items_view, table_view, view};
+ghost use Rattle.app_toml.specs.Apps.{DeviceData, InterruptData, RegionData, TaskData};
 ghost use Rattle.app_toml.specs.Held.{parts_of};
 ghost use Rattle.app_toml.specs.Sites.{device_of, interrupt_of, region_of, task_of};
 ghost use Rattle.app_toml.specs.Values.{app_in, byte_in, device_in, each_in, flag_in, interrupt_in, items_in, members_in, number_in, region_in, table_of, task_in, text_in, text_of, texts_in, texts_of};
@@ -114,112 +115,110 @@ fn members_in<'a>(empty: &'a Table, document: &'a Table, name: &str) -> &'a Tabl
     }
 }
 
-fn task_in(alloc: Global, table: &Table) -> Result<Task, AllocError>
-    ensures { IfOk result (λ t. task_of t ≡ task_in (table_view table.now)) }
-{
-    let name = text_in(alloc, table, "name")?;
-    let source = text_in(alloc, table, "source")?;
-    let notifications = texts_in(alloc, table, "notifications")?;
-    let uses = texts_in(alloc, table, "uses")?;
-    let reads = texts_in(alloc, table, "reads")?;
-    Ok(Task {
-        name,
-        source,
-        priority: byte_in(table, "priority"),
-        start: flag_in(table, "start"),
-        flash: number_in(table, "flash"),
-        ram: number_in(table, "ram"),
-        stack: number_in(table, "stack"),
-        notifications,
-        uses,
-        reads,
-    })
+/// What a list of tables is of: what each says is read from its table.
+trait Row: Sized {
+    ghost Data: { Type 0 };
+
+    ghost said: { Self → Data };
+
+    ghost reading: { Members → Data };
+
+    fn in_table(alloc: Global, table: &Table) -> Result<Self, AllocError>
+        ensures { IfOk result (λ row. said row ≡ reading (table_view table.now)) };
 }
 
-fn region_in(alloc: Global, table: &Table) -> Result<SharedRegion, AllocError>
-    ensures { IfOk result (λ r. region_of r ≡ region_in (table_view table.now)) }
-{
-    let name = text_in(alloc, table, "name")?;
-    Ok(SharedRegion {
-        name,
-        size: number_in(table, "size"),
-    })
-}
+impl Row for Task {
+    ghost Data = { TaskData };
 
-fn device_in(alloc: Global, table: &Table) -> Result<Device, AllocError>
-    ensures { IfOk result (λ d. device_of d ≡ device_in (table_view table.now)) }
-{
-    let name = text_in(alloc, table, "name")?;
-    Ok(Device {
-        name,
-        base: number_in(table, "base"),
-        size: number_in(table, "size"),
-    })
-}
+    ghost said = { task_of };
 
-fn interrupt_in(alloc: Global, table: &Table) -> Result<Interrupt, AllocError>
-    ensures { IfOk result (λ i. interrupt_of i ≡ interrupt_in (table_view table.now)) }
-{
-    let task = text_in(alloc, table, "task")?;
-    let notification = text_in(alloc, table, "notification")?;
-    Ok(Interrupt {
-        line: byte_in(table, "line"),
-        task,
-        notification,
-    })
-}
+    ghost reading = { task_in };
 
-fn tasks_in(alloc: Global, empty: &Table, values: &[Value]) -> Result<Vec<Task>, AllocError>
-    requires { table_view empty.now ≡ no_members }
-    ensures { IfOk result (λ v. map task_of v.items ≡ each_in task_in (items_view values.now)) }
-{
-    let mut tasks = Vec::new(alloc);
-    for value in values {
-        tasks.push(task_in(alloc, table_of(empty, value))?)?;
+    fn in_table(alloc: Global, table: &Table) -> Result<Task, AllocError> {
+        let name = text_in(alloc, table, "name")?;
+        let source = text_in(alloc, table, "source")?;
+        let notifications = texts_in(alloc, table, "notifications")?;
+        let uses = texts_in(alloc, table, "uses")?;
+        let reads = texts_in(alloc, table, "reads")?;
+        Ok(Task {
+            name,
+            source,
+            priority: byte_in(table, "priority"),
+            start: flag_in(table, "start"),
+            flash: number_in(table, "flash"),
+            ram: number_in(table, "ram"),
+            stack: number_in(table, "stack"),
+            notifications,
+            uses,
+            reads,
+        })
     }
-    Ok(tasks)
 }
 
-fn regions_in(
+impl Row for SharedRegion {
+    ghost Data = { RegionData };
+
+    ghost said = { region_of };
+
+    ghost reading = { region_in };
+
+    fn in_table(alloc: Global, table: &Table) -> Result<SharedRegion, AllocError> {
+        let name = text_in(alloc, table, "name")?;
+        Ok(SharedRegion {
+            name,
+            size: number_in(table, "size"),
+        })
+    }
+}
+
+impl Row for Device {
+    ghost Data = { DeviceData };
+
+    ghost said = { device_of };
+
+    ghost reading = { device_in };
+
+    fn in_table(alloc: Global, table: &Table) -> Result<Device, AllocError> {
+        let name = text_in(alloc, table, "name")?;
+        Ok(Device {
+            name,
+            base: number_in(table, "base"),
+            size: number_in(table, "size"),
+        })
+    }
+}
+
+impl Row for Interrupt {
+    ghost Data = { InterruptData };
+
+    ghost said = { interrupt_of };
+
+    ghost reading = { interrupt_in };
+
+    fn in_table(alloc: Global, table: &Table) -> Result<Interrupt, AllocError> {
+        let task = text_in(alloc, table, "task")?;
+        let notification = text_in(alloc, table, "notification")?;
+        Ok(Interrupt {
+            line: byte_in(table, "line"),
+            task,
+            notification,
+        })
+    }
+}
+
+fn rows_in<T: Row + Drop>(
     alloc: Global,
     empty: &Table,
     values: &[Value],
-) -> Result<Vec<SharedRegion>, AllocError>
+) -> Result<Vec<T>, AllocError>
     requires { table_view empty.now ≡ no_members }
-    ensures { IfOk result (λ v. map region_of v.items ≡ each_in region_in (items_view values.now)) }
+    ensures { IfOk result (λ v. map T.said v.items ≡ each_in T.reading (items_view values.now)) }
 {
-    let mut regions = Vec::new(alloc);
+    let mut rows = Vec::new(alloc);
     for value in values {
-        regions.push(region_in(alloc, table_of(empty, value))?)?;
+        rows.push(T::in_table(alloc, table_of(empty, value))?)?;
     }
-    Ok(regions)
-}
-
-fn devices_in(alloc: Global, empty: &Table, values: &[Value]) -> Result<Vec<Device>, AllocError>
-    requires { table_view empty.now ≡ no_members }
-    ensures { IfOk result (λ v. map device_of v.items ≡ each_in device_in (items_view values.now)) }
-{
-    let mut devices = Vec::new(alloc);
-    for value in values {
-        devices.push(device_in(alloc, table_of(empty, value))?)?;
-    }
-    Ok(devices)
-}
-
-fn interrupts_in(
-    alloc: Global,
-    empty: &Table,
-    values: &[Value],
-) -> Result<Vec<Interrupt>, AllocError>
-    requires { table_view empty.now ≡ no_members }
-    ensures { IfOk result (λ v. map interrupt_of v.items
-        ≡ each_in interrupt_in (items_view values.now)) }
-{
-    let mut interrupts = Vec::new(alloc);
-    for value in values {
-        interrupts.push(interrupt_in(alloc, table_of(empty, value))?)?;
-    }
-    Ok(interrupts)
+    Ok(rows)
 }
 
 /// What a document says whose values have their forms.
@@ -230,10 +229,10 @@ pub(crate) fn parts_in(alloc: Global, document: &Table) -> Result<Parts, AllocEr
     let board = members_in(&empty, document, "board");
     let supervisor = members_in(&empty, document, "supervisor");
     let fault = text_in(alloc, supervisor, "fault")?;
-    let tasks = tasks_in(alloc, &empty, values_in(document, "task"))?;
-    let regions = regions_in(alloc, &empty, values_in(document, "region"))?;
-    let devices = devices_in(alloc, &empty, values_in(document, "device"))?;
-    let interrupts = interrupts_in(alloc, &empty, values_in(document, "interrupt"))?;
+    let tasks = rows_in(alloc, &empty, values_in(document, "task"))?;
+    let regions = rows_in(alloc, &empty, values_in(document, "region"))?;
+    let devices = rows_in(alloc, &empty, values_in(document, "device"))?;
+    let interrupts = rows_in(alloc, &empty, values_in(document, "interrupt"))?;
     Ok(Parts {
         flash: number_in(board, "flash"),
         ram: number_in(board, "ram"),

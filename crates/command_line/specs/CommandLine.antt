@@ -94,21 +94,26 @@ build_form = record {
   asks = λ rows. build (text_in (codes "app") rows) (text_in (codes "out") rows);
 }
 
+-- what a command that runs something asks for: of which subject, with which script, for how many turns
+-- at most, in which detail
+abbrev pub Running : Type 0
+Running = Text → Text → ℕ → Detail → Asked
+
+-- `NAME SUBJECT SCRIPT --steps N [--all] [--mem]`
+abbrev pub running_form : Text → Text → Running → Form
+running_form name subject asked = record {
+  name = name;
+  rules = positional_rule subject ∷ positional_rule (codes "script") ∷ steps_rule ∷ flag_rule (codes "all") ∷ flag_rule (codes "mem") ∷ [];
+  asks = λ rows. asked (text_in subject rows) (text_in (codes "script") rows) (number_in (codes "steps") rows) (detail_in rows);
+}
+
 -- `run IMAGE SCRIPT --steps N [--all] [--mem]`
 abbrev pub run_form : Form
-run_form = record {
-  name = codes "run";
-  rules = positional_rule (codes "image") ∷ positional_rule (codes "script") ∷ steps_rule ∷ flag_rule (codes "all") ∷ flag_rule (codes "mem") ∷ [];
-  asks = λ rows. run (text_in (codes "image") rows) (text_in (codes "script") rows) (number_in (codes "steps") rows) (detail_in rows);
-}
+run_form = running_form (codes "run") (codes "image") run
 
 -- `go APP SCRIPT --steps N [--all] [--mem]`
 abbrev pub go_form : Form
-go_form = record {
-  name = codes "go";
-  rules = positional_rule (codes "app") ∷ positional_rule (codes "script") ∷ steps_rule ∷ flag_rule (codes "all") ∷ flag_rule (codes "mem") ∷ [];
-  asks = λ rows. go (text_in (codes "app") rows) (text_in (codes "script") rows) (number_in (codes "steps") rows) (detail_in rows);
-}
+go_form = running_form (codes "go") (codes "app") go
 
 -- `list IMAGE`
 abbrev pub list_form : Form

@@ -1,8 +1,9 @@
 //! What `clap` is told: the program, a function for each command and for each kind of argument.
-ghost use Rattle.std.specs.Prelude.{◌≡◌, IfOk, false, [], ◌∷◌, codes};
-ghost use Rattle.clap.specs.Words.{app_of, rule_of, with_subcommand};
+ghost use Rattle.std.specs.Prelude.{◌≡◌, IfOk, false, codes};
+ghost use Rattle.clap.specs.Words.{app_of, rule_of};
 ghost use Rattle.clap.specs.declared.builder.command.Command.TheViews.{out-Command as fields_of};
-ghost use Rattle.command_line.specs.CommandLine.{Form, hubris_app, most_seed, most_steps, positional_rule, number_parser, number_rule, steps_rule, flag_rule, app_of_form, shape_of_form, build_form, run_form, go_form, list_form, sample_form};
+ghost use Rattle.command_line.specs.Adding.{AddsForm};
+ghost use Rattle.command_line.specs.CommandLine.{hubris_app, most_seed, most_steps, positional_rule, number_parser, number_rule, steps_rule, flag_rule, app_of_form, build_form, run, running_form, run_form, go_form, list_form, sample_form};
 
 use clap::builder::ValueParser;
 use clap::{Arg, ArgAction, Command};
@@ -67,13 +68,14 @@ fn build_command<'a>(alloc: Global) -> Result<Command<'a>, AllocError>
         .arg(positional(alloc, "out"))
 }
 
-// `run` and `go`: a command that runs what its first word names.
+// `run` and `go`: a command that runs what its first word names. What it asks for is no part of what
+// `clap` is told, so that the form may as well be one that asks for `run`.
 fn running_command<'a>(
     alloc: Global,
     name: &'a str,
     subject: &'a str,
 ) -> Result<Command<'a>, AllocError>
-    ensures shape { IfOk result (λ c. app_of c ≡ app_of_form (record run_form { name = name.entry.now; rules = positional_rule subject.entry.now ∷ positional_rule (codes "script") ∷ steps_rule ∷ flag_rule (codes "all") ∷ flag_rule (codes "mem") ∷ [] })) }
+    ensures shape { IfOk result (λ c. app_of c ≡ app_of_form (running_form name.entry.now subject.entry.now run)) }
     ensures local { IfOk result (λ c. (fields_of c).has_globals ≡ false) }
 {
     Command::new(alloc, name)
@@ -120,7 +122,7 @@ fn with_command<'a>(
     program: Command<'a>,
     command: Result<Command<'a>, AllocError>,
 ) -> Result<Command<'a>, AllocError>
-    ensures { (form : Form) → IfOk command.entry (λ d. app_of d ≡ app_of_form form) → IfOk command.entry (λ d. (fields_of d).has_globals ≡ false) → IfOk result (λ c. app_of c ≡ with_subcommand (app_of program.entry) (shape_of_form form)) }
+    ensures { AddsForm program.entry command.entry result }
 {
     program.subcommand(command?)
 }
