@@ -1,5 +1,4 @@
-ghost use Rattle.std.specs.Prelude.{◌≡◌, ◌<◌, ◌%◌, [], IfOk};
-ghost use Rattle.task_table.specs.Holds.{Stood, task_count};
+ghost use Rattle.std.specs.Prelude.{◌≡◌, ◌<◌, []};
 
 use crate::memory::memory_of;
 use dispatch::choose;
@@ -7,14 +6,13 @@ use std::alloc::{AllocError, Global};
 use std::test::Fail;
 use task_table::{Kernel, TaskStart};
 
-/// A task that is started, with no bytes of its own.
-fn a_task(alloc: Global, priority: u8) -> TaskStart
-    ensures regions { result.regions.items ≡ [] }
-    ensures stack { result.sp % 4 ≡ 0 }
+/// A task with no bytes of its own.
+fn a_task(alloc: Global, priority: u8, started: bool) -> TaskStart
+    ensures { result.regions.items ≡ [] }
 {
     TaskStart {
         priority,
-        started: true,
+        started,
         entry: 0x0800_0001,
         sp: 0x2000_0000,
         regions: Vec::new(alloc),
@@ -31,10 +29,7 @@ fn many_tasks(alloc: Global, numbers: u8, gap: u8, current: usize) -> Result<Ker
     let memory = memory_of(alloc, &[], 0)?;
     let mut tasks = Vec::new(alloc);
     for i in 0..32u8 {
-        tasks.push(TaskStart {
-            started: (i + 1) % gap != 0,
-            ..a_task(alloc, i % numbers)
-        })?;
+        tasks.push(a_task(alloc, i % numbers, (i + 1) % gap != 0))?;
     }
     let mut kernel = Kernel::start(alloc, memory, 1, &tasks, &[])?;
     kernel.set_current(current);

@@ -1,4 +1,4 @@
-ghost use Rattle.std.specs.Prelude.{◌≡◌, IfOk, length};
+ghost use Rattle.std.specs.Prelude.{◌≡◌, ◌≤◌, IfOk, length};
 ghost use Rattle.task_table.specs.Holds.{task_count, note_count, memory_of};
 
 use crate::lent::Stamp;
@@ -42,36 +42,40 @@ fn memory_at_its_edges(rt: HostRuntime) -> Result<(), Fail> {
     Ok(())
 }
 
-// Also where the ranges overlap, upwards and downwards, and from flash.
 #[test]
-fn memory_is_stored_to_and_copied(rt: HostRuntime) -> Result<(), Fail> {
-    let alloc = rt.alloc();
-    let stored = {
-        let mut memory = memory_of(alloc, &[], 8)?;
-        memory.store(RAM + 4, &[0xAA, 0xBB, 0xCC, 0xDD]);
-        let half = u32::from(memory.half(RAM + 7));
-        [memory.word(RAM + 4), memory.word(RAM + 2), half]
-    };
-    let upwards = {
-        let mut memory = memory_of(alloc, &[], 8)?;
-        store(&mut memory, RAM, &[1, 2, 3, 4, 5, 6]);
-        memory.copy(RAM, RAM + 2, 6);
-        [memory.word(RAM), memory.word(RAM + 4)]
-    };
-    let downwards = {
-        let mut memory = memory_of(alloc, &[], 8)?;
-        store(&mut memory, RAM + 2, &[1, 2, 3, 4, 5, 6]);
-        memory.copy(RAM + 2, RAM, 6);
-        [memory.word(RAM), memory.word(RAM + 4)]
-    };
-    let from_flash = {
-        let mut memory = memory_of(alloc, &[0x11, 0x22, 0x33], 4)?;
-        memory.copy(FLASH + 1, RAM + 1, 2);
-        memory.word(RAM)
-    };
-    assert!(rt; stored == [0xDDCC_BBAA, 0xBBAA_0000, 0xDD]);
-    assert!(rt; [upwards, downwards] == [[0x0201_0201, 0x0605_0403], [0x0403_0201, 0x0605_0605]]);
-    assert!(rt; from_flash == 0x0033_2200);
+fn memory_is_stored_to(rt: HostRuntime) -> Result<(), Fail> {
+    let mut memory = memory_of(rt.alloc(), &[], 8)?;
+    memory.store(RAM + 4, &[0xAA, 0xBB, 0xCC, 0xDD]);
+    let words = [memory.word(RAM + 4), memory.word(RAM + 2)];
+    assert!(rt; (words, memory.half(RAM + 7)) == ([0xDDCC_BBAA, 0xBBAA_0000], 0xDD));
+    Ok(())
+}
+
+#[test]
+fn memory_is_copied_from_flash(rt: HostRuntime) -> Result<(), Fail> {
+    let mut memory = memory_of(rt.alloc(), &[0x11, 0x22, 0x33], 4)?;
+    memory.copy(FLASH + 1, RAM + 1, 2);
+    assert!(rt; memory.word(RAM) == 0x0033_2200);
+    Ok(())
+}
+
+/// Both words of a RAM of eight bytes, of which six were copied from here to there.
+fn six_copied(alloc: Global, from: u32, to: u32) -> Result<[u32; 2], AllocError>
+    requires from { from ≤ 2 }
+    requires to { to ≤ 2 }
+{
+    let mut memory = memory_of(alloc, &[], 8)?;
+    store(&mut memory, RAM + from, &[1, 2, 3, 4, 5, 6]);
+    memory.copy(RAM + from, RAM + to, 6);
+    Ok([memory.word(RAM), memory.word(RAM + 4)])
+}
+
+#[test]
+fn memory_is_copied_where_ranges_overlap(rt: HostRuntime) -> Result<(), Fail> {
+    let upwards = six_copied(rt.alloc(), 0, 2)?;
+    let downwards = six_copied(rt.alloc(), 2, 0)?;
+    assert!(rt; upwards == [0x0201_0201, 0x0605_0403]);
+    assert!(rt; downwards == [0x0403_0201, 0x0605_0605]);
     Ok(())
 }
 
