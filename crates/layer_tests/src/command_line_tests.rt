@@ -1,4 +1,4 @@
-//! The greatest numbers, which no stored run has (crates/stored_runs has the other words), and a program of another name.
+//! What no stored run has (crates/stored_runs has the other words): the greatest numbers at once, and a program of another name.
 use command_line::{Detail, Job, read_words};
 use std::alloc::{AllocError, Global};
 
@@ -15,8 +15,8 @@ const NOTHING_MORE: Detail = Detail {
     memory: false,
 };
 
-/// Whether a run or a sample of the greatest numbers is asked for.
-fn asks_for_most(alloc: Global, words: &[String]) -> bool {
+/// Whether a run of the greatest numbers is asked for, and whether such a sample is.
+fn asks_for_most(alloc: Global, words: &[String]) -> (bool, bool) {
     match read_words(alloc, words) {
         Ok(
             Job::Run {
@@ -25,21 +25,21 @@ fn asks_for_most(alloc: Global, words: &[String]) -> bool {
                 steps: 1_000_000_000,
                 detail,
             },
-        ) => detail == NOTHING_MORE,
+        ) => (detail == NOTHING_MORE, false),
         Ok(
             Job::Sample {
                 seed: u32::MAX,
                 steps: 1_000_000_000,
             },
-        ) => true,
-        _ => false,
+        ) => (false, true),
+        _ => (false, false),
     }
 }
 
-fn are_taken(alloc: Global, words: &[&str]) -> bool {
+fn asked(alloc: Global, words: &[&str]) -> (bool, bool) {
     match owned(alloc, words) {
         Ok(words) => asks_for_most(alloc, &words),
-        Err(_) => false,
+        Err(_) => (false, false),
     }
 }
 
@@ -47,6 +47,6 @@ fn are_taken(alloc: Global, words: &[&str]) -> bool {
 fn the_greatest_numbers_are_taken(rt: HostRuntime) {
     let run = ["list", "run", "a", "", "--steps=1000000000"];
     let sample = ["list", "sample", "4294967295", "1000000000"];
-    let taken = [are_taken(rt.alloc(), &run), are_taken(rt.alloc(), &sample)];
-    assert!(rt; taken == [true, true]);
+    let asked = [asked(rt.alloc(), &run), asked(rt.alloc(), &sample)];
+    assert!(rt; asked == [(true, false), (false, true)]);
 }

@@ -30,7 +30,7 @@ fn letters(alloc: Global, fails: &[u64]) -> Result<MemFiles, AllocError> {
 
 // Whether these bytes, of which there are at most 9,000, are all that stand under the name.
 fn has<F: Files>(alloc: Global, files: &mut F, name: &str, bytes: &[u8]) -> bool {
-    match read_all(alloc, files, name, 9000) {
+    match read_all(alloc, files, name, bytes.len().min(9000)) {
         Ok(all) => all.as_slice() == bytes,
         Err(_) => false,
     }

@@ -47,6 +47,7 @@ fn at_most_65536_events(rt: HostRuntime) -> Result<(), Fail> {
 
 #[test]
 fn no_event_is_past_the_last_turn(rt: HostRuntime) -> Result<(), Fail> {
+    let of_none = Script::read(rt.alloc(), b"")?.event_at(u32::MAX, 0);
     let script = Script::read(rt.alloc(), b"every 5 tick\nat 9 tick\n")?;
     let events = [
         script.event_at(9, 0),
@@ -59,28 +60,29 @@ fn no_event_is_past_the_last_turn(rt: HostRuntime) -> Result<(), Fail> {
         script.next(u32::MAX),
     ];
     let lasts = script.lasts(1_000_000_000);
-    assert!(rt; events == [Some(Event::Tick), None, Some(Event::Tick)]);
+    assert!(rt; (of_none, events) == (None, [Some(Event::Tick), None, Some(Event::Tick)]));
     assert!(rt; (next, lasts) == ([Some(999_999_995), None, None], true));
     Ok(())
 }
 
-/// The first event of turn 4, the first two of turn 6, and the next turn from 7 on with an event.
-fn shown(script: &Script) -> ([Option<Event>; 3], Option<u32>) {
+/// The first event of turn 4, the first two of turn 6, and the next turns from 1 and from 7 on with an event.
+fn shown(script: &Script) -> ([Option<Event>; 3], [Option<u32>; 2]) {
     let events = [
         script.event_at(4, 0),
         script.event_at(6, 0),
         script.event_at(6, 1),
     ];
-    (events, script.next(7))
+    (events, [script.next(1), script.next(7)])
 }
 
 #[test]
 fn a_copy_and_one_made_of_events_have_them(rt: HostRuntime) -> Result<(), Fail> {
     let irq = Event::Irq { line: 3 };
+    let made = shown(&Script::of(rt.alloc(), Some(4), &[(6, irq), (6, Event::Tick)])?);
     let read = Script::read(rt.alloc(), b"every 4 tick\nat 6 irq 3\nat 6 tick\n")?;
     let copy = shown(&read.copy(rt.alloc())?);
-    let made = shown(&Script::of(rt.alloc(), Some(4), &[(6, irq), (6, Event::Tick)])?);
-    let wanted = ([Some(Event::Tick), Some(irq), Some(Event::Tick)], Some(8));
+    let events = [Some(Event::Tick), Some(irq), Some(Event::Tick)];
+    let wanted = (events, [Some(4), Some(8)]);
     assert!(rt; [copy, made] == [wanted, wanted]);
     Ok(())
 }
