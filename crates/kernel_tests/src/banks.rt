@@ -107,14 +107,19 @@ fn a_copy_over_three_regions(rt: HostRuntime) -> Result<(), Fail> {
     let mut memory = open(rt.alloc(), &regions)?;
     fill(&mut memory);
     copy(&mut memory, 0xF0, 0x110, 300);
-    assert!(rt; memory.byte(RAM + 0x110) == 0xF0);
-    assert!(rt; memory.byte(RAM + 0x23B) == 0x1B);
-    assert!(rt; memory.byte(RAM + 0x23C) == 0x3C);
+    let upwards = [
+        memory.byte(RAM + 0x110),
+        memory.byte(RAM + 0x23B),
+        memory.byte(RAM + 0x23C),
+    ];
     fill(&mut memory);
     copy(&mut memory, 0x110, 0xF0, 300);
-    assert!(rt; memory.byte(RAM + 0xF0) == 0x10);
-    assert!(rt; memory.byte(RAM + 0x21B) == 0x3B);
-    assert!(rt; memory.byte(RAM + 0x21C) == 0x1C);
+    let downwards = [
+        memory.byte(RAM + 0xF0),
+        memory.byte(RAM + 0x21B),
+        memory.byte(RAM + 0x21C),
+    ];
+    assert!(rt; [upwards, downwards] == [[0xF0, 0x1B, 0x3C], [0x10, 0x3B, 0x1C]]);
     Ok(())
 }
 
@@ -133,10 +138,13 @@ fn copies_over_the_edges_of_banks(rt: HostRuntime) -> Result<(), Fail> {
     ];
     let shared = [(RAM + 256, 256), (RAM + 1024, 128), (RAM + 256, 256)];
     let odd = [(RAM + 3, 5), (RAM + 8, 1), (RAM + 250, 300)];
-    assert!(rt; copies_over_edges(open(alloc, &[])?));
-    assert!(rt; copies_over_edges(open(alloc, &two)?));
-    assert!(rt; copies_over_edges(open(alloc, &five)?));
-    assert!(rt; copies_over_edges(open(alloc, &shared)?));
-    assert!(rt; copies_over_edges(open(alloc, &odd)?));
+    let found = [
+        copies_over_edges(open(alloc, &[])?),
+        copies_over_edges(open(alloc, &two)?),
+        copies_over_edges(open(alloc, &five)?),
+        copies_over_edges(open(alloc, &shared)?),
+        copies_over_edges(open(alloc, &odd)?),
+    ];
+    assert!(rt; found == [true, true, true, true, true]);
     Ok(())
 }

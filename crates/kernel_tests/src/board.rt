@@ -9,11 +9,16 @@ use std::alloc::{AllocError, Global};
 use std::process::Abort;
 use std::test::Fail;
 
-// One task with 256 bytes of flash that begin with these halfwords, and a script.
+// An image of one task with 256 bytes of flash, without these.
+const HEAD: [u8; 44] = [
+    0x48, 0x42, 0x49, 0x31, 1, 0, 1, 0, 0, 1, 0, 0, 0, 0, 0, 0, 1, 0, 0, 0, 0, 1, 1, 0, 1, 0, 0, 8,
+    0, 0, 0, 0x20, 0, 0, 0, 8, 0, 1, 0, 0, 5, 0, 0, 0,
+];
+
+// The image whose flash begins with `movs r0, #1` and this halfword, and a script.
 fn with_script(
     rt: &impl Abort,
     alloc: Global,
-    first: u16,
     second: u16,
     script: &[u8],
 ) -> Result<Board, AllocError>
@@ -21,29 +26,32 @@ fn with_script(
     ensures stood { IfOk result (λ b. Stood b) }
     ensures turns { IfOk result (λ b. turns_of b ≡ 0) }
 {
-    let head: [u8; 44] = [
-        0x48, 0x42, 0x49, 0x31, 1, 0, 1, 0, 0, 1, 0, 0, 0, 0, 0, 0, 1, 0, 0, 0, 0, 1, 1, 0, 1, 0,
-        0, 8, 0, 0, 0, 0x20, 0, 0, 0, 8, 0, 1, 0, 0, 5, 0, 0, 0,
-    ];
-    let mut bytes = head.to_vec(alloc)?;
-    bytes.push((first % 256) as u8)?;
-    bytes.push((first / 256) as u8)?;
-    bytes.push((second % 256) as u8)?;
-    bytes.push((second / 256) as u8)?;
-    for _ in 0..252 {
-        bytes.push(0)?;
-    }
+    let mut bytes = [0; 300];
+    bytes[..44].copy_from_slice(&HEAD);
+    bytes[44] = 0x01;
+    bytes[45] = 0x20;
+    bytes[46] = (second % 256) as u8;
+    bytes[47] = (second / 256) as u8;
     let image = Image::read(alloc, &bytes).expect(rt, "the image is sound");
     let script = Script::read(alloc, script).expect(rt, "the script is taken");
     Board::open(alloc, &image, &script)
 }
 
-// The same, with an empty script.
-fn board(rt: &impl Abort, alloc: Global, first: u16, second: u16) -> Result<Board, AllocError>
-    ensures stood { IfOk result (λ b. Stood b) }
-    ensures turns { IfOk result (λ b. turns_of b ≡ 0) }
+/// The turns and the time, whether the first note is of the first tick, how many notes there are, and whether the run ended.
+type Shown = (u32, u64, bool, usize, Option<End>);
+
+fn shown(board: &Board) -> Shown
+    requires { Stood board.now }
 {
-    with_script(rt, alloc, first, second, b"")
+    let notes = board.notes();
+    let has_ticked = notes.get(0).copied() == Some(Note::Tick { now: 1 });
+    (
+        board.turns(),
+        board.now(),
+        has_ticked,
+        notes.len(),
+        board.ended(),
+    )
 }
 
 // Turns on end.
@@ -57,60 +65,50 @@ fn advance(board: &mut Board, level: Level, limit: u32)
     board.advance(level, limit);
 }
 
+/// What a new board shows when it has made turns on end, at most 100, and the task's r0 and PC.
+fn after_turns(
+    rt: &impl Abort,
+    alloc: Global,
+    second: u16,
+    script: &[u8],
+    level: Level,
+) -> Result<(Shown, u32, u32), AllocError>
+    requires small { length script.now < 1000 }
+{
+    let mut board = with_script(rt, alloc, second, script)?;
+    advance(&mut board, level, 100);
+    let task = board.task(0).expect(rt, "there is a task");
+    Ok((shown(&board), task.registers[0], task.registers[15]))
+}
+
 #[test]
 fn a_board_opens(rt: HostRuntime) -> Result<(), Fail> {
-    let board = board(&rt, rt.alloc(), 0x2001, 0xe7fe)?;
-    assert!(rt; board.turns() == 0);
-    assert!(rt; board.ended() == None);
-    assert!(rt; board.task_count() == 1);
-    assert!(rt; board.next_call() == 1);
-    assert!(rt; board.byte(0x0800_0001) == Some(0x20));
-    assert!(rt; board.byte(0x0800_0100) == None);
-    assert!(rt; board.irq_line(31) == Some((false, false)));
-    assert!(rt; board.irq_line(32) == None);
-    assert!(rt; board.region(0, 0).is_some());
-    assert!(rt; board.region(0, 1).is_none());
-    assert!(rt; board.task(1).is_none());
+    let board = with_script(&rt, rt.alloc(), 0xe7fe, b"")?;
+    let counts = (board.task_count(), board.next_call());
+    let bytes = [board.byte(0x0800_0001), board.byte(0x0800_0100)];
+    let lines = [board.irq_line(31), board.irq_line(32)];
+    let is_there = [
+        board.region(0, 0).is_some(),
+        board.region(0, 1).is_some(),
+        board.task(1).is_some(),
+    ];
+    assert!(rt; (shown(&board), counts) == ((0, 0, false, 0, None), (1, 1)));
+    assert!(rt; (bytes, lines) == ([Some(0x20), None], [Some((false, false)), None]));
+    assert!(rt; is_there == [true, false, false]);
     Ok(())
 }
 
+// Quiet turns are made up to the limit, to an event or to a note; one by one where all is told.
 #[test]
-fn quiet_turns_are_made_up_to_the_limit(rt: HostRuntime) -> Result<(), Fail> {
-    let mut board = board(&rt, rt.alloc(), 0x2001, 0xe7fe)?;
-    advance(&mut board, Level::Brief, 100);
-    assert!(rt; board.turns() == 100);
-    assert!(rt; board.notes().len() == 0);
-    let task = board.task(0).expect(&rt, "there is a task");
-    assert!(rt; task.registers[0] == 1);
-    assert!(rt; task.registers[15] == 0x0800_0002);
-    Ok(())
-}
-
-#[test]
-fn quiet_turns_end_with_an_event(rt: HostRuntime) -> Result<(), Fail> {
-    let mut board = with_script(&rt, rt.alloc(), 0x2001, 0xe7fe, b"at 7 tick\n")?;
-    advance(&mut board, Level::Brief, 100);
-    assert!(rt; board.turns() == 8);
-    assert!(rt; board.now() == 1);
-    assert!(rt; board.notes().get(0).copied() == Some(Note::Tick { now: 1 }));
-    Ok(())
-}
-
-#[test]
-fn quiet_turns_end_with_a_note(rt: HostRuntime) -> Result<(), Fail> {
-    let mut board = board(&rt, rt.alloc(), 0x2001, 0xde00)?;
-    advance(&mut board, Level::Brief, 100);
-    assert!(rt; board.turns() == 2);
-    assert!(rt; board.notes().len() == 1);
-    assert!(rt; board.ended() == Some(End::Supervisor));
-    Ok(())
-}
-
-#[test]
-fn turns_are_made_one_by_one_where_all_is_told(rt: HostRuntime) -> Result<(), Fail> {
-    let mut board = board(&rt, rt.alloc(), 0x2001, 0xe7fe)?;
-    advance(&mut board, Level::All, 100);
-    assert!(rt; board.turns() == 1);
-    assert!(rt; board.notes().len() == 3);
+fn turns_on_end(rt: HostRuntime) -> Result<(), Fail> {
+    let alloc = rt.alloc();
+    let (limit, r0, pc) = after_turns(&rt, alloc, 0xe7fe, b"", Level::Brief)?;
+    let (event, ..) = after_turns(&rt, alloc, 0xe7fe, b"at 7 tick\n", Level::Brief)?;
+    let (note, ..) = after_turns(&rt, alloc, 0xde00, b"", Level::Brief)?;
+    let (all, ..) = after_turns(&rt, alloc, 0xe7fe, b"", Level::All)?;
+    assert!(rt; (limit, r0, pc) == ((100, 0, false, 0, None), 1, 0x0800_0002));
+    assert!(rt; event == (8, 1, true, 1, None));
+    assert!(rt; note == (2, 0, false, 1, Some(End::Supervisor)));
+    assert!(rt; all == (1, 0, false, 3, None));
     Ok(())
 }

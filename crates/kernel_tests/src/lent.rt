@@ -55,31 +55,44 @@ fn is_lent(memory: &mut Memory, flash: (u32, u32), ram: (u32, u32), byte: u8) ->
     right.then_some(lent)
 }
 
-// Regions that share a page or begin at none, in both orders; then such as have no bank of their own.
-#[test]
-fn regions_of_a_memory_are_lent(rt: HostRuntime) -> Result<(), Fail> {
-    let regions = [
-        (FLASH, 32),
-        (FLASH + 32, 16),
-        (RAM + 3, 5),
-        (RAM + 8, 24),
-        (RAM + 64, 256),
-    ];
-    let mut memory = Memory::open(rt.alloc(), &[7; 64], 512, &regions)?;
+// Regions that share a page or begin at none.
+const REGIONS: [(u32, u32); 5] = [
+    (FLASH, 32),
+    (FLASH + 32, 16),
+    (RAM + 3, 5),
+    (RAM + 8, 24),
+    (RAM + 64, 256),
+];
+
+/// Whether each two of them are lent, in both orders.
+fn lends_each_two(memory: &mut Memory) -> bool {
     for flash in 0..5usize {
         for ram in 2..5usize {
             let wanted = Some(flash != ram);
             let byte = (16 * flash + ram) as u8;
-            assert!(rt; is_lent(&mut memory, regions[flash], regions[ram], byte) == wanted);
+            if is_lent(memory, REGIONS[flash], REGIONS[ram], byte) != wanted {
+                return false;
+            }
         }
     }
+    true
+}
+
+// Such as have no bank of their own are not lent.
+#[test]
+fn regions_of_a_memory_are_lent(rt: HostRuntime) -> Result<(), Fail> {
+    let mut memory = Memory::open(rt.alloc(), &[7; 64], 512, &REGIONS)?;
+    let lends = lends_each_two(&mut memory);
     let code = (FLASH, 32);
-    assert!(rt; is_lent(&mut memory, code, (FLASH + 32, 16), 9) == Some(false));
-    assert!(rt; is_lent(&mut memory, (FLASH, 31), (RAM + 3, 5), 9) == Some(false));
-    assert!(rt; is_lent(&mut memory, code, (RAM + 3, 4), 9) == Some(false));
-    assert!(rt; is_lent(&mut memory, code, (RAM + 3, 29), 9) == Some(false));
-    assert!(rt; is_lent(&mut memory, code, (RAM + 4, 5), 9) == Some(false));
-    assert!(rt; is_lent(&mut memory, code, (RAM + 512, 5), 9) == Some(false));
+    let others = [
+        is_lent(&mut memory, code, (FLASH + 32, 16), 9),
+        is_lent(&mut memory, (FLASH, 31), (RAM + 3, 5), 9),
+        is_lent(&mut memory, code, (RAM + 3, 4), 9),
+        is_lent(&mut memory, code, (RAM + 3, 29), 9),
+        is_lent(&mut memory, code, (RAM + 4, 5), 9),
+        is_lent(&mut memory, code, (RAM + 512, 5), 9),
+    ];
+    assert!(rt; (lends, others) == (true, [Some(false); 6]));
     Ok(())
 }
 
@@ -89,12 +102,13 @@ fn a_text_alone_is_lent(rt: HostRuntime) -> Result<(), Fail> {
     let regions = [(FLASH, 32), (RAM, 8)];
     let mut memory = Memory::open(rt.alloc(), &[7; 64], 16, &regions)?;
     let mut sizes = Sizes { flash: 99, ram: 99 };
-    assert!(rt; memory.lend((FLASH, 32), (RAM, 0), &mut sizes));
-    assert!(rt; sizes.flash == 32);
-    assert!(rt; sizes.ram == 0);
+    let lent = memory.lend((FLASH, 32), (RAM, 0), &mut sizes);
+    let found = (lent, sizes.flash, sizes.ram);
     sizes.ram = 99;
-    assert!(rt; !memory.lend((FLASH, 31), (RAM, 0), &mut sizes));
-    assert!(rt; !memory.lend((FLASH, 32), (RAM + 8, 0), &mut sizes));
-    assert!(rt; sizes.ram == 99);
+    let others = [
+        memory.lend((FLASH, 31), (RAM, 0), &mut sizes),
+        memory.lend((FLASH, 32), (RAM + 8, 0), &mut sizes),
+    ];
+    assert!(rt; (found, others, sizes.ram) == ((true, 32, 0), [false, false], 99));
     Ok(())
 }

@@ -1,4 +1,5 @@
-//! Tests of the kernel's crates over their public calls, with values from outside. Nothing else is here.
+//! Tests of the kernel's crates over their public calls, with values from outside: what the text of no run shows. Receives, timers
+//! and who sends are stored runs (crates/stored_runs). Nothing else is here.
 #![tactic(auto)]
 
 #[cfg(test)]
@@ -12,8 +13,4 @@ mod lent;
 #[cfg(test)]
 mod memory;
 #[cfg(test)]
-mod receiving;
-#[cfg(test)]
 mod tasks;
-#[cfg(test)]
-mod timers;

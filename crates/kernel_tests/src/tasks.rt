@@ -1,4 +1,4 @@
-ghost use Rattle.std.specs.Prelude.{◌≡◌, IfOk, length};
+ghost use Rattle.std.specs.Prelude.{◌≡◌, ◌≤◌, IfOk, length};
 ghost use Rattle.task_table.specs.Holds.{task_count, note_count, memory_of};
 
 use crate::lent::Stamp;
@@ -11,24 +11,34 @@ use task_table::{FLASH, Found, Kernel, Line, LineStart, RAM, TaskStart};
 
 #[test]
 fn memory_at_its_edges(rt: HostRuntime) -> Result<(), Fail> {
-    let alloc = rt.alloc();
-    let memory = memory_of(alloc, &[0x11, 0x22, 0x33, 0x44, 0x55], 8)?;
-    assert!(rt; !memory.holds(FLASH - 1));
-    assert!(rt; memory.holds(FLASH + 4));
-    assert!(rt; !memory.holds(FLASH + 5));
-    assert!(rt; !memory.holds(RAM - 1));
-    assert!(rt; memory.holds(RAM + 7));
-    assert!(rt; !memory.holds(RAM + 8));
-    assert!(rt; !memory.holds(u32::MAX));
-    assert!(rt; memory.byte(FLASH) == 0x11);
-    assert!(rt; memory.byte(FLASH + 4) == 0x55);
-    assert!(rt; memory.byte(RAM + 7) == 0);
-    assert!(rt; memory.half(FLASH) == 0x2211);
-    assert!(rt; memory.half(FLASH + 4) == 0x55);
-    assert!(rt; memory.half(FLASH - 1) == 0);
-    assert!(rt; memory.word(FLASH + 1) == 0x5544_3322);
-    assert!(rt; memory.number(FLASH + 2, 1) == 0x33);
-    assert!(rt; memory.word(u32::MAX) == 0);
+    let memory = memory_of(rt.alloc(), &[0x11, 0x22, 0x33, 0x44, 0x55], 8)?;
+    let holds = [
+        memory.holds(FLASH - 1),
+        memory.holds(FLASH + 4),
+        memory.holds(FLASH + 5),
+        memory.holds(RAM - 1),
+        memory.holds(RAM + 7),
+        memory.holds(RAM + 8),
+        memory.holds(u32::MAX),
+    ];
+    let bytes = [
+        memory.byte(FLASH),
+        memory.byte(FLASH + 4),
+        memory.byte(RAM + 7),
+    ];
+    let halves = [
+        memory.half(FLASH),
+        memory.half(FLASH + 4),
+        memory.half(FLASH - 1),
+    ];
+    let words = [
+        memory.word(FLASH + 1),
+        memory.word(u32::MAX),
+        memory.number(FLASH + 2, 1),
+    ];
+    assert!(rt; holds == [false, true, false, false, true, false, false]);
+    assert!(rt; (bytes, halves) == ([0x11, 0x55, 0], [0x2211, 0x55, 0]));
+    assert!(rt; words == [0x5544_3322, 0, 0x33]);
     Ok(())
 }
 
@@ -36,24 +46,8 @@ fn memory_at_its_edges(rt: HostRuntime) -> Result<(), Fail> {
 fn memory_is_stored_to(rt: HostRuntime) -> Result<(), Fail> {
     let mut memory = memory_of(rt.alloc(), &[], 8)?;
     memory.store(RAM + 4, &[0xAA, 0xBB, 0xCC, 0xDD]);
-    assert!(rt; memory.word(RAM + 4) == 0xDDCC_BBAA);
-    assert!(rt; memory.word(RAM + 2) == 0xBBAA_0000);
-    assert!(rt; memory.half(RAM + 7) == 0xDD);
-    Ok(())
-}
-
-#[test]
-fn memory_is_copied_where_ranges_overlap(rt: HostRuntime) -> Result<(), Fail> {
-    let mut upwards = memory_of(rt.alloc(), &[], 8)?;
-    store(&mut upwards, RAM, &[1, 2, 3, 4, 5, 6]);
-    upwards.copy(RAM, RAM + 2, 6);
-    assert!(rt; upwards.word(RAM) == 0x0201_0201);
-    assert!(rt; upwards.word(RAM + 4) == 0x0605_0403);
-    let mut downwards = memory_of(rt.alloc(), &[], 8)?;
-    store(&mut downwards, RAM + 2, &[1, 2, 3, 4, 5, 6]);
-    downwards.copy(RAM + 2, RAM, 6);
-    assert!(rt; downwards.word(RAM) == 0x0403_0201);
-    assert!(rt; downwards.word(RAM + 4) == 0x0605_0605);
+    let words = [memory.word(RAM + 4), memory.word(RAM + 2)];
+    assert!(rt; (words, memory.half(RAM + 7)) == ([0xDDCC_BBAA, 0xBBAA_0000], 0xDD));
     Ok(())
 }
 
@@ -62,6 +56,26 @@ fn memory_is_copied_from_flash(rt: HostRuntime) -> Result<(), Fail> {
     let mut memory = memory_of(rt.alloc(), &[0x11, 0x22, 0x33], 4)?;
     memory.copy(FLASH + 1, RAM + 1, 2);
     assert!(rt; memory.word(RAM) == 0x0033_2200);
+    Ok(())
+}
+
+/// Both words of a RAM of eight bytes, of which six were copied from here to there.
+fn six_copied(alloc: Global, from: u32, to: u32) -> Result<[u32; 2], AllocError>
+    requires from { from ≤ 2 }
+    requires to { to ≤ 2 }
+{
+    let mut memory = memory_of(alloc, &[], 8)?;
+    store(&mut memory, RAM + from, &[1, 2, 3, 4, 5, 6]);
+    memory.copy(RAM + from, RAM + to, 6);
+    Ok([memory.word(RAM), memory.word(RAM + 4)])
+}
+
+#[test]
+fn memory_is_copied_where_ranges_overlap(rt: HostRuntime) -> Result<(), Fail> {
+    let upwards = six_copied(rt.alloc(), 0, 2)?;
+    let downwards = six_copied(rt.alloc(), 2, 0)?;
+    assert!(rt; upwards == [0x0201_0201, 0x0605_0403]);
+    assert!(rt; downwards == [0x0403_0201, 0x0605_0605]);
     Ok(())
 }
 
@@ -107,28 +121,22 @@ fn two_tasks(alloc: Global) -> Result<Kernel, AllocError>
 #[test]
 fn the_start_of_a_run(rt: HostRuntime) -> Result<(), Fail> {
     let kernel = two_tasks(rt.alloc())?;
-    assert!(rt; kernel.task_count() == 2);
-    assert!(rt; kernel.notes().len() == 0);
-    assert!(rt; kernel.current() == 0);
-    assert!(rt; kernel.now() == 0);
-    assert!(rt; kernel.next_call() == 1);
-    assert!(rt; kernel.fault_bits() == 0x8000_0000);
+    let counts = [kernel.task_count(), kernel.notes().len(), kernel.current()];
+    let run = (kernel.now(), kernel.next_call(), kernel.fault_bits());
+    let lines = [kernel.line(31), kernel.line(32)];
+    let names = [
+        kernel.lookup(1),
+        kernel.lookup(1 + 5 * 1024),
+        kernel.lookup(2),
+        kernel.lookup(0xFFFF),
+    ];
     let off = Line {
         enabled: false,
         pending: false,
     };
-    assert!(rt; kernel.line(31) == Some(off));
-    assert!(rt; kernel.line(32) == None);
-    Ok(())
-}
-
-#[test]
-fn what_an_id_names(rt: HostRuntime) -> Result<(), Fail> {
-    let kernel = two_tasks(rt.alloc())?;
-    assert!(rt; kernel.lookup(1) == Found::Live(1));
-    assert!(rt; kernel.lookup(1 + 5 * 1024) == Found::Dead(Generation { number: 0 }));
-    assert!(rt; kernel.lookup(2) == Found::Out);
-    assert!(rt; kernel.lookup(0xFFFF) == Found::Out);
+    let dead = Found::Dead(Generation { number: 0 });
+    assert!(rt; (counts, run, lines) == ([2, 0, 0], (0, 1, 0x8000_0000), [Some(off), None]));
+    assert!(rt; names == [Found::Live(1), dead, Found::Out, Found::Out]);
     Ok(())
 }
 
@@ -136,32 +144,26 @@ fn what_an_id_names(rt: HostRuntime) -> Result<(), Fail> {
 fn a_call_is_misused(rt: HostRuntime) -> Result<(), Fail> {
     let mut kernel = two_tasks(rt.alloc())?;
     kernel.misuse(1, Usage::BadReason);
-    assert!(rt; kernel.health(1) == Health::Faulted(Fault::usage(Usage::BadReason)));
-    let told = Note::Post {
+    let health = kernel.health(1);
+    let told = (kernel.notes().len(), kernel.notes().get(1).copied());
+    let posted = kernel.posted_bits(0);
+    kernel.clear_notes();
+    let left = kernel.notes().len();
+    let post = Note::Post {
         task: 0,
         bits: 0x8000_0000,
         posted: 0x8000_0000,
     };
-    assert!(rt; kernel.notes().len() == 2);
-    assert!(rt; kernel.notes()[1] == told);
-    assert!(rt; kernel.posted_bits(0) == 0x8000_0000);
-    kernel.clear_notes();
-    assert!(rt; kernel.notes().len() == 0);
+    assert!(rt; health == Health::Faulted(Fault::usage(Usage::BadReason)));
+    assert!(rt; (told, posted, left) == ((2, Some(post)), 0x8000_0000, 0));
     Ok(())
 }
 
 #[test]
-fn the_kernel_stores(rt: HostRuntime) -> Result<(), Fail> {
+fn a_kernel_stores_and_lends_its_memory(rt: HostRuntime) -> Result<(), Fail> {
     let mut kernel = two_tasks(rt.alloc())?;
     kernel.store(RAM, &[1, 2]);
-    assert!(rt; kernel.number(RAM, 4) == 0x0201);
-    assert!(rt; kernel.byte(FLASH + 1) == Some(0x21));
-    Ok(())
-}
-
-#[test]
-fn a_kernel_lends_its_memory(rt: HostRuntime) -> Result<(), Fail> {
-    let mut kernel = two_tasks(rt.alloc())?;
+    let stored = (kernel.number(RAM, 4), kernel.byte(FLASH + 1));
     let rights = Rights {
         read: true,
         write: false,
@@ -182,9 +184,12 @@ fn a_kernel_lends_its_memory(rt: HostRuntime) -> Result<(), Fail> {
         seen: 0,
         byte: 0x5A,
     };
-    assert!(rt; !kernel.lend(&ram, &flash, &mut stamp));
-    assert!(rt; kernel.lend(&flash, &ram, &mut stamp));
-    assert!(rt; stamp.seen == 0x20);
-    assert!(rt; kernel.number(RAM, 2) == 0x5A);
+    let lent = [
+        kernel.lend(&ram, &flash, &mut stamp),
+        kernel.lend(&flash, &ram, &mut stamp),
+    ];
+    let left = kernel.number(RAM, 2);
+    assert!(rt; stored == (0x0201, Some(0x21)));
+    assert!(rt; (lent, stamp.seen, left) == ([false, true], 0x20, 0x025A));
     Ok(())
 }

@@ -1,7 +1,6 @@
-//! The greatest numbers, which no stored run has (crates/stored_runs has the other words), and a program of another name.
+//! What no stored run has (crates/stored_runs has the other words): the greatest numbers at once, and a program of another name.
 use command_line::{Detail, Job, read_words};
 use std::alloc::{AllocError, Global};
-use std::test::Fail;
 
 fn owned(alloc: Global, words: &[&str]) -> Result<Vec<String>, AllocError> {
     let mut all = Vec::new(alloc);
@@ -11,35 +10,43 @@ fn owned(alloc: Global, words: &[&str]) -> Result<Vec<String>, AllocError> {
     Ok(all)
 }
 
-#[test]
-fn the_greatest_numbers_are_taken(rt: HostRuntime) -> Result<(), Fail> {
-    let run = owned(rt.alloc(), &["list", "run", "a", "", "--steps=1000000000"])?;
-    let is_taken = match read_words(rt.alloc(), &run) {
+const NOTHING_MORE: Detail = Detail {
+    instructions: false,
+    memory: false,
+};
+
+/// Whether a run of the greatest numbers is asked for, and whether such a sample is.
+fn asks_for_most(alloc: Global, words: &[String]) -> (bool, bool) {
+    match read_words(alloc, words) {
         Ok(
             Job::Run {
-                image,
-                script,
-                steps,
+                image: "a",
+                script: "",
+                steps: 1_000_000_000,
                 detail,
             },
-        ) => {
-            image == "a"
-                && script == ""
-                && steps == 1_000_000_000
-                && detail
-                    == (Detail {
-                        instructions: false,
-                        memory: false,
-                    })
-        }
-        _ => false,
-    };
-    assert!(rt; is_taken);
-    let sample = owned(rt.alloc(), &["list", "sample", "4294967295", "1000000000"])?;
-    let is_taken = match read_words(rt.alloc(), &sample) {
-        Ok(Job::Sample { seed, steps }) => seed == 4_294_967_295 && steps == 1_000_000_000,
-        _ => false,
-    };
-    assert!(rt; is_taken);
-    Ok(())
+        ) => (detail == NOTHING_MORE, false),
+        Ok(
+            Job::Sample {
+                seed: u32::MAX,
+                steps: 1_000_000_000,
+            },
+        ) => (false, true),
+        _ => (false, false),
+    }
+}
+
+fn asked(alloc: Global, words: &[&str]) -> (bool, bool) {
+    match owned(alloc, words) {
+        Ok(words) => asks_for_most(alloc, &words),
+        Err(_) => (false, false),
+    }
+}
+
+#[test]
+fn the_greatest_numbers_are_taken(rt: HostRuntime) {
+    let run = ["list", "run", "a", "", "--steps=1000000000"];
+    let sample = ["list", "sample", "4294967295", "1000000000"];
+    let asked = [asked(rt.alloc(), &run), asked(rt.alloc(), &sample)];
+    assert!(rt; asked == [(true, false), (false, true)]);
 }

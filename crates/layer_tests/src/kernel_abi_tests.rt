@@ -3,7 +3,6 @@ use kernel_abi::{
     Access, BorrowArgs, Fault, Generation, IdArgs, InfoArgs, IrqArgs, LeaseEntry, Note, Range,
     Reason, RecvArgs, ReplyArgs, SendArgs, TaskId, TimerArgs, Usage, dead_code,
 };
-use std::test::Fail;
 
 // Each register holds another number, so that no two can be confused.
 const REGISTERS: [u32; 8] = [
@@ -20,13 +19,22 @@ const REGISTERS: [u32; 8] = [
 #[test]
 fn ids(rt: HostRuntime) {
     let id = TaskId::of(0x0C05);
-    assert!(rt; id.index() == 5);
-    assert!(rt; id.generation() == Generation { number: 3 });
-    assert!(rt; TaskId::new(5, Generation { number: 3 }) == id);
-    assert!(rt; TaskId::of(TaskId::KERNEL).index() == 1023);
-    assert!(rt; TaskId::of(TaskId::KERNEL).generation() == Generation { number: 63 });
-    assert!(rt; dead_code(Generation { number: 1 }) == 0xFFFF_FF01);
-    assert!(rt; dead_code(Generation { number: 63 }) == 0xFFFF_FF3F);
+    let kernel = TaskId::of(TaskId::KERNEL);
+    let found = (
+        TaskId::new(5, Generation { number: 3 }).number,
+        id.index(),
+        id.generation().number,
+        kernel.index(),
+        kernel.generation().number,
+        dead_code(Generation { number: 1 }),
+        dead_code(Generation { number: 63 }),
+    );
+    assert!(rt; found == (0x0C05, 5, 3, 1023, 63, 0xFFFF_FF01, 0xFFFF_FF3F));
+}
+
+/// A fault of any number.
+fn fault(number: u8, x: u32, y: u32) -> Fault {
+    Fault { number, x, y }
 }
 
 #[test]
@@ -34,7 +42,11 @@ fn faults(rt: HostRuntime) {
     let found = [
         Fault::illegal(0x0800_0000),
         Fault::illegal_text(0x0800_0100),
+        Fault::access(0, Access::Load),
         Fault::access(0x1FFF_FFFC, Access::Store),
+        Fault::access(0, Access::KernelRead),
+        Fault::access(0, Access::KernelWrite),
+        Fault::unaligned(0, false),
         Fault::unaligned(0x2000_0001, true),
         Fault::state(0x0800_0002),
         Fault::breakpoint(255),
@@ -44,26 +56,22 @@ fn faults(rt: HostRuntime) {
         Fault::reply_fault(TaskId::of(0x0402), Reason::BadLeases),
     ];
     let wanted = [
-        (1, 0x0800_0000, 0),
-        (2, 0x0800_0100, 0),
-        (3, 0x1FFF_FFFC, 1),
-        (4, 0x2000_0001, 1),
-        (5, 0x0800_0002, 0),
-        (6, 255, 0),
-        (7, 9, 0),
-        (8, 1, 2),
-        (9, 0, 0),
-        (10, 0x0402, 3),
+        fault(1, 0x0800_0000, 0),
+        fault(2, 0x0800_0100, 0),
+        fault(3, 0, 0),
+        fault(3, 0x1FFF_FFFC, 1),
+        fault(3, 0, 2),
+        fault(3, 0, 3),
+        fault(4, 0, 0),
+        fault(4, 0x2000_0001, 1),
+        fault(5, 0x0800_0002, 0),
+        fault(6, 255, 0),
+        fault(7, 9, 0),
+        fault(8, 1, 2),
+        fault(9, 0, 0),
+        fault(10, 0x0402, 3),
     ];
-    for (fault, (number, x, y)) in found.iter().zip(wanted.iter()) {
-        assert!(rt; fault.number == *number);
-        assert!(rt; fault.x == *x);
-        assert!(rt; fault.y == *y);
-    }
-    assert!(rt; Fault::access(0, Access::Load).y == 0);
-    assert!(rt; Fault::access(0, Access::KernelRead).y == 2);
-    assert!(rt; Fault::access(0, Access::KernelWrite).y == 3);
-    assert!(rt; Fault::unaligned(0, false).y == 0);
+    assert!(rt; found == wanted);
 }
 
 #[test]
@@ -80,39 +88,58 @@ fn misuses(rt: HostRuntime) {
         Usage::ReplyTooBig,
         Usage::BadReason,
     ];
-    for (usage, number) in usages.iter().zip(1..11_u32) {
-        assert!(rt; usage.number() == number);
-    }
+    assert!(rt; usages.map(|usage| usage.number()) == [1, 2, 3, 4, 5, 6, 7, 8, 9, 10]);
 }
 
 #[test]
 fn reasons(rt: HostRuntime) {
-    assert!(rt; Reason::of(0) == Some(Reason::UndefinedOperation));
-    assert!(rt; Reason::of(1) == Some(Reason::BadMessageSize));
-    assert!(rt; Reason::of(2) == Some(Reason::BadMessageContents));
-    assert!(rt; Reason::of(3) == Some(Reason::BadLeases));
-    assert!(rt; Reason::of(4) == Some(Reason::ReplyBufferTooSmall));
-    assert!(rt; Reason::of(5) == Some(Reason::AccessViolation));
+    let found = [
+        Reason::of(0),
+        Reason::of(1),
+        Reason::of(2),
+        Reason::of(3),
+        Reason::of(4),
+        Reason::of(5),
+        Reason::of(6),
+        Reason::of(u32::MAX),
+    ];
+    let wanted = [
+        Some(Reason::UndefinedOperation),
+        Some(Reason::BadMessageSize),
+        Some(Reason::BadMessageContents),
+        Some(Reason::BadLeases),
+        Some(Reason::ReplyBufferTooSmall),
+        Some(Reason::AccessViolation),
+        None,
+        None,
+    ];
+    assert!(rt; found == wanted);
     assert!(rt; Reason::AccessViolation.number() == 5);
-    assert!(rt; Reason::of(6) == None);
-    assert!(rt; Reason::of(u32::MAX) == None);
+}
+
+// The last word, and the whole address space.
+#[test]
+fn ranges(rt: HostRuntime) {
+    let found = [
+        Range::of(0xFFFF_FFFC, 4),
+        Range::of(0xFFFF_FFFC, 5),
+        Range::of(0, 0x1_0000_0000),
+        Range::of(0, 0x1_0000_0001),
+        Range::of(u32::MAX, u64::MAX),
+    ];
+    let last = Range {
+        base: 0xFFFF_FFFC,
+        len: 4,
+    };
+    let whole = Range {
+        base: 0,
+        len: 0x1_0000_0000,
+    };
+    assert!(rt; found == [Some(last), None, Some(whole), None, None]);
 }
 
 #[test]
-fn ranges(rt: HostRuntime) -> Result<(), Fail> {
-    let last = Range::of(0xFFFF_FFFC, 4).ok_or("the last word")?;
-    assert!(rt; last.base == 0xFFFF_FFFC);
-    assert!(rt; last.len == 4);
-    assert!(rt; Range::of(0xFFFF_FFFC, 5) == None);
-    let whole = Range::of(0, 0x1_0000_0000).ok_or("the whole address space")?;
-    assert!(rt; whole.len == 0x1_0000_0000);
-    assert!(rt; Range::of(0, 0x1_0000_0001) == None);
-    assert!(rt; Range::of(u32::MAX, u64::MAX) == None);
-    Ok(())
-}
-
-#[test]
-fn lease_entries(rt: HostRuntime) {
+fn lease_entries_and_notes(rt: HostRuntime) {
     let entry = LeaseEntry::of(&[1, 0, 0, 0, 0x80, 1, 0, 0x20, 4, 0, 0, 0]);
     let wanted = LeaseEntry {
         attributes: 1,
@@ -120,10 +147,6 @@ fn lease_entries(rt: HostRuntime) {
         len: 4,
     };
     assert!(rt; entry == wanted);
-}
-
-#[test]
-fn notes(rt: HostRuntime) {
     let call = Note::Syscall {
         task: 1,
         number: 0,
@@ -134,66 +157,79 @@ fn notes(rt: HostRuntime) {
 
 #[test]
 fn send(rt: HostRuntime) {
-    let args = SendArgs::of(&REGISTERS);
-    assert!(rt; args.recipient.number == 0x0402);
-    assert!(rt; args.operation == 0x0C05);
-    assert!(rt; args.message_base == 0x5555_0001);
-    assert!(rt; args.message_length == 0x6666_0002);
-    assert!(rt; args.reply_base == 0x8007_0803);
-    assert!(rt; args.reply_capacity == 0x8888_0004);
-    assert!(rt; args.table == 0x9999_0005);
-    assert!(rt; args.leases == 0xAAAA_0006);
+    let wanted = SendArgs {
+        recipient: TaskId { number: 0x0402 },
+        operation: 0x0C05,
+        message_base: 0x5555_0001,
+        message_length: 0x6666_0002,
+        reply_base: 0x8007_0803,
+        reply_capacity: 0x8888_0004,
+        table: 0x9999_0005,
+        leases: 0xAAAA_0006,
+    };
+    assert!(rt; SendArgs::of(&REGISTERS) == wanted);
 }
 
 #[test]
 fn recv(rt: HostRuntime) {
-    let args = RecvArgs::of(&REGISTERS);
-    assert!(rt; args.buffer_base == 0x0402_0C05);
-    assert!(rt; args.buffer_length == 0x5555_0001);
-    assert!(rt; args.mask == 0x6666_0002);
-    assert!(rt; args.closed);
-    assert!(rt; args.sender.number == 0x0803);
+    let wanted = RecvArgs {
+        buffer_base: 0x0402_0C05,
+        buffer_length: 0x5555_0001,
+        mask: 0x6666_0002,
+        closed: true,
+        sender: TaskId { number: 0x0803 },
+    };
+    assert!(rt; RecvArgs::of(&REGISTERS) == wanted);
     assert!(rt; !RecvArgs::of(&[0, 0, 0, 0x7FFF_FFFF, 0, 0, 0, 0]).closed);
 }
 
 #[test]
-fn reply(rt: HostRuntime) {
-    let args = ReplyArgs::of(&REGISTERS);
-    assert!(rt; args.client.number == 0x0C05);
-    assert!(rt; args.code == 0x5555_0001);
-    assert!(rt; args.reply_base == 0x6666_0002);
-    assert!(rt; args.reply_length == 0x8007_0803);
-}
-
-#[test]
-fn timer(rt: HostRuntime) {
-    let args = TimerArgs::of(&REGISTERS);
-    assert!(rt; args.set);
-    assert!(rt; args.deadline == 0x6666_0002_5555_0001);
-    assert!(rt; args.bits == 0x8007_0803);
+fn reply_and_timer(rt: HostRuntime) {
+    let reply = ReplyArgs {
+        client: TaskId { number: 0x0C05 },
+        code: 0x5555_0001,
+        reply_base: 0x6666_0002,
+        reply_length: 0x8007_0803,
+    };
+    assert!(rt; ReplyArgs::of(&REGISTERS) == reply);
+    let timer = TimerArgs {
+        set: true,
+        deadline: 0x6666_0002_5555_0001,
+        bits: 0x8007_0803,
+    };
+    assert!(rt; TimerArgs::of(&REGISTERS) == timer);
     assert!(rt; !TimerArgs::of(&[0, 1, 1, 1, 1, 1, 1, 1]).set);
 }
 
 #[test]
 fn borrow(rt: HostRuntime) {
-    let args = BorrowArgs::of(&REGISTERS);
-    assert!(rt; args.lender.number == 0x0C05);
-    assert!(rt; args.lease == 0x5555_0001);
-    assert!(rt; args.offset == 0x6666_0002);
-    assert!(rt; args.buffer_base == 0x8007_0803);
-    assert!(rt; args.buffer_length == 0x8888_0004);
-    let info = InfoArgs::of(&REGISTERS);
-    assert!(rt; info.lender.number == 0x0C05);
-    assert!(rt; info.lease == 0x5555_0001);
+    let lender = TaskId { number: 0x0C05 };
+    let borrow = BorrowArgs {
+        lender,
+        lease: 0x5555_0001,
+        offset: 0x6666_0002,
+        buffer_base: 0x8007_0803,
+        buffer_length: 0x8888_0004,
+    };
+    assert!(rt; BorrowArgs::of(&REGISTERS) == borrow);
+    let info = InfoArgs {
+        lender,
+        lease: 0x5555_0001,
+    };
+    assert!(rt; InfoArgs::of(&REGISTERS) == info);
 }
 
 #[test]
 fn lines_and_ids(rt: HostRuntime) {
-    let irq = IrqArgs::of(&REGISTERS);
-    assert!(rt; irq.bits == 0x0402_0C05);
-    assert!(rt; irq.enable);
+    let irq = IrqArgs {
+        bits: 0x0402_0C05,
+        enable: true,
+    };
+    assert!(rt; IrqArgs::of(&REGISTERS) == irq);
     assert!(rt; !IrqArgs::of(&[2, 2, 1, 1, 1, 1, 1, 1]).enable);
-    let id = IdArgs::of(&REGISTERS);
-    assert!(rt; id.id.number == 0x0C05);
-    assert!(rt; id.bits == 0x5555_0001);
+    let id = IdArgs {
+        id: TaskId { number: 0x0C05 },
+        bits: 0x5555_0001,
+    };
+    assert!(rt; IdArgs::of(&REGISTERS) == id);
 }

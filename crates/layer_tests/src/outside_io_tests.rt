@@ -1,168 +1,261 @@
 //! Each maker and each call once with ample memory, and each way for a call to fail.
+ghost use Rattle.std.specs.Prelude.{◌≤◌, length};
+
 use outside_io::{Failed, Files, HostFiles, HostSink, MemFiles, MemSink, ReadAll, Sink, read_all};
 use std::alloc::{AllocError, Global};
 use std::fs;
-use std::io::{BufWriter, Cursor};
+use std::io::{BufWriter, Cursor, Write};
 use std::test::Fail;
 
-// "a.img" with the bytes `abcde` and room for eight.
-fn one_file(alloc: Global, fails: &[u64]) -> Result<MemFiles, AllocError> {
+fn one_file(
+    alloc: Global,
+    fails: &[u64],
+    name: &str,
+    bytes: &[u8],
+    room: usize,
+) -> Result<MemFiles, AllocError>
+    requires { length bytes.now ≤ room }
+{
     let mut files = MemFiles::open(alloc, fails)?;
-    if !files.is_held("a.img") {
-        files.hold("a.img", b"abcde", 8)?;
+    if !files.is_held(name) {
+        files.hold(name, bytes, room)?;
     }
     Ok(files)
 }
 
-#[test]
-fn holds_files_by_name(rt: HostRuntime) -> Result<(), Fail> {
-    let files = one_file(rt.alloc(), &[])?;
-    assert!(rt; files.is_held("a.img"));
-    assert!(rt; !files.is_held("a"));
-    assert!(rt; !MemFiles::open(rt.alloc(), &[])?.is_held("a.img"));
-    Ok(())
+// "a.img" with the bytes `abcde` and room for eight.
+fn letters(alloc: Global, fails: &[u64]) -> Result<MemFiles, AllocError> {
+    one_file(alloc, fails, "a.img", b"abcde", 8)
 }
 
-#[test]
-fn reads_up_to_the_end(rt: HostRuntime) -> Result<(), Fail> {
-    let mut files = one_file(rt.alloc(), &[])?;
-    for (at, want, left) in [
-        (0, 3, b"abc"),
-        (2, 3, b"cde"),
-        (4, 1, b"e__"),
-        (5, 0, b"___"),
-        (6, 0, b"___"),
-        (u64::MAX, 0, b"___"),
-    ] {
-        let mut buf = *b"___";
-        assert!(rt; files.read("a.img", at, &mut buf) == Ok(want), "at {at}");
-        assert!(rt; buf.as_slice() == left.as_slice(), "at {at}");
+// Whether these bytes, of which there are at most 9,000, are all that stand under the name.
+fn has<F: Files>(alloc: Global, files: &mut F, name: &str, bytes: &[u8]) -> bool {
+    match read_all(alloc, files, name, bytes.len().min(9000)) {
+        Ok(all) => all.as_slice() == bytes,
+        Err(_) => false,
     }
+}
+
+/// What a read from a place on gives, and what the buffer holds then.
+fn read(files: &mut MemFiles, name: &str, at: u64) -> (Result<usize, Failed>, [u8; 3]) {
     let mut buf = *b"___";
-    assert!(rt; files.read("b.img", 0, &mut buf) == Err(Failed));
-    assert!(rt; buf.as_slice() == b"___".as_slice());
+    (files.read(name, at, &mut buf), buf)
+}
+
+fn reads_up_to_the_end(files: &mut MemFiles) -> bool {
+    let found = [
+        read(files, "a.img", 0),
+        read(files, "a.img", 2),
+        read(files, "a.img", 4),
+        read(files, "a.img", 5),
+        read(files, "a.img", 6),
+        read(files, "a.img", u64::MAX),
+        read(files, "b.img", 0),
+    ];
+    let wanted = [
+        (Ok(3), *b"abc"),
+        (Ok(3), *b"cde"),
+        (Ok(1), *b"e__"),
+        (Ok(0), *b"___"),
+        (Ok(0), *b"___"),
+        (Ok(0), *b"___"),
+        (Err(Failed), *b"___"),
+    ];
+    found == wanted
+}
+
+/// Whether the bytes are put, and whether "a.img" holds what is wanted then.
+fn put(
+    alloc: Global,
+    files: &mut MemFiles,
+    name: &str,
+    bytes: &[u8],
+    held: &[u8],
+) -> (Result<(), Failed>, bool) {
+    (files.put(name, bytes), has(alloc, files, "a.img", held))
+}
+
+fn puts_within_the_room(alloc: Global, files: &mut MemFiles) -> bool {
+    let found = [
+        put(alloc, files, "a.img", b"12345678", b"12345678"),
+        put(alloc, files, "a.img", b"123456789", b"12345678"),
+        put(alloc, files, "a.img", b"xy", b"xy"),
+        put(alloc, files, "b.img", b"z", b"xy"),
+        put(alloc, files, "a.img", b"", b""),
+    ];
+    let wanted = [
+        (Ok(()), true),
+        (Err(Failed), true),
+        (Ok(()), true),
+        (Err(Failed), true),
+        (Ok(()), true),
+    ];
+    found == wanted
+}
+
+#[test]
+fn holds_and_reads_and_puts(rt: HostRuntime) -> Result<(), Fail> {
+    let mut files = letters(rt.alloc(), &[])?;
+    let found = [
+        files.is_held("a.img"),
+        files.is_held("a"),
+        reads_up_to_the_end(&mut files),
+        puts_within_the_room(rt.alloc(), &mut files),
+    ];
+    assert!(rt; found == [true, false, true, true]);
     Ok(())
 }
 
 #[test]
-fn puts_whole_contents_within_the_room(rt: HostRuntime) -> Result<(), Fail> {
-    let mut files = one_file(rt.alloc(), &[])?;
-    for (name, bytes, want, held) in [
-        (
-            "a.img",
-            b"12345678".as_slice(),
-            Ok(()),
-            b"12345678".as_slice(),
-        ),
-        ("a.img", b"123456789", Err(Failed), b"12345678"),
-        ("a.img", b"xy", Ok(()), b"xy"),
-        ("b.img", b"z", Err(Failed), b"xy"),
-        ("a.img", b"", Ok(()), b""),
-    ] {
-        assert!(rt; files.put(name, bytes) == want, "{name}");
-        let all = read_all(rt.alloc(), &mut files, "a.img", 8)?;
-        assert!(rt; all.as_slice() == held, "{name}");
-    }
+fn holds_nothing_at_first(rt: HostRuntime) -> Result<(), Fail> {
+    let is_held = MemFiles::open(rt.alloc(), &[])?.is_held("a.img");
+    assert!(rt; !is_held);
     Ok(())
+}
+
+/// Which of a read, a put, a read and a put succeed.
+fn four_calls(files: &mut MemFiles) -> [bool; 4] {
+    let mut buf = [0u8; 8];
+    [
+        files.read("a.img", 0, &mut buf).is_ok(),
+        files.put("a.img", b"one").is_ok(),
+        files.read("a.img", 0, &mut buf).is_ok(),
+        files.put("a.img", b"two").is_ok(),
+    ]
 }
 
 #[test]
 fn fails_at_the_listed_calls(rt: HostRuntime) -> Result<(), Fail> {
-    // A read, a put, a read and a put, the numbers that are listed, and which of the four succeed.
-    for (fails, first, second, third, fourth) in [
-        ([9, 9], true, true, true, true),
-        ([1, 9], false, true, true, true),
-        ([2, 9], true, false, true, true),
-        ([3, 9], true, true, false, true),
-        ([4, 9], true, true, true, false),
-        ([4, 1], false, true, true, false),
+    for (fails, wanted) in [
+        ([9, 9], [true, true, true, true]),
+        ([1, 9], [false, true, true, true]),
+        ([2, 9], [true, false, true, true]),
+        ([3, 9], [true, true, false, true]),
+        ([4, 9], [true, true, true, false]),
+        ([4, 1], [false, true, true, false]),
     ] {
-        let mut files = one_file(rt.alloc(), &fails)?;
-        let mut buf = [0u8; 8];
-        assert!(rt; files.read("a.img", 0, &mut buf).is_ok() == first);
-        assert!(rt; files.put("a.img", b"one").is_ok() == second);
-        assert!(rt; files.read("a.img", 0, &mut buf).is_ok() == third);
-        assert!(rt; files.put("a.img", b"two").is_ok() == fourth);
+        let found = four_calls(&mut letters(rt.alloc(), &fails)?);
+        assert!(rt; found == wanted);
     }
     Ok(())
+}
+
+/// Calls 1 to 4, of which the last, at the end, fails; calls 5 to 7; call 8; one of another name.
+fn failures(alloc: Global, files: &mut MemFiles) -> [Option<ReadAll>; 4] {
+    [
+        read_all(alloc, files, "long", 9000).err(),
+        read_all(alloc, files, "long", 8999).err(),
+        read_all(alloc, files, "long", 9000).err(),
+        read_all(alloc, files, "short", 9000).err(),
+    ]
 }
 
 #[test]
 fn reads_all_within_the_limit(rt: HostRuntime) -> Result<(), Fail> {
     // More than two of the pieces in which it reads.
-    let long = vec![in rt.alloc(); 7u8; 9000]?;
-    let mut files = MemFiles::open(rt.alloc(), &[4, 8])?;
-    if !files.is_held("long") {
-        files.hold("long", &long, 9000)?;
-    }
-    // Calls 1 to 4, of which the last, at the end, fails.
-    assert!(rt; read_all(rt.alloc(), &mut files, "long", 9000).err() == Some(ReadAll::Failed));
-    // Calls 5 to 7.
-    assert!(rt; read_all(rt.alloc(), &mut files, "long", 8999).err() == Some(ReadAll::TooLong));
-    // Call 8.
-    assert!(rt; read_all(rt.alloc(), &mut files, "long", 9000).err() == Some(ReadAll::Failed));
-    assert!(rt; read_all(rt.alloc(), &mut files, "short", 9000).err() == Some(ReadAll::Failed));
-    let all = read_all(rt.alloc(), &mut files, "long", 9000)?;
-    assert!(rt; all.as_slice() == long.as_slice());
+    let long = [7u8; 9000];
+    let mut files = one_file(rt.alloc(), &[4, 8], "long", &long, 9000)?;
+    let failed = failures(rt.alloc(), &mut files);
+    let has_all = has(rt.alloc(), &mut files, "long", &long);
+    let wanted = [
+        Some(ReadAll::Failed),
+        Some(ReadAll::TooLong),
+        Some(ReadAll::Failed),
+        Some(ReadAll::Failed),
+    ];
+    assert!(rt; (failed, has_all) == (wanted, true));
     Ok(())
+}
+
+/// Whether the piece is taken, and whether the text is as wanted then.
+fn push(sink: &mut MemSink, piece: &[u8], text: &[u8]) -> (Result<(), Failed>, bool) {
+    (sink.push(piece), sink.text() == text)
+}
+
+fn pushes(sink: &mut MemSink) -> [(Result<(), Failed>, bool); 6] {
+    [
+        push(sink, b"abc", b"abc"),
+        push(sink, b"d", b"abc"),
+        push(sink, b"defg", b"abc"),
+        push(sink, b"def", b"abcdef"),
+        push(sink, b"", b"abcdef"),
+        push(sink, b"g", b"abcdef"),
+    ]
 }
 
 #[test]
 fn pushes_within_the_room(rt: HostRuntime) -> Result<(), Fail> {
     let mut sink = MemSink::open(rt.alloc(), 6, &[2])?;
-    assert!(rt; sink.text() == b"".as_slice());
-    for (piece, want, text) in [
-        (b"abc".as_slice(), Ok(()), b"abc".as_slice()),
-        (b"d", Err(Failed), b"abc"),
-        (b"defg", Err(Failed), b"abc"),
-        (b"def", Ok(()), b"abcdef"),
-        (b"", Ok(()), b"abcdef"),
-        (b"g", Err(Failed), b"abcdef"),
-    ] {
-        assert!(rt; sink.push(piece) == want);
-        assert!(rt; sink.text() == text);
-    }
+    let is_empty = sink.text().is_empty();
+    let pushed = pushes(&mut sink);
+    let wanted = [
+        (Ok(()), true),
+        (Err(Failed), true),
+        (Err(Failed), true),
+        (Ok(()), true),
+        (Ok(()), true),
+        (Err(Failed), true),
+    ];
+    assert!(rt; (is_empty, pushed) == (true, wanted));
     Ok(())
 }
 
 #[test]
-fn writes_to_an_output_until_it_takes_nothing(rt: HostRuntime) -> Result<(), Fail> {
+fn writes_to_an_output_until_it_takes_nothing(rt: HostRuntime) {
     let mut taken = *b"_____";
     let mut sink = HostSink::new(Cursor::new(taken.as_mut_slice()));
-    assert!(rt; sink.push(b"abc") == Ok(()));
-    assert!(rt; sink.push(b"def") == Err(Failed));
-    assert!(rt; sink.push(b"g") == Err(Failed));
-    assert!(rt; sink.push(b"") == Ok(()));
-    assert!(rt; taken.as_slice() == b"abcde".as_slice());
-    Ok(())
+    let pushed = [
+        sink.push(b"abc"),
+        sink.push(b"def"),
+        sink.push(b"g"),
+        sink.push(b""),
+    ];
+    let wanted = [Ok(()), Err(Failed), Err(Failed), Ok(())];
+    assert!(rt; (pushed, taken) == (wanted, *b"abcde"));
+}
+
+fn push_and_flush_twice<W: Write>(sink: &mut HostSink<W>) -> [Result<(), Failed>; 4] {
+    [
+        sink.push(b"abc"),
+        sink.flush(),
+        sink.push(b"def"),
+        sink.flush(),
+    ]
 }
 
 #[test]
-fn a_flush_passes_on_what_is_held_back(rt: HostRuntime) -> Result<(), Fail> {
+fn a_flush_passes_on_what_is_held_back(rt: HostRuntime) {
     let mut taken = *b"_____";
     let output = Cursor::new(taken.as_mut_slice());
     let held = BufWriter::with_capacity(rt.alloc(), 16, output).expect(&rt, "there is memory");
     let mut sink = HostSink::new(held);
-    assert!(rt; sink.push(b"abc") == Ok(()));
-    assert!(rt; sink.flush() == Ok(()));
-    assert!(rt; sink.push(b"def") == Ok(()));
-    assert!(rt; sink.flush() == Err(Failed));
+    let done = push_and_flush_twice(&mut sink);
     drop(sink);
-    assert!(rt; taken.as_slice() == b"abcde".as_slice());
-    Ok(())
+    let wanted = [Ok(()), Ok(()), Ok(()), Err(Failed)];
+    assert!(rt; (done, taken) == (wanted, *b"abcde"));
+}
+
+fn puts_and_reads<F: Files>(alloc: Global, files: &mut F, name: &str) -> [bool; 3] {
+    [
+        files.put(name, b"longer").is_ok(),
+        files.put(name, b"abcde").is_ok(),
+        has(alloc, files, name, b"abcde"),
+    ]
+}
+
+fn reads_or_puts<F: Files>(files: &mut F, name: &str) -> [bool; 2] {
+    [
+        files.read(name, 0, &mut [0u8; 3]).is_ok(),
+        files.put("no such folder/put.tmp", b"abcde").is_ok(),
+    ]
 }
 
 #[test]
-fn puts_and_reads_a_real_file(rt: HostRuntime) -> Result<(), Fail> {
+fn puts_and_reads_a_real_file(rt: HostRuntime) {
     let name = "outside_io_put_and_read.tmp";
     let mut files = HostFiles::new(&rt);
-    assert!(rt; files.put(name, b"longer") == Ok(()));
-    assert!(rt; files.put(name, b"abcde") == Ok(()));
-    let all = read_all(rt.alloc(), &mut files, name, 5)?;
-    fs::remove_file(&rt, name)?;
-    assert!(rt; all.as_slice() == b"abcde".as_slice());
-    let mut buf = [0u8; 3];
-    assert!(rt; files.read(name, 0, &mut buf) == Err(Failed));
-    assert!(rt; files.put("no such folder/put.tmp", b"abcde") == Err(Failed));
-    Ok(())
+    let there = puts_and_reads(rt.alloc(), &mut files, name);
+    let is_removed = fs::remove_file(&rt, name).is_ok();
+    let gone = reads_or_puts(&mut files, name);
+    assert!(rt; (there, is_removed, gone) == ([true, true, true], true, [false, false]));
 }

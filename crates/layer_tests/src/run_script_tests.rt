@@ -1,6 +1,5 @@
-//! The events of scripts, and how many there may be (docs/FORMATS.md, Script). Other scripts that are refused are stored rows
-//! (crates/stored_runs).
-
+//! What no run shows of scripts: how many events there may be (docs/FORMATS.md, Script), where the turns end, and scripts that
+//! are copied or made of events. The order of events and what is refused are stored rows (crates/stored_runs).
 use run_script::{Event, Script, ScriptFault};
 use std::alloc::{AllocError, Global};
 use std::test::Fail;
@@ -18,125 +17,72 @@ fn digit(n: u32) -> u8 {
     b'0' + (n % 10) as u8
 }
 
+/// The line of a tick on a turn of four digits.
+fn tick_line(turn: u32) -> [u8; 13] {
+    let mut line = *b"at 0000 tick\n";
+    line[3] = digit(turn / 1000);
+    line[4] = digit(turn / 100);
+    line[5] = digit(turn / 10);
+    line[6] = digit(turn);
+    line
+}
+
 /// So many ticks, eight a turn, one a line.
 fn ticks(alloc: Global, n: u32) -> Result<Vec<u8>, AllocError> {
     let mut text = Vec::new(alloc);
     for i in 0..n {
-        let turn = i / 8;
-        text.extend_from_slice(b"at ")?;
-        text.push(digit(turn / 1000))?;
-        text.push(digit(turn / 100))?;
-        text.push(digit(turn / 10))?;
-        text.push(digit(turn))?;
-        text.extend_from_slice(b" tick\n")?;
+        text.extend_from_slice(&tick_line(i / 8))?;
     }
     Ok(text)
 }
 
 #[test]
 fn at_most_65536_events(rt: HostRuntime) -> Result<(), Fail> {
-    assert!(rt; answer(rt.alloc(), ticks(rt.alloc(), 65_536)?.as_slice()) == (0, 0));
-    assert!(rt; answer(rt.alloc(), ticks(rt.alloc(), 65_537)?.as_slice()) == (5, 65_537));
+    for (n, wanted) in [(65_536, (0, 0)), (65_537, (5, 65_537))] {
+        let found = answer(rt.alloc(), &ticks(rt.alloc(), n)?);
+        assert!(rt; found == wanted);
+    }
     Ok(())
 }
 
 #[test]
-fn events_of_a_turn_in_order(rt: HostRuntime) -> Result<(), Fail> {
-    let script = Script::read(
-        rt.alloc(),
-        b"every 5 tick\nat 0 irq 1\nat 5 irq 2\nat 5 tick\nat 5 irq 0\nat 9 tick\n",
-    )?;
-    assert!(rt; script.event_at(0, 0) == Some(Event::Irq { line: 1 }));
-    assert!(rt; script.event_at(0, 1) == None);
-    assert!(rt; script.event_at(4, 0) == None);
-    assert!(rt; script.event_at(5, 0) == Some(Event::Tick));
-    assert!(rt; script.event_at(5, 1) == Some(Event::Irq { line: 2 }));
-    assert!(rt; script.event_at(5, 2) == Some(Event::Tick));
-    assert!(rt; script.event_at(5, 3) == Some(Event::Irq { line: 0 }));
-    assert!(rt; script.event_at(5, 4) == None);
-    assert!(rt; script.event_at(9, 0) == Some(Event::Tick));
-    assert!(rt; script.event_at(9, 1) == None);
-    assert!(rt; script.event_at(10, 0) == Some(Event::Tick));
-    assert!(rt; script.event_at(10, 1) == None);
-    assert!(rt; script.lasts(1_000_000_000));
+fn no_event_is_past_the_last_turn(rt: HostRuntime) -> Result<(), Fail> {
+    let of_none = Script::read(rt.alloc(), b"")?.event_at(u32::MAX, 0);
+    let script = Script::read(rt.alloc(), b"every 5 tick\nat 9 tick\n")?;
+    let events = [
+        script.event_at(9, 0),
+        script.event_at(9, u32::MAX),
+        script.event_at(999_999_995, 0),
+    ];
+    let next = [
+        script.next(999_999_995),
+        script.next(999_999_996),
+        script.next(u32::MAX),
+    ];
+    let lasts = script.lasts(1_000_000_000);
+    assert!(rt; (of_none, events) == (None, [Some(Event::Tick), None, Some(Event::Tick)]));
+    assert!(rt; (next, lasts) == ([Some(999_999_995), None, None], true));
     Ok(())
 }
 
-#[test]
-fn it_lasts_to_the_last_event(rt: HostRuntime) -> Result<(), Fail> {
-    let script = Script::read(rt.alloc(), b"at 0 irq 1\r\nat 9 tick\r\n")?;
-    assert!(rt; script.lasts(0));
-    assert!(rt; script.lasts(9));
-    assert!(rt; !script.lasts(10));
-    assert!(rt; script.event_at(9, 0) == Some(Event::Tick));
-    assert!(rt; script.event_at(8, 0) == None);
-    assert!(rt; script.event_at(9, u32::MAX) == None);
-    Ok(())
+/// The first event of turn 4, the first two of turn 6, and the next turns from 1 and from 7 on with an event.
+fn shown(script: &Script) -> ([Option<Event>; 3], [Option<u32>; 2]) {
+    let events = [
+        script.event_at(4, 0),
+        script.event_at(6, 0),
+        script.event_at(6, 1),
+    ];
+    (events, [script.next(1), script.next(7)])
 }
 
 #[test]
-fn the_empty_script_has_no_events(rt: HostRuntime) -> Result<(), Fail> {
-    let script = Script::read(rt.alloc(), b"")?;
-    assert!(rt; !script.lasts(0));
-    assert!(rt; script.event_at(0, 0) == None);
-    assert!(rt; script.event_at(u32::MAX, 0) == None);
-    Ok(())
-}
-
-#[test]
-fn the_next_turn_with_an_event(rt: HostRuntime) -> Result<(), Fail> {
-    let script = Script::read(
-        rt.alloc(),
-        b"every 5 tick\nat 0 irq 1\nat 5 irq 2\nat 7 tick\nat 11 irq 0\n",
-    )?;
-    assert!(rt; script.next(0) == Some(0));
-    assert!(rt; script.next(1) == Some(5));
-    assert!(rt; script.next(5) == Some(5));
-    assert!(rt; script.next(6) == Some(7));
-    assert!(rt; script.next(8) == Some(10));
-    assert!(rt; script.next(11) == Some(11));
-    assert!(rt; script.next(12) == Some(15));
-    assert!(rt; script.next(999_999_995) == Some(999_999_995));
-    assert!(rt; script.next(999_999_996) == None);
-    assert!(rt; script.next(u32::MAX) == None);
-    Ok(())
-}
-
-#[test]
-fn the_next_tick_is_above_0(rt: HostRuntime) -> Result<(), Fail> {
-    let script = Script::read(rt.alloc(), b"every 999999999 tick\n")?;
-    assert!(rt; script.next(0) == Some(999_999_999));
-    assert!(rt; script.next(999_999_999) == Some(999_999_999));
-    assert!(rt; script.next(1_000_000_000) == None);
-    Ok(())
-}
-
-#[test]
-fn nothing_comes_after_the_last_event(rt: HostRuntime) -> Result<(), Fail> {
-    let script = Script::read(rt.alloc(), b"at 3 irq 1\nat 9 tick\n")?;
-    assert!(rt; script.next(0) == Some(3));
-    assert!(rt; script.next(4) == Some(9));
-    assert!(rt; script.next(10) == None);
-    Ok(())
-}
-
-#[test]
-fn a_copy_has_the_same_events(rt: HostRuntime) -> Result<(), Fail> {
-    let script = Script::read(rt.alloc(), b"every 4 tick\nat 6 irq 3\n")?;
-    let copy = script.copy(rt.alloc())?;
-    assert!(rt; copy.next(1) == Some(4));
-    assert!(rt; copy.event_at(6, 0) == Some(Event::Irq { line: 3 }));
-    assert!(rt; copy.next(7) == Some(8));
-    Ok(())
-}
-
-#[test]
-fn one_made_of_events_has_them(rt: HostRuntime) -> Result<(), Fail> {
-    let events = [(6, Event::Irq { line: 3 }), (6, Event::Tick)];
-    let made = Script::of(rt.alloc(), Some(4), &events)?;
-    assert!(rt; made.event_at(4, 0) == Some(Event::Tick));
-    assert!(rt; made.event_at(6, 0) == Some(Event::Irq { line: 3 }));
-    assert!(rt; made.event_at(6, 1) == Some(Event::Tick));
-    assert!(rt; made.next(7) == Some(8));
+fn a_copy_and_one_made_of_events_have_them(rt: HostRuntime) -> Result<(), Fail> {
+    let irq = Event::Irq { line: 3 };
+    let made = shown(&Script::of(rt.alloc(), Some(4), &[(6, irq), (6, Event::Tick)])?);
+    let read = Script::read(rt.alloc(), b"every 4 tick\nat 6 irq 3\nat 6 tick\n")?;
+    let copy = shown(&read.copy(rt.alloc())?);
+    let events = [Some(Event::Tick), Some(irq), Some(Event::Tick)];
+    let wanted = (events, [Some(4), Some(8)]);
+    assert!(rt; [copy, made] == [wanted, wanted]);
     Ok(())
 }

@@ -1,5 +1,7 @@
-use Rattle.std.proofs.Common.{◌≡◌, ℕ, zero, suc, List, [], ◌∷◌, map, All, ap, sym, ◌∙◌, arith}
+use Rattle.std.proofs.Common.{◌≡◌, ◌+◌, ℕ, zero, suc, List, [], ◌∷◌, ◌++◌, length, map, All, ap, sym, ◌∙◌, arith}
 use Rattle.std.specs.Prelude.{Contains}
+use Rattle.std.proofs.lemmas.List.{length_push}
+use Rattle.std.proofs.lemmas.List.Elements.{All-push}
 use Rattle.task_table.specs.declared.start.TaskStart.{TaskStart}
 use Rattle.task_table.specs.Lendable.{AreLendable}
 use Rattle.task_table.specs.Parts.{task_setup}
@@ -20,3 +22,10 @@ bare_lendable given xs all s r here within no_device = nothing_in s.regions r (b
 
 pub start-requires-clause-given : goal.start-requires-clause-given
 start-requires-clause-given c = bare_lendable _ c.deref.result.now (rw c.deref.ensures.value c.loop-i.invariant.1)
+
+-- one more that has none
+one_more : (xs ys : List TaskStart) (x : TaskStart) (i : ℕ) → ys ≡ xs ++ x ∷ [] → (length xs ≡ i) × All (λ (t : TaskStart). t.regions.items ≡ []) xs → x.regions.items ≡ [] → (length ys ≡ i + 1) × All (λ (t : TaskStart). t.regions.items ≡ []) ys
+one_more xs ys x i is before none = rw is (length_push xs x ∙ ap (λ n. n + 1) before.0, All-push (λ (t : TaskStart). t.regions.items ≡ []) xs x before.1 none)
+
+pub loop-i-preserved : goal.loop-i-preserved
+loop-i-preserved c = one_more c.loop-i.tasks.items c.push.new.self.items c.a_task.result c.loop-i.i c.in_ok-push.ensures.items c.loop-i.invariant c.a_task.ensures
