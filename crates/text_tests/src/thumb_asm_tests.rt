@@ -231,10 +231,27 @@ const REFUSED: [(&str, u8, usize); 86] = [
 
 fn symbols(alloc: Global) -> Result<Vec<(String, u32)>, AllocError> {
     let mut symbols = Vec::new(alloc);
-    symbols.push((String::from_str(alloc, "far")?, 0x0800_1004))?;
-    symbols.push((String::from_str(alloc, "given")?, 7))?;
-    symbols.push((String::from_str(alloc, "far")?, 1))?;
+    for (name, value) in [("far", 0x0800_1004), ("given", 7), ("far", 1)] {
+        symbols.push((String::from_str(alloc, name)?, value))?;
+    }
     Ok(symbols)
+}
+
+fn has_bytes(alloc: Global, source: &[u8], symbols: &[(String, u32)], bytes: &[u8]) -> bool {
+    match assemble(alloc, source, BASE, symbols) {
+        Ok(object) => object.bytes.as_slice() == bytes,
+        Err(_) => false,
+    }
+}
+
+/// The first source of the table that has other bytes or is refused.
+fn first_of_other_bytes(alloc: Global, symbols: &[(String, u32)]) -> Option<&'static str> {
+    for (source, bytes) in &TAKEN {
+        if !has_bytes(alloc, source.as_bytes(), symbols, bytes) {
+            return Some(*source);
+        }
+    }
+    None
 }
 
 fn refusal(alloc: Global, source: &[u8], symbols: &[(String, u32)]) -> (u8, usize) {
@@ -245,42 +262,53 @@ fn refusal(alloc: Global, source: &[u8], symbols: &[(String, u32)]) -> (u8, usiz
     }
 }
 
+/// The first source of the table that is taken, or refused for another cause or in another line.
+fn first_of_other_cause(alloc: Global, symbols: &[(String, u32)]) -> Option<&'static str> {
+    for (source, cause, line) in &REFUSED {
+        if refusal(alloc, source.as_bytes(), symbols) != (*cause, *line) {
+            return Some(*source);
+        }
+    }
+    None
+}
+
 #[test]
 fn sources_have_their_bytes(rt: HostRuntime) -> Result<(), Fail> {
     let symbols = symbols(rt.alloc())?;
-    for (source, bytes) in &TAKEN {
-        let object = assemble(rt.alloc(), source.as_bytes(), BASE, &symbols)?;
-        assert!(rt; object.bytes.as_slice() == *bytes, "{source}");
-    }
+    let other = first_of_other_bytes(rt.alloc(), &symbols);
+    assert!(rt; other.is_none(), "{}", other.unwrap_or(""));
     Ok(())
 }
 
 #[test]
 fn first_causes(rt: HostRuntime) -> Result<(), Fail> {
     let symbols = symbols(rt.alloc())?;
-    for (source, cause, line) in &REFUSED {
-        assert!(rt;
-            refusal(rt.alloc(), source.as_bytes(), &symbols) == (*cause, *line),
-            "{source}"
-        );
-    }
+    let other = first_of_other_cause(rt.alloc(), &symbols);
+    assert!(rt; other.is_none(), "{}", other.unwrap_or(""));
     Ok(())
 }
 
-fn blanks(alloc: Global, count: usize, end: &[u8]) -> Result<Vec<u8>, AllocError> {
+/// The refusal of a line of so many blanks and this end.
+fn refusal_of_blanks(alloc: Global, count: usize, end: &[u8]) -> Result<(u8, usize), AllocError> {
     let mut line = Vec::new(alloc);
     line.resize(count, b' ')?;
     line.extend_from_slice(end)?;
-    Ok(line)
+    Ok(refusal(alloc, &line, &[]))
 }
+
+/// What stands after 255 blanks, and the refusal.
+const LONG: [(&[u8], (u8, usize)); 4] = [
+    (b"", (0, 0)),
+    (b"\r\n", (0, 0)),
+    (b"\r", (14, 1)),
+    (b"\x01\n", (14, 1)),
+];
 
 #[test]
 fn long_lines(rt: HostRuntime) -> Result<(), Fail> {
-    let alloc = rt.alloc();
-    assert!(rt; refusal(alloc, &blanks(alloc, 255, b"")?, &[]) == (0, 0));
-    assert!(rt; refusal(alloc, &blanks(alloc, 255, b"\r\n")?, &[]) == (0, 0));
-    assert!(rt; refusal(alloc, &blanks(alloc, 255, b"\r")?, &[]) == (14, 1));
-    assert!(rt; refusal(alloc, &blanks(alloc, 255, b"\x01\n")?, &[]) == (14, 1));
+    for (end, wanted) in LONG {
+        assert!(rt; refusal_of_blanks(rt.alloc(), 255, end)? == wanted);
+    }
     Ok(())
 }
 
@@ -289,16 +317,22 @@ fn labels_have_their_addresses(rt: HostRuntime) -> Result<(), Fail> {
     let source = b"nop\nhere:\n.byte 1\nnext: .align 2\nHERE: .word here\n";
     let object = assemble(rt.alloc(), source, BASE, &[])?;
     assert!(rt; object.labels.len() == 3);
-    assert!(rt; object.labels.get("here").copied() == Some(BASE + 2));
-    assert!(rt; object.labels.get("next").copied() == Some(BASE + 3));
-    assert!(rt; object.labels.get("HERE").copied() == Some(BASE + 4));
+    for (name, at) in [("here", 2), ("next", 3), ("HERE", 4)] {
+        assert!(rt; object.labels.get(name).copied() == Some(BASE + at));
+    }
     Ok(())
+}
+
+fn has_text(alloc: Global, fault: AsmFault, want: &str) -> Result<bool, Fail> {
+    let text = format!(in alloc; "{fault}")?;
+    Ok(text.as_str() == want)
 }
 
 #[test]
 fn faults_are_told(rt: HostRuntime) -> Result<(), Fail> {
-    let text = format!(in rt.alloc(); "{}", AsmFault::Refused(Cause::BadList, 3))?;
-    assert!(rt; text.as_str() == "line 3: a list of registers that is not allowed");
-    assert!(rt; format!(in rt.alloc(); "{}", AsmFault::Memory)?.as_str() == "out of memory");
+    let refused = AsmFault::Refused(Cause::BadList, 3);
+    let want = "line 3: a list of registers that is not allowed";
+    assert!(rt; has_text(rt.alloc(), refused, want)?);
+    assert!(rt; has_text(rt.alloc(), AsmFault::Memory, "out of memory")?);
     Ok(())
 }

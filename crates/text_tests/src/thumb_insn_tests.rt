@@ -1,36 +1,35 @@
 //! Texts that the table of instructions spells in a way of its own.
 use arrayvec::ArrayString;
+use std::process::Abort;
 use thumb_insn::{Cond, Insn, Load, Reg, Shift};
 
-fn text(insn: Insn, at: u32) -> ArrayString<64> {
-    let mut out = ArrayString::new();
-    insn.text(at, &mut out);
-    out
+fn has_text(rt: &impl Abort, insn: Insn, at: u32, want: &str) {
+    let mut text = ArrayString::<64>::new();
+    insn.text(at, &mut text);
+    assert!(rt; text.as_str() == want);
 }
 
 #[test]
 fn the_first_program_has_its_text(rt: HostRuntime) {
-    let r0 = Reg { number: 0 };
-    let one = text(Insn::MovsImm { d: r0, value: 1 }, 0x0800_0000);
-    assert!(rt; one.as_str() == "movs r0, #1");
-    let here = text(Insn::Branch { offset: -4 }, 0x0800_0002);
-    assert!(rt; here.as_str() == "b 0x08000002");
-    let call = text(Insn::Bl { offset: 252 }, 0x0800_0000);
-    assert!(rt; call.as_str() == "bl 0x08000100");
-    let load = text(Insn::Ldm { n: r0, list: 6 }, 0);
-    assert!(rt; load.as_str() == "ldm r0!, {r1, r2}");
+    let d = Reg { number: 0 };
+    has_text(
+        &rt,
+        Insn::MovsImm { d, value: 1 },
+        0x0800_0000,
+        "movs r0, #1",
+    );
+    let here = Insn::Branch { offset: -4 };
+    has_text(&rt, here, 0x0800_0002, "b 0x08000002");
+    let call = Insn::Bl { offset: 252 };
+    has_text(&rt, call, 0x0800_0000, "bl 0x08000100");
+    has_text(&rt, Insn::Ldm { n: d, list: 6 }, 0, "ldm r0!, {r1, r2}");
 }
 
 #[test]
 fn the_longest_list_fits(rt: HostRuntime) {
-    let push = text(
-        Insn::Push {
-            list: 255,
-            lr: true,
-        },
-        0,
-    );
-    assert!(rt; push.as_str() == "push {r0, r1, r2, r3, r4, r5, r6, r7, lr}");
+    let (list, lr) = (255, true);
+    let want = "push {r0, r1, r2, r3, r4, r5, r6, r7, lr}";
+    has_text(&rt, Insn::Push { list, lr }, 0, want);
 }
 
 #[test]
@@ -55,7 +54,6 @@ fn some_spellings_are_their_own(rt: HostRuntime) {
         (Insn::Hint { value: 4 }, "sev"),
         (Insn::Hint { value: 5 }, "hint #5"),
     ] {
-        let text = text(insn, 0);
-        assert!(rt; text.as_str() == want);
+        has_text(&rt, insn, 0, want);
     }
 }

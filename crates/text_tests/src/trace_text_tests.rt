@@ -1,6 +1,7 @@
 //! A line of each note, and that the longest of each kind fits.
 use arrayvec::ArrayString;
 use kernel_abi::{Borrow, Ending, Fault, Handled, Listened, Note};
+use std::process::Abort;
 use trace_text::TurnLines;
 
 fn text(turn: u32, note: Note) -> ArrayString<160> {
@@ -9,6 +10,10 @@ fn text(turn: u32, note: Note) -> ArrayString<160> {
     lines.write(&note);
     out.push_str(lines.text());
     out
+}
+
+fn has_line(rt: &impl Abort, turn: u32, note: Note, want: &str) {
+    assert!(rt; text(turn, note).as_str() == want);
 }
 
 #[test]
@@ -50,8 +55,7 @@ fn events_have_their_lines(rt: HostRuntime) {
             "6 post 2 00000001 80000001\n",
         ),
     ] {
-        let text = text(turn, note);
-        assert!(rt; text.as_str() == want);
+        has_line(&rt, turn, note, want);
     }
 }
 
@@ -88,8 +92,7 @@ fn short_numbers_have_their_digits(rt: HostRuntime) {
             offset,
             moved,
         };
-        let text = text(0, note);
-        assert!(rt; text.as_str() == want);
+        has_line(&rt, 0, note, want);
     }
 }
 
@@ -144,8 +147,7 @@ fn calls_have_their_lines(rt: HostRuntime) {
             "6 restart 3 63\n",
         ),
     ] {
-        let text = text(turn, note);
-        assert!(rt; text.as_str() == want);
+        has_line(&rt, turn, note, want);
     }
 }
 
@@ -157,8 +159,7 @@ fn each_ending_has_its_name(rt: HostRuntime) {
         (Ending::Client, "9 close 3 client\n"),
         (Ending::Restart, "9 close 3 restart\n"),
     ] {
-        let text = text(9, Note::Close { call: 3, ending });
-        assert!(rt; text.as_str() == want);
+        has_line(&rt, 9, Note::Close { call: 3, ending }, want);
     }
 }
 
@@ -169,8 +170,7 @@ fn a_listen_has_its_sender_and_mask(rt: HostRuntime) {
         (12, 0, Listened::Kernel, 0, "12 listen 0 kernel 00000000\n"),
         (5, 2, Listened::One(1), 0xffff, "5 listen 2 1 0000ffff\n"),
     ] {
-        let text = text(turn, Note::Listen { task, from, mask });
-        assert!(rt; text.as_str() == want);
+        has_line(&rt, turn, Note::Listen { task, from, mask }, want);
     }
 }
 
@@ -188,8 +188,7 @@ fn a_borrow_has_its_name_and_what_moved(rt: HostRuntime) {
             offset: 20,
             moved: 300,
         };
-        let text = text(8, note);
-        assert!(rt; text.as_str() == want);
+        has_line(&rt, 8, note, want);
     }
 }
 
@@ -218,39 +217,30 @@ fn an_instruction_has_its_code_and_text(rt: HostRuntime) {
         (8, 0x0800_0012, 0xde00, "8 insn 0 08000012 de00 \n"),
         (9, 0x0800_0014, 0xf000_0000, "9 insn 0 08000014 f0000000 \n"),
     ] {
-        let text = text(turn, Note::Insn { task: 0, at, code });
-        assert!(rt; text.as_str() == want);
+        has_line(&rt, turn, Note::Insn { task: 0, at, code }, want);
     }
 }
 
 #[test]
 fn a_turn_without_a_task_is_idle(rt: HostRuntime) {
-    let text = text(7, Note::Idle);
-    assert!(rt; text.as_str() == "7 idle\n");
+    has_line(&rt, 7, Note::Idle, "7 idle\n");
 }
 
 #[test]
 fn registers_have_two_lines(rt: HostRuntime) {
     let registers = [0, 1, 2, 3, 4, 5, 6, 7];
-    let low = text(3, Note::Low { registers });
-    assert!(rt;
-        low.as_str()
-            == "3 low 00000000 00000001 00000002 00000003 00000004 00000005 00000006 00000007\n"
-    );
-    let high = text(
-        3,
-        Note::High {
-            registers: [8, 9, 10, 11, 12, 0x2000_0100, 0xffff_ffff, 0x0800_0002],
-            n: true,
-            z: false,
-            c: true,
-            v: false,
-        },
-    );
-    assert!(rt;
-        high.as_str()
-            == "3 high 00000008 00000009 0000000a 0000000b 0000000c 20000100 ffffffff 08000002 1010\n"
-    );
+    let low = "3 low 00000000 00000001 00000002 00000003 00000004 00000005 00000006 00000007\n";
+    has_line(&rt, 3, Note::Low { registers }, low);
+    let high = Note::High {
+        registers: [8, 9, 10, 11, 12, 0x2000_0100, 0xffff_ffff, 0x0800_0002],
+        n: true,
+        z: false,
+        c: true,
+        v: false,
+    };
+    let want =
+        "3 high 00000008 00000009 0000000a 0000000b 0000000c 20000100 ffffffff 08000002 1010\n";
+    has_line(&rt, 3, high, want);
 }
 
 #[test]
