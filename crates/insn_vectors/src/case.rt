@@ -46,44 +46,46 @@ fn digit(byte: u8) -> Option<u8> {
     }
 }
 
-/// Adds bytes, two digits each, at addresses from `at` on.
-fn push_bytes(found: &mut Vec<(u32, u8)>, at: u32, digits: &str) -> Result<Option<()>, AllocError> {
-    let mut at = at;
-    let mut high = None;
-    for byte in digits.bytes() {
-        let Some(low) = digit(byte) else {
-            return Ok(None);
-        };
-        match high {
-            None => high = Some(low),
-            Some(top) => {
-                found.push((at, top.wrapping_mul(16).wrapping_add(low)))?;
-                at = at.wrapping_add(1);
-                high = None;
-            }
-        }
+/// The byte of two digits.
+fn byte(digits: &[u8]) -> Option<u8> {
+    match digits {
+        [high, low] => Some(digit(*high)?.wrapping_mul(16).wrapping_add(digit(*low)?)),
+        _ => None,
     }
-    Ok(if high.is_none() { Some(()) } else { None })
 }
 
-/// Bytes with their addresses: `address=bytes` pairs parted by commas, or `-`.
-fn memory_bytes(alloc: Global, text: &str) -> Result<Option<Vec<(u32, u8)>>, AllocError> {
-    let mut found = Vec::new(alloc);
+/// An address, and the digits of the bytes from there on.
+fn place(pair: &str) -> Option<(u32, &str)> {
+    let (at, digits) = pair.split_once('=')?;
+    Some((hex(at)?, digits))
+}
+
+/// Adds the bytes of a pair `address=bytes`, and says whether it is one.
+fn push_pair(found: &mut Vec<(u32, u8)>, pair: &str) -> Result<bool, AllocError> {
+    let Some((mut at, digits)) = place(pair) else {
+        return Ok(false);
+    };
+    for digits in digits.as_bytes().chunks(2) {
+        let Some(byte) = byte(digits) else {
+            return Ok(false);
+        };
+        found.push((at, byte))?;
+        at = at.wrapping_add(1);
+    }
+    Ok(true)
+}
+
+/// Adds the bytes of `address=bytes` pairs parted by commas, or none of `-`, and says whether the text is so.
+fn push_pairs(found: &mut Vec<(u32, u8)>, text: &str) -> Result<bool, AllocError> {
     if text == "-" {
-        return Ok(Some(found));
+        return Ok(true);
     }
     for pair in text.split(',') {
-        let Some((place, digits)) = pair.split_once('=') else {
-            return Ok(None);
-        };
-        let Some(at) = hex(place) else {
-            return Ok(None);
-        };
-        if push_bytes(&mut found, at, digits)?.is_none() {
-            return Ok(None);
+        if !push_pair(found, pair)? {
+            return Ok(false);
         }
     }
-    Ok(Some(found))
+    Ok(true)
 }
 
 /// A code of four digits, or of eight, the first halfword first.
@@ -96,8 +98,8 @@ fn code(text: &str) -> Option<(u16, Option<u16>)> {
     }
 }
 
-/// Fifteen registers, parted by commas.
-fn registers(text: &str) -> Option<Regs> {
+/// The registers: fifteen parted by commas, and PC.
+fn registers(text: &str, pc: u32) -> Option<Regs> {
     let mut regs = Regs::of([0; 16]);
     let mut count = 0usize;
     for word in text.split(',') {
@@ -107,20 +109,8 @@ fn registers(text: &str) -> Option<Regs> {
         regs.set(count, hex(word)?);
         count += 1;
     }
+    regs.set(15, pc);
     if count == 15 { Some(regs) } else { None }
-}
-
-/// The number of a register.
-fn register_number(name: &str) -> Option<usize> {
-    match name {
-        "sp" => Some(13),
-        "lr" => Some(14),
-        "pc" => Some(15),
-        _ => {
-            let number = name.strip_prefix('r')?.parse::<usize>().ok()?;
-            if number < 13 { Some(number) } else { None }
-        }
-    }
 }
 
 /// The four flags, as digits 0 and 1.
@@ -136,17 +126,31 @@ fn flags(text: &str) -> Option<Flags> {
     }
 }
 
-/// A processor after changes: `name=value` pairs parted by commas, then `/` and the flags.
+/// The names of the registers.
+const NAMES: [&str; 16] = [
+    "r0", "r1", "r2", "r3", "r4", "r5", "r6", "r7", "r8", "r9", "r10", "r11", "r12", "sp", "lr",
+    "pc",
+];
+
+/// Makes a change `name=value` of a register.
+fn change(regs: &mut Regs, text: &str) -> Option<()> {
+    let (name, digits) = text.split_once('=')?;
+    let value = hex(digits)?;
+    for i in 0..16 {
+        if NAMES[i] == name {
+            regs.set(i, value);
+            return Some(());
+        }
+    }
+    None
+}
+
+/// A processor after changes parted by commas, then `/` and the flags.
 fn changed(cpu: Cpu, text: &str) -> Option<Cpu> {
     let (changes, nzcv) = text.split_once('/')?;
     let mut regs = cpu.regs;
-    for change in changes.split(',') {
-        let (name, value) = change.split_once('=')?;
-        let i = register_number(name)?;
-        if i >= 16 {
-            return None;
-        }
-        regs.set(i, hex(value)?);
+    for text in changes.split(',') {
+        change(&mut regs, text)?;
     }
     Some(Cpu {
         regs,
@@ -154,51 +158,78 @@ fn changed(cpu: Cpu, text: &str) -> Option<Cpu> {
     })
 }
 
-/// How the instruction ends: `next`, `call`, or the name of a fault with x and perhaps y.
+/// The number of a fault by its name.
+fn fault_number(name: &str) -> Option<u8> {
+    match name {
+        "illegal" => Some(1),
+        "text" => Some(2),
+        "access" => Some(3),
+        "unaligned" => Some(4),
+        "state" => Some(5),
+        "breakpoint" => Some(6),
+        _ => None,
+    }
+}
+
+/// A fault: its name with x and perhaps y.
+fn fault(text: &str) -> Option<Fault> {
+    let (name, words) = text.split_once(':')?;
+    let (x, y) = words.split_once(':').unwrap_or((words, "0"));
+    Some(Fault {
+        number: fault_number(name)?,
+        x: hex(x)?,
+        y: hex(y)?,
+    })
+}
+
+/// How the instruction ends: `next`, `call`, or a fault.
 fn outcome(text: &str) -> Option<Outcome> {
-    if text == "next" {
-        return Some(Outcome::Next);
+    match text {
+        "next" => Some(Outcome::Next),
+        "call" => Some(Outcome::Syscall),
+        _ => Some(Outcome::Trap(fault(text)?)),
     }
-    if text == "call" {
-        return Some(Outcome::Syscall);
+}
+
+/// The first nine words of a line; those that it lacks are empty.
+fn words(line: &str) -> [&str; 9] {
+    let mut words = [""; 9];
+    let mut count = 0usize;
+    for word in line.split_whitespace() {
+        if count < 9 {
+            words[count] = word;
+            count += 1;
+        }
     }
-    let (name, rest) = text.split_once(':')?;
-    let number = match name {
-        "illegal" => 1,
-        "text" => 2,
-        "access" => 3,
-        "unaligned" => 4,
-        "state" => 5,
-        "breakpoint" => 6,
-        _ => return None,
-    };
-    let (x, y) = match rest.split_once(':') {
-        Some((x, y)) => (hex(x)?, hex(y)?),
-        None => (hex(rest)?, 0),
-    };
-    Some(Outcome::Trap(Fault { number, x, y }))
+    words
 }
 
 /// The nine fields of a line, of which the first is a name.
 fn read_fields(line: &str) -> Option<Fields<'_>> {
-    let mut fields = line.split_whitespace();
-    fields.next()?;
-    let (first, second) = code(fields.next()?)?;
-    let at = hex(fields.next()?)?;
-    let mut regs = registers(fields.next()?)?;
-    regs.set(15, at);
-    let cpu = Cpu {
+    let [
+        _,
+        code_digits,
+        at,
         regs,
-        flags: flags(fields.next()?)?,
+        nzcv,
+        bytes,
+        end,
+        wanted,
+        wanted_bytes,
+    ] = words(line);
+    let (first, second) = code(code_digits)?;
+    let cpu = Cpu {
+        regs: registers(regs, hex(at)?)?,
+        flags: flags(nzcv)?,
     };
     Some(Fields {
         first,
         second,
         cpu,
-        bytes: fields.next()?,
-        outcome: outcome(fields.next()?)?,
-        wanted: changed(cpu, fields.next()?)?,
-        wanted_bytes: fields.next()?,
+        bytes,
+        outcome: outcome(end)?,
+        wanted: changed(cpu, wanted)?,
+        wanted_bytes,
     })
 }
 
@@ -207,12 +238,13 @@ pub(crate) fn read(alloc: Global, line: &str) -> Result<Option<Case>, AllocError
     let Some(fields) = read_fields(line) else {
         return Ok(None);
     };
-    let Some(bytes) = memory_bytes(alloc, fields.bytes)? else {
+    let mut bytes = Vec::new(alloc);
+    let mut wanted_bytes = Vec::new(alloc);
+    if !push_pairs(&mut bytes, fields.bytes)?
+        || !push_pairs(&mut wanted_bytes, fields.wanted_bytes)?
+    {
         return Ok(None);
-    };
-    let Some(wanted_bytes) = memory_bytes(alloc, fields.wanted_bytes)? else {
-        return Ok(None);
-    };
+    }
     Ok(Some(Case {
         first: fields.first,
         second: fields.second,

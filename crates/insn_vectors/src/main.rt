@@ -21,27 +21,34 @@ fn line_passes(alloc: Global, line: &str) -> Result<bool, AllocError> {
     }
 }
 
-fn main(rt: HostRuntime) -> io::Result<()> {
-    let alloc = rt.alloc();
-    for path in env::args(&rt)?.skip(1) {
-        let text = fs::read_to_string(&rt, path.as_str())?;
-        let (mut passed, mut failed) = (0_u64, 0_u64);
-        for line in text.as_str().lines() {
-            if is_remark(line) {
-                continue;
-            }
-            if line_passes(alloc, line)? {
-                passed = passed.saturating_add(1);
-            } else {
-                failed = failed.saturating_add(1);
-                println!(rt; "failed: {line}")?;
-            }
+/// Counts the cases that pass and those that fail, and tells the latter.
+fn count(rt: &HostRuntime, text: &str) -> io::Result<(u64, u64)> {
+    let (mut passed, mut failed) = (0_u64, 0_u64);
+    for line in text.lines() {
+        if is_remark(line) {
+            continue;
         }
-        if failed == 0 {
-            println!(rt; "{passed} passed")?;
+        if line_passes(rt.alloc(), line)? {
+            passed = passed.saturating_add(1);
         } else {
-            println!(rt; "{passed} passed, {failed} failed")?;
+            failed = failed.saturating_add(1);
+            println!(rt; "failed: {line}")?;
         }
+    }
+    Ok((passed, failed))
+}
+
+fn play_file(rt: &HostRuntime, path: &str) -> io::Result<()> {
+    let text = fs::read_to_string(rt, path)?;
+    match count(rt, text.as_str())? {
+        (passed, 0) => println!(rt; "{passed} passed"),
+        (passed, failed) => println!(rt; "{passed} passed, {failed} failed"),
+    }
+}
+
+fn main(rt: HostRuntime) -> io::Result<()> {
+    for path in env::args(&rt)?.skip(1) {
+        play_file(&rt, path.as_str())?;
     }
     Ok(())
 }

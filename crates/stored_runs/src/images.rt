@@ -1,25 +1,48 @@
-//! Runs two images that gcc compiled from C (data/crc32.c, data/bytecode.c) to the numbers of turns
-//! at which another emulator of the processor told the same registers and the same memory.
-use crate::{Words, words_of};
-use outside_io::{HostFiles, HostSink};
-use std::io;
+//! Runs of images with the empty script: of two that gcc compiled from C (data/crc32.c, data/bytecode.c), to the numbers of
+//! turns at which another emulator of the processor told the same registers and the same memory.
+use crate::{hold, push_line};
+use outside_io::{MemFiles, MemSink};
+use std::alloc::{AllocError, Global};
+use std::io::Write;
+use std::{fs, io};
 use trace_cli::hubris_main;
 
-const RUNS: [&str; 2] = [
-    "run crc32.img empty.txt --steps 171158 --mem",
-    "run bytecode.img empty.txt --steps 463331 --mem",
+const RUNS: [(&str, &str); 2] = [
+    ("crc32.img", "run a.img e.txt --steps 171158 --mem"),
+    ("bytecode.img", "run a.img e.txt --steps 463331 --mem"),
 ];
 
-/// Runs both, and tells the status of one that does not end well.
+/// The status of a run of the image, which the line names `a.img`, with the empty script, `e.txt`.
+pub(crate) fn run(
+    alloc: Global,
+    image: &[u8],
+    line: &str,
+    out: &mut MemSink,
+) -> Result<u8, AllocError> {
+    let mut words = Vec::new(alloc);
+    push_line(&mut words, line)?;
+    let mut files = MemFiles::open(alloc, &[])?;
+    hold(&mut files, "a.img", image, image.len())?;
+    hold(&mut files, "e.txt", &[], 0)?;
+    Ok(hubris_main(alloc, &words, &mut files, out))
+}
+
+/// Runs the image of a file, and writes what the program tells, and its status where it does not end well.
+fn run_file(rt: &HostRuntime, name: &str, line: &str) -> io::Result<()> {
+    let image = fs::read(rt, name)?;
+    let mut out = MemSink::open(rt.alloc(), 1_000_000, &[])?;
+    let status = run(rt.alloc(), &image, line, &mut out)?;
+    io::writer(rt).write_all(out.text())?;
+    if status != 0 {
+        println!(rt; "{name}: status {status}")?;
+    }
+    Ok(())
+}
+
+/// Runs both.
 pub(crate) fn run_both(rt: &HostRuntime) -> io::Result<()> {
-    for line in RUNS {
-        let words = words_of(rt.alloc(), Words::InLine(line))?;
-        let mut out = HostSink::new(io::writer(rt));
-        let mut files = HostFiles::new(rt);
-        let status = hubris_main(rt.alloc(), &words, &mut files, &mut out);
-        if status != 0 {
-            println!(rt; "{line}: status {status}")?;
-        }
+    for (name, line) in RUNS {
+        run_file(rt, name, line)?;
     }
     Ok(())
 }

@@ -29,68 +29,82 @@ fn sum(text: &[u8]) -> u64 {
     sum
 }
 
-/// What a case wants of the text.
-#[derive(Clone, Copy)]
-enum Wanted<'a> {
-    Nothing,
-    Text(&'a str),
-    Sum(&'a str),
+/// A text's first line, and what follows.
+fn first_line(text: &str) -> (&str, &str) {
+    text.split_once('\n').unwrap_or((text, ""))
 }
 
-fn is_wanted(wanted: Wanted<'_>, text: &[u8]) -> bool {
-    match wanted {
-        Wanted::Nothing => false,
-        Wanted::Text("") => text.is_empty(),
+/// A part of a case: its key and its contents.
+type Part<'a> = (&'a str, &'a str);
+
+fn parts_of(alloc: Global, text: &str) -> Result<Vec<Part<'_>>, AllocError> {
+    let mut parts = Vec::new(alloc);
+    for part in text.split("\n+ ") {
+        parts.push(first_line(part))?;
+    }
+    Ok(parts)
+}
+
+/// The contents of the part with the key.
+fn contents<'a>(parts: &[Part<'a>], key: &str) -> Option<&'a str> {
+    for part in parts {
+        if part.0 == key {
+            return Some(part.1);
+        }
+    }
+    None
+}
+
+/// Whether the text is what the case wants.
+fn is_wanted(parts: &[Part<'_>], text: &[u8]) -> bool {
+    match (contents(parts, "text"), contents(parts, "sum")) {
+        (Some(""), _) => text.is_empty(),
         // the last line's end belongs to what parts the cases
-        Wanted::Text(lines) => match text.split_last() {
-            Some((end, found)) => *end == b'\n' && found == lines.as_bytes(),
-            None => false,
-        },
-        Wanted::Sum(digits) => match u64::from_str_radix(digits.trim_end(), 16) {
-            Ok(wanted) => sum(text) == wanted,
-            Err(_) => false,
-        },
+        (Some(lines), _) => text.split_last() == Some((&b'\n', lines.as_bytes())),
+        (None, Some(digits)) => u64::from_str_radix(digits.trim_end(), 16) == Ok(sum(text)),
+        (None, None) => false,
     }
 }
 
-/// A command line after the program's name.
-#[derive(Clone, Copy)]
-enum Words<'a> {
-    /// not even that name
-    None,
-    InLine(&'a str),
-    Each(&'a str),
+fn push_word(words: &mut Vec<String>, word: &str) -> Result<(), AllocError> {
+    let word = String::from_str(*words.allocator(), word)?;
+    words.push(word)?;
+    Ok(())
 }
 
-fn named(alloc: Global) -> Result<Vec<String>, AllocError> {
+/// Appends the program's name and the words of a line.
+fn push_line(words: &mut Vec<String>, line: &str) -> Result<(), AllocError> {
+    push_word(words, "hubris")?;
+    for word in line.split_whitespace() {
+        push_word(words, word)?;
+    }
+    Ok(())
+}
+
+/// Appends the program's name and a word for each line.
+fn push_each(words: &mut Vec<String>, lines: &str) -> Result<(), AllocError> {
+    push_word(words, "hubris")?;
+    for word in lines.split('\n') {
+        push_word(words, word)?;
+    }
+    Ok(())
+}
+
+/// The words of the command line.
+fn words_of(alloc: Global, parts: &[Part<'_>]) -> Result<Vec<String>, AllocError> {
     let mut words = Vec::new(alloc);
-    words.push(String::from_str(alloc, "hubris")?)?;
+    if let Some(line) = contents(parts, "words") {
+        push_line(&mut words, line)?;
+    } else if let Some(lines) = contents(parts, "each word") {
+        push_each(&mut words, lines)?;
+    }
     Ok(words)
 }
 
-fn words_of(alloc: Global, words: Words<'_>) -> Result<Vec<String>, AllocError> {
-    match words {
-        Words::None => Ok(Vec::new(alloc)),
-        Words::InLine(line) => {
-            let mut words = named(alloc)?;
-            for word in line.split_whitespace() {
-                words.push(String::from_str(alloc, word)?)?;
-            }
-            Ok(words)
-        }
-        Words::Each(lines) => {
-            let mut words = named(alloc)?;
-            for word in lines.split('\n') {
-                words.push(String::from_str(alloc, word)?)?;
-            }
-            Ok(words)
-        }
-    }
-}
-
-fn numbers(alloc: Global, line: &str) -> Result<Vec<u64>, AllocError> {
+/// The numbers that a part lists.
+fn numbers(alloc: Global, part: Option<&str>) -> Result<Vec<u64>, AllocError> {
     let mut numbers = Vec::new(alloc);
-    for word in line.split_whitespace() {
+    for word in part.unwrap_or("").split_whitespace() {
         if let Ok(number) = word.parse::<u64>() {
             numbers.push(number)?;
         }
@@ -99,68 +113,80 @@ fn numbers(alloc: Global, line: &str) -> Result<Vec<u64>, AllocError> {
 }
 
 /// Appends one byte, or of `00*9` nine.
-fn push_bytes(bytes: &mut Vec<u8>, word: &str) -> Result<(), AllocError> {
-    let (digits, count) = match word.split_once('*') {
-        Some((digits, count)) => (digits, count.parse::<u32>().unwrap_or(0)),
-        None => (word, 1),
-    };
-    if let Ok(byte) = u8::from_str_radix(digits, 16) {
-        for _ in 0..count {
-            bytes.push(byte)?;
-        }
+fn push_run(bytes: &mut Vec<u8>, word: &str) -> Result<(), AllocError> {
+    let (digits, count) = word.split_once('*').unwrap_or((word, "1"));
+    let count = count.parse::<usize>().unwrap_or(0);
+    match u8::from_str_radix(digits, 16) {
+        Ok(byte) => bytes.resize(bytes.len().saturating_add(count), byte),
+        Err(_) => Ok(()),
+    }
+}
+
+fn push_runs(bytes: &mut Vec<u8>, digits: &str) -> Result<(), AllocError> {
+    for word in digits.split_whitespace() {
+        push_run(bytes, word)?;
     }
     Ok(())
 }
 
-fn bytes_of(alloc: Global, digits: &str) -> Result<Vec<u8>, AllocError> {
-    let mut bytes = Vec::new(alloc);
-    for word in digits.split_whitespace() {
-        push_bytes(&mut bytes, word)?;
-    }
-    Ok(bytes)
-}
-
-/// A part of a case.
+/// How the contents of a file are told.
 #[derive(Clone, Copy)]
-enum Part<'a> {
-    Words(Words<'a>),
-    FailingCalls(&'a str),
-    FailingPushes(&'a str),
-    Hex(&'a str, &'a str),
-    Room(&'a str, &'a str),
-    File(&'a str, &'a str),
-    // a source of a task whose calls are a table: how it makes them, and the table
-    Player(&'a str, &'a str, &'a str),
-    Left(&'a str, &'a str),
-    Wanted(Wanted<'a>),
+enum Form {
+    AsItIs,
+    Hex,
+    Room,
+    /// a source of a task whose calls are a table: how it makes them
+    Calls(&'static str),
 }
 
-/// The file that a key names, by how its contents are told.
-fn read_file<'a>(key: &'a str, contents: &'a str) -> Part<'a> {
-    match key.split_once(' ') {
-        Some(("hex", name)) => Part::Hex(name, contents),
-        Some(("room", name)) => Part::Room(name, contents),
-        Some(("left", name)) => Part::Left(name, contents),
-        Some(("player", name)) => Part::Player(name, PLAYER, contents),
-        Some(("server", name)) => Part::Player(name, SERVER, contents),
-        _ => Part::File(key, contents),
+/// The keys of parts that tell no file, besides `left NAME`.
+const NO_FILES: [&str; 6] = [
+    "words",
+    "each word",
+    "failing calls",
+    "failing pushes",
+    "text",
+    "sum",
+];
+
+/// The form that the word before a file's name tells.
+fn form_of(word: &str) -> Form {
+    match word {
+        "hex" => Form::Hex,
+        "room" => Form::Room,
+        "player" => Form::Calls(PLAYER),
+        "server" => Form::Calls(SERVER),
+        _ => Form::AsItIs,
     }
 }
 
-/// The part whose first line is the key.
-fn read_part(text: &str) -> Part<'_> {
-    let (key, contents) = match text.split_once('\n') {
-        Some(pair) => pair,
-        None => (text, ""),
-    };
-    match key {
-        "words" => Part::Words(Words::InLine(contents)),
-        "each word" => Part::Words(Words::Each(contents)),
-        "failing calls" => Part::FailingCalls(contents),
-        "failing pushes" => Part::FailingPushes(contents),
-        "text" => Part::Wanted(Wanted::Text(contents)),
-        "sum" => Part::Wanted(Wanted::Sum(contents)),
-        _ => read_file(key, contents),
+/// How the part with the key tells a file, and the file's name, if it tells one.
+fn file_of(key: &str) -> Option<(Form, &str)> {
+    if NO_FILES.contains(&key) || key.starts_with("left ") {
+        return None;
+    }
+    let (word, name) = key.split_once(' ').unwrap_or(("", key));
+    match form_of(word) {
+        Form::AsItIs => Some((Form::AsItIs, key)),
+        form => Some((form, name)),
+    }
+}
+
+fn push_text(bytes: &mut Vec<u8>, text: &str) -> Result<(), AllocError> {
+    bytes.extend_from_slice(text.as_bytes())
+}
+
+fn push_contents(bytes: &mut Vec<u8>, form: Form, contents: &str) -> Result<(), AllocError> {
+    match form {
+        Form::AsItIs => push_text(bytes, contents),
+        Form::Hex => push_runs(bytes, contents),
+        Form::Room => push_runs(bytes, first_line(contents).1),
+        Form::Calls(call) => {
+            push_text(bytes, FRONT)?;
+            push_text(bytes, call)?;
+            push_text(bytes, END)?;
+            push_text(bytes, contents)
+        }
     }
 }
 
@@ -172,130 +198,115 @@ fn hold(files: &mut MemFiles, name: &str, bytes: &[u8], room: usize) -> Result<(
     Ok(())
 }
 
-/// Holds the file of a part, where the part is one.
+/// Holds the file of a part, where the part tells one.
 fn hold_part(alloc: Global, files: &mut MemFiles, part: Part<'_>) -> Result<(), AllocError> {
-    match part {
-        Part::File(name, contents) => {
-            let bytes = contents.as_bytes();
-            hold(files, name, bytes, bytes.len())
-        }
-        Part::Player(name, call, rows) => {
-            let mut whole = String::new(alloc);
-            for piece in [FRONT, call, END, rows] {
-                whole.push_str(piece)?;
-            }
-            let bytes = whole.as_bytes();
-            hold(files, name, bytes, bytes.len())
-        }
-        Part::Hex(name, digits) => {
-            let bytes = bytes_of(alloc, digits)?;
-            hold(files, name, &bytes, bytes.len())
-        }
-        Part::Room(name, contents) => {
-            let (room, digits) = contents.split_once('\n').unwrap_or((contents, ""));
-            let bytes = bytes_of(alloc, digits)?;
-            hold(files, name, &bytes, room.parse::<usize>().unwrap_or(0))
-        }
-        Part::Words(_)
-        | Part::FailingCalls(_)
-        | Part::FailingPushes(_)
-        | Part::Left(..)
-        | Part::Wanted(_) => Ok(()),
-    }
-}
-
-/// What a case asks besides its files.
-#[derive(Clone, Copy)]
-struct Asked<'a> {
-    words: Words<'a>,
-    failing_calls: &'a str,
-    failing_pushes: &'a str,
-    // a file's name, and its bytes in the end
-    left: Option<(&'a str, &'a str)>,
-    wanted: Wanted<'a>,
-}
-
-fn read_asked(parts: &str) -> Asked<'_> {
-    let mut asked = Asked {
-        words: Words::None,
-        failing_calls: "",
-        failing_pushes: "",
-        left: None,
-        wanted: Wanted::Nothing,
+    let (key, contents) = part;
+    let Some((form, name)) = file_of(key) else {
+        return Ok(());
     };
-    for text in parts.split("\n+ ").skip(1) {
-        match read_part(text) {
-            Part::Words(words) => asked.words = words,
-            Part::FailingCalls(line) => asked.failing_calls = line,
-            Part::FailingPushes(line) => asked.failing_pushes = line,
-            Part::Left(name, digits) => asked.left = Some((name, digits)),
-            Part::Wanted(wanted) => asked.wanted = wanted,
-            Part::Hex(..) | Part::Room(..) | Part::File(..) | Part::Player(..) => {}
-        }
+    let mut bytes = Vec::new(alloc);
+    push_contents(&mut bytes, form, contents)?;
+    let room = match form {
+        Form::Room => first_line(contents).0.parse::<usize>().unwrap_or(0),
+        _ => bytes.len(),
+    };
+    hold(files, name, &bytes, room)
+}
+
+fn files_of(alloc: Global, parts: &[Part<'_>]) -> Result<MemFiles, AllocError> {
+    let failing = numbers(alloc, contents(parts, "failing calls"))?;
+    let mut files = MemFiles::open(alloc, &failing)?;
+    for part in parts {
+        hold_part(alloc, &mut files, *part)?;
     }
-    asked
+    Ok(files)
+}
+
+fn sink_of(alloc: Global, parts: &[Part<'_>]) -> Result<MemSink, AllocError> {
+    let failing = numbers(alloc, contents(parts, "failing pushes"))?;
+    MemSink::open(alloc, 1_000_000, &failing)
 }
 
 /// Whether these bytes, and no more, stand under the name.
 fn is_left(
     alloc: Global,
     files: &mut MemFiles,
-    left: Option<(&str, &str)>,
+    name: &str,
+    digits: &str,
 ) -> Result<bool, AllocError> {
-    let Some((name, digits)) = left else {
-        return Ok(true);
-    };
-    let wanted = bytes_of(alloc, digits)?;
+    let mut wanted = Vec::new(alloc);
+    push_runs(&mut wanted, digits)?;
     match read_all(alloc, files, name, 2_097_152) {
-        Ok(found) => Ok(found.as_slice() == wanted.as_slice()),
+        Ok(found) => Ok(found == wanted),
         Err(_) => Ok(false),
     }
 }
 
-/// Whether the program answers to a case, from its status on, as it wants.
-fn answers_as_wanted(alloc: Global, case: &str) -> Result<bool, AllocError> {
-    let Some((status, parts)) = case.split_once(' ') else {
-        return Ok(false);
-    };
-    let asked = read_asked(parts);
-    let failing_calls = numbers(alloc, asked.failing_calls)?;
-    let failing_pushes = numbers(alloc, asked.failing_pushes)?;
-    let mut files = MemFiles::open(alloc, &failing_calls)?;
-    for text in parts.split("\n+ ").skip(1) {
-        hold_part(alloc, &mut files, read_part(text))?;
+/// Whether each file that the case names stands in the end as it wants.
+fn are_left(alloc: Global, files: &mut MemFiles, parts: &[Part<'_>]) -> Result<bool, AllocError> {
+    for part in parts {
+        if let Some(name) = part.0.strip_prefix("left ") {
+            if !is_left(alloc, files, name, part.1)? {
+                return Ok(false);
+            }
+        }
     }
-    let words = words_of(alloc, asked.words)?;
-    let mut out = MemSink::open(alloc, 1_000_000, &failing_pushes)?;
-    let found = hubris_main(alloc, &words, &mut files, &mut out);
+    Ok(true)
+}
+
+/// Whether the program, handed the files and the output, answers with the status at the head and as the parts want.
+fn answers(
+    alloc: Global,
+    head: &str,
+    parts: &[Part<'_>],
+    files: &mut MemFiles,
+    out: &mut MemSink,
+) -> Result<bool, AllocError> {
+    let words = words_of(alloc, parts)?;
+    let status = hubris_main(alloc, &words, files, out);
+    let (wanted, _) = head.split_once(' ').unwrap_or((head, ""));
     Ok(
-        status.parse::<u8>() == Ok(found)
-            && is_wanted(asked.wanted, out.text())
-            && is_left(alloc, &mut files, asked.left)?,
+        wanted.parse::<u8>() == Ok(status)
+            && is_wanted(parts, out.text())
+            && are_left(alloc, files, parts)?,
     )
 }
 
-/// The head of a case.
-fn head(case: &str) -> &str {
-    match case.split_once('\n') {
-        Some((head, _)) => head,
-        None => case,
+fn passes(alloc: Global, case: &str) -> Result<bool, AllocError> {
+    let Some((head, parts)) = case.split_once("\n+ ") else {
+        return Ok(false);
+    };
+    let parts = parts_of(alloc, parts)?;
+    let mut files = files_of(alloc, &parts)?;
+    let mut out = sink_of(alloc, &parts)?;
+    answers(alloc, head, &parts, &mut files, &mut out)
+}
+
+/// Counts the cases that pass, and tells the others.
+fn count_passing(rt: &HostRuntime, text: &str) -> io::Result<u64> {
+    let Some((_, cases)) = text.trim_end().split_once("\n= ") else {
+        return Ok(0);
+    };
+    let mut agreed = 0_u64;
+    for case in cases.split("\n= ") {
+        if passes(rt.alloc(), case)? {
+            agreed = agreed.saturating_add(1);
+        } else {
+            println!(rt; "differs: {}", first_line(case).0)?;
+        }
     }
+    Ok(agreed)
+}
+
+fn play_file(rt: &HostRuntime, path: &str) -> io::Result<()> {
+    let text = fs::read_to_string(rt, path)?;
+    let agreed = count_passing(rt, text.as_str())?;
+    println!(rt; "{path}: {agreed} agree")
 }
 
 fn main(rt: HostRuntime) -> io::Result<()> {
-    let alloc = rt.alloc();
     for path in env::args(&rt)?.skip(1) {
-        let text = fs::read_to_string(&rt, path.as_str())?;
-        let mut agreed = 0_u64;
-        for case in text.as_str().trim_end().split("\n= ").skip(1) {
-            if answers_as_wanted(alloc, case)? {
-                agreed = agreed.saturating_add(1);
-            } else {
-                let head = head(case);
-                println!(rt; "differs: {head}")?;
-            }
-        }
-        println!(rt; "{path}: {agreed} agree")?;
+        play_file(&rt, path.as_str())?;
     }
     images::run_both(&rt)?;
     halfwords::run_all(&rt)
