@@ -12,3 +12,5 @@ pub mod Labels
 pub mod Expressions
 pub mod Bytes
 pub mod Lines
+pub mod Tables
+pub mod Strange

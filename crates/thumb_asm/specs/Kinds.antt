@@ -1,11 +1,9 @@
 -- Operands of the program without where their texts lie in memory.
-use Rattle.std.specs.Prelude.{ℕ, Bool, true, false, List, [], ◌∷◌, Option, Some, None, is_some, nat_eq, ◌&&◌, if◌then◌else◌}
+use Rattle.std.specs.Prelude.{ℕ, Bool, true, false, List, [], ◌∷◌, ◌++◌, Option, Some, None, is_some, nat_eq, ◌&&◌, if◌then◌else◌}
 use Rattle.thumb_insn.specs.Fields.{reg}
 use Rattle.thumb_insn.specs.declared.Reg.{Reg}
 use Rattle.thumb_asm.specs.declared.operand.Operand.{Operand as Held}
 use Rattle.thumb_asm.specs.declared.operand.Operand.TheVariants as held
-use Rattle.thumb_asm.specs.declared.operand.Operands.{Operands}
-use Rattle.thumb_asm.specs.declared.operand.Operands.TheVariants.{Zero, One, Two, Three}
 use Rattle.thumb_asm.specs.declared.Mnemonic.{Mnemonic}
 use Rattle.thumb_asm.specs.declared.Mnemonic.TheVariants.{Values}
 use Rattle.thumb_asm.specs.Chars.{register, strip, is_nil}
@@ -61,22 +59,9 @@ as_reg word = register word >>= λ n. Some (reg n)
 abbrev pub raised_reg : List ℕ → Option Reg
 raised_reg piece = closed_by 33 piece >>= λ front. as_reg (strip front)
 
-abbrev pub operands_of : Operands → List Operand
-operands_of Zero = []
-operands_of (One a) = operand_of a ∷ []
-operands_of (Two a b) = operand_of a ∷ operand_of b ∷ []
-operands_of (Three a b c) = operand_of a ∷ operand_of b ∷ operand_of c ∷ []
-
--- no list of more than three
-abbrev pub short_list : List Operand → Option (List Operand)
-short_list [] = Some []
-short_list (a ∷ []) = Some (a ∷ [])
-short_list (a ∷ b ∷ []) = Some (a ∷ b ∷ [])
-short_list (a ∷ b ∷ c ∷ []) = Some (a ∷ b ∷ c ∷ [])
-short_list (a ∷ b ∷ c ∷ d ∷ os) = None
-
-abbrev pub up_to_three : Option (List Operand) → Option (List Operand)
-up_to_three os = os >>= short_list
+-- operands, and those that follow them
+abbrev pub followed_by : List Operand → Option (List Operand) → Option (List Operand)
+followed_by front rest = rest >>= λ os. Some (front ++ os)
 
 -- a mnemonic with at most three operands
 abbrev pub IsPlain : Mnemonic → Type 0

@@ -1,5 +1,5 @@
 -- What a statement adds.
-use Rattle.std.specs.Prelude.{ℕ, ◌≡◌, List, ◌++◌, length, None, Result, Ok}
+use Rattle.std.specs.Prelude.{ℕ, ◌≡◌, List, ◌++◌, length, None, Result, Ok, Err}
 use Rattle.thumb_insn.specs.declared.Insn.{Insn}
 use Rattle.thumb_asm.specs.Syntax.{Shape}
 use Rattle.thumb_asm.specs.Sizes.{shape_size}
@@ -7,6 +7,11 @@ use Rattle.thumb_encode.specs.Codes.{insn_size}
 use Rattle.thumb_asm.specs.declared.Cause.{Cause}
 use Rattle.thumb_asm.specs.Meaning.{Env, Means, Codes, fitting}
 use Rattle.thumb_asm.specs.Causes.{shape_cause, insn_cause}
+
+-- an instruction that was found fits or has a cause of its own; where none was found, the cause is this
+abbrev pub Finds : Result Insn Cause → Result Insn Cause → Type 0
+Finds (Ok i) wanted = wanted ≡ fitting i
+Finds (Err c) wanted = wanted ≡ Err c
 
 pub record Gave (env : Env) (at : ℕ) (s : Shape) (old new : List ℕ) : Type 0 where
   pub own : List ℕ

@@ -1,11 +1,13 @@
 -- Values of the program without where their texts lie in memory.
-use Rattle.std.specs.Prelude.{ℕ, ℤ, false, Option, option_map, Result, Ok, Err}
+use Rattle.std.specs.Prelude.{ℕ, ℤ, false, List, Option, option_map, Result, Ok, Err}
 use Rattle.thumb_insn.specs.declared.Insn.{Insn}
 use Rattle.thumb_insn.specs.declared.Insn.TheVariants as insn
 use Rattle.thumb_asm.specs.declared.Cause.{Cause}
 use Rattle.thumb_asm.specs.declared.expr.Expr.{Expr as Sum}
 use Rattle.thumb_asm.specs.Operands.{Expr}
 use Rattle.thumb_asm.specs.declared.parts.Line.{Line}
+use Rattle.thumb_asm.specs.declared.parts.Pieces.{Pieces}
+use Rattle.thumb_asm.specs.declared.lists.Ranges.{Ranges}
 use Rattle.thumb_asm.specs.declared.shape.Shape.{Shape as Held}
 use Rattle.thumb_asm.specs.declared.shape.Shape.TheVariants as held
 use Rattle.thumb_asm.specs.Parts.{Parts, operand_pieces}
@@ -15,6 +17,13 @@ use Rattle.thumb_asm.specs.Syntax.{Shape, Fixed, Filled, Within, Aimed, Near, Mi
 
 abbrev pub parts_of : Line → Parts
 parts_of p = record { label = option_map (λ r. r.now) p.label; statement = p.statement.now }
+
+-- the text that is left of a statement's operands, and of a list of registers
+abbrev pub pieces_text : Pieces → Option (List ℕ)
+pieces_text p = option_map (λ r. r.now) p.rest
+
+abbrev pub ranges_text : Ranges → Option (List ℕ)
+ranges_text p = option_map (λ r. r.now) p.rest
 
 abbrev pub expr_of : Sum → Expr
 expr_of e = record { name = option_map (λ r. r.now) e.name; number = e.number }

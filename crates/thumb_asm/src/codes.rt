@@ -1,14 +1,13 @@
 //! Instructions with their values, and their bytes.
 
-ghost use Rattle.std.specs.Prelude.{◌≡◌, ◌++◌, ◌<◌, ◌+◌, ◌-◌, ◌*◌, ◌/◌, ◌^◌, ℤ, pos, nat_abs, ◌-ℤ◌, OnOk, IfOk, IfErr, MatchOption, MatchResult, Result, Ok, Err, None, Some, Option, length};
+ghost use Rattle.std.specs.Prelude.{◌≡◌, ◌++◌, ◌<◌, ◌+◌, ◌-◌, ◌*◌, ◌/◌, ◌^◌, ℤ, pos, nat_abs, ◌-ℤ◌, OnOk, IfOk, IfErr, Result, Ok, Err, None, Some, Option, length};
 ghost use Rattle.thumb_insn.specs.declared.Insn.{Insn as Instruction};
 ghost use Rattle.thumb_asm.specs.declared.Cause.{Cause as Why};
 ghost use Rattle.thumb_encode.specs.Codes.{insn_size, fit_of};
-ghost use Rattle.thumb_asm.specs.declared.Cause.TheVariants.{OutOfRange};
 ghost use Rattle.thumb_asm.specs.Meaning.{filled, within, aimed, fitting, fit_cause, halfword, code_bytes, Codes};
 ghost use Rattle.thumb_asm.specs.Causes.{insn_cause};
 ghost use Rattle.thumb_asm.specs.Passes.{Stops};
-ghost use Rattle.thumb_asm.specs.Outputs.{Coded, Put};
+ghost use Rattle.thumb_asm.specs.Outputs.{Coded, Put, Finds};
 ghost use Rattle.thumb_insn.specs.Range.{insn_of, IsCode};
 ghost use Rattle.thumb_asm.specs.Sizes.{is_register_fit};
 ghost use Rattle.thumb_asm.specs.Views.{fill, aim};
@@ -147,36 +146,36 @@ pub(crate) fn aim(insn: Insn, distance: i32) -> Insn
 }
 
 /// The instruction with this value, if it is a number of 32 bits.
-pub(crate) fn with_value(insn: Insn, value: i64) -> Option<Insn>
-    ensures { MatchOption result (filled (fill insn) value ≡ Err OutOfRange) (λ i. filled (fill insn) value ≡ fitting i) }
+pub(crate) fn with_value(insn: Insn, value: i64) -> Result<Insn, Cause>
+    ensures { Finds result (filled (fill insn) value) }
 {
     match u32::try_from(value) {
-        Ok(number) => Some(fill(insn, number)),
-        Err(_) => None,
+        Ok(number) => Ok(fill(insn, number)),
+        Err(_) => Err(Cause::OutOfRange),
     }
 }
 
 /// The instruction with this value, if it is within its bounds.
-pub(crate) fn with_bounded(insn: Insn, low: u32, top: u32, value: i64) -> Option<Insn>
-    ensures { MatchOption result (within low top (fill insn) value ≡ Err OutOfRange) (λ i. within low top (fill insn) value ≡ fitting i) }
+pub(crate) fn with_bounded(insn: Insn, low: u32, top: u32, value: i64) -> Result<Insn, Cause>
+    ensures { Finds result (within low top (fill insn) value) }
 {
     match u32::try_from(value) {
         Ok(number) => if low <= number && number <= top {
-            Some(fill(insn, number))
+            Ok(fill(insn, number))
         } else {
-            None
+            Err(Cause::OutOfRange)
         },
-        Err(_) => None,
+        Err(_) => Err(Cause::OutOfRange),
     }
 }
 
 /// The instruction with this distance, if it is a signed number of 32 bits.
-pub(crate) fn with_distance(insn: Insn, distance: i64) -> Option<Insn>
-    ensures { MatchOption result (aimed (aim insn) distance ≡ Err OutOfRange) (λ i. aimed (aim insn) distance ≡ fitting i) }
+pub(crate) fn with_distance(insn: Insn, distance: i64) -> Result<Insn, Cause>
+    ensures { Finds result (aimed (aim insn) distance) }
 {
     match i32::try_from(distance) {
-        Ok(number) => Some(aim(insn, number)),
-        Err(_) => None,
+        Ok(number) => Ok(aim(insn, number)),
+        Err(_) => Err(Cause::OutOfRange),
     }
 }
 
@@ -260,8 +259,8 @@ pub(crate) fn emit_insn(at: u32, insn: Insn, out: &mut Vec<u8>) -> Result<(), St
 /// Puts an instruction that was found, or tells why there is none.
 #[tactic(auto, using(crate::proofs::Coding::put_ok, crate::proofs::Coding::put_err))]
 pub(crate) fn emit_found(at: u32, found: Result<Insn, Cause>, out: &mut Vec<u8>) -> Result<(), Stop>
-    ensures ok { (r : Result Instruction Why) → MatchResult found (λ i. r ≡ fitting i) (λ c. r ≡ Err c) → OnOk result (Put r at out.old.items out.new.items) }
-    ensures err { (r : Result Instruction Why) → MatchResult found (λ i. r ≡ fitting i) (λ c. r ≡ Err c) → IfErr result (λ e. Stops e (insn_cause at r)) }
+    ensures ok { (r : Result Instruction Why) → Finds found r → OnOk result (Put r at out.old.items out.new.items) }
+    ensures err { (r : Result Instruction Why) → Finds found r → IfErr result (λ e. Stops e (insn_cause at r)) }
 {
     match found {
         Ok(insn) => emit_insn(at, insn, out),

@@ -23,6 +23,7 @@ mod words;
 
 pub use passes::{Object, assemble};
 use std::alloc::AllocError;
+use std::fmt;
 use thiserror::Error;
 use thumb_insn::{Barrier, Bytes, Cond, Load, Op, Shift, Size};
 
@@ -69,35 +70,21 @@ pub(crate) enum Mnemonic {
 }
 
 /// Why a line is refused.
-#[derive(Clone, Copy, PartialEq, Eq, Debug, Drop, Error)]
+#[derive(Clone, Copy, PartialEq, Eq, Debug, Drop)]
 pub enum Cause {
-    #[error("a byte that is not allowed")]
     BadByte,
-    #[error("what stands before the colon is no name")]
     BadLabel,
-    #[error("the label stands on an earlier line")]
     LabelTwice,
-    #[error("an unknown mnemonic")]
     UnknownMnemonic,
-    #[error("operands that the mnemonic does not take")]
     BadOperands,
-    #[error("a register that cannot stand here")]
     BadRegister,
-    #[error("no number of 32 bits")]
     BadNumber,
-    #[error("a name that is neither a label nor a symbol")]
     UnknownSymbol,
-    #[error("a value out of range")]
     OutOfRange,
-    #[error("a value or an address that is no multiple")]
     Misaligned,
-    #[error("a list of registers that is not allowed")]
     BadList,
-    #[error("more than 1048576 bytes")]
     TooLong,
-    #[error("the label is the name of a register or a symbol")]
     NameClash,
-    #[error("a line of more than 255 bytes")]
     LineTooLong,
 }
 
@@ -123,7 +110,35 @@ impl Cause {
             Cause::LineTooLong => 14,
         }
     }
+
+    /// What is told of a cause.
+    fn text(self) -> &'static str {
+        match self {
+            Cause::BadByte => "a byte that is not allowed",
+            Cause::BadLabel => "what stands before the colon is no name",
+            Cause::LabelTwice => "the label stands on an earlier line",
+            Cause::UnknownMnemonic => "an unknown mnemonic",
+            Cause::BadOperands => "operands that the mnemonic does not take",
+            Cause::BadRegister => "a register that cannot stand here",
+            Cause::BadNumber => "no number of 32 bits",
+            Cause::UnknownSymbol => "a name that is neither a label nor a symbol",
+            Cause::OutOfRange => "a value out of range",
+            Cause::Misaligned => "a value or an address that is no multiple",
+            Cause::BadList => "a list of registers that is not allowed",
+            Cause::TooLong => "more than 1048576 bytes",
+            Cause::NameClash => "the label is the name of a register or a symbol",
+            Cause::LineTooLong => "a line of more than 255 bytes",
+        }
+    }
 }
+
+impl fmt::Display for Cause {
+    fn fmt<W: fmt::Write>(&self, f: &mut fmt::Formatter<W>) -> fmt::Result {
+        f.write_str(self.text())
+    }
+}
+
+impl std::error::Error for Cause {}
 
 /// Why a text is not assembled.
 #[derive(Debug, Drop, Error)]

@@ -1,9 +1,10 @@
 //! Lists of registers, as they are written.
 
-ghost use Rattle.std.specs.Prelude.{◌≡◌, ◌∷◌, ◌<◌, ◌+◌, ◌&&◌, ◌||◌, nat_lt, nat_eq, ◌≤◌, if◌then◌else◌, is_some, option_map, IfSome, MatchOption, Some, None, [], not};
+ghost use Rattle.std.specs.Prelude.{◌≡◌, ◌∷◌, ◌<◌, ◌+◌, ◌&&◌, ◌||◌, nat_lt, nat_eq, ◌≤◌, if◌then◌else◌, is_some, IfSome, MatchOption, Some, None, [], not};
 ghost use Rattle.std.specs.List.{list_any};
 ghost use Rattle.thumb_asm.specs.Cuts.{left_length};
 ghost use Rattle.thumb_asm.specs.Operands.{ends, ranges, stripped_by, register_list};
+ghost use Rattle.thumb_asm.specs.Views.{ranges_text};
 ghost use Rattle.thumb_asm.specs.Kinds.{cuts_left, ranges_left, ranges_in};
 ghost use Rattle.thumb_asm.specs.Sizes.{is_in, is_listed, is_double, is_named, any_below, mask_below, mask_of, is_stray, has_stray, falls, is_empty, is_no_list, is_raised_wrong};
 
@@ -19,7 +20,7 @@ pub(crate) struct Ranges<'a> {
 impl<'a> Ranges<'a> {
     #[tactic(auto, unfolding(crate::specs::Kinds::ranges_in, crate::specs::Kinds::good_ranges))]
     fn of(text: &'a [u8]) -> Ranges<'a>
-        ensures { ranges_left (option_map (λ r. r.now) result.rest) ≡ ranges_in text.now }
+        ensures { ranges_left (ranges_text result) ≡ ranges_in text.now }
     {
         if is_nil(strip(text)) {
             Ranges { rest: None }
@@ -31,9 +32,9 @@ impl<'a> Ranges<'a> {
     /// The next range, by its ends.
     #[tactic(auto, unfolding(crate::specs::Kinds::good_ranges))]
     fn next(&mut self) -> Option<(u8, u8)>
-        ensures range { MatchOption result (ranges_left (option_map (λ r. r.now) self.old.rest) ≡ []) (λ r. ranges_left (option_map (λ r. r.now) self.old.rest) ≡ r ∷ ranges_left (option_map (λ r. r.now) self.new.rest)) }
+        ensures range { MatchOption result (ranges_left (ranges_text self.old) ≡ []) (λ r. ranges_left (ranges_text self.old) ≡ r ∷ ranges_left (ranges_text self.new)) }
         ensures bounds { IfSome result (λ r. (r.0 < 16) × (r.1 < 16)) }
-        ensures shorter { IfSome result (λ r. left_length (option_map (λ r. r.now) self.new.rest) < left_length (option_map (λ r. r.now) self.old.rest)) }
+        ensures shorter { IfSome result (λ r. left_length (ranges_text self.new) < left_length (ranges_text self.old)) }
     {
         match self.rest {
             None => None,

@@ -2,15 +2,13 @@
 
 ghost use Rattle.std.specs.Prelude.{◌≡◌, ◌∷◌, ◌<◌, ◌+◌, length, take, drop, Some, None, IfSome, MatchOption, option_map, Option, List, ℕ, nat_eq};
 ghost use Rattle.std.specs.List.{list_any};
-ghost use Rattle.thumb_asm.specs.Operands.{closed_by, operand, offset, bare, unquoted, Immediate, memory, stripped_by, in_brackets, in_braces, in_quotes, operands};
-ghost use Rattle.thumb_asm.specs.Parts.{operand_pieces};
+ghost use Rattle.thumb_asm.specs.Operands.{closed_by, operand, offset, bare, unquoted, Immediate, memory, stripped_by, in_brackets, in_braces, in_quotes};
 ghost use Rattle.thumb_asm.specs.Chars.{strip};
 ghost use Rattle.thumb_asm.specs.Cuts.{left_length};
-ghost use Rattle.thumb_asm.specs.Kinds.{operand_of, as_reg, raised_reg, cuts_left, operands_of, up_to_three};
+ghost use Rattle.thumb_asm.specs.Kinds.{operand_of, as_reg, raised_reg, cuts_left};
 
 use super::expr::head;
 use super::lists::is_list;
-use super::parts::Pieces;
 use super::quotes::is_closed;
 use super::words::{register, strip};
 use thumb_insn::Reg;
@@ -221,38 +219,5 @@ pub(crate) fn parse(piece: &[u8]) -> Option<Operand<'_>>
     match head(piece) {
         None => None,
         Some((first, rest)) => operand_at(first, rest, piece),
-    }
-}
-
-/// Up to three operands.
-#[derive(Clone, Copy)]
-pub(crate) enum Operands<'a> {
-    Zero,
-    One(Operand<'a>),
-    Two(Operand<'a>, Operand<'a>),
-    Three(Operand<'a>, Operand<'a>, Operand<'a>),
-}
-
-/// The operands of a statement, unless one is none or there are more than three.
-#[tactic(auto, unfolding(crate::specs::Operands::operands))]
-pub(crate) fn parse_all(text: &[u8]) -> Option<Operands<'_>>
-    ensures { option_map operands_of result ≡ up_to_three (operands (operand_pieces text.now)) }
-{
-    let mut pieces = Pieces::of(text);
-    let Some(first) = pieces.next() else {
-        return Some(Operands::Zero)
-    };
-    let a = parse(first)?;
-    let Some(second) = pieces.next() else {
-        return Some(Operands::One(a))
-    };
-    let b = parse(second)?;
-    let Some(third) = pieces.next() else {
-        return Some(Operands::Two(a, b))
-    };
-    let c = parse(third)?;
-    match pieces.next() {
-        None => Some(Operands::Three(a, b, c)),
-        Some(_) => None,
     }
 }

@@ -1,18 +1,18 @@
 //! Statements.
 
-ghost use Rattle.std.specs.Prelude.{◌≡◌, ◌++◌, ◌<◌, ◌≤◌, ◌+◌, ◌*◌, ◌/◌, ◌^◌, false, option_map, length, OnOk, IfOk, IfErr, IfSome, MatchOption, MatchResult, nat_abs, pos, ◌-ℤ◌, ◌≤ℤ◌, Result, Ok, Err, None, Some};
+ghost use Rattle.std.specs.Prelude.{◌≡◌, ◌++◌, ◌<◌, ◌≤◌, ◌+◌, ◌*◌, ◌/◌, ◌^◌, false, option_map, length, OnOk, IfOk, IfErr, IfSome, MatchOption, nat_abs, pos, ◌-ℤ◌, ◌≤ℤ◌, Result, Ok, Err, None, Some};
 ghost use Rattle.thumb_asm.specs.Sizes.{statement_of, shape_size, list_insn, block_insn, extra_of, natural_part, padding, has_bad_count, has_bad_number, has_bad_register, has_bad_list, is_off, is_no_expr, is_no_number, checked};
 ghost use Rattle.thumb_asm.specs.Operands.{signed, expression};
 ghost use Rattle.thumb_asm.specs.Parts.{operand_pieces};
 ghost use Rattle.thumb_asm.specs.Kinds.{ranges_in, good_text};
 ghost use Rattle.thumb_encode.specs.Codes.{insn_size, scale};
 ghost use Rattle.std.specs.List.{list_any};
-ghost use Rattle.thumb_asm.specs.Meaning.{insn_at, fitting};
+ghost use Rattle.thumb_asm.specs.Meaning.{insn_at};
 ghost use Rattle.thumb_asm.specs.Syntax.{Filled as SpecFilled, Within as SpecWithin, Aimed as SpecAimed, Near as SpecNear};
 ghost use Rattle.thumb_asm.specs.Causes.{shape_cause};
 ghost use Rattle.thumb_asm.specs.Passes.{env_in, Stops};
 ghost use Rattle.thumb_asm.specs.Views.{shape_of, shown, fill, aim, HoldsInsn};
-ghost use Rattle.thumb_asm.specs.Outputs.{Gave};
+ghost use Rattle.thumb_asm.specs.Outputs.{Gave, Finds};
 
 use super::codes::{aim, emit_found, fill, is_misfit, with_bounded, with_distance, with_value};
 use super::data::{self, push_zeros};
@@ -339,14 +339,11 @@ pub(crate) fn size(at: u32, shape: &Shape<'_>) -> Option<u32>
 /// The value's instruction, or why there is none.
 #[tactic(auto, unfolding(crate::specs::Meaning::insn_at))]
 fn filled(at: u32, piece: &[u8], insn: Insn, names: &Names<'_>) -> Result<Insn, Cause>
-    ensures { MatchResult result (λ i. insn_at (env_in names.now.labels.now names.now.symbols.now) at (SpecFilled piece.now (fill insn)) ≡ fitting i) (λ c. insn_at (env_in names.now.labels.now names.now.symbols.now) at (SpecFilled piece.now (fill insn)) ≡ Err c) }
+    ensures { Finds result (insn_at (env_in names.now.labels.now names.now.symbols.now) at (SpecFilled piece.now (fill insn))) }
 {
     match value(piece, names) {
         None => Err(Cause::UnknownSymbol),
-        Some(number) => match with_value(insn, number) {
-            Some(insn) => Ok(insn),
-            None => Err(Cause::OutOfRange),
-        },
+        Some(number) => with_value(insn, number),
     }
 }
 
@@ -360,28 +357,22 @@ fn within(
     insn: Insn,
     names: &Names<'_>,
 ) -> Result<Insn, Cause>
-    ensures { MatchResult result (λ i. insn_at (env_in names.now.labels.now names.now.symbols.now) at (SpecWithin low top piece.now (fill insn)) ≡ fitting i) (λ c. insn_at (env_in names.now.labels.now names.now.symbols.now) at (SpecWithin low top piece.now (fill insn)) ≡ Err c) }
+    ensures { Finds result (insn_at (env_in names.now.labels.now names.now.symbols.now) at (SpecWithin low top piece.now (fill insn))) }
 {
     match value(piece, names) {
         None => Err(Cause::UnknownSymbol),
-        Some(number) => match with_bounded(insn, low, top, number) {
-            Some(insn) => Ok(insn),
-            None => Err(Cause::OutOfRange),
-        },
+        Some(number) => with_bounded(insn, low, top, number),
     }
 }
 
 /// The instruction with the distance of a target, or why there is none.
 #[tactic(auto, unfolding(crate::specs::Meaning::insn_at))]
 fn aimed(at: u32, piece: &[u8], insn: Insn, names: &Names<'_>) -> Result<Insn, Cause>
-    ensures { MatchResult result (λ i. insn_at (env_in names.now.labels.now names.now.symbols.now) at (SpecAimed piece.now (aim insn)) ≡ fitting i) (λ c. insn_at (env_in names.now.labels.now names.now.symbols.now) at (SpecAimed piece.now (aim insn)) ≡ Err c) }
+    ensures { Finds result (insn_at (env_in names.now.labels.now names.now.symbols.now) at (SpecAimed piece.now (aim insn))) }
 {
     match value(piece, names) {
         None => Err(Cause::UnknownSymbol),
-        Some(target) => match with_distance(insn, target - (i64::from(at) + 4)) {
-            Some(insn) => Ok(insn),
-            None => Err(Cause::OutOfRange),
-        },
+        Some(target) => with_distance(insn, target - (i64::from(at) + 4)),
     }
 }
 
@@ -396,14 +387,11 @@ fn aligned_distance(at: u32, target: i64) -> i64
 /// The same from the address aligned down.
 #[tactic(auto, unfolding(crate::specs::Meaning::insn_at))]
 fn near(at: u32, piece: &[u8], insn: Insn, names: &Names<'_>) -> Result<Insn, Cause>
-    ensures { MatchResult result (λ i. insn_at (env_in names.now.labels.now names.now.symbols.now) at (SpecNear piece.now (fill insn)) ≡ fitting i) (λ c. insn_at (env_in names.now.labels.now names.now.symbols.now) at (SpecNear piece.now (fill insn)) ≡ Err c) }
+    ensures { Finds result (insn_at (env_in names.now.labels.now names.now.symbols.now) at (SpecNear piece.now (fill insn))) }
 {
     match value(piece, names) {
         None => Err(Cause::UnknownSymbol),
-        Some(target) => match with_value(insn, aligned_distance(at, target)) {
-            Some(insn) => Ok(insn),
-            None => Err(Cause::OutOfRange),
-        },
+        Some(target) => with_value(insn, aligned_distance(at, target)),
     }
 }
 
@@ -438,7 +426,7 @@ fn block_insn(n: Reg, loads: bool, list: u8) -> Insn
 #[tactic(auto, unfolding(crate::specs::Meaning::insn_at))]
 fn insn_at(at: u32, shape: &Shape<'_>, names: &Names<'_>) -> Result<Insn, Cause>
     requires { HoldsInsn shape.now }
-    ensures { MatchResult result (λ i. insn_at (env_in names.now.labels.now names.now.symbols.now) at (shape_of shape.now) ≡ fitting i) (λ c. insn_at (env_in names.now.labels.now names.now.symbols.now) at (shape_of shape.now) ≡ Err c) }
+    ensures { Finds result (insn_at (env_in names.now.labels.now names.now.symbols.now) at (shape_of shape.now)) }
 {
     match *shape {
         Shape::Fixed(insn) => Ok(insn),

@@ -1,9 +1,9 @@
 //! Characters, blanks, names and registers.
 
-ghost use Rattle.std.specs.Prelude.{◌≡◌, ◌<◌, ◌≤◌, IfSome, length, option_map, map, take, drop, bytes_eq, nat_eq};
+ghost use Rattle.std.specs.Prelude.{◌≡◌, ◌<◌, ◌≤◌, IfSome, length, option_map, map, bytes_eq, nat_eq};
 ghost use Rattle.std.specs.List.{list_all};
 ghost use Rattle.text_lines.specs.Text.{is_between};
-ghost use Rattle.thumb_asm.specs.Chars.{starts_by, is_nil, is_blank, is_letter, is_word, is_allowed, lower, strip_front, strip_end, strip, is_name, entry_at, register_names, register};
+ghost use Rattle.thumb_asm.specs.Chars.{starts_by, is_nil, is_blank, is_letter, is_word, is_allowed, lower, strip_front, strip_end, strip, is_name, entry_at, register};
 
 use thumb_insn::Reg;
 
@@ -129,66 +129,48 @@ pub(crate) fn is_any_case(word: &[u8], name: &[u8]) -> bool
     true
 }
 
-/// The value of the first of these names that the word is, in any case.
-macro_rules! pick {
-    ($word:expr; $($name:literal => $value:expr),* $(,)?) => {{
-        $(if $crate::words::is_any_case($word, $name) {
-            return Some($value);
-        })*
-        None
-    }};
-}
-
-pub(crate) use pick;
-
-/// The number of `r0` to `r7`.
-#[tactic(auto, unfolding(crate::specs::Chars::register_names, crate::specs::Chars::entry_at))]
-fn low_register(word: &[u8]) -> Option<u8>
-    ensures value { result ≡ entry_at (take 8 register_names) (map lower word.now) }
-    ensures bound { IfSome result (λ n. n < 16) }
+/// What a table has at the word, in any case.
+#[tactic(auto, unfolding(crate::specs::Chars::entry_at))]
+pub(crate) fn lookup<T: Copy>(mut table: &[(&[u8], T)], word: &[u8]) -> Option<T>
+    ensures { result ≡ entry_at (map (λ e. (e.0.now, e.1)) table.entry.now) (map lower word.now) }
 {
-    pick!(word;
-        b"r0" => 0,
-        b"r1" => 1,
-        b"r2" => 2,
-        b"r3" => 3,
-        b"r4" => 4,
-        b"r5" => 5,
-        b"r6" => 6,
-        b"r7" => 7,
-    )
+    while let [entry, rest @ ..] = table {
+        if is_any_case(word, entry.0) {
+            return Some(entry.1);
+        }
+        table = rest;
+    }
+    None
 }
 
-/// The number of a register that is named otherwise.
-#[tactic(auto, unfolding(crate::specs::Chars::register_names, crate::specs::Chars::entry_at))]
-fn high_register(word: &[u8]) -> Option<u8>
-    ensures value { result ≡ entry_at (drop 8 register_names) (map lower word.now) }
-    ensures bound { IfSome result (λ n. n < 16) }
-{
-    pick!(word;
-        b"r8" => 8,
-        b"r9" => 9,
-        b"r10" => 10,
-        b"r11" => 11,
-        b"r12" => 12,
-        b"r13" => 13,
-        b"r14" => 14,
-        b"r15" => 15,
-        b"sp" => 13,
-        b"lr" => 14,
-        b"pc" => 15,
-    )
-}
+/// The registers by their names, in lower case.
+const REGISTERS: &[(&[u8], u8)] = &[
+    (b"r0", 0),
+    (b"r1", 1),
+    (b"r2", 2),
+    (b"r3", 3),
+    (b"r4", 4),
+    (b"r5", 5),
+    (b"r6", 6),
+    (b"r7", 7),
+    (b"r8", 8),
+    (b"r9", 9),
+    (b"r10", 10),
+    (b"r11", 11),
+    (b"r12", 12),
+    (b"r13", 13),
+    (b"r14", 14),
+    (b"r15", 15),
+    (b"sp", 13),
+    (b"lr", 14),
+    (b"pc", 15),
+];
 
 /// The register of a name, in any case.
-#[tactic(auto, unfolding(crate::specs::Chars::register, crate::specs::Chars::register_names, crate::specs::Chars::entry_at))]
 pub(crate) fn register(word: &[u8]) -> Option<Reg>
     ensures value { option_map (λ r. r.number) result ≡ register word.now }
     ensures bound { IfSome result (λ r. r.number < 16) }
 {
-    let number = match low_register(word) {
-        Some(number) => number,
-        None => high_register(word)?,
-    };
+    let number = lookup(REGISTERS, word)?;
     Some(Reg { number })
 }
