@@ -4,7 +4,7 @@ use thiserror::Error;
 
 /// The 20 bytes that an image begins with, after the letters `HBI1`: how many tasks, interrupts and
 /// regions it has, how many bytes of flash and of RAM, and the bits posted to task 0 at a fault.
-#[derive(Clone, Copy, Debug)]
+#[derive(Clone, Copy)]
 pub struct Header {
     pub tasks: u8,
     pub lines: u8,
@@ -16,7 +16,7 @@ pub struct Header {
 
 /// A task: its priority (0 is the highest), flags (bit 0: started), how many regions it has, a zero
 /// byte, where it begins (bit 0 set) and its first stack pointer.
-#[derive(Clone, Copy, Debug)]
+#[derive(Clone, Copy)]
 pub struct TaskRecord {
     pub priority: u8,
     pub flags: u8,
@@ -27,7 +27,7 @@ pub struct TaskRecord {
 }
 
 /// Bytes that a task may use; rights are a sum of 1 read, 2 write, 4 execute, 8 device.
-#[derive(Clone, Copy, Debug)]
+#[derive(Clone, Copy)]
 pub struct RegionRecord {
     pub base: u32,
     pub size: u32,
@@ -35,7 +35,7 @@ pub struct RegionRecord {
 }
 
 /// An interrupt line, the task that owns it, a zero and the notification bits that it posts.
-#[derive(Clone, Copy, Debug)]
+#[derive(Clone, Copy)]
 pub struct LineRecord {
     pub line: u8,
     pub task: u8,

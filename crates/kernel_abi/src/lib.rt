@@ -246,7 +246,7 @@ impl LeaseEntry {
 }
 
 /// What an interrupt did.
-#[derive(Clone, Copy, Debug, PartialEq, Eq)]
+#[derive(Clone, Copy, PartialEq, Eq)]
 pub enum Handled {
     /// Its line was enabled: the owner was posted.
     Posted,
@@ -257,7 +257,7 @@ pub enum Handled {
 }
 
 /// Why an open call was closed.
-#[derive(Clone, Copy, Debug, PartialEq, Eq)]
+#[derive(Clone, Copy, PartialEq, Eq)]
 pub enum Ending {
     /// By its server's REPLY.
     Reply,
@@ -270,7 +270,7 @@ pub enum Ending {
 }
 
 /// Whose message a task listens for.
-#[derive(Clone, Copy, Debug, PartialEq, Eq)]
+#[derive(Clone, Copy, PartialEq, Eq)]
 pub enum Listened {
     /// Any task's.
     Any,
@@ -281,7 +281,7 @@ pub enum Listened {
 }
 
 /// What a server does with a lease of its client.
-#[derive(Clone, Copy, Debug, PartialEq, Eq)]
+#[derive(Clone, Copy, PartialEq, Eq)]
 pub enum Borrow {
     /// It reads bytes of the lease.
     Read,
@@ -292,7 +292,7 @@ pub enum Borrow {
 }
 
 /// A line of the trace without its turn. The last four are told with `--all` alone.
-#[derive(Clone, Copy, Debug, PartialEq, Eq)]
+#[derive(Clone, Copy, PartialEq, Eq)]
 pub enum Note {
     /// The time rose to this.
     Tick {

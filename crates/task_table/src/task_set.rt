@@ -6,7 +6,7 @@ ghost use Rattle.task_table.specs.Limits.{task_words};
 use crate::limits::TASK_WORDS;
 
 /// Some of the tasks of an application.
-#[derive(Clone, Copy)]
+#[derive(Clone, Copy, PartialEq, Eq)]
 pub struct TaskSet {
     words: [u32; TASK_WORDS],
     ghost all_words: { length words ≡ task_words },
