@@ -1,5 +1,5 @@
 //! Branches, and what goes to any register.
-ghost use Rattle.std.specs.Prelude.{◌≡◌, ◌<◌, ◌/◌, ◌*◌, ℕ, Bool, [], true, false};
+ghost use Rattle.std.specs.Prelude.{◌≡◌, ◌<◌, ◌/◌, ◌*◌, ◌%◌, ◌-◌, ℕ, MatchOption, Bool, [], true, false};
 ghost use Rattle.thumb_exec.specs.Effect.{Next, Acts, operand, sum, place, holds_if, jump, target, word_of, branch_to, link_to, linked, base, changed, apsr, flags_from, put, pc, Effects};
 
 use crate::arith::{get, go_past};
@@ -68,14 +68,26 @@ pub fn target(cpu: &Cpu, offset: i32) -> u32
         .wrapping_add(offset.cast_unsigned())
 }
 
+/// Where a branch to a value goes; none without bit 0.
+#[inline(always)]
+pub fn code_address(value: u32) -> Option<u32>
+    ensures { MatchOption result (value % 2 ≡ 0) (λ to. (value % 2 ≡ 1) × (to ≡ value - 1)) }
+{
+    if value % 2 == 0 {
+        None
+    } else {
+        Some(value - 1)
+    }
+}
+
 /// A branch to a value, which needs bit 0 set.
 pub fn branch_to(cpu: &mut Cpu, value: u32) -> Outcome
     ensures { Effects cpu.old cpu.new result (branch_to cpu.old value) }
 {
-    if value % 2 == 0 {
+    let Some(to) = code_address(value) else {
         return Outcome::Trap(Fault::state(value));
-    }
-    cpu.regs.set(15, value - 1);
+    };
+    cpu.regs.set(15, to);
     Outcome::Next
 }
 
@@ -92,11 +104,11 @@ pub fn link(cpu: &mut Cpu, n: u32)
 pub fn link_to(cpu: &mut Cpu, value: u32) -> Outcome
     ensures { Effects cpu.old cpu.new result (link_to cpu.old value) }
 {
-    if value % 2 == 0 {
+    let Some(to) = code_address(value) else {
         return Outcome::Trap(Fault::state(value));
-    }
+    };
     link(cpu, 2);
-    cpu.regs.set(15, value - 1);
+    cpu.regs.set(15, to);
     Outcome::Next
 }
 

@@ -1,6 +1,6 @@
 //! Loads and stores of several words, all or nothing: each word is tested before the first moves.
 //! A mask has bit k for register k.
-ghost use Rattle.std.specs.Prelude.{◌≡◌, ◌<◌, ◌≤◌, ◌+◌, ◌%◌, ◌^◌, ℕ, Bool, [], ◌∷◌, true, false, if◌then◌else◌, None};
+ghost use Rattle.std.specs.Prelude.{◌≡◌, ◌<◌, ◌≤◌, ◌+◌, ◌/◌, ◌%◌, ◌^◌, ℕ, nat_eq, Bool, [], ◌∷◌, true, false, if◌then◌else◌, None, IfSome, IfNone};
 ghost use Rattle.region_check.specs.declared.Right.{Right as Rights};
 ghost use Rattle.region_check.specs.declared.Right.TheVariants as rights;
 ghost use Rattle.thumb_exec.specs.Effect.{Acts, Stores, transfers, first_refused, stores_of, loaded_all, count, store_all, effect, go_past, put};
@@ -8,6 +8,7 @@ ghost use Rattle.thumb_insn.specs.declared.Insn.TheVariants as insns;
 
 use crate::arith::{get, go_past, set};
 use crate::bus::Bus;
+use crate::control::code_address;
 use crate::cpu::{Cpu, Outcome};
 use kernel_abi::{Access, Fault};
 use region_check::Right;
@@ -112,6 +113,21 @@ fn store_words<B: Bus>(regs: &Regs, bus: &mut B, mask: u16, addr: u32)
     }
 }
 
+/// Stores the registers of a mask to ascending words; or tells the first byte that lacks the right, and stores nothing.
+#[inline(always)]
+fn store_if_allowed<B: Bus>(regs: &Regs, bus: &mut B, mask: u16, addr: u32) -> Option<u32>
+    requires { addr % 4 ≡ 0 }
+    ensures tells { result ≡ first_refused (B.refuses bus.old) rights.Write (transfers mask addr) }
+    ensures nothing { IfSome result (λ at. bus.new ≡ bus.old) }
+    ensures all { IfNone result (Stores B.stored bus.old (stores_of regs.now (transfers mask addr)) bus.new) }
+{
+    let refusal = refused(bus, mask, addr, Right::Write);
+    if refusal.is_none() {
+        store_words(regs, bus, mask, addr);
+    }
+    refusal
+}
+
 /// The mask of a list of low registers and, by its bit, one more.
 pub fn mask_of(list: u8, more: bool, bit: u16) -> u16
     requires { bit ≤ 0x8000 }
@@ -139,12 +155,20 @@ pub fn store_all<B: Bus>(
     if addr % 4 != 0 {
         return Outcome::Trap(Fault::unaligned(addr, true));
     }
-    if let Some(at) = refused(bus, mask, addr, Right::Write) {
+    if let Some(at) = store_if_allowed(&cpu.regs, bus, mask, addr) {
         return Outcome::Trap(Fault::access(at, Access::Store));
     }
-    store_words(&cpu.regs, bus, mask, addr);
     set(cpu, d, value, 2);
     Outcome::Next
+}
+
+/// Whether a mask has a register.
+#[inline(always)]
+fn has(mask: u16, r: Reg) -> bool
+    requires { r.number < 16 }
+    ensures { result ≡ nat_eq (mask / 2 ^ r.number % 2) 1 }
+{
+    (mask >> r.number) % 2 == 1
 }
 
 /// Loads the registers of a mask from a register on, and raises it unless it is loaded.
@@ -162,7 +186,7 @@ pub fn ldm<B: Bus>(cpu: &mut Cpu, bus: &mut B, n: Reg, list: u8) -> Outcome
         return Outcome::Trap(Fault::access(at, Access::Load));
     }
     load_words(&mut cpu.regs, bus, mask, addr);
-    if (mask >> n.number) % 2 == 0 {
+    if !has(mask, n) {
         cpu.regs.set(usize::from(n.number), addr.wrapping_add(4 * count_of(mask)));
     }
     go_past(cpu, 2);
@@ -187,11 +211,11 @@ pub fn pop<B: Bus>(cpu: &mut Cpu, bus: &mut B, list: u8, has_pc: bool) -> Outcom
     let target = cpu.regs.get(15);
     cpu.regs.set(13, addr.wrapping_add(4 * count_of(mask)));
     if has_pc {
-        if target % 2 == 0 {
+        let Some(to) = code_address(target) else {
             *cpu = before;
             return Outcome::Trap(Fault::state(target));
-        }
-        cpu.regs.set(15, target - 1);
+        };
+        cpu.regs.set(15, to);
     } else {
         go_past(cpu, 2);
     }

@@ -1,6 +1,6 @@
 //! One instruction, row by row of the table, in families that each a function executes.
 ghost use Rattle.std.specs.Prelude.{◌≡◌, ◌<◌, ℕ, Bool, [], true, false};
-ghost use Rattle.thumb_exec.specs.Effect.{Acts, Effects, Halts, Next, Refusals, Contents, effect, load_effect, store_effect, store_all, sum_to, put, go_past, shifted};
+ghost use Rattle.thumb_exec.specs.Effect.{Acts, Effects, Halts, Next, Refusals, Contents, effect, load_effect, store_effect, store_all, sum_to, put, go_past, shifted, sum, get};
 ghost use Rattle.thumb_exec.specs.declared.cpu.Outcome.TheVariants as outcome;
 ghost use Rattle.words_core.specs.Words.{awc};
 ghost use Rattle.thumb_exec.specs.Families.{IsSum, IsData, IsAddress, IsBranch, IsJump, IsSystem, IsLoad, IsStore, IsStoreAll, IsRest};
@@ -210,6 +210,15 @@ fn system(cpu: &mut Cpu, insn: Insn)
     }
 }
 
+/// The address that is so far from what a register holds.
+#[inline(always)]
+fn address(cpu: &Cpu, n: Reg, offset: u32) -> u32
+    requires { n.number < 16 }
+    ensures { result ≡ sum (get cpu.now n) offset }
+{
+    get(cpu, n).wrapping_add(offset)
+}
+
 /// How a load of one unit loads, to which register and from where.
 #[tactic(auto, unfolding(crate::specs::Effect::effect))]
 #[inline(always)]
@@ -225,11 +234,11 @@ fn loading(cpu: &Cpu, insn: Insn) -> (Load, Reg, u32)
             (Load::Whole(Size::Word), t, addr)
         }
         Insn::LoadReg { load, t, n, m } => {
-            let addr = get(cpu, n).wrapping_add(get(cpu, m));
+            let addr = address(cpu, n, get(cpu, m));
             (load, t, addr)
         }
         Insn::LoadImm { size, t, n, offset } => {
-            let addr = get(cpu, n).wrapping_add(offset);
+            let addr = address(cpu, n, offset);
             (Load::Whole(size), t, addr)
         }
         Insn::LoadSp { t, offset } => {
@@ -251,11 +260,11 @@ fn storing(cpu: &Cpu, insn: Insn) -> (Size, Reg, u32)
 {
     match insn {
         Insn::StoreReg { size, t, n, m } => {
-            let addr = get(cpu, n).wrapping_add(get(cpu, m));
+            let addr = address(cpu, n, get(cpu, m));
             (size, t, addr)
         }
         Insn::StoreImm { size, t, n, offset } => {
-            let addr = get(cpu, n).wrapping_add(offset);
+            let addr = address(cpu, n, offset);
             (size, t, addr)
         }
         Insn::StoreSp { t, offset } => {

@@ -311,6 +311,13 @@ fn hint(h: u32) -> Line
     }
 }
 
+/// Whether interrupts are enabled, which are written `i`.
+fn of_interrupts(name: Name) -> Line
+    ensures { line_text result ≡ line (name_text name) (codes "i" ∷ []) }
+{
+    Line::One(name, Operand::Interrupts)
+}
+
 fn branch_to(at: u32, offset: i32) -> Operand
     ensures { result ≡ operand.Place (branch_target at offset) }
 {
@@ -396,8 +403,8 @@ fn line_of(insn: Insn, at: u32) -> Line
         Insn::Change { bytes, d, m } => Line::Two(Name::Change(bytes), d, Operand::Register(m)),
         Insn::Push { list, lr } => list_with(Name::Push, list, lr, 14),
         Insn::Pop { list, pc } => list_with(Name::Pop, list, pc, 15),
-        Insn::Cpsie => Line::One(Name::Cpsie, Operand::Interrupts),
-        Insn::Cpsid => Line::One(Name::Cpsid, Operand::Interrupts),
+        Insn::Cpsie => of_interrupts(Name::Cpsie),
+        Insn::Cpsid => of_interrupts(Name::Cpsid),
         Insn::Bkpt { value } => Line::One(Name::Bkpt, Operand::Imm(value)),
         Insn::Hint { value } => hint(value),
         Insn::Stm { n, list } => Line::Raised(Name::Stm, n, list),
