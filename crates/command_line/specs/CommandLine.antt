@@ -143,6 +143,10 @@ shape_of_form form = record (new_shape form.name) { rules = form.rules }
 abbrev pub app_of_form : Form → App
 app_of_form form = record { top = shape_of_form form; subs = [] }
 
+-- `hubris` before its commands are added, of which one is wanted
+abbrev pub bare_app : App
+bare_app = record { top = record (new_shape (codes "hubris")) { subcommand_required = true }; subs = [] }
+
 -- `hubris`, of which one command is wanted
 abbrev pub hubris_app : App
 hubris_app = record {

@@ -3,7 +3,7 @@ ghost use Rattle.std.specs.Prelude.{◌≡◌, IfOk, false, codes};
 ghost use Rattle.clap.specs.Words.{app_of, rule_of};
 ghost use Rattle.clap.specs.declared.builder.command.Command.TheViews.{out-Command as fields_of};
 ghost use Rattle.command_line.specs.Adding.{AddsForm};
-ghost use Rattle.command_line.specs.CommandLine.{hubris_app, most_seed, most_steps, positional_rule, number_parser, number_rule, steps_rule, flag_rule, app_of_form, build_form, run, running_form, run_form, go_form, list_form, sample_form};
+ghost use Rattle.command_line.specs.CommandLine.{bare_app, hubris_app, most_seed, most_steps, positional_rule, number_parser, number_rule, steps_rule, flag_rule, app_of_form, build_form, run, running_form, run_form, go_form, list_form, sample_form};
 
 use clap::builder::ValueParser;
 use clap::{Arg, ArgAction, Command};
@@ -127,12 +127,18 @@ fn with_command<'a>(
     program.subcommand(command?)
 }
 
+// The program before its commands are added, of which one is wanted.
+fn bare_program<'a>(alloc: Global) -> Command<'a>
+    ensures { app_of result ≡ bare_app }
+{
+    Command::new(alloc, "hubris").subcommand_required(true)
+}
+
 /// The program's command line: one command of those above is wanted.
 pub fn hubris_command<'a>(alloc: Global) -> Result<Command<'a>, AllocError>
     ensures shape { IfOk result (λ c. app_of c ≡ hubris_app) }
 {
-    let hubris = Command::new(alloc, "hubris").subcommand_required(true);
-    let hubris = with_command(hubris, build_command(alloc))?;
+    let hubris = with_command(bare_program(alloc), build_command(alloc))?;
     let hubris = with_command(hubris, run_command(alloc))?;
     let hubris = with_command(hubris, go_command(alloc))?;
     let hubris = with_command(hubris, list_command(alloc))?;

@@ -44,18 +44,34 @@ fn region_values(alloc: Global, regions: &[Region]) -> Result<Vec<Value>, AllocE
     Ok(values)
 }
 
+fn regions_of(alloc: Global, image: &Image, i: usize) -> Result<Vec<Value>, AllocError>
+    requires { i < length (picture image.now).tasks }
+    ensures { IfOk result (λ v. map view v.items ≡ map region_data (task_in (picture image.now) i).regions) }
+{
+    let regions = image.regions(alloc, i)?;
+    region_values(alloc, regions.as_slice())
+}
+
+/// 1 for a task that runs at the start, else 0.
+fn start_of(image: &Image, i: usize) -> u8
+    requires { i < length (picture image.now).tasks }
+    ensures { result ≡ bit (task_in (picture image.now) i).started 1 }
+{
+    bit(image.is_started(i), 1)
+}
+
 fn task_value(alloc: Global, image: &Image, i: usize) -> Result<Value, AllocError>
     requires { i < length (picture image.now).tasks }
     ensures { IfOk result (λ v. view v ≡ task_data (task_in (picture image.now) i)) }
 {
-    let own = image.regions(alloc, i)?;
-    let regions = region_values(alloc, own.as_slice())?;
+    let start = start_of(image, i);
+    let regions = regions_of(alloc, image, i)?;
     json!(in alloc; {
         "entry": image.entry(i),
         "priority": image.priority(i),
         "regions": regions,
         "sp": image.sp(i),
-        "start": bit(image.is_started(i), 1)
+        "start": start
     })
 }
 

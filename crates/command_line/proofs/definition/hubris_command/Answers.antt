@@ -1,19 +1,15 @@
-use Rattle.std.proofs.Common.{◌≡◌, ◌∙◌, ap, subst, true}
+use Rattle.std.proofs.Common.{◌≡◌, ◌∙◌, ap, subst}
 use Rattle.std.specs.Prelude.{IfOk}
-use Rattle.clap.specs.Simple.{App, app_of, app_of_fields, on_top, with_subcommand}
+use Rattle.clap.specs.Simple.{App, app_of, with_subcommand}
 use Rattle.command_line.specs.CommandLine.{Form, build_form, run_form, go_form, list_form, sample_form, shape_of_form}
 use Rattle.command_line.proofs.definition.hubris_command.Goals as goal
 
 abbrev with_form : Form → App → App
 with_form form app = with_subcommand app (shape_of_form form)
 
-abbrev wanting_one : App → App
-wanting_one = on_top (λ top. record top { subcommand_required = true })
-
 pub returns : goal.returns
 returns c =
-    let none = ap app_of_fields c.subcommand_required-hubris.ensures ∙ ap wanting_one c.new.ensures.app in
-    let build = c.in_ok-hubris.ensures build_form c.build_command.ensures.shape c.build_command.ensures.local ∙ ap (with_form build_form) none in
+    let build = c.in_ok-hubris.ensures build_form c.build_command.ensures.shape c.build_command.ensures.local ∙ ap (with_form build_form) c.bare_program.ensures in
     let run = c.in_ok-hubris-2.ensures run_form c.run_command.ensures.shape c.run_command.ensures.local ∙ ap (with_form run_form) build in
     let go = c.in_ok-hubris-3.ensures go_form c.go_command.ensures.shape c.go_command.ensures.local ∙ ap (with_form go_form) run in
     let list = c.in_ok-hubris-4.ensures list_form c.list_command.ensures.shape c.list_command.ensures.local ∙ ap (with_form list_form) go in
