@@ -1,6 +1,6 @@
 //! Statements.
 
-ghost use Rattle.std.specs.Prelude.{◌≡◌, ◌++◌, ◌<◌, ◌≤◌, ◌+◌, ◌*◌, ◌/◌, ◌^◌, false, option_map, length, OnOk, IfOk, IfErr, IfSome, MatchOption, nat_abs, pos, ◌-ℤ◌, ◌≤ℤ◌, Result, Ok, Err, None, Some};
+ghost use Rattle.std.specs.Prelude.{◌≡◌, ◌++◌, ◌<◌, ◌≤◌, ◌+◌, ◌*◌, ◌/◌, ◌^◌, false, option_map, length, OnOk, IfOk, IfErr, IfSome, MatchOption, nat_abs, pos, ◌-ℤ◌, ◌≤ℤ◌, if◌then◌else◌, Result, Ok, Err, None, Some};
 ghost use Rattle.thumb_asm.specs.Sizes.{statement_of, shape_size, list_insn, block_insn, extra_of, natural_part, padding, has_bad_count, has_bad_number, has_bad_register, has_bad_list, is_off, is_no_expr, is_no_number, checked};
 ghost use Rattle.thumb_asm.specs.Operands.{signed, expression};
 ghost use Rattle.thumb_asm.specs.Parts.{operand_pieces};
@@ -10,6 +10,7 @@ ghost use Rattle.std.specs.List.{list_any};
 ghost use Rattle.thumb_asm.specs.Meaning.{insn_at};
 ghost use Rattle.thumb_asm.specs.Syntax.{Filled as SpecFilled, Within as SpecWithin, Aimed as SpecAimed, Near as SpecNear};
 ghost use Rattle.thumb_asm.specs.Causes.{shape_cause};
+ghost use Rattle.thumb_asm.specs.declared.Cause.TheVariants.{BadRegister, BadNumber, BadList};
 ghost use Rattle.thumb_asm.specs.Passes.{env_in, Stops};
 ghost use Rattle.thumb_asm.specs.Views.{shape_of, shown, fill, aim, HoldsInsn};
 ghost use Rattle.thumb_asm.specs.Outputs.{Gave, Finds};
@@ -173,6 +174,22 @@ fn extra_of(loads: bool) -> u8
     if loads { 15 } else { 14 }
 }
 
+/// The cause that is told first.
+#[inline(always)]
+fn first_cause(bad_register: bool, bad_number: bool, bad_list: bool) -> Option<Cause>
+    ensures { result ≡ (if bad_register then Some BadRegister else if bad_number then Some BadNumber else if bad_list then Some BadList else None) }
+{
+    if bad_register {
+        Some(Cause::BadRegister)
+    } else if bad_number {
+        Some(Cause::BadNumber)
+    } else if bad_list {
+        Some(Cause::BadList)
+    } else {
+        None
+    }
+}
+
 /// The first cause of a statement's shape.
 #[tactic(auto, unfolding(crate::specs::Sizes::checked))]
 fn checked<'a>(found: Option<Shape<'a>>) -> Result<Option<Shape<'a>>, Cause>
@@ -183,14 +200,15 @@ fn checked<'a>(found: Option<Shape<'a>>) -> Result<Option<Shape<'a>>, Cause>
         None => Err(Cause::BadOperands),
         Some(shape) => if has_bad_count(&shape) {
             Err(Cause::BadOperands)
-        } else if has_bad_register(&shape) {
-            Err(Cause::BadRegister)
-        } else if has_bad_number(&shape) {
-            Err(Cause::BadNumber)
-        } else if has_bad_list(&shape) {
-            Err(Cause::BadList)
         } else {
-            Ok(Some(shape))
+            match first_cause(
+                has_bad_register(&shape),
+                has_bad_number(&shape),
+                has_bad_list(&shape),
+            ) {
+                Some(cause) => Err(cause),
+                None => Ok(Some(shape)),
+            }
         },
     }
 }
@@ -365,6 +383,16 @@ fn within(
     }
 }
 
+/// How far a target lies from the address plus 4.
+#[inline(always)]
+fn distance(at: u32, target: i64) -> i64
+    requires { nat_abs target < 2 ^ 34 }
+    ensures { result ≡ target -ℤ pos (at + 4) }
+{
+    let from = i64::from(at) + 4;
+    target - from
+}
+
 /// The instruction with the distance of a target, or why there is none.
 #[tactic(auto, unfolding(crate::specs::Meaning::insn_at))]
 fn aimed(at: u32, piece: &[u8], insn: Insn, names: &Names<'_>) -> Result<Insn, Cause>
@@ -372,7 +400,7 @@ fn aimed(at: u32, piece: &[u8], insn: Insn, names: &Names<'_>) -> Result<Insn, C
 {
     match value(piece, names) {
         None => Err(Cause::UnknownSymbol),
-        Some(target) => with_distance(insn, target - (i64::from(at) + 4)),
+        Some(target) => with_distance(insn, distance(at, target)),
     }
 }
 
