@@ -1,9 +1,9 @@
 //! The two passes.
 
-ghost use Rattle.std.specs.Prelude.{ℕ, Option, ◌≡◌, ◌++◌, ◌<◌, ◌≤◌, ◌+◌, ◌^◌, ◌-◌, [], option_map, length, OnOk, IfOk, IfErr, IfSome, None, Some, true, false, vec_len, is_some, ◌||◌};
+ghost use Rattle.std.specs.Prelude.{ℕ, Option, ◌≡◌, ◌++◌, ◌<◌, ◌≤◌, ◌+◌, ◌^◌, ◌-◌, [], option_map, length, OnOk, IfOk, IfErr, IfSome, None, Some, true, false, vec_len};
 ghost use Rattle.std.specs.BTreeMap.{get_by_text};
 ghost use Rattle.text_lines.specs.Text.{lines_of};
-ghost use Rattle.thumb_asm.specs.Chars.{is_name, register};
+ghost use Rattle.thumb_asm.specs.Chars.{is_name};
 ghost use Rattle.thumb_asm.specs.Parts.{parts};
 ghost use Rattle.thumb_asm.specs.Sizes.{statement_of};
 ghost use Rattle.thumb_asm.specs.Meaning.{env_of, own_label, Lays};
@@ -37,14 +37,6 @@ struct Survey {
     size: u32,
 }
 
-/// Whether a register or a symbol has the name.
-fn is_taken(symbols: &BTreeMap<String, u32>, name: &[u8]) -> bool
-    requires { is_name name.now ≡ true }
-    ensures { result ≡ (is_some (register name.now) || is_some (get_by_text symbols.now name.now)) }
-{
-    register(name).is_some() || find(symbols, name).is_some()
-}
-
 /// Why a label is refused.
 fn check_label(label: Option<&[u8]>, names: &Names<'_>) -> Option<Cause>
     ensures { result ≡ label_cause (get_by_text names.now.symbols.now) (get_by_text names.now.labels.now) (option_map (λ r. r.now) label.entry) }
@@ -54,7 +46,7 @@ fn check_label(label: Option<&[u8]>, names: &Names<'_>) -> Option<Cause>
         Some(name) => {
             if !is_name(name) {
                 Some(Cause::BadLabel)
-            } else if is_taken(names.symbols, name) {
+            } else if register(name).is_some() || find(names.symbols, name).is_some() {
                 Some(Cause::NameClash)
             } else if find(names.labels, name).is_some() {
                 Some(Cause::LabelTwice)

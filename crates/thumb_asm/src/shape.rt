@@ -1,6 +1,6 @@
 //! Statements.
 
-ghost use Rattle.std.specs.Prelude.{◌≡◌, ◌++◌, ◌<◌, ◌≤◌, ◌+◌, ◌*◌, ◌/◌, ◌^◌, false, option_map, length, OnOk, IfOk, IfErr, IfSome, MatchOption, nat_abs, pos, ◌-ℤ◌, ◌≤ℤ◌, Result, Ok, Err, None, Some, if◌then◌else◌};
+ghost use Rattle.std.specs.Prelude.{◌≡◌, ◌++◌, ◌<◌, ◌≤◌, ◌+◌, ◌*◌, ◌/◌, ◌^◌, false, option_map, length, OnOk, IfOk, IfErr, IfSome, MatchOption, nat_abs, pos, ◌-ℤ◌, ◌≤ℤ◌, if◌then◌else◌, Result, Ok, Err, None, Some};
 ghost use Rattle.thumb_asm.specs.Sizes.{statement_of, shape_size, list_insn, block_insn, extra_of, natural_part, padding, has_bad_count, has_bad_number, has_bad_register, has_bad_list, is_off, is_no_expr, is_no_number, checked};
 ghost use Rattle.thumb_asm.specs.Operands.{signed, expression};
 ghost use Rattle.thumb_asm.specs.Parts.{operand_pieces};
@@ -10,7 +10,7 @@ ghost use Rattle.std.specs.List.{list_any};
 ghost use Rattle.thumb_asm.specs.Meaning.{insn_at};
 ghost use Rattle.thumb_asm.specs.Syntax.{Filled as SpecFilled, Within as SpecWithin, Aimed as SpecAimed, Near as SpecNear};
 ghost use Rattle.thumb_asm.specs.Causes.{shape_cause};
-ghost use Rattle.thumb_asm.specs.declared.Cause.TheVariants as cause;
+ghost use Rattle.thumb_asm.specs.declared.Cause.TheVariants.{BadRegister, BadNumber, BadList};
 ghost use Rattle.thumb_asm.specs.Passes.{env_in, Stops};
 ghost use Rattle.thumb_asm.specs.Views.{shape_of, shown, fill, aim, HoldsInsn};
 ghost use Rattle.thumb_asm.specs.Outputs.{Gave, Finds};
@@ -174,15 +174,16 @@ fn extra_of(loads: bool) -> u8
     if loads { 15 } else { 14 }
 }
 
-/// The first of a register, a number and a list that is refused.
-fn bad_part(shape: &Shape<'_>) -> Option<Cause>
-    ensures { result ≡ (if has_bad_register (shape_of shape.now) then Some cause.BadRegister else if has_bad_number (shape_of shape.now) then Some cause.BadNumber else if has_bad_list (shape_of shape.now) then Some cause.BadList else None) }
+/// The cause that is told first.
+#[inline(always)]
+fn first_cause(bad_register: bool, bad_number: bool, bad_list: bool) -> Option<Cause>
+    ensures { result ≡ (if bad_register then Some BadRegister else if bad_number then Some BadNumber else if bad_list then Some BadList else None) }
 {
-    if has_bad_register(shape) {
+    if bad_register {
         Some(Cause::BadRegister)
-    } else if has_bad_number(shape) {
+    } else if bad_number {
         Some(Cause::BadNumber)
-    } else if has_bad_list(shape) {
+    } else if bad_list {
         Some(Cause::BadList)
     } else {
         None
@@ -200,7 +201,11 @@ fn checked<'a>(found: Option<Shape<'a>>) -> Result<Option<Shape<'a>>, Cause>
         Some(shape) => if has_bad_count(&shape) {
             Err(Cause::BadOperands)
         } else {
-            match bad_part(&shape) {
+            match first_cause(
+                has_bad_register(&shape),
+                has_bad_number(&shape),
+                has_bad_list(&shape),
+            ) {
                 Some(cause) => Err(cause),
                 None => Ok(Some(shape)),
             }
@@ -379,11 +384,13 @@ fn within(
 }
 
 /// How far a target lies from the address plus 4.
+#[inline(always)]
 fn distance(at: u32, target: i64) -> i64
     requires { nat_abs target < 2 ^ 34 }
     ensures { result ≡ target -ℤ pos (at + 4) }
 {
-    target - i64::from(at) - 4
+    let from = i64::from(at) + 4;
+    target - from
 }
 
 /// The instruction with the distance of a target, or why there is none.

@@ -1,11 +1,10 @@
 //! Three operands.
 
-ghost use Rattle.std.specs.Prelude.{◌≡◌, ◌∷◌, [], option_map, Some};
+ghost use Rattle.std.specs.Prelude.{◌≡◌, ◌∷◌, [], option_map};
 ghost use Rattle.thumb_asm.specs.Syntax.{shaped, top_shift};
 ghost use Rattle.thumb_asm.specs.Operands.{Register, Immediate};
 ghost use Rattle.thumb_asm.specs.Kinds.{operand_of, IsPlain};
 ghost use Rattle.thumb_asm.specs.Views.{shape_of};
-ghost use Rattle.thumb_asm.specs.declared.Mnemonic.TheVariants as mnemonics;
 
 use super::at_sp;
 use crate::Mnemonic;
@@ -56,18 +55,11 @@ fn top_shift(shift: Shift) -> u32
 }
 
 #[tactic(auto, unfolding(crate::specs::Syntax::shaped, crate::specs::Syntax::expressions))]
-fn added(d: Reg, n: Reg, e: &[u8]) -> Shape<'_>
-    ensures { Some (shape_of result) ≡ shaped mnemonics.Adds (Register d ∷ Register n ∷ Immediate e.now ∷ []) }
-{
-    Shape::Filled(e, Insn::AddsImm3 { d, n, value: 0 })
-}
-
-#[tactic(auto, unfolding(crate::specs::Syntax::shaped, crate::specs::Syntax::expressions))]
 fn immediate(mnemonic: Mnemonic, d: Reg, n: Reg, e: &[u8]) -> Option<Shape<'_>>
     ensures { option_map shape_of result ≡ shaped mnemonic (Register d ∷ Register n ∷ Immediate e.now ∷ []) }
 {
     let shape = match mnemonic {
-        Mnemonic::Adds => added(d, n, e),
+        Mnemonic::Adds => Shape::Filled(e, Insn::AddsImm3 { d, n, value: 0 }),
         Mnemonic::Subs => Shape::Filled(e, Insn::SubsImm3 { d, n, value: 0 }),
         Mnemonic::Add => at_sp(n, Shape::Filled(e, Insn::AddSp { d, offset: 0 })),
         Mnemonic::Rsbs => Shape::Within(
