@@ -11,6 +11,9 @@ returns-in-Brief-clause-advanced c = λ x s st.
     let n : ℕ = turns_of b - turns_of c.args.self.now - 1 in
     subst (λ (l : Level). IsAdvanced l x n s b) (sym c.in-Brief.is) (c.go_on.ensures.advanced x s st)
 
+pub returns-in-Brief-clause-far : goal.returns-in-Brief-clause-far
+returns-in-Brief-clause-far c = λ brief. c.go_on.ensures.far
+
 pub returns-in-All-clause-advanced : goal.returns-in-All-clause-advanced
 returns-in-All-clause-advanced c = λ x s st.
     let b = c.turn_at.new.self in
