@@ -12,7 +12,7 @@ use Rattle.board_core.specs.declared.machine.Machine.{Machine}
 use Rattle.board_model.specs.declared.outcomes.Level.{Level}
 use Rattle.board_core.specs.Machine.{IsReady}
 use Rattle.board_model.specs.Turn.{refusals, stepped}
-use Rattle.window_laws.proofs.Fetching.{carried, stepped_carried, even_near}
+use Rattle.board_core.proofs.WindowFetches.{carried, stepped_carried, even_near}
 use Rattle.board_core.proofs.Gliding.{current_seen}
 use Rattle.board_core.proofs.Loading.{rest_of}
 

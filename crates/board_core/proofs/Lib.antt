@@ -1,3 +1,6 @@
+pub mod WindowFetches
+pub mod WindowCovers
+pub mod WindowTurns
 pub mod Running
 pub mod Opens
 pub mod Spanning

@@ -5,7 +5,7 @@ use Rattle.region_check.specs.declared.Region.{Region}
 use Rattle.region_check.specs.declared.Right.{Right}
 use Rattle.region_check.specs.Rights.{has_right, is_inside, gives, may_use}
 use Rattle.region_check.proofs.FirstBad.{find_range_none}
-use Rattle.window_laws.specs.Reached.{spans}
+use Rattle.board_core.specs.Reached.{spans}
 use Rattle.board_core.specs.Spans.{one_gives}
 use Rattle.board_model.specs.Turn.{first_lacking}
 

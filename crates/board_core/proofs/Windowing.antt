@@ -15,7 +15,7 @@ use Rattle.mem_banks.proofs.Windows.{region_length}
 use Rattle.thumb_exec.specs.declared.cpu.Cpu.{Cpu}
 use Rattle.thumb_exec.specs.Effect.{Halts}
 use Rattle.thumb_step.specs.Fetch.{step_effect}
-use Rattle.thumb_window.specs.Windows.{View, refused_by, held_by}
+use Rattle.thumb_step.specs.Windows.{View, refused_by, held_by}
 use Rattle.task_table.specs.State.{Setup, State, Task, Turn}
 use Rattle.task_table.specs.Start.{begun}
 use Rattle.task_table.specs.Reading.{setup_at, task_at, call_of, listen_of, is_ready, chosen, register}
@@ -31,9 +31,9 @@ use Rattle.board_model.specs.Script.{Scenario}
 use Rattle.board_model.specs.Turn.{may}
 use Rattle.board_model.specs.Run.{ending, is_down, state_after}
 use Rattle.board_model.proofs.Outside.{due_later}
-use Rattle.window_laws.specs.Reached.{spans, is_flash_at, is_ram_at, IsStackRegion, AreReached}
-use Rattle.window_laws.specs.Windowed.{IsWindow, IsWholeWindow, IsAtEnd, MustStop, AreTurns, later}
-use Rattle.window_laws.proofs.Going.{are_turns, window_then}
+use Rattle.board_core.specs.Reached.{spans, is_flash_at, is_ram_at, IsStackRegion, AreReached}
+use Rattle.board_core.specs.Windowed.{IsWindow, IsWholeWindow, IsAtEnd, MustStop, AreTurns, later}
+use Rattle.board_core.proofs.WindowTurns.{are_turns, window_then}
 use Rattle.board_core.specs.declared.machine.Machine.{Machine}
 use Rattle.board_core.specs.Machine.{IsReady, IsLoaded, MachineHolds, with_cpu}
 use Rattle.board_core.specs.Gliding.{IsGlided, HasGlided}

@@ -9,7 +9,7 @@ use Rattle.board_model.specs.declared.outcomes.Level.{Level}
 use Rattle.board_model.specs.declared.outcomes.Level.TheVariants.{Brief}
 use Rattle.board_model.specs.Script.{Scenario}
 use Rattle.board_model.specs.Run.{ending, turn_after, state_after}
-use Rattle.window_laws.specs.Windowed.{MustStop}
+use Rattle.board_core.specs.Windowed.{MustStop}
 use Rattle.board_core.specs.Stands.{Stands, notes_of, turns_of}
 
 -- the board stands for the state after n turns and one more, and tells the notes of that one: the n

@@ -5,12 +5,12 @@ use Rattle.std.specs.List.{list_any}
 use Rattle.mem_banks.specs.Memory.{with_bytes}
 use Rattle.thumb_exec.specs.Effect.{Halts}
 use Rattle.thumb_step.specs.Fetch.{step_effect}
-use Rattle.thumb_window.specs.Windows.{View, Glides, refused_by, held_by}
+use Rattle.thumb_step.specs.Windows.{View, Glides, refused_by, held_by}
 use Rattle.task_table.specs.State.{Setup, Turn}
 use Rattle.task_table.specs.Reading.{task_at, setup_at, register}
 use Rattle.board_model.specs.Turn.{cpu_of}
-use Rattle.window_laws.specs.Reached.{is_flash_at}
-use Rattle.window_laws.specs.Windowed.{IsWholeWindow, later}
+use Rattle.board_core.specs.Reached.{is_flash_at}
+use Rattle.board_core.specs.Windowed.{IsWholeWindow, later}
 use Rattle.board_core.specs.declared.glider.Glider.{Glider}
 use Rattle.board_core.specs.declared.machine.Machine.{Machine}
 use Rattle.board_core.specs.Machine.{MachineHolds}

@@ -12,7 +12,7 @@ ghost use Rattle.board_model.specs.Script.{Scenario};
 ghost use Rattle.board_model.specs.Turn.{turn, turned};
 ghost use Rattle.board_model.specs.Run.{state_after};
 ghost use Rattle.board_model.specs.Lifetimes.{IsGroundedTurn};
-ghost use Rattle.two_runs.specs.Agreement.{DependsOnReads};
+ghost use Rattle.board_model.specs.Agreement.{DependsOnReads};
 ghost use Rattle.board_core.specs.Opened.{scenario_of, setup_of};
 ghost use Rattle.board_core.specs.Stands.{Stands, Stood, notes_of, turns_of};
 ghost use Rattle.board_core.specs.Machine.{MachineHolds, MachineStands};

@@ -2,7 +2,7 @@
 ghost use Rattle.std.specs.Prelude.{◌≡◌, ◌≤◌, ◌<◌};
 ghost use Rattle.thumb_exec.specs.Effect.{Halts};
 ghost use Rattle.thumb_step.specs.Fetch.{step_effect};
-ghost use Rattle.thumb_window.specs.Windows.{Glides, IsApart, Keeps, view_of, refused_by, held_by};
+ghost use Rattle.thumb_step.specs.Windows.{Glides, IsApart, Keeps, view_of, refused_by, held_by};
 ghost use Rattle.board_core.specs.Gliding.{HasWorked};
 
 use mem_banks::Borrower;
@@ -10,7 +10,7 @@ use region_check::Region;
 use std::alloc::Global;
 use std::mem::swap;
 use thumb_exec::cpu::Cpu;
-use thumb_window::{Runner, Window};
+use thumb_step::{Runner, Window};
 use words_core::{Flags, Regs};
 
 /// A processor that makes instructions on end while it is lent the bytes of a region of flash and of one of RAM. Between

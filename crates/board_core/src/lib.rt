@@ -9,7 +9,9 @@ mod opening;
 mod reach;
 mod shown;
 mod syscalls;
+mod window_laws;
 
 pub use board::Board;
 pub use board_model::{End, Level, Turned};
 pub use shown::TaskView;
+pub use window_laws::instructions_within_a_window_are_turns;

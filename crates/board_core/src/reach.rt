@@ -4,7 +4,7 @@ ghost use Rattle.std.specs.List.{list_any};
 ghost use Rattle.region_check.specs.Rights.{may_use, has_right};
 ghost use Rattle.region_check.specs.declared.Right.TheVariants.{Execute, Read};
 ghost use Rattle.board_core.specs.Spans.{one_gives};
-ghost use Rattle.window_laws.specs.Reached.{spans, is_flash_at, is_ram_at, IsStackRegion, AreReached};
+ghost use Rattle.board_core.specs.Reached.{spans, is_flash_at, is_ram_at, IsStackRegion, AreReached};
 ghost use Rattle.task_table.specs.Reading.{setup_at};
 ghost use Rattle.mem_banks.specs.Memory.{number_at};
 ghost use Rattle.task_table.specs.Holds.{memory_of, setup_of, current_of};

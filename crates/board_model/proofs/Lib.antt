@@ -16,3 +16,17 @@ pub mod AllNoted
 pub mod ClientServer
 pub mod TwoServers
 pub mod SumOfLease
+pub mod Alike
+pub mod Sight
+pub mod Births
+pub mod AlikeRows
+pub mod AlikeSends
+pub mod AlikeBorrows
+pub mod AlikeOrders
+pub mod AlikeSyscalls
+pub mod Following
+pub mod AlikeTurns
+pub mod SaneReduced
+pub mod Views
+pub mod SameReads
+pub mod AlikeRuns

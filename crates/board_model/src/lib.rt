@@ -3,6 +3,7 @@
 
 mod laws;
 mod outcomes;
+mod two_runs;
 
 pub use laws::{
     faults_change_nothing_else, faults_of_instructions_are_known, stores_change_memory_alone,
@@ -11,3 +12,7 @@ pub use laws::{
     who_is_chosen_is_ready,
 };
 pub use outcomes::{End, Level, Turned};
+pub use two_runs::{
+    a_turn_depends_on_what_it_reads, generations_decide, instructions_are_noted_beside,
+    what_is_noted_decides_nothing,
+};

@@ -1,1 +1,3 @@
 pub mod Fetch
+pub mod Windows
+pub mod Did

@@ -3,6 +3,9 @@
 #![tactic(auto)]
 
 pub mod laws;
+mod window;
+
+pub use window::{Runner, Window};
 
 ghost use Rattle.std.specs.Prelude.{◌≡◌, ◌≤◌, ◌%◌, IfOk, IfErr};
 ghost use Rattle.words_core.specs.Regs.{reg_at, program_counter};

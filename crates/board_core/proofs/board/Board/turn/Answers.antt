@@ -1,6 +1,6 @@
 use Rattle.board_model.specs.declared.outcomes.Level.TheVariants.{All}
 use Rattle.board_model.proofs.Lifetimes.{grounded-turn}
-use Rattle.two_runs.proofs.SameReads.{same_turn}
+use Rattle.board_model.proofs.SameReads.{same_turn}
 use Rattle.board_core.proofs.board.Board.turn.Goals as goal
 
 pub returns-clause-grounds : goal.returns-clause-grounds

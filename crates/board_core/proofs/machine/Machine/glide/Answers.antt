@@ -5,13 +5,13 @@ use Rattle.std.specs.List.{list_any}
 use Rattle.mem_banks.specs.Memory.{Memory, with_bytes}
 use Rattle.mem_banks.specs.Loans.{bytes_of}
 use Rattle.thumb_exec.specs.declared.cpu.Cpu.{Cpu}
-use Rattle.thumb_window.specs.Windows.{View, Glides}
+use Rattle.thumb_step.specs.Windows.{View, Glides}
 use Rattle.task_table.specs.State.{Setup}
 use Rattle.task_table.specs.Reading.{setup_at, task_at, register}
 use Rattle.task_table.specs.Holds.{current_of, memory_of}
 use Rattle.board_model.specs.Turn.{cpu_of}
-use Rattle.window_laws.specs.Reached.{is_flash_at, AreReached}
-use Rattle.window_laws.specs.Windowed.{IsWholeWindow, later}
+use Rattle.board_core.specs.Reached.{is_flash_at, AreReached}
+use Rattle.board_core.specs.Windowed.{IsWholeWindow, later}
 use Rattle.board_core.specs.Machine.{IsLoaded}
 use Rattle.board_core.specs.Gliding.{lent_view}
 use Rattle.board_core.proofs.Loading.{rest_of, loaded_cpu, loaded_by, loaded_register}

@@ -3,7 +3,7 @@ use Rattle.std.specs.List.{list_any}
 use Rattle.region_check.specs.declared.Region.{Region}
 use Rattle.task_table.specs.Reading.{setup_at}
 use Rattle.task_table.specs.Holds.{setup_of}
-use Rattle.window_laws.specs.Reached.{is_flash_at, AreReached}
+use Rattle.board_core.specs.Reached.{is_flash_at, AreReached}
 use Rattle.board_core.proofs.reach.Reach.window.Goals as goal
 
 pub returns : goal.returns

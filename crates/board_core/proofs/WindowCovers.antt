@@ -1,0 +1,78 @@
+-- What a window gives, the task's regions give too, and where it may be read it holds what memory holds.
+use Rattle.std.proofs.Common.{◌≡◌, ◌+◌, ◌-◌, ◌≤◌, ◌<◌, ℕ, Bool, true, false, not, ◌&&◌, ◌||◌, List, length, take, drop, Some, None, refl, sym, ◌∙◌, ap, arith, leb, inl, inr, ◌⊎◌}
+use Rattle.std.proofs.lemmas.Bool.{leb-true, false≢true}
+use Rattle.region_check.specs.declared.Right.{Right}
+use Rattle.region_check.specs.declared.Right.TheVariants.{Read, Write, Execute}
+use Rattle.region_check.proofs.FirstBad.{find_range_none}
+use Rattle.mem_banks.specs.Memory.{Memory, number_of, number_at}
+use Rattle.thumb_step.specs.Fetch.{WidensFetch}
+use Rattle.thumb_step.specs.Windows.{View, has, given, number_in, refused_by, held_by}
+use Rattle.task_table.specs.State.{Setup}
+use Rattle.board_model.specs.Turn.{may, refusals}
+use Rattle.board_core.specs.Windowed.{IsWindow}
+use Rattle.mem_banks.proofs.Windows.{number_inside}
+
+no_some : {A P : Type 0} {a : A} → Some a ≡ None → P
+no_some e = cc
+
+pub all_there : (b : Bool) (a : ℕ) → given b a ≡ None → b ≡ true
+all_there true a e = refl
+all_there false a e = no_some e
+
+both : (a b : Bool) → (a && b) ≡ true → (a ≡ true) × (b ≡ true)
+both true b h = (refl, h)
+both false b h = absurd (false≢true h)
+
+either : (a b : Bool) → (a || b) ≡ true → (a ≡ true) ⊎ ((a ≡ false) × (b ≡ true))
+either true b h = inl refl
+either false b h = inr (refl, h)
+
+pub inside : (base : ℕ) (bytes : List ℕ) (a n : ℕ) → has base bytes a n ≡ true → (base ≤ a) × (a + n ≤ base + length bytes)
+inside base bytes a n h =
+    let two = both (leb base a) (leb (a + n) (base + length bytes)) h in
+    (leb-true base a two.0, leb-true (a + n) (base + length bytes) two.1)
+
+module _ (g : Setup) (c : ℕ) (m : Memory) (v : View) (w : IsWindow g c m v) where
+  -- each byte of a range of the flash, or of the data
+  each : (r : Right) (base : ℕ) (bytes : List ℕ) (a n : ℕ) → ((b : ℕ) → base ≤ b → b < base + length bytes → may g c r b ≡ true) → has base bytes a n ≡ true → refusals g c a n r ≡ None
+  each r base bytes a n f h =
+      let i = inside base bytes a n h in
+      find_range_none (λ b. not (may g c r b)) a n (λ b from below. ap not (f b (omega (arith, i.0, from)) (omega (arith, i.1, below))))
+
+  granted : (a n : ℕ) (r : Right) → refused_by v a n r ≡ None → refusals g c a n r ≡ None
+  granted a n Execute e = each Execute v.flash_base v.flash a n w.executed (all_there _ a e)
+  granted a n Write e = each Write v.ram_base v.ram a n w.written (all_there _ a e)
+  granted a n Read e = by (either (has v.ram_base v.ram a n) (v.readable && has v.flash_base v.flash a n) (all_there _ a e))
+    where
+      by : (has v.ram_base v.ram a n ≡ true) ⊎ ((has v.ram_base v.ram a n ≡ false) × ((v.readable && has v.flash_base v.flash a n) ≡ true)) → refusals g c a n Read ≡ None
+      by (inl h) = each Read v.ram_base v.ram a n w.read h
+      by (inr h) = let two = both v.readable (has v.flash_base v.flash a n) h.1 in each Read v.flash_base v.flash a n (w.legible two.0) two.1
+
+  ram_here : (a n : ℕ) → has v.ram_base v.ram a n ≡ true → number_in v.ram_base v.ram a n ≡ number_at m a n
+  ram_here a n h =
+      let i = inside v.ram_base v.ram a n h in
+      ap (λ (xs : List ℕ). number_of (take n (drop (a - v.ram_base) xs))) (sym w.ram)
+      ∙ number_inside m v.ram_base (length v.ram) a n (inl w.in_ram) i.0 i.1
+
+  flash_here : (a n : ℕ) → has v.flash_base v.flash a n ≡ true → number_in v.flash_base v.flash a n ≡ number_at m a n
+  flash_here a n h =
+      let i = inside v.flash_base v.flash a n h in
+      ap (λ (xs : List ℕ). number_of (take n (drop (a - v.flash_base) xs))) (sym w.flash)
+      ∙ number_inside m v.flash_base (length v.flash) a n (inr w.in_flash) i.0 i.1
+
+  held_in : (b : Bool) (a n : ℕ) → has v.ram_base v.ram a n ≡ b → (b ≡ false → number_in v.flash_base v.flash a n ≡ number_at m a n) → held_by v a n ≡ number_at m a n
+  held_in true a n e f = rw e (ram_here a n e)
+  held_in false a n e f = rw e (f refl)
+
+  same : (a n : ℕ) → refused_by v a n Read ≡ None → held_by v a n ≡ number_at m a n
+  same a n e = by (either (has v.ram_base v.ram a n) (v.readable && has v.flash_base v.flash a n) (all_there _ a e))
+    where
+      by : (has v.ram_base v.ram a n ≡ true) ⊎ ((has v.ram_base v.ram a n ≡ false) × ((v.readable && has v.flash_base v.flash a n) ≡ true)) → held_by v a n ≡ number_at m a n
+      by (inl h) = held_in true a n h (λ no. absurd (false≢true (sym no)))
+      by (inr h) = held_in false a n h.0 (λ no. flash_here a n (both v.readable (has v.flash_base v.flash a n) h.1).1)
+
+  flash_same : (a : ℕ) → refused_by v a 2 Execute ≡ None → held_by v a 2 ≡ number_at m a 2
+  flash_same a e = held_in (has v.ram_base v.ram a 2) a 2 refl (λ no. flash_here a 2 (all_there _ a e))
+
+  pub widens : WidensFetch (refused_by v) (refusals g c) (held_by v) (number_at m)
+  widens = record { widens = record { granted = granted; same = same }; fetches = flash_same }

@@ -1,0 +1,345 @@
+-- Instructions on end within a window are turns.
+use Rattle.std.proofs.Common.{◌≡◌, ◌+◌, ◌-◌, ◌≤◌, ◌<◌, ℕ, zero, suc, Bool, true, false, List, [], ◌∷◌, length, Option, Some, None, refl, sym, ◌∙◌, ap, subst, arith, leb, ltb, inl, inr, set, get_or, length-take, length-drop}
+use Rattle.std.specs.Prelude.{fold, Result, Ok, Err}
+use Rattle.std.proofs.lemmas.Bool.{le-leb, ltb-true, ltb-false}
+use Rattle.std.proofs.lemmas.List.{set-set, set-get_or, length-append, same_lists, places}
+use Rattle.kernel_abi.specs.declared.Fault.{Fault}
+use Rattle.region_check.specs.declared.Right.TheVariants.{Execute}
+use Rattle.run_script.specs.Scripts.{events_of}
+use Rattle.mem_banks.specs.Memory.{Memory, number_at, with_bytes, pasted, is_ram}
+use Rattle.mem_banks.proofs.Copies.{length-pasted}
+use Rattle.words_core.specs.Regs.{reg_at}
+use Rattle.thumb_exec.specs.declared.cpu.Cpu.{Cpu}
+use Rattle.thumb_exec.specs.Effect.{Effect, Next, Store}
+use Rattle.thumb_exec.specs.Sizes.{IsSize}
+use Rattle.thumb_step.specs.declared.Fetched.{Fetched}
+use Rattle.thumb_step.specs.Fetch.{fetched, fetched_by, unless_barred, executed as executed_by, step_effect}
+use Rattle.thumb_step.proofs.Widening.{step_wider}
+use Rattle.thumb_step.specs.Windows.{View, has, refused_by, held_by, bytes_of, put as write, GoesOn, Glides, Keeps, AreInside}
+use Rattle.thumb_step.proofs.Gliding.{kept, kept_on}
+use Rattle.task_table.specs.State.{Setup, State, Task, Turn}
+use Rattle.task_table.specs.Reading.{task_at, register, chosen, is_ready, no_task}
+use Rattle.task_table.specs.Effects.{with_task, with_processor, stored}
+use Rattle.task_table.specs.Start.{begun}
+use Rattle.task_table.specs.Sane.{Sane, IsCounted}
+use Rattle.task_table.proofs.Changes.{task_at-with_task}
+use Rattle.board_model.specs.declared.outcomes.Level.TheVariants.{Brief}
+use Rattle.board_model.specs.Script.{Scenario}
+use Rattle.board_model.specs.Turn.{refusals, cpu_of, put, acted, stepped, after_events, with_registers_noted, turn_of, ended, turn}
+use Rattle.board_model.specs.Run.{is_down, turn_after, state_after}
+use Rattle.board_model.proofs.TurnChains.{chosen_is, sane-after}
+use Rattle.board_model.proofs.Stepping.{puts_state}
+use Rattle.board_model.proofs.Outside.{no_event, begun_state}
+use Rattle.board_model.proofs.Quiet.{quiet-turn}
+use Rattle.board_model.proofs.Counts.{counted_turn}
+use Rattle.board_model.proofs.Further.{last_turn}
+use Rattle.board_core.specs.Windowed.{IsWindow, later, AreTurns}
+use Rattle.mem_banks.specs.Loans.{IsInRam}
+use Rattle.mem_banks.proofs.Windows.{written_inside, written_same, region_written, same_ram_length, same_flash_length, bytes_below}
+use Rattle.board_core.proofs.WindowFetches.{carried, stepped_carried, near_flash}
+use Rattle.board_core.proofs.WindowCovers.{inside, all_there, widens}
+
+-- ## the instruction of the turn
+
+not_next : {P : Type 0} (e : Effect) (d : Cpu) (ss : List Store) → e ≡ Next d ss → P → P
+not_next e d ss is p = p
+
+-- what goes on was fetched from the flash
+fetched_from : (v : View) (o : Option ℕ) (c d : Cpu) (ss : List Store) (at : ℕ) (r : Result Fetched Fault) → executed_by (refused_by v) (held_by v) c (unless_barred o at r) ≡ Next d ss → o ≡ None
+fetched_from v None c d ss at r e = refl
+fetched_from v (Some byte) c d ss at r e = absurd cc
+
+-- carried out, it is its effect
+carried_next : (g : Setup) (c : ℕ) (t : Turn) (at : ℕ) (d : Cpu) (ss : List Store) (r : Result Fetched Fault) → executed_by (refusals g c) (number_at t.state.memory) (cpu_of (task_at t.state c)) r ≡ Next d ss → carried Brief g c at r t ≡ acted g c (Next d ss) t
+carried_next g c t at d ss (Ok f) e = ap (λ (x : Effect). acted g c x t) e
+carried_next g c t at d ss (Err fault) e = absurd cc
+
+module _ (g : Setup) (c : ℕ) (t : Turn) (v w : View) (d : Cpu) (window : IsWindow g c t.state.memory v) (on : GoesOn v (cpu_of (task_at t.state c)) w d) where
+  wide : step_effect (refusals g c) (number_at t.state.memory) (cpu_of (task_at t.state c)) ≡ Next d on.stores
+  wide = step_wider (refused_by v) (refusals g c) (held_by v) (number_at t.state.memory) (widens g c t.state.memory v window) (cpu_of (task_at t.state c)) d on.stores on.effect
+
+  place : ℕ
+  place = reg_at (cpu_of (task_at t.state c)).regs 15
+
+  from_flash : (v.flash_base ≤ place) × (place + 2 ≤ v.flash_base + length v.flash)
+  unfolding place
+  from_flash =
+      let at : ℕ = reg_at (cpu_of (task_at t.state c)).regs 15 in
+      inside v.flash_base v.flash at 2 (all_there _ at (fetched_from v (refused_by v at 2 Execute) (cpu_of (task_at t.state c)) d on.stores at (fetched_by (refused_by v) (held_by v) at (held_by v at 2)) on.effect))
+
+  pub stepped_next : stepped Brief g c t ≡ acted g c (Next d on.stores) t
+  unfolding place register
+  stepped_next =
+      let at : ℕ = reg_at (cpu_of (task_at t.state c)).regs 15 in
+      let near = near_flash at (omega (arith, from_flash.1, window.in_flash.2)) in
+      sym (stepped_carried Brief g c t at refl near.0 near.1)
+      ∙ carried_next g c t at d on.stores (fetched (refusals g c) (number_at t.state.memory) at) wide
+
+-- ## its stores
+
+same_size : (v n : ℕ) → IsSize n → length (bytes_of v n) ≡ n
+same_size v n (inl e) = rw e refl
+same_size v n (inr (inl e)) = rw e refl
+same_size v n (inr (inr e)) = rw e refl
+
+-- bytes written over those of the RAM leave the rest
+put_keeps : (v : View) (x : Store) → IsSize x.bytes → has v.ram_base v.ram x.addr x.bytes ≡ true → Keeps v (write v x)
+put_keeps v x small here =
+    let i = inside v.ram_base v.ram x.addr x.bytes here in
+    let size = same_size x.value x.bytes small in
+    record { flash_base = refl; flash = refl; readable = refl; ram_base = refl; size = length-pasted v.ram (x.addr - v.ram_base) (bytes_of x.value x.bytes) (omega (arith, size, i.0, i.1)) }
+
+first_inside : (v : View) (x : Store) (xs : List Store) → AreInside v (x ∷ xs) → IsSize x.bytes × (has v.ram_base v.ram x.addr x.bytes ≡ true)
+first_inside v x xs h = h x (zero, omega arith, refl)
+
+rest_inside : (v w : View) (x : Store) (xs : List Store) → Keeps v w → AreInside v (x ∷ xs) → AreInside w xs
+rest_inside v w x xs k h y (i, lt, same) = let e = h y (suc i, omega arith, same) in (e.0, rw (k.ram_base, k.size) e.1)
+
+stores_keep : (ss : List Store) (v : View) → AreInside v ss → Keeps v (fold write v ss)
+stores_keep [] v h = kept v v refl
+stores_keep (x ∷ xs) v h =
+    let one = first_inside v x xs h in
+    let k = put_keeps v x one.0 one.1 in
+    kept_on v (write v x) _ k (stores_keep xs (write v x) (rest_inside v (write v x) x xs k h))
+
+-- a store in the RAM is noted nowhere, and changes the memory
+put_there : (t : Turn) (x : Store) → is_ram t.state.memory x.addr x.bytes ≡ true → ((put t x).state.memory ≡ with_bytes t.state.memory x.addr (bytes_of x.value x.bytes)) × ((put t x).notes ≡ t.notes)
+unfolding stored
+put_there t x e = rw e (refl, refl)
+
+module _ (m : Memory) where
+  in_ram : (u : Memory) (a n : ℕ) → 0x20000000 ≤ a → a + n ≤ 0x20000000 + length u.ram → is_ram u a n ≡ true
+  in_ram u a n low high = let p : leb 0x20000000 a ≡ true = le-leb _ _ low in let q : leb (a + n) (0x20000000 + length u.ram) ≡ true = le-leb _ _ high in rw (p, q) refl
+
+  stores_put : (ss : List Store) (v : View) (t : Turn) → 0x20000000 ≤ v.ram_base → v.ram_base + length v.ram ≤ 0x20000000 + length m.ram → t.state.memory ≡ with_bytes m v.ram_base v.ram → AreInside v ss →
+      ((fold put t ss).state.memory ≡ with_bytes m v.ram_base (fold write v ss).ram) × ((fold put t ss).notes ≡ t.notes)
+  stores_put [] v t low high is h = (is, refl)
+  stores_put (x ∷ xs) v t low high is h =
+      let u : View = write v x in
+      let one = first_inside v x xs h in
+      let k = put_keeps v x one.0 one.1 in
+      let at : ℕ = x.addr in
+      let bytes : List ℕ = bytes_of x.value x.bytes in
+      let i = inside v.ram_base v.ram at x.bytes one.1 in
+      let size = same_size x.value x.bytes one.0 in
+      let long : length t.state.memory.ram ≡ length m.ram = ap (λ (y : Memory). length y.ram) is ∙ same_ram_length m v.ram_base v.ram (low, high) in
+      let here = put_there t x (in_ram t.state.memory at x.bytes (omega (arith, low, i.0)) (omega (arith, long, high, i.1))) in
+      let again : with_bytes t.state.memory at bytes ≡ with_bytes m v.ram_base (pasted v.ram (at - v.ram_base) bytes) =
+      ap (λ (y : Memory). with_bytes y at bytes) is ∙ written_inside m v.ram_base at v.ram bytes (low, high) i.0 (omega (arith, size, i.1)) in
+      let rest = stores_put xs u (put t x) low (rw k.size high) (here.0 ∙ again) (rest_inside v u x xs k h) in
+      (rest.0, rest.1 ∙ here.1)
+
+-- other bytes over all of a region
+pasted_whole : (xs ys : List ℕ) → length ys ≡ length xs → pasted xs 0 ys ≡ ys
+pasted_whole xs ys e = same_lists _ _ (simp (length-append, length-take, length-drop) (omega (arith, e))) (λ i d u. grind (arith, places, e))
+
+written_again : (m : Memory) (base : ℕ) (xs ys : List ℕ) → IsInRam m (base, length xs) → length ys ≡ length xs → with_bytes (with_bytes m base xs) base ys ≡ with_bytes m base ys
+written_again m base xs ys h e =
+    let at : base - base ≡ 0 = omega arith in
+    written_inside m base base xs ys h (omega arith) (omega (arith, e)) ∙ ap (λ (k : ℕ). with_bytes m base (pasted xs k ys)) at ∙ ap (with_bytes m base) (pasted_whole xs ys e)
+
+-- ## the turn
+
+-- it leaves a window over the memory that it leaves
+window_again : (g : Setup) (c : ℕ) (m : Memory) (v w : View) → IsWindow g c m v → Keeps v w → IsWindow g c (with_bytes m v.ram_base w.ram) w
+window_again g c m v w h same =
+    let fits : v.ram_base + length w.ram ≤ 0x20000000 + length m.ram = rw same.size h.in_ram.1 in
+    let u : Memory = with_bytes m v.ram_base w.ram in
+    let flash : length u.flash ≡ length m.flash = same_flash_length m v.ram_base w.ram h.in_ram.0 in
+    let ram : length u.ram ≡ length m.ram = same_ram_length m v.ram_base w.ram (h.in_ram.0, fits) in
+    record {
+      executed = rw (same.flash_base, same.flash) h.executed;
+      legible = rw (same.flash_base, same.flash, same.readable) h.legible;
+      read = rw (same.ram_base, same.size) h.read;
+      written = rw (same.ram_base, same.size) h.written;
+      in_flash = rw (same.flash_base, same.flash, flash) h.in_flash;
+      in_ram = rw (same.ram_base, same.size, ram) h.in_ram;
+      flash = rw (same.flash_base, same.flash) (bytes_below m v.ram_base v.flash_base (length v.flash) w.ram h.in_ram.0 (omega (arith, h.in_flash.2)) ∙ h.flash);
+      ram = rw same.ram_base (region_written m v.ram_base w.ram (h.in_ram.0, fits));
+    }
+
+-- the turn of a task that goes on within its window
+pub record IsGone (x : Scenario) (s : State) (c : ℕ) (v w : View) (d : Cpu) : Type 0 where
+  pub state : (turn Brief x s).state ≡ later s c d (with_bytes s.memory v.ram_base w.ram) 1
+  pub notes : (turn Brief x s).notes ≡ []
+  pub same : Keeps v w
+
+plain_turn : (x : Scenario) (s : State) (c : ℕ) → chosen x.setup s ≡ Some c → s.current ≡ c → events_of x.script s.turn ≡ [] → turn Brief x s ≡ ended (stepped Brief x.setup c (begun s))
+unfolding turn begun with_registers_noted
+plain_turn x s c is current nothing =
+    let e : after_events x s ≡ begun s = sym (no_event x s nothing) in
+    let P : Turn → Turn = λ t. ended (turn_of Brief x.setup (chosen x.setup t.state) t) in
+    let Q : Option ℕ → Turn = λ o. ended (turn_of Brief x.setup o (begun s)) in
+    let R : ℕ → Turn = λ i. ended (stepped Brief x.setup c record (begun s) { state = record s { current = i } }) in
+    ap P e ∙ ap Q is ∙ ap R (sym current)
+
+acted_state : (g : Setup) (c : ℕ) (s : State) (d : Cpu) (ss : List Store) (m : Memory) → (fold put (begun s) ss).state.memory ≡ m → (ended (acted g c (Next d ss) (begun s))).state ≡ later s c d m 1
+unfolding ended begun with_processor with_task task_at
+acted_state g c s d ss m e =
+    let u : State = (fold put (begun s) ss).state in
+    let same : u ≡ record s { memory = m } = puts_state ss (begun s) ∙ ap (λ (y : Memory). record s { memory = y }) e in
+    ap (λ (y : State). record (with_task c record (task_at y c) { registers = d.regs.words; flags = d.flags } y) { turn = y.turn + 1 }) same
+
+acted_notes : (g : Setup) (c : ℕ) (s : State) (d : Cpu) (ss : List Store) → (fold put (begun s) ss).notes ≡ [] → (ended (acted g c (Next d ss) (begun s))).notes ≡ []
+unfolding ended with_processor
+acted_notes g c s d ss e = e
+
+begun_same : (s : State) → ((begun s).state ≡ s) × ((begun s).notes ≡ [])
+unfolding begun
+begun_same s = (refl, refl)
+
+pub one_turn : (x : Scenario) (s : State) (c : ℕ) (v w : View) (d : Cpu) → chosen x.setup s ≡ Some c → s.current ≡ c → events_of x.script s.turn ≡ [] → IsWindow x.setup c s.memory v → GoesOn v (cpu_of (task_at s c)) w d → IsGone x s c v w d
+unfolding begun
+one_turn x s c v w d is current nothing window on =
+    let g : Setup = x.setup in
+    let whole : turn Brief x s ≡ ended (acted g c (Next d on.stores) (begun s)) = plain_turn x s c is current nothing ∙ ap ended (stepped_next g c (begun s) v w d window on) in
+    let own : s.memory ≡ with_bytes s.memory v.ram_base v.ram = sym (ap (with_bytes s.memory v.ram_base) (sym window.ram) ∙ written_same s.memory v.ram_base (length v.ram) window.in_ram) in
+    let put = stores_put s.memory on.stores v (begun s) window.in_ram.0 window.in_ram.1 own on.inside in
+    record {
+      state = ap (λ (t : Turn). t.state) whole ∙ acted_state g c s d on.stores _ (put.0 ∙ ap (λ (y : View). with_bytes s.memory v.ram_base y.ram) (sym on.after));
+      notes = ap (λ (t : Turn). t.notes) whole ∙ acted_notes g c s d on.stores put.1;
+      same = rw on.after (stores_keep on.stores v on.inside);
+    }
+
+-- ## turns on end
+
+-- of two writes of a processor the later stays
+set_twice : (s : State) (i : ℕ) (x y : Task) → with_task i y (with_task i x s) ≡ with_task i y s
+unfolding with_task
+set_twice s i x y = ap (λ (xs : List Task). record s { tasks = xs }) (set-set s.tasks i x y)
+
+cpu_after : (s : State) (c : ℕ) (cpu : Cpu) (m : Memory) (n : ℕ) → c < length s.tasks → cpu_of (task_at (later s c cpu m n) c) ≡ cpu
+unfolding task_at with_task
+cpu_after s c cpu m n there = ap cpu_of (task_at-with_task s c record (task_at s c) { registers = cpu.regs.words; flags = cpu.flags } there)
+
+again : (s : State) (c : ℕ) (cpu d : Cpu) (m u : Memory) (n : ℕ) → c < length s.tasks → later (later s c cpu m n) c d u 1 ≡ later s c d u (suc n)
+unfolding with_task task_at
+again s c cpu d m u n there =
+    let x : Task = record (task_at s c) { registers = cpu.regs.words; flags = cpu.flags } in
+    let y : Task → Task = λ z. record z { registers = d.regs.words; flags = d.flags } in
+    let at : task_at (with_task c x s) c ≡ x = task_at-with_task s c x there in
+    let e : s.turn + n + 1 ≡ s.turn + suc n = omega arith in
+    ap (λ (z : Task). record (with_task c (y z) (with_task c x s)) { memory = u; turn = s.turn + n + 1 }) at
+    ∙ ap (λ (z : State). record z { memory = u; turn = s.turn + n + 1 }) (set_twice s c x (y x))
+    ∙ ap (λ (k : ℕ). record (with_task c (y x) s) { memory = u; turn = k }) e
+
+unmoved : (s : State) (c : ℕ) → s ≡ later s c (cpu_of (task_at s c)) s.memory 0
+unfolding with_task task_at
+unmoved s c = ap (λ (xs : List Task). record s { tasks = xs }) (sym (set-get_or s.tasks c no_task)) ∙ ap (λ (k : ℕ). record s { turn = k; tasks = set s.tasks c (get_or s.tasks c no_task) }) (omega arith)
+
+-- the state after n of them
+pub record HasGone (x : Scenario) (s : State) (c : ℕ) (v : View) (n : ℕ) (w : View) (d : Cpu) : Type 0 where
+  pub state : state_after Brief x n s ≡ later s c d (with_bytes s.memory v.ram_base w.ram) n
+  pub keeps : Keeps v w
+  pub sane : Sane x.setup (state_after Brief x n s)
+  pub chosen : chosen x.setup (state_after Brief x n s) ≡ Some c
+  pub down : is_down (state_after Brief x n s) ≡ is_down s
+  pub ready : (i : ℕ) → is_ready (state_after Brief x n s) i ≡ is_ready s i
+  pub counted : IsCounted s → IsCounted (state_after Brief x n s)
+
+-- the window that n turns leave, and the processor after them
+pub record IsLeft (x : Scenario) (s : State) (c : ℕ) (v : View) (n : ℕ) (w : View) (d : Cpu) : Type 0 where
+  pub keeps : Keeps v w
+  pub window : IsWindow x.setup c (state_after Brief x n s).memory w
+  pub processor : cpu_of (task_at (state_after Brief x n s) c) ≡ d
+
+module _ (x : Scenario) (s : State) (c : ℕ) (v : View) (sane : Sane x.setup s) (is : chosen x.setup s ≡ Some c) (current : s.current ≡ c) (window : IsWindow x.setup c s.memory v) where
+  there : c < length s.tasks
+  there = (chosen_is s c sane is).inside
+
+  -- one more from where they have come to
+  next_gone : (n : ℕ) (w u : View) (d e : Cpu) → HasGone x s c v n w d → events_of x.script (s.turn + n) ≡ [] → GoesOn w d u e → IsGone x (state_after Brief x n s) c w u e
+  unfolding with_task
+  next_gone n w u d e h nothing on =
+      let m : Memory = with_bytes s.memory v.ram_base w.ram in
+      let P : State → Type 0 = λ y. IsGone x y c w u e in
+      let C : State → Type 0 = λ y. chosen x.setup y ≡ Some c in
+      let over : IsWindow x.setup c m w = window_again x.setup c s.memory v w window h.keeps in
+      let own = cpu_after s c d m n there in
+      subst P (sym h.state) (one_turn x (later s c d m n) c w u e (subst C h.state h.chosen) current nothing over (subst (λ (k : Cpu). GoesOn w k u e) (sym own) on))
+
+  -- a turn that notes nothing leaves the choice
+  chosen_next : (y : State) → Sane x.setup y → chosen x.setup y ≡ Some c → events_of x.script y.turn ≡ [] → (turn Brief x y).notes ≡ [] → (chosen x.setup (turn Brief x y).state ≡ Some c) × (is_down (turn Brief x y).state ≡ is_down y) × ((i : ℕ) → is_ready (turn Brief x y).state i ≡ is_ready y i)
+  chosen_next y sane-y is-y nothing none =
+      let e : begun y ≡ after_events x y = no_event x y nothing in
+      let st : (after_events x y).state ≡ y = ap (λ (t : Turn). t.state) (sym e) ∙ begun_state y in
+      let alike = quiet-turn Brief x y (subst (λ (z : State). Sane x.setup z) (sym st) sane-y) none in
+      (alike.next ∙ ap (chosen x.setup) st ∙ is-y, alike.down ∙ ap is_down st, λ i. alike.ready i ∙ ap (λ (z : State). is_ready z i) st)
+
+  one_further : (n : ℕ) (w u : View) (d e : Cpu) → HasGone x s c v n w d → events_of x.script (s.turn + n) ≡ [] → GoesOn w d u e → HasGone x s c v (suc n) u e
+  unfolding state_after
+  one_further n w u d e h nothing on =
+      let m : Memory = with_bytes s.memory v.ram_base w.ram in
+      let y : State = state_after Brief x n s in
+      let g = next_gone n w u d e h nothing on in
+      let same : (turn_after Brief x n s).state ≡ (turn Brief x y).state = ap (λ (t : Turn). t.state) (last_turn Brief x n s) in
+      let at : y.turn ≡ s.turn + n = ap (λ (z : State). z.turn) h.state in
+      let ch = chosen_next y h.sane h.chosen (ap (events_of x.script) at ∙ nothing) g.notes in
+      let memory : with_bytes y.memory w.ram_base u.ram ≡ with_bytes s.memory v.ram_base u.ram =
+      ap (λ (z : State). with_bytes z.memory w.ram_base u.ram) h.state
+      ∙ ap (λ (b : ℕ). with_bytes m b u.ram) h.keeps.ram_base
+      ∙ written_again s.memory v.ram_base w.ram u.ram (rw h.keeps.size window.in_ram) g.same.size in
+      record {
+        state = same ∙ g.state ∙ ap (λ (z : State). later z c e (with_bytes y.memory w.ram_base u.ram) 1) h.state ∙ again s c d e m (with_bytes y.memory w.ram_base u.ram) n there ∙ ap (λ (z : Memory). later s c e z (suc n)) memory;
+        keeps = kept_on v w u h.keeps g.same;
+        sane = subst (λ (z : State). Sane x.setup z) (sym same) (sane-after Brief x y h.sane);
+        chosen = ap (chosen x.setup) same ∙ ch.0;
+        down = ap is_down same ∙ ch.1 ∙ h.down;
+        ready = λ i. ap (λ (z : State). is_ready z i) same ∙ ch.2 i ∙ h.ready i;
+        counted = λ before. subst (λ (z : State). IsCounted z) (sym same) (counted_turn Brief x y h.sane (rw (ap (events_of x.script) at ∙ nothing) (omega arith)) (h.counted before));
+      }
+
+  gone : (n : ℕ) (w : View) (d : Cpu) → ((k : ℕ) → k < n → events_of x.script (s.turn + k) ≡ []) → Glides v (cpu_of (task_at s c)) n w d → HasGone x s c v n w d
+  unfolding state_after
+  gone zero w d nothing on =
+      let own : s.memory ≡ with_bytes s.memory v.ram_base v.ram = sym (ap (with_bytes s.memory v.ram_base) (sym window.ram) ∙ written_same s.memory v.ram_base (length v.ram) window.in_ram) in
+      rw (on.0, on.1) record {
+        state = unmoved s c ∙ ap (λ (z : Memory). later s c (cpu_of (task_at s c)) z 0) own;
+        keeps = kept v v refl;
+        sane = sane;
+        chosen = is;
+        down = refl;
+        ready = λ i. refl;
+        counted = λ before. before;
+      }
+  gone (suc n) w d nothing on =
+      let before = gone n on.0 on.1 (λ k lt. nothing k (omega (arith, lt))) on.2 in
+      one_further n on.0 w on.1 d before (nothing n (omega arith)) on.3
+
+  -- the front of them
+  front : (n k : ℕ) (w : View) (d : Cpu) → k ≤ n → Glides v (cpu_of (task_at s c)) n w d → (u : View) × (e : Cpu) × Glides v (cpu_of (task_at s c)) k u e
+  front zero zero w d le on = (w, d, on)
+  front zero (suc k) w d le on = absurd (omega (arith, le))
+  front (suc n) k w d le on = by (ltb k (suc n)) refl (λ lt. front n k on.0 on.1 (omega (arith, lt)) on.2)
+    where
+      by : (b : Bool) → ltb k (suc n) ≡ b → (k < suc n → (u : View) × (e : Cpu) × Glides v (cpu_of (task_at s c)) k u e) → (u : View) × (e : Cpu) × Glides v (cpu_of (task_at s c)) k u e
+      by true e before = before (ltb-true k (suc n) e)
+      by false e before = let same : suc n ≡ k = let ge = ltb-false k (suc n) e in omega (arith, ge, le) in subst (λ (j : ℕ). (u : View) × (e : Cpu) × Glides v (cpu_of (task_at s c)) j u e) same (w, d, on)
+
+  pub are_turns : (n : ℕ) (w : View) (d : Cpu) → ((k : ℕ) → k < n → events_of x.script (s.turn + k) ≡ []) → Glides v (cpu_of (task_at s c)) n w d → AreTurns x s c v n w d
+  are_turns n w d nothing on =
+      record {
+        state = (gone n w d nothing on).state;
+        silent = λ k lt. silent_at k lt (front n (suc k) w d (omega (arith, lt)) on);
+        chosen = λ k le. let f = front n k w d le on in (gone k f.0 f.1 (λ j lt. nothing j (omega (arith, lt, le))) f.2).chosen;
+        down = λ k le. let f = front n k w d le on in (gone k f.0 f.1 (λ j lt. nothing j (omega (arith, lt, le))) f.2).down;
+        ready = (gone n w d nothing on).ready;
+        sane = (gone n w d nothing on).sane;
+        counted = (gone n w d nothing on).counted;
+      }
+    where
+      silent_at : (k : ℕ) → k < n → (u : View) × (e : Cpu) × Glides v (cpu_of (task_at s c)) (suc k) u e → (turn_after Brief x k s).notes ≡ []
+      silent_at k lt (u, e, g) =
+          let before = gone k g.0 g.1 (λ j less. nothing j (omega (arith, lt, less))) g.2 in
+          ap (λ (t : Turn). t.notes) (last_turn Brief x k s) ∙ (next_gone k g.0 u g.1 e before (nothing k lt) g.3).notes
+
+  -- the window that they leave, and the processor
+  pub window_then : (n : ℕ) (w : View) (d : Cpu) → ((k : ℕ) → k < n → events_of x.script (s.turn + k) ≡ []) → Glides v (cpu_of (task_at s c)) n w d → IsLeft x s c v n w d
+  unfolding with_task
+  window_then n w d nothing on =
+      let h = gone n w d nothing on in
+      record {
+        keeps = h.keeps;
+        window = subst (λ (y : State). IsWindow x.setup c y.memory w) (sym h.state) (window_again x.setup c s.memory v w window h.keeps);
+        processor = ap (λ (y : State). cpu_of (task_at y c)) h.state ∙ cpu_after s c d (with_bytes s.memory v.ram_base w.ram) n there;
+      }

@@ -1,0 +1,5 @@
+use Rattle.board_core.proofs.WindowTurns.{are_turns}
+use Rattle.board_core.proofs.window_laws.instructions_within_a_window_are_turns.Goals as goal
+
+pub returns : goal.returns
+returns c = λ x s i n v w cpu sane is current window nothing on. are_turns x s i v sane is current window n w cpu nothing on

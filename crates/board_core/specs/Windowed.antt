@@ -1,0 +1,68 @@
+-- Turns of a task whose instructions stay within a window of its flash and its data.
+use Rattle.words_core.specs.Regs.{program_counter}
+use Rattle.std.specs.Prelude.{ℕ, ◌≡◌, ◌⊎◌, false, ◌+◌, ◌<◌, ◌≤◌, true, length, [], Some}
+use Rattle.region_check.specs.declared.Region.{Region}
+use Rattle.region_check.specs.declared.Right.TheVariants.{Read, Write, Execute}
+use Rattle.mem_banks.specs.Memory.{Memory, bytes_at, with_bytes}
+use Rattle.mem_banks.specs.Loans.{IsInFlash, IsInRam}
+use Rattle.thumb_exec.specs.declared.cpu.Cpu.{Cpu}
+use Rattle.std.specs.List.{list_any}
+use Rattle.thumb_exec.specs.Effect.{Halts}
+use Rattle.thumb_step.specs.Fetch.{step_effect}
+use Rattle.thumb_step.specs.Windows.{View, refused_by, held_by}
+use Rattle.board_core.specs.Reached.{is_flash_at, AreReached}
+use Rattle.task_table.specs.State.{Setup, State}
+use Rattle.task_table.specs.Reading.{task_at, setup_at, register, chosen, is_ready}
+use Rattle.task_table.specs.Sane.{Sane, IsCounted}
+use Rattle.task_table.specs.Effects.{with_task}
+use Rattle.board_model.specs.declared.outcomes.Level.TheVariants.{Brief}
+use Rattle.board_model.specs.Script.{Scenario}
+use Rattle.board_model.specs.Turn.{may, cpu_of}
+use Rattle.board_model.specs.Run.{is_down, turn_after, state_after}
+
+-- a window of a task: its flash stands in the flash and its data in the RAM, as memory has them, and the task may use
+-- each byte so
+pub record IsWindow (g : Setup) (c : ℕ) (m : Memory) (v : View) : Type 0 where
+  pub executed : (a : ℕ) → v.flash_base ≤ a → a < v.flash_base + length v.flash → may g c Execute a ≡ true
+  pub legible : v.readable ≡ true → (a : ℕ) → v.flash_base ≤ a → a < v.flash_base + length v.flash → may g c Read a ≡ true
+  pub read : (a : ℕ) → v.ram_base ≤ a → a < v.ram_base + length v.ram → may g c Read a ≡ true
+  pub written : (a : ℕ) → v.ram_base ≤ a → a < v.ram_base + length v.ram → may g c Write a ≡ true
+  pub in_flash : IsInFlash m (v.flash_base, length v.flash)
+  pub in_ram : IsInRam m (v.ram_base, length v.ram)
+  pub flash : bytes_at m v.flash_base (length v.flash) ≡ v.flash
+  pub ram : bytes_at m v.ram_base (length v.ram) ≡ v.ram
+
+-- a window of a task that has all of the region of the flash that has PC, and of that of the RAM that has SP
+pub record IsWholeWindow (g : Setup) (c : ℕ) (m : Memory) (pc sp : ℕ) (v : View) : Type 0 where
+  pub is : IsWindow g c m v
+  pub code : Region
+  pub stack : Region
+  pub reached : AreReached (setup_at g c).regions pc sp code stack
+  pub flash : (v.flash_base ≡ code.base) × (length v.flash ≡ code.size)
+  pub readable : v.readable ≡ code.rights.read
+  pub ram : (v.ram_base ≡ stack.base) × (length v.ram ≡ stack.size)
+
+-- the next instruction of a task is a system call, faults or reaches beyond a window, of which PC and SP were these when it was opened
+pub record IsAtEnd (g : Setup) (c pc sp : ℕ) (s : State) : Type 0 where
+  pub window : View
+  pub whole : IsWholeWindow g c s.memory pc sp window
+  pub halts : Halts (step_effect (refused_by window) (held_by window) (cpu_of (task_at s c)))
+
+-- that, or the task fetches from no region of the flash
+abbrev pub MustStop : Setup → ℕ → ℕ → ℕ → State → Type 0
+MustStop g c pc sp s = IsAtEnd g c pc sp s ⊎ (list_any (is_flash_at (register s c program_counter)) (setup_at g c).regions ≡ false)
+
+-- n turns later, in which a task's processor and the memory alone changed
+abbrev pub later : State → ℕ → Cpu → Memory → ℕ → State
+later s c cpu m n =
+    record (with_task c record (task_at s c) { registers = cpu.regs.words; flags = cpu.flags } s) { memory = m; turn = s.turn + n }
+
+-- n turns on end of a task are its instructions within a window, of which none is noted
+pub record AreTurns (x : Scenario) (s : State) (c : ℕ) (v : View) (n : ℕ) (v' : View) (cpu : Cpu) : Type 0 where
+  pub state : state_after Brief x n s ≡ later s c cpu (with_bytes s.memory v.ram_base v'.ram) n
+  pub silent : (k : ℕ) → k < n → (turn_after Brief x k s).notes ≡ []
+  pub chosen : (k : ℕ) → k ≤ n → chosen x.setup (state_after Brief x k s) ≡ Some c
+  pub down : (k : ℕ) → k ≤ n → is_down (state_after Brief x k s) ≡ is_down s
+  pub ready : (i : ℕ) → is_ready (state_after Brief x n s) i ≡ is_ready s i
+  pub sane : Sane x.setup (state_after Brief x n s)
+  pub counted : IsCounted s → IsCounted (state_after Brief x n s)

@@ -1,0 +1,141 @@
+-- An instruction of the flash, and what comes of it.
+use Rattle.std.proofs.Common.{◌≡◌, ◌≤◌, ◌+◌, ◌*◌, ◌^◌, ℕ, zero, suc, Bool, true, false, ◌&&◌, List, [], ◌∷◌, length, Some, None, fold, refl, sym, ◌∙◌, ap, arith}
+use Rattle.std.specs.Prelude.{nat_le}
+use Rattle.std.proofs.lemmas.Bool.{leb-true, false≢true}
+use Rattle.region_check.specs.declared.Right.TheVariants.{Execute}
+use Rattle.thumb_insn.specs.declared.Decoded.{Decoded}
+use Rattle.thumb_insn.specs.declared.Decoded.TheVariants.{Narrow, Wide, Illegal, NeedsSecond}
+use Rattle.thumb_insn.specs.Table.{narrow_of, narrow_result, decoded_of, is_wide}
+use Rattle.thumb_exec.specs.declared.cpu.Cpu.{Cpu}
+use Rattle.thumb_exec.specs.declared.cpu.Outcome.TheVariants as outcome
+use Rattle.thumb_exec.specs.Effect.{Effect, Next, Syscall, Trap, Store, Stores, Acts, Halts, Refusals, Contents}
+use Rattle.thumb_step.specs.Fetch.{instruction, after, executed, step_effect}
+use Rattle.words_core.specs.Regs.{reg_at}
+use Rattle.thumb_step.specs.declared.window.Window.{Window}
+use Rattle.thumb_step.specs.declared.window.Runner.{Runner}
+use Rattle.thumb_step.specs.Windows.{View, AreInside, has, number_in, given, refused_by, held_by, put, IsFetched, view_of, GoesOn, Keeps}
+use Rattle.thumb_step.specs.Did.{IsStored, Did}
+
+-- ## Stores
+
+pub kept : (v v' : View) → v' ≡ v → Keeps v v'
+kept v v' e = rw e record { flash_base = refl; flash = refl; readable = refl; ram_base = refl; size = refl }
+
+pub kept_on : (u v w : View) → Keeps u v → Keeps v w → Keeps u w
+kept_on u v w a b = record {
+  flash_base = b.flash_base ∙ a.flash_base;
+  flash = b.flash ∙ a.flash;
+  readable = b.readable ∙ a.readable;
+  ram_base = b.ram_base ∙ a.ram_base;
+  size = b.size ∙ a.size;
+}
+
+stores_put : (ss : List Store) (w w' : Window) → Stores IsStored w ss w' → view_of w' ≡ fold put (view_of w) ss
+stores_put [] w w' e = ap view_of e
+stores_put (s ∷ ss) w w' e = stores_put ss e.0 w' e.2 ∙ ap (λ (v : View). fold put v ss) e.1.after
+
+stores_keep : (ss : List Store) (w w' : Window) → Stores IsStored w ss w' → Keeps (view_of w) (view_of w')
+stores_keep [] w w' e = kept (view_of w) (view_of w') (ap view_of e)
+stores_keep (s ∷ ss) w w' e = kept_on (view_of w) (view_of e.0) (view_of w') e.1.keeps (stores_keep ss e.0 w' e.2)
+
+stores_inside : (ss : List Store) (w w' : Window) → Stores IsStored w ss w' → AreInside (view_of w) ss
+stores_inside [] w w' e x (i, lt, same) = absurd (omega (arith, lt))
+stores_inside (s ∷ ss) w w' e x (zero, lt, same) = let is : s ≡ x = same in rw (← is) (e.1.size, e.1.inside)
+stores_inside (s ∷ ss) w w' e x (suc i, lt, same) =
+    let k = e.1.keeps in
+    let h = stores_inside ss e.0 w' e.2 x (i, omega arith, same) in
+    (h.0, rw (← k.ram_base, ← k.size) h.1)
+
+-- what an effect that goes on leaves
+pub record Went (c' : Cpu) (w w' : Window) (e : Effect) : Type 0 where
+  pub stores : List Store
+  pub is : e ≡ Next c' stores
+  pub inside : AreInside (view_of w) stores
+  pub put : view_of w' ≡ fold put (view_of w) stores
+  pub keeps : Keeps (view_of w) (view_of w')
+
+pub went_on : (c c' : Cpu) (w w' : Window) (e : Effect) → Acts IsStored c c' w w' outcome.Next e → Went c' w w' e
+went_on c c' w w' (Next d ss) h = record { stores = ss; is = ap (λ (x : Cpu). Next x ss) (sym h.1); inside = stores_inside ss w w' h.2; put = stores_put ss w w' h.2; keeps = stores_keep ss w w' h.2 }
+went_on c c' w w' Syscall h = absurd (cc h.0)
+went_on c c' w w' (Trap f) h = absurd (cc h.0)
+
+pub goes_so : (c c' : Cpu) (w w' : Window) (e : Effect) → step_effect (refused_by (view_of w)) (held_by (view_of w)) c ≡ e → Acts IsStored c c' w w' outcome.Next e → GoesOn (view_of w) c (view_of w') c'
+goes_so c c' w w' e is h = let g = went_on c c' w w' e h in record { stores = g.stores; effect = is ∙ g.is; inside = g.inside; after = g.put }
+
+-- by the answer
+pub keeps_by : (c c' : Cpu) (w w' : Window) (e : Effect) (r : Bool) → (r ≡ true → Acts IsStored c c' w w' outcome.Next e) → (r ≡ false → w' ≡ w) → Keeps (view_of w) (view_of w')
+keeps_by c c' w w' e true goes stays = (went_on c c' w w' e (goes refl)).keeps
+keeps_by c c' w w' e false goes stays = kept (view_of w) (view_of w') (ap view_of (stays refl))
+
+-- ## The flash
+
+both : (a b : Bool) → (a && b) ≡ true → (a ≡ true) × (b ≡ true)
+both true b h = (refl, h)
+both false b h = absurd (false≢true h)
+
+pub within : (base : ℕ) (xs : List ℕ) (a n : ℕ) → has base xs a n ≡ true → (base ≤ a) × (a + n ≤ base + length xs)
+within base xs a n h = let two = both (nat_le base a) (nat_le (a + n) (base + length xs)) h in (leb-true base a two.0, leb-true (a + n) (base + length xs) two.1)
+
+outside : (b : Bool) → (b ≡ true → ⊥) → b ≡ false
+outside true h = absurd (h refl)
+outside false h = refl
+
+pub has_not : (base : ℕ) (xs : List ℕ) (a n : ℕ) → (base ≤ a → a + n ≤ base + length xs → ⊥) → has base xs a n ≡ false
+has_not base xs a n h = outside (has base xs a n) (λ k. let two = within base xs a n k in h two.0 two.1)
+
+-- the flash is no part of the RAM
+pub held_flash : (v : View) (a : ℕ) → v.flash_base + length v.flash ≤ v.ram_base → has v.flash_base v.flash a 2 ≡ true → held_by v a 2 ≡ number_in v.flash_base v.flash a 2
+held_flash v a apart h =
+    let two = within v.flash_base v.flash a 2 h in
+    let low : a + 2 ≤ v.flash_base + length v.flash = two.1 in
+    rw (has_not v.ram_base v.ram a 2 (λ from to. omega (arith, from, low, apart))) refl
+
+-- ## The instruction at PC
+
+module _ (refuses : Refusals) (holds : Contents) (c : Cpu) (at first : ℕ) (here : at ≡ reg_at c.regs 15) (may : refuses at 2 Execute ≡ None) (is : first ≡ holds at 2) where
+  narrow_effect : is_wide first ≡ false → step_effect refuses holds c ≡ executed refuses holds c (instruction at first (narrow_result (narrow_of first)))
+  narrow_effect narrow = rw (← here, may, ← is, narrow) refl
+
+  wide_effect : (second : ℕ) → is_wide first ≡ true → refuses (after at) 2 Execute ≡ None → second ≡ holds (after at) 2 →
+      step_effect refuses holds c ≡ executed refuses holds c (instruction at (first * 2 ^ 16 + second) (decoded_of first (Some second)))
+  wide_effect second wide may_too is_too = rw (← here, may, ← is, wide, may_too, ← is_too) refl
+
+fetched_may : (v : View) (at half : ℕ) → IsFetched v at half → refused_by v at 2 Execute ≡ None
+fetched_may v at half f = ap (λ (b : Bool). given b at) f.there
+
+fetched_is : (v : View) (at half : ℕ) → v.flash_base + length v.flash ≤ v.ram_base → IsFetched v at half → half ≡ held_by v at 2
+fetched_is v at half apart f = f.is ∙ sym (held_flash v at apart f.there)
+
+module _ (v : View) (c : Cpu) (at first : ℕ) (apart : v.flash_base + length v.flash ≤ v.ram_base) (here : at ≡ reg_at c.regs 15) (f : IsFetched v at first) where
+  pub narrow_here : is_wide first ≡ false → step_effect (refused_by v) (held_by v) c ≡ executed (refused_by v) (held_by v) c (instruction at first (narrow_result (narrow_of first)))
+  narrow_here narrow = narrow_effect (refused_by v) (held_by v) c at first here (fetched_may v at first f) (fetched_is v at first apart f) narrow
+
+  pub wide_here : (second : ℕ) → is_wide first ≡ true → IsFetched v (after at) second → step_effect (refused_by v) (held_by v) c ≡ executed (refused_by v) (held_by v) c (instruction at (first * 2 ^ 16 + second) (decoded_of first (Some second)))
+  wide_here second wide g = wide_effect (refused_by v) (held_by v) c at first here (fetched_may v at first f) (fetched_is v at first apart f) second wide (fetched_may v (after at) second g) (fetched_is v (after at) second apart g)
+
+-- ## What a runner did with a narrow instruction
+
+module _ (a b : Runner) (at code : ℕ) where
+  pub did_goes : (d : Decoded) → step_effect (refused_by (view_of a.window)) (held_by (view_of a.window)) a.processor ≡ executed (refused_by (view_of a.window)) (held_by (view_of a.window)) a.processor (instruction at code d) → Did a d true b →
+      GoesOn (view_of a.window) a.processor (view_of b.window) b.processor
+  did_goes (Narrow i) e h = goes_so a.processor b.processor a.window b.window _ e h
+  did_goes (Wide i) e h = absurd h
+  did_goes Illegal e h = absurd h
+  did_goes NeedsSecond e h = absurd h
+
+  pub did_halts : (d : Decoded) → step_effect (refused_by (view_of a.window)) (held_by (view_of a.window)) a.processor ≡ executed (refused_by (view_of a.window)) (held_by (view_of a.window)) a.processor (instruction at code d) → Did a d false b →
+      Halts (step_effect (refused_by (view_of a.window)) (held_by (view_of a.window)) a.processor)
+  did_halts (Narrow i) e h = rw e h.0
+  did_halts (Wide i) e h = absurd h
+  did_halts Illegal e h = rw e tt
+  did_halts NeedsSecond e h = absurd h
+
+pub did_keeps : (a b : Runner) (d : Decoded) (r : Bool) → Did a d r b → Keeps (view_of a.window) (view_of b.window)
+did_keeps a b (Narrow i) true h = (went_on a.processor b.processor a.window b.window _ h).keeps
+did_keeps a b (Narrow i) false h = kept _ _ (ap (λ (x : Runner). view_of x.window) h.1)
+did_keeps a b Illegal false h = kept _ _ (ap (λ (x : Runner). view_of x.window) h)
+did_keeps a b (Wide i) true h = absurd h
+did_keeps a b (Wide i) false h = absurd h
+did_keeps a b Illegal true h = absurd h
+did_keeps a b NeedsSecond true h = absurd h
+did_keeps a b NeedsSecond false h = absurd h

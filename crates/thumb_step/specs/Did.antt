@@ -1,0 +1,30 @@
+-- What a runner does with what was decoded.
+use Rattle.std.specs.Prelude.{◌≡◌, ℕ, Bool, true, false}
+use Rattle.thumb_insn.specs.declared.Decoded.{Decoded}
+use Rattle.thumb_insn.specs.declared.Decoded.TheVariants.{Narrow, Illegal}
+use Rattle.thumb_insn.specs.declared.Insn.{Insn}
+use Rattle.thumb_exec.specs.Effect.{Effect, Acts, Halts, effect}
+use Rattle.thumb_exec.specs.declared.cpu.Outcome.TheVariants as outcome
+use Rattle.thumb_exec.specs.Sizes.{IsSize}
+use Rattle.thumb_step.specs.declared.window.Runner.{Runner}
+use Rattle.thumb_step.specs.declared.window.Window.{Window}
+use Rattle.thumb_step.specs.Windows.{has, Keeps, refused_by, held_by, put, view_of}
+
+-- a window after a store of so many bytes
+pub record IsStored (w : Window) (a n x : ℕ) (w' : Window) : Type 0 where
+  pub size : IsSize n
+  pub inside : has w.ram_base w.ram.items a n ≡ true
+  pub after : view_of w' ≡ put (view_of w) record { addr = a; bytes = n; value = x }
+  pub keeps : Keeps (view_of w) (view_of w')
+
+-- what an instruction does to what the runner holds
+abbrev pub effect_on : Runner → Insn → Effect
+effect_on r i = effect (refused_by (view_of r.window)) (held_by (view_of r.window)) r.processor i
+
+-- by the answer: it went on, or it is a system call, faults or is illegal, and nothing changed
+abbrev pub Did : Runner → Decoded → Bool → Runner → Type 0
+Did a (Narrow i) true b = Acts IsStored a.processor b.processor a.window b.window outcome.Next (effect_on a i)
+Did a (Narrow i) false b = Halts (effect_on a i) × (b ≡ a)
+Did a Illegal true b = ⊥
+Did a Illegal false b = b ≡ a
+Did a d r b = ⊥

@@ -1,0 +1,90 @@
+-- Instructions on end of a processor that reaches two runs of bytes, and no others.
+use Rattle.std.specs.Prelude.{◌≡◌, ◌≤◌, ℕ, zero, suc, ◌+◌, ◌-◌, ◌/◌, ◌%◌, ◌^◌, Bool, true, false, ◌&&◌, ◌||◌, if◌then◌else◌, nat_le, List, [], ◌∷◌, length, take, drop, fold, Option, Some, None, Contains}
+use Rattle.mem_banks.specs.Memory.{number_of, pasted}
+use Rattle.region_check.specs.declared.Right.TheVariants.{Read, Write, Execute}
+use Rattle.thumb_exec.specs.declared.cpu.Cpu.{Cpu}
+use Rattle.thumb_exec.specs.Effect.{Next, Store, Refusals, Contents}
+use Rattle.thumb_exec.specs.Sizes.{IsSize}
+use Rattle.thumb_step.specs.Fetch.{step_effect}
+use Rattle.thumb_step.specs.declared.window.Window.{Window}
+
+-- what a processor reaches: bytes from an address on that it may execute, and perhaps read, and bytes that it may read and write
+pub record View : Type 0 where
+  pub flash_base : ℕ
+  pub flash : List ℕ
+  pub readable : Bool
+  pub ram_base : ℕ
+  pub ram : List ℕ
+
+-- ## What it may do with which bytes
+
+-- whether these bytes, from a base on, have all of n bytes
+abbrev pub has : ℕ → List ℕ → ℕ → ℕ → Bool
+has base bytes a n = nat_le base a && nat_le (a + n) (base + length bytes)
+
+-- what n of them hold
+abbrev pub number_in : ℕ → List ℕ → ℕ → ℕ → ℕ
+number_in base bytes a n = number_of (take n (drop (a - base) bytes))
+
+-- nothing is refused, or the first byte
+abbrev pub given : Bool → ℕ → Option ℕ
+given true a = None
+given false a = Some a
+
+abbrev pub refused_by : View → Refusals
+refused_by v a n Execute = given (has v.flash_base v.flash a n) a
+refused_by v a n Read = given (has v.ram_base v.ram a n || (v.readable && has v.flash_base v.flash a n)) a
+refused_by v a n Write = given (has v.ram_base v.ram a n) a
+
+abbrev pub held_by : View → Contents
+held_by v a n = if has v.ram_base v.ram a n then number_in v.ram_base v.ram a n else number_in v.flash_base v.flash a n
+
+-- a halfword that the flash has
+pub record IsFetched (v : View) (a half : ℕ) : Type 0 where
+  pub there : has v.flash_base v.flash a 2 ≡ true
+  pub is : half ≡ number_in v.flash_base v.flash a 2
+
+-- ## Stores
+
+-- the n bytes of a number, the lowest first
+abbrev pub bytes_of : ℕ → ℕ → List ℕ
+bytes_of v n = take n (v % 256 ∷ v / 2 ^ 8 % 256 ∷ v / 2 ^ 16 % 256 ∷ v / 2 ^ 24 % 256 ∷ [])
+
+-- what it reaches after a store in the RAM
+abbrev pub put : View → Store → View
+put v x = record v { ram = pasted v.ram (x.addr - v.ram_base) (bytes_of x.value x.bytes) }
+
+-- each store is one of 1, 2 or 4 bytes of the RAM
+abbrev pub AreInside : View → List Store → Type 0
+AreInside v stores = (x : Store) → Contains stores x → IsSize x.bytes × (has v.ram_base v.ram x.addr x.bytes ≡ true)
+
+-- ## Instructions
+
+-- the instruction at PC goes on, with its stores
+pub record GoesOn (v : View) (c : Cpu) (v' : View) (c' : Cpu) : Type 0 where
+  pub stores : List Store
+  pub effect : step_effect (refused_by v) (held_by v) c ≡ Next c' stores
+  pub inside : AreInside v stores
+  pub after : v' ≡ fold put v stores
+
+-- n instructions on end go on
+abbrev pub Glides : View → Cpu → ℕ → View → Cpu → Type 0
+Glides v c zero v' c' = (v' ≡ v) × (c' ≡ c)
+Glides v c (suc n) v' c' = (w : View) × (d : Cpu) × Glides v c n w d × GoesOn w d v' c'
+
+-- what no instruction changes
+pub record Keeps (v v' : View) : Type 0 where
+  pub flash_base : v'.flash_base ≡ v.flash_base
+  pub flash : v'.flash ≡ v.flash
+  pub readable : v'.readable ≡ v.readable
+  pub ram_base : v'.ram_base ≡ v.ram_base
+  pub size : length v'.ram ≡ length v.ram
+
+-- ## The code's window
+
+abbrev pub view_of : Window → View
+view_of w = record { flash_base = w.flash_base; flash = w.flash.items; readable = w.readable; ram_base = w.ram_base; ram = w.ram.items }
+
+-- the flash ends below the RAM
+abbrev pub IsApart : Window → Type 0
+IsApart w = w.flash_base + length w.flash.items ≤ w.ram_base

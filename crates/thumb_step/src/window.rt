@@ -1,0 +1,289 @@
+//! Instructions on end of a processor whose flash and RAM lie in two vectors of bytes. An access is one
+//! test of its place, and no look-up.
+ghost use Rattle.std.specs.Prelude.{◌≡◌, ◌⊎◌, ℕ, ◌+◌, ◌*◌, ◌/◌, ◌%◌, ◌^◌, ◌≤◌, ◌<◌, ◌∷◌, [], None, Some, true, false, MatchOption, MatchResult, length, take, drop, vec_len};
+ghost use Rattle.mem_banks.specs.Memory.{number_of, pasted};
+ghost use Rattle.region_check.specs.declared.Right.TheVariants.{Read};
+ghost use Rattle.thumb_exec.specs.Effect.{Halts};
+ghost use Rattle.thumb_exec.specs.Sizes.{IsSize};
+ghost use Rattle.thumb_step.specs.Fetch.{step_effect};
+ghost use Rattle.words_core.specs.Regs.{reg_at, program_counter};
+ghost use Rattle.thumb_step.specs.Windows.{has, IsFetched, refused_by, held_by, view_of, Glides, GoesOn, Keeps, IsApart};
+ghost use Rattle.thumb_step.specs.Did.{Did, IsStored};
+
+use region_check::Right;
+use thumb_decode::{Taker, decode, narrow_to};
+use thumb_exec::bus::Bus;
+use thumb_exec::cpu::Cpu;
+use thumb_exec::step::proceed;
+use thumb_insn::{Decoded, Insn};
+
+/// What a processor reaches: the flash, which it may execute, and perhaps read, and the RAM, which it may
+/// read and write, each from an address on.
+#[derive(Drop)]
+pub struct Window {
+    pub flash: Vec<u8>,
+    pub flash_base: u32,
+
+    /// Whether the flash may be read.
+    pub readable: bool,
+    pub ram: Vec<u8>,
+    pub ram_base: u32,
+}
+
+/// A processor and what it reaches.
+#[derive(Drop)]
+pub struct Runner {
+    pub processor: Cpu,
+    pub window: Window,
+}
+
+/// Whether these bytes, from a base on, have all of n bytes.
+#[inline(always)]
+fn has(base: u32, bytes: &[u8], addr: u32, n: u32) -> bool
+    ensures { result ≡ has base bytes.now addr n }
+{
+    addr >= base && (addr - base) as usize + n as usize <= bytes.len()
+}
+
+/// The number that two bytes from a place on spell, the lowest first. The hint is not `always`: LLVM makes one load of it
+/// in the function itself, and no more once the decoder, which looks at the high byte alone, is around it.
+#[inline]
+fn half(bytes: &[u8], at: usize) -> u16
+    requires { at + 2 ≤ length bytes.now }
+    ensures { result ≡ number_of (take 2 (drop at bytes.now)) }
+{
+    u16::from(bytes[at]) + 256 * u16::from(bytes[at + 1])
+}
+
+/// The number that four bytes from a place on spell, the lowest first.
+#[inline(always)]
+fn word(bytes: &[u8], at: usize) -> u32
+    requires { at + 4 ≤ length bytes.now }
+    ensures { result ≡ number_of (take 4 (drop at bytes.now)) }
+{
+    let low = u32::from(bytes[at]) + 256 * u32::from(bytes[at + 1]);
+    let high = u32::from(bytes[at + 2]) + 256 * u32::from(bytes[at + 3]);
+    low + 65536 * high
+}
+
+/// The number that 1, 2 or 4 bytes from a place on spell, the lowest first.
+#[inline(always)]
+fn number(bytes: &[u8], at: usize, n: u32) -> u32
+    requires size { IsSize n }
+    requires there { at + n ≤ length bytes.now }
+    ensures { result ≡ number_of (take n (drop at bytes.now)) }
+{
+    match n {
+        1 => u32::from(bytes[at]),
+        2 => u32::from(half(bytes, at)),
+        _ => word(bytes, at),
+    }
+}
+
+/// The bytes of a word, the lowest first.
+#[inline(always)]
+fn bytes(value: u32) -> [u8; 4]
+    ensures { result ≡ value % 256 ∷ value / 2 ^ 8 % 256 ∷ value / 2 ^ 16 % 256 ∷ value / 2 ^ 24 % 256 ∷ [] }
+{
+    [
+        (value % 256) as u8,
+        (value / 0x100 % 256) as u8,
+        (value / 0x1_0000 % 256) as u8,
+        (value / 0x100_0000 % 256) as u8,
+    ]
+}
+
+/// Writes bytes over those from a place on.
+#[inline(always)]
+fn put(bytes: &mut Vec<u8>, at: usize, new: &[u8])
+    requires { at + length new.now ≤ vec_len bytes.old }
+    ensures { bytes.new.items ≡ pasted bytes.old.items at new.now }
+{
+    let part = &mut bytes[at..at + new.len()];
+    part.copy_from_slice(new);
+}
+
+impl Window {
+    /// Whether the RAM has all of n bytes.
+    #[inline(always)]
+    fn has_ram(&self, addr: u32, n: u32) -> bool
+        ensures { result ≡ has self.now.ram_base self.now.ram.items addr n }
+    {
+        has(self.ram_base, &self.ram, addr, n)
+    }
+
+    /// Whether the flash has all of n bytes.
+    #[inline(always)]
+    fn has_flash(&self, addr: u32, n: u32) -> bool
+        ensures { result ≡ has self.now.flash_base self.now.flash.items addr n }
+    {
+        has(self.flash_base, &self.flash, addr, n)
+    }
+
+    /// The halfword at an address, where the flash has it. The flash ends within the address space, since it
+    /// ends below the RAM: so one comparison tells.
+    #[inline(always)]
+    fn flash_half(&self, addr: u32) -> Option<u16>
+        requires apart { IsApart self.now }
+        ensures { MatchOption result (has self.now.flash_base self.now.flash.items addr 2 ≡ false) (λ half. IsFetched (view_of self.now) addr half) }
+    {
+        // It is below 2^32.
+        let _end = self.ram_base;
+        let at = addr.wrapping_sub(self.flash_base) as usize;
+        if at + 2 <= self.flash.len() {
+            Some(half(&self.flash, at))
+        } else {
+            None
+        }
+    }
+
+    /// A load of bytes that the RAM does not have.
+    #[inline(never)]
+    fn load_flash(&self, addr: u32, n: u32) -> Result<u32, u32>
+        requires size { IsSize n }
+        requires beyond { has self.now.ram_base self.now.ram.items addr n ≡ false }
+        ensures { MatchResult result (λ value. (refused_by (view_of self.now) addr n Read ≡ None) × (value ≡ held_by (view_of self.now) addr n)) (λ at. refused_by (view_of self.now) addr n Read ≡ Some at) }
+    {
+        if self.readable && self.has_flash(addr, n) {
+            Ok(number(&self.flash, (addr - self.flash_base) as usize, n))
+        } else {
+            Err(addr)
+        }
+    }
+}
+
+impl Bus for Window {
+    ghost refuses = { λ w a n r. refused_by (view_of w) a n r };
+
+    ghost holds = { λ w a n. held_by (view_of w) a n };
+
+    ghost stored = { λ w a n x w'. IsStored w a n x w' };
+
+    #[inline(always)]
+    fn allows(&self, addr: u32, n: u32, right: Right) -> Option<u32> {
+        let is_given = match right {
+            Right::Read => self.has_ram(addr, n) || (self.readable && self.has_flash(addr, n)),
+            Right::Write => self.has_ram(addr, n),
+            Right::Execute => self.has_flash(addr, n),
+        };
+        if is_given { None } else { Some(addr) }
+    }
+
+    fn fetch(&self, addr: u32) -> Result<u16, u32> {
+        if !self.has_flash(addr, 2) {
+            return Err(addr);
+        }
+        if self.has_ram(addr, 2) {
+            Ok(half(&self.ram, (addr - self.ram_base) as usize))
+        } else {
+            Ok(half(&self.flash, (addr - self.flash_base) as usize))
+        }
+    }
+
+    #[inline(always)]
+    fn load(&self, addr: u32, n: u32) -> Result<u32, u32> {
+        if self.has_ram(addr, n) {
+            Ok(number(&self.ram, (addr - self.ram_base) as usize, n))
+        } else {
+            self.load_flash(addr, n)
+        }
+    }
+
+    #[inline(always)]
+    fn store(&mut self, addr: u32, n: u32, value: u32) -> Result<(), u32> {
+        if !self.has_ram(addr, n) {
+            return Err(addr);
+        }
+        let at = (addr - self.ram_base) as usize;
+        let bytes = bytes(value);
+        put(&mut self.ram, at, &bytes[..n as usize]);
+        Ok(())
+    }
+
+    #[inline(always)]
+    fn gives(&self, addr: u32, count: u32, right: Right) -> bool {
+        if 4 * count > 0xFFFF_FFFF - addr {
+            return false;
+        }
+        match right {
+            Right::Read | Right::Write => self.has_ram(addr, 4 * count),
+            Right::Execute => self.has_flash(addr, 4 * count),
+        }
+    }
+}
+
+impl Taker for Runner {
+    ghost did = { λ a d r b. Did a d r b };
+
+    #[inline(always)]
+    fn take(&mut self, h: u16, insn: Insn) -> bool {
+        proceed(&mut self.processor, &insn, &mut self.window)
+    }
+
+    #[inline(always)]
+    fn illegal(&mut self) -> bool {
+        false
+    }
+}
+
+impl Runner {
+    /// One instruction, where it is fetched from the flash and goes on within the window; else nothing
+    /// changes, and the answer is false.
+    #[inline(always)]
+    fn step(&mut self) -> bool
+        requires apart { IsApart self.old.window }
+        ensures goes { result ≡ true → GoesOn (view_of self.old.window) self.old.processor (view_of self.new.window) self.new.processor }
+        ensures halts { result ≡ false → Halts (step_effect (refused_by (view_of self.old.window)) (held_by (view_of self.old.window)) self.old.processor) }
+        ensures kept { result ≡ false → self.new ≡ self.old }
+        ensures fixed { Keeps (view_of self.old.window) (view_of self.new.window) }
+    {
+        let at = self.processor.regs.get(15);
+        let Some(first) = self.window.flash_half(at) else {
+            return false;
+        };
+        if first / 2048 >= 29 {
+            return self.step_wide(at, first);
+        }
+        narrow_to(first, self)
+    }
+
+    /// The same where this first halfword begins a wide instruction.
+    #[inline(never)]
+    fn step_wide(&mut self, at: u32, first: u16) -> bool
+        requires apart { IsApart self.old.window }
+        requires here { at ≡ reg_at self.old.processor.regs program_counter }
+        requires first { IsFetched (view_of self.old.window) at first }
+        requires wide { 29 ≤ first / 2048 }
+        ensures goes { result ≡ true → GoesOn (view_of self.old.window) self.old.processor (view_of self.new.window) self.new.processor }
+        ensures halts { result ≡ false → Halts (step_effect (refused_by (view_of self.old.window)) (held_by (view_of self.old.window)) self.old.processor) }
+        ensures kept { result ≡ false → self.new ≡ self.old }
+        ensures fixed { Keeps (view_of self.old.window) (view_of self.new.window) }
+    {
+        let Some(second) = self.window.flash_half(at.wrapping_add(2)) else {
+            return false;
+        };
+        match decode(first, Some(second)) {
+            Decoded::Wide(insn) => proceed(&mut self.processor, &insn, &mut self.window),
+            _ => false,
+        }
+    }
+
+    /// Instructions on end, at most so many: as long as each is fetched from the flash and goes on within the
+    /// window. How many there were.
+    pub fn glide(&mut self, most: u32) -> u32
+        requires apart { self.old.window.flash_base + length self.old.window.flash.items ≤ self.old.window.ram_base }
+        ensures glides { Glides (view_of self.old.window) self.old.processor result (view_of self.new.window) self.new.processor }
+        ensures within { result ≤ most }
+
+        // It stops before that many only where the next one is a system call, faults or reaches beyond the window.
+        ensures far { result < most → Halts (step_effect (refused_by (view_of self.new.window)) (held_by (view_of self.new.window)) self.new.processor) }
+        ensures fixed { Keeps (view_of self.old.window) (view_of self.new.window) }
+    {
+        for done in 0..most {
+            if !self.step() {
+                return done;
+            }
+        }
+        most
+    }
+}

@@ -1,5 +1,0 @@
-use Rattle.window_laws.proofs.Going.{are_turns}
-use Rattle.window_laws.proofs.instructions_within_a_window_are_turns.Goals as goal
-
-pub returns : goal.returns
-returns c = λ x s i n v w cpu sane is current window nothing on. are_turns x s i v sane is current window n w cpu nothing on
