@@ -5,8 +5,6 @@
 pub mod laws;
 mod window;
 
-pub use window::{Runner, Window};
-
 ghost use Rattle.std.specs.Prelude.{◌≡◌, ◌≤◌, ◌%◌, IfOk, IfErr};
 ghost use Rattle.words_core.specs.Regs.{reg_at, program_counter};
 ghost use Rattle.thumb_insn.specs.Range.{IsCoded, GivesCoded};
@@ -19,6 +17,7 @@ use thumb_exec::bus::Bus;
 use thumb_exec::cpu::{Cpu, Outcome};
 use thumb_exec::step::exec;
 use thumb_insn::{Decoded, Insn};
+pub use window::{Runner, Window};
 
 /// An instruction that was fetched.
 #[derive(Clone, Copy)]
