@@ -8,7 +8,7 @@ program=crates/hubris/out/hubris
 made=$(mktemp -d)
 trap 'rm -r "$made"' EXIT
 same() { cmp -s "$1" "$2" || { echo "$3: differs from $2"; exit 1; }; echo "$3: as expected"; }
-for example in one-task client-server blinker; do
+for example in one-task client-server blinker driver restart timers; do
     "$program" build "examples/$example/app.toml" "$made/$example.img"
     "$program" list "$made/$example.img" > "$made/listing.txt"
     same "$made/listing.txt" "examples/$example/listing.txt" "$example, listing"
@@ -34,3 +34,14 @@ same "$made/mem.txt" "$light/expected-mem.txt" "blinker, go with its memory"
 "$program" go "$light/app.toml" "$light/script.txt" --steps 600 --all > "$made/all.txt"
 grep -v -e ' insn ' -e ' low ' -e ' high ' -e ' idle$' "$made/all.txt" > "$made/calls.txt"
 same "$made/calls.txt" "$light/expected.txt" "blinker, go without what --all tells besides"
+# the folder, its script and how many turns
+for run in "driver script.txt 500" "restart empty.txt 300" "timers script.txt 500"; do
+    read -r example script steps <<< "$run"
+    at=examples/$example
+    "$program" go "$at/app.toml" "$at/$script" --steps "$steps" > "$made/go.txt"
+    same "$made/go.txt" "$at/expected.txt" "$example, go"
+    "$program" go "$at/app.toml" "$at/$script" --steps "$steps" --mem > "$made/mem.txt"
+    same "$made/mem.txt" "$at/expected-mem.txt" "$example, go with its memory"
+done
+awk -f examples/readable.awk examples/restart/app.toml examples/restart/expected.txt > "$made/readable.txt"
+same "$made/readable.txt" examples/restart/readable.txt "restart, in words"
