@@ -1,6 +1,6 @@
 #![tactic(auto)]
-//! Which task runs, and whose message is received: strict priority, and of equals the next in order
-//! (Hubris Reference, Scheduling).
+//! Which task runs, and whose message is received: strict priority (Hubris Reference, Scheduling), and of
+//! equals the next in order (this project's profile).
 
 ghost use Rattle.std.specs.Prelude.{◌≡◌, ◌+◌, ◌<◌, ◌≤◌, ℕ, true, IfSome, find, length};
 ghost use Rattle.task_table.specs.State.{Setup, Turn};
@@ -57,8 +57,8 @@ pub fn choose(k: &Kernel) -> Option<usize>
 }
 
 /// The task whose message the receiver takes where it hears any, or None where none offers it a call:
-/// of those that do and have the lowest priority number the first after the receiver, cyclically
-/// (Hubris Reference, on RECV).
+/// of those that do and have the lowest priority number (Hubris Reference, on RECV) the first after the
+/// receiver, cyclically (this project's profile).
 pub fn best_sender(k: &Kernel, receiver: usize) -> Option<usize>
     requires stood { Stood k.now }
     requires there { receiver < task_count k.now }

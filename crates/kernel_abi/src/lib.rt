@@ -21,7 +21,7 @@ pub struct TaskId {
     pub number: u16,
 }
 
-/// How often a task was born, modulo 64.
+/// How often a task was born again, modulo 64.
 #[derive(Clone, Copy, Debug, PartialEq, Eq)]
 pub struct Generation {
     pub number: u8,

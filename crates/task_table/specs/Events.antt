@@ -1,5 +1,5 @@
 -- What comes from outside within a turn: ticks of the clock and interrupts. (Hubris Reference: timers,
--- interrupts; a timer is due at its deadline, and an interrupt on a disabled line is held once.)
+-- interrupts; that a timer is due at its deadline, and that an interrupt on a disabled line is held once, is this project's profile.)
 use Rattle.std.specs.Prelude.{ℕ, length, Option, None, Some, true, false, ◌==◌, nat_le, if◌then◌else◌, find, fold}
 use Rattle.std.specs.List.{range_with_len}
 use Rattle.kernel_abi.specs.declared.Handled.TheVariants.{Posted, Held, Unowned}

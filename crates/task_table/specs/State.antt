@@ -1,5 +1,5 @@
 -- The state of the abstract kernel. (Hubris Reference: task ids and generations, IPC, leases,
--- notifications; what is this project's own choice where the reference leaves one, its profile, is said in docs/MODEL.md.)
+-- notifications; what is this project's own choice where the reference leaves one, its profile, is said in docs/FORMATS.md.)
 use Rattle.std.specs.Prelude.{ℕ, List, Option, Bool}
 use Rattle.kernel_abi.specs.declared.Health.{Health}
 use Rattle.words_core.specs.declared.Flags.{Flags}

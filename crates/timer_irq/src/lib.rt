@@ -184,7 +184,7 @@ fn start_timer(k: &mut Kernel, caller: usize)
 
 /// SET_TIMER: r4 is 0 to turn the caller's timer off; else the timer is set to the deadline in r5 (low
 /// word) and r6 with the bits in r7, or, where the deadline is at most now, is off and the bits are
-/// posted at once (Hubris Reference, on SET_TIMER).
+/// posted at once (Hubris Reference, on SET_TIMER; registers, and when a timer is due, are this project's profile).
 pub fn set_timer(k: &mut Kernel, caller: usize)
     requires there { caller < task_count k.old }
     requires room { note_count k.old + syscall_notes ≤ turn_notes }
@@ -342,7 +342,7 @@ fn control_lines(k: &mut Kernel, caller: usize)
 /// IRQ_CONTROL: each line that the caller owns with exactly the bits in r4, ascending, is disabled, or,
 /// where bit 0 of r5 is set, enabled; where an interrupt is pending on a line that is to be enabled, it
 /// is cleared, the bits are posted and the line is disabled again. Where the caller owns no such line,
-/// it faults by usage 6, NoIrq (Hubris Reference, on IRQ_CONTROL).
+/// it faults by usage 6, NoIrq (Hubris Reference, on IRQ_CONTROL; that interrupts are held is this project's profile).
 pub fn irq_control(k: &mut Kernel, caller: usize)
     requires there { caller < task_count k.old }
     requires room { note_count k.old + syscall_notes ≤ turn_notes }
