@@ -1,6 +1,7 @@
 //! A source has at most one assembly, of the length that its lines take.
 
 ghost use Rattle.std.specs.Prelude.{◌≡◌, ℕ, List, length};
+ghost use Rattle.asm_laws.specs.Image.{EachTwo};
 ghost use Rattle.thumb_asm.specs.Assembly.{Assembles};
 ghost use Rattle.thumb_asm.specs.Meaning.{Env};
 ghost use Rattle.thumb_asm.specs.Passes.{size_from};
@@ -9,8 +10,8 @@ ghost use Rattle.thumb_asm.specs.Passes.{size_from};
 /// the given symbols leave one sequence of bytes (`bytes`), and one address for each label
 /// (`labels`). A text that is refused is assembled to nothing: `Assembles` asks that none of its lines has a cause.
 pub fn one_image()
-    ensures bytes { (lines : List (List ℕ)) (base : ℕ) (given : Env) (bytes bytes' : List ℕ) (labels labels' : Env) → Assembles lines base given bytes labels → Assembles lines base given bytes' labels' → bytes ≡ bytes' }
-    ensures labels { (lines : List (List ℕ)) (base : ℕ) (given : Env) (bytes bytes' : List ℕ) (labels labels' : Env) → Assembles lines base given bytes labels → Assembles lines base given bytes' labels' → (name : List ℕ) → labels name ≡ labels' name }
+    ensures bytes { EachTwo (λ bytes bytes' labels labels'. bytes ≡ bytes') }
+    ensures labels { EachTwo (λ bytes bytes' labels labels'. (name : List ℕ) → labels name ≡ labels' name) }
 {}
 
 /// A source is assembled to as many bytes as its lines take, each at its address.

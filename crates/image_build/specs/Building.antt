@@ -49,18 +49,22 @@ LacksRoom app fault.Memory = ⊤
 abbrev pub source_cause : AppData → ℕ → List ℕ → Option (Cause × ℕ)
 source_cause app i source = first_cause (lines_of source) (flash_base app i) (given app i)
 
+-- the i-th task's source is assembled to this code and these labels
+abbrev pub IsAssembled : AppData → ℕ → List ℕ → List ℕ → Env → Type 0
+IsAssembled app i source code labels = Assembles (lines_of source) (flash_base app i) (given app i) code labels
+
 -- it is assembled, and its bytes fit the task's flash
 pub record IsTaken (app : AppData) (i : ℕ) (source : List ℕ) : Type 0 where
   pub code : List ℕ
   pub labels : Env
-  pub assembled : Assembles (lines_of source) (flash_base app i) (given app i) code labels
+  pub assembled : IsAssembled app i source code labels
   pub fits : length code ≤ (task_at app i).flash
 
 -- it is assembled to so many bytes, which are too many
 pub record IsTooLong (app : AppData) (i : ℕ) (source : List ℕ) (bytes : ℕ) : Type 0 where
   pub code : List ℕ
   pub labels : Env
-  pub assembled : Assembles (lines_of source) (flash_base app i) (given app i) code labels
+  pub assembled : IsAssembled app i source code labels
   pub is : bytes ≡ length code
   pub above : (task_at app i).flash < length code
 

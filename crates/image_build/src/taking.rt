@@ -3,11 +3,7 @@
 ghost use Rattle.std.specs.Prelude.{◌≡◌, ◌≤◌, ◌<◌, ◌+◌, ◌++◌, ◌∷◌, ◌⊎◌, ℕ, List, None, [], length, slice_index, IfOk, IfErr, OnOk, OnErr};
 ghost use Rattle.std.specs.BTreeMap.{get_by_text};
 ghost use Rattle.app_toml.specs.Held.{app_of};
-ghost use Rattle.text_lines.specs.Text.{lines_of};
-ghost use Rattle.thumb_asm.specs.Assembly.{Assembles};
-ghost use Rattle.image_build.specs.Building.{HasRoom, LacksRoom, RefusesSource};
-ghost use Rattle.image_build.specs.Built.{given};
-ghost use Rattle.image_build.specs.Layout.{flash_base};
+ghost use Rattle.image_build.specs.Building.{HasRoom, IsAssembled, LacksRoom, RefusesSource};
 ghost use Rattle.image_build.specs.Taken.{HasTaken, described, next_task};
 
 use crate::builder::Builder;
@@ -33,7 +29,7 @@ fn put(flash: &mut [u8], at: usize, code: &[u8])
 /// What the next task's source is assembled to.
 fn assembled(builder: &Builder<'_>, bytes: &[u8]) -> Result<Object, BuildFault>
     requires left { next_task builder.now < length (described builder.now).tasks }
-    ensures assembled { IfOk result (λ o. Assembles (lines_of bytes.now) (flash_base (described builder.now) (next_task builder.now)) (given (described builder.now) (next_task builder.now)) o.bytes.items (get_by_text o.labels)) }
+    ensures assembled { IfOk result (λ o. IsAssembled (described builder.now) (next_task builder.now) bytes.now o.bytes.items (get_by_text o.labels)) }
     ensures refused { IfErr result (RefusesSource (described builder.now) (next_task builder.now) bytes.now) }
 {
     let next = builder.done;

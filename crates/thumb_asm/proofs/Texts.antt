@@ -122,3 +122,9 @@ goes_behind_slash c cs h =
 pub escape_at_end : is_some (text_of true []) ≡ false
 unfolding text_of
 escape_at_end = refl
+
+-- what the next byte of quoted text may be
+pub ruleset next_steps = (stops_at_end, stops_at_quote, stops_at_escape, goes_behind_byte, goes_behind_slash)
+
+-- and what may follow a backslash
+pub ruleset escape_steps = (good_escape, bad_escape, escape_at_end)

@@ -7,7 +7,7 @@ use Rattle.thumb_asm.specs.declared.operand.Operand.TheVariants as held
 use Rattle.thumb_asm.specs.declared.Mnemonic.{Mnemonic}
 use Rattle.thumb_asm.specs.declared.Mnemonic.TheVariants.{Values}
 use Rattle.thumb_asm.specs.Chars.{register, strip, is_nil}
-use Rattle.thumb_asm.specs.Operands.{Operand, Register, Raised, Immediate, Expression, Memory, MemoryRegister, MemoryImmediate, Registers, Quoted, ◌>>=◌, closed_by, stripped_by, ends, escape, operand}
+use Rattle.thumb_asm.specs.Operands.{Operand, Register, Raised, Immediate, Expression, Memory, MemoryRegister, MemoryImmediate, Registers, Quoted, ◌>>=◌, closed_by, stripped_by, ends, escape, operand, text_of}
 use Rattle.thumb_asm.specs.Syntax.{as_expression}
 use Rattle.std.specs.List.{list_all}
 
@@ -41,6 +41,10 @@ unfoldable pub good_text : Bool → List ℕ → List ℕ
 good_text escaped [] = []
 good_text true (c ∷ cs) = with_good (escape c) (good_text false cs)
 good_text false (c ∷ cs) = if nat_eq c 34 then [] else if nat_eq c 92 then good_text true cs else c ∷ good_text false cs
+
+-- quoted text has no escape that is none, and ends with its quote; perhaps behind a backslash
+abbrev pub ends_well : Bool → List ℕ → Bool
+ends_well escaped text = is_some (text_of escaped text)
 
 abbrev pub operand_of : Held → Operand
 operand_of (held.Register r) = Register r

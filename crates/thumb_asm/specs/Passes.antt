@@ -1,5 +1,5 @@
 -- What a line and a text come to in the program.
-use Rattle.std.specs.Prelude.{ℕ, ◌+◌, ◌≡◌, List, [], ◌∷◌, ◌++◌, length, map, Option, Some, None, String, string_bytes, bytes_eq, if◌then◌else◌}
+use Rattle.std.specs.Prelude.{ℕ, ◌+◌, ◌≡◌, ◌≤◌, true, IfSome, List, [], ◌∷◌, ◌++◌, length, map, Option, Some, None, String, string_bytes, bytes_eq, if◌then◌else◌}
 use Rattle.thumb_asm.specs.declared.Cause.{Cause}
 use Rattle.thumb_asm.specs.declared.AsmFault.{AsmFault}
 use Rattle.thumb_asm.specs.declared.AsmFault.TheVariants as fault
@@ -7,11 +7,11 @@ use Rattle.thumb_asm.specs.declared.Stop.{Stop}
 use Rattle.thumb_asm.specs.declared.Stop.TheVariants as stop
 use Rattle.thumb_asm.specs.Parts.{parts}
 use Rattle.thumb_asm.specs.Sizes.{statement_of}
-use Rattle.thumb_asm.specs.Meaning.{Names, Env, env_of, Spells}
-use Rattle.thumb_asm.specs.Chars.{entry_at}
+use Rattle.thumb_asm.specs.Meaning.{Names, Env, env_of, Spells, Lays}
+use Rattle.thumb_asm.specs.Chars.{entry_at, is_name}
 use Rattle.thumb_asm.specs.Operands.{or_else}
 use Rattle.std.specs.BTreeMap.{BTreeMap, get_by_text}
-use Rattle.thumb_asm.specs.Causes.{line_size, second_group}
+use Rattle.thumb_asm.specs.Causes.{line_size, first_group, second_group, first_in, second_in, labels_from}
 
 -- names and values as lists of bytes and numbers
 abbrev pub names_of : {A : Type 0} → List (String A × ℕ) → Names
@@ -42,6 +42,24 @@ Stops (stop.Cause c) cause = cause ≡ Some c
 unfoldable pub size_from : ℕ → List (List ℕ) → ℕ
 size_from at [] = 0
 size_from at (l ∷ ls) = line_size at l + size_from (at + line_size at l) ls
+
+-- a label, if there is one, is a name that no earlier line has
+abbrev pub IsFree : Env → Option (List ℕ) → Type 0
+IsFree earlier label = IfSome label (λ name. (is_name name ≡ true) × (earlier name ≡ None))
+
+-- A line has no cause of the first group, and takes so many bytes, for which there is room behind those used; its label is free.
+abbrev pub HasPlace : Env → ℕ → Env → ℕ → List ℕ → ℕ → Type 0
+HasPlace given base earlier used line size = (first_group given base earlier used line ≡ None)
+    × (size ≡ line_size (base + used) line) × (used + size ≤ 1048576) × IsFree earlier (parts line).label
+
+-- No line has a cause of the first group. The map has the labels of the lines, which take so many bytes, not too many.
+abbrev pub HavePlaces : {A : Type 0} → Env → ℕ → List (List ℕ) → BTreeMap (String A) ℕ → ℕ → Type 0
+HavePlaces given base lines labels size = (first_in given base [] 0 1 lines ≡ None)
+    × Indexes labels (labels_from base lines) × (size ≡ size_from base lines) × (size ≤ 1048576)
+
+-- No line has a cause of the second group, and these are the bytes of the lines.
+abbrev pub HaveBytes : Env → ℕ → List (List ℕ) → List ℕ → Type 0
+HaveBytes env base lines bytes = (second_in env base 1 lines ≡ None) × Lays env base lines bytes (labels_from base lines)
 
 -- the bytes of one line at the end
 pub record Emitted (env : Env) (at : ℕ) (line old new : List ℕ) : Type 0 where

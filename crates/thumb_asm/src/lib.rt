@@ -8,6 +8,7 @@ ghost use Rattle.std.specs.Prelude.{◌≡◌};
 ghost use Rattle.thumb_asm.specs.declared.AsmFault.TheVariants.{Memory};
 ghost use Rattle.thumb_asm.specs.Causes.{cause_number};
 
+mod checks;
 mod codes;
 mod data;
 mod expr;

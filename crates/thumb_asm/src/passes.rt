@@ -3,14 +3,13 @@
 ghost use Rattle.std.specs.Prelude.{ℕ, Option, ◌≡◌, ◌++◌, ◌<◌, ◌≤◌, ◌+◌, ◌^◌, ◌-◌, [], option_map, length, OnOk, IfOk, IfErr, IfSome, None, Some, true, false, vec_len};
 ghost use Rattle.std.specs.BTreeMap.{get_by_text};
 ghost use Rattle.text_lines.specs.Text.{lines_of};
-ghost use Rattle.thumb_asm.specs.Chars.{is_name};
 ghost use Rattle.thumb_asm.specs.Parts.{parts};
 ghost use Rattle.thumb_asm.specs.Sizes.{statement_of};
-ghost use Rattle.thumb_asm.specs.Meaning.{env_of, own_label, Lays};
+ghost use Rattle.thumb_asm.specs.Meaning.{env_of, own_label};
 ghost use Rattle.thumb_asm.specs.Assembly.{Assembles};
-ghost use Rattle.thumb_asm.specs.Causes.{first_group, second_group, line_size, label_cause, first_in, second_in, labels_from, first_cause, at_line};
+ghost use Rattle.thumb_asm.specs.Causes.{first_group, second_group, label_cause, first_in, second_in, first_cause, at_line};
 ghost use Rattle.thumb_asm.specs.declared.Cause.{Cause};
-ghost use Rattle.thumb_asm.specs.Passes.{symbol_values, env_in, Indexes, Stops, Refuses, Emitted, size_from};
+ghost use Rattle.thumb_asm.specs.Passes.{symbol_values, env_in, Stops, Refuses, Emitted, HasPlace, HavePlaces, HaveBytes, size_from};
 
 use super::index::{self, Names, find};
 use super::parts::line_of;
@@ -62,7 +61,7 @@ fn check_label(label: Option<&[u8]>, names: &Names<'_>) -> Option<Cause>
 fn survey_line(line: &[u8], base: u32, used: u32, names: &Names<'_>) -> Result<u32, Cause>
     requires base { base + 1048576 < 2 ^ 32 }
     requires used { used ≤ 1048576 }
-    ensures ok { IfOk result (λ size. (first_group (get_by_text names.now.symbols.now) base (get_by_text names.now.labels.now) used line.now ≡ None) × (size ≡ line_size (base + used) line.now) × (used + size ≤ 1048576) × IfSome (parts line.now).label (λ name. (is_name name ≡ true) × (get_by_text names.now.labels.now name ≡ None))) }
+    ensures ok { IfOk result (HasPlace (get_by_text names.now.symbols.now) base (get_by_text names.now.labels.now) used line.now) }
     ensures err { IfErr result (λ c. first_group (get_by_text names.now.symbols.now) base (get_by_text names.now.labels.now) used line.now ≡ Some c) }
 {
     if line.len() > 255 {
@@ -98,7 +97,7 @@ fn place_lines(
     symbols: &BTreeMap<String, u32>,
 ) -> Result<Survey, AsmFault>
     requires { base + 1048576 < 2 ^ 32 }
-    ensures ok { IfOk result (λ s. (first_in (get_by_text symbols.now) base [] 0 1 (lines_of text.now) ≡ None) × Indexes s.labels (labels_from base (lines_of text.now)) × (s.size ≡ size_from base (lines_of text.now)) × (s.size ≤ 1048576)) }
+    ensures ok { IfOk result (λ s. HavePlaces (get_by_text symbols.now) base (lines_of text.now) s.labels s.size) }
     ensures err { IfErr result (λ e. Refuses e (first_in (get_by_text symbols.now) base [] 0 1 (lines_of text.now))) }
 {
     let mut labels: BTreeMap<String, u32> = BTreeMap::new(alloc);
@@ -153,7 +152,7 @@ fn fault_at(stop: Stop, line: usize) -> AsmFault
 fn emit(alloc: Global, text: &[u8], base: u32, names: &Names<'_>) -> Result<Vec<u8>, AsmFault>
     requires base { base + 1048576 < 2 ^ 32 }
     requires size { size_from base (lines_of text.now) ≤ 1048576 }
-    ensures ok { IfOk result (λ v. (second_in (env_in names.now.labels.now names.now.symbols.now) base 1 (lines_of text.now) ≡ None) × Lays (env_in names.now.labels.now names.now.symbols.now) base (lines_of text.now) v.items (labels_from base (lines_of text.now))) }
+    ensures ok { IfOk result (λ v. HaveBytes (env_in names.now.labels.now names.now.symbols.now) base (lines_of text.now) v.items) }
     ensures err { IfErr result (λ e. Refuses e (second_in (env_in names.now.labels.now names.now.symbols.now) base 1 (lines_of text.now))) }
 {
     let mut out: Vec<u8> = Vec::new(alloc);

@@ -1,9 +1,9 @@
 //! Texts in quotes.
 
-ghost use Rattle.std.specs.Prelude.{◌≡◌, ◌∷◌, ◌++◌, ◌<◌, ◌≤◌, true, false, length, is_some, bytes_eq, MatchOption, IfSome, OnOk, IfErr, Option, []};
+ghost use Rattle.std.specs.Prelude.{◌≡◌, ◌∷◌, ◌++◌, ◌<◌, ◌≤◌, true, false, length, bytes_eq, MatchOption, IfSome, OnOk, IfErr, Option, []};
 ghost use Rattle.thumb_asm.specs.declared.Cause.{Cause as Why};
-ghost use Rattle.thumb_asm.specs.Operands.{escape, text_of};
-ghost use Rattle.thumb_asm.specs.Kinds.{good_text};
+ghost use Rattle.thumb_asm.specs.Operands.{escape};
+ghost use Rattle.thumb_asm.specs.Kinds.{ends_well, good_text};
 ghost use Rattle.thumb_asm.specs.Passes.{Stops};
 
 use super::Stop;
@@ -31,10 +31,10 @@ fn escape(c: u8) -> Option<u8>
 impl<'a> Quoted<'a> {
     /// The next byte that the text says. None: at the closing quote, at an escape that is none, or
     /// at the end.
-    #[tactic(auto, unfolding(crate::specs::Kinds::good_text), using(crate::proofs::Texts::stops_at_end, crate::proofs::Texts::stops_at_quote, crate::proofs::Texts::stops_at_escape, crate::proofs::Texts::goes_behind_byte, crate::proofs::Texts::goes_behind_slash))]
+    #[tactic(auto, unfolding(crate::specs::Kinds::good_text), using(crate::proofs::Texts::next_steps))]
     fn next(&mut self) -> Option<u8>
         ensures byte { MatchOption result (good_text false self.old.rest.now ≡ []) (λ c. good_text false self.old.rest.now ≡ c ∷ good_text false self.new.rest.now) }
-        ensures closed { MatchOption result (is_some (text_of false self.old.rest.now) ≡ bytes_eq self.new.rest.now (34 ∷ [])) (λ c. is_some (text_of false self.old.rest.now) ≡ is_some (text_of false self.new.rest.now)) }
+        ensures closed { MatchOption result (ends_well false self.old.rest.now ≡ bytes_eq self.new.rest.now (34 ∷ [])) (λ c. ends_well false self.old.rest.now ≡ ends_well false self.new.rest.now) }
         ensures shorter { IfSome result (λ c. length self.new.rest.now < length self.old.rest.now) }
     {
         match head(self.rest) {
@@ -60,10 +60,10 @@ impl<'a> Quoted<'a> {
 }
 
 /// The byte behind a backslash, and what follows it.
-#[tactic(auto, unfolding(crate::specs::Kinds::good_text), using(crate::proofs::Texts::good_escape, crate::proofs::Texts::bad_escape, crate::proofs::Texts::escape_at_end))]
+#[tactic(auto, unfolding(crate::specs::Kinds::good_text), using(crate::proofs::Texts::escape_steps))]
 fn escaped(rest: &[u8]) -> Option<(u8, &[u8])>
     ensures byte { MatchOption result (good_text true rest.now ≡ []) (λ p. good_text true rest.now ≡ p.0 ∷ good_text false p.1.now) }
-    ensures closed { MatchOption result (is_some (text_of true rest.now) ≡ false) (λ p. is_some (text_of true rest.now) ≡ is_some (text_of false p.1.now)) }
+    ensures closed { MatchOption result (ends_well true rest.now ≡ false) (λ p. ends_well true rest.now ≡ ends_well false p.1.now) }
     ensures shorter { IfSome result (λ p. length p.1.now < length rest.now) }
 {
     match head(rest) {
@@ -77,7 +77,7 @@ fn escaped(rest: &[u8]) -> Option<(u8, &[u8])>
 
 /// Does a text end with its closing quote, and has it no bad escape?
 pub(crate) fn is_closed(text: &[u8]) -> bool
-    ensures { result ≡ is_some (text_of false text.now) }
+    ensures { result ≡ ends_well false text.now }
 {
     let mut left = Quoted { rest: text };
     'bytes: while let Some(_) = left.next() {}
