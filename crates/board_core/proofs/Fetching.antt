@@ -1,9 +1,9 @@
 -- The instruction that is fetched for the current task is the one of the turn.
-use Rattle.std.proofs.Common.{◌≡◌, ◌%◌, ◌^◌, ◌<◌, ℕ, sym, ◌∙◌, ap}
+use Rattle.std.proofs.Common.{◌≡◌, ◌%◌, ℕ, sym, ◌∙◌, ap}
 use Rattle.std.specs.Prelude.{Result}
 use Rattle.kernel_abi.specs.declared.Fault.{Fault}
-use Rattle.thumb_step.specs.declared.Fetched.{Fetched}
-use Rattle.thumb_step.specs.Fetch.{fetched}
+use Rattle.thumb_exec.specs.declared.fetch.Fetched.{Fetched}
+use Rattle.thumb_exec.specs.Fetch.{fetched}
 use Rattle.task_table.specs.Holds.{setup_of, current_of, memory_of}
 use Rattle.mem_banks.specs.Memory.{Memory, number_at}
 use Rattle.task_table.specs.Reading.{register}
@@ -11,8 +11,7 @@ use Rattle.task_table.specs.State.{Setup, Turn}
 use Rattle.board_core.specs.declared.machine.Machine.{Machine}
 use Rattle.board_model.specs.declared.outcomes.Level.{Level}
 use Rattle.board_core.specs.Machine.{IsReady}
-use Rattle.board_model.specs.Turn.{refusals, stepped}
-use Rattle.board_core.proofs.WindowFetches.{carried, stepped_carried, even_near}
+use Rattle.board_model.specs.Turn.{refusals, stepped_by, stepped}
 use Rattle.board_core.proofs.Gliding.{current_seen}
 use Rattle.board_core.proofs.Loading.{rest_of}
 
@@ -32,8 +31,9 @@ module _ (g : Setup) (m : Machine) (t : Turn) (r : IsReady g m t) where
       ∙ ap (λ (x : Memory). fetched (refusals g t.state.current) (number_at x) at) (h.holds.memory ∙ sym rest.memory)
 
   -- what the bus of the current task fetches, carried out, is the instruction of the turn
-  pub fetched_stepped : (level : Level) (at : ℕ) (x y : Result Fetched Fault) → at ≡ register t.state t.state.current 15 → at < 2 ^ 32 → x ≡ fetched (refusals (setup_of m.reach.kernel) (current_of m.reach.kernel)) (number_at (memory_of m.reach.kernel)) at → x ≡ y →
-      carried level g t.state.current at y t ≡ stepped level g t.state.current t
-  fetched_stepped level at x y is small from same =
-      let near = even_near at (even_pc at is) small in
-      ap (λ (z : Result Fetched Fault). carried level g t.state.current at z t) (sym same ∙ from ∙ fetched_here at) ∙ stepped_carried level g t.state.current t at is near.0 near.1
+  pub fetched_stepped : (level : Level) (at : ℕ) (x y : Result Fetched Fault) → at ≡ register t.state t.state.current 15 → x ≡ fetched (refusals (setup_of m.reach.kernel) (current_of m.reach.kernel)) (number_at (memory_of m.reach.kernel)) at → x ≡ y →
+      stepped_by level g t.state.current at y t ≡ stepped level g t.state.current t
+  unfolding stepped
+  fetched_stepped level at x y is from same =
+      ap (λ (z : Result Fetched Fault). stepped_by level g t.state.current at z t) (sym same ∙ from ∙ fetched_here at)
+      ∙ ap (λ (a : ℕ). stepped_by level g t.state.current a (fetched (refusals g t.state.current) (number_at t.state.memory) a) t) is

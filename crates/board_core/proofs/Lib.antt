@@ -1,4 +1,3 @@
-pub mod WindowFetches
 pub mod WindowCovers
 pub mod WindowTurns
 pub mod Running

@@ -5,7 +5,7 @@ use Rattle.region_check.specs.declared.Right.{Right}
 use Rattle.region_check.specs.declared.Right.TheVariants.{Read, Write, Execute}
 use Rattle.region_check.proofs.FirstBad.{find_range_none}
 use Rattle.mem_banks.specs.Memory.{Memory, number_of, number_at}
-use Rattle.thumb_step.specs.Fetch.{WidensFetch}
+use Rattle.thumb_exec.specs.Fetch.{WidensFetch}
 use Rattle.thumb_step.specs.Windows.{View, has, given, number_in, refused_by, held_by}
 use Rattle.task_table.specs.State.{Setup}
 use Rattle.board_model.specs.Turn.{may, refusals}

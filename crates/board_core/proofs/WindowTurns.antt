@@ -4,7 +4,6 @@ use Rattle.std.specs.Prelude.{fold, Result, Ok, Err}
 use Rattle.std.proofs.lemmas.Bool.{le-leb, ltb-true, ltb-false}
 use Rattle.std.proofs.lemmas.List.{set-set, set-get_or, length-append, same_lists, places}
 use Rattle.kernel_abi.specs.declared.Fault.{Fault}
-use Rattle.region_check.specs.declared.Right.TheVariants.{Execute}
 use Rattle.run_script.specs.Scripts.{events_of}
 use Rattle.mem_banks.specs.Memory.{Memory, number_at, with_bytes, pasted, is_ram}
 use Rattle.mem_banks.proofs.Copies.{length-pasted}
@@ -12,8 +11,8 @@ use Rattle.words_core.specs.Regs.{reg_at}
 use Rattle.thumb_exec.specs.declared.cpu.Cpu.{Cpu}
 use Rattle.thumb_exec.specs.Effect.{Effect, Next, Store}
 use Rattle.thumb_exec.specs.Sizes.{IsSize}
-use Rattle.thumb_step.specs.declared.Fetched.{Fetched}
-use Rattle.thumb_step.specs.Fetch.{fetched, fetched_by, unless_barred, executed as executed_by, step_effect}
+use Rattle.thumb_exec.specs.declared.fetch.Fetched.{Fetched}
+use Rattle.thumb_exec.specs.Fetch.{fetched, executed as executed_by, step_effect}
 use Rattle.thumb_step.proofs.Widening.{step_wider}
 use Rattle.thumb_step.specs.Windows.{View, has, refused_by, held_by, bytes_of, put as write, GoesOn, Glides, Keeps, AreInside}
 use Rattle.thumb_step.proofs.Gliding.{kept, kept_on}
@@ -25,7 +24,7 @@ use Rattle.task_table.specs.Sane.{Sane, IsCounted}
 use Rattle.task_table.proofs.Changes.{task_at-with_task}
 use Rattle.board_model.specs.declared.outcomes.Level.TheVariants.{Brief}
 use Rattle.board_model.specs.Script.{Scenario}
-use Rattle.board_model.specs.Turn.{refusals, cpu_of, put, acted, stepped, after_events, with_registers_noted, turn_of, ended, turn}
+use Rattle.board_model.specs.Turn.{refusals, cpu_of, put, acted, stepped_by, stepped, after_events, with_registers_noted, turn_of, ended, turn}
 use Rattle.board_model.specs.Run.{is_down, turn_after, state_after}
 use Rattle.board_model.proofs.TurnChains.{chosen_is, sane-after}
 use Rattle.board_model.proofs.Stepping.{puts_state}
@@ -36,21 +35,12 @@ use Rattle.board_model.proofs.Further.{last_turn}
 use Rattle.board_core.specs.Windowed.{IsWindow, later, AreTurns}
 use Rattle.mem_banks.specs.Loans.{IsInRam}
 use Rattle.mem_banks.proofs.Windows.{written_inside, written_same, region_written, same_ram_length, same_flash_length, bytes_below}
-use Rattle.board_core.proofs.WindowFetches.{carried, stepped_carried, near_flash}
-use Rattle.board_core.proofs.WindowCovers.{inside, all_there, widens}
+use Rattle.board_core.proofs.WindowCovers.{inside, widens}
 
 -- ## the instruction of the turn
 
-not_next : {P : Type 0} (e : Effect) (d : Cpu) (ss : List Store) → e ≡ Next d ss → P → P
-not_next e d ss is p = p
-
--- what goes on was fetched from the flash
-fetched_from : (v : View) (o : Option ℕ) (c d : Cpu) (ss : List Store) (at : ℕ) (r : Result Fetched Fault) → executed_by (refused_by v) (held_by v) c (unless_barred o at r) ≡ Next d ss → o ≡ None
-fetched_from v None c d ss at r e = refl
-fetched_from v (Some byte) c d ss at r e = absurd cc
-
--- carried out, it is its effect
-carried_next : (g : Setup) (c : ℕ) (t : Turn) (at : ℕ) (d : Cpu) (ss : List Store) (r : Result Fetched Fault) → executed_by (refusals g c) (number_at t.state.memory) (cpu_of (task_at t.state c)) r ≡ Next d ss → carried Brief g c at r t ≡ acted g c (Next d ss) t
+-- carried out, what was fetched is its effect
+carried_next : (g : Setup) (c : ℕ) (t : Turn) (at : ℕ) (d : Cpu) (ss : List Store) (r : Result Fetched Fault) → executed_by (refusals g c) (number_at t.state.memory) (cpu_of (task_at t.state c)) r ≡ Next d ss → stepped_by Brief g c at r t ≡ acted g c (Next d ss) t
 carried_next g c t at d ss (Ok f) e = ap (λ (x : Effect). acted g c x t) e
 carried_next g c t at d ss (Err fault) e = absurd cc
 
@@ -58,22 +48,11 @@ module _ (g : Setup) (c : ℕ) (t : Turn) (v w : View) (d : Cpu) (window : IsWin
   wide : step_effect (refusals g c) (number_at t.state.memory) (cpu_of (task_at t.state c)) ≡ Next d on.stores
   wide = step_wider (refused_by v) (refusals g c) (held_by v) (number_at t.state.memory) (widens g c t.state.memory v window) (cpu_of (task_at t.state c)) d on.stores on.effect
 
-  place : ℕ
-  place = reg_at (cpu_of (task_at t.state c)).regs 15
-
-  from_flash : (v.flash_base ≤ place) × (place + 2 ≤ v.flash_base + length v.flash)
-  unfolding place
-  from_flash =
-      let at : ℕ = reg_at (cpu_of (task_at t.state c)).regs 15 in
-      inside v.flash_base v.flash at 2 (all_there _ at (fetched_from v (refused_by v at 2 Execute) (cpu_of (task_at t.state c)) d on.stores at (fetched_by (refused_by v) (held_by v) at (held_by v at 2)) on.effect))
-
   pub stepped_next : stepped Brief g c t ≡ acted g c (Next d on.stores) t
-  unfolding place register
+  unfolding stepped register
   stepped_next =
       let at : ℕ = reg_at (cpu_of (task_at t.state c)).regs 15 in
-      let near = near_flash at (omega (arith, from_flash.1, window.in_flash.2)) in
-      sym (stepped_carried Brief g c t at refl near.0 near.1)
-      ∙ carried_next g c t at d on.stores (fetched (refusals g c) (number_at t.state.memory) at) wide
+      carried_next g c t at d on.stores (fetched (refusals g c) (number_at t.state.memory) at) wide
 
 -- ## its stores
 

@@ -14,7 +14,7 @@ use Rattle.mem_banks.specs.Loans.{IsInMemory, IsInRam, IsInFlash}
 use Rattle.mem_banks.proofs.Windows.{region_length}
 use Rattle.thumb_exec.specs.declared.cpu.Cpu.{Cpu}
 use Rattle.thumb_exec.specs.Effect.{Halts}
-use Rattle.thumb_step.specs.Fetch.{step_effect}
+use Rattle.thumb_exec.specs.Fetch.{step_effect}
 use Rattle.thumb_step.specs.Windows.{View, refused_by, held_by}
 use Rattle.task_table.specs.State.{Setup, State, Task, Turn}
 use Rattle.task_table.specs.Start.{begun}

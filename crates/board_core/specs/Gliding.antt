@@ -4,7 +4,7 @@ use Rattle.std.specs.Prelude.{ℕ, ◌≡◌, ◌⊎◌, ◌+◌, ◌≤◌, ◌
 use Rattle.std.specs.List.{list_any}
 use Rattle.mem_banks.specs.Memory.{with_bytes}
 use Rattle.thumb_exec.specs.Effect.{Halts}
-use Rattle.thumb_step.specs.Fetch.{step_effect}
+use Rattle.thumb_exec.specs.Fetch.{step_effect}
 use Rattle.thumb_step.specs.Windows.{View, Glides, refused_by, held_by}
 use Rattle.task_table.specs.State.{Setup, Turn}
 use Rattle.task_table.specs.Reading.{task_at, setup_at, register}

@@ -5,10 +5,11 @@ use Rattle.region_check.specs.declared.Region.{Region}
 use Rattle.region_check.specs.declared.Right.TheVariants.{Read, Write, Execute}
 use Rattle.mem_banks.specs.Memory.{Memory, bytes_at, with_bytes}
 use Rattle.mem_banks.specs.Loans.{IsInFlash, IsInRam}
+use Rattle.run_script.specs.Scripts.{events_of}
 use Rattle.thumb_exec.specs.declared.cpu.Cpu.{Cpu}
 use Rattle.std.specs.List.{list_any}
 use Rattle.thumb_exec.specs.Effect.{Halts}
-use Rattle.thumb_step.specs.Fetch.{step_effect}
+use Rattle.thumb_exec.specs.Fetch.{step_effect}
 use Rattle.thumb_step.specs.Windows.{View, refused_by, held_by}
 use Rattle.board_core.specs.Reached.{is_flash_at, AreReached}
 use Rattle.task_table.specs.State.{Setup, State}
@@ -51,6 +52,11 @@ pub record IsAtEnd (g : Setup) (c pc sp : ℕ) (s : State) : Type 0 where
 -- that, or the task fetches from no region of the flash
 abbrev pub MustStop : Setup → ℕ → ℕ → ℕ → State → Type 0
 MustStop g c pc sp s = IsAtEnd g c pc sp s ⊎ (list_any (is_flash_at (register s c program_counter)) (setup_at g c).regions ≡ false)
+
+-- a task that is chosen and the current one is within a window of its memory, and nothing happens in n turns from now on
+abbrev pub IsUndisturbed : Scenario → State → ℕ → View → ℕ → Type 0
+IsUndisturbed x s c v n =
+    (chosen x.setup s ≡ Some c) × (s.current ≡ c) × IsWindow x.setup c s.memory v × ((k : ℕ) → k < n → events_of x.script (s.turn + k) ≡ [])
 
 -- n turns later, in which a task's processor and the memory alone changed
 abbrev pub later : State → ℕ → Cpu → Memory → ℕ → State

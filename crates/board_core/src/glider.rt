@@ -1,7 +1,7 @@
 //! The processor of the current task while it is lent the bytes of two of the task's regions.
 ghost use Rattle.std.specs.Prelude.{◌≡◌, ◌≤◌, ◌<◌};
 ghost use Rattle.thumb_exec.specs.Effect.{Halts};
-ghost use Rattle.thumb_step.specs.Fetch.{step_effect};
+ghost use Rattle.thumb_exec.specs.Fetch.{step_effect};
 ghost use Rattle.thumb_step.specs.Windows.{Glides, IsApart, Keeps, view_of, refused_by, held_by};
 ghost use Rattle.board_core.specs.Gliding.{HasWorked};
 

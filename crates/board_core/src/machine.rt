@@ -29,7 +29,7 @@ use thumb_exec::step::exec;
 use thumb_insn::Insn;
 use thumb_step::fetch;
 use timer_irq::{interrupt, tick};
-use words_core::{Flags, Regs};
+use words_core::{Flags, PROGRAM_COUNTER, Regs, STACK_POINTER};
 
 /// A kernel and a processor. While the context of the current task is loaded, that task's registers
 /// and flags are the processor's; what the kernel has of them is of an earlier time.
@@ -345,7 +345,7 @@ impl Machine {
         ensures holds { (g : Setup) (t : Turn) → IsReady g self.old t → MachineHolds g self.new (stepped level g t.state.current t) }
         ensures count { note_count self.new.reach.kernel ≤ note_count self.old.reach.kernel + syscall_notes + 2 }
     {
-        let at = self.processor.regs.get(15);
+        let at = self.processor.regs.get(PROGRAM_COUNTER);
         match fetch(&self.reach, at) {
             Ok(fetched) => {
                 self.note_insn(level, at, fetched.code);
@@ -373,7 +373,7 @@ impl Machine {
             }
             Some(task) => {
                 self.load_context(task);
-                let at = self.processor.regs.get(15);
+                let at = self.processor.regs.get(PROGRAM_COUNTER);
                 self.step(level);
                 self.note_task(level, task);
                 Turned::Ran {
@@ -392,8 +392,8 @@ impl Machine {
         ensures within { result ≤ most }
         ensures count { note_count self.new.reach.kernel ≡ note_count self.old.reach.kernel }
     {
-        let pc = self.processor.regs.get(15);
-        let sp = self.processor.regs.get(13);
+        let pc = self.processor.regs.get(PROGRAM_COUNTER);
+        let sp = self.processor.regs.get(STACK_POINTER);
         let Some((flash, ram)) = self.reach.window(pc, sp) else {
             return 0;
         };

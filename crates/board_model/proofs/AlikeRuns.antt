@@ -113,7 +113,7 @@ reduced-run level x n s sane =
     let births : ℕ → ℕ = λ b. b % 64 in
     let noted_at : (u : State) → Sane x.setup u → AreTellable births (after_events x u).state = λ u h. told_sanely births x.setup (after_events x u).state (sane-after_events x u h) in
     let start = alike-reduced s in
-    let r = alike-run archivist attentive_archivist level level (level_heard level) x (λ c. record { rights = λ right b e. refl; beyond = λ b e. refl }) (λ b. refl) (Sane x.setup) (Sane x.setup) noted_at noted_at (λ u h. sane-after level x u h) (λ u h. sane-after level x u h) n (reduced s) s (sane-reduced x.setup s sane) sane record { state = start.state; memory = start.memory } in
+    let r = alike-run archivist attentive_archivist level level (level_heard level) x (λ c. record { rights = λ right b e. refl }) (λ b. refl) (Sane x.setup) (Sane x.setup) noted_at noted_at (λ u h. sane-after level x u h) (λ u h. sane-after level x u h) n (reduced s) s (sane-reduced x.setup s sane) sane record { state = start.state; memory = start.memory } in
     record {
       last = reduced_from _ _ r.last.state (memories_same _ _ r.last.memory);
       notes = r.notes ∙ sym (all_heard (run level x n s).notes);

@@ -1,5 +1,5 @@
 -- Turns leave alike states alike.
-use Rattle.std.proofs.Common.{◌≡◌, ◌+◌, ◌<◌, ◌≤◌, ◌%◌, ◌^◌, ℕ, Bool, true, false, cond, leb, ltb, ◌&&◌, List, Option, Some, None, refl, sym, ◌∙◌, ap, arith, inl, inr, eq-or-lt_of_le, ltb-true, ltb-false}
+use Rattle.std.proofs.Common.{◌≡◌, ◌+◌, ◌<◌, ◌≤◌, ℕ, Bool, true, false, cond, leb, ◌&&◌, List, Option, Some, None, refl, sym, ◌∙◌, ap}
 use Rattle.std.specs.Prelude.{fold}
 use Rattle.kernel_abi.specs.declared.Note.{Note}
 use Rattle.kernel_abi.specs.declared.Note.TheVariants as note
@@ -18,7 +18,7 @@ use Rattle.task_table.specs.Start.{begun}
 use Rattle.board_model.specs.declared.outcomes.Level.{Level}
 use Rattle.board_model.specs.declared.outcomes.Level.TheVariants.{Brief, All}
 use Rattle.board_model.specs.Script.{Scenario}
-use Rattle.board_model.specs.Turn.{may, cpu_of, bytes_of, put, noted_at, may_fetch, stepped, happened, after_events, with_current, low_note, high_note, with_registers_noted, turn_of, ended, turn}
+use Rattle.board_model.specs.Turn.{may, cpu_of, bytes_of, put, noted_at, stepped, happened, after_events, with_current, low_note, high_note, with_registers_noted, turn_of, ended, turn}
 use Rattle.board_model.specs.Alike.{Viewer, IsAttentive, IsAlike, IsAlikeWhereSeen}
 use Rattle.board_model.specs.Agreement.{rest_of}
 use Rattle.board_model.proofs.Alike.{register_alike, chosen_alike, bytes_alike, turn_alike}
@@ -62,10 +62,6 @@ notable_syscall_noted : (v : ℕ → ℕ) (c : ℕ) (t : Turn) → AreTellable v
 unfolding syscall_noted noted
 notable_syscall_noted v c t h = h
 
-pub both : (a b : Bool) → (a && b) ≡ true → (a ≡ true) × (b ≡ true)
-both true b h = (refl, h)
-both false b h = cc
-
 module _ (w : Viewer) (a : IsAttentive w) where
   alike-noted_at : (l m : Level) → IsHeardAs w l m → (n k : Note) (t u : Turn) → n ≡ k → is_noted_always n ≡ false → IsAlike w t u → IsAlike w (noted_at l n t) (noted_at m k u)
   alike-noted_at l m heard n k t u e request h = rw (sym e) (go l m heard)
@@ -84,36 +80,12 @@ module _ (w : Viewer) (a : IsAttentive w) where
 
   -- the walk of an instruction, to this viewer
   module _ (l m : Level) (heard : IsHeardAs w l m) (g : Setup) (c : ℕ) (open_to : IsOpen w g c) where
-    half_alike : (t u : Turn) (at : ℕ) → IsAlike w t u → may_fetch g c at ≡ true → number_at t.state.memory at 2 ≡ number_at u.state.memory at 2
-    half_alike t u at h fetch =
-        let e = both (may g c Execute at) (may g c Execute ((at + 1) % 2 ^ 32)) fetch in
-        ap number_of (bytes_alike w.sees t.state.memory u.state.memory at 2 h.memory (λ x lo hi. seen_at x lo hi e))
-      where
-        second : may g c Execute ((at + 1) % 2 ^ 32) ≡ true → w.sees (at + 1) ≡ true
-        second e = go (ltb (at + 1) (2 ^ 32)) refl
-          where
-            go : (b : Bool) → ltb (at + 1) (2 ^ 32) ≡ b → w.sees (at + 1) ≡ true
-            go true q =
-                let below : at + 1 < 2 ^ 32 = ltb-true _ _ q in
-                let same : (at + 1) % 2 ^ 32 ≡ at + 1 = omega arith in
-                ap w.sees (sym same) ∙ open_to.rights Execute _ e
-            go false q =
-                let above : 2 ^ 32 ≤ at + 1 = ltb-false _ _ q in
-                open_to.beyond (at + 1) (omega arith)
-
-        seen_at : (x : ℕ) → at ≤ x → x < at + 2 → (may g c Execute at ≡ true) × (may g c Execute ((at + 1) % 2 ^ 32) ≡ true) → w.sees x ≡ true
-        seen_at x lo hi e = elim (eq-or-lt_of_le lo) [
-          | inl same ↦ ap w.sees (sym same) ∙ open_to.rights Execute at e.0
-          | inr above ↦ let same : x ≡ at + 1 = omega arith in ap w.sees same ∙ second e.1
-        ]
-
     followed : IsFollowed l m g g c c (AreAlikeAndNoted w) (IsAlikeWhereSeen w)
     followed = record {
-      fetch = λ x. refl;
       refused = refl;
       pc = λ t u h. register_alike w.birth t.state u.state c 15 h.alike.state;
       cpu = λ t u h. ap cpu_of (the_task w a c t u h.alike);
-      half = λ t u at h fetch. half_alike t u at h.alike fetch;
+      fetches = λ t u h a e. ap number_of (bytes_alike w.sees t.state.memory u.state.memory a 2 h.alike.memory (λ x lo hi. open_to.rights Execute x (none_lacking (may g c Execute) a 2 e x lo hi)));
       loads = λ t u h at n e. ap number_of (bytes_alike w.sees t.state.memory u.state.memory at n h.alike.memory (λ x lo hi. open_to.rights Read x (none_lacking (may g c Read) at n e x lo hi)));
       noted_at = λ at code t u h. record { alike = alike-noted_at l m heard (note.Insn c at code) (note.Insn c at code) t u refl refl h.alike; first = notable_noted w.birth l _ t h.first; second = notable_noted w.birth m _ u h.second };
       put = λ x t u h. record { alike = alike-put x t u h.alike; first = notable_put w.birth t x h.first; second = notable_put w.birth u x h.second };

@@ -4,21 +4,12 @@ use Rattle.kernel_abi.specs.declared.Handled.TheVariants as handled
 use Rattle.kernel_abi.specs.declared.Listened.TheVariants as listened
 use Rattle.kernel_abi.specs.declared.Note.{Note}
 use Rattle.kernel_abi.specs.declared.Note.TheVariants as note
-use Rattle.region_check.specs.Rights.{first_bad}
-use Rattle.thumb_insn.specs.Table.{rows, narrow_of, wide_rows, wide_of}
-use Rattle.thumb_exec.specs.Effect.{words, transfers, first_refused, stores_of, loaded_all, ones, count, effect}
-use Rattle.mem_banks.specs.Memory.{bytes_at, with_bytes, copied as copied_memory}
-use Rattle.task_table.specs.Reading.{task_at, line_at, register, arguments, call_of, listen_of, dead_code_for, is_out, is_dead, is_ready, bad_byte, chosen, offer_by, best_sender}
-use Rattle.task_table.specs.Effects.{with_task, without_call, without_listen, with_listen, with_taken, noted, with_processor, with_health, stored, copied, looked, given, returned, past_syscall, bits_added, bits_cleared, woken, posted, with_timer, clocked, with_line, closed, faulted_as, handed}
-use Rattle.task_table.specs.Events.{ticked, owner_of, interrupted}
-use Rattle.task_table.specs.Rows.{panicked, timer_set, timer_answered, irq_controlled, received, syscall_noted}
-use Rattle.task_table.specs.Syscalls.{syscall_made}
-use Rattle.task_table.specs.Start.{start, begun}
+use Rattle.task_table.specs.Start.{start}
 use Rattle.board_model.specs.declared.outcomes.End.TheVariants.{Bound}
 use Rattle.board_model.specs.declared.outcomes.Level.TheVariants.{All}
-use Rattle.board_model.specs.Run.{Run, run, ending}
-use Rattle.board_model.specs.Turn.{after_events, stepped, with_registers_noted, ended, turn}
+use Rattle.board_model.specs.Run.{Run, run}
 use Rattle.board_model.proofs.FiveTasks.{setup, scenario}
+use Rattle.board_model.proofs.Computed.{computed}
 
 expected : List (ℕ × Note)
 expected =
@@ -164,5 +155,5 @@ IsTrace : Run → Type 0
 IsTrace r = (r.notes ≡ expected) × (r.end ≡ Bound) × (r.last.now ≡ 1)
 
 agrees : IsTrace (run All scenario 40 (start setup))
-unfolding setup scenario expected IsTrace run ending after_events turn ended stepped begun start with_registers_noted ticked interrupted owner_of panicked timer_set timer_answered irq_controlled received syscall_noted syscall_made with_task without_call without_listen with_listen with_taken noted with_processor with_health stored copied looked given returned past_syscall bits_added bits_cleared woken posted with_timer clocked with_line closed faulted_as handed task_at line_at register arguments call_of listen_of dead_code_for is_out is_dead is_ready bad_byte chosen offer_by best_sender bytes_at with_bytes copied_memory first_bad words transfers first_refused stores_of loaded_all ones count effect rows narrow_of wide_rows wide_of
+unfolding setup scenario expected IsTrace computed
 agrees = (refl, refl, refl)

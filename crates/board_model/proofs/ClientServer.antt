@@ -5,23 +5,13 @@ use Rattle.kernel_abi.specs.declared.Ending.TheVariants as ending
 use Rattle.kernel_abi.specs.declared.Listened.TheVariants as listened
 use Rattle.kernel_abi.specs.declared.Note.{Note}
 use Rattle.kernel_abi.specs.declared.Note.TheVariants as note
-use Rattle.region_check.specs.Rights.{first_bad}
-use Rattle.thumb_insn.specs.Table.{rows, narrow_of, wide_rows, wide_of}
-use Rattle.thumb_exec.specs.Effect.{words, transfers, first_refused, stores_of, loaded_all, ones, count, effect}
 use Rattle.task_table.specs.State.{Setup}
-use Rattle.mem_banks.specs.Memory.{bytes_at, with_bytes, copied as copied_memory}
-use Rattle.task_table.specs.Reading.{task_at, line_at, register, arguments, call_of, listen_of, dead_code_for, is_out, is_dead, present_id, is_ready, bad_byte, chosen, offer_by, taken_by, best_sender}
-use Rattle.task_table.specs.Effects.{with_task, without_call, without_listen, with_listen, with_taken, noted, with_processor, with_health, stored, copied, looked, given, returned, past_syscall, bits_added, bits_cleared, woken, posted, with_timer, clocked, with_line, closed, faulted_as, with_call, offered, handed}
-use Rattle.task_table.specs.Events.{ticked, owner_of, interrupted}
-use Rattle.task_table.specs.Rows.{panicked, timer_set, timer_answered, irq_controlled, received, syscall_noted}
-use Rattle.task_table.specs.Sends.{sent, replied, reply_faulted, post_made, refreshed}
-use Rattle.task_table.specs.Syscalls.{syscall_made}
-use Rattle.task_table.specs.Start.{start, begun}
+use Rattle.task_table.specs.Start.{start}
 use Rattle.board_model.specs.declared.outcomes.End.TheVariants.{Still}
 use Rattle.board_model.specs.declared.outcomes.Level.TheVariants.{Brief}
 use Rattle.board_model.specs.Script.{Scenario}
-use Rattle.board_model.specs.Run.{Run, run, ending}
-use Rattle.board_model.specs.Turn.{after_events, stepped, with_registers_noted, ended, turn}
+use Rattle.board_model.specs.Run.{Run, run}
+use Rattle.board_model.proofs.Computed.{computed}
 
 setup : Setup
 setup = record {
@@ -88,5 +78,5 @@ IsTrace : Run → Type 0
 IsTrace r = (r.notes ≡ expected) × (r.end ≡ Still) × (r.last.turn ≡ 119)
 
 agrees : IsTrace (run Brief scenario 200 (start setup))
-unfolding setup scenario expected IsTrace first_bad words transfers first_refused stores_of loaded_all ones count effect rows narrow_of wide_rows wide_of run ending after_events turn ended stepped with_registers_noted bytes_at with_bytes copied_memory task_at line_at register arguments call_of listen_of dead_code_for is_out is_dead present_id is_ready bad_byte chosen offer_by taken_by best_sender with_task without_call without_listen with_listen with_taken noted with_processor with_health stored copied looked given returned past_syscall bits_added bits_cleared woken posted with_timer clocked with_line closed faulted_as with_call offered handed ticked owner_of interrupted panicked timer_set timer_answered irq_controlled received syscall_noted sent replied reply_faulted post_made refreshed syscall_made start begun
+unfolding setup scenario expected IsTrace computed
 agrees = (refl, refl, refl)

@@ -1,19 +1,17 @@
 -- A turn whose task faults changes nothing else: so does its instruction, or its system call, and what is noted changes nothing.
-use Rattle.std.proofs.Common.{◌≡◌, ◌+◌, ◌*◌, ◌%◌, ◌^◌, ◌<◌, ℕ, true, not, List, [], length, Option, Some, None, refl, sym, ◌∙◌, ap, arith, inl, inr}
-use Rattle.std.specs.Prelude.{Contains, fold}
+use Rattle.std.proofs.Common.{◌≡◌, ◌+◌, ◌<◌, ℕ, true, List, [], length, Option, Some, None, refl, sym, ◌∙◌, ap, arith, inl, inr}
+use Rattle.std.specs.Prelude.{Contains, fold, Result, Ok, Err}
 use Rattle.std.proofs.lemmas.Bool.{false≢true}
+use Rattle.kernel_abi.specs.declared.Fault.{Fault}
 use Rattle.kernel_abi.specs.declared.Health.{Health}
 use Rattle.kernel_abi.specs.declared.Health.TheVariants.{Well}
 use Rattle.kernel_abi.specs.declared.Note.{Note}
 use Rattle.kernel_abi.specs.declared.Note.TheVariants as note
 use Rattle.thumb_insn.specs.declared.Insn.{Insn}
-use Rattle.thumb_insn.specs.declared.Decoded.{Decoded}
-use Rattle.thumb_insn.specs.declared.Decoded.TheVariants.{Narrow, Wide, Illegal, NeedsSecond}
-use Rattle.thumb_insn.specs.Table.{decoded_of, is_wide}
+use Rattle.thumb_exec.specs.declared.fetch.Fetched.{Fetched}
 use Rattle.thumb_exec.specs.Effect.{Effect, Next, Syscall, Trap, Store}
-use Rattle.mem_banks.specs.Memory.{number_at}
 use Rattle.task_table.specs.State.{Setup, State, Read, Turn}
-use Rattle.task_table.specs.Reading.{task_at, register, call_of, listen_of, chosen, is_faulted}
+use Rattle.task_table.specs.Reading.{task_at, call_of, listen_of, chosen, is_faulted}
 use Rattle.task_table.specs.Effects.{noted}
 use Rattle.task_table.specs.Rows.{syscall_noted}
 use Rattle.task_table.specs.Start.{begun}
@@ -24,13 +22,13 @@ use Rattle.task_table.proofs.Sanity.{sane-current}
 use Rattle.board_model.specs.declared.outcomes.Level.{Level}
 use Rattle.board_model.specs.declared.outcomes.Level.TheVariants.{Brief, All}
 use Rattle.board_model.specs.Script.{Scenario}
-use Rattle.board_model.specs.Turn.{put, acted, executed, noted_at, decoded_as, may_fetch, stepped, after_events, with_current, low_note, high_note, with_registers_noted, turn_of, ended, turn}
+use Rattle.board_model.specs.Turn.{put, acted, executed, noted_at, stepped_by, stepped, after_events, with_current, low_note, high_note, with_registers_noted, turn_of, ended, turn}
 use Rattle.board_model.specs.Faults.{IsSameButForFault, AreEntries}
 use Rattle.board_model.proofs.Events.{fresh-after_events}
 use Rattle.board_model.proofs.TurnChains.{IsChosen, chosen_is, as_current, sane-after_events}
 use Rattle.board_model.proofs.Stepping.{puts_state}
 use Rattle.board_model.proofs.FaultFrames.{both-posted, lone_after}
-use Rattle.board_model.proofs.FaultRows.{IsWell, well-processor, Outcome, FaultsAlone, StaysWell, by_outcome, outcome-faulted, outcome-syscall_made}
+use Rattle.board_model.proofs.FaultRows.{IsWell, well-processor, Outcome, FaultsAlone, StaysWell, outcome-faulted, outcome-syscall_made}
 
 -- ## what is noted before, and after
 
@@ -64,23 +62,13 @@ module _ (g : Setup) (c : ℕ) where
   outcome-executed All at code insn t h is = noted_before g c (note.Insn c at code) t _ (outcome-acted (noted (note.Insn c at code) t) h is _)
 
   module _ (level : Level) (t : Turn) (h : Sane g t.state) (is : IsChosen t.state c) where
-    outcome-decoded : (at code : ℕ) (d : Decoded) → Outcome g c t (decoded_as level g c at code d t)
-    outcome-decoded at code (Narrow insn) = outcome-executed level at code insn t h is
-    outcome-decoded at code (Wide insn) = outcome-executed level at code insn t h is
-    outcome-decoded at code Illegal = outcome-faulted g c t is.inside _
-    outcome-decoded at code NeedsSecond = outcome-faulted g c t is.inside _
+    outcome-by : (at : ℕ) (r : Result Fetched Fault) → Outcome g c t (stepped_by level g c at r t)
+    outcome-by at (Ok f) = outcome-executed level at f.code f.insn t h is
+    outcome-by at (Err fault) = outcome-faulted g c t is.inside fault
 
     outcome-stepped : Outcome g c t (stepped level g c t)
     unfolding stepped
-    outcome-stepped =
-        let m = t.state.memory in
-        let at = register t.state c 15 in
-        let after = (at + 2) % 2 ^ 32 in
-        let first = number_at m at 2 in
-        by_outcome (not (may_fetch g c at)) (outcome-faulted g c t is.inside _)
-        (by_outcome (not (is_wide first)) (outcome-decoded at first (decoded_of first None))
-        (by_outcome (not (may_fetch g c after)) (outcome-faulted g c t is.inside _)
-        (outcome-decoded at (first * 2 ^ 16 + number_at m after 2) (decoded_of first (Some (number_at m after 2))))))
+    outcome-stepped = outcome-by _ _
 
     outcome-ran : Outcome g c t (with_registers_noted level c (stepped level g c t))
     unfolding with_registers_noted

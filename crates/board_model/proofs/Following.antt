@@ -1,16 +1,16 @@
 -- Two turns that go on side by side: what the chosen tasks do is fetched, decoded and carried out in both,
 -- and whatever relation holds before, and is kept by what an instruction may do, holds after.
-use Rattle.std.proofs.Common.{◌≡◌, ◌+◌, ◌*◌, ◌%◌, ◌^◌, ℕ, Bool, true, false, cond, not, List, [], ◌∷◌, Some, None, refl, sym, ◌∙◌}
-use Rattle.std.specs.Prelude.{fold}
-use Rattle.std.proofs.lemmas.Bool.{false≢true}
+use Rattle.std.proofs.Common.{◌≡◌, ◌+◌, ◌*◌, ◌^◌, ℕ, cond, List, [], ◌∷◌, Option, Some, None, refl, sym, ◌∙◌, ap}
+use Rattle.std.specs.Prelude.{fold, Result, Ok, Err}
 use Rattle.kernel_abi.specs.declared.Fault.{Fault}
 use Rattle.kernel_abi.specs.declared.Note.TheVariants as note
+use Rattle.region_check.specs.declared.Right.TheVariants.{Execute}
 use Rattle.words_core.specs.declared.Flags.{Flags}
 use Rattle.thumb_insn.specs.declared.Insn.{Insn}
-use Rattle.thumb_insn.specs.declared.Decoded.{Decoded}
-use Rattle.thumb_insn.specs.declared.Decoded.TheVariants.{Narrow, Wide, Illegal, NeedsSecond}
 use Rattle.thumb_insn.specs.Table.{decoded_of, is_wide}
-use Rattle.thumb_exec.specs.Effect.{Effect, Next, Syscall, Trap, Store, effect}
+use Rattle.thumb_exec.specs.Effect.{Effect, Next, Syscall, Trap, Store, Refusals, Contents, effect}
+use Rattle.thumb_exec.specs.declared.fetch.Fetched.{Fetched}
+use Rattle.thumb_exec.specs.Fetch.{instruction, unless_barred, after, fetched_wide, fetched_by, fetched}
 use Rattle.thumb_exec.specs.Keeps.{Agree}
 use Rattle.thumb_exec.proofs.Agreeing.{effect_same}
 use Rattle.mem_banks.specs.Memory.{number_at}
@@ -20,16 +20,33 @@ use Rattle.task_table.specs.Effects.{with_processor, faulted}
 use Rattle.task_table.specs.Rows.{syscall_noted}
 use Rattle.task_table.specs.Syscalls.{syscall_made}
 use Rattle.board_model.specs.declared.outcomes.Level.{Level}
-use Rattle.board_model.specs.Turn.{refusals, cpu_of, put, acted, executed, noted_at, decoded_as, may_fetch, stepped_wide, stepped}
+use Rattle.board_model.specs.Turn.{refusals, cpu_of, put, acted, executed, noted_at, stepped_by, stepped}
+
+-- ## what is fetched from two memories that hold the same where a halfword may be executed
+
+module _ (refuses : Refusals) (holds held : Contents) (same : (a : ℕ) → refuses a 2 Execute ≡ None → holds a 2 ≡ held a 2) where
+  unless_same : (o : Option ℕ) (at : ℕ) (r x : Result Fetched Fault) → (o ≡ None → r ≡ x) → unless_barred o at r ≡ unless_barred o at x
+  unless_same None at r x e = e refl
+  unless_same (Some byte) at r x e = refl
+
+  wide_same : (at first : ℕ) → fetched_wide refuses holds at first ≡ fetched_wide refuses held at first
+  wide_same at first = unless_same (refuses (after at) 2 Execute) (after at) _ _ (λ e. ap (λ (second : ℕ). instruction at (first * 2 ^ 16 + second) (decoded_of first (Some second))) (same (after at) e))
+
+  by_same : (at first : ℕ) → fetched_by refuses holds at first ≡ fetched_by refuses held at first
+  by_same at first = ap (λ (r : Result Fetched Fault). cond (is_wide first) r (instruction at first (decoded_of first None))) (wide_same at first)
+
+  fetched_same : (at : ℕ) → fetched refuses holds at ≡ fetched refuses held at
+  fetched_same at = unless_same (refuses at 2 Execute) at _ _ (λ e. ap (fetched_by refuses holds at) (same at e) ∙ by_same at (held at 2))
+
+-- ## the walk
 
 -- what the walk needs of a relation R before and W after, between the turn of task c under g and that of d under k
 pub record IsFollowed (l m : Level) (g k : Setup) (c d : ℕ) (R W : Turn → Turn → Type 0) : Type 0 where
   -- the two tasks have the same rights, registers and flags, and read the same
-  pub fetch : (a : ℕ) → may_fetch g c a ≡ may_fetch k d a
   pub refused : refusals g c ≡ refusals k d
   pub pc : (t u : Turn) → R t u → register t.state c 15 ≡ register u.state d 15
   pub cpu : (t u : Turn) → R t u → cpu_of (task_at t.state c) ≡ cpu_of (task_at u.state d)
-  pub half : (t u : Turn) (a : ℕ) → R t u → may_fetch g c a ≡ true → number_at t.state.memory a 2 ≡ number_at u.state.memory a 2
+  pub fetches : (t u : Turn) → R t u → (a : ℕ) → refusals g c a 2 Execute ≡ None → number_at t.state.memory a 2 ≡ number_at u.state.memory a 2
   pub loads : (t u : Turn) → R t u → Agree (refusals g c) (number_at t.state.memory) (number_at u.state.memory)
   -- what an instruction does keeps the relation
   pub noted_at : (at code : ℕ) (t u : Turn) → R t u → R (noted_at l (note.Insn c at code) t) (noted_at m (note.Insn d at code) u)
@@ -59,41 +76,15 @@ module _ (l m : Level) (g k : Setup) (c d : ℕ) (R W : Turn → Turn → Type 0
       go : (e x : Effect) → e ≡ x → W (acted g c e t) (acted k d x u)
       go e x q = rw (sym q) (follow-acted e t u h)
 
-  follow-decoded : (at code : ℕ) (x : Decoded) (t u : Turn) → R t u → W (decoded_as l g c at code x t) (decoded_as m k d at code x u)
-  follow-decoded at code (Narrow insn) t u h = follow-executed insn _ _ (f.noted_at at code t u h)
-  follow-decoded at code (Wide insn) t u h = follow-executed insn _ _ (f.noted_at at code t u h)
-  follow-decoded at code Illegal t u h = f.fault record { number = 1; x = at; y = 0 } t u h
-  follow-decoded at code NeedsSecond t u h = f.fault record { number = 1; x = at; y = 0 } t u h
-
-  -- unless there is no text, the two halfwords are the same
-  by_fetch : (a : ℕ) {t u : Turn} {p q : ℕ → Turn} → R t u → W (faulted g c record { number = 2; x = a; y = 0 } t) (faulted k d record { number = 2; x = a; y = 0 } u) → ((x : ℕ) → W (p x) (q x)) →
-      W (cond (not (may_fetch g c a)) (faulted g c record { number = 2; x = a; y = 0 } t) (p (number_at t.state.memory a 2))) (cond (not (may_fetch k d a)) (faulted k d record { number = 2; x = a; y = 0 } u) (q (number_at u.state.memory a 2)))
-  by_fetch a {t} {u} {p} {q} h bad good = go (may_fetch g c a) (may_fetch k d a) refl (f.fetch a)
+  follow-by : (at place : ℕ) (r x : Result Fetched Fault) (t u : Turn) → R t u → at ≡ place → r ≡ x → W (stepped_by l g c at r t) (stepped_by m k d place x u)
+  follow-by at place r x t u h here same = rw (sym here, sym same) (go r)
     where
-      rest : (x y : ℕ) → x ≡ y → W (p x) (q y)
-      rest x y e = rw (sym e) (good x)
-
-      go : (b b' : Bool) → may_fetch g c a ≡ b → b ≡ b' → W (cond (not b) (faulted g c record { number = 2; x = a; y = 0 } t) (p (number_at t.state.memory a 2))) (cond (not b') (faulted k d record { number = 2; x = a; y = 0 } u) (q (number_at u.state.memory a 2)))
-      go true true e same = rest _ _ (f.half t u a h e)
-      go false false e same = bad
-      go true false e same = absurd (false≢true (sym same))
-      go false true e same = absurd (false≢true same)
-
-  follow-wide : (at first : ℕ) (t u : Turn) → R t u → W (stepped_wide l g c at first t) (stepped_wide m k d at first u)
-  follow-wide at first t u h =
-      let after = (at + 2) % 2 ^ 32 in
-      by_fetch after {p = λ second. decoded_as l g c at (first * 2 ^ 16 + second) (decoded_of first (Some second)) t} {q = λ second. decoded_as m k d at (first * 2 ^ 16 + second) (decoded_of first (Some second)) u} h
-      (f.fault record { number = 2; x = after; y = 0 } t u h) (λ second. follow-decoded at (first * 2 ^ 16 + second) (decoded_of first (Some second)) t u h)
+      go : (r : Result Fetched Fault) → W (stepped_by l g c at r t) (stepped_by m k d at r u)
+      go (Ok i) = follow-executed i.insn _ _ (f.noted_at at i.code t u h)
+      go (Err fault) = f.fault fault t u h
 
   pub follow-stepped : (t u : Turn) → R t u → W (stepped l g c t) (stepped m k d u)
   unfolding stepped
   follow-stepped t u h =
-      let e = sym (f.pc t u h) in
-      let at = register t.state c 15 in
-      rw e (
-      by_fetch at {p = λ first. cond (not (is_wide first)) (decoded_as l g c at first (decoded_of first None) t) (stepped_wide l g c at first t)} {q = λ first. cond (not (is_wide first)) (decoded_as m k d at first (decoded_of first None) u) (stepped_wide m k d at first u)} h
-      (f.fault record { number = 2; x = at; y = 0 } t u h) (λ first. by_wide first (not (is_wide first))))
-    where
-      by_wide : (first : ℕ) (b : Bool) → W (cond b (decoded_as l g c (register t.state c 15) first (decoded_of first None) t) (stepped_wide l g c (register t.state c 15) first t)) (cond b (decoded_as m k d (register t.state c 15) first (decoded_of first None) u) (stepped_wide m k d (register t.state c 15) first u))
-      by_wide first true = follow-decoded (register t.state c 15) first (decoded_of first None) t u h
-      by_wide first false = follow-wide (register t.state c 15) first t u h
+      follow-by _ _ _ _ t u h (f.pc t u h)
+      (fetched_same (refusals g c) (number_at t.state.memory) (number_at u.state.memory) (f.fetches t u h) (register t.state c 15) ∙ (λ j. fetched (f.refused j) (number_at u.state.memory) (f.pc t u h j)))

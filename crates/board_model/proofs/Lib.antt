@@ -10,6 +10,7 @@ pub mod Stepping
 pub mod Endings
 pub mod Outside
 pub mod Further
+pub mod Computed
 pub mod FiveTasks
 pub mod Blinker
 pub mod AllNoted

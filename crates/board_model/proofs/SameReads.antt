@@ -20,9 +20,13 @@ use Rattle.board_model.proofs.TurnChains.{sane-after_events}
 use Rattle.board_model.specs.Alike.{Viewer, IsAttentive, seen, AreAlikeMemories, IsAlike, AreSeen}
 use Rattle.board_model.specs.Agreement.{is_own, covers, is_read, AgreesOnReads, rest_of, with_memory, IsSameButMemory}
 use Rattle.board_model.proofs.Alike.{shown, chosen_alike}
-use Rattle.board_model.proofs.AlikeTurns.{both, IsHeardAs, alike-rest}
+use Rattle.board_model.proofs.AlikeTurns.{IsHeardAs, alike-rest}
 use Rattle.board_model.proofs.Sight.{IsOpen}
 use Rattle.board_model.proofs.Views.{all_heard, any_in, any_of, either, first, same_but_memory, told_plainly}
+
+both : (a b : Bool) → (a && b) ≡ true → (a ≡ true) × (b ≡ true)
+both true b h = (refl, h)
+both false b h = cc
 
 -- the one who sees what is read, and what lies above all memory
 unfoldable pub reader : Setup → ℕ → List Read → Viewer
@@ -59,7 +63,7 @@ module _ (g : Setup) (c : ℕ) (reads : List Read) where
 
   reader_open : (m : Memory) → ArePlaced g m → IsOpen (reader g c reads) g c
   unfolding reader
-  reader_open m placed = record { rights = own_seen m placed; beyond = above_seen }
+  reader_open m placed = record { rights = own_seen m placed }
 
   reads_seen : AreSeen (reader g c reads).sees reads
   unfolding reader

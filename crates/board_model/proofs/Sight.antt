@@ -11,10 +11,9 @@ use Rattle.task_table.specs.declared.slot.Range.{Range}
 use Rattle.task_table.specs.Reading.{setup_at, bad_byte}
 use Rattle.board_model.specs.Alike.{Viewer}
 
--- the viewer sees what the task may read or execute, and what lies above all memory
+-- the viewer sees what the task may read or execute
 pub record IsOpen (w : Viewer) (g : Setup) (c : ℕ) : Type 0 where
   pub rights : (right : Right) (a : ℕ) → may_use (setup_at g c).regions right a ≡ true → w.sees a ≡ true
-  pub beyond : (a : ℕ) → 0x40000000 ≤ a → w.sees a ≡ true
 
 -- no byte of a range is refused
 no_some : {A : Type 0} {B : Type 0} {y : A} → Some y ≡ None → B

@@ -1,14 +1,15 @@
 -- A turn is a chain of steps: its instruction, or the row of its system call, with what is noted besides.
 use Rattle.std.proofs.Common.{◌≡◌, ◌≢◌, ◌+◌, ◌-◌, ◌*◌, ◌/◌, ◌%◌, ◌^◌, ◌<◌, ◌≤◌, ◌⊎◌, inl, inr, ℕ, zero, suc, Bool, true, false, cond, not, ◌&&◌, ◌||◌, List, [], ◌∷◌, length, take, drop, Option, Some, None, refl, sym, ◌∙◌, ap, arith, leb, ltb, IfSome}
-use Rattle.std.specs.Prelude.{Contains, fold, find}
+use Rattle.std.specs.Prelude.{Contains, fold, find, Result, Ok, Err}
 use Rattle.std.specs.List.{range_with_len, list_any}
 use Rattle.std.proofs.lemmas.List.Elements.{Contains-append_cases}
 use Rattle.std.proofs.lemmas.Bool.{leb-true, false≢true}
 use Rattle.std.proofs.lemmas.Bool.Decides.{eqb_tells}
+use Rattle.kernel_abi.specs.declared.Fault.{Fault}
 use Rattle.kernel_abi.specs.declared.Note.{Note}
 use Rattle.kernel_abi.specs.declared.Note.TheVariants as note
 use Rattle.region_check.specs.declared.Region.{Region}
-use Rattle.region_check.specs.declared.Right.TheVariants.{Write}
+use Rattle.region_check.specs.declared.Right.TheVariants.{Write, Execute}
 use Rattle.region_check.specs.Rights.{gives, gives_copy, is_inside, has_right}
 use Rattle.run_script.specs.declared.events.Event.{Event}
 use Rattle.run_script.specs.declared.events.Event.TheVariants.{Tick, Irq}
@@ -17,7 +18,9 @@ use Rattle.thumb_insn.specs.declared.Insn.{Insn}
 use Rattle.thumb_insn.specs.declared.Decoded.{Decoded}
 use Rattle.thumb_insn.specs.declared.Decoded.TheVariants.{Narrow, Wide, Illegal, NeedsSecond}
 use Rattle.thumb_insn.specs.Table.{decoded_of, is_wide}
-use Rattle.thumb_exec.specs.Effect.{Effect, Next, Syscall, Trap, Store, effect}
+use Rattle.thumb_exec.specs.Effect.{Effect, Next, Syscall, Trap, Store, Refusals, Contents, effect}
+use Rattle.thumb_exec.specs.declared.fetch.Fetched.{Fetched}
+use Rattle.thumb_exec.specs.Fetch.{instruction, unless_barred, after, fetched}
 use Rattle.mem_banks.specs.Memory.{Memory, IsWithinRam, number_at, number_of, bytes_at, is_ram, AreAllBytes}
 use Rattle.task_table.specs.State.{Setup, State, Ground, Own, Turn}
 use Rattle.task_table.specs.Reading.{setup_at, task_at, register, call_of, listen_of, chosen, qualifies, around, is_ready}
@@ -37,14 +40,14 @@ use Rattle.task_table.proofs.StepKeeps.{chain_sane}
 use Rattle.task_table.proofs.Timing.{sane-ticked, sane-interrupted}
 use Rattle.task_table.specs.Chain.{Chain, Here}
 use Rattle.task_table.specs.Step.{Step, Notes, Runs, Stores, Halts}
-use Rattle.task_table.proofs.Chains.{one, ◌▷◌, joined, by_chain}
+use Rattle.task_table.proofs.Chains.{one, ◌▷◌, joined}
 use Rattle.task_table.proofs.Moves.{IsAside, aside_here, aside-noted}
 use Rattle.task_table.proofs.Noting.{noted-noted, chain_noted}
 use Rattle.task_table.proofs.RowChains.{chain-syscall_made}
 use Rattle.board_model.specs.declared.outcomes.Level.{Level}
 use Rattle.board_model.specs.declared.outcomes.Level.TheVariants.{Brief, All}
 use Rattle.board_model.specs.Script.{Scenario}
-use Rattle.board_model.specs.Turn.{may, refusals, cpu_of, bytes_of, put, acted, executed, noted_at, decoded_as, may_fetch, stepped, happened, after_events, with_current, low_note, high_note, with_registers_noted, turn_of, ended, turn}
+use Rattle.board_model.specs.Turn.{may, refusals, cpu_of, bytes_of, put, acted, executed, noted_at, stepped_by, stepped, happened, after_events, with_current, low_note, high_note, with_registers_noted, turn_of, ended, turn}
 use Rattle.thumb_exec.specs.Keeps.{IsWholeCpu, IsPermitted, Keeps}
 use Rattle.thumb_exec.proofs.Keeping.{keeps}
 use Rattle.thumb_insn.specs.Table.{narrow_of, wide_of, narrow_result, wide_result, with_second}
@@ -209,6 +212,33 @@ decoded_coded first (Some second) i f g true e = wide_coded first second (wide_o
 decoded_coded first None i f g true (inl e) = absurd cc
 decoded_coded first None i f g true (inr e) = absurd cc
 
+-- an instruction that has a code, or a fault that a fetch may be
+abbrev IsFetchable : Result Fetched Fault → Type 0
+IsFetchable (Ok f) = IsCoded f.insn
+IsFetchable (Err fault) = (1 ≤ fault.number) × (fault.number ≤ 10)
+
+of_code : (at code first : ℕ) (two : Option ℕ) (d : Decoded) → first < 65536 → IfSome two (λ x. x < 65536) → decoded_of first two ≡ d → IsFetchable (instruction at code d)
+of_code at code first two (Narrow i) f g e = decoded_coded first two i f g (is_wide first) (inl e)
+of_code at code first two (Wide i) f g e = decoded_coded first two i f g (is_wide first) (inr e)
+of_code at code first two Illegal f g e = (omega arith, omega arith)
+of_code at code first two NeedsSecond f g e = (omega arith, omega arith)
+
+or_barred : (o : Option ℕ) (at : ℕ) (r : Result Fetched Fault) → IsFetchable r → IsFetchable (unless_barred o at r)
+or_barred None at r h = h
+or_barred (Some byte) at r h = (omega arith, omega arith)
+
+either : (b : Bool) (r s : Result Fetched Fault) → IsFetchable r → IsFetchable s → IsFetchable (cond b r s)
+either true r s h k = h
+either false r s h k = k
+
+fetchable : (refuses : Refusals) (holds : Contents) (at : ℕ) → ((a : ℕ) → holds a 2 < 65536) → IsFetchable (fetched refuses holds at)
+fetchable refuses holds at small =
+    let first = holds at 2 in
+    let second = holds (after at) 2 in
+    or_barred (refuses at 2 Execute) at _ (either (is_wide first) _ _
+    (or_barred (refuses (after at) 2 Execute) (after at) _ (of_code at (first * 2 ^ 16 + second) first (Some second) (decoded_of first (Some second)) (small at) (small (after at)) refl))
+    (of_code at first first None (decoded_of first None) (small at) tt refl))
+
 -- a system call is noted, whatever it comes to
 pub noted-call : (g : Setup) (c : ℕ) (t : Turn) → Sane g t.state → c < length t.state.tasks → is_ready t.state c ≡ true → IsNoted (syscall_made g c (syscall_noted c t))
 unfolding syscall_noted noted
@@ -216,41 +246,27 @@ noted-call g c t h inside ready =
     let u = syscall_noted c t in
     chain_noted g t.state c u (syscall_made g c u) (chain-syscall_made g c u h (rw (← h.steady.as_many) inside) ready) (noted-noted _ t)
 
-keeps-here : {g : Setup} (c : ℕ) (t : Turn) (h : Sane g t.state) (inside : c < length t.state.tasks) (first : ℕ) (two : Option ℕ) (insn : Insn) → first < 65536 → IfSome two (λ x. x < 65536) → (decoded_of first two ≡ Narrow insn) ⊎ (decoded_of first two ≡ Wide insn) →
-    Keeps (refusals g c) (effect (refusals g c) (number_at t.state.memory) (cpu_of (task_at t.state c)) insn)
-keeps-here {g} c t h inside first two insn f1 f2 e = keeps (refusals g c) (number_at t.state.memory) (cpu_of (task_at t.state c)) insn (decoded_coded first two insn f1 f2 (is_wide first) e) (whole_cpu c t h inside)
+keeps-here : {g : Setup} (c : ℕ) (t : Turn) (h : Sane g t.state) (inside : c < length t.state.tasks) (insn : Insn) → IsCoded insn → Keeps (refusals g c) (effect (refusals g c) (number_at t.state.memory) (cpu_of (task_at t.state c)) insn)
+keeps-here {g} c t h inside insn coded = keeps (refusals g c) (number_at t.state.memory) (cpu_of (task_at t.state c)) insn coded (whole_cpu c t h inside)
 
 module _ (level : Level) (g : Setup) (c : ℕ) (t : Turn) (h : Sane g t.state) (inside : c < length g.tasks) (ready : is_ready t.state c ≡ true) where
   within : c < length t.state.tasks
   within = rw h.steady.as_many inside
 
-  executed_chain : (level : Level) (at code first : ℕ) (two : Option ℕ) (insn : Insn) → first < 65536 → IfSome two (λ x. x < 65536) → (decoded_of first two ≡ Narrow insn) ⊎ (decoded_of first two ≡ Wide insn) → Chain (Step g t.state c) t (executed g c insn (noted_at level (note.Insn c at code) t))
+  executed_chain : (level : Level) (at code : ℕ) (insn : Insn) → IsCoded insn → Chain (Step g t.state c) t (executed g c insn (noted_at level (note.Insn c at code) t))
   unfolding noted
-  executed_chain Brief at code first two insn f1 f2 e = acted_chain g c t h inside ready _ (keeps-here c t h within first two insn f1 f2 e)
-  executed_chain All at code first two insn f1 f2 e =
+  executed_chain Brief at code insn coded = acted_chain g c t h inside ready _ (keeps-here c t h within insn coded)
+  executed_chain All at code insn coded =
       let u = noted (note.Insn c at code) t in
-      joined (Step g t.state c) t u _ (one (Notes (note.Insn c at code) t refl)) (acted_chain g c u h inside ready _ (keeps-here c u h within first two insn f1 f2 e))
+      joined (Step g t.state c) t u _ (one (Notes (note.Insn c at code) t refl)) (acted_chain g c u h inside ready _ (keeps-here c u h within insn coded))
 
-  decoded_chain : (at code first : ℕ) (two : Option ℕ) (d : Decoded) → first < 65536 → IfSome two (λ x. x < 65536) → decoded_of first two ≡ d → Chain (Step g t.state c) t (decoded_as level g c at code d t)
-  decoded_chain at code first two (Narrow insn) f1 f2 e = executed_chain level at code first two insn f1 f2 (inl e)
-  decoded_chain at code first two (Wide insn) f1 f2 e = executed_chain level at code first two insn f1 f2 (inr e)
-  decoded_chain at code first two Illegal f1 f2 e = one (Halts _ t inside (omega arith) (omega arith))
-  decoded_chain at code first two NeedsSecond f1 f2 e = one (Halts _ t inside (omega arith) (omega arith))
+  chain_by : (at : ℕ) (r : Result Fetched Fault) → IsFetchable r → Chain (Step g t.state c) t (stepped_by level g c at r t)
+  chain_by at (Ok f) coded = executed_chain level at f.code f.insn coded
+  chain_by at (Err fault) known = one (Halts fault t inside (omega (arith, known.0)) (omega (arith, known.1)))
 
   pub stepped_chain : Chain (Step g t.state c) t (stepped level g c t)
   unfolding stepped
-  stepped_chain =
-      let m = t.state.memory in
-      let at = register t.state c 15 in
-      let after = (at + 2) % 2 ^ 32 in
-      let first = number_at m at 2 in
-      let second = number_at m after 2 in
-      let small1 = half_small m at h.steady.flash_bytes h.steady.bytes in
-      let small2 = half_small m after h.steady.flash_bytes h.steady.bytes in
-      by_chain (not (may_fetch g c at)) (λ bad. one (Halts _ t inside (omega arith) (omega arith))) (λ ok.
-      by_chain (not (is_wide first)) (λ narrow. decoded_chain at first first None (decoded_of first None) small1 tt refl) (λ wide.
-      by_chain (not (may_fetch g c after)) (λ bad. one (Halts _ t inside (omega arith) (omega arith))) (λ ok2.
-      decoded_chain at (first * 2 ^ 16 + second) first (Some second) (decoded_of first (Some second)) small1 small2 refl)))
+  stepped_chain = chain_by _ _ (fetchable (refusals g c) (number_at t.state.memory) (register t.state c 15) (λ a. half_small t.state.memory a h.steady.flash_bytes h.steady.bytes))
 
 -- what is noted besides
 tells : (g : Setup) (s : State) (c : ℕ) (level : Level) (n : Note) (t u : Turn) → Chain (Step g s c) t u → ((u : Turn) → Step g s c u (noted n u)) → Chain (Step g s c) t (noted_at level n u)

@@ -122,7 +122,7 @@ listening t u h = told_of_alike t u (h.alike (all_seen t.reads))
 
 pub open_listener : (g : Setup) (c : ℕ) → IsOpen listener g c
 unfolding listener
-open_listener g c = record { rights = λ right a e. refl; beyond = λ a e. refl }
+open_listener g c = record { rights = λ right a e. refl }
 
 -- births that are seen as they are
 pub told_plainly : (s : State) → AreTellable (λ b. b) s
@@ -201,7 +201,7 @@ reduced-turn level x s sane =
     let births : ℕ → ℕ = λ b. b % 64 in
     let t = turn level x (reduced s) in
     let u = turn level x s in
-    let open_all : (c : ℕ) → IsOpen archivist x.setup c = λ c. record { rights = λ right a e. refl; beyond = λ a e. refl } in
+    let open_all : (c : ℕ) → IsOpen archivist x.setup c = λ c. record { rights = λ right a e. refl } in
     let h = (alike-turn archivist attentive_archivist level level (level_heard level) x (reduced s) s open_all (told_sanely births x.setup (after_events x (reduced s)).state (sane-after_events x (reduced s) (sane-reduced x.setup s sane))) (told_sanely births x.setup (after_events x s).state (sane-after_events x s sane)) (alike-reduced s)).alike (all_seen t.reads) in
     record {
       notes = h.notes ∙ sym (all_heard u.notes);

@@ -1,25 +1,23 @@
 -- One turn of the board: what happens from outside, then one instruction of the chosen task, or an idle turn.
 use Rattle.words_core.specs.Regs.{program_counter}
-use Rattle.kernel_abi.specs.Faults.{illegal_fault, illegal_text_fault}
-use Rattle.std.specs.Prelude.{ℕ, ◌+◌, ◌*◌, ◌/◌, ◌%◌, ◌^◌, Bool, ◌&&◌, not, List, [], ◌∷◌, Option, Some, None, find, fold, take, drop, if◌then◌else◌}
+use Rattle.std.specs.Prelude.{ℕ, ◌+◌, ◌/◌, ◌%◌, ◌^◌, Bool, not, List, [], ◌∷◌, Option, Some, None, Result, Ok, Err, find, fold, take, drop, if◌then◌else◌}
 use Rattle.std.specs.List.{range_with_len}
+use Rattle.kernel_abi.specs.declared.Fault.{Fault}
 use Rattle.kernel_abi.specs.declared.Note.{Note}
 use Rattle.kernel_abi.specs.declared.Note.TheVariants as note
 use Rattle.region_check.specs.declared.Right.{Right}
-use Rattle.region_check.specs.declared.Right.TheVariants.{Execute}
 use Rattle.region_check.specs.Rights.{may_use}
 use Rattle.thumb_insn.specs.declared.Insn.{Insn}
-use Rattle.thumb_insn.specs.declared.Decoded.{Decoded}
-use Rattle.thumb_insn.specs.declared.Decoded.TheVariants.{Narrow, Wide, Illegal, NeedsSecond}
-use Rattle.thumb_insn.specs.Table.{decoded_of, is_wide}
 use Rattle.thumb_exec.specs.declared.cpu.Cpu.{Cpu}
+use Rattle.thumb_exec.specs.declared.fetch.Fetched.{Fetched}
 use Rattle.thumb_exec.specs.Effect.{Effect, Next, Syscall, Trap, Store, Refusals, effect}
+use Rattle.thumb_exec.specs.Fetch.{fetched}
 use Rattle.mem_banks.specs.Memory.{number_at, is_ram}
 use Rattle.task_table.specs.State.{Setup, Task, State, Own, Turn}
 use Rattle.task_table.specs.Reading.{task_at, setup_at, register, chosen}
 use Rattle.task_table.specs.Effects.{◌⨾◌, changed, noted, with_processor, stored, faulted}
 use Rattle.task_table.specs.Events.{ticked, interrupted}
-use Rattle.task_table.specs.Rows.{first_row, syscall_noted}
+use Rattle.task_table.specs.Rows.{syscall_noted}
 use Rattle.task_table.specs.Syscalls.{syscall_made}
 use Rattle.task_table.specs.Start.{begun}
 use Rattle.run_script.specs.declared.events.Event.{Event}
@@ -73,35 +71,16 @@ abbrev pub noted_at : Level → Note → Turn → Turn
 noted_at Brief note t = t
 noted_at All note t = t ⨾ noted note
 
--- a code that is an instruction is noted and executed (code: the halfword, or two, the first in the high half)
-abbrev pub decoded_as : Level → Setup → ℕ → ℕ → ℕ → Decoded → Turn → Turn
-decoded_as level g c at code (Narrow insn) t = t ⨾ noted_at level (note.Insn c at code) ⨾ executed g c insn
-decoded_as level g c at code (Wide insn) t = t ⨾ noted_at level (note.Insn c at code) ⨾ executed g c insn
-decoded_as level g c at code Illegal t = t ⨾ faulted g c (illegal_fault at)
-decoded_as level g c at code NeedsSecond t = t ⨾ faulted g c (illegal_fault at)
+-- an instruction that was fetched is noted and executed; a fault of the fetch is the task's
+abbrev pub stepped_by : Level → Setup → ℕ → ℕ → Result Fetched Fault → Turn → Turn
+stepped_by level g c at (Ok f) t = t ⨾ noted_at level (note.Insn c at f.code) ⨾ executed g c f.insn
+stepped_by level g c at (Err fault) t = t ⨾ faulted g c fault
 
--- both bytes of a halfword may be executed
-abbrev pub may_fetch : Setup → ℕ → ℕ → Bool
-may_fetch g c a = may g c Execute a && may g c Execute ((a + 1) % 2 ^ 32)
-
--- a wide instruction, whose second halfword is fetched too
-abbrev pub stepped_wide : Level → Setup → ℕ → ℕ → ℕ → Turn → Turn
-stepped_wide level g c at first t =
-    let after = (at + 2) % 2 ^ 32 in
-    let second = number_at t.state.memory after 2 in
-    first_row (
-    (not (may_fetch g c after), t ⨾ faulted g c (illegal_text_fault after))
-    ∷ []) (t ⨾ decoded_as level g c at (first * 2 ^ 16 + second) (decoded_of first (Some second)))
-
--- fetched, decoded, carried out: the first halfword that may not be executed decides
+-- fetched, decoded, carried out
 unfoldable pub stepped : Level → Setup → ℕ → Turn → Turn
 stepped level g c t =
     let at = register t.state c program_counter in
-    let first = number_at t.state.memory at 2 in
-    first_row (
-    (not (may_fetch g c at), t ⨾ faulted g c (illegal_text_fault at))
-    ∷ (not (is_wide first), t ⨾ decoded_as level g c at first (decoded_of first None))
-    ∷ []) (t ⨾ stepped_wide level g c at first)
+    t ⨾ stepped_by level g c at (fetched (refusals g c) (number_at t.state.memory) at)
 
 -- ## the turn
 

@@ -7,7 +7,7 @@ use Rattle.words_core.specs.Regs.{reg_at, program_counter}
 use Rattle.thumb_exec.specs.Effect.{Refusals, Contents, Acts}
 use Rattle.thumb_exec.specs.declared.cpu.Cpu.{Cpu}
 use Rattle.thumb_exec.specs.declared.cpu.Outcome.{Outcome}
-use Rattle.thumb_step.specs.Fetch.{after, step_effect}
+use Rattle.thumb_exec.specs.Fetch.{after, step_effect}
 
 -- what a memory refuses, what it holds, and how it is after a store
 abbrev pub refused_by : Memory → Refusals

@@ -5,25 +5,13 @@ use Rattle.kernel_abi.specs.declared.Handled.TheVariants as handled
 use Rattle.kernel_abi.specs.declared.Listened.TheVariants as listened
 use Rattle.kernel_abi.specs.declared.Note.{Note}
 use Rattle.kernel_abi.specs.declared.Note.TheVariants as note
-use Rattle.region_check.specs.Rights.{first_bad}
-use Rattle.thumb_insn.specs.Table.{rows, narrow_of, wide_rows, wide_of}
-use Rattle.thumb_exec.specs.Effect.{words, transfers, first_refused, stores_of, loaded_all, ones, count, effect}
-use Rattle.mem_banks.specs.Memory.{bytes_at, with_bytes, copied as copied_memory}
-use Rattle.task_table.specs.Borrows.{grant, borrowed, informed}
-use Rattle.task_table.specs.Syscalls.{syscall_made}
-use Rattle.task_table.specs.Effects.{with_task, without_call, without_listen, with_listen, with_taken, noted, with_processor, with_health, stored, copied, looked, given, returned, past_syscall, bits_added, bits_cleared, woken, posted, with_timer, clocked, with_line, closed, faulted_as, with_call, offered, handed, reborn, restarted}
-use Rattle.task_table.specs.Events.{ticked, owner_of, interrupted}
-use Rattle.task_table.specs.Orders.{injected, ordered}
-use Rattle.task_table.specs.Reading.{task_at, line_at, register, arguments, call_of, listen_of, is_out, is_dead, present_id, dead_code_for, is_ready, bad_byte, chosen, offer_by, taken_by, best_sender}
-use Rattle.task_table.specs.Rows.{panicked, timer_set, timer_answered, irq_controlled, received, syscall_noted}
-use Rattle.task_table.specs.Sends.{sent, replied, reply_faulted, post_made, refreshed}
-use Rattle.task_table.specs.Start.{start, begun}
+use Rattle.task_table.specs.Start.{start}
 use Rattle.task_table.specs.State.{Setup}
-use Rattle.board_model.specs.Run.{ending as ending_of, run}
+use Rattle.board_model.specs.Run.{run}
 use Rattle.board_model.specs.Script.{Scenario}
-use Rattle.board_model.specs.Turn.{stepped, after_events, with_registers_noted, ended, turn}
 use Rattle.board_model.specs.declared.outcomes.Level.TheVariants.{Brief}
 use Rattle.run_script.specs.declared.events.Event.TheVariants.{Irq}
+use Rattle.board_model.proofs.Computed.{computed}
 
 setup : Setup
 setup = record {
@@ -281,5 +269,5 @@ expected =
     []
 
 agrees : (run Brief scenario 400 (start setup)).notes ≡ expected
-unfolding setup scenario expected first_bad rows narrow_of wide_rows wide_of words transfers first_refused stores_of loaded_all ones count effect bytes_at with_bytes copied_memory grant borrowed informed syscall_made with_task without_call without_listen with_listen with_taken noted with_processor with_health stored copied looked given returned past_syscall bits_added bits_cleared woken posted with_timer clocked with_line closed faulted_as with_call offered handed reborn restarted ticked owner_of interrupted injected ordered task_at line_at register arguments call_of listen_of is_out is_dead present_id dead_code_for is_ready bad_byte chosen offer_by taken_by best_sender panicked timer_set timer_answered irq_controlled received syscall_noted sent replied reply_faulted post_made refreshed start begun ending_of run stepped after_events with_registers_noted ended turn
+unfolding setup scenario expected computed
 agrees = refl

@@ -2,6 +2,7 @@
 
 use crate::kernel::Kernel;
 use kernel_abi::Note;
+use words_core::PROGRAM_COUNTER;
 
 impl Kernel {
     ghost use Rattle.std.specs.Prelude.{◌≡◌, ◌+◌, ◌<◌, ◌≤◌, length};
@@ -59,7 +60,7 @@ impl Kernel {
         ensures frame { AddsNotes self.old 0 self.new }
     {
         let mut slot = self.slot(task);
-        slot.registers[15] = slot.registers[15].wrapping_add(2);
+        slot.registers[PROGRAM_COUNTER] = slot.registers[PROGRAM_COUNTER].wrapping_add(2);
         self.set_rest(task, &slot);
     }
 

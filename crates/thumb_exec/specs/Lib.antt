@@ -2,3 +2,4 @@ pub mod Effect
 pub mod Keeps
 pub mod Sizes
 pub mod Families
+pub mod Fetch

@@ -6,7 +6,7 @@ ghost use Rattle.words_core.specs.Words.{awc, complement};
 
 use crate::cpu::{Cpu, Outcome};
 use thumb_insn::{Op, Reg};
-use words_core::{Flags, add_with_carry, asr, lsl, lsr, ror};
+use words_core::{Flags, PROGRAM_COUNTER, add_with_carry, asr, lsl, lsr, ror};
 
 /// A register.
 pub fn get(cpu: &Cpu, r: Reg) -> u32
@@ -21,8 +21,8 @@ pub fn go_past(cpu: &mut Cpu, n: u32)
     requires { n < 8 }
     ensures { cpu.new ≡ go_past n cpu.old }
 {
-    let at = cpu.regs.get(15);
-    cpu.regs.set(15, at.wrapping_add(n));
+    let at = cpu.regs.get(PROGRAM_COUNTER);
+    cpu.regs.set(PROGRAM_COUNTER, at.wrapping_add(n));
 }
 
 /// Puts a value into a register and goes on, n bytes further.

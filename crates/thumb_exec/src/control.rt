@@ -6,15 +6,15 @@ use crate::arith::{get, go_past};
 use crate::cpu::{Cpu, Outcome};
 use kernel_abi::Fault;
 use thumb_insn::{Bytes, Cond, Reg};
-use words_core::{Flags, extend};
+use words_core::{Flags, LINK_REGISTER, PROGRAM_COUNTER, STACK_POINTER, extend};
 
 /// A register as an operand: PC reads as the address plus 4.
 pub fn operand(cpu: &Cpu, r: Reg) -> u32
     requires { r.number < 16 }
     ensures { result ≡ operand cpu.now r }
 {
-    if r.number == 15 {
-        cpu.regs.get(15).wrapping_add(4)
+    if usize::from(r.number) == PROGRAM_COUNTER {
+        cpu.regs.get(PROGRAM_COUNTER).wrapping_add(4)
     } else {
         get(cpu, r)
     }
@@ -25,10 +25,10 @@ pub fn put_any(cpu: &mut Cpu, d: Reg, value: u32)
     requires { d.number < 16 }
     ensures { place cpu.old d value ≡ Next cpu.new [] }
 {
-    if d.number == 15 {
-        cpu.regs.set(15, value / 2 * 2);
-    } else if d.number == 13 {
-        cpu.regs.set(13, value / 4 * 4);
+    if usize::from(d.number) == PROGRAM_COUNTER {
+        cpu.regs.set(PROGRAM_COUNTER, value / 2 * 2);
+    } else if usize::from(d.number) == STACK_POINTER {
+        cpu.regs.set(STACK_POINTER, value / 4 * 4);
         go_past(cpu, 2);
     } else {
         cpu.regs.set(usize::from(d.number), value);
@@ -63,7 +63,7 @@ pub fn target(cpu: &Cpu, offset: i32) -> u32
     ensures { result ≡ target cpu.now offset }
 {
     cpu.regs
-        .get(15)
+        .get(PROGRAM_COUNTER)
         .wrapping_add(4)
         .wrapping_add(offset.cast_unsigned())
 }
@@ -87,7 +87,7 @@ pub fn branch_to(cpu: &mut Cpu, value: u32) -> Outcome
     let Some(to) = code_address(value) else {
         return Outcome::Trap(Fault::state(value));
     };
-    cpu.regs.set(15, to);
+    cpu.regs.set(PROGRAM_COUNTER, to);
     Outcome::Next
 }
 
@@ -96,8 +96,8 @@ pub fn link(cpu: &mut Cpu, n: u32)
     requires { n < 8 }
     ensures { cpu.new ≡ linked cpu.old n }
 {
-    let at = cpu.regs.get(15).wrapping_add(n);
-    cpu.regs.set(14, at / 2 * 2 + 1);
+    let at = cpu.regs.get(PROGRAM_COUNTER).wrapping_add(n);
+    cpu.regs.set(LINK_REGISTER, at / 2 * 2 + 1);
 }
 
 /// A branch to a value, which needs bit 0 set, with LR.
@@ -108,7 +108,7 @@ pub fn link_to(cpu: &mut Cpu, value: u32) -> Outcome
         return Outcome::Trap(Fault::state(value));
     };
     link(cpu, 2);
-    cpu.regs.set(15, to);
+    cpu.regs.set(PROGRAM_COUNTER, to);
     Outcome::Next
 }
 
@@ -116,7 +116,7 @@ pub fn link_to(cpu: &mut Cpu, value: u32) -> Outcome
 pub fn base(cpu: &Cpu) -> u32
     ensures { result ≡ base cpu.now }
 {
-    cpu.regs.get(15).wrapping_add(4) / 4 * 4
+    cpu.regs.get(PROGRAM_COUNTER).wrapping_add(4) / 4 * 4
 }
 
 /// Extends a word's low part, or reverses bytes.

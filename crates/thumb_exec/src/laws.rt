@@ -1,8 +1,8 @@
 //! What holds of the effect of every instruction, for proofs about whole turns and runs. Nothing
 //! runs here.
-ghost use Rattle.std.specs.Prelude.{◌≡◌, List};
-ghost use Rattle.thumb_exec.specs.Effect.{Next, Store, Refusals, Contents, effect};
-ghost use Rattle.thumb_exec.specs.Keeps.{IsWholeCpu, Keeps, Agree, Widens};
+ghost use Rattle.std.specs.Prelude.{◌≡◌};
+ghost use Rattle.thumb_exec.specs.Effect.{Refusals, Contents, effect};
+ghost use Rattle.thumb_exec.specs.Keeps.{IsWholeCpu, Keeps, Agree, Widens, GoesOnAs};
 ghost use Rattle.thumb_exec.specs.declared.cpu.Cpu.{Cpu as Processor};
 ghost use Rattle.thumb_insn.specs.Range.{IsCoded};
 ghost use Rattle.thumb_insn.specs.declared.Insn.{Insn as Instruction};
@@ -21,5 +21,5 @@ pub fn every_effect_reads_what_it_may()
 /// An instruction that goes on does the same with more rights, over memory that holds the same where
 /// it may be read.
 pub fn what_goes_on_goes_on_with_more_rights()
-    ensures { (refuses wider : Refusals) (holds held : Contents) → Widens refuses wider holds held → (c : Processor) (i : Instruction) (d : Processor) (stores : List Store) → effect refuses holds c i ≡ Next d stores → effect wider held c i ≡ Next d stores }
+    ensures { (refuses wider : Refusals) (holds held : Contents) → Widens refuses wider holds held → (c : Processor) (i : Instruction) → GoesOnAs (effect refuses holds c i) (effect wider held c i) }
 {}

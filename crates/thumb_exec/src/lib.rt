@@ -7,6 +7,7 @@ mod arith;
 pub mod bus;
 mod control;
 pub mod cpu;
+pub mod fetch;
 pub mod laws;
 mod memory;
 mod several;

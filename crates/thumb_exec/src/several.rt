@@ -13,7 +13,7 @@ use crate::cpu::{Cpu, Outcome};
 use kernel_abi::{Access, Fault};
 use region_check::Right;
 use thumb_insn::Reg;
-use words_core::Regs;
+use words_core::{PROGRAM_COUNTER, Regs, STACK_POINTER};
 
 /// How many registers a mask has.
 #[tactic(auto, using(crate::proofs::Lowest::ones_counted))]
@@ -199,7 +199,7 @@ pub fn pop<B: Bus>(cpu: &mut Cpu, bus: &mut B, list: u8, has_pc: bool) -> Outcom
     ensures { Acts B.stored cpu.old cpu.new bus.old bus.new result (effect (B.refuses bus.old) (B.holds bus.old) cpu.old (insns.Pop list has_pc)) }
 {
     let mask = mask_of(list, has_pc, 0x8000);
-    let addr = cpu.regs.get(13);
+    let addr = cpu.regs.get(STACK_POINTER);
     if addr % 4 != 0 {
         return Outcome::Trap(Fault::unaligned(addr, false));
     }
@@ -208,14 +208,14 @@ pub fn pop<B: Bus>(cpu: &mut Cpu, bus: &mut B, list: u8, has_pc: bool) -> Outcom
     }
     let before = *cpu;
     load_words(&mut cpu.regs, bus, mask, addr);
-    let target = cpu.regs.get(15);
-    cpu.regs.set(13, addr.wrapping_add(4 * count_of(mask)));
+    let target = cpu.regs.get(PROGRAM_COUNTER);
+    cpu.regs.set(STACK_POINTER, addr.wrapping_add(4 * count_of(mask)));
     if has_pc {
         let Some(to) = code_address(target) else {
             *cpu = before;
             return Outcome::Trap(Fault::state(target));
         };
-        cpu.regs.set(15, to);
+        cpu.regs.set(PROGRAM_COUNTER, to);
     } else {
         go_past(cpu, 2);
     }

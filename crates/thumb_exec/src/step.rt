@@ -16,7 +16,12 @@ use crate::memory::{load, store};
 use crate::several::{count_of, ldm, mask_of, pop, store_all};
 use kernel_abi::Fault;
 use thumb_insn::{Insn, Load, Reg, Shift, Size};
-use words_core::{add_with_carry, asr, lsl, lsr};
+use words_core::{PROGRAM_COUNTER, STACK_POINTER, add_with_carry, asr, lsl, lsr};
+
+/// SP as a register that an instruction names.
+const SP: Reg = Reg {
+    number: STACK_POINTER as u8,
+};
 
 /// A shift by a number of bits.
 #[inline(always)]
@@ -125,16 +130,16 @@ fn place(cpu: &mut Cpu, insn: Insn)
             set(cpu, d, value, 2);
         }
         Insn::AddSp { d, offset } => {
-            let value = cpu.regs.get(13).wrapping_add(offset);
+            let value = cpu.regs.get(STACK_POINTER).wrapping_add(offset);
             set(cpu, d, value, 2);
         }
         Insn::RaiseSp { offset } => {
-            let value = cpu.regs.get(13).wrapping_add(offset);
-            set(cpu, Reg { number: 13 }, value, 2);
+            let value = cpu.regs.get(STACK_POINTER).wrapping_add(offset);
+            set(cpu, SP, value, 2);
         }
         Insn::LowerSp { offset } => {
-            let value = cpu.regs.get(13).wrapping_sub(offset);
-            set(cpu, Reg { number: 13 }, value, 2);
+            let value = cpu.regs.get(STACK_POINTER).wrapping_sub(offset);
+            set(cpu, SP, value, 2);
         }
         _ => unreachable!(),
     }
@@ -152,19 +157,19 @@ fn branch(cpu: &mut Cpu, insn: Insn)
         Insn::BranchIf { cond, offset } => {
             if holds(cond, cpu.flags) {
                 let to = target(cpu, offset);
-                cpu.regs.set(15, to);
+                cpu.regs.set(PROGRAM_COUNTER, to);
             } else {
                 go_past(cpu, 2);
             }
         }
         Insn::Branch { offset } => {
             let to = target(cpu, offset);
-            cpu.regs.set(15, to);
+            cpu.regs.set(PROGRAM_COUNTER, to);
         }
         Insn::Bl { offset } => {
             let to = target(cpu, offset);
             link(cpu, 4);
-            cpu.regs.set(15, to);
+            cpu.regs.set(PROGRAM_COUNTER, to);
         }
         _ => unreachable!(),
     }
@@ -242,7 +247,7 @@ fn loading(cpu: &Cpu, insn: Insn) -> (Load, Reg, u32)
             (Load::Whole(size), t, addr)
         }
         Insn::LoadSp { t, offset } => {
-            let addr = cpu.regs.get(13).wrapping_add(offset);
+            let addr = cpu.regs.get(STACK_POINTER).wrapping_add(offset);
             (Load::Whole(Size::Word), t, addr)
         }
         _ => unreachable!(),
@@ -268,7 +273,7 @@ fn storing(cpu: &Cpu, insn: Insn) -> (Size, Reg, u32)
             (size, t, addr)
         }
         Insn::StoreSp { t, offset } => {
-            let addr = cpu.regs.get(13).wrapping_add(offset);
+            let addr = cpu.regs.get(STACK_POINTER).wrapping_add(offset);
             (Size::Word, t, addr)
         }
         _ => unreachable!(),
@@ -287,8 +292,8 @@ fn storing_all(cpu: &Cpu, insn: Insn) -> (u16, u32, Reg, u32)
     match insn {
         Insn::Push { list, lr } => {
             let mask = mask_of(list, lr, 0x4000);
-            let addr = cpu.regs.get(13).wrapping_sub(4 * count_of(mask));
-            (mask, addr, Reg { number: 13 }, addr)
+            let addr = cpu.regs.get(STACK_POINTER).wrapping_sub(4 * count_of(mask));
+            (mask, addr, SP, addr)
         }
         Insn::Stm { n, list } => {
             let mask = u16::from(list);

@@ -9,7 +9,7 @@ use Rattle.thumb_insn.specs.Table.{narrow_of, narrow_result, decoded_of, is_wide
 use Rattle.thumb_exec.specs.declared.cpu.Cpu.{Cpu}
 use Rattle.thumb_exec.specs.declared.cpu.Outcome.TheVariants as outcome
 use Rattle.thumb_exec.specs.Effect.{Effect, Next, Syscall, Trap, Store, Stores, Acts, Halts, Refusals, Contents}
-use Rattle.thumb_step.specs.Fetch.{instruction, after, executed, step_effect}
+use Rattle.thumb_exec.specs.Fetch.{instruction, after, executed, step_effect}
 use Rattle.words_core.specs.Regs.{reg_at}
 use Rattle.thumb_step.specs.declared.window.Window.{Window}
 use Rattle.thumb_step.specs.declared.window.Runner.{Runner}

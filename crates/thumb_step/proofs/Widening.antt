@@ -7,8 +7,8 @@ use Rattle.thumb_insn.specs.Table.{decoded_of, is_wide}
 use Rattle.thumb_exec.specs.declared.cpu.Cpu.{Cpu}
 use Rattle.thumb_exec.specs.Effect.{Next, Store, Refusals, Contents}
 use Rattle.thumb_exec.proofs.Widening.{effect_wider}
-use Rattle.thumb_step.specs.declared.Fetched.{Fetched}
-use Rattle.thumb_step.specs.Fetch.{WidensFetch, instruction, unless_barred, after, fetched_wide, fetched_by, fetched, executed, step_effect}
+use Rattle.thumb_exec.specs.declared.fetch.Fetched.{Fetched}
+use Rattle.thumb_exec.specs.Fetch.{WidensFetch, instruction, unless_barred, after, fetched_wide, fetched_by, fetched, executed, step_effect}
 
 -- a gives an instruction only where b gives the same
 abbrev Gives : Result Fetched Fault → Result Fetched Fault → Type 0

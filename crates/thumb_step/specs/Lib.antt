@@ -1,3 +1,2 @@
-pub mod Fetch
 pub mod Windows
 pub mod Did

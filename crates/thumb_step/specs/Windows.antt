@@ -5,7 +5,7 @@ use Rattle.region_check.specs.declared.Right.TheVariants.{Read, Write, Execute}
 use Rattle.thumb_exec.specs.declared.cpu.Cpu.{Cpu}
 use Rattle.thumb_exec.specs.Effect.{Next, Store, Refusals, Contents}
 use Rattle.thumb_exec.specs.Sizes.{IsSize}
-use Rattle.thumb_step.specs.Fetch.{step_effect}
+use Rattle.thumb_exec.specs.Fetch.{step_effect}
 use Rattle.thumb_step.specs.declared.window.Window.{Window}
 
 -- what a processor reaches: bytes from an address on that it may execute, and perhaps read, and bytes that it may read and write

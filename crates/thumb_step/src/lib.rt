@@ -9,24 +9,17 @@ ghost use Rattle.std.specs.Prelude.{◌≡◌, ◌≤◌, ◌%◌, IfOk, IfErr};
 ghost use Rattle.words_core.specs.Regs.{reg_at, program_counter};
 ghost use Rattle.thumb_insn.specs.Range.{IsCoded, GivesCoded};
 ghost use Rattle.thumb_exec.specs.Effect.{Acts};
-ghost use Rattle.thumb_step.specs.Fetch.{instruction, fetched, fetched_wide, step_effect};
+ghost use Rattle.thumb_exec.specs.Fetch.{instruction, fetched, fetched_wide, step_effect};
 
 use kernel_abi::Fault;
 use thumb_decode::decode;
 use thumb_exec::bus::Bus;
 use thumb_exec::cpu::{Cpu, Outcome};
+pub use thumb_exec::fetch::Fetched;
 use thumb_exec::step::exec;
-use thumb_insn::{Decoded, Insn};
+use thumb_insn::Decoded;
 pub use window::{Runner, Window};
-
-/// An instruction that was fetched.
-#[derive(Clone, Copy)]
-pub struct Fetched {
-    pub insn: Insn,
-
-    /// Its halfword, or its two, the first in the high half.
-    pub code: u32,
-}
+use words_core::PROGRAM_COUNTER;
 
 /// What was decoded at an address, with its code; what has no row in the table is Illegal.
 #[inline(always)]
@@ -91,7 +84,7 @@ pub fn step<B: Bus>(cpu: &mut Cpu, bus: &mut B) -> Outcome
     requires { reg_at cpu.old.regs program_counter % 2 ≡ 0 }
     ensures { Acts B.stored cpu.old cpu.new bus.old bus.new result (step_effect (B.refuses bus.old) (B.holds bus.old) cpu.old) }
 {
-    let at = cpu.regs.get(15);
+    let at = cpu.regs.get(PROGRAM_COUNTER);
     match fetch(bus, at) {
         Ok(fetched) => exec(cpu, &fetched.insn, bus),
         Err(fault) => Outcome::Trap(fault),

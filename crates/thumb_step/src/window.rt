@@ -5,7 +5,7 @@ ghost use Rattle.mem_banks.specs.Memory.{number_of, pasted};
 ghost use Rattle.region_check.specs.declared.Right.TheVariants.{Read};
 ghost use Rattle.thumb_exec.specs.Effect.{Halts};
 ghost use Rattle.thumb_exec.specs.Sizes.{IsSize};
-ghost use Rattle.thumb_step.specs.Fetch.{step_effect};
+ghost use Rattle.thumb_exec.specs.Fetch.{step_effect};
 ghost use Rattle.words_core.specs.Regs.{reg_at, program_counter};
 ghost use Rattle.thumb_step.specs.Windows.{has, IsFetched, refused_by, held_by, view_of, Glides, GoesOn, Keeps, IsApart};
 ghost use Rattle.thumb_step.specs.Did.{Did, IsStored};
@@ -16,6 +16,7 @@ use thumb_exec::bus::Bus;
 use thumb_exec::cpu::Cpu;
 use thumb_exec::step::proceed;
 use thumb_insn::{Decoded, Insn};
+use words_core::PROGRAM_COUNTER;
 
 /// What a processor reaches: the flash, which it may execute, and perhaps read, and the RAM, which it may
 /// read and write, each from an address on.
@@ -237,7 +238,7 @@ impl Runner {
         ensures kept { result ≡ false → self.new ≡ self.old }
         ensures fixed { Keeps (view_of self.old.window) (view_of self.new.window) }
     {
-        let at = self.processor.regs.get(15);
+        let at = self.processor.regs.get(PROGRAM_COUNTER);
         let Some(first) = self.window.flash_half(at) else {
             return false;
         };

@@ -1,4 +1,4 @@
-use Rattle.std.proofs.Common.{◌∙◌, ℕ, sym, subst, arith}
+use Rattle.std.proofs.Common.{◌∙◌, ℕ, sym, subst}
 use Rattle.kernel_abi.specs.declared.Note.TheVariants as note
 use Rattle.task_table.specs.State.{Turn}
 use Rattle.board_core.specs.Machine.{MachineHolds, HasNumber}
@@ -30,10 +30,10 @@ returns-in-Ok-clause-holds c = λ g t r.
     let u = noted_at c.args.level n t in
     let P : ℕ → Type 0 = λ i. MachineHolds g c.execute.new.self (executed g i c.in-Ok.fetched.insn u) in
     let H : Turn → Type 0 = λ v. MachineHolds g c.execute.new.self v in
-    subst H (fetched_stepped g c.args.self.now t r c.args.level c.get-at.result c.fetch.result _ at (omega arith) c.fetch.ensures.is c.in-Ok.is) (subst P (noted_current c.args.level n t) (c.execute.ensures.holds g u (c.note_insn.ensures.ready g t r)))
+    subst H (fetched_stepped g c.args.self.now t r c.args.level c.get-at.result c.fetch.result _ at c.fetch.ensures.is c.in-Ok.is) (subst P (noted_current c.args.level n t) (c.execute.ensures.holds g u (c.note_insn.ensures.ready g t r)))
 
 pub returns-in-Err-clause-holds : goal.returns-in-Err-clause-holds
 returns-in-Err-clause-holds c = λ g t r.
     let at = c.get-at.ensures ∙ loaded_register 15 g _ _ t r.holds r.sane.steady.current in
     let H : Turn → Type 0 = λ v. MachineHolds g c.fault.new.self v in
-    subst H (fetched_stepped g c.args.self.now t r c.args.level c.get-at.result c.fetch.result _ at (omega arith) c.fetch.ensures.is c.in-Err.is) (c.fault.ensures.holds g t r)
+    subst H (fetched_stepped g c.args.self.now t r c.args.level c.get-at.result c.fetch.result _ at c.fetch.ensures.is c.in-Err.is) (c.fault.ensures.holds g t r)

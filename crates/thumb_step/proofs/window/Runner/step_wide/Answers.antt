@@ -2,7 +2,7 @@ use Rattle.std.proofs.Common.{◌+◌, ◌*◌, ◌^◌, ℕ, sym, ap, ◌∙◌
 use Rattle.std.proofs.lemmas.Bool.{le-leb}
 use Rattle.thumb_insn.specs.declared.Decoded.{Decoded}
 use Rattle.thumb_exec.specs.Effect.{Effect}
-use Rattle.thumb_step.specs.Fetch.{instruction, executed}
+use Rattle.thumb_exec.specs.Fetch.{instruction, executed}
 use Rattle.thumb_step.specs.Windows.{View, refused_by, held_by, view_of}
 use Rattle.thumb_step.proofs.Gliding.{wide_here, goes_so, keeps_by}
 use Rattle.thumb_step.proofs.window.Runner.step_wide.Goals as goal

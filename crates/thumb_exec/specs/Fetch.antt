@@ -12,7 +12,7 @@ use Rattle.thumb_insn.specs.declared.Decoded.TheVariants as decoded
 use Rattle.thumb_exec.specs.Effect.{Effect, Trap, Refusals, Contents, effect}
 use Rattle.thumb_exec.specs.Keeps.{Widens}
 use Rattle.thumb_exec.specs.declared.cpu.Cpu.{Cpu}
-use Rattle.thumb_step.specs.declared.Fetched.{Fetched}
+use Rattle.thumb_exec.specs.declared.fetch.Fetched.{Fetched}
 
 -- what was decoded at an address, with its code; what has no row in the table is Illegal
 abbrev pub instruction : ℕ → ℕ → Decoded → Result Fetched Fault
