@@ -1,5 +1,7 @@
 //! The system calls of a task, by the number in its r11.
 ghost use Rattle.std.specs.Prelude.{◌≡◌, ◌+◌, ◌≤◌, ◌<◌, ◌^◌, true};
+ghost use Rattle.kernel_abi.specs.Syscalls.{syscall_number};
+ghost use Rattle.kernel_abi.specs.declared.syscalls.Syscall.TheVariants.{Send};
 ghost use Rattle.task_table.specs.State.{Setup, Turn};
 ghost use Rattle.task_table.specs.Reading.{is_ready, best_sender};
 ghost use Rattle.task_table.specs.Rows.{received};
@@ -11,7 +13,7 @@ ghost use Rattle.task_table.specs.Frames.{AddsAtMost};
 use dispatch::best_sender;
 use fault_supervisor::kernel_message;
 use ipc_core::{post_syscall, recv, refresh, reply, reply_fault, send};
-use kernel_abi::{SendArgs, TaskId, Usage};
+use kernel_abi::{SYSCALL_SELECTOR, SendArgs, Syscall, TaskId, Usage};
 use lease_core::{borrow_info, borrow_read, borrow_write};
 use task_table::Kernel;
 use timer_irq::{get_timer, irq_control, set_timer};
@@ -29,12 +31,12 @@ fn receive(k: &mut Kernel, caller: usize)
 }
 
 /// SEND, to a task or to the kernel.
-fn send_to(k: &mut Kernel, caller: usize)
+fn send_anywhere(k: &mut Kernel, caller: usize)
     requires there { caller < task_count k.old }
     requires ready { (g : Setup) × (t : Turn) × Stands g k.old t × (is_ready t.state caller ≡ true) }
     requires room { note_count k.old + syscall_notes ≤ turn_notes }
     requires number { next_call_of k.old + 1 < 2 ^ 32 }
-    ensures stands { (g : Setup) (t : Turn) → Stands g k.old t → is_ready t.state caller ≡ true → Stands g k.new (meaning_among syscalls 0 g caller t) }
+    ensures stands { (g : Setup) (t : Turn) → Stands g k.old t → is_ready t.state caller ≡ true → Stands g k.new (meaning_among syscalls (syscall_number Send) g caller t) }
     ensures frame { AddsAtMost k.old syscall_notes k.new }
 {
     let args = SendArgs::of(&k.arguments(caller));
@@ -55,20 +57,20 @@ pub fn syscall(k: &mut Kernel, caller: usize)
     ensures stands { (g : Setup) (t : Turn) → Stands g k.old t → is_ready t.state caller ≡ true → Stands g k.new (syscall_made g caller t) }
     ensures frame { AddsAtMost k.old syscall_notes k.new }
 {
-    match k.register(caller, 11) {
-        0 => send_to(k, caller),
-        1 => receive(k, caller),
-        2 => reply(k, caller),
-        3 => set_timer(k, caller),
-        4 => borrow_read(k, caller),
-        5 => borrow_write(k, caller),
-        6 => borrow_info(k, caller),
-        7 => irq_control(k, caller),
-        8 => k.panic(caller),
-        9 => get_timer(k, caller),
-        10 => refresh(k, caller),
-        11 => post_syscall(k, caller),
-        12 => reply_fault(k, caller),
-        _ => k.misuse(caller, Usage::BadSyscall),
+    match Syscall::of(k.register(caller, SYSCALL_SELECTOR)) {
+        Some(Syscall::Send) => send_anywhere(k, caller),
+        Some(Syscall::Recv) => receive(k, caller),
+        Some(Syscall::Reply) => reply(k, caller),
+        Some(Syscall::SetTimer) => set_timer(k, caller),
+        Some(Syscall::BorrowRead) => borrow_read(k, caller),
+        Some(Syscall::BorrowWrite) => borrow_write(k, caller),
+        Some(Syscall::BorrowInfo) => borrow_info(k, caller),
+        Some(Syscall::IrqControl) => irq_control(k, caller),
+        Some(Syscall::Panic) => k.panic(caller),
+        Some(Syscall::GetTimer) => get_timer(k, caller),
+        Some(Syscall::RefreshTaskId) => refresh(k, caller),
+        Some(Syscall::Post) => post_syscall(k, caller),
+        Some(Syscall::ReplyFault) => reply_fault(k, caller),
+        None => k.misuse(caller, Usage::BadSyscall),
     }
 }

@@ -4,6 +4,7 @@ use Rattle.kernel_abi.specs.Ids.{index_of}
 use Rattle.kernel_abi.specs.declared.arguments.RecvArgs.{RecvArgs}
 use Rattle.task_table.specs.State.{State}
 use Rattle.task_table.specs.Reading.{task_at, is_out, is_dead}
+use Rattle.task_table.specs.Rows.{asked}
 use Rattle.ipc_core.specs.declared.receiving.Sender.{Sender}
 use Rattle.ipc_core.specs.declared.receiving.Sender.TheVariants.{Any, Kernel, Dead, One}
 
@@ -17,6 +18,10 @@ IsSender s c x (Dead g) =
 IsSender s c x (One i) =
     (x.closed ≡ true) × ((x.sender.number == 0xFFFF) ≡ false) × ((is_out s x.sender.number || (index_of x.sender.number == c)) ≡ false)
     × (is_dead s x.sender.number ≡ false) × (i ≡ index_of x.sender.number)
+
+-- the receive that a task makes asks for this sender
+abbrev pub AsksFor : State → ℕ → Sender → Type 0
+AsksFor s c sender = IsSender s c (asked s c) sender
 
 -- or it names no other task
 abbrev pub IsNamed : State → ℕ → RecvArgs → Option Sender → Type 0

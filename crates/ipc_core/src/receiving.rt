@@ -8,7 +8,7 @@ ghost use Rattle.task_table.specs.Holds.{Holds, Stands, Stood, task_count, note_
 ghost use Rattle.task_table.specs.Limits.{syscall_notes, turn_notes};
 ghost use Rattle.task_table.specs.Frames.{AddsAtMost};
 ghost use Rattle.task_table.specs.Messages.{from_of, IsListened, IsReceiving};
-ghost use Rattle.ipc_core.specs.Named.{IsSender, IsNamed, IsInside};
+ghost use Rattle.ipc_core.specs.Named.{AsksFor, IsNamed, IsInside};
 
 use crate::range::is_valid;
 use kernel_abi::{Access, Generation, Listened, RecvArgs, TaskId, Usage, dead_code};
@@ -72,7 +72,7 @@ fn receive_message(k: &mut Kernel, caller: usize, sender: Sender, best: Option<u
     requires best { IfSome best (λ i. i < task_count k.old) }
     requires room { note_count k.old + 2 ≤ turn_notes }
     requires ready { IsReceiving k.old caller }
-    ensures holds { (g : Setup) (t : Turn) → Stands g k.old t → IsIdle t.state caller → IsSender t.state caller (asked t.state caller) sender → Holds g k.new (message_received caller best t) }
+    ensures holds { (g : Setup) (t : Turn) → Stands g k.old t → IsIdle t.state caller → AsksFor t.state caller sender → Holds g k.new (message_received caller best t) }
     ensures frame { AddsAtMost k.old 2 k.new }
 {
     match sender {
@@ -95,7 +95,7 @@ fn receive_input(k: &mut Kernel, caller: usize, mask: u32, sender: Sender, best:
     requires best { IfSome best (λ i. i < task_count k.old) }
     requires room { note_count k.old + 2 ≤ turn_notes }
     requires ready { IsReceiving k.old caller }
-    ensures holds { (g : Setup) (t : Turn) → Stands g k.old t → IsIdle t.state caller → mask ≡ (asked t.state caller).mask → IsSender t.state caller (asked t.state caller) sender → Holds g k.new (input_received caller best t) }
+    ensures holds { (g : Setup) (t : Turn) → Stands g k.old t → IsIdle t.state caller → mask ≡ (asked t.state caller).mask → AsksFor t.state caller sender → Holds g k.new (input_received caller best t) }
     ensures frame { AddsAtMost k.old 2 k.new }
 {
     if k.posted_bits(caller) & mask != 0 {

@@ -15,8 +15,8 @@ use kernel_abi::{Access, Reason, ReplyArgs, Usage};
 use region_check::Right;
 use task_table::{Found, Kernel, OpenCall};
 
-/// The caller answers a call that it has taken.
-fn answer_call(k: &mut Kernel, caller: usize, client: usize, call: &OpenCall, args: &ReplyArgs)
+/// The caller answers a call that it has taken, once the reply is looked at.
+fn reply_checked(k: &mut Kernel, caller: usize, client: usize, call: &OpenCall, args: &ReplyArgs)
     requires there { caller < task_count k.old }
     requires client { client < task_count k.old }
     requires room { note_count k.old + syscall_notes ≤ turn_notes }
@@ -33,11 +33,11 @@ fn answer_call(k: &mut Kernel, caller: usize, client: usize, call: &OpenCall, ar
     if args.reply_length > call.reply.length {
         return k.misuse(caller, Usage::ReplyTooBig);
     }
-    k.reply(caller, client, call, args);
+    k.hand_reply(caller, client, call, args);
 }
 
 /// The caller answers a client that may await its reply.
-fn reply_to(k: &mut Kernel, caller: usize, client: usize, args: &ReplyArgs)
+fn reply_to_client(k: &mut Kernel, caller: usize, client: usize, args: &ReplyArgs)
     requires there { caller < task_count k.old }
     requires client { client < task_count k.old }
     requires room { note_count k.old + syscall_notes ≤ turn_notes }
@@ -46,13 +46,13 @@ fn reply_to(k: &mut Kernel, caller: usize, client: usize, args: &ReplyArgs)
     ensures frame { AddsAtMost k.old syscall_notes k.new }
 {
     match k.taken(client, caller) {
-        Some(call) => answer_call(k, caller, client, &call, args),
+        Some(call) => reply_checked(k, caller, client, &call, args),
         None => k.go_on(caller),
     }
 }
 
-/// REPLY, of any caller.
-fn reply_by(k: &mut Kernel, caller: usize)
+/// REPLY, of any caller, to whom its id names.
+fn reply_by_id(k: &mut Kernel, caller: usize)
     requires there { caller < task_count k.old }
     requires room { note_count k.old + syscall_notes ≤ turn_notes }
     requires stood { Stood k.old }
@@ -63,7 +63,7 @@ fn reply_by(k: &mut Kernel, caller: usize)
     match k.lookup(args.client.number) {
         Found::Out => k.misuse(caller, Usage::BadTaskIndex),
         Found::Dead(_) => k.go_on(caller),
-        Found::Live(client) => reply_to(k, caller, client, &args),
+        Found::Live(client) => reply_to_client(k, caller, client, &args),
     }
 }
 
@@ -78,7 +78,7 @@ pub fn reply(k: &mut Kernel, caller: usize)
     ensures stands { (g : Setup) (t : Turn) → Stands g k.old t → is_ready t.state caller ≡ true → Stands g k.new (replied g caller t) }
     ensures frame { AddsAtMost k.old syscall_notes k.new }
 {
-    reply_by(k, caller);
+    reply_by_id(k, caller);
 }
 
 /// The caller faults a client that may await its reply.

@@ -10,7 +10,7 @@ ghost use Rattle.task_table.specs.Frames.{AddsAtMost};
 ghost use Rattle.ipc_core.specs.Sending.{IsRecipient, IsRecipientOf, IsAmong, sent_to};
 
 use crate::range::is_valid;
-use kernel_abi::{Access, Generation, SendArgs, TaskId, Usage, dead_code};
+use kernel_abi::{Access, Generation, Range, SendArgs, TaskId, Usage, dead_code};
 use region_check::Right;
 use task_table::{Found, Kernel};
 
@@ -42,7 +42,7 @@ fn recipient_of(k: &Kernel, caller: usize, id: TaskId) -> Option<Recipient>
 fn is_valid_table(base: u32, leases: u32) -> bool
     ensures { result ≡ is_valid record { base = base; length = 12 * leases } }
 {
-    u64::from(base) + 12 * u64::from(leases) <= 0x1_0000_0000
+    Range::of(base, 12 * u64::from(leases)).is_some()
 }
 
 /// Whether the message, the reply buffer or the lease table of a send reaches beyond the address space.
@@ -54,8 +54,8 @@ fn reaches_out(args: &SendArgs) -> bool
         || !is_valid_table(args.table, args.leases)
 }
 
-/// A caller that waits for nothing sends to another task.
-fn send_to(k: &mut Kernel, caller: usize, recipient: Recipient, args: &SendArgs)
+/// A caller that waits for nothing sends to another task, once its ranges are looked at.
+fn send_checked(k: &mut Kernel, caller: usize, recipient: Recipient, args: &SendArgs)
     requires there { caller < task_count k.old }
     requires recipient { IsAmong (task_count k.old) recipient }
     requires room { note_count k.old + syscall_notes ≤ turn_notes }
@@ -91,7 +91,7 @@ fn send_by(k: &mut Kernel, caller: usize)
     let args = SendArgs::of(&k.arguments(caller));
     match recipient_of(k, caller, args.recipient) {
         None => k.misuse(caller, Usage::BadTaskIndex),
-        Some(recipient) => send_to(k, caller, recipient, &args),
+        Some(recipient) => send_checked(k, caller, recipient, &args),
     }
 }
 

@@ -3,3 +3,4 @@ pub mod Faults
 pub mod Ids
 pub mod Leases
 pub mod Notes
+pub mod Syscalls

@@ -2,17 +2,19 @@
 //! and the lines of a trace as data.
 #![tactic(auto)]
 
-ghost use Rattle.std.specs.Prelude.{◌≡◌, ◌+◌, ◌<◌, ◌≤◌, ◌^◌, IfSome, MatchOption};
+ghost use Rattle.std.specs.Prelude.{◌≡◌, ◌+◌, ◌<◌, ◌≤◌, ◌^◌, IfSome, MatchOption, is_some, nat_le};
 ghost use Rattle.kernel_abi.specs.Faults.{usage_number, reason_number, access_number};
 ghost use Rattle.kernel_abi.specs.Ids.{index_of, generation_of, id_of, dead_code_of};
 ghost use Rattle.kernel_abi.specs.Leases.{lease_entry};
 
 mod arguments;
 mod causes;
+mod syscalls;
 
 pub use arguments::{
     BorrowArgs, IdArgs, InfoArgs, IrqArgs, RecvArgs, ReplyArgs, SendArgs, TimerArgs,
 };
+pub use syscalls::{SYSCALL_SELECTOR, Syscall};
 
 /// A task id of 16 bits: the task's index in bits 9..0, its generation in bits 15..10 (Hubris
 /// Reference, on task ids).
@@ -212,8 +214,9 @@ pub struct Range {
 
 impl Range {
     /// The range, or None where it is invalid: where base + len is above 2^32.
+    #[inline]
     pub fn of(base: u32, len: u64) -> Option<Range>
-        ensures valid { MatchOption result (2 ^ 32 < base + len) (λ _. base + len ≤ 2 ^ 32) }
+        ensures valid { is_some result ≡ nat_le (base + len) (2 ^ 32) }
         ensures value { IfSome result (λ range. range ≡ record { base = base; len = len }) }
     {
         if len <= 0x1_0000_0000 - u64::from(base) {

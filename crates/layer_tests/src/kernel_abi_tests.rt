@@ -1,7 +1,7 @@
 //! Rows of the layouts and numbers, and what each call takes from which register.
 use kernel_abi::{
     Access, BorrowArgs, Fault, Generation, IdArgs, InfoArgs, IrqArgs, LeaseEntry, Note, Range,
-    Reason, RecvArgs, ReplyArgs, SendArgs, TaskId, TimerArgs, Usage, dead_code,
+    Reason, RecvArgs, ReplyArgs, SYSCALL_SELECTOR, SendArgs, Syscall, TaskId, TimerArgs, Usage, dead_code,
 };
 
 // Each register holds another number, so that no two can be confused.
@@ -115,6 +115,30 @@ fn reasons(rt: HostRuntime) {
     ];
     assert!(rt; found == wanted);
     assert!(rt; Reason::AccessViolation.number() == 5);
+}
+
+#[test]
+fn syscalls(rt: HostRuntime) {
+    let numbers = [0, 1, 2, 3, 4, 5, 6, 7, 8, 9, 10, 11, 12, 13, u32::MAX];
+    let wanted = [
+        Some(Syscall::Send),
+        Some(Syscall::Recv),
+        Some(Syscall::Reply),
+        Some(Syscall::SetTimer),
+        Some(Syscall::BorrowRead),
+        Some(Syscall::BorrowWrite),
+        Some(Syscall::BorrowInfo),
+        Some(Syscall::IrqControl),
+        Some(Syscall::Panic),
+        Some(Syscall::GetTimer),
+        Some(Syscall::RefreshTaskId),
+        Some(Syscall::Post),
+        Some(Syscall::ReplyFault),
+        None,
+        None,
+    ];
+    assert!(rt; numbers.map(|number| Syscall::of(number)) == wanted);
+    assert!(rt; SYSCALL_SELECTOR == 11);
 }
 
 // The last word, and the whole address space.

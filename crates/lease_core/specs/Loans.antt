@@ -9,7 +9,7 @@ use Rattle.kernel_abi.specs.declared.Usage.TheVariants.{InvalidSlice}
 use Rattle.kernel_abi.specs.declared.arguments.BorrowArgs.{BorrowArgs}
 use Rattle.region_check.specs.declared.Right.TheVariants.{Read}
 use Rattle.mem_banks.specs.Memory.{Memory, IsWithin, IsWithinRam}
-use Rattle.task_table.specs.State.{Setup, State, Call, Write, Turn}
+use Rattle.task_table.specs.State.{Setup, State, Call, Range, Write, Turn}
 use Rattle.task_table.specs.Reading.{register, arguments, is_ready, is_valid, bad_byte, taken_by}
 use Rattle.task_table.specs.Entries.{kept_at, IsKeptFor, entry_at}
 use Rattle.task_table.specs.Effects.{◌⨾◌, noted}
@@ -105,6 +105,14 @@ pub record IsEntryRead (g : Setup) (lender : ℕ) (c : Call) (lease : ℕ) : Typ
   pub listed : nat_le c.leases lease ≡ false
   pub readable : bad_byte g lender Read (entry_range c lease) ≡ None
 
+-- no row refuses a BORROW_INFO of a lease: the lender may read its entry, and its range is valid
+abbrev pub MayInform : Setup → ℕ → State → Call → ℕ → Type 0
+MayInform g lender s c lease = IsEntryRead g lender c lease × (is_valid (lease_range (grant s c lease)) ≡ true)
+
+-- the lender may lend this part of a lease
+abbrev pub MayLend : Setup → Loan → Range → Type 0
+MayLend g x part = bad_byte g x.lender (way_of x.way).lender part ≡ None
+
 -- no row refuses a borrow of a lease whose entry says this
 pub record IsGranted (g : Setup) (x : Loan) (e : LeaseEntry) : Type 0 where
   pub valid : is_valid (lease_range e) ≡ true
@@ -112,7 +120,7 @@ pub record IsGranted (g : Setup) (x : Loan) (e : LeaseEntry) : Type 0 where
   pub inside : nat_lt e.len x.args.offset ≡ false
   pub buffer : is_valid (buffer_of x.args) ≡ true
   pub own : bad_byte g x.borrower (way_of x.way).own (buffer_of x.args) ≡ None
-  pub lender : bad_byte g x.lender (way_of x.way).lender (part_of x.args e) ≡ None
+  pub lender : MayLend g x (part_of x.args e)
 
 -- where bytes are written that move between the lease and the borrower's buffer
 abbrev pub target : Way → ℕ → ℕ → ℕ

@@ -13,7 +13,7 @@ ghost use Rattle.task_table.specs.Entries.{IsKeptFor};
 ghost use Rattle.task_table.specs.Messages.{IsLent};
 ghost use Rattle.task_table.specs.Limits.{syscall_notes, turn_notes};
 ghost use Rattle.task_table.specs.Frames.{AddsNotes, AddsAtMost};
-ghost use Rattle.lease_core.specs.Loans.{way_of, IsBuffer, IsLeased, IsLoanOf, IsEntry, IsEntryAt, buffered, lent_answered, KeepsBorrowed, KeepsInformed, IsHeldAfter, IsEntryRead, HoldsGranted, IsGranted, StayKept};
+ghost use Rattle.lease_core.specs.Loans.{way_of, IsBuffer, IsLeased, IsLoanOf, IsEntry, IsEntryAt, buffered, lent_answered, KeepsBorrowed, KeepsInformed, IsHeldAfter, IsEntryRead, HoldsGranted, IsGranted, MayLend, MayInform, StayKept};
 
 mod way;
 
@@ -91,7 +91,7 @@ fn lend_bytes(k: &mut Kernel, loan: &Loan, leased: u32, count: u32)
     requires stood { Stood k.old }
     requires buffer { IsBuffer loan.now.way (memory_of k.old) loan.now.args.buffer_base count }
     ensures holds { let x = loan.now in (g : Setup) (t : Turn) (c : Call) → Holds g k.old t → IsLoanOf x c → Holds g k.new (lent g (way_of x.way) x.borrower x.args c record { base = leased; length = count } t) }
-    ensures stay { let x = loan.now in (g : Setup) (t : Turn) → Holds g k.old t → bad_byte g x.lender (way_of x.way).lender record { base = leased; length = count } ≡ None → StayKept k.old x leased count k.new }
+    ensures stay { let x = loan.now in (g : Setup) (t : Turn) → Holds g k.old t → MayLend g x record { base = leased; length = count } → StayKept k.old x leased count k.new }
     ensures frame { AddsAtMost k.old 5 k.new }
 {
     if let Some(at) = k.bad_byte(loan.lender, loan.way.lender_right(), leased, count) {
@@ -112,7 +112,7 @@ fn lend(k: &mut Kernel, loan: &Loan, entry: &LeaseEntry)
     requires stood { Stood k.old }
     requires buffer { IsBuffer loan.now.way (memory_of k.old) loan.now.args.buffer_base loan.now.args.buffer_length }
     ensures holds { let x = loan.now in (g : Setup) (t : Turn) (c : Call) → Holds g k.old t → IsLoanOf x c → Holds g k.new (lent g (way_of x.way) x.borrower x.args c (part_of x.args entry.now) t) }
-    ensures stay { let x = loan.now in let part = part_of x.args entry.now in (g : Setup) (t : Turn) → Holds g k.old t → bad_byte g x.lender (way_of x.way).lender part ≡ None → StayKept k.old x part.base part.length k.new }
+    ensures stay { let x = loan.now in let part = part_of x.args entry.now in (g : Setup) (t : Turn) → Holds g k.old t → MayLend g x part → StayKept k.old x part.base part.length k.new }
     ensures frame { AddsAtMost k.old 5 k.new }
 {
     let count = loan.args.buffer_length.min(entry.len - loan.args.offset);
@@ -158,11 +158,7 @@ fn borrow_into(k: &mut Kernel, loan: &Loan, entry: &LeaseEntry)
 fn is_lease_valid(entry: &LeaseEntry) -> bool
     ensures { result ≡ is_valid (lease_range entry.now) }
 {
-    let lease = Range {
-        base: entry.base,
-        length: entry.len,
-    };
-    lease.is_valid()
+    kernel_abi::Range::of(entry.base, u64::from(entry.len)).is_some()
 }
 
 /// The borrow of a lease whose entry was read.
@@ -332,7 +328,7 @@ fn inform_of(k: &mut Kernel, caller: usize, lender: usize, call: &OpenCall, leas
     requires fits { call.now.table + 12 * call.now.leases ≤ 2 ^ 32 }
     requires lent { (borrower : ℕ) × IsLent k.old lender borrower call.now }
     ensures holds { (g : Setup) (t : Turn) (c : Call) → Holds g k.old t → kept_call c ≡ call.now → c.client.index ≡ lender → Holds g k.new (informed_by g caller lease (Some c) t) }
-    ensures held { (g : Setup) (t : Turn) (c : Call) → Holds g k.old t → kept_call c ≡ call.now → c.client.index ≡ lender → IsEntryRead g lender c lease → is_valid (lease_range (grant t.state c lease)) ≡ true → IsHeldAfter k.new t.state c lease }
+    ensures held { (g : Setup) (t : Turn) (c : Call) → Holds g k.old t → kept_call c ≡ call.now → c.client.index ≡ lender → MayInform g lender t.state c lease → IsHeldAfter k.new t.state c lease }
     ensures frame { AddsAtMost k.old 5 k.new }
 {
     if call.leases <= lease {

@@ -5,51 +5,52 @@ use Rattle.std.proofs.lemmas.Bool.{ne_eqb, le-ltb, lt-ltb}
 use Rattle.std.proofs.lemmas.List.{append-nil, take-append-drop}
 use Rattle.task_table.proofs.Posting.{kept_at}
 use Rattle.task_table.proofs.Changes.{task_at-with_task, task_at-with_task_other, length-with_task}
+use Rattle.kernel_abi.specs.declared.syscalls.Syscall.TheVariants.{Send, Recv, Reply, BorrowRead, BorrowWrite, BorrowInfo, Post, ReplyFault}
 use Rattle.task_table.specs.State.{Setup, State, Task, Turn}
-use Rattle.task_table.specs.Reading.{task_at, register, dead_code_for}
+use Rattle.task_table.specs.Reading.{task_at, register}
 use Rattle.task_table.specs.Effects.{given, returned, past_syscall, noted, with_task, with_results}
 use Rattle.task_table.specs.Rows.{misused, goes_on, goes_on_with, received}
 use Rattle.task_table.specs.Sends.{last_reason, sent, replied, reply_faulted, post_made}
 use Rattle.task_table.specs.Borrows.{borrowed, informed}
 use Rattle.task_table.specs.Syscalls.{syscall_made}
-use Rattle.task_table.specs.DeadIds.{Calls, IsDeadId, MaySend, MayReceiveFrom, IsAnsweredAlone, recipient, sender, client, lender, asked_lender, posted_to, reason}
+use Rattle.task_table.specs.DeadIds.{Calls, IsDeadId, MaySend, MayReceiveFrom, IsAnsweredAlone, told_dead, recipient, sender, client, lender, asked_lender, posted_to, reason}
 
-pub dead-replied : (g : Setup) (c : ℕ) (t : Turn) → Calls 2 c t → IsDeadId t.state (client t.state c) → syscall_made g c t ≡ goes_on c t
+pub dead-replied : (g : Setup) (c : ℕ) (t : Turn) → Calls Reply c t → IsDeadId t.state (client t.state c) → syscall_made g c t ≡ goes_on c t
 unfolding syscall_made replied
 dead-replied g c t e d = rw (e, d.inside, d.dead) refl
 
-pub dead-sent : (g : Setup) (c : ℕ) (t : Turn) → Calls 0 c t → IsDeadId t.state (recipient t.state c) → MaySend g c t.state → syscall_made g c t ≡ goes_on_with c (dead_code_for t.state (recipient t.state c) ∷ 0 ∷ []) t
+pub dead-sent : (g : Setup) (c : ℕ) (t : Turn) → Calls Send c t → IsDeadId t.state (recipient t.state c) → MaySend g c t.state → syscall_made g c t ≡ told_dead c (recipient t.state c) (0 ∷ []) t
 unfolding syscall_made sent
 dead-sent g c t e d m = let other = ne_eqb _ _ m.other in rw (e, m.task, d.inside, other, m.message, m.reply, m.table, m.readable, m.writable, d.dead) refl
 
-pub dead-received : (g : Setup) (c : ℕ) (t : Turn) → Calls 1 c t → IsDeadId t.state (sender t.state c) → MayReceiveFrom g c t.state → syscall_made g c t ≡ goes_on_with c (dead_code_for t.state (sender t.state c) ∷ 0 ∷ 0 ∷ 0 ∷ 0 ∷ 0 ∷ []) t
+pub dead-received : (g : Setup) (c : ℕ) (t : Turn) → Calls Recv c t → IsDeadId t.state (sender t.state c) → MayReceiveFrom g c t.state → syscall_made g c t ≡ told_dead c (sender t.state c) (0 ∷ 0 ∷ 0 ∷ 0 ∷ 0 ∷ []) t
 unfolding syscall_made received
 dead-received g c t e d m =
     let other = ne_eqb _ _ m.other in
     let task = ne_eqb _ _ m.task in
     rw (e, m.valid, m.writable, m.closed, task, d.inside, other, m.quiet, d.dead) refl
 
-pub dead-read : (g : Setup) (c : ℕ) (t : Turn) → Calls 4 c t → IsDeadId t.state (lender t.state c) → syscall_made g c t ≡ goes_on_with c (dead_code_for t.state (lender t.state c) ∷ 0 ∷ []) t
+pub dead-read : (g : Setup) (c : ℕ) (t : Turn) → Calls BorrowRead c t → IsDeadId t.state (lender t.state c) → syscall_made g c t ≡ told_dead c (lender t.state c) (0 ∷ []) t
 unfolding syscall_made borrowed
 dead-read g c t e d = rw (e, d.inside, d.dead) refl
 
-pub dead-written : (g : Setup) (c : ℕ) (t : Turn) → Calls 5 c t → IsDeadId t.state (lender t.state c) → syscall_made g c t ≡ goes_on_with c (dead_code_for t.state (lender t.state c) ∷ 0 ∷ []) t
+pub dead-written : (g : Setup) (c : ℕ) (t : Turn) → Calls BorrowWrite c t → IsDeadId t.state (lender t.state c) → syscall_made g c t ≡ told_dead c (lender t.state c) (0 ∷ []) t
 unfolding syscall_made borrowed
 dead-written g c t e d = rw (e, d.inside, d.dead) refl
 
-pub dead-informed : (g : Setup) (c : ℕ) (t : Turn) → Calls 6 c t → IsDeadId t.state (asked_lender t.state c) → syscall_made g c t ≡ goes_on_with c (dead_code_for t.state (asked_lender t.state c) ∷ 0 ∷ 0 ∷ []) t
+pub dead-informed : (g : Setup) (c : ℕ) (t : Turn) → Calls BorrowInfo c t → IsDeadId t.state (asked_lender t.state c) → syscall_made g c t ≡ told_dead c (asked_lender t.state c) (0 ∷ 0 ∷ []) t
 unfolding syscall_made informed
 dead-informed g c t e d = rw (e, d.inside, d.dead) refl
 
-pub dead-posted : (g : Setup) (c : ℕ) (t : Turn) → Calls 11 c t → IsDeadId t.state (posted_to t.state c) → syscall_made g c t ≡ goes_on_with c (dead_code_for t.state (posted_to t.state c) ∷ []) t
+pub dead-posted : (g : Setup) (c : ℕ) (t : Turn) → Calls Post c t → IsDeadId t.state (posted_to t.state c) → syscall_made g c t ≡ told_dead c (posted_to t.state c) [] t
 unfolding syscall_made post_made
 dead-posted g c t e d = rw (e, d.inside, d.dead) refl
 
-pub dead-reply_faulted : (g : Setup) (c : ℕ) (t : Turn) → Calls 12 c t → IsDeadId t.state (client t.state c) → reason t.state c ≤ last_reason → syscall_made g c t ≡ goes_on c t
+pub dead-reply_faulted : (g : Setup) (c : ℕ) (t : Turn) → Calls ReplyFault c t → IsDeadId t.state (client t.state c) → reason t.state c ≤ last_reason → syscall_made g c t ≡ goes_on c t
 unfolding syscall_made reply_faulted
 dead-reply_faulted g c t e d few = let known = le-ltb 5 (reason t.state c) few in rw (e, d.inside, known, d.dead) refl
 
-pub dead-no_reason : (g : Setup) (c : ℕ) (t : Turn) → Calls 12 c t → IsDeadId t.state (client t.state c) → last_reason < reason t.state c → syscall_made g c t ≡ misused g c 10 t
+pub dead-no_reason : (g : Setup) (c : ℕ) (t : Turn) → Calls ReplyFault c t → IsDeadId t.state (client t.state c) → last_reason < reason t.state c → syscall_made g c t ≡ misused g c 10 t
 unfolding syscall_made reply_faulted
 dead-no_reason g c t e d many = let unknown = lt-ltb 5 (reason t.state c) many in rw (e, d.inside, unknown) refl
 

@@ -4,17 +4,23 @@ use Rattle.std.specs.Prelude.{ℕ, ◌≡◌, ◌≢◌, ◌+◌, ◌%◌, ◌^�
 use Rattle.kernel_abi.specs.Arguments.{send_args, recv_args, reply_args, id_args, borrow_args, info_args}
 use Rattle.kernel_abi.specs.Ids.{index_of}
 use Rattle.kernel_abi.specs.declared.Note.TheVariants as note
+use Rattle.kernel_abi.specs.declared.syscalls.Syscall.{Syscall}
+use Rattle.kernel_abi.specs.Syscalls.{syscall_number}
 use Rattle.region_check.specs.declared.Right.TheVariants.{Read, Write}
 use Rattle.task_table.specs.State.{Setup, State, Turn}
-use Rattle.task_table.specs.Reading.{task_at, register, arguments, is_out, is_dead, is_valid, bad_byte, syscall_selector}
+use Rattle.task_table.specs.Reading.{task_at, register, arguments, is_out, is_dead, dead_code_for, is_valid, bad_byte, syscall_selector}
 use Rattle.task_table.specs.Effects.{with_results}
-use Rattle.task_table.specs.Rows.{buffer_of}
+use Rattle.task_table.specs.Rows.{buffer_of, goes_on_with}
 use Rattle.task_table.specs.Sends.{message_of, reply_room, table_of}
 use Rattle.task_table.specs.Syscalls.{is_to_kernel}
 
--- the caller makes the call with this number
-abbrev pub Calls : ℕ → ℕ → Turn → Type 0
-Calls n c t = register t.state c syscall_selector ≡ n
+-- the caller makes this call
+abbrev pub Calls : Syscall → ℕ → Turn → Type 0
+Calls call c t = register t.state c syscall_selector ≡ syscall_number call
+
+-- the caller goes on and gets the dead code for an id, with the present generation, and these words after it
+abbrev pub told_dead : ℕ → ℕ → List ℕ → Turn → Turn
+told_dead c id words t = goes_on_with c (dead_code_for t.state id ∷ words) t
 
 -- the ids that calls of c name: of a SEND, a RECV, a REPLY or REPLY_FAULT, a borrow, BORROW_INFO, and POST
 abbrev pub recipient : State → ℕ → ℕ

@@ -188,3 +188,7 @@ pub record WaitsAlike (i : ℕ) (s u : State) : Type 0 where
 -- the timer of task i is set alike in both
 abbrev pub TimersAlike : ℕ → State → State → Type 0
 TimersAlike i s u = (task_at u i).timer ≡ (task_at s i).timer
+
+-- u is s but for the rest of task i, which is neither its health nor its wait nor its timer
+abbrev pub DiffersInRest : ℕ → State → State → Type 0
+DiffersInRest i s u = IsSameBut i s u × WaitsAlike i s u × TimersAlike i s u

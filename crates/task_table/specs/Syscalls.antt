@@ -1,5 +1,7 @@
 -- The system calls: each has a number, which the caller has in r11, and a meaning. (Hubris Reference: syscalls.)
 use Rattle.kernel_abi.specs.declared.Usage.TheVariants.{BadSyscall}
+use Rattle.kernel_abi.specs.declared.syscalls.Syscall.TheVariants.{Send, Recv, Reply, SetTimer, BorrowRead, BorrowWrite, BorrowInfo, IrqControl, Panic, GetTimer, RefreshTaskId, Post, ReplyFault}
+use Rattle.kernel_abi.specs.Syscalls.{syscall_number}
 use Rattle.kernel_abi.specs.Faults.{usage_number}
 use Rattle.std.specs.Prelude.{ℕ, Bool, List, [], ◌∷◌, ◌==◌, if◌then◌else◌}
 use Rattle.kernel_abi.specs.Arguments.{send_args}
@@ -20,19 +22,19 @@ is_to_kernel s c = (send_args (arguments s c)).recipient.number == 0xFFFF
 
 abbrev pub syscalls : List (ℕ × Meaning)
 syscalls =
-    (0, λ g c t. if is_to_kernel t.state c then ordered g c t else sent g c t)
-    ∷ (1, λ g c t. received g c (best_sender g t.state c) t)
-    ∷ (2, replied)
-    ∷ (3, λ g c t. timer_set c t)
-    ∷ (4, λ g c t. borrowed g reading c t)
-    ∷ (5, λ g c t. borrowed g writing c t)
-    ∷ (6, informed)
-    ∷ (7, irq_controlled)
-    ∷ (8, panicked)
-    ∷ (9, λ g c t. timer_answered c t)
-    ∷ (10, refreshed)
-    ∷ (11, post_made)
-    ∷ (12, reply_faulted)
+    (syscall_number Send, λ g c t. if is_to_kernel t.state c then ordered g c t else sent g c t)
+    ∷ (syscall_number Recv, λ g c t. received g c (best_sender g t.state c) t)
+    ∷ (syscall_number Reply, replied)
+    ∷ (syscall_number SetTimer, λ g c t. timer_set c t)
+    ∷ (syscall_number BorrowRead, λ g c t. borrowed g reading c t)
+    ∷ (syscall_number BorrowWrite, λ g c t. borrowed g writing c t)
+    ∷ (syscall_number BorrowInfo, informed)
+    ∷ (syscall_number IrqControl, irq_controlled)
+    ∷ (syscall_number Panic, panicked)
+    ∷ (syscall_number GetTimer, λ g c t. timer_answered c t)
+    ∷ (syscall_number RefreshTaskId, refreshed)
+    ∷ (syscall_number Post, post_made)
+    ∷ (syscall_number ReplyFault, reply_faulted)
     ∷ []
 
 -- what a number means among some system calls; one that none of them has is usage 1, BadSyscall

@@ -4,7 +4,7 @@ ghost use Rattle.std.specs.Prelude.{◌≡◌, slice_range};
 
 use crate::kernel::Kernel;
 use crate::slot::Wait;
-use kernel_abi::{Ending, Fault, Health, Note, Usage};
+use kernel_abi::{Ending, Fault, Health, Note, SYSCALL_SELECTOR, Usage};
 
 impl Kernel {
     ghost use Rattle.std.specs.Prelude.{◌≡◌, ◌+◌, ◌<◌, ◌≤◌};
@@ -136,7 +136,7 @@ impl Kernel {
         let slot = self.slot(task);
         self.note(Note::Syscall {
             task: task as u16,
-            number: slot.registers[11],
+            number: slot.registers[SYSCALL_SELECTOR],
             arguments: arguments_in(&slot.registers),
         });
     }

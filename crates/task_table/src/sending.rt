@@ -97,7 +97,7 @@ impl Kernel {
 
     /// A caller answers the call of a client that it has taken, and goes on: the client gets the reply, in r4
     /// the response code and in r5 the reply's length, and its call is closed (Hubris Reference, on REPLY).
-    pub fn reply(&mut self, caller: usize, client: usize, call: &OpenCall, args: &ReplyArgs)
+    pub fn hand_reply(&mut self, caller: usize, client: usize, call: &OpenCall, args: &ReplyArgs)
         requires there { caller < task_count self.old }
         requires client { client < task_count self.old }
         requires room { note_count self.old + 3 ≤ turn_notes }

@@ -20,7 +20,7 @@ impl Range {
     pub fn is_valid(&self) -> bool
         ensures { result ≡ is_valid self.now }
     {
-        u64::from(self.base) + u64::from(self.length) <= 0x1_0000_0000
+        kernel_abi::Range::of(self.base, u64::from(self.length)).is_some()
     }
 }
 

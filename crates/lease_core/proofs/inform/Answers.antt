@@ -88,4 +88,4 @@ returns-in-Some-clause-held c = λ g t h k taken well none.
     let lender = of_lender g t.state c.in-Live.lender i k h.sane named in
     let by = answered_by g t h.sane i c.in-Live.lender args.lease k inside named (rw (← live.2, named) at answered.2) in
     let lease : args.lease ≡ (info_args (arguments t.state i)).lease = ap (λ (y : InfoArgs). y.lease) same in
-    subst (λ n. IsHeldAfter c.inform_of.new.k t.state k n) lease (c.inform_of.ensures.held g t k h.holds kept lender by.0 by.1)
+    subst (λ n. IsHeldAfter c.inform_of.new.k t.state k n) lease (c.inform_of.ensures.held g t k h.holds kept lender by)

@@ -28,10 +28,10 @@ returns-in-Ok-clause-holds c = λ g t k h same lender.
     subst (Holds g c.inform_entry.new.k) (sym (answered_good g a.caller a.lease k a.lender _ t lender listed e.0 e.1)) (c.inform_entry.ensures.holds g _ k (holds_looked g (kept_of c.entry_of.new.k) t _ (c.entry_of.ensures.holds g t h)) lender number)
 
 pub returns-in-Ok-clause-held : goal.returns-in-Ok-clause-held
-returns-in-Ok-clause-held c = λ g t k h same lender read valid.
+returns-in-Ok-clause-held c = λ g t k h same lender may.
     let a = c.args in
     let table : k.table ≡ a.call.now.table = ap (λ (y : OpenCall). y.table) same in
     let e = rw c.in-Ok.is at (c.entry_of.ensures.entry g t k h same) in
     let kept = rw c.in-Ok.is at c.entry_of.ensures.kept in
-    let entries = c.inform_entry.ensures.entries (subst (λ (z : LeaseEntry). is_valid (lease_range z) ≡ true) e.1 valid) in
+    let entries = c.inform_entry.ensures.entries (subst (λ (z : LeaseEntry). is_valid (lease_range z) ≡ true) e.1 may.1) in
     held_on c.entry_of.new.k c.inform_entry.new.k a.lender a.call.now.table a.lease k t.state c.in-Ok.entry lender table e.1 kept (λ y at was. rw entries was)

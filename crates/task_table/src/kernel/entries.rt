@@ -10,7 +10,7 @@ impl Kernel {
     ghost use Rattle.task_table.specs.State.{Setup, Turn};
     ghost use Rattle.task_table.specs.Reading.{bad_byte};
     ghost use Rattle.task_table.specs.Entries.{kept_at, entry_at, meets, IsKeptFor};
-    ghost use Rattle.task_table.specs.Holds.{Holds, task_count, memory_of, current_of, entries_of};
+    ghost use Rattle.task_table.specs.Holds.{Holds, kept_of, task_count, memory_of, current_of, entries_of};
     ghost use Rattle.task_table.specs.Messages.{IsRead};
     ghost use Rattle.task_table.specs.Frames.{AddsNotes};
     ghost use Rattle.task_table.specs.declared.entry.KeptEntry.{KeptEntry};
@@ -49,12 +49,14 @@ impl Kernel {
     }
 
     /// So many bytes from an address on are about to be written: an entry that has one of them is kept no
-    /// more, and the others are.
+    /// more, and the others are. Nothing else changes.
     #[inline(always)]
-    pub(super) fn touched(&mut self, addr: u32, count: usize)
+    pub fn touched(&mut self, addr: u32, count: usize)
         ensures holds { (g : Setup) (t : Turn) → Holds g self.old t → Holds g self.new t }
         ensures memory { memory_of self.new ≡ memory_of self.old }
         ensures current { current_of self.new ≡ current_of self.old }
+        ensures same { kept_of self.new ≡ kept_of self.old }
+        ensures there { (i : ℕ) (x : KeptEntry) → kept_at (entries_of self.new) i ≡ Some x → kept_at (entries_of self.old) i ≡ Some x }
         ensures apart { (i : ℕ) (x : KeptEntry) → kept_at (entries_of self.new) i ≡ Some x → meets x addr count ≡ false }
         ensures stay { (i : ℕ) (x : KeptEntry) → kept_at (entries_of self.old) i ≡ Some x → meets x addr count ≡ false → kept_at (entries_of self.new) i ≡ Some x }
         ensures frame { AddsNotes self.old 0 self.new }
@@ -71,6 +73,8 @@ impl Kernel {
         ensures holds { (g : Setup) (t : Turn) → Holds g self.old t → Holds g self.new t }
         ensures memory { memory_of self.new ≡ memory_of self.old }
         ensures current { current_of self.new ≡ current_of self.old }
+        ensures same { kept_of self.new ≡ kept_of self.old }
+        ensures there { (i : ℕ) (x : KeptEntry) → kept_at (entries_of self.new) i ≡ Some x → kept_at (entries_of self.old) i ≡ Some x }
         ensures apart { (i : ℕ) (x : KeptEntry) → kept_at (entries_of self.new) i ≡ Some x → meets x addr count ≡ false }
         ensures stay { (i : ℕ) (x : KeptEntry) → kept_at (entries_of self.old) i ≡ Some x → meets x addr count ≡ false → kept_at (entries_of self.new) i ≡ Some x }
         ensures frame { AddsNotes self.old 0 self.new }

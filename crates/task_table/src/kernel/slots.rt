@@ -10,7 +10,7 @@ use words_core::Flags;
 impl Kernel {
     ghost use Rattle.std.specs.Prelude.{◌≡◌, ◌<◌};
     ghost use Rattle.task_table.specs.State.{Setup, State, Turn};
-    ghost use Rattle.task_table.specs.Reading.{IsSameBut, WaitsAlike, TimersAlike};
+    ghost use Rattle.task_table.specs.Reading.{IsSameBut, TimersAlike, DiffersInRest};
     ghost use Rattle.task_table.specs.Effects.{changed, with_processor, reborn};
     ghost use Rattle.task_table.specs.Holds.{Holds, IsKept, task_count, entries_of};
     ghost use Rattle.task_table.specs.Frames.{AddsNotes};
@@ -46,7 +46,7 @@ impl Kernel {
     #[inline(always)]
     pub(crate) fn set_rest(&mut self, task: usize, rest: &Slot)
         requires { task < task_count self.old }
-        ensures holds { (g : Setup) (t : Turn) (u : State) → Holds g self.old t → IsKept u task rest.now → IsSameBut task t.state u → WaitsAlike task t.state u → TimersAlike task t.state u → Holds g self.new record t { state = u } }
+        ensures holds { (g : Setup) (t : Turn) (u : State) → Holds g self.old t → IsKept u task rest.now → DiffersInRest task t.state u → Holds g self.new record t { state = u } }
         ensures entries { entries_of self.new ≡ entries_of self.old }
         ensures frame { AddsNotes self.old 0 self.new }
     {

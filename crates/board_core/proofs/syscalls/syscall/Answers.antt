@@ -1,46 +1,46 @@
-use Rattle.std.proofs.Common.{arith}
+use Rattle.kernel_abi.specs.declared.syscalls.Syscall.TheVariants.{Send, Recv, Reply, SetTimer, BorrowRead, BorrowWrite, BorrowInfo, IrqControl, Panic, GetTimer, RefreshTaskId, Post, ReplyFault}
 use Rattle.task_table.specs.Holds.{Stands}
 use Rattle.board_core.proofs.SyscallRows.{row, no_row}
 use Rattle.board_core.proofs.syscalls.syscall.Goals as goal
 
-pub returns-in-0-clause-stands : goal.returns-in-0-clause-stands
-returns-in-0-clause-stands c = λ g t st ready. row g c.args.caller t c.register.result (c.register.ensures g t st.holds) (Stands g c.send_to.new.k) 0 c.in-0.is (c.send_to.ensures.stands g t st ready)
+pub returns-in-Some-Send-clause-stands : goal.returns-in-Some-Send-clause-stands
+returns-in-Some-Send-clause-stands c = λ g t st ready. row g c.args.caller t c.register.result (c.register.ensures g t st.holds) (Stands g c.send_anywhere.new.k) Send _ c.in-Some-Send.field-0-is c.in-Some-Send.ensures (c.send_anywhere.ensures.stands g t st ready)
 
-pub returns-in-1-clause-stands : goal.returns-in-1-clause-stands
-returns-in-1-clause-stands c = λ g t st ready. row g c.args.caller t c.register.result (c.register.ensures g t st.holds) (Stands g c.receive.new.k) 1 c.in-1.is (c.receive.ensures.stands g t st ready)
+pub returns-in-Some-Recv-clause-stands : goal.returns-in-Some-Recv-clause-stands
+returns-in-Some-Recv-clause-stands c = λ g t st ready. row g c.args.caller t c.register.result (c.register.ensures g t st.holds) (Stands g c.receive.new.k) Recv _ c.in-Some-Recv.field-0-is c.in-Some-Recv.ensures (c.receive.ensures.stands g t st ready)
 
-pub returns-in-2-clause-stands : goal.returns-in-2-clause-stands
-returns-in-2-clause-stands c = λ g t st ready. row g c.args.caller t c.register.result (c.register.ensures g t st.holds) (Stands g c.reply.new.k) 2 c.in-2.is (c.reply.ensures.stands g t st ready)
+pub returns-in-Some-Reply-clause-stands : goal.returns-in-Some-Reply-clause-stands
+returns-in-Some-Reply-clause-stands c = λ g t st ready. row g c.args.caller t c.register.result (c.register.ensures g t st.holds) (Stands g c.reply.new.k) Reply _ c.in-Some-Reply.field-0-is c.in-Some-Reply.ensures (c.reply.ensures.stands g t st ready)
 
-pub returns-in-3-clause-stands : goal.returns-in-3-clause-stands
-returns-in-3-clause-stands c = λ g t st ready. row g c.args.caller t c.register.result (c.register.ensures g t st.holds) (Stands g c.set_timer.new.k) 3 c.in-3.is (c.set_timer.ensures.stands g t st ready)
+pub returns-in-Some-SetTimer-clause-stands : goal.returns-in-Some-SetTimer-clause-stands
+returns-in-Some-SetTimer-clause-stands c = λ g t st ready. row g c.args.caller t c.register.result (c.register.ensures g t st.holds) (Stands g c.set_timer.new.k) SetTimer _ c.in-Some-SetTimer.field-0-is c.in-Some-SetTimer.ensures (c.set_timer.ensures.stands g t st ready)
 
-pub returns-in-4-clause-stands : goal.returns-in-4-clause-stands
-returns-in-4-clause-stands c = λ g t st ready. row g c.args.caller t c.register.result (c.register.ensures g t st.holds) (Stands g c.borrow_read.new.k) 4 c.in-4.is (c.borrow_read.ensures.stands g t st ready)
+pub returns-in-Some-BorrowRead-clause-stands : goal.returns-in-Some-BorrowRead-clause-stands
+returns-in-Some-BorrowRead-clause-stands c = λ g t st ready. row g c.args.caller t c.register.result (c.register.ensures g t st.holds) (Stands g c.borrow_read.new.k) BorrowRead _ c.in-Some-BorrowRead.field-0-is c.in-Some-BorrowRead.ensures (c.borrow_read.ensures.stands g t st ready)
 
-pub returns-in-5-clause-stands : goal.returns-in-5-clause-stands
-returns-in-5-clause-stands c = λ g t st ready. row g c.args.caller t c.register.result (c.register.ensures g t st.holds) (Stands g c.borrow_write.new.k) 5 c.in-5.is (c.borrow_write.ensures.stands g t st ready)
+pub returns-in-Some-BorrowWrite-clause-stands : goal.returns-in-Some-BorrowWrite-clause-stands
+returns-in-Some-BorrowWrite-clause-stands c = λ g t st ready. row g c.args.caller t c.register.result (c.register.ensures g t st.holds) (Stands g c.borrow_write.new.k) BorrowWrite _ c.in-Some-BorrowWrite.field-0-is c.in-Some-BorrowWrite.ensures (c.borrow_write.ensures.stands g t st ready)
 
-pub returns-in-6-clause-stands : goal.returns-in-6-clause-stands
-returns-in-6-clause-stands c = λ g t st ready. row g c.args.caller t c.register.result (c.register.ensures g t st.holds) (Stands g c.borrow_info.new.k) 6 c.in-6.is (c.borrow_info.ensures.stands g t st ready)
+pub returns-in-Some-BorrowInfo-clause-stands : goal.returns-in-Some-BorrowInfo-clause-stands
+returns-in-Some-BorrowInfo-clause-stands c = λ g t st ready. row g c.args.caller t c.register.result (c.register.ensures g t st.holds) (Stands g c.borrow_info.new.k) BorrowInfo _ c.in-Some-BorrowInfo.field-0-is c.in-Some-BorrowInfo.ensures (c.borrow_info.ensures.stands g t st ready)
 
-pub returns-in-7-clause-stands : goal.returns-in-7-clause-stands
-returns-in-7-clause-stands c = λ g t st ready. row g c.args.caller t c.register.result (c.register.ensures g t st.holds) (Stands g c.irq_control.new.k) 7 c.in-7.is (c.irq_control.ensures.stands g t st ready)
+pub returns-in-Some-IrqControl-clause-stands : goal.returns-in-Some-IrqControl-clause-stands
+returns-in-Some-IrqControl-clause-stands c = λ g t st ready. row g c.args.caller t c.register.result (c.register.ensures g t st.holds) (Stands g c.irq_control.new.k) IrqControl _ c.in-Some-IrqControl.field-0-is c.in-Some-IrqControl.ensures (c.irq_control.ensures.stands g t st ready)
 
-pub returns-in-8-clause-stands : goal.returns-in-8-clause-stands
-returns-in-8-clause-stands c = λ g t st ready. row g c.args.caller t c.register.result (c.register.ensures g t st.holds) (Stands g c.panic.new.self) 8 c.in-8.is (c.panic.ensures.stands g t st)
+pub returns-in-Some-Panic-clause-stands : goal.returns-in-Some-Panic-clause-stands
+returns-in-Some-Panic-clause-stands c = λ g t st ready. row g c.args.caller t c.register.result (c.register.ensures g t st.holds) (Stands g c.panic.new.self) Panic _ c.in-Some-Panic.field-0-is c.in-Some-Panic.ensures (c.panic.ensures.stands g t st)
 
-pub returns-in-9-clause-stands : goal.returns-in-9-clause-stands
-returns-in-9-clause-stands c = λ g t st ready. row g c.args.caller t c.register.result (c.register.ensures g t st.holds) (Stands g c.get_timer.new.k) 9 c.in-9.is (c.get_timer.ensures.stands g t st ready)
+pub returns-in-Some-GetTimer-clause-stands : goal.returns-in-Some-GetTimer-clause-stands
+returns-in-Some-GetTimer-clause-stands c = λ g t st ready. row g c.args.caller t c.register.result (c.register.ensures g t st.holds) (Stands g c.get_timer.new.k) GetTimer _ c.in-Some-GetTimer.field-0-is c.in-Some-GetTimer.ensures (c.get_timer.ensures.stands g t st ready)
 
-pub returns-in-10-clause-stands : goal.returns-in-10-clause-stands
-returns-in-10-clause-stands c = λ g t st ready. row g c.args.caller t c.register.result (c.register.ensures g t st.holds) (Stands g c.refresh.new.k) 10 c.in-10.is (c.refresh.ensures.stands g t st ready)
+pub returns-in-Some-RefreshTaskId-clause-stands : goal.returns-in-Some-RefreshTaskId-clause-stands
+returns-in-Some-RefreshTaskId-clause-stands c = λ g t st ready. row g c.args.caller t c.register.result (c.register.ensures g t st.holds) (Stands g c.refresh.new.k) RefreshTaskId _ c.in-Some-RefreshTaskId.field-0-is c.in-Some-RefreshTaskId.ensures (c.refresh.ensures.stands g t st ready)
 
-pub returns-in-11-clause-stands : goal.returns-in-11-clause-stands
-returns-in-11-clause-stands c = λ g t st ready. row g c.args.caller t c.register.result (c.register.ensures g t st.holds) (Stands g c.post_syscall.new.k) 11 c.in-11.is (c.post_syscall.ensures.stands g t st ready)
+pub returns-in-Some-Post-clause-stands : goal.returns-in-Some-Post-clause-stands
+returns-in-Some-Post-clause-stands c = λ g t st ready. row g c.args.caller t c.register.result (c.register.ensures g t st.holds) (Stands g c.post_syscall.new.k) Post _ c.in-Some-Post.field-0-is c.in-Some-Post.ensures (c.post_syscall.ensures.stands g t st ready)
 
-pub returns-in-12-clause-stands : goal.returns-in-12-clause-stands
-returns-in-12-clause-stands c = λ g t st ready. row g c.args.caller t c.register.result (c.register.ensures g t st.holds) (Stands g c.reply_fault.new.k) 12 c.in-12.is (c.reply_fault.ensures.stands g t st ready)
+pub returns-in-Some-ReplyFault-clause-stands : goal.returns-in-Some-ReplyFault-clause-stands
+returns-in-Some-ReplyFault-clause-stands c = λ g t st ready. row g c.args.caller t c.register.result (c.register.ensures g t st.holds) (Stands g c.reply_fault.new.k) ReplyFault _ c.in-Some-ReplyFault.field-0-is c.in-Some-ReplyFault.ensures (c.reply_fault.ensures.stands g t st ready)
 
-pub returns-in_default-clause-stands : goal.returns-in_default-clause-stands
-returns-in_default-clause-stands c = λ g t st ready. no_row g c.args.caller t c.register.result (c.register.ensures g t st.holds) (Stands g c.misuse.new.self) (omega (arith, c.in_default)) (omega (arith, c.in_default)) (omega (arith, c.in_default)) (omega (arith, c.in_default)) (omega (arith, c.in_default)) (omega (arith, c.in_default)) (omega (arith, c.in_default)) (omega (arith, c.in_default)) (omega (arith, c.in_default)) (omega (arith, c.in_default)) (omega (arith, c.in_default)) (omega (arith, c.in_default)) (omega (arith, c.in_default)) (c.misuse.ensures.stands g t st)
+pub returns-in-None-clause-stands : goal.returns-in-None-clause-stands
+returns-in-None-clause-stands c = λ g t st ready. no_row g c.args.caller t c.register.result (c.register.ensures g t st.holds) (Stands g c.misuse.new.self) c.in-None.ensures (c.misuse.ensures.stands g t st)

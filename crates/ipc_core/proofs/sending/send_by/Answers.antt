@@ -19,4 +19,4 @@ returns-in-Some-clause-holds c = λ g t h idle.
     let same : c.of-args.result ≡ send_args (arguments t.state i) = c.of-args.ensures ∙ ap send_args (c.arguments.ensures g t h.holds) in
     let who = c.in-Some.ensures.named g t h.holds in
     let other = is_other t.state i c.of-args.result.recipient.number c.in-Some.recipient who in
-    subst (Sent g c.send_to.new.k i t) same (rw other (c.send_to.ensures.holds g t h idle who))
+    subst (Sent g c.send_checked.new.k i t) same (rw other (c.send_checked.ensures.holds g t h idle who))

@@ -16,5 +16,5 @@ returns-clause-holds c = λ g t h.
     let there : c.args.task < length t.state.tasks = omega (arith, h.count) in
     let bits : c.slot-slot.result.posted ≡ task.posted = ap (λ (o : Slot). o.posted) kept.is in
     let is = ap (λ (o : Slot). record o { posted = bit_or o.posted c.args.bits }) kept.is in
-    let next = c.set_rest.ensures.holds g t _ h (steps.kept_task t.state c.args.task x _ _ there kept is) (same_but-with_task t.state c.args.task x) (waits_alike t.state c.args.task x there refl) (timers_alike t.state c.args.task x there refl) in
+    let next = c.set_rest.ensures.holds g t _ h (steps.kept_task t.state c.args.task x _ _ there kept is) (same_but-with_task t.state c.args.task x, waits_alike t.state c.args.task x there refl, timers_alike t.state c.args.task x there refl) in
     rw bits at (c.note.ensures.holds g _ next)

@@ -15,4 +15,4 @@ returns-clause-holds c = λ g t h.
     let x : Task = record task { posted = bit_and task.posted (2 ^ 32 - 1 - c.args.mask) } in
     let there : c.args.task < length t.state.tasks = omega (arith, h.count) in
     let is = ap (λ (o : Slot). record o { posted = bit_and o.posted (2 ^ 32 - 1 - c.args.mask) }) kept.is in
-    c.set_rest.ensures.holds g t _ h (steps.kept_task t.state c.args.task x _ _ there kept is) (same_but-with_task t.state c.args.task x) (waits_alike t.state c.args.task x there refl) (timers_alike t.state c.args.task x there refl)
+    c.set_rest.ensures.holds g t _ h (steps.kept_task t.state c.args.task x _ _ there kept is) (same_but-with_task t.state c.args.task x, waits_alike t.state c.args.task x there refl, timers_alike t.state c.args.task x there refl)

@@ -83,3 +83,14 @@ returns-clause-stay c =
     let count : length new ≡ k.entries.len = omega (arith, c.drop_met-self.ensures.count, c.deref_mut.ensures.len) in
     let stay = subst (λ (xs : List (Option KeptEntry)). (i : ℕ) (x : KeptEntry) → kept_at xs i ≡ Some x → meets x c.args.addr c.args.count ≡ false → kept_at new i ≡ Some x) c.deref_mut.ensures.value c.drop_met-self.ensures.stay in
     subst (λ (xs : List (Option KeptEntry)). (i : ℕ) (x : KeptEntry) → kept_at k.entries.items i ≡ Some x → meets x c.args.addr c.args.count ≡ false → kept_at xs i ≡ Some x) (sym (front k.entries.len new _ count)) stay
+
+pub returns-clause-same : goal.returns-clause-same
+returns-clause-same c = refl
+
+pub returns-clause-there : goal.returns-clause-there
+returns-clause-there c =
+    let k = c.args.self.now in
+    let new = c.drop_met-self.new.entries in
+    let count : length new ≡ k.entries.len = omega (arith, c.drop_met-self.ensures.count, c.deref_mut.ensures.len) in
+    let there = subst (λ (xs : List (Option KeptEntry)). (i : ℕ) (x : KeptEntry) → kept_at new i ≡ Some x → kept_at xs i ≡ Some x) c.deref_mut.ensures.value c.drop_met-self.ensures.there in
+    subst (λ (xs : List (Option KeptEntry)). (i : ℕ) (x : KeptEntry) → kept_at xs i ≡ Some x → kept_at k.entries.items i ≡ Some x) (sym (front k.entries.len new _ count)) there

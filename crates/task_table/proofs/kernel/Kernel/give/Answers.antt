@@ -16,4 +16,4 @@ returns-clause-holds c = λ g t h.
     let there : c.args.task < length t.state.tasks = omega (arith, h.count) in
     let written = ap (λ (rs : List ℕ). record c.slot-slot.result { registers = rs }) c.write_results.ensures in
     let is = written ∙ ap (λ (o : Slot). record o { registers = with_results c.args.values.now o.registers }) kept.is in
-    c.set_rest.ensures.holds g t _ h (steps.kept_task t.state c.args.task x _ _ there kept is) (same_but-with_task t.state c.args.task x) (waits_alike t.state c.args.task x there refl) (timers_alike t.state c.args.task x there refl)
+    c.set_rest.ensures.holds g t _ h (steps.kept_task t.state c.args.task x _ _ there kept is) (same_but-with_task t.state c.args.task x, waits_alike t.state c.args.task x there refl, timers_alike t.state c.args.task x there refl)

@@ -15,4 +15,4 @@ returns-clause-holds c = λ g t h.
     let x : Task = record task { registers = set task.registers 15 ((get_or task.registers 15 0 + 2) % 2 ^ 32) } in
     let there : c.args.task < length t.state.tasks = omega (arith, h.count) in
     let is = ap (λ (o : Slot). record o { registers = set o.registers 15 ((get_or o.registers 15 0 + 2) % 2 ^ 32) }) kept.is in
-    c.set_rest.ensures.holds g t _ h (steps.kept_task t.state c.args.task x _ _ there kept is) (same_but-with_task t.state c.args.task x) (waits_alike t.state c.args.task x there refl) (timers_alike t.state c.args.task x there refl)
+    c.set_rest.ensures.holds g t _ h (steps.kept_task t.state c.args.task x _ _ there kept is) (same_but-with_task t.state c.args.task x, waits_alike t.state c.args.task x there refl, timers_alike t.state c.args.task x there refl)

@@ -10,8 +10,8 @@ use Rattle.task_table.proofs.Deadlines.{not_before-same}
 use Rattle.task_table.proofs.kernel.Kernel.set_rest.Goals as goal
 
 pub returns-clause-holds : goal.returns-clause-holds
-returns-clause-holds c = λ g t u h kept same alike timers.
-    steps.holds_rest g (kept_of c.args.self.now) t u c.args.task c.index_mut-slot.result.now c.args.rest.now _ h c.requires c.index_mut-slot.ensures.value refl kept same alike timers
+returns-clause-holds c = λ g t u h kept rest.
+    steps.holds_rest g (kept_of c.args.self.now) t u c.args.task c.index_mut-slot.result.now c.args.rest.now _ h c.requires c.index_mut-slot.ensures.value refl kept rest.0 rest.1 rest.2
 
 pub invariant_of-self-clause-deadlines : goal.invariant_of-self-clause-deadlines
 invariant_of-self-clause-deadlines c =

@@ -1,10 +1,10 @@
 use Rattle.std.proofs.Common.{◌≡◌, true, false, ltb, ap, sym}
 use Rattle.std.proofs.lemmas.Bool.{lt-ltb, le-ltb}
 use Rattle.task_table.specs.declared.slot.OpenCall.{OpenCall}
-use Rattle.ipc_core.proofs.replying.answer_call.Goals as goal
+use Rattle.ipc_core.proofs.replying.reply_checked.Goals as goal
 
-pub reply-requires-clause-replying : goal.reply-requires-clause-replying
-reply-requires-clause-replying c =
+pub hand_reply-requires-clause-replying : goal.hand_reply-requires-clause-replying
+hand_reply-requires-clause-replying c =
     let r = c.requires.taken in
     record {
       setup = r.setup;
@@ -33,4 +33,4 @@ pub returns-clause-holds : goal.returns-clause-holds
 returns-clause-holds c = λ g t k h taken same.
     let room = ap (λ (x : OpenCall). x.reply.length) same in
     let fits : ltb k.reply.length c.args.args.now.reply_length ≡ false = le-ltb _ _ (rw room c.if-args-call.false) in
-    rw (← c.if-not-is_valid.ensures, ← c.in_default.ensures g t h.holds, fits) (c.reply.ensures.holds g t k h taken same)
+    rw (← c.if-not-is_valid.ensures, ← c.in_default.ensures g t h.holds, fits) (c.hand_reply.ensures.holds g t k h taken same)

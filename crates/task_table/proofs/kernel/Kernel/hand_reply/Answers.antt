@@ -8,7 +8,7 @@ use Rattle.region_check.specs.declared.Right.TheVariants.{Read}
 use Rattle.task_table.proofs.Clients.{taken_call}
 use Rattle.task_table.proofs.Ranges.{within-good, within_ram-front}
 use Rattle.task_table.proofs.Steps.{some_mapped}
-use Rattle.task_table.proofs.kernel.Kernel.reply.Goals as goal
+use Rattle.task_table.proofs.kernel.Kernel.hand_reply.Goals as goal
 
 pub copy-requires-clause-source : goal.copy-requires-clause-source
 copy-requires-clause-source c =

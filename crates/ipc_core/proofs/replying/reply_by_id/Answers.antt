@@ -3,7 +3,7 @@ use Rattle.kernel_abi.specs.Arguments.{reply_args}
 use Rattle.task_table.specs.Reading.{arguments}
 use Rattle.task_table.specs.Sends.{replied}
 use Rattle.ipc_core.proofs.Rows.{Replied}
-use Rattle.ipc_core.proofs.replying.reply_by.Goals as goal
+use Rattle.ipc_core.proofs.replying.reply_by_id.Goals as goal
 
 pub returns-in-Out-clause-holds : goal.returns-in-Out-clause-holds
 unfolding replied
@@ -26,4 +26,4 @@ returns-in-Live-clause-holds c = λ g t h.
     let i = c.args.caller in
     let same : c.of-args.result ≡ reply_args (arguments t.state i) = c.of-args.ensures ∙ ap reply_args (c.arguments.ensures g t h.holds) in
     let live = c.in-Live.ensures.found g t h.holds in
-    subst (Replied g c.reply_to.new.k i t) same (rw (live.0, live.1, ← live.2) (c.reply_to.ensures.holds g t h))
+    subst (Replied g c.reply_to_client.new.k i t) same (rw (live.0, live.1, ← live.2) (c.reply_to_client.ensures.holds g t h))
