@@ -2,7 +2,6 @@ pub mod WindowCovers
 pub mod WindowTurns
 pub mod Running
 pub mod Opens
-pub mod Spanning
 pub mod Loading
 pub mod Views
 pub mod Turning

@@ -15,7 +15,8 @@ use Rattle.task_table.specs.Effects.{with_task, noted, stored, with_processor}
 use Rattle.task_table.specs.Holds.{Holds, Stands, notes_of, setup_of, current_of, memory_of, task_count}
 use Rattle.task_table.specs.Start.{begun}
 use Rattle.task_table.proofs.Changes.{task_at-with_task}
-use Rattle.board_model.specs.Turn.{refusals, cpu_of, bytes_of, put, acted, with_current}
+use Rattle.thumb_exec.specs.Bytes.{bytes_of}
+use Rattle.board_model.specs.Turn.{refusals, cpu_of, put, acted, with_current}
 use Rattle.board_core.specs.Machine.{with_cpu, IsLoaded, HoldsBy, IsReady, MachineStands}
 use Rattle.board_core.specs.declared.machine.Machine.{Machine}
 use Rattle.board_core.specs.declared.reach.Reach.{Reach}

@@ -14,7 +14,8 @@ use Rattle.thumb_exec.specs.Sizes.{IsSize}
 use Rattle.thumb_exec.specs.declared.fetch.Fetched.{Fetched}
 use Rattle.thumb_exec.specs.Fetch.{fetched, executed as executed_by, step_effect}
 use Rattle.thumb_step.proofs.Widening.{step_wider}
-use Rattle.thumb_step.specs.Windows.{View, has, refused_by, held_by, bytes_of, put as write, GoesOn, Glides, Keeps, AreInside}
+use Rattle.thumb_exec.specs.Bytes.{bytes_of}
+use Rattle.thumb_step.specs.Windows.{View, has, refused_by, held_by, put as write, GoesOn, Glides, Keeps, AreInside}
 use Rattle.thumb_step.proofs.Gliding.{kept, kept_on}
 use Rattle.task_table.specs.State.{Setup, State, Task, Turn}
 use Rattle.task_table.specs.Reading.{task_at, register, chosen, is_ready, no_task}

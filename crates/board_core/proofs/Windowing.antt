@@ -31,7 +31,7 @@ use Rattle.board_model.specs.Script.{Scenario}
 use Rattle.board_model.specs.Turn.{may}
 use Rattle.board_model.specs.Run.{ending, is_down, state_after}
 use Rattle.board_model.proofs.Outside.{due_later}
-use Rattle.board_core.specs.Reached.{spans, is_flash_at, is_ram_at, IsStackRegion, AreReached}
+use Rattle.board_core.specs.Reached.{is_flash_at, is_ram_at, IsStackRegion, AreReached}
 use Rattle.board_core.specs.Windowed.{IsWindow, IsWholeWindow, IsAtEnd, MustStop, AreTurns, later}
 use Rattle.board_core.proofs.WindowTurns.{are_turns, window_then}
 use Rattle.board_core.specs.declared.machine.Machine.{Machine}
@@ -41,7 +41,8 @@ use Rattle.board_core.specs.declared.board.Board.{Board}
 use Rattle.board_core.specs.Stands.{Stands, turns_of}
 use Rattle.board_core.specs.Advanced.{HasGlidden}
 use Rattle.board_core.proofs.Loading.{rest_of, is_loaded, rest_held}
-use Rattle.board_core.proofs.Spanning.{both}
+use Rattle.region_check.proofs.Spanning.{both}
+use Rattle.region_check.specs.Spans.{spans}
 use Rattle.board_core.proofs.Skipping.{quiet_before, quiet_begun, begun_board}
 use Rattle.board_core.proofs.Turning.{rested, rested_as, none_of}
 

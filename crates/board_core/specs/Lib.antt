@@ -1,6 +1,5 @@
 pub mod Reached
 pub mod Windowed
-pub mod Spans
 pub mod Kept
 pub mod Machine
 pub mod Opened

@@ -1,13 +1,10 @@
 -- Which regions of a task make the window in which it goes on.
-use Rattle.std.specs.Prelude.{ℕ, ◌≡◌, ◌⊎◌, ◌+◌, Bool, ◌&&◌, not, true, false, List, Contains, nat_le, nat_lt}
+use Rattle.std.specs.Prelude.{ℕ, ◌≡◌, ◌⊎◌, Bool, ◌&&◌, not, true, false, List, Contains, nat_le, nat_lt}
 use Rattle.std.specs.List.{list_any}
 use Rattle.region_check.specs.declared.Region.{Region}
+use Rattle.region_check.specs.Spans.{spans}
 use Rattle.mem_banks.specs.Loans.{IsNoRegion}
 use Rattle.task_table.specs.Lendable.{span_of}
-
--- whether a region has all of n bytes
-abbrev pub spans : Region → ℕ → ℕ → Bool
-spans r a n = nat_le r.base a && nat_le (a + n) (r.base + r.size)
 
 -- a region of the flash that has the instruction at an address, and may be executed
 abbrev pub is_flash_at : ℕ → Region → Bool

@@ -1,19 +1,16 @@
 //! What the current task reaches of the kernel's memory: the bus of its processor.
-ghost use Rattle.std.specs.Prelude.{◌≡◌, ◌&&◌, ◌+◌, ◌*◌, ◌≤◌, ◌<◌, ◌%◌, ◌^◌, ◌/◌, ◌∷◌, [], Option, Some, true, false, None, MatchOption, MatchResult, Contains};
+ghost use Rattle.std.specs.Prelude.{◌≡◌, ◌&&◌, ◌+◌, ◌*◌, ◌≤◌, ◌<◌, ◌%◌, ◌^◌, Option, Some, true, false, None, MatchOption, MatchResult, Contains};
 ghost use Rattle.std.specs.List.{list_any};
-ghost use Rattle.region_check.specs.Rights.{may_use, has_right};
 ghost use Rattle.region_check.specs.declared.Right.TheVariants.{Execute, Read};
-ghost use Rattle.board_core.specs.Spans.{one_gives};
-ghost use Rattle.board_core.specs.Reached.{spans, is_flash_at, is_ram_at, IsStackRegion, AreReached};
+ghost use Rattle.board_core.specs.Reached.{is_flash_at, is_ram_at, IsStackRegion, AreReached};
 ghost use Rattle.task_table.specs.Reading.{setup_at};
 ghost use Rattle.mem_banks.specs.Memory.{number_at};
 ghost use Rattle.task_table.specs.Holds.{memory_of, setup_of, current_of};
 ghost use Rattle.thumb_exec.specs.Sizes.{IsSize};
-ghost use Rattle.board_model.specs.Turn.{first_lacking};
 ghost use Rattle.board_core.specs.Machine.{IsStored, refused};
 
 use mem_banks::RAM;
-use region_check::{Region, Right, Rights, may};
+use region_check::{Region, Right, Rights, first_lacking, one_gives};
 use task_table::Kernel;
 use thumb_exec::bus::Bus;
 
@@ -23,68 +20,13 @@ pub struct Reach {
     pub kernel: Kernel,
 }
 
-/// Whether the rights have it.
-fn grants(rights: &Rights, right: Right) -> bool
-    ensures { result ≡ has_right rights.now right }
-{
-    match right {
-        Right::Read => rights.read,
-        Right::Write => rights.write,
-        Right::Execute => rights.execute,
-    }
-}
-
-/// Whether a region has all of n bytes.
-pub fn spans(region: &Region, addr: u32, n: u32) -> bool
-    ensures { result ≡ spans region.now addr n }
-{
-    region.base <= addr && u64::from(addr - region.base) + u64::from(n) <= u64::from(region.size)
-}
-
-/// Whether one region gives all of n bytes.
-fn one_gives(regions: &[Region], addr: u32, n: u32, right: Right) -> bool
-    ensures { result ≡ one_gives right addr n regions.now }
-{
-    regions
-        .iter()
-        .any(|r| spans(r, addr, n) && grants(&r.rights, right))
-}
-
-/// The first of n bytes at which no region grants the right.
-fn first_lacking(regions: &[Region], addr: u32, n: u32, right: Right) -> Option<u32>
-    requires { addr + n ≤ 2 ^ 32 }
-    ensures { result ≡ first_lacking (may_use regions.now) addr n right }
-{
-    if one_gives(regions, addr, n, right) {
-        return None;
-    }
-    for k in 0..n {
-        if !may(regions, addr + k, right) {
-            return Some(addr + k);
-        }
-    }
-    None
-}
-
-/// The bytes of a word, the lowest first.
-fn bytes(value: u32) -> [u8; 4]
-    ensures { result ≡ value % 256 ∷ value / 2 ^ 8 % 256 ∷ value / 2 ^ 16 % 256 ∷ value / 2 ^ 24 % 256 ∷ [] }
-{
-    [
-        (value % 256) as u8,
-        (value / 0x100 % 256) as u8,
-        (value / 0x1_0000 % 256) as u8,
-        (value / 0x100_0000 % 256) as u8,
-    ]
-}
-
 /// Writes the low n bytes of a value where they lie in the RAM; elsewhere a store changes nothing.
 #[inline(always)]
 fn write(kernel: &mut Kernel, addr: u32, n: u32, value: u32)
     requires { IsSize n }
     ensures { IsStored kernel.old addr n value kernel.new }
 {
-    let bytes = bytes(value);
+    let bytes = value.to_le_bytes();
     if kernel.is_ram(addr, n) {
         kernel.store(addr, &bytes[..n as usize]);
     }
@@ -105,14 +47,14 @@ impl Reach {
 fn is_flash_at(region: &Region, at: u32) -> bool
     ensures { result ≡ is_flash_at at region.now }
 {
-    spans(region, at, 2) && region.rights.execute && !region.rights.device && region.base < RAM
+    region.spans(at, 2) && region.rights.execute && !region.rights.device && region.base < RAM
 }
 
 /// Whether a region of the RAM has an address, or ends there, and may be read and written.
 fn is_ram_at(region: &Region, at: u32) -> bool
     ensures { result ≡ is_ram_at at region.now }
 {
-    spans(region, at, 0)
+    region.spans(at, 0)
         && region.size > 0
         && region.rights.read
         && region.rights.write

@@ -55,12 +55,12 @@ impl Board {
         self.choice.next.is_none() && !self.script.lasts(self.turns)
     }
 
-    /// The next turn, from this one on, in which something happens; None where nothing does below turn
+    /// The next turn, from turn `from` on, in which something happens; None where nothing does below turn
     /// 1,000,000,000.
-    pub fn next(&self) -> Option<u32>
-        ensures { (x : Scenario) (s : State) → Stands x self.now s → IsNext x.script s.turn result }
+    pub fn next(&self, from: u32) -> Option<u32>
+        ensures { (x : Scenario) (s : State) → Stands x self.now s → IsNext x.script from result }
     {
-        self.due
+        self.script.next(from)
     }
 
     /// How many turns were made; the turn number of each state that the board stands for.

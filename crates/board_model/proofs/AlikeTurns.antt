@@ -18,7 +18,8 @@ use Rattle.task_table.specs.Start.{begun}
 use Rattle.board_model.specs.declared.outcomes.Level.{Level}
 use Rattle.board_model.specs.declared.outcomes.Level.TheVariants.{Brief, All}
 use Rattle.board_model.specs.Script.{Scenario}
-use Rattle.board_model.specs.Turn.{may, cpu_of, bytes_of, put, noted_at, stepped, happened, after_events, with_current, low_note, high_note, with_registers_noted, turn_of, ended, turn}
+use Rattle.thumb_exec.specs.Bytes.{bytes_of}
+use Rattle.board_model.specs.Turn.{may, cpu_of, put, noted_at, stepped, happened, after_events, with_current, low_note, high_note, with_registers_noted, turn_of, ended, turn}
 use Rattle.board_model.specs.Alike.{Viewer, IsAttentive, IsAlike, IsAlikeWhereSeen}
 use Rattle.board_model.specs.Agreement.{rest_of}
 use Rattle.board_model.proofs.Alike.{register_alike, chosen_alike, bytes_alike, turn_alike}

@@ -12,7 +12,8 @@ use Rattle.task_table.specs.State.{Setup, State, Own, Turn}
 use Rattle.task_table.specs.Reading.{task_at}
 use Rattle.task_table.specs.Effects.{stored}
 use Rattle.task_table.specs.Sane.{Sane}
-use Rattle.board_model.specs.Turn.{refusals, cpu_of, bytes_of, put}
+use Rattle.thumb_exec.specs.Bytes.{bytes_of}
+use Rattle.board_model.specs.Turn.{refusals, cpu_of, put}
 use Rattle.board_model.proofs.TurnChains.{whole_cpu}
 
 -- ## its stores

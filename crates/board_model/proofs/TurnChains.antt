@@ -47,7 +47,8 @@ use Rattle.task_table.proofs.RowChains.{chain-syscall_made}
 use Rattle.board_model.specs.declared.outcomes.Level.{Level}
 use Rattle.board_model.specs.declared.outcomes.Level.TheVariants.{Brief, All}
 use Rattle.board_model.specs.Script.{Scenario}
-use Rattle.board_model.specs.Turn.{may, refusals, cpu_of, bytes_of, put, acted, executed, noted_at, stepped_by, stepped, happened, after_events, with_current, low_note, high_note, with_registers_noted, turn_of, ended, turn}
+use Rattle.thumb_exec.specs.Bytes.{bytes_of}
+use Rattle.board_model.specs.Turn.{may, refusals, cpu_of, put, acted, executed, noted_at, stepped_by, stepped, happened, after_events, with_current, low_note, high_note, with_registers_noted, turn_of, ended, turn}
 use Rattle.thumb_exec.specs.Keeps.{IsWholeCpu, IsPermitted, Keeps}
 use Rattle.thumb_exec.proofs.Keeping.{keeps}
 use Rattle.thumb_insn.specs.Table.{narrow_of, wide_of, narrow_result, wide_result, with_second}

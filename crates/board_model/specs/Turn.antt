@@ -1,15 +1,15 @@
 -- One turn of the board: what happens from outside, then one instruction of the chosen task, or an idle turn.
 use Rattle.words_core.specs.Regs.{program_counter}
-use Rattle.std.specs.Prelude.{ℕ, ◌+◌, ◌/◌, ◌%◌, ◌^◌, Bool, not, List, [], ◌∷◌, Option, Some, None, Result, Ok, Err, find, fold, take, drop, if◌then◌else◌}
-use Rattle.std.specs.List.{range_with_len}
+use Rattle.std.specs.Prelude.{ℕ, ◌+◌, Bool, [], ◌∷◌, Option, Some, None, Result, Ok, Err, fold, take, drop, if◌then◌else◌}
 use Rattle.kernel_abi.specs.declared.Fault.{Fault}
 use Rattle.kernel_abi.specs.declared.Note.{Note}
 use Rattle.kernel_abi.specs.declared.Note.TheVariants as note
 use Rattle.region_check.specs.declared.Right.{Right}
-use Rattle.region_check.specs.Rights.{may_use}
+use Rattle.region_check.specs.Rights.{may_use, first_lacking}
 use Rattle.thumb_insn.specs.declared.Insn.{Insn}
 use Rattle.thumb_exec.specs.declared.cpu.Cpu.{Cpu}
 use Rattle.thumb_exec.specs.declared.fetch.Fetched.{Fetched}
+use Rattle.thumb_exec.specs.Bytes.{bytes_of}
 use Rattle.thumb_exec.specs.Effect.{Effect, Next, Syscall, Trap, Store, Refusals, effect}
 use Rattle.thumb_exec.specs.Fetch.{fetched}
 use Rattle.mem_banks.specs.Memory.{number_at, is_ram}
@@ -35,9 +35,6 @@ abbrev pub may : Setup → ℕ → Right → ℕ → Bool
 may g c right a = may_use (setup_at g c).regions right a
 
 -- the first of n bytes that lacks the right
-abbrev pub first_lacking : (Right → ℕ → Bool) → ℕ → ℕ → Right → Option ℕ
-first_lacking may a n right = find (λ x. not (may right x)) (range_with_len a n)
-
 abbrev pub refusals : Setup → ℕ → Refusals
 refusals g c = first_lacking (may g c)
 
@@ -45,10 +42,6 @@ abbrev pub cpu_of : Task → Cpu
 cpu_of x = record { regs = record { words = x.registers }; flags = x.flags }
 
 -- ## what it does
-
--- the n bytes of a number, the lowest first
-abbrev pub bytes_of : ℕ → ℕ → List ℕ
-bytes_of v n = take n (v % 256 ∷ v / 2 ^ 8 % 256 ∷ v / 2 ^ 16 % 256 ∷ v / 2 ^ 24 % 256 ∷ [])
 
 -- a store outside the memory, which a device region may permit, changes nothing
 abbrev pub put : Turn → Store → Turn

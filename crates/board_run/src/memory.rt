@@ -9,12 +9,10 @@ ghost use Rattle.board_run.specs.MemoryText.{are_zeros, begins_at, byte_of, byte
 
 use crate::line::{Line, push_byte, region_line as put_region_line};
 use board_core::Board;
+use mem_banks::RAM;
 use outside_io::{Failed, Sink};
 use region_check::Region;
 use trace_text::push_hex;
-
-/// Where RAM begins.
-const RAM: u32 = 0x2000_0000;
 
 // The first of the regions that begins there.
 fn region_in(regions: &[Region], base: u32) -> Option<Region>

@@ -19,6 +19,6 @@ status_words Stopped = 1 ∷ 0 ∷ 0 ∷ 0 ∷ []
 status_words (Faulted f) = 2 ∷ f.number ∷ f.x ∷ f.y ∷ []
 
 -- the bytes of words
-abbrev pub bytes_of : List ℕ → List ℕ
-bytes_of [] = []
-bytes_of (word ∷ words) = word_bytes word ++ bytes_of words
+abbrev pub reply_bytes : List ℕ → List ℕ
+reply_bytes [] = []
+reply_bytes (word ∷ words) = word_bytes word ++ reply_bytes words

@@ -11,13 +11,9 @@ ghost use Rattle.image_build.specs.Layout.{flash_needed, flash_sizes, flash_want
 
 use crate::fault::BuildFault;
 use app_toml::{App, SharedRegion, Task};
+use mem_banks::{FLASH, RAM};
 use mem_plan::{PlanFault, plan, rounded};
 use std::alloc::{AllocError, Global};
-
-/// Where flash and RAM begin.
-pub(crate) const FLASH: u32 = 0x0800_0000;
-
-const RAM: u32 = 0x2000_0000;
 
 /// The bases of the tasks' flash, and of the tasks' RAM and then of the regions; how many bytes of each
 /// they take.

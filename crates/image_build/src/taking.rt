@@ -8,10 +8,11 @@ ghost use Rattle.image_build.specs.Taken.{HasTaken, described, next_task};
 
 use crate::builder::Builder;
 use crate::fault::BuildFault;
-use crate::layout::{FLASH, laid_out};
+use crate::layout::laid_out;
 use crate::reading::{flash_base, task};
 use crate::symbols::symbols;
 use app_toml::App;
+use mem_banks::FLASH;
 use std::alloc::Global;
 use thumb_asm::{AsmFault, Object, assemble};
 

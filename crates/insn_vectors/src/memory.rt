@@ -3,14 +3,10 @@ ghost use Rattle.std.specs.Prelude.{◌≡◌, ℕ, ◌+◌, ◌<◌, ◌≤◌,
 ghost use Rattle.insn_vectors.specs.Flat.{first_bad, byte_at, number_of, IsStored, IsPut, flash_with, ram_with, with_half, with_bytes, flash_region, ram_region};
 ghost use Rattle.insn_vectors.specs.Played.{banks_of, with_code};
 
+use mem_banks::{FLASH, RAM};
 use region_check::{Region, Right, Rights, may};
 use std::alloc::{AllocError, Global};
 use thumb_exec::bus::Bus;
-
-/// Where the flash and the RAM begin.
-pub const FLASH: u32 = 0x0800_0000;
-
-pub const RAM: u32 = 0x2000_0000;
 
 /// The bytes of a flash and of a RAM, and what a task may do with them.
 #[derive(Drop)]

@@ -1,5 +1,5 @@
 //! Bytes and ranges at the edges of regions.
-use region_check::{Region, Right, Rights, is_size, may, may_range};
+use region_check::{Region, Right, Rights, first_lacking, is_size, may, may_range, one_gives};
 
 const fn region(base: u32, read_only: bool, execute: bool, device: bool) -> Region {
     Region {
@@ -80,6 +80,45 @@ fn devices_and_nothing(rt: HostRuntime) {
         may_range(&[], 0, 0, Right::Write),
     ];
     assert!(rt; found == [Some(0x4000_0000), None, None]);
+}
+
+// Over the end of a region to one that adjoins, without the right there, of a device, past the flash, and in no region.
+#[test]
+fn accesses(rt: HostRuntime) {
+    let regions = sample();
+    let found = [
+        first_lacking(&regions, 0x2000_01FE, 4, Right::Read),
+        first_lacking(&regions, 0x2000_01FE, 4, Right::Write),
+        first_lacking(&regions, 0x4000_00FC, 4, Right::Write),
+        first_lacking(&regions, 0x0800_00FE, 4, Right::Execute),
+        first_lacking(&[], 0xFFFF_FFFC, 4, Right::Read),
+    ];
+    let wanted = [
+        None,
+        Some(0x2000_0200),
+        None,
+        Some(0x0800_0100),
+        Some(0xFFFF_FFFC),
+    ];
+    assert!(rt; found == wanted);
+}
+
+#[test]
+fn one_region(rt: HostRuntime) {
+    let regions = sample();
+    let given = [
+        one_gives(&regions, 0x2000_0100, 0x100, Right::Write),
+        one_gives(&regions, 0x2000_0100, 0x101, Right::Read),
+        one_gives(&regions, 0x2000_0300, 0, Right::Read),
+    ];
+    let spanned = [
+        regions[0].spans(0x0800_00FC, 4),
+        regions[0].spans(0x07FF_FFFF, 4),
+        regions[0].spans(0x0800_00FD, 4),
+    ];
+    assert!(rt; given == [true, false, true]);
+    assert!(rt; spanned == [true, false, false]);
+    assert!(rt; regions[1].rights.has(Right::Read) && !regions[1].rights.has(Right::Write));
 }
 
 #[test]

@@ -1,3 +1,4 @@
+pub mod Bytes
 pub mod Effect
 pub mod Keeps
 pub mod Sizes

@@ -1,8 +1,9 @@
 -- Instructions on end of a processor that reaches two runs of bytes, and no others.
-use Rattle.std.specs.Prelude.{◌≡◌, ◌≤◌, ℕ, zero, suc, ◌+◌, ◌-◌, ◌/◌, ◌%◌, ◌^◌, Bool, true, false, ◌&&◌, ◌||◌, if◌then◌else◌, nat_le, List, [], ◌∷◌, length, take, drop, fold, Option, Some, None, Contains}
+use Rattle.std.specs.Prelude.{◌≡◌, ◌≤◌, ℕ, zero, suc, ◌+◌, ◌-◌, Bool, true, false, ◌&&◌, ◌||◌, if◌then◌else◌, nat_le, List, length, take, drop, fold, Option, Some, None, Contains}
 use Rattle.mem_banks.specs.Memory.{number_of, pasted}
 use Rattle.region_check.specs.declared.Right.TheVariants.{Read, Write, Execute}
 use Rattle.thumb_exec.specs.declared.cpu.Cpu.{Cpu}
+use Rattle.thumb_exec.specs.Bytes.{bytes_of}
 use Rattle.thumb_exec.specs.Effect.{Next, Store, Refusals, Contents}
 use Rattle.thumb_exec.specs.Sizes.{IsSize}
 use Rattle.thumb_exec.specs.Fetch.{step_effect}
@@ -45,10 +46,6 @@ pub record IsFetched (v : View) (a half : ℕ) : Type 0 where
   pub is : half ≡ number_in v.flash_base v.flash a 2
 
 -- ## Stores
-
--- the n bytes of a number, the lowest first
-abbrev pub bytes_of : ℕ → ℕ → List ℕ
-bytes_of v n = take n (v % 256 ∷ v / 2 ^ 8 % 256 ∷ v / 2 ^ 16 % 256 ∷ v / 2 ^ 24 % 256 ∷ [])
 
 -- what it reaches after a store in the RAM
 abbrev pub put : View → Store → View

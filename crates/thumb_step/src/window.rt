@@ -1,6 +1,6 @@
 //! Instructions on end of a processor whose flash and RAM lie in two vectors of bytes. An access is one
 //! test of its place, and no look-up.
-ghost use Rattle.std.specs.Prelude.{◌≡◌, ◌⊎◌, ℕ, ◌+◌, ◌*◌, ◌/◌, ◌%◌, ◌^◌, ◌≤◌, ◌<◌, ◌∷◌, [], None, Some, true, false, MatchOption, MatchResult, length, take, drop, vec_len};
+ghost use Rattle.std.specs.Prelude.{◌≡◌, ◌⊎◌, ℕ, ◌+◌, ◌*◌, ◌/◌, ◌%◌, ◌^◌, ◌≤◌, ◌<◌, None, Some, true, false, MatchOption, MatchResult, length, take, drop, vec_len};
 ghost use Rattle.mem_banks.specs.Memory.{number_of, pasted};
 ghost use Rattle.region_check.specs.declared.Right.TheVariants.{Read};
 ghost use Rattle.thumb_exec.specs.Effect.{Halts};
@@ -81,19 +81,6 @@ fn number(bytes: &[u8], at: usize, n: u32) -> u32
     }
 }
 
-/// The bytes of a word, the lowest first.
-#[inline(always)]
-fn bytes(value: u32) -> [u8; 4]
-    ensures { result ≡ value % 256 ∷ value / 2 ^ 8 % 256 ∷ value / 2 ^ 16 % 256 ∷ value / 2 ^ 24 % 256 ∷ [] }
-{
-    [
-        (value % 256) as u8,
-        (value / 0x100 % 256) as u8,
-        (value / 0x1_0000 % 256) as u8,
-        (value / 0x100_0000 % 256) as u8,
-    ]
-}
-
 /// Writes bytes over those from a place on.
 #[inline(always)]
 fn put(bytes: &mut Vec<u8>, at: usize, new: &[u8])
@@ -128,7 +115,7 @@ impl Window {
         requires apart { IsApart self.now }
         ensures { MatchOption result (has self.now.flash_base self.now.flash.items addr 2 ≡ false) (λ half. IsFetched (view_of self.now) addr half) }
     {
-        // It is below 2^32.
+        // Read for the proof alone, which needs that it is below 2^32: the range of a field is known once it is read.
         let _end = self.ram_base;
         let at = addr.wrapping_sub(self.flash_base) as usize;
         if at + 2 <= self.flash.len() {
@@ -196,7 +183,7 @@ impl Bus for Window {
             return Err(addr);
         }
         let at = (addr - self.ram_base) as usize;
-        let bytes = bytes(value);
+        let bytes = value.to_le_bytes();
         put(&mut self.ram, at, &bytes[..n as usize]);
         Ok(())
     }

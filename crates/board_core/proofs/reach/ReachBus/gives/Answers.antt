@@ -3,8 +3,8 @@ use Rattle.region_check.specs.declared.Region.{Region}
 use Rattle.task_table.specs.Reading.{setup_at}
 use Rattle.task_table.specs.Holds.{setup_of, current_of}
 use Rattle.board_model.specs.Turn.{refusals}
-use Rattle.board_core.specs.Spans.{one_gives}
-use Rattle.board_core.proofs.Spanning.{given_none}
+use Rattle.region_check.specs.Spans.{one_gives}
+use Rattle.region_check.proofs.Spanning.{given_none}
 use Rattle.board_core.proofs.reach.ReachBus.gives.Goals as goal
 
 pub returns : goal.returns

@@ -3,11 +3,9 @@ use Rattle.std.proofs.Common.{◌≡◌, ◌+◌, ◌<◌, ◌≤◌, ℕ, suc, 
 use Rattle.std.proofs.lemmas.Bool.{false≢true, le-leb, leb-true}
 use Rattle.region_check.specs.declared.Region.{Region}
 use Rattle.region_check.specs.declared.Right.{Right}
-use Rattle.region_check.specs.Rights.{has_right, is_inside, gives, may_use}
+use Rattle.region_check.specs.Rights.{has_right, is_inside, gives, may_use, first_lacking}
 use Rattle.region_check.proofs.FirstBad.{find_range_none}
-use Rattle.board_core.specs.Reached.{spans}
-use Rattle.board_core.specs.Spans.{one_gives}
-use Rattle.board_model.specs.Turn.{first_lacking}
+use Rattle.region_check.specs.Spans.{spans, one_gives}
 
 pub both : (a b : Bool) → (a && b) ≡ true → (a ≡ true) × (b ≡ true)
 both true b h = (refl, h)

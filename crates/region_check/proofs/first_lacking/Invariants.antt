@@ -1,6 +1,6 @@
 use Rattle.std.proofs.Common.{◌≡◌, ◌<◌, ◌≤◌, ◌+◌, ℕ, true}
 use Rattle.region_check.specs.Rights.{may_use}
-use Rattle.board_core.proofs.reach.first_lacking.Given as goal
+use Rattle.region_check.proofs.first_lacking.Given as goal
 
 -- each byte so far is granted
 abbrev pub invariant-loop-k : goal.invariant-loop-k
