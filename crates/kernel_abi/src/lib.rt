@@ -216,7 +216,8 @@ impl Range {
     /// The range, or None where it is invalid: where base + len is above 2^32.
     #[inline]
     pub fn of(base: u32, len: u64) -> Option<Range>
-        ensures valid { is_some result ≡ nat_le (base + len) (2 ^ 32) }
+        ensures valid { MatchOption result (2 ^ 32 < base + len) (λ _. base + len ≤ 2 ^ 32) }
+        ensures fits { is_some result ≡ nat_le (base + len) (2 ^ 32) }
         ensures value { IfSome result (λ range. range ≡ record { base = base; len = len }) }
     {
         if len <= 0x1_0000_0000 - u64::from(base) {
