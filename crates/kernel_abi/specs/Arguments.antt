@@ -104,7 +104,7 @@ borrow_args registers = record {
 abbrev pub info_args : List ℕ → InfoArgs
 info_args registers = record { lender = low_id (register registers r4); lease = register registers r5 }
 
--- IRQ_CONTROL; bit 0 of r5 enables
+-- IRQ_CONTROL and IRQ_STATUS; bit 0 of r5 enables
 abbrev pub irq_args : List ℕ → IrqArgs
 irq_args registers = record { bits = register registers r4; enable = nat_eq (register registers r5 % 2) 1 }
 

@@ -1,7 +1,7 @@
 -- The numbers of the system calls: 0 to 8 are the Hubris Reference's, 9 to 12 this project's own.
 use Rattle.std.specs.Prelude.{ℕ}
 use Rattle.kernel_abi.specs.declared.syscalls.Syscall.{Syscall}
-use Rattle.kernel_abi.specs.declared.syscalls.Syscall.TheVariants.{Send, Recv, Reply, SetTimer, BorrowRead, BorrowWrite, BorrowInfo, IrqControl, Panic, GetTimer, RefreshTaskId, Post, ReplyFault}
+use Rattle.kernel_abi.specs.declared.syscalls.Syscall.TheVariants.{Send, Recv, Reply, SetTimer, BorrowRead, BorrowWrite, BorrowInfo, IrqControl, Panic, GetTimer, RefreshTaskId, Post, ReplyFault, IrqStatus}
 
 abbrev pub syscall_number : Syscall → ℕ
 syscall_number Send = 0
@@ -17,3 +17,4 @@ syscall_number GetTimer = 9
 syscall_number RefreshTaskId = 10
 syscall_number Post = 11
 syscall_number ReplyFault = 12
+syscall_number IrqStatus = 13

@@ -1,18 +1,20 @@
 -- The kernel messages, which the supervisor sends to the kernel. (Hubris Reference: supervision; the
 -- operations are this project's profile.)
-use Rattle.std.specs.Prelude.{ℕ, ◌+◌, ◌/◌, ◌%◌, ◌^◌, Bool, true, false, ◌&&◌, ◌||◌, not, List, [], ◌∷◌, ◌++◌, length, Option, None, Some, is_some, ◌==◌, nat_le, find}
+use Rattle.std.specs.Prelude.{ℕ, ◌+◌, ◌/◌, ◌%◌, ◌^◌, Bool, true, false, ◌&&◌, ◌||◌, not, List, [], ◌∷◌, ◌++◌, ◌-◌, length, Option, None, Some, is_some, unwrap_or, ◌==◌, nat_le, find}
+use Rattle.std.specs.List.{range_with_len}
 use Rattle.kernel_abi.specs.Arguments.{send_args}
 use Rattle.kernel_abi.specs.Faults.{usage_number, access_number, injected_fault}
 use Rattle.kernel_abi.specs.declared.Access.TheVariants.{KernelRead, KernelWrite}
 use Rattle.kernel_abi.specs.declared.Health.{Health}
 use Rattle.kernel_abi.specs.declared.Health.TheVariants.{Well, Stopped, Faulted}
+use Rattle.kernel_abi.specs.declared.Note.TheVariants as note
 use Rattle.kernel_abi.specs.declared.Usage.TheVariants.{BadTaskIndex, InvalidSlice, BadKernelMessage, NotSupervisor}
 use Rattle.kernel_abi.specs.declared.arguments.SendArgs.{SendArgs}
 use Rattle.region_check.specs.declared.Right.TheVariants.{Read, Write}
 use Rattle.mem_banks.specs.Memory.{number_at}
-use Rattle.task_table.specs.State.{Setup, Own, Turn}
-use Rattle.task_table.specs.Reading.{task_at, arguments, is_valid, bad_byte}
-use Rattle.task_table.specs.Effects.{◌⨾◌, stored, faulted, restarted}
+use Rattle.task_table.specs.State.{Setup, State, Own, Turn}
+use Rattle.task_table.specs.Reading.{task_at, is_faulted, arguments, is_valid, bad_byte}
+use Rattle.task_table.specs.Effects.{◌⨾◌, noted, stored, faulted, restarted}
 use Rattle.task_table.specs.Rows.{first_row, misused, denied, goes_on_with}
 use Rattle.task_table.specs.Sends.{message_of, reply_room}
 
@@ -54,12 +56,23 @@ injected_by g i (Faulted f) t = t
 unfoldable pub injected : Setup → ℕ → Turn → Turn
 injected g i t = t ⨾ injected_by g i (task_at t.state i).health
 
--- 1 tells how a task is, 2 restarts one, 3 makes one fault
+-- the first task from an index on that has faulted; 0 where there is none
+abbrev pub first_faulted : State → ℕ → ℕ
+first_faulted s index = unwrap_or (find (λ i. is_faulted (task_at s i).health) (range_with_len index (length s.tasks - index))) 0
+
+-- its answer is that task
+abbrev pub fault_found : SendArgs → ℕ → Turn → Turn
+fault_found x index t =
+    let found = first_faulted t.state index in
+    t ⨾ stored Own x.reply_base (word_bytes found) ⨾ noted (note.Find index found)
+
+-- 1 tells how a task is, 2 restarts one, 3 makes one fault, 9 finds one that has faulted
 abbrev pub orders : List Order
 orders =
     record { number = 1; message = 4; reply = 16; on_supervisor = true; does = λ g x index t. status_given x index t }
     ∷ record { number = 2; message = 8; reply = 0; on_supervisor = false; does = restart_made }
     ∷ record { number = 3; message = 4; reply = 0; on_supervisor = false; does = λ g x index t. injected g index t }
+    ∷ record { number = 9; message = 4; reply = 4; on_supervisor = true; does = λ g x index t. fault_found x index t }
     ∷ []
 
 -- ## the rows

@@ -2,7 +2,7 @@
 use Rattle.kernel_abi.specs.declared.Access.TheVariants.{KernelWrite}
 use Rattle.kernel_abi.specs.declared.Usage.TheVariants.{NoIrq, InvalidSlice, BadTaskIndex}
 use Rattle.kernel_abi.specs.Faults.{usage_number, access_number, usage_fault_by, access_fault_by, panic_fault}
-use Rattle.std.specs.Prelude.{ℕ, ◌/◌, ◌%◌, ◌^◌, Bool, ◌&&◌, ◌||◌, not, false, List, [], ◌∷◌, Option, None, Some, is_some, unwrap_or, ◌==◌, nat_le, bit_and, cond, if◌then◌else◌, filter, fold, slice_range}
+use Rattle.std.specs.Prelude.{ℕ, ◌+◌, ◌/◌, ◌%◌, ◌^◌, Bool, ◌&&◌, ◌||◌, not, false, List, [], ◌∷◌, Option, None, Some, is_some, unwrap_or, ◌==◌, nat_le, bit_and, cond, if◌then◌else◌, filter, fold, slice_range}
 use Rattle.std.specs.List.{list_any}
 use Rattle.kernel_abi.specs.Arguments.{r4, r5, recv_args, timer_args, irq_args}
 use Rattle.kernel_abi.specs.Ids.{index_of}
@@ -84,6 +84,25 @@ irq_controlled g c t =
     first_row (
     (not (list_any (owns_with c x.bits) g.lines), t ⨾ misused g c (usage_number NoIrq))
     ∷ []) (fold (λ u o. line_controlled c x.bits x.enable o.line u) t (filter (owns_with c x.bits) g.lines) ⨾ goes_on c)
+
+-- ## IRQ_STATUS: r4 bits
+
+-- of the lines that the caller owns with these bits: 1 where one is enabled, 2 where on one an interrupt is
+-- pending, 4 where some of these bits are posted to the caller; their sum
+abbrev pub status_of_lines : Setup → State → ℕ → ℕ → ℕ
+status_of_lines g s c bits =
+    let own = filter (owns_with c bits) g.lines in
+    (if list_any (λ o. (line_at s o.line).enabled) own then 1 else 0)
+    + (if list_any (λ o. (line_at s o.line).pending) own then 2 else 0)
+    + (if not (bit_and (task_at s c).posted bits == 0) then 4 else 0)
+
+unfoldable pub irq_answered : Setup → ℕ → Turn → Turn
+irq_answered g c t =
+    let bits = (irq_args (arguments t.state c)).bits in
+    let status = status_of_lines g t.state c bits in
+    first_row (
+    (not (list_any (owns_with c bits) g.lines), t ⨾ misused g c (usage_number NoIrq))
+    ∷ []) (t ⨾ noted (note.IrqStatus c bits status) ⨾ goes_on_with c (status ∷ []))
 
 -- ## RECV: r4 and r5 buffer, r6 mask, r7 bit 31 whether it is closed, bits 15 to 0 to whom
 

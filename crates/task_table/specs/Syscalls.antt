@@ -1,13 +1,13 @@
 -- The system calls: each has a number, which the caller has in r11, and a meaning. (Hubris Reference: syscalls.)
 use Rattle.kernel_abi.specs.declared.Usage.TheVariants.{BadSyscall}
-use Rattle.kernel_abi.specs.declared.syscalls.Syscall.TheVariants.{Send, Recv, Reply, SetTimer, BorrowRead, BorrowWrite, BorrowInfo, IrqControl, Panic, GetTimer, RefreshTaskId, Post, ReplyFault}
+use Rattle.kernel_abi.specs.declared.syscalls.Syscall.TheVariants.{Send, Recv, Reply, SetTimer, BorrowRead, BorrowWrite, BorrowInfo, IrqControl, Panic, GetTimer, RefreshTaskId, Post, ReplyFault, IrqStatus}
 use Rattle.kernel_abi.specs.Syscalls.{syscall_number}
 use Rattle.kernel_abi.specs.Faults.{usage_number}
 use Rattle.std.specs.Prelude.{ℕ, Bool, List, [], ◌∷◌, ◌==◌, if◌then◌else◌}
 use Rattle.kernel_abi.specs.Arguments.{send_args}
 use Rattle.task_table.specs.State.{Setup, State, Turn}
 use Rattle.task_table.specs.Reading.{register, arguments, best_sender, syscall_selector}
-use Rattle.task_table.specs.Rows.{misused, received, timer_set, timer_answered, irq_controlled, panicked}
+use Rattle.task_table.specs.Rows.{misused, received, timer_set, timer_answered, irq_controlled, irq_answered, panicked}
 use Rattle.task_table.specs.Sends.{sent, replied, reply_faulted, post_made, refreshed}
 use Rattle.task_table.specs.Borrows.{reading, writing, borrowed, informed}
 use Rattle.task_table.specs.Orders.{ordered}
@@ -35,6 +35,7 @@ syscalls =
     ∷ (syscall_number RefreshTaskId, refreshed)
     ∷ (syscall_number Post, post_made)
     ∷ (syscall_number ReplyFault, reply_faulted)
+    ∷ (syscall_number IrqStatus, irq_answered)
     ∷ []
 
 -- what a number means among some system calls; one that none of them has is usage 1, BadSyscall
