@@ -15,7 +15,7 @@ not_equal : (n m : ℕ) → n ≢ m → (n == m) ≡ false
 not_equal n m h = grind arith
 
 -- a number above those that there are is none of them
-none_of : (n m : ℕ) → 12 < n → m ≤ 12 → (n == m) ≡ false
+none_of : (n m : ℕ) → 13 < n → m ≤ 13 → (n == m) ≡ false
 none_of n m above few = not_equal n m (λ e. omega arith)
 
 module _ (g : Setup) (c : ℕ) (t : Turn) (n : ℕ) (at : n ≡ register t.state c 11) (P : Turn → Type 0) where
@@ -25,7 +25,7 @@ module _ (g : Setup) (c : ℕ) (t : Turn) (n : ℕ) (at : n ≡ register t.state
       let same : syscall_number call ≡ n = ap syscall_number (sym is) ∙ number in
       subst P (made_by g c (syscall_number call) t (same ∙ at)) h
 
-  pub no_row : 12 < n → P (misused g c 1 t) → P (syscall_made g c t)
+  pub no_row : 13 < n → P (misused g c 1 t) → P (syscall_made g c t)
   no_row above h =
-      let is : meaning_among syscalls n g c t ≡ misused g c 1 t = rw (none_of n 0 above (lit≤ tt), none_of n 1 above (lit≤ tt), none_of n 2 above (lit≤ tt), none_of n 3 above (lit≤ tt), none_of n 4 above (lit≤ tt), none_of n 5 above (lit≤ tt), none_of n 6 above (lit≤ tt), none_of n 7 above (lit≤ tt), none_of n 8 above (lit≤ tt), none_of n 9 above (lit≤ tt), none_of n 10 above (lit≤ tt), none_of n 11 above (lit≤ tt), none_of n 12 above (lit≤ tt)) refl in
+      let is : meaning_among syscalls n g c t ≡ misused g c 1 t = rw (none_of n 0 above (lit≤ tt), none_of n 1 above (lit≤ tt), none_of n 2 above (lit≤ tt), none_of n 3 above (lit≤ tt), none_of n 4 above (lit≤ tt), none_of n 5 above (lit≤ tt), none_of n 6 above (lit≤ tt), none_of n 7 above (lit≤ tt), none_of n 8 above (lit≤ tt), none_of n 9 above (lit≤ tt), none_of n 10 above (lit≤ tt), none_of n 11 above (lit≤ tt), none_of n 12 above (lit≤ tt), none_of n 13 above (lit≤ tt)) refl in
       subst P (sym is ∙ made_by g c n t at) h

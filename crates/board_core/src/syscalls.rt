@@ -16,7 +16,7 @@ use ipc_core::{post_syscall, recv, refresh, reply, reply_fault, send};
 use kernel_abi::{SYSCALL_SELECTOR, SendArgs, Syscall, TaskId, Usage};
 use lease_core::{borrow_info, borrow_read, borrow_write};
 use task_table::Kernel;
-use timer_irq::{get_timer, irq_control, set_timer};
+use timer_irq::{get_timer, irq_control, irq_status, set_timer};
 
 /// RECV, of the best sender to the caller.
 fn receive(k: &mut Kernel, caller: usize)
@@ -71,6 +71,7 @@ pub fn syscall(k: &mut Kernel, caller: usize)
         Some(Syscall::RefreshTaskId) => refresh(k, caller),
         Some(Syscall::Post) => post_syscall(k, caller),
         Some(Syscall::ReplyFault) => reply_fault(k, caller),
+        Some(Syscall::IrqStatus) => irq_status(k, caller),
         None => k.misuse(caller, Usage::BadSyscall),
     }
 }

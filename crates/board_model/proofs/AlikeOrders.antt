@@ -1,6 +1,6 @@
 -- Restarts and kernel messages leave alike turns alike.
-use Rattle.std.proofs.Common.{◌≡◌, ◌+◌, ◌<◌, ◌≤◌, ◌%◌, ◌&&◌, ◌||◌, ℕ, Bool, true, false, not, leb, eqb, is_some, List, [], ◌∷◌, length, Option, Some, None, refl, sym, ◌∙◌, ap, subst, cond, arith, eqb-true}
-use Rattle.std.specs.Prelude.{if◌then◌else◌, option_map, find, IfSome}
+use Rattle.std.proofs.Common.{◌≡◌, ◌+◌, ◌-◌, ◌<◌, ◌≤◌, ◌%◌, ◌&&◌, ◌||◌, ℕ, Bool, true, false, not, leb, eqb, is_some, List, [], ◌∷◌, length, Option, Some, None, refl, sym, ◌∙◌, ap, subst, cond, arith, eqb-true}
+use Rattle.std.specs.Prelude.{if◌then◌else◌, option_map, find, unwrap_or, IfSome}
 use Rattle.std.specs.List.{range_with_len}
 use Rattle.std.proofs.lemmas.Bool.{false≢true}
 use Rattle.kernel_abi.specs.Arguments.{send_args}
@@ -16,14 +16,14 @@ use Rattle.kernel_abi.specs.declared.arguments.SendArgs.{SendArgs}
 use Rattle.region_check.specs.declared.Right.TheVariants.{Read as ToRead, Write as ToWrite}
 use Rattle.mem_banks.specs.Memory.{number_at, number_of}
 use Rattle.task_table.specs.State.{Setup, Task, Call, From, Any, One, KernelOnly, Listen, Own, Turn}
-use Rattle.task_table.specs.Reading.{task_at, setup_at, arguments, call_of, listen_of, is_valid, bad_byte}
-use Rattle.task_table.specs.Effects.{without_listen, changed, given, returned, closed, stored, at_birth, reborn, is_to, awaits, dead_answered, restarted}
+use Rattle.task_table.specs.Reading.{task_at, setup_at, is_faulted, arguments, call_of, listen_of, is_valid, bad_byte}
+use Rattle.task_table.specs.Effects.{without_listen, changed, noted, given, returned, closed, stored, at_birth, reborn, is_to, awaits, dead_answered, restarted}
 use Rattle.task_table.specs.Rows.{misused, goes_on_with}
 use Rattle.task_table.specs.Sends.{message_of, reply_room}
-use Rattle.task_table.specs.Orders.{Order, status_bytes, status_given, restart_made, injected_by, injected, orders, obeyed, order_of, ordered}
+use Rattle.task_table.specs.Orders.{Order, word_bytes, status_bytes, status_given, restart_made, injected_by, injected, first_faulted, fault_found, orders, obeyed, order_of, ordered}
 use Rattle.board_model.specs.Alike.{Viewer, IsAttentive, seen_call, seen_from, seen_listen, IsAlike}
 use Rattle.board_model.proofs.Alike.{call_alike, listen_alike, count_alike, bytes_alike}
-use Rattle.board_model.proofs.AlikeRows.{by_test, by_same, by_case, the_task, alike-noted_always, alike-task, alike-stored, alike-fold, alike-given, alike-closed, alike-no_listen, alike-returned, alike-faulted, alike-misused, alike-denied, alike-goes_on_with, args, generation_same}
+use Rattle.board_model.proofs.AlikeRows.{by_test, by_same, by_case, the_task, alike-noted, alike-noted_always, alike-task, alike-stored, alike-fold, alike-given, alike-closed, alike-no_listen, alike-returned, alike-faulted, alike-misused, alike-denied, alike-goes_on_with, args, generation_same}
 use Rattle.board_model.proofs.Sight.{IsOpen, checked_seen}
 
 -- what holds of each order of a list holds of the one that is found in it
@@ -138,13 +138,28 @@ module _ (w : Viewer) (a : IsAttentive w) where
       go : (x y : Health) → x ≡ y → IsAlike w (injected_by g i x t) (injected_by g i y u)
       go x y e = rw (sym e) (same x)
 
+  found_same : (index : ℕ) (t u : Turn) → IsAlike w t u → first_faulted t.state index ≡ first_faulted u.state index
+  found_same index t u h =
+      let health : (i : ℕ) → (task_at t.state i).health ≡ (task_at u.state i).health = λ i. ap (λ (x : Task). x.health) (the_task w a i t u h) in
+      let n = count_alike w.birth t.state u.state h.state in
+      λ j. unwrap_or (find (λ i. is_faulted (health i j)) (range_with_len index (n j - index))) 0
+
+  alike-fault_found : (x : SendArgs) (index : ℕ) (t u : Turn) → IsAlike w t u → IsAlike w (fault_found x index t) (fault_found x index u)
+  alike-fault_found x index t u h = go (first_faulted t.state index) (first_faulted u.state index) (found_same index t u h)
+    where
+      go : (m n : ℕ) → m ≡ n → IsAlike w (noted (note.Find index m) (stored Own x.reply_base (word_bytes m) t)) (noted (note.Find index n) (stored Own x.reply_base (word_bytes n) u))
+      go m n e = rw (sym e) (alike-noted w a (note.Find index m) _ _ refl (alike-stored w a Own x.reply_base (word_bytes m) t u h))
+
   -- one fact for each order
   alike-orders : EachOrder IsAlikeOrder orders
   alike-orders = (
     record { names = omega arith; does = λ g x index t u see h. alike-status_given x index t u h },
     (
       record { names = omega arith; does = λ g x index t u see h. alike-restart_made g x index t u see h },
-      (record { names = omega arith; does = λ g x index t u see h. alike-injected g index t u h }, tt),
+      (
+        record { names = omega arith; does = λ g x index t u see h. alike-injected g index t u h },
+        (record { names = omega arith; does = λ g x index t u see h. alike-fault_found x index t u h }, tt),
+      ),
     ),
   )
 

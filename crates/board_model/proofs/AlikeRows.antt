@@ -25,7 +25,7 @@ use Rattle.task_table.specs.State.{Setup, LineSetup, Task, State, Call, From, An
 use Rattle.task_table.specs.declared.slot.Range.{Range}
 use Rattle.task_table.specs.Reading.{task_at, line_at, line_off, line_on, register, arguments, call_of, is_out, is_dead, dead_code_for, present, is_valid, bad_byte}
 use Rattle.task_table.specs.Effects.{with_task, without_call, without_listen, with_listen, with_taken, changed, noted, with_processor, with_health, writes_on, stored, copied, looked, with_results, given, returned, past_syscall, bits_added, bits_cleared, woken_by, woken, posted, with_timer, clocked, with_line, close_notes, closed, faulted_as, faulted, handed}
-use Rattle.task_table.specs.Rows.{goes_on, goes_on_with, misused, denied, panicked, timer_set, timer_words, timer_answered, owns_with, line_controlled, irq_controlled, listened_from, buffer_of, listens, receives_or_listens, offer_of, received, syscall_noted}
+use Rattle.task_table.specs.Rows.{goes_on, goes_on_with, misused, denied, panicked, timer_set, timer_words, timer_answered, owns_with, line_controlled, irq_controlled, status_of_lines, irq_answered, listened_from, buffer_of, listens, receives_or_listens, offer_of, received, syscall_noted}
 use Rattle.task_table.specs.Events.{expired_by, expired, ticked, owner_of, interrupted_by, interrupted}
 use Rattle.board_model.specs.Levels.{is_noted_always}
 use Rattle.board_model.specs.Alike.{Viewer, IsAttentive, seen_task, seen_call, seen_from, seen_listen, seen, IsAlike, IsAlikeWhereSeen}
@@ -361,6 +361,24 @@ module _ (w : Viewer) (a : IsAttentive w) where
       rw e (
       by_same (IsAlike w) (not (list_any (owns_with c x.bits) g.lines)) (alike-misused g c 6 t u h)
       (alike-goes_on c _ _ (alike-fold (λ v (o : LineSetup). line_controlled c x.bits x.enable o.line v) (filter (owns_with c x.bits) g.lines) t u (λ o p q k. alike-line_controlled c x.bits x.enable o.line p q k) h)))
+
+  status_same : (g : Setup) (c bits : ℕ) (t u : Turn) → IsAlike w t u → status_of_lines g t.state c bits ≡ status_of_lines g u.state c bits
+  status_same g c bits t u h =
+      let line : (k : ℕ) → line_at t.state k ≡ line_at u.state k = λ k. line_alike w.birth t.state u.state k h.state in
+      let p = posted_same c t u h in
+      let own = filter (owns_with c bits) g.lines in
+      λ j. cond (list_any (λ (o : LineSetup). (line o.line j).enabled) own) 1 0 + cond (list_any (λ (o : LineSetup). (line o.line j).pending) own) 2 0 + cond (not (eqb (bit_and (p j) bits) 0)) 4 0
+
+  pub alike-irq_answered : (g : Setup) (c : ℕ) (t u : Turn) → IsAlike w t u → IsAlike w (irq_answered g c t) (irq_answered g c u)
+  unfolding irq_answered
+  alike-irq_answered g c t u h =
+      let e = args c t u h in
+      let bits = (irq_args (arguments t.state c)).bits in
+      let s = status_same g c bits t u h in
+      rw e (
+      by_same (IsAlike w) (not (list_any (owns_with c bits) g.lines)) (alike-misused g c 6 t u h)
+      (alike-answers c (status_of_lines g t.state c bits ∷ []) (status_of_lines g u.state c bits ∷ []) _ _ (ap (λ n. n ∷ []) s)
+      (alike-noted_always _ _ t u (ap (λ n. note.IrqStatus c bits n) s) refl h)))
 
   pub alike-syscall_noted : (c : ℕ) (t u : Turn) → IsAlike w t u → IsAlike w (syscall_noted c t) (syscall_noted c u)
   unfolding syscall_noted

@@ -11,7 +11,7 @@ use Rattle.task_table.specs.Syscalls.{Meaning, is_to_kernel, syscalls, meaning_a
 use Rattle.task_table.proofs.Meanings.{EachMeaning}
 use Rattle.board_model.specs.Alike.{Viewer, IsAttentive, IsAlike, IsAlikeWhereSeen}
 use Rattle.board_model.proofs.Alike.{best_alike}
-use Rattle.board_model.proofs.AlikeRows.{by_same, surely, alike-misused, args, word, alike-received, alike-timer_set, alike-timer_answered, alike-irq_controlled, alike-panicked}
+use Rattle.board_model.proofs.AlikeRows.{by_same, surely, alike-misused, args, word, alike-received, alike-timer_set, alike-timer_answered, alike-irq_controlled, alike-irq_answered, alike-panicked}
 use Rattle.board_model.proofs.AlikeSends.{alike-sent, alike-replied, alike-reply_faulted, alike-post_made, alike-refreshed}
 use Rattle.board_model.proofs.AlikeBorrows.{alike-reading, alike-writing, alike-informed}
 use Rattle.board_model.proofs.AlikeOrders.{alike-ordered}
@@ -53,7 +53,10 @@ module _ (w : Viewer) (a : IsAttentive w) where
                       surely w a (alike-timer_answered w a c t u h),
                       (
                         surely w a (alike-refreshed w a g c t u h),
-                        (surely w a (alike-post_made w a g c t u h), (surely w a (alike-reply_faulted w a g c t u h), tt)),
+                        (
+                          surely w a (alike-post_made w a g c t u h),
+                          (surely w a (alike-reply_faulted w a g c t u h), (surely w a (alike-irq_answered w a g c t u h), tt)),
+                        ),
                       ),
                     ),
                   ),

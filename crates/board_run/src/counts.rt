@@ -63,6 +63,8 @@ impl Counts {
             Note::Close { .. } => self.close = self.close.saturating_add(1),
             Note::Fault { .. } => self.fault = self.fault.saturating_add(1),
             Note::Restart { .. } => self.restart = self.restart.saturating_add(1),
+            // of no kind that is counted
+            Note::IrqStatus { .. } | Note::Find { .. } => {}
             Note::Insn { .. } | Note::Idle | Note::Low { .. } | Note::High { .. } => {}
         }
     }

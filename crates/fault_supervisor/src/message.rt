@@ -4,8 +4,8 @@ ghost use Rattle.std.specs.Prelude.{◌≡◌, ◌+◌, ◌<◌, ◌≤◌, ◌^
 ghost use Rattle.std.specs.Option.{option_map};
 ghost use Rattle.mem_banks.specs.Memory.{IsWithinRam};
 ghost use Rattle.task_table.specs.State.{Setup, Turn};
-ghost use Rattle.task_table.specs.Reading.{is_ready};
-ghost use Rattle.task_table.specs.Orders.{order_of, word_bytes, status_bytes, injected, obeyed, ordered};
+ghost use Rattle.task_table.specs.Reading.{is_ready, is_faulted};
+ghost use Rattle.task_table.specs.Orders.{order_of, word_bytes, status_bytes, injected, first_faulted, fault_found, obeyed, ordered};
 ghost use Rattle.task_table.specs.Holds.{Holds, Stands, Stood, task_count, note_count, memory_of};
 ghost use Rattle.task_table.specs.Limits.{syscall_notes, turn_notes};
 ghost use Rattle.task_table.specs.Frames.{AddsNotes, AddsAtMost};
@@ -13,7 +13,7 @@ ghost use Rattle.fault_supervisor.specs.Restarts.{restart_notes};
 ghost use Rattle.fault_supervisor.specs.Meanings.{meaning, status_words};
 
 use crate::rebirth::restart_task;
-use kernel_abi::{Access, Fault, Health, SendArgs, Usage};
+use kernel_abi::{Access, Fault, Health, Note, SendArgs, Usage};
 use region_check::Right;
 use task_table::{Kernel, Range};
 
@@ -26,6 +26,8 @@ enum Order {
     Restart,
     /// A task is made to fault.
     Fault,
+    /// Which task has faulted.
+    Find,
 }
 
 impl Order {
@@ -37,6 +39,7 @@ impl Order {
             1 => Some(Order::Status),
             2 => Some(Order::Restart),
             3 => Some(Order::Fault),
+            9 => Some(Order::Find),
             _ => None,
         }
     }
@@ -49,6 +52,7 @@ impl Order {
             Order::Status => 4,
             Order::Restart => 8,
             Order::Fault => 4,
+            Order::Find => 4,
         }
     }
 
@@ -60,6 +64,7 @@ impl Order {
             Order::Status => 16,
             Order::Restart => 0,
             Order::Fault => 0,
+            Order::Find => 4,
         }
     }
 
@@ -71,6 +76,7 @@ impl Order {
             Order::Status => true,
             Order::Restart => false,
             Order::Fault => false,
+            Order::Find => true,
         }
     }
 }
@@ -120,6 +126,44 @@ pub fn inject(k: &mut Kernel, task: usize)
     }
 }
 
+/// Whether that is a fault.
+fn is_faulted(health: Health) -> bool
+    ensures { result ≡ is_faulted health }
+{
+    matches!(health, Health::Faulted(_))
+}
+
+/// The first task from an index on that has faulted, or 0 where there is none.
+fn first_faulted(k: &Kernel, index: usize) -> usize
+    requires { index < task_count k.now }
+    ensures small { result < task_count k.now }
+    ensures value { (g : Setup) (t : Turn) → Holds g k.now t → result ≡ first_faulted t.state index }
+{
+    for task in index..k.task_count() {
+        if is_faulted(k.health(task)) {
+            return task;
+        }
+    }
+    0
+}
+
+/// The answer to a search for a faulted task from an index on, and its note.
+fn find_fault(k: &mut Kernel, args: &SendArgs, index: usize)
+    requires there { index < task_count k.old }
+    requires room { note_count k.old + 1 ≤ turn_notes }
+    requires reply { IsWithinRam (memory_of k.old) args.now.reply_base 4 }
+    ensures holds { (g : Setup) (t : Turn) → Holds g k.old t → Holds g k.new (fault_found args.now index t) }
+    ensures frame { AddsNotes k.old 1 k.new }
+{
+    let found = first_faulted(k, index);
+    let answer = word_bytes(found as u32);
+    k.store(args.reply_base, &answer);
+    k.note(Note::Find {
+        index: index as u16,
+        found: found as u16,
+    });
+}
+
 /// What an order does to a task.
 fn carry_out(k: &mut Kernel, args: &SendArgs, order: Order, task: usize)
     requires there { task < task_count k.old }
@@ -139,6 +183,7 @@ fn carry_out(k: &mut Kernel, args: &SendArgs, order: Order, task: usize)
             restart_task(k, task, start != 0);
         }
         Order::Fault => inject(k, task),
+        Order::Find => find_fault(k, args, task),
     }
 }
 
@@ -207,6 +252,7 @@ fn take_order(k: &mut Kernel, caller: usize)
 /// - 1: how the task is, in four words (health 0 well, 1 stopped, 2 faulted; and of a fault its number, x and y).
 /// - 2: the task is restarted, and started where the second word is not 0. It may not be the supervisor.
 /// - 3: the task is made to fault, unless it has faulted. It may not be the supervisor.
+/// - 9: the index of the first task from that one on that has faulted, in one word; 0 where there is none.
 ///
 /// r4 is 0 then, and r5 the length of the answer (docs/FORMATS.md; Hubris Reference, on supervision).
 pub fn kernel_message(k: &mut Kernel, caller: usize)

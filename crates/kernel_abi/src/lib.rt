@@ -364,6 +364,17 @@ pub enum Note {
         task: u16,
         generation: u8,
     },
+    /// A task asked how its interrupt lines with these bits are, and was answered so.
+    IrqStatus {
+        task: u16,
+        bits: u32,
+        status: u32,
+    },
+    /// The supervisor asked for the first faulted task from an index on, and was answered this index.
+    Find {
+        index: u16,
+        found: u16,
+    },
     /// A task runs the instruction at an address, of one halfword or of two; the first of two is in
     /// the high half.
     Insn {

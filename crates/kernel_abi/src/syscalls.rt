@@ -6,7 +6,7 @@ ghost use Rattle.kernel_abi.specs.Syscalls.{syscall_number};
 /// The register that holds the number of a system call. Which one it is is this project's own.
 pub const SYSCALL_SELECTOR: usize = 11;
 
-/// A system call: 0 to 8 are the Hubris Reference's numbers, 9 to 12 this project's own.
+/// A system call: 0 to 8 are the Hubris Reference's numbers, 9 to 13 this project's own.
 #[derive(Clone, Copy, PartialEq, Eq)]
 pub enum Syscall {
     Send,
@@ -22,12 +22,13 @@ pub enum Syscall {
     RefreshTaskId,
     Post,
     ReplyFault,
+    IrqStatus,
 }
 
 impl Syscall {
     /// The system call with this number, or None where none has it.
     pub fn of(number: u32) -> Option<Syscall>
-        ensures { MatchOption result (12 < number) (λ syscall. syscall_number syscall ≡ number) }
+        ensures { MatchOption result (13 < number) (λ syscall. syscall_number syscall ≡ number) }
     {
         match number {
             0 => Some(Syscall::Send),
@@ -43,6 +44,7 @@ impl Syscall {
             10 => Some(Syscall::RefreshTaskId),
             11 => Some(Syscall::Post),
             12 => Some(Syscall::ReplyFault),
+            13 => Some(Syscall::IrqStatus),
             _ => None,
         }
     }

@@ -10,7 +10,7 @@ struct Row {
     text: &'static str,
 }
 
-const NOTES: [Row; 33] = [
+const NOTES: [Row; 35] = [
     Row {
         turn: 0,
         note: Note::Tick { now: 1 },
@@ -231,6 +231,20 @@ const NOTES: [Row; 33] = [
         text: "6 restart 3 63\n",
     },
     Row {
+        turn: 8,
+        note: Note::IrqStatus {
+            task: 0,
+            bits: 2,
+            status: 4,
+        },
+        text: "8 irqstat 0 00000002 4\n",
+    },
+    Row {
+        turn: 9,
+        note: Note::Find { index: 1, found: 2 },
+        text: "9 find 1 2\n",
+    },
+    Row {
         turn: 0,
         note: Note::Insn {
             task: 0,
@@ -307,7 +321,7 @@ const NOTES: [Row; 33] = [
 const MOST: u32 = u32::MAX;
 
 /// The longest line of each kind, and how long it is.
-const LONGEST: [(Note, usize); 16] = [
+const LONGEST: [(Note, usize); 18] = [
     (Note::Tick { now: u64::MAX }, 37),
     (
         Note::Irq {
@@ -396,6 +410,21 @@ const LONGEST: [(Note, usize); 16] = [
             generation: 255,
         },
         29,
+    ),
+    (
+        Note::IrqStatus {
+            task: 65535,
+            bits: MOST,
+            status: MOST,
+        },
+        45,
+    ),
+    (
+        Note::Find {
+            index: 65535,
+            found: 65535,
+        },
+        28,
     ),
     (
         Note::Insn {

@@ -7,6 +7,7 @@ use Rattle.kernel_abi.specs.Faults.{injected_fault}
 use Rattle.kernel_abi.specs.declared.Ending.TheVariants.{Client}
 use Rattle.kernel_abi.specs.declared.Health.{Health}
 use Rattle.kernel_abi.specs.declared.Health.TheVariants.{Well, Stopped, Faulted}
+use Rattle.kernel_abi.specs.declared.Note.TheVariants as note
 use Rattle.kernel_abi.specs.declared.arguments.SendArgs.{SendArgs}
 use Rattle.region_check.specs.declared.Right.TheVariants as right
 use Rattle.mem_banks.specs.Memory.{IsWithinRam, number_at, AreAllBytes}
@@ -14,11 +15,11 @@ use Rattle.task_table.specs.State.{Setup, Own, Turn}
 use Rattle.task_table.specs.Reading.{task_at, arguments, is_valid, bad_byte}
 use Rattle.task_table.specs.Effects.{stored}
 use Rattle.task_table.specs.Sends.{message_of, reply_room}
-use Rattle.task_table.specs.Orders.{Order, word_bytes, status_bytes, injected_by, injected, orders, order_of, obeyed, ordered}
+use Rattle.task_table.specs.Orders.{Order, word_bytes, status_bytes, injected_by, injected, first_faulted, fault_found, orders, order_of, obeyed, ordered}
 use Rattle.task_table.specs.Sane.{Sane}
 use Rattle.task_table.specs.Chain.{Here}
-use Rattle.task_table.specs.Step.{Stores, Strikes, Restarts}
-use Rattle.task_table.proofs.Chains.{one}
+use Rattle.task_table.specs.Step.{Notes, Stores, Strikes, Restarts}
+use Rattle.task_table.proofs.Chains.{one, ◌▷◌}
 use Rattle.task_table.proofs.Outcomes.{Leads, Comes, by_outcome, comes-misused, comes-denied, goes_with}
 use Rattle.task_table.proofs.Ranges.{may-write, within_ram-good, within_ram-front}
 use Rattle.task_table.proofs.Receives.{none_left}
@@ -93,12 +94,19 @@ module _ (g : Setup) (c : ℕ) (t : Turn) (h : Sane g t.state) (inside : c < len
         let fits : IsWithinRam t.state.memory x.reply_base (length (status_bytes health)) = within_ram-front t.state.memory x.reply_base x.reply_capacity (length (status_bytes health)) (within_ram-good g t.state.memory c (reply_room x) h.steady.placed writable) (omega arith) in
         one (Stores Own x.reply_base (status_bytes health) t (status_all health) fits fits (λ a low high. may-write g c (reply_room x) a writable (low, omega arith)), tt)
 
+    leads-found : (index : ℕ) → 4 ≤ x.reply_capacity → Leads g c t (fault_found x index t)
+    leads-found index room =
+        let found = first_faulted t.state index in
+        let fits : IsWithinRam t.state.memory x.reply_base 4 = within_ram-front t.state.memory x.reply_base x.reply_capacity 4 (within_ram-good g t.state.memory c (reply_room x) h.steady.placed writable) room in
+        one (Stores Own x.reply_base (word_bytes found) t (last_bytes found) fits fits (λ a low high. may-write g c (reply_room x) a writable (low, omega arith)), tt)
+        ▷ (Notes (note.Find index found) (stored Own x.reply_base (word_bytes found) t) refl, tt)
+
     all_done : EachOrder (IsDone x) orders
     all_done = (
       λ index lt other room. leads-status (task_at t.state index).health room,
       (
         λ index lt other room. one (Restarts index _ t (other refl) lt, tt),
-        (λ index lt other room. leads-injected index lt (other refl), tt),
+        (λ index lt other room. leads-injected index lt (other refl), (λ index lt other room. leads-found index room, tt)),
       ),
     )
 

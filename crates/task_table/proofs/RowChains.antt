@@ -5,14 +5,15 @@ use Rattle.std.specs.List.{list_any}
 use Rattle.std.proofs.lemmas.Bool.{eq-eqb, eqb-true, leb-false, not-false, false≢true, false_from_ne_true}
 use Rattle.kernel_abi.specs.Arguments.{recv_args, timer_args, irq_args}
 use Rattle.kernel_abi.specs.Ids.{index_of}
+use Rattle.kernel_abi.specs.declared.Note.TheVariants as note
 use Rattle.kernel_abi.specs.declared.Timer.{Timer}
 use Rattle.kernel_abi.specs.declared.arguments.RecvArgs.{RecvArgs}
 use Rattle.region_check.specs.declared.Right.TheVariants.{Write}
 use Rattle.task_table.specs.declared.Line.{Line}
 use Rattle.task_table.specs.State.{Setup, LineSetup, Birth, Call, Listen, From, Any, One, KernelOnly, Offered, Turn}
 use Rattle.task_table.specs.Reading.{task_at, line_at, line_off, line_on, register, arguments, is_ready, is_out, is_dead, present, is_valid, bad_byte, offer_by, best_sender, admits, IsIdle}
-use Rattle.task_table.specs.Effects.{past_syscall, bits_cleared, posted, with_timer, with_line}
-use Rattle.task_table.specs.Rows.{panicked, timer_set, timer_words, timer_answered, owns_with, line_controlled, irq_controlled, buffer_of, listens, receives, receives_or_listens, takes_bits, offer_of, received, syscall_noted}
+use Rattle.task_table.specs.Effects.{noted, past_syscall, bits_cleared, posted, with_timer, with_line}
+use Rattle.task_table.specs.Rows.{panicked, timer_set, timer_words, timer_answered, owns_with, line_controlled, irq_controlled, status_of_lines, irq_answered, buffer_of, listens, receives, receives_or_listens, takes_bits, offer_of, received, syscall_noted}
 use Rattle.task_table.specs.Orders.{ordered}
 use Rattle.task_table.specs.Sends.{sent}
 use Rattle.task_table.specs.Syscalls.{Meaning, is_to_kernel, syscalls, meaning_among, syscall_made}
@@ -79,6 +80,14 @@ module _ (g : Setup) (c : ℕ) (t : Turn) (inside : c < length g.tasks) where
       let lines = filter (owns_with c x.bits) g.lines in
       by_outcome (not (list_any (owns_with c x.bits) g.lines)) (λ none. comes-misused g c t inside 6) (λ some.
       goes g c t inside _ (chain-fold (λ u o. line_controlled c x.bits x.enable o.line u) lines t (λ o u here. controls x.bits x.enable o (filter_in (owns_with c x.bits) g.lines o here).0 u)))
+
+  pub comes-irq_answered : Comes g c t (irq_answered g c t)
+  unfolding irq_answered
+  comes-irq_answered =
+      let bits = (irq_args (arguments t.state c)).bits in
+      let status = status_of_lines g t.state c bits in
+      by_outcome (not (list_any (owns_with c bits) g.lines)) (λ none. comes-misused g c t inside 6) (λ some.
+      goes_with g c t inside (status ∷ []) (noted (note.IrqStatus c bits status) t) (omega arith) (one (Notes (note.IrqStatus c bits status) t refl, tt)))
 
 -- ## RECV
 
@@ -190,7 +199,10 @@ module _ (g : Setup) (c : ℕ) (t : Turn) (h : Sane g t.state) (inside : c < len
                           comes-post_made g c t h inside,
                           (
                             comes-reply_faulted g c t h inside,
-                            tt,
+                            (
+                              comes-irq_answered g c t inside,
+                              tt,
+                            ),
                           ),
                         ),
                       ),

@@ -3,7 +3,7 @@ use Rattle.std.proofs.Common.{◌≡◌, ◌<◌, ℕ, true, length, Option}
 use Rattle.kernel_abi.specs.declared.Ending.TheVariants.{Client}
 use Rattle.task_table.specs.State.{Setup, State, Turn, Own}
 use Rattle.task_table.specs.Reading.{is_ready, best_sender}
-use Rattle.task_table.specs.Rows.{misused, panicked, timer_set, timer_answered, irq_controlled, received, syscall_noted}
+use Rattle.task_table.specs.Rows.{misused, panicked, timer_set, timer_answered, irq_controlled, irq_answered, received, syscall_noted}
 use Rattle.task_table.specs.Sends.{sent, replied, reply_faulted, post_made, refreshed}
 use Rattle.task_table.specs.Borrows.{reading, writing, borrowed, informed}
 use Rattle.task_table.specs.Orders.{ordered}
@@ -21,7 +21,7 @@ use Rattle.task_table.proofs.OrderChains.{comes-ordered}
 use Rattle.task_table.proofs.Outcomes.{chain-outcome, comes-misused}
 use Rattle.task_table.proofs.Posting.{keeps-noted, keeps-given, keeps-returned, keeps-past_syscall, keeps-cleared, keeps-timer, sane-posted}
 use Rattle.task_table.proofs.Ranges.{within_ram-good, within_ram-front}
-use Rattle.task_table.proofs.RowChains.{chain-syscall_noted, comes-panicked, comes-timer_set, comes-timer_answered, comes-irq_controlled, comes-received, comes-syscall_made}
+use Rattle.task_table.proofs.RowChains.{chain-syscall_noted, comes-panicked, comes-timer_set, comes-timer_answered, comes-irq_controlled, comes-irq_answered, comes-received, comes-syscall_made}
 use Rattle.task_table.proofs.Sanity.{sane-processor, sane-stored, sane-faulted_as}
 use Rattle.task_table.proofs.Timing.{keeps-line}
 
@@ -80,6 +80,9 @@ module _ {g : Setup} (c : ℕ) (t : Turn) (h : Sane g t.state) (within : c < len
 
   pub sane-irq_controlled : Sane g (irq_controlled g c t).state
   sane-irq_controlled = kept _ (comes-irq_controlled g c t inside)
+
+  pub sane-irq_answered : Sane g (irq_answered g c t).state
+  sane-irq_answered = kept _ (comes-irq_answered g c t inside)
 
   pub sane-replied : Sane g (replied g c t).state
   sane-replied = kept _ (comes-replied g c t h inside)

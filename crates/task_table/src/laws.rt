@@ -13,7 +13,7 @@ ghost use Rattle.mem_banks.specs.Memory.{Memory, IsWithin, IsWithinRam, AreAllBy
 ghost use Rattle.task_table.specs.State.{Setup, State, Turn, Ground, Read};
 ghost use Rattle.task_table.specs.Reading.{setup_at, is_ready, best_sender, IsIdle, IsSameAt};
 ghost use Rattle.task_table.specs.Effects.{changed, noted, looked, with_processor, given, posted, with_timer, with_line, stored, faulted};
-ghost use Rattle.task_table.specs.Rows.{misused, panicked, timer_set, timer_answered, irq_controlled, received, syscall_noted};
+ghost use Rattle.task_table.specs.Rows.{misused, panicked, timer_set, timer_answered, irq_controlled, irq_answered, received, syscall_noted};
 ghost use Rattle.task_table.specs.Sends.{sent, replied, reply_faulted, post_made, refreshed};
 ghost use Rattle.task_table.specs.Borrows.{reading, writing, borrowed, informed};
 ghost use Rattle.task_table.specs.Orders.{ordered};
@@ -50,6 +50,7 @@ pub fn rows_keep_sane()
     ensures timer_set { (g : Setup) (c : ℕ) (t : Turn) → Sane g t.state → c < length t.state.tasks → Sane g (timer_set c t).state }
     ensures timer_answered { (g : Setup) (c : ℕ) (t : Turn) → Sane g t.state → c < length t.state.tasks → Sane g (timer_answered c t).state }
     ensures irq_controlled { (g : Setup) (c : ℕ) (t : Turn) → Sane g t.state → c < length t.state.tasks → Sane g (irq_controlled g c t).state }
+    ensures irq_answered { (g : Setup) (c : ℕ) (t : Turn) → Sane g t.state → c < length t.state.tasks → Sane g (irq_answered g c t).state }
     ensures syscall_noted { (g : Setup) (c : ℕ) (t : Turn) → Sane g t.state → c < length t.state.tasks → Sane g (syscall_noted c t).state }
     ensures received { (g : Setup) (c : ℕ) (best : Option ℕ) (t : Turn) → Sane g t.state → c < length t.state.tasks → is_ready t.state c ≡ true → best ≡ best_sender g t.state c → Sane g (received g c best t).state }
     ensures sent { (g : Setup) (c : ℕ) (t : Turn) → Sane g t.state → c < length t.state.tasks → is_ready t.state c ≡ true → Sane g (sent g c t).state }

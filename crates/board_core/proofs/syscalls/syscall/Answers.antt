@@ -1,4 +1,4 @@
-use Rattle.kernel_abi.specs.declared.syscalls.Syscall.TheVariants.{Send, Recv, Reply, SetTimer, BorrowRead, BorrowWrite, BorrowInfo, IrqControl, Panic, GetTimer, RefreshTaskId, Post, ReplyFault}
+use Rattle.kernel_abi.specs.declared.syscalls.Syscall.TheVariants.{Send, Recv, Reply, SetTimer, BorrowRead, BorrowWrite, BorrowInfo, IrqControl, Panic, GetTimer, RefreshTaskId, Post, ReplyFault, IrqStatus}
 use Rattle.task_table.specs.Holds.{Stands}
 use Rattle.board_core.proofs.SyscallRows.{row, no_row}
 use Rattle.board_core.proofs.syscalls.syscall.Goals as goal
@@ -41,6 +41,9 @@ returns-in-Some-Post-clause-stands c = λ g t st ready. row g c.args.caller t c.
 
 pub returns-in-Some-ReplyFault-clause-stands : goal.returns-in-Some-ReplyFault-clause-stands
 returns-in-Some-ReplyFault-clause-stands c = λ g t st ready. row g c.args.caller t c.register.result (c.register.ensures g t st.holds) (Stands g c.reply_fault.new.k) ReplyFault _ c.in-Some-ReplyFault.field-0-is c.in-Some-ReplyFault.ensures (c.reply_fault.ensures.stands g t st ready)
+
+pub returns-in-Some-IrqStatus-clause-stands : goal.returns-in-Some-IrqStatus-clause-stands
+returns-in-Some-IrqStatus-clause-stands c = λ g t st ready. row g c.args.caller t c.register.result (c.register.ensures g t st.holds) (Stands g c.irq_status.new.k) IrqStatus _ c.in-Some-IrqStatus.field-0-is c.in-Some-IrqStatus.ensures (c.irq_status.ensures.stands g t st ready)
 
 pub returns-in-None-clause-stands : goal.returns-in-None-clause-stands
 returns-in-None-clause-stands c = λ g t st ready. no_row g c.args.caller t c.register.result (c.register.ensures g t st.holds) (Stands g c.misuse.new.self) c.in-None.ensures (c.misuse.ensures.stands g t st)

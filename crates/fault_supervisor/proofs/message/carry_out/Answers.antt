@@ -10,3 +10,6 @@ returns-in-Restart-clause-holds c = λ g t h.
 
 pub returns-in-Fault-clause-holds : goal.returns-in-Fault-clause-holds
 returns-in-Fault-clause-holds c = λ g t h. rw c.in-Fault.is (c.inject.ensures.holds g t h.holds)
+
+pub returns-in-Find-clause-holds : goal.returns-in-Find-clause-holds
+returns-in-Find-clause-holds c = λ g t h. rw c.in-Find.is (c.find_fault.ensures.holds g t h.holds)

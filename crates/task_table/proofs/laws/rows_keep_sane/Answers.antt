@@ -1,4 +1,4 @@
-use Rattle.task_table.proofs.StepKeeps.{sane-misused, sane-panicked, sane-syscall_noted, sane-timer_set, sane-timer_answered, sane-irq_controlled, sane-received, sane-sent, sane-replied, sane-reply_faulted, sane-post_made, sane-refreshed, sane-read, sane-written, sane-informed, sane-ordered, sane-syscall_made}
+use Rattle.task_table.proofs.StepKeeps.{sane-misused, sane-panicked, sane-syscall_noted, sane-timer_set, sane-timer_answered, sane-irq_controlled, sane-irq_answered, sane-received, sane-sent, sane-replied, sane-reply_faulted, sane-post_made, sane-refreshed, sane-read, sane-written, sane-informed, sane-ordered, sane-syscall_made}
 use Rattle.task_table.proofs.laws.rows_keep_sane.Goals as goal
 
 pub returns-clause-misused : goal.returns-clause-misused
@@ -21,6 +21,9 @@ returns-clause-timer_answered c = λ g c t h inside. sane-timer_answered c t h i
 
 pub returns-clause-irq_controlled : goal.returns-clause-irq_controlled
 returns-clause-irq_controlled c = λ g c t h inside. sane-irq_controlled c t h inside
+
+pub returns-clause-irq_answered : goal.returns-clause-irq_answered
+returns-clause-irq_answered c = λ g c t h inside. sane-irq_answered c t h inside
 
 pub returns-clause-received : goal.returns-clause-received
 returns-clause-received c = λ g c best t h inside ready is. sane-received c t h inside ready best is

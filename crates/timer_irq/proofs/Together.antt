@@ -1,0 +1,72 @@
+-- The lines that pass, taken together, one more of them at a time.
+use Rattle.std.proofs.Common.{◌≡◌, ◌+◌, ◌<◌, ◌||◌, ℕ, zero, suc, Bool, true, false, cond, List, [], ◌∷◌, length, map, take, refl, ◌∙◌, ap, subst, arith, get_or}
+use Rattle.std.specs.Prelude.{filter}
+use Rattle.std.specs.List.{list_any}
+use Rattle.std.proofs.Math.ListN.{get_or-map}
+use Rattle.std.proofs.lemmas.List.{length-map}
+use Rattle.task_table.specs.declared.Line.{Line}
+use Rattle.task_table.specs.declared.start.LineStart.{LineStart}
+use Rattle.task_table.specs.State.{LineSetup, State}
+use Rattle.task_table.specs.Reading.{line_at, no_line}
+use Rattle.task_table.specs.Parts.{line_setup}
+use Rattle.timer_irq.specs.Midway.{lines_together, joined}
+
+or_false : (b : Bool) → b ≡ (b || false)
+or_false true = refl
+or_false false = refl
+
+or_assoc : (a b c : Bool) → ((a || b) || c) ≡ (a || (b || c))
+or_assoc true b c = refl
+or_assoc false b c = refl
+
+-- one more item of a list of which some that pass are asked for
+any_suc : {A : Type 0} (p q : A → Bool) (xs : List A) (i : ℕ) (d : A) → i < length xs → (list_any p (filter q (take i xs)) || cond (q (get_or xs i d)) (p (get_or xs i d)) false) ≡ list_any p (filter q (take (suc i) xs))
+any_suc p q [] i d below = absurd (omega arith)
+any_suc p q (x ∷ xs) zero d below = go (q x)
+  where
+    go : (b : Bool) → cond b (p x) false ≡ list_any p (cond b (x ∷ []) [])
+    go true = or_false (p x)
+    go false = refl
+any_suc {A} p q (x ∷ xs) (suc i) d below = go (q x) (any_suc p q xs i d (omega arith))
+  where
+    before : List A
+    before = filter q (take i xs)
+
+    after : List A
+    after = filter q (take (suc i) xs)
+
+    here : Bool
+    here = cond (q (get_or xs i d)) (p (get_or xs i d)) false
+
+    go : (b : Bool) → (list_any p before || here) ≡ list_any p after → (list_any p (cond b (x ∷ before) before) || here) ≡ list_any p (cond b (x ∷ after) after)
+    go true rest = or_assoc (p x) (list_any p before) here ∙ ap (λ z. p x || z) rest
+    go false rest = rest
+
+any_more : {A : Type 0} (p q : A → Bool) (xs : List A) (i : ℕ) (d : A) → i < length xs → (list_any p (filter q (take i xs)) || cond (q (get_or xs i d)) (p (get_or xs i d)) false) ≡ list_any p (filter q (take (i + 1) xs))
+any_more p q xs i d below = let e : i + 1 ≡ suc i = omega arith in rw e (any_suc p q xs i d below)
+
+-- one line more, where it passes
+passing : State → (LineSetup → Bool) → LineSetup → Line
+passing s q o = cond (q o) (line_at s o.line) no_line
+
+part_of : (f : Line → Bool) → f no_line ≡ false → (s : State) (q : LineSetup → Bool) (o : LineSetup) → f (cond (q o) (line_at s o.line) no_line) ≡ cond (q o) (f (line_at s o.line)) false
+part_of f none s q o = go (q o)
+  where
+    go : (b : Bool) → f (cond b (line_at s o.line) no_line) ≡ cond b (f (line_at s o.line)) false
+    go true = refl
+    go false = none
+
+more_lines : (s : State) (q : LineSetup → Bool) (xs : List LineSetup) (i : ℕ) (d : LineSetup) → i < length xs → joined (lines_together s (filter q (take i xs))) (cond (q (get_or xs i d)) (line_at s (get_or xs i d).line) no_line) ≡ lines_together s (filter q (take (i + 1) xs))
+more_lines s q xs i d below =
+    let x = get_or xs i d in
+    let old = filter q (take i xs) in
+    let enabled = ap (λ b. list_any (λ (o : LineSetup). (line_at s o.line).enabled) old || b) (part_of (λ l. l.enabled) refl s q x) ∙ any_more (λ (o : LineSetup). (line_at s o.line).enabled) q xs i d below in
+    let pending = ap (λ b. list_any (λ (o : LineSetup). (line_at s o.line).pending) old || b) (part_of (λ l. l.pending) refl s q x) ∙ any_more (λ (o : LineSetup). (line_at s o.line).pending) q xs i d below in
+    λ j. record { enabled = enabled j; pending = pending j }
+
+-- the same of the owners of the code
+pub more_owners : (s : State) (q : LineSetup → Bool) (xs : List LineStart) (i : ℕ) (d : LineStart) → i < length xs → joined (lines_together s (filter q (take i (map line_setup xs)))) (cond (q (line_setup (get_or xs i d))) (line_at s (get_or xs i d).line) no_line) ≡ lines_together s (filter q (take (i + 1) (map line_setup xs)))
+more_owners s q xs i d below =
+    let long = length-map xs line_setup in
+    let P : LineSetup → Type 0 = λ o. joined (lines_together s (filter q (take i (map line_setup xs)))) (cond (q o) (line_at s o.line) no_line) ≡ lines_together s (filter q (take (i + 1) (map line_setup xs))) in
+    subst P (get_or-map line_setup xs i d) (more_lines s q (map line_setup xs) i (line_setup d) (omega (arith, long)))
