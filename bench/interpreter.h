@@ -88,6 +88,8 @@ void tell_take(u32 call, u32 copied);
 void tell_borrow(u32 call, const char *how, u32 lease, u32 offset, u32 moved);
 void tell_close(u32 call, const char *why);
 void tell_restart(const struct task *t);
+void tell_lines(const struct task *t, u32 bits);
+void tell_find(u32 index, u32 found);
 void tell_ret(const struct task *t);
 void tell_fault(const struct task *t);
 void tell_idle(void);

@@ -164,6 +164,14 @@ static void status(const struct task *t, u32 to) {
     memcpy(place(to, 16), words, 16);
 }
 
+static void find(u32 index, u32 to) {
+    u32 found = index;
+    while (found < board.count && !board.tasks[found].fault) found++;
+    if (found == board.count) found = 0;
+    memcpy(place(to, 4), &found, 4);
+    tell_find(index, found);
+}
+
 /* A task that waited for another is told that it is dead. */
 static void tell_dead(struct task *t, const struct task *dead) {
     if (t->call.number && t->call.server == dead) {
@@ -196,23 +204,24 @@ static void restart(struct task *t, bool started) {
 }
 
 static enum outcome order(struct task *t, struct range message, struct range answer) {
-    static const u32 lengths[4] = {0, 4, 8, 4};
-    u32 operation = t->r[4] & 0xffff, index, room = operation == 1 ? 16 : 0;
+    static const u32 lengths[10] = {0, 4, 8, 4, 0, 0, 0, 0, 0, 4}, rooms[10] = {0, 16, 0, 0, 0, 0, 0, 0, 0, 4};
+    u32 operation = t->r[4] & 0xffff, index;
     if (t->index) return misuse(t, NOT_SUPERVISOR);
     if (!is_valid(message.base, message.length) || !is_valid(answer.base, answer.length)) return misuse(t, INVALID_SLICE);
     if (!is_permitted(t, message, READ) || !is_permitted(t, answer, WRITE)) return FAULTS;
-    if (operation - 1 > 2 || message.length != lengths[operation] || answer.length < room) return misuse(t, BAD_KERNEL_MESSAGE);
+    if ((operation - 1 > 2 && operation != 9) || message.length != lengths[operation] || answer.length < rooms[operation]) return misuse(t, BAD_KERNEL_MESSAGE);
     index = word_at(message.base);
     if (index >= board.count) return misuse(t, BAD_TASK_INDEX);
-    if (!index && operation > 1) return misuse(t, BAD_KERNEL_MESSAGE);
+    if (!index && (operation == 2 || operation == 3)) return misuse(t, BAD_KERNEL_MESSAGE);
     struct task *of = &board.tasks[index];
     if (operation == 1) status(of, answer.base);
+    if (operation == 9) find(index, answer.base);
     if (operation == 2) restart(of, word_at(message.base + 4));
     if (operation == 3 && !of->fault) {
         trap(of, INJECTED, 0, 0);
         fault(of);
     }
-    t->r[4] = 0, t->r[5] = room;
+    t->r[4] = 0, t->r[5] = rooms[operation];
     return DONE;
 }
 
@@ -375,6 +384,20 @@ static enum outcome control_lines(struct task *t) {
     return found ? DONE : misuse(t, NO_IRQ);
 }
 
+static enum outcome status_of_lines(struct task *t) {
+    u32 bits = t->r[4], enabled = 0, pending = 0;
+    bool found = false;
+    for (struct line *l = board.lines; l < board.lines + 32; l++) {
+        if (l->owner != t || l->bits != bits) continue;
+        found = true;
+        enabled |= l->enabled, pending |= l->pending;
+    }
+    if (!found) return misuse(t, NO_IRQ);
+    t->r[4] = enabled + 2 * pending + (t->posted & bits ? 4 : 0);
+    tell_lines(t, bits);
+    return DONE;
+}
+
 static enum outcome serve(struct task *t) {
     switch (t->r[11]) {
         case 0: return send(t);
@@ -388,6 +411,7 @@ static enum outcome serve(struct task *t) {
         case 10: return refresh(t);
         case 11: return post_bits(t);
         case 12: return reply_fault(t);
+        case 13: return status_of_lines(t);
         default: return misuse(t, BAD_CALL);
     }
 }

@@ -190,6 +190,10 @@ void tell_borrow(u32 call, const char *how, u32 lease, u32 offset, u32 moved) {
 }
 void tell_close(u32 call, const char *why) { end(words(of_call(" close ", call), why)); }
 void tell_restart(const struct task *t) { end(number(words(of_task(" restart ", t), " "), t->generation)); }
+void tell_lines(const struct task *t, u32 bits) {
+    end(number(words(hex_words(of_task(" irqstat ", t), &bits, 1), " "), t->r[4]));
+}
+void tell_find(u32 index, u32 found) { end(number(words(number(begin(" find "), index), " "), found)); }
 void tell_ret(const struct task *t) { end(hex_words(of_task(" ret ", t), t->r + 4, 6)); }
 void tell_fault(const struct task *t) {
     char *p = number(words(of_task(" fault ", t), " "), t->fault);
