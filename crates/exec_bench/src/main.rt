@@ -11,11 +11,11 @@ use crate::words::Words;
 use std::{env, io};
 use thumb_exec::cpu::{Cpu, Outcome};
 use thumb_step::step;
-use words_core::{Flags, Regs};
+use words_core::{Flags, PROGRAM_COUNTER, Regs, STACK_POINTER};
 
 /// One instruction; false where it does not go on.
 fn goes_on(cpu: &mut Cpu, bus: &mut Words) -> bool {
-    if cpu.regs.get(15) % 2 != 0 {
+    if cpu.regs.get(PROGRAM_COUNTER) % 2 != 0 {
         return false;
     }
     step(cpu, bus) == Outcome::Next
@@ -38,8 +38,8 @@ fn main(rt: HostRuntime) -> io::Result<()> {
     let mut bus = Words::new();
     let mut regs = Regs::of([0; 16]);
     regs.set(4, 0x2000_0000);
-    regs.set(13, 0x2000_0100);
-    regs.set(15, 0x0800_0000);
+    regs.set(STACK_POINTER, 0x2000_0100);
+    regs.set(PROGRAM_COUNTER, 0x0800_0000);
     let flags = Flags {
         n: false,
         z: false,

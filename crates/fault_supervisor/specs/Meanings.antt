@@ -1,8 +1,8 @@
 -- The kernel messages as the code names them.
-use Rattle.std.specs.Prelude.{ℕ, List, [], ◌∷◌, ◌++◌, true, false}
+use Rattle.std.specs.Prelude.{ℕ, List, [], ◌∷◌, true, false}
 use Rattle.kernel_abi.specs.declared.Health.{Health}
 use Rattle.kernel_abi.specs.declared.Health.TheVariants.{Well, Stopped, Faulted}
-use Rattle.task_table.specs.Orders.{Order as Meaning, status_given, restart_made, injected, fault_found, word_bytes}
+use Rattle.task_table.specs.Orders.{Order as Meaning, status_given, restart_made, injected, fault_found}
 use Rattle.fault_supervisor.specs.declared.message.Order.{Order}
 use Rattle.fault_supervisor.specs.declared.message.Order.TheVariants.{Status, Restart, Fault, Find}
 
@@ -18,8 +18,3 @@ abbrev pub status_words : Health → List ℕ
 status_words Well = 0 ∷ 0 ∷ 0 ∷ 0 ∷ []
 status_words Stopped = 1 ∷ 0 ∷ 0 ∷ 0 ∷ []
 status_words (Faulted f) = 2 ∷ f.number ∷ f.x ∷ f.y ∷ []
-
--- the bytes of words
-abbrev pub reply_bytes : List ℕ → List ℕ
-reply_bytes [] = []
-reply_bytes (word ∷ words) = word_bytes word ++ reply_bytes words

@@ -2,7 +2,7 @@
 use kernel_abi::Fault;
 use std::alloc::{AllocError, Global};
 use thumb_exec::cpu::{Cpu, Outcome};
-use words_core::{Flags, Regs};
+use words_core::{Flags, PROGRAM_COUNTER, Regs};
 
 /// One instruction, what is before it and what is wanted after it.
 #[derive(Drop)]
@@ -109,7 +109,7 @@ fn registers(text: &str, pc: u32) -> Option<Regs> {
         regs.set(count, hex(word)?);
         count += 1;
     }
-    regs.set(15, pc);
+    regs.set(PROGRAM_COUNTER, pc);
     if count == 15 { Some(regs) } else { None }
 }
 

@@ -9,6 +9,7 @@ use crate::memory::Memory;
 use std::alloc::{AllocError, Global};
 use thumb_exec::cpu::{Cpu, Outcome};
 use thumb_step::step;
+use words_core::PROGRAM_COUNTER;
 
 /// A memory with a case's bytes and, at PC, its code.
 fn memory_of(alloc: Global, case: &Case) -> Result<Memory, AllocError>
@@ -16,7 +17,7 @@ fn memory_of(alloc: Global, case: &Case) -> Result<Memory, AllocError>
 {
     let mut memory = Memory::new(alloc)?;
     memory.fill_all(&case.bytes);
-    memory.fill_code(case.cpu.regs.get(15), case.first, case.second);
+    memory.fill_code(case.cpu.regs.get(PROGRAM_COUNTER), case.first, case.second);
     Ok(memory)
 }
 
@@ -57,7 +58,7 @@ pub fn passes(alloc: Global, case: &Case) -> Result<bool, AllocError>
     ensures judged { IfOk result (λ passed. reg_at case.now.cpu.regs program_counter % 2 ≡ 0 → Judges case.now passed) }
     ensures odd { IfOk result (λ passed. reg_at case.now.cpu.regs program_counter % 2 ≡ 1 → passed ≡ false) }
 {
-    if case.cpu.regs.get(15) % 2 != 0 {
+    if case.cpu.regs.get(PROGRAM_COUNTER) % 2 != 0 {
         return Ok(false);
     }
     let mut memory = memory_of(alloc, case)?;

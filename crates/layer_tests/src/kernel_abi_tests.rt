@@ -1,7 +1,8 @@
 //! Rows of the layouts and numbers, and what each call takes from which register.
 use kernel_abi::{
     Access, BorrowArgs, Fault, Generation, IdArgs, InfoArgs, IrqArgs, LeaseEntry, Note, Range,
-    Reason, RecvArgs, ReplyArgs, SYSCALL_SELECTOR, SendArgs, Syscall, TaskId, TimerArgs, Usage, dead_code,
+    Reason, RecvArgs, ReplyArgs, SYSCALL_SELECTOR, SendArgs, Syscall, TaskId, TimerArgs, Usage,
+    dead_code,
 };
 
 // Each register holds another number, so that no two can be confused.
@@ -119,7 +120,7 @@ fn reasons(rt: HostRuntime) {
 
 #[test]
 fn syscalls(rt: HostRuntime) {
-    let numbers = [0, 1, 2, 3, 4, 5, 6, 7, 8, 9, 10, 11, 12, 13, u32::MAX];
+    let numbers = [0, 1, 2, 3, 4, 5, 6, 7, 8, 9, 10, 11, 12, 13, 14, u32::MAX];
     let wanted = [
         Some(Syscall::Send),
         Some(Syscall::Recv),
@@ -134,6 +135,7 @@ fn syscalls(rt: HostRuntime) {
         Some(Syscall::RefreshTaskId),
         Some(Syscall::Post),
         Some(Syscall::ReplyFault),
+        Some(Syscall::IrqStatus),
         None,
         None,
     ];

@@ -9,7 +9,7 @@ use Rattle.kernel_abi.specs.declared.Usage.TheVariants.{InvalidSlice}
 use Rattle.kernel_abi.specs.declared.arguments.BorrowArgs.{BorrowArgs}
 use Rattle.region_check.specs.declared.Right.TheVariants.{Read}
 use Rattle.mem_banks.specs.Memory.{Memory, IsWithin, IsWithinRam}
-use Rattle.task_table.specs.State.{Setup, State, Call, Range, Write, Turn}
+use Rattle.task_table.specs.State.{Setup, State, Call, Write, Turn}
 use Rattle.task_table.specs.Reading.{register, arguments, is_ready, is_valid, bad_byte, taken_by}
 use Rattle.task_table.specs.Entries.{kept_at, IsKeptFor, entry_at}
 use Rattle.task_table.specs.Effects.{◌⨾◌, noted}
@@ -18,6 +18,7 @@ use Rattle.task_table.specs.Borrows.{Way as Needs, reading, writing, entry_range
 use Rattle.task_table.specs.Holds.{entries_of}
 use Rattle.task_table.specs.declared.entry.KeptEntry.{KeptEntry}
 use Rattle.task_table.specs.declared.kernel.Kernel.{Kernel}
+use Rattle.task_table.specs.declared.slot.Range.{Range}
 use Rattle.lease_core.specs.declared.way.Way.{Way}
 use Rattle.lease_core.specs.declared.way.Way.TheVariants as way
 use Rattle.lease_core.specs.declared.Loan.{Loan}

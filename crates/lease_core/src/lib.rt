@@ -5,9 +5,9 @@
 ghost use Rattle.std.specs.Prelude.{◌≡◌, ◌+◌, ◌*◌, ◌<◌, ◌≤◌, ◌^◌, ℕ, true, None, Some, IfOk};
 ghost use Rattle.kernel_abi.specs.declared.Note.TheVariants as note;
 ghost use Rattle.task_table.specs.State.{Setup, Turn, Call};
-ghost use Rattle.task_table.specs.Reading.{arguments, is_valid, is_ready, bad_byte};
+ghost use Rattle.task_table.specs.Reading.{arguments, is_valid, is_ready};
 ghost use Rattle.task_table.specs.Effects.{noted};
-ghost use Rattle.task_table.specs.Borrows.{reading, writing, moved, refused, uninformed, lent, granted, grant, part_of, lease_range, borrowed_by, borrowed, grant_answered, informed_by, informed};
+ghost use Rattle.task_table.specs.Borrows.{reading, writing, moved, refused, uninformed, lent, granted, part_of, lease_range, borrowed_by, borrowed, grant_answered, informed_by, informed};
 ghost use Rattle.task_table.specs.Holds.{Holds, Stands, Stood, kept_call, task_count, note_count, memory_of, entries_of};
 ghost use Rattle.task_table.specs.Entries.{IsKeptFor};
 ghost use Rattle.task_table.specs.Messages.{IsLent};

@@ -51,34 +51,34 @@ impl Kernel {
     /// So many bytes from an address on are about to be written: an entry that has one of them is kept no
     /// more, and the others are. Nothing else changes.
     #[inline(always)]
-    pub fn touched(&mut self, addr: u32, count: usize)
+    pub fn touched(&mut self, base: u32, len: usize)
         ensures holds { (g : Setup) (t : Turn) → Holds g self.old t → Holds g self.new t }
         ensures memory { memory_of self.new ≡ memory_of self.old }
         ensures current { current_of self.new ≡ current_of self.old }
         ensures same { kept_of self.new ≡ kept_of self.old }
         ensures there { (i : ℕ) (x : KeptEntry) → kept_at (entries_of self.new) i ≡ Some x → kept_at (entries_of self.old) i ≡ Some x }
-        ensures apart { (i : ℕ) (x : KeptEntry) → kept_at (entries_of self.new) i ≡ Some x → meets x addr count ≡ false }
-        ensures stay { (i : ℕ) (x : KeptEntry) → kept_at (entries_of self.old) i ≡ Some x → meets x addr count ≡ false → kept_at (entries_of self.new) i ≡ Some x }
+        ensures apart { (i : ℕ) (x : KeptEntry) → kept_at (entries_of self.new) i ≡ Some x → meets x base len ≡ false }
+        ensures stay { (i : ℕ) (x : KeptEntry) → kept_at (entries_of self.old) i ≡ Some x → meets x base len ≡ false → kept_at (entries_of self.new) i ≡ Some x }
         ensures frame { AddsNotes self.old 0 self.new }
     {
-        if self.watch.catches(addr, count) {
-            self.drop_touched(addr, count);
+        if self.watch.catches(base, len) {
+            self.drop_touched(base, len);
         }
     }
 
     /// As `touched`, where an entry may have one of the bytes.
     #[cold]
     #[inline(never)]
-    fn drop_touched(&mut self, addr: u32, count: usize)
+    fn drop_touched(&mut self, base: u32, len: usize)
         ensures holds { (g : Setup) (t : Turn) → Holds g self.old t → Holds g self.new t }
         ensures memory { memory_of self.new ≡ memory_of self.old }
         ensures current { current_of self.new ≡ current_of self.old }
         ensures same { kept_of self.new ≡ kept_of self.old }
         ensures there { (i : ℕ) (x : KeptEntry) → kept_at (entries_of self.new) i ≡ Some x → kept_at (entries_of self.old) i ≡ Some x }
-        ensures apart { (i : ℕ) (x : KeptEntry) → kept_at (entries_of self.new) i ≡ Some x → meets x addr count ≡ false }
-        ensures stay { (i : ℕ) (x : KeptEntry) → kept_at (entries_of self.old) i ≡ Some x → meets x addr count ≡ false → kept_at (entries_of self.new) i ≡ Some x }
+        ensures apart { (i : ℕ) (x : KeptEntry) → kept_at (entries_of self.new) i ≡ Some x → meets x base len ≡ false }
+        ensures stay { (i : ℕ) (x : KeptEntry) → kept_at (entries_of self.old) i ≡ Some x → meets x base len ≡ false → kept_at (entries_of self.new) i ≡ Some x }
         ensures frame { AddsNotes self.old 0 self.new }
     {
-        self.watch = drop_met(&mut self.entries, addr, count);
+        self.watch = drop_met(&mut self.entries, base, len);
     }
 }

@@ -12,7 +12,7 @@ invariant_of-self-clause-fresh c =
     let watch = c.drop_met-self.result in
     let new = c.drop_met-self.new.entries in
     let was : AreFresh k.memory.bytes k.watch.low k.watch.span c.deref_mut.result.now = rw c.deref_mut.ensures.value k.fresh in
-    let next : AreFresh k.memory.bytes watch.low watch.span new = fresh_left k.memory.bytes k.watch.low k.watch.span watch.low watch.span c.deref_mut.result.now new c.args.addr c.args.count was c.drop_met-self.ensures in
+    let next : AreFresh k.memory.bytes watch.low watch.span new = fresh_left k.memory.bytes k.watch.low k.watch.span watch.low watch.span c.deref_mut.result.now new c.args.base c.args.len was c.drop_met-self.ensures in
     let count : length new ≡ k.entries.len = omega (arith, c.drop_met-self.ensures.count, c.deref_mut.ensures.len) in
     subst (λ (xs : List (Option KeptEntry)). AreFresh k.memory.bytes watch.low watch.span xs) (sym (front k.entries.len new _ count)) next
 
@@ -23,7 +23,7 @@ invariant_of-self-clause-of_calls c =
     let new = c.drop_met-self.new.entries in
     let tasks = map task_setup k.tasks.items in
     let was : AreEntriesOf tasks k.slots.items c.deref_mut.result.now = rw c.deref_mut.ensures.value k.of_calls in
-    let next : AreEntriesOf tasks k.slots.items new = of_left tasks k.slots.items watch.low watch.span c.deref_mut.result.now new c.args.addr c.args.count was c.drop_met-self.ensures in
+    let next : AreEntriesOf tasks k.slots.items new = of_left tasks k.slots.items watch.low watch.span c.deref_mut.result.now new c.args.base c.args.len was c.drop_met-self.ensures in
     let count : length new ≡ k.entries.len = omega (arith, c.drop_met-self.ensures.count, c.deref_mut.ensures.len) in
     subst (λ (xs : List (Option KeptEntry)). AreEntriesOf tasks k.slots.items xs) (sym (front k.entries.len new _ count)) next
 
@@ -74,15 +74,15 @@ returns-clause-apart c =
     let k = c.args.self.now in
     let new = c.drop_met-self.new.entries in
     let count : length new ≡ k.entries.len = omega (arith, c.drop_met-self.ensures.count, c.deref_mut.ensures.len) in
-    subst (λ (xs : List (Option KeptEntry)). (i : ℕ) (x : KeptEntry) → kept_at xs i ≡ Some x → meets x c.args.addr c.args.count ≡ false) (sym (front k.entries.len new _ count)) c.drop_met-self.ensures.apart
+    subst (λ (xs : List (Option KeptEntry)). (i : ℕ) (x : KeptEntry) → kept_at xs i ≡ Some x → meets x c.args.base c.args.len ≡ false) (sym (front k.entries.len new _ count)) c.drop_met-self.ensures.apart
 
 pub returns-clause-stay : goal.returns-clause-stay
 returns-clause-stay c =
     let k = c.args.self.now in
     let new = c.drop_met-self.new.entries in
     let count : length new ≡ k.entries.len = omega (arith, c.drop_met-self.ensures.count, c.deref_mut.ensures.len) in
-    let stay = subst (λ (xs : List (Option KeptEntry)). (i : ℕ) (x : KeptEntry) → kept_at xs i ≡ Some x → meets x c.args.addr c.args.count ≡ false → kept_at new i ≡ Some x) c.deref_mut.ensures.value c.drop_met-self.ensures.stay in
-    subst (λ (xs : List (Option KeptEntry)). (i : ℕ) (x : KeptEntry) → kept_at k.entries.items i ≡ Some x → meets x c.args.addr c.args.count ≡ false → kept_at xs i ≡ Some x) (sym (front k.entries.len new _ count)) stay
+    let stay = subst (λ (xs : List (Option KeptEntry)). (i : ℕ) (x : KeptEntry) → kept_at xs i ≡ Some x → meets x c.args.base c.args.len ≡ false → kept_at new i ≡ Some x) c.deref_mut.ensures.value c.drop_met-self.ensures.stay in
+    subst (λ (xs : List (Option KeptEntry)). (i : ℕ) (x : KeptEntry) → kept_at k.entries.items i ≡ Some x → meets x c.args.base c.args.len ≡ false → kept_at xs i ≡ Some x) (sym (front k.entries.len new _ count)) stay
 
 pub returns-clause-same : goal.returns-clause-same
 returns-clause-same c = refl
