@@ -13,7 +13,7 @@ use Rattle.std.proofs.lemmas.List.Folds.{Any-from_list_any, list_any-from_Any}
 use Rattle.region_check.specs.Sizes.{is_size}
 use Rattle.app_toml.specs.Apps.{DeviceData}
 use Rattle.app_toml.specs.Crossed.{meets}
-use Rattle.app_toml.specs.declared.parts.Device.{Device}
+use Rattle.app_toml.specs.declared.parts.DeviceSpec.{DeviceSpec}
 use Rattle.app_toml.specs.Relations.{IsPlaced}
 use Rattle.app_toml.specs.Sites.{device_of}
 use Rattle.app_toml.proofs.Gathered.{any_more}
@@ -173,10 +173,10 @@ is_below m n lt = grind (arith, nat_tests)
 pub not_above : (m n : ℕ) → is_lt (nat_cmp m n) ≡ false → n ≤ m
 not_above m n e = grind (arith, nat_tests)
 
-pub placed_at : (devices : List Device) (i : ℕ) (d : Device) → All IsPlaced (map device_of devices) → i < length devices → d ≡ get_or devices i d → IsPlaced (device_of d)
+pub placed_at : (devices : List DeviceSpec) (i : ℕ) (d : DeviceSpec) → All IsPlaced (map device_of devices) → i < length devices → d ≡ get_or devices i d → IsPlaced (device_of d)
 placed_at devices i d all lt here =
     subst IsPlaced (get_or-map device_of devices i d (device_of d) lt ∙ ap device_of (sym here))
     (all i (device_of d) (subst (λ n. i < n) (sym (length-map devices device_of)) lt))
 
-pub placed_before : (devices : List Device) (i : ℕ) → All IsPlaced (map device_of devices) → All IsPlaced (map device_of (take i devices))
+pub placed_before : (devices : List DeviceSpec) (i : ℕ) → All IsPlaced (map device_of devices) → All IsPlaced (map device_of (take i devices))
 placed_before devices i all = subst (All IsPlaced) (take-map device_of i devices) (All-take IsPlaced i (map device_of devices) all)

@@ -6,11 +6,11 @@ use Rattle.app_toml.specs.Sites.{device_of, interrupt_of, region_of, task_of}
 use Rattle.app_toml.specs.declared.app.App.{App}
 use Rattle.app_toml.specs.declared.parts.AppFault.{AppFault}
 use Rattle.app_toml.specs.declared.parts.AppFault.TheVariants as fault
-use Rattle.app_toml.specs.declared.parts.Device.{Device}
-use Rattle.app_toml.specs.declared.parts.Interrupt.{Interrupt}
+use Rattle.app_toml.specs.declared.parts.DeviceSpec.{DeviceSpec}
+use Rattle.app_toml.specs.declared.parts.LineSpec.{LineSpec}
 use Rattle.app_toml.specs.declared.parts.Parts.{Parts}
-use Rattle.app_toml.specs.declared.parts.SharedRegion.{SharedRegion}
-use Rattle.app_toml.specs.declared.parts.Task.{Task}
+use Rattle.app_toml.specs.declared.parts.RegionSpec.{RegionSpec}
+use Rattle.app_toml.specs.declared.parts.TaskSpec.{TaskSpec}
 
 -- the description that it is
 abbrev pub app_of : App → AppData
@@ -37,7 +37,7 @@ parts_of p = record {
 }
 
 -- what these tables say
-abbrev pub tables_of : (flash ram : ℕ) → Text → List Task → List SharedRegion → List Device → List Interrupt → AppData
+abbrev pub tables_of : (flash ram : ℕ) → Text → List TaskSpec → List RegionSpec → List DeviceSpec → List LineSpec → AppData
 tables_of flash ram fault tasks regions devices interrupts = record {
   flash = flash;
   ram = ram;

@@ -4,10 +4,10 @@ use Rattle.app_toml.specs.Apps.{DeviceData, InterruptData, RegionData, TaskData}
 use Rattle.app_toml.specs.Keys.{KeyRow}
 use Rattle.app_toml.specs.Places.{Refusal, Site}
 use Rattle.app_toml.specs.declared.keys.Key.{Key}
-use Rattle.app_toml.specs.declared.parts.Device.{Device}
-use Rattle.app_toml.specs.declared.parts.Interrupt.{Interrupt}
-use Rattle.app_toml.specs.declared.parts.SharedRegion.{SharedRegion}
-use Rattle.app_toml.specs.declared.parts.Task.{Task}
+use Rattle.app_toml.specs.declared.parts.DeviceSpec.{DeviceSpec}
+use Rattle.app_toml.specs.declared.parts.LineSpec.{LineSpec}
+use Rattle.app_toml.specs.declared.parts.RegionSpec.{RegionSpec}
+use Rattle.app_toml.specs.declared.parts.TaskSpec.{TaskSpec}
 use Rattle.app_toml.specs.declared.places.Fault.{Fault}
 use Rattle.app_toml.specs.declared.places.Place.{Place}
 
@@ -28,7 +28,7 @@ key_of k = record { name = k.name.now; is_needed = k.is_needed; form = k.form }
 abbrev pub keys_of : List Key → List KeyRow
 keys_of = map key_of
 
-abbrev pub task_of : Task → TaskData
+abbrev pub task_of : TaskSpec → TaskData
 task_of t = record {
   name = string_bytes t.name;
   source = string_bytes t.source;
@@ -42,13 +42,13 @@ task_of t = record {
   reads = map string_bytes t.reads.items;
 }
 
-abbrev pub region_of : SharedRegion → RegionData
+abbrev pub region_of : RegionSpec → RegionData
 region_of r = record { name = string_bytes r.name; size = r.size }
 
-abbrev pub device_of : Device → DeviceData
+abbrev pub device_of : DeviceSpec → DeviceData
 device_of d = record { name = string_bytes d.name; base = d.base; size = d.size }
 
-abbrev pub interrupt_of : Interrupt → InterruptData
+abbrev pub interrupt_of : LineSpec → InterruptData
 interrupt_of i = record {
   line = i.line;
   task = string_bytes i.task;

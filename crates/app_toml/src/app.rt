@@ -4,7 +4,7 @@ ghost use Rattle.std.specs.Prelude.{map, string_bytes};
 ghost use Rattle.app_toml.specs.Accepted.{IsAccepted};
 ghost use Rattle.app_toml.specs.Sites.{device_of, interrupt_of, region_of, task_of};
 
-use crate::parts::{Device, Interrupt, SharedRegion, Task};
+use crate::parts::{DeviceSpec, LineSpec, RegionSpec, TaskSpec};
 
 /// A description that no cause refuses; `app_of` of its specs is what it says.
 #[derive(Drop)]
@@ -12,10 +12,10 @@ pub struct App {
     pub(crate) flash: u32,
     pub(crate) ram: u32,
     pub(crate) fault: String,
-    pub(crate) tasks: Vec<Task>,
-    pub(crate) regions: Vec<SharedRegion>,
-    pub(crate) devices: Vec<Device>,
-    pub(crate) interrupts: Vec<Interrupt>,
+    pub(crate) tasks: Vec<TaskSpec>,
+    pub(crate) regions: Vec<RegionSpec>,
+    pub(crate) devices: Vec<DeviceSpec>,
+    pub(crate) interrupts: Vec<LineSpec>,
     ghost accepted: { IsAccepted (record {
       flash = flash;
       ram = ram;

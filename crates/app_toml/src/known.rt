@@ -9,7 +9,7 @@ ghost use Rattle.app_toml.specs.Known.{HasJust, Keeps, NamesAreas};
 ghost use Rattle.app_toml.specs.Places.{Text};
 ghost use Rattle.app_toml.specs.Sites.{device_of, region_of, task_of};
 
-use crate::parts::{Device, SharedRegion, Task};
+use crate::parts::{DeviceSpec, RegionSpec, TaskSpec};
 use std::alloc::{AllocError, Global};
 use std::collections::{BTreeMap, BTreeSet};
 
@@ -43,7 +43,7 @@ pub(crate) fn known_names(alloc: Global, names: &[String]) -> Result<Names, Allo
     Ok(known)
 }
 
-pub(crate) fn known_regions(alloc: Global, regions: &[SharedRegion]) -> Result<Names, AllocError>
+pub(crate) fn known_regions(alloc: Global, regions: &[RegionSpec]) -> Result<Names, AllocError>
     ensures { IfOk result (λ known. HasJust known (λ q. has_region q (map region_of regions.now))) }
 {
     let mut known = BTreeSet::new(alloc);
@@ -53,7 +53,7 @@ pub(crate) fn known_regions(alloc: Global, regions: &[SharedRegion]) -> Result<N
     Ok(known)
 }
 
-fn learn_devices(alloc: Global, known: &mut Names, devices: &[Device]) -> Result<(), AllocError>
+fn learn_devices(alloc: Global, known: &mut Names, devices: &[DeviceSpec]) -> Result<(), AllocError>
     ensures { OnOk result ((q : Text) → contains_text known.new q ≡ (contains_text known.old q || has_device q (map device_of devices.now))) }
 {
     for device in devices {
@@ -65,8 +65,8 @@ fn learn_devices(alloc: Global, known: &mut Names, devices: &[Device]) -> Result
 /// The names of regions and devices.
 pub(crate) fn known_areas(
     alloc: Global,
-    regions: &[SharedRegion],
-    devices: &[Device],
+    regions: &[RegionSpec],
+    devices: &[DeviceSpec],
 ) -> Result<Names, AllocError>
     ensures { IfOk result (λ known. NamesAreas known (map region_of regions.now) (map device_of devices.now)) }
 {
@@ -84,7 +84,7 @@ pub(crate) fn is_area(known: &Names, name: &str) -> bool
 }
 
 /// Adds a task, unless one of its name is there.
-fn keep_task(alloc: Global, kept: &mut TaskNames, task: &Task) -> Result<(), AllocError>
+fn keep_task(alloc: Global, kept: &mut TaskNames, task: &TaskSpec) -> Result<(), AllocError>
     ensures { OnOk result ((tasks : List TaskData) → Keeps kept.old tasks → Keeps kept.new (tasks ++ task_of task.now ∷ [])) }
 {
     if kept.contains_key(task.name.as_str()) {
@@ -95,7 +95,7 @@ fn keep_task(alloc: Global, kept: &mut TaskNames, task: &Task) -> Result<(), All
     Ok(())
 }
 
-pub(crate) fn kept_tasks(alloc: Global, tasks: &[Task]) -> Result<TaskNames, AllocError>
+pub(crate) fn kept_tasks(alloc: Global, tasks: &[TaskSpec]) -> Result<TaskNames, AllocError>
     ensures { IfOk result (λ kept. Keeps kept (map task_of tasks.now)) }
 {
     let mut kept = BTreeMap::new(alloc);

@@ -29,4 +29,4 @@ mod values;
 mod views;
 
 pub use app::App;
-pub use parts::{AppFault, Device, Interrupt, SharedRegion, Task};
+pub use parts::{AppFault, DeviceSpec, LineSpec, RegionSpec, TaskSpec};

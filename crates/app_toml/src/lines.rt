@@ -8,13 +8,13 @@ ghost use Rattle.app_toml.specs.Places.{first_clash, first_fault};
 ghost use Rattle.app_toml.specs.Sites.{device_of, interrupt_of, refusal_of};
 
 use crate::overlaps::overlap;
-use crate::parts::{Device, Interrupt, Parts};
+use crate::parts::{DeviceSpec, LineSpec, Parts};
 use crate::places::{Fault, fault_at, index_place};
 use crate::unknowns::interrupt_place;
 use region_check::is_size;
 use std::alloc::{AllocError, Global};
 
-fn has_line(line: u8, interrupts: &[Interrupt]) -> bool
+fn has_line(line: u8, interrupts: &[LineSpec]) -> bool
     ensures { result ≡ list_any (λ e. e.line == line) (map interrupt_of interrupts.now) }
 {
     for interrupt in interrupts {
@@ -25,7 +25,7 @@ fn has_line(line: u8, interrupts: &[Interrupt]) -> bool
     false
 }
 
-fn line_twice(interrupts: &[Interrupt]) -> Option<Fault<'static>>
+fn line_twice(interrupts: &[LineSpec]) -> Option<Fault<'static>>
     ensures { option_map refusal_of result
         ≡ first_clash line_twice [] 0 (map interrupt_of interrupts.now) }
 {
@@ -37,7 +37,7 @@ fn line_twice(interrupts: &[Interrupt]) -> Option<Fault<'static>>
     None
 }
 
-fn is_placed(d: &Device) -> bool
+fn is_placed(d: &DeviceSpec) -> bool
     ensures { result ≡ is_placed (device_of d.now) }
 {
     is_size(d.size)
@@ -46,7 +46,7 @@ fn is_placed(d: &Device) -> bool
         && u64::from(d.base) + u64::from(d.size) <= 0x6000_0000
 }
 
-fn bad_device(devices: &[Device]) -> Option<Fault<'static>>
+fn bad_device(devices: &[DeviceSpec]) -> Option<Fault<'static>>
     ensures { option_map refusal_of result ≡ first_fault bad_device 0 (map device_of devices.now) }
 {
     for i in 0..devices.len() {

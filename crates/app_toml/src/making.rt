@@ -8,7 +8,7 @@ ghost use Rattle.app_toml.specs.Places.{Text};
 ghost use Rattle.app_toml.specs.Sites.{device_of, interrupt_of, region_of, task_of};
 
 use crate::app::App;
-use crate::parts::{Device, Interrupt, Parts, SharedRegion, Task};
+use crate::parts::{DeviceSpec, LineSpec, Parts, RegionSpec, TaskSpec};
 use crate::reading::app_of_parts;
 use std::alloc::{AllocError, Global};
 
@@ -32,18 +32,18 @@ impl Item for String {
     }
 }
 
-impl Item for Task {
+impl Item for TaskSpec {
     ghost Data = { TaskData };
 
     ghost said = { task_of };
 
-    fn copied(&self, alloc: Global) -> Result<Task, AllocError> {
+    fn copied(&self, alloc: Global) -> Result<TaskSpec, AllocError> {
         let name = self.name.copied(alloc)?;
         let source = self.source.copied(alloc)?;
         let notifications = copies_of(alloc, self.notifications.as_slice())?;
         let uses = copies_of(alloc, self.uses.as_slice())?;
         let reads = copies_of(alloc, self.reads.as_slice())?;
-        Ok(Task {
+        Ok(TaskSpec {
             name,
             source,
             priority: self.priority,
@@ -58,28 +58,28 @@ impl Item for Task {
     }
 }
 
-impl Item for SharedRegion {
+impl Item for RegionSpec {
     ghost Data = { RegionData };
 
     ghost said = { region_of };
 
-    fn copied(&self, alloc: Global) -> Result<SharedRegion, AllocError> {
+    fn copied(&self, alloc: Global) -> Result<RegionSpec, AllocError> {
         let name = self.name.copied(alloc)?;
-        Ok(SharedRegion {
+        Ok(RegionSpec {
             name,
             size: self.size,
         })
     }
 }
 
-impl Item for Device {
+impl Item for DeviceSpec {
     ghost Data = { DeviceData };
 
     ghost said = { device_of };
 
-    fn copied(&self, alloc: Global) -> Result<Device, AllocError> {
+    fn copied(&self, alloc: Global) -> Result<DeviceSpec, AllocError> {
         let name = self.name.copied(alloc)?;
-        Ok(Device {
+        Ok(DeviceSpec {
             name,
             base: self.base,
             size: self.size,
@@ -87,15 +87,15 @@ impl Item for Device {
     }
 }
 
-impl Item for Interrupt {
+impl Item for LineSpec {
     ghost Data = { InterruptData };
 
     ghost said = { interrupt_of };
 
-    fn copied(&self, alloc: Global) -> Result<Interrupt, AllocError> {
+    fn copied(&self, alloc: Global) -> Result<LineSpec, AllocError> {
         let task = self.task.copied(alloc)?;
         let notification = self.notification.copied(alloc)?;
-        Ok(Interrupt {
+        Ok(LineSpec {
             line: self.line,
             task,
             notification,
@@ -125,10 +125,10 @@ impl App {
         flash: u32,
         ram: u32,
         fault: &str,
-        tasks: &[Task],
-        regions: &[SharedRegion],
-        devices: &[Device],
-        interrupts: &[Interrupt],
+        tasks: &[TaskSpec],
+        regions: &[RegionSpec],
+        devices: &[DeviceSpec],
+        interrupts: &[LineSpec],
     ) -> Result<App, AllocError>
         requires { IsAccepted (tables_of flash ram fault.now tasks.now regions.now devices.now interrupts.now) }
         ensures { IfOk result (λ a. app_of a

@@ -11,7 +11,7 @@ ghost use Rattle.app_toml.specs.Relations.{IsPlaced};
 ghost use Rattle.app_toml.specs.Sites.{device_of, refusal_of};
 ghost use Rattle.app_toml.specs.Spread.{IsByBase, IsSpread};
 
-use crate::parts::Device;
+use crate::parts::DeviceSpec;
 use crate::places::{Fault, fault_at, index_place};
 use std::alloc::{AllocError, Global};
 use std::collections::BTreeMap;
@@ -32,7 +32,7 @@ fn last_below(bases: &Bases, end: u32) -> Option<(u32, u32)>
 }
 
 /// Whether a device has a byte in common with one of those that are kept.
-fn is_met(bases: &Bases, device: &Device) -> bool
+fn is_met(bases: &Bases, device: &DeviceSpec) -> bool
     requires { IsPlaced (device_of device.now) }
     ensures { (kept : List DeviceData) → IsByBase bases.now kept → IsSpread bases.now
         → result ≡ list_any (meets (device_of device.now)) kept }
@@ -44,7 +44,7 @@ fn is_met(bases: &Bases, device: &Device) -> bool
 }
 
 /// Adds a device that has no byte in common with those that are kept.
-fn keep(bases: &mut Bases, device: &Device) -> Result<(), AllocError>
+fn keep(bases: &mut Bases, device: &DeviceSpec) -> Result<(), AllocError>
     requires { IsPlaced (device_of device.now) }
     ensures by_base { OnOk result ((kept : List DeviceData) → IsByBase bases.old kept → list_any (meets (device_of device.now)) kept ≡ false
         → All IsPlaced kept → IsByBase bases.new (kept ++ device_of device.now ∷ [])) }
@@ -58,7 +58,7 @@ fn keep(bases: &mut Bases, device: &Device) -> Result<(), AllocError>
 /// The first device that has a byte in common with an earlier one.
 pub(crate) fn overlap(
     alloc: Global,
-    devices: &[Device],
+    devices: &[DeviceSpec],
 ) -> Result<Option<Fault<'static>>, AllocError>
     requires { All IsPlaced (map device_of devices.now) }
     ensures { IfOk result (λ found. option_map refusal_of found ≡ first_clash overlap [] 0 (map device_of devices.now)) }

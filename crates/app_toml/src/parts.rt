@@ -6,7 +6,7 @@ use thiserror::Error;
 /// runs from the start, `flash` and `ram` are its bytes and `stack` those of its RAM that are its
 /// stack. Notification k is bit k; `uses` and `reads` name regions and devices.
 #[derive(Debug, Drop)]
-pub struct Task {
+pub struct TaskSpec {
     pub name: String,
     pub source: String,
     pub priority: u8,
@@ -21,14 +21,14 @@ pub struct Task {
 
 /// RAM that several tasks use, and how many bytes it has.
 #[derive(Debug, Drop)]
-pub struct SharedRegion {
+pub struct RegionSpec {
     pub name: String,
     pub size: u32,
 }
 
 /// A device and its bytes.
 #[derive(Debug, Drop)]
-pub struct Device {
+pub struct DeviceSpec {
     pub name: String,
     pub base: u32,
     pub size: u32,
@@ -36,7 +36,7 @@ pub struct Device {
 
 /// An interrupt line, and the task and the notification of it that the line posts.
 #[derive(Debug, Drop)]
-pub struct Interrupt {
+pub struct LineSpec {
     pub line: u8,
     pub task: String,
     pub notification: String,
@@ -48,10 +48,10 @@ pub(crate) struct Parts {
     pub(crate) flash: u32,
     pub(crate) ram: u32,
     pub(crate) fault: String,
-    pub(crate) tasks: Vec<Task>,
-    pub(crate) regions: Vec<SharedRegion>,
-    pub(crate) devices: Vec<Device>,
-    pub(crate) interrupts: Vec<Interrupt>,
+    pub(crate) tasks: Vec<TaskSpec>,
+    pub(crate) regions: Vec<RegionSpec>,
+    pub(crate) devices: Vec<DeviceSpec>,
+    pub(crate) interrupts: Vec<LineSpec>,
 }
 
 /// Why `App::read` gives no description: the bytes are refused, or memory ran out.

@@ -7,7 +7,7 @@ ghost use Rattle.app_toml.specs.Places.{at_key, first_clash, index_site, refuse}
 ghost use Rattle.app_toml.specs.Sites.{device_of, refusal_of, region_of, task_of};
 
 use crate::known::{known_names, known_regions, learn};
-use crate::parts::{Device, Parts, SharedRegion, Task};
+use crate::parts::{DeviceSpec, Parts, RegionSpec, TaskSpec};
 use crate::places::{Fault, entry_place, fault_at, first_of, index_place, key_place};
 use crate::tasks::task_place;
 use std::alloc::{AllocError, Global};
@@ -45,7 +45,11 @@ fn named_twice(head: &'static str, i: usize) -> Option<Fault<'static>>
 }
 
 /// Of the k-th task: its notifications, then what it uses and reads together.
-fn lists_twice(alloc: Global, k: usize, task: &Task) -> Result<Option<Fault<'static>>, AllocError>
+fn lists_twice(
+    alloc: Global,
+    k: usize,
+    task: &TaskSpec,
+) -> Result<Option<Fault<'static>>, AllocError>
     ensures { IfOk result (λ found. option_map refusal_of found ≡ lists_twice k (task_of task.now)) }
 {
     let uses = task.uses.as_slice();
@@ -62,7 +66,7 @@ fn lists_twice(alloc: Global, k: usize, task: &Task) -> Result<Option<Fault<'sta
 }
 
 /// Of the tasks: each one's name, then its lists.
-fn tasks_twice(alloc: Global, tasks: &[Task]) -> Result<Option<Fault<'static>>, AllocError>
+fn tasks_twice(alloc: Global, tasks: &[TaskSpec]) -> Result<Option<Fault<'static>>, AllocError>
     ensures { IfOk result (λ found. option_map refusal_of found ≡ first_clash task_twice [] 0 (map task_of tasks.now)) }
 {
     let mut known = BTreeSet::new(alloc);
@@ -83,7 +87,7 @@ fn tasks_twice(alloc: Global, tasks: &[Task]) -> Result<Option<Fault<'static>>, 
 
 fn regions_twice(
     alloc: Global,
-    regions: &[SharedRegion],
+    regions: &[RegionSpec],
 ) -> Result<Option<Fault<'static>>, AllocError>
     ensures { IfOk result (λ found. option_map refusal_of found
         ≡ first_clash region_twice [] 0 (map region_of regions.now)) }
@@ -103,8 +107,8 @@ fn regions_twice(
 /// Of the devices, whose names stand with those of the regions.
 fn devices_twice(
     alloc: Global,
-    regions: &[SharedRegion],
-    devices: &[Device],
+    regions: &[RegionSpec],
+    devices: &[DeviceSpec],
 ) -> Result<Option<Fault<'static>>, AllocError>
     ensures { IfOk result (λ found. option_map refusal_of found
         ≡ first_clash (device_twice (map region_of regions.now)) [] 0 (map device_of devices.now)) }

@@ -10,7 +10,7 @@ ghost use Rattle.app_toml.specs.Sites.{interrupt_of, refusal_of, site_of, task_o
 
 use crate::known::{Names, TaskNames, has_bit, is_area, is_kept, kept_tasks, known_areas};
 use crate::names::is_among;
-use crate::parts::{Interrupt, Parts, Task};
+use crate::parts::{LineSpec, Parts, TaskSpec};
 use crate::places::{
     Fault, Place, entry_place, fault_at, fault_if, first_of, head_place, index_place, key_place,
 };
@@ -24,7 +24,7 @@ pub(crate) fn interrupt_place(k: usize, key: &'static str) -> Place<'static>
 }
 
 /// The first interrupt whose task there is not.
-fn unknown_owner(kept: &TaskNames, interrupts: &[Interrupt]) -> Option<Fault<'static>>
+fn unknown_owner(kept: &TaskNames, interrupts: &[LineSpec]) -> Option<Fault<'static>>
     ensures { (tasks : List TaskData) → Keeps kept.now tasks → option_map refusal_of result
         ≡ first_fault (unknown_owner tasks) 0 (map interrupt_of interrupts.now) }
 {
@@ -37,7 +37,7 @@ fn unknown_owner(kept: &TaskNames, interrupts: &[Interrupt]) -> Option<Fault<'st
 }
 
 /// The supervisor's fault notification is one of task 0, where there is one.
-fn unknown_fault_bit(fault: &str, tasks: &[Task]) -> Option<Fault<'static>>
+fn unknown_fault_bit(fault: &str, tasks: &[TaskSpec]) -> Option<Fault<'static>>
     ensures { option_map refusal_of result ≡ unknown_fault_bit fault.now (map task_of tasks.now) }
 {
     if tasks.is_empty() {
@@ -48,7 +48,7 @@ fn unknown_fault_bit(fault: &str, tasks: &[Task]) -> Option<Fault<'static>>
 }
 
 /// The first interrupt whose notification its task has not.
-fn unknown_bit(kept: &TaskNames, interrupts: &[Interrupt]) -> Option<Fault<'static>>
+fn unknown_bit(kept: &TaskNames, interrupts: &[LineSpec]) -> Option<Fault<'static>>
     ensures { (tasks : List TaskData) → Keeps kept.now tasks → option_map refusal_of result
         ≡ first_fault (unknown_bit tasks) 0 (map interrupt_of interrupts.now) }
 {
@@ -82,7 +82,7 @@ fn unknown_entry(
 }
 
 /// Of what the k-th task uses, then of what it reads.
-fn unknown_region(known: &Names, k: usize, task: &Task) -> Option<Fault<'static>>
+fn unknown_region(known: &Names, k: usize, task: &TaskSpec) -> Option<Fault<'static>>
     ensures { (regions : List RegionData) (devices : List DeviceData) → NamesAreas known.now regions devices → option_map refusal_of result
         ≡ unknown_region regions devices k (task_of task.now) }
 {
@@ -93,7 +93,7 @@ fn unknown_region(known: &Names, k: usize, task: &Task) -> Option<Fault<'static>
     unknown_entry(known, k, "reads", task.reads.as_slice())
 }
 
-fn unknown_regions(known: &Names, tasks: &[Task]) -> Option<Fault<'static>>
+fn unknown_regions(known: &Names, tasks: &[TaskSpec]) -> Option<Fault<'static>>
     ensures { (regions : List RegionData) (devices : List DeviceData) → NamesAreas known.now regions devices → option_map refusal_of result
         ≡ first_fault (unknown_region regions devices) 0 (map task_of tasks.now) }
 {

@@ -9,7 +9,7 @@ ghost use Rattle.app_toml.specs.Sites.{device_of, interrupt_of, region_of, task_
 ghost use Rattle.app_toml.specs.Values.{app_in, byte_in, device_in, each_in, flag_in, interrupt_in, items_in, members_in, number_in, region_in, table_of, task_in, text_in, text_of, texts_in, texts_of};
 
 use crate::keys::member;
-use crate::parts::{Device, Interrupt, Parts, SharedRegion, Task};
+use crate::parts::{DeviceSpec, LineSpec, Parts, RegionSpec, TaskSpec};
 use std::alloc::{AllocError, Global};
 use toml::{Table, Value};
 
@@ -127,20 +127,20 @@ trait Row: Sized {
         ensures { IfOk result (λ row. said row ≡ reading (table_view table.now)) };
 }
 
-impl Row for Task {
+impl Row for TaskSpec {
     ghost Data = { TaskData };
 
     ghost said = { task_of };
 
     ghost reading = { task_in };
 
-    fn in_table(alloc: Global, table: &Table) -> Result<Task, AllocError> {
+    fn in_table(alloc: Global, table: &Table) -> Result<TaskSpec, AllocError> {
         let name = text_in(alloc, table, "name")?;
         let source = text_in(alloc, table, "source")?;
         let notifications = texts_in(alloc, table, "notifications")?;
         let uses = texts_in(alloc, table, "uses")?;
         let reads = texts_in(alloc, table, "reads")?;
-        Ok(Task {
+        Ok(TaskSpec {
             name,
             source,
             priority: byte_in(table, "priority"),
@@ -155,32 +155,32 @@ impl Row for Task {
     }
 }
 
-impl Row for SharedRegion {
+impl Row for RegionSpec {
     ghost Data = { RegionData };
 
     ghost said = { region_of };
 
     ghost reading = { region_in };
 
-    fn in_table(alloc: Global, table: &Table) -> Result<SharedRegion, AllocError> {
+    fn in_table(alloc: Global, table: &Table) -> Result<RegionSpec, AllocError> {
         let name = text_in(alloc, table, "name")?;
-        Ok(SharedRegion {
+        Ok(RegionSpec {
             name,
             size: number_in(table, "size"),
         })
     }
 }
 
-impl Row for Device {
+impl Row for DeviceSpec {
     ghost Data = { DeviceData };
 
     ghost said = { device_of };
 
     ghost reading = { device_in };
 
-    fn in_table(alloc: Global, table: &Table) -> Result<Device, AllocError> {
+    fn in_table(alloc: Global, table: &Table) -> Result<DeviceSpec, AllocError> {
         let name = text_in(alloc, table, "name")?;
-        Ok(Device {
+        Ok(DeviceSpec {
             name,
             base: number_in(table, "base"),
             size: number_in(table, "size"),
@@ -188,17 +188,17 @@ impl Row for Device {
     }
 }
 
-impl Row for Interrupt {
+impl Row for LineSpec {
     ghost Data = { InterruptData };
 
     ghost said = { interrupt_of };
 
     ghost reading = { interrupt_in };
 
-    fn in_table(alloc: Global, table: &Table) -> Result<Interrupt, AllocError> {
+    fn in_table(alloc: Global, table: &Table) -> Result<LineSpec, AllocError> {
         let task = text_in(alloc, table, "task")?;
         let notification = text_in(alloc, table, "notification")?;
-        Ok(Interrupt {
+        Ok(LineSpec {
             line: byte_in(table, "line"),
             task,
             notification,

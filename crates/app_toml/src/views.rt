@@ -7,7 +7,7 @@ ghost use Rattle.app_toml.specs.Relations.{Relations};
 ghost use Rattle.app_toml.specs.Sites.{device_of, interrupt_of, region_of, task_of};
 
 use crate::app::App;
-use crate::parts::{Device, Interrupt, SharedRegion, Task};
+use crate::parts::{DeviceSpec, LineSpec, RegionSpec, TaskSpec};
 
 impl App {
     /// How many bytes of flash the board has.
@@ -32,25 +32,25 @@ impl App {
     }
 
     /// The tasks, of which the first is the supervisor.
-    pub fn tasks(&self) -> &[Task]
+    pub fn tasks(&self) -> &[TaskSpec]
         ensures { map task_of result.now ≡ (app_of self.now).tasks }
     {
         self.tasks.as_slice()
     }
 
-    pub fn regions(&self) -> &[SharedRegion]
+    pub fn regions(&self) -> &[RegionSpec]
         ensures { map region_of result.now ≡ (app_of self.now).regions }
     {
         self.regions.as_slice()
     }
 
-    pub fn devices(&self) -> &[Device]
+    pub fn devices(&self) -> &[DeviceSpec]
         ensures { map device_of result.now ≡ (app_of self.now).devices }
     {
         self.devices.as_slice()
     }
 
-    pub fn interrupts(&self) -> &[Interrupt]
+    pub fn interrupts(&self) -> &[LineSpec]
         ensures { map interrupt_of result.now ≡ (app_of self.now).interrupts }
     {
         self.interrupts.as_slice()

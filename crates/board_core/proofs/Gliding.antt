@@ -9,7 +9,7 @@ use Rattle.task_table.specs.Start.{begun}
 use Rattle.board_core.specs.declared.board.Board.{Board}
 use Rattle.board_core.specs.declared.machine.Machine.{Machine}
 use Rattle.board_model.specs.declared.outcomes.Level.{Level}
-use Rattle.board_model.specs.declared.outcomes.Level.TheVariants.{Brief}
+use Rattle.board_model.specs.declared.outcomes.Level.TheVariants.{Calls}
 use Rattle.board_model.specs.Script.{Scenario}
 use Rattle.board_core.specs.Kept.{IsChoice}
 use Rattle.board_core.specs.Machine.{MachineHolds, MachineStands, IsReady}
@@ -54,22 +54,22 @@ midway_now x s b st none ne few =
     }
 
 -- the board after a turn in which nothing was due and that noted nothing
-pub stands_so : (x : Scenario) (s : State) (b : Board) (m : Machine) (n : ℕ) → Stands x b s → IsMidway x b s → HasTurned Brief x s m → kernel_notes m.reach.kernel ≡ [] → n ≡ turns_of b + 1 →
-    Stands x record b { machine = m; turns = n } (turn Brief x s).state
+pub stands_so : (x : Scenario) (s : State) (b : Board) (m : Machine) (n : ℕ) → Stands x b s → IsMidway x b s → HasTurned Calls x s m → kernel_notes m.reach.kernel ≡ [] → n ≡ turns_of b + 1 →
+    Stands x record b { machine = m; turns = n } (turn Calls x s).state
 stands_so x s b m n st mid h none more =
-    let after = stands_after Brief x s m st.sane h in
-    let next = turn_more Brief x s st.sane in
+    let after = stands_after Calls x s m st.sane h in
+    let next = turn_more Calls x s st.sane in
     let N : ℕ → Type 0 = λ from. IsNext x.script from b.due in
     record {
       holds = record {
         machine = after.holds;
         turns = let a = st.holds.turns in omega (arith, next, a, more);
-        choice = choice_kept Brief x s m b.choice st.sane h mid.choice none;
+        choice = choice_kept Calls x s m b.choice st.sane h mid.choice none;
         script = mid.script;
         due = subst N (sym next) mid.due;
       };
       sane = after.sane;
-      counted = counted_turn Brief x s st.sane (few_events x s b st) st.counted;
+      counted = counted_turn Calls x s st.sane (few_events x s b st) st.counted;
     }
 
 -- ## several turns
@@ -86,10 +86,10 @@ none_made x s b st =
     subst (λ (n : ℕ). HasGlidden x s n b) e record { stands = st; nothing = λ k lt. absurd (omega arith); goes_on = λ k lt. absurd (omega arith); notes = λ lt. absurd (omega arith) }
 
 -- turns none of which noted anything, and one more
-pub one_more : (x : Scenario) (n : ℕ) (s : State) (b b' : Board) → HasGlidden x s n b → ((u : State) → Stands x b u → Stands x b' (turn Brief x u).state) → ((u : State) → Stands x b u → notes_of b' ≡ (turn Brief x u).notes) → IsAdvanced Brief x n s b'
+pub one_more : (x : Scenario) (n : ℕ) (s : State) (b b' : Board) → HasGlidden x s n b → ((u : State) → Stands x b u → Stands x b' (turn Calls x u).state) → ((u : State) → Stands x b u → notes_of b' ≡ (turn Calls x u).notes) → IsAdvanced Calls x n s b'
 one_more x n s b b' h stands notes =
-    let u : State = state_after Brief x n s in
-    let last : turn Brief x u ≡ turn_after Brief x n s = sym (last_turn Brief x n s) in
+    let u : State = state_after Calls x n s in
+    let last : turn Calls x u ≡ turn_after Calls x n s = sym (last_turn Calls x n s) in
     record {
       nothing = h.nothing;
       goes_on = h.goes_on;
@@ -98,7 +98,7 @@ one_more x n s b b' h stands notes =
     }
 
 -- the last of them is the one more
-pub all_made : (x : Scenario) (n : ℕ) (s : State) (b : Board) → HasGlidden x s (suc n) b → IsAdvanced Brief x n s b
+pub all_made : (x : Scenario) (n : ℕ) (s : State) (b : Board) → HasGlidden x s (suc n) b → IsAdvanced Calls x n s b
 unfolding state_after
 all_made x n s b h =
     record {
@@ -126,22 +126,22 @@ either (suc n) (suc j) = by (either n j)
     by (inr (i, e)) = inr (i, omega (arith, e))
 
 -- turns after turns, of which the last one of the first noted nothing and is no end
-pub joined : (x : Scenario) (n m : ℕ) (s : State) (b b' : Board) → IsAdvanced Brief x n s b → notes_of b ≡ [] → ending x 1 (turn_after Brief x n s).state ≡ None → IsAdvanced Brief x m (turn_after Brief x n s).state b' → IsAdvanced Brief x (n + suc m) s b'
+pub joined : (x : Scenario) (n m : ℕ) (s : State) (b b' : Board) → IsAdvanced Calls x n s b → notes_of b ≡ [] → ending x 1 (turn_after Calls x n s).state ≡ None → IsAdvanced Calls x m (turn_after Calls x n s).state b' → IsAdvanced Calls x (n + suc m) s b'
 joined x n m s b b' a none goes more =
     record {
       nothing = λ j lt. nothing_at j lt (either (suc n) j);
       goes_on = λ j lt. goes_at j lt (either (suc n) j);
-      stands = subst (λ (t : Turn). Stands x b' t.state) (turn_further Brief x n m s) more.stands;
-      notes = more.notes ∙ ap (λ (t : Turn). t.notes) (turn_further Brief x n m s);
+      stands = subst (λ (t : Turn). Stands x b' t.state) (turn_further Calls x n m s) more.stands;
+      notes = more.notes ∙ ap (λ (t : Turn). t.notes) (turn_further Calls x n m s);
     }
   where
-    later : (i j : ℕ) → j ≡ suc n + i → turn_after Brief x j s ≡ turn_after Brief x i (turn_after Brief x n s).state
-    later i j e = let same : j ≡ n + suc i = omega (arith, e) in ap (λ (k : ℕ). turn_after Brief x k s) same ∙ sym (turn_further Brief x n i s)
+    later : (i j : ℕ) → j ≡ suc n + i → turn_after Calls x j s ≡ turn_after Calls x i (turn_after Calls x n s).state
+    later i j e = let same : j ≡ n + suc i = omega (arith, e) in ap (λ (k : ℕ). turn_after Calls x k s) same ∙ sym (turn_further Calls x n i s)
 
-    nothing_at : (j : ℕ) → j < n + suc m → (j < suc n) ⊎ ((i : ℕ) × (j ≡ suc n + i)) → (turn_after Brief x j s).notes ≡ []
-    nothing_at j lt (inl less) = below_or (λ k. (turn_after Brief x k s).notes ≡ []) n j a.nothing (sym a.notes ∙ none) less
+    nothing_at : (j : ℕ) → j < n + suc m → (j < suc n) ⊎ ((i : ℕ) × (j ≡ suc n + i)) → (turn_after Calls x j s).notes ≡ []
+    nothing_at j lt (inl less) = below_or (λ k. (turn_after Calls x k s).notes ≡ []) n j a.nothing (sym a.notes ∙ none) less
     nothing_at j lt (inr (i, e)) = ap (λ (t : Turn). t.notes) (later i j e) ∙ more.nothing i (omega (arith, lt, e))
 
-    goes_at : (j : ℕ) → j < n + suc m → (j < suc n) ⊎ ((i : ℕ) × (j ≡ suc n + i)) → ending x 1 (turn_after Brief x j s).state ≡ None
-    goes_at j lt (inl less) = below_or (λ k. ending x 1 (turn_after Brief x k s).state ≡ None) n j a.goes_on goes less
+    goes_at : (j : ℕ) → j < n + suc m → (j < suc n) ⊎ ((i : ℕ) × (j ≡ suc n + i)) → ending x 1 (turn_after Calls x j s).state ≡ None
+    goes_at j lt (inl less) = below_or (λ k. ending x 1 (turn_after Calls x k s).state ≡ None) n j a.goes_on goes less
     goes_at j lt (inr (i, e)) = ap (λ (t : Turn). ending x 1 t.state) (later i j e) ∙ more.goes_on i (omega (arith, lt, e))

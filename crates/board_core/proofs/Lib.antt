@@ -3,7 +3,7 @@ pub mod WindowTurns
 pub mod Running
 pub mod Opens
 pub mod Loading
-pub mod Views
+pub mod Viewing
 pub mod Turning
 pub mod Gliding
 pub mod Skipping

@@ -12,7 +12,7 @@ use Rattle.task_table.proofs.Sanity.{sane-noted}
 use Rattle.task_table.proofs.StepKeeps.{sane-syscall_noted}
 use Rattle.board_core.specs.declared.machine.Machine.{Machine}
 use Rattle.board_model.specs.declared.outcomes.Level.{Level}
-use Rattle.board_model.specs.declared.outcomes.Level.TheVariants.{Brief, All}
+use Rattle.board_model.specs.declared.outcomes.Level.TheVariants.{Calls, All}
 use Rattle.board_core.specs.Machine.{with_cpu, IsLoaded, IsReady}
 use Rattle.board_model.specs.Turn.{noted_at, with_registers_noted, high_note, low_note}
 use Rattle.board_core.proofs.Loading.{rest_of, loaded_noted}
@@ -78,6 +78,6 @@ pub registers_noted : (c : ℕ) (t : Turn) → noted (high_note (task_at t.state
 unfolding with_registers_noted
 registers_noted c t = refl
 
-pub no_registers_noted : (c : ℕ) (t : Turn) → t ≡ with_registers_noted Brief c t
+pub no_registers_noted : (c : ℕ) (t : Turn) → t ≡ with_registers_noted Calls c t
 unfolding with_registers_noted
 no_registers_noted c t = refl

@@ -15,13 +15,13 @@ use Rattle.task_table.specs.Start.{start}
 use Rattle.task_table.specs.Parts.{IsSound, setup_of_parts, task_setup, line_setup}
 use Rattle.task_table.specs.declared.start.TaskStart.{TaskStart}
 use Rattle.task_table.specs.declared.start.LineStart.{LineStart}
-use Rattle.task_table.specs.Lendable.{AreLendable}
+use Rattle.task_table.specs.Openable.{AreOpenable}
 use Rattle.board_core.specs.Regions.{ArePlaces, HavePlaces}
-use Rattle.board_core.specs.Opened.{setup_of, setup_of_task, setup_of_line}
+use Rattle.board_core.specs.Opened.{setup_of_image, setup_of_task, setup_of_line}
 
 -- the setup that the parts spell is the image's
 pub parts_are : (p : Picture) (m : Memory) (bits : ℕ) (ts : List TaskStart) (ls : List LineStart) → m ≡ record { flash = p.flash; ram = replicate p.ram 0 } → bits ≡ p.fault_bits →
-    map task_setup ts ≡ map setup_of_task p.tasks → map line_setup ls ≡ map setup_of_line p.lines → setup_of_parts m bits ts ls ≡ setup_of p
+    map task_setup ts ≡ map setup_of_task p.tasks → map line_setup ls ≡ map setup_of_line p.lines → setup_of_parts m bits ts ls ≡ setup_of_image p
 parts_are p m bits ts ls memory faults tasks lines =
     let of : Memory → ℕ → List TaskSetup → List LineSetup → Setup = λ m b t l. record { tasks = t; lines = l; fault_bits = b; flash = m.flash; ram = length m.ram; line_count = board_lines } in
     let zeros : Memory = record { flash = p.flash; ram = replicate p.ram 0 } in
@@ -37,7 +37,7 @@ map_at f [] i d = refl
 map_at f (x ∷ xs) zero d = refl
 map_at f (x ∷ xs) (suc i) d = map_at f xs i d
 
-pub setup_is : (p : Picture) (i : ℕ) → setup_at (setup_of p) i ≡ setup_of_task (task_in p i)
+pub setup_is : (p : Picture) (i : ℕ) → setup_at (setup_of_image p) i ≡ setup_of_task (task_in p i)
 setup_is p i = map_at setup_of_task p.tasks i no_task
 
 -- each line of the setup has an owner
@@ -50,7 +50,7 @@ owned (x ∷ xs) n all o (zero, lt, same) =
     omega arith
 owned (x ∷ xs) n all o (suc i, lt, same) = owned xs n (λ k below. all (suc k) (omega arith)) o (i, omega arith, same)
 
-regions_here : (p : Picture) (i : ℕ) (r : Region) → Contains (setup_at (setup_of p) i).regions r → Contains (regions_in p i) r
+regions_here : (p : Picture) (i : ℕ) (r : Region) → Contains (setup_at (setup_of_image p) i).regions r → Contains (regions_in p i) r
 regions_here p i r h = rw (setup_is p i) at h
 
 same_pair : (x y : ℕ × ℕ) → x.0 ≡ y.0 → x.1 ≡ y.1 → x ≡ y
@@ -155,12 +155,12 @@ task_there (x ∷ xs) t (zero, lt, same) = (zero, omega arith, same)
 task_there (x ∷ xs) t (suc i, lt, same) = let rest = task_there xs t (i, omega arith, same) in (suc rest.0, omega (arith, rest.1), rest.2)
 
 -- the regions of the tasks that are no device were given to the memory
-pub lendable : (p : Picture) (xs : List (ℕ × ℕ)) (ts : List TaskStart) → HavePlaces p (length p.tasks) xs → map task_setup ts ≡ map setup_of_task p.tasks → AreLendable xs (map task_setup ts)
-lendable p xs ts have same task r has here none =
+pub openable : (p : Picture) (xs : List (ℕ × ℕ)) (ts : List TaskStart) → HavePlaces p (length p.tasks) xs → map task_setup ts ≡ map setup_of_task p.tasks → AreOpenable xs (map task_setup ts)
+openable p xs ts have same task r has here none =
     let there = task_there p.tasks task (subst (λ (zs : List TaskSetup). Contains zs task) same has) in
     have there.0 r there.1 (subst (λ (x : TaskSetup). Contains x.regions r) (sym there.2) here) none
 
-pub sound_setup : (p : Picture) → Facts p → AreAllBytes p.flash → IsSound (setup_of p)
+pub sound_setup : (p : Picture) → Facts p → AreAllBytes p.flash → IsSound (setup_of_image p)
 unfolding start
 sound_setup p f bytes =
     let zeros : List ℕ = replicate p.ram 0 in

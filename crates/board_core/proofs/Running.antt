@@ -55,17 +55,17 @@ pub record WasNext (c' : Cpu) (m m' : Reach) (e : Effect) : Type 0 where
 
 pub was_next : (c c' : Cpu) (m m' : Reach) (o : Outcome) (e : Effect) → Acts stored_by c c' m m' o e → o ≡ outcome.Next → WasNext c' m m' e
 was_next c c' m m' o (Next d ss) a p = record { processor = d; stores = ss; is = refl; after = a.1; bus = a.2 }
-was_next c c' m m' o Syscall a p = absurd (let q : o ≡ outcome.Syscall = a.0 in cc)
+was_next c c' m m' o Syscall a p = absurd (let q : o ≡ outcome.Call = a.0 in cc)
 was_next c c' m m' o (Trap f) a p = absurd (let q : o ≡ outcome.Trap f = a.0 in cc)
 
-pub was_syscall : (c c' : Cpu) (m m' : Reach) (o : Outcome) (e : Effect) → Acts stored_by c c' m m' o e → o ≡ outcome.Syscall → (e ≡ Syscall) × (m' ≡ m) × (c' ≡ c)
+pub was_syscall : (c c' : Cpu) (m m' : Reach) (o : Outcome) (e : Effect) → Acts stored_by c c' m m' o e → o ≡ outcome.Call → (e ≡ Syscall) × (m' ≡ m) × (c' ≡ c)
 was_syscall c c' m m' o (Next d ss) a p = absurd (let q : o ≡ outcome.Next = a.0 in cc)
 was_syscall c c' m m' o Syscall a p = (refl, a.2, a.1)
 was_syscall c c' m m' o (Trap f) a p = absurd (let q : o ≡ outcome.Trap f = a.0 in cc)
 
 pub was_trap : (c c' : Cpu) (m m' : Reach) (o : Outcome) (e : Effect) (f : Fault) → Acts stored_by c c' m m' o e → o ≡ outcome.Trap f → (e ≡ Trap f) × (m' ≡ m) × (c' ≡ c)
 was_trap c c' m m' o (Next d ss) f a p = absurd (let q : o ≡ outcome.Next = a.0 in cc)
-was_trap c c' m m' o Syscall f a p = absurd (let q : o ≡ outcome.Syscall = a.0 in cc)
+was_trap c c' m m' o Syscall f a p = absurd (let q : o ≡ outcome.Call = a.0 in cc)
 was_trap c c' m m' o (Trap d) f a p = (let q : o ≡ outcome.Trap d = a.0 in let r : d ≡ f = cc in ap Trap r, a.2, a.1)
 
 -- ## the turn

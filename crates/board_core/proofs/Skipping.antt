@@ -11,7 +11,7 @@ use Rattle.task_table.specs.Holds.{notes_of as kernel_notes}
 use Rattle.task_table.specs.Start.{begun}
 use Rattle.board_core.specs.declared.board.Board.{Board}
 use Rattle.board_core.specs.declared.machine.Machine.{Machine}
-use Rattle.board_model.specs.declared.outcomes.Level.TheVariants.{Brief}
+use Rattle.board_model.specs.declared.outcomes.Level.TheVariants.{Calls}
 use Rattle.board_model.specs.Script.{Scenario}
 use Rattle.board_model.specs.Turn.{turn, turn_of, ended, after_events}
 use Rattle.board_model.specs.Run.{ending, is_down, turn_after, state_after}
@@ -37,7 +37,7 @@ down_at : (s : State) (n : ℕ) → is_down (at s n) ≡ is_down s
 unfolding task_at at
 down_at s n = refl
 
-idle_turn : (x : Scenario) (s : State) → chosen x.setup s ≡ None → events_of x.script s.turn ≡ [] → ((turn Brief x s).state ≡ at s (s.turn + 1)) × ((turn Brief x s).notes ≡ [])
+idle_turn : (x : Scenario) (s : State) → chosen x.setup s ≡ None → events_of x.script s.turn ≡ [] → ((turn Calls x s).state ≡ at s (s.turn + 1)) × ((turn Calls x s).notes ≡ [])
 unfolding turn ended begun at
 idle_turn x s none nothing =
     let e : after_events x s ≡ begun s = sym (no_event x s nothing) in
@@ -46,55 +46,55 @@ idle_turn x s none nothing =
 -- ## idle turns on end
 
 module _ (x : Scenario) (s : State) (to : ℕ) (idle : IsIdleUntil x s to) where
-  states : (k : ℕ) → s.turn + k ≤ to → state_after Brief x k s ≡ at s (s.turn + k)
+  states : (k : ℕ) → s.turn + k ≤ to → state_after Calls x k s ≡ at s (s.turn + k)
   unfolding state_after at
   states zero le = let e : s.turn ≡ s.turn + 0 = omega arith in ap (at s) e
   states (suc k) le =
       let same = states k (omega (arith, le)) in
       let one = idle_turn x (at s (s.turn + k)) (chosen_at x s (s.turn + k) ∙ idle.none) (idle.nothing (s.turn + k) (omega arith) (omega (arith, le))) in
       let e : s.turn + k + 1 ≡ s.turn + suc k = omega arith in
-      ap (λ (t : Turn). t.state) (last_turn Brief x k s) ∙ ap (λ (u : State). (turn Brief x u).state) same ∙ one.0 ∙ ap (at s) e
+      ap (λ (t : Turn). t.state) (last_turn Calls x k s) ∙ ap (λ (u : State). (turn Calls x u).state) same ∙ one.0 ∙ ap (at s) e
 
-  pub turn_then : (k : ℕ) → s.turn + k ≤ to → (state_after Brief x k s).turn ≡ s.turn + k
+  pub turn_then : (k : ℕ) → s.turn + k ≤ to → (state_after Calls x k s).turn ≡ s.turn + k
   unfolding at
   turn_then k le = ap (λ (u : State). u.turn) (states k le)
 
-  pub none_then : (k : ℕ) → s.turn + k ≤ to → chosen x.setup (state_after Brief x k s) ≡ None
+  pub none_then : (k : ℕ) → s.turn + k ≤ to → chosen x.setup (state_after Calls x k s) ≡ None
   none_then k le = ap (chosen x.setup) (states k le) ∙ chosen_at x s (s.turn + k) ∙ idle.none
 
-  pub silent_then : (k : ℕ) → s.turn + k < to → (turn_after Brief x k s).notes ≡ []
+  pub silent_then : (k : ℕ) → s.turn + k < to → (turn_after Calls x k s).notes ≡ []
   unfolding at
   silent_then k lt =
       let one = idle_turn x (at s (s.turn + k)) (chosen_at x s (s.turn + k) ∙ idle.none) (idle.nothing (s.turn + k) (omega arith) lt) in
-      ap (λ (t : Turn). t.notes) (last_turn Brief x k s) ∙ ap (λ (u : State). (turn Brief x u).notes) (states k (omega (arith, lt))) ∙ one.1
+      ap (λ (t : Turn). t.notes) (last_turn Calls x k s) ∙ ap (λ (u : State). (turn Calls x u).notes) (states k (omega (arith, lt))) ∙ one.1
 
-  pub goes_then : (k : ℕ) → s.turn + k ≤ to → lasts x.script (s.turn + k) ≡ true → ending x 1 (state_after Brief x k s) ≡ None
+  pub goes_then : (k : ℕ) → s.turn + k ≤ to → lasts x.script (s.turn + k) ≡ true → ending x 1 (state_after Calls x k s) ≡ None
   unfolding ending
   goes_then k le more =
-      let down : is_down (state_after Brief x k s) ≡ false = ap is_down (states k le) ∙ down_at s (s.turn + k) ∙ idle.up in
-      let on : lasts x.script (state_after Brief x k s).turn ≡ true = ap (lasts x.script) (turn_then k le) ∙ more in
+      let down : is_down (state_after Calls x k s) ≡ false = ap is_down (states k le) ∙ down_at s (s.turn + k) ∙ idle.up in
+      let on : lasts x.script (state_after Calls x k s).turn ≡ true = ap (lasts x.script) (turn_then k le) ∙ more in
       rw (down, none_then k le, on) refl
 
 -- ## the board over them
 
 -- a board that has no task to run, after one idle turn
-idle_board : (x : Scenario) (s : State) (b : Board) → Stands x b s → notes_of b ≡ [] → b.choice.next ≡ None → b.due ≢ Some (turns_of b) → turns_of b < 1000000000 → Stands x record b { turns = turns_of b + 1 } (turn Brief x s).state
+idle_board : (x : Scenario) (s : State) (b : Board) → Stands x b s → notes_of b ≡ [] → b.choice.next ≡ None → b.due ≢ Some (turns_of b) → turns_of b < 1000000000 → Stands x record b { turns = turns_of b + 1 } (turn Calls x s).state
 idle_board x s b st quiet none ne few =
     let mid = midway_now x s b st quiet ne few in
-    let P : Option ℕ → Type 0 = λ o. MachineHolds x.setup b.machine (turn_of Brief x.setup o (after_events x s)) in
-    let h : HasTurned Brief x s b.machine = as_chosen Brief x s b.machine b.choice mid.choice (subst P (sym none) mid.machine.holds) in
+    let P : Option ℕ → Type 0 = λ o. MachineHolds x.setup b.machine (turn_of Calls x.setup o (after_events x s)) in
+    let h : HasTurned Calls x s b.machine = as_chosen Calls x s b.machine b.choice mid.choice (subst P (sym none) mid.machine.holds) in
     stands_so x s b b.machine (turns_of b + 1) st mid h quiet refl
 
 pub skipped : (x : Scenario) (s : State) (b : Board) (k : ℕ) → Stands x b s → notes_of b ≡ [] → b.choice.next ≡ None → ((turn : ℕ) → turn < turns_of b + k → b.due ≡ Some turn → ⊥) → turns_of b + k ≤ 1000000000 →
-    Stands x record b { turns = turns_of b + k } (state_after Brief x k s)
+    Stands x record b { turns = turns_of b + k } (state_after Calls x k s)
 unfolding state_after
 skipped x s b zero st quiet none later few = let e : turns_of b ≡ turns_of b + 0 = omega arith in subst (λ (n : ℕ). Stands x record b { turns = n } s) e st
 skipped x s b (suc k) st quiet none later few =
-    let u : State = state_after Brief x k s in
+    let u : State = state_after Calls x k s in
     let before = skipped x s b k st quiet none (λ n lt. later n (omega (arith, lt))) (omega (arith, few)) in
     let one = idle_board x u record b { turns = turns_of b + k } before quiet none (later (turns_of b + k) (omega arith)) (omega (arith, few)) in
     let e : turns_of b + k + 1 ≡ turns_of b + suc k = omega arith in
-    subst (λ (v : State). Stands x record b { turns = turns_of b + suc k } v) (sym (ap (λ (t : Turn). t.state) (last_turn Brief x k s))) (subst (λ (n : ℕ). Stands x record b { turns = n } (turn Brief x u).state) e one)
+    subst (λ (v : State). Stands x record b { turns = turns_of b + suc k } v) (sym (ap (λ (t : Turn). t.state) (last_turn Calls x k s))) (subst (λ (n : ℕ). Stands x record b { turns = n } (turn Calls x u).state) e one)
 
 -- a board whose turn has begun notes nothing, and stands for the same states
 pub quiet_begun : (x : Scenario) (s : State) (m : Machine) → MachineHolds x.setup m (begun s) → kernel_notes m.reach.kernel ≡ []
@@ -139,7 +139,7 @@ lasts_from script from to le more = by_every (is_some script.every) refl
     by_every true is = rw is refl
     by_every false is = rw is (any_from script.events from to le (rw is at more))
 
-pub idle_made : (x : Scenario) (s : State) (to : ℕ) (b : Board) → IsIdleUntil x s to → s.turn ≤ to → lasts x.script to ≡ true → Stands x b (state_after Brief x (to - s.turn) s) → notes_of b ≡ [] → HasGlidden x s (to - s.turn) b
+pub idle_made : (x : Scenario) (s : State) (to : ℕ) (b : Board) → IsIdleUntil x s to → s.turn ≤ to → lasts x.script to ≡ true → Stands x b (state_after Calls x (to - s.turn) s) → notes_of b ≡ [] → HasGlidden x s (to - s.turn) b
 unfolding state_after
 idle_made x s to b idle from more st none =
     record {

@@ -23,7 +23,7 @@ use Rattle.task_table.specs.Effects.{with_task, with_processor, stored}
 use Rattle.task_table.specs.Start.{begun}
 use Rattle.task_table.specs.Sane.{Sane, IsCounted}
 use Rattle.task_table.proofs.Changes.{task_at-with_task}
-use Rattle.board_model.specs.declared.outcomes.Level.TheVariants.{Brief}
+use Rattle.board_model.specs.declared.outcomes.Level.TheVariants.{Calls}
 use Rattle.board_model.specs.Script.{Scenario}
 use Rattle.board_model.specs.Turn.{refusals, cpu_of, put, acted, stepped_by, stepped, after_events, with_registers_noted, turn_of, ended, turn}
 use Rattle.board_model.specs.Run.{is_down, turn_after, state_after}
@@ -34,14 +34,14 @@ use Rattle.board_model.proofs.Quiet.{quiet-turn}
 use Rattle.board_model.proofs.Counts.{counted_turn}
 use Rattle.board_model.proofs.Further.{last_turn}
 use Rattle.board_core.specs.Windowed.{IsWindow, later, AreTurns}
-use Rattle.mem_banks.specs.Loans.{IsInRam}
+use Rattle.mem_banks.specs.Windows.{IsInRam}
 use Rattle.mem_banks.proofs.Windows.{written_inside, written_same, region_written, same_ram_length, same_flash_length, bytes_below}
 use Rattle.board_core.proofs.WindowCovers.{inside, widens}
 
 -- ## the instruction of the turn
 
 -- carried out, what was fetched is its effect
-carried_next : (g : Setup) (c : ℕ) (t : Turn) (at : ℕ) (d : Cpu) (ss : List Store) (r : Result Fetched Fault) → executed_by (refusals g c) (number_at t.state.memory) (cpu_of (task_at t.state c)) r ≡ Next d ss → stepped_by Brief g c at r t ≡ acted g c (Next d ss) t
+carried_next : (g : Setup) (c : ℕ) (t : Turn) (at : ℕ) (d : Cpu) (ss : List Store) (r : Result Fetched Fault) → executed_by (refusals g c) (number_at t.state.memory) (cpu_of (task_at t.state c)) r ≡ Next d ss → stepped_by Calls g c at r t ≡ acted g c (Next d ss) t
 carried_next g c t at d ss (Ok f) e = ap (λ (x : Effect). acted g c x t) e
 carried_next g c t at d ss (Err fault) e = absurd cc
 
@@ -49,7 +49,7 @@ module _ (g : Setup) (c : ℕ) (t : Turn) (v w : View) (d : Cpu) (window : IsWin
   wide : step_effect (refusals g c) (number_at t.state.memory) (cpu_of (task_at t.state c)) ≡ Next d on.stores
   wide = step_wider (refused_by v) (refusals g c) (held_by v) (number_at t.state.memory) (widens g c t.state.memory v window) (cpu_of (task_at t.state c)) d on.stores on.effect
 
-  pub stepped_next : stepped Brief g c t ≡ acted g c (Next d on.stores) t
+  pub stepped_next : stepped Calls g c t ≡ acted g c (Next d on.stores) t
   unfolding stepped register
   stepped_next =
       let at : ℕ = reg_at (cpu_of (task_at t.state c)).regs 15 in
@@ -140,17 +140,17 @@ window_again g c m v w h same =
 
 -- the turn of a task that goes on within its window
 pub record IsGone (x : Scenario) (s : State) (c : ℕ) (v w : View) (d : Cpu) : Type 0 where
-  pub state : (turn Brief x s).state ≡ later s c d (with_bytes s.memory v.ram_base w.ram) 1
-  pub notes : (turn Brief x s).notes ≡ []
+  pub state : (turn Calls x s).state ≡ later s c d (with_bytes s.memory v.ram_base w.ram) 1
+  pub notes : (turn Calls x s).notes ≡ []
   pub same : Keeps v w
 
-plain_turn : (x : Scenario) (s : State) (c : ℕ) → chosen x.setup s ≡ Some c → s.current ≡ c → events_of x.script s.turn ≡ [] → turn Brief x s ≡ ended (stepped Brief x.setup c (begun s))
+plain_turn : (x : Scenario) (s : State) (c : ℕ) → chosen x.setup s ≡ Some c → s.current ≡ c → events_of x.script s.turn ≡ [] → turn Calls x s ≡ ended (stepped Calls x.setup c (begun s))
 unfolding turn begun with_registers_noted
 plain_turn x s c is current nothing =
     let e : after_events x s ≡ begun s = sym (no_event x s nothing) in
-    let P : Turn → Turn = λ t. ended (turn_of Brief x.setup (chosen x.setup t.state) t) in
-    let Q : Option ℕ → Turn = λ o. ended (turn_of Brief x.setup o (begun s)) in
-    let R : ℕ → Turn = λ i. ended (stepped Brief x.setup c record (begun s) { state = record s { current = i } }) in
+    let P : Turn → Turn = λ t. ended (turn_of Calls x.setup (chosen x.setup t.state) t) in
+    let Q : Option ℕ → Turn = λ o. ended (turn_of Calls x.setup o (begun s)) in
+    let R : ℕ → Turn = λ i. ended (stepped Calls x.setup c record (begun s) { state = record s { current = i } }) in
     ap P e ∙ ap Q is ∙ ap R (sym current)
 
 acted_state : (g : Setup) (c : ℕ) (s : State) (d : Cpu) (ss : List Store) (m : Memory) → (fold put (begun s) ss).state.memory ≡ m → (ended (acted g c (Next d ss) (begun s))).state ≡ later s c d m 1
@@ -172,7 +172,7 @@ pub one_turn : (x : Scenario) (s : State) (c : ℕ) (v w : View) (d : Cpu) → c
 unfolding begun
 one_turn x s c v w d is current nothing window on =
     let g : Setup = x.setup in
-    let whole : turn Brief x s ≡ ended (acted g c (Next d on.stores) (begun s)) = plain_turn x s c is current nothing ∙ ap ended (stepped_next g c (begun s) v w d window on) in
+    let whole : turn Calls x s ≡ ended (acted g c (Next d on.stores) (begun s)) = plain_turn x s c is current nothing ∙ ap ended (stepped_next g c (begun s) v w d window on) in
     let own : s.memory ≡ with_bytes s.memory v.ram_base v.ram = sym (ap (with_bytes s.memory v.ram_base) (sym window.ram) ∙ written_same s.memory v.ram_base (length v.ram) window.in_ram) in
     let put = stores_put s.memory on.stores v (begun s) window.in_ram.0 window.in_ram.1 own on.inside in
     record {
@@ -209,26 +209,26 @@ unmoved s c = ap (λ (xs : List Task). record s { tasks = xs }) (sym (set-get_or
 
 -- the state after n of them
 pub record HasGone (x : Scenario) (s : State) (c : ℕ) (v : View) (n : ℕ) (w : View) (d : Cpu) : Type 0 where
-  pub state : state_after Brief x n s ≡ later s c d (with_bytes s.memory v.ram_base w.ram) n
+  pub state : state_after Calls x n s ≡ later s c d (with_bytes s.memory v.ram_base w.ram) n
   pub keeps : Keeps v w
-  pub sane : Sane x.setup (state_after Brief x n s)
-  pub chosen : chosen x.setup (state_after Brief x n s) ≡ Some c
-  pub down : is_down (state_after Brief x n s) ≡ is_down s
-  pub ready : (i : ℕ) → is_ready (state_after Brief x n s) i ≡ is_ready s i
-  pub counted : IsCounted s → IsCounted (state_after Brief x n s)
+  pub sane : Sane x.setup (state_after Calls x n s)
+  pub chosen : chosen x.setup (state_after Calls x n s) ≡ Some c
+  pub down : is_down (state_after Calls x n s) ≡ is_down s
+  pub ready : (i : ℕ) → is_ready (state_after Calls x n s) i ≡ is_ready s i
+  pub counted : IsCounted s → IsCounted (state_after Calls x n s)
 
 -- the window that n turns leave, and the processor after them
 pub record IsLeft (x : Scenario) (s : State) (c : ℕ) (v : View) (n : ℕ) (w : View) (d : Cpu) : Type 0 where
   pub keeps : Keeps v w
-  pub window : IsWindow x.setup c (state_after Brief x n s).memory w
-  pub processor : cpu_of (task_at (state_after Brief x n s) c) ≡ d
+  pub window : IsWindow x.setup c (state_after Calls x n s).memory w
+  pub processor : cpu_of (task_at (state_after Calls x n s) c) ≡ d
 
 module _ (x : Scenario) (s : State) (c : ℕ) (v : View) (sane : Sane x.setup s) (is : chosen x.setup s ≡ Some c) (current : s.current ≡ c) (window : IsWindow x.setup c s.memory v) where
   there : c < length s.tasks
   there = (chosen_is s c sane is).inside
 
   -- one more from where they have come to
-  next_gone : (n : ℕ) (w u : View) (d e : Cpu) → HasGone x s c v n w d → events_of x.script (s.turn + n) ≡ [] → GoesOn w d u e → IsGone x (state_after Brief x n s) c w u e
+  next_gone : (n : ℕ) (w u : View) (d e : Cpu) → HasGone x s c v n w d → events_of x.script (s.turn + n) ≡ [] → GoesOn w d u e → IsGone x (state_after Calls x n s) c w u e
   unfolding with_task
   next_gone n w u d e h nothing on =
       let m : Memory = with_bytes s.memory v.ram_base w.ram in
@@ -239,20 +239,20 @@ module _ (x : Scenario) (s : State) (c : ℕ) (v : View) (sane : Sane x.setup s)
       subst P (sym h.state) (one_turn x (later s c d m n) c w u e (subst C h.state h.chosen) current nothing over (subst (λ (k : Cpu). GoesOn w k u e) (sym own) on))
 
   -- a turn that notes nothing leaves the choice
-  chosen_next : (y : State) → Sane x.setup y → chosen x.setup y ≡ Some c → events_of x.script y.turn ≡ [] → (turn Brief x y).notes ≡ [] → (chosen x.setup (turn Brief x y).state ≡ Some c) × (is_down (turn Brief x y).state ≡ is_down y) × ((i : ℕ) → is_ready (turn Brief x y).state i ≡ is_ready y i)
+  chosen_next : (y : State) → Sane x.setup y → chosen x.setup y ≡ Some c → events_of x.script y.turn ≡ [] → (turn Calls x y).notes ≡ [] → (chosen x.setup (turn Calls x y).state ≡ Some c) × (is_down (turn Calls x y).state ≡ is_down y) × ((i : ℕ) → is_ready (turn Calls x y).state i ≡ is_ready y i)
   chosen_next y sane-y is-y nothing none =
       let e : begun y ≡ after_events x y = no_event x y nothing in
       let st : (after_events x y).state ≡ y = ap (λ (t : Turn). t.state) (sym e) ∙ begun_state y in
-      let alike = quiet-turn Brief x y (subst (λ (z : State). Sane x.setup z) (sym st) sane-y) none in
+      let alike = quiet-turn Calls x y (subst (λ (z : State). Sane x.setup z) (sym st) sane-y) none in
       (alike.next ∙ ap (chosen x.setup) st ∙ is-y, alike.down ∙ ap is_down st, λ i. alike.ready i ∙ ap (λ (z : State). is_ready z i) st)
 
   one_further : (n : ℕ) (w u : View) (d e : Cpu) → HasGone x s c v n w d → events_of x.script (s.turn + n) ≡ [] → GoesOn w d u e → HasGone x s c v (suc n) u e
   unfolding state_after
   one_further n w u d e h nothing on =
       let m : Memory = with_bytes s.memory v.ram_base w.ram in
-      let y : State = state_after Brief x n s in
+      let y : State = state_after Calls x n s in
       let g = next_gone n w u d e h nothing on in
-      let same : (turn_after Brief x n s).state ≡ (turn Brief x y).state = ap (λ (t : Turn). t.state) (last_turn Brief x n s) in
+      let same : (turn_after Calls x n s).state ≡ (turn Calls x y).state = ap (λ (t : Turn). t.state) (last_turn Calls x n s) in
       let at : y.turn ≡ s.turn + n = ap (λ (z : State). z.turn) h.state in
       let ch = chosen_next y h.sane h.chosen (ap (events_of x.script) at ∙ nothing) g.notes in
       let memory : with_bytes y.memory w.ram_base u.ram ≡ with_bytes s.memory v.ram_base u.ram =
@@ -262,11 +262,11 @@ module _ (x : Scenario) (s : State) (c : ℕ) (v : View) (sane : Sane x.setup s)
       record {
         state = same ∙ g.state ∙ ap (λ (z : State). later z c e (with_bytes y.memory w.ram_base u.ram) 1) h.state ∙ again s c d e m (with_bytes y.memory w.ram_base u.ram) n there ∙ ap (λ (z : Memory). later s c e z (suc n)) memory;
         keeps = kept_on v w u h.keeps g.same;
-        sane = subst (λ (z : State). Sane x.setup z) (sym same) (sane-after Brief x y h.sane);
+        sane = subst (λ (z : State). Sane x.setup z) (sym same) (sane-after Calls x y h.sane);
         chosen = ap (chosen x.setup) same ∙ ch.0;
         down = ap is_down same ∙ ch.1 ∙ h.down;
         ready = λ i. ap (λ (z : State). is_ready z i) same ∙ ch.2 i ∙ h.ready i;
-        counted = λ before. subst (λ (z : State). IsCounted z) (sym same) (counted_turn Brief x y h.sane (rw (ap (events_of x.script) at ∙ nothing) (omega arith)) (h.counted before));
+        counted = λ before. subst (λ (z : State). IsCounted z) (sym same) (counted_turn Calls x y h.sane (rw (ap (events_of x.script) at ∙ nothing) (omega arith)) (h.counted before));
       }
 
   gone : (n : ℕ) (w : View) (d : Cpu) → ((k : ℕ) → k < n → events_of x.script (s.turn + k) ≡ []) → Glides v (cpu_of (task_at s c)) n w d → HasGone x s c v n w d
@@ -308,10 +308,10 @@ module _ (x : Scenario) (s : State) (c : ℕ) (v : View) (sane : Sane x.setup s)
         counted = (gone n w d nothing on).counted;
       }
     where
-      silent_at : (k : ℕ) → k < n → (u : View) × (e : Cpu) × Glides v (cpu_of (task_at s c)) (suc k) u e → (turn_after Brief x k s).notes ≡ []
+      silent_at : (k : ℕ) → k < n → (u : View) × (e : Cpu) × Glides v (cpu_of (task_at s c)) (suc k) u e → (turn_after Calls x k s).notes ≡ []
       silent_at k lt (u, e, g) =
           let before = gone k g.0 g.1 (λ j less. nothing j (omega (arith, lt, less))) g.2 in
-          ap (λ (t : Turn). t.notes) (last_turn Brief x k s) ∙ (next_gone k g.0 u g.1 e before (nothing k lt) g.3).notes
+          ap (λ (t : Turn). t.notes) (last_turn Calls x k s) ∙ (next_gone k g.0 u g.1 e before (nothing k lt) g.3).notes
 
   -- the window that they leave, and the processor
   pub window_then : (n : ℕ) (w : View) (d : Cpu) → ((k : ℕ) → k < n → events_of x.script (s.turn + k) ≡ []) → Glides v (cpu_of (task_at s c)) n w d → IsLeft x s c v n w d

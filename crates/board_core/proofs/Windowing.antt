@@ -10,7 +10,7 @@ use Rattle.region_check.specs.declared.Right.TheVariants.{Read, Write, Execute}
 use Rattle.region_check.specs.Rights.{gives, has_right, may_use}
 use Rattle.run_script.specs.Scripts.{ScriptData, IsNext, events_of}
 use Rattle.mem_banks.specs.Memory.{Memory, bytes_at, with_bytes}
-use Rattle.mem_banks.specs.Loans.{IsInMemory, IsInRam, IsInFlash}
+use Rattle.mem_banks.specs.Windows.{IsInMemory, IsInRam, IsInFlash}
 use Rattle.mem_banks.proofs.Windows.{region_length}
 use Rattle.thumb_exec.specs.declared.cpu.Cpu.{Cpu}
 use Rattle.thumb_exec.specs.Effect.{Halts}
@@ -21,12 +21,12 @@ use Rattle.task_table.specs.Start.{begun}
 use Rattle.task_table.specs.Reading.{setup_at, task_at, call_of, listen_of, is_ready, chosen, register}
 use Rattle.task_table.specs.Effects.{with_task, with_processor}
 use Rattle.task_table.specs.Holds.{Holds, current_of, kept_of, note_count, notes_of as kernel_notes}
-use Rattle.task_table.specs.Lendable.{AreUsable}
-use Rattle.task_table.specs.Lent.{overlaid}
+use Rattle.task_table.specs.Openable.{AreUsable}
+use Rattle.task_table.specs.Window.{overlaid}
 use Rattle.task_table.specs.declared.kernel.Kernel.{Kernel}
 use Rattle.task_table.proofs.Changes.{task_at-with_task}
 use Rattle.task_table.proofs.Steps.{holds_turn}
-use Rattle.board_model.specs.declared.outcomes.Level.TheVariants.{Brief}
+use Rattle.board_model.specs.declared.outcomes.Level.TheVariants.{Calls}
 use Rattle.board_model.specs.Script.{Scenario}
 use Rattle.board_model.specs.Turn.{may}
 use Rattle.board_model.specs.Run.{ending, is_down, state_after}
@@ -239,7 +239,7 @@ due_later_on script turn (suc n) due next ne =
 -- a board after n turns within a window, and why there were no more
 pub record IsMade (x : Scenario) (u : State) (task until : ℕ) (b b' : Board) : Type 0 where
   pub glidden : HasGlidden x u (turns_of b' - turns_of b) b'
-  pub far : turns_of b' < until → MustStop x.setup task (register u task program_counter) (register u task stack_pointer) (state_after Brief x (turns_of b' - turns_of b) u)
+  pub far : turns_of b' < until → MustStop x.setup task (register u task program_counter) (register u task stack_pointer) (state_after Calls x (turns_of b' - turns_of b) u)
 
 module _ (x : Scenario) (u : State) (b : Board) (m : Machine) (task most n until : ℕ)
     (st : Stands x b u) (next : b.choice.next ≡ Some task) (up : b.choice.down ≡ false)
@@ -279,7 +279,7 @@ module _ (x : Scenario) (u : State) (b : Board) (m : Machine) (task most n until
   unfolding ending state_after
   made h =
       let are = turns_are h in
-      let v : State = state_after Brief x n u in
+      let v : State = state_after Calls x n u in
       let M : State → Type 0 = λ y. MachineHolds x.setup m (rested b.machine y) in
       let turns : v.turn ≡ u.turn + n = ap (λ (y : State). y.turn) are.state in
       let a = st.holds.turns in
@@ -304,9 +304,9 @@ module _ (x : Scenario) (u : State) (b : Board) (m : Machine) (task most n until
         notes = λ lt. none;
       }
     where
-      goes_at : (k : ℕ) → chosen x.setup (state_after Brief x k u) ≡ Some u.current → is_down (state_after Brief x k u) ≡ is_down u → ending x 1 (state_after Brief x k u) ≡ None
+      goes_at : (k : ℕ) → chosen x.setup (state_after Calls x k u) ≡ Some u.current → is_down (state_after Calls x k u) ≡ is_down u → ending x 1 (state_after Calls x k u) ≡ None
       goes_at k some same =
-          let down : is_down (state_after Brief x k u) ≡ false = same ∙ sym st.holds.choice.down ∙ up in
+          let down : is_down (state_after Calls x k u) ≡ false = same ∙ sym st.holds.choice.down ∙ up in
           rw (down, some) refl
 
   has_glidden : HasGlided x.setup m (rested b.machine u) most n → HasGlidden x u n record b { machine = m; turns = turns_of b + n }
@@ -314,7 +314,7 @@ module _ (x : Scenario) (u : State) (b : Board) (m : Machine) (task most n until
   has_glidden (inr h) = stayed h.none h.holds
 
   -- the window that is left is of the same regions
-  at_end : (h : IsGlided x.setup m (rested b.machine u) most n) → n < most → IsAtEnd x.setup u.current (register u u.current program_counter) (register u u.current stack_pointer) (state_after Brief x n u)
+  at_end : (h : IsGlided x.setup m (rested b.machine u) most n) → n < most → IsAtEnd x.setup u.current (register u u.current program_counter) (register u u.current stack_pointer) (state_after Calls x n u)
   at_end h lt =
       let left = window_then x u u.current h.window st.sane is_chosen refl h.whole.is n h.after m.processor nothing h.glides in
       let same = left.keeps in
@@ -332,7 +332,7 @@ module _ (x : Scenario) (u : State) (b : Board) (m : Machine) (task most n until
         halts = subst (λ (d : Cpu). Halts (step_effect (refused_by h.after) (held_by h.after) d)) (sym left.processor) (h.far lt);
       }
 
-  must_stop : HasGlided x.setup m (rested b.machine u) most n → n < most → MustStop x.setup u.current (register u u.current program_counter) (register u u.current stack_pointer) (state_after Brief x n u)
+  must_stop : HasGlided x.setup m (rested b.machine u) most n → n < most → MustStop x.setup u.current (register u u.current program_counter) (register u u.current stack_pointer) (state_after Calls x n u)
   unfolding state_after
   must_stop (inl h) lt = inl (at_end h lt)
   must_stop (inr h) lt = inr (rw h.none h.beyond)
@@ -355,7 +355,7 @@ made_by x u b0 m m' task n until st0 holds loaded is_current next up few left wi
       glidden = subst (λ (k : ℕ). HasGlidden x u k b') e (has_glidden x u b m' task most n until st next up few over later_due is_current none h);
       far = λ lt.
           let stop = must_stop x u b m' task most n until st next up few over later_due is_current none h (omega (arith, lt)) in
-          subst (λ (k : ℕ). MustStop x.setup task (register u task program_counter) (register u task stack_pointer) (state_after Brief x k u)) e (subst (λ (i : ℕ). MustStop x.setup i (register u i program_counter) (register u i stack_pointer) (state_after Brief x n u)) is_current stop);
+          subst (λ (k : ℕ). MustStop x.setup task (register u task program_counter) (register u task stack_pointer) (state_after Calls x k u)) e (subst (λ (i : ℕ). MustStop x.setup i (register u i program_counter) (register u i stack_pointer) (state_after Calls x n u)) is_current stop);
     }
 
 -- the task that ran last is the kernel's

@@ -6,7 +6,7 @@ use Rattle.task_table.specs.Reading.{register, chosen}
 use Rattle.run_script.specs.Scripts.{events_of, lasts}
 use Rattle.board_core.specs.declared.board.Board.{Board}
 use Rattle.board_model.specs.declared.outcomes.Level.{Level}
-use Rattle.board_model.specs.declared.outcomes.Level.TheVariants.{Brief}
+use Rattle.board_model.specs.declared.outcomes.Level.TheVariants.{Calls}
 use Rattle.board_model.specs.Script.{Scenario}
 use Rattle.board_model.specs.Run.{ending, turn_after, state_after}
 use Rattle.board_core.specs.Windowed.{MustStop}
@@ -22,9 +22,9 @@ pub record IsAdvanced (level : Level) (x : Scenario) (n : ℕ) (s : State) (b : 
 
 -- the board stands for the state after n turns, none of which noted anything or ended the run
 pub record HasGlidden (x : Scenario) (s : State) (n : ℕ) (b : Board) : Type 0 where
-  pub stands : Stands x b (state_after Brief x n s)
-  pub nothing : (k : ℕ) → k < n → (turn_after Brief x k s).notes ≡ []
-  pub goes_on : (k : ℕ) → k < n → ending x 1 (turn_after Brief x k s).state ≡ None
+  pub stands : Stands x b (state_after Calls x n s)
+  pub nothing : (k : ℕ) → k < n → (turn_after Calls x k s).notes ≡ []
+  pub goes_on : (k : ℕ) → k < n → ending x 1 (turn_after Calls x k s).state ≡ None
   pub notes : 0 < n → notes_of b ≡ []
 
 -- a turn in which something happens from outside, or before which the run ends
@@ -37,10 +37,10 @@ IsFar x c s u = MustStop x.setup c (register s c program_counter) (register s c 
 
 -- the state that a board has come to from another one, and that before its last turn
 abbrev pub state_now : Scenario → Board → State → Board → State
-state_now x old s new = state_after Brief x (turns_of new - turns_of old) s
+state_now x old s new = state_after Calls x (turns_of new - turns_of old) s
 
 abbrev pub state_before : Scenario → Board → State → Board → State
-state_before x old s new = state_after Brief x (turns_of new - turns_of old - 1) s
+state_before x old s new = state_after Calls x (turns_of new - turns_of old - 1) s
 
 -- the next turn of the task that ran from a state is a whole one: something happens in it, or the fast way ends
 abbrev pub NeedsTurn : Scenario → State → State → Type 0

@@ -26,7 +26,7 @@ lent_view a flash ram =
       ram = ram;
     }
 
--- it made instructions on end within the bytes that it was lent
+-- it made instructions on end within its window
 pub record HasWorked (a : Glider) (flash ram : List ℕ) (b : Glider) (after : List ℕ) : Type 0 where
   pub glides : Glides (lent_view a flash ram) a.runner.processor b.made (lent_view a flash after) b.runner.processor
   pub within : b.made ≤ a.most

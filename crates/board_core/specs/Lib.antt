@@ -7,6 +7,6 @@ pub mod Midway
 pub mod Stands
 pub mod Advanced
 pub mod Skipped
-pub mod Shown
+pub mod Views
 pub mod Regions
 pub mod Gliding

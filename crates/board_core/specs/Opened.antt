@@ -12,8 +12,8 @@ setup_of_task t = record { priority = t.priority; entry = t.entry; stack = t.sp;
 abbrev pub setup_of_line : LinePicture → LineSetup
 setup_of_line l = record { line = l.line; owner = l.task; bits = l.bits }
 
-abbrev pub setup_of : Picture → Setup
-setup_of p = record {
+abbrev pub setup_of_image : Picture → Setup
+setup_of_image p = record {
   tasks = map setup_of_task p.tasks;
   lines = map setup_of_line p.lines;
   fault_bits = p.fault_bits;
@@ -23,4 +23,4 @@ setup_of p = record {
 }
 
 abbrev pub scenario_of : Picture → ScriptData → Scenario
-scenario_of p script = record { setup = setup_of p; script = script }
+scenario_of p script = record { setup = setup_of_image p; script = script }

@@ -3,8 +3,8 @@ use Rattle.std.specs.Prelude.{ℕ, ◌≡◌, ◌⊎◌, Bool, ◌&&◌, not, tr
 use Rattle.std.specs.List.{list_any}
 use Rattle.region_check.specs.declared.Region.{Region}
 use Rattle.region_check.specs.Spans.{spans}
-use Rattle.mem_banks.specs.Loans.{IsNoRegion}
-use Rattle.task_table.specs.Lendable.{span_of}
+use Rattle.mem_banks.specs.Windows.{IsNoRegion}
+use Rattle.task_table.specs.Openable.{span_of}
 
 -- a region of the flash that has the instruction at an address, and may be executed
 abbrev pub is_flash_at : ℕ → Region → Bool

@@ -4,7 +4,7 @@ use Rattle.std.specs.Prelude.{ℕ, ◌≡◌, ◌⊎◌, false, ◌+◌, ◌<◌
 use Rattle.region_check.specs.declared.Region.{Region}
 use Rattle.region_check.specs.declared.Right.TheVariants.{Read, Write, Execute}
 use Rattle.mem_banks.specs.Memory.{Memory, bytes_at, with_bytes}
-use Rattle.mem_banks.specs.Loans.{IsInFlash, IsInRam}
+use Rattle.mem_banks.specs.Windows.{IsInFlash, IsInRam}
 use Rattle.run_script.specs.Scripts.{events_of}
 use Rattle.thumb_exec.specs.declared.cpu.Cpu.{Cpu}
 use Rattle.std.specs.List.{list_any}
@@ -16,7 +16,7 @@ use Rattle.task_table.specs.State.{Setup, State}
 use Rattle.task_table.specs.Reading.{task_at, setup_at, register, chosen, is_ready}
 use Rattle.task_table.specs.Sane.{Sane, IsCounted}
 use Rattle.task_table.specs.Effects.{with_task}
-use Rattle.board_model.specs.declared.outcomes.Level.TheVariants.{Brief}
+use Rattle.board_model.specs.declared.outcomes.Level.TheVariants.{Calls}
 use Rattle.board_model.specs.Script.{Scenario}
 use Rattle.board_model.specs.Turn.{may, cpu_of}
 use Rattle.board_model.specs.Run.{is_down, turn_after, state_after}
@@ -65,10 +65,10 @@ later s c cpu m n =
 
 -- n turns on end of a task are its instructions within a window, of which none is noted
 pub record AreTurns (x : Scenario) (s : State) (c : ℕ) (v : View) (n : ℕ) (v' : View) (cpu : Cpu) : Type 0 where
-  pub state : state_after Brief x n s ≡ later s c cpu (with_bytes s.memory v.ram_base v'.ram) n
-  pub silent : (k : ℕ) → k < n → (turn_after Brief x k s).notes ≡ []
-  pub chosen : (k : ℕ) → k ≤ n → chosen x.setup (state_after Brief x k s) ≡ Some c
-  pub down : (k : ℕ) → k ≤ n → is_down (state_after Brief x k s) ≡ is_down s
-  pub ready : (i : ℕ) → is_ready (state_after Brief x n s) i ≡ is_ready s i
-  pub sane : Sane x.setup (state_after Brief x n s)
-  pub counted : IsCounted s → IsCounted (state_after Brief x n s)
+  pub state : state_after Calls x n s ≡ later s c cpu (with_bytes s.memory v.ram_base v'.ram) n
+  pub silent : (k : ℕ) → k < n → (turn_after Calls x k s).notes ≡ []
+  pub chosen : (k : ℕ) → k ≤ n → chosen x.setup (state_after Calls x k s) ≡ Some c
+  pub down : (k : ℕ) → k ≤ n → is_down (state_after Calls x k s) ≡ is_down s
+  pub ready : (i : ℕ) → is_ready (state_after Calls x n s) i ≡ is_ready s i
+  pub sane : Sane x.setup (state_after Calls x n s)
+  pub counted : IsCounted s → IsCounted (state_after Calls x n s)

@@ -7,13 +7,13 @@ ghost use Rattle.task_table.specs.Start.{start};
 ghost use Rattle.task_table.specs.Limits.{syscall_notes, turn_notes};
 ghost use Rattle.run_script.specs.Events.{script_data};
 ghost use Rattle.run_script.specs.Scripts.{lasts};
-ghost use Rattle.board_model.specs.declared.outcomes.Level.TheVariants.{All, Brief};
+ghost use Rattle.board_model.specs.declared.outcomes.Level.TheVariants.{All, Calls};
 ghost use Rattle.board_model.specs.Script.{Scenario};
 ghost use Rattle.board_model.specs.Turn.{turn, turned};
 ghost use Rattle.board_model.specs.Run.{state_after};
 ghost use Rattle.board_model.specs.Lifetimes.{IsGroundedTurn};
 ghost use Rattle.board_model.specs.Agreement.{DependsOnReads};
-ghost use Rattle.board_core.specs.Opened.{scenario_of, setup_of};
+ghost use Rattle.board_core.specs.Opened.{scenario_of, setup_of_image};
 ghost use Rattle.board_core.specs.Stands.{Stands, Stood, notes_of, turns_of};
 ghost use Rattle.board_core.specs.Machine.{MachineHolds, MachineStands};
 ghost use Rattle.board_core.specs.Kept.{IsChoice, WasChoice};
@@ -48,7 +48,7 @@ impl Board {
     ///
     /// Only want of memory.
     pub fn open(alloc: Global, image: &Image, script: &Script) -> Result<Board, AllocError>
-        ensures stands { IfOk result (λ b. Stands (scenario_of (picture image.now) (script_data script.now)) b (start (setup_of (picture image.now)))) }
+        ensures stands { IfOk result (λ b. Stands (scenario_of (picture image.now) (script_data script.now)) b (start (setup_of_image (picture image.now)))) }
         ensures turns { IfOk result (λ b. turns_of b ≡ 0) }
     {
         let kernel = kernel(alloc, image)?;
@@ -113,12 +113,12 @@ impl Board {
         requires few { limit ≤ 1000000000 }
         ensures advanced { (x : Scenario) (s : State) → Stands x self.old s → IsAdvanced level x (turns_of self.new - turns_of self.old - 1) s self.new }
         ensures more { turns_of self.old < turns_of self.new }
-        ensures far { level ≡ Brief → (x : Scenario) (s : State) → Stands x self.new s → notes_of self.new ≡ [] → turns_of self.new < limit → IsStopped x s }
+        ensures far { level ≡ Calls → (x : Scenario) (s : State) → Stands x self.new s → notes_of self.new ≡ [] → turns_of self.new < limit → IsStopped x s }
         ensures within { turns_of self.new ≤ limit }
         ensures noted { length (notes_of self.new) ≤ turn_notes }
     {
         match level {
-            Level::Brief => self.go_on(limit),
+            Level::Calls => self.go_on(limit),
             Level::All => {
                 self.turn_at(Level::All);
             }
@@ -130,7 +130,7 @@ impl Board {
         requires stood { Stood self.old }
         requires left { turns_of self.old < limit }
         requires few { limit ≤ 1000000000 }
-        ensures advanced { (x : Scenario) (s : State) → Stands x self.old s → IsAdvanced Brief x (turns_of self.new - turns_of self.old - 1) s self.new }
+        ensures advanced { (x : Scenario) (s : State) → Stands x self.old s → IsAdvanced Calls x (turns_of self.new - turns_of self.old - 1) s self.new }
         ensures more { turns_of self.old < turns_of self.new }
         ensures far { (x : Scenario) (s : State) → Stands x self.new s → notes_of self.new ≡ [] → turns_of self.new < limit → IsStopped x s }
         ensures within { turns_of self.new ≤ limit }
@@ -147,7 +147,7 @@ impl Board {
         requires stood { Stood self.old }
         requires left { turns_of self.old < limit }
         requires few { limit ≤ 1000000000 }
-        ensures advanced { (x : Scenario) (s : State) → Stands x self.old s → IsAdvanced Brief x (turns_of self.new - turns_of self.old - 1) s self.new }
+        ensures advanced { (x : Scenario) (s : State) → Stands x self.old s → IsAdvanced Calls x (turns_of self.new - turns_of self.old - 1) s self.new }
         ensures more { turns_of self.old < turns_of self.new }
         ensures within { turns_of self.new ≤ limit }
         ensures noted { length (notes_of self.new) ≤ turn_notes }
@@ -158,7 +158,7 @@ impl Board {
     {
         self.glide(quiet_until(self.due, limit));
         if self.turns < limit {
-            self.turn_at(Level::Brief);
+            self.turn_at(Level::Calls);
         }
     }
 
@@ -230,7 +230,7 @@ impl Board {
         requires from { turns_of self.old ≤ to }
         requires few { to ≤ 1000000000 }
         requires idle { (x : Scenario) (s : State) → Stands x self.old s → IsIdleUntil x s to }
-        ensures model { (x : Scenario) (s : State) → Stands x self.old s → Stands x self.new (state_after Brief x (to - s.turn) s) }
+        ensures model { (x : Scenario) (s : State) → Stands x self.old s → Stands x self.new (state_after Calls x (to - s.turn) s) }
         ensures nothing { notes_of self.new ≡ [] }
         ensures turns { turns_of self.new ≡ to }
     {

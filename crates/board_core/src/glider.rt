@@ -1,11 +1,11 @@
-//! The processor of the current task while it is lent the bytes of two of the task's regions.
+//! The processor of the current task while it has a window, the bytes of two of the task's regions.
 ghost use Rattle.std.specs.Prelude.{◌≡◌, ◌≤◌, ◌<◌};
 ghost use Rattle.thumb_exec.specs.Effect.{Halts};
 ghost use Rattle.thumb_exec.specs.Fetch.{step_effect};
 ghost use Rattle.thumb_step.specs.Windows.{Glides, IsApart, Keeps, view_of, refused_by, held_by};
 ghost use Rattle.board_core.specs.Gliding.{HasWorked};
 
-use mem_banks::Borrower;
+use mem_banks::WindowUser;
 use region_check::Region;
 use std::alloc::Global;
 use std::mem::swap;
@@ -13,7 +13,7 @@ use thumb_exec::cpu::Cpu;
 use thumb_step::{Runner, Window};
 use words_core::{Flags, Regs};
 
-/// A processor that makes instructions on end while it is lent the bytes of a region of flash and of one of RAM. Between
+/// A processor that makes instructions on end while it has a window, the bytes of a region of flash and of one of RAM. Between
 /// two loans its window has no bytes.
 #[derive(Drop)]
 pub struct Glider {
@@ -25,7 +25,7 @@ pub struct Glider {
 }
 
 impl Glider {
-    /// One that was never lent anything.
+    /// One that never had a window.
     pub fn new(alloc: Global) -> Glider {
         let flags = Flags {
             n: false,
@@ -83,7 +83,7 @@ impl Glider {
     }
 }
 
-impl Borrower for Glider {
+impl WindowUser for Glider {
     ghost did = { λ a flash ram b after. HasWorked a flash ram b after };
 
     fn work(&mut self, flash: &mut Vec<u8>, ram: &mut Vec<u8>) {

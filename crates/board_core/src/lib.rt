@@ -7,11 +7,11 @@ mod glider;
 mod machine;
 mod opening;
 mod reach;
-mod shown;
 mod syscalls;
+mod views;
 mod window_laws;
 
 pub use board::Board;
 pub use board_model::{End, Level, Turned};
-pub use shown::TaskView;
+pub use views::TaskView;
 pub use window_laws::instructions_within_a_window_are_turns;

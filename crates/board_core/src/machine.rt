@@ -232,7 +232,7 @@ impl Machine {
         ensures count { note_count self.new.reach.kernel ≤ note_count self.old.reach.kernel + 1 }
     {
         match level {
-            Level::Brief => {}
+            Level::Calls => {}
             Level::All => {
                 let task = self.reach.kernel.current() as u16;
                 self.reach.kernel.note(Note::Insn { task, at, code });
@@ -247,7 +247,7 @@ impl Machine {
         ensures count { note_count self.new.reach.kernel ≤ note_count self.old.reach.kernel + 1 }
     {
         match level {
-            Level::Brief => {}
+            Level::Calls => {}
             Level::All => self.reach.kernel.note(Note::Idle),
         }
     }
@@ -275,7 +275,7 @@ impl Machine {
         ensures count { note_count self.new.reach.kernel ≤ note_count self.old.reach.kernel + 2 }
     {
         match level {
-            Level::Brief => {}
+            Level::Calls => {}
             Level::All => self.note_registers(task),
         }
     }
@@ -306,7 +306,7 @@ impl Machine {
     {
         match exec(&mut self.processor, insn, &mut self.reach) {
             Outcome::Next => {}
-            Outcome::Syscall => self.syscall(),
+            Outcome::Call => self.syscall(),
             Outcome::Trap(fault) => self.fault(fault),
         }
     }
@@ -398,7 +398,11 @@ impl Machine {
             return 0;
         };
         self.glider.aim(self.processor, &flash, &ram, most);
-        if !self.reach.kernel.lend(&flash, &ram, &mut self.glider) {
+        if !self
+            .reach
+            .kernel
+            .open_window(&flash, &ram, &mut self.glider)
+        {
             return 0;
         }
         self.processor = self.glider.runner.processor;

@@ -7,7 +7,7 @@ ghost use Rattle.task_table.specs.Start.{start};
 ghost use Rattle.task_table.specs.Parts.{task_setup, line_setup};
 ghost use Rattle.task_table.specs.Holds.{task_count};
 ghost use Rattle.board_core.specs.Regions.{ArePlaces, HavePlaces};
-ghost use Rattle.board_core.specs.Opened.{setup_of, setup_of_task, setup_of_line};
+ghost use Rattle.board_core.specs.Opened.{setup_of_image, setup_of_task, setup_of_line};
 ghost use Rattle.board_core.specs.Machine.{IsStarted};
 
 use image_format::Image;
@@ -99,7 +99,7 @@ fn places(alloc: Global, image: &Image) -> Result<Vec<(u32, u32)>, AllocError>
 
 /// The kernel at the start of a run of an image.
 pub fn kernel(alloc: Global, image: &Image) -> Result<Kernel, AllocError>
-    ensures { IfOk result (λ k. IsStarted (setup_of (picture image.now)) k) }
+    ensures { IfOk result (λ k. IsStarted (setup_of_image (picture image.now)) k) }
 {
     image.facts();
     let flash = image.flash();

@@ -12,7 +12,7 @@ ghost use Rattle.task_table.specs.Frames.{AddsAtMost};
 
 use dispatch::best_sender;
 use fault_supervisor::kernel_message;
-use ipc_core::{post_syscall, recv, refresh, reply, reply_fault, send};
+use ipc_core::{post_call, recv, refresh, reply, reply_fault, send};
 use kernel_abi::{SYSCALL_SELECTOR, SendArgs, Syscall, TaskId, Usage};
 use lease_core::{borrow_info, borrow_read, borrow_write};
 use task_table::Kernel;
@@ -69,9 +69,9 @@ pub fn syscall(k: &mut Kernel, caller: usize)
         Some(Syscall::Panic) => k.panic(caller),
         Some(Syscall::GetTimer) => get_timer(k, caller),
         Some(Syscall::RefreshTaskId) => refresh(k, caller),
-        Some(Syscall::Post) => post_syscall(k, caller),
+        Some(Syscall::Post) => post_call(k, caller),
         Some(Syscall::ReplyFault) => reply_fault(k, caller),
         Some(Syscall::IrqStatus) => irq_status(k, caller),
-        None => k.misuse(caller, Usage::BadSyscall),
+        None => k.misuse(caller, Usage::BadCall),
     }
 }

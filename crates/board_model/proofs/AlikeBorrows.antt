@@ -18,7 +18,7 @@ use Rattle.kernel_abi.specs.declared.arguments.BorrowArgs.{BorrowArgs}
 use Rattle.region_check.specs.declared.Right.TheVariants.{Read as ToRead}
 use Rattle.mem_banks.specs.Memory.{number_of}
 use Rattle.task_table.specs.State.{Setup, Call, Listen, Own, Lease, Entry, Leased, Read, Turn}
-use Rattle.task_table.specs.declared.slot.Range.{Range}
+use Rattle.task_table.specs.declared.slot.Slice.{Slice}
 use Rattle.task_table.specs.Reading.{task_at, listen_of, arguments, is_out, is_dead, is_valid, bad_byte}
 use Rattle.task_table.specs.Effects.{changed, without_listen, with_health, noted, given, returned, past_syscall, bits_added, bits_cleared, woken_by, woken, posted, closed, faulted_as, copied, looked}
 use Rattle.task_table.specs.Rows.{goes_on_with}
@@ -78,7 +78,7 @@ keeps-on r c values t h = record { there = rw (reads-goes_on_with c values t) h.
 
 keeps-moved : (r : Read) (b : Borrow) (k : Call) (leased own n : ℕ) (t : Turn) → Keeps r t → Keeps r (moved b k leased own n t)
 unfolding copied looked
-keeps-moved r borrow.Read k leased own n t h = record { there = Contains-append_left t.reads (record { call = k.number; part = Leased; base = leased; length = n } ∷ []) r h.there }
+keeps-moved r borrow.Read k leased own n t h = record { there = Contains-append_left t.reads (record { call = k.number; part = Leased; base = leased; len = n } ∷ []) r h.there }
 keeps-moved r borrow.Write k leased own n t h = record { there = h.there }
 keeps-moved r borrow.Info k leased own n t h = h
 
@@ -97,7 +97,7 @@ keeps-granted r g way c x k e t h =
     keeps-row r (not (is_valid buffer)) (keeps-faulted r g _ _ _ t h) (
     keeps-row r (is_some (bad_byte g c way.own buffer)) (keeps-faulted r g _ _ _ t h) (
     keeps-row r (is_some bad) (keeps-on r c _ _ (keeps-faulted r g _ _ _ t h))
-    (keeps-on r c _ _ (keeps-noted_borrow r k.number way.borrow x.lease x.offset part.length _ (keeps-moved r way.borrow k part.base x.buffer_base part.length t h))))))))
+    (keeps-on r c _ _ (keeps-noted_borrow r k.number way.borrow x.lease x.offset part.len _ (keeps-moved r way.borrow k part.base x.buffer_base part.len t h))))))))
 
 keeps-grant_answered : (r : Read) (g : Setup) (c lease : ℕ) (k : Call) (e : LeaseEntry) (t : Turn) → Keeps r t → Keeps r (grant_answered g c lease k e t)
 keeps-grant_answered r g c lease k e t h =
@@ -106,7 +106,7 @@ keeps-grant_answered r g c lease k e t h =
 
 -- the entry's twelve bytes
 entry_of : Call → ℕ → LeaseEntry → Read
-entry_of k lease e = record { call = k.number; part = Entry e.attributes e.base e.len; base = k.table + 12 * lease; length = 12 }
+entry_of k lease e = record { call = k.number; part = Entry e.attributes e.base e.len; base = k.table + 12 * lease; len = 12 }
 
 entry_there : (k : Call) (lease : ℕ) (e : LeaseEntry) (t : Turn) → Keeps (entry_of k lease e) (entry_read k lease e t)
 unfolding looked entry_of
@@ -127,7 +127,7 @@ module _ (w : Viewer) (a : IsAttentive w) where
   alike-moved : (b : Borrow) (k : Call) (leased own n : ℕ) (t u : Turn) → ((y : ℕ) → own ≤ y → y < own + n → w.sees y ≡ true) → IsAlike w t u → IsAlikeWhereSeen w (moved b k leased own n t) (moved b k leased own n u)
   unfolding copied looked
   alike-moved borrow.Read k leased own n t u mine h =
-      let r : Read = record { call = k.number; part = Leased; base = leased; length = n } in
+      let r : Read = record { call = k.number; part = Leased; base = leased; len = n } in
       record { alike = λ see. alike-copied w a Own leased own n _ _ (see r (Contains-append_right t.reads (r ∷ []) r (0, omega arith, refl))) (alike-looked w a r t u h) }
   alike-moved borrow.Write k leased own n t u mine h = surely w a (alike-copied w a (Lease k.number) own leased n t u mine h)
   alike-moved borrow.Info k leased own n t u mine h = surely w a h
@@ -143,11 +143,11 @@ module _ (w : Viewer) (a : IsAttentive w) where
   unfolding returned noted past_syscall given
   alike-borrowed c values number b lease offset n t u h = record { alike = λ see. alike-goes_on_with w a c values _ _ (alike-noted w a (note.Borrow number b lease offset n) t u refl (h.alike see)) }
 
-  alike-lent : (g : Setup) (way : Way) (c : ℕ) (x : BorrowArgs) (k : Call) (part : Range) (t u : Turn) → ((y : ℕ) → x.buffer_base ≤ y → y < x.buffer_base + part.length → w.sees y ≡ true) → IsAlike w t u → IsAlikeWhereSeen w (lent g way c x k part t) (lent g way c x k part u)
+  alike-lent : (g : Setup) (way : Way) (c : ℕ) (x : BorrowArgs) (k : Call) (part : Slice) (t u : Turn) → ((y : ℕ) → x.buffer_base ≤ y → y < x.buffer_base + part.len → w.sees y ≡ true) → IsAlike w t u → IsAlikeWhereSeen w (lent g way c x k part t) (lent g way c x k part u)
   alike-lent g way c x k part t u mine h =
       let bad = bad_byte g k.client.index way.lender part in
       by_same (IsAlikeWhereSeen w) (is_some bad) (surely w a (alike-refused c no_lease _ _ (alike-denied w a g k.client.index (access_number way.lender_access) bad t u h)))
-      (alike-borrowed c (0 ∷ part.length ∷ []) k.number way.borrow x.lease x.offset part.length _ _ (alike-moved way.borrow k part.base x.buffer_base part.length t u mine h))
+      (alike-borrowed c (0 ∷ part.len ∷ []) k.number way.borrow x.lease x.offset part.len _ _ (alike-moved way.borrow k part.base x.buffer_base part.len t u mine h))
 
   alike-granted : (g : Setup) (way : Way) (c : ℕ) (x : BorrowArgs) (k : Call) (e : LeaseEntry) (t u : Turn) → IsOpen w g c → IsAlike w t u → IsAlikeWhereSeen w (granted g way c x k e t) (granted g way c x k e u)
   alike-granted g way c x k e t u open_to h =

@@ -22,7 +22,7 @@ use Rattle.words_core.specs.declared.Flags.{Flags}
 use Rattle.task_table.specs.declared.Line.{Line}
 use Rattle.mem_banks.specs.Memory.{Memory, bytes_at, copied as copied_memory}
 use Rattle.task_table.specs.State.{Setup, LineSetup, Task, State, Call, From, Any, One, KernelOnly, Listen, Turn, Ground, Own, Read, MessageFront}
-use Rattle.task_table.specs.declared.slot.Range.{Range}
+use Rattle.task_table.specs.declared.slot.Slice.{Slice}
 use Rattle.task_table.specs.Reading.{task_at, line_at, line_off, line_on, register, arguments, call_of, is_out, is_dead, dead_code_for, present, is_valid, bad_byte}
 use Rattle.task_table.specs.Effects.{with_task, without_call, without_listen, with_listen, with_taken, changed, noted, with_processor, with_health, writes_on, stored, copied, looked, with_results, given, returned, past_syscall, bits_added, bits_cleared, woken_by, woken, posted, with_timer, clocked, with_line, close_notes, closed, faulted_as, faulted, handed}
 use Rattle.task_table.specs.Rows.{goes_on, goes_on_with, misused, denied, panicked, timer_set, timer_words, timer_answered, owns_with, line_controlled, irq_controlled, status_of_lines, irq_answered, listened_from, buffer_of, listens, receives_or_listens, offer_of, received, syscall_noted}
@@ -246,14 +246,14 @@ module _ (w : Viewer) (a : IsAttentive w) where
 
   -- ## a call is handed over
 
-  front_of : Call → Range → Read
-  front_of k buffer = record { call = k.number; part = MessageFront; base = k.message.base; length = min k.message.length buffer.length }
+  front_of : Call → Slice → Read
+  front_of k buffer = record { call = k.number; part = MessageFront; base = k.message.base; len = min k.message.len buffer.len }
 
-  alike-handed_same : (on : Ground) (k : Call) (buffer : Range) (t u : Turn) → IsAlike w t u → IsAlikeWhereSeen w (handed on k buffer t) (handed on k buffer u)
+  alike-handed_same : (on : Ground) (k : Call) (buffer : Slice) (t u : Turn) → IsAlike w t u → IsAlikeWhereSeen w (handed on k buffer t) (handed on k buffer u)
   unfolding handed given noted copied looked front_of with_taken
   alike-handed_same on k buffer t u h = record {
     alike = λ see.
-        let n = min k.message.length buffer.length in
+        let n = min k.message.len buffer.len in
         let r = front_of k buffer in
         let front : (x : ℕ) → k.message.base ≤ x → x < k.message.base + n → w.sees x ≡ true = see r (Contains-append_right t.reads (r ∷ []) r (0, zero-lt, refl)) in
         let taken = alike-copied on k.message.base buffer.base n _ _ front (alike-looked r t u h) in
@@ -264,21 +264,21 @@ module _ (w : Viewer) (a : IsAttentive w) where
       zero-lt : 0 < 1
       zero-lt = omega arith
 
-  handed_seen : (on : Ground) (k : Call) (buffer : Range) (t : Turn) → handed on (seen_call w.birth k) buffer t ≡ handed on k buffer t
+  handed_seen : (on : Ground) (k : Call) (buffer : Slice) (t : Turn) → handed on (seen_call w.birth k) buffer t ≡ handed on k buffer t
   unfolding handed
   handed_seen on k buffer t =
-      ap (λ (b : ℕ). given k.server.index (0 ∷ (k.client.index + 1024 * b) ∷ k.operation ∷ k.message.length ∷ k.reply.length ∷ k.leases ∷ []) given_before) (a.generation k.client.birth)
+      ap (λ (b : ℕ). given k.server.index (0 ∷ (k.client.index + 1024 * b) ∷ k.operation ∷ k.message.len ∷ k.reply.len ∷ k.leases ∷ []) given_before) (a.generation k.client.birth)
     where
       given_before : Turn
       given_before =
-          let n = min k.message.length buffer.length in
+          let n = min k.message.len buffer.len in
           changed (without_listen k.server.index)
           (noted (note.Take k.number n)
           (changed (with_taken k.client.index)
           (copied on k.message.base buffer.base n
-          (looked record { call = k.number; part = MessageFront; base = k.message.base; length = n } t))))
+          (looked record { call = k.number; part = MessageFront; base = k.message.base; len = n } t))))
 
-  pub alike-handed : (on : Ground) (k m : Call) (buffer : Range) (t u : Turn) → seen_call w.birth k ≡ seen_call w.birth m → IsAlike w t u → IsAlikeWhereSeen w (handed on k buffer t) (handed on m buffer u)
+  pub alike-handed : (on : Ground) (k m : Call) (buffer : Slice) (t u : Turn) → seen_call w.birth k ≡ seen_call w.birth m → IsAlike w t u → IsAlikeWhereSeen w (handed on k buffer t) (handed on m buffer u)
   alike-handed on k m buffer t u same h =
       let e : handed on m buffer u ≡ handed on k buffer u = sym (handed_seen on m buffer u) ∙ ap (λ (x : Call). handed on x buffer u) (sym same) ∙ handed_seen on k buffer u in
       rw e (alike-handed_same on k buffer t u h)

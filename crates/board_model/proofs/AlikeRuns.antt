@@ -11,7 +11,7 @@ use Rattle.task_table.specs.Start.{begun}
 use Rattle.std.proofs.lemmas.List.Elements.{filter-append}
 use Rattle.board_model.specs.declared.outcomes.End.{End}
 use Rattle.board_model.specs.declared.outcomes.Level.{Level}
-use Rattle.board_model.specs.declared.outcomes.Level.TheVariants.{Brief, All}
+use Rattle.board_model.specs.declared.outcomes.Level.TheVariants.{Calls, All}
 use Rattle.board_model.specs.Script.{Scenario}
 use Rattle.board_model.specs.Turn.{after_events, turn}
 use Rattle.board_model.proofs.TurnChains.{sane-after_events, sane-after}
@@ -92,12 +92,12 @@ module _ (w : Viewer) (a : IsAttentive w) (l m : Level) (heard : IsHeardAs w l m
 -- ## what is noted on request
 
 -- so the run is the same without it
-pub less_noted-run : (x : Scenario) (n : ℕ) (s : State) → run Brief x n s ≡ without_instructions (run All x n s)
+pub less_noted-run : (x : Scenario) (n : ℕ) (s : State) → run Calls x n s ≡ without_instructions (run All x n s)
 unfolding listener begun
 less_noted-run x n s =
     let start = alike_of_told (begun s) (begun s) record { state = refl; writes = refl; reads = refl; notes = refl } in
-    let r = alike-run listener attentive_listener Brief All (λ k request. request) x (open_listener x.setup) (λ b. refl) (λ u. Unit {0}) (λ u. Unit {0}) (λ u i. told_plainly (after_events x u).state) (λ u i. told_plainly (after_events x u).state) (λ u i. tt) (λ u i. tt) n s s tt tt record { state = start.state; memory = start.memory } in
-    let last = (told_of_alike (begun (run Brief x n s).last) (begun (run All x n s).last) (alike_begun listener _ _ r.last)).state in
+    let r = alike-run listener attentive_listener Calls All (λ k request. request) x (open_listener x.setup) (λ b. refl) (λ u. Unit {0}) (λ u. Unit {0}) (λ u i. told_plainly (after_events x u).state) (λ u i. told_plainly (after_events x u).state) (λ u i. tt) (λ u i. tt) n s s tt tt record { state = start.state; memory = start.memory } in
+    let last = (told_of_alike (begun (run Calls x n s).last) (begun (run All x n s).last) (alike_begun listener _ _ r.last)).state in
     λ i. record { last = last i; notes = r.notes i; end = r.end i }
 
 -- ## births modulo 64

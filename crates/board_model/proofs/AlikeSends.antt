@@ -110,7 +110,7 @@ module _ (w : Viewer) (a : IsAttentive w) where
       by_seen (IsAlike w) (λ y. replied_to g c x (Some y) u) (λ y. refl) k m inner _
       (by_same (IsAlike w) (not (is_valid (reply_of x))) (alike-misused w a g c (usage_number InvalidSlice) t u h) (
       by_case (IsAlike w) (is_some (bad_byte g c ToRead (reply_of x))) (alike-denied w a g c (access_number KernelRead) (bad_byte g c ToRead (reply_of x)) t u h) (λ clear.
-      by_same (IsAlike w) (ltb k.reply.length x.reply_length) (alike-misused w a g c (usage_number ReplyTooBig) t u h)
+      by_same (IsAlike w) (ltb k.reply.len x.reply_length) (alike-misused w a g c (usage_number ReplyTooBig) t u h)
       (alike-goes_on w a c _ _ (alike-returned w a k.client.index _ _ (alike-given w a k.client.index (x.code ∷ x.reply_length ∷ []) _ _ (alike-closed w a k.client.index ending.Reply _ _ (alike-copied w a (Reply k.number) x.reply_base k.reply.base x.reply_length t u (checked_seen w g c open_to ToRead (reply_of x) clear) h))))))))
     where
       inner : seen_call w.birth k ≡ seen_call w.birth m

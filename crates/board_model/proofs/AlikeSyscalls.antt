@@ -2,7 +2,7 @@
 use Rattle.std.proofs.Common.{ℕ, eqb, List, [], ◌∷◌}
 use Rattle.std.specs.Prelude.{if◌then◌else◌}
 use Rattle.kernel_abi.specs.Faults.{usage_number}
-use Rattle.kernel_abi.specs.declared.Usage.TheVariants.{BadSyscall}
+use Rattle.kernel_abi.specs.declared.Usage.TheVariants.{BadCall}
 use Rattle.task_table.specs.State.{Setup, Turn}
 use Rattle.task_table.specs.Reading.{register, syscall_selector}
 use Rattle.task_table.specs.Orders.{ordered}
@@ -26,7 +26,7 @@ module _ (w : Viewer) (a : IsAttentive w) where
       rw e (by_same (IsAlikeWhereSeen w) (is_to_kernel t.state c) (surely w a (alike-ordered w a g c t u open_to h)) (alike-sent w a g c t u tell tell' h))
 
   alike-among : (list : List (ℕ × Meaning)) (n : ℕ) (g : Setup) (c : ℕ) (t u : Turn) → IsAlike w t u → EachMeaning (λ m. IsAlikeWhereSeen w (m g c t) (m g c u)) list → IsAlikeWhereSeen w (meaning_among list n g c t) (meaning_among list n g c u)
-  alike-among [] n g c t u h each = surely w a (alike-misused w a g c (usage_number BadSyscall) t u h)
+  alike-among [] n g c t u h each = surely w a (alike-misused w a g c (usage_number BadCall) t u h)
   alike-among (call ∷ list) n g c t u h each = by_same (IsAlikeWhereSeen w) (eqb n call.0) each.0 (alike-among list n g c t u h each.1)
 
   -- one fact for each system call

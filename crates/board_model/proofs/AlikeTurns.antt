@@ -16,7 +16,7 @@ use Rattle.task_table.specs.Rows.{syscall_noted}
 use Rattle.board_model.specs.Levels.{is_noted_always}
 use Rattle.task_table.specs.Start.{begun}
 use Rattle.board_model.specs.declared.outcomes.Level.{Level}
-use Rattle.board_model.specs.declared.outcomes.Level.TheVariants.{Brief, All}
+use Rattle.board_model.specs.declared.outcomes.Level.TheVariants.{Calls, All}
 use Rattle.board_model.specs.Script.{Scenario}
 use Rattle.thumb_exec.specs.Bytes.{bytes_of}
 use Rattle.board_model.specs.Turn.{may, cpu_of, put, noted_at, stepped, happened, after_events, with_current, low_note, high_note, with_registers_noted, turn_of, ended, turn}
@@ -31,10 +31,10 @@ use Rattle.board_model.proofs.Following.{IsFollowed, follow-stepped}
 
 -- how much is noted of the two turns: as much, and all is heard; or the first tells no more than what is heard
 abbrev pub IsHeardAs : Viewer → Level → Level → Type 0
-IsHeardAs w Brief Brief = Unit {0}
+IsHeardAs w Calls Calls = Unit {0}
 IsHeardAs w All All = (n : Note) → w.hears n ≡ true
-IsHeardAs w Brief All = (n : Note) → is_noted_always n ≡ false → w.hears n ≡ false
-IsHeardAs w All Brief = ⊥
+IsHeardAs w Calls All = (n : Note) → is_noted_always n ≡ false → w.hears n ≡ false
+IsHeardAs w All Calls = ⊥
 
 -- alike, and what listens name is told apart in both
 record AreAlikeAndNoted (w : Viewer) (t u : Turn) : Type 0 where
@@ -44,7 +44,7 @@ record AreAlikeAndNoted (w : Viewer) (t u : Turn) : Type 0 where
 
 notable_noted : (v : ℕ → ℕ) (l : Level) (n : Note) (t : Turn) → AreTellable v t.state → AreTellable v (noted_at l n t).state
 unfolding noted
-notable_noted v Brief n t h = h
+notable_noted v Calls n t h = h
 notable_noted v All n t h = h
 
 notable_put : (v : ℕ → ℕ) (t : Turn) (x : Store) → AreTellable v t.state → AreTellable v (put t x).state
@@ -68,10 +68,10 @@ module _ (w : Viewer) (a : IsAttentive w) where
   alike-noted_at l m heard n k t u e request h = rw (sym e) (go l m heard)
     where
       go : (x y : Level) → IsHeardAs w x y → IsAlike w (noted_at x n t) (noted_at y n u)
-      go Brief Brief q = h
+      go Calls Calls q = h
       go All All q = alike-heard w a n t u (q n) h
-      go Brief All q = alike-unheard w a n t u (q n request) h
-      go All Brief q = absurd q
+      go Calls All q = alike-unheard w a n t u (q n request) h
+      go All Calls q = absurd q
 
   alike-put : (x : Store) (t u : Turn) → IsAlike w t u → IsAlike w (put t x) (put u x)
   alike-put x t u h =
@@ -109,7 +109,7 @@ module _ (w : Viewer) (a : IsAttentive w) where
 
     reads_told : (c : ℕ) (t : Turn) → (with_registers_noted l c t).reads ≡ t.reads
     unfolding with_registers_noted noted
-    reads_told c t = elim l as (λ (x : Level). (noted_at x (high_note (task_at t.state c)) (noted_at x (low_note (task_at t.state c)) t)).reads ≡ t.reads) [ Brief ↦ refl | All ↦ refl ]
+    reads_told c t = elim l as (λ (x : Level). (noted_at x (high_note (task_at t.state c)) (noted_at x (low_note (task_at t.state c)) t)).reads ≡ t.reads) [ Calls ↦ refl | All ↦ refl ]
 
     alike-turn_of : (g : Setup) (o : Option ℕ) (t u : Turn) → ((c : ℕ) → o ≡ Some c → IsOpen w g c) → AreAlikeAndNoted w t u → IsAlikeWhereSeen w (turn_of l g o t) (turn_of m g o u)
     alike-turn_of g None t u sight h = surely w a (alike-noted_at l m heard note.Idle note.Idle t u refl refl h.alike)

@@ -1,7 +1,7 @@
 -- The first turns of the five tasks with each instruction noted, by computing; the lines come from another program.
 use Rattle.std.proofs.Common.{◌≡◌, ℕ, true, false, List, [], ◌∷◌, refl}
 use Rattle.kernel_abi.specs.declared.Handled.TheVariants as handled
-use Rattle.kernel_abi.specs.declared.Listened.TheVariants as listened
+use Rattle.kernel_abi.specs.declared.FromIndex.TheVariants as from_index
 use Rattle.kernel_abi.specs.declared.Note.{Note}
 use Rattle.kernel_abi.specs.declared.Note.TheVariants as note
 use Rattle.task_table.specs.Start.{start}
@@ -34,7 +34,7 @@ expected =
     (5, note.High (0 ∷ 0 ∷ 0 ∷ 1 ∷ 0 ∷ 536870976 ∷ 4294967295 ∷ 134217740 ∷ []) false false false false) ∷
     (6, note.Insn 0 134217740 57088) ∷
     (6, note.Syscall 0 1 (0 ∷ 0 ∷ 1 ∷ 0 ∷ 0 ∷ 0 ∷ 0 ∷ [])) ∷
-    (6, note.Listen 0 listened.Any 1) ∷
+    (6, note.Listen 0 from_index.Any 1) ∷
     (6, note.Low (1 ∷ 0 ∷ 0 ∷ 0 ∷ 0 ∷ 0 ∷ 1 ∷ 0 ∷ [])) ∷
     (6, note.High (0 ∷ 0 ∷ 0 ∷ 1 ∷ 0 ∷ 536870976 ∷ 4294967295 ∷ 134217742 ∷ []) false false false false) ∷
     (7, note.Insn 1 134217984 8960) ∷
@@ -94,7 +94,7 @@ expected =
     (23, note.High (0 ∷ 0 ∷ 0 ∷ 1 ∷ 0 ∷ 536871232 ∷ 4294967295 ∷ 134218018 ∷ []) false false false false) ∷
     (24, note.Insn 1 134218018 57088) ∷
     (24, note.Syscall 1 1 (0 ∷ 0 ∷ 2 ∷ 0 ∷ 0 ∷ 0 ∷ 0 ∷ [])) ∷
-    (24, note.Listen 1 listened.Any 2) ∷
+    (24, note.Listen 1 from_index.Any 2) ∷
     (24, note.Low (1 ∷ 0 ∷ 0 ∷ 0 ∷ 0 ∷ 0 ∷ 2 ∷ 0 ∷ [])) ∷
     (24, note.High (0 ∷ 0 ∷ 0 ∷ 1 ∷ 0 ∷ 536871232 ∷ 4294967295 ∷ 134218020 ∷ []) false false false false) ∷
     (25, note.Insn 2 134218240 9217) ∷

@@ -2,14 +2,14 @@
 use Rattle.std.proofs.Common.{◌≡◌, ℕ, true, false, List, [], ◌∷◌, ◌++◌, Some, refl}
 use Rattle.std.specs.Prelude.{replicate}
 use Rattle.kernel_abi.specs.declared.Handled.TheVariants as handled
-use Rattle.kernel_abi.specs.declared.Listened.TheVariants as listened
+use Rattle.kernel_abi.specs.declared.FromIndex.TheVariants as from_index
 use Rattle.kernel_abi.specs.declared.Note.{Note}
 use Rattle.kernel_abi.specs.declared.Note.TheVariants as note
 use Rattle.run_script.specs.declared.events.Event.TheVariants.{Irq}
 use Rattle.task_table.specs.State.{Setup}
 use Rattle.task_table.specs.Start.{start}
 use Rattle.board_model.specs.declared.outcomes.End.TheVariants.{Bound}
-use Rattle.board_model.specs.declared.outcomes.Level.TheVariants.{Brief}
+use Rattle.board_model.specs.declared.outcomes.Level.TheVariants.{Calls}
 use Rattle.board_model.specs.Script.{Scenario}
 use Rattle.board_model.specs.Run.{Run, run}
 use Rattle.board_model.proofs.Computed.{computed}
@@ -38,7 +38,7 @@ scenario = record {
 expected : List (ℕ × Note)
 expected =
     (6, note.Syscall 0 1 (0 ∷ 0 ∷ 1 ∷ 2147549183 ∷ 0 ∷ 0 ∷ 0 ∷ [])) ∷
-    (6, note.Listen 0 listened.Kernel 1) ∷
+    (6, note.Listen 0 from_index.Kernel 1) ∷
     (14, note.Syscall 1 7 (2 ∷ 1 ∷ 0 ∷ 0 ∷ 0 ∷ 0 ∷ 0 ∷ [])) ∷
     (14, note.Ret 1 (2 ∷ 1 ∷ 0 ∷ 0 ∷ 0 ∷ 0 ∷ [])) ∷
     (17, note.Syscall 1 9 (2 ∷ 1 ∷ 0 ∷ 0 ∷ 0 ∷ 0 ∷ 0 ∷ [])) ∷
@@ -47,7 +47,7 @@ expected =
     (27, note.Ret 1 (1 ∷ 4 ∷ 0 ∷ 1 ∷ 0 ∷ 0 ∷ [])) ∷
     (30, note.Tick 1) ∷
     (36, note.Syscall 1 1 (0 ∷ 0 ∷ 3 ∷ 2147549183 ∷ 0 ∷ 0 ∷ 0 ∷ [])) ∷
-    (36, note.Listen 1 listened.Kernel 3) ∷
+    (36, note.Listen 1 from_index.Kernel 3) ∷
     (60, note.Tick 2) ∷
     (90, note.Tick 3) ∷
     (120, note.Tick 4) ∷
@@ -59,7 +59,7 @@ expected =
     (143, note.Ret 1 (1 ∷ 8 ∷ 0 ∷ 1 ∷ 0 ∷ 0 ∷ [])) ∷
     (150, note.Tick 5) ∷
     (152, note.Syscall 1 1 (0 ∷ 0 ∷ 3 ∷ 2147549183 ∷ 0 ∷ 0 ∷ 0 ∷ [])) ∷
-    (152, note.Listen 1 listened.Kernel 3) ∷
+    (152, note.Listen 1 from_index.Kernel 3) ∷
     (180, note.Tick 6) ∷
     (200, note.Irq 5 handled.Posted) ∷
     (200, note.Post 1 2 2) ∷
@@ -68,7 +68,7 @@ expected =
     (209, note.Ret 1 (2 ∷ 1 ∷ 2 ∷ 0 ∷ 0 ∷ 0 ∷ [])) ∷
     (210, note.Tick 7) ∷
     (221, note.Syscall 1 1 (0 ∷ 0 ∷ 3 ∷ 2147549183 ∷ 0 ∷ 0 ∷ 0 ∷ [])) ∷
-    (221, note.Listen 1 listened.Kernel 3) ∷
+    (221, note.Listen 1 from_index.Kernel 3) ∷
     (240, note.Tick 8) ∷
     (240, note.Post 1 1 1) ∷
     (240, note.Ret 1 (0 ∷ 65535 ∷ 1 ∷ 0 ∷ 0 ∷ 0 ∷ [])) ∷
@@ -78,7 +78,7 @@ expected =
     (263, note.Ret 1 (1 ∷ 10 ∷ 0 ∷ 1 ∷ 0 ∷ 0 ∷ [])) ∷
     (270, note.Tick 9) ∷
     (272, note.Syscall 1 1 (0 ∷ 0 ∷ 3 ∷ 2147549183 ∷ 0 ∷ 0 ∷ 0 ∷ [])) ∷
-    (272, note.Listen 1 listened.Kernel 3) ∷
+    (272, note.Listen 1 from_index.Kernel 3) ∷
     (300, note.Tick 10) ∷
     (300, note.Post 1 1 1) ∷
     (300, note.Ret 1 (0 ∷ 65535 ∷ 1 ∷ 0 ∷ 0 ∷ 0 ∷ [])) ∷
@@ -88,7 +88,7 @@ expected =
     (323, note.Ret 1 (1 ∷ 12 ∷ 0 ∷ 1 ∷ 0 ∷ 0 ∷ [])) ∷
     (330, note.Tick 11) ∷
     (332, note.Syscall 1 1 (0 ∷ 0 ∷ 3 ∷ 2147549183 ∷ 0 ∷ 0 ∷ 0 ∷ [])) ∷
-    (332, note.Listen 1 listened.Kernel 3) ∷
+    (332, note.Listen 1 from_index.Kernel 3) ∷
     (360, note.Tick 12) ∷
     (360, note.Post 1 1 1) ∷
     (360, note.Ret 1 (0 ∷ 65535 ∷ 1 ∷ 0 ∷ 0 ∷ 0 ∷ [])) ∷
@@ -98,7 +98,7 @@ expected =
     (383, note.Ret 1 (1 ∷ 14 ∷ 0 ∷ 1 ∷ 0 ∷ 0 ∷ [])) ∷
     (390, note.Tick 13) ∷
     (392, note.Syscall 1 1 (0 ∷ 0 ∷ 3 ∷ 2147549183 ∷ 0 ∷ 0 ∷ 0 ∷ [])) ∷
-    (392, note.Listen 1 listened.Kernel 3) ∷
+    (392, note.Listen 1 from_index.Kernel 3) ∷
     (400, note.Irq 5 handled.Posted) ∷
     (400, note.Post 1 2 2) ∷
     (400, note.Ret 1 (0 ∷ 65535 ∷ 2 ∷ 0 ∷ 0 ∷ 0 ∷ [])) ∷
@@ -118,7 +118,7 @@ expected =
     (453, note.Syscall 1 3 (1 ∷ 18 ∷ 0 ∷ 1 ∷ 0 ∷ 0 ∷ 0 ∷ [])) ∷
     (453, note.Ret 1 (1 ∷ 18 ∷ 0 ∷ 1 ∷ 0 ∷ 0 ∷ [])) ∷
     (462, note.Syscall 1 1 (0 ∷ 0 ∷ 3 ∷ 2147549183 ∷ 0 ∷ 0 ∷ 0 ∷ [])) ∷
-    (462, note.Listen 1 listened.Kernel 3) ∷
+    (462, note.Listen 1 from_index.Kernel 3) ∷
     (480, note.Tick 16) ∷
     (500, note.Irq 9 handled.Unowned) ∷
     (510, note.Tick 17) ∷
@@ -131,13 +131,13 @@ expected =
     (563, note.Ret 1 (1 ∷ 22 ∷ 0 ∷ 1 ∷ 0 ∷ 0 ∷ [])) ∷
     (570, note.Tick 19) ∷
     (572, note.Syscall 1 1 (0 ∷ 0 ∷ 3 ∷ 2147549183 ∷ 0 ∷ 0 ∷ 0 ∷ [])) ∷
-    (572, note.Listen 1 listened.Kernel 3) ∷
+    (572, note.Listen 1 from_index.Kernel 3) ∷
     []
 
 -- the notes, how the run ended, and the time then
 IsTrace : Run → Type 0
 IsTrace r = (r.notes ≡ expected) × (r.end ≡ Bound) × (r.last.now ≡ 19)
 
-agrees : IsTrace (run Brief scenario 600 (start setup))
+agrees : IsTrace (run Calls scenario 600 (start setup))
 unfolding setup scenario expected IsTrace computed
 agrees = (refl, refl, refl)

@@ -2,13 +2,13 @@
 use Rattle.std.proofs.Common.{◌≡◌, ℕ, true, false, List, [], ◌∷◌, ◌++◌, None, refl}
 use Rattle.std.specs.Prelude.{replicate}
 use Rattle.kernel_abi.specs.declared.Ending.TheVariants as ending
-use Rattle.kernel_abi.specs.declared.Listened.TheVariants as listened
+use Rattle.kernel_abi.specs.declared.FromIndex.TheVariants as from_index
 use Rattle.kernel_abi.specs.declared.Note.{Note}
 use Rattle.kernel_abi.specs.declared.Note.TheVariants as note
 use Rattle.task_table.specs.State.{Setup}
 use Rattle.task_table.specs.Start.{start}
 use Rattle.board_model.specs.declared.outcomes.End.TheVariants.{Still}
-use Rattle.board_model.specs.declared.outcomes.Level.TheVariants.{Brief}
+use Rattle.board_model.specs.declared.outcomes.Level.TheVariants.{Calls}
 use Rattle.board_model.specs.Script.{Scenario}
 use Rattle.board_model.specs.Run.{Run, run}
 use Rattle.board_model.proofs.Computed.{computed}
@@ -36,9 +36,9 @@ scenario = record { setup = setup; script = record { every = None; events = [] }
 expected : List (ℕ × Note)
 expected =
     (3, note.Syscall 0 1 (0 ∷ 0 ∷ 1 ∷ 0 ∷ 0 ∷ 0 ∷ 0 ∷ [])) ∷
-    (3, note.Listen 0 listened.Any 1) ∷
+    (3, note.Listen 0 from_index.Any 1) ∷
     (10, note.Syscall 1 1 (536871232 ∷ 8 ∷ 0 ∷ 0 ∷ 0 ∷ 0 ∷ 0 ∷ [])) ∷
-    (10, note.Listen 1 listened.Any 0) ∷
+    (10, note.Listen 1 from_index.Any 0) ∷
     (26, note.Syscall 2 0 (65541 ∷ 536871488 ∷ 4 ∷ 536871488 ∷ 4 ∷ 0 ∷ 0 ∷ [])) ∷
     (26, note.Offer 1 2 1) ∷
     (26, note.Take 1 4) ∷
@@ -48,7 +48,7 @@ expected =
     (36, note.Ret 2 (5 ∷ 4 ∷ 4 ∷ 536871488 ∷ 4 ∷ 0 ∷ [])) ∷
     (36, note.Ret 1 (2 ∷ 5 ∷ 536871232 ∷ 4 ∷ 4 ∷ 0 ∷ [])) ∷
     (44, note.Syscall 1 1 (536871232 ∷ 8 ∷ 0 ∷ 0 ∷ 4 ∷ 0 ∷ 0 ∷ [])) ∷
-    (44, note.Listen 1 listened.Any 0) ∷
+    (44, note.Listen 1 from_index.Any 0) ∷
     (59, note.Syscall 2 0 (65541 ∷ 536871488 ∷ 4 ∷ 536871488 ∷ 4 ∷ 0 ∷ 0 ∷ [])) ∷
     (59, note.Offer 2 2 1) ∷
     (59, note.Take 2 4) ∷
@@ -58,7 +58,7 @@ expected =
     (69, note.Ret 2 (5 ∷ 4 ∷ 4 ∷ 536871488 ∷ 4 ∷ 0 ∷ [])) ∷
     (69, note.Ret 1 (2 ∷ 5 ∷ 536871232 ∷ 4 ∷ 4 ∷ 0 ∷ [])) ∷
     (77, note.Syscall 1 1 (536871232 ∷ 8 ∷ 0 ∷ 0 ∷ 4 ∷ 0 ∷ 0 ∷ [])) ∷
-    (77, note.Listen 1 listened.Any 0) ∷
+    (77, note.Listen 1 from_index.Any 0) ∷
     (92, note.Syscall 2 0 (65541 ∷ 536871488 ∷ 4 ∷ 536871488 ∷ 4 ∷ 0 ∷ 0 ∷ [])) ∷
     (92, note.Offer 3 2 1) ∷
     (92, note.Take 3 4) ∷
@@ -68,15 +68,15 @@ expected =
     (102, note.Ret 2 (5 ∷ 4 ∷ 4 ∷ 536871488 ∷ 4 ∷ 0 ∷ [])) ∷
     (102, note.Ret 1 (2 ∷ 5 ∷ 536871232 ∷ 4 ∷ 4 ∷ 0 ∷ [])) ∷
     (110, note.Syscall 1 1 (536871232 ∷ 8 ∷ 0 ∷ 0 ∷ 4 ∷ 0 ∷ 0 ∷ [])) ∷
-    (110, note.Listen 1 listened.Any 0) ∷
+    (110, note.Listen 1 from_index.Any 0) ∷
     (118, note.Syscall 2 1 (5 ∷ 0 ∷ 0 ∷ 2147549183 ∷ 4 ∷ 0 ∷ 0 ∷ [])) ∷
-    (118, note.Listen 2 listened.Kernel 0) ∷
+    (118, note.Listen 2 from_index.Kernel 0) ∷
     []
 
 -- the notes, how the run ended, and after how many turns
 IsTrace : Run → Type 0
 IsTrace r = (r.notes ≡ expected) × (r.end ≡ Still) × (r.last.turn ≡ 119)
 
-agrees : IsTrace (run Brief scenario 200 (start setup))
+agrees : IsTrace (run Calls scenario 200 (start setup))
 unfolding setup scenario expected IsTrace computed
 agrees = (refl, refl, refl)

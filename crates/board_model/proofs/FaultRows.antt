@@ -12,7 +12,7 @@ use Rattle.kernel_abi.specs.declared.Note.TheVariants as note
 use Rattle.kernel_abi.specs.declared.Timer.{Timer}
 use Rattle.words_core.specs.declared.Flags.{Flags}
 use Rattle.task_table.specs.declared.Line.{Line}
-use Rattle.task_table.specs.declared.slot.Range.{Range}
+use Rattle.task_table.specs.declared.slot.Slice.{Slice}
 use Rattle.task_table.specs.State.{Setup, State, Task, Call, Listen, Ground, Own, Message, Read, Turn}
 use Rattle.task_table.specs.Reading.{task_at, call_of, listen_of, is_ready, admits}
 use Rattle.task_table.specs.Effects.{with_task, with_call, without_listen, with_listen, with_taken, changed, noted, with_processor, with_health, stored, copied, looked, given, returned, past_syscall, bits_added, bits_cleared, woken_by, woken, posted, with_timer, with_line, closed, faulted_as, faulted, offered, handed, reborn, is_to, awaits, dead_answered, restarted}
@@ -106,7 +106,7 @@ module _ (c : ℕ) where
   well-listening : (l : Listen) (t : Turn) → IsWell t → IsWell (changed (with_listen l) t)
   well-listening l t h = rw (task_at-with_listen t.state l c) h
 
-  well-handed : (on : Ground) (k : Call) (buffer : Range) (t : Turn) → IsWell t → IsWell (handed on k buffer t)
+  well-handed : (on : Ground) (k : Call) (buffer : Slice) (t : Turn) → IsWell t → IsWell (handed on k buffer t)
   unfolding handed noted copied looked task_at with_taken without_listen
   well-handed on k buffer t h = well-given k.server.index _ _ h
 

@@ -20,7 +20,7 @@ use Rattle.task_table.specs.Lives.{IsFresh}
 use Rattle.task_table.proofs.Receives.{well-ready}
 use Rattle.task_table.proofs.Sanity.{sane-current}
 use Rattle.board_model.specs.declared.outcomes.Level.{Level}
-use Rattle.board_model.specs.declared.outcomes.Level.TheVariants.{Brief, All}
+use Rattle.board_model.specs.declared.outcomes.Level.TheVariants.{Calls, All}
 use Rattle.board_model.specs.Script.{Scenario}
 use Rattle.board_model.specs.Turn.{put, acted, executed, noted_at, stepped_by, stepped, after_events, with_current, low_note, high_note, with_registers_noted, turn_of, ended, turn}
 use Rattle.board_model.specs.Faults.{IsSameButForFault, AreEntries}
@@ -39,7 +39,7 @@ noted_before g c n t u (StaysWell w) = StaysWell w
 
 noted_after : (level : Level) (g : Setup) (c : ℕ) (n : Note) (t u : Turn) → Outcome g c t u → Outcome g c t (noted_at level n u)
 unfolding noted
-noted_after Brief g c n t u x = x
+noted_after Calls g c n t u x = x
 noted_after All g c n t u (FaultsAlone h) = FaultsAlone record { same = h.same; writes = h.writes; reads = h.reads }
 noted_after All g c n t u (StaysWell w) = StaysWell w
 
@@ -58,7 +58,7 @@ module _ (g : Setup) (c : ℕ) where
 
   outcome-executed : (level : Level) (at code : ℕ) (insn : Insn) (t : Turn) → Sane g t.state → IsChosen t.state c → Outcome g c t (executed g c insn (noted_at level (note.Insn c at code) t))
   unfolding noted
-  outcome-executed Brief at code insn t h is = outcome-acted t h is _
+  outcome-executed Calls at code insn t h is = outcome-acted t h is _
   outcome-executed All at code insn t h is = noted_before g c (note.Insn c at code) t _ (outcome-acted (noted (note.Insn c at code) t) h is _)
 
   module _ (level : Level) (t : Turn) (h : Sane g t.state) (is : IsChosen t.state c) where

@@ -2,14 +2,14 @@
 use Rattle.std.proofs.Common.{◌≡◌, ℕ, true, false, List, [], ◌∷◌, ◌++◌, Some, refl}
 use Rattle.std.specs.Prelude.{replicate}
 use Rattle.kernel_abi.specs.declared.Handled.TheVariants as handled
-use Rattle.kernel_abi.specs.declared.Listened.TheVariants as listened
+use Rattle.kernel_abi.specs.declared.FromIndex.TheVariants as from_index
 use Rattle.kernel_abi.specs.declared.Note.{Note}
 use Rattle.kernel_abi.specs.declared.Note.TheVariants as note
 use Rattle.run_script.specs.declared.events.Event.TheVariants.{Tick, Irq}
 use Rattle.task_table.specs.State.{Setup}
 use Rattle.task_table.specs.Start.{start}
 use Rattle.board_model.specs.declared.outcomes.End.TheVariants.{Bound}
-use Rattle.board_model.specs.declared.outcomes.Level.TheVariants.{Brief}
+use Rattle.board_model.specs.declared.outcomes.Level.TheVariants.{Calls}
 use Rattle.board_model.specs.Script.{Scenario}
 use Rattle.board_model.specs.Run.{Run, run}
 use Rattle.board_model.proofs.Computed.{computed}
@@ -45,13 +45,13 @@ expected : List (ℕ × Note)
 expected =
     (5, note.Irq 7 handled.Held) ∷
     (6, note.Syscall 0 1 (0 ∷ 0 ∷ 1 ∷ 0 ∷ 0 ∷ 0 ∷ 0 ∷ [])) ∷
-    (6, note.Listen 0 listened.Any 1) ∷
+    (6, note.Listen 0 from_index.Any 1) ∷
     (10, note.Syscall 1 9 (0 ∷ 0 ∷ 0 ∷ 0 ∷ 0 ∷ 0 ∷ 0 ∷ [])) ∷
     (10, note.Ret 1 (0 ∷ 0 ∷ 0 ∷ 0 ∷ 0 ∷ 0 ∷ [])) ∷
     (17, note.Syscall 1 3 (1 ∷ 2 ∷ 0 ∷ 2 ∷ 0 ∷ 0 ∷ 0 ∷ [])) ∷
     (17, note.Ret 1 (1 ∷ 2 ∷ 0 ∷ 2 ∷ 0 ∷ 0 ∷ [])) ∷
     (24, note.Syscall 1 1 (0 ∷ 0 ∷ 2 ∷ 0 ∷ 0 ∷ 0 ∷ 0 ∷ [])) ∷
-    (24, note.Listen 1 listened.Any 2) ∷
+    (24, note.Listen 1 from_index.Any 2) ∷
     (29, note.Syscall 2 7 (1 ∷ 1 ∷ 0 ∷ 0 ∷ 0 ∷ 0 ∷ 0 ∷ [])) ∷
     (29, note.Post 2 1 1) ∷
     (29, note.Ret 2 (1 ∷ 1 ∷ 0 ∷ 0 ∷ 0 ∷ 0 ∷ [])) ∷
@@ -61,7 +61,7 @@ expected =
     (44, note.Syscall 2 7 (1 ∷ 1 ∷ 1 ∷ 0 ∷ 0 ∷ 0 ∷ 0 ∷ [])) ∷
     (44, note.Ret 2 (1 ∷ 1 ∷ 1 ∷ 0 ∷ 0 ∷ 0 ∷ [])) ∷
     (53, note.Syscall 2 1 (536871488 ∷ 8 ∷ 1 ∷ 2147483652 ∷ 0 ∷ 0 ∷ 0 ∷ [])) ∷
-    (53, note.Listen 2 (listened.One 4) 1) ∷
+    (53, note.Listen 2 (from_index.One 4) 1) ∷
     (60, note.Tick 2) ∷
     (60, note.Post 1 2 2) ∷
     (60, note.Ret 1 (0 ∷ 65535 ∷ 2 ∷ 0 ∷ 0 ∷ 0 ∷ [])) ∷
@@ -70,7 +70,7 @@ expected =
     (71, note.Syscall 1 3 (1 ∷ 4 ∷ 0 ∷ 2 ∷ 0 ∷ 0 ∷ 0 ∷ [])) ∷
     (71, note.Ret 1 (1 ∷ 4 ∷ 0 ∷ 2 ∷ 0 ∷ 0 ∷ [])) ∷
     (78, note.Syscall 1 1 (0 ∷ 0 ∷ 2 ∷ 0 ∷ 0 ∷ 0 ∷ 0 ∷ [])) ∷
-    (78, note.Listen 1 listened.Any 2) ∷
+    (78, note.Listen 1 from_index.Any 2) ∷
     (90, note.Tick 3) ∷
     (90, note.Irq 7 handled.Posted) ∷
     (90, note.Post 2 1 1) ∷
@@ -84,7 +84,7 @@ expected =
     (102, note.Syscall 1 3 (1 ∷ 6 ∷ 0 ∷ 2 ∷ 0 ∷ 0 ∷ 0 ∷ [])) ∷
     (102, note.Ret 1 (1 ∷ 6 ∷ 0 ∷ 2 ∷ 0 ∷ 0 ∷ [])) ∷
     (109, note.Syscall 1 1 (0 ∷ 0 ∷ 2 ∷ 0 ∷ 0 ∷ 0 ∷ 0 ∷ [])) ∷
-    (109, note.Listen 1 listened.Any 2) ∷
+    (109, note.Listen 1 from_index.Any 2) ∷
     (115, note.Syscall 2 7 (1 ∷ 1 ∷ 1 ∷ 0 ∷ 0 ∷ 0 ∷ 0 ∷ [])) ∷
     (115, note.Post 2 1 1) ∷
     (115, note.Ret 2 (1 ∷ 1 ∷ 1 ∷ 0 ∷ 0 ∷ 0 ∷ [])) ∷
@@ -94,7 +94,7 @@ expected =
     (130, note.Syscall 2 7 (1 ∷ 1 ∷ 1 ∷ 0 ∷ 0 ∷ 0 ∷ 0 ∷ [])) ∷
     (130, note.Ret 2 (1 ∷ 1 ∷ 1 ∷ 0 ∷ 0 ∷ 0 ∷ [])) ∷
     (139, note.Syscall 2 1 (536871488 ∷ 8 ∷ 1 ∷ 2147483652 ∷ 0 ∷ 0 ∷ 0 ∷ [])) ∷
-    (139, note.Listen 2 (listened.One 4) 1) ∷
+    (139, note.Listen 2 (from_index.One 4) 1) ∷
     (150, note.Tick 6) ∷
     (150, note.Post 1 2 2) ∷
     (150, note.Ret 1 (0 ∷ 65535 ∷ 2 ∷ 0 ∷ 0 ∷ 0 ∷ [])) ∷
@@ -104,7 +104,7 @@ expected =
     (161, note.Syscall 1 3 (1 ∷ 8 ∷ 0 ∷ 2 ∷ 0 ∷ 0 ∷ 0 ∷ [])) ∷
     (161, note.Ret 1 (1 ∷ 8 ∷ 0 ∷ 2 ∷ 0 ∷ 0 ∷ [])) ∷
     (168, note.Syscall 1 1 (0 ∷ 0 ∷ 2 ∷ 0 ∷ 0 ∷ 0 ∷ 0 ∷ [])) ∷
-    (168, note.Listen 1 listened.Any 2) ∷
+    (168, note.Listen 1 from_index.Any 2) ∷
     (169, note.Syscall 3 3 (1 ∷ 0 ∷ 0 ∷ 4 ∷ 0 ∷ 0 ∷ 0 ∷ [])) ∷
     (169, note.Post 3 4 4) ∷
     (169, note.Ret 3 (1 ∷ 0 ∷ 0 ∷ 4 ∷ 0 ∷ 0 ∷ [])) ∷
@@ -114,12 +114,12 @@ expected =
     (175, note.Syscall 3 1 (0 ∷ 0 ∷ 4 ∷ 0 ∷ 0 ∷ 0 ∷ 0 ∷ [])) ∷
     (175, note.Ret 3 (0 ∷ 65535 ∷ 4 ∷ 0 ∷ 0 ∷ 0 ∷ [])) ∷
     (179, note.Syscall 3 1 (0 ∷ 0 ∷ 6 ∷ 4294967295 ∷ 0 ∷ 0 ∷ 0 ∷ [])) ∷
-    (179, note.Listen 3 listened.Kernel 6) ∷
+    (179, note.Listen 3 from_index.Kernel 6) ∷
     (180, note.Tick 7) ∷
     (185, note.Syscall 2 7 (1 ∷ 1 ∷ 1 ∷ 0 ∷ 0 ∷ 0 ∷ 0 ∷ [])) ∷
     (185, note.Ret 2 (1 ∷ 1 ∷ 1 ∷ 0 ∷ 0 ∷ 0 ∷ [])) ∷
     (194, note.Syscall 2 1 (536871488 ∷ 8 ∷ 1 ∷ 2147483652 ∷ 0 ∷ 0 ∷ 0 ∷ [])) ∷
-    (194, note.Listen 2 (listened.One 4) 1) ∷
+    (194, note.Listen 2 (from_index.One 4) 1) ∷
     (210, note.Tick 8) ∷
     (210, note.Post 1 2 2) ∷
     (210, note.Ret 1 (0 ∷ 65535 ∷ 2 ∷ 0 ∷ 0 ∷ 0 ∷ [])) ∷
@@ -128,7 +128,7 @@ expected =
     (221, note.Syscall 1 3 (1 ∷ 10 ∷ 0 ∷ 2 ∷ 0 ∷ 0 ∷ 0 ∷ [])) ∷
     (221, note.Ret 1 (1 ∷ 10 ∷ 0 ∷ 2 ∷ 0 ∷ 0 ∷ [])) ∷
     (228, note.Syscall 1 1 (0 ∷ 0 ∷ 2 ∷ 0 ∷ 0 ∷ 0 ∷ 0 ∷ [])) ∷
-    (228, note.Listen 1 listened.Any 2) ∷
+    (228, note.Listen 1 from_index.Any 2) ∷
     (240, note.Tick 9) ∷
     (270, note.Tick 10) ∷
     (270, note.Post 1 2 2) ∷
@@ -138,13 +138,13 @@ expected =
     (281, note.Syscall 1 3 (1 ∷ 12 ∷ 0 ∷ 2 ∷ 0 ∷ 0 ∷ 0 ∷ [])) ∷
     (281, note.Ret 1 (1 ∷ 12 ∷ 0 ∷ 2 ∷ 0 ∷ 0 ∷ [])) ∷
     (288, note.Syscall 1 1 (0 ∷ 0 ∷ 2 ∷ 0 ∷ 0 ∷ 0 ∷ 0 ∷ [])) ∷
-    (288, note.Listen 1 listened.Any 2) ∷
+    (288, note.Listen 1 from_index.Any 2) ∷
     (300, note.Tick 11) ∷
     (314, note.Fault 4 record { number = 3; x = 4; y = 0 }) ∷
     (314, note.Post 0 1 1) ∷
     (314, note.Ret 0 (0 ∷ 65535 ∷ 1 ∷ 0 ∷ 0 ∷ 0 ∷ [])) ∷
     (322, note.Syscall 0 1 (0 ∷ 0 ∷ 1 ∷ 0 ∷ 0 ∷ 0 ∷ 0 ∷ [])) ∷
-    (322, note.Listen 0 listened.Any 1) ∷
+    (322, note.Listen 0 from_index.Any 1) ∷
     (330, note.Tick 12) ∷
     (330, note.Post 1 2 2) ∷
     (330, note.Ret 1 (0 ∷ 65535 ∷ 2 ∷ 0 ∷ 0 ∷ 0 ∷ [])) ∷
@@ -156,6 +156,6 @@ expected =
 IsTrace : Run → Type 0
 IsTrace r = (r.notes ≡ expected) × (r.end ≡ Bound) × (r.last.now ≡ 12)
 
-agrees : IsTrace (run Brief scenario 340 (start setup))
+agrees : IsTrace (run Calls scenario 340 (start setup))
 unfolding setup scenario expected IsTrace computed
 agrees = (refl, refl, refl)

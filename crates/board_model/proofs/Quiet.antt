@@ -12,7 +12,7 @@ use Rattle.task_table.specs.Sane.{Sane}
 use Rattle.task_table.proofs.Noting.{noted-noted}
 use Rattle.task_table.proofs.Quieting.{ready_same, ready_then, ready-with_task, chain_quiet}
 use Rattle.board_model.specs.declared.outcomes.Level.{Level}
-use Rattle.board_model.specs.declared.outcomes.Level.TheVariants.{Brief, All}
+use Rattle.board_model.specs.declared.outcomes.Level.TheVariants.{Calls, All}
 use Rattle.board_model.specs.Script.{Scenario}
 use Rattle.board_model.specs.Run.{is_down}
 use Rattle.board_model.specs.Turn.{noted_at, stepped, after_events, with_current, with_registers_noted, turn_of, ended, turn}
@@ -91,7 +91,7 @@ unfolding task_at
 current-down s c = refl
 
 quiet-idle : (level : Level) (t : Turn) → (noted_at level note.Idle t).notes ≡ [] → IsAsReady t.state (noted_at level note.Idle t).state
-quiet-idle Brief t none = ready_same t.state
+quiet-idle Calls t none = ready_same t.state
 quiet-idle All t none = absurd (noted-noted note.Idle t none)
 
 -- who is ready, who is chosen next, and whether the supervisor has faulted, as in another state

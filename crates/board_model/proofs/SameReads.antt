@@ -13,7 +13,7 @@ use Rattle.task_table.specs.Effects.{noted}
 use Rattle.task_table.specs.Placed.{ArePlaced}
 use Rattle.task_table.specs.Sane.{Sane}
 use Rattle.board_model.specs.declared.outcomes.Level.{Level}
-use Rattle.board_model.specs.declared.outcomes.Level.TheVariants.{Brief, All}
+use Rattle.board_model.specs.declared.outcomes.Level.TheVariants.{Calls, All}
 use Rattle.board_model.specs.Script.{Scenario}
 use Rattle.board_model.specs.Turn.{may, after_events, turn_of, ended, turn}
 use Rattle.board_model.proofs.TurnChains.{sane-after_events}
@@ -39,7 +39,7 @@ module _ (g : Setup) (c : ℕ) (reads : List Read) where
 
   reader_hears : (level : Level) → IsHeardAs (reader g c reads) level level
   unfolding reader
-  reader_hears Brief = tt
+  reader_hears Calls = tt
   reader_hears All = λ n. refl
 
   above_seen : (a : ℕ) → 0x40000000 ≤ a → (is_read g c reads a || leb 0x40000000 a) ≡ true
@@ -175,7 +175,7 @@ same_idle level g t n e = go (chosen g t.state) (chosen g (with_memory n t).stat
     go o p x y = rw (x, y) (by_level level)
       where
         by_level : (l : Level) → IsSameButMemory (ended (turn_of l g None t)) (ended (turn_of l g None (with_memory n t)))
-        by_level Brief = record { writes = refl; reads = refl; notes = refl; state = refl }
+        by_level Calls = record { writes = refl; reads = refl; notes = refl; state = refl }
         by_level All = record { writes = refl; reads = refl; notes = refl; state = refl }
 
 pub same_turn : (level : Level) (x : Scenario) (s : State) (n : Memory) → Sane x.setup s → ((c : ℕ) → chosen x.setup (after_events x s).state ≡ Some c → AgreesOnReads x.setup c (turn level x s).reads (after_events x s).state.memory n) → IsSameButMemory (turn level x s) (rest_of level x.setup (with_memory n (after_events x s)))

@@ -7,7 +7,7 @@ use Rattle.region_check.specs.declared.Region.{Region}
 use Rattle.region_check.specs.declared.Right.{Right}
 use Rattle.region_check.specs.Rights.{may_use, may_copy, is_inside, has_right, first_bad}
 use Rattle.task_table.specs.State.{Setup}
-use Rattle.task_table.specs.declared.slot.Range.{Range}
+use Rattle.task_table.specs.declared.slot.Slice.{Slice}
 use Rattle.task_table.specs.Reading.{setup_at, bad_byte}
 use Rattle.board_model.specs.Alike.{Viewer}
 
@@ -42,7 +42,7 @@ is_none_of None e = refl
 is_none_of (Some x) e = absurd (false≢true (sym e))
 
 -- bytes that were checked are seen
-pub checked_seen : (w : Viewer) (g : Setup) (c : ℕ) → IsOpen w g c → (right : Right) (r : Range) → is_some (bad_byte g c right r) ≡ false → (x : ℕ) → r.base ≤ x → x < r.base + r.length → w.sees x ≡ true
+pub checked_seen : (w : Viewer) (g : Setup) (c : ℕ) → IsOpen w g c → (right : Right) (r : Slice) → is_some (bad_byte g c right r) ≡ false → (x : ℕ) → r.base ≤ x → x < r.base + r.len → w.sees x ≡ true
 unfolding bad_byte first_bad
 checked_seen w g c open_to right r e x lo hi =
-    open_to.rights right x (may_use_copied (setup_at g c).regions right x (none_lacking (may_copy (setup_at g c).regions right) r.base r.length (is_none_of _ e) x lo hi))
+    open_to.rights right x (may_use_copied (setup_at g c).regions right x (none_lacking (may_copy (setup_at g c).regions right) r.base r.len (is_none_of _ e) x lo hi))

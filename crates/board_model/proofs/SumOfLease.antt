@@ -3,13 +3,13 @@ use Rattle.std.proofs.Common.{◌≡◌, ℕ, true, false, List, [], ◌∷◌, 
 use Rattle.std.specs.Prelude.{replicate}
 use Rattle.kernel_abi.specs.declared.Borrow.TheVariants as borrow
 use Rattle.kernel_abi.specs.declared.Ending.TheVariants as ending
-use Rattle.kernel_abi.specs.declared.Listened.TheVariants as listened
+use Rattle.kernel_abi.specs.declared.FromIndex.TheVariants as from_index
 use Rattle.kernel_abi.specs.declared.Note.{Note}
 use Rattle.kernel_abi.specs.declared.Note.TheVariants as note
 use Rattle.task_table.specs.State.{Setup}
 use Rattle.task_table.specs.Start.{start}
 use Rattle.board_model.specs.declared.outcomes.End.TheVariants.{Still}
-use Rattle.board_model.specs.declared.outcomes.Level.TheVariants.{Brief}
+use Rattle.board_model.specs.declared.outcomes.Level.TheVariants.{Calls}
 use Rattle.board_model.specs.Script.{Scenario}
 use Rattle.board_model.specs.Run.{Run, run}
 use Rattle.board_model.proofs.Computed.{computed}
@@ -37,9 +37,9 @@ scenario = record { setup = setup; script = record { every = None; events = [] }
 expected : List (ℕ × Note)
 expected =
     (3, note.Syscall 0 1 (0 ∷ 0 ∷ 1 ∷ 0 ∷ 0 ∷ 0 ∷ 0 ∷ [])) ∷
-    (3, note.Listen 0 listened.Any 1) ∷
+    (3, note.Listen 0 from_index.Any 1) ∷
     (10, note.Syscall 1 1 (0 ∷ 0 ∷ 0 ∷ 0 ∷ 0 ∷ 0 ∷ 0 ∷ [])) ∷
-    (10, note.Listen 1 listened.Any 0) ∷
+    (10, note.Listen 1 from_index.Any 0) ∷
     (357, note.Syscall 2 0 (65536 ∷ 0 ∷ 0 ∷ 0 ∷ 0 ∷ 536871552 ∷ 2 ∷ [])) ∷
     (357, note.Offer 1 2 1) ∷
     (357, note.Take 1 0) ∷
@@ -67,15 +67,15 @@ expected =
     (819, note.Ret 2 (2208 ∷ 0 ∷ 0 ∷ 0 ∷ 0 ∷ 536871552 ∷ [])) ∷
     (819, note.Ret 1 (2 ∷ 2208 ∷ 0 ∷ 0 ∷ 4 ∷ 2 ∷ [])) ∷
     (827, note.Syscall 1 1 (0 ∷ 0 ∷ 0 ∷ 0 ∷ 4 ∷ 2 ∷ 0 ∷ [])) ∷
-    (827, note.Listen 1 listened.Any 0) ∷
+    (827, note.Listen 1 from_index.Any 0) ∷
     (834, note.Syscall 2 1 (2208 ∷ 0 ∷ 0 ∷ 2147549183 ∷ 0 ∷ 536871552 ∷ 2 ∷ [])) ∷
-    (834, note.Listen 2 listened.Kernel 0) ∷
+    (834, note.Listen 2 from_index.Kernel 0) ∷
     []
 
 -- the notes, how the run ended, and after how many turns
 IsTrace : Run → Type 0
 IsTrace r = (r.notes ≡ expected) × (r.end ≡ Still) × (r.last.turn ≡ 835)
 
-agrees : IsTrace (run Brief scenario 1000 (start setup))
+agrees : IsTrace (run Calls scenario 1000 (start setup))
 unfolding setup scenario expected IsTrace computed
 agrees = (refl, refl, refl)

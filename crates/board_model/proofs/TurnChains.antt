@@ -45,7 +45,7 @@ use Rattle.task_table.proofs.Moves.{IsAside, aside_here, aside-noted}
 use Rattle.task_table.proofs.Noting.{noted-noted, chain_noted}
 use Rattle.task_table.proofs.RowChains.{chain-syscall_made}
 use Rattle.board_model.specs.declared.outcomes.Level.{Level}
-use Rattle.board_model.specs.declared.outcomes.Level.TheVariants.{Brief, All}
+use Rattle.board_model.specs.declared.outcomes.Level.TheVariants.{Calls, All}
 use Rattle.board_model.specs.Script.{Scenario}
 use Rattle.thumb_exec.specs.Bytes.{bytes_of}
 use Rattle.board_model.specs.Turn.{may, refusals, cpu_of, put, acted, executed, noted_at, stepped_by, stepped, happened, after_events, with_current, low_note, high_note, with_registers_noted, turn_of, ended, turn}
@@ -256,7 +256,7 @@ module _ (level : Level) (g : Setup) (c : ℕ) (t : Turn) (h : Sane g t.state) (
 
   executed_chain : (level : Level) (at code : ℕ) (insn : Insn) → IsCoded insn → Chain (Step g t.state c) t (executed g c insn (noted_at level (note.Insn c at code) t))
   unfolding noted
-  executed_chain Brief at code insn coded = acted_chain g c t h inside ready _ (keeps-here c t h within insn coded)
+  executed_chain Calls at code insn coded = acted_chain g c t h inside ready _ (keeps-here c t h within insn coded)
   executed_chain All at code insn coded =
       let u = noted (note.Insn c at code) t in
       joined (Step g t.state c) t u _ (one (Notes (note.Insn c at code) t refl)) (acted_chain g c u h inside ready _ (keeps-here c u h within insn coded))
@@ -271,7 +271,7 @@ module _ (level : Level) (g : Setup) (c : ℕ) (t : Turn) (h : Sane g t.state) (
 
 -- what is noted besides
 tells : (g : Setup) (s : State) (c : ℕ) (level : Level) (n : Note) (t u : Turn) → Chain (Step g s c) t u → ((u : Turn) → Step g s c u (noted n u)) → Chain (Step g s c) t (noted_at level n u)
-tells g s c Brief n t u x step = x
+tells g s c Calls n t u x step = x
 tells g s c All n t u x step = x ▷ step u
 
 -- from where the chosen task becomes the current one, to the end of its turn
@@ -342,7 +342,7 @@ sane-after_events x s h = sane-events x.setup (events_of x.script s.turn) (begun
 
 -- an idle turn stands aside
 pub idle-aside : (level : Level) (t : Turn) → IsAside t (noted_at level note.Idle t)
-idle-aside Brief t = aside_here t
+idle-aside Calls t = aside_here t
 idle-aside All t = aside-noted note.Idle t refl
 
 -- from where the chosen task becomes the current one, to the end of its turn
@@ -359,7 +359,7 @@ turn_chain level x s c h e = chosen_chain level x.setup c (after_events x s) (sa
 -- what is noted changes no state
 pub noted_state : (level : Level) (n : Note) (t : Turn) → (noted_at level n t).state ≡ t.state
 unfolding noted
-noted_state Brief n t = refl
+noted_state Calls n t = refl
 noted_state All n t = refl
 
 pub ready-syscall_noted : (c : ℕ) (t : Turn) → is_ready t.state c ≡ true → is_ready (syscall_noted c t).state c ≡ true
@@ -374,7 +374,7 @@ pub sane-ran : {g : Setup} (level : Level) (c : ℕ) (t : Turn) → Sane g t.sta
 sane-ran level c t h is = sane-stepped level c (with_current c t) (sane-current c t h is.inside) is.inside (as_current c c t.state is.ready)
 
 sane-noted : {g : Setup} (level : Level) (n : Note) (t : Turn) → Sane g t.state → Sane g (noted_at level n t).state
-sane-noted Brief n t h = h
+sane-noted Calls n t h = h
 sane-noted All n t h = keeps-noted n t h
 
 sane-ended : {g : Setup} (u : Turn) → Sane g u.state → Sane g (ended u).state

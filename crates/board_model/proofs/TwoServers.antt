@@ -2,13 +2,13 @@
 use Rattle.std.proofs.Common.{◌≡◌, ℕ, true, false, List, [], ◌∷◌, ◌++◌, None, refl}
 use Rattle.std.specs.Prelude.{replicate}
 use Rattle.kernel_abi.specs.declared.Ending.TheVariants as ending
-use Rattle.kernel_abi.specs.declared.Listened.TheVariants as listened
+use Rattle.kernel_abi.specs.declared.FromIndex.TheVariants as from_index
 use Rattle.kernel_abi.specs.declared.Note.{Note}
 use Rattle.kernel_abi.specs.declared.Note.TheVariants as note
 use Rattle.task_table.specs.State.{Setup}
 use Rattle.task_table.specs.Start.{start}
 use Rattle.board_model.specs.declared.outcomes.End.TheVariants.{Bound}
-use Rattle.board_model.specs.declared.outcomes.Level.TheVariants.{Brief}
+use Rattle.board_model.specs.declared.outcomes.Level.TheVariants.{Calls}
 use Rattle.board_model.specs.Script.{Scenario}
 use Rattle.board_model.specs.Run.{Run, run}
 use Rattle.board_model.proofs.Computed.{computed}
@@ -46,7 +46,7 @@ scenario = record { setup = setup; script = record { every = None; events = [] }
 expected : List (ℕ × Note)
 expected =
     (3, note.Syscall 0 1 (0 ∷ 0 ∷ 1 ∷ 0 ∷ 0 ∷ 0 ∷ 0 ∷ [])) ∷
-    (3, note.Listen 0 listened.Any 1) ∷
+    (3, note.Listen 0 from_index.Any 1) ∷
     (19, note.Syscall 4 0 (131074 ∷ 536872000 ∷ 4 ∷ 536872000 ∷ 4 ∷ 0 ∷ 0 ∷ [])) ∷
     (19, note.Offer 1 4 2) ∷
     (35, note.Syscall 7 0 (65541 ∷ 536872768 ∷ 4 ∷ 536872768 ∷ 4 ∷ 0 ∷ 0 ∷ [])) ∷
@@ -79,7 +79,7 @@ expected =
     (134, note.Ret 4 (2 ∷ 4 ∷ 4 ∷ 536872000 ∷ 4 ∷ 0 ∷ [])) ∷
     (134, note.Ret 2 (4 ∷ 2 ∷ 536871488 ∷ 4 ∷ 4 ∷ 0 ∷ [])) ∷
     (142, note.Syscall 4 1 (2 ∷ 0 ∷ 0 ∷ 2147549183 ∷ 4 ∷ 0 ∷ 0 ∷ [])) ∷
-    (142, note.Listen 4 listened.Kernel 0) ∷
+    (142, note.Listen 4 from_index.Kernel 0) ∷
     (150, note.Syscall 2 1 (536871488 ∷ 8 ∷ 0 ∷ 0 ∷ 4 ∷ 0 ∷ 0 ∷ [])) ∷
     (150, note.Take 4 4) ∷
     (150, note.Ret 2 (0 ∷ 6 ∷ 4 ∷ 4 ∷ 4 ∷ 0 ∷ [])) ∷
@@ -88,9 +88,9 @@ expected =
     (160, note.Ret 6 (4 ∷ 4 ∷ 4 ∷ 536872512 ∷ 4 ∷ 0 ∷ [])) ∷
     (160, note.Ret 2 (6 ∷ 4 ∷ 536871488 ∷ 4 ∷ 4 ∷ 0 ∷ [])) ∷
     (168, note.Syscall 2 1 (536871488 ∷ 8 ∷ 0 ∷ 0 ∷ 4 ∷ 0 ∷ 0 ∷ [])) ∷
-    (168, note.Listen 2 listened.Any 0) ∷
+    (168, note.Listen 2 from_index.Any 0) ∷
     (176, note.Syscall 6 1 (4 ∷ 0 ∷ 0 ∷ 2147549183 ∷ 4 ∷ 0 ∷ 0 ∷ [])) ∷
-    (176, note.Listen 6 listened.Kernel 0) ∷
+    (176, note.Listen 6 from_index.Kernel 0) ∷
     (192, note.Syscall 3 0 (65537 ∷ 536871744 ∷ 4 ∷ 536871744 ∷ 4 ∷ 0 ∷ 0 ∷ [])) ∷
     (192, note.Offer 6 3 1) ∷
     (208, note.Syscall 5 0 (65539 ∷ 536872256 ∷ 4 ∷ 536872256 ∷ 4 ∷ 0 ∷ 0 ∷ [])) ∷
@@ -112,7 +112,7 @@ expected =
     (258, note.Ret 7 (5 ∷ 4 ∷ 4 ∷ 536872768 ∷ 4 ∷ 0 ∷ [])) ∷
     (258, note.Ret 1 (7 ∷ 5 ∷ 536871232 ∷ 4 ∷ 4 ∷ 0 ∷ [])) ∷
     (266, note.Syscall 7 1 (5 ∷ 0 ∷ 0 ∷ 2147549183 ∷ 4 ∷ 0 ∷ 0 ∷ [])) ∷
-    (266, note.Listen 7 listened.Kernel 0) ∷
+    (266, note.Listen 7 from_index.Kernel 0) ∷
     (274, note.Syscall 1 1 (536871232 ∷ 8 ∷ 0 ∷ 0 ∷ 4 ∷ 0 ∷ 0 ∷ [])) ∷
     (274, note.Take 6 4) ∷
     (274, note.Ret 1 (0 ∷ 3 ∷ 1 ∷ 4 ∷ 4 ∷ 0 ∷ [])) ∷
@@ -130,7 +130,7 @@ expected =
     (317, note.Ret 3 (1 ∷ 4 ∷ 4 ∷ 536871744 ∷ 4 ∷ 0 ∷ [])) ∷
     (317, note.Ret 1 (3 ∷ 1 ∷ 536871232 ∷ 4 ∷ 4 ∷ 0 ∷ [])) ∷
     (325, note.Syscall 3 1 (1 ∷ 0 ∷ 0 ∷ 2147549183 ∷ 4 ∷ 0 ∷ 0 ∷ [])) ∷
-    (325, note.Listen 3 listened.Kernel 0) ∷
+    (325, note.Listen 3 from_index.Kernel 0) ∷
     (333, note.Syscall 1 1 (536871232 ∷ 8 ∷ 0 ∷ 0 ∷ 4 ∷ 0 ∷ 0 ∷ [])) ∷
     (333, note.Take 7 4) ∷
     (333, note.Ret 1 (0 ∷ 5 ∷ 3 ∷ 4 ∷ 4 ∷ 0 ∷ [])) ∷
@@ -140,6 +140,6 @@ expected =
 IsTrace : Run → Type 0
 IsTrace r = (r.notes ≡ expected) × (r.end ≡ Bound) × (r.last.turn ≡ 340)
 
-agrees : IsTrace (run Brief scenario 340 (start setup))
+agrees : IsTrace (run Calls scenario 340 (start setup))
 unfolding setup scenario expected IsTrace computed
 agrees = (refl, refl, refl)

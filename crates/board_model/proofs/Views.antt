@@ -14,7 +14,7 @@ use Rattle.task_table.proofs.Keeps.{found_in}
 use Rattle.task_table.specs.Syscalls.{syscall_made}
 use Rattle.task_table.specs.Start.{begun}
 use Rattle.board_model.specs.declared.outcomes.Level.{Level}
-use Rattle.board_model.specs.declared.outcomes.Level.TheVariants.{Brief, All}
+use Rattle.board_model.specs.declared.outcomes.Level.TheVariants.{Calls, All}
 use Rattle.board_model.specs.Script.{Scenario}
 use Rattle.board_model.specs.Turn.{after_events, turn}
 use Rattle.board_model.proofs.TurnChains.{sane-after_events}
@@ -132,10 +132,10 @@ pub less_noted-syscall_made : (g : Setup) (c : ℕ) (t u : Turn) → IsLessNoted
 unfolding listener
 less_noted-syscall_made g c t u h = listening _ _ (alike-syscall_made listener attentive_listener g c t u (open_listener g c) (told_plainly t.state) (told_plainly u.state) (alike_of_told t u h))
 
-pub less_noted-turn : (x : Scenario) (s : State) → IsLessNoted (turn Brief x s) (turn All x s)
+pub less_noted-turn : (x : Scenario) (s : State) → IsLessNoted (turn Calls x s) (turn All x s)
 unfolding listener begun
 less_noted-turn x s =
-    listening _ _ (alike-turn listener attentive_listener Brief All (λ n request. request) x s s (open_listener x.setup) (told_plainly (after_events x s).state) (told_plainly (after_events x s).state) (alike_of_told (begun s) (begun s) record { state = refl; writes = refl; reads = refl; notes = refl }))
+    listening _ _ (alike-turn listener attentive_listener Calls All (λ n request. request) x s s (open_listener x.setup) (told_plainly (after_events x s).state) (told_plainly (after_events x s).state) (alike_of_told (begun s) (begun s) record { state = refl; writes = refl; reads = refl; notes = refl }))
 
 -- ## the one who takes births modulo 64
 
@@ -164,7 +164,7 @@ seen_again s =
 
 pub level_heard : (level : Level) → IsHeardAs archivist level level
 unfolding archivist
-level_heard Brief = tt
+level_heard Calls = tt
 level_heard All = λ n. refl
 
 memory_reduced : (s : State) → (reduced s).memory ≡ s.memory

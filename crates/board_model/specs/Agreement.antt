@@ -17,7 +17,7 @@ is_own g c a = list_any (λ r. is_inside r a && not r.rights.device) (setup_at g
 
 -- a byte of what was read at another task's place
 abbrev pub covers : ℕ → Read → Bool
-covers a r = nat_le r.base a && nat_lt a (r.base + r.length)
+covers a r = nat_le r.base a && nat_lt a (r.base + r.len)
 
 -- what a turn of c reads that came to these reads
 abbrev pub is_read : Setup → ℕ → List Read → ℕ → Bool

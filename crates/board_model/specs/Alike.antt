@@ -60,7 +60,7 @@ pub record IsAlike (w : Viewer) (t u : Turn) : Type 0 where
 
 -- the bytes of all that was read at another task's place are seen
 abbrev pub AreSeen : (ℕ → Bool) → List Read → Type 0
-AreSeen sees reads = (r : Read) → Contains reads r → (a : ℕ) → r.base ≤ a → a < r.base + r.length → sees a ≡ true
+AreSeen sees reads = (r : Read) → Contains reads r → (a : ℕ) → r.base ≤ a → a < r.base + r.len → sees a ≡ true
 
 -- alike, where what the first has read is seen
 pub record IsAlikeWhereSeen (w : Viewer) (t u : Turn) : Type 0 where

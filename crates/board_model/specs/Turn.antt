@@ -24,7 +24,7 @@ use Rattle.run_script.specs.declared.events.Event.{Event}
 use Rattle.run_script.specs.declared.events.Event.TheVariants.{Tick, Irq}
 use Rattle.run_script.specs.Scripts.{events_of}
 use Rattle.board_model.specs.declared.outcomes.Level.{Level}
-use Rattle.board_model.specs.declared.outcomes.Level.TheVariants.{Brief, All}
+use Rattle.board_model.specs.declared.outcomes.Level.TheVariants.{Calls, All}
 use Rattle.board_model.specs.declared.outcomes.Turned.{Turned}
 use Rattle.board_model.specs.declared.outcomes.Turned.TheVariants.{Idle, Ran}
 use Rattle.board_model.specs.Script.{Scenario}
@@ -61,7 +61,7 @@ executed g c insn t = t ⨾ acted g c (effect_of g c insn t)
 
 -- what is noted with all instructions alone
 abbrev pub noted_at : Level → Note → Turn → Turn
-noted_at Brief note t = t
+noted_at Calls note t = t
 noted_at All note t = t ⨾ noted note
 
 -- an instruction that was fetched is noted and executed; a fault of the fetch is the task's

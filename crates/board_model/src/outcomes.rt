@@ -4,7 +4,7 @@
 /// registers after each.
 #[derive(Clone, Copy, Debug, PartialEq, Eq)]
 pub enum Level {
-    Brief,
+    Calls,
     All,
 }
 

@@ -10,7 +10,7 @@ ghost use Rattle.task_table.specs.State.{Setup, State, Turn};
 ghost use Rattle.task_table.specs.Syscalls.{syscall_made};
 ghost use Rattle.task_table.specs.Sane.{Sane};
 ghost use Rattle.board_model.specs.declared.outcomes.Level.{Level as Detail};
-ghost use Rattle.board_model.specs.declared.outcomes.Level.TheVariants.{Brief, All};
+ghost use Rattle.board_model.specs.declared.outcomes.Level.TheVariants.{Calls, All};
 ghost use Rattle.board_model.specs.Script.{Scenario};
 ghost use Rattle.board_model.specs.Turn.{turn};
 ghost use Rattle.board_model.specs.Run.{run};
@@ -22,13 +22,13 @@ ghost use Rattle.board_model.specs.Agreement.{DependsOnReads};
 /// task, and so do the turns from one state of which system calls alone, or all instructions, are noted.
 pub fn what_is_noted_decides_nothing()
     ensures syscall_made { (g : Setup) (c : ℕ) (t u : Turn) → IsLessNoted t u → IsLessNoted (syscall_made g c t) (syscall_made g c u) }
-    ensures turn { (x : Scenario) (s : State) → IsLessNoted (turn Brief x s) (turn All x s) }
+    ensures turn { (x : Scenario) (s : State) → IsLessNoted (turn Calls x s) (turn All x s) }
 {}
 
 /// Instructions, registers and idle turns are noted beside the rest of a run: without them it is the
 /// run of which system calls, events and faults alone are noted.
 pub fn instructions_are_noted_beside()
-    ensures { (x : Scenario) (n : ℕ) (s : State) → run Brief x n s ≡ without_instructions (run All x n s) }
+    ensures { (x : Scenario) (n : ℕ) (s : State) → run Calls x n s ≡ without_instructions (run All x n s) }
 {}
 
 /// What a turn does after its events depends on memory only where it reads: in the regions of its own task

@@ -11,8 +11,8 @@ use Rattle.task_table.specs.State as kernel
 use Rattle.task_table.specs.State.{State, Listen}
 use Rattle.task_table.specs.Holds.{wait_of}
 use Rattle.task_table.specs.Reading.{task_at, call_of, listen_of}
-use Rattle.board_core.specs.declared.shown.TaskView.{TaskView}
-use Rattle.board_core.specs.Shown.{IsTask}
+use Rattle.board_core.specs.declared.views.TaskView.{TaskView}
+use Rattle.board_core.specs.Views.{IsTask}
 use Rattle.board_run.specs.Text.{task_line, low_text, high_text, task_lines, task_text, tasks_text, wait_text}
 use Rattle.board_run.specs.ViewText.{view_text, wait_words, timer_of}
 use Rattle.board_run.proofs.Appending.{appends_more, range_more, range_fails}
@@ -35,7 +35,7 @@ view_is s i v t =
     let head : ℕ → Health → List ℕ → ℕ → Option Timer → List ℕ → Flags → List ℕ = λ g h w p d rs f. task_line i g h w p d ++ low_text rs ++ high_text rs f in
     let waits : wait_words v.wait ≡ wait_text (call_of s i) (listen_of s i) = ap wait_words t.wait ∙ words_are (call_of s i) (listen_of s i) in
     let timer : timer_of v.timer ≡ (task_at s i).timer = ap timer_of t.timer ∙ timer_is (task_at s i).timer in
-    rw (t.generation, t.registers, t.flags, t.health, t.posted, timer) (ap (λ (w : List ℕ). head ((task_at s i).births % 64) (task_at s i).health w (task_at s i).posted (task_at s i).timer (task_at s i).registers (task_at s i).flags) waits)
+    rw (t.generation, t.regs, t.flags, t.health, t.posted, timer) (ap (λ (w : List ℕ). head ((task_at s i).births % 64) (task_at s i).health w (task_at s i).posted (task_at s i).timer (task_at s i).registers (task_at s i).flags) waits)
 
 pub tasks_more : (a b c : Option (List ℕ)) (s : State) (i : ℕ) (v : TaskView) → IsTask s i v → Appends a b (tasks_text s i) → Appends b c (view_text i v) → Appends a c (tasks_text s (i + 1))
 tasks_more a b c s i v t p q =

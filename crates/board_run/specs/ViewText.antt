@@ -4,7 +4,7 @@ use Rattle.std.specs.Option.{option_map}
 use Rattle.kernel_abi.specs.declared.Timer.{Timer}
 use Rattle.task_table.specs.declared.slot.Wait.{Wait}
 use Rattle.task_table.specs.declared.slot.Wait.TheVariants as wait
-use Rattle.board_core.specs.declared.shown.TaskView.{TaskView}
+use Rattle.board_core.specs.declared.views.TaskView.{TaskView}
 use Rattle.board_run.specs.Text.{call_text, task_line, low_text, high_text}
 
 -- what it waits for
@@ -18,4 +18,4 @@ abbrev pub timer_of : Option (ℕ × ℕ) → Option Timer
 timer_of timer = option_map (λ x. record { deadline = x.0; bits = x.1 }) timer
 
 unfoldable pub view_text : ℕ → TaskView → List ℕ
-view_text i v = task_line i v.generation v.health (wait_words v.wait) v.posted (timer_of v.timer) ++ low_text v.registers ++ high_text v.registers v.flags
+view_text i v = task_line i v.generation v.health (wait_words v.wait) v.posted (timer_of v.timer) ++ low_text v.regs ++ high_text v.regs v.flags

@@ -87,8 +87,8 @@ fn push_task<S: Sink>(i: u64, task: &TaskView, out: &mut S) -> Result<(), Failed
     ensures cause { HasCause (S.seen out.old).faults (S.seen out.new).faults result }
 {
     push_task_line(i, task, out)?;
-    push_low(&task.registers, out)?;
-    push_high(&task.registers, task.flags, out)
+    push_low(&task.regs, out)?;
+    push_high(&task.regs, task.flags, out)
 }
 
 ghost use Rattle.task_table.specs.State.{State};

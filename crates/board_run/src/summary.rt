@@ -3,7 +3,7 @@ ghost use Rattle.std.specs.Prelude.{◌≡◌, ◌≤◌, ◌+◌, ◌-◌, ◌+
 ghost use Rattle.arrayvec.specs.ArrayString.{array_string_len};
 ghost use Rattle.outside_io.specs.Outside.{Pushes, HasCause};
 ghost use Rattle.task_table.specs.State.{State};
-ghost use Rattle.board_model.specs.declared.outcomes.Level.TheVariants.{Brief};
+ghost use Rattle.board_model.specs.declared.outcomes.Level.TheVariants.{Calls};
 ghost use Rattle.board_model.specs.Script.{Scenario};
 ghost use Rattle.board_core.specs.Stands.{Stands, Stood, turns_of};
 ghost use Rattle.board_model.specs.Run.{run};
@@ -92,17 +92,17 @@ pub fn summarize<S: Sink>(board: &mut Board, limit: u32, out: &mut S) -> Result<
     requires few { limit ≤ 1000000000 }
 
     ensures text { (x : Scenario) (s : State) → Stands x board.old s →
-        Pushes (S.seen out.old).written (S.seen out.new).written (summary_text (run Brief x (limit - s.turn) s)) result }
+        Pushes (S.seen out.old).written (S.seen out.new).written (summary_text (run Calls x (limit - s.turn) s)) result }
     ensures end { (x : Scenario) (s : State) → Stands x board.old s →
-        IfOk result (λ e. e ≡ (run Brief x (limit - s.turn) s).end) }
+        IfOk result (λ e. e ≡ (run Calls x (limit - s.turn) s).end) }
 
     // Where a push failed, too, the board stands at the end of the run.
-    ensures last { (x : Scenario) (s : State) → Stands x board.old s → Stands x board.new (run Brief x (limit - s.turn) s).last }
+    ensures last { (x : Scenario) (s : State) → Stands x board.old s → Stands x board.new (run Calls x (limit - s.turn) s).last }
     ensures within { turns_of board.new ≤ limit }
     ensures cause { HasCause (S.seen out.old).faults (S.seen out.new).faults result }
 {
     let mut counts = Counts::new();
-    let end = play(board, limit, Level::Brief, &mut counts)?;
+    let end = play(board, limit, Level::Calls, &mut counts)?;
     push_summary(end, board, &counts, out)?;
     Ok(end)
 }

@@ -1,4 +1,4 @@
--- Words that are taken name a command, with all that it wants.
+-- Words that are accepted name a command, with all that it wants.
 use Rattle.std.proofs.Common.{◌≡◌, ◌⊎◌, ◌<◌, ◌≤◌, ap, sym, subst, refl, cond, codes, inl, inr, drop, Bool, true, false, ℕ, List, [], ◌∷◌, Option, Some, None, is_some, arith}
 use Rattle.std.specs.Prelude.{IfSome, unwrap_or, pos, ◌==◌}
 use Rattle.std.specs.Bool.{⊤}
@@ -18,9 +18,9 @@ use Rattle.clap.specs.Faults.{entered_fault, level_fault}
 use Rattle.clap.specs.declared.builder.value_parser.ValueParser.{ValueParser}
 use Rattle.clap.specs.declared.builder.value_parser.ValueParser.TheVariants as parser
 use Rattle.clap.proofs.ValueTestLemmas.{accepts-Accepts, Accepts-accepts}
-use Rattle.command_line.specs.CommandLine.{hubris_app, is_taken, most_seed, most_steps, number_parser}
+use Rattle.command_line.specs.CommandLine.{hubris_app, is_accepted, most_seed, most_steps, number_parser}
 use Rattle.command_line.specs.Required.{HasText, IsNumber, IsSwitch, IsWhole}
-use Rattle.command_line.proofs.Taking.{none_left}
+use Rattle.command_line.proofs.Accepting.{none_left}
 use Rattle.command_line.proofs.Rows.{Each, Sure}
 use Rattle.command_line.proofs.Walking.{asks_for_help}
 use Rattle.command_line.proofs.Ending.{Done, Has, below_passes, ends, has_default, has_given, stops, wants}
@@ -88,9 +88,9 @@ text a rows h = rw h.first refl
 
 number : (most : ℕ) (a : Rule) (rows : List Row) → most < 4294967296 → a.parser ≡ Some (number_parser most) → Has a rows → IsNumber most (one_of a.id rows)
 number most a rows small is h =
-    let taken : accepts a.ignore_case (number_parser most) h.text ≡ true = subst (λ (p : Option ValueParser). accepts a.ignore_case (parser_of_value p) h.text ≡ true) is (accepted a.ignore_case (parser_of_value a.parser) h.text h.pass) in
+    let passed : accepts a.ignore_case (number_parser most) h.text ≡ true = subst (λ (p : Option ValueParser). accepts a.ignore_case (parser_of_value p) h.text ≡ true) is (accepted a.ignore_case (parser_of_value a.parser) h.text h.pass) in
     let one : one_of a.id rows ≡ Some (without_minus h.text) = subst (λ (p : Option ValueParser). one_of a.id rows ≡ Some (read_as (reading_of (parser_of_value p)) h.text)) is h.one in
-    subst (IsNumber most) (sym one) (without_sign most h.text small (accepts-Accepts a.ignore_case (number_parser most) h.text taken))
+    subst (IsNumber most) (sym one) (without_sign most h.text small (accepts-Accepts a.ignore_case (number_parser most) h.text passed))
 
 switch : (a : Rule) (rows : List Row) → a.parser ≡ Some parser.Bool → Has a rows → IsSwitch (first_of a.id rows)
 switch a rows is h = subst IsSwitch (sym h.first)
@@ -200,13 +200,13 @@ stopped : (stop : Option (Text × List Text)) → IfSome stop (λ p. IsCommand p
 stopped None is e some = cc
 stopped (Some p) is e some = command_whole p.0 p.1 is e
 
-pub whole : (words : List Text) → is_taken words ≡ true → IsWhole (subcommand_of hubris_app words)
-whole words taken =
+pub whole : (words : List Text) → is_accepted words ≡ true → IsWhole (subcommand_of hubris_app words)
+whole words accepted =
     let rest = argument_words hubris_app words in
     let stop = (walk app.top.rules (names_of app) nothing_held rest).stopped in
     let has = is_some (entered app stop) in
     let below = entered_fault app stop in
-    let passed : level_fault app.top (names_of app) nothing_held rest has below ≡ [] = none_left _ taken in
+    let passed : level_fault app.top (names_of app) nothing_held rest has below ≡ [] = none_left _ accepted in
     stopped stop (stops app.top (names_of app) IsCommand top_sure own rest has below passed)
     (below_passes app.top (names_of app) IsCommand top_sure own rest has below passed)
     (wants app.top (names_of app) IsCommand top_sure own rest has below passed refl)

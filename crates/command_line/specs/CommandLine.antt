@@ -50,7 +50,7 @@ flag_rule name = record (new_rule name) { long = Some name; action = Some SetTru
 
 -- ---- what clap finds
 
--- What it found for an id. The defaults never show in words that are taken (specs/Required.antt).
+-- What it found for an id. The defaults never show in words that are accepted (specs/Required.antt).
 abbrev pub text_in : Text → List Row → Text
 text_in id rows = unwrap_or (first_of id rows) []
 
@@ -159,13 +159,13 @@ has_none [] = true
 has_none (kind ∷ more) = false
 
 -- no step of clap's reading of the definition refuses the words; the first is the program's name
-abbrev pub is_taken : List Text → Bool
-is_taken words = has_none (fault_of hubris_app words)
+abbrev pub is_accepted : List Text → Bool
+is_accepted words = has_none (fault_of hubris_app words)
 
 -- what the command of this name asks for
 abbrev pub asked_by : Text → List Row → Option Asked
 asked_by name rows = option_map (λ form. form.asks rows) (find (λ form. bytes_eq form.name name) forms)
 
--- what the words ask for, where they are taken
+-- what the words ask for, where they are accepted
 abbrev pub job_of : List Text → Option Asked
 job_of words = option_and_then (λ p. asked_by p.0 p.1) (subcommand_of hubris_app words)

@@ -1,4 +1,4 @@
--- What words that are taken hold: a command, and each value that it asks for.
+-- What words that are accepted hold: a command, and each value that it asks for.
 use Rattle.std.specs.Prelude.{◌≡◌, ◌⊎◌, ℕ, Bool, true, false, List, Option, Some, None, codes, is_some}
 use Rattle.clap.specs.Walk.{Row, Text, first_of, one_of}
 use Rattle.clap.specs.ValueTests.{accepts}

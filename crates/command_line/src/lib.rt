@@ -7,5 +7,5 @@ mod laws;
 mod reading;
 
 pub use job::{Detail, Job};
-pub use laws::every_taken_command_is_whole;
+pub use laws::every_accepted_command_is_whole;
 pub use reading::{Refusal, read_words};

@@ -1,6 +1,6 @@
 //! The words after the program's name.
 ghost use Rattle.std.specs.Prelude.{◌≡◌, ◌≤◌, IfOk, IfErr, Some, true, false, map, string_bytes};
-ghost use Rattle.command_line.specs.CommandLine.{is_taken, job_of, most_steps};
+ghost use Rattle.command_line.specs.CommandLine.{is_accepted, job_of, most_steps};
 ghost use Rattle.command_line.specs.Asking.{asked, steps_of};
 
 use crate::definition::hubris_command;
@@ -11,18 +11,18 @@ use std::alloc::Global;
 /// Why words give no job.
 #[derive(Clone, Copy, Drop)]
 pub enum Refusal {
-    /// The definition does not take them; a call for help or for the version is not taken either.
-    NotTaken,
+    /// The definition does not take them; a call for help or for the version is not accepted either.
+    NotAccepted,
     /// Want of memory.
     Memory,
 }
 
 fn refusal_by(kind: ErrorKind) -> Refusal
-    ensures { result ≡ Refusal.NotTaken → ¬ (kind ≡ ErrorKind.OutOfMemory) }
+    ensures { result ≡ Refusal.NotAccepted → ¬ (kind ≡ ErrorKind.OutOfMemory) }
 {
     match kind {
         ErrorKind::OutOfMemory => Refusal::Memory,
-        _ => Refusal::NotTaken,
+        _ => Refusal::NotAccepted,
     }
 }
 
@@ -31,12 +31,12 @@ fn refusal_by(kind: ErrorKind) -> Refusal
 ///
 /// # Errors
 ///
-/// `NotTaken` only where the definition does not take the words, and `Memory` where memory ran out.
+/// `NotAccepted` only where the definition does not take the words, and `Memory` where memory ran out.
 pub fn read_words<'a>(alloc: Global, words: &'a [String]) -> Result<Job<'a>, Refusal>
-    ensures taken { IfOk result (λ _. is_taken (map string_bytes words.now) ≡ true) }
+    ensures accepted { IfOk result (λ _. is_accepted (map string_bytes words.now) ≡ true) }
     ensures job { IfOk result (λ j. job_of (map string_bytes words.now) ≡ Some (asked j)) }
     ensures few { IfOk result (λ j. steps_of j ≤ most_steps) }
-    ensures refused { IfErr result (λ e. e ≡ Refusal.NotTaken → is_taken (map string_bytes words.now) ≡ false) }
+    ensures refused { IfErr result (λ e. e ≡ Refusal.NotAccepted → is_accepted (map string_bytes words.now) ≡ false) }
 {
     let command = match hubris_command(alloc) {
         Ok(command) => command,
@@ -48,6 +48,6 @@ pub fn read_words<'a>(alloc: Global, words: &'a [String]) -> Result<Job<'a>, Ref
     };
     match matches.subcommand() {
         Some((name, inner)) => Ok(job_by(name, inner)),
-        None => Err(Refusal::NotTaken),
+        None => Err(Refusal::NotAccepted),
     }
 }

@@ -6,7 +6,7 @@ use Rattle.std.proofs.lemmas.Bool.{cases_lt, leb-true, le-leb, false≢true}
 use Rattle.task_table.specs.State.{Setup}
 use Rattle.task_table.specs.Reading.{priority, around}
 use Rattle.task_table.specs.TaskSets.{has, IsFirstFrom}
-use Rattle.task_table.specs.Levels.{has_at, AreLevels}
+use Rattle.task_table.specs.Priorities.{has_at, ArePriorities}
 use Rattle.task_table.specs.declared.task_set.TaskSet.{TaskSet}
 use Rattle.dispatch.specs.Lowest.{is_lowest, first_around}
 
@@ -124,69 +124,69 @@ any_place p (x ∷ xs) e = elim (bool_cases (p x)) [
   | inr f ↦ let rest = any_place p xs (rw f at e) in (suc rest.0, rest.1, omega (arith, rest.2), rest.3)
 ]
 
--- ## the first level with a member
+-- ## the first peers with a member
 
--- none of these is in a level before one
+-- none of these is in a peers before one
 abbrev pub AreNotBefore : (ℕ → Bool) → List TaskSet → ℕ → Type 0
-AreNotBefore among levels k = (m i : ℕ) (d : TaskSet) → m < k → has_at levels m d i ≡ true → among i ≡ false
+AreNotBefore among priorities k = (m i : ℕ) (d : TaskSet) → m < k → has_at priorities m d i ≡ true → among i ≡ false
 
-pub not_before_more : (among : ℕ → Bool) (levels : List TaskSet) (k : ℕ) (level : TaskSet) → ((d : TaskSet) → get_or levels k d ≡ level) → ((i : ℕ) → (has level.words i && among i) ≡ false) → AreNotBefore among levels k → AreNotBefore among levels (k + 1)
-not_before_more among levels k level there none h m i d below is = elim (cases_lt m k) [
+pub not_before_more : (among : ℕ → Bool) (priorities : List TaskSet) (k : ℕ) (peers : TaskSet) → ((d : TaskSet) → get_or priorities k d ≡ peers) → ((i : ℕ) → (has peers.words i && among i) ≡ false) → AreNotBefore among priorities k → AreNotBefore among priorities (k + 1)
+not_before_more among priorities k peers there none h m i d below is = elim (cases_lt m k) [
   | inl lt ↦ h m i d lt is
   | inr ge ↦
       let same : m ≡ k = omega (arith, below, ge) in
-      let here : has level.words i ≡ true = ap (λ (x : TaskSet). has x.words i) (sym (ap (λ (n : ℕ). get_or levels n d) same ∙ there d)) ∙ is in
+      let here : has peers.words i ≡ true = ap (λ (x : TaskSet). has x.words i) (sym (ap (λ (n : ℕ). get_or priorities n d) same ∙ there d)) ∙ is in
       rw here at (none i)
 ]
 
 -- none at all is among them
-pub none_among : (g : Setup) (levels : List TaskSet) (among : ℕ → Bool) → AreLevels g.tasks levels → AreNotBefore among levels (length levels) → (i : ℕ) → i < length g.tasks → among i ≡ false
-none_among g levels among are none i inside =
-    let place = any_place (λ (level : TaskSet). has level.words i) levels (are.all i inside) in
+pub none_among : (g : Setup) (priorities : List TaskSet) (among : ℕ → Bool) → ArePriorities g.tasks priorities → AreNotBefore among priorities (length priorities) → (i : ℕ) → i < length g.tasks → among i ≡ false
+none_among g priorities among are none i inside =
+    let place = any_place (λ (peers : TaskSet). has peers.words i) priorities (are.all i inside) in
     none place.0 i place.1 place.2 (place.3 place.1)
 
-pub lowest_there : (g : Setup) (levels : List TaskSet) (among : ℕ → Bool) (k : ℕ) (level : TaskSet) (words : List ℕ) (r : ℕ) → AreLevels g.tasks levels → k < length levels → ((d : TaskSet) → get_or levels k d ≡ level) → AreNotBefore among levels k → ((i : ℕ) → has words i ≡ (has level.words i && among i)) → has words r ≡ true → (i : ℕ) → i < length g.tasks → has words i ≡ is_lowest g among (length g.tasks) i
-lowest_there g levels among k level words r are below there none those some i inside = bool_same (has words i) (is_lowest g among (length g.tasks) i) is_there back
+pub lowest_there : (g : Setup) (priorities : List TaskSet) (among : ℕ → Bool) (k : ℕ) (peers : TaskSet) (words : List ℕ) (r : ℕ) → ArePriorities g.tasks priorities → k < length priorities → ((d : TaskSet) → get_or priorities k d ≡ peers) → AreNotBefore among priorities k → ((i : ℕ) → has words i ≡ (has peers.words i && among i)) → has words r ≡ true → (i : ℕ) → i < length g.tasks → has words i ≡ is_lowest g among (length g.tasks) i
+lowest_there g priorities among k peers words r are below there none those some i inside = bool_same (has words i) (is_lowest g among (length g.tasks) i) is_there back
   where
     n : ℕ
     n = length g.tasks
 
-    here : (j : ℕ) → has level.words j ≡ true → has_at levels k level j ≡ true
-    here j e = ap (λ (x : TaskSet). has x.words j) (there level) ∙ e
+    here : (j : ℕ) → has peers.words j ≡ true → has_at priorities k peers j ≡ true
+    here j e = ap (λ (x : TaskSet). has x.words j) (there peers) ∙ e
 
-    -- one of them is of this level or a later one
-    at_most : (j : ℕ) → has level.words i ≡ true → j < length g.tasks → among j ≡ true → priority g i ≤ priority g j
+    -- one of them is of this peers or a later one
+    at_most : (j : ℕ) → has peers.words i ≡ true → j < length g.tasks → among j ≡ true → priority g i ≤ priority g j
     at_most j mine under t =
-        let place = any_place (λ (x : TaskSet). has x.words j) levels (are.all j under) in
+        let place = any_place (λ (x : TaskSet). has x.words j) priorities (are.all j under) in
         elim (cases_lt place.0 k) [
-          | inl lt ↦ absurd (false≢true (sym (none place.0 j level lt (place.3 level)) ∙ t))
+          | inl lt ↦ absurd (false≢true (sym (none place.0 j peers lt (place.3 peers)) ∙ t))
           | inr ge ↦ elim (cases_lt k place.0) [
-            | inl gt ↦ omega (arith, are.order k place.0 i j level gt place.2 (here i mine) (place.3 level))
+            | inl gt ↦ omega (arith, are.order k place.0 i j peers gt place.2 (here i mine) (place.3 peers))
             | inr le ↦
                 let same : place.0 ≡ k = omega (arith, ge, le) in
-                omega (arith, are.same k i j level below (here i mine) (subst (λ (m : ℕ). has_at levels m level j ≡ true) same (place.3 level)))
+                omega (arith, are.same k i j peers below (here i mine) (subst (λ (m : ℕ). has_at priorities m peers j ≡ true) same (place.3 peers)))
           ]
         ]
 
     is_there : has words i ≡ true → is_lowest g among n i ≡ true
     is_there h =
-        let both = both_true (has level.words i) (among i) (sym (those i) ∙ h) in
+        let both = both_true (has peers.words i) (among i) (sym (those i) ∙ h) in
         and_true _ _ both.1 (all_by _ 0 n (λ j a b. pass (among j) (priority g i) (priority g j) (at_most j both.0 (omega (arith, b)))))
 
     back : is_lowest g among n i ≡ true → has words i ≡ true
     back h =
         let both = both_true (among i) (list_all (λ j. not (among j) || leb (priority g i) (priority g j)) (range_with_len 0 n)) h in
-        let first = both_true (has level.words r) (among r) (sym (those r) ∙ some) in
-        let under : r < n = are.no_others k r level below (here r first.0) in
+        let first = both_true (has peers.words r) (among r) (sym (those r) ∙ some) in
+        let under : r < n = are.no_others k r peers below (here r first.0) in
         let least = passes (among r) (priority g i) (priority g r) (all_at _ 0 n r both.1 (omega arith) (omega (arith, under))) first.1 in
-        let place = any_place (λ (x : TaskSet). has x.words i) levels (are.all i inside) in
+        let place = any_place (λ (x : TaskSet). has x.words i) priorities (are.all i inside) in
         elim (cases_lt place.0 k) [
-          | inl lt ↦ absurd (false≢true (sym (none place.0 i level lt (place.3 level)) ∙ both.0))
+          | inl lt ↦ absurd (false≢true (sym (none place.0 i peers lt (place.3 peers)) ∙ both.0))
           | inr ge ↦ elim (cases_lt k place.0) [
-            | inl gt ↦ absurd (omega (arith, least, are.order k place.0 r i level gt place.2 (here r first.0) (place.3 level)))
+            | inl gt ↦ absurd (omega (arith, least, are.order k place.0 r i peers gt place.2 (here r first.0) (place.3 peers)))
             | inr le ↦
                 let same : place.0 ≡ k = omega (arith, ge, le) in
-                let mine : has level.words i ≡ true = ap (λ (x : TaskSet). has x.words i) (sym (there level)) ∙ subst (λ (m : ℕ). has_at levels m level i ≡ true) same (place.3 level) in
+                let mine : has peers.words i ≡ true = ap (λ (x : TaskSet). has x.words i) (sym (there peers)) ∙ subst (λ (m : ℕ). has_at priorities m peers i ≡ true) same (place.3 peers) in
                 those i ∙ and_true _ _ mine both.0
           ]
         ]

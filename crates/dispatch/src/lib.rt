@@ -16,8 +16,8 @@ fn lowest_of(k: &Kernel, among: &TaskSet) -> Option<TaskSet>
     ensures lowest { (g : Setup) (t : Turn) → Holds g k.now t → AreLowest g (has among.now.words) (length t.state.tasks) result }
     ensures inside { IfSome result (λ those. (i : ℕ) → has those.words i ≡ true → i < task_count k.now) }
 {
-    for level in k.levels() {
-        let those = level.common(among);
+    for peers in k.priorities() {
+        let those = peers.common(among);
         if !those.is_empty() {
             return Some(those);
         }

@@ -15,7 +15,7 @@ ghost use Rattle.fault_supervisor.specs.Meanings.{meaning, status_words};
 use crate::rebirth::restart_task;
 use kernel_abi::{Access, Fault, Health, Note, SendArgs, Usage};
 use region_check::Right;
-use task_table::{Kernel, Range};
+use task_table::{Kernel, Slice};
 
 /// What a kernel message asks for.
 #[derive(Clone, Copy)]
@@ -222,21 +222,21 @@ fn take_order(k: &mut Kernel, caller: usize)
         return k.misuse(caller, Usage::NotSupervisor);
     }
     let args = SendArgs::of(&k.arguments(caller));
-    let message = Range {
+    let message = Slice {
         base: args.message_base,
-        length: args.message_length,
+        len: args.message_length,
     };
-    let reply = Range {
+    let reply = Slice {
         base: args.reply_base,
-        length: args.reply_capacity,
+        len: args.reply_capacity,
     };
     if !message.is_valid() || !reply.is_valid() {
         return k.misuse(caller, Usage::InvalidSlice);
     }
-    if let Some(at) = k.bad_byte(caller, Right::Read, message.base, message.length) {
+    if let Some(at) = k.bad_byte(caller, Right::Read, message.base, message.len) {
         return k.deny(caller, at, Access::KernelRead);
     }
-    if let Some(at) = k.bad_byte(caller, Right::Write, reply.base, reply.length) {
+    if let Some(at) = k.bad_byte(caller, Right::Write, reply.base, reply.len) {
         return k.deny(caller, at, Access::KernelWrite);
     }
     match Order::of(args.operation) {

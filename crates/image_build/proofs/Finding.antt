@@ -9,9 +9,9 @@ use Rattle.app_toml.specs.Apps.{AppData, InterruptData, TaskData}
 use Rattle.app_toml.specs.Crossed.{has_task, is_among, notifications_of}
 use Rattle.app_toml.specs.Places.{Text}
 use Rattle.app_toml.specs.Sites.{interrupt_of, region_of, task_of}
-use Rattle.app_toml.specs.declared.parts.Interrupt.{Interrupt}
-use Rattle.app_toml.specs.declared.parts.SharedRegion.{SharedRegion}
-use Rattle.app_toml.specs.declared.parts.Task.{Task}
+use Rattle.app_toml.specs.declared.parts.LineSpec.{LineSpec}
+use Rattle.app_toml.specs.declared.parts.RegionSpec.{RegionSpec}
+use Rattle.app_toml.specs.declared.parts.TaskSpec.{TaskSpec}
 use Rattle.image_format.specs.Picture.{LinePicture, bit, line_record, task_record}
 use Rattle.image_format.specs.declared.records.LineRecord.{LineRecord}
 use Rattle.image_format.specs.declared.records.TaskRecord.{TaskRecord}
@@ -53,15 +53,15 @@ owner_notes app a name = few_of name app.tasks (few_notes app a)
 pub same_count : {A : Type 0} → {B : Type 0} → (f : A → B) (xs : List A) (ys : List B) → map f xs ≡ ys → length xs ≡ length ys
 same_count f xs ys e = sym (length-map xs f) ∙ ap length e
 
-pub owned_in : (app : AppData) (xs : List Interrupt) → IsAccepted app → map interrupt_of xs ≡ app.interrupts
-    → (k : ℕ) (d : Interrupt) → k < length xs → IsOwned app (interrupt_of (get_or xs k d))
+pub owned_in : (app : AppData) (xs : List LineSpec) → IsAccepted app → map interrupt_of xs ≡ app.interrupts
+    → (k : ℕ) (d : LineSpec) → k < length xs → IsOwned app (interrupt_of (get_or xs k d))
 owned_in app xs a m k d lt =
     let look : get_or app.interrupts k (interrupt_of d) ≡ interrupt_of (get_or xs k d) =
     ap (λ (ys : List InterruptData). get_or ys k (interrupt_of d)) (sym m) ∙ get_or-map interrupt_of xs k d (interrupt_of d) lt in
     subst (IsOwned app) look (owned app a k (interrupt_of d) (omega (arith, lt, same_count interrupt_of xs app.interrupts m)))
 
-pub few_notes_in : (app : AppData) (xs : List Task) → IsAccepted app → map task_of xs ≡ app.tasks
-    → (k : ℕ) (d : Task) → k < length xs → length (get_or xs k d).notifications.items ≤ 32
+pub few_notes_in : (app : AppData) (xs : List TaskSpec) → IsAccepted app → map task_of xs ≡ app.tasks
+    → (k : ℕ) (d : TaskSpec) → k < length xs → length (get_or xs k d).notifications.items ≤ 32
 few_notes_in app xs a m k d lt =
     let below : k < length app.tasks = omega (arith, lt, same_count task_of xs app.tasks m) in
     let look : get_or app.tasks k no_task ≡ task_of (get_or xs k d) =
@@ -70,8 +70,8 @@ few_notes_in app xs a m k d lt =
     ap (λ (t : TaskData). length t.notifications) look ∙ length-map (get_or xs k d).notifications.items string_bytes in
     omega (arith, same, few_notes app a k below)
 
-pub few_regions_in : (app : AppData) (xs : List Task) → IsAccepted app → map task_of xs ≡ app.tasks
-    → (k : ℕ) (d : Task) → k < length xs → length (get_or xs k d).uses.items + length (get_or xs k d).reads.items ≤ 6
+pub few_regions_in : (app : AppData) (xs : List TaskSpec) → IsAccepted app → map task_of xs ≡ app.tasks
+    → (k : ℕ) (d : TaskSpec) → k < length xs → length (get_or xs k d).uses.items + length (get_or xs k d).reads.items ≤ 6
 few_regions_in app xs a m k d lt =
     let below : k < length app.tasks = omega (arith, lt, same_count task_of xs app.tasks m) in
     let look : get_or app.tasks k no_task ≡ task_of (get_or xs k d) =
@@ -82,21 +82,21 @@ few_regions_in app xs a m k d lt =
     ap (λ (t : TaskData). length t.reads) look ∙ length-map (get_or xs k d).reads.items string_bytes in
     omega (arith, uses, reads, few_regions app a k below)
 
-pub task_in : (app : AppData) (xs : List Task) → map task_of xs ≡ app.tasks → (k : ℕ) (d : Task) → k < length xs → task_of (get_or xs k d) ≡ task_at app k
+pub task_in : (app : AppData) (xs : List TaskSpec) → map task_of xs ≡ app.tasks → (k : ℕ) (d : TaskSpec) → k < length xs → task_of (get_or xs k d) ≡ task_at app k
 task_in app xs m k d lt = sym (ap (λ (ys : List TaskData). get_or ys k no_task) (sym m) ∙ get_or-map task_of xs k d no_task lt)
 
-pub is_task_in : (app : AppData) (xs : List Task) → IsAccepted app → map task_of xs ≡ app.tasks → (k : ℕ) (d : Task) → k < length xs → IsTask (task_of (get_or xs k d))
+pub is_task_in : (app : AppData) (xs : List TaskSpec) → IsAccepted app → map task_of xs ≡ app.tasks → (k : ℕ) (d : TaskSpec) → k < length xs → IsTask (task_of (get_or xs k d))
 is_task_in app xs a m k d lt =
     subst IsTask (sym (task_in app xs m k d lt)) (a.tasks k no_task (omega (arith, lt, same_count task_of xs app.tasks m)))
 
 -- what is known of the k-th task
-pub record Known (app : AppData) (k : ℕ) (t : Task) : Type 0 where
+pub record Known (app : AppData) (k : ℕ) (t : TaskSpec) : Type 0 where
   pub task : task_of t ≡ task_at app k
   pub notes : length t.notifications.items ≤ 32
   pub regions : length t.uses.items + length t.reads.items ≤ 6
   pub form : IsTask (task_of t)
 
-pub known_task : (app : AppData) (xs : List Task) → IsAccepted app → map task_of xs ≡ app.tasks → (k : ℕ) (t : Task) → k < length app.tasks → t ≡ get_or xs k t → Known app k t
+pub known_task : (app : AppData) (xs : List TaskSpec) → IsAccepted app → map task_of xs ≡ app.tasks → (k : ℕ) (t : TaskSpec) → k < length app.tasks → t ≡ get_or xs k t → Known app k t
 known_task app xs a m k t lt is =
     let below : k < length xs = omega (arith, lt, same_count task_of xs app.tasks m) in
     subst (Known app k) (sym is) (record {
@@ -119,7 +119,7 @@ ram_three a b c d base r size top is e f g =
     three_more a b c d (codes "ram", base) (codes "ram_size", r) (codes "stack_top", top) e f g
     ∙ ap (λ (v : ℕ). a ++ ((codes "ram", base) ∷ (codes "ram_size", v) ∷ (codes "stack_top", top) ∷ [])) is
 
-pub region_more : (app : AppData) (names more all : Names) (rs : List SharedRegion) (k v : ℕ) (item : SharedRegion) → k < length rs → item ≡ get_or rs k item
+pub region_more : (app : AppData) (names more all : Names) (rs : List RegionSpec) (k v : ℕ) (item : RegionSpec) → k < length rs → item ≡ get_or rs k item
     → v ≡ region_base app k → more ≡ names ++ (codes "region_" ++ string_bytes item.name, v) ∷ []
     → names ++ region_symbols app k (map region_of (drop k rs)) ≡ all → more ++ region_symbols app (k + 1) (map region_of (drop (k + 1) rs)) ≡ all
 region_more app names more all rs k v item lt at_k at is before =
@@ -127,9 +127,9 @@ region_more app names more all rs k v item lt at_k at is before =
     let rest : Names = region_symbols app (k + 1) (map region_of (drop (k + 1) rs)) in
     let next : suc k ≡ k + 1 = omega arith in
     let split : drop k rs ≡ item ∷ drop (k + 1) rs =
-    drop-cons rs k item lt ∙ ap (λ (x : SharedRegion). x ∷ drop (suc k) rs) (sym at_k) ∙ ap (λ (n : ℕ). item ∷ drop n rs) next in
+    drop-cons rs k item lt ∙ ap (λ (x : RegionSpec). x ∷ drop (suc k) rs) (sym at_k) ∙ ap (λ (n : ℕ). item ∷ drop n rs) next in
     let here : names ++ ((name, region_base app k) ∷ rest) ≡ all =
-    subst (λ (xs : List SharedRegion). names ++ region_symbols app k (map region_of xs) ≡ all) split before in
+    subst (λ (xs : List RegionSpec). names ++ region_symbols app k (map region_of xs) ≡ all) split before in
     ap (λ (ns : Names). ns ++ rest) (is ∙ ap (λ (n : ℕ). names ++ (name, n) ∷ []) at) ∙ append_assoc names ((name, region_base app k) ∷ []) rest ∙ here
 
 pub lines_more : (at : ℕ → List LinePicture) (out more all : List LineRecord) (line : ℕ) → line < 32 → more ≡ out ++ map line_record (at line)
@@ -152,7 +152,7 @@ lines_end at out all line le before =
 
 -- ---- a task's record
 
-pub region_count : (app : AppData) (i : ℕ) (t : Task) → length (task_regions app i (task_of t)) ≡ 2 + length t.uses.items + length t.reads.items
+pub region_count : (app : AppData) (i : ℕ) (t : TaskSpec) → length (task_regions app i (task_of t)) ≡ 2 + length t.uses.items + length t.reads.items
 region_count app i t =
     let uses = map string_bytes t.uses.items in
     let reads = map string_bytes t.reads.items in
@@ -169,7 +169,7 @@ same_fields : (p f g r s e h a b : ℕ) → f ≡ g → r ≡ s → e ≡ h → 
     → ◌≡◌ {A = TaskRecord} (record { priority = p; flags = f; regions = r; zero = 0; entry = e; sp = a }) (record { priority = p; flags = g; regions = s; zero = 0; entry = h; sp = b })
 same_fields p f g r s e h a b i j k l = rw (i, j, k, l) refl
 
-pub same_record : (app : AppData) (i : ℕ) (t : Task) (flags regions entry sp : ℕ) → task_of t ≡ task_at app i → flags ≡ bit t.start 1
+pub same_record : (app : AppData) (i : ℕ) (t : TaskSpec) (flags regions entry sp : ℕ) → task_of t ≡ task_at app i → flags ≡ bit t.start 1
     → regions ≡ 2 + length t.uses.items + length t.reads.items → entry ≡ flash_base app i + 1 → sp ≡ ram_base app i + t.stack
     → ◌≡◌ {A = TaskRecord} (record { priority = t.priority; flags = flags; regions = regions; zero = 0; entry = entry; sp = sp }) (task_record (task_built app i (task_at app i)))
 same_record app i t flags regions entry sp is f r e s =

@@ -7,7 +7,7 @@ use Rattle.mem_plan.specs.Sizes.{doubled, rounded}
 use Rattle.text_lines.specs.Text.{lines_of}
 use Rattle.thumb_asm.specs.Assembly.{Assembles}
 use Rattle.thumb_asm.specs.Meaning.{Env}
-use Rattle.image_build.specs.Building.{Holds, IsLaid, IsTaken}
+use Rattle.image_build.specs.Building.{Holds, IsLaid, IsAcceptedSource}
 use Rattle.image_build.specs.Built.{HasProgram, flash_byte, given, source_at}
 use Rattle.image_build.specs.Layout.{flash_base, flash_sizes, task_at}
 use Rattle.image_build.specs.declared.layout.Layout.{Layout}
@@ -113,9 +113,9 @@ own app sources source code old flash labels p = record {
   stands = behind app sources source code old flash labels p;
 }
 
-own_taken : (app : AppData) (sources : List (List ℕ)) (source code old flash : List ℕ) (labels : Env) → PutsNext app sources source code old flash labels
-    → IsTaken app (length sources) source
-own_taken app sources source code old flash labels p = record {
+own_accepted : (app : AppData) (sources : List (List ℕ)) (source code old flash : List ℕ) (labels : Env) → PutsNext app sources source code old flash labels
+    → IsAcceptedSource app (length sources) source
+own_accepted app sources source code old flash labels p = record {
   code = code;
   labels = labels;
   assembled = p.assembled;
@@ -141,8 +141,8 @@ holds_next app layout sources source code old flash labels l p = record {
   length_of_flash = p.same ∙ p.holds.length_of_flash;
   programs = each_source (λ (i : ℕ) (s : List ℕ). HasProgram app i s flash) sources source
       (earlier app layout sources source code old flash labels l p) (own app sources source code old flash labels p);
-  taken = each_source (IsTaken app) sources source
-      (λ i lt. subst (IsTaken app i) (source_before sources source i lt) (p.holds.taken i lt)) (own_taken app sources source code old flash labels p);
+  accepted = each_source (IsAcceptedSource app) sources source
+      (λ i lt. subst (IsAcceptedSource app i) (source_before sources source i lt) (p.holds.accepted i lt)) (own_accepted app sources source code old flash labels p);
   zeros = λ i k le lt below.
       let low : length sources ≤ i = omega (arith, le, count_more sources source) in
       others app layout sources source code old flash labels l p i k lt (λ same. absurd (omega (arith, same, le, count_more sources source))) below

@@ -20,6 +20,6 @@ pub no_source : (app : AppData) (n : ℕ) (flash : List ℕ) → flash ≡ zeros
 no_source app n flash is count = record {
   length_of_flash = ap length is ∙ count_zeros n ∙ count;
   programs = λ i lt. absurd (omega (arith, lt));
-  taken = λ i lt. absurd (omega (arith, lt));
+  accepted = λ i lt. absurd (omega (arith, lt));
   zeros = λ i k le lt below. let at = flash_base app i - 0x08000000 + k in ap (λ (xs : List ℕ). get_or xs at 0) is ∙ zeros_at n at;
 }

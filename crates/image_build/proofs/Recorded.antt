@@ -9,8 +9,8 @@ use Rattle.app_toml.specs.Apps.{AppData, DeviceData, RegionData, TaskData}
 use Rattle.app_toml.specs.Crossed.{has_device, has_region}
 use Rattle.app_toml.specs.Places.{Text}
 use Rattle.app_toml.specs.Sites.{device_of, region_of}
-use Rattle.app_toml.specs.declared.parts.Device.{Device}
-use Rattle.app_toml.specs.declared.parts.SharedRegion.{SharedRegion}
+use Rattle.app_toml.specs.declared.parts.DeviceSpec.{DeviceSpec}
+use Rattle.app_toml.specs.declared.parts.RegionSpec.{RegionSpec}
 use Rattle.image_format.specs.Picture.{all_regions, region_record, rights_number}
 use Rattle.image_format.specs.declared.records.RegionRecord.{RegionRecord}
 use Rattle.mem_plan.specs.Sizes.{rounded}
@@ -51,40 +51,40 @@ other false b e f = e
 
 -- ---- of the code's lists
 
-region_in : (app : AppData) (xs : List SharedRegion) → map region_of xs ≡ app.regions → (k : ℕ) (d : SharedRegion) → k < length xs
+region_in : (app : AppData) (xs : List RegionSpec) → map region_of xs ≡ app.regions → (k : ℕ) (d : RegionSpec) → k < length xs
     → region_of (get_or xs k d) ≡ get_or app.regions k no_region
 region_in app xs m k d lt = sym (ap (λ (ys : List RegionData). get_or ys k no_region) (sym m) ∙ get_or-map region_of xs k d no_region lt)
 
-device_in : (app : AppData) (xs : List Device) → map device_of xs ≡ app.devices → (k : ℕ) (d : Device) → k < length xs
+device_in : (app : AppData) (xs : List DeviceSpec) → map device_of xs ≡ app.devices → (k : ℕ) (d : DeviceSpec) → k < length xs
     → device_of (get_or xs k d) ≡ get_or app.devices k no_device
 device_in app xs m k d lt = sym (ap (λ (ys : List DeviceData). get_or ys k no_device) (sym m) ∙ get_or-map device_of xs k d no_device lt)
 
-pub region_small : (app : AppData) (xs : List SharedRegion) → IsAccepted app → map region_of xs ≡ app.regions → (k : ℕ) (d : SharedRegion) → k < length xs
+pub region_small : (app : AppData) (xs : List RegionSpec) → IsAccepted app → map region_of xs ≡ app.regions → (k : ℕ) (d : RegionSpec) → k < length xs
     → (get_or xs k d).size ≤ 1048576
 region_small app xs a m k d lt =
     let below : k < length app.regions = omega (arith, lt, same_count region_of xs app.regions m) in
     omega (arith, ap (λ (r : RegionData). r.size) (region_in app xs m k d lt), (a.regions k no_region below).size.1)
 
-place_of_region : (app : AppData) (name : Text) (xs : List SharedRegion) (k : ℕ) → map region_of xs ≡ app.regions
+place_of_region : (app : AppData) (name : Text) (xs : List RegionSpec) (k : ℕ) → map region_of xs ≡ app.regions
     → k ≡ index_of name (map (λ r. r.name) (map region_of xs)) → k ≡ index_of_region app name
 place_of_region app name xs k m at = at ∙ ap (λ (rs : List RegionData). index_of name (map (λ (r : RegionData). r.name) rs)) m
 
-place_of_device : (app : AppData) (name : Text) (xs : List Device) (k : ℕ) → map device_of xs ≡ app.devices
+place_of_device : (app : AppData) (name : Text) (xs : List DeviceSpec) (k : ℕ) → map device_of xs ≡ app.devices
     → k ≡ index_of name (map (λ d. d.name) (map device_of xs)) → k ≡ index_of name (map (λ d. d.name) app.devices)
 place_of_device app name xs k m at = at ∙ ap (λ (ds : List DeviceData). index_of name (map (λ (d : DeviceData). d.name) ds)) m
 
-is_region : (app : AppData) (name : Text) (xs : List SharedRegion) (k : ℕ) → map region_of xs ≡ app.regions
+is_region : (app : AppData) (name : Text) (xs : List RegionSpec) (k : ℕ) → map region_of xs ≡ app.regions
     → k ≡ index_of name (map (λ r. r.name) (map region_of xs)) → k < length xs → has_region name app.regions ≡ true
 is_region app name xs k m at lt =
     has_at 0 name app.regions (omega (arith, lt, place_of_region app name xs k m at, same_count region_of xs app.regions m))
 
-is_no_region : (app : AppData) (name : Text) (xs : List SharedRegion) (k : ℕ) → map region_of xs ≡ app.regions
+is_no_region : (app : AppData) (name : Text) (xs : List RegionSpec) (k : ℕ) → map region_of xs ≡ app.regions
     → k ≡ index_of name (map (λ r. r.name) (map region_of xs)) → length xs ≤ k → has_region name app.regions ≡ false
 is_no_region app name xs k m at le =
     lacks_at 0 name app.regions (omega (arith, le, place_of_region app name xs k m at, same_count region_of xs app.regions m))
 
 -- a known name that is no region's is a device's
-pub device_below : (app : AppData) (name : Text) (xs : List SharedRegion) (k : ℕ) (ds : List Device) (j : ℕ) → map region_of xs ≡ app.regions
+pub device_below : (app : AppData) (name : Text) (xs : List RegionSpec) (k : ℕ) (ds : List DeviceSpec) (j : ℕ) → map region_of xs ≡ app.regions
     → k ≡ index_of name (map (λ r. r.name) (map region_of xs)) → length xs ≤ k → map device_of ds ≡ app.devices
     → j ≡ index_of name (map (λ d. d.name) (map device_of ds)) → IsKnown app name → j < length ds
 device_below app name xs k ds j m at le n there known =
@@ -105,7 +105,7 @@ device_rights : (write : Bool) (n : ℕ) → n ≡ (if write then 3 else 1) → 
 device_rights true n e = ap (λ (m : ℕ). m + 8) e
 device_rights false n e = ap (λ (m : ℕ). m + 8) e
 
-pub region_is : (app : AppData) (write : Bool) (name : Text) (xs : List SharedRegion) (k : ℕ) (d : SharedRegion) (base size rights : ℕ) → map region_of xs ≡ app.regions
+pub region_is : (app : AppData) (write : Bool) (name : Text) (xs : List RegionSpec) (k : ℕ) (d : RegionSpec) (base size rights : ℕ) → map region_of xs ≡ app.regions
     → k ≡ index_of name (map (λ r. r.name) (map region_of xs)) → k < length xs
     → base ≡ region_base app k → size ≡ rounded (get_or xs k d).size → rights ≡ (if write then 3 else 1)
     → ◌≡◌ {A = RegionRecord} (record { base = base; size = size; rights = rights }) (region_record (named app write name))
@@ -122,7 +122,7 @@ region_is app write name xs k d base size rights m at lt b s r =
     length_of : (get_or xs k d).size ≡ (region_named app name).size
     length_of = ap (λ (x : RegionData). x.size) (region_in app xs m k d lt ∙ ap (λ (n : ℕ). get_or app.regions n no_region) place)
 
-pub device_is : (app : AppData) (write : Bool) (name : Text) (xs : List SharedRegion) (k : ℕ) (ds : List Device) (j : ℕ) (d : Device) (base size rights : ℕ)
+pub device_is : (app : AppData) (write : Bool) (name : Text) (xs : List RegionSpec) (k : ℕ) (ds : List DeviceSpec) (j : ℕ) (d : DeviceSpec) (base size rights : ℕ)
     → map region_of xs ≡ app.regions → k ≡ index_of name (map (λ r. r.name) (map region_of xs)) → length xs ≤ k → map device_of ds ≡ app.devices
     → j ≡ index_of name (map (λ d. d.name) (map device_of ds)) → IsKnown app name
     → base ≡ (get_or ds j d).base → size ≡ (get_or ds j d).size → rights ≡ (if write then 3 else 1)

@@ -54,7 +54,7 @@ abbrev pub IsAssembled : AppData → ℕ → List ℕ → List ℕ → Env → T
 IsAssembled app i source code labels = Assembles (lines_of source) (flash_base app i) (given app i) code labels
 
 -- it is assembled, and its bytes fit the task's flash
-pub record IsTaken (app : AppData) (i : ℕ) (source : List ℕ) : Type 0 where
+pub record IsAcceptedSource (app : AppData) (i : ℕ) (source : List ℕ) : Type 0 where
   pub code : List ℕ
   pub labels : Env
   pub assembled : IsAssembled app i source code labels
@@ -79,20 +79,20 @@ RefusesSource app i source fault.Memory = ⊤
 
 -- ---- all of them
 
-abbrev pub TakesBelow : AppData → List (List ℕ) → ℕ → Type 0
-TakesBelow app sources n = (i : ℕ) → i < n → IsTaken app i (source_at sources i)
+abbrev pub AcceptsBelow : AppData → List (List ℕ) → ℕ → Type 0
+AcceptsBelow app sources n = (i : ℕ) → i < n → IsAcceptedSource app i (source_at sources i)
 
 -- nothing is refused
 pub record IsAccepted (app : AppData) (sources : List (List ℕ)) : Type 0 where
   pub room : HasRoom app
-  pub taken : TakesBelow app sources (length app.tasks)
+  pub accepted : AcceptsBelow app sources (length app.tasks)
 
 -- the first refusal: of the plan, or of the first task whose source is refused
 abbrev pub Refuses : AppData → List (List ℕ) → BuildFault → Type 0
 Refuses app sources fault.Memory = ⊤
 Refuses app sources (fault.Flash needed) = LacksRoom app (fault.Flash needed)
 Refuses app sources (fault.Ram needed) = LacksRoom app (fault.Ram needed)
-Refuses app sources f = HasRoom app × ((i : ℕ) × (i < length app.tasks) × TakesBelow app sources i
+Refuses app sources f = HasRoom app × ((i : ℕ) × (i < length app.tasks) × AcceptsBelow app sources i
     × RefusesSource app i (source_at sources i) f)
 
 -- ---- on the way
@@ -117,11 +117,11 @@ pub record IsLaid (app : AppData) (layout : Layout) : Type 0 where
   pub ram_length : layout.ram_length ≡ ram_needed app
   pub room : HasRoom app
 
--- the flash, where the first sources have been taken: their bytes, and zeros for the other tasks
+-- the flash, where the first sources have been accepted: their bytes, and zeros for the other tasks
 pub record Holds (app : AppData) (sources : List (List ℕ)) (flash : List ℕ) : Type 0 where
   pub length_of_flash : length flash ≡ flash_needed app
   pub programs : (i : ℕ) → i < length sources → HasProgram app i (source_at sources i) flash
-  pub taken : TakesBelow app sources (length sources)
+  pub accepted : AcceptsBelow app sources (length sources)
   pub zeros : (i k : ℕ) → length sources ≤ i → i < length app.tasks → k < rounded (task_at app i).flash
       → flash_byte app i flash k ≡ 0
 

@@ -2,4 +2,4 @@ pub mod Building
 pub mod Built
 pub mod Layout
 pub mod Symbols
-pub mod Taken
+pub mod Accepted

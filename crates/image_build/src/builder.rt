@@ -1,4 +1,4 @@
-//! A builder: an application and what has been taken of its sources.
+//! A builder: an application and what has been accepted of its sources.
 
 ghost use Rattle.std.specs.Prelude.{◌≡◌, length};
 ghost use Rattle.app_toml.specs.Held.{app_of};
@@ -8,7 +8,7 @@ use crate::layout::Layout;
 use app_toml::App;
 use std::alloc::Global;
 
-/// An application, of which the first tasks' sources have been taken.
+/// An application, of which the first tasks' sources have been accepted.
 #[derive(Drop)]
 pub struct Builder<'a> {
     pub(crate) alloc: Global,

@@ -7,7 +7,7 @@ ghost use Rattle.image_format.specs.Picture.{Sound, all_regions, header_of, line
 ghost use Rattle.image_build.specs.Building.{IsAccepted, IsLaid, Refuses};
 ghost use Rattle.image_build.specs.Built.{Built, bit_of, lines_built, picture_built, tasks_from};
 ghost use Rattle.image_build.specs.Layout.{flash_needed, task_at};
-ghost use Rattle.image_build.specs.Taken.{HasTaken, described, next_task};
+ghost use Rattle.image_build.specs.Accepted.{HasAccepted, described, next_task};
 
 use crate::builder::Builder;
 use crate::fault::BuildFault;
@@ -55,11 +55,11 @@ fn header_of(
 }
 
 impl<'a> Builder<'a> {
-    /// The image, once the source of each task has been taken; `Memory` where memory ran out, and then the
+    /// The image, once the source of each task has been accepted; `Memory` where memory ran out, and then the
     /// builder is gone.
     pub fn finish(self) -> Result<Image, BuildFault>
         requires { next_task self ≡ length (described self).tasks }
-        ensures built { IfOk result (λ i. (sources : List (List ℕ)) → HasTaken sources self.entry → Built (described self.entry) sources (picture i)) }
+        ensures built { IfOk result (λ i. (sources : List (List ℕ)) → HasAccepted sources self.entry → Built (described self.entry) sources (picture i)) }
         ensures sound { IfOk result (λ i. Sound (picture i)) }
         ensures memory { IfErr result (λ e. e ≡ BuildFault.Memory) }
     {

@@ -8,11 +8,11 @@ ghost use Rattle.image_build.specs.Building.{IsOwned};
 ghost use Rattle.image_build.specs.Built.{line_built, lines_built};
 
 use crate::names::{bit_of, notifications_of, task_place};
-use app_toml::{App, Interrupt};
+use app_toml::{App, LineSpec};
 use image_format::LineRecord;
 use std::alloc::{AllocError, Global};
 
-fn line_record(app: &App, interrupt: &Interrupt) -> LineRecord
+fn line_record(app: &App, interrupt: &LineSpec) -> LineRecord
     requires { IsOwned (app_of app.now) (interrupt_of interrupt.now) }
     ensures { result ≡ line_record (line_built (app_of app.now) (interrupt_of interrupt.now)) }
 {
@@ -34,7 +34,7 @@ fn line_record(app: &App, interrupt: &Interrupt) -> LineRecord
 fn push_line(
     out: &mut Vec<LineRecord>,
     app: &App,
-    interrupts: &[Interrupt],
+    interrupts: &[LineSpec],
     line: u8,
 ) -> Result<(), AllocError>
     requires { All (λ i. IsOwned (app_of app.now) (interrupt_of i)) interrupts.now }

@@ -10,7 +10,7 @@ ghost use Rattle.image_build.specs.Building.{IsLaid, IsPlanned, LacksFlash, Lack
 ghost use Rattle.image_build.specs.Layout.{flash_needed, flash_sizes, flash_wanted, ram_needed, ram_sizes, ram_wanted};
 
 use crate::fault::BuildFault;
-use app_toml::{App, SharedRegion, Task};
+use app_toml::{App, RegionSpec, TaskSpec};
 use mem_banks::{FLASH, RAM};
 use mem_plan::{PlanFault, plan, rounded};
 use std::alloc::{AllocError, Global};
@@ -36,7 +36,7 @@ fn flash_wanted(alloc: Global, app: &App) -> Result<Vec<u32>, AllocError>
     Ok(sizes)
 }
 
-fn tasks_ram(alloc: Global, tasks: &[Task]) -> Result<Vec<u32>, AllocError>
+fn tasks_ram(alloc: Global, tasks: &[TaskSpec]) -> Result<Vec<u32>, AllocError>
     ensures { IfOk result (λ v. v.items ≡ map (λ t. t.ram) (map task_of tasks.now)) }
 {
     let mut sizes = Vec::new(alloc);
@@ -46,7 +46,7 @@ fn tasks_ram(alloc: Global, tasks: &[Task]) -> Result<Vec<u32>, AllocError>
     Ok(sizes)
 }
 
-fn push_regions(sizes: &mut Vec<u32>, regions: &[SharedRegion]) -> Result<(), AllocError>
+fn push_regions(sizes: &mut Vec<u32>, regions: &[RegionSpec]) -> Result<(), AllocError>
     ensures { OnOk result (sizes.new.items ≡ sizes.old.items ++ map (λ r. r.size) (map region_of regions.now)) }
 {
     for region in regions {
@@ -64,7 +64,7 @@ fn ram_wanted(alloc: Global, app: &App) -> Result<Vec<u32>, AllocError>
 }
 
 /// How many bytes regions for these sizes take.
-fn taken(sizes: &[u32]) -> u32
+fn room_taken(sizes: &[u32]) -> u32
     requires sizes { All (λ s. s ≤ 1048576) sizes.now }
     requires small { total (map rounded sizes.now) < 2 ^ 32 }
     ensures { result ≡ total (map rounded sizes.now) }
@@ -82,19 +82,19 @@ fn planned(alloc: Global, sizes: &[u32], base: u32, room: u32) -> Result<(Vec<u3
     requires fits { base + room < 2 ^ 32 }
     requires whole { IsMultiple 1048576 base }
     ensures planned { IfOk result (λ p. IsPlanned base (map rounded sizes.now) p.0.items) }
-    ensures taken { IfOk result (λ p. p.1 ≡ total (map rounded sizes.now)) }
+    ensures accepted { IfOk result (λ p. p.1 ≡ total (map rounded sizes.now)) }
     ensures room { IfOk result (λ p. total (map rounded sizes.now) ≤ room) }
     ensures small { IfErr result (IsTooSmall (total (map rounded sizes.now)) room) }
 {
     match plan(alloc, sizes, base, room) {
-        Ok(plan) => Ok((plan.bases, taken(sizes))),
+        Ok(plan) => Ok((plan.bases, room_taken(sizes))),
         Err(fault) => Err(fault),
     }
 }
 
 fn flash_plan(alloc: Global, app: &App) -> Result<(Vec<u32>, u32), BuildFault>
     ensures planned { IfOk result (λ p. IsPlanned 0x08000000 (flash_sizes (app_of app.now)) p.0.items) }
-    ensures taken { IfOk result (λ p. p.1 ≡ flash_needed (app_of app.now)) }
+    ensures accepted { IfOk result (λ p. p.1 ≡ flash_needed (app_of app.now)) }
     ensures room { IfOk result (λ p. flash_needed (app_of app.now) ≤ (app_of app.now).flash) }
     ensures refused { IfErr result (LacksFlash (app_of app.now)) }
 {
@@ -109,7 +109,7 @@ fn flash_plan(alloc: Global, app: &App) -> Result<(Vec<u32>, u32), BuildFault>
 
 fn ram_plan(alloc: Global, app: &App) -> Result<(Vec<u32>, u32), BuildFault>
     ensures planned { IfOk result (λ p. IsPlanned 0x20000000 (ram_sizes (app_of app.now)) p.0.items) }
-    ensures taken { IfOk result (λ p. p.1 ≡ ram_needed (app_of app.now)) }
+    ensures accepted { IfOk result (λ p. p.1 ≡ ram_needed (app_of app.now)) }
     ensures room { IfOk result (λ p. ram_needed (app_of app.now) ≤ (app_of app.now).ram) }
     ensures refused { IfErr result (LacksRam (app_of app.now)) }
 {

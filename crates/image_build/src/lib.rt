@@ -2,6 +2,7 @@
 //! source at its task's flash, and makes the parts of the image. docs/FORMATS.md, Building, has the rules.
 #![tactic(auto)]
 
+mod accepting;
 mod builder;
 mod fault;
 mod finishing;
@@ -11,7 +12,6 @@ mod names;
 mod reading;
 mod regions;
 mod symbols;
-mod taking;
 mod tasks;
 
 pub use builder::Builder;

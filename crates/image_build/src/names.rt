@@ -6,7 +6,7 @@ ghost use Rattle.app_toml.specs.Sites.{device_of, region_of, task_of};
 ghost use Rattle.image_build.specs.Built.{bit_of};
 ghost use Rattle.image_build.specs.Layout.{index_of};
 
-use app_toml::{Device, SharedRegion, Task};
+use app_toml::{DeviceSpec, RegionSpec, TaskSpec};
 
 /// The place of a name; how many names there are, where it is none of them.
 fn place_of(name: &str, names: &[String]) -> usize
@@ -20,7 +20,7 @@ fn place_of(name: &str, names: &[String]) -> usize
     names.len()
 }
 
-pub(crate) fn task_place(name: &str, tasks: &[Task]) -> usize
+pub(crate) fn task_place(name: &str, tasks: &[TaskSpec]) -> usize
     ensures { result ≡ index_of name.now (map (λ t. t.name) (map task_of tasks.now)) }
 {
     for i in 0..tasks.len() {
@@ -31,7 +31,7 @@ pub(crate) fn task_place(name: &str, tasks: &[Task]) -> usize
     tasks.len()
 }
 
-pub(crate) fn region_place(name: &str, regions: &[SharedRegion]) -> usize
+pub(crate) fn region_place(name: &str, regions: &[RegionSpec]) -> usize
     ensures { result ≡ index_of name.now (map (λ r. r.name) (map region_of regions.now)) }
 {
     for i in 0..regions.len() {
@@ -42,7 +42,7 @@ pub(crate) fn region_place(name: &str, regions: &[SharedRegion]) -> usize
     regions.len()
 }
 
-pub(crate) fn device_place(name: &str, devices: &[Device]) -> usize
+pub(crate) fn device_place(name: &str, devices: &[DeviceSpec]) -> usize
     ensures { result ≡ index_of name.now (map (λ d. d.name) (map device_of devices.now)) }
 {
     for i in 0..devices.len() {
@@ -70,7 +70,7 @@ pub(crate) fn bit_of(name: &str, notifications: &[String]) -> u32
 }
 
 /// The notifications of the first task of that name; none where there is no such task.
-pub(crate) fn notifications_of<'a>(name: &str, tasks: &'a [Task]) -> &'a [String]
+pub(crate) fn notifications_of<'a>(name: &str, tasks: &'a [TaskSpec]) -> &'a [String]
     ensures { map string_bytes result.now ≡ notifications_of name.now (map task_of tasks.now) }
 {
     for task in tasks {

@@ -8,10 +8,10 @@ ghost use Rattle.image_build.specs.Layout.{flash_base, flash_needed, ram_base, t
 ghost use Rattle.mem_plan.specs.Sizes.{rounded};
 
 use crate::layout::Layout;
-use app_toml::{App, Task};
+use app_toml::{App, TaskSpec};
 
 /// The i-th task.
-pub(crate) fn task(app: &App, i: usize) -> &Task
+pub(crate) fn task(app: &App, i: usize) -> &TaskSpec
     requires { i < length (app_of app.now).tasks }
     ensures task { task_of result.now ≡ task_at (app_of app.now) i }
     ensures notes { length result.now.notifications.items ≤ 32 }

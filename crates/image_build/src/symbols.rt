@@ -11,7 +11,7 @@ ghost use Rattle.image_build.specs.Symbols.{device_symbols, note_symbols, region
 use crate::layout::Layout;
 use crate::names::bit;
 use crate::reading::{ram_base, task};
-use app_toml::{App, Device, Task};
+use app_toml::{App, DeviceSpec, TaskSpec};
 use mem_plan::rounded;
 use std::alloc::{AllocError, Global};
 
@@ -36,7 +36,7 @@ fn push_notes(out: &mut Symbols, prefix: &str, notifications: &[String]) -> Resu
     Ok(())
 }
 
-fn push_ram(out: &mut Symbols, task: &Task, base: u32) -> Result<(), AllocError>
+fn push_ram(out: &mut Symbols, task: &TaskSpec, base: u32) -> Result<(), AllocError>
     requires ram { task.now.ram ≤ 1048576 }
     requires stack { base + task.now.stack < 2 ^ 32 }
     ensures { OnOk result (names_of out.new.items ≡ names_of out.old.items
@@ -65,7 +65,7 @@ fn push_regions(out: &mut Symbols, app: &App, layout: &Layout) -> Result<(), All
     Ok(())
 }
 
-fn push_devices(out: &mut Symbols, devices: &[Device]) -> Result<(), AllocError>
+fn push_devices(out: &mut Symbols, devices: &[DeviceSpec]) -> Result<(), AllocError>
     ensures { OnOk result (names_of out.new.items ≡ names_of out.old.items ++ device_symbols (map device_of devices.now)) }
 {
     for device in devices {
@@ -84,7 +84,7 @@ fn note_prefix(alloc: Global, task: &str) -> Result<String, AllocError>
     Ok(prefix)
 }
 
-fn push_task(out: &mut Symbols, index: u32, task: &Task) -> Result<(), AllocError>
+fn push_task(out: &mut Symbols, index: u32, task: &TaskSpec) -> Result<(), AllocError>
     requires { length task.now.notifications.items ≤ 32 }
     ensures { OnOk result (names_of out.new.items ≡ names_of out.old.items
         ++ ((codes "task_" ++ string_bytes task.now.name, index)

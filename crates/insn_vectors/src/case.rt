@@ -186,7 +186,7 @@ fn fault(text: &str) -> Option<Fault> {
 fn outcome(text: &str) -> Option<Outcome> {
     match text {
         "next" => Some(Outcome::Next),
-        "call" => Some(Outcome::Syscall),
+        "call" => Some(Outcome::Call),
         _ => Some(Outcome::Trap(fault(text)?)),
     }
 }

@@ -8,7 +8,7 @@ mod receiving;
 mod replying;
 mod sending;
 
-pub use posting::{post_syscall, refresh};
+pub use posting::{post_call, refresh};
 pub use receiving::recv;
 pub use replying::{reply, reply_fault};
 pub use sending::send;

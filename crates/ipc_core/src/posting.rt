@@ -31,7 +31,7 @@ fn post_bits(k: &mut Kernel, caller: usize)
 
 /// POST: r4 is the id of a task, r5 the bits to post to it. r4 is 0 then, or the dead code where the id is
 /// that of an earlier birth; an id of no task is a misuse (Hubris Reference, on notifications).
-pub fn post_syscall(k: &mut Kernel, caller: usize)
+pub fn post_call(k: &mut Kernel, caller: usize)
     requires there { caller < task_count k.old }
     requires ready { (g : Setup) × (t : Turn) × Stands g k.old t × (is_ready t.state caller ≡ true) }
     requires room { note_count k.old + syscall_notes ≤ turn_notes }

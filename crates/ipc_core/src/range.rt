@@ -7,7 +7,7 @@ use kernel_abi::Range;
 
 /// Whether a range ends inside the address space.
 pub(crate) fn is_valid(base: u32, len: u32) -> bool
-    ensures { result ≡ is_valid record { base = base; length = len } }
+    ensures { result ≡ is_valid record { base = base; len = len } }
 {
     Range::of(base, u64::from(len)).is_some()
 }

@@ -11,7 +11,7 @@ ghost use Rattle.task_table.specs.Messages.{from_of, IsListened, IsReceiving};
 ghost use Rattle.ipc_core.specs.Named.{AsksFor, IsNamed, IsInside};
 
 use crate::range::is_valid;
-use kernel_abi::{Access, Generation, Listened, RecvArgs, TaskId, Usage, dead_code};
+use kernel_abi::{Access, FromIndex, Generation, RecvArgs, TaskId, Usage, dead_code};
 use region_check::Right;
 use task_table::{Found, Kernel};
 
@@ -50,7 +50,7 @@ fn sender_of(k: &Kernel, caller: usize, args: &RecvArgs) -> Option<Sender>
 }
 
 /// The caller takes the call that a client offers to it; where it offers none, the caller listens.
-fn receive_or_listen(k: &mut Kernel, caller: usize, client: usize, from: Listened)
+fn receive_or_listen(k: &mut Kernel, caller: usize, client: usize, from: FromIndex)
     requires there { caller < task_count k.old }
     requires client { client < task_count k.old }
     requires whom { IsListened (task_count k.old) from }
@@ -77,13 +77,13 @@ fn receive_message(k: &mut Kernel, caller: usize, sender: Sender, best: Option<u
 {
     match sender {
         Sender::Any => match best {
-            Some(client) => receive_or_listen(k, caller, client, Listened::Any),
-            None => k.listen(caller, Listened::Any),
+            Some(client) => receive_or_listen(k, caller, client, FromIndex::Any),
+            None => k.listen(caller, FromIndex::Any),
         },
-        Sender::Kernel => k.listen(caller, Listened::Kernel),
+        Sender::Kernel => k.listen(caller, FromIndex::Kernel),
         Sender::Dead(generation) => k.answer(caller, &[dead_code(generation), 0, 0, 0, 0, 0]),
         Sender::One(client) => {
-            receive_or_listen(k, caller, client, Listened::One(client as u16));
+            receive_or_listen(k, caller, client, FromIndex::One(client as u16));
         }
     }
 }

@@ -30,7 +30,7 @@ fn reply_checked(k: &mut Kernel, caller: usize, client: usize, call: &OpenCall, 
     if let Some(at) = k.bad_byte(caller, Right::Read, args.reply_base, args.reply_length) {
         return k.deny(caller, at, Access::KernelRead);
     }
-    if args.reply_length > call.reply.length {
+    if args.reply_length > call.reply.len {
         return k.misuse(caller, Usage::ReplyTooBig);
     }
     k.hand_reply(caller, client, call, args);

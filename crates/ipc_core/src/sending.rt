@@ -40,7 +40,7 @@ fn recipient_of(k: &Kernel, caller: usize, id: TaskId) -> Option<Recipient>
 
 /// Whether a lease table ends inside the address space.
 fn is_valid_table(base: u32, leases: u32) -> bool
-    ensures { result ≡ is_valid record { base = base; length = 12 * leases } }
+    ensures { result ≡ is_valid record { base = base; len = 12 * leases } }
 {
     Range::of(base, 12 * u64::from(leases)).is_some()
 }

@@ -7,11 +7,11 @@ use Rattle.kernel_abi.specs.declared.Reason.{Reason}
 use Rattle.kernel_abi.specs.declared.Reason.TheVariants.{UndefinedOperation, BadMessageSize, BadMessageContents, BadLeases, ReplyBufferTooSmall, AccessViolation}
 use Rattle.kernel_abi.specs.declared.TaskId.{TaskId}
 use Rattle.kernel_abi.specs.declared.Usage.{Usage}
-use Rattle.kernel_abi.specs.declared.Usage.TheVariants.{BadSyscall, BadTaskIndex, InvalidSlice, BadKernelMessage, NotSupervisor, NoIrq, OffsetOutOfRange, LeaseOutOfRange, ReplyTooBig, BadReason}
+use Rattle.kernel_abi.specs.declared.Usage.TheVariants.{BadCall, BadTaskIndex, InvalidSlice, BadKernelMessage, NotSupervisor, NoIrq, OffsetOutOfRange, LeaseOutOfRange, ReplyTooBig, BadReason}
 
 -- the number of a misuse
 abbrev pub usage_number : Usage → ℕ
-usage_number BadSyscall = 1
+usage_number BadCall = 1
 usage_number BadTaskIndex = 2
 usage_number InvalidSlice = 3
 usage_number BadKernelMessage = 4

@@ -80,7 +80,7 @@ pub fn dead_code(g: Generation) -> u32
 /// How a task misused a system call. The numbers are this project's own.
 #[derive(Clone, Copy, Debug, PartialEq, Eq)]
 pub enum Usage {
-    BadSyscall,
+    BadCall,
     BadTaskIndex,
     InvalidSlice,
     BadKernelMessage,
@@ -98,7 +98,7 @@ impl Usage {
         ensures { result ≡ usage_number self.now }
     {
         match self {
-            Usage::BadSyscall => 1,
+            Usage::BadCall => 1,
             Usage::BadTaskIndex => 2,
             Usage::InvalidSlice => 3,
             Usage::BadKernelMessage => 4,
@@ -275,7 +275,7 @@ pub enum Ending {
 
 /// Whose message a task listens for.
 #[derive(Clone, Copy, PartialEq, Eq)]
-pub enum Listened {
+pub enum FromIndex {
     /// Any task's.
     Any,
     /// None: for notifications alone.
@@ -337,7 +337,7 @@ pub enum Note {
     /// A task listens, with a mask of notifications.
     Listen {
         task: u16,
-        from: Listened,
+        from: FromIndex,
         mask: u32,
     },
     /// An open call was taken by its server, to which so many bytes were copied.

@@ -2,14 +2,14 @@
 use Rattle.std.proofs.Common.{◌≡◌, ℕ, true, false, List, [], ◌∷◌, ◌++◌, Some, refl}
 use Rattle.std.specs.Prelude.{replicate}
 use Rattle.kernel_abi.specs.declared.Handled.TheVariants as handled
-use Rattle.kernel_abi.specs.declared.Listened.TheVariants as listened
+use Rattle.kernel_abi.specs.declared.FromIndex.TheVariants as from_index
 use Rattle.kernel_abi.specs.declared.Note.{Note}
 use Rattle.kernel_abi.specs.declared.Note.TheVariants as note
 use Rattle.task_table.specs.Start.{start}
 use Rattle.task_table.specs.State.{Setup}
 use Rattle.board_model.specs.Run.{run}
 use Rattle.board_model.specs.Script.{Scenario}
-use Rattle.board_model.specs.declared.outcomes.Level.TheVariants.{Brief}
+use Rattle.board_model.specs.declared.outcomes.Level.TheVariants.{Calls}
 use Rattle.run_script.specs.declared.events.Event.TheVariants.{Irq}
 use Rattle.board_model.proofs.Computed.{computed}
 
@@ -94,44 +94,44 @@ scenario = record { setup = setup; script = record { every = Some 64; events = (
 expected : List (ℕ × Note)
 expected =
     (6, note.Syscall 0 1 (0 ∷ 0 ∷ 1 ∷ 0 ∷ 0 ∷ 0 ∷ 0 ∷ [])) ∷
-    (6, note.Listen 0 listened.Any 1) ∷
+    (6, note.Listen 0 from_index.Any 1) ∷
     (11, note.Syscall 1 7 (1 ∷ 1 ∷ 0 ∷ 0 ∷ 0 ∷ 0 ∷ 0 ∷ [])) ∷
     (11, note.Ret 1 (1 ∷ 1 ∷ 0 ∷ 0 ∷ 0 ∷ 0 ∷ [])) ∷
     (18, note.Syscall 1 1 (536871232 ∷ 16 ∷ 1 ∷ 0 ∷ 0 ∷ 0 ∷ 0 ∷ [])) ∷
-    (18, note.Listen 1 listened.Any 1) ∷
+    (18, note.Listen 1 from_index.Any 1) ∷
     (23, note.Syscall 2 7 (1 ∷ 1 ∷ 0 ∷ 0 ∷ 0 ∷ 0 ∷ 0 ∷ [])) ∷
     (23, note.Ret 2 (1 ∷ 1 ∷ 0 ∷ 0 ∷ 0 ∷ 0 ∷ [])) ∷
     (28, note.Irq 0 handled.Posted) ∷
     (28, note.Post 1 1 1) ∷
     (28, note.Ret 1 (0 ∷ 65535 ∷ 1 ∷ 0 ∷ 0 ∷ 0 ∷ [])) ∷
     (30, note.Syscall 2 1 (536871488 ∷ 16 ∷ 1 ∷ 0 ∷ 0 ∷ 0 ∷ 0 ∷ [])) ∷
-    (30, note.Listen 2 listened.Any 1) ∷
+    (30, note.Listen 2 from_index.Any 1) ∷
     (34, note.Irq 7 handled.Unowned) ∷
     (35, note.Syscall 3 7 (1 ∷ 1 ∷ 0 ∷ 0 ∷ 0 ∷ 0 ∷ 0 ∷ [])) ∷
     (35, note.Ret 3 (1 ∷ 1 ∷ 0 ∷ 0 ∷ 0 ∷ 0 ∷ [])) ∷
     (42, note.Syscall 3 1 (536871744 ∷ 16 ∷ 1 ∷ 0 ∷ 0 ∷ 0 ∷ 0 ∷ [])) ∷
-    (42, note.Listen 3 listened.Any 1) ∷
+    (42, note.Listen 3 from_index.Any 1) ∷
     (47, note.Syscall 4 7 (1 ∷ 1 ∷ 0 ∷ 0 ∷ 0 ∷ 0 ∷ 0 ∷ [])) ∷
     (47, note.Ret 4 (1 ∷ 1 ∷ 0 ∷ 0 ∷ 0 ∷ 0 ∷ [])) ∷
     (50, note.Irq 7 handled.Unowned) ∷
     (54, note.Syscall 4 1 (536872000 ∷ 16 ∷ 1 ∷ 0 ∷ 0 ∷ 0 ∷ 0 ∷ [])) ∷
-    (54, note.Listen 4 listened.Any 1) ∷
+    (54, note.Listen 4 from_index.Any 1) ∷
     (59, note.Syscall 5 7 (1 ∷ 1 ∷ 0 ∷ 0 ∷ 0 ∷ 0 ∷ 0 ∷ [])) ∷
     (59, note.Ret 5 (1 ∷ 1 ∷ 0 ∷ 0 ∷ 0 ∷ 0 ∷ [])) ∷
     (64, note.Tick 1) ∷
     (66, note.Syscall 5 1 (536872256 ∷ 16 ∷ 1 ∷ 0 ∷ 0 ∷ 0 ∷ 0 ∷ [])) ∷
-    (66, note.Listen 5 listened.Any 1) ∷
+    (66, note.Listen 5 from_index.Any 1) ∷
     (71, note.Syscall 6 7 (1 ∷ 1 ∷ 0 ∷ 0 ∷ 0 ∷ 0 ∷ 0 ∷ [])) ∷
     (71, note.Ret 6 (1 ∷ 1 ∷ 0 ∷ 0 ∷ 0 ∷ 0 ∷ [])) ∷
     (76, note.Irq 3 handled.Posted) ∷
     (76, note.Post 4 1 1) ∷
     (76, note.Ret 4 (0 ∷ 65535 ∷ 1 ∷ 0 ∷ 0 ∷ 0 ∷ [])) ∷
     (78, note.Syscall 6 1 (536872512 ∷ 16 ∷ 1 ∷ 0 ∷ 0 ∷ 0 ∷ 0 ∷ [])) ∷
-    (78, note.Listen 6 listened.Any 1) ∷
+    (78, note.Listen 6 from_index.Any 1) ∷
     (83, note.Syscall 7 7 (1 ∷ 1 ∷ 0 ∷ 0 ∷ 0 ∷ 0 ∷ 0 ∷ [])) ∷
     (83, note.Ret 7 (1 ∷ 1 ∷ 0 ∷ 0 ∷ 0 ∷ 0 ∷ [])) ∷
     (90, note.Syscall 7 1 (536872768 ∷ 16 ∷ 1 ∷ 0 ∷ 0 ∷ 0 ∷ 0 ∷ [])) ∷
-    (90, note.Listen 7 listened.Any 1) ∷
+    (90, note.Listen 7 from_index.Any 1) ∷
     (95, note.Irq 0 handled.Held) ∷
     (98, note.Syscall 1 7 (1 ∷ 1 ∷ 1 ∷ 0 ∷ 0 ∷ 0 ∷ 0 ∷ [])) ∷
     (98, note.Post 1 1 1) ∷
@@ -143,7 +143,7 @@ expected =
     (113, note.Ret 1 (1 ∷ 1 ∷ 1 ∷ 0 ∷ 0 ∷ 0 ∷ [])) ∷
     (116, note.Irq 3 handled.Held) ∷
     (120, note.Syscall 1 1 (536871232 ∷ 16 ∷ 1 ∷ 0 ∷ 0 ∷ 0 ∷ 0 ∷ [])) ∷
-    (120, note.Listen 1 listened.Any 1) ∷
+    (120, note.Listen 1 from_index.Any 1) ∷
     (128, note.Tick 2) ∷
     (128, note.Syscall 4 7 (1 ∷ 1 ∷ 1 ∷ 0 ∷ 0 ∷ 0 ∷ 0 ∷ [])) ∷
     (128, note.Post 4 1 1) ∷
@@ -156,7 +156,7 @@ expected =
     (143, note.Syscall 4 7 (1 ∷ 1 ∷ 1 ∷ 0 ∷ 0 ∷ 0 ∷ 0 ∷ [])) ∷
     (143, note.Ret 4 (1 ∷ 1 ∷ 1 ∷ 0 ∷ 0 ∷ 0 ∷ [])) ∷
     (150, note.Syscall 4 1 (536872000 ∷ 16 ∷ 1 ∷ 0 ∷ 0 ∷ 0 ∷ 0 ∷ [])) ∷
-    (150, note.Listen 4 listened.Any 1) ∷
+    (150, note.Listen 4 from_index.Any 1) ∷
     (153, note.Irq 4 handled.Posted) ∷
     (153, note.Post 5 1 1) ∷
     (153, note.Ret 5 (0 ∷ 65535 ∷ 1 ∷ 0 ∷ 0 ∷ 0 ∷ [])) ∷
@@ -166,19 +166,19 @@ expected =
     (165, note.Post 1 1 1) ∷
     (165, note.Ret 1 (0 ∷ 65535 ∷ 1 ∷ 0 ∷ 0 ∷ 0 ∷ [])) ∷
     (165, note.Syscall 3 1 (536871744 ∷ 16 ∷ 1 ∷ 0 ∷ 0 ∷ 0 ∷ 0 ∷ [])) ∷
-    (165, note.Listen 3 listened.Any 1) ∷
+    (165, note.Listen 3 from_index.Any 1) ∷
     (173, note.Syscall 5 7 (1 ∷ 1 ∷ 1 ∷ 0 ∷ 0 ∷ 0 ∷ 0 ∷ [])) ∷
     (173, note.Ret 5 (1 ∷ 1 ∷ 1 ∷ 0 ∷ 0 ∷ 0 ∷ [])) ∷
     (179, note.Irq 5 handled.Posted) ∷
     (179, note.Post 6 1 1) ∷
     (179, note.Ret 6 (0 ∷ 65535 ∷ 1 ∷ 0 ∷ 0 ∷ 0 ∷ [])) ∷
     (180, note.Syscall 5 1 (536872256 ∷ 16 ∷ 1 ∷ 0 ∷ 0 ∷ 0 ∷ 0 ∷ [])) ∷
-    (180, note.Listen 5 listened.Any 1) ∷
+    (180, note.Listen 5 from_index.Any 1) ∷
     (188, note.Syscall 6 7 (1 ∷ 1 ∷ 1 ∷ 0 ∷ 0 ∷ 0 ∷ 0 ∷ [])) ∷
     (188, note.Ret 6 (1 ∷ 1 ∷ 1 ∷ 0 ∷ 0 ∷ 0 ∷ [])) ∷
     (192, note.Tick 3) ∷
     (195, note.Syscall 6 1 (536872512 ∷ 16 ∷ 1 ∷ 0 ∷ 0 ∷ 0 ∷ 0 ∷ [])) ∷
-    (195, note.Listen 6 listened.Any 1) ∷
+    (195, note.Listen 6 from_index.Any 1) ∷
     (197, note.Irq 0 handled.Held) ∷
     (203, note.Syscall 1 7 (1 ∷ 1 ∷ 1 ∷ 0 ∷ 0 ∷ 0 ∷ 0 ∷ [])) ∷
     (203, note.Post 1 1 1) ∷
@@ -191,7 +191,7 @@ expected =
     (218, note.Syscall 1 7 (1 ∷ 1 ∷ 1 ∷ 0 ∷ 0 ∷ 0 ∷ 0 ∷ [])) ∷
     (218, note.Ret 1 (1 ∷ 1 ∷ 1 ∷ 0 ∷ 0 ∷ 0 ∷ [])) ∷
     (225, note.Syscall 1 1 (536871232 ∷ 16 ∷ 1 ∷ 0 ∷ 0 ∷ 0 ∷ 0 ∷ [])) ∷
-    (225, note.Listen 1 listened.Any 1) ∷
+    (225, note.Listen 1 from_index.Any 1) ∷
     (231, note.Irq 5 handled.Held) ∷
     (233, note.Syscall 6 7 (1 ∷ 1 ∷ 1 ∷ 0 ∷ 0 ∷ 0 ∷ 0 ∷ [])) ∷
     (233, note.Post 6 1 1) ∷
@@ -204,7 +204,7 @@ expected =
     (248, note.Syscall 6 7 (1 ∷ 1 ∷ 1 ∷ 0 ∷ 0 ∷ 0 ∷ 0 ∷ [])) ∷
     (248, note.Ret 6 (1 ∷ 1 ∷ 1 ∷ 0 ∷ 0 ∷ 0 ∷ [])) ∷
     (255, note.Syscall 6 1 (536872512 ∷ 16 ∷ 1 ∷ 0 ∷ 0 ∷ 0 ∷ 0 ∷ [])) ∷
-    (255, note.Listen 6 listened.Any 1) ∷
+    (255, note.Listen 6 from_index.Any 1) ∷
     (256, note.Tick 4) ∷
     (263, note.Syscall 2 7 (1 ∷ 1 ∷ 1 ∷ 0 ∷ 0 ∷ 0 ∷ 0 ∷ [])) ∷
     (263, note.Ret 2 (1 ∷ 1 ∷ 1 ∷ 0 ∷ 0 ∷ 0 ∷ [])) ∷
@@ -212,7 +212,7 @@ expected =
     (265, note.Post 3 1 1) ∷
     (265, note.Ret 3 (0 ∷ 65535 ∷ 1 ∷ 0 ∷ 0 ∷ 0 ∷ [])) ∷
     (270, note.Syscall 2 1 (536871488 ∷ 16 ∷ 1 ∷ 0 ∷ 0 ∷ 0 ∷ 0 ∷ [])) ∷
-    (270, note.Listen 2 listened.Any 1) ∷
+    (270, note.Listen 2 from_index.Any 1) ∷
     (274, note.Irq 2 handled.Held) ∷
     (278, note.Syscall 3 7 (1 ∷ 1 ∷ 1 ∷ 0 ∷ 0 ∷ 0 ∷ 0 ∷ [])) ∷
     (278, note.Post 3 1 1) ∷
@@ -225,12 +225,12 @@ expected =
     (298, note.Post 4 1 1) ∷
     (298, note.Ret 4 (0 ∷ 65535 ∷ 1 ∷ 0 ∷ 0 ∷ 0 ∷ [])) ∷
     (300, note.Syscall 3 1 (536871744 ∷ 16 ∷ 1 ∷ 0 ∷ 0 ∷ 0 ∷ 0 ∷ [])) ∷
-    (300, note.Listen 3 listened.Any 1) ∷
+    (300, note.Listen 3 from_index.Any 1) ∷
     (308, note.Syscall 4 7 (1 ∷ 1 ∷ 1 ∷ 0 ∷ 0 ∷ 0 ∷ 0 ∷ [])) ∷
     (308, note.Ret 4 (1 ∷ 1 ∷ 1 ∷ 0 ∷ 0 ∷ 0 ∷ [])) ∷
     (311, note.Irq 7 handled.Unowned) ∷
     (315, note.Syscall 4 1 (536872000 ∷ 16 ∷ 1 ∷ 0 ∷ 0 ∷ 0 ∷ 0 ∷ [])) ∷
-    (315, note.Listen 4 listened.Any 1) ∷
+    (315, note.Listen 4 from_index.Any 1) ∷
     (320, note.Tick 5) ∷
     (320, note.Irq 1 handled.Posted) ∷
     (320, note.Post 2 1 1) ∷
@@ -238,7 +238,7 @@ expected =
     (327, note.Syscall 2 7 (1 ∷ 1 ∷ 1 ∷ 0 ∷ 0 ∷ 0 ∷ 0 ∷ [])) ∷
     (327, note.Ret 2 (1 ∷ 1 ∷ 1 ∷ 0 ∷ 0 ∷ 0 ∷ [])) ∷
     (334, note.Syscall 2 1 (536871488 ∷ 16 ∷ 1 ∷ 0 ∷ 0 ∷ 0 ∷ 0 ∷ [])) ∷
-    (334, note.Listen 2 listened.Any 1) ∷
+    (334, note.Listen 2 from_index.Any 1) ∷
     (340, note.Syscall 8 10 (5 ∷ 0 ∷ 0 ∷ 0 ∷ 0 ∷ 0 ∷ 0 ∷ [])) ∷
     (340, note.Ret 8 (5 ∷ 0 ∷ 0 ∷ 0 ∷ 0 ∷ 0 ∷ [])) ∷
     (350, note.Irq 4 handled.Posted) ∷
@@ -250,11 +250,11 @@ expected =
     (363, note.Post 6 1 1) ∷
     (363, note.Ret 6 (0 ∷ 65535 ∷ 1 ∷ 0 ∷ 0 ∷ 0 ∷ [])) ∷
     (364, note.Syscall 5 1 (536872256 ∷ 16 ∷ 1 ∷ 0 ∷ 0 ∷ 0 ∷ 0 ∷ [])) ∷
-    (364, note.Listen 5 listened.Any 1) ∷
+    (364, note.Listen 5 from_index.Any 1) ∷
     (372, note.Syscall 6 7 (1 ∷ 1 ∷ 1 ∷ 0 ∷ 0 ∷ 0 ∷ 0 ∷ [])) ∷
     (372, note.Ret 6 (1 ∷ 1 ∷ 1 ∷ 0 ∷ 0 ∷ 0 ∷ [])) ∷
     (379, note.Syscall 6 1 (536872512 ∷ 16 ∷ 1 ∷ 0 ∷ 0 ∷ 0 ∷ 0 ∷ [])) ∷
-    (379, note.Listen 6 listened.Any 1) ∷
+    (379, note.Listen 6 from_index.Any 1) ∷
     (380, note.Irq 2 handled.Posted) ∷
     (380, note.Post 3 1 1) ∷
     (380, note.Ret 3 (0 ∷ 65535 ∷ 1 ∷ 0 ∷ 0 ∷ 0 ∷ [])) ∷
@@ -265,9 +265,9 @@ expected =
     (394, note.Post 2 1 1) ∷
     (394, note.Ret 2 (0 ∷ 65535 ∷ 1 ∷ 0 ∷ 0 ∷ 0 ∷ [])) ∷
     (394, note.Syscall 3 1 (536871744 ∷ 16 ∷ 1 ∷ 0 ∷ 0 ∷ 0 ∷ 0 ∷ [])) ∷
-    (394, note.Listen 3 listened.Any 1) ∷
+    (394, note.Listen 3 from_index.Any 1) ∷
     []
 
-agrees : (run Brief scenario 400 (start setup)).notes ≡ expected
+agrees : (run Calls scenario 400 (start setup)).notes ≡ expected
 unfolding setup scenario expected computed
 agrees = refl

@@ -2,14 +2,14 @@
 use Rattle.std.proofs.Common.{◌≡◌, ℕ, true, false, List, [], ◌∷◌, ◌++◌, Some, refl}
 use Rattle.std.specs.Prelude.{replicate}
 use Rattle.kernel_abi.specs.declared.Handled.TheVariants as handled
-use Rattle.kernel_abi.specs.declared.Listened.TheVariants as listened
+use Rattle.kernel_abi.specs.declared.FromIndex.TheVariants as from_index
 use Rattle.kernel_abi.specs.declared.Note.{Note}
 use Rattle.kernel_abi.specs.declared.Note.TheVariants as note
 use Rattle.task_table.specs.Start.{start}
 use Rattle.task_table.specs.State.{Setup}
 use Rattle.board_model.specs.Run.{run}
 use Rattle.board_model.specs.Script.{Scenario}
-use Rattle.board_model.specs.declared.outcomes.Level.TheVariants.{Brief}
+use Rattle.board_model.specs.declared.outcomes.Level.TheVariants.{Calls}
 use Rattle.run_script.specs.declared.events.Event.TheVariants.{Irq}
 use Rattle.board_model.proofs.Computed.{computed}
 
@@ -94,20 +94,20 @@ scenario = record { setup = setup; script = record { every = Some 64; events = (
 expected : List (ℕ × Note)
 expected =
     (6, note.Syscall 0 1 (0 ∷ 0 ∷ 1 ∷ 0 ∷ 0 ∷ 0 ∷ 0 ∷ [])) ∷
-    (6, note.Listen 0 listened.Any 1) ∷
+    (6, note.Listen 0 from_index.Any 1) ∷
     (11, note.Syscall 1 7 (1 ∷ 1 ∷ 0 ∷ 0 ∷ 0 ∷ 0 ∷ 0 ∷ [])) ∷
     (11, note.Ret 1 (1 ∷ 1 ∷ 0 ∷ 0 ∷ 0 ∷ 0 ∷ [])) ∷
     (16, note.Irq 4 handled.Held) ∷
     (18, note.Syscall 1 1 (536871232 ∷ 16 ∷ 1 ∷ 0 ∷ 0 ∷ 0 ∷ 0 ∷ [])) ∷
-    (18, note.Listen 1 listened.Any 1) ∷
+    (18, note.Listen 1 from_index.Any 1) ∷
     (23, note.Syscall 2 7 (1 ∷ 1 ∷ 0 ∷ 0 ∷ 0 ∷ 0 ∷ 0 ∷ [])) ∷
     (23, note.Ret 2 (1 ∷ 1 ∷ 0 ∷ 0 ∷ 0 ∷ 0 ∷ [])) ∷
     (30, note.Syscall 2 1 (536871488 ∷ 16 ∷ 1 ∷ 0 ∷ 0 ∷ 0 ∷ 0 ∷ [])) ∷
-    (30, note.Listen 2 listened.Any 1) ∷
+    (30, note.Listen 2 from_index.Any 1) ∷
     (35, note.Syscall 3 7 (1 ∷ 1 ∷ 0 ∷ 0 ∷ 0 ∷ 0 ∷ 0 ∷ [])) ∷
     (35, note.Ret 3 (1 ∷ 1 ∷ 0 ∷ 0 ∷ 0 ∷ 0 ∷ [])) ∷
     (42, note.Syscall 3 1 (536871744 ∷ 16 ∷ 1 ∷ 0 ∷ 0 ∷ 0 ∷ 0 ∷ [])) ∷
-    (42, note.Listen 3 listened.Any 1) ∷
+    (42, note.Listen 3 from_index.Any 1) ∷
     (47, note.Irq 2 handled.Posted) ∷
     (47, note.Post 3 1 1) ∷
     (47, note.Ret 3 (0 ∷ 65535 ∷ 1 ∷ 0 ∷ 0 ∷ 0 ∷ [])) ∷
@@ -117,7 +117,7 @@ expected =
     (52, note.Post 1 1 1) ∷
     (52, note.Ret 1 (0 ∷ 65535 ∷ 1 ∷ 0 ∷ 0 ∷ 0 ∷ [])) ∷
     (54, note.Syscall 4 1 (536872000 ∷ 16 ∷ 1 ∷ 0 ∷ 0 ∷ 0 ∷ 0 ∷ [])) ∷
-    (54, note.Listen 4 listened.Any 1) ∷
+    (54, note.Listen 4 from_index.Any 1) ∷
     (59, note.Syscall 5 7 (1 ∷ 1 ∷ 0 ∷ 0 ∷ 0 ∷ 0 ∷ 0 ∷ [])) ∷
     (59, note.Post 5 1 1) ∷
     (59, note.Ret 5 (1 ∷ 1 ∷ 0 ∷ 0 ∷ 0 ∷ 0 ∷ [])) ∷
@@ -128,7 +128,7 @@ expected =
     (74, note.Syscall 5 7 (1 ∷ 1 ∷ 1 ∷ 0 ∷ 0 ∷ 0 ∷ 0 ∷ [])) ∷
     (74, note.Ret 5 (1 ∷ 1 ∷ 1 ∷ 0 ∷ 0 ∷ 0 ∷ [])) ∷
     (81, note.Syscall 5 1 (536872256 ∷ 16 ∷ 1 ∷ 0 ∷ 0 ∷ 0 ∷ 0 ∷ [])) ∷
-    (81, note.Listen 5 listened.Any 1) ∷
+    (81, note.Listen 5 from_index.Any 1) ∷
     (86, note.Syscall 6 7 (1 ∷ 1 ∷ 0 ∷ 0 ∷ 0 ∷ 0 ∷ 0 ∷ [])) ∷
     (86, note.Post 6 1 1) ∷
     (86, note.Ret 6 (1 ∷ 1 ∷ 0 ∷ 0 ∷ 0 ∷ 0 ∷ [])) ∷
@@ -145,7 +145,7 @@ expected =
     (116, note.Syscall 6 7 (1 ∷ 1 ∷ 1 ∷ 0 ∷ 0 ∷ 0 ∷ 0 ∷ [])) ∷
     (116, note.Ret 6 (1 ∷ 1 ∷ 1 ∷ 0 ∷ 0 ∷ 0 ∷ [])) ∷
     (123, note.Syscall 6 1 (536872512 ∷ 16 ∷ 1 ∷ 0 ∷ 0 ∷ 0 ∷ 0 ∷ [])) ∷
-    (123, note.Listen 6 listened.Any 1) ∷
+    (123, note.Listen 6 from_index.Any 1) ∷
     (128, note.Tick 2) ∷
     (128, note.Syscall 7 7 (1 ∷ 1 ∷ 0 ∷ 0 ∷ 0 ∷ 0 ∷ 0 ∷ [])) ∷
     (128, note.Ret 7 (1 ∷ 1 ∷ 0 ∷ 0 ∷ 0 ∷ 0 ∷ [])) ∷
@@ -153,12 +153,12 @@ expected =
     (130, note.Post 5 1 1) ∷
     (130, note.Ret 5 (0 ∷ 65535 ∷ 1 ∷ 0 ∷ 0 ∷ 0 ∷ [])) ∷
     (135, note.Syscall 7 1 (536872768 ∷ 16 ∷ 1 ∷ 0 ∷ 0 ∷ 0 ∷ 0 ∷ [])) ∷
-    (135, note.Listen 7 listened.Any 1) ∷
+    (135, note.Listen 7 from_index.Any 1) ∷
     (143, note.Syscall 1 7 (1 ∷ 1 ∷ 1 ∷ 0 ∷ 0 ∷ 0 ∷ 0 ∷ [])) ∷
     (143, note.Ret 1 (1 ∷ 1 ∷ 1 ∷ 0 ∷ 0 ∷ 0 ∷ [])) ∷
     (146, note.Irq 4 handled.Held) ∷
     (150, note.Syscall 1 1 (536871232 ∷ 16 ∷ 1 ∷ 0 ∷ 0 ∷ 0 ∷ 0 ∷ [])) ∷
-    (150, note.Listen 1 listened.Any 1) ∷
+    (150, note.Listen 1 from_index.Any 1) ∷
     (158, note.Syscall 3 7 (1 ∷ 1 ∷ 1 ∷ 0 ∷ 0 ∷ 0 ∷ 0 ∷ [])) ∷
     (158, note.Post 3 1 1) ∷
     (158, note.Ret 3 (1 ∷ 1 ∷ 1 ∷ 0 ∷ 0 ∷ 0 ∷ [])) ∷
@@ -170,7 +170,7 @@ expected =
     (173, note.Syscall 3 7 (1 ∷ 1 ∷ 1 ∷ 0 ∷ 0 ∷ 0 ∷ 0 ∷ [])) ∷
     (173, note.Ret 3 (1 ∷ 1 ∷ 1 ∷ 0 ∷ 0 ∷ 0 ∷ [])) ∷
     (180, note.Syscall 3 1 (536871744 ∷ 16 ∷ 1 ∷ 0 ∷ 0 ∷ 0 ∷ 0 ∷ [])) ∷
-    (180, note.Listen 3 listened.Any 1) ∷
+    (180, note.Listen 3 from_index.Any 1) ∷
     (186, note.Irq 6 handled.Held) ∷
     (188, note.Syscall 5 7 (1 ∷ 1 ∷ 1 ∷ 0 ∷ 0 ∷ 0 ∷ 0 ∷ [])) ∷
     (188, note.Post 5 1 1) ∷
@@ -182,7 +182,7 @@ expected =
     (203, note.Syscall 5 7 (1 ∷ 1 ∷ 1 ∷ 0 ∷ 0 ∷ 0 ∷ 0 ∷ [])) ∷
     (203, note.Ret 5 (1 ∷ 1 ∷ 1 ∷ 0 ∷ 0 ∷ 0 ∷ [])) ∷
     (210, note.Syscall 5 1 (536872256 ∷ 16 ∷ 1 ∷ 0 ∷ 0 ∷ 0 ∷ 0 ∷ [])) ∷
-    (210, note.Listen 5 listened.Any 1) ∷
+    (210, note.Listen 5 from_index.Any 1) ∷
     (218, note.Syscall 7 7 (1 ∷ 1 ∷ 1 ∷ 0 ∷ 0 ∷ 0 ∷ 0 ∷ [])) ∷
     (218, note.Post 7 1 1) ∷
     (218, note.Ret 7 (1 ∷ 1 ∷ 1 ∷ 0 ∷ 0 ∷ 0 ∷ [])) ∷
@@ -198,7 +198,7 @@ expected =
     (238, note.Ret 1 (0 ∷ 65535 ∷ 1 ∷ 0 ∷ 0 ∷ 0 ∷ [])) ∷
     (240, note.Irq 0 handled.Held) ∷
     (240, note.Syscall 7 1 (536872768 ∷ 16 ∷ 1 ∷ 0 ∷ 0 ∷ 0 ∷ 0 ∷ [])) ∷
-    (240, note.Listen 7 listened.Any 1) ∷
+    (240, note.Listen 7 from_index.Any 1) ∷
     (248, note.Syscall 1 7 (1 ∷ 1 ∷ 1 ∷ 0 ∷ 0 ∷ 0 ∷ 0 ∷ [])) ∷
     (248, note.Post 1 1 1) ∷
     (248, note.Ret 1 (1 ∷ 1 ∷ 1 ∷ 0 ∷ 0 ∷ 0 ∷ [])) ∷
@@ -209,7 +209,7 @@ expected =
     (263, note.Syscall 1 7 (1 ∷ 1 ∷ 1 ∷ 0 ∷ 0 ∷ 0 ∷ 0 ∷ [])) ∷
     (263, note.Ret 1 (1 ∷ 1 ∷ 1 ∷ 0 ∷ 0 ∷ 0 ∷ [])) ∷
     (270, note.Syscall 1 1 (536871232 ∷ 16 ∷ 1 ∷ 0 ∷ 0 ∷ 0 ∷ 0 ∷ [])) ∷
-    (270, note.Listen 1 listened.Any 1) ∷
+    (270, note.Listen 1 from_index.Any 1) ∷
     (276, note.Irq 4 handled.Posted) ∷
     (276, note.Post 5 1 1) ∷
     (276, note.Ret 5 (0 ∷ 65535 ∷ 1 ∷ 0 ∷ 0 ∷ 0 ∷ [])) ∷
@@ -224,14 +224,14 @@ expected =
     (293, note.Syscall 6 7 (1 ∷ 1 ∷ 1 ∷ 0 ∷ 0 ∷ 0 ∷ 0 ∷ [])) ∷
     (293, note.Ret 6 (1 ∷ 1 ∷ 1 ∷ 0 ∷ 0 ∷ 0 ∷ [])) ∷
     (300, note.Syscall 6 1 (536872512 ∷ 16 ∷ 1 ∷ 0 ∷ 0 ∷ 0 ∷ 0 ∷ [])) ∷
-    (300, note.Listen 6 listened.Any 1) ∷
+    (300, note.Listen 6 from_index.Any 1) ∷
     (308, note.Syscall 3 7 (1 ∷ 1 ∷ 1 ∷ 0 ∷ 0 ∷ 0 ∷ 0 ∷ [])) ∷
     (308, note.Ret 3 (1 ∷ 1 ∷ 1 ∷ 0 ∷ 0 ∷ 0 ∷ [])) ∷
     (313, note.Irq 0 handled.Posted) ∷
     (313, note.Post 1 1 1) ∷
     (313, note.Ret 1 (0 ∷ 65535 ∷ 1 ∷ 0 ∷ 0 ∷ 0 ∷ [])) ∷
     (315, note.Syscall 3 1 (536871744 ∷ 16 ∷ 1 ∷ 0 ∷ 0 ∷ 0 ∷ 0 ∷ [])) ∷
-    (315, note.Listen 3 listened.Any 1) ∷
+    (315, note.Listen 3 from_index.Any 1) ∷
     (320, note.Tick 5) ∷
     (320, note.Irq 5 handled.Posted) ∷
     (320, note.Post 6 1 1) ∷
@@ -239,12 +239,12 @@ expected =
     (323, note.Syscall 5 7 (1 ∷ 1 ∷ 1 ∷ 0 ∷ 0 ∷ 0 ∷ 0 ∷ [])) ∷
     (323, note.Ret 5 (1 ∷ 1 ∷ 1 ∷ 0 ∷ 0 ∷ 0 ∷ [])) ∷
     (330, note.Syscall 5 1 (536872256 ∷ 16 ∷ 1 ∷ 0 ∷ 0 ∷ 0 ∷ 0 ∷ [])) ∷
-    (330, note.Listen 5 listened.Any 1) ∷
+    (330, note.Listen 5 from_index.Any 1) ∷
     (337, note.Irq 0 handled.Held) ∷
     (338, note.Syscall 6 7 (1 ∷ 1 ∷ 1 ∷ 0 ∷ 0 ∷ 0 ∷ 0 ∷ [])) ∷
     (338, note.Ret 6 (1 ∷ 1 ∷ 1 ∷ 0 ∷ 0 ∷ 0 ∷ [])) ∷
     (345, note.Syscall 6 1 (536872512 ∷ 16 ∷ 1 ∷ 0 ∷ 0 ∷ 0 ∷ 0 ∷ [])) ∷
-    (345, note.Listen 6 listened.Any 1) ∷
+    (345, note.Listen 6 from_index.Any 1) ∷
     (353, note.Syscall 1 7 (1 ∷ 1 ∷ 1 ∷ 0 ∷ 0 ∷ 0 ∷ 0 ∷ [])) ∷
     (353, note.Post 1 1 1) ∷
     (353, note.Ret 1 (1 ∷ 1 ∷ 1 ∷ 0 ∷ 0 ∷ 0 ∷ [])) ∷
@@ -263,7 +263,7 @@ expected =
     (383, note.Ret 1 (1 ∷ 1 ∷ 1 ∷ 0 ∷ 0 ∷ 0 ∷ [])) ∷
     (384, note.Tick 6) ∷
     (390, note.Syscall 1 1 (536871232 ∷ 16 ∷ 1 ∷ 0 ∷ 0 ∷ 0 ∷ 0 ∷ [])) ∷
-    (390, note.Listen 1 listened.Any 1) ∷
+    (390, note.Listen 1 from_index.Any 1) ∷
     (396, note.Irq 0 handled.Posted) ∷
     (396, note.Post 1 1 1) ∷
     (396, note.Ret 1 (0 ∷ 65535 ∷ 1 ∷ 0 ∷ 0 ∷ 0 ∷ [])) ∷
@@ -271,6 +271,6 @@ expected =
     (398, note.Ret 6 (1 ∷ 1 ∷ 1 ∷ 0 ∷ 0 ∷ 0 ∷ [])) ∷
     []
 
-agrees : (run Brief scenario 400 (start setup)).notes ≡ expected
+agrees : (run Calls scenario 400 (start setup)).notes ≡ expected
 unfolding setup scenario expected computed
 agrees = refl

@@ -78,7 +78,7 @@ fn after_turns(
     let mut board = with_script(rt, alloc, second, script)?;
     advance(&mut board, level, 100);
     let task = board.task(0).expect(rt, "there is a task");
-    Ok((shown(&board), task.registers[0], task.registers[15]))
+    Ok((shown(&board), task.regs[0], task.registers[15]))
 }
 
 #[test]
@@ -102,9 +102,9 @@ fn a_board_opens(rt: HostRuntime) -> Result<(), Fail> {
 #[test]
 fn turns_on_end(rt: HostRuntime) -> Result<(), Fail> {
     let alloc = rt.alloc();
-    let (limit, r0, pc) = after_turns(&rt, alloc, 0xe7fe, b"", Level::Brief)?;
-    let (event, ..) = after_turns(&rt, alloc, 0xe7fe, b"at 7 tick\n", Level::Brief)?;
-    let (note, ..) = after_turns(&rt, alloc, 0xde00, b"", Level::Brief)?;
+    let (limit, r0, pc) = after_turns(&rt, alloc, 0xe7fe, b"", Level::Calls)?;
+    let (event, ..) = after_turns(&rt, alloc, 0xe7fe, b"at 7 tick\n", Level::Calls)?;
+    let (note, ..) = after_turns(&rt, alloc, 0xde00, b"", Level::Calls)?;
     let (all, ..) = after_turns(&rt, alloc, 0xe7fe, b"", Level::All)?;
     assert!(rt; (limit, r0, pc) == ((100, 0, false, 0, None), 1, 0x0800_0002));
     assert!(rt; event == (8, 1, true, 1, None));

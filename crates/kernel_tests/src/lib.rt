@@ -9,8 +9,8 @@ mod board;
 #[cfg(test)]
 mod choosing;
 #[cfg(test)]
-mod lent;
-#[cfg(test)]
 mod memory;
 #[cfg(test)]
 mod tasks;
+#[cfg(test)]
+mod window;

@@ -1,8 +1,8 @@
 ghost use Rattle.std.specs.Prelude.{◌≡◌, ◌≤◌, IfOk, length};
 ghost use Rattle.task_table.specs.Holds.{task_count, note_count, memory_of};
 
-use crate::lent::Stamp;
 use crate::memory::{memory_of, memory_with_ram, store};
+use crate::window::Stamp;
 use kernel_abi::{Fault, Generation, Health, Note, Usage};
 use region_check::{Region, Rights};
 use std::alloc::{AllocError, Global};
@@ -184,12 +184,12 @@ fn a_kernel_stores_and_lends_its_memory(rt: HostRuntime) -> Result<(), Fail> {
         seen: 0,
         byte: 0x5A,
     };
-    let lent = [
-        kernel.lend(&ram, &flash, &mut stamp),
-        kernel.lend(&flash, &ram, &mut stamp),
+    let opened = [
+        kernel.open_window(&ram, &flash, &mut stamp),
+        kernel.open_window(&flash, &ram, &mut stamp),
     ];
     let left = kernel.number(RAM, 2);
     assert!(rt; stored == (0x0201, Some(0x21)));
-    assert!(rt; (lent, stamp.seen, left) == ([false, true], 0x20, 0x025A));
+    assert!(rt; (opened, stamp.seen, left) == ([false, true], 0x20, 0x025A));
     Ok(())
 }

@@ -78,7 +78,7 @@ fn faults(rt: HostRuntime) {
 #[test]
 fn misuses(rt: HostRuntime) {
     let usages = [
-        Usage::BadSyscall,
+        Usage::BadCall,
         Usage::BadTaskIndex,
         Usage::InvalidSlice,
         Usage::BadKernelMessage,

@@ -1,6 +1,6 @@
 //! A line of each note, and that the longest of each kind fits.
 use arrayvec::ArrayString;
-use kernel_abi::{Borrow, Ending, Fault, Handled, Listened, Note};
+use kernel_abi::{Borrow, Ending, Fault, FromIndex, Handled, Note};
 use trace_text::TurnLines;
 
 /// A turn, a note that it leaves, and what is told of it.
@@ -87,7 +87,7 @@ const NOTES: [Row; 35] = [
         turn: 3,
         note: Note::Listen {
             task: 0,
-            from: Listened::Any,
+            from: FromIndex::Any,
             mask: 1,
         },
         text: "3 listen 0 any 00000001\n",
@@ -96,7 +96,7 @@ const NOTES: [Row; 35] = [
         turn: 12,
         note: Note::Listen {
             task: 0,
-            from: Listened::Kernel,
+            from: FromIndex::Kernel,
             mask: 0,
         },
         text: "12 listen 0 kernel 00000000\n",
@@ -105,7 +105,7 @@ const NOTES: [Row; 35] = [
         turn: 5,
         note: Note::Listen {
             task: 2,
-            from: Listened::One(1),
+            from: FromIndex::One(1),
             mask: 0xffff,
         },
         text: "5 listen 2 1 0000ffff\n",
@@ -374,7 +374,7 @@ const LONGEST: [(Note, usize); 18] = [
     (
         Note::Listen {
             task: 65535,
-            from: Listened::One(65535),
+            from: FromIndex::One(65535),
             mask: MOST,
         },
         39,

@@ -8,7 +8,7 @@ use Rattle.region_check.specs.declared.Right.TheVariants.{Read}
 use Rattle.mem_banks.specs.Memory.{Memory, bytes_at, with_bytes, copied as copied_memory}
 use Rattle.mem_banks.proofs.Copies.{with_bytes_none}
 use Rattle.task_table.specs.Placed.{ArePlaced}
-use Rattle.task_table.specs.declared.slot.Range.{Range}
+use Rattle.task_table.specs.declared.slot.Slice.{Slice}
 use Rattle.task_table.specs.declared.slot.OpenCall.{OpenCall}
 use Rattle.task_table.specs.State.{Setup, State, Birth, Call, Read as Look, Leased, Own, Lease, Ground, Turn}
 use Rattle.task_table.specs.Reading.{bad_byte, taken_by}
@@ -27,17 +27,17 @@ use Rattle.lease_core.specs.declared.way.Way.TheVariants as way
 
 -- ## what may be copied lies in memory
 
-pub leased_good : (w : Way) (g : Setup) (m : Memory) (i : ℕ) (r : Range) → ArePlaced g m → bad_byte g i (way_of w).lender r ≡ None → IsLeased w m r.base r.length
+pub leased_good : (w : Way) (g : Setup) (m : Memory) (i : ℕ) (r : Slice) → ArePlaced g m → bad_byte g i (way_of w).lender r ≡ None → IsLeased w m r.base r.len
 leased_good way.Read g m i r placed good = within-good g m i Read r placed good
 leased_good way.Write g m i r placed good = within_ram-good g m i r placed good
 
-pub buffer_good : (w : Way) (g : Setup) (m : Memory) (i : ℕ) (r : Range) → ArePlaced g m → bad_byte g i (way_of w).own r ≡ None → IsBuffer w m r.base r.length
+pub buffer_good : (w : Way) (g : Setup) (m : Memory) (i : ℕ) (r : Slice) → ArePlaced g m → bad_byte g i (way_of w).own r ≡ None → IsBuffer w m r.base r.len
 buffer_good way.Read g m i r placed good = within_ram-good g m i r placed good
 buffer_good way.Write g m i r placed good = within-good g m i Read r placed good
 
 -- ## no bytes
 
-pub none_bad : (g : Setup) (i : ℕ) (right : Right) (base : ℕ) → bad_byte g i right record { base = base; length = 0 } ≡ None
+pub none_bad : (g : Setup) (i : ℕ) (right : Right) (base : ℕ) → bad_byte g i right record { base = base; len = 0 } ≡ None
 unfolding bad_byte first_bad
 none_bad g i right base = refl
 
@@ -61,7 +61,7 @@ holds_none : (g : Setup) (k : Kernel) (t : Turn) (on : Ground) (from to : ℕ) �
 holds_none g k t on from to h = let kept = kept_of k in holds_copied g kept t on from to 0 kept.setup kept.memory h refl (copied_none kept.memory from to)
 
 pub moved_none : (w : Way) (g : Setup) (k : Kernel) (t : Turn) (c : Call) (leased own : ℕ) → Holds g k t → Holds g k (moved (way_of w).borrow c leased own 0 t)
-moved_none way.Read g k t c leased own h = let look : Look = record { call = c.number; part = Leased; base = leased; length = 0 } in holds_none g k (looked look t) Own leased own (holds_looked g (kept_of k) t look h)
+moved_none way.Read g k t c leased own h = let look : Look = record { call = c.number; part = Leased; base = leased; len = 0 } in holds_none g k (looked look t) Own leased own (holds_looked g (kept_of k) t look h)
 moved_none way.Write g k t c leased own h = holds_none g k t (Lease c.number) own leased h
 
 -- ## the table of a taken call

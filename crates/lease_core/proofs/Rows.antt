@@ -8,7 +8,7 @@ use Rattle.kernel_abi.specs.declared.arguments.BorrowArgs.{BorrowArgs}
 use Rattle.kernel_abi.specs.declared.arguments.InfoArgs.{InfoArgs}
 use Rattle.kernel_abi.specs.Ids.{index_of}
 use Rattle.region_check.specs.declared.Right.TheVariants.{Read}
-use Rattle.task_table.specs.declared.slot.Range.{Range}
+use Rattle.task_table.specs.declared.slot.Slice.{Slice}
 use Rattle.task_table.specs.State.{Setup, Call, Turn}
 use Rattle.task_table.specs.Reading.{is_out, is_dead, dead_code_for, is_valid, bad_byte, taken_by}
 use Rattle.task_table.specs.Holds.{Holds}
@@ -19,12 +19,12 @@ use Rattle.task_table.specs.Borrows.{Way, entry_range, grant, lease_range, entry
 
 -- ## the lender's bytes
 
-pub lent_bad : (g : Setup) (way : Way) (c : ℕ) (x : BorrowArgs) (k : Call) (i at : ℕ) (part : Range) (t : Turn) → k.client.index ≡ i → bad_byte g i way.lender part ≡ Some at → lent g way c x k part t ≡ refused c no_lease (denied g i (access_number way.lender_access) (Some at) t)
+pub lent_bad : (g : Setup) (way : Way) (c : ℕ) (x : BorrowArgs) (k : Call) (i at : ℕ) (part : Slice) (t : Turn) → k.client.index ≡ i → bad_byte g i way.lender part ≡ Some at → lent g way c x k part t ≡ refused c no_lease (denied g i (access_number way.lender_access) (Some at) t)
 lent_bad g way c x k i at part t client bad =
     let here : bad_byte g k.client.index way.lender part ≡ Some at = ap (λ j. bad_byte g j way.lender part) client ∙ bad in
     rw (← client, here) refl
 
-pub lent_good : (g : Setup) (way : Way) (c : ℕ) (x : BorrowArgs) (k : Call) (i n : ℕ) (part : Range) (t : Turn) → k.client.index ≡ i → k.number ≡ n → bad_byte g i way.lender part ≡ None → lent g way c x k part t ≡ goes_on_with c (0 ∷ part.length ∷ []) (noted (note.Borrow n way.borrow x.lease x.offset part.length) (moved way.borrow k part.base x.buffer_base part.length t))
+pub lent_good : (g : Setup) (way : Way) (c : ℕ) (x : BorrowArgs) (k : Call) (i n : ℕ) (part : Slice) (t : Turn) → k.client.index ≡ i → k.number ≡ n → bad_byte g i way.lender part ≡ None → lent g way c x k part t ≡ goes_on_with c (0 ∷ part.len ∷ []) (noted (note.Borrow n way.borrow x.lease x.offset part.len) (moved way.borrow k part.base x.buffer_base part.len t))
 lent_good g way c x k i n part t client number good =
     let here : bad_byte g k.client.index way.lender part ≡ None = ap (λ j. bad_byte g j way.lender part) client ∙ good in
     rw (← number, here) refl

@@ -139,7 +139,7 @@ module _ (g : Setup) (t : Turn) (h : Sane g t.state) where
   read_sane : (k : Call) (lease : ℕ) (e : LeaseEntry) → Sane g (entry_read k lease e t).state
   read_sane k lease e = keeps-looked _ t h
 
-  pub went_by : (x : Loan) (k : Call) (base : ℕ) → x.borrower < length t.state.tasks → taken_by t.state x.lender x.borrower ≡ Some k → Went x.borrower base (borrowed_by g (way_of x.way) x.borrower x.args (Some k) t) → IsEntryRead g x.lender k x.args.lease × IsGranted g x (grant t.state k x.args.lease) × IsClear base (target x.way (part_of x.args (grant t.state k x.args.lease)).base x.args.buffer_base) (part_of x.args (grant t.state k x.args.lease)).length
+  pub went_by : (x : Loan) (k : Call) (base : ℕ) → x.borrower < length t.state.tasks → taken_by t.state x.lender x.borrower ≡ Some k → Went x.borrower base (borrowed_by g (way_of x.way) x.borrower x.args (Some k) t) → IsEntryRead g x.lender k x.args.lease × IsGranted g x (grant t.state k x.args.lease) × IsClear base (target x.way (part_of x.args (grant t.state k x.args.lease)).base x.args.buffer_base) (part_of x.args (grant t.state k x.args.lease)).len
   went_by x k base inside taken w =
       let c = x.borrower in
       let i = k.client.index in
@@ -167,7 +167,7 @@ module _ (g : Setup) (t : Turn) (h : Sane g t.state) where
       let leased = leased_good x.way g u.state.memory i part after.steady.placed lender in
       let buffer = buffer_good x.way g u.state.memory c (buffer_of x.args) after.steady.placed own in
       let none = subst (λ ws. WritesNone ws base 12) (writes-goes_on c _ _ _) r8.1.1 in
-      let clear = clear_moved x.way k part.base x.args.buffer_base part.length x.args.buffer_length base u after.steady.placed.flash leased buffer (omega arith) none in (
+      let clear = clear_moved x.way k part.base x.args.buffer_base part.len x.args.buffer_length base u after.steady.placed.flash leased buffer (omega arith) none in (
         record { listed = r1.0; readable = subst (λ j. bad_byte g j Read (entry_range k lease) ≡ None) client readable },
         record { valid = not_false _ r3.0; allowed = r4.0; inside = r5.0; buffer = not_false _ r6.0; own = own; lender = subst (λ j. bad_byte g j (way_of x.way).lender part ≡ None) client lender },
         clear,

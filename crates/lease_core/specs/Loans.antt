@@ -18,7 +18,7 @@ use Rattle.task_table.specs.Borrows.{Way as Needs, reading, writing, entry_range
 use Rattle.task_table.specs.Holds.{entries_of}
 use Rattle.task_table.specs.declared.entry.KeptEntry.{KeptEntry}
 use Rattle.task_table.specs.declared.kernel.Kernel.{Kernel}
-use Rattle.task_table.specs.declared.slot.Range.{Range}
+use Rattle.task_table.specs.declared.slot.Slice.{Slice}
 use Rattle.lease_core.specs.declared.way.Way.{Way}
 use Rattle.lease_core.specs.declared.way.Way.TheVariants as way
 use Rattle.lease_core.specs.declared.Loan.{Loan}
@@ -49,8 +49,8 @@ pub record IsLoanOf (x : Loan) (k : Call) : Type 0 where
 
 -- the entry from an address on, or the first byte of it that the lender may not read
 abbrev pub IsEntryAt : Setup → State → ℕ → ℕ → Result LeaseEntry ℕ → Type 0
-IsEntryAt g s lender base (Ok e) = (bad_byte g lender Read record { base = base; length = 12 } ≡ None) × (entry_at s.memory base ≡ e)
-IsEntryAt g s lender base (Err at) = bad_byte g lender Read record { base = base; length = 12 } ≡ Some at
+IsEntryAt g s lender base (Ok e) = (bad_byte g lender Read record { base = base; len = 12 } ≡ None) × (entry_at s.memory base ≡ e)
+IsEntryAt g s lender base (Err at) = bad_byte g lender Read record { base = base; len = 12 } ≡ Some at
 
 -- that of a lease
 abbrev pub IsEntry : Setup → State → ℕ → Call → ℕ → Result LeaseEntry ℕ → Type 0
@@ -111,7 +111,7 @@ abbrev pub MayInform : Setup → ℕ → State → Call → ℕ → Type 0
 MayInform g lender s c lease = IsEntryRead g lender c lease × (is_valid (lease_range (grant s c lease)) ≡ true)
 
 -- the lender may lend this part of a lease
-abbrev pub MayLend : Setup → Loan → Range → Type 0
+abbrev pub MayLend : Setup → Loan → Slice → Type 0
 MayLend g x part = bad_byte g x.lender (way_of x.way).lender part ≡ None
 
 -- no row refuses a borrow of a lease whose entry says this
@@ -138,7 +138,7 @@ HoldsGranted g x c s k =
     let lease = x.args.lease in
     let e = grant s c lease in
     let part = part_of x.args e in
-    IsGranted g x e → IsClear (c.table + 12 * lease) (target x.way part.base x.args.buffer_base) part.length → IsHeldAfter k s c lease
+    IsGranted g x e → IsClear (c.table + 12 * lease) (target x.way part.base x.args.buffer_base) part.len → IsHeldAfter k s c lease
 
 -- entries stay kept but for those that a loan of n bytes of the lease from an address on writes
 abbrev pub StayKept : Kernel → Loan → ℕ → ℕ → Kernel → Type 0

@@ -19,7 +19,7 @@ mod way;
 
 use kernel_abi::{Access, Borrow, BorrowArgs, InfoArgs, LeaseEntry, Note, Usage, dead_code};
 use region_check::Right;
-use task_table::{Found, KeptEntry, Kernel, OpenCall, Range};
+use task_table::{Found, KeptEntry, Kernel, OpenCall, Slice};
 use way::Way;
 
 /// The code of a lender that has no such lease for the borrower.
@@ -90,8 +90,8 @@ fn lend_bytes(k: &mut Kernel, loan: &Loan, leased: u32, count: u32)
     requires valid { leased + count ≤ 2 ^ 32 }
     requires stood { Stood k.old }
     requires buffer { IsBuffer loan.now.way (memory_of k.old) loan.now.args.buffer_base count }
-    ensures holds { let x = loan.now in (g : Setup) (t : Turn) (c : Call) → Holds g k.old t → IsLoanOf x c → Holds g k.new (lent g (way_of x.way) x.borrower x.args c record { base = leased; length = count } t) }
-    ensures stay { let x = loan.now in (g : Setup) (t : Turn) → Holds g k.old t → MayLend g x record { base = leased; length = count } → StayKept k.old x leased count k.new }
+    ensures holds { let x = loan.now in (g : Setup) (t : Turn) (c : Call) → Holds g k.old t → IsLoanOf x c → Holds g k.new (lent g (way_of x.way) x.borrower x.args c record { base = leased; len = count } t) }
+    ensures stay { let x = loan.now in (g : Setup) (t : Turn) → Holds g k.old t → MayLend g x record { base = leased; len = count } → StayKept k.old x leased count k.new }
     ensures frame { AddsAtMost k.old 5 k.new }
 {
     if let Some(at) = k.bad_byte(loan.lender, loan.way.lender_right(), leased, count) {
@@ -112,7 +112,7 @@ fn lend(k: &mut Kernel, loan: &Loan, entry: &LeaseEntry)
     requires stood { Stood k.old }
     requires buffer { IsBuffer loan.now.way (memory_of k.old) loan.now.args.buffer_base loan.now.args.buffer_length }
     ensures holds { let x = loan.now in (g : Setup) (t : Turn) (c : Call) → Holds g k.old t → IsLoanOf x c → Holds g k.new (lent g (way_of x.way) x.borrower x.args c (part_of x.args entry.now) t) }
-    ensures stay { let x = loan.now in let part = part_of x.args entry.now in (g : Setup) (t : Turn) → Holds g k.old t → MayLend g x part → StayKept k.old x part.base part.length k.new }
+    ensures stay { let x = loan.now in let part = part_of x.args entry.now in (g : Setup) (t : Turn) → Holds g k.old t → MayLend g x part → StayKept k.old x part.base part.len k.new }
     ensures frame { AddsAtMost k.old 5 k.new }
 {
     let count = loan.args.buffer_length.min(entry.len - loan.args.offset);
@@ -133,22 +133,17 @@ fn borrow_into(k: &mut Kernel, loan: &Loan, entry: &LeaseEntry)
     requires inside { loan.now.args.offset ≤ entry.now.len }
     requires stood { Stood k.old }
     ensures holds { let x = loan.now in (g : Setup) (t : Turn) (c : Call) → Holds g k.old t → IsLoanOf x c → Holds g k.new (buffered g (way_of x.way) x.borrower x.args c entry.now t) }
-    ensures stay { let x = loan.now in let part = part_of x.args entry.now in (g : Setup) (t : Turn) → Holds g k.old t → IsGranted g x entry.now → StayKept k.old x part.base part.length k.new }
+    ensures stay { let x = loan.now in let part = part_of x.args entry.now in (g : Setup) (t : Turn) → Holds g k.old t → IsGranted g x entry.now → StayKept k.old x part.base part.len k.new }
     ensures frame { AddsAtMost k.old 5 k.new }
 {
-    let buffer = Range {
+    let buffer = Slice {
         base: loan.args.buffer_base,
-        length: loan.args.buffer_length,
+        len: loan.args.buffer_length,
     };
     if !buffer.is_valid() {
         return k.misuse(loan.borrower, Usage::InvalidSlice);
     }
-    if let Some(at) = k.bad_byte(
-        loan.borrower,
-        loan.way.own_right(),
-        buffer.base,
-        buffer.length,
-    ) {
+    if let Some(at) = k.bad_byte(loan.borrower, loan.way.own_right(), buffer.base, buffer.len) {
         return k.deny(loan.borrower, at, loan.way.own_access());
     }
     lend(k, loan, entry);
@@ -168,7 +163,7 @@ fn borrow_entry(k: &mut Kernel, loan: &Loan, entry: &LeaseEntry)
     requires room { note_count k.old + 5 ≤ turn_notes }
     requires stood { Stood k.old }
     ensures holds { let x = loan.now in (g : Setup) (t : Turn) (c : Call) → Holds g k.old t → IsLoanOf x c → Holds g k.new (granted g (way_of x.way) x.borrower x.args c entry.now t) }
-    ensures stay { let x = loan.now in let part = part_of x.args entry.now in (g : Setup) (t : Turn) → Holds g k.old t → IsGranted g x entry.now → StayKept k.old x part.base part.length k.new }
+    ensures stay { let x = loan.now in let part = part_of x.args entry.now in (g : Setup) (t : Turn) → Holds g k.old t → IsGranted g x entry.now → StayKept k.old x part.base part.len k.new }
     ensures frame { AddsAtMost k.old 5 k.new }
 {
     if !is_lease_valid(entry) {

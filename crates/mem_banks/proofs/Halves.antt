@@ -3,7 +3,7 @@ use Rattle.std.proofs.Common.{ℕ, ◌≡◌, ◌<◌, ◌-◌, ◌++◌, List, 
 use Rattle.std.proofs.lemmas.List.{get_or_default, get_or_append_left, get_or-append_right, set-append_left, set-append_right, length-append, length-set, same_lists, places, nil_from_length}
 use Rattle.mem_banks.specs.declared.bank.Bank.{Bank}
 use Rattle.mem_banks.specs.Banks.{IsPut}
-use Rattle.mem_banks.specs.Loans.{AreLent, IsLentAlone}
+use Rattle.mem_banks.specs.Windows.{AreOpened, IsOpenedAlone}
 use Rattle.mem_banks.specs.Memory.{pasted}
 
 -- a bank put in place of one
@@ -41,8 +41,8 @@ whole_new : (xs ys : List ℕ) → length ys ≡ length xs → ys ≡ pasted xs 
 whole_new xs ys n = same_lists _ _ (simp (length-append, length-take, length-drop) (omega arith)) (λ i d u. grind (arith, places))
 
 -- x stands for the first one, p, and y for the second one, q
-pub lent_by : {B : Type 0} (did : B → List ℕ → List ℕ → B → List ℕ → Type 0) (old between after : List Bank) (i j : ℕ) (s s' : B) (x y p q : Bank) → i < length old → j < length old → p ≡ get_or old i p → q ≡ get_or old j q → q ≡ get_or between j q → between ≡ set old i x → after ≡ set between j y → x.base ≡ p.base → y.base ≡ q.base → x.bytes.items ≡ p.bytes.items → length y.bytes.items ≡ length q.bytes.items → did s p.bytes.items q.bytes.items s' y.bytes.items → AreLent did old i j s s' after
-lent_by did old between after i j s s' x y p q there_i there_j is_p is_q stays is_between is_after base_x base_y same size work =
+pub two_by : {B : Type 0} (did : B → List ℕ → List ℕ → B → List ℕ → Type 0) (old between after : List Bank) (i j : ℕ) (s s' : B) (x y p q : Bank) → i < length old → j < length old → p ≡ get_or old i p → q ≡ get_or old j q → q ≡ get_or between j q → between ≡ set old i x → after ≡ set between j y → x.base ≡ p.base → y.base ≡ q.base → x.bytes.items ≡ p.bytes.items → length y.bytes.items ≡ length q.bytes.items → did s p.bytes.items q.bytes.items s' y.bytes.items → AreOpened did old i j s s' after
+two_by did old between after i j s s' x y p q there_i there_j is_p is_q stays is_between is_after base_x base_y same size work =
     let at_p : (d : Bank) → get_or old i d ≡ p = λ d. get_or_default old i d p there_i ∙ sym is_p in
     let at_q : (d : Bank) → get_or old j d ≡ q = λ d. get_or_default old j d q there_j ∙ sym is_q in
     let count : length between ≡ length old = rw is_between (length-set old i x) in
@@ -56,8 +56,8 @@ lent_by did old between after i j s s' x y p q there_i there_j is_p is_q stays i
     }
 
 -- ## one bank lent beside no bytes
-pub alone_by : {B : Type 0} (did : B → List ℕ → List ℕ → B → List ℕ → Type 0) (old after : List Bank) (i : ℕ) (s s' : B) (x p : Bank) (none left : List ℕ) → i < length old → p ≡ get_or old i p → after ≡ set old i x → x.base ≡ p.base → x.bytes.items ≡ p.bytes.items → none ≡ [] → length left ≡ length none → did s p.bytes.items none s' left → IsLentAlone did old i s s' after
-alone_by did old after i s s' x p none left there is_p is_after base same empty size work =
+pub one_by : {B : Type 0} (did : B → List ℕ → List ℕ → B → List ℕ → Type 0) (old after : List Bank) (i : ℕ) (s s' : B) (x p : Bank) (none left : List ℕ) → i < length old → p ≡ get_or old i p → after ≡ set old i x → x.base ≡ p.base → x.bytes.items ≡ p.bytes.items → none ≡ [] → length left ≡ length none → did s p.bytes.items none s' left → IsOpenedAlone did old i s s' after
+one_by did old after i s s' x p none left there is_p is_after base same empty size work =
     let at_p : (d : Bank) → get_or old i d ≡ p = λ d. get_or_default old i d p there ∙ sym is_p in
     let nothing : left ≡ [] = nil_from_length _ (size ∙ ap length empty) in
     record {

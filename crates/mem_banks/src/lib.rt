@@ -3,19 +3,19 @@
 #![tactic(auto)]
 
 mod bank;
-mod lending;
 mod moving;
 mod opening;
+mod window;
 
 ghost use Rattle.std.specs.Prelude.{◌≡◌, ◌≤◌, ◌⊎◌, length, IfOk, replicate};
 ghost use Rattle.mem_banks.specs.Memory.{is_held, is_ram, number_at, with_bytes, copied, IsWithin, AreAllBytes, AreRegions};
 
 use bank::{Bank, find, page, search, whole_half, whole_word};
-pub use lending::Borrower;
 use moving::{copy_from_end, copy_from_start, store_at};
 use opening::{all_banks, table_of};
 use std::alloc::{AllocError, Global};
 use std::marker::Model;
+pub use window::WindowUser;
 
 /// The first address of the flash, which is only read and executed.
 pub const FLASH: u32 = 0x0800_0000;

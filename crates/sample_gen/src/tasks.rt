@@ -8,7 +8,7 @@ ghost use Rattle.sample_gen.specs.Sample.{client_priority, draws_before, note_na
 
 use crate::numbers::Numbers;
 use crate::programs::{client_source, server_source, supervisor_source};
-use app_toml::Task;
+use app_toml::TaskSpec;
 use std::alloc::{AllocError, Global};
 
 /// The one notification of task ti: the supervisor's is told of faults.
@@ -19,7 +19,7 @@ fn note_name(i: u32) -> &'static str
 }
 
 /// Task ti with this priority.
-fn task(alloc: Global, i: u32, priority: u8) -> Result<Task, AllocError>
+fn task(alloc: Global, i: u32, priority: u8) -> Result<TaskSpec, AllocError>
     ensures { IfOk result (λ t. task_of t ≡ task_with i priority) }
 {
     let name = format!(in alloc; "t{i}")?;
@@ -27,7 +27,7 @@ fn task(alloc: Global, i: u32, priority: u8) -> Result<Task, AllocError>
     let notification = String::from_str(alloc, note_name(i))?;
     let mut notifications = Vec::new(alloc);
     notifications.push(notification)?;
-    Ok(Task {
+    Ok(TaskSpec {
         name,
         source,
         priority,
@@ -79,7 +79,7 @@ fn task_and_source(
     alloc: Global,
     numbers: &mut Numbers,
     i: u32,
-) -> Result<(Task, String), AllocError>
+) -> Result<(TaskSpec, String), AllocError>
     ensures next { (seed : ℕ) → numbers.old.last ≡ number seed (draws_before i)
         → IfOk result (λ _. numbers.new.last ≡ number seed (draws_before (i + 1))) }
     ensures task { (seed : ℕ) → numbers.old.last ≡ number seed (draws_before i)
@@ -110,7 +110,7 @@ fn task_and_source(
 pub(crate) fn tasks_and_sources(
     alloc: Global,
     numbers: &mut Numbers,
-) -> Result<(Vec<Task>, Vec<String>), AllocError>
+) -> Result<(Vec<TaskSpec>, Vec<String>), AllocError>
     ensures next { IfOk result (λ _. numbers.new.last ≡ number numbers.old.last 127) }
     ensures tasks { IfOk result (λ r. map task_of r.0.items
         ≡ map (task_by (client_priority numbers.old.last)) (range_with_len 0 32)) }

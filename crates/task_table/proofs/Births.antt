@@ -8,7 +8,7 @@ use Rattle.task_table.specs.State.{Setup, TaskSetup, Call, Listen, State, Birth,
 use Rattle.task_table.specs.Reading.{call_of, listen_of}
 use Rattle.task_table.specs.Effects.{at_birth, is_to, awaits}
 use Rattle.task_table.specs.Sane.{Sane}
-use Rattle.task_table.specs.Holds.{IsKept, packed_task, source_of, wait_of}
+use Rattle.task_table.specs.Holds.{IsKept, packed_task, from_id_of, wait_of}
 use Rattle.task_table.specs.Waits.{is_one, is_to_in, awaits_in, AreFew}
 use Rattle.task_table.proofs.Posting.{found_listen}
 use Rattle.task_table.proofs.Clients.{found_call}
@@ -44,7 +44,7 @@ to_wait (Some c) lo i h = ap (λ n. eqb n i) (index_of-id_of c.server.index c.se
 pub to_kept : (s : State) (i j : ℕ) (slot : Slot) → AreFew s → IsKept s j slot → is_to_in slot.wait i ≡ is_to i (call_of s j)
 to_kept s i j slot few h = ap (λ (o : Slot). is_to_in o.wait i) h.is ∙ to_wait (call_of s j) (listen_of s j) i (few_called s j few)
 
-one_kept : (from : From) (i : ℕ) → ((b : Birth) → from ≡ One b → b.index < 1024) → is_one (source_of from) i ≡ elim from [ Any ↦ false | One b ↦ eqb b.index i | KernelOnly ↦ false ]
+one_kept : (from : From) (i : ℕ) → ((b : Birth) → from ≡ One b → b.index < 1024) → is_one (from_id_of from) i ≡ elim from [ Any ↦ false | One b ↦ eqb b.index i | KernelOnly ↦ false ]
 one_kept Any i h = refl
 one_kept (One b) i h = ap (λ n. eqb n i) (index_of-id_of b.index b.birth (h b refl))
 one_kept KernelOnly i h = refl

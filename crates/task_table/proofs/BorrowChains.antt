@@ -70,7 +70,7 @@ module _ (g : Setup) (c : ℕ) (t : Turn) (h : Sane g t.state) (inside : c < len
     misuses_lender usage u x = strikes record { number = 7; x = usage; y = 0 } u (omega arith) (omega arith) x
 
     abbrev entry : (lease : ℕ) (e : LeaseEntry) → Read
-    entry lease e = record { call = k.number; part = Entry e.attributes e.base e.len; base = k.table + 12 * lease; length = 12 }
+    entry lease e = record { call = k.number; part = Entry e.attributes e.base e.len; base = k.table + 12 * lease; len = 12 }
 
     -- its entry is read; then the borrower may fault still
     reads_entry : (lease : ℕ) (e : LeaseEntry) → Leads g c t (entry_read k lease e t)
@@ -91,16 +91,16 @@ module _ (g : Setup) (c : ℕ) (t : Turn) (h : Sane g t.state) (inside : c < len
   abbrev Moving : Way → BorrowArgs → Type 0
   Moving way x =
       (k : Call) (e : LeaseEntry) → IsTakenBy t.state c k.number k → x.lease < k.leases → bit_and e.attributes way.bit ≢ 0 → x.offset ≤ e.len → bad_byte g c way.own (buffer_of x) ≡ None → bad_byte g k.client.index way.lender (part_of x e) ≡ None →
-      Leads g c t (moved way.borrow k (part_of x e).base x.buffer_base (part_of x e).length (entry_read k x.lease e t))
+      Leads g c t (moved way.borrow k (part_of x e).base x.buffer_base (part_of x e).len (entry_read k x.lease e t))
 
   read_moves : (x : BorrowArgs) → Moving reading x
   read_moves x k e taken there bit offset own lender =
       let part = part_of x e in
       let t1 = entry_read k x.lease e t in
-      let r : Read = record { call = k.number; part = Leased; base = part.base; length = part.length } in
+      let r : Read = record { call = k.number; part = Leased; base = part.base; len = part.len } in
       reads_entry k taken x.lease e
       ▷ (Looks r t1 (alive k taken t1), tt)
-      ▷ (Copies Own part.base x.buffer_base part.length c (buffer_of x) (looked r t1) record { good = own; base = refl; fits = omega arith } (λ a low high. may-write g c (buffer_of x) a own (low, omega arith)), tt)
+      ▷ (Copies Own part.base x.buffer_base part.len c (buffer_of x) (looked r t1) record { good = own; base = refl; fits = omega arith } (λ a low high. may-write g c (buffer_of x) a own (low, omega arith)), tt)
 
   write_moves : (x : BorrowArgs) → Moving writing x
   unfolding looked
@@ -109,7 +109,7 @@ module _ (g : Setup) (c : ℕ) (t : Turn) (h : Sane g t.state) (inside : c < len
       let t1 = entry_read k x.lease e t in
       reads_entry k taken x.lease e
       ▷ (
-        Copies (Lease k.number) x.buffer_base part.base part.length k.client.index part t1 record { good = lender; base = refl; fits = omega arith } (λ a low high. record {
+        Copies (Lease k.number) x.buffer_base part.base part.len k.client.index part t1 record { good = lender; base = refl; fits = omega arith } (λ a low high. record {
           call = k;
           taken = taken;
           lease = x.lease;
@@ -144,8 +144,8 @@ module _ (g : Setup) (c : ℕ) (t : Turn) (h : Sane g t.state) (inside : c < len
       by_outcome (is_some (bad_byte g c way.own buffer)) (λ b. denies_after k f x.lease e (access_number way.own_access) (bad_byte g c way.own buffer)) (λ own.
       by_outcome (is_some lacking) (λ b. refuses 1 (denied g k.client.index (access_number way.lender_access) lacking t1) (denies_lender k f (access_number way.lender_access) lacking t1 x1)) (λ lender.
       let moving1 = moving k e f (leb-false k.leases x.lease there) (λ zero. absurd (false≢true (sym set ∙ eq-eqb _ _ zero))) (ltb-false e.len x.offset near) (none_left _ own) (none_left _ lender) in
-      goes_with g c t inside (0 ∷ part.length ∷ []) _ (omega arith)
-      (moving1 ▷ (Borrows k.number way.borrow x.lease x.offset part.length (moved way.borrow k part.base x.buffer_base part.length t1) (alive k f (moved way.borrow k part.base x.buffer_base part.length t1)), tt))))))))))
+      goes_with g c t inside (0 ∷ part.len ∷ []) _ (omega arith)
+      (moving1 ▷ (Borrows k.number way.borrow x.lease x.offset part.len (moved way.borrow k part.base x.buffer_base part.len t1) (alive k f (moved way.borrow k part.base x.buffer_base part.len t1)), tt))))))))))
 
   borrows : (way : Way) → ((x : BorrowArgs) → Moving way x) → Comes g c t (borrowed g way c t)
   unfolding borrowed

@@ -118,8 +118,8 @@ pub record IsCallOf (g : Setup) (s : State) (i j : ℕ) (c : Call) : Type 0 wher
   pub client : c.client ≡ present s i
   pub server : c.server.index ≡ j
   pub apart : i ≢ j
-  pub readable : IsWithin s.memory c.message.base c.message.length
-  pub writable : IsWithinRam s.memory c.reply.base c.reply.length
+  pub readable : IsWithin s.memory c.message.base c.message.len
+  pub writable : IsWithinRam s.memory c.reply.base c.reply.len
 
 same_birth_is : (b : Birth) (i n : ℕ) → b.index ≡ i → b.birth ≡ n → b ≡ record { index = i; birth = n }
 same_birth_is b i n e f = rw (← e, ← f) refl

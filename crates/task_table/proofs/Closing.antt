@@ -7,7 +7,7 @@ use Rattle.kernel_abi.specs.declared.Borrow.{Borrow}
 use Rattle.kernel_abi.specs.declared.Ending.{Ending}
 use Rattle.kernel_abi.specs.declared.Note.{Note}
 use Rattle.kernel_abi.specs.declared.Note.TheVariants as note
-use Rattle.task_table.specs.State.{Setup, State, Call, Range, Ground, Turn}
+use Rattle.task_table.specs.State.{Setup, State, Call, Slice, Ground, Turn}
 use Rattle.task_table.specs.Reading.{call_of}
 use Rattle.task_table.specs.Effects.{with_call, without_call, with_taken, taken_from, noted, stored, copied, looked, close_notes, closed, offered}
 use Rattle.task_table.specs.Placed.{ArePlaced}
@@ -73,7 +73,7 @@ module _ (z : State) where
       (λ call here. elim (added_in u.state.calls k call here) [ inl old ↦ inr (call, old, refl) | inr new ↦ let same : call.number ≡ k.number = ap (λ (x : Call). x.number) new in inl (omega arith) ]) refl
       (λ j client server here. let same : k.number ≡ j = offer_number (one_in _ _ here) in omega arith) h
 
-  reopened-taken : (on : Ground) (k : Call) (buffer : Range) (u : Turn) → NoneReopened z u → NoneReopened z (taken_over on k buffer u)
+  reopened-taken : (on : Ground) (k : Call) (buffer : Slice) (u : Turn) → NoneReopened z u → NoneReopened z (taken_over on k buffer u)
   unfolding noted with_taken copied looked
   reopened-taken on k buffer u = reopened z u (taken_over on k buffer u) (note.Take k.number _ ∷ []) (omega arith) (λ call here. let r = map_in (taken_from k.client.index) u.state.calls call here in inr (r.0, r.1, ap (λ (x : Call). x.number) (sym r.2))) refl (λ j client server here. taken_offer (one_in _ _ here))
 

@@ -6,13 +6,13 @@ use Rattle.std.proofs.lemmas.Bool.Decides.{eqb_tells}
 use Rattle.kernel_abi.specs.Ids.{id_of}
 use Rattle.kernel_abi.specs.declared.TaskId.{TaskId}
 use Rattle.mem_banks.specs.Memory.{IsWithinRam}
-use Rattle.task_table.specs.State.{Setup, Call, Listen, State, Birth, From, Any, One, KernelOnly, Range, Message, Turn}
+use Rattle.task_table.specs.State.{Setup, Call, Listen, State, Birth, From, Any, One, KernelOnly, Slice, Message, Turn}
 use Rattle.task_table.specs.Reading.{task_at, call_of, listen_of, present, admits, is_taken, taken_by, IsIdle, IsSameBut}
 use Rattle.task_table.specs.Effects.{with_task, with_call, returned, handed, past_syscall, offered, noted}
 use Rattle.task_table.specs.Sends.{taken_at_once}
 use Rattle.task_table.specs.Messages.{buffer_for}
 use Rattle.task_table.specs.Sane.{Sane}
-use Rattle.task_table.specs.Holds.{IsKept, kept_call, id_at, source_of, wait_of, taken_in, hears, buffer_in}
+use Rattle.task_table.specs.Holds.{IsKept, kept_call, id_at, from_id_of, wait_of, taken_in, hears, buffer_in}
 use Rattle.task_table.specs.declared.slot.OpenCall.{OpenCall}
 use Rattle.task_table.specs.declared.slot.Slot.{Slot}
 use Rattle.task_table.specs.declared.slot.Wait.TheVariants as wait
@@ -61,7 +61,7 @@ same_id a b small few same = elim (eqb_tells a.index b.index) [
   | inr other ↦ rw other.0 (ne_eqb _ _ (λ ids. other.1 (omega (arith, ids))))
 ]
 
-hears_kept : (from : From) (client : Birth) → client.index < 1024 → ((b : Birth) → from ≡ One b → (b.index < 1024) × (b.index ≡ client.index → b.birth ≡ client.birth)) → hears (source_of from) (id_at client) ≡ admits from client
+hears_kept : (from : From) (client : Birth) → client.index < 1024 → ((b : Birth) → from ≡ One b → (b.index < 1024) × (b.index ≡ client.index → b.birth ≡ client.birth)) → hears (from_id_of from) (id_at client) ≡ admits from client
 hears_kept Any client small named = refl
 hears_kept KernelOnly client small named = refl
 hears_kept (One b) client small named = let n = named b refl in same_id b client n.0 small n.1
@@ -78,7 +78,7 @@ buffer_kept g s i j slot sane small inside h =
       | inr some ↦ let quiet : listen_of s j ≡ None = rw some.1 at h.alone in rw (some.1, quiet) refl
     ]
   where
-    heard : (l : Listen) → listen_of s j ≡ Some l → hears (source_of l.from) (id_at (present s i)) ≡ admits l.from (present s i)
+    heard : (l : Listen) → listen_of s j ≡ Some l → hears (from_id_of l.from) (id_at (present s i)) ≡ admits l.from (present s i)
     heard l e =
         let here = (found_listen s j l e).0 in
         hears_kept l.from (present s i) (omega (arith, inside, small)) (λ b from.
@@ -138,12 +138,12 @@ id_is id b e = ap (λ (n : ℕ). let x : TaskId = record { number = n } in x) e
 
 -- ## it is taken at once, or not
 
-pub taken_into : (k : Call) (lo : Option Listen) (buffer : Range) (t : Turn) → buffer_for k.client lo ≡ Some buffer → taken_at_once k lo t ≡ returned k.server.index (handed (Message k.number) k buffer t)
+pub taken_into : (k : Call) (lo : Option Listen) (buffer : Slice) (t : Turn) → buffer_for k.client lo ≡ Some buffer → taken_at_once k lo t ≡ returned k.server.index (handed (Message k.number) k buffer t)
 taken_into k None buffer t e = no_some e
 taken_into k (Some l) buffer t e = go (admits l.from k.client) e
   where
     go : (b : Bool) → cond b (Some l.buffer) None ≡ Some buffer → cond b (returned k.server.index (handed (Message k.number) k l.buffer t)) t ≡ returned k.server.index (handed (Message k.number) k buffer t)
-    go true h = ap (λ (r : Range). returned k.server.index (handed (Message k.number) k r t)) (same_some h)
+    go true h = ap (λ (r : Slice). returned k.server.index (handed (Message k.number) k r t)) (same_some h)
     go false h = no_some h
 
 pub not_taken_into : (k : Call) (lo : Option Listen) (t : Turn) → buffer_for k.client lo ≡ None → taken_at_once k lo t ≡ t
@@ -155,14 +155,14 @@ not_taken_into k (Some l) t e = go (admits l.from k.client) e
     go false h = refl
 
 -- a listener's buffer lies in RAM
-pub listener_ram : (g : Setup) (s : State) (client : Birth) (j : ℕ) (buffer : Range) → Sane g s → buffer_for client (listen_of s j) ≡ Some buffer → IsWithinRam s.memory buffer.base buffer.length
+pub listener_ram : (g : Setup) (s : State) (client : Birth) (j : ℕ) (buffer : Slice) → Sane g s → buffer_for client (listen_of s j) ≡ Some buffer → IsWithinRam s.memory buffer.base buffer.len
 listener_ram g s client j buffer sane e = go (listen_of s j) refl e
   where
-    of_listen : (b : Bool) (l : Listen) → IsWithinRam s.memory l.buffer.base l.buffer.length → cond b (Some l.buffer) None ≡ Some buffer → IsWithinRam s.memory buffer.base buffer.length
+    of_listen : (b : Bool) (l : Listen) → IsWithinRam s.memory l.buffer.base l.buffer.len → cond b (Some l.buffer) None ≡ Some buffer → IsWithinRam s.memory buffer.base buffer.len
     of_listen true l w h = let same : l.buffer ≡ buffer = same_some h in rw (← same) w
     of_listen false l w h = no_some h
 
-    go : (o : Option Listen) → listen_of s j ≡ o → buffer_for client o ≡ Some buffer → IsWithinRam s.memory buffer.base buffer.length
+    go : (o : Option Listen) → listen_of s j ≡ o → buffer_for client o ≡ Some buffer → IsWithinRam s.memory buffer.base buffer.len
     go None listens h = no_some h
     go (Some l) listens h =
         let fit = sane.steady.listens.fit l (found_listen s j l listens).0 in

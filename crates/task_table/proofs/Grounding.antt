@@ -7,7 +7,7 @@ use Rattle.kernel_abi.specs.declared.Ending.{Ending}
 use Rattle.kernel_abi.specs.declared.Note.{Note}
 use Rattle.kernel_abi.specs.declared.Note.TheVariants as note
 use Rattle.mem_banks.specs.Memory.{bytes_at}
-use Rattle.task_table.specs.State.{Setup, State, Call, Range, Ground, Own, Message, Reply, Lease, Write as Written, Read, MessageFront, Turn}
+use Rattle.task_table.specs.State.{Setup, State, Call, Slice, Ground, Own, Message, Reply, Lease, Write as Written, Read, MessageFront, Turn}
 use Rattle.task_table.specs.Reading.{call_of}
 use Rattle.task_table.specs.Effects.{with_taken, with_call, noted, stored, copied, looked, writes_on, close_notes, closed, offered}
 use Rattle.task_table.specs.Placed.{ArePlaced}
@@ -137,11 +137,11 @@ module _ (g : Setup) (s : State) (c : ℕ) where
     touches = touches_one s c (offered k u) u.notes (note.Offer k.number k.client.index k.server.index) tt;
   }
 
-  moved-taken : (on : Ground) (k : Call) (buffer : Range) (u : Turn) → IsTaking g s c u on k buffer → IsMoved g s c u (taken_over on k buffer u)
+  moved-taken : (on : Ground) (k : Call) (buffer : Slice) (u : Turn) → IsTaking g s c u on k buffer → IsMoved g s c u (taken_over on k buffer u)
   unfolding noted with_taken copied looked
   moved-taken on k buffer u t =
-      let n = min k.message.length buffer.length in
-      let r : Read = record { call = k.number; part = MessageFront; base = k.message.base; length = n } in
+      let n = min k.message.len buffer.len in
+      let r : Read = record { call = k.number; part = MessageFront; base = k.message.base; len = n } in
       let v = taken_over on k buffer u in
       let more : (m : Note) → Contains u.notes m → Contains v.notes m = λ m h. Contains-append_left u.notes (note.Take k.number n ∷ []) m h in
       let alive : IsAlive s c v k.number = alive_stays s c u v k.number more t.alive in

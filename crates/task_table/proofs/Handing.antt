@@ -4,7 +4,7 @@ use Rattle.std.proofs.lemmas.List.{length-take}
 use Rattle.kernel_abi.specs.Ids.{id_of}
 use Rattle.kernel_abi.specs.declared.Note.TheVariants as note
 use Rattle.mem_banks.specs.Memory.{Memory, IsWithinRam, bytes_at, with_bytes, copied as copied_memory, AreAllBytes}
-use Rattle.task_table.specs.State.{Setup, Call, Range, Ground, Read, MessageFront, Turn}
+use Rattle.task_table.specs.State.{Setup, Call, Slice, Ground, Read, MessageFront, Turn}
 use Rattle.task_table.specs.Effects.{changed, noted, without_listen, with_taken, looked, copied, handed}
 use Rattle.task_table.specs.Sane.{IsSaneBut, Every}
 use Rattle.task_table.proofs.Keeps.{keeps-memory, keeps-with_taken, keeps-without_listen}
@@ -57,13 +57,13 @@ module _ {M F T : ℕ → Type 0} {W : ℕ → ℕ → Type 0} {g : Setup} where
       (placed_same g m (with_bytes m to bytes) h.steady.placed (flash-with_bytes m to bytes front) (length-with_bytes m to bytes front))
 
   -- F: of all clients it is said, or of all but that of the call, that no offer fits a listen
-  pub keeps-handed : (on : Ground) (c : Call) (buffer : Range) (t : Turn) → IsSaneBut M F T W g t.state → ((j : ℕ) → j ≢ c.client.index → F j) → c.server.index < length t.state.tasks → IsWithinRam t.state.memory buffer.base buffer.length → IsSaneBut M Every T W g (handed on c buffer t).state
+  pub keeps-handed : (on : Ground) (c : Call) (buffer : Slice) (t : Turn) → IsSaneBut M F T W g t.state → ((j : ℕ) → j ≢ c.client.index → F j) → c.server.index < length t.state.tasks → IsWithinRam t.state.memory buffer.base buffer.len → IsSaneBut M Every T W g (handed on c buffer t).state
   unfolding handed looked with_taken without_listen noted copied
   keeps-handed on c buffer t h but inside within =
-      let n = min c.message.length buffer.length in
-      let r : Read = record { call = c.number; part = MessageFront; base = c.message.base; length = n } in
-      let h1 = keeps-copied on c.message.base buffer.base n (looked r t) h (within_ram-front t.state.memory buffer.base buffer.length n within (omega arith)) in
+      let n = min c.message.len buffer.len in
+      let r : Read = record { call = c.number; part = MessageFront; base = c.message.base; len = n } in
+      let h1 = keeps-copied on c.message.base buffer.base n (looked r t) h (within_ram-front t.state.memory buffer.base buffer.len n within (omega arith)) in
       let h2 = keeps-with_taken c.client.index h1 but in
       let h3 = keeps-without_listen c.server.index h2 in
-      keeps-given c.server.index (0 ∷ id_of c.client.index c.client.birth ∷ c.operation ∷ c.message.length ∷ c.reply.length ∷ c.leases ∷ [])
+      keeps-given c.server.index (0 ∷ id_of c.client.index c.client.birth ∷ c.operation ∷ c.message.len ∷ c.reply.len ∷ c.leases ∷ [])
       (changed (without_listen c.server.index) (noted (note.Take c.number n) (changed (with_taken c.client.index) (copied on c.message.base buffer.base n (looked r t))))) h3 inside (omega arith)

@@ -13,7 +13,7 @@ use Rattle.kernel_abi.specs.declared.Note.TheVariants as note
 use Rattle.region_check.specs.declared.Right.TheVariants.{Write}
 use Rattle.region_check.proofs.FirstBad.{first_bad_none}
 use Rattle.mem_banks.specs.Memory.{bytes_at, copied as copied_memory}
-use Rattle.task_table.specs.State.{Setup, State, Call, Listen, Range, Ground, Own, Message, Turn}
+use Rattle.task_table.specs.State.{Setup, State, Call, Listen, Slice, Ground, Own, Message, Turn}
 use Rattle.task_table.specs.Reading.{setup_at, call_of, listen_of, bad_byte, admits}
 use Rattle.task_table.specs.Effects.{with_task, with_call, without_listen, changed, noted, with_health, stored, copied, looked, given, returned, closed, posted, faulted_as, offered, handed, reborn, is_to, awaits, dead_answered, restarted}
 use Rattle.task_table.specs.Sends.{taken_at_once, offers_call}
@@ -28,9 +28,9 @@ use Rattle.task_table.proofs.Posting.{found_listen}
 use Rattle.task_table.proofs.Moves.{IsAside, aside-noted, aside-given, aside-returned, aside-past_syscall, aside-cleared, aside-unlistened, aside-listening, aside-timer, aside-line, aside-health, aside-processor, aside-reborn, aside-posted, taken_over, IsTaking, Move, Aside, Writes, Reads, Lends, Offers, Takes, Closes}
 
 -- the bytes of a range that is good may each be written
-may-write : (g : Setup) (i : ℕ) (r : Range) (a : ℕ) → bad_byte g i Write r ≡ None → Lies r a → MayWrite g i a
+may-write : (g : Setup) (i : ℕ) (r : Slice) (a : ℕ) → bad_byte g i Write r ≡ None → Lies r a → MayWrite g i a
 unfolding bad_byte
-may-write g i r a good lies = first_bad_none (setup_at g i).regions Write r.base r.length a good lies.0 lies.1
+may-write g i r a good lies = first_bad_none (setup_at g i).regions Write r.base r.len a good lies.0 lies.1
 
 -- a copy is a store of the bytes that were there
 copied_stored : (on : Ground) (from at n : ℕ) (u : Turn) → copied on from at n u ≡ stored on at (bytes_at u.state.memory from n) u
@@ -45,16 +45,16 @@ module _ (g : Setup) (s : State) (c : ℕ) where
   aside {u = u} {v = v} a = Aside u v a
 
   -- a call goes over to its server
-  hands : (on : Ground) (k : Call) (buffer : Range) (u : Turn) → IsTaking g s c u on k buffer → Moves u (handed on k buffer u)
+  hands : (on : Ground) (k : Call) (buffer : Slice) (u : Turn) → IsTaking g s c u on k buffer → Moves u (handed on k buffer u)
   unfolding handed
   hands on k buffer u t =
       let v = taken_over on k buffer u in
       let w = changed (without_listen k.server.index) v in
       one (Takes on k buffer u t)
       ▷ aside (aside-unlistened k.server.index v)
-      ▷ aside (aside-given k.server.index (0 ∷ id_of k.client.index k.client.birth ∷ k.operation ∷ k.message.length ∷ k.reply.length ∷ k.leases ∷ []) w)
+      ▷ aside (aside-given k.server.index (0 ∷ id_of k.client.index k.client.birth ∷ k.operation ∷ k.message.len ∷ k.reply.len ∷ k.leases ∷ []) w)
 
-  receives : ArePlaced g s.memory → (k : Call) (buffer : Range) (u : Turn) → MayReceive g s c u k buffer → Moves u (handed Own k buffer u)
+  receives : ArePlaced g s.memory → (k : Call) (buffer : Slice) (u : Turn) → MayReceive g s c u k buffer → Moves u (handed Own k buffer u)
   receives placed k buffer u m = hands Own k buffer u record { here = m.here; offered = m.offered; alive = inl (k, m.before, refl); may = λ a lies. may-write g c buffer a m.good lies; room = within_ram-good g s.memory c buffer placed m.good }
 
   -- a call that c has just offered to a task that listens
@@ -67,7 +67,7 @@ module _ (g : Setup) (s : State) (c : ℕ) where
       let offer : Contains front (note.Offer k.number k.client.index k.server.index) = Contains-push u.notes (note.Offer k.number k.client.index k.server.index) in
       let by_c : Contains front (note.Offer k.number c k.server.index) = subst (λ x. Contains front (note.Offer k.number x k.server.index)) m.new.client offer in
       let to_l : Contains front (note.Offer k.number c l.task) = subst (λ x. Contains front (note.Offer k.number c x)) (sym found.1) by_c in
-      let n = min k.message.length l.buffer.length in
+      let n = min k.message.len l.buffer.len in
       record {
         here = Contains-push u.state.calls k;
         offered = m.new.phase;
@@ -146,12 +146,12 @@ module _ (g : Setup) (s : State) (c : ℕ) where
       (chain-fold (dead_answered i) (range_with_len 0 (length u.state.tasks)) _ (λ j v here. answers_dead i j v))
 
   -- the bytes that were there go to the front of a range that is good
-  copies : ArePlaced g s.memory → (on : Ground) (from at n i : ℕ) (r : Range) (u : Turn) → IsTarget g i r at n → MayChangeAll g s c u on at n → Moves u (copied on from at n u)
+  copies : ArePlaced g s.memory → (on : Ground) (from at n i : ℕ) (r : Slice) (u : Turn) → IsTarget g i r at n → MayChangeAll g s c u on at n → Moves u (copied on from at n u)
   copies placed on from at n i r u target may =
       let bytes = bytes_at u.state.memory from n in
       let few = few_bytes u.state.memory from n in
       let fits = target.fits in
-      let room = within_ram-front s.memory r.base r.length (length bytes) (within_ram-good g s.memory i r placed target.good) (omega arith) in
+      let room = within_ram-front s.memory r.base r.len (length bytes) (within_ram-good g s.memory i r placed target.good) (omega arith) in
       subst (λ v. Chain (Move g s c) u v) (sym (copied_stored on from at n u)) (one (Writes on at bytes u (rw target.base room) (λ a low high. may a low (omega arith))))
 
   step_moves : ArePlaced g s.memory → (u v : Turn) → Step g s c u v → Moves u v

@@ -178,7 +178,7 @@ none_met m low span entries a n h missed i x k = elim (missed x.base (h.watched 
 
 -- ## what one that is kept tells
 
-pub kept_tells : (g : Setup) (k : Kept) (t : Turn) (low span : ℕ) (entries : Entries) (i : ℕ) (x : KeptEntry) (base : ℕ) → Shows g k t → AreFresh k.memory low span entries → AreEntriesOf k.setup.tasks k.slots entries → kept_at entries i ≡ Some x → x.base ≡ base → (bad_byte g i Read record { base = base; length = 12 } ≡ None) × (entry_at t.state.memory base ≡ x.entry)
+pub kept_tells : (g : Setup) (k : Kept) (t : Turn) (low span : ℕ) (entries : Entries) (i : ℕ) (x : KeptEntry) (base : ℕ) → Shows g k t → AreFresh k.memory low span entries → AreEntriesOf k.setup.tasks k.slots entries → kept_at entries i ≡ Some x → x.base ≡ base → (bad_byte g i Read record { base = base; len = 12 } ≡ None) × (entry_at t.state.memory base ≡ x.entry)
 unfolding bad_byte
 kept_tells g k t low span entries i x base h fresh of kept same =
     let good : first_bad (setup_at g i).regions Read base 12 ≡ None = rw (← h.setup, ← same) (of.readable i x kept) in

@@ -8,7 +8,7 @@ use Rattle.kernel_abi.specs.declared.Ending.{Ending}
 use Rattle.kernel_abi.specs.declared.Ending.TheVariants as ending
 use Rattle.kernel_abi.specs.declared.Note.{Note}
 use Rattle.kernel_abi.specs.declared.Note.TheVariants as note
-use Rattle.task_table.specs.State.{Setup, State, Call, Range, Phase, Offered, Taken, Ground, Turn}
+use Rattle.task_table.specs.State.{Setup, State, Call, Slice, Phase, Offered, Taken, Ground, Turn}
 use Rattle.task_table.specs.Reading.{call_of}
 use Rattle.task_table.specs.Effects.{with_call, without_call, with_taken, taken_from, noted, stored, looked, copied, close_notes, closed, offered}
 use Rattle.task_table.specs.Ledger.{Offers as SaysOffer, Takes as SaysTake, Closes as SaysClose, Nothing, saying, is_answer}
@@ -288,9 +288,9 @@ as_noted-offered g s c old k u new h =
     let free : call_of u.state k.client.index ≡ None = rw new.client new.free in
     as_noted_on old u.notes (note.Offer k.number k.client.index k.server.index ∷ []) u.state (with_call k u.state) (apart-offer u.state k h.apart new.number free) (live-offer u.state k h.apart new.number new.phase) h
 
-as_noted-taken : (g : Setup) (s : State) (c : ℕ) (old : List Note) (on : Ground) (k : Call) (buffer : Range) (u : Turn) → IsTaking g s c u on k buffer → IsAsNoted (old ++ u.notes) u.state → IsAsNoted (old ++ (taken_over on k buffer u).notes) (taken_over on k buffer u).state
+as_noted-taken : (g : Setup) (s : State) (c : ℕ) (old : List Note) (on : Ground) (k : Call) (buffer : Slice) (u : Turn) → IsTaking g s c u on k buffer → IsAsNoted (old ++ u.notes) u.state → IsAsNoted (old ++ (taken_over on k buffer u).notes) (taken_over on k buffer u).state
 unfolding noted copied looked
-as_noted-taken g s c old on k buffer u t h = go (min k.message.length buffer.length) _ refl refl
+as_noted-taken g s c old on k buffer u t h = go (min k.message.len buffer.len) _ refl refl
   where
     go : (m : ℕ) (v : State) → v.calls ≡ u.state.calls → v.next_call ≡ u.state.next_call → IsAsNoted (old ++ (u.notes ++ note.Take k.number m ∷ [])) (with_taken k.client.index v)
     go m v e n = as_noted_on old u.notes (note.Take k.number m ∷ []) u.state (with_taken k.client.index v) (apart-take v k.client.index (apart_same u.state v e n h.apart)) (λ j l x. live-take v k (apart_same u.state v e n h.apart) (rw e t.here) t.offered j l (lives_same u.state v j l e n x)) h

@@ -17,7 +17,7 @@ pub mod Clients
 pub mod Messages
 pub mod Delivery
 pub mod Kept
-pub mod Loans
+pub mod Openings
 pub mod Receives
 pub mod Chains
 pub mod Moves
@@ -43,4 +43,4 @@ pub mod Starts
 pub mod DeadRows
 pub mod Births
 pub mod TaskSets
-pub mod LevelsMade
+pub mod PrioritiesMade

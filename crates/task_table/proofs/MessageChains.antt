@@ -115,8 +115,8 @@ module _ (g : Setup) (c : ℕ) (t : Turn) (h : Sane g t.state) (inside : c < len
       let fit = h.steady.calls.fit k f.here in
       by_outcome (not (is_valid (reply_of x))) (λ bad. comes-misused g c t inside 3) (λ valid.
       by_outcome (is_some (bad_byte g c right.Read (reply_of x))) (λ bad. comes-denied g c t inside 2 (bad_byte g c right.Read (reply_of x))) (λ good.
-      by_outcome (ltb k.reply.length x.reply_length) (λ long. comes-misused g c t inside 9) (λ short.
-      let fits : x.reply_length ≤ k.reply.length = ltb-false k.reply.length x.reply_length short in
+      by_outcome (ltb k.reply.len x.reply_length) (λ long. comes-misused g c t inside 9) (λ short.
+      let fits : x.reply_length ≤ k.reply.len = ltb-false k.reply.len x.reply_length short in
       let u = copied (Reply k.number) x.reply_base k.reply.base x.reply_length t in
       goes g c t inside _
       (one (

@@ -5,8 +5,8 @@ use Rattle.std.specs.Option.{option_map}
 use Rattle.std.proofs.lemmas.Bool.{eq-eqb}
 use Rattle.std.proofs.lemmas.List.{take-set-le, drop-set-add}
 use Rattle.kernel_abi.specs.Ids.{id_of, index_of}
-use Rattle.kernel_abi.specs.declared.Listened.{Listened}
-use Rattle.kernel_abi.specs.declared.Listened.TheVariants as listened
+use Rattle.kernel_abi.specs.declared.FromIndex.{FromIndex}
+use Rattle.kernel_abi.specs.declared.FromIndex.TheVariants as from_index
 use Rattle.mem_banks.specs.Memory.{Memory, bytes_at, copied as copied_memory, IsWithin, IsWithinRam}
 use Rattle.task_table.specs.State.{Setup, Task, Call, Listen, State, Birth, One, Ground, Read, Turn}
 use Rattle.task_table.specs.Reading.{task_at, register, arguments, call_of, listen_of, present, is_offered, offer_by, IsIdle}
@@ -91,10 +91,10 @@ kept-with_listen s l slot w h idle e = record {
   alone = rw (call_of-with_listen, idle.call) tt;
 }
 
-pub answered_as : (s : State) (from : Listened) → listened_from (from_of s from) ≡ from
-answered_as s listened.Any = refl
-answered_as s listened.Kernel = refl
-answered_as s (listened.One i) = refl
+pub answered_as : (s : State) (from : FromIndex) → listened_from (from_of s from) ≡ from
+answered_as s from_index.Any = refl
+answered_as s from_index.Kernel = refl
+answered_as s (from_index.One i) = refl
 
 -- ## who goes past a call keeps its arguments, its births and the memory
 
@@ -113,10 +113,10 @@ arguments-past_syscall c t h =
 pub present-past_syscall : (c : ℕ) (t : Turn) (j : ℕ) → c < length t.state.tasks → present (past_syscall c t).state j ≡ present t.state j
 present-past_syscall c t j h = ap (λ b. let x : Birth = record { index = j; birth = b } in x) (births-past_syscall c t j h)
 
-pub from-past_syscall : (c : ℕ) (t : Turn) (from : Listened) → c < length t.state.tasks → from_of (past_syscall c t).state from ≡ from_of t.state from
-from-past_syscall c t listened.Any h = refl
-from-past_syscall c t listened.Kernel h = refl
-from-past_syscall c t (listened.One i) h = ap One (present-past_syscall c t i h)
+pub from-past_syscall : (c : ℕ) (t : Turn) (from : FromIndex) → c < length t.state.tasks → from_of (past_syscall c t).state from ≡ from_of t.state from
+from-past_syscall c t from_index.Any h = refl
+from-past_syscall c t from_index.Kernel h = refl
+from-past_syscall c t (from_index.One i) h = ap One (present-past_syscall c t i h)
 
 -- ## bytes are copied, and a call is handed over
 

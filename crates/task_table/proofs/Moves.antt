@@ -10,7 +10,7 @@ use Rattle.kernel_abi.specs.declared.Timer.{Timer}
 use Rattle.words_core.specs.declared.Flags.{Flags}
 use Rattle.task_table.specs.declared.Line.{Line}
 use Rattle.mem_banks.specs.Memory.{IsWithinRam}
-use Rattle.task_table.specs.State.{Setup, State, Call, Listen, Range, Offered, Ground, Read, MessageFront, Turn}
+use Rattle.task_table.specs.State.{Setup, State, Call, Listen, Slice, Offered, Ground, Read, MessageFront, Turn}
 use Rattle.task_table.specs.Reading.{task_at, call_of, listen_of}
 use Rattle.task_table.specs.Effects.{with_task, without_listen, with_listen, with_taken, changed, noted, with_processor, with_health, stored, copied, looked, given, returned, past_syscall, bits_added, bits_cleared, woken_by, woken, posted, with_timer, clocked, with_line, closed, offered, reborn}
 use Rattle.task_table.specs.Grounds.{Lies, MayChange, IsAlive}
@@ -170,20 +170,20 @@ aside-fold f (x ∷ xs) u step = aside_then u (f u x) _ (step x u) (aside-fold f
 -- ## the rest
 
 -- the front of the message is copied into a buffer, and the call is taken
-abbrev pub taken_over : Ground → Call → Range → Turn → Turn
+abbrev pub taken_over : Ground → Call → Slice → Turn → Turn
 taken_over on k buffer u =
-    let n = min k.message.length buffer.length in
+    let n = min k.message.len buffer.len in
     noted (note.Take k.number n)
     (changed (with_taken k.client.index)
     (copied on k.message.base buffer.base n
-    (looked record { call = k.number; part = MessageFront; base = k.message.base; length = n } u)))
+    (looked record { call = k.number; part = MessageFront; base = k.message.base; len = n } u)))
 
-pub record IsTaking (g : Setup) (s : State) (c : ℕ) (u : Turn) (on : Ground) (k : Call) (buffer : Range) : Type 0 where
+pub record IsTaking (g : Setup) (s : State) (c : ℕ) (u : Turn) (on : Ground) (k : Call) (buffer : Slice) : Type 0 where
   pub here : Contains u.state.calls k
   pub offered : k.phase ≡ Offered
   pub alive : IsAlive s c u k.number
   pub may : (a : ℕ) → Lies buffer a → MayChange g s c (taken_over on k buffer u) on a
-  pub room : IsWithinRam s.memory buffer.base buffer.length
+  pub room : IsWithinRam s.memory buffer.base buffer.len
 
 -- one thing that happens in a turn of c, where s is the state after the events
 pub data Move (g : Setup) (s : State) (c : ℕ) : Turn → Turn → Type 0 where
@@ -192,5 +192,5 @@ pub data Move (g : Setup) (s : State) (c : ℕ) : Turn → Turn → Type 0 where
   Reads : (r : Read) (u : Turn) → IsAlive s c u r.call → Move g s c u (looked r u)
   Lends : (k : ℕ) (borrow : Borrow) (lease offset moved : ℕ) (u : Turn) → IsAlive s c u k → Move g s c u (noted (note.Borrow k borrow lease offset moved) u)
   Offers : (k : Call) (u : Turn) → IsNew s c u k → Move g s c u (offered k u)
-  Takes : (on : Ground) (k : Call) (buffer : Range) (u : Turn) → IsTaking g s c u on k buffer → Move g s c u (taken_over on k buffer u)
+  Takes : (on : Ground) (k : Call) (buffer : Slice) (u : Turn) → IsTaking g s c u on k buffer → Move g s c u (taken_over on k buffer u)
   Closes : (i : ℕ) (ending : Ending) (u : Turn) → Ends ending (call_of u.state i) → Move g s c u (closed i ending u)

@@ -9,7 +9,7 @@ use Rattle.kernel_abi.specs.declared.Fault.{Fault}
 use Rattle.kernel_abi.specs.declared.Health.TheVariants.{Faulted}
 use Rattle.kernel_abi.specs.declared.Note.{Note}
 use Rattle.kernel_abi.specs.declared.Note.TheVariants as note
-use Rattle.task_table.specs.State.{Setup, State, Call, Listen, Range, Ground, Own, Message, Turn}
+use Rattle.task_table.specs.State.{Setup, State, Call, Listen, Slice, Ground, Own, Message, Turn}
 use Rattle.task_table.specs.Reading.{task_at, call_of, listen_of, admits}
 use Rattle.task_table.specs.Effects.{without_listen, with_listen, changed, noted, with_processor, with_health, stored, copied, looked, given, returned, past_syscall, bits_added, bits_cleared, woken_by, woken, posted, with_timer, with_line, close_notes, closed, faulted_as, faulted, offered, handed, reborn, is_to, awaits, dead_answered, restarted}
 use Rattle.task_table.specs.Sends.{taken_at_once, offers_call}
@@ -106,7 +106,7 @@ module _ (g : Setup) (i : ℕ) (fault : Fault) (ending : Ending) (u : Turn) wher
   faults : AreNoted 4 u (faulted_as g i fault ending u)
   faults = then 1 3 u as_noted _ fault_as_noted after_fault
 
-hands : (on : Ground) (k : Call) (buffer : Range) (u : Turn) → AreNoted 1 u (handed on k buffer u)
+hands : (on : Ground) (k : Call) (buffer : Slice) (u : Turn) → AreNoted 1 u (handed on k buffer u)
 unfolding handed looked copied noted given
 hands on k buffer u = record { new = note.Take k.number _ ∷ []; notes = refl; few = omega arith }
 

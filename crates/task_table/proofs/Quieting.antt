@@ -4,7 +4,7 @@ use Rattle.kernel_abi.specs.declared.Ending.{Ending}
 use Rattle.kernel_abi.specs.declared.Ending.TheVariants.{Client}
 use Rattle.kernel_abi.specs.declared.Note.{Note}
 use Rattle.kernel_abi.specs.declared.Note.TheVariants as note
-use Rattle.task_table.specs.State.{Setup, State, Task, Call, Range, Ground, Own, Turn}
+use Rattle.task_table.specs.State.{Setup, State, Task, Call, Slice, Ground, Own, Turn}
 use Rattle.task_table.specs.Reading.{task_at, call_of, listen_of, is_ready, no_task}
 use Rattle.task_table.specs.Effects.{with_task, with_processor, stored, copied, looked, given, returned, past_syscall, bits_cleared, with_timer, with_line, closed, handed}
 use Rattle.task_table.specs.Counts.{IsNoted, IsAsReady}
@@ -54,7 +54,7 @@ noted-returned : (i : ℕ) (u : Turn) → IsNoted (returned i u)
 unfolding returned
 noted-returned i u = noted-noted _ u
 
-noted-handed : (on : Ground) (k : Call) (buffer : Range) (u : Turn) → IsNoted (handed on k buffer u)
+noted-handed : (on : Ground) (k : Call) (buffer : Slice) (u : Turn) → IsNoted (handed on k buffer u)
 unfolding handed given
 noted-handed on k buffer u = noted-noted (note.Take k.number _) _
 

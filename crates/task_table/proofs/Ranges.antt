@@ -8,7 +8,7 @@ use Rattle.region_check.specs.declared.Right.TheVariants.{Write}
 use Rattle.region_check.specs.Rights.{may_copy, gives_copy, is_inside, has_right}
 use Rattle.region_check.proofs.FirstBad.{first_bad_none}
 use Rattle.mem_banks.specs.Memory.{Memory, IsWithin, IsWithinRam}
-use Rattle.task_table.specs.State.{Setup, Range}
+use Rattle.task_table.specs.State.{Setup, Slice}
 use Rattle.task_table.specs.Reading.{setup_at, bad_byte}
 use Rattle.task_table.specs.Placed.{ArePlaced}
 use Rattle.task_table.specs.Grounds.{Lies, MayWrite}
@@ -84,19 +84,19 @@ within_ram-bytes m base (suc n) h =
     inr (first.0, omega arith)
 
 -- a range without a bad byte lies in memory, and in RAM where it may be written
-pub within-good : (g : Setup) (m : Memory) (i : ℕ) (right : Right) (r : Range) → ArePlaced g m → bad_byte g i right r ≡ None → IsWithin m r.base r.length
+pub within-good : (g : Setup) (m : Memory) (i : ℕ) (right : Right) (r : Slice) → ArePlaced g m → bad_byte g i right r ≡ None → IsWithin m r.base r.len
 unfolding bad_byte
-within-good g m i right r placed h = within-bytes m r.base r.length placed.flash (λ a from below. within-given g m i right a placed (first_bad_none (setup_at g i).regions right r.base r.length a h from below))
+within-good g m i right r placed h = within-bytes m r.base r.len placed.flash (λ a from below. within-given g m i right a placed (first_bad_none (setup_at g i).regions right r.base r.len a h from below))
 
-pub within_ram-good : (g : Setup) (m : Memory) (i : ℕ) (r : Range) → ArePlaced g m → bad_byte g i Write r ≡ None → IsWithinRam m r.base r.length
+pub within_ram-good : (g : Setup) (m : Memory) (i : ℕ) (r : Slice) → ArePlaced g m → bad_byte g i Write r ≡ None → IsWithinRam m r.base r.len
 unfolding bad_byte
-within_ram-good g m i r placed h = within_ram-bytes m r.base r.length (λ a from below. within_ram-given g m i a placed (first_bad_none (setup_at g i).regions Write r.base r.length a h from below))
+within_ram-good g m i r placed h = within_ram-bytes m r.base r.len (λ a from below. within_ram-given g m i a placed (first_bad_none (setup_at g i).regions Write r.base r.len a h from below))
 
 -- the front of a range in RAM
 pub within_ram-front : (m : Memory) (a n k : ℕ) → IsWithinRam m a n → k ≤ n → IsWithinRam m a k
 within_ram-front m a n k h le = elim h [ inl none ↦ inl (omega arith) | inr x ↦ inr (x.0, omega arith) ]
 
 -- each byte of a range without a bad byte may be written
-pub may-write : (g : Setup) (i : ℕ) (r : Range) (a : ℕ) → bad_byte g i Write r ≡ None → Lies r a → MayWrite g i a
+pub may-write : (g : Setup) (i : ℕ) (r : Slice) (a : ℕ) → bad_byte g i Write r ≡ None → Lies r a → MayWrite g i a
 unfolding bad_byte
-may-write g i r a good lies = first_bad_none (setup_at g i).regions Write r.base r.length a good lies.0 lies.1
+may-write g i r a good lies = first_bad_none (setup_at g i).regions Write r.base r.len a good lies.0 lies.1

@@ -43,7 +43,7 @@ module _ (g : Setup) (s : State) (c : ℕ) where
   step_sane _ _ (Sends k u may) h = sane-offers k u h may.fit may.new.number (rw may.new.client may.well) (rw may.new.client may.idle) may.client_birth may.server_birth
   step_sane _ _ (Receives k buffer u may) h = keeps-handed Own k buffer u h (λ j ne. tt) (here h (h.steady.calls.fit k may.here).server) (within_ram-good g u.state.memory c buffer h.steady.placed may.good)
   step_sane _ _ (Stores on at bytes u all within room may) h = sane-stored on at bytes u h all within
-  step_sane _ _ (Copies on from at n i r u target may) h = keeps-copied on from at n u h (rw target.base (within_ram-front u.state.memory r.base r.length n (within_ram-good g u.state.memory i r h.steady.placed target.good) target.fits))
+  step_sane _ _ (Copies on from at n i r u target may) h = keeps-copied on from at n u h (rw target.base (within_ram-front u.state.memory r.base r.len n (within_ram-good g u.state.memory i r h.steady.placed target.good) target.fits))
   step_sane _ _ (Looks r u alive) h = keeps-looked r u h
   step_sane _ _ (Borrows k borrow lease offset moved u alive) h = keeps-noted _ u h
   step_sane _ _ (Ceases i ending u ends) h = keeps-closed i ending u h

@@ -114,10 +114,10 @@ move_written g s c _ _ (Reads r u alive) h = written_same s.memory u (looked r u
 move_written g s c _ _ (Lends k borrow lease offset n u alive) h = written_same s.memory u (noted _ u) refl refl h
 move_written g s c _ _ (Offers k u new) h = written_same s.memory u (offered k u) refl refl h
 move_written g s c _ _ (Takes on k buffer u t) h =
-    let n = min k.message.length buffer.length in
+    let n = min k.message.len buffer.len in
     let bytes = bytes_at u.state.memory k.message.base n in
     let few = few_bytes u.state.memory k.message.base n in
-    written_more s.memory on buffer.base bytes u (taken_over on k buffer u) (within_ram-front s.memory buffer.base buffer.length (length bytes) t.room (omega arith)) refl refl h
+    written_more s.memory on buffer.base bytes u (taken_over on k buffer u) (within_ram-front s.memory buffer.base buffer.len (length bytes) t.room (omega arith)) refl refl h
 move_written g s c _ _ (Closes i ending u ends) h = written_same s.memory u (closed i ending u) refl refl h
 
 pub chain_written : (g : Setup) (s : State) (c : ℕ) → ArePlaced g s.memory → (u v : Turn) → Chain (Step g s c) u v → IsFresh s u → v.state.memory ≡ with_writes s.memory v.writes

@@ -14,15 +14,15 @@ use Rattle.kernel_abi.specs.declared.arguments.BorrowArgs.{BorrowArgs}
 use Rattle.region_check.specs.declared.Right.{Right}
 use Rattle.region_check.specs.declared.Right.TheVariants.{Read, Write}
 use Rattle.mem_banks.specs.Memory.{number_at}
-use Rattle.task_table.specs.State.{Setup, State, Call, Range, Own, Lease, Entry, Leased, Turn}
+use Rattle.task_table.specs.State.{Setup, State, Call, Slice, Own, Lease, Entry, Leased, Turn}
 use Rattle.task_table.specs.Reading.{arguments, is_out, is_dead, dead_code_for, is_valid, bad_byte, taken_by}
 use Rattle.task_table.specs.Effects.{◌⨾◌, noted, copied, looked}
 use Rattle.task_table.specs.Rows.{first_row, misused, denied, goes_on_with}
 
 -- ## an entry of the lease table of a call
 
-abbrev pub entry_range : Call → ℕ → Range
-entry_range k lease = record { base = k.table + 12 * lease; length = 12 }
+abbrev pub entry_range : Call → ℕ → Slice
+entry_range k lease = record { base = k.table + 12 * lease; len = 12 }
 
 -- as it stands in memory
 unfoldable pub grant : State → Call → ℕ → LeaseEntry
@@ -33,13 +33,13 @@ grant s k lease =
       len = number_at s.memory (k.table + 12 * lease + 8) 4;
     }
 
-abbrev pub lease_range : LeaseEntry → Range
-lease_range e = record { base = e.base; length = e.len }
+abbrev pub lease_range : LeaseEntry → Slice
+lease_range e = record { base = e.base; len = e.len }
 
 -- it is read
 abbrev pub entry_read : Call → ℕ → LeaseEntry → Turn → Turn
 entry_read k lease e t =
-    t ⨾ looked record { call = k.number; part = Entry e.attributes e.base e.len; base = k.table + 12 * lease; length = 12 }
+    t ⨾ looked record { call = k.number; part = Entry e.attributes e.base e.len; base = k.table + 12 * lease; len = 12 }
 
 -- ## the two ways in which bytes move
 
@@ -62,7 +62,7 @@ writing = record { borrow = borrow.Write; lender = Write; lender_access = Kernel
 -- n bytes move between the lease and the borrower's buffer
 abbrev pub moved : Borrow → Call → ℕ → ℕ → ℕ → Turn → Turn
 moved borrow.Read k leased own n t =
-    t ⨾ looked record { call = k.number; part = Leased; base = leased; length = n } ⨾ copied Own leased own n
+    t ⨾ looked record { call = k.number; part = Leased; base = leased; len = n } ⨾ copied Own leased own n
 moved borrow.Write k leased own n t = t ⨾ copied (Lease k.number) own leased n
 moved borrow.Info k leased own n t = t
 
@@ -76,23 +76,23 @@ no_lease = 1
 abbrev pub refused : ℕ → ℕ → Turn → Turn
 refused c code t = t ⨾ goes_on_with c (code ∷ 0 ∷ [])
 
-abbrev pub buffer_of : BorrowArgs → Range
-buffer_of x = record { base = x.buffer_base; length = x.buffer_length }
+abbrev pub buffer_of : BorrowArgs → Slice
+buffer_of x = record { base = x.buffer_base; len = x.buffer_length }
 
 -- the bytes from the offset on, as many as buffer and lease have
-abbrev pub part_of : BorrowArgs → LeaseEntry → Range
-part_of x e = record { base = e.base + x.offset; length = min x.buffer_length (e.len - x.offset) }
+abbrev pub part_of : BorrowArgs → LeaseEntry → Slice
+part_of x e = record { base = e.base + x.offset; len = min x.buffer_length (e.len - x.offset) }
 
-abbrev pub lent : Setup → Way → ℕ → BorrowArgs → Call → Range → Turn → Turn
+abbrev pub lent : Setup → Way → ℕ → BorrowArgs → Call → Slice → Turn → Turn
 lent g way c x k part t =
     let bad = bad_byte g k.client.index way.lender part in
     first_row (
     (is_some bad, t ⨾ denied g k.client.index (access_number way.lender_access) bad ⨾ refused c no_lease)
     ∷ [])
     (t
-    ⨾ moved way.borrow k part.base x.buffer_base part.length
-    ⨾ noted (note.Borrow k.number way.borrow x.lease x.offset part.length)
-    ⨾ goes_on_with c (0 ∷ part.length ∷ []))
+    ⨾ moved way.borrow k part.base x.buffer_base part.len
+    ⨾ noted (note.Borrow k.number way.borrow x.lease x.offset part.len)
+    ⨾ goes_on_with c (0 ∷ part.len ∷ []))
 
 abbrev pub granted : Setup → Way → ℕ → BorrowArgs → Call → LeaseEntry → Turn → Turn
 granted g way c x k e t =

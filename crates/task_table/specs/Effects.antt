@@ -15,7 +15,7 @@ use Rattle.kernel_abi.specs.declared.Timer.{Timer}
 use Rattle.words_core.specs.declared.Flags.{Flags}
 use Rattle.task_table.specs.declared.Line.{Line}
 use Rattle.mem_banks.specs.Memory.{with_bytes, bytes_at, copied as copied_memory}
-use Rattle.task_table.specs.State.{Setup, TaskSetup, Task, Call, Taken, Listen, Any, One, KernelOnly, Range, State, Ground, Write, Read, MessageFront, Turn}
+use Rattle.task_table.specs.State.{Setup, TaskSetup, Task, Call, Taken, Listen, Any, One, KernelOnly, Slice, State, Ground, Write, Read, MessageFront, Turn}
 use Rattle.task_table.specs.Reading.{task_at, setup_at, register, call_of, listen_of, no_flags}
 
 -- ## one part of a state changed
@@ -186,16 +186,16 @@ offered k t = t ⨾ changed (with_call k) ⨾ noted (note.Offer k.number k.clien
 -- ## a call is handed over
 
 -- the open call of a client goes to its server, with as much of its message as fits into a buffer
-unfoldable pub handed : Ground → Call → Range → Turn → Turn
+unfoldable pub handed : Ground → Call → Slice → Turn → Turn
 handed on c buffer t =
-    let n = min c.message.length buffer.length in
+    let n = min c.message.len buffer.len in
     t
-    ⨾ looked record { call = c.number; part = MessageFront; base = c.message.base; length = n }
+    ⨾ looked record { call = c.number; part = MessageFront; base = c.message.base; len = n }
     ⨾ copied on c.message.base buffer.base n
     ⨾ changed (with_taken c.client.index)
     ⨾ noted (note.Take c.number n)
     ⨾ changed (without_listen c.server.index)
-    ⨾ given c.server.index (0 ∷ id_of c.client.index c.client.birth ∷ c.operation ∷ c.message.length ∷ c.reply.length ∷ c.leases ∷ [])
+    ⨾ given c.server.index (0 ∷ id_of c.client.index c.client.birth ∷ c.operation ∷ c.message.len ∷ c.reply.len ∷ c.leases ∷ [])
 
 -- ## a task at birth
 

@@ -6,12 +6,12 @@ use Rattle.kernel_abi.specs.declared.Note.TheVariants as note
 use Rattle.region_check.specs.declared.Right.TheVariants.{Write}
 use Rattle.region_check.specs.Rights.{may_copy}
 use Rattle.mem_banks.specs.Memory.{Memory, with_bytes}
-use Rattle.task_table.specs.State.{Setup, State, Call, Listen, Range, Taken, Ground, Own, Message, Reply, Lease, Write as Written, Read, Entry, Turn}
+use Rattle.task_table.specs.State.{Setup, State, Call, Listen, Slice, Taken, Ground, Own, Message, Reply, Lease, Write as Written, Read, Entry, Turn}
 use Rattle.task_table.specs.Reading.{setup_at}
 
 -- a byte lies in a range
-abbrev pub Lies : Range → ℕ → Type 0
-Lies r a = (r.base ≤ a) × (a < r.base + r.length)
+abbrev pub Lies : Slice → ℕ → Type 0
+Lies r a = (r.base ≤ a) × (a < r.base + r.len)
 
 -- a task may write the byte, in a region that is no device
 abbrev pub MayWrite : Setup → ℕ → ℕ → Type 0
@@ -51,8 +51,8 @@ pub record IsLeaseGround (g : Setup) (s : State) (c : ℕ) (u : Turn) (k a : ℕ
   pub lease : ℕ
   pub there : lease < call.leases
   pub attributes : ℕ
-  pub range : Range
-  pub read : Contains u.reads record { call = k; part = Entry attributes range.base range.length; base = call.table + 12 * lease; length = 12 }
+  pub range : Slice
+  pub read : Contains u.reads record { call = k; part = Entry attributes range.base range.len; base = call.table + 12 * lease; len = 12 }
   pub writable : bit_and attributes 2 ≢ 0
   pub lies : Lies range a
   pub may : MayWrite g call.client.index a

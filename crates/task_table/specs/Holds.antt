@@ -9,14 +9,14 @@ use Rattle.task_table.specs.declared.kernel.Kernel.{Kernel}
 use Rattle.task_table.specs.declared.slot.Listening.{Listening}
 use Rattle.task_table.specs.declared.slot.OpenCall.{OpenCall}
 use Rattle.task_table.specs.declared.slot.Slot.{Slot}
-use Rattle.task_table.specs.declared.slot.Source.{Source}
-use Rattle.task_table.specs.declared.slot.Source.TheVariants as source
+use Rattle.task_table.specs.declared.slot.FromId.{FromId}
+use Rattle.task_table.specs.declared.slot.FromId.TheVariants as from_id
 use Rattle.task_table.specs.declared.slot.Wait.{Wait}
 use Rattle.task_table.specs.declared.slot.Wait.TheVariants as wait
 use Rattle.mem_banks.specs.Memory.{Memory}
 use Rattle.task_table.specs.Parts.{task_setup, line_setup}
 use Rattle.task_table.specs.Sane.{Sane}
-use Rattle.task_table.specs.State.{Setup, Task, Birth, Call, Listen, State, Taken, Range, From, Any, One, KernelOnly, Turn}
+use Rattle.task_table.specs.State.{Setup, Task, Birth, Call, Listen, State, Taken, Slice, From, Any, One, KernelOnly, Turn}
 use Rattle.task_table.specs.Reading.{is_offered, is_taken, task_at, call_of, listen_of}
 
 -- ## one task
@@ -39,13 +39,13 @@ kept_call c =
       phase = c.phase;
     }
 
-abbrev pub source_of : From → Source
-source_of Any = source.Any
-source_of (One b) = source.One (id_at b)
-source_of KernelOnly = source.Kernel
+abbrev pub from_id_of : From → FromId
+from_id_of Any = from_id.Any
+from_id_of (One b) = from_id.One (id_at b)
+from_id_of KernelOnly = from_id.Kernel
 
 abbrev pub kept_listen : Listen → Listening
-kept_listen l = record { from = source_of l.from; mask = l.mask; buffer = l.buffer }
+kept_listen l = record { from = from_id_of l.from; mask = l.mask; buffer = l.buffer }
 
 -- what a task waits for, by its open call and its listen
 abbrev pub wait_of : Option Call → Option Listen → Wait
@@ -106,12 +106,12 @@ taken_in (wait.Listen l) server = None
 taken_in wait.Nothing server = None
 
 -- a message of the task with an id is listened for, and into which buffer
-abbrev pub hears : Source → TaskId → Bool
-hears source.Any client = true
-hears (source.One id) client = id.number == client.number
-hears source.Kernel client = false
+abbrev pub hears : FromId → TaskId → Bool
+hears from_id.Any client = true
+hears (from_id.One id) client = id.number == client.number
+hears from_id.Kernel client = false
 
-abbrev pub buffer_in : Wait → TaskId → Option Range
+abbrev pub buffer_in : Wait → TaskId → Option Slice
 buffer_in (wait.Call c) client = None
 buffer_in (wait.Listen l) client = if hears l.from client then Some l.buffer else None
 buffer_in wait.Nothing client = None

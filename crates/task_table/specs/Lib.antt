@@ -3,7 +3,7 @@ pub mod State
 pub mod Reading
 pub mod TaskSets
 pub mod Readiness
-pub mod Levels
+pub mod Priorities
 pub mod Deadlines
 pub mod Entries
 pub mod Effects
@@ -29,5 +29,5 @@ pub mod Orders
 pub mod Ledger
 pub mod DeadIds
 pub mod Waits
-pub mod Lendable
-pub mod Lent
+pub mod Openable
+pub mod Window

@@ -2,8 +2,8 @@
 use Rattle.std.specs.Prelude.{ℕ, ◌≡◌, ◌<◌, ◌≤◌, ◌+◌, ◌*◌, Option, None, Some, if◌then◌else◌}
 use Rattle.std.specs.Option.{option_map}
 use Rattle.kernel_abi.specs.Arguments.{recv_args}
-use Rattle.kernel_abi.specs.declared.Listened.{Listened}
-use Rattle.kernel_abi.specs.declared.Listened.TheVariants as listened
+use Rattle.kernel_abi.specs.declared.FromIndex.{FromIndex}
+use Rattle.kernel_abi.specs.declared.FromIndex.TheVariants as from_index
 use Rattle.kernel_abi.specs.declared.Note.TheVariants as note
 use Rattle.kernel_abi.specs.declared.arguments.RecvArgs.{RecvArgs}
 use Rattle.kernel_abi.specs.declared.arguments.ReplyArgs.{ReplyArgs}
@@ -12,7 +12,7 @@ use Rattle.region_check.specs.declared.Right.TheVariants.{Read, Write}
 use Rattle.task_table.specs.declared.entry.KeptEntry.{KeptEntry}
 use Rattle.task_table.specs.declared.kernel.Kernel.{Kernel}
 use Rattle.task_table.specs.declared.slot.OpenCall.{OpenCall}
-use Rattle.task_table.specs.State.{Setup, State, Birth, Listen, Range, From, Any, One, KernelOnly, Turn}
+use Rattle.task_table.specs.State.{Setup, State, Birth, Listen, Slice, From, Any, One, KernelOnly, Turn}
 use Rattle.task_table.specs.Reading.{arguments, present, admits, bad_byte, offer_by, taken_by, IsIdle}
 use Rattle.task_table.specs.Entries.{entry_at}
 use Rattle.task_table.specs.Effects.{◌⨾◌, changed, noted, with_listen}
@@ -21,15 +21,15 @@ use Rattle.task_table.specs.Sends.{message_of, reply_of}
 use Rattle.task_table.specs.Holds.{Stands, kept_call}
 
 -- whom a task listens to; a task that is named is one of n
-abbrev pub from_of : State → Listened → From
-from_of s listened.Any = Any
-from_of s listened.Kernel = KernelOnly
-from_of s (listened.One i) = One (present s i)
+abbrev pub from_of : State → FromIndex → From
+from_of s from_index.Any = Any
+from_of s from_index.Kernel = KernelOnly
+from_of s (from_index.One i) = One (present s i)
 
-abbrev pub IsListened : ℕ → Listened → Type 0
-IsListened n listened.Any = Unit {0}
-IsListened n listened.Kernel = Unit {0}
-IsListened n (listened.One i) = i < n
+abbrev pub IsListened : ℕ → FromIndex → Type 0
+IsListened n from_index.Any = Unit {0}
+IsListened n from_index.Kernel = Unit {0}
+IsListened n (from_index.One i) = i < n
 
 -- a task listens by the arguments of its call
 abbrev pub listening : ℕ → RecvArgs → From → Turn → Turn
@@ -51,7 +51,7 @@ pub record IsReceivable (k : Kernel) (c client : ℕ) (call : OpenCall) : Type 0
   pub offered : option_map kept_call (offer_by receiving.turn.state client c) ≡ Some call
 
 -- the buffer of a listen that is open to a client
-abbrev pub buffer_for : Birth → Option Listen → Option Range
+abbrev pub buffer_for : Birth → Option Listen → Option Slice
 buffer_for client None = None
 buffer_for client (Some l) = if admits l.from client then Some l.buffer else None
 
@@ -70,7 +70,7 @@ pub record IsReplying (k : Kernel) (c client : ℕ) (call : OpenCall) (x : Reply
   pub stands : Stands setup k turn
   pub taken : option_map kept_call (taken_by turn.state client c) ≡ Some call
   pub readable : bad_byte setup c Read (reply_of x) ≡ None
-  pub fits : x.reply_length ≤ call.reply.length
+  pub fits : x.reply_length ≤ call.reply.len
 
 -- a borrower has taken this call of a lender
 pub record IsLent (k : Kernel) (lender borrower : ℕ) (call : OpenCall) : Type 0 where
@@ -84,5 +84,5 @@ pub record IsRead (k : Kernel) (lender borrower : ℕ) (call : OpenCall) (x : Ke
   pub lent : IsLent k lender borrower call
   pub listed : x.lease < call.leases
   pub base : x.base ≡ call.table + 12 * x.lease
-  pub readable : bad_byte lent.setup lender Read record { base = x.base; length = 12 } ≡ None
+  pub readable : bad_byte lent.setup lender Read record { base = x.base; len = 12 } ≡ None
   pub is : entry_at lent.turn.state.memory x.base ≡ x.entry

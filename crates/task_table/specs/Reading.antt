@@ -8,7 +8,7 @@ use Rattle.words_core.specs.declared.Flags.{Flags}
 use Rattle.region_check.specs.Rights.{first_bad}
 use Rattle.region_check.specs.declared.Right.{Right}
 use Rattle.task_table.specs.declared.Line.{Line}
-use Rattle.task_table.specs.State.{Setup, TaskSetup, Task, Call, Listen, State, Birth, Phase, Offered, Taken, From, Any, One, KernelOnly, Range}
+use Rattle.task_table.specs.State.{Setup, TaskSetup, Task, Call, Listen, State, Birth, Phase, Offered, Taken, From, Any, One, KernelOnly, Slice}
 
 abbrev pub no_flags : Flags
 no_flags = record { n = false; z = false; c = false; v = false }
@@ -102,12 +102,12 @@ admits (One b) client = same_birth b client
 admits KernelOnly client = false
 
 -- a range is valid where it ends inside the address space
-abbrev pub is_valid : Range → Bool
-is_valid r = nat_le (r.base + r.length) (2 ^ 32)
+abbrev pub is_valid : Slice → Bool
+is_valid r = nat_le (r.base + r.len) (2 ^ 32)
 
 -- the first byte of a range that may not be copied for a task
-unfoldable pub bad_byte : Setup → ℕ → Right → Range → Option ℕ
-bad_byte g i right r = first_bad (setup_at g i).regions right r.base r.length
+unfoldable pub bad_byte : Setup → ℕ → Right → Slice → Option ℕ
+bad_byte g i right r = first_bad (setup_at g i).regions right r.base r.len
 
 -- ## who runs
 

@@ -6,13 +6,13 @@ use Rattle.std.specs.Prelude.{ℕ, ◌+◌, ◌/◌, ◌%◌, ◌^◌, Bool, ◌
 use Rattle.std.specs.List.{list_any}
 use Rattle.kernel_abi.specs.Arguments.{r4, r5, recv_args, timer_args, irq_args}
 use Rattle.kernel_abi.specs.Ids.{index_of}
-use Rattle.kernel_abi.specs.declared.Listened.{Listened}
-use Rattle.kernel_abi.specs.declared.Listened.TheVariants as listened
+use Rattle.kernel_abi.specs.declared.FromIndex.{FromIndex}
+use Rattle.kernel_abi.specs.declared.FromIndex.TheVariants as from_index
 use Rattle.kernel_abi.specs.declared.arguments.RecvArgs.{RecvArgs}
 use Rattle.kernel_abi.specs.declared.Note.TheVariants as note
 use Rattle.kernel_abi.specs.declared.Timer.{Timer}
 use Rattle.region_check.specs.declared.Right.TheVariants.{Write}
-use Rattle.task_table.specs.State.{Setup, LineSetup, State, Call, From, Any, One, KernelOnly, Range, Own, Turn}
+use Rattle.task_table.specs.State.{Setup, LineSetup, State, Call, From, Any, One, KernelOnly, Slice, Own, Turn}
 use Rattle.task_table.specs.Reading.{task_at, line_at, line_off, line_on, register, arguments, present, is_out, is_dead, dead_code_for, is_valid, bad_byte, offer_by, syscall_selector}
 use Rattle.task_table.specs.Effects.{◌⨾◌, changed, noted, given, returned, past_syscall, bits_cleared, posted, with_listen, with_timer, with_line, handed, faulted}
 
@@ -106,17 +106,17 @@ irq_answered g c t =
 
 -- ## RECV: r4 and r5 buffer, r6 mask, r7 bit 31 whether it is closed, bits 15 to 0 to whom
 
-abbrev pub listened_from : From → Listened
-listened_from Any = listened.Any
-listened_from (One b) = listened.One b.index
-listened_from KernelOnly = listened.Kernel
+abbrev pub listened_from : From → FromIndex
+listened_from Any = from_index.Any
+listened_from (One b) = from_index.One b.index
+listened_from KernelOnly = from_index.Kernel
 
 -- what the receive of a task asks for
 abbrev pub asked : State → ℕ → RecvArgs
 asked s c = recv_args (arguments s c)
 
-abbrev pub buffer_of : RecvArgs → Range
-buffer_of x = record { base = x.buffer_base; length = x.buffer_length }
+abbrev pub buffer_of : RecvArgs → Slice
+buffer_of x = record { base = x.buffer_base; len = x.buffer_length }
 
 -- the caller listens, and goes past its system call
 abbrev pub listens : ℕ → RecvArgs → From → Turn → Turn

@@ -17,7 +17,7 @@ pub record IsFitCall (g : Setup) (c : Call) : Type 0 where
   pub client : c.client.index < length g.tasks
   pub server : c.server.index < length g.tasks
   pub apart : c.client.index ≢ c.server.index
-  pub valid : (is_valid c.message ≡ true) × (is_valid c.reply ≡ true) × (is_valid record { base = c.table; length = 12 * c.leases } ≡ true)
+  pub valid : (is_valid c.message ≡ true) × (is_valid c.reply ≡ true) × (is_valid record { base = c.table; len = 12 * c.leases } ≡ true)
   pub readable : bad_byte g c.client.index Read c.message ≡ None
   pub writable : bad_byte g c.client.index Write c.reply ≡ None
 

@@ -10,22 +10,22 @@ use Rattle.kernel_abi.specs.declared.Usage.TheVariants.{BadTaskIndex, InvalidSli
 use Rattle.kernel_abi.specs.declared.arguments.ReplyArgs.{ReplyArgs}
 use Rattle.kernel_abi.specs.declared.arguments.SendArgs.{SendArgs}
 use Rattle.region_check.specs.declared.Right.TheVariants.{Read, Write}
-use Rattle.task_table.specs.State.{Setup, State, Call, Listen, Offered, Range, Message, Reply, Turn}
+use Rattle.task_table.specs.State.{Setup, State, Call, Listen, Offered, Slice, Message, Reply, Turn}
 use Rattle.task_table.specs.Reading.{arguments, present, present_id, listen_of, is_out, is_dead, dead_code_for, admits, is_valid, bad_byte, taken_by}
 use Rattle.task_table.specs.Effects.{◌⨾◌, given, returned, past_syscall, closed, copied, offered, handed, posted, faulted_as}
 use Rattle.task_table.specs.Rows.{first_row, misused, denied, goes_on, goes_on_with}
 
 -- ## SEND: r4 bits 31 to 16 recipient, 15 to 0 operation, r5 and r6 message, r7 and r8 reply buffer, r9 lease table, r10 leases
 
-abbrev pub message_of : SendArgs → Range
-message_of x = record { base = x.message_base; length = x.message_length }
+abbrev pub message_of : SendArgs → Slice
+message_of x = record { base = x.message_base; len = x.message_length }
 
-abbrev pub reply_room : SendArgs → Range
-reply_room x = record { base = x.reply_base; length = x.reply_capacity }
+abbrev pub reply_room : SendArgs → Slice
+reply_room x = record { base = x.reply_base; len = x.reply_capacity }
 
 -- twelve bytes a lease
-abbrev pub table_of : SendArgs → Range
-table_of x = record { base = x.table; length = 12 * x.leases }
+abbrev pub table_of : SendArgs → Slice
+table_of x = record { base = x.table; len = 12 * x.leases }
 
 -- the call that a client makes, under the next number
 abbrev pub call_made : State → ℕ → SendArgs → ℕ → Call
@@ -72,8 +72,8 @@ sent g c t =
 
 -- ## REPLY: r4 client, r5 code, r6 and r7 reply
 
-abbrev pub reply_of : ReplyArgs → Range
-reply_of x = record { base = x.reply_base; length = x.reply_length }
+abbrev pub reply_of : ReplyArgs → Slice
+reply_of x = record { base = x.reply_base; len = x.reply_length }
 
 -- the client gets the reply, the code and the reply's length, and its call is closed
 abbrev pub answers : ℕ → ReplyArgs → Call → Turn → Turn
@@ -92,7 +92,7 @@ replied_to g c x (Some k) t =
     first_row (
     (not (is_valid (reply_of x)), t ⨾ misused g c (usage_number InvalidSlice))
     ∷ (is_some (bad_byte g c Read (reply_of x)), t ⨾ denied g c (access_number KernelRead) (bad_byte g c Read (reply_of x)))
-    ∷ (nat_lt k.reply.length x.reply_length, t ⨾ misused g c (usage_number ReplyTooBig))
+    ∷ (nat_lt k.reply.len x.reply_length, t ⨾ misused g c (usage_number ReplyTooBig))
     ∷ []) (t ⨾ answers c x k)
 
 unfoldable pub replied : Setup → ℕ → Turn → Turn

@@ -10,7 +10,7 @@ use Rattle.mem_banks.specs.Memory.{Memory}
 use Rattle.task_table.specs.declared.Line.{Line}
 pub use Rattle.task_table.specs.declared.slot.Phase.{Phase}
 pub use Rattle.task_table.specs.declared.slot.Phase.TheVariants.{Offered, Taken}
-pub use Rattle.task_table.specs.declared.slot.Range.{Range}
+pub use Rattle.task_table.specs.declared.slot.Slice.{Slice}
 
 -- what the image says of a task, of a line, and of all; it never changes
 pub record TaskSetup : Type 0 where
@@ -52,8 +52,8 @@ pub record Call : Type 0 where
   pub client : Birth
   pub server : Birth
   pub operation : ℕ
-  pub message : Range
-  pub reply : Range
+  pub message : Slice
+  pub reply : Slice
   pub table : ℕ
   pub leases : ℕ
   pub phase : Phase
@@ -67,7 +67,7 @@ pub record Listen : Type 0 where
   pub task : ℕ
   pub from : From
   pub mask : ℕ
-  pub buffer : Range
+  pub buffer : Slice
 
 pub record State : Type 0 where
   pub turn : ℕ
@@ -103,7 +103,7 @@ pub record Read : Type 0 where
   pub call : ℕ
   pub part : Part
   pub base : ℕ
-  pub length : ℕ
+  pub len : ℕ
 
 -- what a turn has come to so far: the state, and the notes, writes and reads that led there
 pub record Turn : Type 0 where

@@ -15,7 +15,7 @@ use Rattle.region_check.specs.declared.Right.TheVariants.{Write}
 use Rattle.words_core.specs.declared.Flags.{Flags}
 use Rattle.task_table.specs.declared.Line.{Line}
 use Rattle.mem_banks.specs.Memory.{IsWithinRam, AreAllBytes}
-use Rattle.task_table.specs.State.{Setup, State, Birth, Call, Listen, Range, Part, MessageFront, Entry, Leased, Read, One, Offered, Taken, Ground, Own, Turn}
+use Rattle.task_table.specs.State.{Setup, State, Birth, Call, Listen, Slice, Part, MessageFront, Entry, Leased, Read, One, Offered, Taken, Ground, Own, Turn}
 use Rattle.task_table.specs.Reading.{task_at, call_of, listen_of, bad_byte, admits, IsIdle}
 use Rattle.task_table.specs.Effects.{◌⨾◌, with_listen, changed, noted, with_processor, stored, copied, looked, given, returned, past_syscall, bits_cleared, posted, with_timer, with_line, closed, faulted_as, faulted, handed, restarted}
 use Rattle.task_table.specs.Rows.{listened_from}
@@ -79,7 +79,7 @@ pub record MayOffer (g : Setup) (s : State) (c : ℕ) (u : Turn) (k : Call) : Ty
   pub fit_listens : (l : Listen) → Contains s.listens l → IsFitListen g l
 
 -- an offered call that c may take, into a buffer of its own
-pub record MayReceive (g : Setup) (s : State) (c : ℕ) (u : Turn) (k : Call) (buffer : Range) : Type 0 where
+pub record MayReceive (g : Setup) (s : State) (c : ℕ) (u : Turn) (k : Call) (buffer : Slice) : Type 0 where
   pub here : Contains u.state.calls k
   pub before : Contains s.calls k
   pub offered : k.phase ≡ Offered
@@ -87,10 +87,10 @@ pub record MayReceive (g : Setup) (s : State) (c : ℕ) (u : Turn) (k : Call) (b
   pub good : bad_byte g c Write buffer ≡ None
 
 -- n bytes from an address on are in a range that task i may write, and the range begins there
-pub record IsTarget (g : Setup) (i : ℕ) (r : Range) (at n : ℕ) : Type 0 where
+pub record IsTarget (g : Setup) (i : ℕ) (r : Slice) (at n : ℕ) : Type 0 where
   pub good : bad_byte g i Write r ≡ None
   pub base : at ≡ r.base
-  pub fits : n ≤ r.length
+  pub fits : n ≤ r.len
 
 -- n bytes from an address on may be written on a ground
 abbrev pub MayChangeAll : Setup → State → ℕ → Turn → Ground → ℕ → ℕ → Type 0
@@ -115,9 +115,9 @@ pub data Step (g : Setup) (s : State) (c : ℕ) : Turn → Turn → Type 0 where
   Lines : (k : ℕ) (line : Line) (u : Turn) → (line.pending ≡ true → (line.enabled ≡ false) × IsOwned g k) → Step g s c u (with_line k line u)
   Listens : (l : Listen) (u : Turn) → l.task ≡ c → MayListen g u.state l → Step g s c u (u ⨾ changed (with_listen l) ⨾ noted (note.Listen l.task (listened_from l.from) l.mask))
   Sends : (k : Call) (u : Turn) → MayOffer g s c u k → Step g s c u (offers_call k u)
-  Receives : (k : Call) (buffer : Range) (u : Turn) → MayReceive g s c u k buffer → Step g s c u (handed Own k buffer u)
+  Receives : (k : Call) (buffer : Slice) (u : Turn) → MayReceive g s c u k buffer → Step g s c u (handed Own k buffer u)
   Stores : (on : Ground) (at : ℕ) (bytes : List ℕ) (u : Turn) → AreAllBytes bytes → IsWithinRam u.state.memory at (length bytes) → IsWithinRam s.memory at (length bytes) → MayChangeAll g s c u on at (length bytes) → Step g s c u (stored on at bytes u)
-  Copies : (on : Ground) (from at n i : ℕ) (r : Range) (u : Turn) → IsTarget g i r at n → MayChangeAll g s c u on at n → Step g s c u (copied on from at n u)
+  Copies : (on : Ground) (from at n i : ℕ) (r : Slice) (u : Turn) → IsTarget g i r at n → MayChangeAll g s c u on at n → Step g s c u (copied on from at n u)
   Looks : (r : Read) (u : Turn) → IsAlive s c u r.call → Step g s c u (looked r u)
   Borrows : (k : ℕ) (borrow : Borrow) (lease offset moved : ℕ) (u : Turn) → IsAlive s c u k → Step g s c u (noted (note.Borrow k borrow lease offset moved) u)
   Ceases : (i : ℕ) (ending : Ending) (u : Turn) → Ends ending (call_of u.state i) → Step g s c u (closed i ending u)

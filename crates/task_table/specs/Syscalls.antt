@@ -1,5 +1,5 @@
 -- The system calls: each has a number, which the caller has in r11, and a meaning. (Hubris Reference: syscalls.)
-use Rattle.kernel_abi.specs.declared.Usage.TheVariants.{BadSyscall}
+use Rattle.kernel_abi.specs.declared.Usage.TheVariants.{BadCall}
 use Rattle.kernel_abi.specs.declared.syscalls.Syscall.TheVariants.{Send, Recv, Reply, SetTimer, BorrowRead, BorrowWrite, BorrowInfo, IrqControl, Panic, GetTimer, RefreshTaskId, Post, ReplyFault, IrqStatus}
 use Rattle.kernel_abi.specs.Syscalls.{syscall_number}
 use Rattle.kernel_abi.specs.Faults.{usage_number}
@@ -38,9 +38,9 @@ syscalls =
     ∷ (syscall_number IrqStatus, irq_answered)
     ∷ []
 
--- what a number means among some system calls; one that none of them has is usage 1, BadSyscall
+-- what a number means among some system calls; one that none of them has is usage 1, BadCall
 abbrev pub meaning_among : List (ℕ × Meaning) → ℕ → Meaning
-meaning_among [] n g c t = misused g c (usage_number BadSyscall) t
+meaning_among [] n g c t = misused g c (usage_number BadCall) t
 meaning_among (syscall ∷ syscalls) n g c t = if n == syscall.0 then syscall.1 g c t else meaning_among syscalls n g c t
 
 -- the system call whose number is in r11

@@ -2,16 +2,16 @@
 use Rattle.std.specs.Prelude.{ℕ, ◌≡◌, ◌<◌, Bool, false, Contains, ◌==◌}
 use Rattle.kernel_abi.specs.Ids.{index_of}
 use Rattle.task_table.specs.State.{State, Call, Listen, Birth, One}
-use Rattle.task_table.specs.declared.slot.Source.{Source}
-use Rattle.task_table.specs.declared.slot.Source.TheVariants as source
+use Rattle.task_table.specs.declared.slot.FromId.{FromId}
+use Rattle.task_table.specs.declared.slot.FromId.TheVariants as from_id
 use Rattle.task_table.specs.declared.slot.Wait.{Wait}
 use Rattle.task_table.specs.declared.slot.Wait.TheVariants as wait
 
 -- it is the task with an index
-abbrev pub is_one : Source → ℕ → Bool
-is_one source.Any i = false
-is_one source.Kernel i = false
-is_one (source.One id) i = index_of id.number == i
+abbrev pub is_one : FromId → ℕ → Bool
+is_one from_id.Any i = false
+is_one from_id.Kernel i = false
+is_one (from_id.One id) i = index_of id.number == i
 
 -- it is for the end of a call to the task with an index
 abbrev pub is_to_in : Wait → ℕ → Bool

@@ -6,22 +6,22 @@
 ghost use Rattle.std.specs.Prelude.{◌≡◌, ◌<◌, ◌≤◌, length, map};
 ghost use Rattle.task_table.specs.Limits.{most_tasks, board_lines};
 ghost use Rattle.task_table.specs.Parts.{task_setup};
-ghost use Rattle.task_table.specs.Levels.{AreLevels};
+ghost use Rattle.task_table.specs.Priorities.{ArePriorities};
 ghost use Rattle.task_table.specs.Readiness.{is_free, AreThose, AreOffers};
 ghost use Rattle.task_table.specs.Deadlines.{AreNotBefore};
 ghost use Rattle.task_table.specs.Entries.{AreFresh, AreEntriesOf};
-ghost use Rattle.task_table.specs.Lendable.{AreLendable};
+ghost use Rattle.task_table.specs.Openable.{AreOpenable};
 
 mod entries;
-mod lending;
 mod sets;
 mod slots;
 mod timers;
+mod window;
 
 use crate::Line;
 use crate::entry::{KeptEntry, Watch, no_entries};
-use crate::levels::levels_of;
 use crate::limits::{LINES, TURN_NOTES};
+use crate::priorities::priorities_of;
 use crate::readiness::{empty_sets, ready_tasks};
 use crate::slot::{Found, Slot, Wait};
 use crate::start::{LineStart, TaskStart, copies_of, first_slots};
@@ -38,7 +38,7 @@ use words_core::Flags;
 #[derive(Drop)]
 pub struct Kernel {
     tasks: Vec<TaskStart>,
-    levels: Vec<TaskSet>,
+    priorities: Vec<TaskSet>,
     owners: Vec<LineStart>,
     fault_bits: u32,
     slots: Vec<Slot>,
@@ -58,11 +58,11 @@ pub struct Kernel {
     ghost few_owners: { length owners.items ≤ board_lines },
     ghost many: { length tasks.items ≡ length slots.items },
     ghost there: { current < length slots.items },
-    ghost levels_are: { AreLevels (map task_setup tasks.items) levels.items },
+    ghost priorities_are: { ArePriorities (map task_setup tasks.items) priorities.items },
     ghost ready_now: { AreThose is_free slots.items ready.words },
     ghost offered_now: { AreOffers slots.items offers.items },
     ghost deadlines: { AreNotBefore earliest slots.items },
-    ghost lendable: { ∥ AreLendable memory.regions (map task_setup tasks.items) ∥₁ },
+    ghost openable: { ∥ AreOpenable memory.regions (map task_setup tasks.items) ∥₁ },
     ghost fresh: { AreFresh memory.bytes watch.low watch.span entries.items },
     ghost of_calls: { AreEntriesOf (map task_setup tasks.items) slots.items entries.items },
 }
@@ -101,14 +101,14 @@ impl Kernel {
         requires few { length tasks.now ≤ most_tasks }
         requires few_owners { length lines.now ≤ board_lines }
         requires zeros { memory.bytes.ram ≡ replicate (length memory.bytes.ram) 0 }
-        requires given { AreLendable memory.regions (map task_setup tasks.now) }
+        requires given { AreOpenable memory.regions (map task_setup tasks.now) }
         ensures holds { let g = setup_of_parts memory.bytes fault_bits tasks.now lines.now in IfOk result (λ k. Holds g k (begun (started_at g))) }
         ensures stands { let g = setup_of_parts memory.bytes fault_bits tasks.now lines.now in IsSound g → IfOk result (λ k. Stands g k (begun (started_at g))) }
         ensures count { IfOk result (λ k. task_count k ≡ length tasks.now) }
         ensures notes { IfOk result (λ k. note_count k ≡ 0) }
     {
         let copies = copies_of(alloc, tasks)?;
-        let levels = levels_of(alloc, &copies)?;
+        let priorities = priorities_of(alloc, &copies)?;
         let owners = Vec::from_slice(alloc, lines)?;
         let slots = first_slots(alloc, tasks)?;
         let ready = ready_tasks(&slots);
@@ -116,7 +116,7 @@ impl Kernel {
         let entries = no_entries(alloc, slots.len())?;
         Ok(Kernel {
             tasks: copies,
-            levels,
+            priorities,
             owners,
             fault_bits,
             slots,

@@ -7,9 +7,9 @@ mod entry;
 mod fault;
 mod kernel;
 pub mod laws;
-mod levels;
 pub mod limits;
 mod message;
+mod priorities;
 mod readiness;
 mod sending;
 mod slot;
@@ -18,8 +18,8 @@ mod task_set;
 
 pub use entry::KeptEntry;
 pub use kernel::Kernel;
-pub use mem_banks::{Borrower, FLASH, Memory, RAM};
-pub use slot::{Found, Listening, OpenCall, Phase, Range, Slot, Source, Wait};
+pub use mem_banks::{FLASH, Memory, RAM, WindowUser};
+pub use slot::{Found, FromId, Listening, OpenCall, Phase, Slice, Slot, Wait};
 pub use start::{LineStart, TaskStart};
 pub use task_set::TaskSet;
 

@@ -1,8 +1,8 @@
 //! What RECV does to a task: it takes its posted bits, listens, or takes a call that is offered to it.
 
 use crate::kernel::Kernel;
-use crate::slot::{Listening, OpenCall, Range, Source, Wait};
-use kernel_abi::{Access, Fault, Listened, Note, RecvArgs, TaskId};
+use crate::slot::{FromId, Listening, OpenCall, Slice, Wait};
+use kernel_abi::{Access, Fault, FromIndex, Note, RecvArgs, TaskId};
 use region_check::{Right, may_range};
 
 impl Kernel {
@@ -14,7 +14,7 @@ impl Kernel {
     ghost use Rattle.task_table.specs.Reading.{arguments, present_id, bad_byte, offer_by, taken_by, IsIdle};
     ghost use Rattle.task_table.specs.Effects.{changed, with_taken, handed};
     ghost use Rattle.task_table.specs.Rows.{asked, denied, takes_bits, listens, receives};
-    ghost use Rattle.task_table.specs.Holds.{Holds, Stands, kept_call, source_of, task_count, note_count, memory_of};
+    ghost use Rattle.task_table.specs.Holds.{Holds, Stands, kept_call, from_id_of, task_count, note_count, memory_of};
     ghost use Rattle.task_table.specs.Limits.{turn_notes};
     ghost use Rattle.task_table.specs.Frames.{AddsNotes, AddsAtMost};
     ghost use Rattle.task_table.specs.Messages.{from_of, listening, IsListened, IsReceivable};
@@ -40,7 +40,7 @@ impl Kernel {
     /// The first byte of a range that may not be copied for a task, where there is one.
     pub fn bad_byte(&self, task: usize, right: Right, base: u32, len: u32) -> Option<u32>
         requires { base + len ≤ 2 ^ 32 }
-        ensures { (g : Setup) (t : Turn) → Holds g self.now t → result ≡ bad_byte g task right record { base = base; length = len } }
+        ensures { (g : Setup) (t : Turn) → Holds g self.now t → result ≡ bad_byte g task right record { base = base; len = len } }
     {
         may_range(self.regions(task), base, len, right)
     }
@@ -78,19 +78,19 @@ impl Kernel {
     }
 
     /// Whom a task hears that listens so.
-    fn source(&self, from: Listened) -> Source
+    fn from_id(&self, from: FromIndex) -> FromId
         requires { IsListened (task_count self.now) from }
-        ensures { (g : Setup) (t : Turn) → Holds g self.now t → result ≡ source_of (from_of t.state from) }
+        ensures { (g : Setup) (t : Turn) → Holds g self.now t → result ≡ from_id_of (from_of t.state from) }
     {
         match from {
-            Listened::Any => Source::Any,
-            Listened::Kernel => Source::Kernel,
-            Listened::One(index) => Source::One(self.id(usize::from(index))),
+            FromIndex::Any => FromId::Any,
+            FromIndex::Kernel => FromId::Kernel,
+            FromIndex::One(index) => FromId::One(self.id(usize::from(index))),
         }
     }
 
     /// A task that waits for nothing listens by its registers.
-    fn start_listening(&mut self, task: usize, from: Listened)
+    fn start_listening(&mut self, task: usize, from: FromIndex)
         requires there { task < task_count self.old }
         requires whom { IsListened (task_count self.old) from }
         requires room { note_count self.old < turn_notes }
@@ -100,7 +100,7 @@ impl Kernel {
         let args = RecvArgs::of(&self.arguments(task));
         let mut slot = self.slot(task);
         slot.wait = Wait::Listen(Listening {
-            from: self.source(from),
+            from: self.from_id(from),
             mask: args.mask,
             buffer: buffer_of(&args),
         });
@@ -114,7 +114,7 @@ impl Kernel {
 
     /// A caller that waits for nothing goes past its system call and listens, with the buffer and the mask of
     /// its registers r4 to r6 (Hubris Reference, on RECV).
-    pub fn listen(&mut self, task: usize, from: Listened)
+    pub fn listen(&mut self, task: usize, from: FromIndex)
         requires there { task < task_count self.old }
         requires whom { IsListened (task_count self.old) from }
         requires room { note_count self.old < turn_notes }
@@ -137,16 +137,16 @@ impl Kernel {
     }
 
     /// The open call of a client goes to its server, with as much of the message as fits into a buffer.
-    pub(crate) fn hand_over(&mut self, client: usize, server: usize, call: &OpenCall, buffer: Range)
+    pub(crate) fn hand_over(&mut self, client: usize, server: usize, call: &OpenCall, buffer: Slice)
         requires client { client < task_count self.old }
         requires server { server < task_count self.old }
         requires room { note_count self.old < turn_notes }
-        requires source { IsWithin (memory_of self.old) call.now.message.base call.now.message.length }
-        requires target { IsWithinRam (memory_of self.old) buffer.base buffer.length }
+        requires source { IsWithin (memory_of self.old) call.now.message.base call.now.message.len }
+        requires target { IsWithinRam (memory_of self.old) buffer.base buffer.len }
         ensures holds { (g : Setup) (t : Turn) (on : Ground) (c : Call) → Holds g self.old t → kept_call c ≡ call.now → c.client.index ≡ client → c.server.index ≡ server → Holds g self.new (handed on c buffer t) }
         ensures frame { AddsNotes self.old 1 self.new }
     {
-        let copied = call.message.length.min(buffer.length);
+        let copied = call.message.len.min(buffer.len);
         self.copy(call.message.base, buffer.base, copied);
         self.take(client);
         self.note(Note::Take {
@@ -160,8 +160,8 @@ impl Kernel {
                 0,
                 u32::from(call.client.number),
                 u32::from(call.operation),
-                call.message.length,
-                call.reply.length,
+                call.message.len,
+                call.reply.len,
                 call.leases,
             ],
         );
@@ -190,11 +190,11 @@ ghost use Rattle.std.specs.Prelude.{◌≡◌};
 ghost use Rattle.task_table.specs.Rows.{buffer_of};
 
 /// The buffer of a receive.
-fn buffer_of(args: &RecvArgs) -> Range
+fn buffer_of(args: &RecvArgs) -> Slice
     ensures { result ≡ buffer_of args.now }
 {
-    Range {
+    Slice {
         base: args.buffer_base,
-        length: args.buffer_length,
+        len: args.buffer_length,
     }
 }

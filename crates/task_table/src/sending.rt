@@ -2,7 +2,7 @@
 //! listens for it; it is answered, or its client is faulted.
 
 use crate::kernel::Kernel;
-use crate::slot::{OpenCall, Phase, Range, Wait};
+use crate::slot::{OpenCall, Phase, Slice, Wait};
 use kernel_abi::{Ending, Fault, Note, Reason, ReplyArgs, SendArgs};
 
 impl Kernel {
@@ -19,7 +19,7 @@ impl Kernel {
     ghost use Rattle.task_table.specs.Messages.{buffer_for, IsSending, IsReplying};
 
     /// The buffer of a server that listens for a message of a client.
-    fn buffer_for(&self, server: usize, client: usize) -> Option<Range>
+    fn buffer_for(&self, server: usize, client: usize) -> Option<Slice>
         requires server { server < task_count self.now }
         requires client { client < task_count self.now }
         ensures { (g : Setup) (t : Turn) → Stands g self.now t → result ≡ buffer_for (present t.state client) (listen_of t.state server) }
@@ -39,13 +39,13 @@ impl Kernel {
             client: self.id(client),
             server: self.id(server),
             operation: args.operation,
-            message: Range {
+            message: Slice {
                 base: args.message_base,
-                length: args.message_length,
+                len: args.message_length,
             },
-            reply: Range {
+            reply: Slice {
                 base: args.reply_base,
-                length: args.reply_capacity,
+                len: args.reply_capacity,
             },
             table: args.table,
             leases: args.leases,

@@ -7,12 +7,12 @@ use words_core::Flags;
 
 /// Bytes of the address space, from an address on.
 #[derive(Clone, Copy, Debug, PartialEq, Eq)]
-pub struct Range {
+pub struct Slice {
     pub base: u32,
-    pub length: u32,
+    pub len: u32,
 }
 
-impl Range {
+impl Slice {
     ghost use Rattle.std.specs.Prelude.{◌≡◌};
     ghost use Rattle.task_table.specs.Reading.{is_valid};
 
@@ -20,7 +20,7 @@ impl Range {
     pub fn is_valid(&self) -> bool
         ensures { result ≡ is_valid self.now }
     {
-        kernel_abi::Range::of(self.base, u64::from(self.length)).is_some()
+        kernel_abi::Range::of(self.base, u64::from(self.len)).is_some()
     }
 }
 
@@ -41,8 +41,8 @@ pub struct OpenCall {
     pub client: TaskId,
     pub server: TaskId,
     pub operation: u16,
-    pub message: Range,
-    pub reply: Range,
+    pub message: Slice,
+    pub reply: Slice,
     pub table: u32,
     pub leases: u32,
     pub phase: Phase,
@@ -69,7 +69,7 @@ impl OpenCall {
 
 /// Whose message a task listens for.
 #[derive(Clone, Copy, Debug, PartialEq, Eq)]
-pub enum Source {
+pub enum FromId {
     /// Any task's.
     Any,
     /// None: for notifications alone.
@@ -78,7 +78,7 @@ pub enum Source {
     One(TaskId),
 }
 
-impl Source {
+impl FromId {
     ghost use Rattle.std.specs.Prelude.{◌≡◌};
     ghost use Rattle.task_table.specs.Waits.{is_one};
     ghost use Rattle.task_table.specs.Holds.{hears};
@@ -88,7 +88,7 @@ impl Source {
         ensures { result ≡ is_one self.now index }
     {
         match *self {
-            Source::One(id) => usize::from(id.index()) == index,
+            FromId::One(id) => usize::from(id.index()) == index,
             _ => false,
         }
     }
@@ -98,9 +98,9 @@ impl Source {
         ensures { result ≡ hears self client }
     {
         match self {
-            Source::Any => true,
-            Source::Kernel => false,
-            Source::One(id) => id.number == client.number,
+            FromId::Any => true,
+            FromId::Kernel => false,
+            FromId::One(id) => id.number == client.number,
         }
     }
 }
@@ -109,9 +109,9 @@ impl Source {
 /// (Hubris Reference, on RECV).
 #[derive(Clone, Copy, Debug, PartialEq, Eq)]
 pub struct Listening {
-    pub from: Source,
+    pub from: FromId,
     pub mask: u32,
-    pub buffer: Range,
+    pub buffer: Slice,
 }
 
 /// What a task waits for.
@@ -217,7 +217,7 @@ impl Wait {
     }
 
     /// The buffer for a message of the client with this id, where the task listens for one.
-    pub fn buffer_for(&self, client: TaskId) -> Option<Range>
+    pub fn buffer_for(&self, client: TaskId) -> Option<Slice>
         ensures { result ≡ buffer_in self.now client }
     {
         match *self {

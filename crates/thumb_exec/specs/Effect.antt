@@ -388,14 +388,14 @@ Stores {B} stored b (s ∷ ss) b' = (m : B) × stored b s.addr s.bytes s.value m
 -- What an effect makes of the processor c and the bus b, and the outcome that tells it. A system call and a fault change nothing.
 abbrev pub Acts : {B : Type 0} → (B → ℕ → ℕ → ℕ → B → Type 0) → Cpu → Cpu → B → B → Outcome → Effect → Type 0
 Acts stored c c' b b' o (Next d ss) = (o ≡ outcome.Next) × (c' ≡ d) × Stores stored b ss b'
-Acts stored c c' b b' o Syscall = (o ≡ outcome.Syscall) × (c' ≡ c) × (b' ≡ b)
+Acts stored c c' b b' o Syscall = (o ≡ outcome.Call) × (c' ≡ c) × (b' ≡ b)
 Acts stored c c' b b' o (Trap f) = (o ≡ outcome.Trap f) × (c' ≡ c) × (b' ≡ b)
 
 -- What comes of an effect that stores nothing, without a bus.
 abbrev pub Effects : Cpu → Cpu → Outcome → Effect → Type 0
 Effects c c' o (Next d []) = (o ≡ outcome.Next) × (c' ≡ d)
 Effects c c' o (Next d (s ∷ ss)) = ⊥
-Effects c c' o Syscall = (o ≡ outcome.Syscall) × (c' ≡ c)
+Effects c c' o Syscall = (o ≡ outcome.Call) × (c' ≡ c)
 Effects c c' o (Trap f) = (o ≡ outcome.Trap f) × (c' ≡ c)
 
 -- An effect after which the instruction does not simply go on.

@@ -13,6 +13,6 @@ pub struct Cpu {
 #[derive(Clone, Copy, PartialEq, Eq)]
 pub enum Outcome {
     Next,
-    Syscall,
+    Call,
     Trap(Fault),
 }

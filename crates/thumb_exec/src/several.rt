@@ -209,7 +209,8 @@ pub fn pop<B: Bus>(cpu: &mut Cpu, bus: &mut B, list: u8, has_pc: bool) -> Outcom
     let before = *cpu;
     load_words(&mut cpu.regs, bus, mask, addr);
     let target = cpu.regs.get(PROGRAM_COUNTER);
-    cpu.regs.set(STACK_POINTER, addr.wrapping_add(4 * count_of(mask)));
+    cpu.regs
+        .set(STACK_POINTER, addr.wrapping_add(4 * count_of(mask)));
     if has_pc {
         let Some(to) = code_address(target) else {
             *cpu = before;

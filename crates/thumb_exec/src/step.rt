@@ -320,7 +320,7 @@ fn rest<B: Bus>(cpu: &mut Cpu, insn: Insn, bus: &mut B) -> Outcome
         Insn::Ldm { n, list } => ldm(cpu, bus, n, list),
         Insn::Pop { list, pc } => pop(cpu, bus, list, pc),
         Insn::Bx { .. } | Insn::Blx { .. } => jump(cpu, insn),
-        Insn::Svc { .. } => Outcome::Syscall,
+        Insn::Svc { .. } => Outcome::Call,
         Insn::Bkpt { value } => Outcome::Trap(Fault::breakpoint(value)),
         Insn::Cpsie | Insn::Cpsid | Insn::Hint { .. } | Insn::Fence { .. } | Insn::Msr { .. } => {
             system(cpu, insn);

@@ -1,4 +1,4 @@
--- Contents that are seen, and contents that may be: how far files are taken with both.
+-- Contents that are seen, and contents that may be: how far files are accepted with both.
 use Rattle.std.proofs.Common.{◌≡◌, ℕ, ◌<◌, ◌≤◌, List, [], ◌∷◌, length, Option, Some, None, refl, sym, ap, subst, ◌∙◌, arith}
 use Rattle.std.specs.Prelude.{slice_get}
 use Rattle.std.proofs.lemmas.Option.{same_Some}

@@ -8,7 +8,7 @@ use Rattle.app_toml.specs.Apps.{AppData}
 use Rattle.image_build.specs.Built.{Built}
 use Rattle.sample_gen.specs.Sample.{sample_app, sample_sources}
 use Rattle.board_model.specs.Script.{Scenario}
-use Rattle.command_line.specs.CommandLine.{Asked, build, run, go, list, sample, is_taken, job_of}
+use Rattle.command_line.specs.CommandLine.{Asked, build, run, go, list, sample, is_accepted, job_of}
 use Rattle.command_line.specs.declared.job.Detail.{Detail}
 use Rattle.build_laws.proofs.OnePicture.{one_picture}
 use Rattle.trace_cli.specs.Contents.{Why, scenario_of, sample_scenario}
@@ -17,9 +17,9 @@ use Rattle.trace_cli.specs.Words.{job_in}
 use Rattle.trace_cli.specs.Sources.{File, files_by, MayBe, Are, Reaches, TakesAll, IsBuilt, IsRun, IsListing, IsBuild, IsSample, described, sources_in, script_in}
 use Rattle.trace_cli.specs.Verdict as verdict
 use Rattle.trace_cli.specs.Verdict.{Verdict, IsVerdict, Does, runs, lists, builds, samples, usage, refused, unread, ran, listed, built, sampled}
-use Rattle.trace_cli.specs.Answer.{Reason, cannot_read, refuses, does, IsUnread, IsRefused, Ground, no_job, of_job}
+use Rattle.trace_cli.specs.Answer.{JobReason, cannot_read, refuses, does, IsUnread, IsRefused, Reason, no_job, of_job}
 use Rattle.trace_cli.proofs.Lists.{is_below}
-use Rattle.trace_cli.proofs.Stopping.{where_seen}
+use Rattle.trace_cli.proofs.Faulting.{where_seen}
 use Rattle.trace_cli.proofs.Agreeing.{same_files, seen_further, may_further, same_contents}
 
 -- ## what is done with files is one thing
@@ -233,25 +233,25 @@ all_same seen job cs ds u v are may p q = by_length (meets (length cs) (length d
 abbrev CannotRead : Asked → FilesSeen → FilesSeen → Verdict → Type 0
 CannotRead job before after v = (f : File) × IsUnread job before after f × (v ≡ unread f.name)
 
-on_refusal : (job : Asked) (before after : FilesSeen) (v u : Verdict) (cs : List (List ℕ)) (g : File) (c : List ℕ) (why : Why) → Reason job before after v
+on_refusal : (job : Asked) (before after : FilesSeen) (v u : Verdict) (cs : List (List ℕ)) (g : File) (c : List ℕ) (why : Why) → JobReason job before after v
     → Reaches (Are before.contents) job cs g → before.contents g.name ≡ Some c → g.refusal c ≡ Some why → u ≡ refused g.name why → (v ≡ u) ⊎ CannotRead job before after v
 on_refusal job before after v u cs g c why (cannot_read f h e) r is refusal d = inr (f, h, e)
 on_refusal job before after v u cs g c why (refuses f why' h e) r is refusal d = inl (e ∙ same_refusal before.contents job f g why' why cs c h r is refusal ∙ sym d)
 on_refusal job before after v u cs g c why (does ds all p) r is refusal d = absurd (done_not_refused before.contents job ds cs g why c all r is refusal)
 
-on_done : (job : Asked) (before after : FilesSeen) (v u : Verdict) (cs : List (List ℕ)) → Reason job before after v
+on_done : (job : Asked) (before after : FilesSeen) (v u : Verdict) (cs : List (List ℕ)) → JobReason job before after v
     → TakesAll (Are before.contents) job cs → Does job cs u → (v ≡ u) ⊎ CannotRead job before after v
 on_done job before after v u cs (cannot_read f h e) all p = inr (f, h, e)
 on_done job before after v u cs (refuses f why h e) all p = absurd (refused_not_done before.contents job f why cs h all)
 on_done job before after v u cs (does ds may q) all p = inl (all_same before.contents job cs ds u v all may p q)
 
-pub no_job_in : (words : List (List ℕ)) → is_taken words ≡ false → job_in words ≡ None
+pub no_job_in : (words : List (List ℕ)) → is_accepted words ≡ false → job_in words ≡ None
 no_job_in words e = ap (λ (b : Bool). cond b (job_of words) None) e
 
-pub no_job_of : (words : List (List ℕ)) (job : Asked) → is_taken words ≡ false → job_in words ≡ Some job → ⊥
+pub no_job_of : (words : List (List ℕ)) (job : Asked) → is_accepted words ≡ false → job_in words ≡ Some job → ⊥
 no_job_of words job e d = let none : None ≡ Some job = sym (no_job_in words e) ∙ d in absurd (cc)
 
-on_job : (words : List (List ℕ)) (job : Asked) (before after : FilesSeen) (v u : Verdict) → job_in words ≡ Some job → Reason job before after v → IsVerdict words before.contents u
+on_job : (words : List (List ℕ)) (job : Asked) (before after : FilesSeen) (v u : Verdict) → job_in words ≡ Some job → JobReason job before after v → IsVerdict words before.contents u
     → (v ≡ u) ⊎ CannotRead job before after v
 on_job words job before after v u is why (verdict.no_job none e) = absurd (no_job_of words job none is)
 on_job words job before after v u is why (verdict.refuses job' cs g c reason is' r held refusal e) =
@@ -261,7 +261,7 @@ on_job words job before after v u is why (verdict.does job' cs is' all p) =
     let alike : job' ≡ job = same_Some job' job (sym is' ∙ is) in
     on_done job before after v u cs why (subst (λ (j : Asked). TakesAll (Are before.contents) j cs) alike all) (subst (λ (j : Asked). Does j cs u) alike p)
 
-on_no_job : (words : List (List ℕ)) (seen : List ℕ → Option (List ℕ)) (v u : Verdict) → is_taken words ≡ false → v ≡ usage → IsVerdict words seen u → v ≡ u
+on_no_job : (words : List (List ℕ)) (seen : List ℕ → Option (List ℕ)) (v u : Verdict) → is_accepted words ≡ false → v ≡ usage → IsVerdict words seen u → v ≡ u
 on_no_job words seen v u none e (verdict.no_job none' d) = e ∙ sym d
 on_no_job words seen v u none e (verdict.refuses job cs g c reason is r held refusal d) = absurd (no_job_of words job none is)
 on_no_job words seen v u none e (verdict.does job cs is all p) = absurd (no_job_of words job none is)
@@ -275,6 +275,6 @@ by_reason : (words : List (List ℕ)) (job : Asked) (before after : FilesSeen) (
 by_reason words job before after v u is (inl e) = agreed e
 by_reason words job before after v u is (inr h) = not_read job h.0 is h.1 h.2
 
-pub decided : (words : List (List ℕ)) (before after : FilesSeen) (v u : Verdict) → Ground words before after v → IsVerdict words before.contents u → Decided words before after v u
+pub decided : (words : List (List ℕ)) (before after : FilesSeen) (v u : Verdict) → Reason words before after v → IsVerdict words before.contents u → Decided words before after v u
 decided words before after v u (no_job none e) is = agreed (on_no_job words before.contents v u none e is)
 decided words before after v u (of_job job at why) is = by_reason words job before after v u at (on_job words job before after v u at why is)

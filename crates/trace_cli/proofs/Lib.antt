@@ -9,5 +9,5 @@ pub mod Seeding
 pub mod Spelling
 pub mod Starting
 pub mod Statuses
-pub mod Stopping
+pub mod Faulting
 pub mod Taking

@@ -55,7 +55,7 @@ same_lists (x ∷ xs) (y ∷ ys) e same =
     let head = same 0 x y refl refl in
     ap (λ a. a ∷ xs) head ∙ ap (λ more. y ∷ more) rest
 
--- ## files that are taken
+-- ## files that are accepted
 
 pub takes_none : (Held : List ℕ → List ℕ → Type 0) (files : List File) → Takes Held files []
 takes_none Held files = λ k bytes e. absurd (cc)

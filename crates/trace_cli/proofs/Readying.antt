@@ -10,20 +10,20 @@ use Rattle.board_core.specs.Stands.{Stands, Stood, turns_of}
 use Rattle.outside_io.specs.Outside.{Rose}
 use Rattle.command_line.specs.CommandLine.{Asked, build, run, go, list}
 use Rattle.command_line.specs.declared.job.Detail.{Detail}
-use Rattle.trace_cli.specs.declared.stops.Halt.{Halt}
-use Rattle.trace_cli.specs.declared.stops.Halt.TheVariants as halts
+use Rattle.trace_cli.specs.declared.file_faults.NamedFault.{NamedFault}
+use Rattle.trace_cli.specs.declared.file_faults.NamedFault.TheVariants as named_faults
 use Rattle.trace_cli.specs.Contents.{Why, scenario_of, application_of}
 use Rattle.outside_io.specs.Seen.{FilesSeen, SinkSeen}
 use Rattle.trace_cli.specs.Sources.{File, image_file, script_file, files_to_build, first_of, MayBe, Takes, IsBuilt, script_in}
-use Rattle.trace_cli.specs.Stops.{HaltsAt}
-use Rattle.trace_cli.specs.Building.{IsImage, HaltsInApp}
-use Rattle.trace_cli.specs.Ready.{IsImageFile, IsSet, IsReady, Halts}
-use Rattle.trace_cli.specs.Pushed.{Pushed, whole, cut, Says, pushed, silent, IsSilent, SaysHalt}
+use Rattle.trace_cli.specs.FileFaults.{IsNamedFaultOf}
+use Rattle.trace_cli.specs.Building.{IsImage, IsNamedFaultInApp}
+use Rattle.trace_cli.specs.Ready.{IsImageFile, IsSet, IsReady, IsNamedFaultIn}
+use Rattle.trace_cli.specs.Pushed.{Pushed, whole, cut, Says, pushed, silent, IsSilent, SaysNamedFault}
 use Rattle.trace_cli.specs.Verdict.{Verdict, runs, lists, builds, refused, unread, ran, listed, built}
 use Rattle.trace_cli.specs.Answer as answer
-use Rattle.trace_cli.specs.Answer.{Reason, cannot_read, refuses, does, IsShort, HasPut, HasSpoiled, Tells, AnswersJob}
+use Rattle.trace_cli.specs.Answer.{JobReason, cannot_read, refuses, does, IsShort, HasPut, HasSpoiled, Tells, AnswersJob}
 use Rattle.trace_cli.proofs.Lists.{at_end, longer, takes_none, takes_first, takes_wider, takes_last, get_more, get_last}
-use Rattle.trace_cli.proofs.Stopping.{halts_earlier}
+use Rattle.trace_cli.proofs.Faulting.{faults_earlier}
 use Rattle.trace_cli.proofs.Taking.{as_many_sources}
 
 -- ## `run`
@@ -46,43 +46,43 @@ run_ready seen image script n detail picture b i s = record {
   turns = s.turns;
 }
 
-pub run_image_halts : (a c : FilesSeen) (image script : List ℕ) (n : ℕ) (detail : Detail) (h : Halt) → HaltsAt a c (image_file image) h → Halts (run image script n detail) a c h
-run_image_halts a c image script n detail h halts = record {
+pub run_image_faults : (a c : FilesSeen) (image script : List ℕ) (n : ℕ) (detail : Detail) (h : NamedFault) → IsNamedFaultOf a c (image_file image) h → IsNamedFaultIn (run image script n detail) a c h
+run_image_faults a c image script n detail h fault = record {
   contents = [];
-  at = record { takes = takes_none (MayBe a.contents) (image_file image ∷ script_file script ∷ []); file = image_file image; next = refl; halts = halts };
+  at = record { takes = takes_none (MayBe a.contents) (image_file image ∷ script_file script ∷ []); file = image_file image; next = refl; fault = fault };
 }
 
-pub run_script_halts : (a b c : FilesSeen) (image script : List ℕ) (n : ℕ) (detail : Detail) (picture : Picture) (h : Halt) → IsImageFile a.contents image picture → b.contents ≡ a.contents
-    → a.read_faults ≤ b.read_faults → HaltsAt b c (script_file script) h → Halts (run image script n detail) a c h
-run_script_halts a b c image script n detail picture h i seen later halts = record {
+pub run_script_faults : (a b c : FilesSeen) (image script : List ℕ) (n : ℕ) (detail : Detail) (picture : Picture) (h : NamedFault) → IsImageFile a.contents image picture → b.contents ≡ a.contents
+    → a.read_faults ≤ b.read_faults → IsNamedFaultOf b c (script_file script) h → IsNamedFaultIn (run image script n detail) a c h
+run_script_faults a b c image script n detail picture h i seen later fault = record {
   contents = i.bytes ∷ [];
   at = record {
     takes = one_file a.contents image picture (script_file script ∷ []) i;
     file = script_file script;
     next = refl;
-    halts = halts_earlier a b c (script_file script) h seen later halts;
+    fault = faults_earlier a b c (script_file script) h seen later fault;
   };
 }
 
 -- ## `list`
 
-pub list_halts : (a c : FilesSeen) (image : List ℕ) (h : Halt) → HaltsAt a c (image_file image) h → Halts (list image) a c h
-list_halts a c image h halts = record {
+pub list_faults : (a c : FilesSeen) (image : List ℕ) (h : NamedFault) → IsNamedFaultOf a c (image_file image) h → IsNamedFaultIn (list image) a c h
+list_faults a c image h fault = record {
   contents = [];
-  at = record { takes = takes_none (MayBe a.contents) (image_file image ∷ []); file = image_file image; next = refl; halts = halts };
+  at = record { takes = takes_none (MayBe a.contents) (image_file image ∷ []); file = image_file image; next = refl; fault = fault };
 }
 
-pub list_reason : (a b : FilesSeen) (image : List ℕ) (picture : Picture) → IsImageFile a.contents image picture → Reason (list image) a b (listed picture)
+pub list_reason : (a b : FilesSeen) (image : List ℕ) (picture : Picture) → IsImageFile a.contents image picture → JobReason (list image) a b (listed picture)
 list_reason a b image picture i = does (i.bytes ∷ []) (record { takes = one_file a.contents image picture [] i; all = refl }) (lists picture i.is refl)
 
 -- ## `build`
 
-pub build_reason : (a b : FilesSeen) (app out : List ℕ) (picture : Picture) → IsImage a.contents app picture → Reason (build app out) a b (built out picture)
+pub build_reason : (a b : FilesSeen) (app out : List ℕ) (picture : Picture) → IsImage a.contents app picture → JobReason (build app out) a b (built out picture)
 build_reason a b app out picture i =
     does (i.bytes ∷ i.sources) (record { takes = i.each.takes; all = i.each.all }) (builds out picture (refl, i.is) refl)
 
-pub build_halts : (a c : FilesSeen) (app out : List ℕ) (h : Halt) → HaltsInApp a c app h → Halts (build app out) a c h
-build_halts a c app out h i = record { contents = i.contents; at = i.at }
+pub build_faults : (a c : FilesSeen) (app out : List ℕ) (h : NamedFault) → IsNamedFaultInApp a c app h → IsNamedFaultIn (build app out) a c h
+build_faults a c app out h i = record { contents = i.contents; at = i.at }
 
 -- ## `go`
 
@@ -123,8 +123,8 @@ go_ready seen app script n detail picture b i s =
       turns = s.turns;
     }
 
-pub go_app_halts : (a c : FilesSeen) (app script : List ℕ) (n : ℕ) (detail : Detail) (h : Halt) → HaltsInApp a c app h → Halts (go app script n detail) a c h
-go_app_halts a c app script n detail h i =
+pub go_app_faults : (a c : FilesSeen) (app script : List ℕ) (n : ℕ) (detail : Detail) (h : NamedFault) → IsNamedFaultInApp a c app h → IsNamedFaultIn (go app script n detail) a c h
+go_app_faults a c app script n detail h i =
     let files = files_to_build app (first_of i.contents) in
     record {
       contents = i.contents;
@@ -132,13 +132,13 @@ go_app_halts a c app script n detail h i =
         takes = takes_wider (MayBe a.contents) files (script_file script ∷ []) i.contents i.at.takes;
         file = i.at.file;
         next = get_more files (script_file script ∷ []) (length i.contents) i.at.file i.at.next;
-        halts = i.at.halts;
+        fault = i.at.fault;
       };
     }
 
-pub go_script_halts : (a b c : FilesSeen) (app script : List ℕ) (n : ℕ) (detail : Detail) (picture : Picture) (h : Halt) → IsImage a.contents app picture → b.contents ≡ a.contents
-    → a.read_faults ≤ b.read_faults → HaltsAt b c (script_file script) h → Halts (go app script n detail) a c h
-go_script_halts a b c app script n detail picture h i seen later halts =
+pub go_script_faults : (a b c : FilesSeen) (app script : List ℕ) (n : ℕ) (detail : Detail) (picture : Picture) (h : NamedFault) → IsImage a.contents app picture → b.contents ≡ a.contents
+    → a.read_faults ≤ b.read_faults → IsNamedFaultOf b c (script_file script) h → IsNamedFaultIn (go app script n detail) a c h
+go_script_faults a b c app script n detail picture h i seen later fault =
     let files = files_to_build app i.bytes in
     record {
       contents = i.bytes ∷ i.sources;
@@ -146,7 +146,7 @@ go_script_halts a b c app script n detail picture h i seen later halts =
         takes = takes_wider (MayBe a.contents) files (script_file script ∷ []) (i.bytes ∷ i.sources) i.each.takes;
         file = script_file script;
         next = files_then files (script_file script) (length (i.bytes ∷ i.sources)) i.each.all;
-        halts = halts_earlier a b c (script_file script) h seen later halts;
+        fault = faults_earlier a b c (script_file script) h seen later fault;
       };
     }
 
@@ -162,22 +162,22 @@ pub tells_pushed : (a b : FilesSeen) (w w' : SinkSeen) (v : Verdict) (r : ℕ) �
 tells_pushed a b w w' v r put (whole is text) = answer.whole is put text
 tells_pushed a b w w' v r put (cut is rose front) = answer.cut is rose put front
 
-pub answers_pushed : (job : Asked) (a b : FilesSeen) (w w' : SinkSeen) (v : Verdict) (r : ℕ) → b.contents ≡ a.contents → v.put ≡ None → Reason job a b v → Pushed w w' v r → AnswersJob job a b w w' r
+pub answers_pushed : (job : Asked) (a b : FilesSeen) (w w' : SinkSeen) (v : Verdict) (r : ℕ) → b.contents ≡ a.contents → v.put ≡ None → JobReason job a b v → Pushed w w' v r → AnswersJob job a b w w' r
 answers_pushed job a b w w' v r same none why p = inr (v, why, tells_pushed a b w w' v r (put_nothing a b v same none) p)
 
-pub answers_said : (job : Asked) (a b : FilesSeen) (w w' : SinkSeen) (v : Verdict) (r : ℕ) → b.contents ≡ a.contents → v.put ≡ None → Reason job a b v → Says w w' v r → AnswersJob job a b w w' r
+pub answers_said : (job : Asked) (a b : FilesSeen) (w w' : SinkSeen) (v : Verdict) (r : ℕ) → b.contents ≡ a.contents → v.put ≡ None → JobReason job a b v → Says w w' v r → AnswersJob job a b w w' r
 answers_said job a b w w' v r same none why (pushed p) = answers_pushed job a b w w' v r same none why p
 answers_said job a b w w' v r same none why (silent s) = inl (silent_short a b w w' r same s)
 
-pub answers_halt : (job : Asked) (a b : FilesSeen) (w w' : SinkSeen) (h : Halt) (r : ℕ) → b.contents ≡ a.contents → Halts job a b h → SaysHalt w w' h r → AnswersJob job a b w w' r
-answers_halt job a b w w' halts.Memory r same h s = inl (silent_short a b w w' r same s)
-answers_halt job a b w w' (halts.CannotRead name) r same h s =
-    let at = h.at.halts in
+pub answers_named_fault : (job : Asked) (a b : FilesSeen) (w w' : SinkSeen) (h : NamedFault) (r : ℕ) → b.contents ≡ a.contents → IsNamedFaultIn job a b h → SaysNamedFault w w' h r → AnswersJob job a b w w' r
+answers_named_fault job a b w w' named_faults.Memory r same h s = inl (silent_short a b w w' r same s)
+answers_named_fault job a b w w' (named_faults.CannotRead name) r same h s =
+    let at = h.at.fault in
     let file = h.at.file in
     let why = cannot_read file (record { contents = h.contents; reached = record { takes = h.at.takes; next = h.at.next }; rose = at.1.rose; named = at.1.named }) (ap unread at.0) in
     answers_said job a b w w' (unread (string_bytes name)) r same refl why s
-answers_halt job a b w w' (halts.Refused name cause place) r same h s =
-    let at = h.at.halts in
+answers_named_fault job a b w w' (named_faults.Refused name cause place) r same h s =
+    let at = h.at.fault in
     let file = h.at.file in
     let reason : Why = (cause, string_bytes place) in
     let why = refuses file reason (record { contents = h.contents; reached = record { takes = h.at.takes; next = h.at.next }; refused = at.1 }) (ap (λ (n : List ℕ). refused n reason) at.0) in

@@ -9,12 +9,12 @@ use Rattle.thumb_asm.specs.declared.Cause.{Cause}
 use Rattle.asm_laws.proofs.Sized.{image_sized}
 use Rattle.image_build.specs.Layout.{flash_base, flash_needed, ram_needed, task_at}
 use Rattle.image_build.specs.Built.{given}
-use Rattle.image_build.specs.Building.{HasRoom, LacksRoom, RefusesSource, IsTaken, source_cause}
+use Rattle.image_build.specs.Building.{HasRoom, LacksRoom, RefusesSource, IsAcceptedSource, source_cause}
 use Rattle.image_build.specs.declared.fault.BuildFault.TheVariants as fault
 use Rattle.image_format.specs.Picture.{Picture, image_or_fault}
 use Rattle.run_script.specs.Scripts.{ScriptData, script_or_fault}
 use Rattle.trace_cli.specs.Contents.{Why, or_later, at_number, script_in, script_refusal, script_of, at_line, fault_in, app_in, image_in, image_refusal, picture_of, application_of, app_refusal, room_refusal, source_refusal, code_refusal, code_length}
-use Rattle.trace_cli.proofs.Stopping.{short}
+use Rattle.trace_cli.proofs.Faulting.{short}
 
 -- ## an image
 
@@ -91,7 +91,7 @@ source_too_long app i source task bytes le h =
     let code : code_refusal app i source ≡ Some (at_number (15, code_length app i source)) = rw above refl in
     by_cause app i source None le long.assembled.accepted ∙ code ∙ ap (λ n. Some (at_number (15, n))) (sym (long.is ∙ size))
 
-pub source_taken : (app : AppData) (i : ℕ) (source : List ℕ) → length source ≤ 2097152 → IsTaken app i source → source_refusal app i source ≡ None
+pub source_taken : (app : AppData) (i : ℕ) (source : List ℕ) → length source ≤ 2097152 → IsAcceptedSource app i source → source_refusal app i source ≡ None
 source_taken app i source le h =
     let size : length h.code ≡ code_length app i source = image_sized (lines_of source) (flash_base app i) (given app i) h.code h.labels h.assembled in
     let fits : ltb (task_at app i).flash (code_length app i source) ≡ false = let at_most = h.fits in grind (arith, nat_tests) in

@@ -109,8 +109,8 @@ not_the_image seen seen' app out script f c why r same held refusal =
     let there : seen' out ≡ Some c = subst (λ (g : File). seen' g.name ≡ Some c) (sym same) held in
     let bytes : c ≡ spelling r.image = r.put c there in
     let mine : image_refusal c ≡ Some why = subst (λ (g : File). g.refusal c ≡ Some why) (sym same) refusal in
-    let taken = spelling_taken r.image r.has.is.sound in
-    no_refusal (image_file out) c why mine (ap image_refusal bytes ∙ taken.0)
+    let accepted_sources = spelling_taken r.image r.has.is.sound in
+    no_refusal (image_file out) c why mine (ap image_refusal bytes ∙ accepted_sources.0)
 
 after_refusal : (words : List (List ℕ)) (seen seen' : List ℕ → Option (List ℕ)) (app out script : List ℕ) (n : ℕ) (detail : Detail) (cs : List (List ℕ)) (f : File) (c : List ℕ) (why : Why) (w : Verdict)
     → job_in words ≡ Some (go app script n detail) → Rebuilt seen seen' app out script → slice_get (image_file out ∷ script_file script ∷ []) (length cs) ≡ Some f
@@ -148,8 +148,8 @@ after_run words seen seen' app out script n detail (c ∷ s ∷ []) w at r all p
     let first = all.takes 0 c refl in
     let second = all.takes 1 s refl in
     let bytes : c ≡ spelling r.image = r.put c (held_of seen' (image_file out) first.0 c first.1 first.2) in
-    let taken = spelling_taken r.image r.has.is.sound in
-    let image : picture_of c ≡ r.image = ap picture_of bytes ∙ sym taken.1 in
+    let accepted_sources = spelling_taken r.image r.has.is.sound in
+    let image : picture_of c ≡ r.image = ap picture_of bytes ∙ sym accepted_sources.1 in
     let held : seen script ≡ Some s = sym r.script_stays ∙ held_of seen' (script_file script) second.0 s second.1 second.2 in
     go_runs words seen app script n detail r.image s w at r.has held (accepted_of (script_file script) second.0 s second.1 second.3) (ran_of out script n detail r.image c s w image p)
 after_run words seen seen' app out script n detail (c ∷ s ∷ t ∷ more) w at r all p = let two = all.all in absurd (omega arith)

@@ -21,7 +21,7 @@ use Rattle.trace_cli.specs.Sources.{MayBe}
 use Rattle.trace_cli.specs.Ready.{IsSampleReady}
 use Rattle.trace_cli.specs.Pushed.{Pushed}
 use Rattle.trace_cli.specs.Verdict.{samples, sampled}
-use Rattle.trace_cli.specs.Answer.{Reason, does, AnswersJob}
+use Rattle.trace_cli.specs.Answer.{JobReason, does, AnswersJob}
 use Rattle.trace_cli.proofs.Lists.{takes_none}
 use Rattle.trace_cli.proofs.Readying.{answers_pushed}
 
@@ -44,11 +44,11 @@ refused_as_sample seed app sources f is are law h =
     law seed f (subst (λ (ss : List (List ℕ)). Refuses (sample_app seed) ss f) are (subst (λ (a : AppData). Refuses a sources f) is h))
 
 pub sample_ready : (seed : ℕ) (app : AppData) (sources : List (List ℕ)) (script : ScriptData) (image : Picture) (b : Board) → app ≡ sample_app seed → sources ≡ sample_sources seed
-    → script ≡ sample_script seed → Built app sources image → Stands (opened.scenario_of image script) b (start (opened.setup_of image)) → turns_of b ≡ 0 → IsSampleReady seed b
+    → script ≡ sample_script seed → Built app sources image → Stands (opened.scenario_of image script) b (start (opened.setup_of_image image)) → turns_of b ≡ 0 → IsSampleReady seed b
 sample_ready seed app sources script image b is are seen built stands turns = record {
   image = image;
   built = subst (λ (ss : List (List ℕ)). Built (sample_app seed) ss image) are (subst (λ (a : AppData). Built a sources image) is built);
-  stands = subst (λ (s : ScriptData). Stands (opened.scenario_of image s) b (start (opened.setup_of image))) seen stands;
+  stands = subst (λ (s : ScriptData). Stands (opened.scenario_of image s) b (start (opened.setup_of_image image))) seen stands;
   turns = turns;
 }
 
@@ -57,7 +57,7 @@ sample_stood seed b h = ((sample_scenario seed h.image, start (sample_scenario s
 
 -- ## the answer
 
-sample_reason : (a b : FilesSeen) (seed n : ℕ) (bd : Board) (r : IsSampleReady seed bd) → Reason (sample seed n) a b (sampled n (sample_scenario seed r.image))
+sample_reason : (a b : FilesSeen) (seed n : ℕ) (bd : Board) (r : IsSampleReady seed bd) → JobReason (sample seed n) a b (sampled n (sample_scenario seed r.image))
 sample_reason a b seed n bd r = does [] (record { takes = takes_none (MayBe a.contents) []; all = refl })
     (samples seed n (sample_scenario seed r.image) (record { is = refl; image = r.image; built = r.built; scenario = refl }) refl)
 

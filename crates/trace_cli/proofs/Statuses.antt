@@ -3,16 +3,16 @@ use Rattle.std.proofs.Common.{◌≡◌, ◌≢◌, ℕ, ◌≤◌, ◌⊎◌, B
 use Rattle.std.specs.Io.KnownBytes.{Appends}
 use Rattle.outside_io.specs.Outside.{Rose}
 use Rattle.image_format.specs.Picture.{Picture, spelling}
-use Rattle.board_model.specs.declared.outcomes.Level.TheVariants.{Brief}
+use Rattle.board_model.specs.declared.outcomes.Level.TheVariants.{Calls}
 use Rattle.board_model.specs.Script.{Scenario}
 use Rattle.board_model.specs.declared.outcomes.End.{End}
 use Rattle.board_model.specs.declared.outcomes.End.TheVariants.{Bound, Still, Supervisor}
-use Rattle.command_line.specs.CommandLine.{Asked, build, run, go, list, sample, is_taken, job_of}
+use Rattle.command_line.specs.CommandLine.{Asked, build, run, go, list, sample, is_accepted, job_of}
 use Rattle.outside_io.specs.Seen.{FilesSeen, SinkSeen}
 use Rattle.trace_cli.specs.Words.{job_in, out_of}
 use Rattle.trace_cli.specs.Sources.{IsBuild, IsSample}
 use Rattle.trace_cli.specs.Verdict.{Verdict, IsVerdict, Does, runs, lists, builds, samples, usage, usage_line, refused, unread, ran, listed, built, sampled, run_of, level_of, status_of}
-use Rattle.trace_cli.specs.Answer.{Reason, cannot_read, refuses, does, Ground, no_job, of_job, HasPut, HasSpoiled, Tells, whole, cut, spoiled, short, AnswersJob, Answers, HasSampled, HasPlayed, HasDone, HasRefused, HasUnread, HasFront, Answered, IsComplete}
+use Rattle.trace_cli.specs.Answer.{JobReason, cannot_read, refuses, does, Reason, no_job, of_job, HasPut, HasSpoiled, Tells, whole, cut, spoiled, short, AnswersJob, Answers, HasSampled, HasPlayed, HasDone, HasRefused, HasUnread, HasFront, Answered, IsComplete}
 use Rattle.trace_cli.specs.Pushed as seen
 use Rattle.trace_cli.specs.Pushed.{Pushed, Says, pushed, silent}
 use Rattle.trace_cli.proofs.Deciding.{Decided, agreed, not_read, decided}
@@ -44,10 +44,10 @@ completed words a b w w' u r no_read no_put no_push (inr h) = absurd (no_read h.
 -- ## the answer to words by the answer to their job
 
 pub by_job : (words : List (List ℕ)) (job : Asked) (a b : FilesSeen) (w w' : SinkSeen) (r : ℕ) →
-    is_taken words ≡ true → job_of words ≡ Some job → AnswersJob job a b w w' r → Answers words a b w w' r
-by_job words job a b w w' r taken is (inl s) = inl s
-by_job words job a b w w' r taken is (inr h) =
-    let in_words : job_in words ≡ Some job = ap (λ (b : Bool). cond b (job_of words) None) taken ∙ is in
+    is_accepted words ≡ true → job_of words ≡ Some job → AnswersJob job a b w w' r → Answers words a b w w' r
+by_job words job a b w w' r accepted_sources is (inl s) = inl s
+by_job words job a b w w' r accepted_sources is (inr h) =
+    let in_words : job_in words ≡ Some job = ap (λ (b : Bool). cond b (job_of words) None) accepted_sources ∙ is in
     inr (h.0, of_job job in_words h.1, h.2)
 
 -- ## statuses of verdicts
@@ -69,13 +69,13 @@ done_status : (job : Asked) (cs : List (List ℕ)) (v : Verdict) → Does job cs
 done_status job cs v (runs n m x p e) = end_status (run_of (level_of m) n x).end v.status (ap (λ (u : Verdict). u.status) e)
 done_status job cs v (lists i p e) = inl (ap (λ (u : Verdict). u.status) e)
 done_status job cs v (builds o i p e) = inl (ap (λ (u : Verdict). u.status) e)
-done_status job cs v (samples s n x p e) = end_status (run_of Brief n x).end v.status (ap (λ (u : Verdict). u.status) e)
+done_status job cs v (samples s n x p e) = end_status (run_of Calls n x).end v.status (ap (λ (u : Verdict). u.status) e)
 
 not_done : (v : Verdict) (n : ℕ) → (v.status ≡ 0) ⊎ (v.status ≡ 6) → v.status ≡ n → (n ≡ 0 → ⊥) → (n ≡ 6 → ⊥) → ⊥
 not_done v n (inl z) e not0 not6 = not0 (sym e ∙ z)
 not_done v n (inr s) e not0 not6 = not6 (sym e ∙ s)
 
-job_status : (job : Asked) (a b : FilesSeen) (v : Verdict) → Reason job a b v → (v.status ≤ 3) ⊎ (v.status ≡ 6)
+job_status : (job : Asked) (a b : FilesSeen) (v : Verdict) → JobReason job a b v → (v.status ≤ 3) ⊎ (v.status ≡ 6)
 job_status job a b v (cannot_read f h is) = let s : v.status ≡ 3 = ap (λ (u : Verdict). u.status) is in inl (omega arith)
 job_status job a b v (refuses f why h is) = let s : v.status ≡ 1 = ap (λ (u : Verdict). u.status) is in inl (omega arith)
 job_status job a b v (does cs all p) = by (done_status job cs v p) where
@@ -83,9 +83,9 @@ job_status job a b v (does cs all p) = by (done_status job cs v p) where
   by (inl z) = inl (omega arith)
   by (inr s) = inr s
 
-ground_status : (words : List (List ℕ)) (a b : FilesSeen) (v : Verdict) → Ground words a b v → (v.status ≤ 3) ⊎ (v.status ≡ 6)
-ground_status words a b v (no_job none is) = let s : v.status ≡ 2 = ap (λ (u : Verdict). u.status) is in inl (omega arith)
-ground_status words a b v (of_job job at why) = job_status job a b v why
+reason_status : (words : List (List ℕ)) (a b : FilesSeen) (v : Verdict) → Reason words a b v → (v.status ≤ 3) ⊎ (v.status ≡ 6)
+reason_status words a b v (no_job none is) = let s : v.status ≡ 2 = ap (λ (u : Verdict). u.status) is in inl (omega arith)
+reason_status words a b v (of_job job at why) = job_status job a b v why
 
 not_four_or_five : (v : Verdict) → (v.status ≤ 3) ⊎ (v.status ≡ 6) → 4 ≤ v.status → v.status ≤ 5 → ⊥
 not_four_or_five v (inl few) low high = omega arith
@@ -97,8 +97,8 @@ at_most_six v (inr six) = omega arith
 
 -- ## by status
 
-known_by : (words : List (List ℕ)) (a b : FilesSeen) (w w' : SinkSeen) (v : Verdict) (r : ℕ) → Ground words a b v → Tells a b w w' v r → r ≤ 6
-known_by words a b w w' v r g (whole is put text) = let most = at_most_six v (ground_status words a b v g) in omega arith
+known_by : (words : List (List ℕ)) (a b : FilesSeen) (w w' : SinkSeen) (v : Verdict) (r : ℕ) → Reason words a b v → Tells a b w w' v r → r ≤ 6
+known_by words a b w w' v r g (whole is put text) = let most = at_most_six v (reason_status words a b v g) in omega arith
 known_by words a b w w' v r g (cut is rose put front) = omega arith
 known_by words a b w w' v r g (spoiled is rose left same) = omega arith
 known_by words a b w w' v r g (short s) = let is = s.status in omega arith
@@ -107,10 +107,10 @@ pub known : (words : List (List ℕ)) (a b : FilesSeen) (w w' : SinkSeen) (r : �
 known words a b w w' r (inl s) = let is = s.status in omega arith
 known words a b w w' r (inr h) = known_by words a b w w' h.0 r h.1 h.2
 
-cut_by : (words : List (List ℕ)) (a b : FilesSeen) (w w' : SinkSeen) (v : Verdict) (r : ℕ) → r ≡ 4 → Ground words a b v → Tells a b w w' v r → HasFront words a b w w'
-cut_by words a b w w' v r e g (whole is put text) = absurd (not_four_or_five v (ground_status words a b v g) (omega arith) (omega arith))
-cut_by words a b w w' v r e g (cut is rose put front) = record { verdict = v; ground = g; front = inl (rose, put, front) }
-cut_by words a b w w' v r e g (spoiled is rose left same) = record { verdict = v; ground = g; front = inr (rose, left, same) }
+cut_by : (words : List (List ℕ)) (a b : FilesSeen) (w w' : SinkSeen) (v : Verdict) (r : ℕ) → r ≡ 4 → Reason words a b v → Tells a b w w' v r → HasFront words a b w w'
+cut_by words a b w w' v r e g (whole is put text) = absurd (not_four_or_five v (reason_status words a b v g) (omega arith) (omega arith))
+cut_by words a b w w' v r e g (cut is rose put front) = record { verdict = v; reason = g; front = inl (rose, put, front) }
+cut_by words a b w w' v r e g (spoiled is rose left same) = record { verdict = v; reason = g; front = inr (rose, left, same) }
 cut_by words a b w w' v r e g (short s) = let is = s.status in absurd (omega arith)
 
 pub was_cut : (words : List (List ℕ)) (a b : FilesSeen) (w w' : SinkSeen) (r : ℕ) → Answers words a b w w' r → r ≡ 4 → HasFront words a b w w'
@@ -120,8 +120,8 @@ was_cut words a b w w' r (inr h) e = cut_by words a b w w' h.0 r e h.1 h.2
 abbrev Nothing : FilesSeen → FilesSeen → SinkSeen → SinkSeen → Type 0
 Nothing a b w w' = (w'.written ≡ w.written) × (w'.faults ≡ w.faults) × (b.contents ≡ a.contents)
 
-short_by : (words : List (List ℕ)) (a b : FilesSeen) (w w' : SinkSeen) (v : Verdict) (r : ℕ) → r ≡ 5 → Ground words a b v → Tells a b w w' v r → Nothing a b w w'
-short_by words a b w w' v r e g (whole is put text) = absurd (not_four_or_five v (ground_status words a b v g) (omega arith) (omega arith))
+short_by : (words : List (List ℕ)) (a b : FilesSeen) (w w' : SinkSeen) (v : Verdict) (r : ℕ) → r ≡ 5 → Reason words a b v → Tells a b w w' v r → Nothing a b w w'
+short_by words a b w w' v r e g (whole is put text) = absurd (not_four_or_five v (reason_status words a b v g) (omega arith) (omega arith))
 short_by words a b w w' v r e g (cut is rose put front) = absurd (omega arith)
 short_by words a b w w' v r e g (spoiled is rose left same) = absurd (omega arith)
 short_by words a b w w' v r e g (short s) = (s.written, s.faults, s.files)
@@ -133,13 +133,13 @@ was_short words a b w w' r (inr h) e = short_by words a b w w' h.0 r e h.1 h.2
 -- told whole, under another status than 4 and 5
 record IsWhole (words : List (List ℕ)) (a b : FilesSeen) (w w' : SinkSeen) (r : ℕ) : Type 0 where
   verdict : Verdict
-  ground : Ground words a b verdict
+  reason : Reason words a b verdict
   status : verdict.status ≡ r
   put : HasPut a.contents b.contents verdict.put
   text : Appends w.written w'.written verdict.text
 
-whole_by : (words : List (List ℕ)) (a b : FilesSeen) (w w' : SinkSeen) (v : Verdict) (r : ℕ) → (r ≡ 4 → ⊥) → (r ≡ 5 → ⊥) → Ground words a b v → Tells a b w w' v r → IsWhole words a b w w' r
-whole_by words a b w w' v r not4 not5 g (whole is put text) = record { verdict = v; ground = g; status = sym is; put = put; text = text }
+whole_by : (words : List (List ℕ)) (a b : FilesSeen) (w w' : SinkSeen) (v : Verdict) (r : ℕ) → (r ≡ 4 → ⊥) → (r ≡ 5 → ⊥) → Reason words a b v → Tells a b w w' v r → IsWhole words a b w w' r
+whole_by words a b w w' v r not4 not5 g (whole is put text) = record { verdict = v; reason = g; status = sym is; put = put; text = text }
 whole_by words a b w w' v r not4 not5 g (cut is rose put front) = absurd (not4 is)
 whole_by words a b w w' v r not4 not5 g (spoiled is rose left same) = absurd (not4 is)
 whole_by words a b w w' v r not4 not5 g (short s) = absurd (not5 s.status)
@@ -154,7 +154,7 @@ same_text w w' v u e t = let P : Verdict → Type 0 = λ x. Appends w.written w'
 same_put : (a b : FilesSeen) (v u : Verdict) → v ≡ u → HasPut a.contents b.contents v.put → HasPut a.contents b.contents u.put
 same_put a b v u e p = let P : Verdict → Type 0 = λ x. HasPut a.contents b.contents x.put in subst P e p
 
-refused_by : (words : List (List ℕ)) (a b : FilesSeen) (w w' : SinkSeen) (v : Verdict) → v.status ≡ 1 → Appends w.written w'.written v.text → Ground words a b v → HasRefused words a.contents w w'
+refused_by : (words : List (List ℕ)) (a b : FilesSeen) (w w' : SinkSeen) (v : Verdict) → v.status ≡ 1 → Appends w.written w'.written v.text → Reason words a b v → HasRefused words a.contents w w'
 refused_by words a b w w' v e t (no_job none is) = let s : v.status ≡ 2 = ap (λ (u : Verdict). u.status) is in absurd (omega arith)
 refused_by words a b w w' v e t (of_job job at (cannot_read f h is)) = let s : v.status ≡ 3 = ap (λ (u : Verdict). u.status) is in absurd (omega arith)
 refused_by words a b w w' v e t (of_job job at (refuses f why h is)) =
@@ -164,21 +164,21 @@ refused_by words a b w w' v e t (of_job job at (does cs all p)) = absurd (not_do
 pub was_refused : (words : List (List ℕ)) (a b : FilesSeen) (w w' : SinkSeen) (r : ℕ) → Answers words a b w w' r → r ≡ 1 → HasRefused words a.contents w w'
 was_refused words a b w w' r h e =
     let t = seen_whole words a b w w' r h (λ is. omega arith) (λ is. omega arith) in
-    refused_by words a b w w' t.verdict (t.status ∙ e) t.text t.ground
+    refused_by words a b w w' t.verdict (t.status ∙ e) t.text t.reason
 
-no_command_by : (words : List (List ℕ)) (a b : FilesSeen) (w w' : SinkSeen) (v : Verdict) → v.status ≡ 2 → Appends w.written w'.written v.text → Ground words a b v
-    → (is_taken words ≡ false) × Appends w.written w'.written usage_line
+no_command_by : (words : List (List ℕ)) (a b : FilesSeen) (w w' : SinkSeen) (v : Verdict) → v.status ≡ 2 → Appends w.written w'.written v.text → Reason words a b v
+    → (is_accepted words ≡ false) × Appends w.written w'.written usage_line
 no_command_by words a b w w' v e t (no_job none is) = (none, same_text w w' v usage is t)
 no_command_by words a b w w' v e t (of_job job at (cannot_read f h is)) = let s : v.status ≡ 3 = ap (λ (u : Verdict). u.status) is in absurd (omega arith)
 no_command_by words a b w w' v e t (of_job job at (refuses f why h is)) = let s : v.status ≡ 1 = ap (λ (u : Verdict). u.status) is in absurd (omega arith)
 no_command_by words a b w w' v e t (of_job job at (does cs all p)) = absurd (not_done v 2 (done_status job cs v p) e (λ z. omega arith) (λ s. omega arith))
 
-pub was_no_command : (words : List (List ℕ)) (a b : FilesSeen) (w w' : SinkSeen) (r : ℕ) → Answers words a b w w' r → r ≡ 2 → (is_taken words ≡ false) × Appends w.written w'.written usage_line
+pub was_no_command : (words : List (List ℕ)) (a b : FilesSeen) (w w' : SinkSeen) (r : ℕ) → Answers words a b w w' r → r ≡ 2 → (is_accepted words ≡ false) × Appends w.written w'.written usage_line
 was_no_command words a b w w' r h e =
     let t = seen_whole words a b w w' r h (λ is. omega arith) (λ is. omega arith) in
-    no_command_by words a b w w' t.verdict (t.status ∙ e) t.text t.ground
+    no_command_by words a b w w' t.verdict (t.status ∙ e) t.text t.reason
 
-unread_by : (words : List (List ℕ)) (a b : FilesSeen) (w w' : SinkSeen) (v : Verdict) → v.status ≡ 3 → Appends w.written w'.written v.text → Ground words a b v → HasUnread words a b w w'
+unread_by : (words : List (List ℕ)) (a b : FilesSeen) (w w' : SinkSeen) (v : Verdict) → v.status ≡ 3 → Appends w.written w'.written v.text → Reason words a b v → HasUnread words a b w w'
 unread_by words a b w w' v e t (no_job none is) = let s : v.status ≡ 2 = ap (λ (u : Verdict). u.status) is in absurd (omega arith)
 unread_by words a b w w' v e t (of_job job at (cannot_read f h is)) =
     record { job = job; command = at; file = f; is = h; line = same_text w w' v (unread f.name) is t }
@@ -188,7 +188,7 @@ unread_by words a b w w' v e t (of_job job at (does cs all p)) = absurd (not_don
 pub was_unread : (words : List (List ℕ)) (a b : FilesSeen) (w w' : SinkSeen) (r : ℕ) → Answers words a b w w' r → r ≡ 3 → HasUnread words a b w w'
 was_unread words a b w w' r h e =
     let t = seen_whole words a b w w' r h (λ is. omega arith) (λ is. omega arith) in
-    unread_by words a b w w' t.verdict (t.status ∙ e) t.text t.ground
+    unread_by words a b w w' t.verdict (t.status ∙ e) t.text t.reason
 
 has_sampled : (words : List (List ℕ)) (w w' : SinkSeen) (job : Asked) (s n : ℕ) (x : Scenario) (v : Verdict) (r : ℕ) → job_in words ≡ Some job → IsSample job s n x → v ≡ sampled n x
     → v.status ≡ r → Appends w.written w'.written v.text → HasSampled words w w' r
@@ -203,7 +203,7 @@ has_sampled words w w' job s n x v r at h is e t = record {
   text = same_text w w' v (sampled n x) is t;
 }
 
-done_by : (words : List (List ℕ)) (a b : FilesSeen) (w w' : SinkSeen) (v : Verdict) → v.status ≡ 0 → HasPut a.contents b.contents v.put → Appends w.written w'.written v.text → Ground words a b v → HasDone words a b w w'
+done_by : (words : List (List ℕ)) (a b : FilesSeen) (w w' : SinkSeen) (v : Verdict) → v.status ≡ 0 → HasPut a.contents b.contents v.put → Appends w.written w'.written v.text → Reason words a b v → HasDone words a b w w'
 done_by words a b w w' v e p t (no_job none is) = let s : v.status ≡ 2 = ap (λ (u : Verdict). u.status) is in absurd (omega arith)
 done_by words a b w w' v e p t (of_job job at (cannot_read f h is)) = let s : v.status ≡ 3 = ap (λ (u : Verdict). u.status) is in absurd (omega arith)
 done_by words a b w w' v e p t (of_job job at (refuses f why h is)) = let s : v.status ≡ 1 = ap (λ (u : Verdict). u.status) is in absurd (omega arith)
@@ -237,9 +237,9 @@ done_by words a b w w' v e p t (of_job job at (does cs all (builds o i h is))) =
 pub was_done : (words : List (List ℕ)) (a b : FilesSeen) (w w' : SinkSeen) (r : ℕ) → Answers words a b w w' r → r ≡ 0 → HasDone words a b w w'
 was_done words a b w w' r h e =
     let t = seen_whole words a b w w' r h (λ is. omega arith) (λ is. omega arith) in
-    done_by words a b w w' t.verdict (t.status ∙ e) t.put t.text t.ground
+    done_by words a b w w' t.verdict (t.status ∙ e) t.put t.text t.reason
 
-ran_by : (words : List (List ℕ)) (a b : FilesSeen) (w w' : SinkSeen) (v : Verdict) → v.status ≡ 6 → Appends w.written w'.written v.text → Ground words a b v → HasPlayed words a.contents w w' 6
+ran_by : (words : List (List ℕ)) (a b : FilesSeen) (w w' : SinkSeen) (v : Verdict) → v.status ≡ 6 → Appends w.written w'.written v.text → Reason words a b v → HasPlayed words a.contents w w' 6
 ran_by words a b w w' v e t (no_job none is) = let s : v.status ≡ 2 = ap (λ (u : Verdict). u.status) is in absurd (omega arith)
 ran_by words a b w w' v e t (of_job job at (cannot_read f h is)) = let s : v.status ≡ 3 = ap (λ (u : Verdict). u.status) is in absurd (omega arith)
 ran_by words a b w w' v e t (of_job job at (refuses f why h is)) = let s : v.status ≡ 1 = ap (λ (u : Verdict). u.status) is in absurd (omega arith)
@@ -262,7 +262,7 @@ ran_by words a b w w' v e t (of_job job at (does cs all (builds o i h is))) = le
 pub was_ran : (words : List (List ℕ)) (a b : FilesSeen) (w w' : SinkSeen) (r : ℕ) → Answers words a b w w' r → r ≡ 6 → HasPlayed words a.contents w w' 6
 was_ran words a b w w' r h e =
     let t = seen_whole words a b w w' r h (λ is. omega arith) (λ is. omega arith) in
-    ran_by words a b w w' t.verdict (t.status ∙ e) t.text t.ground
+    ran_by words a b w w' t.verdict (t.status ∙ e) t.text t.reason
 
 -- ## which file is changed, and when
 
@@ -278,14 +278,14 @@ built_out (go app script steps detail) cs o i p = absurd p
 built_out (list image) cs o i p = absurd p
 built_out (sample seed steps) cs o i p = absurd p
 
-ground_puts : (words : List (List ℕ)) (a b : FilesSeen) (v : Verdict) → Ground words a b v → Puts words v
-ground_puts words a b v (no_job none is) = puts_none (ap (λ (u : Verdict). u.put) is)
-ground_puts words a b v (of_job job at (cannot_read f h is)) = puts_none (ap (λ (u : Verdict). u.put) is)
-ground_puts words a b v (of_job job at (refuses f why h is)) = puts_none (ap (λ (u : Verdict). u.put) is)
-ground_puts words a b v (of_job job at (does cs all (runs n m x h is))) = puts_none (ap (λ (u : Verdict). u.put) is)
-ground_puts words a b v (of_job job at (does cs all (lists i h is))) = puts_none (ap (λ (u : Verdict). u.put) is)
-ground_puts words a b v (of_job job at (does cs all (samples s n x h is))) = puts_none (ap (λ (u : Verdict). u.put) is)
-ground_puts words a b v (of_job job at (does cs all (builds o i h is))) =
+reason_puts : (words : List (List ℕ)) (a b : FilesSeen) (v : Verdict) → Reason words a b v → Puts words v
+reason_puts words a b v (no_job none is) = puts_none (ap (λ (u : Verdict). u.put) is)
+reason_puts words a b v (of_job job at (cannot_read f h is)) = puts_none (ap (λ (u : Verdict). u.put) is)
+reason_puts words a b v (of_job job at (refuses f why h is)) = puts_none (ap (λ (u : Verdict). u.put) is)
+reason_puts words a b v (of_job job at (does cs all (runs n m x h is))) = puts_none (ap (λ (u : Verdict). u.put) is)
+reason_puts words a b v (of_job job at (does cs all (lists i h is))) = puts_none (ap (λ (u : Verdict). u.put) is)
+reason_puts words a b v (of_job job at (does cs all (samples s n x h is))) = puts_none (ap (λ (u : Verdict). u.put) is)
+reason_puts words a b v (of_job job at (does cs all (builds o i h is))) =
     puts_out o (spelling i) (ap (λ (u : Verdict). u.put) is) (ap out_of at ∙ built_out job cs o i h) (ap (λ (u : Verdict). u.status) is)
 
 put_elsewhere : (seen seen' : List ℕ → Option (List ℕ)) (words : List (List ℕ)) (v : Verdict) (name : List ℕ) → Puts words v → HasPut seen seen' v.put
@@ -316,7 +316,7 @@ others_by words a b w w' v r name g (short s) not = ap (λ (t : List ℕ → Opt
 
 pub others : (words : List (List ℕ)) (a b : FilesSeen) (w w' : SinkSeen) (r : ℕ) (name : List ℕ) → Answers words a b w w' r → out_of (job_in words) ≢ Some name → b.contents name ≡ a.contents name
 others words a b w w' r name (inl s) not = ap (λ (t : List ℕ → Option (List ℕ)). t name) s.files
-others words a b w w' r name (inr h) not = others_by words a b w w' h.0 r name (ground_puts words a b h.0 h.1) h.2 not
+others words a b w w' r name (inr h) not = others_by words a b w w' h.0 r name (reason_puts words a b h.0 h.1) h.2 not
 
 put_none : (seen seen' : List ℕ → Option (List ℕ)) (words : List (List ℕ)) (v : Verdict) (r : ℕ) → r ≡ v.status → r ≢ 0 → Puts words v → HasPut seen seen' v.put → seen' ≡ seen
 put_none seen seen' words v r is not (puts_none e) p =
@@ -332,14 +332,14 @@ kept_by words a b w w' v r not0 not4 g (short s) = s.files
 
 pub kept : (words : List (List ℕ)) (a b : FilesSeen) (w w' : SinkSeen) (r : ℕ) → Answers words a b w w' r → r ≢ 0 → r ≢ 4 → b.contents ≡ a.contents
 kept words a b w w' r (inl s) not0 not4 = s.files
-kept words a b w w' r (inr h) not0 not4 = kept_by words a b w w' h.0 r not0 not4 (ground_puts words a b h.0 h.1) h.2
+kept words a b w w' r (inr h) not0 not4 = kept_by words a b w w' h.0 r not0 not4 (reason_puts words a b h.0 h.1) h.2
 
--- ## words that are not taken
+-- ## words that are not accepted
 
-usage_said : (words : List (List ℕ)) (a : FilesSeen) (w w' : SinkSeen) (r : ℕ) → is_taken words ≡ false → Pushed w w' usage r → Tells a a w w' usage r
+usage_said : (words : List (List ℕ)) (a : FilesSeen) (w w' : SinkSeen) (r : ℕ) → is_accepted words ≡ false → Pushed w w' usage r → Tells a a w w' usage r
 usage_said words a w w' r none (seen.whole is text) = whole is refl text
 usage_said words a w w' r none (seen.cut is rose front) = cut is rose refl front
 
-pub answers_usage : (words : List (List ℕ)) (a : FilesSeen) (w w' : SinkSeen) (r : ℕ) → is_taken words ≡ false → Says w w' usage r → Answers words a a w w' r
+pub answers_usage : (words : List (List ℕ)) (a : FilesSeen) (w w' : SinkSeen) (r : ℕ) → is_accepted words ≡ false → Says w w' usage r → Answers words a a w w' r
 answers_usage words a w w' r none (pushed p) = inr (usage, no_job none refl, usage_said words a w w' r none p)
 answers_usage words a w w' r none (silent s) = inl (record { status = s.status; written = s.written; faults = s.faults; files = refl })

@@ -1,36 +1,36 @@
--- The sources that a builder has taken, as files of its application.
+-- The sources that a builder has accepted, as files of its application.
 use Rattle.std.proofs.Common.{◌≡◌, ℕ, zero, suc, ◌+◌, ◌<◌, ◌≤◌, List, [], ◌∷◌, ◌++◌, length, get_or, map, Option, Some, None, refl, sym, ap, subst, ◌∙◌, arith, ◌⊎◌, inl, inr}
 use Rattle.std.specs.Prelude.{slice_get, Ok}
 use Rattle.std.proofs.lemmas.Option.{same_Some}
 use Rattle.app_toml.specs.Apps.{AppData, TaskData}
 use Rattle.image_build.specs.Built.{Built, source_at}
-use Rattle.image_build.specs.Building.{IsTaken}
-use Rattle.image_build.specs.Taken.{HasTaken, described, next_task}
+use Rattle.image_build.specs.Building.{IsAcceptedSource}
+use Rattle.image_build.specs.Accepted.{HasAccepted, described, next_task}
 use Rattle.image_build.specs.declared.builder.Builder.{Builder}
 use Rattle.app_toml.specs.Reading.{read_app}
 use Rattle.image_format.specs.Picture.{Picture, Sound}
 use Rattle.trace_cli.specs.Contents.{source_refusal, app_refusal, application_of, room_refusal}
 use Rattle.outside_io.specs.Seen.{FilesSeen}
 use Rattle.trace_cli.specs.Sources.{File, source_file, sources_from, source_files, files_to_build, app_file, first_of, MayBe, Takes}
-use Rattle.trace_cli.specs.Stops.{HaltsAt}
-use Rattle.trace_cli.specs.Building.{HasNext, HasAll, IsImageOf, IsImage, HaltsInSources, HaltsInApp}
-use Rattle.trace_cli.specs.declared.stops.Halt.{Halt}
-use Rattle.trace_cli.specs.declared.stops.Halt.TheVariants as halts
+use Rattle.trace_cli.specs.FileFaults.{IsNamedFaultOf}
+use Rattle.trace_cli.specs.Building.{HasNext, HasAll, IsImageOf, IsImage, IsNamedFaultInSources, IsNamedFaultInApp}
+use Rattle.trace_cli.specs.declared.file_faults.NamedFault.{NamedFault}
+use Rattle.trace_cli.specs.declared.file_faults.NamedFault.TheVariants as named_faults
 use Rattle.trace_cli.proofs.Lists.{at_end, longer, takes_none, takes_last, takes_first}
 use Rattle.trace_cli.proofs.Refusals.{is_application, app_by_room}
-use Rattle.trace_cli.proofs.Stopping.{halts_earlier}
+use Rattle.trace_cli.proofs.Faulting.{faults_earlier}
 use Rattle.std.proofs.lemmas.List.{take_all}
 
--- the source that was taken last is accepted
-pub taken_last : (old new : Builder) (sources : List (List ℕ)) (bytes : List ℕ) → described new ≡ described old → HasTaken sources old → HasTaken (sources ++ bytes ∷ []) new
-    → IsTaken (described old) (next_task old) bytes
+-- the source that was accepted last is accepted
+pub taken_last : (old new : Builder) (sources : List (List ℕ)) (bytes : List ℕ) → described new ≡ described old → HasAccepted sources old → HasAccepted (sources ++ bytes ∷ []) new
+    → IsAcceptedSource (described old) (next_task old) bytes
 taken_last old new sources bytes same before after =
     let long = longer sources bytes in
-    let last : IsTaken (described new) (length sources) (source_at (sources ++ bytes ∷ []) (length sources)) = after.holds.taken (length sources) (omega arith) in
-    let app : IsTaken (described old) (length sources) (source_at (sources ++ bytes ∷ []) (length sources)) =
-    subst (λ (a : AppData). IsTaken a (length sources) (source_at (sources ++ bytes ∷ []) (length sources))) same last in
-    let at : IsTaken (described old) (length sources) bytes = subst (λ (s : List ℕ). IsTaken (described old) (length sources) s) (at_end sources bytes []) app in
-    subst (λ (i : ℕ). IsTaken (described old) i bytes) (sym before.next) at
+    let last : IsAcceptedSource (described new) (length sources) (source_at (sources ++ bytes ∷ []) (length sources)) = after.holds.accepted (length sources) (omega arith) in
+    let app : IsAcceptedSource (described old) (length sources) (source_at (sources ++ bytes ∷ []) (length sources)) =
+    subst (λ (a : AppData). IsAcceptedSource a (length sources) (source_at (sources ++ bytes ∷ []) (length sources))) same last in
+    let at : IsAcceptedSource (described old) (length sources) bytes = subst (λ (s : List ℕ). IsAcceptedSource (described old) (length sources) s) (at_end sources bytes []) app in
+    subst (λ (i : ℕ). IsAcceptedSource (described old) i bytes) (sym before.next) at
 
 -- ## the files of tasks
 
@@ -59,20 +59,20 @@ as_many_sources app = as_many app 0 app.tasks
 
 -- ## sources one by one
 
--- these sources were taken of the first files, so many
+-- these sources were accepted of the first files, so many
 pub record HasFirst (seen : List ℕ → Option (List ℕ)) (app : AppData) (builder : Builder) (k : ℕ) : Type 0 where
   pub sources : List (List ℕ)
   pub count : length sources ≡ k
   pub takes : Takes (MayBe seen) (source_files app) sources
-  pub taken : HasTaken sources builder
+  pub accepted_sources : HasAccepted sources builder
 
-pub none_yet : (seen : List ℕ → Option (List ℕ)) (app : AppData) (builder : Builder) → HasTaken [] builder → HasFirst seen app builder 0
-none_yet seen app builder h = record { sources = []; count = refl; takes = takes_none (MayBe seen) (source_files app); taken = h }
+pub none_yet : (seen : List ℕ → Option (List ℕ)) (app : AppData) (builder : Builder) → HasAccepted [] builder → HasFirst seen app builder 0
+none_yet seen app builder h = record { sources = []; count = refl; takes = takes_none (MayBe seen) (source_files app); accepted_sources = h }
 
 pub one_more : (seen : List ℕ → Option (List ℕ)) (app : AppData) (old new : Builder) (k : ℕ) (t : TaskData) (h : HasFirst seen app old k) → described old ≡ app
     → slice_get app.tasks k ≡ Some t → HasNext seen t.source h.sources old new → HasFirst seen app new (k + 1)
 one_more seen app old new k t h same at next =
-    let index : next_task old ≡ k = h.taken.next ∙ h.count in
+    let index : next_task old ≡ k = h.accepted_sources.next ∙ h.count in
     let file : slice_get (source_files app) (length h.sources) ≡ Some (source_file app k t) = ap (λ n. slice_get (source_files app) n) h.count ∙ source_at_index app k t at in
     let mine : source_refusal app (next_task old) next.bytes ≡ None = subst (λ (a : AppData). source_refusal a (next_task old) next.bytes ≡ None) same next.accepted in
     let accepted : source_refusal app k next.bytes ≡ None = subst (λ (i : ℕ). source_refusal app i next.bytes ≡ None) index mine in
@@ -80,12 +80,12 @@ one_more seen app old new k t h same at next =
       sources = h.sources ++ next.bytes ∷ [];
       count = (let more = longer h.sources next.bytes in let count = h.count in omega arith);
       takes = takes_last (MayBe seen) (source_files app) h.sources (source_file app k t) next.bytes h.takes file next.held accepted;
-      taken = next.taken;
+      accepted_sources = next.accepted_sources;
     }
 
-pub all_taken : (seen : List ℕ → Option (List ℕ)) (app : AppData) (builder : Builder) (k : ℕ) → k ≡ length app.tasks → HasFirst seen app builder k → HasAll seen app builder
-all_taken seen app builder k all h =
-    record { sources = h.sources; each = record { takes = h.takes; all = as_many_sources app ∙ sym all ∙ sym h.count }; taken = h.taken }
+pub each_accepted : (seen : List ℕ → Option (List ℕ)) (app : AppData) (builder : Builder) (k : ℕ) → k ≡ length app.tasks → HasFirst seen app builder k → HasAll seen app builder
+each_accepted seen app builder k all h =
+    record { sources = h.sources; each = record { takes = h.takes; all = as_many_sources app ∙ sym all ∙ sym h.count }; accepted_sources = h.accepted_sources }
 
 -- ## an application before its sources
 
@@ -93,23 +93,23 @@ pub app_then_sources : (seen : List ℕ → Option (List ℕ)) (name bytes : Lis
     → Takes (MayBe seen) (source_files app) sources → Takes (MayBe seen) (app_file name ∷ source_files app) (bytes ∷ sources)
 app_then_sources seen name bytes app sources held accepted takes = takes_first (MayBe seen) (app_file name) (source_files app) bytes sources held accepted takes
 
--- the next source is not taken
-pub halts_next : (a b c : FilesSeen) (app : AppData) (builder : Builder) (k : ℕ) (t : TaskData) (halt : Halt) → HasFirst a.contents app builder k → b.contents ≡ a.contents → a.read_faults ≤ b.read_faults
-    → described builder ≡ app → slice_get app.tasks k ≡ Some t → HaltsAt b c record { name = t.source; refusal = source_refusal (described builder) (next_task builder) } halt
-    → HaltsInSources a c app halt
-halts_next a b c app builder k t halt h seen le same at halts =
-    let index : next_task builder ≡ k = h.taken.next ∙ h.count in
+-- the next source is not accepted
+pub faults_next : (a b c : FilesSeen) (app : AppData) (builder : Builder) (k : ℕ) (t : TaskData) (named_fault : NamedFault) → HasFirst a.contents app builder k → b.contents ≡ a.contents → a.read_faults ≤ b.read_faults
+    → described builder ≡ app → slice_get app.tasks k ≡ Some t → IsNamedFaultOf b c record { name = t.source; refusal = source_refusal (described builder) (next_task builder) } named_fault
+    → IsNamedFaultInSources a c app named_fault
+faults_next a b c app builder k t named_fault h seen le same at fault =
+    let index : next_task builder ≡ k = h.accepted_sources.next ∙ h.count in
     let at_app : AppData → File = λ x. record { name = t.source; refusal = source_refusal x (next_task builder) } in
     let at_index : ℕ → File = λ i. record { name = t.source; refusal = source_refusal app i } in
     let file : at_app (described builder) ≡ source_file app k t = ap at_app same ∙ ap at_index index in
-    let mine : HaltsAt b c (source_file app k t) halt = subst (λ (f : File). HaltsAt b c f halt) file halts in
+    let mine : IsNamedFaultOf b c (source_file app k t) named_fault = subst (λ (f : File). IsNamedFaultOf b c f named_fault) file fault in
     record {
       sources = h.sources;
       at = record {
         takes = h.takes;
         file = source_file app k t;
         next = ap (λ n. slice_get (source_files app) n) h.count ∙ source_at_index app k t at;
-        halts = halts_earlier a b c (source_file app k t) halt seen le mine;
+        fault = faults_earlier a b c (source_file app k t) named_fault seen le mine;
       };
     }
 
@@ -143,11 +143,11 @@ pub image_of_files : (seen : List ℕ → Option (List ℕ)) (name bytes : List 
 image_of_files seen name bytes app image le is room held h =
     sources_are seen name bytes app image (is_application bytes app is) held (app_by_room bytes app le is ∙ room) h
 
--- a source is not taken
-pub halts_in_app : (a b c : FilesSeen) (name bytes : List ℕ) (app : AppData) (halt : Halt) → length bytes ≤ 2097152 → read_app bytes ≡ Ok app → room_refusal app ≡ None
-    → MayBe a.contents name bytes → b.contents ≡ a.contents → a.read_faults ≤ b.read_faults → HaltsInSources b c app halt → HaltsInApp a c name halt
-halts_in_app a b c name bytes app halt le is room held seen later h =
-    let mine : HaltsInSources b c (application_of bytes) halt = subst (λ (x : AppData). HaltsInSources b c x halt) (sym (is_application bytes app is)) h in
+-- a source is not accepted
+pub faults_in_app : (a b c : FilesSeen) (name bytes : List ℕ) (app : AppData) (named_fault : NamedFault) → length bytes ≤ 2097152 → read_app bytes ≡ Ok app → room_refusal app ≡ None
+    → MayBe a.contents name bytes → b.contents ≡ a.contents → a.read_faults ≤ b.read_faults → IsNamedFaultInSources b c app named_fault → IsNamedFaultInApp a c name named_fault
+faults_in_app a b c name bytes app named_fault le is room held seen later h =
+    let mine : IsNamedFaultInSources b c (application_of bytes) named_fault = subst (λ (x : AppData). IsNamedFaultInSources b c x named_fault) (sym (is_application bytes app is)) h in
     let takes : Takes (MayBe a.contents) (source_files (application_of bytes)) mine.sources =
     subst (λ (t : List ℕ → Option (List ℕ)). Takes (MayBe t) (source_files (application_of bytes)) mine.sources) seen mine.at.takes in
     record {
@@ -156,37 +156,37 @@ halts_in_app a b c name bytes app halt le is room held seen later h =
         takes = app_then_sources a.contents name bytes (application_of bytes) mine.sources held (app_by_room bytes app le is ∙ room) takes;
         file = mine.at.file;
         next = mine.at.next;
-        halts = halts_earlier a b c mine.at.file halt seen later mine.at.halts;
+        fault = faults_earlier a b c mine.at.file named_fault seen later mine.at.fault;
       };
     }
 
--- the application's own file is not taken
-pub halts_at_app : (a c : FilesSeen) (name : List ℕ) (halt : Halt) → HaltsAt a c (app_file name) halt → HaltsInApp a c name halt
-halts_at_app a c name halt h = record {
+-- the application's own file is not accepted
+pub faults_at_app : (a c : FilesSeen) (name : List ℕ) (named_fault : NamedFault) → IsNamedFaultOf a c (app_file name) named_fault → IsNamedFaultInApp a c name named_fault
+faults_at_app a c name named_fault h = record {
   contents = [];
   at = record {
     takes = takes_none (MayBe a.contents) (files_to_build name (first_of []));
     file = app_file name;
     next = refl;
-    halts = h;
+    fault = h;
   };
 }
 
 pub image_of_all : (seen : List ℕ → Option (List ℕ)) (app : AppData) (builder : Builder) (image : Picture) → described builder ≡ app → HasAll seen app builder
-    → ((sources : List (List ℕ)) → HasTaken sources builder → Built (described builder) sources image) → Sound image → IsImageOf seen app image
+    → ((sources : List (List ℕ)) → HasAccepted sources builder → Built (described builder) sources image) → Sound image → IsImageOf seen app image
 image_of_all seen app builder image same all built sound =
-    record { sources = all.sources; each = all.each; built = subst (λ (a : AppData). Built a all.sources image) same (built all.sources all.taken); sound = sound }
+    record { sources = all.sources; each = all.each; built = subst (λ (a : AppData). Built a all.sources image) same (built all.sources all.accepted_sources); sound = sound }
 
-pub memory_in_app : (a c : FilesSeen) (name : List ℕ) (halt : Halt) → halt ≡ halts.Memory → HaltsInApp a c name halt
-memory_in_app a c name halt is = subst (λ (h : Halt). HaltsInApp a c name h) (sym is) (halts_at_app a c name halts.Memory tt)
+pub memory_in_app : (a c : FilesSeen) (name : List ℕ) (named_fault : NamedFault) → named_fault ≡ named_faults.Memory → IsNamedFaultInApp a c name named_fault
+memory_in_app a c name named_fault is = subst (λ (h : NamedFault). IsNamedFaultInApp a c name h) (sym is) (faults_at_app a c name named_faults.Memory tt)
 
 pub all_next : (seen : List ℕ → Option (List ℕ)) (app : AppData) (builder : Builder) → described builder ≡ app → HasAll seen app builder → next_task builder ≡ length (described builder).tasks
 all_next seen app builder same all =
     let count : length app.tasks ≡ length all.sources = sym (as_many_sources app) ∙ all.each.all in
-    all.taken.next ∙ sym count ∙ ap (λ (a : AppData). length a.tasks) (sym same)
+    all.accepted_sources.next ∙ sym count ∙ ap (λ (a : AppData). length a.tasks) (sym same)
 
--- memory is short, or a source is not taken
-pub halts_later : (a b c : FilesSeen) (name bytes : List ℕ) (app : AppData) (halt : Halt) → length bytes ≤ 2097152 → read_app bytes ≡ Ok app → room_refusal app ≡ None
-    → MayBe a.contents name bytes → b.contents ≡ a.contents → a.read_faults ≤ b.read_faults → (halt ≡ halts.Memory) ⊎ HaltsInSources b c app halt → HaltsInApp a c name halt
-halts_later a b c name bytes app halt le is room held seen later (inl memory) = memory_in_app a c name halt memory
-halts_later a b c name bytes app halt le is room held seen later (inr h) = halts_in_app a b c name bytes app halt le is room held seen later h
+-- memory is short, or a source is not accepted
+pub faults_later : (a b c : FilesSeen) (name bytes : List ℕ) (app : AppData) (named_fault : NamedFault) → length bytes ≤ 2097152 → read_app bytes ≡ Ok app → room_refusal app ≡ None
+    → MayBe a.contents name bytes → b.contents ≡ a.contents → a.read_faults ≤ b.read_faults → (named_fault ≡ named_faults.Memory) ⊎ IsNamedFaultInSources b c app named_fault → IsNamedFaultInApp a c name named_fault
+faults_later a b c name bytes app named_fault le is room held seen later (inl memory) = memory_in_app a c name named_fault memory
+faults_later a b c name bytes app named_fault le is room held seen later (inr h) = faults_in_app a b c name bytes app named_fault le is room held seen later h

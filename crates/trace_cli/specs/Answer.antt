@@ -4,7 +4,7 @@ use Rattle.std.specs.Io.KnownBytes.{Appends}
 use Rattle.outside_io.specs.Outside.{WhereSeen, Rose, AppendsFront, IsFront, short_name}
 use Rattle.image_format.specs.Picture.{Picture, spelling}
 use Rattle.board_model.specs.Script.{Scenario}
-use Rattle.command_line.specs.CommandLine.{Asked, is_taken}
+use Rattle.command_line.specs.CommandLine.{Asked, is_accepted}
 use Rattle.command_line.specs.declared.job.Detail.{Detail}
 use Rattle.trace_cli.specs.Contents.{Why}
 use Rattle.outside_io.specs.Seen.{FilesSeen, SinkSeen}
@@ -31,16 +31,16 @@ pub record IsRefused (job : Asked) (seen : List ℕ → Option (List ℕ)) (f : 
 abbrev pub IsAccepted : Asked → (List ℕ → Option (List ℕ)) → List (List ℕ) → Type 0
 IsAccepted job seen contents = TakesAll (MayBe seen) job contents
 
-pub data Reason (job : Asked) (before after : FilesSeen) (v : Verdict) : Type 0 where
-  cannot_read : (f : File) → IsUnread job before after f → v ≡ unread f.name → Reason job before after v
-  refuses : (f : File) (why : Why) → IsRefused job before.contents f why → v ≡ refused f.name why → Reason job before after v
-  does : (contents : List (List ℕ)) → IsAccepted job before.contents contents → Does job contents v → Reason job before after v
+pub data JobReason (job : Asked) (before after : FilesSeen) (v : Verdict) : Type 0 where
+  cannot_read : (f : File) → IsUnread job before after f → v ≡ unread f.name → JobReason job before after v
+  refuses : (f : File) (why : Why) → IsRefused job before.contents f why → v ≡ refused f.name why → JobReason job before after v
+  does : (contents : List (List ℕ)) → IsAccepted job before.contents contents → Does job contents v → JobReason job before after v
 
 -- ## and on words
 
-pub data Ground (words : List (List ℕ)) (before after : FilesSeen) (v : Verdict) : Type 0 where
-  no_job : is_taken words ≡ false → v ≡ usage → Ground words before after v
-  of_job : (job : Asked) → job_in words ≡ Some job → Reason job before after v → Ground words before after v
+pub data Reason (words : List (List ℕ)) (before after : FilesSeen) (v : Verdict) : Type 0 where
+  no_job : is_accepted words ≡ false → v ≡ usage → Reason words before after v
+  of_job : (job : Asked) → job_in words ≡ Some job → JobReason job before after v → Reason words before after v
 
 -- ## what became of a verdict
 
@@ -75,10 +75,10 @@ pub data Tells (before after : FilesSeen) (w w' : SinkSeen) (v : Verdict) (r : �
 
 -- the answer to a job, and to words: some verdict, for its reason, was told, or memory is short
 abbrev pub AnswersJob : Asked → FilesSeen → FilesSeen → SinkSeen → SinkSeen → ℕ → Type 0
-AnswersJob job before after w w' r = IsShort before after w w' r ⊎ ((v : Verdict) × Reason job before after v × Tells before after w w' v r)
+AnswersJob job before after w w' r = IsShort before after w w' r ⊎ ((v : Verdict) × JobReason job before after v × Tells before after w w' v r)
 
 abbrev pub Answers : List (List ℕ) → FilesSeen → FilesSeen → SinkSeen → SinkSeen → ℕ → Type 0
-Answers words before after w w' r = IsShort before after w w' r ⊎ ((v : Verdict) × Ground words before after v × Tells before after w w' v r)
+Answers words before after w w' r = IsShort before after w w' r ⊎ ((v : Verdict) × Reason words before after v × Tells before after w w' v r)
 
 -- ## by status
 
@@ -162,7 +162,7 @@ IsCut before after w w' v =
 
 pub record HasFront (words : List (List ℕ)) (before after : FilesSeen) (w w' : SinkSeen) : Type 0 where
   pub verdict : Verdict
-  pub ground : Ground words before after verdict
+  pub reason : Reason words before after verdict
   pub front : IsCut before after w w' verdict
 
 -- ## where the contents are seen

@@ -3,7 +3,7 @@ pub mod Building
 pub mod Contents
 pub mod Ready
 pub mod Sources
-pub mod Stops
+pub mod FileFaults
 pub mod Pushed
 pub mod Verdict
 pub mod Words

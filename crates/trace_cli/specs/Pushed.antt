@@ -1,9 +1,9 @@
--- What is pushed of a verdict, and of a file that is not taken.
+-- What is pushed of a verdict, and of a file that is not accepted.
 use Rattle.std.specs.Prelude.{◌≡◌, ℕ, string_bytes}
 use Rattle.std.specs.Io.KnownBytes.{Appends}
 use Rattle.outside_io.specs.Outside.{Rose, AppendsFront}
-use Rattle.trace_cli.specs.declared.stops.Halt.{Halt}
-use Rattle.trace_cli.specs.declared.stops.Halt.TheVariants as halts
+use Rattle.trace_cli.specs.declared.file_faults.NamedFault.{NamedFault}
+use Rattle.trace_cli.specs.declared.file_faults.NamedFault.TheVariants as named_faults
 use Rattle.outside_io.specs.Seen.{SinkSeen}
 use Rattle.trace_cli.specs.Verdict.{Verdict, unread, refused}
 
@@ -23,7 +23,7 @@ pub data Says (w w' : SinkSeen) (v : Verdict) (r : ℕ) : Type 0 where
   pushed : Pushed w w' v r → Says w w' v r
   silent : IsSilent w w' r → Says w w' v r
 
-abbrev pub SaysHalt : SinkSeen → SinkSeen → Halt → ℕ → Type 0
-SaysHalt w w' halts.Memory r = IsSilent w w' r
-SaysHalt w w' (halts.CannotRead name) r = Says w w' (unread (string_bytes name)) r
-SaysHalt w w' (halts.Refused name cause place) r = Says w w' (refused (string_bytes name) (cause, string_bytes place)) r
+abbrev pub SaysNamedFault : SinkSeen → SinkSeen → NamedFault → ℕ → Type 0
+SaysNamedFault w w' named_faults.Memory r = IsSilent w w' r
+SaysNamedFault w w' (named_faults.CannotRead name) r = Says w w' (unread (string_bytes name)) r
+SaysNamedFault w w' (named_faults.Refused name cause place) r = Says w w' (refused (string_bytes name) (cause, string_bytes place)) r

@@ -1,4 +1,4 @@
--- A board at the start of a job's run, or the file that is not taken.
+-- A board at the start of a job's run, or the file that is not accepted.
 use Rattle.std.specs.Prelude.{◌≡◌, ℕ, List, Option, None}
 use Rattle.task_table.specs.Start.{start}
 use Rattle.image_format.specs.Picture.{Picture}
@@ -9,11 +9,11 @@ use Rattle.board_model.specs.Script.{Scenario}
 use Rattle.board_core.specs.Stands.{Stands, turns_of}
 use Rattle.command_line.specs.CommandLine.{Asked}
 use Rattle.command_line.specs.declared.job.Detail.{Detail}
-use Rattle.trace_cli.specs.declared.stops.Halt.{Halt}
+use Rattle.trace_cli.specs.declared.file_faults.NamedFault.{NamedFault}
 use Rattle.trace_cli.specs.Contents.{image_refusal, script_refusal, picture_of, scenario_of, sample_scenario}
 use Rattle.outside_io.specs.Seen.{FilesSeen}
 use Rattle.trace_cli.specs.Sources.{MayBe, TakesAll, files_by, IsRun}
-use Rattle.trace_cli.specs.Building.{HaltsAfter}
+use Rattle.trace_cli.specs.Building.{IsNamedFaultAfter}
 
 -- an image is that which the file of this name spells
 pub record IsImageFile (seen : List ℕ → Option (List ℕ)) (name : List ℕ) (image : Picture) : Type 0 where
@@ -46,7 +46,7 @@ pub record IsSampleReady (seed : ℕ) (b : Board) : Type 0 where
   pub stands : Stands (sample_scenario seed image) b (start (sample_scenario seed image).setup)
   pub turns : turns_of b ≡ 0
 
--- a file of the job is not taken
-pub record Halts (job : Asked) (before after : FilesSeen) (halt : Halt) : Type 0 where
+-- a file of the job is not accepted
+pub record IsNamedFaultIn (job : Asked) (before after : FilesSeen) (named_fault : NamedFault) : Type 0 where
   pub contents : List (List ℕ)
-  pub at : HaltsAfter before after (files_by job contents) contents halt
+  pub at : IsNamedFaultAfter before after (files_by job contents) contents named_fault

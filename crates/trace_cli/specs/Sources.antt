@@ -1,4 +1,4 @@
--- The files of a job, in the order in which they are taken.
+-- The files of a job, in the order in which they are accepted.
 use Rattle.std.specs.Prelude.{◌≡◌, ℕ, ◌+◌, List, [], ◌∷◌, ◌++◌, length, drop, take, slice_get, slice_index_or, Option, Some, None}
 use Rattle.outside_io.specs.Outside.{WhereSeen}
 use Rattle.app_toml.specs.Apps.{AppData, TaskData}

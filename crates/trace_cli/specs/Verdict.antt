@@ -8,13 +8,13 @@ use Rattle.board_model.specs.declared.outcomes.End.TheVariants.{Bound, Still, Su
 use Rattle.task_table.specs.Start.{start}
 use Rattle.task_table.specs.State.{Setup, State}
 use Rattle.board_model.specs.declared.outcomes.Level.{Level}
-use Rattle.board_model.specs.declared.outcomes.Level.TheVariants.{Brief, All}
+use Rattle.board_model.specs.declared.outcomes.Level.TheVariants.{Calls, All}
 use Rattle.board_model.specs.Script.{Scenario}
 use Rattle.board_model.specs.Run as board
 use Rattle.board_run.specs.Text.{trace_text}
 use Rattle.board_run.specs.Counts.{summary_text}
 use Rattle.board_run.specs.MemoryText.{memory_text}
-use Rattle.command_line.specs.CommandLine.{Asked, is_taken}
+use Rattle.command_line.specs.CommandLine.{Asked, is_accepted}
 use Rattle.command_line.specs.declared.job.Detail.{Detail}
 use Rattle.trace_cli.specs.Contents.{Why}
 use Rattle.trace_cli.specs.Words.{job_in}
@@ -67,7 +67,7 @@ status_of Supervisor = 6
 
 -- all instructions are noted, or not
 abbrev pub level_of : Detail → Level
-level_of detail = if detail.instructions then All else Brief
+level_of detail = if detail.instructions then All else Calls
 
 -- the run of a scenario from its start, of at most n turns
 abbrev pub run_of : Level → ℕ → Scenario → board.Run
@@ -97,7 +97,7 @@ built out image = record { status = 0; text = built_line (length (spelling image
 -- the sample of a seed was run: how the run ended, and how many notes of each kind it had
 abbrev pub sampled : ℕ → Scenario → Verdict
 sampled n x =
-    let r = run_of Brief n x in
+    let r = run_of Calls n x in
     line_alone (status_of r.end) (summary_text r)
 
 -- ## what comes of accepted files with these contents
@@ -110,10 +110,10 @@ pub data Does (job : Asked) (contents : List (List ℕ)) (v : Verdict) : Type 0 
 
 -- ## the verdict on words and contents, where they are seen as far as they count
 
--- Words that are not taken are answered by the usage line, the first file that is refused by its line, and accepted files
+-- Words that are not accepted are answered by the usage line, the first file that is refused by its line, and accepted files
 -- by what the job is. There is at most one verdict.
 pub data IsVerdict (words : List (List ℕ)) (seen : List ℕ → Option (List ℕ)) (v : Verdict) : Type 0 where
-  no_job : is_taken words ≡ false → v ≡ usage → IsVerdict words seen v
+  no_job : is_accepted words ≡ false → v ≡ usage → IsVerdict words seen v
   refuses : (job : Asked) (contents : List (List ℕ)) (f : File) (bytes : List ℕ) (why : Why) → job_in words ≡ Some job
       → Reaches (Are seen) job contents f → Are seen f.name bytes → f.refusal bytes ≡ Some why → v ≡ refused f.name why → IsVerdict words seen v
   does : (job : Asked) (contents : List (List ℕ)) → job_in words ≡ Some job

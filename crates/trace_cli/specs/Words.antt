@@ -2,14 +2,14 @@
 use Rattle.std.specs.Prelude.{ℕ, if◌then◌else◌, List, map, Option, Some, None, string_bytes}
 use Rattle.std.specs.declared.string.String.{String}
 use Rattle.std.specs.declared.alloc.Global.{Global}
-use Rattle.command_line.specs.CommandLine.{Asked, build, run, go, list, sample, is_taken, job_of}
+use Rattle.command_line.specs.CommandLine.{Asked, build, run, go, list, sample, is_accepted, job_of}
 
 abbrev pub texts_of : List (String Global) → List (List ℕ)
 texts_of words = map string_bytes words
 
--- the job that the words ask for, where they are taken
+-- the job that the words ask for, where they are accepted
 abbrev pub job_in : List (List ℕ) → Option Asked
-job_in words = if is_taken words then job_of words else None
+job_in words = if is_accepted words then job_of words else None
 
 -- the name under which a job puts a file, if it puts one
 abbrev pub out_of : Option Asked → Option (List ℕ)

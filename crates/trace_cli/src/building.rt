@@ -2,14 +2,14 @@
 ghost use Rattle.std.specs.Prelude.{◌≡◌, ◌≤◌, ◌<◌, ◌⊎◌, ◌++◌, ◌∷◌, [], ℕ, List, length, None, Some, IfOk, OnOk, IfErr, string_bytes};
 ghost use Rattle.app_toml.specs.Held.{app_of};
 ghost use Rattle.image_format.specs.Images.{picture};
-ghost use Rattle.image_build.specs.Taken.{HasTaken, described, next_task};
+ghost use Rattle.image_build.specs.Accepted.{HasAccepted, described, next_task};
 ghost use Rattle.trace_cli.specs.Contents.{room_refusal, source_refusal};
 ghost use Rattle.trace_cli.specs.Sources.{MayBe};
-ghost use Rattle.trace_cli.specs.Stops.{StopsAt, HaltsAt};
-ghost use Rattle.trace_cli.specs.Building.{HasNext, HasAll, IsImageOf, IsImage, HaltsInApp, HaltsInSources};
+ghost use Rattle.trace_cli.specs.FileFaults.{IsFaultFor, IsNamedFaultOf};
+ghost use Rattle.trace_cli.specs.Building.{HasNext, HasAll, IsImageOf, IsImage, IsNamedFaultInApp, IsNamedFaultInSources};
 
+use crate::file_faults::{FileFault, NamedFault, fault_by_plan, fault_by_source, fault_named};
 use crate::sources::{app_in, read_contents};
-use crate::stops::{Halt, Stop, halted, stop_by_plan, stop_by_source};
 use app_toml::App;
 use image_build::Builder;
 use image_format::Image;
@@ -17,30 +17,30 @@ use outside_io::Files;
 use std::alloc::Global;
 
 // A builder of the application, if the board has room for it.
-fn opened<'a>(alloc: Global, app: &'a App) -> Result<Builder<'a>, Stop>
+fn opened<'a>(alloc: Global, app: &'a App) -> Result<Builder<'a>, FileFault>
     ensures described { IfOk result (λ b. described b ≡ app_of app.now) }
-    ensures none { IfOk result (HasTaken []) }
+    ensures none { IfOk result (HasAccepted []) }
     ensures room { IfOk result (λ b. room_refusal (app_of app.now) ≡ None) }
-    ensures stop { IfErr result (StopsAt (room_refusal (app_of app.now))) }
+    ensures file_fault { IfErr result (IsFaultFor (room_refusal (app_of app.now))) }
 {
     match Builder::open(alloc, app) {
         Ok(builder) => Ok(builder),
-        Err(fault) => Err(stop_by_plan(alloc, fault)),
+        Err(fault) => Err(fault_by_plan(alloc, fault)),
     }
 }
 
 // Takes the bytes of a file as the source of the next task.
-fn take_bytes(alloc: Global, builder: &mut Builder<'_>, bytes: &[u8]) -> Result<(), Stop>
+fn take_bytes(alloc: Global, builder: &mut Builder<'_>, bytes: &[u8]) -> Result<(), FileFault>
     requires next { next_task builder.old < length (described builder.old).tasks }
     requires few { length bytes.now ≤ 2097152 }
     ensures described { described builder.new ≡ described builder.old }
-    ensures taken { (sources : List (List ℕ)) → HasTaken sources builder.old → OnOk result (HasTaken (sources ++ bytes.now ∷ []) builder.new) }
-    ensures accepted { (sources : List (List ℕ)) → HasTaken sources builder.old → OnOk result (source_refusal (described builder.old) (next_task builder.old) bytes.now ≡ None) }
-    ensures stop { IfErr result (StopsAt (source_refusal (described builder.old) (next_task builder.old) bytes.now)) }
+    ensures accepted_sources { (sources : List (List ℕ)) → HasAccepted sources builder.old → OnOk result (HasAccepted (sources ++ bytes.now ∷ []) builder.new) }
+    ensures accepted { (sources : List (List ℕ)) → HasAccepted sources builder.old → OnOk result (source_refusal (described builder.old) (next_task builder.old) bytes.now ≡ None) }
+    ensures file_fault { IfErr result (IsFaultFor (source_refusal (described builder.old) (next_task builder.old) bytes.now)) }
 {
     match builder.source(bytes) {
         Ok(()) => Ok(()),
-        Err(fault) => Err(stop_by_source(alloc, fault)),
+        Err(fault) => Err(fault_by_source(alloc, fault)),
     }
 }
 
@@ -50,22 +50,22 @@ fn take_source<F: Files>(
     files: &mut F,
     name: &str,
     builder: &mut Builder<'_>,
-) -> Result<(), Halt>
+) -> Result<(), NamedFault>
     requires next { next_task builder.old < length (described builder.old).tasks }
     ensures described { described builder.new ≡ described builder.old }
-    ensures taken { (sources : List (List ℕ)) → HasTaken sources builder.old → OnOk result (HasNext (F.seen files.old).contents name.now sources builder.old builder.new) }
-    ensures halt { IfErr result (HaltsAt (F.seen files.old) (F.seen files.new) record { name = name.now; refusal = source_refusal (described builder.old) (next_task builder.old) }) }
+    ensures accepted_sources { (sources : List (List ℕ)) → HasAccepted sources builder.old → OnOk result (HasNext (F.seen files.old).contents name.now sources builder.old builder.new) }
+    ensures named_fault { IfErr result (IsNamedFaultOf (F.seen files.old) (F.seen files.new) record { name = name.now; refusal = source_refusal (described builder.old) (next_task builder.old) }) }
     ensures later { (F.seen files.old).read_faults ≤ (F.seen files.new).read_faults }
     ensures contents { (F.seen files.new).contents ≡ (F.seen files.old).contents }
     ensures puts { (F.seen files.new).put_faults ≡ (F.seen files.old).put_faults }
 {
     let bytes = match read_contents(alloc, files, name) {
         Ok(bytes) => bytes,
-        Err(stop) => return Err(halted(alloc, name, stop)),
+        Err(file_fault) => return Err(fault_named(alloc, name, file_fault)),
     };
     match take_bytes(alloc, builder, &bytes) {
         Ok(()) => Ok(()),
-        Err(stop) => Err(halted(alloc, name, stop)),
+        Err(file_fault) => Err(fault_named(alloc, name, file_fault)),
     }
 }
 
@@ -75,12 +75,12 @@ fn take_sources<F: Files>(
     files: &mut F,
     app: &App,
     builder: &mut Builder<'_>,
-) -> Result<(), Halt>
+) -> Result<(), NamedFault>
     requires described { described builder.old ≡ app_of app.now }
-    requires none { HasTaken [] builder.old }
+    requires none { HasAccepted [] builder.old }
     ensures described { described builder.new ≡ described builder.old }
-    ensures taken { OnOk result (HasAll (F.seen files.old).contents (app_of app.now) builder.new) }
-    ensures halt { IfErr result (HaltsInSources (F.seen files.old) (F.seen files.new) (app_of app.now)) }
+    ensures accepted_sources { OnOk result (HasAll (F.seen files.old).contents (app_of app.now) builder.new) }
+    ensures named_fault { IfErr result (IsNamedFaultInSources (F.seen files.old) (F.seen files.new) (app_of app.now)) }
     ensures later { (F.seen files.old).read_faults ≤ (F.seen files.new).read_faults }
     ensures contents { (F.seen files.new).contents ≡ (F.seen files.old).contents }
     ensures puts { (F.seen files.new).put_faults ≡ (F.seen files.old).put_faults }
@@ -88,7 +88,7 @@ fn take_sources<F: Files>(
     for task in app.tasks() {
         match take_source(alloc, files, &task.source, builder) {
             Ok(()) => {}
-            Err(halt) => return Err(halt),
+            Err(named_fault) => return Err(named_fault),
         }
     }
     Ok(())
@@ -100,11 +100,11 @@ fn image_of<F: Files>(
     files: &mut F,
     app: &App,
     builder: Builder<'_>,
-) -> Result<Image, Halt>
+) -> Result<Image, NamedFault>
     requires described { described builder ≡ app_of app.now }
-    requires none { HasTaken [] builder }
+    requires none { HasAccepted [] builder }
     ensures image { IfOk result (λ i. IsImageOf (F.seen files.old).contents (app_of app.now) (picture i)) }
-    ensures halt { IfErr result (λ h. (h ≡ Halt.Memory) ⊎ HaltsInSources (F.seen files.old) (F.seen files.new) (app_of app.now) h) }
+    ensures named_fault { IfErr result (λ h. (h ≡ NamedFault.Memory) ⊎ IsNamedFaultInSources (F.seen files.old) (F.seen files.new) (app_of app.now) h) }
     ensures later { (F.seen files.old).read_faults ≤ (F.seen files.new).read_faults }
     ensures contents { (F.seen files.new).contents ≡ (F.seen files.old).contents }
     ensures puts { (F.seen files.new).put_faults ≡ (F.seen files.old).put_faults }
@@ -112,32 +112,32 @@ fn image_of<F: Files>(
     let mut builder = builder;
     match take_sources(alloc, files, app, &mut builder) {
         Ok(()) => {}
-        Err(halt) => return Err(halt),
+        Err(named_fault) => return Err(named_fault),
     }
     match builder.finish() {
         Ok(image) => Ok(image),
-        Err(_) => Err(Halt::Memory),
+        Err(_) => Err(NamedFault::Memory),
     }
 }
 
 /// The image of the application under a name.
-pub fn built_image<F: Files>(alloc: Global, files: &mut F, name: &str) -> Result<Image, Halt>
+pub fn built_image<F: Files>(alloc: Global, files: &mut F, name: &str) -> Result<Image, NamedFault>
     ensures image { IfOk result (λ i. IsImage (F.seen files.old).contents name.now (picture i)) }
-    ensures halt { IfErr result (HaltsInApp (F.seen files.old) (F.seen files.new) name.now) }
+    ensures named_fault { IfErr result (IsNamedFaultInApp (F.seen files.old) (F.seen files.new) name.now) }
     ensures later { (F.seen files.old).read_faults ≤ (F.seen files.new).read_faults }
     ensures contents { (F.seen files.new).contents ≡ (F.seen files.old).contents }
     ensures puts { (F.seen files.new).put_faults ≡ (F.seen files.old).put_faults }
 {
     let bytes = match read_contents(alloc, files, name) {
         Ok(bytes) => bytes,
-        Err(stop) => return Err(halted(alloc, name, stop)),
+        Err(file_fault) => return Err(fault_named(alloc, name, file_fault)),
     };
     let app = match app_in(alloc, &bytes) {
         Ok(app) => app,
-        Err(stop) => return Err(halted(alloc, name, stop)),
+        Err(file_fault) => return Err(fault_named(alloc, name, file_fault)),
     };
     match opened(alloc, &app) {
         Ok(builder) => image_of(alloc, files, &app, builder),
-        Err(stop) => Err(halted(alloc, name, stop)),
+        Err(file_fault) => Err(fault_named(alloc, name, file_fault)),
     }
 }

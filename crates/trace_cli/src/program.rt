@@ -6,19 +6,19 @@ ghost use Rattle.image_format.specs.Images.{picture};
 ghost use Rattle.board_model.specs.Script.{Scenario};
 ghost use Rattle.board_core.specs.Stands.{Stands, Stood, turns_of};
 ghost use Rattle.task_table.specs.Start.{start};
-ghost use Rattle.command_line.specs.CommandLine.{Asked, is_taken, build as build_job, run as run_job, go as go_job, list as list_job};
+ghost use Rattle.command_line.specs.CommandLine.{Asked, is_accepted, build as build_job, run as run_job, go as go_job, list as list_job};
 ghost use Rattle.outside_io.specs.Seen.{FilesSeen};
 ghost use Rattle.trace_cli.specs.Words.{texts_of, job_in, out_of};
 ghost use Rattle.trace_cli.specs.Verdict.{Verdict, IsVerdict, usage_line, ran, built, level_of, run_of, status_of};
-ghost use Rattle.trace_cli.specs.Pushed.{Pushed, Says, SaysHalt};
-ghost use Rattle.trace_cli.specs.Ready.{IsReady, Halts};
+ghost use Rattle.trace_cli.specs.Pushed.{Pushed, Says, SaysNamedFault};
+ghost use Rattle.trace_cli.specs.Ready.{IsReady, IsNamedFaultIn};
 ghost use Rattle.trace_cli.specs.Answer.{Tells, AnswersJob, Answers, Answered, IsComplete, HasPlayed, HasDone, HasRefused, HasUnread, HasFront};
 
 use crate::building::built_image;
+use crate::file_faults::NamedFault;
 use crate::preparing::{prepare_go, prepare_run, read_image};
 use crate::sampling::run_sample;
-use crate::stops::Halt;
-use crate::telling::{line_of_built, status_by, tell, tell_halt, tell_listing, tell_usage};
+use crate::telling::{line_of_built, status_by, tell, tell_listing, tell_named_fault, tell_usage};
 use board_core::{Board, End, Level};
 use board_run::{run, write_memory};
 use command_line::{Detail, Job, Refusal, read_words};
@@ -32,7 +32,7 @@ fn level_of(detail: Detail) -> Level
     if detail.instructions {
         Level::All
     } else {
-        Level::Brief
+        Level::Calls
     }
 }
 
@@ -73,7 +73,7 @@ fn tell_run<S: Sink>(board: &mut Board, steps: u32, detail: Detail, out: &mut S)
 // The run of the board that a job came to, or why there is none.
 fn play<S: Sink>(
     alloc: Global,
-    prepared: Result<Board, Halt>,
+    prepared: Result<Board, NamedFault>,
     steps: u32,
     detail: Detail,
     out: &mut S,
@@ -81,7 +81,7 @@ fn play<S: Sink>(
     requires few { steps ≤ 1000000000 }
     requires ready { IfOk prepared (λ b. Stood b × (turns_of b ≡ 0)) }
     ensures { (job : Asked) (before after : FilesSeen) → after.contents ≡ before.contents
-        → IfOk prepared (IsReady job before.contents steps detail) → IfErr prepared (Halts job before after)
+        → IfOk prepared (IsReady job before.contents steps detail) → IfErr prepared (IsNamedFaultIn job before after)
         → AnswersJob job before after (S.seen out.old) (S.seen out.new) result }
 {
     match prepared {
@@ -89,7 +89,7 @@ fn play<S: Sink>(
             let mut board = board;
             tell_run(&mut board, steps, detail, out)
         }
-        Err(halt) => tell_halt(alloc, &halt, out),
+        Err(named_fault) => tell_named_fault(alloc, &named_fault, out),
     }
 }
 
@@ -142,7 +142,7 @@ fn list_file<F: Files, S: Sink>(alloc: Global, image: &str, files: &mut F, out: 
 {
     match read_image(alloc, files, image) {
         Ok(picture) => tell_listing(alloc, &picture, out),
-        Err(halt) => tell_halt(alloc, &halt, out),
+        Err(named_fault) => tell_named_fault(alloc, &named_fault, out),
     }
 }
 
@@ -186,7 +186,7 @@ fn build_file<F: Files, S: Sink>(
 {
     match built_image(alloc, files, app) {
         Ok(image) => put_image(alloc, &image, name, files, out),
-        Err(halt) => tell_halt(alloc, &halt, out),
+        Err(named_fault) => tell_named_fault(alloc, &named_fault, out),
     }
 }
 
@@ -216,7 +216,7 @@ fn answer<F: Files, S: Sink>(alloc: Global, words: &[String], files: &mut F, out
         ) => go_files(alloc, app, script, steps, detail, files, out),
         Ok(Job::List { image }) => list_file(alloc, image, files, out),
         Ok(Job::Sample { seed, steps }) => run_sample(alloc, seed, steps, out),
-        Err(Refusal::NotTaken) => tell_usage(out),
+        Err(Refusal::NotAccepted) => tell_usage(out),
         Err(Refusal::Memory) => 5,
     }
 }
@@ -253,7 +253,7 @@ pub fn hubris_main<F: Files, S: Sink>(
     // When each status comes, and what was pushed and put with it.
     ensures done { result ≡ 0 → HasDone (texts_of words.now) (F.seen files.old) (F.seen files.new) (S.seen out.old) (S.seen out.new) }
     ensures refused { result ≡ 1 → HasRefused (texts_of words.now) (F.seen files.old).contents (S.seen out.old) (S.seen out.new) }
-    ensures no_command { result ≡ 2 → (is_taken (texts_of words.now) ≡ false) × Appends (S.seen out.old).written (S.seen out.new).written usage_line }
+    ensures no_command { result ≡ 2 → (is_accepted (texts_of words.now) ≡ false) × Appends (S.seen out.old).written (S.seen out.new).written usage_line }
     ensures unread { result ≡ 3 → HasUnread (texts_of words.now) (F.seen files.old) (F.seen files.new) (S.seen out.old) (S.seen out.new) }
     ensures cut { result ≡ 4 → HasFront (texts_of words.now) (F.seen files.old) (F.seen files.new) (S.seen out.old) (S.seen out.new) }
     ensures short { result ≡ 5 → ((S.seen out.new).written ≡ (S.seen out.old).written) × ((S.seen out.new).faults ≡ (S.seen out.old).faults) × ((F.seen files.new).contents ≡ (F.seen files.old).contents) }

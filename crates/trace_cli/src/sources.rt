@@ -6,9 +6,9 @@ ghost use Rattle.image_format.specs.Images.{picture};
 ghost use Rattle.run_script.specs.Events.{script_data};
 ghost use Rattle.trace_cli.specs.Contents.{image_refusal, picture_of, script_refusal, script_of, app_refusal};
 ghost use Rattle.trace_cli.specs.Sources.{MayBe};
-ghost use Rattle.trace_cli.specs.Stops.{StopsAt, CannotTake};
+ghost use Rattle.trace_cli.specs.FileFaults.{IsFaultFor, CannotTake};
 
-use crate::stops::{Stop, refused_at_number};
+use crate::file_faults::{FileFault, refused_at_number};
 use app_toml::{App, AppFault};
 use image_format::{Image, ImageFault};
 use outside_io::{Files, ReadAll, read_all};
@@ -19,63 +19,67 @@ use std::alloc::Global;
 const LIMIT: usize = 2_097_152;
 
 /// The contents under a name.
-pub fn read_contents<F: Files>(alloc: Global, files: &mut F, name: &str) -> Result<Vec<u8>, Stop>
+pub fn read_contents<F: Files>(
+    alloc: Global,
+    files: &mut F,
+    name: &str,
+) -> Result<Vec<u8>, FileFault>
     ensures held { IfOk result (λ v. MayBe (F.seen files.old).contents name.now v.items) }
     ensures few { IfOk result (λ v. length v.items ≤ 2097152) }
-    ensures stop { IfErr result (CannotTake (F.seen files.old) (F.seen files.new) name.now) }
+    ensures file_fault { IfErr result (CannotTake (F.seen files.old) (F.seen files.new) name.now) }
     ensures later { (F.seen files.old).read_faults ≤ (F.seen files.new).read_faults }
     ensures contents { (F.seen files.new).contents ≡ (F.seen files.old).contents }
     ensures puts { (F.seen files.new).put_faults ≡ (F.seen files.old).put_faults }
 {
     match read_all(alloc, files, name, LIMIT) {
         Ok(bytes) => Ok(bytes),
-        Err(ReadAll::Failed) => Err(Stop::CannotRead),
+        Err(ReadAll::Failed) => Err(FileFault::CannotRead),
         Err(ReadAll::TooLong) => Err(refused_at_number(alloc, 0, 2_097_152)),
-        Err(ReadAll::Memory) => Err(Stop::Memory),
+        Err(ReadAll::Memory) => Err(FileFault::Memory),
     }
 }
 
 /// The image that the bytes of a file spell.
-pub fn image_in(alloc: Global, bytes: &[u8]) -> Result<Image, Stop>
+pub fn image_in(alloc: Global, bytes: &[u8]) -> Result<Image, FileFault>
     requires { length bytes.now ≤ 2097152 }
     ensures accepted { IfOk result (λ i. image_refusal bytes.now ≡ None) }
     ensures image { IfOk result (λ i. picture i ≡ picture_of bytes.now) }
-    ensures stop { IfErr result (StopsAt (image_refusal bytes.now)) }
+    ensures file_fault { IfErr result (IsFaultFor (image_refusal bytes.now)) }
 {
     match Image::read(alloc, bytes) {
         Ok(image) => Ok(image),
         Err(ImageFault::Refused { cause, place }) => {
             Err(refused_at_number(alloc, cause, place as u64))
         }
-        Err(ImageFault::Memory) => Err(Stop::Memory),
+        Err(ImageFault::Memory) => Err(FileFault::Memory),
     }
 }
 
 /// The script that the bytes of a file are.
-pub fn script_in(alloc: Global, bytes: &[u8]) -> Result<Script, Stop>
+pub fn script_in(alloc: Global, bytes: &[u8]) -> Result<Script, FileFault>
     requires { length bytes.now ≤ 2097152 }
     ensures accepted { IfOk result (λ s. script_refusal bytes.now ≡ None) }
     ensures script { IfOk result (λ s. script_data s ≡ script_of bytes.now) }
-    ensures stop { IfErr result (StopsAt (script_refusal bytes.now)) }
+    ensures file_fault { IfErr result (IsFaultFor (script_refusal bytes.now)) }
 {
     match Script::read(alloc, bytes) {
         Ok(script) => Ok(script),
         Err(ScriptFault::Refused { cause, line }) => {
             Err(refused_at_number(alloc, cause, line as u64))
         }
-        Err(ScriptFault::Memory) => Err(Stop::Memory),
+        Err(ScriptFault::Memory) => Err(FileFault::Memory),
     }
 }
 
 /// The application that the bytes of a file describe.
-pub fn app_in(alloc: Global, bytes: &[u8]) -> Result<App, Stop>
+pub fn app_in(alloc: Global, bytes: &[u8]) -> Result<App, FileFault>
     requires { length bytes.now ≤ 2097152 }
     ensures app { IfOk result (λ a. read_app bytes.now ≡ Ok (app_of a)) }
-    ensures stop { IfErr result (StopsAt (app_refusal bytes.now)) }
+    ensures file_fault { IfErr result (IsFaultFor (app_refusal bytes.now)) }
 {
     match App::read(alloc, bytes) {
         Ok(app) => Ok(app),
-        Err(AppFault::Refused { cause, place }) => Err(Stop::Refused { cause, place }),
-        Err(AppFault::Memory) => Err(Stop::Memory),
+        Err(AppFault::Refused { cause, place }) => Err(FileFault::Refused { cause, place }),
+        Err(AppFault::Memory) => Err(FileFault::Memory),
     }
 }

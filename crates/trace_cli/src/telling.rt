@@ -1,10 +1,10 @@
 //! One line, and the status that goes with it.
 ghost use Rattle.std.specs.Prelude.{◌≡◌, ℕ, IfOk, string_bytes};
 ghost use Rattle.image_format.specs.Images.{picture};
-ghost use Rattle.trace_cli.specs.Pushed.{Pushed, Says, SaysHalt};
+ghost use Rattle.trace_cli.specs.Pushed.{Pushed, Says, SaysNamedFault};
 ghost use Rattle.trace_cli.specs.Verdict.{Verdict, usage, unread, refused, refused_front, refused_line, unread_line, built_line, listed, listing_line, status_of};
 
-use crate::stops::Halt;
+use crate::file_faults::NamedFault;
 use board_core::End;
 use image_format::Image;
 use image_list::list;
@@ -112,13 +112,13 @@ pub fn line_of_built(alloc: Global, bytes: usize) -> Result<String, AllocError>
     format!(in alloc; "built {bytes} bytes\n")
 }
 
-/// What is told of a file that is not taken.
-pub fn tell_halt<S: Sink>(alloc: Global, halt: &Halt, out: &mut S) -> u8
-    ensures { SaysHalt (S.seen out.old) (S.seen out.new) halt.now result }
+/// What is told of a file that is not accepted.
+pub fn tell_named_fault<S: Sink>(alloc: Global, named_fault: &NamedFault, out: &mut S) -> u8
+    ensures { SaysNamedFault (S.seen out.old) (S.seen out.new) named_fault.now result }
 {
-    match halt {
-        Halt::Memory => 5,
-        Halt::CannotRead { name } => tell_unread(alloc, name, out),
-        Halt::Refused { name, cause, place } => tell_refused(alloc, name, *cause, place, out),
+    match named_fault {
+        NamedFault::Memory => 5,
+        NamedFault::CannotRead { name } => tell_unread(alloc, name, out),
+        NamedFault::Refused { name, cause, place } => tell_refused(alloc, name, *cause, place, out),
     }
 }

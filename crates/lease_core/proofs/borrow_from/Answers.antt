@@ -39,7 +39,7 @@ returns-in-Ok-clause-held c = λ g t k h same loan read granted clear.
     let kept = rw c.in-Ok.is at c.entry_of.ensures.kept in
     let stay = c.borrow_entry.ensures.stay g t (c.entry_of.ensures.holds g t h) (subst (IsGranted g x) e.1 granted) in
     let base = k.table + 12 * x.args.lease in
-    let apart = subst (λ (z : LeaseEntry). IsClear base (target x.way (part_of x.args z).base x.args.buffer_base) (part_of x.args z).length) e.1 clear in
+    let apart = subst (λ (z : LeaseEntry). IsClear base (target x.way (part_of x.args z).base x.args.buffer_base) (part_of x.args z).len) e.1 clear in
     held_on c.entry_of.new.k c.borrow_entry.new.k x.lender c.args.call.now.table x.args.lease k t.state c.in-Ok.entry loan.lender table e.1 kept (λ y at was.
     let here : base ≡ y.base = rw table (sym at) in
     stay x.lender y was (rw here at apart))

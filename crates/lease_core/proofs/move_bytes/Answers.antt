@@ -7,7 +7,7 @@ use Rattle.lease_core.proofs.move_bytes.Goals as goal
 
 pub returns-in-Read-clause-holds : goal.returns-in-Read-clause-holds
 returns-in-Read-clause-holds c = λ g t k h.
-    let look : Look = record { call = k.number; part = Leased; base = c.args.leased; length = c.args.count } in
+    let look : Look = record { call = k.number; part = Leased; base = c.args.leased; len = c.args.count } in
     rw c.in-Read.is (c.copy.ensures.holds g (looked look t) Own (holds_looked g (kept_of c.args.k.now) t look h))
 
 pub returns-in-Write-clause-holds : goal.returns-in-Write-clause-holds

@@ -21,7 +21,7 @@ impl Kernel {
     pub fn kept_entry(&self, task: usize, base: u32) -> Option<LeaseEntry>
         requires { task < task_count self.now }
         ensures kept { IfSome result (λ e. IsKeptFor (entries_of self.now) task base e) }
-        ensures holds { (g : Setup) (t : Turn) → Holds g self.now t → IfSome result (λ e. (bad_byte g task Read record { base = base; length = 12 } ≡ None) × (entry_at t.state.memory base ≡ e)) }
+        ensures holds { (g : Setup) (t : Turn) → Holds g self.now t → IfSome result (λ e. (bad_byte g task Read record { base = base; len = 12 } ≡ None) × (entry_at t.state.memory base ≡ e)) }
     {
         match self.entries[task] {
             Some(kept) => {

@@ -9,16 +9,16 @@ impl Kernel {
     ghost use Rattle.task_table.specs.State.{Setup, Turn};
     ghost use Rattle.task_table.specs.Reading.{is_ready, offers};
     ghost use Rattle.task_table.specs.TaskSets.{has};
-    ghost use Rattle.task_table.specs.Levels.{has_at, AreLevels};
+    ghost use Rattle.task_table.specs.Priorities.{has_at, ArePriorities};
     ghost use Rattle.task_table.specs.Holds.{Holds, Stands, task_count};
 
     /// The tasks of each priority number that occurs, the lowest first.
     #[inline(always)]
-    pub fn levels(&self) -> &[TaskSet]
+    pub fn priorities(&self) -> &[TaskSet]
         ensures there { (k i : ℕ) (d : TaskSet) → k < length result.now → has_at result.now k d i ≡ true → i < task_count self.now }
-        ensures holds { (g : Setup) (t : Turn) → Holds g self.now t → AreLevels g.tasks result.now }
+        ensures holds { (g : Setup) (t : Turn) → Holds g self.now t → ArePriorities g.tasks result.now }
     {
-        &self.levels
+        &self.priorities
     }
 
     /// The tasks that are well and wait for nothing.

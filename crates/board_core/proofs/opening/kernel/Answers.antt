@@ -8,7 +8,7 @@ use Rattle.task_table.specs.Parts.{IsSound}
 use Rattle.task_table.specs.Holds.{Stands}
 use Rattle.board_core.specs.Machine.{IsStarted}
 use Rattle.mem_banks.specs.Memory.{Opened, AreRegions}
-use Rattle.board_core.proofs.Opens.{parts_are, sound_setup, places_are, lendable, few_lines, few_tasks}
+use Rattle.board_core.proofs.Opens.{parts_are, sound_setup, places_are, openable, few_lines, few_tasks}
 use Rattle.board_core.proofs.opening.kernel.Goals as goal
 
 started : {E : Type 0} (g g' : Setup) (r : Result Kernel E) → g ≡ g' → IfOk r (λ k. Stands g k (begun (start g))) → IfOk r (IsStarted g')
@@ -25,7 +25,7 @@ pub start-requires-clause-given : goal.start-requires-clause-given
 start-requires-clause-given c =
     let p = picture c.args.image.now in
     let given : c.in_ok-memory.memory.regions ≡ c.deref.result.now = ap (λ (o : Opened). o.regions) c.in_ok-memory.ensures.value in
-    rw given (lendable p c.deref.result.now c.deref-2.result.now (rw (← c.deref.ensures.value) at c.in_ok-places.ensures.all) (rw (← c.deref-2.ensures.value) at c.in_ok-tasks.ensures))
+    rw given (openable p c.deref.result.now c.deref-2.result.now (rw (← c.deref.ensures.value) at c.in_ok-places.ensures.all) (rw (← c.deref-2.ensures.value) at c.in_ok-tasks.ensures))
 
 pub start-requires-clause-few : goal.start-requires-clause-few
 start-requires-clause-few c =

@@ -37,7 +37,7 @@ pub returns-in-Some-RefreshTaskId-clause-stands : goal.returns-in-Some-RefreshTa
 returns-in-Some-RefreshTaskId-clause-stands c = λ g t st ready. row g c.args.caller t c.register.result (c.register.ensures g t st.holds) (Stands g c.refresh.new.k) RefreshTaskId _ c.in-Some-RefreshTaskId.field-0-is c.in-Some-RefreshTaskId.ensures (c.refresh.ensures.stands g t st ready)
 
 pub returns-in-Some-Post-clause-stands : goal.returns-in-Some-Post-clause-stands
-returns-in-Some-Post-clause-stands c = λ g t st ready. row g c.args.caller t c.register.result (c.register.ensures g t st.holds) (Stands g c.post_syscall.new.k) Post _ c.in-Some-Post.field-0-is c.in-Some-Post.ensures (c.post_syscall.ensures.stands g t st ready)
+returns-in-Some-Post-clause-stands c = λ g t st ready. row g c.args.caller t c.register.result (c.register.ensures g t st.holds) (Stands g c.post_call.new.k) Post _ c.in-Some-Post.field-0-is c.in-Some-Post.ensures (c.post_call.ensures.stands g t st ready)
 
 pub returns-in-Some-ReplyFault-clause-stands : goal.returns-in-Some-ReplyFault-clause-stands
 returns-in-Some-ReplyFault-clause-stands c = λ g t st ready. row g c.args.caller t c.register.result (c.register.ensures g t st.holds) (Stands g c.reply_fault.new.k) ReplyFault _ c.in-Some-ReplyFault.field-0-is c.in-Some-ReplyFault.ensures (c.reply_fault.ensures.stands g t st ready)

@@ -25,12 +25,12 @@ returns-in-Some-clause-holds c = λ g t k h taken same.
 
 pub returns-then-args-call-clause-holds : goal.returns-then-args-call-clause-holds
 returns-then-args-call-clause-holds c = λ g t k h taken same.
-    let room = ap (λ (x : OpenCall). x.reply.length) same in
-    let long : ltb k.reply.length c.args.args.now.reply_length ≡ true = lt-ltb _ _ (rw room c.if-args-call.true) in
+    let room = ap (λ (x : OpenCall). x.reply.len) same in
+    let long : ltb k.reply.len c.args.args.now.reply_length ≡ true = lt-ltb _ _ (rw room c.if-args-call.true) in
     rw (← c.if-not-is_valid.ensures, ← c.in_default.ensures g t h.holds, long) (c.misuse-then-args-call.ensures.holds g t h.holds)
 
 pub returns-clause-holds : goal.returns-clause-holds
 returns-clause-holds c = λ g t k h taken same.
-    let room = ap (λ (x : OpenCall). x.reply.length) same in
-    let fits : ltb k.reply.length c.args.args.now.reply_length ≡ false = le-ltb _ _ (rw room c.if-args-call.false) in
+    let room = ap (λ (x : OpenCall). x.reply.len) same in
+    let fits : ltb k.reply.len c.args.args.now.reply_length ≡ false = le-ltb _ _ (rw room c.if-args-call.false) in
     rw (← c.if-not-is_valid.ensures, ← c.in_default.ensures g t h.holds, fits) (c.hand_reply.ensures.holds g t k h taken same)

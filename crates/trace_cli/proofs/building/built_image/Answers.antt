@@ -3,40 +3,40 @@ use Rattle.std.proofs.lemmas.Result.{IfOk-weaker, IfErr-weaker}
 use Rattle.app_toml.specs.Held.{app_of}
 use Rattle.image_format.specs.Images.{picture}
 use Rattle.trace_cli.specs.Sources.{app_file, MayBe}
-use Rattle.trace_cli.specs.Stops.{StopsAt}
+use Rattle.trace_cli.specs.FileFaults.{IsFaultFor}
 use Rattle.trace_cli.specs.Building.{IsImageOf}
 use Rattle.trace_cli.proofs.Refusals.{app_by_room}
-use Rattle.trace_cli.proofs.Stopping.{cannot_take, refused_in, long_app}
-use Rattle.trace_cli.proofs.Taking.{image_of_files, halts_at_app, halts_later}
+use Rattle.trace_cli.proofs.Faulting.{cannot_take, refused_in, long_app}
+use Rattle.trace_cli.proofs.Taking.{image_of_files, faults_at_app, faults_later}
 use Rattle.trace_cli.proofs.building.built_image.Goals as goal
 
-pub returns-in-Err-clause-halt : goal.returns-in-Err-clause-halt
-returns-in-Err-clause-halt g c =
+pub returns-in-Err-clause-named_fault : goal.returns-in-Err-clause-named_fault
+returns-in-Err-clause-named_fault g c =
     let a = g.F.Files.seen c.args.files.now in
     let b = g.F.Files.seen c.read_contents.new.files in
     let f = app_file c.args.name.now in
-    halts_at_app a b c.args.name.now c.halted.result (c.halted.ensures a b f refl (cannot_take a b f c.in-Err.stop long_app c.in-Err.ensures.stop))
+    faults_at_app a b c.args.name.now c.fault_named.result (c.fault_named.ensures a b f refl (cannot_take a b f c.in-Err.file_fault long_app c.in-Err.ensures.file_fault))
 
-pub returns-in-Err-app_in-clause-halt : goal.returns-in-Err-app_in-clause-halt
-returns-in-Err-app_in-clause-halt g c =
+pub returns-in-Err-app_in-clause-named_fault : goal.returns-in-Err-app_in-clause-named_fault
+returns-in-Err-app_in-clause-named_fault g c =
     let a = g.F.Files.seen c.args.files.now in
     let b = g.F.Files.seen c.read_contents.new.files in
     let f = app_file c.args.name.now in
     let held = subst (λ (x : List ℕ). MayBe (g.F.Files.seen c.args.files.now).contents c.args.name.now x) (sym c.deref.ensures.value) c.in-Ok.ensures.held in
-    halts_at_app a b c.args.name.now c.halted-in-Err-app_in.result (c.halted-in-Err-app_in.ensures a b f refl
-    (refused_in a b f c.deref.result.now c.in-Err-app_in.stop held c.in-Err-app_in.ensures.stop))
+    faults_at_app a b c.args.name.now c.fault_named-in-Err-app_in.result (c.fault_named-in-Err-app_in.ensures a b f refl
+    (refused_in a b f c.deref.result.now c.in-Err-app_in.file_fault held c.in-Err-app_in.ensures.file_fault))
 
-pub returns-clause-halt : goal.returns-clause-halt
-returns-clause-halt g c =
+pub returns-clause-named_fault : goal.returns-clause-named_fault
+returns-clause-named_fault g c =
     let a = g.F.Files.seen c.args.files.now in
     let b = g.F.Files.seen c.read_contents.new.files in
     let f = app_file c.args.name.now in
     let held = subst (λ (x : List ℕ). MayBe (g.F.Files.seen c.args.files.now).contents c.args.name.now x) (sym c.deref.ensures.value) c.in-Ok.ensures.held in
     let few = subst (λ (x : List ℕ). length x ≤ 2097152) (sym c.deref.ensures.value) c.in-Ok.ensures.few in
     let app = app_of c.in-Ok-app_in.app in
-    let stops = subst (λ r. StopsAt r c.in-Err-opened.stop) (sym (app_by_room c.deref.result.now app few c.in-Ok-app_in.ensures.app)) c.in-Err-opened.ensures.stop in
-    halts_at_app a b c.args.name.now c.halted-in-Err-opened.result (c.halted-in-Err-opened.ensures a b f refl
-    (refused_in a b f c.deref.result.now c.in-Err-opened.stop held stops))
+    let stops = subst (λ r. IsFaultFor r c.in-Err-opened.file_fault) (sym (app_by_room c.deref.result.now app few c.in-Ok-app_in.ensures.app)) c.in-Err-opened.ensures.file_fault in
+    faults_at_app a b c.args.name.now c.fault_named-in-Err-opened.result (c.fault_named-in-Err-opened.ensures a b f refl
+    (refused_in a b f c.deref.result.now c.in-Err-opened.file_fault held stops))
 
 pub returns-in-Ok-opened-clause-image : goal.returns-in-Ok-opened-clause-image
 returns-in-Ok-opened-clause-image g c =
@@ -47,13 +47,13 @@ returns-in-Ok-opened-clause-image g c =
     IfOk-weaker c.image_of.result _ _ (λ i h. image_of_files seen c.args.name.now c.deref.result.now app (picture i) few c.in-Ok-app_in.ensures.app c.in-Ok-opened.ensures.room held
     (subst (λ t. IsImageOf t app (picture i)) c.in-Ok.ensures.contents h)) c.image_of.ensures.image
 
-pub returns-in-Ok-opened-clause-halt : goal.returns-in-Ok-opened-clause-halt
-returns-in-Ok-opened-clause-halt g c =
+pub returns-in-Ok-opened-clause-named_fault : goal.returns-in-Ok-opened-clause-named_fault
+returns-in-Ok-opened-clause-named_fault g c =
     let a = g.F.Files.seen c.args.files.now in
     let b = g.F.Files.seen c.read_contents.new.files in
     let e = g.F.Files.seen c.image_of.new.files in
     let held = subst (λ (x : List ℕ). MayBe (g.F.Files.seen c.args.files.now).contents c.args.name.now x) (sym c.deref.ensures.value) c.in-Ok.ensures.held in
     let few = subst (λ (x : List ℕ). length x ≤ 2097152) (sym c.deref.ensures.value) c.in-Ok.ensures.few in
     let app = app_of c.in-Ok-app_in.app in
-    IfErr-weaker c.image_of.result _ _ (λ h is. halts_later a b e c.args.name.now c.deref.result.now app h few c.in-Ok-app_in.ensures.app c.in-Ok-opened.ensures.room held
-    c.in-Ok.ensures.contents c.in-Ok.ensures.later is) c.image_of.ensures.halt
+    IfErr-weaker c.image_of.result _ _ (λ h is. faults_later a b e c.args.name.now c.deref.result.now app h few c.in-Ok-app_in.ensures.app c.in-Ok-opened.ensures.room held
+    c.in-Ok.ensures.contents c.in-Ok.ensures.later is) c.image_of.ensures.named_fault

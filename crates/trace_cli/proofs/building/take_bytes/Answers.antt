@@ -4,7 +4,7 @@ use Rattle.trace_cli.proofs.building.take_bytes.Goals as goal
 
 pub returns-in-Ok-clause-accepted : goal.returns-in-Ok-clause-accepted
 returns-in-Ok-clause-accepted c = λ sources h.
-    source_taken _ _ c.args.bytes.now c.requires.few (taken_last c.args.builder.now c.source.new.self sources c.args.bytes.now c.source.ensures.described h (c.in-Ok.ensures.taken sources h))
+    source_taken _ _ c.args.bytes.now c.requires.few (taken_last c.args.builder.now c.source.new.self sources c.args.bytes.now c.source.ensures.described h (c.in-Ok.ensures.accepted sources h))
 
-pub returns-in-Err-clause-stop : goal.returns-in-Err-clause-stop
-returns-in-Err-clause-stop c = c.stop_by_source.ensures _ _ c.args.bytes.now c.requires.few c.in-Err.ensures.refused
+pub returns-in-Err-clause-file_fault : goal.returns-in-Err-clause-file_fault
+returns-in-Err-clause-file_fault c = c.fault_by_source.ensures _ _ c.args.bytes.now c.requires.few c.in-Err.ensures.refused

@@ -4,16 +4,16 @@ use Rattle.std.proofs.lemmas.List.{length-map}
 use Rattle.app_toml.specs.Apps.{TaskData}
 use Rattle.app_toml.specs.Held.{app_of}
 use Rattle.app_toml.specs.Sites.{task_of}
-use Rattle.image_build.specs.Taken.{described, next_task}
+use Rattle.image_build.specs.Accepted.{described, next_task}
 use Rattle.trace_cli.specs.Contents.{source_refusal}
 use Rattle.trace_cli.specs.Sources.{File}
-use Rattle.trace_cli.specs.Stops.{HaltsAt}
+use Rattle.trace_cli.specs.FileFaults.{IsNamedFaultOf}
 use Rattle.trace_cli.specs.Building.{HasNext}
-use Rattle.trace_cli.proofs.Taking.{all_taken, get_mapped, halts_next, one_more}
+use Rattle.trace_cli.proofs.Taking.{each_accepted, get_mapped, faults_next, one_more}
 use Rattle.trace_cli.proofs.building.take_sources.Goals as goal
 
-pub returns-in-Err-clause-halt : goal.returns-in-Err-clause-halt
-returns-in-Err-clause-halt g c =
+pub returns-in-Err-clause-named_fault : goal.returns-in-Err-clause-named_fault
+returns-in-Err-clause-named_fault g c =
     let inv = c.loop-task.invariant in
     let k = c.loop-task.task-index in
     let t = task_of c.task-item.result in
@@ -23,8 +23,8 @@ returns-in-Err-clause-halt g c =
     let a = g.F.Files.seen c.args.files.now in
     let b = g.F.Files.seen c.loop-task.files in
     let e = g.F.Files.seen c.take_source.new.files in
-    halts_next a b e (app_of c.args.app.now) c.loop-task.builder k t c.in-Err.halt inv.first inv.contents inv.later inv.described at
-    (subst (λ (n : List ℕ). HaltsAt b e (f n) c.in-Err.halt) c.deref.ensures c.in-Err.ensures.halt)
+    faults_next a b e (app_of c.args.app.now) c.loop-task.builder k t c.in-Err.named_fault inv.first inv.contents inv.later inv.described at
+    (subst (λ (n : List ℕ). IsNamedFaultOf b e (f n) c.in-Err.named_fault) c.deref.ensures c.in-Err.ensures.named_fault)
 
 pub loop-task-preserved : goal.loop-task-preserved
 loop-task-preserved g c =
@@ -33,7 +33,7 @@ loop-task-preserved g c =
     let t = task_of c.task-item.result in
     let at : slice_get (app_of c.args.app.now).tasks k ≡ Some t =
     subst (λ (ts : List TaskData). slice_get ts k ≡ Some t) inv.items (subst (λ x. slice_get (map task_of c.tasks-task-items.result.now) k ≡ Some (task_of x)) (sym c.task-item.is) (get_mapped task_of c.tasks-task-items.result.now k _ c.loop-task-test.true)) in
-    let one = c.in-Ok.ensures.taken inv.first.sources inv.first.taken in
+    let one = c.in-Ok.ensures.accepted_sources inv.first.sources inv.first.accepted_sources in
     let next = subst (λ seen. HasNext seen t.source inv.first.sources c.loop-task.builder c.take_source.new.builder) inv.contents
     (subst (λ (n : List ℕ). HasNext (g.F.Files.seen c.loop-task.files).contents n inv.first.sources c.loop-task.builder c.take_source.new.builder) c.deref.ensures one) in
     record {
@@ -45,10 +45,10 @@ loop-task-preserved g c =
       puts = c.in-Ok.ensures.puts ∙ inv.puts;
     }
 
-pub returns-clause-taken : goal.returns-clause-taken
-returns-clause-taken g c =
+pub returns-clause-accepted_sources : goal.returns-clause-accepted_sources
+returns-clause-accepted_sources g c =
     let inv = c.loop-task.invariant in
     let count : length (map task_of c.tasks-task-items.result.now) ≡ length (app_of c.args.app.now).tasks = ap (λ (ts : List TaskData). length ts) inv.items in
     let k = c.loop-task.task-index in
     let all : k ≡ length (app_of c.args.app.now).tasks = omega (arith, c.loop-task-test.false, c.loop-task.auto.task-index-end, length-map c.tasks-task-items.result.now task_of, count) in
-    all_taken (g.F.Files.seen c.args.files.now).contents (app_of c.args.app.now) c.loop-task.builder k all inv.first
+    each_accepted (g.F.Files.seen c.args.files.now).contents (app_of c.args.app.now) c.loop-task.builder k all inv.first

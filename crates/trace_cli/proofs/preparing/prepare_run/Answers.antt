@@ -2,7 +2,7 @@ use Rattle.std.proofs.Common.{subst}
 use Rattle.std.proofs.lemmas.Result.{IfOk-weaker, IfErr-weaker}
 use Rattle.image_format.specs.Images.{picture}
 use Rattle.trace_cli.specs.Ready.{IsSet}
-use Rattle.trace_cli.proofs.Readying.{run_ready, run_script_halts, run_image_halts}
+use Rattle.trace_cli.proofs.Readying.{run_ready, run_script_faults, run_image_faults}
 use Rattle.trace_cli.proofs.preparing.prepare_run.Goals as goal
 
 pub returns-in-Ok-clause-ready : goal.returns-in-Ok-clause-ready
@@ -10,15 +10,15 @@ returns-in-Ok-clause-ready g c = λ n detail.
     IfOk-weaker c.set_up.result _ _ (λ b h. run_ready (g.F.Files.seen c.args.files.now).contents c.args.image.now c.args.script.now n detail (picture c.in-Ok.picture) b c.in-Ok.ensures.image
     (subst (λ t. IsSet t (picture c.in-Ok.picture) c.args.script.now b) c.in-Ok.ensures.contents h)) c.set_up.ensures.set
 
-pub returns-in-Ok-clause-halt : goal.returns-in-Ok-clause-halt
-returns-in-Ok-clause-halt g c = λ n detail.
+pub returns-in-Ok-clause-named_fault : goal.returns-in-Ok-clause-named_fault
+returns-in-Ok-clause-named_fault g c = λ n detail.
     let a = g.F.Files.seen c.args.files.now in
     let b = g.F.Files.seen c.read_image.new.files in
     let e = g.F.Files.seen c.set_up.new.files in
-    IfErr-weaker c.set_up.result _ _ (λ h is. run_script_halts a b e c.args.image.now c.args.script.now n detail (picture c.in-Ok.picture) h c.in-Ok.ensures.image c.in-Ok.ensures.contents c.in-Ok.ensures.later is) c.set_up.ensures.halt
+    IfErr-weaker c.set_up.result _ _ (λ h is. run_script_faults a b e c.args.image.now c.args.script.now n detail (picture c.in-Ok.picture) h c.in-Ok.ensures.image c.in-Ok.ensures.contents c.in-Ok.ensures.later is) c.set_up.ensures.named_fault
 
-pub returns-in-Err-clause-halt : goal.returns-in-Err-clause-halt
-returns-in-Err-clause-halt g c = λ n detail.
+pub returns-in-Err-clause-named_fault : goal.returns-in-Err-clause-named_fault
+returns-in-Err-clause-named_fault g c = λ n detail.
     let a = g.F.Files.seen c.args.files.now in
     let b = g.F.Files.seen c.read_image.new.files in
-    run_image_halts a b c.args.image.now c.args.script.now n detail c.in-Err.halt c.in-Err.ensures.halt
+    run_image_faults a b c.args.image.now c.args.script.now n detail c.in-Err.named_fault c.in-Err.ensures.named_fault

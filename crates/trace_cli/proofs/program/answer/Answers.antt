@@ -5,27 +5,27 @@ use Rattle.trace_cli.proofs.program.answer.Goals as goal
 pub returns-in-Ok-Build-clause-answer : goal.returns-in-Ok-Build-clause-answer
 returns-in-Ok-Build-clause-answer g c =
     let job = rw c.in-Ok-Build.field-0-is at c.in-Ok-Build.ensures.job in
-    by_job _ _ _ _ _ _ _ c.in-Ok-Build.ensures.taken job c.build_file.ensures.answer
+    by_job _ _ _ _ _ _ _ c.in-Ok-Build.ensures.accepted job c.build_file.ensures.answer
 
 pub returns-in-Ok-Run-clause-answer : goal.returns-in-Ok-Run-clause-answer
 returns-in-Ok-Run-clause-answer g c =
     let job = rw c.in-Ok-Run.field-0-is at c.in-Ok-Run.ensures.job in
-    by_job _ _ _ _ _ _ _ c.in-Ok-Run.ensures.taken job c.run_files.ensures.answer
+    by_job _ _ _ _ _ _ _ c.in-Ok-Run.ensures.accepted job c.run_files.ensures.answer
 
 pub returns-in-Ok-Go-clause-answer : goal.returns-in-Ok-Go-clause-answer
 returns-in-Ok-Go-clause-answer g c =
     let job = rw c.in-Ok-Go.field-0-is at c.in-Ok-Go.ensures.job in
-    by_job _ _ _ _ _ _ _ c.in-Ok-Go.ensures.taken job c.go_files.ensures.answer
+    by_job _ _ _ _ _ _ _ c.in-Ok-Go.ensures.accepted job c.go_files.ensures.answer
 
 pub returns-in-Ok-List-clause-answer : goal.returns-in-Ok-List-clause-answer
 returns-in-Ok-List-clause-answer g c =
     let job = rw c.in-Ok-List.field-0-is at c.in-Ok-List.ensures.job in
-    by_job _ _ _ _ _ _ _ c.in-Ok-List.ensures.taken job c.list_file.ensures.answer
+    by_job _ _ _ _ _ _ _ c.in-Ok-List.ensures.accepted job c.list_file.ensures.answer
 
 pub returns-in-Ok-Sample-clause-answer : goal.returns-in-Ok-Sample-clause-answer
 returns-in-Ok-Sample-clause-answer g c =
     let job = rw c.in-Ok-Sample.field-0-is at c.in-Ok-Sample.ensures.job in
-    by_job _ _ _ _ _ _ _ c.in-Ok-Sample.ensures.taken job (c.run_sample.ensures _ _ refl)
+    by_job _ _ _ _ _ _ _ c.in-Ok-Sample.ensures.accepted job (c.run_sample.ensures _ _ refl)
 
 pub run_sample-requires : goal.run_sample-requires
 run_sample-requires g c = record { few = rw c.in-Ok-Sample.field-0-is at c.in-Ok-Sample.ensures.few }
@@ -36,5 +36,5 @@ run_files-requires g c = record { few = rw c.in-Ok-Run.field-0-is at c.in-Ok-Run
 pub go_files-requires : goal.go_files-requires
 go_files-requires g c = record { few = rw c.in-Ok-Go.field-0-is at c.in-Ok-Go.ensures.few }
 
-pub returns-in-Err-NotTaken-clause-answer : goal.returns-in-Err-NotTaken-clause-answer
-returns-in-Err-NotTaken-clause-answer g c = answers_usage _ _ _ _ _ (c.in-Err-NotTaken.ensures.refused c.in-Err-NotTaken.field-0-is) c.tell_usage.ensures
+pub returns-in-Err-NotAccepted-clause-answer : goal.returns-in-Err-NotAccepted-clause-answer
+returns-in-Err-NotAccepted-clause-answer g c = answers_usage _ _ _ _ _ (c.in-Err-NotAccepted.ensures.refused c.in-Err-NotAccepted.field-0-is) c.tell_usage.ensures

@@ -1,6 +1,6 @@
 use Rattle.image_format.specs.Images.{picture}
 use Rattle.command_line.specs.CommandLine.{build}
-use Rattle.trace_cli.proofs.Readying.{answers_halt, answers_built, build_halts}
+use Rattle.trace_cli.proofs.Readying.{answers_named_fault, answers_built, build_faults}
 use Rattle.trace_cli.proofs.program.build_file.Goals as goal
 
 pub returns-in-Ok-clause-answer : goal.returns-in-Ok-clause-answer
@@ -17,5 +17,5 @@ returns-in-Err-clause-answer g c =
     let a = g.F.Files.seen c.args.files.now in
     let b = g.F.Files.seen c.built_image.new.files in
     let w = g.S.Sink.seen c.args.out.now in
-    let w' = g.S.Sink.seen c.tell_halt.new.out in
-    answers_halt (build c.args.app.now c.args.name.now) a b w w' c.in-Err.halt c.tell_halt.result c.in-Err.ensures.contents (build_halts a b c.args.app.now c.args.name.now c.in-Err.halt c.in-Err.ensures.halt) c.tell_halt.ensures
+    let w' = g.S.Sink.seen c.tell_named_fault.new.out in
+    answers_named_fault (build c.args.app.now c.args.name.now) a b w w' c.in-Err.named_fault c.tell_named_fault.result c.in-Err.ensures.contents (build_faults a b c.args.app.now c.args.name.now c.in-Err.named_fault c.in-Err.ensures.named_fault) c.tell_named_fault.ensures

@@ -2,7 +2,7 @@ use Rattle.std.proofs.Common.{refl}
 use Rattle.image_format.specs.Images.{picture}
 use Rattle.command_line.specs.CommandLine.{list}
 use Rattle.trace_cli.specs.Verdict.{listed}
-use Rattle.trace_cli.proofs.Readying.{answers_said, answers_halt, list_reason, list_halts}
+use Rattle.trace_cli.proofs.Readying.{answers_said, answers_named_fault, list_reason, list_faults}
 use Rattle.trace_cli.proofs.program.list_file.Goals as goal
 
 pub returns-in-Ok-clause-answer : goal.returns-in-Ok-clause-answer
@@ -19,5 +19,5 @@ returns-in-Err-clause-answer g c =
     let a = g.F.Files.seen c.args.files.now in
     let b = g.F.Files.seen c.read_image.new.files in
     let w = g.S.Sink.seen c.args.out.now in
-    let w' = g.S.Sink.seen c.tell_halt.new.out in
-    answers_halt (list c.args.image.now) a b w w' c.in-Err.halt c.tell_halt.result c.in-Err.ensures.contents (list_halts a b c.args.image.now c.in-Err.halt c.in-Err.ensures.halt) c.tell_halt.ensures
+    let w' = g.S.Sink.seen c.tell_named_fault.new.out in
+    answers_named_fault (list c.args.image.now) a b w w' c.in-Err.named_fault c.tell_named_fault.result c.in-Err.ensures.contents (list_faults a b c.args.image.now c.in-Err.named_fault c.in-Err.ensures.named_fault) c.tell_named_fault.ensures

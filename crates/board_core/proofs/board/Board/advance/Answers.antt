@@ -5,14 +5,14 @@ use Rattle.board_core.specs.Advanced.{IsAdvanced}
 use Rattle.board_core.proofs.Gliding.{first_turn}
 use Rattle.board_core.proofs.board.Board.advance.Goals as goal
 
-pub returns-in-Brief-clause-advanced : goal.returns-in-Brief-clause-advanced
-returns-in-Brief-clause-advanced c = λ x s st.
+pub returns-in-Calls-clause-advanced : goal.returns-in-Calls-clause-advanced
+returns-in-Calls-clause-advanced c = λ x s st.
     let b = c.go_on.new.self in
     let n : ℕ = turns_of b - turns_of c.args.self.now - 1 in
-    subst (λ (l : Level). IsAdvanced l x n s b) (sym c.in-Brief.is) (c.go_on.ensures.advanced x s st)
+    subst (λ (l : Level). IsAdvanced l x n s b) (sym c.in-Calls.is) (c.go_on.ensures.advanced x s st)
 
-pub returns-in-Brief-clause-far : goal.returns-in-Brief-clause-far
-returns-in-Brief-clause-far c = λ brief. c.go_on.ensures.far
+pub returns-in-Calls-clause-far : goal.returns-in-Calls-clause-far
+returns-in-Calls-clause-far c = λ brief. c.go_on.ensures.far
 
 pub returns-in-All-clause-advanced : goal.returns-in-All-clause-advanced
 returns-in-All-clause-advanced c = λ x s st.

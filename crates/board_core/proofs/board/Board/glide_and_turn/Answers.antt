@@ -2,7 +2,7 @@ use Rattle.std.proofs.Common.{◌≡◌, ◌≢◌, ◌⊎◌, inl, inr, ◌-◌
 use Rattle.std.proofs.lemmas.Bool.{leb-true, leb-false, ltb-true, ltb-false}
 use Rattle.run_script.specs.Scripts.{events_of}
 use Rattle.task_table.specs.State.{State}
-use Rattle.board_model.specs.declared.outcomes.Level.TheVariants.{Brief}
+use Rattle.board_model.specs.declared.outcomes.Level.TheVariants.{Calls}
 use Rattle.board_model.specs.Run.{state_after}
 use Rattle.board_core.specs.declared.board.Board.{Board}
 use Rattle.board_core.specs.Stands.{turns_of}
@@ -15,7 +15,7 @@ pub turn_at-requires-clause-stood : goal.turn_at-requires-clause-stood
 turn_at-requires-clause-stood c =
     let x = c.requires.stood.0 in
     let s = c.requires.stood.1 in
-    (x, state_after Brief x (turns_of c.glide.new.self - turns_of c.args.self.now) s, (c.glide.ensures.glided x s c.requires.stood.2).stands)
+    (x, state_after Calls x (turns_of c.glide.new.self - turns_of c.args.self.now) s, (c.glide.ensures.glided x s c.requires.stood.2).stands)
 
 pub returns-then-self-limit-clause-advanced : goal.returns-then-self-limit-clause-advanced
 returns-then-self-limit-clause-advanced c = λ x s st.
@@ -23,7 +23,7 @@ returns-then-self-limit-clause-advanced c = λ x s st.
     let b1 = c.glide.new.self in
     let b2 = c.turn_at.new.self in
     let e : turns_of b1 - turns_of b ≡ turns_of b2 - turns_of b - 1 = omega (arith, c.glide.ensures.more, c.turn_at.ensures.turns) in
-    subst (λ (n : ℕ). IsAdvanced Brief x n s b2) e (one_more x (turns_of b1 - turns_of b) s b1 b2 (c.glide.ensures.glided x s st) (λ u h. c.turn_at.ensures.model x u h) (λ u h. c.turn_at.ensures.notes x u h))
+    subst (λ (n : ℕ). IsAdvanced Calls x n s b2) e (one_more x (turns_of b1 - turns_of b) s b1 b2 (c.glide.ensures.glided x s st) (λ u h. c.turn_at.ensures.model x u h) (λ u h. c.turn_at.ensures.notes x u h))
 
 pub returns-else-self-limit-clause-advanced : goal.returns-else-self-limit-clause-advanced
 returns-else-self-limit-clause-advanced c = λ x s st.
@@ -65,10 +65,10 @@ returns-then-self-limit-clause-needed c = λ x s st task up lt.
     let b2 = c.turn_at.new.self in
     let until : ℕ = c.quiet_until.result in
     let n : ℕ = turns_of b1 - turns_of b in
-    let u : State = state_after Brief x n s in
+    let u : State = state_after Calls x n s in
     let e : n ≡ turns_of b2 - turns_of b - 1 = omega (arith, c.glide.ensures.more, c.turn_at.ensures.turns) in
     let made = c.glide.ensures.glided x s st in
-    subst (λ (k : ℕ). NeedsTurn x s (state_after Brief x k s)) e
+    subst (λ (k : ℕ). NeedsTurn x s (state_after Calls x k s)) e
     (either_way (turns_of b1) until (IsFar x s.current s u) (events_of x.script u.turn ≢ []) (λ less. c.glide.ensures.far x s st task up less)
     (λ over. due_now x s u b.due (turns_of b) (turns_of b1) until c.args.limit st.holds.due c.quiet_until.ensures.met st.holds.turns made.stands.holds.turns c.glide.ensures.within over (omega (arith, c.if-self-limit.true))))
 
@@ -79,9 +79,9 @@ returns-then-self-limit-clause-idle c = λ x s st none up more lt.
     let b2 = c.turn_at.new.self in
     let until : ℕ = c.quiet_until.result in
     let n : ℕ = turns_of b1 - turns_of b in
-    let u : State = state_after Brief x n s in
+    let u : State = state_after Calls x n s in
     let e : n ≡ turns_of b2 - turns_of b - 1 = omega (arith, c.glide.ensures.more, c.turn_at.ensures.turns) in
     let made = c.glide.ensures.glided x s st in
     let over = c.glide.ensures.idle x s st none up (lasts_from x.script until c.args.limit (omega (arith, c.quiet_until.ensures.within, c.requires.left)) more) in
-    subst (λ (k : ℕ). events_of x.script (state_after Brief x k s).turn ≢ []) e
+    subst (λ (k : ℕ). events_of x.script (state_after Calls x k s).turn ≢ []) e
     (due_now x s u b.due (turns_of b) (turns_of b1) until c.args.limit st.holds.due c.quiet_until.ensures.met st.holds.turns made.stands.holds.turns c.glide.ensures.within over (omega (arith, c.if-self-limit.true)))

@@ -3,7 +3,7 @@ use Rattle.std.specs.Option.{is_some}
 use Rattle.std.proofs.lemmas.Bool.{false≢true}
 use Rattle.task_table.specs.State.{State}
 use Rattle.board_model.specs.declared.outcomes.End.{End}
-use Rattle.board_model.specs.declared.outcomes.Level.TheVariants.{Brief}
+use Rattle.board_model.specs.declared.outcomes.Level.TheVariants.{Calls}
 use Rattle.board_model.specs.Script.{Scenario}
 use Rattle.board_model.specs.Run.{ending, turn_after}
 use Rattle.board_core.specs.Stands.{notes_of, turns_of}
@@ -20,13 +20,13 @@ pub ended-requires : goal.ended-requires
 ended-requires c =
     let x : Scenario = c.requires.stood.0 in
     let s : State = c.requires.stood.1 in
-    (x, (turn_after Brief x (turns_of c.on.self - turns_of c.args.self.now - 1) s).state, (c.on.invariant.advanced x s c.requires.stood.2).stands)
+    (x, (turn_after Calls x (turns_of c.on.self - turns_of c.args.self.now - 1) s).state, (c.on.invariant.advanced x s c.requires.stood.2).stands)
 
 pub glide_and_turn-requires-in-on-clause-stood : goal.glide_and_turn-requires-in-on-clause-stood
 glide_and_turn-requires-in-on-clause-stood c =
     let x : Scenario = c.requires.stood.0 in
     let s : State = c.requires.stood.1 in
-    (x, (turn_after Brief x (turns_of c.on.self - turns_of c.args.self.now - 1) s).state, (c.on.invariant.advanced x s c.requires.stood.2).stands)
+    (x, (turn_after Calls x (turns_of c.on.self - turns_of c.args.self.now - 1) s).state, (c.on.invariant.advanced x s c.requires.stood.2).stands)
 
 pub on-preserved : goal.on-preserved
 on-preserved c =
@@ -43,9 +43,9 @@ on-preserved c =
     record {
       advanced = λ x s st.
           let before = inv.advanced x s st in
-          let u : State = (turn_after Brief x n s).state in
+          let u : State = (turn_after Calls x n s).state in
           let goes : ending x 1 u ≡ None = goes_on x u c.ended.result (c.ended.ensures.before x u 1 before.stands (omega arith)) (c.is_none.ensures ∙ ap not c.if-is_none.true) in
-          subst (λ (k : ℕ). IsAdvanced Brief x k s b2) e (joined x n m s b1 b2 before none goes (c.glide_and_turn-in-on.ensures.advanced x u before.stands));
+          subst (λ (k : ℕ). IsAdvanced Calls x k s b2) e (joined x n m s b1 b2 before none goes (c.glide_and_turn-in-on.ensures.advanced x u before.stands));
       more = omega (arith, from, more);
       within = c.glide_and_turn-in-on.ensures.within;
       noted = c.glide_and_turn-in-on.ensures.noted;

@@ -1,7 +1,7 @@
 use Rattle.std.proofs.Common.{◌-◌, ◌<◌, ◌≤◌, length}
 use Rattle.task_table.specs.Limits.{turn_notes}
 use Rattle.task_table.specs.State.{State}
-use Rattle.board_model.specs.declared.outcomes.Level.TheVariants.{Brief}
+use Rattle.board_model.specs.declared.outcomes.Level.TheVariants.{Calls}
 use Rattle.board_model.specs.Script.{Scenario}
 use Rattle.board_core.specs.Stands.{Stands, notes_of, turns_of}
 use Rattle.board_core.specs.Advanced.{IsAdvanced}
@@ -9,7 +9,7 @@ use Rattle.board_core.proofs.board.Board.go_on.Given as goal
 
 abbrev pub invariant-on : goal.invariant-on
 invariant-on l = record {
-  advanced : (x : Scenario) (s : State) → Stands x l.fn.self s → IsAdvanced Brief x (turns_of l.self - turns_of l.fn.self - 1) s l.self;
+  advanced : (x : Scenario) (s : State) → Stands x l.fn.self s → IsAdvanced Calls x (turns_of l.self - turns_of l.fn.self - 1) s l.self;
   more : turns_of l.fn.self < turns_of l.self;
   within : turns_of l.self ≤ l.limit;
   noted : length (notes_of l.self) ≤ turn_notes;

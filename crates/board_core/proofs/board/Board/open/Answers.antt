@@ -3,7 +3,7 @@ use Rattle.run_script.specs.Events.{script_data}
 use Rattle.run_script.specs.Scripts.{ScriptData, IsNext}
 use Rattle.task_table.proofs.Starts.{counted-start}
 use Rattle.task_table.specs.Start.{start, begun}
-use Rattle.board_core.specs.Opened.{setup_of}
+use Rattle.board_core.specs.Opened.{setup_of_image}
 use Rattle.image_format.specs.Images.{picture}
 use Rattle.board_core.proofs.Running.{opened, choice_begun}
 use Rattle.board_core.proofs.Loading.{opened_as}
@@ -11,7 +11,7 @@ use Rattle.board_core.proofs.board.Board.open.Goals as goal
 
 pub returns-clause-stands : goal.returns-clause-stands
 returns-clause-stands c =
-    let g = setup_of (picture c.args.image.now) in
+    let g = setup_of_image (picture c.args.image.now) in
     let s = opened g c.in_ok-kernel.kernel c.in_ok-kernel.ensures.stands in
     let N : ScriptData → Type 0 = λ script. IsNext script 0 c.next-due.result in
     let M : ℕ → Type 0 = λ turn. IsNext (script_data c.args.script.now) turn c.next-due.result in

@@ -1,5 +1,5 @@
 use Rattle.std.proofs.Common.{◌+◌, ◌-◌, ◌≡◌, ℕ, ◌∙◌, subst, arith}
-use Rattle.board_model.specs.declared.outcomes.Level.TheVariants.{Brief}
+use Rattle.board_model.specs.declared.outcomes.Level.TheVariants.{Calls}
 use Rattle.board_core.specs.Stands.{Stands, turns_of}
 use Rattle.board_model.specs.Run.{state_after}
 use Rattle.board_core.proofs.Turning.{rested}
@@ -18,7 +18,7 @@ returns-clause-model c = λ x s st.
     let e : turns_of b + (to - s.turn) ≡ to = omega (arith, from, at) in
     let few = c.requires.few in
     let done = skipped x s record b { machine = m } (to - s.turn) (begun_board x s b m st begun) (quiet_begun x s m begun) (st.holds.choice.next ∙ idle.none) (λ turn lt. not_due x.script s.turn to b.due st.holds.due idle.nothing turn (omega (arith, lt, e))) (omega (arith, few, e)) in
-    subst (λ (n : ℕ). Stands x record b { machine = m; turns = n } (state_after Brief x (to - s.turn) s)) e done
+    subst (λ (n : ℕ). Stands x record b { machine = m; turns = n } (state_after Calls x (to - s.turn) s)) e done
 
 pub returns-clause-nothing : goal.returns-clause-nothing
 returns-clause-nothing c =

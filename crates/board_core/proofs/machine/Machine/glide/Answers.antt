@@ -3,7 +3,7 @@ use Rattle.std.proofs.Common.{◌≡◌, true, ℕ, inl, inr, refl, sym, ◌∙�
 use Rattle.std.proofs.lemmas.Bool.{false≢true}
 use Rattle.std.specs.List.{list_any}
 use Rattle.mem_banks.specs.Memory.{Memory, with_bytes}
-use Rattle.mem_banks.specs.Loans.{bytes_of}
+use Rattle.mem_banks.specs.Windows.{bytes_of}
 use Rattle.thumb_exec.specs.declared.cpu.Cpu.{Cpu}
 use Rattle.thumb_step.specs.Windows.{View, Glides}
 use Rattle.task_table.specs.State.{Setup}
@@ -34,11 +34,11 @@ returns-in_default-clause-glided c = λ g t r.
       holds = loaded_by m.loaded g k m.processor t r.loaded r.holds;
     }
 
-pub returns-then-not-lend-clause-glided : goal.returns-then-not-lend-clause-glided
-returns-then-not-lend-clause-glided c = λ g t r.
+pub returns-then-not-open_window-clause-glided : goal.returns-then-not-open_window-clause-glided
+returns-then-not-open_window-clause-glided c = λ g t r.
     let k = c.args.self.now.reach.kernel in
-    let lent : c.lend.result ≡ true = c.lend.ensures.given (current_of k) (are_usable _ _ _ _ _ c.in-Some.ensures) in
-    absurd (false≢true (sym c.if-not-lend.true ∙ lent))
+    let opened : c.open_window.result ≡ true = c.open_window.ensures.given (current_of k) (are_usable _ _ _ _ _ c.in-Some.ensures) in
+    absurd (false≢true (sym c.if-not-open_window.true ∙ opened))
 
 pub returns-clause-glided : goal.returns-clause-glided
 returns-clause-glided c = λ g t r.
@@ -46,16 +46,16 @@ returns-clause-glided c = λ g t r.
     let k = m.reach.kernel in
     let h = r.holds in
     let rest = rest_of h.saved t m.processor h.is in
-    let lent = c.lend.ensures.lent c.if-not-lend.false in
-    let loan = lent.loan in
+    let opened = c.open_window.ensures.opened c.if-not-open_window.false in
+    let window = opened.window in
     let a = c.aim.new.self in
-    let b = c.lend.new.borrower in
+    let b = c.open_window.new.user in
     let flash = c.in-Some.flash in
     let ram = c.in-Some.ram in
     let pc : ℕ = c.get-pc.result in
     let sp : ℕ = c.get-sp.result in
     let v : View = lent_view a (bytes_of (memory_of k) (flash.base, flash.size)) (bytes_of (memory_of k) (ram.base, ram.size)) in
-    let w : View = lent_view a (bytes_of (memory_of k) (flash.base, flash.size)) loan.after in
+    let w : View = lent_view a (bytes_of (memory_of k) (flash.base, flash.size)) window.after in
     let memory : memory_of k ≡ t.state.memory = h.holds.memory ∙ sym rest.memory in
     let A : Setup → Type 0 = λ x. AreReached (setup_at x (current_of k)).regions pc sp flash ram in
     let C : ℕ → Type 0 = λ i. AreReached (setup_at g i).regions pc sp flash ram in
@@ -67,12 +67,12 @@ returns-clause-glided c = λ g t r.
     let S : ℕ → Type 0 = λ at. IsWholeWindow g t.state.current t.state.memory (register t.state t.state.current program_counter) at v in
     let own : m.processor ≡ cpu_of (task_at t.state t.state.current) = loaded_cpu g k m.processor t h r.sane.steady.current in
     let G : Cpu → Type 0 = λ y. Glides v y b.made w b.runner.processor in
-    let H : ℕ → Type 0 = λ at. IsLoaded g c.lend.new.self b.runner.processor record t { state = later t.state t.state.current b.runner.processor (with_bytes t.state.memory at loan.after) b.made } in
+    let H : ℕ → Type 0 = λ at. IsLoaded g c.open_window.new.self b.runner.processor record t { state = later t.state t.state.current b.runner.processor (with_bytes t.state.memory at window.after) b.made } in
     inl record {
       window = v;
       after = w;
-      whole = subst S stack (subst P there (subst W memory (whole_window g t.state.current (memory_of k) pc sp flash ram v are c.aim.ensures.flash c.aim.ensures.readable c.aim.ensures.ram loan.flash_there loan.ram_there refl refl)));
-      far = λ lt. loan.work.far (flash_below g t.state.current (memory_of k) pc sp flash ram v are c.aim.ensures.flash c.aim.ensures.readable c.aim.ensures.ram loan.flash_there loan.ram_there refl refl) (let most = c.aim.ensures.most in omega (arith, lt, most));
-      glides = subst G (c.aim.ensures.processor ∙ own) loan.work.glides;
-      holds = loaded_by m.loaded g c.lend.new.self b.runner.processor _ r.loaded (subst H (sym c.aim.ensures.ram) (lent_loaded g k c.lend.new.self m.processor b.runner.processor t ram.base loan.after b.made h r.sane.steady.current (λ u held. lent.holds g u held)));
+      whole = subst S stack (subst P there (subst W memory (whole_window g t.state.current (memory_of k) pc sp flash ram v are c.aim.ensures.flash c.aim.ensures.readable c.aim.ensures.ram window.flash_there window.ram_there refl refl)));
+      far = λ lt. window.work.far (flash_below g t.state.current (memory_of k) pc sp flash ram v are c.aim.ensures.flash c.aim.ensures.readable c.aim.ensures.ram window.flash_there window.ram_there refl refl) (let most = c.aim.ensures.most in omega (arith, lt, most));
+      glides = subst G (c.aim.ensures.processor ∙ own) window.work.glides;
+      holds = loaded_by m.loaded g c.open_window.new.self b.runner.processor _ r.loaded (subst H (sym c.aim.ensures.ram) (lent_loaded g k c.open_window.new.self m.processor b.runner.processor t ram.base window.after b.made h r.sane.steady.current (λ u held. opened.holds g u held)));
     }

@@ -6,8 +6,8 @@ use Rattle.board_model.specs.Turn.{with_registers_noted}
 use Rattle.board_core.proofs.Noting.{no_registers_noted}
 use Rattle.board_core.proofs.machine.Machine.note_task.Goals as goal
 
-pub returns-in-Brief-clause-holds : goal.returns-in-Brief-clause-holds
-returns-in-Brief-clause-holds c = λ g t h.
+pub returns-in-Calls-clause-holds : goal.returns-in-Calls-clause-holds
+returns-in-Calls-clause-holds c = λ g t h.
     let P : Level → Type 0 = λ level. MachineHolds g c.args.self.now (with_registers_noted level c.args.task t) in
     let Q : Turn → Type 0 = λ u. MachineHolds g c.args.self.now u in
-    subst P (sym c.in-Brief.is) (subst Q (no_registers_noted c.args.task t) h)
+    subst P (sym c.in-Calls.is) (subst Q (no_registers_noted c.args.task t) h)

@@ -8,7 +8,7 @@ use Rattle.thumb_asm.specs.Assembly.{Assembles}
 use Rattle.image_build.specs.Building.{Holds}
 use Rattle.image_build.specs.Built.{given}
 use Rattle.image_build.specs.Layout.{flash_base, task_at}
-use Rattle.image_build.specs.Taken.{HasTaken, described, next_task}
+use Rattle.image_build.specs.Accepted.{HasAccepted, described, next_task}
 use Rattle.image_build.proofs.Holding.{holds_more, rounded_up}
 use Rattle.image_build.proofs.builder.Builder.source.Goals as goal
 
@@ -46,7 +46,7 @@ put-requires c =
       c.args.self.now.laid.flash_length,
     )
 
-holds : (c : goal.After-drop-object-3) → (sources : List (List ℕ)) → HasTaken sources c.args.self.now
+holds : (c : goal.After-drop-object-3) → (sources : List (List ℕ)) → HasAccepted sources c.args.self.now
     → Holds (described c.args.self.now) (sources ++ c.args.bytes.now ∷ []) (with_items c.args.self.now.flash c.put.new.flash).items
 holds c sources h =
     let app = described c.args.self.now in
@@ -69,8 +69,8 @@ holds c sources h =
     })
     )
 
-pub returns-clause-taken : goal.returns-clause-taken
-returns-clause-taken c = λ sources h. record {
+pub returns-clause-accepted : goal.returns-clause-accepted
+returns-clause-accepted c = λ sources h. record {
   next = omega (arith, h.next, length-append sources (c.args.bytes.now ∷ []));
   most = omega (arith, h.next, c.requires, length-append sources (c.args.bytes.now ∷ []));
   holds = holds c sources h;

@@ -5,7 +5,7 @@ use Rattle.task_table.proofs.Handing.{few_bytes}
 use Rattle.task_table.proofs.Ranges.{within_ram-front}
 use Rattle.task_table.proofs.Messages.{holds_copied, setup_copied}
 use Rattle.task_table.specs.Parts.{task_setup}
-use Rattle.task_table.proofs.Loans.{lendable_same}
+use Rattle.task_table.proofs.Openings.{lendable_same}
 use Rattle.task_table.proofs.Kept.{fresh_stored}
 use Rattle.task_table.proofs.kernel.Kernel.copy.Goals as goal
 
@@ -46,7 +46,7 @@ invariant_of-self-clause-fresh c =
     let few = few_bytes k.memory.bytes a.from a.count in
     rw c.copy.ensures (fresh_stored k.memory.bytes k.watch.low k.watch.span k.entries.items a.to a.count ys k.fresh c.touched.ensures.apart (within_ram-front k.memory.bytes a.to a.count (length ys) within few) few)
 
-pub invariant_of-self-clause-lendable : goal.invariant_of-self-clause-lendable
-invariant_of-self-clause-lendable c =
+pub invariant_of-self-clause-openable : goal.invariant_of-self-clause-openable
+invariant_of-self-clause-openable c =
     let k = c.touched.new.self in
-    lendable_same k.memory.regions c.copy.new.self.regions (map task_setup k.tasks.items) (ap (λ (m : Opened). m.regions) c.copy.ensures) k.lendable
+    lendable_same k.memory.regions c.copy.new.self.regions (map task_setup k.tasks.items) (ap (λ (m : Opened). m.regions) c.copy.ensures) k.openable

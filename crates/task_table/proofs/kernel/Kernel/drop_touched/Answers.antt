@@ -42,8 +42,8 @@ invariant_of-self-clause-many c = c.args.self.now.many
 pub invariant_of-self-clause-there : goal.invariant_of-self-clause-there
 invariant_of-self-clause-there c = c.args.self.now.there
 
-pub invariant_of-self-clause-levels_are : goal.invariant_of-self-clause-levels_are
-invariant_of-self-clause-levels_are c = c.args.self.now.levels_are
+pub invariant_of-self-clause-priorities_are : goal.invariant_of-self-clause-priorities_are
+invariant_of-self-clause-priorities_are c = c.args.self.now.priorities_are
 
 pub invariant_of-self-clause-ready_now : goal.invariant_of-self-clause-ready_now
 invariant_of-self-clause-ready_now c = c.args.self.now.ready_now
@@ -54,8 +54,8 @@ invariant_of-self-clause-offered_now c = c.args.self.now.offered_now
 pub invariant_of-self-clause-deadlines : goal.invariant_of-self-clause-deadlines
 invariant_of-self-clause-deadlines c = c.args.self.now.deadlines
 
-pub invariant_of-self-clause-lendable : goal.invariant_of-self-clause-lendable
-invariant_of-self-clause-lendable c = c.args.self.now.lendable
+pub invariant_of-self-clause-openable : goal.invariant_of-self-clause-openable
+invariant_of-self-clause-openable c = c.args.self.now.openable
 
 pub returns-clause-holds : goal.returns-clause-holds
 returns-clause-holds c = λ g t h. h

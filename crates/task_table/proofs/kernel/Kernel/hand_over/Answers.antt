@@ -9,18 +9,18 @@ use Rattle.task_table.proofs.kernel.Kernel.hand_over.Goals as goal
 pub copy-requires-clause-source : goal.copy-requires-clause-source
 copy-requires-clause-source c =
     let message = c.args.call.now.message in
-    rw c.min-copied.ensures (within-front c.args.self.now.memory.bytes message.base _ message.length (min-le_left message.length c.args.buffer.length) c.requires.source)
+    rw c.min-copied.ensures (within-front c.args.self.now.memory.bytes message.base _ message.len (min-le_left message.len c.args.buffer.len) c.requires.source)
 
 pub copy-requires-clause-target : goal.copy-requires-clause-target
 copy-requires-clause-target c =
     let buffer = c.args.buffer in
-    rw c.min-copied.ensures (within_ram-front c.args.self.now.memory.bytes buffer.base buffer.length _ c.requires.target (min-le_right c.args.call.now.message.length buffer.length))
+    rw c.min-copied.ensures (within_ram-front c.args.self.now.memory.bytes buffer.base buffer.len _ c.requires.target (min-le_right c.args.call.now.message.len buffer.len))
 
 pub returns-clause-holds : goal.returns-clause-holds
 unfolding handed
 returns-clause-holds c = λ g t on k h same client server.
     let call = c.args.call.now in
-    let look : Read = record { call = call.number; part = MessageFront; base = call.message.base; length = c.min-copied.result } in
+    let look : Read = record { call = call.number; part = MessageFront; base = call.message.base; len = c.min-copied.result } in
     let h0 = holds_looked g (kept_of c.args.self.now) t look h in
     let h1 = c.copy.ensures.holds g (looked look t) on h0 in
     let h2 = c.take.ensures.holds g _ h1 in

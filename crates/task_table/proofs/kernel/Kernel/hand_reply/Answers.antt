@@ -21,7 +21,7 @@ copy-requires-clause-target c =
     let k = some_mapped kept_call (taken_by r.turn.state c.args.client c.args.caller) _ r.taken in
     let o = taken_call r.setup r.turn.state c.args.client c.args.caller k.0 r.stands.sane k.1 in
     let room = ap (λ (x : OpenCall). x.reply) k.2 in
-    rw r.stands.holds.memory (within_ram-front r.turn.state.memory c.args.call.now.reply.base c.args.call.now.reply.length c.args.args.now.reply_length (rw room at o.writable) r.fits)
+    rw r.stands.holds.memory (within_ram-front r.turn.state.memory c.args.call.now.reply.base c.args.call.now.reply.len c.args.args.now.reply_length (rw room at o.writable) r.fits)
 
 pub returns-clause-holds : goal.returns-clause-holds
 returns-clause-holds c = λ g t k h taken same.

@@ -40,7 +40,7 @@ invariant_of-self-clause-of_calls c =
     let at : slot ≡ get_or k.slots.items i slot = get_or_default k.slots.items i no_slot slot c.requires.there in
     let small : length lent.turn.state.tasks ≤ 1024 = omega (arith, h.count, k.few) in
     let is : IsEntryOf x slot.wait = of_taken lent.setup lent.turn.state i c.requires.read.0 slot c.requires.read.1 x lent.stands.sane small (h.tasks i c.requires.there no_slot) lent.taken read.listed read.base in
-    let good : bad_byte (setup_of k) i Read record { base = x.base; length = 12 } ≡ None = subst (λ (s : Setup). bad_byte s i Read record { base = x.base; length = 12 } ≡ None) (sym h.setup) read.readable in
+    let good : bad_byte (setup_of k) i Read record { base = x.base; len = 12 } ≡ None = subst (λ (s : Setup). bad_byte s i Read record { base = x.base; len = 12 } ≡ None) (sym h.setup) read.readable in
     of_set (map task_setup k.tasks.items) k.slots.items k.entries.items i x slot c.requires.there at k.of_calls is good
 
 pub invariant_of-self-clause-few : goal.invariant_of-self-clause-few
@@ -58,8 +58,8 @@ invariant_of-self-clause-many c = c.args.self.now.many
 pub invariant_of-self-clause-there : goal.invariant_of-self-clause-there
 invariant_of-self-clause-there c = c.args.self.now.there
 
-pub invariant_of-self-clause-levels_are : goal.invariant_of-self-clause-levels_are
-invariant_of-self-clause-levels_are c = c.args.self.now.levels_are
+pub invariant_of-self-clause-priorities_are : goal.invariant_of-self-clause-priorities_are
+invariant_of-self-clause-priorities_are c = c.args.self.now.priorities_are
 
 pub invariant_of-self-clause-ready_now : goal.invariant_of-self-clause-ready_now
 invariant_of-self-clause-ready_now c = c.args.self.now.ready_now
@@ -70,5 +70,5 @@ invariant_of-self-clause-offered_now c = c.args.self.now.offered_now
 pub invariant_of-self-clause-deadlines : goal.invariant_of-self-clause-deadlines
 invariant_of-self-clause-deadlines c = c.args.self.now.deadlines
 
-pub invariant_of-self-clause-lendable : goal.invariant_of-self-clause-lendable
-invariant_of-self-clause-lendable c = c.args.self.now.lendable
+pub invariant_of-self-clause-openable : goal.invariant_of-self-clause-openable
+invariant_of-self-clause-openable c = c.args.self.now.openable

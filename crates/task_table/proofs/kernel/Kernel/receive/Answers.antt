@@ -1,6 +1,6 @@
 use Rattle.std.proofs.Common.{◌≡◌, ap, ◌∙◌, subst}
 use Rattle.kernel_abi.specs.Arguments.{recv_args}
-use Rattle.task_table.specs.State.{Birth, Own, Range}
+use Rattle.task_table.specs.State.{Birth, Own, Slice}
 use Rattle.task_table.specs.Reading.{arguments, offer_by}
 use Rattle.task_table.specs.Effects.{returned, past_syscall, handed}
 use Rattle.task_table.specs.Rows.{buffer_of}
@@ -37,5 +37,5 @@ returns-clause-holds c = λ g t k h offered same.
     let o = offered_call g t.state c.args.client i k h.sane offered in
     let h1 = c.go_past_syscall.ensures.holds g t h.holds in
     let h2 = c.hand_over.ensures.holds g _ Own k h1 same (ap (λ (b : Birth). b.index) o.client) o.server in
-    let P : Range → Type 0 = λ b. Holds g c.note_return.new.self (returned i (handed Own k b (past_syscall i t))) in
+    let P : Slice → Type 0 = λ b. Holds g c.note_return.new.self (returned i (handed Own k b (past_syscall i t))) in
     subst P buffer (c.note_return.ensures.holds g _ h2)

@@ -56,11 +56,11 @@ invariant_of-self-clause-all_lines c = c.args.self.now.all_lines
 pub invariant_of-self-clause-few_owners : goal.invariant_of-self-clause-few_owners
 invariant_of-self-clause-few_owners c = c.args.self.now.few_owners
 
-pub invariant_of-self-clause-levels_are : goal.invariant_of-self-clause-levels_are
-invariant_of-self-clause-levels_are c = c.args.self.now.levels_are
+pub invariant_of-self-clause-priorities_are : goal.invariant_of-self-clause-priorities_are
+invariant_of-self-clause-priorities_are c = c.args.self.now.priorities_are
 
-pub invariant_of-self-clause-lendable : goal.invariant_of-self-clause-lendable
-invariant_of-self-clause-lendable c = c.args.self.now.lendable
+pub invariant_of-self-clause-openable : goal.invariant_of-self-clause-openable
+invariant_of-self-clause-openable c = c.args.self.now.openable
 
 pub invariant_of-self-clause-fresh : goal.invariant_of-self-clause-fresh
 invariant_of-self-clause-fresh c = c.args.self.now.fresh

@@ -6,7 +6,7 @@ use Rattle.task_table.specs.Parts.{setup_of_parts, task_setup, line_setup}
 use Rattle.task_table.specs.Start.{born}
 use Rattle.task_table.specs.Holds.{packed_task}
 use Rattle.task_table.specs.declared.slot.Wait.TheVariants.{Nothing}
-use Rattle.task_table.specs.Levels.{AreLevels}
+use Rattle.task_table.specs.Priorities.{ArePriorities}
 use Rattle.task_table.specs.Limits.{most_tasks, board_lines}
 use Rattle.task_table.specs.Readiness.{is_free, AreThose}
 use Rattle.task_table.specs.declared.slot.Slot.{Slot}
@@ -49,8 +49,8 @@ pub invariant_of-result-clause-deadlines : goal.invariant_of-result-clause-deadl
 invariant_of-result-clause-deadlines c =
     not_before-unset _ (λ x. packed_task (born (task_setup x)) Nothing) c.args.tasks.now c.in_ok-slots.slots.items c.in_ok-slots.ensures (λ x. refl)
 
-pub invariant_of-result-clause-lendable : goal.invariant_of-result-clause-lendable
-invariant_of-result-clause-lendable c = ∣ rw c.in_ok-copies.ensures.setup c.requires.given ∣₁
+pub invariant_of-result-clause-openable : goal.invariant_of-result-clause-openable
+invariant_of-result-clause-openable c = ∣ rw c.in_ok-copies.ensures.setup c.requires.given ∣₁
 
 pub invariant_of-result-clause-few : goal.invariant_of-result-clause-few
 invariant_of-result-clause-few c = subst (λ (n : ℕ). n ≤ most_tasks) (sym (as_many c.in_ok-slots.slots.items c.args.tasks.now c.in_ok-slots.ensures)) c.requires.few
@@ -67,8 +67,8 @@ invariant_of-result-clause-many c = c.in_ok-copies.ensures.length ∙ sym (as_ma
 pub invariant_of-result-clause-there : goal.invariant_of-result-clause-there
 invariant_of-result-clause-there c = subst (λ (n : ℕ). 0 < n) (sym (as_many c.in_ok-slots.slots.items c.args.tasks.now c.in_ok-slots.ensures)) c.requires.some
 
-pub invariant_of-result-clause-levels_are : goal.invariant_of-result-clause-levels_are
-invariant_of-result-clause-levels_are c = subst (λ (ts : List TaskStart). AreLevels (map task_setup ts) c.in_ok-levels.levels.items) c.deref.ensures.value c.in_ok-levels.ensures
+pub invariant_of-result-clause-priorities_are : goal.invariant_of-result-clause-priorities_are
+invariant_of-result-clause-priorities_are c = subst (λ (ts : List TaskStart). ArePriorities (map task_setup ts) c.in_ok-priorities.priorities.items) c.deref.ensures.value c.in_ok-priorities.ensures
 
 pub invariant_of-result-clause-ready_now : goal.invariant_of-result-clause-ready_now
 invariant_of-result-clause-ready_now c = subst (λ (ss : List Slot). AreThose is_free ss c.ready_tasks-ready.result.words) c.deref-2.ensures.value c.ready_tasks-ready.ensures
@@ -91,17 +91,17 @@ returns-in_err-copies-clause-count c = IfOk-from_err c.from_residual.result _ c.
 pub returns-in_err-copies-clause-notes : goal.returns-in_err-copies-clause-notes
 returns-in_err-copies-clause-notes c = IfOk-from_err c.from_residual.result _ c.from_residual.ensures.0
 
-pub returns-in_err-levels-clause-holds : goal.returns-in_err-levels-clause-holds
-returns-in_err-levels-clause-holds c = IfOk-from_err c.from_residual-in_err-levels.result _ c.from_residual-in_err-levels.ensures.0
+pub returns-in_err-priorities-clause-holds : goal.returns-in_err-priorities-clause-holds
+returns-in_err-priorities-clause-holds c = IfOk-from_err c.from_residual-in_err-priorities.result _ c.from_residual-in_err-priorities.ensures.0
 
-pub returns-in_err-levels-clause-stands : goal.returns-in_err-levels-clause-stands
-returns-in_err-levels-clause-stands c = λ sound. IfOk-from_err c.from_residual-in_err-levels.result _ c.from_residual-in_err-levels.ensures.0
+pub returns-in_err-priorities-clause-stands : goal.returns-in_err-priorities-clause-stands
+returns-in_err-priorities-clause-stands c = λ sound. IfOk-from_err c.from_residual-in_err-priorities.result _ c.from_residual-in_err-priorities.ensures.0
 
-pub returns-in_err-levels-clause-count : goal.returns-in_err-levels-clause-count
-returns-in_err-levels-clause-count c = IfOk-from_err c.from_residual-in_err-levels.result _ c.from_residual-in_err-levels.ensures.0
+pub returns-in_err-priorities-clause-count : goal.returns-in_err-priorities-clause-count
+returns-in_err-priorities-clause-count c = IfOk-from_err c.from_residual-in_err-priorities.result _ c.from_residual-in_err-priorities.ensures.0
 
-pub returns-in_err-levels-clause-notes : goal.returns-in_err-levels-clause-notes
-returns-in_err-levels-clause-notes c = IfOk-from_err c.from_residual-in_err-levels.result _ c.from_residual-in_err-levels.ensures.0
+pub returns-in_err-priorities-clause-notes : goal.returns-in_err-priorities-clause-notes
+returns-in_err-priorities-clause-notes c = IfOk-from_err c.from_residual-in_err-priorities.result _ c.from_residual-in_err-priorities.ensures.0
 
 pub returns-in_err-owners-clause-holds : goal.returns-in_err-owners-clause-holds
 returns-in_err-owners-clause-holds c = IfOk-from_err c.from_residual-in_err-owners.result _ c.from_residual-in_err-owners.ensures.0

@@ -5,7 +5,7 @@ use Rattle.task_table.specs.State.{Listen}
 use Rattle.task_table.specs.Reading.{arguments}
 use Rattle.task_table.specs.Rows.{buffer_of}
 use Rattle.task_table.specs.Messages.{from_of}
-use Rattle.task_table.specs.Holds.{kept_listen, source_of}
+use Rattle.task_table.specs.Holds.{kept_listen, from_id_of}
 use Rattle.task_table.specs.declared.slot.Wait.TheVariants as wait
 use Rattle.task_table.proofs.Changes.{timers_same}
 use Rattle.task_table.proofs.Messages.{kept-with_listen, answered_as}
@@ -20,9 +20,9 @@ returns-clause-holds c = λ g t h idle.
     let l : Listen = record { task = i; from = from; mask = x.mask; buffer = buffer_of x } in
     let same : c.of-args.result ≡ x = c.of-args.ensures ∙ ap recv_args (c.arguments.ensures g t h) in
     let mask : c.of-args.result.mask ≡ x.mask = ap (λ (a : RecvArgs). a.mask) same in
-    let source : c.source.result ≡ source_of from = c.source.ensures g t h in
+    let source : c.from_id.result ≡ from_id_of from = c.from_id.ensures g t h in
     let buffer : c.buffer_of.result ≡ buffer_of x = c.buffer_of.ensures ∙ ap buffer_of same in
     let kept = c.slot-slot.ensures g t h in
-    let is : wait.Listen record { from = c.source.result; mask = c.of-args.result.mask; buffer = c.buffer_of.result } ≡ wait.Listen (kept_listen l) = rw (source, mask, buffer) refl in
+    let is : wait.Listen record { from = c.from_id.result; mask = c.of-args.result.mask; buffer = c.buffer_of.result } ≡ wait.Listen (kept_listen l) = rw (source, mask, buffer) refl in
     let next = c.set_slot.ensures.holds g t _ h (kept-with_listen t.state l _ _ kept idle is) (same_but-with_listen t.state l) (timers_same _ _ i (task_at-with_listen t.state l i)) in
     rw (answered_as t.state c.args.from) (rw mask at (c.note.ensures.holds g _ next))

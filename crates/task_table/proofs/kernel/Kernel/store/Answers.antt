@@ -2,7 +2,7 @@ use Rattle.std.proofs.Common.{◌≤◌, length, map, arith, inl, ap, ◌∙◌}
 use Rattle.mem_banks.specs.Memory.{Opened, IsWithinRam}
 use Rattle.task_table.specs.Holds.{kept_of, setup_of}
 use Rattle.task_table.specs.Parts.{task_setup}
-use Rattle.task_table.proofs.Loans.{lendable_same}
+use Rattle.task_table.proofs.Openings.{lendable_same}
 use Rattle.task_table.proofs.Kept.{fresh_stored}
 use Rattle.task_table.proofs.Steps as steps
 use Rattle.task_table.proofs.kernel.Kernel.store.Goals as goal
@@ -39,7 +39,7 @@ invariant_of-self-clause-fresh c =
     let few : length a.bytes.now ≤ length a.bytes.now = omega arith in
     rw c.store.ensures (fresh_stored k.memory.bytes k.watch.low k.watch.span k.entries.items a.addr (length a.bytes.now) a.bytes.now k.fresh c.touched.ensures.apart within few)
 
-pub invariant_of-self-clause-lendable : goal.invariant_of-self-clause-lendable
-invariant_of-self-clause-lendable c =
+pub invariant_of-self-clause-openable : goal.invariant_of-self-clause-openable
+invariant_of-self-clause-openable c =
     let k = c.touched.new.self in
-    lendable_same k.memory.regions c.store.new.self.regions (map task_setup k.tasks.items) (ap (λ (m : Opened). m.regions) c.store.ensures) k.lendable
+    lendable_same k.memory.regions c.store.new.self.regions (map task_setup k.tasks.items) (ap (λ (m : Opened). m.regions) c.store.ensures) k.openable

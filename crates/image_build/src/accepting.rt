@@ -1,0 +1,105 @@
+//! Sources are accepted one by one.
+
+ghost use Rattle.std.specs.Prelude.{◌≡◌, ◌≤◌, ◌<◌, ◌+◌, ◌++◌, ◌∷◌, ◌⊎◌, ℕ, List, None, [], length, slice_index, IfOk, IfErr, OnOk, OnErr};
+ghost use Rattle.std.specs.BTreeMap.{get_by_text};
+ghost use Rattle.app_toml.specs.Held.{app_of};
+ghost use Rattle.image_build.specs.Building.{HasRoom, IsAssembled, LacksRoom, RefusesSource};
+ghost use Rattle.image_build.specs.Accepted.{HasAccepted, described, next_task};
+
+use crate::builder::Builder;
+use crate::fault::BuildFault;
+use crate::layout::laid_out;
+use crate::reading::{flash_base, task};
+use crate::symbols::symbols;
+use app_toml::App;
+use mem_banks::FLASH;
+use std::alloc::Global;
+use thumb_asm::{AsmFault, Object, assemble};
+
+/// Puts the code into the flash at this place.
+fn put(flash: &mut [u8], at: usize, code: &[u8])
+    requires { at + length code.now ≤ length flash.old }
+    ensures stands { (k : ℕ) → k < length code.now → slice_index flash.new (at + k) ≡ slice_index code.now k }
+    ensures kept { (k : ℕ) → (k < at) ⊎ (at + length code.now ≤ k) → slice_index flash.new k ≡ slice_index flash.old k }
+{
+    for k in 0..code.len() {
+        flash[at + k] = code[k];
+    }
+}
+
+/// What the next task's source is assembled to.
+fn assembled(builder: &Builder<'_>, bytes: &[u8]) -> Result<Object, BuildFault>
+    requires left { next_task builder.now < length (described builder.now).tasks }
+    ensures assembled { IfOk result (λ o. IsAssembled (described builder.now) (next_task builder.now) bytes.now o.bytes.items (get_by_text o.labels)) }
+    ensures refused { IfErr result (RefusesSource (described builder.now) (next_task builder.now) bytes.now) }
+{
+    let next = builder.done;
+    let given = symbols(builder.alloc, builder.app, &builder.layout, next)?;
+    let base = flash_base(builder.app, &builder.layout, next);
+    match assemble(builder.alloc, bytes, base, given.as_slice()) {
+        Ok(object) => Ok(object),
+        Err(AsmFault::Refused(cause, line)) => Err(BuildFault::Source {
+            task: next,
+            cause: cause.number(),
+            line,
+        }),
+        Err(AsmFault::Memory) => Err(BuildFault::Memory),
+    }
+}
+
+impl<'a> Builder<'a> {
+    /// A builder of the application, for which the board has room. It has accepted no source yet.
+    ///
+    /// # Errors
+    ///
+    /// `Flash` where the tasks' flash has no room, else `Ram` where the RAM of tasks and regions has none;
+    /// `Memory` where memory ran out.
+    pub fn open(alloc: Global, app: &'a App) -> Result<Builder<'a>, BuildFault>
+        ensures described { IfOk result (λ b. described b ≡ app_of app.now) }
+        ensures none { IfOk result (HasAccepted []) }
+        ensures room { IfOk result (λ b. HasRoom (app_of app.now)) }
+        ensures refused { IfErr result (LacksRoom (app_of app.now)) }
+    {
+        let layout = laid_out(alloc, app)?;
+        let flash = Vec::from_elem(alloc, 0u8, layout.flash_length as usize)?;
+        Ok(Builder {
+            alloc,
+            app,
+            layout,
+            flash,
+            done: 0,
+        })
+    }
+
+    /// The index of the task whose source is the next, or the number of tasks where each has been accepted.
+    pub fn next(&self) -> usize
+        ensures { result ≡ next_task self.now }
+    {
+        self.done
+    }
+
+    /// Takes the next task's source. Refused, it changes nothing.
+    ///
+    /// # Errors
+    ///
+    /// `Source` where the assembler refuses it, else `Code` where its bytes are more than the task's flash;
+    /// `Memory` where memory ran out.
+    pub fn source(&mut self, bytes: &[u8]) -> Result<(), BuildFault>
+        requires { next_task self.old < length (described self.old).tasks }
+        ensures described { described self.new ≡ described self.old }
+        ensures accepted { OnOk result ((sources : List (List ℕ)) → HasAccepted sources self.old → HasAccepted (sources ++ bytes.now ∷ []) self.new) }
+        ensures refused { IfErr result (RefusesSource (described self.old) (next_task self.old) bytes.now) }
+        ensures unchanged { OnErr result (self.new ≡ self.old) }
+    {
+        let object = assembled(self, bytes)?;
+        let length = object.bytes.len();
+        let next = self.done;
+        if (task(self.app, next).flash as usize) < length {
+            return Err(BuildFault::Code { task: next, length });
+        }
+        let at = (flash_base(self.app, &self.layout, next) - FLASH) as usize;
+        put(self.flash.as_mut_slice(), at, object.bytes.as_slice());
+        self.done = next + 1;
+        Ok(())
+    }
+}

@@ -1,0 +1,25 @@
+-- Which regions of a task a window may have.
+use Rattle.std.specs.Prelude.{ℕ, ◌<◌, ◌≤◌, ◌≡◌, ◌⊎◌, false, List, Contains}
+use Rattle.region_check.specs.declared.Region.{Region}
+use Rattle.mem_banks.specs.Windows.{IsNoRegion}
+use Rattle.task_table.specs.State.{TaskSetup}
+
+-- base and size
+abbrev pub span_of : Region → ℕ × ℕ
+span_of r = (r.base, r.size)
+
+-- each region of a task that is no device was given to the memory
+abbrev pub AreOpenable : List (ℕ × ℕ) → List TaskSetup → Type 0
+AreOpenable given tasks = (task : TaskSetup) (r : Region) → Contains tasks task → Contains task.regions r → r.rights.device ≡ false → Contains given (span_of r)
+
+-- one of some regions that is no device, and has bytes
+pub record IsUsable (regions : List Region) (r : Region) : Type 0 where
+  pub here : Contains regions r
+  pub no_device : r.rights.device ≡ false
+  pub some : 0 < r.size
+
+-- two of some regions: one in the flash, and one in the RAM, or none
+pub record AreUsable (regions : List Region) (flash ram : Region) : Type 0 where
+  pub flash_usable : IsUsable regions flash
+  pub below : flash.base < 0x20000000
+  pub ram_usable : IsNoRegion (span_of ram) ⊎ (IsUsable regions ram × (0x20000000 ≤ ram.base))

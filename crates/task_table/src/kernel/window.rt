@@ -1,0 +1,33 @@
+//! The bytes of two regions, handed to somebody for the time of one call.
+
+use super::Kernel;
+use mem_banks::WindowUser;
+use region_check::Region;
+
+impl Kernel {
+    ghost use Rattle.std.specs.Prelude.{◌≡◌, ℕ, true, false};
+    ghost use Rattle.task_table.specs.State.{Setup, Turn};
+    ghost use Rattle.task_table.specs.Reading.{setup_at};
+    ghost use Rattle.task_table.specs.Holds.{Holds, memory_of, current_of, setup_of};
+    ghost use Rattle.task_table.specs.Frames.{AddsNotes};
+    ghost use Rattle.task_table.specs.Openable.{AreUsable};
+    ghost use Rattle.task_table.specs.Window.{IsWindowOpened};
+
+    /// Opens the bytes of a region of code and of one of the RAM, where each has a bank of its own, or of
+    /// one of code alone, where the other is empty and begins where the RAM does; else the answer is false.
+    /// Those of a task that lie so are opened. An entry of a lease table that has one of the bytes in the
+    /// RAM is kept no more, since the user may write over it.
+    pub fn open_window<B: WindowUser>(&mut self, flash: &Region, ram: &Region, user: &mut B) -> bool
+        ensures opened { result ≡ true → IsWindowOpened B.did self.old flash.now ram.now user.old user.new self.new }
+        ensures given { (task : ℕ) → AreUsable (setup_at (setup_of self.old) task).regions flash.now ram.now → result ≡ true }
+        ensures memory { result ≡ false → memory_of self.new ≡ memory_of self.old }
+        ensures holds { result ≡ false → (g : Setup) (t : Turn) → Holds g self.old t → Holds g self.new t }
+        ensures left { result ≡ false → user.new ≡ user.old }
+        ensures current { current_of self.new ≡ current_of self.old }
+        ensures frame { AddsNotes self.old 0 self.new }
+    {
+        self.touched(ram.base, ram.size as usize);
+        self.memory
+            .open_window((flash.base, flash.size), (ram.base, ram.size), user)
+    }
+}
