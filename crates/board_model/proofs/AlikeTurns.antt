@@ -1,5 +1,5 @@
 -- Turns leave alike states alike.
-use Rattle.std.proofs.Common.{◌≡◌, ◌+◌, ◌<◌, ◌≤◌, ℕ, Bool, true, false, cond, leb, ◌&&◌, List, Option, Some, None, refl, sym, ◌∙◌, ap}
+use Rattle.std.proofs.Common.{◌≡◌, ◌+◌, ℕ, Bool, true, false, cond, leb, ◌&&◌, List, Option, Some, None, refl, sym, ap}
 use Rattle.std.specs.Prelude.{fold}
 use Rattle.kernel_abi.specs.declared.Note.{Note}
 use Rattle.kernel_abi.specs.declared.Note.TheVariants as note
@@ -8,7 +8,7 @@ use Rattle.run_script.specs.declared.events.Event.{Event}
 use Rattle.run_script.specs.declared.events.Event.TheVariants.{Tick, Irq}
 use Rattle.run_script.specs.Scripts.{events_of}
 use Rattle.thumb_exec.specs.Effect.{Store}
-use Rattle.mem_banks.specs.Memory.{number_at, number_of, is_ram}
+use Rattle.mem_banks.specs.Memory.{number_of, is_ram}
 use Rattle.task_table.specs.State.{Setup, State, Own, Turn}
 use Rattle.task_table.specs.Reading.{task_at, listen_of, chosen}
 use Rattle.task_table.specs.Effects.{noted, stored}
