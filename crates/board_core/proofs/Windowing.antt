@@ -123,7 +123,7 @@ ram_at at r h =
       above = leb-true _ _ five.1;
     }
 
--- the regions of a window can be lent
+-- the regions of a window can be opened
 pub are_usable : (regions : List Region) (pc sp : ℕ) (flash ram : Region) → AreReached regions pc sp flash ram → AreUsable regions flash ram
 are_usable regions pc sp flash ram are =
     let f = flash_at pc flash are.flash in
@@ -177,7 +177,7 @@ module _ (g : Setup) (c : ℕ) (m : Memory) (pc sp : ℕ) (flash ram : Region) (
   pub whole_window : IsWholeWindow g c m pc sp v
   whole_window = record { is = window_of; code = flash; stack = ram; reached = are; flash = (flash_base, flash_long); readable = readable; ram = (ram_base, ram_long) }
 
--- ## the kernel that was lent from
+-- ## the kernel whose window was opened
 
 set_twice : (s : State) (i : ℕ) (x y : Task) → with_task i y (with_task i x s) ≡ with_task i y s
 unfolding with_task

@@ -14,7 +14,7 @@ use thumb_step::{Runner, Window};
 use words_core::{Flags, Regs};
 
 /// A processor that makes instructions on end while it has a window, the bytes of a region of flash and of one of RAM. Between
-/// two loans its window has no bytes.
+/// two uses its window has no bytes.
 #[derive(Drop)]
 pub struct Glider {
     pub runner: Runner,

@@ -1,11 +1,11 @@
-//! Ranges of addresses as a task hands them in.
+//! Slices, as a task hands them in.
 
 ghost use Rattle.std.specs.Prelude.{◌≡◌};
 ghost use Rattle.task_table.specs.Reading.{is_valid};
 
 use kernel_abi::Range;
 
-/// Whether a range ends inside the address space.
+/// Whether a slice ends inside the address space.
 pub(crate) fn is_valid(base: u32, len: u32) -> bool
     ensures { result ≡ is_valid record { base = base; len = len } }
 {

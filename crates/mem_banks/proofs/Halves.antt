@@ -33,7 +33,7 @@ get_back old front back k d e n =
 pub get_front : (old front back : List Bank) (k : ℕ) (d : Bank) → old ≡ front ++ back → k < length front → get_or old k d ≡ get_or front k d
 get_front old front back k d e there = rw e (get_or_append_left front back d k there)
 
--- ## one bank of each part lent
+-- ## one bank of each part at hand
 whole_none : (xs : List ℕ) → xs ≡ pasted xs 0 []
 whole_none xs = same_lists _ _ (simp (length-append, length-drop) (omega arith)) (λ i d u. grind (arith, places))
 
@@ -55,7 +55,7 @@ two_by did old between after i j s s' x y p q there_i there_j is_p is_q stays is
       second = put_at between after j 0 y.bytes.items y q (omega (arith, count, there_j)) stays is_after base_y (whole_new q.bytes.items y.bytes.items size);
     }
 
--- ## one bank lent beside no bytes
+-- ## one bank beside no bytes
 pub one_by : {B : Type 0} (did : B → List ℕ → List ℕ → B → List ℕ → Type 0) (old after : List Bank) (i : ℕ) (s s' : B) (x p : Bank) (none left : List ℕ) → i < length old → p ≡ get_or old i p → after ≡ set old i x → x.base ≡ p.base → x.bytes.items ≡ p.bytes.items → none ≡ [] → length left ≡ length none → did s p.bytes.items none s' left → IsOpenedAlone did old i s s' after
 one_by did old after i s s' x p none left there is_p is_after base same empty size work =
     let at_p : (d : Bank) → get_or old i d ≡ p = λ d. get_or_default old i d p there ∙ sym is_p in

@@ -1,4 +1,4 @@
--- What a loan of two banks makes of the memory.
+-- What a window of two banks makes of the memory.
 use Rattle.std.proofs.Common.{ℕ, zero, suc, ◌≡◌, ◌≢◌, ◌<◌, ◌≤◌, ◌+◌, inl, inr, Bool, true, false, ◌&&◌, eqb, rules, leb, List, [], ◌∷◌, length, take, drop, get_or, Contains, refl, ap, sym, ◌∙◌, arith, length-take, length-drop}
 use Rattle.std.proofs.lemmas.Bool.{le-leb, lt-leb, cases_lt}
 use Rattle.std.proofs.lemmas.List.{get_or-set_other, length-append, length-set, same_lists, places, nil_from_length}
@@ -69,7 +69,7 @@ banks_apart f r (b ∷ bs) (suc i) (suc j) d laid small there_i there_j other = 
       banks_apart f (r + length b.bytes.items) bs i j d m.1 h (omega arith) (omega arith) (λ e. other (ap suc e))
 ]
 
--- ## the loan
+-- ## the window
 region_there : (m : Memory) (base len : ℕ) → length m.flash ≤ 1048576 → Side m base len → IsInMemory m (base, len)
 region_there m base len small (ram_side x y) = inl (x, y)
 region_there m base len small (flash_side x y z) = inr (x, y, omega (arith, small, y))
@@ -79,17 +79,17 @@ region_high m base len high (ram_side x y) = (x, y)
 region_high m base len high (flash_side x y z) = absurd (omega arith)
 
 -- the banks after it
-pub two_opened : {B : Type 0} (did : B → List ℕ → List ℕ → B → List ℕ → Type 0) (table : List ℕ) (banks after : List Bank) (i j : ℕ) (flash ram : ℕ × ℕ) (s s' : B) → AreKept table banks → IsBankOf banks i flash → IsBankOf banks j ram → i ≢ j → (lent : AreOpened did banks i j s s' after) → IsDone table banks after ram.0 lent.after
-two_opened did table banks after i j flash ram s s' kept of_i of_j other lent =
+pub two_opened : {B : Type 0} (did : B → List ℕ → List ℕ → B → List ℕ → Type 0) (table : List ℕ) (banks after : List Bank) (i j : ℕ) (flash ram : ℕ × ℕ) (s s' : B) → AreKept table banks → IsBankOf banks i flash → IsBankOf banks j ram → i ≢ j → (opened : AreOpened did banks i j s s' after) → IsDone table banks after ram.0 opened.after
+two_opened did table banks after i j flash ram s s' kept of_i of_j other opened =
     let d : Bank = first_of banks i of_i.0 in
-    let first = put_done table banks lent.between i 0 flash.0 [] d kept of_i.0 (omega (arith, (of_i.1 d).0)) (omega arith) lent.first in
-    let count : length lent.between ≡ length banks = rw lent.first.1 (length-set banks i lent.first.0) in
-    let stays : get_or lent.between j d ≡ get_or banks j d = rw lent.first.1 (get_or-set_other banks i j lent.first.0 d (λ e. other (sym e))) in
-    let begins : (get_or lent.between j d).base + 0 ≡ ram.0 = rw stays (omega (arith, (of_j.1 d).0)) in
-    let fits : 0 + length lent.after ≤ length (get_or lent.between j d).bytes.items = rw stays (omega (arith, lent.size d)) in
-    let second = put_done table lent.between after j 0 ram.0 lent.after d first.kept (omega (arith, count, of_j.0)) begins fits lent.second in
-    let same : seen lent.between ≡ seen banks = first.value ∙ sym (with_bytes_none (seen banks) flash.0 [] refl) in
-    record { kept = second.kept; spans = second.spans ∙ first.spans; value = second.value ∙ ap (λ m. with_bytes m ram.0 lent.after) same }
+    let first = put_done table banks opened.between i 0 flash.0 [] d kept of_i.0 (omega (arith, (of_i.1 d).0)) (omega arith) opened.first in
+    let count : length opened.between ≡ length banks = rw opened.first.1 (length-set banks i opened.first.0) in
+    let stays : get_or opened.between j d ≡ get_or banks j d = rw opened.first.1 (get_or-set_other banks i j opened.first.0 d (λ e. other (sym e))) in
+    let begins : (get_or opened.between j d).base + 0 ≡ ram.0 = rw stays (omega (arith, (of_j.1 d).0)) in
+    let fits : 0 + length opened.after ≤ length (get_or opened.between j d).bytes.items = rw stays (omega (arith, opened.size d)) in
+    let second = put_done table opened.between after j 0 ram.0 opened.after d first.kept (omega (arith, count, of_j.0)) begins fits opened.second in
+    let same : seen opened.between ≡ seen banks = first.value ∙ sym (with_bytes_none (seen banks) flash.0 [] refl) in
+    record { kept = second.kept; spans = second.spans ∙ first.spans; value = second.value ∙ ap (λ m. with_bytes m ram.0 opened.after) same }
 
 take_all : (xs : List ℕ) (n : ℕ) → length xs ≡ n → take n (drop 0 xs) ≡ xs
 take_all xs n e = same_lists _ _ (simp (length-take, length-drop) (omega arith)) (λ i d u. grind (arith, places))
@@ -102,7 +102,7 @@ bank_bytes table banks k r d kept there =
     all ∙ take_all (get_or banks k d).bytes.items r.1 len
 
 pub two_window : {B : Type 0} (did : B → List ℕ → List ℕ → B → List ℕ → Type 0) (table : List ℕ) (banks after : List Bank) (i j : ℕ) (flash ram : ℕ × ℕ) (s s' : B) → AreKept table banks → IsBankOf banks i flash → IsBankOf banks j ram → i ≢ j → 0x20000000 ≤ ram.0 → AreOpened did banks i j s s' after → IsOpened did (seen banks) flash ram s s' (seen after)
-two_window did table banks after i j flash ram s s' kept of_i of_j other high lent =
+two_window did table banks after i j flash ram s s' kept of_i of_j other high opened =
     let d : Bank = first_of banks i of_i.0 in
     let side_i = side_in table banks i 0 flash.0 flash.1 d kept of_i.0 (omega (arith, (of_i.1 d).0)) (omega (arith, (of_i.1 d).1)) in
     let side_j = side_in table banks j 0 ram.0 ram.1 d kept of_j.0 (omega (arith, (of_j.1 d).0)) (omega (arith, (of_j.1 d).1)) in
@@ -111,36 +111,36 @@ two_window did table banks after i j flash ram s s' kept of_i of_j other high le
       flash_there = region_there (seen banks) flash.0 flash.1 kept.flash side_i;
       ram_there = region_high (seen banks) ram.0 ram.1 high side_j;
       apart = rw ((of_i.1 d).0, (of_i.1 d).1, (of_j.1 d).0, (of_j.1 d).1) at apart;
-      after = lent.after;
-      work = rw (bank_bytes table banks i flash d kept of_i, bank_bytes table banks j ram d kept of_j) (lent.work d);
-      size = omega (arith, lent.size d, (of_j.1 d).1);
-      left = (two_opened did table banks after i j flash ram s s' kept of_i of_j other lent).value;
+      after = opened.after;
+      work = rw (bank_bytes table banks i flash d kept of_i, bank_bytes table banks j ram d kept of_j) (opened.work d);
+      size = omega (arith, opened.size d, (of_j.1 d).1);
+      left = (two_opened did table banks after i j flash ram s s' kept of_i of_j other opened).value;
     }
 
--- ## the loan of one bank
+-- ## the window of one bank
 pub one_opened : {B : Type 0} (did : B → List ℕ → List ℕ → B → List ℕ → Type 0) (table : List ℕ) (banks after : List Bank) (i : ℕ) (flash : ℕ × ℕ) (s s' : B) → AreKept table banks → IsBankOf banks i flash → IsOpenedAlone did banks i s s' after → IsDone table banks after flash.0 []
-one_opened did table banks after i flash s s' kept of_i lent =
+one_opened did table banks after i flash s s' kept of_i opened =
     let d : Bank = first_of banks i of_i.0 in
-    put_done table banks after i 0 flash.0 [] d kept of_i.0 (omega (arith, (of_i.1 d).0)) (omega arith) lent.put
+    put_done table banks after i 0 flash.0 [] d kept of_i.0 (omega (arith, (of_i.1 d).0)) (omega arith) opened.put
 
 below_or_in : (m : Memory) (flash ram : ℕ × ℕ) → IsInMemory m flash → ram.0 ≡ 0x20000000 → ram.1 ≡ 0 → AreApart flash ram
 below_or_in m flash ram (inl x) e n = inr (omega (arith, x.0))
 below_or_in m flash ram (inr x) e n = inl (omega (arith, x.2))
 
 pub one_window : {B : Type 0} (did : B → List ℕ → List ℕ → B → List ℕ → Type 0) (table : List ℕ) (banks after : List Bank) (i : ℕ) (flash ram : ℕ × ℕ) (s s' : B) → AreKept table banks → IsBankOf banks i flash → ram.0 ≡ 0x20000000 → ram.1 ≡ 0 → IsOpenedAlone did banks i s s' after → IsOpened did (seen banks) flash ram s s' (seen after)
-one_window did table banks after i flash ram s s' kept of_i begins none lent =
+one_window did table banks after i flash ram s s' kept of_i begins none opened =
     let d : Bank = first_of banks i of_i.0 in
     let side = side_in table banks i 0 flash.0 flash.1 d kept of_i.0 (omega (arith, (of_i.1 d).0)) (omega (arith, (of_i.1 d).1)) in
     let there = region_there (seen banks) flash.0 flash.1 kept.flash side in
     let at_ram : IsInRam (seen banks) ram = (omega arith, omega arith) in
     let empty : bytes_of (seen banks) ram ≡ [] = nil_from_length _ (region_length (seen banks) ram.0 ram.1 (inl at_ram) ∙ none) in
-    let same : seen after ≡ seen banks = (one_opened did table banks after i flash s s' kept of_i lent).value ∙ sym (with_bytes_none (seen banks) flash.0 [] refl) in
+    let same : seen after ≡ seen banks = (one_opened did table banks after i flash s s' kept of_i opened).value ∙ sym (with_bytes_none (seen banks) flash.0 [] refl) in
     record {
       flash_there = there;
       ram_there = at_ram;
       apart = below_or_in (seen banks) flash ram there begins none;
       after = [];
-      work = rw (bank_bytes table banks i flash d kept of_i, empty) (lent.work d);
+      work = rw (bank_bytes table banks i flash d kept of_i, empty) (opened.work d);
       size = sym none;
       left = same ∙ with_bytes_none (seen banks) ram.0 [] refl;
     }

@@ -34,7 +34,7 @@ pub struct Memory {
     /// How many bytes the RAM has.
     ram: u32,
     regions: Vec<(u32, u32)>,
-    /// For the empty list that is lent beside a region of the flash alone.
+    /// For the empty list that stands beside a region of the flash alone.
     alloc: Global,
 }
 

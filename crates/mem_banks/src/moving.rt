@@ -66,7 +66,7 @@ fn store_pieces(banks: &mut [Bank], table: &[u16], addr: u32, bytes: &[u8])
     }
 }
 
-/// Copies bytes from a place of one bank to a place of another, or of the same one. Two banks are lent
+/// Copies bytes from a place of one bank to a place of another, or of the same one. Two banks are at hand
 /// at once, one to be read and one to be written.
 fn move_piece(banks: &mut [Bank], source: Place, target: Place, count: usize)
     requires source { source.bank < length banks.old }

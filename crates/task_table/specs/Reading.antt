@@ -101,11 +101,11 @@ admits Any client = true
 admits (One b) client = same_birth b client
 admits KernelOnly client = false
 
--- a range is valid where it ends inside the address space
+-- a slice is valid where it ends inside the address space
 abbrev pub is_valid : Slice → Bool
 is_valid r = nat_le (r.base + r.len) (2 ^ 32)
 
--- the first byte of a range that may not be copied for a task
+-- the first byte of a slice that may not be copied for a task
 unfoldable pub bad_byte : Setup → ℕ → Right → Slice → Option ℕ
 bad_byte g i right r = first_bad (setup_at g i).regions right r.base r.len
 
