@@ -25,7 +25,7 @@ fault-requires-clause-to_ten c =
 
 pub syscall-requires-clause-ready : goal.syscall-requires-clause-ready
 syscall-requires-clause-ready c =
-    let w = was_syscall _ _ _ _ _ _ c.exec.ensures c.in-Syscall.is in
+    let w = was_syscall _ _ _ _ _ _ c.exec.ensures c.in-Call.is in
     (c.requires.ready.0, c.requires.ready.1, ready_same _ _ _ _ _ w.1 w.2 c.requires.ready.2, c.requires.ready.3)
 
 pub returns-in-Next-clause-holds : goal.returns-in-Next-clause-holds
@@ -36,9 +36,9 @@ returns-in-Next-clause-holds c = λ g t r.
     (next_loaded g _ t t.state.current _ w.processor c.exec.new.cpu w.stores (sym here ∙ w.is) w.after
     (goes_on g _ _ _ c.exec.new.cpu t w.stores r.holds r.sane.steady.current (λ u h. stores_hold w.stores _ _ w.bus g u h)))
 
-pub returns-in-Syscall-clause-holds : goal.returns-in-Syscall-clause-holds
-returns-in-Syscall-clause-holds c = λ g t r.
-    let w = was_syscall _ _ _ _ _ _ c.exec.ensures c.in-Syscall.is in
+pub returns-in-Call-clause-holds : goal.returns-in-Call-clause-holds
+returns-in-Call-clause-holds c = λ g t r.
+    let w = was_syscall _ _ _ _ _ _ c.exec.ensures c.in-Call.is in
     let here = effect_loaded g _ _ t c.args.insn.now r.holds r.sane.steady.current in
     acted_as g (MachineHolds g c.syscall.new.self) t.state.current t _ _ (sym here ∙ w.0) (c.syscall.ensures.holds g t (ready_same _ _ _ _ _ w.1 w.2 r))
 
