@@ -98,6 +98,14 @@ fn a_board_opens(rt: HostRuntime) -> Result<(), Fail> {
     Ok(())
 }
 
+#[test]
+fn next_turns(rt: HostRuntime) -> Result<(), Fail> {
+    let board = with_script(&rt, rt.alloc(), 0xe7fe, b"at 7 tick\n")?;
+    let next = [board.next(0), board.next(7), board.next(8)];
+    assert!(rt; next == [Some(7), Some(7), None]);
+    Ok(())
+}
+
 // Quiet turns are made up to the limit, to an event or to a note; one by one where all is told.
 #[test]
 fn turns_on_end(rt: HostRuntime) -> Result<(), Fail> {
