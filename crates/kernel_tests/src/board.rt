@@ -78,7 +78,7 @@ fn after_turns(
     let mut board = with_script(rt, alloc, second, script)?;
     advance(&mut board, level, 100);
     let task = board.task(0).expect(rt, "there is a task");
-    Ok((shown(&board), task.regs[0], task.registers[15]))
+    Ok((shown(&board), task.regs[0], task.regs[15]))
 }
 
 #[test]
