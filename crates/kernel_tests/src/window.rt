@@ -80,7 +80,7 @@ fn opens_each_two(memory: &mut Memory) -> bool {
 
 // Such as have no bank of their own are not opened.
 #[test]
-fn regions_of_a_memory_are_lent(rt: HostRuntime) -> Result<(), Fail> {
+fn regions_of_a_memory_are_opened(rt: HostRuntime) -> Result<(), Fail> {
     let mut memory = Memory::open(rt.alloc(), &[7; 64], 512, &REGIONS)?;
     let opens = opens_each_two(&mut memory);
     let code = (FLASH, 32);
@@ -98,7 +98,7 @@ fn regions_of_a_memory_are_lent(rt: HostRuntime) -> Result<(), Fail> {
 
 // No bytes are beside it, also where the RAM begins with a region. An empty region elsewhere is none.
 #[test]
-fn a_text_alone_is_lent(rt: HostRuntime) -> Result<(), Fail> {
+fn a_text_alone_is_opened(rt: HostRuntime) -> Result<(), Fail> {
     let regions = [(FLASH, 32), (RAM, 8)];
     let mut memory = Memory::open(rt.alloc(), &[7; 64], 16, &regions)?;
     let mut sizes = Sizes { flash: 99, ram: 99 };
