@@ -62,7 +62,7 @@ notification = "tick"
 "#;
 
 const FULL_SHOWN: &str = r#"65536 16384 fault
-[: "sup", source: "sup.s", priority: 0, start: true, flash: 256, ram: 256, stack: 64, notifications: ["fault", "tick"], uses: [], reads: [] }, : "echo", source: "echo.s", priority: 1, start: false, flash: 512, ram: 1024, stack: 1024, notifications: ["line"], uses: ["buffer", "uart"], reads: ["log"] }]
+[TaskSpec { name: "sup", source: "sup.s", priority: 0, start: true, flash: 256, ram: 256, stack: 64, notifications: ["fault", "tick"], uses: [], reads: [] }, TaskSpec { name: "echo", source: "echo.s", priority: 1, start: false, flash: 512, ram: 1024, stack: 1024, notifications: ["line"], uses: ["buffer", "uart"], reads: ["log"] }]
 [RegionSpec { name: "buffer", size: 300 }, RegionSpec { name: "log", size: 1 }] [DeviceSpec { name: "uart", base: 1073741824, size: 256 }, DeviceSpec { name: "timer", base: 1610611712, size: 1024 }] [LineSpec { line: 31, task: "echo", notification: "line" }, LineSpec { line: 3, task: "sup", notification: "tick" }]"#;
 
 fn shown(alloc: Global, app: &App) -> Result<String, AllocError> {
