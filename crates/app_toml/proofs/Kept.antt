@@ -10,7 +10,8 @@ use Rattle.app_toml.specs.Accepted.{IsAccepted, IsDevice, IsInterrupt, IsName, I
 use Rattle.app_toml.specs.Apps.{AppData}
 use Rattle.app_toml.specs.Crossed.{cross_fault}
 use Rattle.app_toml.specs.Document.{form_fault, listed_fault, listed_found, single_fault, single_found, tables_fault, top_fault}
-use Rattle.app_toml.specs.Forms.{is_name, name_fault, names_fault}
+use Rattle.text_lines.specs.Names.{is_name}
+use Rattle.app_toml.specs.Forms.{name_fault, names_fault}
 use Rattle.app_toml.specs.Keys.{KeyRow, board_keys, device_keys, found_fault, interrupt_keys, keys_fault, needed, optional, region_keys, supervisor_keys, table_fault, task_keys, unknown_fault}
 use Rattle.app_toml.specs.Places.{Site, Text, at_entry, at_key, head_site, index_site, refuse}
 use Rattle.app_toml.specs.Values.{app_in, device_in, each_in, interrupt_in, members_in, number_in, region_in, small, table_of, task_in, text_of, texts_of}
@@ -160,10 +161,10 @@ interrupt_kept : (site : Site) (d : Data) → table_fault interrupt_keys site d 
 interrupt_kept site d e =
     let ms = table_of d in
     let inner = inner_none interrupt_keys site d e in
-    let low = number_kept 0 31 (at_key (codes "line") site) (get_member (codes "line") ms) (lit< tt)
+    let low = number_kept 0 63 (at_key (codes "line") site) (get_member (codes "line") ms) (lit< tt)
     (key_none interrupt_keys site ms 0 no_key (lit< tt) inner) in
     record {
-      line = as_byte 31 (number_in (codes "line") ms) (lit< tt) low.1;
+      line = as_byte 63 (number_in (codes "line") ms) (lit< tt) low.1;
       task = name_kept (at_key (codes "task") site) (get_member (codes "task") ms) (key_none interrupt_keys site ms 1 no_key (lit< tt) inner);
       notification = name_kept (at_key (codes "notification") site) (get_member (codes "notification") ms) (key_none interrupt_keys site ms 2 no_key (lit< tt) inner);
     }

@@ -149,11 +149,11 @@ not_zero n e = grind (arith, nat_tests)
 has_counts : (app : AppData) → count_fault app.tasks ≡ None → HasCounts app
 has_counts app e =
     let count = both_none (task_count app.tasks) _ e in
-    let two = both_none (refuse_if (nat_lt 32 (length app.tasks)) 11 (index_site (codes "task") 32)) _ count.0 in
+    let two = both_none (refuse_if (nat_lt 512 (length app.tasks)) 11 (index_site (codes "task") 512)) _ count.0 in
     let each = both_none (first_fault notification_count 0 app.tasks) _ count.1 in
     record {
       some_task = not_zero (length app.tasks) (not_refused (length app.tasks == 0) 12 (head_site (codes "task")) two.1);
-      most_tasks = ltb-false 32 (length app.tasks) (not_refused (nat_lt 32 (length app.tasks)) 11 (index_site (codes "task") 32) two.0);
+      most_tasks = ltb-false 512 (length app.tasks) (not_refused (nat_lt 512 (length app.tasks)) 11 (index_site (codes "task") 512) two.0);
       notifications = each_fine notification_count (λ t. length t.notifications ≤ 32)
           (λ k t none. ltb-false 32 (length t.notifications) (not_refused (nat_lt 32 (length t.notifications)) 13 (task_site k (codes "notifications")) none)) app.tasks each.0;
       regions = each_fine region_count (λ t. length t.uses + length t.reads ≤ 6)

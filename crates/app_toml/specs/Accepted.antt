@@ -2,8 +2,8 @@
 use Rattle.std.specs.Prelude.{ℕ, ◌≡◌, ◌≤◌, ◌<◌, true, None, length, All}
 use Rattle.app_toml.specs.Apps.{AppData, DeviceData, InterruptData, RegionData, TaskData}
 use Rattle.app_toml.specs.Crossed.{cross_fault}
-use Rattle.app_toml.specs.Forms.{is_name}
 use Rattle.app_toml.specs.Places.{Text}
+use Rattle.text_lines.specs.Names.{is_name}
 
 abbrev pub IsName : Text → Type 0
 IsName text = is_name text ≡ true
@@ -32,7 +32,7 @@ pub record IsDevice (d : DeviceData) : Type 0 where
   pub size : IsWithin 256 536870912 d.size
 
 pub record IsInterrupt (i : InterruptData) : Type 0 where
-  pub line : i.line ≤ 31
+  pub line : i.line ≤ 63
   pub task : IsName i.task
   pub notification : IsName i.notification
 

@@ -114,7 +114,7 @@ unknown_name app =
 
 abbrev pub task_count : List TaskData → Option Refusal
 task_count tasks =
-    or_else (refuse_if (nat_lt 32 (length tasks)) 11 (index_site (codes "task") 32))
+    or_else (refuse_if (nat_lt 512 (length tasks)) 11 (index_site (codes "task") 512))
     (refuse_if (length tasks == 0) 12 (head_site (codes "task")))
 
 abbrev pub notification_count : ℕ → TaskData → Option Refusal

@@ -1,23 +1,11 @@
 -- The forms that values have, and the first fault of a value: of cause 4 its type, 5 its range,
 -- 6 its form.
-use Rattle.std.specs.Prelude.{ℕ, ℤ, Bool, ◌+◌, ◌&&◌, ◌||◌, ◌==◌, length, Option, None, if◌then◌else◌, int_le, nat_le, nat_lt}
-use Rattle.std.specs.List.{list_all, slice_index_or}
+use Rattle.std.specs.Prelude.{ℕ, ℤ, Bool, ◌+◌, ◌&&◌, ◌==◌, length, Option, None, if◌then◌else◌, int_le}
+use Rattle.text_lines.specs.Names.{is_name}
 use Rattle.toml.specs.Data.{Data, string, integer, boolean, array, Items, no_items, item}
 use Rattle.app_toml.specs.declared.forms.Form.{Form}
 use Rattle.app_toml.specs.declared.forms.Form.TheVariants.{Number, Name, Filled, Flag, Names}
 use Rattle.app_toml.specs.Places.{Refusal, Site, Text, at_entry, or_else, refuse}
-
-abbrev pub is_letter : ℕ → Bool
-is_letter b = (nat_le 65 b && nat_le b 90) || (nat_le 97 b && nat_le b 122)
-
--- a letter, a digit or `_`
-abbrev pub is_name_byte : ℕ → Bool
-is_name_byte b = is_letter b || (nat_le 48 b && nat_le b 57) || b == 95
-
--- a letter, then letters, digits and `_`; at most 24
-abbrev pub is_name : Text → Bool
-is_name text = nat_lt 0 (length text) && nat_le (length text) 24
-    && is_letter (slice_index_or text 0 0) && list_all is_name_byte text
 
 abbrev pub name_fault : Site → Data → Option Refusal
 name_fault site (string text) = if is_name text then None else refuse 6 site

@@ -52,7 +52,7 @@ device_keys = needed (codes "name") Name
     ∷ needed (codes "size") (Number (pos 256) (pos 536870912)) ∷ []
 
 abbrev pub interrupt_keys : List KeyRow
-interrupt_keys = needed (codes "line") (Number (pos 0) (pos 31))
+interrupt_keys = needed (codes "line") (Number (pos 0) (pos 63))
     ∷ needed (codes "task") Name
     ∷ needed (codes "notification") Name ∷ []
 

@@ -64,7 +64,7 @@ pub record HasReferences (app : AppData) : Type 0 where
 
 pub record HasCounts (app : AppData) : Type 0 where
   pub some_task : 1 ≤ length app.tasks
-  pub most_tasks : length app.tasks ≤ 32
+  pub most_tasks : length app.tasks ≤ 512
   pub notifications : All (λ t. length t.notifications ≤ 32) app.tasks
   pub regions : All (λ t. length t.uses + length t.reads ≤ 6) app.tasks
 

@@ -1,12 +1,12 @@
 //! The forms of values.
 
 ghost use Rattle.std.specs.Prelude.{◌≡◌, option_map};
-ghost use Rattle.std.specs.List.{list_all};
 ghost use Rattle.toml.specs.View.{items_view, view};
-ghost use Rattle.app_toml.specs.Forms.{filled_fault, flag_fault, is_letter, is_name, is_name_byte, name_fault, names_fault, number_fault, value_fault};
+ghost use Rattle.app_toml.specs.Forms.{filled_fault, flag_fault, name_fault, names_fault, number_fault, value_fault};
 ghost use Rattle.app_toml.specs.Sites.{refusal_of, site_of};
 
 use crate::places::{Fault, Place, entry_place, fault_at};
+use text_lines::is_name;
 use toml::Value;
 
 /// What the value of a key has to be: a number within limits, a name, a text that is not empty,
@@ -20,46 +20,13 @@ pub(crate) enum Form {
     Names,
 }
 
-fn is_letter(byte: u8) -> bool
-    ensures { result ≡ is_letter byte }
-{
-    (65 <= byte && byte <= 90) || (97 <= byte && byte <= 122)
-}
-
-fn is_name_byte(byte: u8) -> bool
-    ensures { result ≡ is_name_byte byte }
-{
-    is_letter(byte) || (48 <= byte && byte <= 57) || byte == 95
-}
-
-fn all_name_bytes(bytes: &[u8]) -> bool
-    ensures { result ≡ list_all is_name_byte bytes.now }
-{
-    for byte in bytes {
-        if !is_name_byte(*byte) {
-            return false;
-        }
-    }
-    true
-}
-
-fn is_name(text: &str) -> bool
-    ensures { result ≡ is_name text.now }
-{
-    let bytes = text.as_bytes();
-    if bytes.is_empty() || bytes.len() > 24 {
-        return false;
-    }
-    is_letter(bytes[0]) && all_name_bytes(bytes)
-}
-
 fn name_fault<'a>(place: Place<'a>, value: &Value) -> Option<Fault<'a>>
     ensures { option_map refusal_of result ≡ name_fault (site_of place.entry) (view value.now) }
 {
     match value.as_str() {
         None => fault_at(4, place),
         Some(text) => {
-            if is_name(text) {
+            if is_name(text.as_bytes()) {
                 None
             } else {
                 fault_at(6, place)

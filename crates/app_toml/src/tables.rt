@@ -110,7 +110,7 @@ pub(crate) static INTERRUPT_KEYS: [Key; 3] = [
     Key {
         name: "line",
         is_needed: true,
-        form: Form::Number(0, 31),
+        form: Form::Number(0, 63),
     },
     Key {
         name: "task",

@@ -71,7 +71,7 @@ fn first_broken(rule: Rule, tasks: &[TaskSpec]) -> Option<Fault<'static>>
 fn task_count(tasks: &[TaskSpec]) -> Option<Fault<'static>>
     ensures { option_map refusal_of result ≡ task_count (map task_of tasks.now) }
 {
-    let many = fault_if(tasks.len() > 32, 11, index_place("task", 32));
+    let many = fault_if(tasks.len() > 512, 11, index_place("task", 512));
     if many.is_some() {
         return many;
     }

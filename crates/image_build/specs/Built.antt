@@ -25,6 +25,7 @@ task_built app i t = record {
   entry = flash_base app i + 1;
   sp = ram_base app i + t.stack;
   regions = task_regions app i t;
+  names = t.notifications;
 }
 
 abbrev pub tasks_from : AppData → ℕ → List TaskData → List TaskPicture
@@ -44,7 +45,7 @@ lines_at app line = map (line_built app) (filter (λ i. i.line == line) app.inte
 
 -- the interrupts, ascending by line
 abbrev pub lines_built : AppData → List LinePicture
-lines_built app = flat_map (lines_at app) (range_with_len 0 32)
+lines_built app = flat_map (lines_at app) (range_with_len 0 64)
 
 -- the image, but for what its flash holds
 abbrev pub picture_built : AppData → List ℕ → Picture

@@ -8,6 +8,7 @@ pub record Accepted (r : Records) : Type 0 where
   pub tasks : length r.tasks ≡ r.header.tasks
   pub regions : length r.regions ≡ r.header.regions
   pub lines : length r.lines ≡ r.header.lines
+  pub names : length r.names ≡ r.header.names
   pub flash : length r.flash ≡ r.header.flash
   pub fields : field_fault r.header ≡ None
   pub records : records_fault r ≡ None

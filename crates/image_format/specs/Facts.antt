@@ -1,9 +1,10 @@
 -- What is known of each sound image.
-use Rattle.std.specs.Prelude.{ℕ, ◌≡◌, ◌⊎◌, ◌+◌, ◌-◌, ◌≤◌, ◌<◌, ◌%◌, true, false, length, Contains}
+use Rattle.std.specs.Prelude.{ℕ, List, [], ◌≡◌, ◌≢◌, ◌⊎◌, slice_index_or, ◌+◌, ◌-◌, ◌≤◌, ◌<◌, ◌%◌, true, false, length, Contains}
 use Rattle.region_check.specs.declared.Region.{Region}
 use Rattle.region_check.specs.declared.Right.TheVariants.{Execute}
 use Rattle.region_check.specs.Rights.{may_use}
-use Rattle.image_format.specs.Picture.{Picture, line_in, regions_in, task_in}
+use Rattle.text_lines.specs.Names.{is_name}
+use Rattle.image_format.specs.Picture.{Picture, line_in, names_in, regions_in, task_in}
 
 -- the bytes from a base on, so many, lie in the flash; in the RAM
 abbrev pub IsInFlash : Picture → Region → Type 0
@@ -19,8 +20,8 @@ SameOrApart r e = ((r.base ≡ e.base) × (r.size ≡ e.size))
 
 pub record HasSizes (p : Picture) : Type 0 where
   pub some_task : 1 ≤ length p.tasks
-  pub most_tasks : length p.tasks ≤ 32
-  pub most_lines : length p.lines ≤ 32
+  pub most_tasks : length p.tasks ≤ 512
+  pub most_lines : length p.lines ≤ 64
   pub some_flash : 1 ≤ length p.flash
   pub most_flash : length p.flash ≤ 1048576
   pub most_ram : p.ram ≤ 262144
@@ -55,12 +56,20 @@ pub record HasRegions (p : Picture) : Type 0 where
 -- each interrupt k
 pub record HasLines (p : Picture) : Type 0 where
   pub ascending : (k m : ℕ) → k < m → m < length p.lines → (line_in p k).line < (line_in p m).line
-  pub below : (k : ℕ) → (line_in p k).line < 32
+  pub below : (k : ℕ) → (line_in p k).line < 64
   pub owners : (k : ℕ) → k < length p.lines → (line_in p k).task < length p.tasks
   pub bits : (k : ℕ) → k < length p.lines → 0 < (line_in p k).bits
+
+-- the names of the notifications of each task i
+pub record HasNames (p : Picture) : Type 0 where
+  pub few : (i : ℕ) → length (names_in p i) ≤ 32
+  pub named : (i : ℕ) (name : List ℕ) → Contains (names_in p i) name → is_name name ≡ true
+  pub different : (i k m : ℕ) → k < m → m < length (names_in p i)
+      → slice_index_or (names_in p i) k [] ≢ slice_index_or (names_in p i) m []
 
 pub record Facts (p : Picture) : Type 0 where
   pub sizes : HasSizes p
   pub tasks : HasTasks p
   pub regions : HasRegions p
   pub lines : HasLines p
+  pub names : HasNames p

@@ -14,6 +14,7 @@ records_in i = record {
   tasks = i.tasks.items;
   regions = i.regions.items;
   lines = i.lines.items;
+  names = i.names.items;
   flash = i.flash.items;
 }
 

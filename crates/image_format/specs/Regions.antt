@@ -5,7 +5,7 @@ use Rattle.region_check.specs.Sizes.{is_size}
 use Rattle.image_format.specs.declared.records.Header.{Header}
 use Rattle.image_format.specs.declared.records.TaskRecord.{TaskRecord}
 use Rattle.image_format.specs.declared.records.RegionRecord.{RegionRecord}
-use Rattle.image_format.specs.Steps.{Refusal, first, or_else}
+use Rattle.image_format.specs.Steps.{Refusal, first, header_size, or_else, regions_place}
 
 -- ---- one region
 
@@ -65,7 +65,7 @@ regions_from h others place (t ∷ ts) rs =
     (regions_from h (others ++ take t.regions rs) (place + 12 * t.regions) ts (drop t.regions rs))
 
 abbrev pub regions_fault : Header → List TaskRecord → List RegionRecord → Option Refusal
-regions_fault h ts rs = regions_from h [] (20 + 12 * h.tasks) ts rs
+regions_fault h ts rs = regions_from h [] (regions_place h) ts rs
 
 -- ---- entries
 
@@ -84,5 +84,5 @@ entries_from place (t ∷ ts) rs =
     or_else (entry_fault (take t.regions rs) t place)
     (entries_from (place + 12) ts (drop t.regions rs))
 
-abbrev pub entries_fault : List TaskRecord → List RegionRecord → Option Refusal
-entries_fault ts rs = entries_from 20 ts rs
+abbrev pub entries_fault : Header → List TaskRecord → List RegionRecord → Option Refusal
+entries_fault h ts rs = entries_from (header_size h.form) ts rs

@@ -2,26 +2,39 @@
 
 use thiserror::Error;
 
-/// The 20 bytes that an image begins with, after the letters `HBI1`: how many tasks, interrupts and
-/// regions it has, how many bytes of flash and of RAM, and the bits posted to task 0 at a fault.
+/// The form of an image's file, told by its first four bytes.
+#[derive(Clone, Copy, PartialEq, Eq)]
+pub enum Form {
+    /// `HBI1`: at most 32 tasks and 32 interrupts, and no names.
+    First,
+    /// `HBI2`: at most 512 tasks and 64 interrupts, and the names of each task's notifications.
+    Second,
+}
+
+/// What an image begins with, after its first four letters: how many tasks, interrupts and regions it has, a zero, how many
+/// bytes of flash and of RAM, the bits posted to task 0 at a fault, and how many bytes the names take. The first form has
+/// neither the zero nor the bytes of names: both are 0 then.
 #[derive(Clone, Copy)]
 pub struct Header {
-    pub tasks: u8,
-    pub lines: u8,
+    pub form: Form,
+    pub tasks: u16,
+    pub lines: u16,
     pub regions: u16,
+    pub zero: u16,
     pub flash: u32,
     pub ram: u32,
     pub bits: u32,
+    pub names: u32,
 }
 
-/// A task: its priority (0 is the highest), flags (bit 0: started), how many regions it has, a zero
-/// byte, where it begins (bit 0 set) and its first stack pointer.
+/// A task: its priority (0 is the highest), flags (bit 0: started), how many regions and how many names it has, where it
+/// begins (bit 0 set) and its first stack pointer. In the first form the number of names is a byte that is to be 0.
 #[derive(Clone, Copy)]
 pub struct TaskRecord {
     pub priority: u8,
     pub flags: u8,
     pub regions: u8,
-    pub zero: u8,
+    pub names: u8,
     pub entry: u32,
     pub sp: u32,
 }
@@ -38,7 +51,7 @@ pub struct RegionRecord {
 #[derive(Clone, Copy)]
 pub struct LineRecord {
     pub line: u8,
-    pub task: u8,
+    pub task: u16,
     pub zero: u16,
     pub bits: u32,
 }

@@ -1,6 +1,6 @@
 -- The JSON object that lists an image, its keys in byte order.
 use Rattle.std.specs.Prelude.{ℕ, List, codes, length, map}
-use Rattle.serde_json.specs.Data.{Data, Items, number, unsigned, array, object, member, no_members}
+use Rattle.serde_json.specs.Data.{Data, Items, number, unsigned, string, array, object, member, no_members}
 use Rattle.serde_json.specs.View.{items_of}
 use Rattle.region_check.specs.declared.Region.{Region}
 use Rattle.image_format.specs.Picture.{Picture, TaskPicture, LinePicture, bit, rights_number}
@@ -18,13 +18,17 @@ region_data r = object (member (codes "base") (whole r.base)
 abbrev pub regions_data : List Region → Items
 regions_data rs = items_of (map region_data rs)
 
--- start is 1 for a task that runs at the start, else 0
+abbrev pub names_data : List (List ℕ) → Items
+names_data names = items_of (map string names)
+
+-- notifications are the names of bits 0, 1, ..; start is 1 for a task that runs at the start, else 0
 abbrev pub task_data : TaskPicture → Data
 task_data t = object (member (codes "entry") (whole t.entry)
+    (member (codes "notifications") (array (names_data t.names))
     (member (codes "priority") (whole t.priority)
     (member (codes "regions") (array (regions_data t.regions))
     (member (codes "sp") (whole t.sp)
-    (member (codes "start") (whole (bit t.started 1)) no_members)))))
+    (member (codes "start") (whole (bit t.started 1)) no_members))))))
 
 abbrev pub tasks_data : List TaskPicture → Items
 tasks_data ts = items_of (map task_data ts)

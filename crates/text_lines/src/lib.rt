@@ -1,6 +1,10 @@
-//! The lines of a text, and the numbers that pieces of it are (docs/FORMATS.md, Assembler and
-//! Script).
+//! The lines of a text, and the numbers and names that pieces of it are (docs/FORMATS.md, Assembler, Script and
+//! Application).
 #![tactic(auto)]
+
+mod names;
+
+pub use names::is_name;
 
 ghost use Rattle.std.specs.Prelude.{◌≡◌, ℕ, ◌-◌, ◌<◌, ◌≤◌, ◌+◌, ◌*◌, ◌^◌, length, true, IfSome, IfNone, ◌∷◌, [], slice_index, nat_le, if◌then◌else◌};
 ghost use Rattle.text_lines.specs.Text.{lines_of, is_digit, is_hex, digit, number_of, hex_number_of, without_cr, FirstLineEnds, LastLineEnds, NothingHasNoLine};

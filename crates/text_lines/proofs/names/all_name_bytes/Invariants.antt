@@ -1,7 +1,7 @@
 use Rattle.std.proofs.Common.{◌≡◌, drop}
 use Rattle.std.specs.List.{list_all}
-use Rattle.app_toml.specs.Forms.{is_name_byte}
-use Rattle.app_toml.proofs.forms.all_name_bytes.Given as goal
+use Rattle.text_lines.specs.Names.{is_name_byte}
+use Rattle.text_lines.proofs.names.all_name_bytes.Given as goal
 
 abbrev pub invariant-loop-byte : goal.invariant-loop-byte
 invariant-loop-byte l = list_all is_name_byte (drop l.byte-index l.bytes) ≡ list_all is_name_byte l.bytes
