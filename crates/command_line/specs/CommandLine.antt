@@ -68,13 +68,14 @@ number_in id rows = number_of (unwrap_or (one_of id rows) [])
 -- What the program may be asked for: to build an application, and the name of the image; a run of an
 -- image with a script, for so many turns at most, and in which detail it is told; the same of an
 -- application; a list of an image; a run of the sample of a seed for so many turns at most, of which the
--- notes are counted.
+-- notes are counted; to write an image in the form of today, and the name of that file.
 pub data Asked : Type 0 where
   build : Text → Text → Asked
   run : Text → Text → ℕ → Detail → Asked
   go : Text → Text → ℕ → Detail → Asked
   list : Text → Asked
   sample : ℕ → ℕ → Asked
+  migrate : Text → Text → Asked
 
 -- `--all` and `--mem`
 abbrev pub detail_in : List Row → Detail
@@ -131,8 +132,16 @@ sample_form = record {
   asks = λ rows. sample (number_in (codes "seed") rows) (number_in (codes "steps") rows);
 }
 
+-- `migrate IMAGE OUT`
+abbrev pub migrate_form : Form
+migrate_form = record {
+  name = codes "migrate";
+  rules = positional_rule (codes "image") ∷ positional_rule (codes "out") ∷ [];
+  asks = λ rows. migrate (text_in (codes "image") rows) (text_in (codes "out") rows);
+}
+
 abbrev pub forms : List Form
-forms = build_form ∷ run_form ∷ go_form ∷ list_form ∷ sample_form ∷ []
+forms = build_form ∷ run_form ∷ go_form ∷ list_form ∷ sample_form ∷ migrate_form ∷ []
 
 -- ---- the program
 

@@ -55,6 +55,10 @@ pub record IsWholeSample (rows : List Row) : Type 0 where
   pub seed : IsSeed (one_of (codes "seed") rows)
   pub steps : IsSteps (one_of (codes "steps") rows)
 
+pub record IsWholeMigrate (rows : List Row) : Type 0 where
+  pub image : HasText (codes "image") rows
+  pub out : HasText (codes "out") rows
+
 -- a command of the program, with all that it wants
 abbrev pub IsWhole : Option (Text × List Row) → Type 0
 IsWhole None = ⊥
@@ -62,4 +66,5 @@ IsWhole (Some p) = ((p.0 ≡ codes "build") × IsWholeBuild p.1)
     ⊎ (((p.0 ≡ codes "run") × IsWholeRun p.1)
     ⊎ (((p.0 ≡ codes "go") × IsWholeGo p.1)
     ⊎ (((p.0 ≡ codes "list") × IsWholeList p.1)
-    ⊎ ((p.0 ≡ codes "sample") × IsWholeSample p.1))))
+    ⊎ (((p.0 ≡ codes "sample") × IsWholeSample p.1)
+    ⊎ ((p.0 ≡ codes "migrate") × IsWholeMigrate p.1)))))

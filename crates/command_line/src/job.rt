@@ -1,7 +1,7 @@
 //! What the matches of a command ask for.
 ghost use Rattle.std.specs.Prelude.{◌≡◌, ◌≤◌, ◌<◌, ◌^◌, ℕ, Some, codes};
 ghost use Rattle.clap.specs.Words.{rows_of, found_of, one_of};
-ghost use Rattle.command_line.specs.CommandLine.{asked_by, build_form, run_form, go_form, list_form, sample_form, text_in, is_set, detail_in, number_in, most_steps};
+ghost use Rattle.command_line.specs.CommandLine.{asked_by, build_form, run_form, go_form, list_form, sample_form, migrate_form, text_in, is_set, detail_in, number_in, most_steps};
 ghost use Rattle.command_line.specs.Required.{IsNumber, IsSeed, IsSteps, IsWhole};
 ghost use Rattle.command_line.specs.Asking.{asked, steps_of};
 
@@ -45,6 +45,11 @@ pub enum Job<'a> {
     Sample {
         seed: u32,
         steps: u32,
+    },
+    /// Write IMAGE, of either form, in the form in which images are built, and put it under OUT.
+    Migrate {
+        image: &'a str,
+        out: &'a str,
     },
 }
 
@@ -149,6 +154,16 @@ fn sample_by<'a>(matches: &ArgMatches<'a>) -> Job<'a>
     }
 }
 
+fn migrate_by<'a>(matches: &ArgMatches<'a>) -> Job<'a>
+    ensures job { asked result ≡ migrate_form.asks (rows_of (found_of matches.now)) }
+    ensures few { steps_of result ≡ 0 }
+{
+    Job::Migrate {
+        image: text_of(matches, "image"),
+        out: text_of(matches, "out"),
+    }
+}
+
 /// The job that a command's name and matches ask for.
 pub fn job_by<'a>(name: &str, matches: &ArgMatches<'a>) -> Job<'a>
     ensures job { IsWhole (Some (name.now, rows_of (found_of matches.now))) → asked_by name.now (rows_of (found_of matches.now)) ≡ Some (asked result) }
@@ -162,7 +177,9 @@ pub fn job_by<'a>(name: &str, matches: &ArgMatches<'a>) -> Job<'a>
         go_by(matches)
     } else if name == "list" {
         list_by(matches)
-    } else {
+    } else if name == "sample" {
         sample_by(matches)
+    } else {
+        migrate_by(matches)
     }
 }

@@ -27,10 +27,10 @@ choice : (b : Bool) (x y : Statement) → Known x → Known y → Known (if b th
 choice true x y h k = h
 choice false x y h k = k
 
-no_line_of_tick : (line : ℕ) → Tick ≡ Irq line → line < 32
+no_line_of_tick : (line : ℕ) → Tick ≡ Irq line → line < 64
 no_line_of_tick line e = absurd (cc)
 
-line_of_irq : (line own : ℕ) → own ≤ 31 → Irq own ≡ Irq line → line < 32
+line_of_irq : (line own : ℕ) → own ≤ 63 → Irq own ≡ Irq line → line < 64
 line_of_irq line own h e = let same : own ≡ line = (cc) in omega arith
 
 known_period : (o : Option ℕ) → ((n : ℕ) → o ≡ Some n → (1 ≤ n) × (n ≤ 1000000000)) → Known (period_said o)
@@ -41,7 +41,7 @@ known_tick : (o : Option ℕ) → ((n : ℕ) → o ≡ Some n → (0 ≤ n) × (
 known_tick None h = tt
 known_tick (Some n) h = let both = h n refl in record { turn = omega (arith, both.1); line = no_line_of_tick }
 
-known_irq : (o p : Option ℕ) → ((n : ℕ) → o ≡ Some n → (0 ≤ n) × (n ≤ 999999999)) → ((n : ℕ) → p ≡ Some n → (0 ≤ n) × (n ≤ 31)) → Known (irq_said o p)
+known_irq : (o p : Option ℕ) → ((n : ℕ) → o ≡ Some n → (0 ≤ n) × (n ≤ 999999999)) → ((n : ℕ) → p ≡ Some n → (0 ≤ n) × (n ≤ 63)) → Known (irq_said o p)
 known_irq None p h k = tt
 known_irq (Some n) None h k = tt
 known_irq (Some n) (Some own) h k = let both = h n refl in let bound = k own refl in record { turn = omega (arith, both.1); line = λ line e. line_of_irq line own bound.1 e }
@@ -56,7 +56,7 @@ known_at : (ws : List (List ℕ)) → Known (at_said ws)
 known_at [] = tt
 known_at (a ∷ []) = tt
 known_at (a ∷ b ∷ []) = choice (bytes_eq b (codes "tick")) _ _ (known_tick (turn_in a) (number_within_bounds 0 999999999 a)) tt
-known_at (a ∷ b ∷ c ∷ []) = choice (bytes_eq b (codes "irq")) _ _ (known_irq (turn_in a) (line_in c) (number_within_bounds 0 999999999 a) (number_within_bounds 0 31 c)) tt
+known_at (a ∷ b ∷ c ∷ []) = choice (bytes_eq b (codes "irq")) _ _ (known_irq (turn_in a) (line_in c) (number_within_bounds 0 999999999 a) (number_within_bounds 0 63 c)) tt
 known_at (a ∷ b ∷ c ∷ d ∷ ws) = tt
 
 known_words : (ws : List (List ℕ)) → Known (words_said ws)

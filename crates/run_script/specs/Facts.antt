@@ -10,9 +10,9 @@ pub record IsPeriod (period : ℕ) : Type 0 where
   pub some : 0 < period
   pub most : period ≤ 1000000000
 
--- an interrupt is on a line below 32
+-- an interrupt is on a line below 64
 abbrev pub HasLine : Event → Type 0
-HasLine event = (line : ℕ) → event ≡ Irq line → line < 32
+HasLine event = (line : ℕ) → event ≡ Irq line → line < 64
 
 pub record IsListed (listed : Listed) : Type 0 where
   pub turn : listed.0 < 1000000000

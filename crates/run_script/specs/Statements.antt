@@ -25,7 +25,7 @@ abbrev pub turn_in : List ℕ → Option ℕ
 turn_in word = number_within 0 999999999 word
 
 abbrev pub line_in : List ℕ → Option ℕ
-line_in word = number_within 0 31 word
+line_in word = number_within 0 63 word
 
 -- ---- the forms, with cause 3 where a number is none or out of range
 

@@ -7,7 +7,7 @@ use thiserror::Error;
 pub enum Event {
     /// The clock goes on by one.
     Tick,
-    /// An interrupt on a line, 0 to 31.
+    /// An interrupt on a line, 0 to 63.
     Irq { line: u8 },
 }
 

@@ -51,7 +51,7 @@ fn turn_in(word: &[u8]) -> Option<u32>
 fn line_in(word: &[u8]) -> Option<u8>
     ensures { result ≡ line_in word.now }
 {
-    match number_within(word, 0, 31) {
+    match number_within(word, 0, 63) {
         None => None,
         Some(line) => Some(line as u8),
     }

@@ -6,6 +6,7 @@
 //! handed over; `failing calls` and `failing pushes`, the numbers of the reads and puts, and of the pushes, that fail;
 //! `hex NAME`, a file as bytes, where `00*9` is nine of one; `room NAME`, a file with room for so many bytes, and those
 //! that it holds; `player NAME` and `server NAME`, the source of a task that makes the calls of a table, and the table;
+//! `repeated NAME`, a file in which the lines between a line `< N` and a line `>` stand N times, `@` being the number of the time;
 //! `left NAME`, the bytes that stand there in the end; and any other key is the name of a file that stands there as it is.
 //! Last comes `text`, the lines that are wanted, or `sum`, the checksum of the text.
 #![tactic(auto)]
@@ -13,9 +14,11 @@
 mod halfwords;
 mod images;
 mod players;
+mod repeated;
 
 use outside_io::{MemFiles, MemSink, read_all};
 use players::{END, FRONT, PLAYER, SERVER};
+use repeated::push_repeated;
 use std::alloc::{AllocError, Global};
 use std::{env, fs, io};
 use trace_cli::hubris_main;
@@ -135,6 +138,8 @@ enum Form {
     AsItIs,
     Hex,
     Room,
+    /// with lines that are repeated
+    Repeated,
     /// a source of a task whose calls are a table: how it makes them
     Calls(&'static str),
 }
@@ -154,6 +159,7 @@ fn form_of(word: &str) -> Form {
     match word {
         "hex" => Form::Hex,
         "room" => Form::Room,
+        "repeated" => Form::Repeated,
         "player" => Form::Calls(PLAYER),
         "server" => Form::Calls(SERVER),
         _ => Form::AsItIs,
@@ -181,6 +187,7 @@ fn push_contents(bytes: &mut Vec<u8>, form: Form, contents: &str) -> Result<(), 
         Form::AsItIs => push_text(bytes, contents),
         Form::Hex => push_runs(bytes, contents),
         Form::Room => push_runs(bytes, first_line(contents).1),
+        Form::Repeated => push_repeated(bytes, contents),
         Form::Calls(call) => {
             push_text(bytes, FRONT)?;
             push_text(bytes, call)?;

@@ -8,7 +8,7 @@ use Rattle.app_toml.specs.Apps.{AppData}
 use Rattle.image_build.specs.Built.{Built}
 use Rattle.sample_gen.specs.Sample.{sample_app, sample_sources}
 use Rattle.board_model.specs.Script.{Scenario}
-use Rattle.command_line.specs.CommandLine.{Asked, build, run, go, list, sample, is_accepted, job_of}
+use Rattle.command_line.specs.CommandLine.{Asked, build, run, go, list, sample, migrate, is_accepted, job_of}
 use Rattle.command_line.specs.declared.job.Detail.{Detail}
 use Rattle.build_laws.proofs.OnePicture.{one_picture}
 use Rattle.trace_cli.specs.Contents.{Why, scenario_of, sample_scenario}
@@ -42,6 +42,7 @@ same_run (go app script steps detail) cs n n' m m' x y p q =
 same_run (build app out) cs n n' m m' x y p q = absurd p
 same_run (list image) cs n n' m m' x y p q = absurd p
 same_run (sample seed steps) cs n n' m m' x y p q = absurd p
+same_run (migrate image out) cs n n' m m' x y p q = absurd p
 
 same_listing : (job : Asked) (cs : List (List ℕ)) (a b : Picture) → IsListing job cs a → IsListing job cs b → listed a ≡ listed b
 same_listing (list image) cs a b p q = ap listed (p ∙ sym q)
@@ -49,6 +50,7 @@ same_listing (build app out) cs a b p q = absurd p
 same_listing (run image script steps detail) cs a b p q = absurd p
 same_listing (go app script steps detail) cs a b p q = absurd p
 same_listing (sample seed steps) cs a b p q = absurd p
+same_listing (migrate image out) cs a b p q = absurd p
 
 same_build : (job : Asked) (cs : List (List ℕ)) (o o' : List ℕ) (a b : Picture) → IsBuild job cs o a → IsBuild job cs o' b → built o a ≡ built o' b
 same_build (build app out) cs o o' a b p q =
@@ -59,6 +61,10 @@ same_build (run image script steps detail) cs o o' a b p q = absurd p
 same_build (go app script steps detail) cs o o' a b p q = absurd p
 same_build (list image) cs o o' a b p q = absurd p
 same_build (sample seed steps) cs o o' a b p q = absurd p
+same_build (migrate file out) cs o o' a b p q =
+    let name : o ≡ o' = p.0 ∙ sym q.0 in
+    let image : a ≡ b = p.1 ∙ sym q.1 in
+    ap (λ (n : List ℕ). built n a) name ∙ ap (built o') image
 
 -- of applications and sources by number
 same_image_at : (app : ℕ → AppData) (sources : ℕ → List (List ℕ)) (s s' : ℕ) (a b : Picture) → s' ≡ s → Built (app s) (sources s) a → Built (app s') (sources s') b → a ≡ b
@@ -85,6 +91,7 @@ run_or_listing (go app script steps detail) cs n m x a p q = q
 run_or_listing (build app out) cs n m x a p q = q
 run_or_listing (list image) cs n m x a p q = p
 run_or_listing (sample seed steps) cs n m x a p q = p
+run_or_listing (migrate image out) cs n m x a p q = p
 
 run_or_build : (job : Asked) (cs : List (List ℕ)) (n : ℕ) (m : Detail) (x : Scenario) (o : List ℕ) (a : Picture) → IsRun job cs n m x → IsBuild job cs o a → ⊥
 run_or_build (run image script steps detail) cs n m x o a p q = q
@@ -92,6 +99,7 @@ run_or_build (go app script steps detail) cs n m x o a p q = q
 run_or_build (build app out) cs n m x o a p q = p
 run_or_build (list image) cs n m x o a p q = p
 run_or_build (sample seed steps) cs n m x o a p q = p
+run_or_build (migrate image out) cs n m x o a p q = p
 
 listing_or_build : (job : Asked) (cs : List (List ℕ)) (a : Picture) (o : List ℕ) (b : Picture) → IsListing job cs a → IsBuild job cs o b → ⊥
 listing_or_build (run image script steps detail) cs a o b p q = q
@@ -99,6 +107,7 @@ listing_or_build (go app script steps detail) cs a o b p q = q
 listing_or_build (build app out) cs a o b p q = p
 listing_or_build (list image) cs a o b p q = q
 listing_or_build (sample seed steps) cs a o b p q = p
+listing_or_build (migrate image out) cs a o b p q = p
 
 run_or_sample : (job : Asked) (cs : List (List ℕ)) (n : ℕ) (m : Detail) (x : Scenario) (s k : ℕ) (y : Scenario) → IsRun job cs n m x → IsSample job s k y → ⊥
 run_or_sample job cs n m x s k y p q = subst (λ (j : Asked). IsRun j cs n m x) q.is p

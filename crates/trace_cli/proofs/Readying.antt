@@ -8,7 +8,7 @@ use Rattle.board_core.specs.declared.board.Board.{Board}
 use Rattle.board_model.specs.Script.{Scenario}
 use Rattle.board_core.specs.Stands.{Stands, Stood, turns_of}
 use Rattle.outside_io.specs.Outside.{Rose}
-use Rattle.command_line.specs.CommandLine.{Asked, build, run, go, list}
+use Rattle.command_line.specs.CommandLine.{Asked, build, run, go, list, migrate}
 use Rattle.command_line.specs.declared.job.Detail.{Detail}
 use Rattle.trace_cli.specs.declared.file_faults.NamedFault.{NamedFault}
 use Rattle.trace_cli.specs.declared.file_faults.NamedFault.TheVariants as named_faults
@@ -74,6 +74,18 @@ list_faults a c image h fault = record {
 
 pub list_reason : (a b : FilesSeen) (image : List ℕ) (picture : Picture) → IsImageFile a.contents image picture → JobReason (list image) a b (listed picture)
 list_reason a b image picture i = does (i.bytes ∷ []) (record { takes = one_file a.contents image picture [] i; all = refl }) (lists picture i.is refl)
+
+-- ## `migrate`
+
+pub migrate_faults : (a c : FilesSeen) (image out : List ℕ) (h : NamedFault) → IsNamedFaultOf a c (image_file image) h → IsNamedFaultIn (migrate image out) a c h
+migrate_faults a c image out h fault = record {
+  contents = [];
+  at = record { takes = takes_none (MayBe a.contents) (image_file image ∷ []); file = image_file image; next = refl; fault = fault };
+}
+
+migrate_reason : (a b : FilesSeen) (image out : List ℕ) (picture : Picture) → IsImageFile a.contents image picture → JobReason (migrate image out) a b (built out picture)
+migrate_reason a b image out picture i =
+    does (i.bytes ∷ []) (record { takes = one_file a.contents image picture [] i; all = refl }) (builds out picture (refl, i.is) refl)
 
 -- ## `build`
 
@@ -204,6 +216,14 @@ tells_earlier a b c w w' v r same puts (answer.spoiled is rose left none) =
 tells_earlier a b c w w' v r same puts (answer.short s) =
     answer.short (record { status = s.status; written = s.written; faults = s.faults; files = s.files ∙ same })
 
+answers_put : (job : Asked) (a b c : FilesSeen) (w w' : SinkSeen) (out : List ℕ) (image : Picture) (r : ℕ) → b.contents ≡ a.contents → b.put_faults ≡ a.put_faults → JobReason job a c (built out image)
+    → Tells b c w w' (built out image) r → AnswersJob job a c w w' r
+answers_put job a b c w w' out image r same puts why t = inr (built out image, why, tells_earlier a b c w w' (built out image) r same puts t)
+
 pub answers_built : (a b c : FilesSeen) (w w' : SinkSeen) (app out : List ℕ) (image : Picture) (r : ℕ) → b.contents ≡ a.contents → b.put_faults ≡ a.put_faults → IsImage a.contents app image
     → Tells b c w w' (built out image) r → AnswersJob (build app out) a c w w' r
-answers_built a b c w w' app out image r same puts i t = inr (built out image, build_reason a c app out image i, tells_earlier a b c w w' (built out image) r same puts t)
+answers_built a b c w w' app out image r same puts i t = answers_put (build app out) a b c w w' out image r same puts (build_reason a c app out image i) t
+
+pub answers_migrated : (a b c : FilesSeen) (w w' : SinkSeen) (file out : List ℕ) (image : Picture) (r : ℕ) → b.contents ≡ a.contents → b.put_faults ≡ a.put_faults → IsImageFile a.contents file image
+    → Tells b c w w' (built out image) r → AnswersJob (migrate file out) a c w w' r
+answers_migrated a b c w w' file out image r same puts i t = answers_put (migrate file out) a b c w w' out image r same puts (migrate_reason a c file out image i) t

@@ -7,7 +7,7 @@ use Rattle.board_model.specs.declared.outcomes.Level.TheVariants.{Calls}
 use Rattle.board_model.specs.Script.{Scenario}
 use Rattle.board_model.specs.declared.outcomes.End.{End}
 use Rattle.board_model.specs.declared.outcomes.End.TheVariants.{Bound, Still, Supervisor}
-use Rattle.command_line.specs.CommandLine.{Asked, build, run, go, list, sample, is_accepted, job_of}
+use Rattle.command_line.specs.CommandLine.{Asked, build, run, go, list, sample, migrate, is_accepted, job_of}
 use Rattle.outside_io.specs.Seen.{FilesSeen, SinkSeen}
 use Rattle.trace_cli.specs.Words.{job_in, out_of}
 use Rattle.trace_cli.specs.Sources.{IsBuild, IsSample}
@@ -266,7 +266,7 @@ was_ran words a b w w' r h e =
 
 -- ## which file is changed, and when
 
--- a verdict that puts a file is a build's, under its OUT and with status 0
+-- a verdict that puts a file is of a job with an OUT, puts it there and has status 0
 data Puts (words : List (List ℕ)) (v : Verdict) : Type 0 where
   puts_none : v.put ≡ None → Puts words v
   puts_out : (o bytes : List ℕ) → v.put ≡ Some (o, bytes) → out_of (job_in words) ≡ Some o → v.status ≡ 0 → Puts words v
@@ -277,6 +277,7 @@ built_out (run image script steps detail) cs o i p = absurd p
 built_out (go app script steps detail) cs o i p = absurd p
 built_out (list image) cs o i p = absurd p
 built_out (sample seed steps) cs o i p = absurd p
+built_out (migrate image out) cs o i p = ap Some (sym p.0)
 
 reason_puts : (words : List (List ℕ)) (a b : FilesSeen) (v : Verdict) → Reason words a b v → Puts words v
 reason_puts words a b v (no_job none is) = puts_none (ap (λ (u : Verdict). u.put) is)

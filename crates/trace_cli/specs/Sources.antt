@@ -5,7 +5,7 @@ use Rattle.app_toml.specs.Apps.{AppData, TaskData}
 use Rattle.image_format.specs.Picture.{Picture, Sound}
 use Rattle.image_build.specs.Built.{Built}
 use Rattle.board_model.specs.Script.{Scenario}
-use Rattle.command_line.specs.CommandLine.{Asked, build, run, go, list, sample}
+use Rattle.command_line.specs.CommandLine.{Asked, build, run, go, list, sample, migrate}
 use Rattle.command_line.specs.declared.job.Detail.{Detail}
 use Rattle.sample_gen.specs.Sample.{sample_app, sample_sources}
 use Rattle.trace_cli.specs.Contents.{Why, image_refusal, script_refusal, app_refusal, source_refusal, picture_of, application_of, scenario_of, sample_scenario}
@@ -41,13 +41,14 @@ abbrev pub files_to_build : List ℕ → List ℕ → List File
 files_to_build app first = app_file app ∷ source_files (application_of first)
 
 -- The files of a job of which the first file holds these bytes: `build` takes those of its application, `go` too and then
--- its script; `run` takes its image and then its script, `list` its image, `sample` none.
+-- its script; `run` takes its image and then its script, `list` and `migrate` their image, `sample` none.
 abbrev pub files_of : Asked → List ℕ → List File
 files_of (build app out) first = files_to_build app first
 files_of (run image script steps detail) first = image_file image ∷ script_file script ∷ []
 files_of (go app script steps detail) first = files_to_build app first ++ script_file script ∷ []
 files_of (list image) first = image_file image ∷ []
 files_of (sample seed steps) first = []
+files_of (migrate image out) first = image_file image ∷ []
 
 abbrev pub first_of : List (List ℕ) → List ℕ
 first_of contents = slice_index_or contents 0 []
@@ -117,6 +118,7 @@ IsRun (go app script steps detail) contents n d x =
 IsRun (build app out) contents n d x = ⊥
 IsRun (list image) contents n d x = ⊥
 IsRun (sample seed steps) contents n d x = ⊥
+IsRun (migrate image out) contents n d x = ⊥
 
 -- the job is a listing of this image
 abbrev pub IsListing : Asked → List (List ℕ) → Picture → Type 0
@@ -125,14 +127,16 @@ IsListing (build app out) contents image = ⊥
 IsListing (run name script steps detail) contents image = ⊥
 IsListing (go app script steps detail) contents image = ⊥
 IsListing (sample seed steps) contents image = ⊥
+IsListing (migrate file out) contents image = ⊥
 
--- the job is to build this image and to put it under this name
+-- the job is to build this image, or it is the one that the file spells, and to put it under this name
 abbrev pub IsBuild : Asked → List (List ℕ) → List ℕ → Picture → Type 0
 IsBuild (build app out) contents name image = (name ≡ out) × IsBuilt contents image
 IsBuild (run file script steps detail) contents name image = ⊥
 IsBuild (go app script steps detail) contents name image = ⊥
 IsBuild (list file) contents name image = ⊥
 IsBuild (sample seed steps) contents name image = ⊥
+IsBuild (migrate file out) contents name image = (name ≡ out) × (image ≡ picture_of (first_of contents))
 
 -- the job is a run of this scenario up to this bound, of which the notes are counted: the sample of this seed, as it is built
 pub record IsSample (job : Asked) (seed n : ℕ) (x : Scenario) : Type 0 where

@@ -31,7 +31,7 @@ abbrev pub line_alone : ℕ → List ℕ → Verdict
 line_alone status line = record { status = status; text = line; put = None }
 
 abbrev pub usage_line : List ℕ
-usage_line = codes "usage: hubris build, run, go, list or sample\n"
+usage_line = codes "usage: hubris build, run, go, list, sample or migrate\n"
 
 -- `refused <name> <cause> <place>`
 unfoldable pub refused_front : List ℕ → ℕ → List ℕ

@@ -6,7 +6,7 @@ ghost use Rattle.image_format.specs.Images.{picture};
 ghost use Rattle.board_model.specs.Script.{Scenario};
 ghost use Rattle.board_core.specs.Stands.{Stands, Stood, turns_of};
 ghost use Rattle.task_table.specs.Start.{start};
-ghost use Rattle.command_line.specs.CommandLine.{Asked, is_accepted, build as build_job, run as run_job, go as go_job, list as list_job};
+ghost use Rattle.command_line.specs.CommandLine.{Asked, is_accepted, build as build_job, run as run_job, go as go_job, list as list_job, migrate as migrate_job};
 ghost use Rattle.outside_io.specs.Seen.{FilesSeen};
 ghost use Rattle.trace_cli.specs.Words.{texts_of, job_in, out_of};
 ghost use Rattle.trace_cli.specs.Verdict.{Verdict, IsVerdict, usage_line, ran, built, level_of, run_of, status_of};
@@ -190,6 +190,24 @@ fn build_file<F: Files, S: Sink>(
     }
 }
 
+// `migrate IMAGE OUT`.
+fn migrate_file<F: Files, S: Sink>(
+    alloc: Global,
+    image: &str,
+    name: &str,
+    files: &mut F,
+    out: &mut S,
+) -> u8
+    ensures answer { AnswersJob (migrate_job image.now name.now) (F.seen files.old) (F.seen files.new) (S.seen out.old) (S.seen out.new) result }
+    ensures later { (F.seen files.old).read_faults ≤ (F.seen files.new).read_faults }
+    ensures puts { (F.seen files.old).put_faults ≤ (F.seen files.new).put_faults }
+{
+    match read_image(alloc, files, image) {
+        Ok(picture) => put_image(alloc, &picture, name, files, out),
+        Err(named_fault) => tell_named_fault(alloc, &named_fault, out),
+    }
+}
+
 fn answer<F: Files, S: Sink>(alloc: Global, words: &[String], files: &mut F, out: &mut S) -> u8
     ensures answer { Answers (texts_of words.now) (F.seen files.old) (F.seen files.new) (S.seen out.old) (S.seen out.new) result }
     ensures later { (F.seen files.old).read_faults ≤ (F.seen files.new).read_faults }
@@ -216,6 +234,7 @@ fn answer<F: Files, S: Sink>(alloc: Global, words: &[String], files: &mut F, out
         ) => go_files(alloc, app, script, steps, detail, files, out),
         Ok(Job::List { image }) => list_file(alloc, image, files, out),
         Ok(Job::Sample { seed, steps }) => run_sample(alloc, seed, steps, out),
+        Ok(Job::Migrate { image, out: name }) => migrate_file(alloc, image, name, files, out),
         Err(Refusal::NotAccepted) => tell_usage(out),
         Err(Refusal::Memory) => 5,
     }
@@ -225,7 +244,7 @@ fn answer<F: Files, S: Sink>(alloc: Global, words: &[String], files: &mut F, out
 /// the lines go to the sink, one push each; the answer is the program's exit status.
 ///
 /// - 0: the trace of the run (docs/FORMATS.md, Trace), with `--all` each of its instructions, with `--mem` its last
-///   memory, or the listing of the image was written; or the image that was built is under OUT, and its line was written;
+///   memory, or the listing of the image was written; or the image that was built, or migrated, is under OUT, and its line was written;
 ///   or the sample was run, and its end and the numbers of its notes were written.
 /// - 1: a file is refused, and `refused <name> <cause> <place>` was written.
 /// - 2: the words are not accepted (docs/FORMATS.md, Command line), and the usage line was written.
@@ -241,7 +260,7 @@ pub fn hubris_main<F: Files, S: Sink>(
     out: &mut S,
 ) -> u8
     // Where the words and the seen contents give a verdict (of accepted words and files: the trace of
-    // their run, the listing, the image that is built, or the two lines of a sample), its file was put, its whole text was pushed
+    // their run, the listing, the image that is built or migrated, or the two lines of a sample), its file was put, its whole text was pushed
     // under its status; or the sink's count of faults rose, the status is 4, and a front of the text was
     // pushed; or the count of failed puts rose, the status is 4, and nothing was pushed; or memory is
     // short, the status is 5, and nothing was pushed or put; or the count of failed reads rose, and the
