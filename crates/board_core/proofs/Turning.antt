@@ -67,7 +67,12 @@ module _ (level : Level) (x : Scenario) (s : State) (m : Machine) where
   pub choice_kept : (kept : Choice) → Sane x.setup s → HasTurned → IsChoice x.setup (after_events x s).state kept → notes_of m.reach.kernel ≡ [] → IsChoice x.setup (turn level x s).state kept
   choice_kept kept sane h is none =
       let same = quiet-turn level x s (sane-after_events x s sane) (sym (turn_notes h) ∙ none) in
-      record { next = is.next ∙ sym same.next; ready = λ i. is.ready i ∙ sym (same.ready i); down = is.down ∙ sym same.down }
+      record {
+        next = is.next ∙ sym same.next;
+        order = is.order;
+        ready = record { ordered = is.ready.ordered; each = λ i there. is.ready.each i there ∙ sym (same.ready i) };
+        down = is.down ∙ sym same.down;
+      }
 
 -- the notes that another machine has of the same turn are the same
 pub rested_as : (g : Setup) (m m' : Machine) (s : State) → MachineHolds g m' (rested m s) → MachineHolds g m' (rested m' s)

@@ -1,16 +1,18 @@
 -- What a board keeps of a state between turns.
-use Rattle.std.specs.Prelude.{ℕ, ◌≡◌}
+use Rattle.std.specs.Prelude.{◌≡◌}
 use Rattle.task_table.specs.State.{Setup, State}
 use Rattle.task_table.specs.Reading.{chosen, is_ready}
-use Rattle.task_table.specs.TaskSets.{has}
+use Rattle.task_table.specs.Order.{AreAtPlaces}
+use Rattle.task_table.specs.declared.order.Order.{Order}
 use Rattle.task_table.specs.Sane.{Sane}
 use Rattle.board_core.specs.declared.choice.Choice.{Choice}
 use Rattle.board_model.specs.Run.{is_down}
 
--- the kept choice is the one for the state, with the tasks that are ready in it
+-- the kept choice is the one for the state, with the tasks that are ready in it by their places in the order
 pub record IsChoice (g : Setup) (s : State) (c : Choice) : Type 0 where
   pub next : c.next ≡ chosen g s
-  pub ready : (i : ℕ) → has c.ready.words i ≡ is_ready s i
+  pub order : Order
+  pub ready : AreAtPlaces g.tasks order c.ready.words (is_ready s)
   pub down : c.down ≡ is_down s
 
 -- it was that of a sane state

@@ -21,7 +21,7 @@ ghost use Rattle.board_core.specs.Advanced.{IsAdvanced, IsStopped, HasGlidden, W
 ghost use Rattle.board_core.specs.Skipped.{IsIdleUntil};
 ghost use Rattle.board_core.specs.Midway.{IsDue, IsMidway};
 
-use crate::choice::{Choice, choice_after, choice_of};
+use crate::choice::{Choice, choice_of, renew_choice};
 use crate::machine::Machine;
 use crate::opening::kernel;
 use board_model::{Level, Turned};
@@ -266,7 +266,7 @@ impl Board {
     {
         self.machine.happen_all(&self.script, self.turns);
         self.machine.save_context();
-        self.choice = choice_after(&self.machine.reach.kernel, &self.choice);
+        renew_choice(&self.machine.reach.kernel, &mut self.choice);
         self.due = self.script.next(self.turns + 1);
     }
 
@@ -284,7 +284,7 @@ impl Board {
     {
         if !self.notes().is_empty() {
             self.machine.save_context();
-            self.choice = choice_after(&self.machine.reach.kernel, &self.choice);
+            renew_choice(&self.machine.reach.kernel, &mut self.choice);
         }
     }
 

@@ -1,8 +1,9 @@
 //! What is kept of a state between turns, since most turns leave it.
-ghost use Rattle.std.specs.Prelude.{◌≡◌, ◌<◌, true, Some};
+ghost use Rattle.std.specs.Prelude.{◌≡◌, ◌<◌, ℕ, true, Some};
 ghost use Rattle.task_table.specs.State.{Setup, Turn};
 ghost use Rattle.task_table.specs.Reading.{is_faulted, task_at};
 ghost use Rattle.task_table.specs.Holds.{Holds, task_count};
+ghost use Rattle.task_table.specs.TaskSets.{has};
 ghost use Rattle.board_core.specs.Kept.{IsChoice, WasChoice};
 
 use dispatch::choose;
@@ -44,22 +45,20 @@ pub fn choice_of(kernel: &Kernel) -> Choice
 /// Whether the task that was chosen is the current one, and the same tasks are ready.
 fn stays(last: &Choice, ready: &TaskSet, current: usize) -> bool
     ensures next { result ≡ true → last.now.next ≡ Some current }
-    ensures ready { result ≡ true → last.now.ready.words ≡ ready.now.words }
+    ensures ready { result ≡ true → (p : ℕ) → has last.now.ready.words p ≡ has ready.now.words p }
 {
-    last.next == Some(current) && last.ready == *ready
+    last.next == Some(current) && last.ready.is_same(ready)
 }
 
-/// The choice for a kernel as it is, from that for an earlier state of it: a task that was chosen and
-/// runs is chosen again as long as the same tasks are ready.
-pub fn choice_after(kernel: &Kernel, last: &Choice) -> Choice
-    ensures { (g : Setup) (t : Turn) → Holds g kernel.now t → WasChoice g last.now → IsChoice g t.state result }
+/// The choice for a kernel as it is, in the place of that for an earlier state of it: a task that was chosen and
+/// runs is chosen again as long as the same tasks are ready. A set of tasks is copied only where it has changed.
+pub fn renew_choice(kernel: &Kernel, choice: &mut Choice)
+    ensures { (g : Setup) (t : Turn) → Holds g kernel.now t → WasChoice g choice.old → IsChoice g t.state choice.new }
 {
-    if stays(last, kernel.ready(), kernel.current()) {
-        return Choice {
-            next: last.next,
-            ready: last.ready,
-            down: is_down(kernel),
-        };
+    choice.down = is_down(kernel);
+    if stays(choice, kernel.ready(), kernel.current()) {
+        return;
     }
-    choice_of(kernel)
+    choice.next = choose(kernel);
+    choice.ready.become_as(kernel.ready());
 }

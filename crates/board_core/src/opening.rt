@@ -46,7 +46,7 @@ fn line_start(image: &Image, k: usize) -> LineStart
 {
     LineStart {
         line: image.line(k),
-        task: u16::from(image.line_task(k)),
+        task: image.line_task(k),
         bits: image.line_bits(k),
     }
 }

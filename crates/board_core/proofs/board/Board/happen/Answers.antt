@@ -36,7 +36,7 @@ returns-clause-midway c = λ x s due.
     let M : ℕ → Type 0 = λ turn. IsNext x.script (turn + 1) c.next-self.result in
     record {
       machine = unloaded_stands g m (after_events x s) c.save_context.ensures.unloaded stands;
-      choice = c.choice_after-self.ensures g (after_events x s) stands.holds due.choice;
+      choice = c.renew_choice.ensures g (after_events x s) stands.holds due.choice;
       script = due.script;
       due = subst M due.turns (subst N due.script c.next-self.ensures);
     }
