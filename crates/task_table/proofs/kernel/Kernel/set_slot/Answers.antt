@@ -1,9 +1,10 @@
-use Rattle.std.proofs.Common.{◌≡◌, ◌<◌, refl, sym, subst, ◌∙◌, arith, length, map, set, length-set, ◌≤◌, ℕ}
+use Rattle.std.proofs.Common.{◌≡◌, ◌<◌, refl, ap, sym, subst, ◌∙◌, arith, length, map, get_or, set, length-set, ◌≤◌, ℕ}
 use Rattle.task_table.specs.Limits.{most_tasks}
 use Rattle.task_table.specs.declared.slot.Slot.{Slot}
 use Rattle.task_table.specs.Holds.{kept_of}
 use Rattle.task_table.proofs.Steps as steps
-use Rattle.task_table.specs.Readiness.{is_free, AreOffers}
+use Rattle.task_table.specs.TaskSets.{has}
+use Rattle.task_table.specs.Readiness.{is_client_of, is_free, is_server, AreOffers}
 use Rattle.task_table.proofs.Members.{kernel_places}
 use Rattle.task_table.proofs.Written.{front, those_set, offers_set}
 use Rattle.task_table.specs.Parts.{task_setup}
@@ -20,7 +21,10 @@ follow_readiness-requires-clause-small c =
     omega (arith, c.place-place.ensures, (kernel_places k).below c.args.task c.requires, k.few)
 
 pub follow_readiness-requires-clause-before : goal.follow_readiness-requires-clause-before
-follow_readiness-requires-clause-before c = ?
+follow_readiness-requires-clause-before c =
+    let k = c.args.self.now in
+    let slot = c.index-before.result.now in
+    ap (has k.ready.words) c.place-place.ensures ∙ k.ready_now.each c.args.task c.requires slot ∙ sym (ap is_free c.index-before.ensures) ∙ sym c.is_ready.ensures
 
 pub follow_offer-requires-clause-small : goal.follow_offer-requires-clause-small
 follow_offer-requires-clause-small c =
@@ -28,7 +32,14 @@ follow_offer-requires-clause-small c =
     omega (arith, c.place-place.ensures, (kernel_places k).below c.args.task c.requires, k.few)
 
 pub follow_offer-requires-clause-before : goal.follow_offer-requires-clause-before
-follow_offer-requires-clause-before c = ?
+follow_offer-requires-clause-before c = λ server d under.
+    let k = c.args.self.now in
+    let slot = c.index-before.result.now in
+    let was : AreOffers k.slots.items k.order.places.items c.deref_mut.result.now = rw c.deref_mut.ensures.value k.offered_now in
+    ap (has (get_or c.deref_mut.result.now server d).words) c.place-place.ensures
+    ∙ (was.each server under d).each c.args.task c.requires slot
+    ∙ sym (ap (is_client_of server) c.index-before.ensures)
+    ∙ ap (is_server server) (sym c.server.ensures)
 
 pub returns-clause-holds : goal.returns-clause-holds
 returns-clause-holds c = λ g t u h kept same timers.
