@@ -19,17 +19,25 @@ fn a_task(alloc: Global, priority: u8, started: bool) -> TaskStart
     }
 }
 
-/// A kernel of 32 tasks, with so many priority numbers in turn, of which each task at such a gap is not
-/// started; this one is the current one.
-fn many_tasks(alloc: Global, numbers: u8, gap: u8, current: usize) -> Result<Kernel, AllocError>
-    requires numbers { 0 < numbers }
+/// A kernel of 512 tasks, with so many priority numbers in turn, of which those before the first one and each
+/// at such a gap are not started; this one is the current one.
+fn many_tasks(
+    alloc: Global,
+    numbers: u16,
+    first: u16,
+    gap: u16,
+    current: usize,
+) -> Result<Kernel, AllocError>
+    requires some { 0 < numbers }
+    requires few { numbers ≤ 256 }
     requires gap { 0 < gap }
-    requires current { current < 32 }
+    requires current { current < 512 }
 {
     let memory = memory_of(alloc, &[], 0)?;
     let mut tasks = Vec::new(alloc);
-    for i in 0..32u8 {
-        tasks.push(a_task(alloc, i % numbers, (i + 1) % gap != 0))?;
+    for i in 0..512u16 {
+        let started = i >= first && (i + 1) % gap != 0;
+        tasks.push(a_task(alloc, (i % numbers) as u8, started))?;
     }
     let mut kernel = Kernel::start(alloc, memory, 1, &tasks, &[])?;
     kernel.set_current(current);
@@ -64,10 +72,23 @@ fn chosen_by_a_look_at_each(kernel: &Kernel) -> Option<usize> {
 
 #[test]
 fn the_choice_is_that_by_a_look_at_each_task(rt: HostRuntime) -> Result<(), Fail> {
-    for numbers in [1, 2, 5, 32] {
-        for gap in [1, 2, 3, 33] {
-            for current in 0..32 {
-                let kernel = many_tasks(rt.alloc(), numbers, gap, current)?;
+    for numbers in [1, 5, 254] {
+        for gap in [1, 2, 3, 513] {
+            for current in [0, 31, 32, 255, 511] {
+                let kernel = many_tasks(rt.alloc(), numbers, 0, gap, current)?;
+                assert!(rt; choose(&kernel) == chosen_by_a_look_at_each(&kernel));
+            }
+        }
+    }
+    Ok(())
+}
+
+#[test]
+fn the_choice_is_found_in_a_later_word(rt: HostRuntime) -> Result<(), Fail> {
+    for numbers in [1, 2, 254] {
+        for first in [31, 32, 480, 511, 512] {
+            for current in [0, 495, 511] {
+                let kernel = many_tasks(rt.alloc(), numbers, first, 513, current)?;
                 assert!(rt; choose(&kernel) == chosen_by_a_look_at_each(&kernel));
             }
         }

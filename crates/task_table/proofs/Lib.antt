@@ -43,4 +43,7 @@ pub mod Starts
 pub mod DeadRows
 pub mod Births
 pub mod TaskSets
-pub mod PrioritiesMade
+pub mod Summaries
+pub mod Choices
+pub mod Searches
+pub mod Ordered

@@ -2,24 +2,24 @@
 use Rattle.std.proofs.Common.{◌≡◌, ◌<◌, ◌≤◌, ℕ, zero, suc, Bool, true, false, cond, ◌&&◌, List, [], ◌∷◌, length, map, Option, Some, None, is_none, is_some, inl, inr, refl, sym, ◌∙◌, ap, arith, eqb, get_or}
 use Rattle.std.specs.Option.{option_map}
 use Rattle.std.proofs.lemmas.Bool.{false≢true, cases_lt}
-use Rattle.std.proofs.lemmas.Bool.Decides.{leb_tells}
-use Rattle.std.proofs.lemmas.List.{get_or_past}
 use Rattle.kernel_abi.specs.Ids.{index_of}
 use Rattle.kernel_abi.specs.declared.Health.TheVariants.{Stopped}
-use Rattle.task_table.specs.State.{State, Task, Setup, Turn, Call, Phase, Offered, Taken}
+use Rattle.task_table.specs.State.{Setup, Turn, Call, Phase, Offered, Taken}
 use Rattle.task_table.specs.Sane.{Sane}
-use Rattle.task_table.specs.Reading.{is_ready, is_well, is_offered, task_at, call_of, listen_of, offer_by, offers, no_task, no_flags}
+use Rattle.task_table.specs.Reading.{is_ready, is_offered, offer_by, offers, no_flags}
 use Rattle.task_table.specs.TaskSets.{has}
+use Rattle.task_table.specs.Order.{ArePlaces, has_task, place_in}
 use Rattle.task_table.specs.Readiness.{is_free, is_server, server_in, is_client_of, AreThose, AreOffers}
 use Rattle.task_table.specs.Holds.{Shows, Kept, kept_call, offered_in}
+use Rattle.task_table.specs.declared.kernel.Kernel.{Kernel}
 use Rattle.task_table.specs.declared.slot.Slot.{Slot}
 use Rattle.task_table.specs.declared.slot.OpenCall.{OpenCall}
 use Rattle.task_table.specs.declared.slot.Wait.{Wait}
 use Rattle.task_table.specs.declared.slot.Wait.TheVariants as wait
 use Rattle.task_table.specs.declared.task_set.TaskSet.{TaskSet}
 use Rattle.task_table.proofs.Steps.{free_kept}
-use Rattle.task_table.proofs.Clients.{option_cases, found_call, client_is, offer_by_none}
 use Rattle.task_table.proofs.Messages.{offered_kept}
+use Rattle.task_table.proofs.Ordered.{as_many_priorities, own_places}
 
 -- a slot of no task
 pub no_slot : Slot
@@ -33,24 +33,22 @@ no_slot = record {
   wait = wait.Nothing;
 }
 
+-- each task of a kernel has a place of its own
+pub kernel_places : (k : Kernel) → ArePlaces (length k.slots.items) k.order.places.items
+kernel_places k = own_places _ k.order.keys.items k.order.places.items (length k.slots.items) k.order_is (as_many_priorities k.tasks.items ∙ k.many)
+
 -- ## who is ready
 
-pub those_there : (test : Slot → Bool) (slots : List Slot) (words : List ℕ) (i : ℕ) → AreThose test slots words → has words i ≡ true → i < length slots
-those_there test slots words i h is = elim (cases_lt i (length slots)) [
+pub those_there : (test : Slot → Bool) (slots : List Slot) (places words : List ℕ) (p : ℕ) → AreThose test slots places words → has words p ≡ true → p < length slots
+those_there test slots places words p h is = elim (cases_lt p (length slots)) [
   | inl lt ↦ lt
-  | inr past ↦ absurd (false≢true (sym (h.no_others i (omega (arith, past))) ∙ is))
+  | inr past ↦ absurd (false≢true (sym (h.no_others p past) ∙ is))
 ]
 
--- a task that is not there is not ready
-unready_past : (s : State) (i : ℕ) → length s.tasks ≤ i → is_ready s i ≡ false
-unfolding is_ready task_at
-unready_past s i past = ap (λ (x : Task). is_well x.health && is_none (call_of s i) && is_none (listen_of s i)) (get_or_past s.tasks i no_task past)
-
-pub ready_kept : (g : Setup) (k : Kept) (t : Turn) (words : List ℕ) → Shows g k t → AreThose is_free k.slots words → (i : ℕ) → has words i ≡ is_ready t.state i
-ready_kept g k t words h those i = elim (leb_tells (length k.slots) i) [
-  | inl past ↦ those.no_others i past.1 ∙ sym (unready_past t.state i (omega (arith, past.1, h.count)))
-  | inr there ↦ let inside : i < length k.slots = omega (arith, there.1) in those.each i inside no_slot ∙ free_kept t.state i _ (h.tasks i inside no_slot)
-]
+pub ready_kept : (g : Setup) (k : Kept) (t : Turn) (places words : List ℕ) → Shows g k t → AreThose is_free k.slots places words → (i : ℕ) → i < length g.tasks → has_task places words i ≡ is_ready t.state i
+ready_kept g k t places words h those i there =
+    let inside : i < length k.slots = omega (arith, there, h.many, h.count) in
+    those.each i inside no_slot ∙ free_kept t.state i _ (h.tasks i inside no_slot)
 
 -- ## who offers a call to whom
 
@@ -75,28 +73,16 @@ some_kept : (o : Option Call) → is_some (option_map kept_call o) ≡ is_some o
 some_kept None = refl
 some_kept (Some k) = refl
 
--- a task that is not there offers nothing
-offers_past : (g : Setup) (s : State) (k i : ℕ) → Sane g s → length s.tasks ≤ i → offers s k i ≡ false
-offers_past g s k i sane past = elim (option_cases (call_of s i)) [
-  | inl none ↦ ap is_some (offer_by_none s i k none)
-  | inr some ↦
-      let fit = sane.steady.calls.fit some.0 (found_call s i some.0 some.1) in
-      let client = client_is s i some.0 some.1 in
-      absurd (omega (arith, fit.client, client, sane.steady.as_many, past))
-]
-
-pub offers_kept : (g : Setup) (k : Kept) (t : Turn) (server : ℕ) (words : List ℕ) → Shows g k t → Sane g t.state → length k.slots ≤ 1024 → AreThose (is_client_of server) k.slots words → (i : ℕ) → has words i ≡ offers t.state server i
-offers_kept g k t server words h sane small those i = elim (leb_tells (length k.slots) i) [
-  | inl past ↦ those.no_others i past.1 ∙ sym (offers_past g t.state server i sane (omega (arith, past.1, h.count)))
-  | inr there ↦
-      let inside : i < length k.slots = omega (arith, there.1) in
-      let few : length t.state.tasks ≤ 1024 = omega (arith, small, h.count) in
-      let slot = get_or k.slots i no_slot in
-      those.each i inside no_slot
-      ∙ client_offered slot.wait server
-      ∙ ap is_some (offered_kept g t.state i server slot sane few (h.tasks i inside no_slot))
-      ∙ some_kept (offer_by t.state i server)
-]
+pub offers_kept : (g : Setup) (k : Kept) (t : Turn) (server : ℕ) (places words : List ℕ) → Shows g k t → Sane g t.state → length k.slots ≤ 1024 → AreThose (is_client_of server) k.slots places words
+    → (i : ℕ) → i < length g.tasks → has_task places words i ≡ offers t.state server i
+offers_kept g k t server places words h sane small those i there =
+    let inside : i < length k.slots = omega (arith, there, h.many, h.count) in
+    let few : length t.state.tasks ≤ 1024 = omega (arith, small, h.count) in
+    let slot = get_or k.slots i no_slot in
+    those.each i inside no_slot
+    ∙ client_offered slot.wait server
+    ∙ ap is_some (offered_kept g t.state i server slot sane few (h.tasks i inside no_slot))
+    ∙ some_kept (offer_by t.state i server)
 
 -- ## at first
 
@@ -106,11 +92,11 @@ idle_at f k idle (x ∷ xs) zero d below = idle x
 idle_at f k idle (x ∷ xs) (suc i) d below = idle_at f k idle xs i d (omega (arith, below))
 
 -- none offers a call where each waits for nothing
-pub no_offers : {X : Type 0} (f : X → Slot) (xs : List X) (slots : List Slot) (sets : List TaskSet) → slots ≡ map f xs → ((x : X) → (f x).wait ≡ wait.Nothing) → length sets ≡ length slots → ((k i : ℕ) (d : TaskSet) → k < length sets → has (get_or sets k d).words i ≡ false) → AreOffers slots sets
-no_offers f xs slots sets e idle count none = record {
+pub no_offers : {X : Type 0} (f : X → Slot) (xs : List X) (slots : List Slot) (places : List ℕ) (sets : List TaskSet) → slots ≡ map f xs → ((x : X) → (f x).wait ≡ wait.Nothing) → length sets ≡ length slots → ((k i : ℕ) (d : TaskSet) → k < length sets → has (get_or sets k d).words i ≡ false) → AreOffers slots places sets
+no_offers f xs slots places sets e idle count none = record {
   count = count;
   each = λ k inside d. record {
-    each = λ i below x. none k i d inside ∙ sym (ap (λ (ys : List Slot). is_client_of k (get_or ys i x)) e ∙ idle_at f k (λ y. ap (λ (w : Wait). is_server k (server_in w)) (idle y)) xs i x (rw e at below));
-    no_others = λ i past. none k i d inside;
+    each = λ i below x. none k (place_in places i) d inside ∙ sym (ap (λ (ys : List Slot). is_client_of k (get_or ys i x)) e ∙ idle_at f k (λ y. ap (λ (w : Wait). is_server k (server_in w)) (idle y)) xs i x (rw e at below));
+    no_others = λ p past. none k p d inside;
   };
 }

@@ -1,4 +1,4 @@
--- Sets of tasks, by their words.
+-- Sets of tasks, by their words. A number in them is a place in the order of the tasks.
 use Rattle.std.proofs.Common.{◌≡◌, ◌≢◌, ◌+◌, ◌-◌, ◌*◌, ◌/◌, ◌%◌, ◌<◌, ◌≤◌, ◌^◌, ℕ, zero, suc, Bool, true, false, cond, ◌&&◌, ◌||◌, not, List, length, Some, inl, inr, refl, sym, ◌∙◌, ap, arith, eqb, leb, get_or, set, replicate, get_or-set_same, get_or-set_other, w32, min}
 use Rattle.std.specs.Int.{bit_at, bit_not}
 use Rattle.std.specs.Int.Bits.{bit_and, bit_or}
@@ -9,10 +9,10 @@ use Rattle.std.proofs.lemmas.List.{get_or_past}
 use Rattle.std.proofs.lemmas.Nat.Bits.{bit_at-zero, shr_and_one, bit_at_and, bit_at-trailing_zeros, bit_at_set_same, bit_at_set_other, bit_at_clear_same, bit_at_clear_other, ones_shl, bit_at_mask_inside, bit_at_mask_below, bit_at-lt}
 use Rattle.task_table.specs.TaskSets.{has, IsFirstFrom}
 
-same_task : (i k : ℕ) → i / 32 ≡ k / 32 → i % 32 ≡ k % 32 → i ≡ k
-same_task i k e f = omega arith
+same_place : (i k : ℕ) → i / 32 ≡ k / 32 → i % 32 ≡ k % 32 → i ≡ k
+same_place i k e f = omega arith
 
--- ## a task's bit
+-- ## the bit of a place
 
 zeros : (n k : ℕ) → get_or {A = ℕ} (replicate n 0) k 0 ≡ 0
 zeros zero k = refl
@@ -32,7 +32,7 @@ pub has_read : (words : List ℕ) (i n : ℕ) → n ≡ get_or words (i / 32) 0 
 unfolding has
 has_read words i n e = rw (shr_and_one n (i % 32), e) refl
 
-has_in : (words : List ℕ) (w k : ℕ) → k < 32 → has words (w * 32 + k) ≡ eqb (bit_at (get_or words w 0) k) 1
+pub has_in : (words : List ℕ) (w k : ℕ) → k < 32 → has words (w * 32 + k) ≡ eqb (bit_at (get_or words w 0) k) 1
 unfolding has
 has_in words w k below =
     let word : (w * 32 + k) / 32 ≡ w = omega arith in
@@ -51,39 +51,39 @@ has_word : (words : List ℕ) (w i : ℕ) → i / 32 ≡ w → eqb (bit_at (get_
 unfolding has
 has_word words w i e = rw e refl
 
--- ## a task comes and goes
+-- ## a place comes and goes
 
-pub has_inserted : (words : List ℕ) (task i : ℕ) → task / 32 < length words → has (set words (task / 32) (bit_or (get_or words (task / 32) 0) (1 * 2 ^ (task % 32) % 2 ^ 32))) i ≡ (eqb i task || has words i)
-has_inserted words task i there =
-    elim (eqb_tells i task) [
+pub has_inserted : (words : List ℕ) (place i : ℕ) → place / 32 < length words → has (set words (place / 32) (bit_or (get_or words (place / 32) 0) (1 * 2 ^ (place % 32) % 2 ^ 32))) i ≡ (eqb i place || has words i)
+has_inserted words place i there =
+    elim (eqb_tells i place) [
       | inl same ↦ rw same.0 (has_set_here words w v i there (ap (λ (n : ℕ). n / 32) same.1) ∙ ap (λ (n : ℕ). eqb n 1) (ap (λ (n : ℕ). bit_at v (n % 32)) same.1 ∙ bit_at_set_same w32 (get_or words w 0) k within))
       | inr other ↦ rw other.0 (elim (eqb_tells (i / 32) w) [
         | inl here ↦
-            let ne : i % 32 ≢ k = λ e. other.1 (same_task i task here.1 e) in
+            let ne : i % 32 ≢ k = λ e. other.1 (same_place i place here.1 e) in
             has_set_here words w v i there here.1 ∙ ap (λ (n : ℕ). eqb n 1) (bit_at_set_other w32 (get_or words w 0) k within (i % 32) ne) ∙ has_word words w i here.1
         | inr away ↦ has_set_other words w v i away.1
       ])
     ]
   where
     w : ℕ
-    w = task / 32
+    w = place / 32
 
     k : ℕ
-    k = task % 32
+    k = place % 32
 
     v : ℕ
-    v = bit_or (get_or words (task / 32) 0) (1 * 2 ^ (task % 32) % 2 ^ 32)
+    v = bit_or (get_or words (place / 32) 0) (1 * 2 ^ (place % 32) % 2 ^ 32)
 
-    within : task % 32 < 32
+    within : place % 32 < 32
     within = omega arith
 
-pub has_removed : (words : List ℕ) (task i : ℕ) → task / 32 < length words → has (set words (task / 32) (bit_and (get_or words (task / 32) 0) (bit_not w32 (1 * 2 ^ (task % 32) % 2 ^ 32)))) i ≡ (not (eqb i task) && has words i)
-has_removed words task i there =
-    elim (eqb_tells i task) [
+pub has_removed : (words : List ℕ) (place i : ℕ) → place / 32 < length words → has (set words (place / 32) (bit_and (get_or words (place / 32) 0) (bit_not w32 (1 * 2 ^ (place % 32) % 2 ^ 32)))) i ≡ (not (eqb i place) && has words i)
+has_removed words place i there =
+    elim (eqb_tells i place) [
       | inl same ↦ rw same.0 (has_set_here words w v i there (ap (λ (n : ℕ). n / 32) same.1) ∙ ap (λ (n : ℕ). eqb n 1) (ap (λ (n : ℕ). bit_at v (n % 32)) same.1 ∙ bit_at_clear_same w32 (get_or words w 0) k within))
       | inr other ↦ rw other.0 (elim (eqb_tells (i / 32) w) [
         | inl here ↦
-            let ne : i % 32 ≢ k = λ e. other.1 (same_task i task here.1 e) in
+            let ne : i % 32 ≢ k = λ e. other.1 (same_place i place here.1 e) in
             let below : i % 32 < 32 = omega arith in
             has_set_here words w v i there here.1 ∙ ap (λ (n : ℕ). eqb n 1) (bit_at_clear_other w32 (get_or words w 0) k within (i % 32) below ne) ∙ has_word words w i here.1
         | inr away ↦ has_set_other words w v i away.1
@@ -91,70 +91,20 @@ has_removed words task i there =
     ]
   where
     w : ℕ
-    w = task / 32
+    w = place / 32
 
     k : ℕ
-    k = task % 32
+    k = place % 32
 
     v : ℕ
-    v = bit_and (get_or words (task / 32) 0) (bit_not w32 (1 * 2 ^ (task % 32) % 2 ^ 32))
+    v = bit_and (get_or words (place / 32) 0) (bit_not w32 (1 * 2 ^ (place % 32) % 2 ^ 32))
 
-    within : task % 32 < 32
+    within : place % 32 < 32
     within = omega arith
 
--- ## the members of two sets
+-- ## the least member from a place on
 
--- the words of both, up to one
-abbrev pub AreCommonBelow : ℕ → List ℕ → List ℕ → List ℕ → Type 0
-AreCommonBelow n xs ys words = (w : ℕ) → get_or words w 0 ≡ cond (leb (w + 1) n) (bit_and (get_or xs w 0) (get_or ys w 0)) (get_or xs w 0)
-
-pub common_none : (xs ys : List ℕ) → AreCommonBelow 0 xs ys xs
-common_none xs ys w = elim (leb_tells (w + 1) 0) [ inl t ↦ absurd (omega (arith, t.1)) | inr f ↦ rw f.0 refl ]
-
-pub common_more : (n : ℕ) (xs ys words : List ℕ) → n < length words → AreCommonBelow n xs ys words → AreCommonBelow (n + 1) xs ys (set words n (bit_and (get_or words n 0) (get_or ys n 0)))
-common_more n xs ys words there h w =
-    elim (eqb_tells w n) [
-      | inl same ↦
-          let now : leb (w + 1) (n + 1) ≡ true = le-leb _ _ (omega (arith, same.1)) in
-          let before : get_or words n 0 ≡ get_or xs n 0 = elim (leb_tells (n + 1) n) [ inl t ↦ absurd (omega (arith, t.1)) | inr f ↦ rw f.0 at (h n) ] in
-          rw (now, same.1, get_or-set_same words n (bit_and (get_or words n 0) (get_or ys n 0)) 0 there) (ap (λ (x : ℕ). bit_and x (get_or ys n 0)) before)
-      | inr other ↦ get_or-set_other words n w (bit_and (get_or words n 0) (get_or ys n 0)) 0 other.1 ∙ h w ∙ ap (λ (b : Bool). cond b (bit_and (get_or xs w 0) (get_or ys w 0)) (get_or xs w 0)) (same_test other.1)
-    ]
-  where
-    same_test : w ≢ n → leb (w + 1) n ≡ leb (w + 1) (n + 1)
-    same_test ne = elim (leb_tells (w + 1) n) [
-      | inl t ↦ rw t.0 (sym (le-leb _ _ (omega (arith, t.1))))
-      | inr f ↦ elim (leb_tells (w + 1) (n + 1)) [ inl u ↦ absurd (ne (omega (arith, f.1, u.1))) | inr g ↦ rw (f.0, g.0) refl ]
-    ]
-
-both_bits : (a b : ℕ) → a < 2 → b < 2 → eqb (min a b) 1 ≡ (eqb a 1 && eqb b 1)
-both_bits zero zero small low = refl
-both_bits zero (suc zero) small low = refl
-both_bits zero (suc (suc b)) small low = absurd (omega arith)
-both_bits (suc zero) zero small low = refl
-both_bits (suc zero) (suc zero) small low = refl
-both_bits (suc zero) (suc (suc b)) small low = absurd (omega arith)
-both_bits (suc (suc a)) b small low = absurd (omega arith)
-
-word_common : (n : ℕ) (xs ys words : List ℕ) (w : ℕ) → length xs ≤ n → length ys ≤ n → AreCommonBelow n xs ys words → get_or words w 0 ≡ bit_and (get_or xs w 0) (get_or ys w 0)
-word_common n xs ys words w few short h = elim (leb_tells (w + 1) n) [
-  | inl t ↦ rw t.0 at (h w)
-  | inr f ↦
-      let mine : get_or xs w 0 ≡ 0 = get_or_past xs w 0 (omega (arith, f.1, few)) in
-      let other : get_or ys w 0 ≡ 0 = get_or_past ys w 0 (omega (arith, f.1, short)) in
-      rw f.0 at (h w) ∙ mine ∙ sym (ap (λ (x : ℕ). bit_and x (get_or ys w 0)) mine ∙ ap (bit_and 0) other)
-]
-
-pub has_common : (n : ℕ) (xs ys words : List ℕ) (i : ℕ) → length xs ≤ n → length ys ≤ n → AreCommonBelow n xs ys words → has words i ≡ (has xs i && has ys i)
-unfolding has
-has_common n xs ys words i few short h =
-    let x = get_or xs (i / 32) 0 in
-    let y = get_or ys (i / 32) 0 in
-    rw (word_common n xs ys words (i / 32) few short h, bit_at_and x y (i % 32)) (both_bits (bit_at x (i % 32)) (bit_at y (i % 32)) (bit_at-lt x (i % 32)) (bit_at-lt y (i % 32)))
-
--- ## the least member from a task on
-
--- the bits of word w that tell of tasks at or above one
+-- the bits of word w that tell of places at or above one
 abbrev pub IsCutAt : List ℕ → ℕ → ℕ → ℕ → Type 0
 IsCutAt words from w bits = (k : ℕ) → k < 32 → bit_at bits k ≡ cond (leb from (w * 32 + k)) (bit_at (get_or words w 0) k) 0
 
@@ -178,7 +128,7 @@ bits_cut bits from w k here below =
           rw f.0 (ap (min (bit_at bits k)) (bit_at_mask_below (from % 32) 32 k under) ∙ min_none _)
     ]
 
--- the bits of word w, cut at a task of this word or an earlier one
+-- the bits of word w, cut at a place of this word or an earlier one
 pub found_in : (words : List ℕ) (from w bits : ℕ) → 0 < bits → bits < 2 ^ 32 → IsCutAt words from w bits → ((i : ℕ) → from ≤ i → i < w * 32 → has words i ≡ false) → IsFirstFrom words from (Some (w * 32 + count_trailing_zeros 32 bits))
 found_in words from w bits some small cut before =
     let z = bit_at-trailing_zeros w32 bits some small in

@@ -6,6 +6,7 @@ use Rattle.kernel_abi.specs.declared.TaskId.{TaskId}
 use Rattle.task_table.specs.declared.Line.{Line}
 use Rattle.task_table.specs.declared.entry.KeptEntry.{KeptEntry}
 use Rattle.task_table.specs.declared.kernel.Kernel.{Kernel}
+use Rattle.task_table.specs.declared.order.Order.{Order}
 use Rattle.task_table.specs.declared.slot.Listening.{Listening}
 use Rattle.task_table.specs.declared.slot.OpenCall.{OpenCall}
 use Rattle.task_table.specs.declared.slot.Slot.{Slot}
@@ -147,6 +148,10 @@ memory_of k = k.memory.bytes
 
 abbrev pub entries_of : Kernel → List (Option KeptEntry)
 entries_of k = k.entries.items
+
+-- the order in which its tasks are chosen
+abbrev pub order_of : Kernel → Order
+order_of k = k.order
 
 -- the setup that the kernel keeps
 abbrev pub setup_of : Kernel → Setup

@@ -3,7 +3,7 @@ pub mod State
 pub mod Reading
 pub mod TaskSets
 pub mod Readiness
-pub mod Priorities
+pub mod Order
 pub mod Deadlines
 pub mod Entries
 pub mod Effects

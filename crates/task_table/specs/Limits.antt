@@ -3,20 +3,20 @@ use Rattle.std.specs.Prelude.{ℕ}
 
 -- tasks of an application
 abbrev pub most_tasks : ℕ
-most_tasks = 32
+most_tasks = 512
 
 -- words of a set of tasks, of 32 bits each
 abbrev pub task_words : ℕ
-task_words = 1
+task_words = 16
 
 -- interrupt lines of a board
 abbrev pub board_lines : ℕ
-board_lines = 32
+board_lines = 64
 
 -- notes of one system call, and of one event from outside
 abbrev pub syscall_notes : ℕ
-syscall_notes = 100
+syscall_notes = 1100
 
 -- notes of one turn
 abbrev pub turn_notes : ℕ
-turn_notes = 1024
+turn_notes = 12288

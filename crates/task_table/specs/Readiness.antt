@@ -7,6 +7,7 @@ use Rattle.task_table.specs.declared.slot.Wait.TheVariants as wait
 use Rattle.task_table.specs.declared.task_set.TaskSet.{TaskSet}
 use Rattle.task_table.specs.Reading.{is_well, is_offered}
 use Rattle.task_table.specs.TaskSets.{has}
+use Rattle.task_table.specs.Order.{has_task}
 
 abbrev pub is_nothing : Wait → Bool
 is_nothing (wait.Call c) = false
@@ -32,12 +33,12 @@ is_server server (Some index) = index == server
 abbrev pub is_client_of : ℕ → Slot → Bool
 is_client_of server slot = is_server server (server_in slot.wait)
 
--- a set has just the tasks of which what is kept passes a test
-pub record AreThose (test : Slot → Bool) (slots : List Slot) (words : List ℕ) : Type 0 where
-  pub each : (i : ℕ) → i < length slots → (d : Slot) → has words i ≡ test (slice_index_or slots i d)
-  pub no_others : (i : ℕ) → length slots ≤ i → has words i ≡ false
+-- a set of places has just the tasks of which what is kept passes a test
+pub record AreThose (test : Slot → Bool) (slots : List Slot) (places words : List ℕ) : Type 0 where
+  pub each : (i : ℕ) → i < length slots → (d : Slot) → has_task places words i ≡ test (slice_index_or slots i d)
+  pub no_others : (p : ℕ) → length slots ≤ p → has words p ≡ false
 
 -- for each server there is the set of the tasks that offer it a call
-pub record AreOffers (slots : List Slot) (sets : List TaskSet) : Type 0 where
+pub record AreOffers (slots : List Slot) (places : List ℕ) (sets : List TaskSet) : Type 0 where
   pub count : length sets ≡ length slots
-  pub each : (server : ℕ) → server < length sets → (d : TaskSet) → AreThose (is_client_of server) slots (slice_index_or sets server d).words
+  pub each : (server : ℕ) → server < length sets → (d : TaskSet) → AreThose (is_client_of server) slots places (slice_index_or sets server d).words

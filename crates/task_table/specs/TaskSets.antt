@@ -1,17 +1,27 @@
--- Sets of tasks, each a list of words of 32 bits.
-use Rattle.std.specs.Prelude.{ℕ, ◌≡◌, ◌/◌, ◌%◌, ◌<◌, ◌≤◌, Bool, true, false, List, Option, Some, None, slice_index_or, ◌==◌}
+-- Sets of tasks, each a list of words of 32 bits, as sets of their places in the order of the tasks.
+use Rattle.std.specs.Prelude.{ℕ, ◌≡◌, ◌/◌, ◌%◌, ◌<◌, ◌≤◌, ◌+◌, Bool, true, false, not, List, [], ◌∷◌, Option, Some, None, slice_index_or, ◌==◌}
 use Rattle.std.specs.Int.{bit_at}
 
--- a task is in the set: bit i % 32 of word i / 32 is 1
+-- a place is in the set: bit p % 32 of word p / 32 is 1
 unfoldable pub has : List ℕ → ℕ → Bool
-has words i = bit_at (slice_index_or words (i / 32) 0) (i % 32) == 1
+has words p = bit_at (slice_index_or words (p / 32) 0) (p % 32) == 1
 
--- the least task of the set at or above one
+-- the least place of the set at or above one
 abbrev pub IsFirstFrom : List ℕ → ℕ → Option ℕ → Type 0
-IsFirstFrom words from None = (i : ℕ) → from ≤ i → has words i ≡ false
-IsFirstFrom words from (Some first) = (from ≤ first) × (has words first ≡ true) × ((i : ℕ) → from ≤ i → i < first → has words i ≡ false)
+IsFirstFrom words from None = (p : ℕ) → from ≤ p → has words p ≡ false
+IsFirstFrom words from (Some first) = (from ≤ first) × (has words first ≡ true) × ((p : ℕ) → from ≤ p → p < first → has words p ≡ false)
 
--- whether a set has no task
+-- whether a set has no place
 abbrev pub IsEmptyOrNot : List ℕ → Bool → Type 0
-IsEmptyOrNot words true = (i : ℕ) → has words i ≡ false
-IsEmptyOrNot words false = (i : ℕ) × (has words i ≡ true)
+IsEmptyOrNot words true = (p : ℕ) → has words p ≡ false
+IsEmptyOrNot words false = (p : ℕ) × (has words p ≡ true)
+
+-- a summary tells of each word whether it has a bit
+abbrev pub IsSummary : List ℕ → ℕ → Type 0
+IsSummary words summary = (w : ℕ) → has (summary ∷ []) w ≡ not (slice_index_or words w 0 == 0)
+
+-- a summary tells of no word from one on, and, unless that is the first, of the word before
+pub record IsUsed (summary used : ℕ) : Type 0 where
+  pub most : used ≤ 32
+  pub none : (w : ℕ) → used ≤ w → has (summary ∷ []) w ≡ false
+  pub last : (w : ℕ) → w + 1 ≡ used → has (summary ∷ []) w ≡ true

@@ -3,10 +3,10 @@
 //! Most clauses say, for each setup and each turn of the abstract kernel that this kernel holds,
 //! what the answer is, or which turn the kernel holds afterwards.
 
-ghost use Rattle.std.specs.Prelude.{◌≡◌, ◌<◌, ◌≤◌, length, map};
-ghost use Rattle.task_table.specs.Limits.{most_tasks, board_lines};
+ghost use Rattle.std.specs.Prelude.{◌≡◌, ◌<◌, ◌≤◌, length, map, vec_capacity};
+ghost use Rattle.task_table.specs.Limits.{most_tasks, board_lines, turn_notes};
 ghost use Rattle.task_table.specs.Parts.{task_setup};
-ghost use Rattle.task_table.specs.Priorities.{ArePriorities};
+ghost use Rattle.task_table.specs.Order.{priorities_of, AreOrdered};
 ghost use Rattle.task_table.specs.Readiness.{is_free, AreThose, AreOffers};
 ghost use Rattle.task_table.specs.Deadlines.{AreNotBefore};
 ghost use Rattle.task_table.specs.Entries.{AreFresh, AreEntriesOf};
@@ -21,12 +21,11 @@ mod window;
 use crate::Line;
 use crate::entry::{KeptEntry, Watch, no_entries};
 use crate::limits::{LINES, TURN_NOTES};
-use crate::priorities::priorities_of;
+use crate::order::{Order, order_of};
 use crate::readiness::{empty_sets, ready_tasks};
 use crate::slot::{Found, Slot, Wait};
 use crate::start::{LineStart, TaskStart, copies_of, first_slots};
 use crate::task_set::TaskSet;
-use arrayvec::ArrayVec;
 use kernel_abi::{Generation, Health, Note, TaskId, Timer};
 use mem_banks::Memory;
 use region_check::Region;
@@ -34,11 +33,11 @@ use std::alloc::{AllocError, Global};
 use words_core::Flags;
 
 /// The tasks and all that they share: at most `TASKS` tasks, the interrupt lines of the board, and what
-/// a turn notes, at most `TURN_NOTES` lines.
+/// a turn notes, at most `TURN_NOTES` lines, for which there is room from the start.
 #[derive(Drop)]
 pub struct Kernel {
     tasks: Vec<TaskStart>,
-    priorities: Vec<TaskSet>,
+    order: Order,
     owners: Vec<LineStart>,
     fault_bits: u32,
     slots: Vec<Slot>,
@@ -47,7 +46,7 @@ pub struct Kernel {
     entries: Vec<Option<KeptEntry>>,
     watch: Watch,
     lines: [Line; LINES],
-    notes: ArrayVec<Note, TURN_NOTES>,
+    notes: Vec<Note>,
     memory: Memory,
     clock: u64,
     earliest: u64,
@@ -58,13 +57,14 @@ pub struct Kernel {
     ghost few_owners: { length owners.items ≤ board_lines },
     ghost many: { length tasks.items ≡ length slots.items },
     ghost there: { current < length slots.items },
-    ghost priorities_are: { ArePriorities (map task_setup tasks.items) priorities.items },
-    ghost ready_now: { AreThose is_free slots.items ready.words },
-    ghost offered_now: { AreOffers slots.items offers.items },
+    ghost order_is: { AreOrdered (priorities_of (map task_setup tasks.items)) order.keys.items order.places.items },
+    ghost ready_now: { AreThose is_free slots.items order.places.items ready.words },
+    ghost offered_now: { AreOffers slots.items order.places.items offers.items },
     ghost deadlines: { AreNotBefore earliest slots.items },
     ghost openable: { ∥ AreOpenable memory.regions (map task_setup tasks.items) ∥₁ },
     ghost fresh: { AreFresh memory.bytes watch.low watch.span entries.items },
     ghost of_calls: { AreEntriesOf (map task_setup tasks.items) slots.items entries.items },
+    ghost room: { turn_notes ≤ vec_capacity notes },
 }
 
 impl Kernel {
@@ -108,15 +108,16 @@ impl Kernel {
         ensures notes { IfOk result (λ k. note_count k ≡ 0) }
     {
         let copies = copies_of(alloc, tasks)?;
-        let priorities = priorities_of(alloc, &copies)?;
+        let order = order_of(alloc, &copies)?;
         let owners = Vec::from_slice(alloc, lines)?;
         let slots = first_slots(alloc, tasks)?;
-        let ready = ready_tasks(&slots);
+        let ready = ready_tasks(&slots, &order);
         let offers = empty_sets(alloc, slots.len())?;
         let entries = no_entries(alloc, slots.len())?;
+        let notes = Vec::with_capacity(alloc, TURN_NOTES)?;
         Ok(Kernel {
             tasks: copies,
-            priorities,
+            order,
             owners,
             fault_bits,
             slots,
@@ -128,7 +129,7 @@ impl Kernel {
                 enabled: false,
                 pending: false,
             }; LINES],
-            notes: ArrayVec::new(),
+            notes,
             memory,
             clock: 0,
             earliest: u64::MAX,
@@ -372,7 +373,7 @@ impl Kernel {
         ensures entries { entries_of self.new ≡ entries_of self.old }
         ensures frame { AddsNotes self.old 1 self.new }
     {
-        self.notes.push(note);
+        self.notes.push_reserved(note);
     }
 
     /// The time goes on by one tick, which is noted.

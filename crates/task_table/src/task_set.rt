@@ -1,20 +1,25 @@
-//! Sets of tasks: bit i % 32 of word i / 32 tells whether task i is in the set.
+//! Sets of tasks, as sets of their places in the order of the tasks: bit p % 32 of word p / 32 tells whether the task
+//! at place p is in the set, and bit w of the summary whether word w has any.
 
 ghost use Rattle.std.specs.Prelude.{◌≡◌, length};
 ghost use Rattle.task_table.specs.Limits.{task_words};
+ghost use Rattle.task_table.specs.TaskSets.{IsSummary};
 
 use crate::limits::TASK_WORDS;
 
-/// Some of the tasks of an application.
-#[derive(Clone, Copy, PartialEq, Eq)]
+/// Some of the tasks of an application, by their places in its `Order`. The summary makes each search one of two
+/// words, however many there are.
+#[derive(Clone, Copy)]
 pub struct TaskSet {
     words: [u32; TASK_WORDS],
+    summary: u32,
     ghost all_words: { length words ≡ task_words },
+    ghost summed: { IsSummary words summary },
 }
 
 impl TaskSet {
-    ghost use Rattle.std.specs.Prelude.{◌≡◌, ◌<◌, ℕ, false, ◌&&◌, ◌||◌, not, ◌==◌, if◌then◌else◌};
-    ghost use Rattle.task_table.specs.Limits.{most_tasks};
+    ghost use Rattle.std.specs.Prelude.{◌≡◌, ◌≢◌, ◌<◌, ◌+◌, ◌*◌, ℕ, true, false, ◌&&◌, ◌||◌, not, ◌==◌, if◌then◌else◌};
+    ghost use Rattle.task_table.specs.Limits.{most_tasks, task_words};
     ghost use Rattle.task_table.specs.TaskSets.{has, IsFirstFrom, IsEmptyOrNot};
 
     /// No task.
@@ -23,57 +28,54 @@ impl TaskSet {
     {
         TaskSet {
             words: [0; TASK_WORDS],
+            summary: 0,
         }
     }
 
-    /// Whether a task is in the set.
-    pub fn contains(&self, task: usize) -> bool
-        ensures { result ≡ has self.now.words task }
+    /// Whether the task at a place is in the set.
+    pub fn contains(&self, place: usize) -> bool
+        ensures { result ≡ has self.now.words place }
     {
-        match self.words.get(task / 32) {
-            Some(word) => (*word >> (task % 32)) & 1 == 1,
+        match self.words.get(place / 32) {
+            Some(word) => (*word >> (place % 32)) & 1 == 1,
             None => false,
         }
     }
 
-    /// Puts a task into the set.
-    pub fn insert(&mut self, task: usize)
-        requires { task < most_tasks }
-        ensures { (i : ℕ) → has self.new.words i ≡ ((i == task) || has self.old.words i) }
+    /// Puts the task at a place into the set.
+    #[inline(always)]
+    pub fn insert(&mut self, place: usize)
+        requires { place < most_tasks }
+        ensures { (i : ℕ) → has self.new.words i ≡ ((i == place) || has self.old.words i) }
     {
-        self.words[task / 32] |= 1 << (task % 32);
+        self.words[place / 32] |= 1 << (place % 32);
+        self.summary |= 1 << (place / 32);
     }
 
-    /// Takes a task out of the set.
-    pub fn remove(&mut self, task: usize)
-        requires { task < most_tasks }
-        ensures { (i : ℕ) → has self.new.words i ≡ (not (i == task) && has self.old.words i) }
+    /// Takes the task at a place out of the set.
+    #[inline(always)]
+    pub fn remove(&mut self, place: usize)
+        requires { place < most_tasks }
+        ensures { (i : ℕ) → has self.new.words i ≡ (not (i == place) && has self.old.words i) }
     {
-        self.words[task / 32] &= !(1 << (task % 32));
+        let left = self.words[place / 32] & !(1 << (place % 32));
+        self.words[place / 32] = left;
+        if left == 0 {
+            self.summary &= !(1 << (place / 32));
+        }
     }
 
-    /// A task is in the set from now on, or not.
-    pub fn set(&mut self, task: usize, member: bool)
-        requires { task < most_tasks }
-        ensures { (i : ℕ) → has self.new.words i ≡ (if i == task then member else has self.old.words i) }
+    /// The task at a place is in the set from now on, or not.
+    #[inline(always)]
+    pub fn set(&mut self, place: usize, member: bool)
+        requires { place < most_tasks }
+        ensures { (i : ℕ) → has self.new.words i ≡ (if i == place then member else has self.old.words i) }
     {
         if member {
-            self.insert(task);
+            self.insert(place);
         } else {
-            self.remove(task);
+            self.remove(place);
         }
-    }
-
-    /// The tasks that are in this set and in another one.
-    #[inline(always)]
-    pub fn common(&self, other: &TaskSet) -> TaskSet
-        ensures { (i : ℕ) → has result.words i ≡ (has self.now.words i && has other.now.words i) }
-    {
-        let mut words = self.words;
-        for word in 0..TASK_WORDS {
-            words[word] &= other.words[word];
-        }
-        TaskSet { words }
     }
 
     /// Whether no task is in the set.
@@ -84,33 +86,107 @@ impl TaskSet {
         self.first_from(0).is_none()
     }
 
-    /// The least task of the set at or above this one, where there is one.
+    /// The least place at or above this one whose task is in the set, where there is one.
     #[inline(always)]
-    pub fn first_from(&self, task: usize) -> Option<usize>
-        ensures { IsFirstFrom self.now.words task result }
+    pub fn first_from(&self, place: usize) -> Option<usize>
+        ensures { IsFirstFrom self.now.words place result }
     {
-        for word in task / 32..TASK_WORDS {
-            let bits = bits_from(self.words[word], word, task);
-            if bits != 0 {
-                return Some(word * 32 + bits.trailing_zeros() as usize);
+        let word = place / 32;
+        if word >= TASK_WORDS {
+            return None;
+        }
+        match first_bit_from(self.words[word], place % 32) {
+            Some(bit) => Some(word * 32 + bit),
+            None => self.first_after(word),
+        }
+    }
+
+    /// The least place of the set in a word after this one, where there is one.
+    #[inline(always)]
+    fn first_after(&self, word: usize) -> Option<usize>
+        requires { word < task_words }
+        ensures { IsFirstFrom self.now.words (word * 32 + 32) result }
+    {
+        match first_bit_from(self.summary, word + 1) {
+            None => None,
+            Some(later) => Some(later * 32 + lowest_bit(self.words[later])),
+        }
+    }
+
+    /// Whether the same tasks are in both.
+    #[inline(always)]
+    pub fn is_same(&self, other: &TaskSet) -> bool
+        ensures same { result ≡ true → (i : ℕ) → has self.now.words i ≡ has other.now.words i }
+        ensures other { result ≡ false → self.now ≢ other.now }
+    {
+        if self.summary != other.summary {
+            return false;
+        }
+        for word in 0..used_words(self.summary) {
+            if self.words[word] != other.words[word] {
+                return false;
             }
         }
-        None
+        true
+    }
+
+    /// The tasks of another set are in this one from now on, and no others. Only the words that either uses are
+    /// copied.
+    #[inline(always)]
+    pub fn become_as(&mut self, other: &TaskSet)
+        ensures { (i : ℕ) → has self.new.words i ≡ has other.now.words i }
+    {
+        let used = used_words(self.summary).max(used_words(other.summary));
+        copy_words(&mut self.words, &other.words, used);
+        self.summary = other.summary;
     }
 }
 
-ghost use Rattle.std.specs.Prelude.{◌+◌, ◌*◌, ◌/◌, ◌<◌, ◌≤◌, ℕ, if◌then◌else◌, nat_le};
-ghost use Rattle.std.specs.Int.{bit_at};
+ghost use Rattle.std.specs.Prelude.{◌∷◌, [], ◌≢◌, ◌<◌, ◌≤◌, ℕ, Some, IfSome, slice_index_or};
+ghost use Rattle.task_table.specs.TaskSets.{IsFirstFrom, IsUsed};
 
-/// The bits of a word that tell of tasks at or above this one, which is in this word or an earlier one.
+/// The first so many words become those of another list.
 #[inline(always)]
-fn bits_from(bits: u32, word: usize, task: usize) -> u32
-    requires { task / 32 ≤ word }
-    ensures { (i : ℕ) → i < 32 → bit_at result i ≡ (if nat_le task (word * 32 + i) then bit_at bits i else 0) }
+fn copy_words(to: &mut [u32], from: &[u32], count: usize)
+    requires to { count ≤ length to.old }
+    requires from { count ≤ length from.now }
+    ensures copied { (w : ℕ) → w < count → slice_index_or to.new w 0 ≡ slice_index_or from.now w 0 }
+    ensures left { (w : ℕ) → count ≤ w → slice_index_or to.new w 0 ≡ slice_index_or to.old w 0 }
 {
-    if word == task / 32 {
-        bits & (u32::MAX << (task % 32))
-    } else {
-        bits
+    for word in 0..count {
+        to[word] = from[word];
     }
+}
+
+/// The least bit of a word at or above one, where there is one.
+#[inline(always)]
+fn first_bit_from(bits: u32, from: usize) -> Option<usize>
+    requires { from < 32 }
+    ensures first { IsFirstFrom (bits ∷ []) from result }
+    ensures within { IfSome result (λ bit. bit < 32) }
+{
+    let later = bits & (u32::MAX << from);
+    if later == 0 {
+        None
+    } else {
+        Some(later.trailing_zeros() as usize)
+    }
+}
+
+/// The least bit of a word that has one.
+#[inline(always)]
+fn lowest_bit(bits: u32) -> usize
+    requires { bits ≢ 0 }
+    ensures first { IsFirstFrom (bits ∷ []) 0 (Some result) }
+    ensures within { result < 32 }
+{
+    bits.trailing_zeros() as usize
+}
+
+/// So many words of a set with this summary may have a bit.
+#[inline(always)]
+fn used_words(summary: u32) -> usize
+    ensures { IsUsed summary result }
+{
+    (32 - summary.leading_zeros()) as usize
 }

@@ -1,41 +1,44 @@
-//! The sets of tasks that the kernel keeps.
+//! The order of the tasks, and the sets of places in it that the kernel keeps.
 
 use super::Kernel;
+use crate::order::Order;
 use crate::task_set::TaskSet;
 
 impl Kernel {
-    ghost use Rattle.std.specs.Prelude.{◌≡◌, ◌<◌, ℕ, true, length};
-    ghost use Rattle.task_table.specs.declared.task_set.TaskSet.{TaskSet};
+    ghost use Rattle.std.specs.Prelude.{◌≡◌, ◌<◌, ◌≤◌, ℕ, true, length};
     ghost use Rattle.task_table.specs.State.{Setup, Turn};
+    ghost use Rattle.task_table.specs.Limits.{most_tasks};
     ghost use Rattle.task_table.specs.Reading.{is_ready, offers};
     ghost use Rattle.task_table.specs.TaskSets.{has};
-    ghost use Rattle.task_table.specs.Priorities.{has_at, ArePriorities};
-    ghost use Rattle.task_table.specs.Holds.{Holds, Stands, task_count};
+    ghost use Rattle.task_table.specs.Order.{has_task, priorities_of, AreOrdered};
+    ghost use Rattle.task_table.specs.Holds.{Holds, Stands, order_of, task_count};
 
-    /// The tasks of each priority number that occurs, the lowest first.
+    /// The order in which tasks are chosen: by priority number, and equal ones by index.
     #[inline(always)]
-    pub fn priorities(&self) -> &[TaskSet]
-        ensures there { (k i : ℕ) (d : TaskSet) → k < length result.now → has_at result.now k d i ≡ true → i < task_count self.now }
-        ensures holds { (g : Setup) (t : Turn) → Holds g self.now t → ArePriorities g.tasks result.now }
+    pub fn order(&self) -> &Order
+        ensures value { result.now ≡ order_of self.now }
+        ensures few { length result.now.keys.items ≤ most_tasks }
+        ensures there { length result.now.keys.items ≡ task_count self.now }
+        ensures holds { (g : Setup) (t : Turn) → Holds g self.now t → AreOrdered (priorities_of g.tasks) result.now.keys.items result.now.places.items }
     {
-        &self.priorities
+        &self.order
     }
 
-    /// The tasks that are well and wait for nothing.
+    /// The tasks that are well and wait for nothing, by their places in the order.
     #[inline(always)]
     pub fn ready(&self) -> &TaskSet
-        ensures there { (i : ℕ) → has result.now.words i ≡ true → i < task_count self.now }
-        ensures holds { (g : Setup) (t : Turn) → Holds g self.now t → (i : ℕ) → has result.now.words i ≡ is_ready t.state i }
+        ensures there { (p : ℕ) → has result.now.words p ≡ true → p < task_count self.now }
+        ensures holds { (g : Setup) (t : Turn) → Holds g self.now t → (i : ℕ) → i < length g.tasks → has_task (order_of self.now).places.items result.now.words i ≡ is_ready t.state i }
     {
         &self.ready
     }
 
-    /// The tasks that offer a call to a server.
+    /// The tasks that offer a call to a server, by their places in the order.
     #[inline(always)]
     pub fn clients(&self, server: usize) -> &TaskSet
         requires { server < task_count self.now }
-        ensures there { (i : ℕ) → has result.now.words i ≡ true → i < task_count self.now }
-        ensures stands { (g : Setup) (t : Turn) → Stands g self.now t → (i : ℕ) → has result.now.words i ≡ offers t.state server i }
+        ensures there { (p : ℕ) → has result.now.words p ≡ true → p < task_count self.now }
+        ensures stands { (g : Setup) (t : Turn) → Stands g self.now t → (i : ℕ) → i < length g.tasks → has_task (order_of self.now).places.items result.now.words i ≡ offers t.state server i }
     {
         &self.offers[server]
     }

@@ -25,10 +25,11 @@ impl Kernel {
         ensures frame { AddsNotes self.old 0 self.new }
     {
         let before = &self.slots[task];
-        follow_readiness(&mut self.ready, task, before.is_ready(), slot.is_ready());
+        let place = self.order.place(task);
+        follow_readiness(&mut self.ready, place, before.is_ready(), slot.is_ready());
         follow_offer(
             &mut self.offers,
-            task,
+            place,
             before.wait.server(),
             slot.wait.server(),
         );

@@ -5,16 +5,19 @@ use Rattle.task_table.specs.declared.task_set.TaskSet.{TaskSet}
 use Rattle.task_table.proofs.Members.{those_there, offers_kept}
 use Rattle.task_table.proofs.kernel.Kernel.clients.Goals as goal
 
-clients_are : (c : goal.After-index) → AreThose (is_client_of c.args.server) c.args.self.now.slots.items c.index.result.now.words
+clients_are : (c : goal.After-index) → AreThose (is_client_of c.args.server) c.args.self.now.slots.items c.args.self.now.order.places.items c.index.result.now.words
 clients_are c =
     let k = c.args.self.now in
     let inside : c.args.server < length k.offers.items = omega (arith, c.requires, k.offered_now.count) in
-    subst (λ (x : TaskSet). AreThose (is_client_of c.args.server) k.slots.items x.words) (sym c.index.ensures) (k.offered_now.each c.args.server inside c.index.result.now)
+    subst (λ (x : TaskSet). AreThose (is_client_of c.args.server) k.slots.items k.order.places.items x.words) (sym c.index.ensures) (k.offered_now.each c.args.server inside c.index.result.now)
 
 pub returns-clause-there : goal.returns-clause-there
-returns-clause-there c = λ i is. those_there (is_client_of c.args.server) c.args.self.now.slots.items c.index.result.now.words i (clients_are c) is
+returns-clause-there c = λ p is.
+    let k = c.args.self.now in
+    those_there (is_client_of c.args.server) k.slots.items k.order.places.items c.index.result.now.words p (clients_are c) is
 
 pub returns-clause-stands : goal.returns-clause-stands
-returns-clause-stands c = λ g t h i.
-    let small : length c.args.self.now.slots.items ≤ 1024 = omega (arith, c.args.self.now.few) in
-    offers_kept g (kept_of c.args.self.now) t c.args.server c.index.result.now.words h.holds h.sane small (clients_are c) i
+returns-clause-stands c = λ g t h i there.
+    let k = c.args.self.now in
+    let small : length k.slots.items ≤ 1024 = omega (arith, k.few) in
+    offers_kept g (kept_of k) t c.args.server k.order.places.items c.index.result.now.words h.holds h.sane small (clients_are c) i there

@@ -42,8 +42,11 @@ invariant_of-self-clause-many c = c.args.self.now.many
 pub invariant_of-self-clause-there : goal.invariant_of-self-clause-there
 invariant_of-self-clause-there c = c.args.self.now.there
 
-pub invariant_of-self-clause-priorities_are : goal.invariant_of-self-clause-priorities_are
-invariant_of-self-clause-priorities_are c = c.args.self.now.priorities_are
+pub invariant_of-self-clause-order_is : goal.invariant_of-self-clause-order_is
+invariant_of-self-clause-order_is c = c.args.self.now.order_is
+
+pub invariant_of-self-clause-room : goal.invariant_of-self-clause-room
+invariant_of-self-clause-room c = c.args.self.now.room
 
 pub invariant_of-self-clause-ready_now : goal.invariant_of-self-clause-ready_now
 invariant_of-self-clause-ready_now c = c.args.self.now.ready_now

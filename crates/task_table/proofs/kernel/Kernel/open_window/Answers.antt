@@ -64,8 +64,11 @@ invariant_of-self-clause-many g c = c.touched.new.self.many
 pub invariant_of-self-clause-there : goal.invariant_of-self-clause-there
 invariant_of-self-clause-there g c = c.touched.new.self.there
 
-pub invariant_of-self-clause-priorities_are : goal.invariant_of-self-clause-priorities_are
-invariant_of-self-clause-priorities_are g c = c.touched.new.self.priorities_are
+pub invariant_of-self-clause-order_is : goal.invariant_of-self-clause-order_is
+invariant_of-self-clause-order_is g c = c.touched.new.self.order_is
+
+pub invariant_of-self-clause-room : goal.invariant_of-self-clause-room
+invariant_of-self-clause-room g c = c.touched.new.self.room
 
 pub invariant_of-self-clause-ready_now : goal.invariant_of-self-clause-ready_now
 invariant_of-self-clause-ready_now g c = c.touched.new.self.ready_now

@@ -35,13 +35,13 @@ pub invariant_of-self-clause-ready_now : goal.invariant_of-self-clause-ready_now
 invariant_of-self-clause-ready_now c =
     let a = c.args in
     let old = c.index_mut-slot.result.now in
-    those_same is_free a.self.now.slots.items a.task old record a.rest.now { health = old.health; wait = old.wait; timer = old.timer } a.self.now.ready.words a.self.now.ready_now c.requires c.index_mut-slot.ensures.value refl
+    those_same is_free a.self.now.slots.items a.self.now.order.places.items a.task old record a.rest.now { health = old.health; wait = old.wait; timer = old.timer } a.self.now.ready.words a.self.now.ready_now c.requires c.index_mut-slot.ensures.value refl
 
 pub invariant_of-self-clause-offered_now : goal.invariant_of-self-clause-offered_now
 invariant_of-self-clause-offered_now c =
     let a = c.args in
     let old = c.index_mut-slot.result.now in
-    offers_same a.self.now.slots.items a.task old record a.rest.now { health = old.health; wait = old.wait; timer = old.timer } a.self.now.offers.items a.self.now.offered_now c.requires c.index_mut-slot.ensures.value (λ k. refl)
+    offers_same a.self.now.slots.items a.self.now.order.places.items a.task old record a.rest.now { health = old.health; wait = old.wait; timer = old.timer } a.self.now.offers.items a.self.now.offered_now c.requires c.index_mut-slot.ensures.value (λ k. refl)
 
 pub invariant_of-self-clause-of_calls : goal.invariant_of-self-clause-of_calls
 invariant_of-self-clause-of_calls c =
@@ -56,8 +56,11 @@ invariant_of-self-clause-all_lines c = c.args.self.now.all_lines
 pub invariant_of-self-clause-few_owners : goal.invariant_of-self-clause-few_owners
 invariant_of-self-clause-few_owners c = c.args.self.now.few_owners
 
-pub invariant_of-self-clause-priorities_are : goal.invariant_of-self-clause-priorities_are
-invariant_of-self-clause-priorities_are c = c.args.self.now.priorities_are
+pub invariant_of-self-clause-order_is : goal.invariant_of-self-clause-order_is
+invariant_of-self-clause-order_is c = c.args.self.now.order_is
+
+pub invariant_of-self-clause-room : goal.invariant_of-self-clause-room
+invariant_of-self-clause-room c = c.args.self.now.room
 
 pub invariant_of-self-clause-openable : goal.invariant_of-self-clause-openable
 invariant_of-self-clause-openable c = c.args.self.now.openable

@@ -1,14 +1,45 @@
-use Rattle.std.proofs.Common.{◌≡◌, ◌<◌, refl, sym, subst, ◌∙◌, arith, length, map, set, length-set, ◌≤◌, ℕ}
+use Rattle.std.proofs.Common.{◌≡◌, ◌<◌, refl, ap, sym, subst, ◌∙◌, arith, length, map, get_or, set, length-set, ◌≤◌, ℕ}
 use Rattle.task_table.specs.Limits.{most_tasks}
 use Rattle.task_table.specs.declared.slot.Slot.{Slot}
 use Rattle.task_table.specs.Holds.{kept_of}
 use Rattle.task_table.proofs.Steps as steps
-use Rattle.task_table.specs.Readiness.{is_free, AreOffers}
+use Rattle.task_table.specs.TaskSets.{has}
+use Rattle.task_table.specs.Readiness.{is_client_of, is_free, is_server, AreOffers}
+use Rattle.task_table.proofs.Members.{kernel_places}
 use Rattle.task_table.proofs.Written.{front, those_set, offers_set}
 use Rattle.task_table.specs.Parts.{task_setup}
 use Rattle.task_table.proofs.Kept.{fresh_cleared, of_cleared}
 use Rattle.task_table.proofs.Deadlines.{not_before-same}
 use Rattle.task_table.proofs.kernel.Kernel.set_slot.Goals as goal
+
+pub place-place-requires : goal.place-place-requires
+place-place-requires c = omega (arith, c.requires, (kernel_places c.args.self.now).count)
+
+pub follow_readiness-requires-clause-small : goal.follow_readiness-requires-clause-small
+follow_readiness-requires-clause-small c =
+    let k = c.args.self.now in
+    omega (arith, c.place-place.ensures, (kernel_places k).below c.args.task c.requires, k.few)
+
+pub follow_readiness-requires-clause-before : goal.follow_readiness-requires-clause-before
+follow_readiness-requires-clause-before c =
+    let k = c.args.self.now in
+    let slot = c.index-before.result.now in
+    ap (has k.ready.words) c.place-place.ensures ∙ k.ready_now.each c.args.task c.requires slot ∙ sym (ap is_free c.index-before.ensures) ∙ sym c.is_ready.ensures
+
+pub follow_offer-requires-clause-small : goal.follow_offer-requires-clause-small
+follow_offer-requires-clause-small c =
+    let k = c.args.self.now in
+    omega (arith, c.place-place.ensures, (kernel_places k).below c.args.task c.requires, k.few)
+
+pub follow_offer-requires-clause-before : goal.follow_offer-requires-clause-before
+follow_offer-requires-clause-before c = λ server d under.
+    let k = c.args.self.now in
+    let slot = c.index-before.result.now in
+    let was : AreOffers k.slots.items k.order.places.items c.deref_mut.result.now = rw c.deref_mut.ensures.value k.offered_now in
+    ap (has (get_or c.deref_mut.result.now server d).words) c.place-place.ensures
+    ∙ (was.each server under d).each c.args.task c.requires slot
+    ∙ sym (ap (is_client_of server) c.index-before.ensures)
+    ∙ ap (is_server server) (sym c.server.ensures)
 
 pub returns-clause-holds : goal.returns-clause-holds
 returns-clause-holds c = λ g t u h kept same timers.
@@ -36,18 +67,22 @@ pub invariant_of-self-clause-ready_now : goal.invariant_of-self-clause-ready_now
 invariant_of-self-clause-ready_now c =
     let a = c.args in
     let old = c.index_mut-kept.result.now in
-    those_set is_free a.self.now.slots.items a.task record a.slot { timer = old.timer } a.self.now.ready.words _ a.self.now.ready_now c.requires (λ j. rw c.is_ready-2.ensures at (c.follow_readiness.ensures j))
+    those_set is_free a.self.now.slots.items a.self.now.order.places.items a.task record a.slot { timer = old.timer } a.self.now.ready.words _ a.self.now.ready_now (kernel_places a.self.now) c.requires
+    (λ p. rw (c.is_ready-2.ensures, c.place-place.ensures) at (c.follow_readiness.ensures p))
 
 pub invariant_of-self-clause-offered_now : goal.invariant_of-self-clause-offered_now
 invariant_of-self-clause-offered_now c =
     let a = c.args in
     let old = c.index_mut-kept.result.now in
     let slot : Slot = record a.slot { timer = old.timer } in
-    let was : AreOffers a.self.now.slots.items c.deref_mut.result.now = rw c.deref_mut.ensures.value a.self.now.offered_now in
+    let places = a.self.now.order.places.items in
+    let was : AreOffers a.self.now.slots.items places c.deref_mut.result.now = rw c.deref_mut.ensures.value a.self.now.offered_now in
     let sets = c.follow_offer.new.sets in
-    let next : AreOffers (set a.self.now.slots.items a.task slot) sets = offers_set a.self.now.slots.items a.task slot c.deref_mut.result.now sets was c.requires c.follow_offer.ensures.count (λ k j d under. rw c.server-2.ensures at (c.follow_offer.ensures.each k j d under)) in
+    let next : AreOffers (set a.self.now.slots.items a.task slot) places sets =
+        offers_set a.self.now.slots.items places a.task slot c.deref_mut.result.now sets was (kernel_places a.self.now) c.requires c.follow_offer.ensures.count
+        (λ k p d under. rw (c.server-2.ensures, c.place-place.ensures) at (c.follow_offer.ensures.each k p d under)) in
     let count : length sets ≡ a.self.now.offers.len = omega (arith, c.follow_offer.ensures.count, c.deref_mut.ensures.len) in
-    subst (λ xs. AreOffers (set a.self.now.slots.items a.task slot) xs) (sym (front a.self.now.offers.len sets _ count)) next
+    subst (λ xs. AreOffers (set a.self.now.slots.items a.task slot) places xs) (sym (front a.self.now.offers.len sets _ count)) next
 
 pub invariant_of-self-clause-fresh : goal.invariant_of-self-clause-fresh
 invariant_of-self-clause-fresh c =
@@ -68,8 +103,11 @@ invariant_of-self-clause-all_lines c = c.args.self.now.all_lines
 pub invariant_of-self-clause-few_owners : goal.invariant_of-self-clause-few_owners
 invariant_of-self-clause-few_owners c = c.args.self.now.few_owners
 
-pub invariant_of-self-clause-priorities_are : goal.invariant_of-self-clause-priorities_are
-invariant_of-self-clause-priorities_are c = c.args.self.now.priorities_are
+pub invariant_of-self-clause-order_is : goal.invariant_of-self-clause-order_is
+invariant_of-self-clause-order_is c = c.args.self.now.order_is
+
+pub invariant_of-self-clause-room : goal.invariant_of-self-clause-room
+invariant_of-self-clause-room c = c.args.self.now.room
 
 pub invariant_of-self-clause-openable : goal.invariant_of-self-clause-openable
 invariant_of-self-clause-openable c = c.args.self.now.openable

@@ -6,12 +6,13 @@ use Rattle.task_table.specs.Parts.{setup_of_parts, task_setup, line_setup}
 use Rattle.task_table.specs.Start.{born}
 use Rattle.task_table.specs.Holds.{packed_task}
 use Rattle.task_table.specs.declared.slot.Wait.TheVariants.{Nothing}
-use Rattle.task_table.specs.Priorities.{ArePriorities}
+use Rattle.task_table.specs.Order.{AreOrdered, priorities_of}
 use Rattle.task_table.specs.Limits.{most_tasks, board_lines}
 use Rattle.task_table.specs.Readiness.{is_free, AreThose}
 use Rattle.task_table.specs.declared.slot.Slot.{Slot}
 use Rattle.task_table.specs.declared.start.TaskStart.{TaskStart}
 use Rattle.task_table.proofs.Members.{no_offers}
+use Rattle.task_table.proofs.Ordered.{as_many_priorities, own_places}
 use Rattle.task_table.proofs.Deadlines.{not_before-unset}
 use Rattle.task_table.proofs.Starts.{shows_start, sane-begun}
 use Rattle.task_table.proofs.kernel.Kernel.start.Goals as goal
@@ -28,7 +29,7 @@ returns-clause-holds c =
     let tasks : map task_setup c.in_ok-copies.copies.items ≡ map task_setup c.args.tasks.now = c.in_ok-copies.ensures.setup in
     let lines : map line_setup c.in_ok-owners.owners.items ≡ map line_setup c.args.lines.now = ap (map line_setup) c.in_ok-owners.ensures.items in
     let setup : with (map task_setup c.in_ok-copies.copies.items) (map line_setup c.in_ok-owners.owners.items) ≡ g = rw (tasks, lines) refl in
-    shows_start m c.args.fault_bits c.args.tasks.now c.args.lines.now _ c.requires.zeros setup c.in_ok-slots.ensures c.new.ensures refl refl refl refl refl
+    shows_start m c.args.fault_bits c.args.tasks.now c.args.lines.now _ c.requires.zeros setup c.in_ok-slots.ensures c.in_ok-notes.ensures.items refl refl refl refl refl
 
 pub returns-clause-stands : goal.returns-clause-stands
 returns-clause-stands c = λ sound.
@@ -38,12 +39,12 @@ returns-clause-stands c = λ sound.
     let tasks : map task_setup c.in_ok-copies.copies.items ≡ map task_setup c.args.tasks.now = c.in_ok-copies.ensures.setup in
     let lines : map line_setup c.in_ok-owners.owners.items ≡ map line_setup c.args.lines.now = ap (map line_setup) c.in_ok-owners.ensures.items in
     let setup : with (map task_setup c.in_ok-copies.copies.items) (map line_setup c.in_ok-owners.owners.items) ≡ g = rw (tasks, lines) refl in
-    record { holds = shows_start m c.args.fault_bits c.args.tasks.now c.args.lines.now _ c.requires.zeros setup c.in_ok-slots.ensures c.new.ensures refl refl refl refl refl; sane = sane-begun g sound }
+    record { holds = shows_start m c.args.fault_bits c.args.tasks.now c.args.lines.now _ c.requires.zeros setup c.in_ok-slots.ensures c.in_ok-notes.ensures.items refl refl refl refl refl; sane = sane-begun g sound }
 
 pub invariant_of-result-clause-offered_now : goal.invariant_of-result-clause-offered_now
 invariant_of-result-clause-offered_now c =
     let count : length c.in_ok-offers.offers.items ≡ length c.in_ok-slots.slots.items = search rules in
-    no_offers (λ x. packed_task (born (task_setup x)) Nothing) c.args.tasks.now c.in_ok-slots.slots.items c.in_ok-offers.offers.items c.in_ok-slots.ensures (λ x. refl) count c.in_ok-offers.ensures.empty
+    no_offers (λ x. packed_task (born (task_setup x)) Nothing) c.args.tasks.now c.in_ok-slots.slots.items c.in_ok-order.order.places.items c.in_ok-offers.offers.items c.in_ok-slots.ensures (λ x. refl) count c.in_ok-offers.ensures.empty
 
 pub invariant_of-result-clause-deadlines : goal.invariant_of-result-clause-deadlines
 invariant_of-result-clause-deadlines c =
@@ -67,17 +68,31 @@ invariant_of-result-clause-many c = c.in_ok-copies.ensures.length ∙ sym (as_ma
 pub invariant_of-result-clause-there : goal.invariant_of-result-clause-there
 invariant_of-result-clause-there c = subst (λ (n : ℕ). 0 < n) (sym (as_many c.in_ok-slots.slots.items c.args.tasks.now c.in_ok-slots.ensures)) c.requires.some
 
-pub invariant_of-result-clause-priorities_are : goal.invariant_of-result-clause-priorities_are
-invariant_of-result-clause-priorities_are c = subst (λ (ts : List TaskStart). ArePriorities (map task_setup ts) c.in_ok-priorities.priorities.items) c.deref.ensures.value c.in_ok-priorities.ensures
+pub invariant_of-result-clause-order_is : goal.invariant_of-result-clause-order_is
+invariant_of-result-clause-order_is c =
+    let order = c.in_ok-order.order in
+    subst (λ (ts : List TaskStart). AreOrdered (priorities_of (map task_setup ts)) order.keys.items order.places.items) c.deref.ensures.value c.in_ok-order.ensures
+
+pub invariant_of-result-clause-room : goal.invariant_of-result-clause-room
+invariant_of-result-clause-room c = c.in_ok-notes.ensures.capacity
+
+pub ready_tasks-ready-requires-clause-places : goal.ready_tasks-ready-requires-clause-places
+ready_tasks-ready-requires-clause-places c =
+    let order = c.in_ok-order.order in
+    let starts = c.deref.result.now in
+    let slots = c.deref-2.result.now in
+    let many : length starts ≡ length c.args.tasks.now = ap length c.deref.ensures.value ∙ c.in_ok-copies.ensures.length in
+    let count : length (priorities_of (map task_setup starts)) ≡ length slots = as_many_priorities starts ∙ many ∙ sym (ap length c.deref-2.ensures.value ∙ as_many c.in_ok-slots.slots.items c.args.tasks.now c.in_ok-slots.ensures) in
+    own_places _ order.keys.items order.places.items (length slots) c.in_ok-order.ensures count
 
 pub invariant_of-result-clause-ready_now : goal.invariant_of-result-clause-ready_now
-invariant_of-result-clause-ready_now c = subst (λ (ss : List Slot). AreThose is_free ss c.ready_tasks-ready.result.words) c.deref-2.ensures.value c.ready_tasks-ready.ensures
+invariant_of-result-clause-ready_now c = subst (λ (ss : List Slot). AreThose is_free ss c.in_ok-order.order.places.items c.ready_tasks-ready.result.words) c.deref-2.ensures.value c.ready_tasks-ready.ensures
 
 pub returns-clause-count : goal.returns-clause-count
 returns-clause-count c = as_many c.in_ok-slots.slots.items c.args.tasks.now c.in_ok-slots.ensures
 
 pub returns-clause-notes : goal.returns-clause-notes
-returns-clause-notes c = ap length c.new.ensures
+returns-clause-notes c = ap length c.in_ok-notes.ensures.items
 
 pub returns-in_err-copies-clause-holds : goal.returns-in_err-copies-clause-holds
 returns-in_err-copies-clause-holds c = IfOk-from_err c.from_residual.result _ c.from_residual.ensures.0
@@ -91,17 +106,17 @@ returns-in_err-copies-clause-count c = IfOk-from_err c.from_residual.result _ c.
 pub returns-in_err-copies-clause-notes : goal.returns-in_err-copies-clause-notes
 returns-in_err-copies-clause-notes c = IfOk-from_err c.from_residual.result _ c.from_residual.ensures.0
 
-pub returns-in_err-priorities-clause-holds : goal.returns-in_err-priorities-clause-holds
-returns-in_err-priorities-clause-holds c = IfOk-from_err c.from_residual-in_err-priorities.result _ c.from_residual-in_err-priorities.ensures.0
+pub returns-in_err-order-clause-holds : goal.returns-in_err-order-clause-holds
+returns-in_err-order-clause-holds c = IfOk-from_err c.from_residual-in_err-order.result _ c.from_residual-in_err-order.ensures.0
 
-pub returns-in_err-priorities-clause-stands : goal.returns-in_err-priorities-clause-stands
-returns-in_err-priorities-clause-stands c = λ sound. IfOk-from_err c.from_residual-in_err-priorities.result _ c.from_residual-in_err-priorities.ensures.0
+pub returns-in_err-order-clause-stands : goal.returns-in_err-order-clause-stands
+returns-in_err-order-clause-stands c = λ sound. IfOk-from_err c.from_residual-in_err-order.result _ c.from_residual-in_err-order.ensures.0
 
-pub returns-in_err-priorities-clause-count : goal.returns-in_err-priorities-clause-count
-returns-in_err-priorities-clause-count c = IfOk-from_err c.from_residual-in_err-priorities.result _ c.from_residual-in_err-priorities.ensures.0
+pub returns-in_err-order-clause-count : goal.returns-in_err-order-clause-count
+returns-in_err-order-clause-count c = IfOk-from_err c.from_residual-in_err-order.result _ c.from_residual-in_err-order.ensures.0
 
-pub returns-in_err-priorities-clause-notes : goal.returns-in_err-priorities-clause-notes
-returns-in_err-priorities-clause-notes c = IfOk-from_err c.from_residual-in_err-priorities.result _ c.from_residual-in_err-priorities.ensures.0
+pub returns-in_err-order-clause-notes : goal.returns-in_err-order-clause-notes
+returns-in_err-order-clause-notes c = IfOk-from_err c.from_residual-in_err-order.result _ c.from_residual-in_err-order.ensures.0
 
 pub returns-in_err-owners-clause-holds : goal.returns-in_err-owners-clause-holds
 returns-in_err-owners-clause-holds c = IfOk-from_err c.from_residual-in_err-owners.result _ c.from_residual-in_err-owners.ensures.0
@@ -150,3 +165,15 @@ returns-in_err-entries-clause-count c = IfOk-from_err c.from_residual-in_err-ent
 
 pub returns-in_err-entries-clause-notes : goal.returns-in_err-entries-clause-notes
 returns-in_err-entries-clause-notes c = IfOk-from_err c.from_residual-in_err-entries.result _ c.from_residual-in_err-entries.ensures.0
+
+pub returns-in_err-notes-clause-holds : goal.returns-in_err-notes-clause-holds
+returns-in_err-notes-clause-holds c = IfOk-from_err c.from_residual-in_err-notes.result _ c.from_residual-in_err-notes.ensures.0
+
+pub returns-in_err-notes-clause-stands : goal.returns-in_err-notes-clause-stands
+returns-in_err-notes-clause-stands c = λ sound. IfOk-from_err c.from_residual-in_err-notes.result _ c.from_residual-in_err-notes.ensures.0
+
+pub returns-in_err-notes-clause-count : goal.returns-in_err-notes-clause-count
+returns-in_err-notes-clause-count c = IfOk-from_err c.from_residual-in_err-notes.result _ c.from_residual-in_err-notes.ensures.0
+
+pub returns-in_err-notes-clause-notes : goal.returns-in_err-notes-clause-notes
+returns-in_err-notes-clause-notes c = IfOk-from_err c.from_residual-in_err-notes.result _ c.from_residual-in_err-notes.ensures.0

@@ -1,15 +1,13 @@
 use Rattle.std.proofs.Common.{arith}
-use Rattle.task_table.proofs.TaskSets.{found_in, none_in, none_left}
+use Rattle.task_table.proofs.TaskSets.{has_past}
+use Rattle.task_table.proofs.Summaries.{found_here, found_behind}
 use Rattle.task_table.proofs.task_set.TaskSet.first_from.Goals as goal
 
-pub loop-word-init : goal.loop-word-init
-loop-word-init c = λ i above under. absurd (omega arith)
+pub returns-then-word-ge-TASK_WORDS : goal.returns-then-word-ge-TASK_WORDS
+returns-then-word-ge-TASK_WORDS c = λ i above. has_past c.args.self.now.words i (omega (arith, above, c.if-word-ge-TASK_WORDS.true, c.args.self.now.all_words))
 
-pub loop-word-preserved : goal.loop-word-preserved
-loop-word-preserved c = none_in c.args.self.now.words c.args.task c.loop-word.word c.bits_from-bits.result (omega arith) c.bits_from-bits.ensures c.loop-word.invariant
+pub returns-in-Some : goal.returns-in-Some
+returns-in-Some c = found_here c.args.self.now.words c.args.place c.in-Some.bit c.in-Some.ensures.first
 
-pub returns-then-bits-ne0 : goal.returns-then-bits-ne0
-returns-then-bits-ne0 c = found_in c.args.self.now.words c.args.task c.loop-word.word c.bits_from-bits.result (omega arith) (omega arith) c.bits_from-bits.ensures c.loop-word.invariant
-
-pub returns : goal.returns
-returns c = none_left c.args.self.now.words c.args.task c.loop-word.word (omega (arith, c.args.self.now.all_words, c.loop-word-test.false)) c.loop-word.invariant
+pub returns-in-None : goal.returns-in-None
+returns-in-None c = found_behind c.args.self.now.words c.args.place _ c.in-None.ensures.first c.first_after.ensures

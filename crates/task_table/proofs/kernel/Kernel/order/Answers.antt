@@ -1,0 +1,20 @@
+use Rattle.std.proofs.Common.{◌∙◌, arith, subst}
+use Rattle.task_table.specs.State.{Setup}
+use Rattle.task_table.specs.Order.{AreOrdered, priorities_of}
+use Rattle.task_table.proofs.Ordered.{as_many_priorities}
+use Rattle.task_table.proofs.kernel.Kernel.order.Goals as goal
+
+pub returns-clause-few : goal.returns-clause-few
+returns-clause-few c =
+    let k = c.args.self.now in
+    omega (arith, k.order_is.key_count, as_many_priorities k.tasks.items, k.many, k.few)
+
+pub returns-clause-there : goal.returns-clause-there
+returns-clause-there c =
+    let k = c.args.self.now in
+    k.order_is.key_count ∙ as_many_priorities k.tasks.items ∙ k.many
+
+pub returns-clause-holds : goal.returns-clause-holds
+returns-clause-holds c = λ g t h.
+    let k = c.args.self.now in
+    subst (λ (x : Setup). AreOrdered (priorities_of x.tasks) k.order.keys.items k.order.places.items) h.setup k.order_is

@@ -1,0 +1,11 @@
+use Rattle.std.proofs.Common.{◌≡◌, ◌≤◌, ◌∙◌, ℕ, List, IfOk, ap, subst, length, map, arith}
+use Rattle.task_table.specs.Parts.{task_setup}
+use Rattle.task_table.specs.Order.{AreOrdered, priorities_of}
+use Rattle.task_table.proofs.Ordered.{as_many_priorities}
+use Rattle.task_table.proofs.order.order_of.Goals as goal
+
+pub of-requires : goal.of-requires
+of-requires c = omega (arith, c.requires, ap length (c.deref.ensures.value ∙ c.in_ok-priorities.ensures), as_many_priorities c.args.tasks.now)
+
+pub returns : goal.returns
+returns c = rw (c.deref.ensures.value ∙ c.in_ok-priorities.ensures) at c.of.ensures
