@@ -1,5 +1,5 @@
 -- Names, one after the other.
-use Rattle.std.proofs.Common.{◌≡◌, ◌≢◌, ◌∙◌, ◌+◌, ◌-◌, ◌<◌, ◌≤◌, ℕ, zero, suc, Bool, true, false, not, ◌||◌, ◌&&◌, ◌==◌, ◌⊎◌, inl, inr, List, [], ◌∷◌, ◌++◌, Option, Some, None, All, AllPairs, length, map, take, drop, get_or, refl, sym, subst, ap, ap₂, arith, append_assoc, nat_le, length-append, cond, absurd}
+use Rattle.std.proofs.Common.{◌≡◌, ◌≢◌, ◌∙◌, ◌+◌, ◌-◌, ◌<◌, ◌≤◌, ℕ, zero, suc, Bool, true, false, not, ◌||◌, ◌&&◌, ◌==◌, ◌⊎◌, inl, inr, List, [], ◌∷◌, ◌++◌, Option, Some, None, All, AllPairs, length, map, take, drop, get_or, refl, sym, subst, ap, ap₂, arith, append_assoc, nat_le, length-append}
 use Rattle.std.specs.Cmp.Lexicographic.{bytes_decides}
 use Rattle.std.specs.List.{list_any}
 use Rattle.std.specs.Option.{is_some}
@@ -213,13 +213,13 @@ other_name m n d = by (same_name m n) refl
     by true e = absurd (d ((bytes_decides m n).0 e))
     by false e = e
 
-different : (m n : List ℕ) → same_name m n ≡ false → m ≢ n
-different m n e same = let yes : same_name m n ≡ true = (bytes_decides m n).1 same in cc
+not_same : (m n : List ℕ) → same_name m n ≡ false → m ≢ n
+not_same m n e same = let yes : same_name m n ≡ true = (bytes_decides m n).1 same in cc
 
 -- at each place before, another name
 before_other : (earlier : List (List ℕ)) (n : List ℕ) (k : ℕ) → list_any (λ m. same_name m n) earlier ≡ false → k < length earlier → get_or earlier k [] ≢ n
 before_other [] n k e lt = absurd (omega (arith, lt))
-before_other (m ∷ ms) n zero e lt = different m n (or_false (same_name m n) (list_any (λ m. same_name m n) ms) e).0
+before_other (m ∷ ms) n zero e lt = not_same m n (or_false (same_name m n) (list_any (λ m. same_name m n) ms) e).0
 before_other (m ∷ ms) n (suc k) e lt = before_other ms n k (or_false (same_name m n) (list_any (λ m. same_name m n) ms) e).1 (omega (arith, lt))
 
 none_before : (earlier : List (List ℕ)) (n : List ℕ) → ((k : ℕ) → k < length earlier → get_or earlier k [] ≢ n) → list_any (λ m. same_name m n) earlier ≡ false
