@@ -7,6 +7,7 @@ use Rattle.app_toml.specs.Apps.{AppData, InterruptData}
 use Rattle.app_toml.specs.Relations.{Relations}
 use Rattle.image_format.specs.Picture.{LinePicture, line_record}
 use Rattle.image_format.specs.Steps.{line_fault, lines_from}
+use Rattle.image_format.specs.declared.records.Form.TheVariants.{Second}
 use Rattle.image_build.specs.Building.{IsOwned}
 use Rattle.image_build.specs.Built.{line_built, lines_at}
 use Rattle.image_build.proofs.Finding.{task_below}
@@ -39,8 +40,8 @@ one_line app line (x ∷ xs) apart known = elim (cases_Bool (x.line == line)) [
   | inr miss ↦ rw miss (one_line app line xs apart.1 known.1)
 ]
 
-pub lines_none : (at : ℕ → List LinePicture) (tasks : ℕ) → ((line : ℕ) → AtMost line tasks (at line)) → (n line least place : ℕ) → least ≤ line → line + n ≤ 32
-    → lines_from least tasks place (map line_record (flat_map at (range_with_len line n))) ≡ None
+pub lines_none : (at : ℕ → List LinePicture) (tasks : ℕ) → ((line : ℕ) → AtMost line tasks (at line)) → (n line least place : ℕ) → least ≤ line → line + n ≤ 64
+    → lines_from Second least tasks place (map line_record (flat_map at (range_with_len line n))) ≡ None
 lines_none at tasks most zero line least place low high = refl
 lines_none at tasks most (suc n) line least place low high =
     step (most line) (lines_none at tasks most n (line + 1) least place (omega (arith, low)) (omega (arith, high)))
@@ -49,14 +50,14 @@ lines_none at tasks most (suc n) line least place low high =
     rest : List LinePicture
     rest = flat_map at (range_with_len (line + 1) n)
 
-    step : AtMost line tasks (at line) → lines_from least tasks place (map line_record rest) ≡ None → lines_from (line + 1) tasks (place + 8) (map line_record rest) ≡ None
-        → lines_from least tasks place (map line_record (at line ++ rest)) ≡ None
-    step (inl none) skipped next = subst (λ (ls : List LinePicture). lines_from least tasks place (map line_record (ls ++ rest)) ≡ None) (sym none) skipped
+    step : AtMost line tasks (at line) → lines_from Second least tasks place (map line_record rest) ≡ None → lines_from Second (line + 1) tasks (place + 8) (map line_record rest) ≡ None
+        → lines_from Second least tasks place (map line_record (at line ++ rest)) ≡ None
+    step (inl none) skipped next = subst (λ (ls : List LinePicture). lines_from Second least tasks place (map line_record (ls ++ rest)) ≡ None) (sym none) skipped
     step (inr (l, is, g)) skipped next =
-        subst (λ (ls : List LinePicture). lines_from least tasks place (map line_record (ls ++ rest)) ≡ None) (sym is)
-        (both (line_fault least tasks (line_record l) place) (lines_from (l.line + 1) tasks (place + 8) (map line_record rest))
+        subst (λ (ls : List LinePicture). lines_from Second least tasks place (map line_record (ls ++ rest)) ≡ None) (sym is)
+        (both (line_fault Second least tasks (line_record l) place) (lines_from Second (l.line + 1) tasks (place + 8) (map line_record rest))
         (line_none least tasks line l place low (omega (arith, high)) g)
-        (subst (λ (k : ℕ). lines_from (k + 1) tasks (place + 8) (map line_record rest) ≡ None) (sym g.is) next))
+        (subst (λ (k : ℕ). lines_from Second (k + 1) tasks (place + 8) (map line_record rest) ≡ None) (sym g.is) next))
 
 pub few_lines : (at : ℕ → List LinePicture) (tasks : ℕ) → ((line : ℕ) → AtMost line tasks (at line)) → (n line : ℕ) → length (flat_map at (range_with_len line n)) ≤ n
 few_lines at tasks most zero line = omega arith

@@ -9,7 +9,7 @@ use Rattle.image_build.specs.Building.{IsLaid}
 use Rattle.image_build.specs.Built.{task_built, tasks_from}
 use Rattle.image_build.specs.Layout.{flash_base, named, no_task, ram_base, task_at, task_regions}
 use Rattle.image_build.specs.declared.layout.Layout.{Layout}
-use Rattle.image_build.proofs.Known.{few_regions}
+use Rattle.image_build.proofs.Known.{few_notes, few_regions}
 use Rattle.image_build.proofs.Naming.{ram_count, ram_size}
 use Rattle.image_build.proofs.Planning.{flash_count, flash_size}
 use Rattle.image_build.proofs.Rounding.{fours}
@@ -80,6 +80,6 @@ good_task app layout l a r i lt =
       flags = low_bit t.start;
       some = omega (arith, region_count app i t);
       most = omega (arith, region_count app i t, few_regions app a i lt);
-      zeros = refl;
+      names = few_notes app a i lt;
       stack = stack_fours (ram_base app i) t.stack (ram_fours app layout l i lt) (r.starts.stacks i no_task lt);
     }

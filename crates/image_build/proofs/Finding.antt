@@ -132,22 +132,22 @@ region_more app names more all rs k v item lt at_k at is before =
     subst (λ (xs : List RegionSpec). names ++ region_symbols app k (map region_of xs) ≡ all) split before in
     ap (λ (ns : Names). ns ++ rest) (is ∙ ap (λ (n : ℕ). names ++ (name, n) ∷ []) at) ∙ append_assoc names ((name, region_base app k) ∷ []) rest ∙ here
 
-pub lines_more : (at : ℕ → List LinePicture) (out more all : List LineRecord) (line : ℕ) → line < 32 → more ≡ out ++ map line_record (at line)
-    → out ++ map line_record (flat_map at (range_with_len line (32 - line))) ≡ all
-    → more ++ map line_record (flat_map at (range_with_len (line + 1) (32 - (line + 1)))) ≡ all
+pub lines_more : (at : ℕ → List LinePicture) (out more all : List LineRecord) (line : ℕ) → line < 64 → more ≡ out ++ map line_record (at line)
+    → out ++ map line_record (flat_map at (range_with_len line (64 - line))) ≡ all
+    → more ++ map line_record (flat_map at (range_with_len (line + 1) (64 - (line + 1)))) ≡ all
 lines_more at out more all line lt is before =
-    let m = 32 - (line + 1) in
+    let m = 64 - (line + 1) in
     let rest : List LinePicture = flat_map at (range_with_len (line + 1) m) in
-    let e : 32 - line ≡ suc m = omega (arith, lt) in
+    let e : 64 - line ≡ suc m = omega (arith, lt) in
     let here : out ++ map line_record (at line ++ rest) ≡ all =
     subst (λ (n : ℕ). out ++ map line_record (flat_map at (range_with_len line n)) ≡ all) e before in
     ap (λ (o : List LineRecord). o ++ map line_record rest) is ∙ append_assoc out (map line_record (at line)) (map line_record rest)
     ∙ ap (λ (x : List LineRecord). out ++ x) (sym (map-append line_record (at line) rest)) ∙ here
 
-pub lines_end : (at : ℕ → List LinePicture) (out all : List LineRecord) (line : ℕ) → 32 ≤ line
-    → out ++ map line_record (flat_map at (range_with_len line (32 - line))) ≡ all → out ≡ all
+pub lines_end : (at : ℕ → List LinePicture) (out all : List LineRecord) (line : ℕ) → 64 ≤ line
+    → out ++ map line_record (flat_map at (range_with_len line (64 - line))) ≡ all → out ≡ all
 lines_end at out all line le before =
-    let e : 32 - line ≡ 0 = omega (arith, le) in
+    let e : 64 - line ≡ 0 = omega (arith, le) in
     sym (append-nil out) ∙ subst (λ (n : ℕ). out ++ map line_record (flat_map at (range_with_len line n)) ≡ all) e before
 
 -- ---- a task's record
@@ -165,13 +165,13 @@ region_count app i t =
       length-map t.reads.items string_bytes,
     )
 
-same_fields : (p f g r s e h a b : ℕ) → f ≡ g → r ≡ s → e ≡ h → a ≡ b
-    → ◌≡◌ {A = TaskRecord} (record { priority = p; flags = f; regions = r; zero = 0; entry = e; sp = a }) (record { priority = p; flags = g; regions = s; zero = 0; entry = h; sp = b })
-same_fields p f g r s e h a b i j k l = rw (i, j, k, l) refl
+same_fields : (p f g r s n m e h a b : ℕ) → f ≡ g → r ≡ s → n ≡ m → e ≡ h → a ≡ b
+    → ◌≡◌ {A = TaskRecord} (record { priority = p; flags = f; regions = r; names = n; entry = e; sp = a }) (record { priority = p; flags = g; regions = s; names = m; entry = h; sp = b })
+same_fields p f g r s n m e h a b i j o k l = rw (i, j, o, k, l) refl
 
-pub same_record : (app : AppData) (i : ℕ) (t : TaskSpec) (flags regions entry sp : ℕ) → task_of t ≡ task_at app i → flags ≡ bit t.start 1
-    → regions ≡ 2 + length t.uses.items + length t.reads.items → entry ≡ flash_base app i + 1 → sp ≡ ram_base app i + t.stack
-    → ◌≡◌ {A = TaskRecord} (record { priority = t.priority; flags = flags; regions = regions; zero = 0; entry = entry; sp = sp }) (task_record (task_built app i (task_at app i)))
-same_record app i t flags regions entry sp is f r e s =
-    subst (λ (d : TaskData). ◌≡◌ {A = TaskRecord} (record { priority = t.priority; flags = flags; regions = regions; zero = 0; entry = entry; sp = sp }) (task_record (task_built app i d))) is
-    (same_fields t.priority flags _ regions _ entry _ sp _ f (r ∙ sym (region_count app i t)) e s)
+pub same_record : (app : AppData) (i : ℕ) (t : TaskSpec) (flags regions names entry sp : ℕ) → task_of t ≡ task_at app i → flags ≡ bit t.start 1
+    → regions ≡ 2 + length t.uses.items + length t.reads.items → names ≡ length t.notifications.items → entry ≡ flash_base app i + 1 → sp ≡ ram_base app i + t.stack
+    → ◌≡◌ {A = TaskRecord} (record { priority = t.priority; flags = flags; regions = regions; names = names; entry = entry; sp = sp }) (task_record (task_built app i (task_at app i)))
+same_record app i t flags regions names entry sp is f r n e s =
+    subst (λ (d : TaskData). ◌≡◌ {A = TaskRecord} (record { priority = t.priority; flags = flags; regions = regions; names = names; entry = entry; sp = sp }) (task_record (task_built app i d))) is
+    (same_fields t.priority flags _ regions _ names _ entry _ sp _ f (r ∙ sym (region_count app i t)) (n ∙ sym (length-map t.notifications.items string_bytes)) e s)

@@ -51,11 +51,11 @@ groups app a =
 
 -- ---- how many
 
-pub few_tasks : (app : AppData) → IsAccepted app → length app.tasks ≤ 32
+pub few_tasks : (app : AppData) → IsAccepted app → length app.tasks ≤ 512
 few_tasks app a =
     let c = both (task_count app.tasks) _ (groups app a).counts in
-    let d = both (refuse_if (nat_lt 32 (length app.tasks)) _ _) _ c.0 in
-    ltb-false 32 (length app.tasks) (no_refusal (nat_lt 32 (length app.tasks)) _ _ d.0)
+    let d = both (refuse_if (nat_lt 512 (length app.tasks)) _ _) _ c.0 in
+    ltb-false 512 (length app.tasks) (no_refusal (nat_lt 512 (length app.tasks)) _ _ d.0)
 
 not_zero : (n : ℕ) → (n == 0) ≡ false → 1 ≤ n
 not_zero n e = grind (arith, nat_tests)
@@ -63,7 +63,7 @@ not_zero n e = grind (arith, nat_tests)
 pub some_task : (app : AppData) → IsAccepted app → 1 ≤ length app.tasks
 some_task app a =
     let c = both (task_count app.tasks) _ (groups app a).counts in
-    let d = both (refuse_if (nat_lt 32 (length app.tasks)) _ _) _ c.0 in
+    let d = both (refuse_if (nat_lt 512 (length app.tasks)) _ _) _ c.0 in
     not_zero (length app.tasks) (no_refusal (length app.tasks == 0) _ _ d.1)
 
 pub few_notes : (app : AppData) → IsAccepted app → (i : ℕ) → i < length app.tasks → length (task_at app i).notifications ≤ 32

@@ -1,4 +1,5 @@
 pub mod EachLine
+pub mod EachName
 pub mod EachRegion
 pub mod EachTask
 pub mod Finding
@@ -9,6 +10,7 @@ pub mod Opening
 pub mod Planning
 pub mod Recorded
 pub mod Rounding
+pub mod Sharing
 pub mod Sound
 pub mod Spots
 pub mod Walking

@@ -1,7 +1,7 @@
 -- When the steps over an image's records refuse nothing.
 use Rattle.std.proofs.Common.{◌≡◌, ◌∙◌, ℕ, zero, suc, Bool, true, false, not, ◌+◌, ◌*◌, ◌%◌, ◌≤◌, ◌<◌, ◌||◌, ◌&&◌, ◌==◌, List, [], ◌∷◌, ◌++◌, Option, None, length, take, drop, get_or, map, length-append, refl, sym, ap, subst, arith, inl, inr}
 use Rattle.std.specs.List.{list_any}
-use Rattle.std.specs.Prelude.{⊤}
+use Rattle.std.specs.Prelude.{⊤, All}
 use Rattle.std.proofs.Math.Seq.{drop-append_seam, take-append_seam}
 use Rattle.std.proofs.lemmas.Bool.{and_left, and_right, cases_eq, eq-eqb, le-ltb, lt-leb, ne_eqb, or_from}
 use Rattle.std.proofs.lemmas.List.{length-map, map-append}
@@ -10,7 +10,8 @@ use Rattle.std.proofs.lemmas.List.Sums.{sum_by-cons}
 use Rattle.region_check.specs.declared.Region.{Region}
 use Rattle.image_format.specs.Picture.{LinePicture, TaskPicture, all_regions, line_record, region_record, task_record}
 use Rattle.image_format.specs.Regions.{clashes, cuts, entries_from, entry_fault, has_area, has_rights, has_shape, meets, own_fault, region_fault, regions_from, runs_at}
-use Rattle.image_format.specs.Steps.{Refusal, count_fault, counted, field_fault, line_fault, or_else, task_fault, tasks_from}
+use Rattle.image_format.specs.Steps.{Refusal, count_fault, counted, line_fault, or_else, second_field_fault, task_fault, tasks_from}
+use Rattle.image_format.specs.declared.records.Form.TheVariants.{Second}
 use Rattle.image_format.specs.declared.records.Header.{Header}
 use Rattle.image_format.specs.declared.records.RegionRecord.{RegionRecord}
 use Rattle.image_format.specs.declared.records.TaskRecord.{TaskRecord}
@@ -28,6 +29,11 @@ Pairs R (x ∷ xs) = Each (R x) xs × Pairs R xs
 pub each_weaker : {T : Type 0} (P Q : T → Type 0) → ((x : T) → P x → Q x) → (xs : List T) → Each P xs → Each Q xs
 each_weaker P Q fact [] h = tt
 each_weaker P Q fact (x ∷ xs) h = (fact x h.0, each_weaker P Q fact xs h.1)
+
+pub each_all : {T : Type 0} (P : T → Type 0) (xs : List T) → Each P xs → All P xs
+each_all P [] h i d lt = absurd (omega (arith, lt))
+each_all P (x ∷ xs) h zero d lt = h.0
+each_all P (x ∷ xs) h (suc i) d lt = each_all P xs h.1 i d (omega (arith, lt))
 
 pub each_append : {T : Type 0} (P : T → Type 0) (xs ys : List T) → Each P xs → Each P ys → Each P (xs ++ ys)
 each_append P [] ys h g = g
@@ -50,20 +56,21 @@ no_not b e = rw e refl
 
 -- ---- the header
 
-pub fields_none : (h : Header) → 1 ≤ h.tasks → h.tasks ≤ 32 → h.lines ≤ 32 → h.tasks ≤ h.regions → h.regions ≤ 8 * h.tasks → 1 ≤ h.flash → h.flash ≤ 1048576
-    → h.ram ≤ 262144 → 0 < h.bits → field_fault h ≡ None
-unfolding field_fault
-fields_none h some few lines low high code flash ram bits =
+pub fields_none : (h : Header) → 1 ≤ h.tasks → h.tasks ≤ 512 → h.lines ≤ 64 → h.tasks ≤ h.regions → h.regions ≤ 8 * h.tasks → h.zero ≡ 0 → 1 ≤ h.flash → h.flash ≤ 1048576
+    → h.ram ≤ 262144 → 0 < h.bits → h.names ≤ 409600 → second_field_fault h ≡ None
+fields_none h some few lines low high none code flash ram bits short =
     let tasks_low = le-ltb h.tasks 1 some in
-    let tasks_high = le-ltb 32 h.tasks few in
-    let lines_high = le-ltb 32 h.lines lines in
+    let tasks_high = le-ltb 512 h.tasks few in
+    let lines_high = le-ltb 64 h.lines lines in
     let regions_low = le-ltb h.regions h.tasks low in
     let regions_high = le-ltb (8 * h.tasks) h.regions high in
+    let no_zero = eq-eqb h.zero 0 none in
     let flash_low = le-ltb h.flash 1 code in
     let flash_high = le-ltb 1048576 h.flash flash in
     let ram_high = le-ltb 262144 h.ram ram in
     let no_bits = some_above h.bits bits in
-    rw (tasks_low, tasks_high, lines_high, regions_low, regions_high, flash_low, flash_high, ram_high, no_bits) refl
+    let names_high = le-ltb 409600 h.names short in
+    rw (tasks_low, tasks_high, lines_high, regions_low, regions_high, no_zero, flash_low, flash_high, ram_high, no_bits, names_high) refl
 
 -- ---- tasks
 
@@ -74,7 +81,7 @@ pub record IsGood (index : ℕ) (t : TaskRecord) : Type 0 where
   pub flags : t.flags ≤ 1
   pub some : 1 ≤ t.regions
   pub most : t.regions ≤ 8
-  pub zeros : t.zero ≡ 0
+  pub names : t.names ≤ 32
   pub stack : t.sp % 4 ≡ 0
 
 priority_test : (i p : ℕ) → (i ≡ 0 → p ≡ 0) → (0 < i → 0 < p) → ((i == 0 && not (p == 0)) || (not (i == 0) && p == 0)) ≡ false
@@ -93,25 +100,25 @@ flags_test i f same = elim (cases_eq i 0) [
   | inr ne ↦ and_left (i == 0) (not (f == 1)) (ne_eqb i 0 ne)
 ]
 
-task_none : (index : ℕ) (t : TaskRecord) (place : ℕ) → IsGood index t → task_fault index t place ≡ None
+task_none : (index : ℕ) (t : TaskRecord) (place : ℕ) → IsGood index t → task_fault Second index t place ≡ None
 task_none index t place g =
     let priority = priority_test index t.priority g.first_priority g.priority in
     let flags_high = le-ltb 1 t.flags g.flags in
     let flags = flags_test index t.flags g.first_flags in
     let regions_low = le-ltb t.regions 1 g.some in
     let regions_high = le-ltb 8 t.regions g.most in
-    let zeros = eq-eqb t.zero 0 g.zeros in
+    let names_high = le-ltb 32 t.names g.names in
     let stack = eq-eqb (t.sp % 4) 0 g.stack in
-    rw (priority, flags_high, flags, regions_low, regions_high, zeros, stack) refl
+    rw (priority, flags_high, flags, regions_low, regions_high, names_high, stack) refl
 
 abbrev pub blank : TaskRecord
-blank = record { priority = 0; flags = 0; regions = 0; zero = 0; entry = 0; sp = 0 }
+blank = record { priority = 0; flags = 0; regions = 0; names = 0; entry = 0; sp = 0 }
 
-pub tasks_none : (index place : ℕ) (ts : List TaskRecord) → ((i : ℕ) → i < length ts → IsGood (index + i) (get_or ts i blank)) → tasks_from index place ts ≡ None
+pub tasks_none : (index place : ℕ) (ts : List TaskRecord) → ((i : ℕ) → i < length ts → IsGood (index + i) (get_or ts i blank)) → tasks_from Second index place ts ≡ None
 tasks_none index place [] each = refl
 tasks_none index place (t ∷ ts) each =
     let here : index + 0 ≡ index = omega arith in
-    both (task_fault index t place) (tasks_from (index + 1) (place + 12) ts)
+    both (task_fault Second index t place) (tasks_from Second (index + 1) (place + 12) ts)
     (task_none index t place (subst (λ (n : ℕ). IsGood n t) here (each 0 (omega arith))))
     (tasks_none (index + 1) (place + 12) ts (λ i lt. let next : index + suc i ≡ (index + 1) + i = omega arith in
     subst (λ (n : ℕ). IsGood n (get_or ts i blank)) next (each (suc i) (omega (arith, lt)))))
@@ -220,9 +227,9 @@ pub record IsOf (line tasks : ℕ) (l : LinePicture) : Type 0 where
   pub owner : l.task < tasks
   pub bits : 0 < l.bits
 
-pub line_none : (least tasks line : ℕ) (l : LinePicture) (place : ℕ) → least ≤ line → line < 32 → IsOf line tasks l → line_fault least tasks (line_record l) place ≡ None
+pub line_none : (least tasks line : ℕ) (l : LinePicture) (place : ℕ) → least ≤ line → line < 64 → IsOf line tasks l → line_fault Second least tasks (line_record l) place ≡ None
 line_none least tasks line l place low high g =
-    let line_high = le-ltb 31 l.line (omega (arith, g.is, high)) in
+    let line_high = le-ltb 63 l.line (omega (arith, g.is, high)) in
     let line_low = le-ltb l.line least (omega (arith, g.is, low)) in
     let owner = lt-leb tasks l.task g.owner in
     let bits = some_above l.bits g.bits in

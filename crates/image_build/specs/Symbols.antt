@@ -30,7 +30,14 @@ task_symbols k [] = []
 task_symbols k (t ∷ ts) = (codes "task_" ++ t.name, k)
     ∷ (note_symbols (codes "note_" ++ t.name ++ codes "_") 0 t.notifications ++ task_symbols (k + 1) ts)
 
+-- the i-th task's own ones
+abbrev pub own_symbols : AppData → ℕ → Names
+own_symbols app i = note_symbols (codes "note_") 0 (task_at app i).notifications ++ ram_symbols app i
+
+-- those that the sources of all tasks share
+abbrev pub shared_symbols : AppData → Names
+shared_symbols app = region_symbols app 0 app.regions ++ device_symbols app.devices ++ task_symbols 0 app.tasks
+
+-- its own ones count first
 abbrev pub symbols : AppData → ℕ → Names
-symbols app i = note_symbols (codes "note_") 0 (task_at app i).notifications
-    ++ ram_symbols app i ++ region_symbols app 0 app.regions ++ device_symbols app.devices
-    ++ task_symbols 0 app.tasks
+symbols app i = own_symbols app i ++ shared_symbols app

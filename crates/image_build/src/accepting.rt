@@ -3,18 +3,20 @@
 ghost use Rattle.std.specs.Prelude.{◌≡◌, ◌≤◌, ◌<◌, ◌+◌, ◌++◌, ◌∷◌, ◌⊎◌, ℕ, List, None, [], length, slice_index, IfOk, IfErr, OnOk, OnErr};
 ghost use Rattle.std.specs.BTreeMap.{get_by_text};
 ghost use Rattle.app_toml.specs.Held.{app_of};
-ghost use Rattle.image_build.specs.Building.{HasRoom, IsAssembled, LacksRoom, RefusesSource};
+ghost use Rattle.thumb_asm.specs.Passes.{Refuses, names_of};
+ghost use Rattle.image_build.specs.Building.{HasRoom, IsAssembled, LacksRoom, RefusesSource, source_cause};
+ghost use Rattle.image_build.specs.Symbols.{own_symbols};
 ghost use Rattle.image_build.specs.Accepted.{HasAccepted, described, next_task};
 
 use crate::builder::Builder;
 use crate::fault::BuildFault;
 use crate::layout::laid_out;
 use crate::reading::{flash_base, task};
-use crate::symbols::symbols;
+use crate::symbols::{own_symbols, shared_symbols};
 use app_toml::App;
 use mem_banks::FLASH;
 use std::alloc::Global;
-use thumb_asm::{AsmFault, Object, assemble};
+use thumb_asm::{AsmFault, Object, assemble_with};
 
 /// Puts the code into the flash at this place.
 fn put(flash: &mut [u8], at: usize, code: &[u8])
@@ -27,6 +29,21 @@ fn put(flash: &mut [u8], at: usize, code: &[u8])
     }
 }
 
+/// The next task's source with these symbols of its own, and those that all sources share.
+fn assemble_next(
+    builder: &Builder<'_>,
+    bytes: &[u8],
+    own: &[(String, u32)],
+) -> Result<Object, AsmFault>
+    requires left { next_task builder.now < length (described builder.now).tasks }
+    requires own { names_of own.now ≡ own_symbols (described builder.now) (next_task builder.now) }
+    ensures assembled { IfOk result (λ o. IsAssembled (described builder.now) (next_task builder.now) bytes.now o.bytes.items (get_by_text o.labels)) }
+    ensures refused { IfErr result (λ e. Refuses e (source_cause (described builder.now) (next_task builder.now) bytes.now)) }
+{
+    let base = flash_base(builder.app, &builder.layout, builder.done);
+    assemble_with(builder.alloc, bytes, base, &builder.shared, own)
+}
+
 /// What the next task's source is assembled to.
 fn assembled(builder: &Builder<'_>, bytes: &[u8]) -> Result<Object, BuildFault>
     requires left { next_task builder.now < length (described builder.now).tasks }
@@ -34,9 +51,8 @@ fn assembled(builder: &Builder<'_>, bytes: &[u8]) -> Result<Object, BuildFault>
     ensures refused { IfErr result (RefusesSource (described builder.now) (next_task builder.now) bytes.now) }
 {
     let next = builder.done;
-    let given = symbols(builder.alloc, builder.app, &builder.layout, next)?;
-    let base = flash_base(builder.app, &builder.layout, next);
-    match assemble(builder.alloc, bytes, base, given.as_slice()) {
+    let own = own_symbols(builder.alloc, builder.app, &builder.layout, next)?;
+    match assemble_next(builder, bytes, own.as_slice()) {
         Ok(object) => Ok(object),
         Err(AsmFault::Refused(cause, line)) => Err(BuildFault::Source {
             task: next,
@@ -61,11 +77,13 @@ impl<'a> Builder<'a> {
         ensures refused { IfErr result (LacksRoom (app_of app.now)) }
     {
         let layout = laid_out(alloc, app)?;
+        let shared = shared_symbols(alloc, app, &layout)?;
         let flash = Vec::from_elem(alloc, 0u8, layout.flash_length as usize)?;
         Ok(Builder {
             alloc,
             app,
             layout,
+            shared,
             flash,
             done: 0,
         })

@@ -3,7 +3,8 @@
 ghost use Rattle.std.specs.Prelude.{◌≡◌, ◌<◌, ℕ, List, length, map, IfOk, IfErr};
 ghost use Rattle.app_toml.specs.Held.{app_of};
 ghost use Rattle.image_format.specs.Images.{picture};
-ghost use Rattle.image_format.specs.Picture.{Sound, all_regions, header_of, line_record, region_record, task_record};
+ghost use Rattle.image_format.specs.declared.records.Form.TheVariants.{Second};
+ghost use Rattle.image_format.specs.Picture.{Sound, all_names, all_regions, header_of, line_record, region_record, task_record};
 ghost use Rattle.image_build.specs.Building.{IsAccepted, IsLaid, Refuses};
 ghost use Rattle.image_build.specs.Built.{Built, bit_of, lines_built, picture_built, tasks_from};
 ghost use Rattle.image_build.specs.Layout.{flash_needed, task_at};
@@ -15,9 +16,10 @@ use crate::interrupts::line_records;
 use crate::layout::Layout;
 use crate::names::bit_of;
 use crate::reading::task;
+use crate::spelled::all_names;
 use crate::tasks::{region_records, task_records};
 use app_toml::App;
-use image_format::{Header, Image, LineRecord, RegionRecord, TaskRecord};
+use image_format::{Form, Header, Image, LineRecord, RegionRecord, TaskRecord};
 use std::alloc::Global;
 
 /// The bit that is posted to the supervisor at a fault.
@@ -35,22 +37,27 @@ fn header_of(
     tasks: &[TaskRecord],
     regions: &[RegionRecord],
     lines: &[LineRecord],
+    names: &[u8],
 ) -> Header
     requires laid { IsLaid (app_of app.now) layout.now }
     requires tasks { tasks.now ≡ map task_record (tasks_from (app_of app.now) 0 (app_of app.now).tasks) }
     requires regions { regions.now ≡ map region_record (all_regions (tasks_from (app_of app.now) 0 (app_of app.now).tasks)) }
     requires lines { lines.now ≡ map line_record (lines_built (app_of app.now)) }
-    ensures { (flash : List ℕ) → length flash ≡ flash_needed (app_of app.now) → result ≡ header_of (picture_built (app_of app.now) flash) }
+    requires names { names.now ≡ all_names (tasks_from (app_of app.now) 0 (app_of app.now).tasks) }
+    ensures { (flash : List ℕ) → length flash ≡ flash_needed (app_of app.now) → result ≡ header_of Second (picture_built (app_of app.now) flash) }
 {
     app.facts();
     app.relations();
     Header {
-        tasks: tasks.len() as u8,
-        lines: lines.len() as u8,
+        form: Form::Second,
+        tasks: tasks.len() as u16,
+        lines: lines.len() as u16,
         regions: regions.len() as u16,
+        zero: 0,
         flash: layout.flash_length,
         ram: layout.ram_length,
         bits: fault_bit(app),
+        names: names.len() as u32,
     }
 }
 
@@ -69,14 +76,16 @@ impl<'a> Builder<'a> {
         let tasks = task_records(self.alloc, app, &self.layout)?;
         let regions = region_records(self.alloc, app, &self.layout)?;
         let lines = line_records(self.alloc, app)?;
+        let names = all_names(self.alloc, app)?;
         let header = header_of(
             app,
             &self.layout,
             tasks.as_slice(),
             regions.as_slice(),
             lines.as_slice(),
+            names.as_slice(),
         );
-        Ok(Image::of_parts(header, tasks, regions, lines, self.flash))
+        Ok(Image::of_parts(header, tasks, regions, lines, names, self.flash))
     }
 }
 

@@ -21,7 +21,7 @@ fn line_record(app: &App, interrupt: &LineSpec) -> LineRecord
     let owner = interrupt.task.as_str();
     LineRecord {
         line: interrupt.line,
-        task: task_place(owner, tasks) as u8,
+        task: task_place(owner, tasks) as u16,
         zero: 0,
         bits: bit_of(
             interrupt.notification.as_str(),
@@ -55,7 +55,7 @@ pub(crate) fn line_records(alloc: Global, app: &App) -> Result<Vec<LineRecord>, 
     app.facts();
     let interrupts = app.interrupts();
     let mut out = Vec::new(alloc);
-    for line in 0..32u8 {
+    for line in 0..64u8 {
         push_line(&mut out, app, interrupts, line)?;
     }
     Ok(out)

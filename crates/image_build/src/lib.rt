@@ -11,6 +11,7 @@ mod layout;
 mod names;
 mod reading;
 mod regions;
+mod spelled;
 mod symbols;
 mod tasks;
 

@@ -24,7 +24,7 @@ fn task_record(app: &App, layout: &Layout, i: usize) -> TaskRecord
         priority: task.priority,
         flags: u8::from(task.start),
         regions: (2 + task.uses.len() + task.reads.len()) as u8,
-        zero: 0,
+        names: task.notifications.len() as u8,
         entry: flash_base(app, layout, i) + 1,
         sp: ram_base(app, layout, i) + task.stack,
     }

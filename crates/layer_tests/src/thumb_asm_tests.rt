@@ -3,7 +3,7 @@
 
 use std::alloc::{AllocError, Global};
 use std::test::Fail;
-use thumb_asm::{AsmFault, Cause, assemble};
+use thumb_asm::{AsmFault, Cause, Symbols, assemble, assemble_with};
 
 const BASE: u32 = 0x0800_0000;
 
@@ -284,6 +284,38 @@ fn first_causes(rt: HostRuntime) -> Result<(), Fail> {
     for (source, cause, line) in &REFUSED {
         let found = refusal(rt.alloc(), source.as_bytes(), &symbols);
         assert!(rt; found == (*cause, *line), "{source}");
+    }
+    Ok(())
+}
+
+/// A source, its cause or 0, and its first byte or 0: `given` is 9 of its own, and 7 of those that it shares with others.
+const SHARED: [(&str, u8, u8); 4] = [
+    (".word given", 0, 9),
+    (".word far", 0, 4),
+    ("given: nop", 13, 0),
+    ("far: nop", 13, 0),
+];
+
+fn first_byte(
+    alloc: Global,
+    source: &str,
+    shared: &Symbols,
+    own: &[(String, u32)],
+) -> (u8, u8) {
+    match assemble_with(alloc, source.as_bytes(), BASE, shared, own) {
+        Ok(object) => (0, object.bytes.first().copied().unwrap_or(0)),
+        Err(AsmFault::Refused(cause, _)) => (cause.number(), 0),
+        Err(AsmFault::Memory) => (255, 0),
+    }
+}
+
+#[test]
+fn own_symbols_count_before_shared_ones(rt: HostRuntime) -> Result<(), Fail> {
+    let shared = Symbols::of(rt.alloc(), &symbols(rt.alloc())?)?;
+    let own = [(String::from_str(rt.alloc(), "given")?, 9)];
+    for (source, cause, byte) in &SHARED {
+        let found = first_byte(rt.alloc(), source, &shared, &own);
+        assert!(rt; found == (*cause, *byte), "{source}");
     }
     Ok(())
 }

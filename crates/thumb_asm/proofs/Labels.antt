@@ -12,7 +12,7 @@ use Rattle.std.proofs.Math.Path.{fun_ext}
 use Rattle.thumb_asm.specs.Chars.{entry_at, is_name, is_word}
 use Rattle.thumb_asm.specs.Operands.{or_else}
 use Rattle.thumb_asm.specs.Meaning.{Names, Env, own_label}
-use Rattle.thumb_asm.specs.Passes.{names_of, with_label, with_symbol, Refuses}
+use Rattle.thumb_asm.specs.Passes.{names_of, over, with_label, with_symbol, Refuses}
 use Rattle.thumb_asm.specs.declared.Cause.{Cause}
 use Rattle.thumb_asm.specs.declared.AsmFault.{AsmFault}
 use Rattle.thumb_asm.specs.declared.AsmFault.TheVariants as fault
@@ -61,6 +61,13 @@ label_added f g names at (Some name) h k n q =
 
 pub same_env : (f : Env) (names : Names) → ((q : List ℕ) → f q ≡ entry_at names q) → f ≡ entry_at names
 same_env f names h = fun_ext h
+
+or_nothing : (o : Option ℕ) → or_else o None ≡ o
+or_nothing None = refl
+or_nothing (Some x) = refl
+
+pub over_nothing : (f g : Env) → ((q : List ℕ) → g q ≡ None) → over f g ≡ f
+over_nothing f g h = fun_ext (λ q. ap (or_else (f q)) (h q) ∙ or_nothing (f q))
 
 names_append : {A : Type 0} (xs ys : List (String A × ℕ)) → names_of (xs ++ ys) ≡ names_of xs ++ names_of ys
 names_append [] ys = refl

@@ -3,6 +3,8 @@ use Rattle.std.specs.Prelude.{ℕ, ◌+◌, ◌≡◌, ◌≤◌, true, IfSome, 
 use Rattle.thumb_asm.specs.declared.Cause.{Cause}
 use Rattle.thumb_asm.specs.declared.AsmFault.{AsmFault}
 use Rattle.thumb_asm.specs.declared.AsmFault.TheVariants as fault
+use Rattle.thumb_asm.specs.declared.index.Given.{Given}
+use Rattle.thumb_asm.specs.declared.index.Symbols.{Symbols}
 use Rattle.thumb_asm.specs.declared.Stop.{Stop}
 use Rattle.thumb_asm.specs.declared.Stop.TheVariants as stop
 use Rattle.thumb_asm.specs.Parts.{parts}
@@ -21,9 +23,21 @@ names_of es = map (λ e. (string_bytes e.0, e.1)) es
 abbrev pub symbol_values : {A : Type 0} → List (String A × ℕ) → Env
 symbol_values es = entry_at (names_of es)
 
--- what two maps give: labels, and symbols that are no labels
-abbrev pub env_in : {A : Type 0} → BTreeMap (String A) ℕ → BTreeMap (String A) ℕ → Env
-env_in labels symbols = env_of (get_by_text labels) (get_by_text symbols)
+-- the first values, or else the second ones: of a name that both give, the first counts
+abbrev pub over : Env → Env → Env
+over first second name = or_else (first name) (second name)
+
+-- the values of an index of symbols
+abbrev pub values_of : Symbols → Env
+values_of s = get_by_text s.values
+
+-- the values of the symbols that a text is given: its own ones count first
+abbrev pub given_in : Given → Env
+given_in g = over (values_of g.own.now) (values_of g.shared.now)
+
+-- the values of labels, and of symbols that are no labels
+abbrev pub env_in : {A : Type 0} → BTreeMap (String A) ℕ → Given → Env
+env_in labels symbols = env_of (get_by_text labels) (given_in symbols)
 
 -- a map has these names with their values
 abbrev pub Indexes : {A : Type 0} → BTreeMap (String A) ℕ → Names → Type 0

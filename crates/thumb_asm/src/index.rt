@@ -4,16 +4,29 @@ ghost use Rattle.std.specs.Prelude.{◌≡◌, List, ℕ, OnOk, IfOk, string_byt
 ghost use Rattle.std.specs.BTreeMap.{get_by_text};
 ghost use Rattle.thumb_asm.specs.Chars.{is_name};
 ghost use Rattle.thumb_asm.specs.Meaning.{own_label};
-ghost use Rattle.thumb_asm.specs.Passes.{names_of, env_in, Indexes, with_label, with_symbol};
+ghost use Rattle.thumb_asm.specs.Passes.{names_of, symbol_values, env_in, given_in, values_of, Indexes, with_label, with_symbol};
 
 use std::alloc::{AllocError, Global};
 use std::collections::BTreeMap;
+
+/// An index of symbols by their names. Made once, it serves any number of texts (`assemble_with`).
+#[derive(Drop)]
+pub struct Symbols {
+    pub(crate) values: BTreeMap<String, u32>,
+}
+
+/// The symbols that a text is given: its own ones, and those that it shares with other texts.
+#[derive(Clone, Copy)]
+pub(crate) struct Given<'a> {
+    pub(crate) own: &'a Symbols,
+    pub(crate) shared: &'a Symbols,
+}
 
 /// Labels, and symbols that were given.
 #[derive(Clone, Copy)]
 pub(crate) struct Names<'a> {
     pub(crate) labels: &'a BTreeMap<String, u32>,
-    pub(crate) symbols: &'a BTreeMap<String, u32>,
+    pub(crate) symbols: &'a Given<'a>,
 }
 
 pub(crate) fn is_same(a: &[u8], b: &[u8]) -> bool
@@ -33,6 +46,19 @@ pub(crate) fn find(index: &BTreeMap<String, u32>, name: &[u8]) -> Option<u32>
     }
 }
 
+impl Given<'_> {
+    /// The value of an own symbol, or else of a shared one.
+    pub(crate) fn value(&self, name: &[u8]) -> Option<u32>
+        requires { is_name name.now ≡ true }
+        ensures { result ≡ given_in self.now name.now }
+    {
+        match find(&self.own.values, name) {
+            Some(value) => Some(value),
+            None => find(&self.shared.values, name),
+        }
+    }
+}
+
 impl Names<'_> {
     /// The value of a label, or else of a symbol.
     pub(crate) fn value(&self, name: &[u8]) -> Option<u32>
@@ -41,7 +67,7 @@ impl Names<'_> {
     {
         match find(self.labels, name) {
             Some(value) => Some(value),
-            None => find(self.symbols, name),
+            None => self.symbols.value(name),
         }
     }
 }
@@ -101,7 +127,7 @@ fn add_symbol(
 }
 
 /// The symbols by their names; of two with one name the first counts.
-pub(crate) fn of_symbols(
+fn of_symbols(
     alloc: Global,
     symbols: &[(String, u32)],
 ) -> Result<BTreeMap<String, u32>, AllocError>
@@ -112,4 +138,22 @@ pub(crate) fn of_symbols(
         add_symbol(alloc, &mut index, symbol.0.as_str(), symbol.1)?;
     }
     Ok(index)
+}
+
+impl Symbols {
+    /// No symbols.
+    pub(crate) fn none(alloc: Global) -> Symbols
+        ensures { (name : List ℕ) → values_of result name ≡ None }
+    {
+        let values: BTreeMap<String, u32> = BTreeMap::new(alloc);
+        Symbols { values }
+    }
+
+    /// An index of these symbols; of two with one name the first counts.
+    pub fn of(alloc: Global, symbols: &[(String, u32)]) -> Result<Symbols, AllocError>
+        ensures { IfOk result (λ s. values_of s ≡ symbol_values symbols.now) }
+    {
+        let values = of_symbols(alloc, symbols)?;
+        Ok(Symbols { values })
+    }
 }

@@ -22,7 +22,8 @@ mod shape;
 mod syntax;
 mod words;
 
-pub use passes::{Object, assemble};
+pub use index::Symbols;
+pub use passes::{Object, assemble, assemble_with};
 use std::alloc::AllocError;
 use std::fmt;
 use thiserror::Error;

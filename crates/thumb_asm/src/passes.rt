@@ -9,9 +9,9 @@ ghost use Rattle.thumb_asm.specs.Meaning.{env_of, own_label};
 ghost use Rattle.thumb_asm.specs.Assembly.{Assembles};
 ghost use Rattle.thumb_asm.specs.Causes.{first_group, second_group, label_cause, first_in, second_in, first_cause, at_line};
 ghost use Rattle.thumb_asm.specs.declared.Cause.{Cause};
-ghost use Rattle.thumb_asm.specs.Passes.{symbol_values, env_in, Stops, Refuses, Emitted, HasPlace, HavePlaces, HaveBytes, size_from};
+ghost use Rattle.thumb_asm.specs.Passes.{symbol_values, values_of, given_in, over, env_in, Stops, Refuses, Emitted, HasPlace, HavePlaces, HaveBytes, size_from};
 
-use super::index::{self, Names, find};
+use super::index::{self, Given, Names, Symbols, find};
 use super::parts::line_of;
 use super::shape::{self, Shape};
 use super::words::{are_allowed, is_name, register};
@@ -38,14 +38,14 @@ struct Survey {
 
 /// Why a label is refused.
 fn check_label(label: Option<&[u8]>, names: &Names<'_>) -> Option<Cause>
-    ensures { result ≡ label_cause (get_by_text names.now.symbols.now) (get_by_text names.now.labels.now) (option_map (λ r. r.now) label.entry) }
+    ensures { result ≡ label_cause (given_in names.now.symbols.now) (get_by_text names.now.labels.now) (option_map (λ r. r.now) label.entry) }
 {
     match label {
         None => None,
         Some(name) => {
             if !is_name(name) {
                 Some(Cause::BadLabel)
-            } else if register(name).is_some() || find(names.symbols, name).is_some() {
+            } else if register(name).is_some() || names.symbols.value(name).is_some() {
                 Some(Cause::NameClash)
             } else if find(names.labels, name).is_some() {
                 Some(Cause::LabelTwice)
@@ -61,8 +61,8 @@ fn check_label(label: Option<&[u8]>, names: &Names<'_>) -> Option<Cause>
 fn survey_line(line: &[u8], base: u32, used: u32, names: &Names<'_>) -> Result<u32, Cause>
     requires base { base + 1048576 < 2 ^ 32 }
     requires used { used ≤ 1048576 }
-    ensures ok { IfOk result (HasPlace (get_by_text names.now.symbols.now) base (get_by_text names.now.labels.now) used line.now) }
-    ensures err { IfErr result (λ c. first_group (get_by_text names.now.symbols.now) base (get_by_text names.now.labels.now) used line.now ≡ Some c) }
+    ensures ok { IfOk result (HasPlace (given_in names.now.symbols.now) base (get_by_text names.now.labels.now) used line.now) }
+    ensures err { IfErr result (λ c. first_group (given_in names.now.symbols.now) base (get_by_text names.now.labels.now) used line.now ≡ Some c) }
 {
     if line.len() > 255 {
         return Err(Cause::LineTooLong);
@@ -94,11 +94,11 @@ fn place_lines(
     alloc: Global,
     text: &[u8],
     base: u32,
-    symbols: &BTreeMap<String, u32>,
+    symbols: &Given<'_>,
 ) -> Result<Survey, AsmFault>
     requires { base + 1048576 < 2 ^ 32 }
-    ensures ok { IfOk result (λ s. HavePlaces (get_by_text symbols.now) base (lines_of text.now) s.labels s.size) }
-    ensures err { IfErr result (λ e. Refuses e (first_in (get_by_text symbols.now) base [] 0 1 (lines_of text.now))) }
+    ensures ok { IfOk result (λ s. HavePlaces (given_in symbols.now) base (lines_of text.now) s.labels s.size) }
+    ensures err { IfErr result (λ e. Refuses e (first_in (given_in symbols.now) base [] 0 1 (lines_of text.now))) }
 {
     let mut labels: BTreeMap<String, u32> = BTreeMap::new(alloc);
     let mut used = 0u32;
@@ -170,16 +170,16 @@ fn emit(alloc: Global, text: &[u8], base: u32, names: &Names<'_>) -> Result<Vec<
 
 /// The same with the symbols by their names.
 #[tactic(auto, unfolding(crate::specs::Causes::first_cause))]
-fn assemble_with(
+fn assemble_given(
     alloc: Global,
     text: &[u8],
     base: u32,
-    symbols: &BTreeMap<String, u32>,
+    symbols: &Given<'_>,
 ) -> Result<Object, AsmFault>
     requires { base + 1048576 < 2 ^ 32 }
-    ensures accepted { IfOk result (λ o. first_cause (lines_of text.now) base (get_by_text symbols.now) ≡ None) }
-    ensures assembled { IfOk result (λ o. Assembles (lines_of text.now) base (get_by_text symbols.now) o.bytes.items (get_by_text o.labels)) }
-    ensures refused { IfErr result (λ e. Refuses e (first_cause (lines_of text.now) base (get_by_text symbols.now))) }
+    ensures accepted { IfOk result (λ o. first_cause (lines_of text.now) base (given_in symbols.now) ≡ None) }
+    ensures assembled { IfOk result (λ o. Assembles (lines_of text.now) base (given_in symbols.now) o.bytes.items (get_by_text o.labels)) }
+    ensures refused { IfErr result (λ e. Refuses e (first_cause (lines_of text.now) base (given_in symbols.now))) }
 {
     match place_lines(alloc, text, base, symbols) {
         Err(fault) => Err(fault),
@@ -201,6 +201,27 @@ fn assemble_with(
     }
 }
 
+/// `assemble` for many texts that share symbols: `own` and then `shared` give names values besides the
+/// labels. The index of the shared ones is made once (`Symbols::of`), and a label is the name of none of
+/// either.
+pub fn assemble_with(
+    alloc: Global,
+    text: &[u8],
+    base: u32,
+    shared: &Symbols,
+    own: &[(String, u32)],
+) -> Result<Object, AsmFault>
+    requires { base + 1048576 < 2 ^ 32 }
+    ensures accepted { IfOk result (λ o. first_cause (lines_of text.now) base (over (symbol_values own.now) (values_of shared.now)) ≡ None) }
+    ensures assembled { IfOk result (λ o. Assembles (lines_of text.now) base (over (symbol_values own.now) (values_of shared.now)) o.bytes.items (get_by_text o.labels)) }
+    ensures refused { IfErr result (λ e. Refuses e (first_cause (lines_of text.now) base (over (symbol_values own.now) (values_of shared.now)))) }
+{
+    match Symbols::of(alloc, own) {
+        Err(_) => Err(AsmFault::Memory),
+        Ok(own) => assemble_given(alloc, text, base, &Given { own: &own, shared }),
+    }
+}
+
 /// The bytes and labels of a text whose first line stands at `base`, or the first cause why it has
 /// none, by the order of docs/FORMATS.md, Assembler. `symbols` give names values besides the labels;
 /// of two with one name the first counts. The last byte of a text stands below address 2^32.
@@ -215,8 +236,5 @@ pub fn assemble(
     ensures assembled { IfOk result (λ o. Assembles (lines_of text.now) base (symbol_values symbols.now) o.bytes.items (get_by_text o.labels)) }
     ensures refused { IfErr result (λ e. Refuses e (first_cause (lines_of text.now) base (symbol_values symbols.now))) }
 {
-    match index::of_symbols(alloc, symbols) {
-        Err(_) => Err(AsmFault::Memory),
-        Ok(symbols) => assemble_with(alloc, text, base, &symbols),
-    }
+    assemble_with(alloc, text, base, &Symbols::none(alloc), symbols)
 }

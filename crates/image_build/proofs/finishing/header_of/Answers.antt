@@ -11,3 +11,6 @@ overflow_cast-result-2 c = omega (arith, ap length c.requires.lines, (are_few (a
 
 pub overflow_cast-result-3 : goal.overflow_cast-result-3
 overflow_cast-result-3 c = omega (arith, ap length c.requires.regions, (are_few (app_of c.args.app.now) c.facts.ensures c.relations.ensures).regions)
+
+pub overflow_cast-result-4 : goal.overflow_cast-result-4
+overflow_cast-result-4 c = omega (arith, ap length c.requires.names, (are_few (app_of c.args.app.now) c.facts.ensures c.relations.ensures).names)

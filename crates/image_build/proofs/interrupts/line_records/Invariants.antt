@@ -7,5 +7,5 @@ use Rattle.image_build.proofs.interrupts.line_records.Given as goal
 
 abbrev pub invariant-loop-line : goal.invariant-loop-line
 invariant-loop-line l =
-    l.out.items ++ map line_record (flat_map (lines_at (app_of l.app)) (range_with_len l.line (32 - l.line)))
+    l.out.items ++ map line_record (flat_map (lines_at (app_of l.app)) (range_with_len l.line (64 - l.line)))
     ≡ map line_record (lines_built (app_of l.app))

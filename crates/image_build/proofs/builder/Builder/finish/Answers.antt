@@ -13,7 +13,7 @@ of_parts-requires c =
     let app = app_of c.args.self.app.now in
     let flash = c.args.self.flash.items in
     let whole : length flash ≡ flash_needed app = c.args.self.filled ∙ c.args.self.laid.flash_length in
-    subst Accepted (records_made app flash _ _ _ _ (c.header_of-header.ensures flash whole) c.in_ok-tasks.ensures c.in_ok-regions.ensures c.in_ok-lines.ensures)
+    subst Accepted (records_made app flash _ _ _ _ _ (c.header_of-header.ensures flash whole) c.in_ok-tasks.ensures c.in_ok-regions.ensures c.in_ok-lines.ensures c.in_ok-names.ensures)
     (sound_built app c.args.self.layout c.args.self.laid c.facts.ensures c.relations.ensures flash whole)
 
 whole : (c : goal.After-drop-self-3) → length c.args.self.flash.items ≡ flash_needed (app_of c.args.self.app.now)
@@ -24,7 +24,7 @@ is_built c =
     let app = app_of c.args.self.app.now in
     let flash = c.args.self.flash.items in
     c.of_parts.ensures (picture_built app flash)
-    (records_made app flash _ _ _ _ (c.header_of-header.ensures flash (whole c)) c.in_ok-tasks.ensures c.in_ok-regions.ensures c.in_ok-lines.ensures)
+    (records_made app flash _ _ _ _ _ (c.header_of-header.ensures flash (whole c)) c.in_ok-tasks.ensures c.in_ok-regions.ensures c.in_ok-lines.ensures c.in_ok-names.ensures)
 
 pub returns-clause-built : goal.returns-clause-built
 returns-clause-built c = λ sources h.

@@ -77,4 +77,4 @@ returns-clause-accepted c = λ sources h. record {
 }
 
 pub invariant_of-self : goal.invariant_of-self
-invariant_of-self c = record { laid = c.args.self.now.laid; filled = grind (arith, common_steps) }
+invariant_of-self c = record { laid = c.args.self.now.laid; filled = grind (arith, common_steps); indexed = c.args.self.now.indexed }

@@ -1,0 +1,25 @@
+-- The symbols of a source: its own ones over those that all sources share.
+use Rattle.std.proofs.Common.{◌≡◌, ◌∙◌, ℕ, Bool, true, false, List, [], ◌∷◌, ◌++◌, Option, Some, None, cond, bytes_eq, refl, sym, ap}
+use Rattle.std.proofs.Math.Path.{fun_ext}
+use Rattle.app_toml.specs.Apps.{AppData}
+use Rattle.thumb_asm.specs.Chars.{entry_at}
+use Rattle.thumb_asm.specs.Meaning.{Env, Names}
+use Rattle.thumb_asm.specs.Operands.{or_else}
+use Rattle.thumb_asm.specs.Passes.{over}
+use Rattle.image_build.specs.Built.{given}
+use Rattle.image_build.specs.Symbols.{own_symbols, shared_symbols}
+
+or_in : (b : Bool) (v : ℕ) (o p : Option ℕ) → cond b (Some v) (or_else o p) ≡ or_else (cond b (Some v) o) p
+or_in true v o p = refl
+or_in false v o p = refl
+
+entry_both : (es fs : Names) (q : List ℕ) → entry_at (es ++ fs) q ≡ or_else (entry_at es q) (entry_at fs q)
+unfolding entry_at
+entry_both [] fs q = refl
+entry_both (e ∷ es) fs q = ap (λ t. cond (bytes_eq q e.0) (Some e.1) t) (entry_both es fs q) ∙ or_in (bytes_eq q e.0) e.1 (entry_at es q) (entry_at fs q)
+
+pub given_is : (app : AppData) (i : ℕ) (own : Names) (shared : Env) → own ≡ own_symbols app i → shared ≡ entry_at (shared_symbols app)
+    → over (entry_at own) shared ≡ given app i
+given_is app i own shared is same =
+    ap (λ (ns : Names). over (entry_at ns) shared) is ∙ ap (λ (f : Env). over (entry_at (own_symbols app i)) f) same
+    ∙ sym (fun_ext (λ q. entry_both (own_symbols app i) (shared_symbols app) q))
