@@ -1,4 +1,6 @@
 use Rattle.std.proofs.Common.{◌<◌, ◌≤◌, length, arith, sym, subst}
+use Rattle.task_table.specs.State.{Setup}
+use Rattle.task_table.specs.Order.{AreOrdered, priorities_of}
 use Rattle.task_table.specs.Holds.{kept_of}
 use Rattle.task_table.specs.Readiness.{is_client_of, AreThose}
 use Rattle.task_table.specs.declared.task_set.TaskSet.{TaskSet}
@@ -17,7 +19,10 @@ returns-clause-there c = λ p is.
     those_there (is_client_of c.args.server) k.slots.items k.order.places.items c.index.result.now.words p (clients_are c) is
 
 pub returns-clause-stands : goal.returns-clause-stands
-returns-clause-stands c = λ g t h i there.
+returns-clause-stands c = λ g t h.
     let k = c.args.self.now in
     let small : length k.slots.items ≤ 1024 = omega (arith, k.few) in
-    offers_kept g (kept_of k) t c.args.server k.order.places.items c.index.result.now.words h.holds h.sane small (clients_are c) i there
+    record {
+      ordered = subst (λ (x : Setup). AreOrdered (priorities_of x.tasks) k.order.keys.items k.order.places.items) h.holds.setup k.order_is;
+      each = λ i there. offers_kept g (kept_of k) t c.args.server k.order.places.items c.index.result.now.words h.holds h.sane small (clients_are c) i there;
+    }

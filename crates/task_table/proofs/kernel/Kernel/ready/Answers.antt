@@ -1,3 +1,6 @@
+use Rattle.std.proofs.Common.{subst}
+use Rattle.task_table.specs.State.{Setup}
+use Rattle.task_table.specs.Order.{AreOrdered, priorities_of}
 use Rattle.task_table.specs.Holds.{kept_of}
 use Rattle.task_table.specs.Readiness.{is_free}
 use Rattle.task_table.proofs.Members.{those_there, ready_kept}
@@ -9,6 +12,9 @@ returns-clause-there c = λ p is.
     those_there is_free k.slots.items k.order.places.items k.ready.words p k.ready_now is
 
 pub returns-clause-holds : goal.returns-clause-holds
-returns-clause-holds c = λ g t h i there.
+returns-clause-holds c = λ g t h.
     let k = c.args.self.now in
-    ready_kept g (kept_of k) t k.order.places.items k.ready.words h k.ready_now i there
+    record {
+      ordered = subst (λ (x : Setup). AreOrdered (priorities_of x.tasks) k.order.keys.items k.order.places.items) h.setup k.order_is;
+      each = λ i there. ready_kept g (kept_of k) t k.order.places.items k.ready.words h k.ready_now i there;
+    }
