@@ -1,13 +1,12 @@
 -- There is one order of the tasks, so the same set of places has the same tasks.
-use Rattle.std.proofs.Common.{◌≡◌, ◌∙◌, ◌%◌, ◌*◌, ◌+◌, ◌<◌, ◌≤◌, ◌⊎◌, ℕ, zero, suc, Bool, false, List, length, map, ap, arith, inl, inr, sym}
+use Rattle.std.proofs.Common.{◌≡◌, ◌∙◌, ◌%◌, ◌*◌, ◌+◌, ◌<◌, ◌≤◌, ◌⊎◌, ℕ, zero, suc, Bool, false, ◌&&◌, List, length, map, ap, arith, inl, inr, is_none, sym}
 use Rattle.std.proofs.lemmas.Bool.{cases_lt}
-use Rattle.std.proofs.lemmas.List.{length-map}
-use Rattle.task_table.specs.State.{Setup, State, TaskSetup}
-use Rattle.task_table.specs.Reading.{is_ready}
+use Rattle.std.proofs.lemmas.List.{get_or_past, length-map}
+use Rattle.task_table.specs.State.{Setup, State, Task, TaskSetup}
+use Rattle.task_table.specs.Reading.{call_of, is_ready, is_well, listen_of, no_task, task_at}
 use Rattle.task_table.specs.TaskSets.{has}
 use Rattle.task_table.specs.declared.order.Order.{Order}
 use Rattle.task_table.specs.Order.{AreAtPlaces, AreOrdered, key_in, place_in, priorities_of, priority_at}
-use Rattle.task_table.proofs.Members.{unready_past}
 
 -- where two orders have the same keys before a place, the second's there is none above the first's
 no_later : (ps ks ls ms ns : List ℕ) (p : ℕ) → AreOrdered ps ks ls → AreOrdered ps ms ns → p < length ps → ((q : ℕ) → q < p → key_in ks q ≡ key_in ms q) → key_in ms p ≤ key_in ks p
@@ -57,6 +56,11 @@ same_tests tasks order_a order_b words_a words_b test_a test_b a b same i lt =
     let inside : i < length (priorities_of tasks) = (let n = length-map tasks (λ x. x.priority) in omega (arith, n, lt)) in
     let place : place_in order_a.places.items i ≡ place_in order_b.places.items i = same_places (priorities_of tasks) order_a.keys.items order_a.places.items order_b.keys.items order_b.places.items i a.ordered b.ordered inside in
     sym (a.each i lt) ∙ ap (has words_a) place ∙ same (place_in order_b.places.items i) ∙ b.each i lt
+
+-- a task that is not there is not ready
+unready_past : (s : State) (i : ℕ) → length s.tasks ≤ i → is_ready s i ≡ false
+unfolding is_ready task_at
+unready_past s i past = ap (λ (x : Task). is_well x.health && is_none (call_of s i) && is_none (listen_of s i)) (get_or_past s.tasks i no_task past)
 
 -- two states in which the same tasks are ready, of those that there are
 pub same_ready : (g : Setup) (s u : State) → length g.tasks ≡ length s.tasks → length g.tasks ≡ length u.tasks → ((i : ℕ) → i < length g.tasks → is_ready u i ≡ is_ready s i) → (i : ℕ) → is_ready u i ≡ is_ready s i
