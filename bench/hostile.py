@@ -55,16 +55,24 @@ def uses(size):
 
 
 def interrupts(size):
-    """Interrupts of the last notification of the one task, where 32 are the most."""
+    """Interrupts of the last notification of the one task, where 64 are the most."""
     bits = repeated(lambda k: f',"n{k}"', size // 2)
     form = f'[[interrupt]]\nline=1\ntask="sup"\nnotification="n{len(bits) - 1}"\n'
     return application("".join(repeated(lambda k: form, size // 2 - 500)), "".join(bits))
 
 
 def tasks(size):
-    """Tasks, and an interrupt of each, where 32 are the most."""
+    """Tasks, and an interrupt of each, where 512 are the most."""
     form = TASK + '[[interrupt]]\nline=1\ntask="{}"\nnotification="n"\n'
     return application("".join(repeated(lambda k: form.format(f"t{k}", 1, 256, '"n"', "", f"t{k}"), size - 500)))
+
+
+def shared(size):
+    """512 tasks of 32 notifications each, at the largest size: each source may name all of them."""
+    count = max(1, 512 * size // 2097152)
+    notes = ",".join(f'"n{k}"' for k in range(32))
+    form = TASK.format("t{}", 1, 256, notes, "")
+    return application("".join(form.format(k) for k in range(1, count)), flash=256)
 
 
 def keys(size):
@@ -82,14 +90,14 @@ def labels(size):
 
 
 def image(size):
-    """Tasks of eight regions each, all different: 256 regions at the largest size, where the flash is the largest too."""
-    count = 32 * size // 2097152
-    head = struct.pack("<4sBBHIII", b"HBI1", count, 0, 8 * count, size // 2, 262144, 1)
+    """Tasks of eight regions each, all different in the first 128: 4,096 regions at the largest size, where the flash is large too."""
+    count = 512 * size // 2097152
+    head = struct.pack("<4sHHHHIIII", b"HBI2", count, 0, 8 * count, 0, size // 2, 262144, 1, 0)
     records = b"".join(struct.pack("<BBBBII", min(t, 1), 1, 8, 0, 0x08000001 + 256 * t, 0x20000100) for t in range(count))
     areas = b""
     for t in range(count):
         areas += struct.pack("<III", 0x08000000 + 256 * t, 256, 5)
-        areas += b"".join(struct.pack("<III", 0x20000000 + 256 * (7 * t + k), 256, 3) for k in range(7))
+        areas += b"".join(struct.pack("<III", 0x20000000 + 256 * (7 * (t % 128) + k), 256, 3) for k in range(7))
     put("a.img", head + records + areas + b"\xfe\xe7" * (size // 4))
     put("e.txt", "")
     return "run a.img e.txt --steps 20000"
@@ -105,4 +113,4 @@ def script(size):
 
 
 kind, size, folder = sys.argv[1], int(sys.argv[2]), sys.argv[3]
-print({f.__name__: f for f in (regions, devices, notifications, uses, interrupts, tasks, keys, labels, image, script)}[kind](size))
+print({f.__name__: f for f in (regions, devices, notifications, uses, interrupts, tasks, shared, keys, labels, image, script)}[kind](size))

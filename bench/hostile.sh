@@ -16,7 +16,7 @@ mkdir -p out/hostile
 gcc -O2 -Wall -o out/measure measure.c
 measure=$(realpath out/measure)
 bad=0
-for kind in regions devices notifications uses interrupts tasks keys labels image script; do
+for kind in regions devices notifications uses interrupts tasks shared keys labels image script; do
     last_took=; last_peak=
     for size in $((length / 4)) $((length / 2)) "$length"; do
         rm -f out/hostile/*

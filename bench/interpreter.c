@@ -24,31 +24,42 @@ static u8 *read_task(struct task *t, const u8 *record, u8 *at) {
     return at;
 }
 
+static u32 half(const u8 *p) { return (u32)p[0] | (u32)p[1] << 8; }
+
+/* Where the interrupts of an image begin, whose header of so many bytes ends with these words. */
+static u8 *read_tasks(u8 *image, u32 header, const u8 *words) {
+    board.flash_size = word(words);
+    board.ram_size = word(words + 4);
+    board.fault_bits = word(words + 8);
+    u8 *at = image + header + 12 * board.count;
+    for (u32 k = 0; k < board.count; k++) {
+        board.tasks[k].index = k;
+        at = read_task(&board.tasks[k], image + header + 12 * k, at);
+        board.ready[k / 64] |= (u64)board.tasks[k].started << k % 64;
+    }
+    return at;
+}
+
+/* `HBI1`, or `HBI2`, which has names of notifications before its flash. */
 static bool read_image(const char *path) {
     static u8 image[2097152];
     FILE *file = fopen(path, "rb");
     if (!file) return false;
     size_t length = fread(image, 1, sizeof image, file);
     fclose(file);
-    if (length < 20) return false;
-    board.count = image[4];
-    board.flash_size = word(image + 8);
-    board.ram_size = word(image + 12);
-    board.fault_bits = word(image + 16);
-    u8 *at = image + 20 + 12 * board.count;
-    for (u32 k = 0; k < board.count; k++) {
-        board.tasks[k].index = k;
-        at = read_task(&board.tasks[k], image + 20 + 12 * k, at);
-        board.ready |= (u32)board.tasks[k].started << k;
-    }
-    for (u32 k = 0; k < image[5]; k++, at += 8)
-        board.lines[at[0]] = (struct line){.owner = &board.tasks[at[1]], .bits = word(at + 4)};
-    board.flash = at;
+    if (length < 28) return false;
+    bool second = image[3] == '2';
+    board.count = second ? half(image + 4) : image[4];
+    u8 *at = second ? read_tasks(image, 28, image + 12) : read_tasks(image, 20, image + 8);
+    u32 lines = second ? half(image + 6) : image[5];
+    for (u32 k = 0; k < lines; k++, at += 8)
+        board.lines[at[0]] = (struct line){.owner = &board.tasks[second ? half(at + 2) : at[1]], .bits = word(at + 4)};
+    board.flash = second ? at + word(image + 24) : at;
     board.ram = calloc(board.ram_size + 4, 1);
     return board.ram;
 }
 
-enum { TICK = 32 };
+enum { TICK = LINES };
 static const u64 NEVER = UINT64_MAX;
 static struct event { u32 turn, line; } events[65536];
 static u32 event_count, next_event, every;
@@ -92,10 +103,16 @@ static void play_events(void) {
 static u32 choose(u32 current) {
     u32 best = board.count;
     for (u32 k = 0, task = current; k < board.count; k++, task = task + 1 < board.count ? task + 1 : 0) {
-        if (!(board.ready >> task & 1)) continue;
+        if (!(board.ready[task / 64] >> task % 64 & 1)) continue;
         if (best == board.count || board.tasks[task].priority < board.tasks[best].priority) best = task;
     }
     return best;
+}
+
+static bool is_any_ready(void) {
+    u64 any = 0;
+    for (u32 k = 0; 64 * k < board.count; k++) any |= board.ready[k];
+    return any;
 }
 
 /* The turns of a task before turn `until`, or up to the one in which it calls or faults. */
@@ -117,9 +134,13 @@ static const char *run(u32 limit) {
     for (;;) {
         if (board.tasks[0].fault) return "supervisor";
         if (board.turn == limit) return "bound";
-        if (!board.ready && due == NEVER) return "still";
-        if (board.turn == due) play_events();
-        if (!board.ready) {
+        bool ready = is_any_ready();
+        if (!ready && due == NEVER) return "still";
+        if (board.turn == due) {
+            play_events();
+            ready = is_any_ready();
+        }
+        if (!ready) {
             idle();
             continue;
         }

@@ -8,6 +8,7 @@ typedef uint8_t u8;
 typedef uint32_t u32;
 typedef uint64_t u64;
 
+enum { TASKS = 512, LINES = 64 };
 enum { READ = 1, WRITE = 2, EXECUTE = 4, DEVICE = 8 };
 enum { SP = 13, LR = 14, PC = 15 };
 enum fault { ILLEGAL = 1, ILLEGAL_TEXT, ACCESS, UNALIGNED, STATE, BREAKPOINT, USAGE, PANIC, INJECTED, REPLY };
@@ -38,10 +39,10 @@ struct task {
 };
 struct line { struct task *owner; u32 bits; bool enabled, pending; };
 struct board {
-    struct task tasks[32];
-    struct line lines[32];
+    struct task tasks[TASKS];
+    struct line lines[LINES];
     u32 count, fault_bits, turn, calls;
-    u32 ready; /* bit k while task k can run */
+    u64 ready[TASKS / 64]; /* bit k % 64 of word k / 64 while task k can run */
     u64 now;
     u8 *flash, *ram;
     u32 flash_size, ram_size;
@@ -77,7 +78,7 @@ void call(struct task *t);
 void fault(struct task *t);
 
 /* text.c */
-enum { ANY = 32, KERNEL };
+enum { ANY = TASKS, KERNEL };
 void tell_tick(void);
 void tell_irq(u32 line, const char *handled);
 void tell_post(const struct task *t, u32 bits);

@@ -2,8 +2,8 @@
 #include <string.h>
 #include "interpreter.h"
 
-static void wake(const struct task *t) { board.ready |= 1u << t->index; }
-static void wait(const struct task *t) { board.ready &= ~(1u << t->index); }
+static void wake(const struct task *t) { board.ready[t->index / 64] |= 1ull << t->index % 64; }
+static void wait(const struct task *t) { board.ready[t->index / 64] &= ~(1ull << t->index % 64); }
 
 static void take(struct task *t, u32 mask) {
     t->r[4] = 0, t->r[5] = 0xffff, t->r[6] = t->posted & mask;
@@ -373,7 +373,7 @@ static enum outcome get_timer(struct task *t) {
 static enum outcome control_lines(struct task *t) {
     u32 bits = t->r[4], enable = t->r[5] & 1;
     bool found = false;
-    for (struct line *l = board.lines; l < board.lines + 32; l++) {
+    for (struct line *l = board.lines; l < board.lines + LINES; l++) {
         if (l->owner != t || l->bits != bits) continue;
         found = true;
         l->enabled = enable && !l->pending;
@@ -387,7 +387,7 @@ static enum outcome control_lines(struct task *t) {
 static enum outcome status_of_lines(struct task *t) {
     u32 bits = t->r[4], enabled = 0, pending = 0;
     bool found = false;
-    for (struct line *l = board.lines; l < board.lines + 32; l++) {
+    for (struct line *l = board.lines; l < board.lines + LINES; l++) {
         if (l->owner != t || l->bits != bits) continue;
         found = true;
         enabled |= l->enabled, pending |= l->pending;
