@@ -43,10 +43,3 @@ place_between ps keys places key place h inside f =
         let a : get_or keys i d ≡ key_in keys i = get_or_default keys i d 0 (omega (arith, le, within)) in
         let b : get_or keys j d ≡ key_in keys j = get_or_default keys j d 0 within in
         omega (arith, low, a, b)
-
--- a place that has the key
-pub place_with : (ps keys places : List ℕ) (key place : ℕ) → AreOrdered ps keys places → place < length keys → key_in keys place ≡ key → IsPlaceOf keys key place
-place_with ps keys places key place h inside same = record {
-  below = λ p lt. let up = h.rising p place lt (omega (arith, inside, h.key_count)) in omega (arith, up, same);
-  above = λ p le within. let up = not_below ps keys places place p h le (omega (arith, within, h.key_count)) in omega (arith, up, same);
-}

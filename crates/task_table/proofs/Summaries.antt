@@ -103,28 +103,6 @@ summary_removed words s place left there low none h w =
         let same : wd % 32 ≡ wd = omega (arith, low) in
         rw (first, same) at (has_removed (one s) wd w (omega (arith, first)))
 
-pub summary_kept : (words : List ℕ) (s place left mask : ℕ) → place / 32 < length words → left < 2 ^ 32 → left ≡ bit_and (get_or words (place / 32) 0) mask → 0 < left → IsSummary words s → IsSummary (set words (place / 32) left) s
-summary_kept words s place left mask there small is some h w =
-    elim (eqb_tells w wd) [
-      | inl same ↦ h w ∙ ap (λ (n : ℕ). not (eqb n 0)) (ap (λ (n : ℕ). get_or words n 0) same.1) ∙ not_zero _ before
-          ∙ sym (ap (λ (n : ℕ). not (eqb n 0)) (ap (λ (n : ℕ). get_or (set words wd left) n 0) same.1 ∙ get_or-set_same words wd left 0 there) ∙ not_zero left some)
-      | inr other ↦ h w ∙ sym (ap (λ (n : ℕ). not (eqb n 0)) (get_or-set_other words wd w left 0 other.1))
-    ]
-  where
-    wd : ℕ
-    wd = place / 32
-
-    least : (a b : ℕ) → min a b ≡ 1 → b < 2 → a < 2 → a ≡ 1
-    least a b e low small = omega (arith, e, low, small)
-
-    before : 0 < get_or words (place / 32) 0
-    before =
-        let z = word_bit left some small in
-        let k = z.0 in
-        let old = get_or words wd 0 in
-        let both : min (bit_at old k) (bit_at mask k) ≡ 1 = sym (bit_at_and old mask k) ∙ ap (λ (n : ℕ). bit_at n k) (sym is) ∙ z.2 in
-        bit_some old k (least _ _ both (bit_at-lt mask k) (bit_at-lt old k))
-
 -- ## whether there is a member
 
 pub empty_summary : (words : List ℕ) (s : ℕ) → s ≡ 0 → IsSummary words s → (i : ℕ) → has words i ≡ false

@@ -1,5 +1,5 @@
 -- The sets of tasks that the kernel keeps, once the slot of a task is written.
-use Rattle.std.proofs.Common.{◌≡◌, ◌<◌, ◌≤◌, ℕ, Bool, true, false, cond, List, ◌++◌, length, take, drop, set, inl, inr, refl, sym, ◌∙◌, ap, arith, eqb, get_or, get_or-set_other, length-set}
+use Rattle.std.proofs.Common.{◌≡◌, ◌<◌, ◌≤◌, ℕ, Bool, true, false, cond, List, ◌++◌, length, take, drop, set, inl, inr, sym, ◌∙◌, ap, arith, eqb, get_or, get_or-set_other, length-set}
 use Rattle.std.proofs.lemmas.Bool.{eq-eqb, ne_eqb}
 use Rattle.std.proofs.lemmas.Bool.Decides.{eqb_tells}
 use Rattle.std.proofs.lemmas.List.{take-append-le, take_all}

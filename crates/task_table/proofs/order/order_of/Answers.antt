@@ -1,6 +1,4 @@
-use Rattle.std.proofs.Common.{◌≡◌, ◌≤◌, ◌∙◌, ℕ, List, IfOk, ap, subst, length, map, arith}
-use Rattle.task_table.specs.Parts.{task_setup}
-use Rattle.task_table.specs.Order.{AreOrdered, priorities_of}
+use Rattle.std.proofs.Common.{◌∙◌, ap, length, arith}
 use Rattle.task_table.proofs.Ordered.{as_many_priorities}
 use Rattle.task_table.proofs.order.order_of.Goals as goal
 

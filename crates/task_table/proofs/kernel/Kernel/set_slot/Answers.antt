@@ -79,8 +79,8 @@ invariant_of-self-clause-offered_now c =
     let was : AreOffers a.self.now.slots.items places c.deref_mut.result.now = rw c.deref_mut.ensures.value a.self.now.offered_now in
     let sets = c.follow_offer.new.sets in
     let next : AreOffers (set a.self.now.slots.items a.task slot) places sets =
-        offers_set a.self.now.slots.items places a.task slot c.deref_mut.result.now sets was (kernel_places a.self.now) c.requires c.follow_offer.ensures.count
-        (λ k p d under. rw (c.server-2.ensures, c.place-place.ensures) at (c.follow_offer.ensures.each k p d under)) in
+    offers_set a.self.now.slots.items places a.task slot c.deref_mut.result.now sets was (kernel_places a.self.now) c.requires c.follow_offer.ensures.count
+    (λ k p d under. rw (c.server-2.ensures, c.place-place.ensures) at (c.follow_offer.ensures.each k p d under)) in
     let count : length sets ≡ a.self.now.offers.len = omega (arith, c.follow_offer.ensures.count, c.deref_mut.ensures.len) in
     subst (λ xs. AreOffers (set a.self.now.slots.items a.task slot) places xs) (sym (front a.self.now.offers.len sets _ count)) next
 

@@ -1,4 +1,4 @@
-use Rattle.std.proofs.Common.{◌≡◌, ◌≤◌, ◌/◌, ℕ, get_or, ◌∙◌, arith}
+use Rattle.std.proofs.Common.{◌≡◌, ◌/◌, ℕ, get_or, ◌∙◌, arith}
 use Rattle.task_table.proofs.Summaries.{used_fits, words_copied, summary_copied, same_word}
 use Rattle.task_table.proofs.task_set.TaskSet.become_as.Goals.{After-copy_words}
 use Rattle.task_table.proofs.task_set.TaskSet.become_as.Goals as goal
