@@ -3,6 +3,7 @@ pub mod Chunks
 pub mod Holds
 pub mod Limits
 pub mod Lookups
+pub mod Moved
 pub mod Named
 pub mod Passed
 pub mod Shape
