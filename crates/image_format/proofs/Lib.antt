@@ -8,4 +8,5 @@ pub mod Named
 pub mod Passed
 pub mod Shape
 pub mod Spelled
+pub mod Spellings
 pub mod Steps

@@ -321,7 +321,7 @@ names_moved end other (t ∷ ts) bytes e =
 
 -- ---- the first form has no names
 
-no_name : (index : ℕ) (t : TaskRecord) (place : ℕ) → task_fault First index t place ≡ None → t.names ≡ 0
+pub no_name : (index : ℕ) (t : TaskRecord) (place : ℕ) → task_fault First index t place ≡ None → t.names ≡ 0
 no_name index t place e =
     let a = row_none ((index == 0 && not (t.priority == 0)) || (not (index == 0) && t.priority == 0)) _ _ e in
     let b = row_none (nat_lt 1 t.flags || (index == 0 && not (t.flags == 1))) _ _ a.1 in
