@@ -112,17 +112,16 @@ second_read p = read_again Second p (second_plain p)
 first_read : (p : Picture) (bytes : List ℕ) → SpellsFirst p bytes → read First bytes ≡ p
 first_read p bytes f = ap (read First) f.spelled ∙ read_again First p (first_plain p (no_names p.tasks f.unnamed))
 
-letter_of : Form → ℕ
+abbrev letter_of : Form → ℕ
 letter_of First = 49
 letter_of Second = 50
 
 fourth : (form : Form) (p : Picture) → slice_index (bytes_of (records_of form p)) 3 ≡ letter_of form
-unfolding header_bytes_in, letter_of
+unfolding header_bytes_in
 fourth First p = refl
 fourth Second p = refl
 
 not_both : (p q : Picture) {P : Type 0} → bytes_of (records_of First p) ≡ bytes_of (records_of Second q) → P
-unfolding letter_of
 not_both p q e = absurd (omega (arith, fourth First p, fourth Second q, ap (λ (b : List ℕ). slice_index b 3) e))
 
 pub same_image : (p q : Picture) (bytes : List ℕ) → Spells p bytes → Spells q bytes → p ≡ q
