@@ -14,7 +14,7 @@ use Rattle.image_format.specs.Picture.{LinePicture, Picture, Sound, SpellsFirst,
 use Rattle.image_format.specs.Records.{Records, records_fault}
 use Rattle.image_format.specs.Regions.{clashes, entries_fault, entries_from, entry_fault, has_area, has_rights, has_shape, own_fault, region_fault, regions_fault, regions_from, runs_at}
 use Rattle.image_format.specs.Steps.{Refusal, count_fault, count_place, counted, field_fault, header_size, highest_line, line_fault, lines_fault, lines_from, lines_place, most_names, names_place, regions_place, task_fault, tasks_fault, tasks_from}
-use Rattle.image_format.proofs.Limits.{Limits, limits, lines_64, no_zero, not_above, above, or_false, both_false, row_none, row_pass, taken, tasks_512}
+use Rattle.image_format.proofs.Limits.{Limits, limits, lines_64, no_zero, not_above, plain_names, above, or_false, both_false, row_none, row_pass, taken, tasks_512}
 use Rattle.image_format.proofs.Named.{names_moved}
 use Rattle.image_format.proofs.Passed.{Passed, both_none, none_both, passed_steps, steps_passed}
 
@@ -204,8 +204,8 @@ accepted_moved f r l few low a = record {
 }
 
 -- accepted records of either form are accepted in the second
-pub second_accepted : (r : Records) → Accepted r → r.header.zero ≡ 0 → r.header.names ≤ 409600 → Accepted (in_form Second r)
-second_accepted r a nothing few =
+pub second_accepted : (r : Records) → Accepted r → (r.header.form ≡ First → (r.header.zero ≡ 0) × (r.header.names ≡ 0)) → Accepted (in_form Second r)
+second_accepted r a plain =
     let h = r.header in
     let l = limits h a.fields in
     let s = passed_steps r a.records in
@@ -219,7 +219,7 @@ second_accepted r a nothing few =
       flash = l.flash;
       ram = l.ram;
       bits = l.bits;
-      second = λ e. (nothing, few);
+      second = λ e. (no_zero h a.fields (λ f. (plain f).0), plain_names h h.form refl a.fields (λ f. (plain f).1));
     }) (few_second h.form 0 (header_size h.form) r.tasks s.tasks) (low_second h.form 0 h.tasks (lines_place h) r.lines s.lines) a
 
 -- a sound image that the first form can hold is accepted in it
