@@ -172,7 +172,7 @@ early_names h e = omega (arith, size_28 h.form, few_tasks h e, few_regions h e, 
 pub few_names : (h : Header) → field_fault h ≡ None → h.form ≡ Second → h.names ≤ 409600
 few_names h e s = ((limits h e).second s).1
 
-plain_names : (h : Header) (f : Form) → h.form ≡ f → field_fault h ≡ None → (h.form ≡ First → h.names ≡ 0) → h.names ≤ 409600
+pub plain_names : (h : Header) (f : Form) → h.form ≡ f → field_fault h ≡ None → (h.form ≡ First → h.names ≡ 0) → h.names ≤ 409600
 plain_names h First is e none = omega (arith, none is)
 plain_names h Second is e none = few_names h e is
 

@@ -1,5 +1,5 @@
 -- Names, one after the other.
-use Rattle.std.proofs.Common.{◌≡◌, ◌≢◌, ◌∙◌, ◌+◌, ◌-◌, ◌<◌, ◌≤◌, ℕ, zero, suc, Bool, true, false, not, ◌||◌, ◌&&◌, ◌==◌, ◌⊎◌, inl, inr, List, [], ◌∷◌, ◌++◌, Option, Some, None, All, AllPairs, length, map, take, drop, get_or, refl, sym, subst, ap, ap₂, arith, append_assoc, nat_le, length-append}
+use Rattle.std.proofs.Common.{◌≡◌, ◌≢◌, ◌∙◌, ◌+◌, ◌-◌, ◌<◌, ◌≤◌, ℕ, zero, suc, Bool, true, false, not, ◌||◌, ◌&&◌, ◌==◌, ◌⊎◌, inl, inr, List, [], ◌∷◌, ◌++◌, Option, Some, None, All, AllPairs, length, map, take, drop, get_or, refl, sym, subst, ap, ap₂, arith, append_assoc, nat_le, length-append, cond, nat_lt}
 use Rattle.std.specs.Cmp.Lexicographic.{bytes_decides}
 use Rattle.std.specs.List.{list_any}
 use Rattle.std.specs.Option.{is_some}
@@ -12,9 +12,9 @@ use Rattle.image_format.specs.declared.records.RegionRecord.{RegionRecord}
 use Rattle.image_format.specs.declared.records.TaskRecord.{TaskRecord}
 use Rattle.image_format.specs.Names.{after_name, after_names, first_name, is_spelled, left_fault, name_fault, names_fault, names_from, names_of, same_name, task_names_fault}
 use Rattle.image_format.specs.Picture.{Picture, TaskPicture, all_names, header_of, name_bytes, names_bytes, task_of, task_record, tasks_of}
-use Rattle.image_format.specs.Steps.{Refusal, names_place, or_else}
+use Rattle.image_format.specs.Steps.{Refusal, names_place, or_else, task_fault, tasks_from}
 use Rattle.image_format.proofs.Chunks.{blank, none_found}
-use Rattle.image_format.proofs.Limits.{or_false, row_none, row_pass}
+use Rattle.image_format.proofs.Limits.{above, or_false, row_none, row_pass}
 use Rattle.image_format.proofs.Passed.{both_none, none_both}
 
 -- ---- one after the other
@@ -195,7 +195,11 @@ names_again (suc n) earlier bytes place e =
 
 nothing_left : (bytes : List ℕ) → left_fault bytes ≡ None → bytes ≡ []
 nothing_left [] e = refl
-nothing_left (b ∷ bytes) e = cc
+nothing_left (b ∷ bytes) e = absurd (omega (arith, eqb-true (length (b ∷ bytes)) 0 (is_none (length (b ∷ bytes) == 0) e)))
+  where
+    is_none : (t : Bool) → cond {A = Option Refusal} t None (Some (3, 24)) ≡ None → t ≡ true
+    is_none true e = refl
+    is_none false e = cc
 
 pub all_names_again : (end : ℕ) (ts : List TaskRecord) (rs : List RegionRecord) (bytes : List ℕ) → names_from end ts bytes ≡ None → all_names (tasks_of ts rs bytes) ≡ bytes
 all_names_again end [] rs bytes e = sym (nothing_left bytes e)
@@ -317,10 +321,19 @@ names_moved end other (t ∷ ts) bytes e =
 
 -- ---- the first form has no names
 
+pub no_name : (index : ℕ) (t : TaskRecord) (place : ℕ) → task_fault First index t place ≡ None → t.names ≡ 0
+no_name index t place e =
+    let a = row_none ((index == 0 && not (t.priority == 0)) || (not (index == 0) && t.priority == 0)) _ _ e in
+    let b = row_none (nat_lt 1 t.flags || (index == 0 && not (t.flags == 1))) _ _ a.1 in
+    let c = row_none (nat_lt t.regions 1 || nat_lt 8 t.regions) _ _ b.1 in
+    let d = row_none (nat_lt 0 t.names) _ _ c.1 in
+    let le = above 0 t.names d.0 in
+    omega (arith, le)
+
 -- where no task has a name, what is refused is what is left over
-pub no_names_left : (end : ℕ) (ts : List TaskRecord) (bytes : List ℕ) → ((k : ℕ) → k < length ts → (get_or ts k blank).names ≡ 0) → names_from end ts bytes ≡ left_fault bytes
-no_names_left end [] bytes h = refl
-no_names_left end (t ∷ ts) bytes h =
-    let none : t.names ≡ 0 = h 0 (omega arith) in
-    ap (λ (n : ℕ). or_else (task_names_fault n [] bytes (end - length bytes)) (names_from end ts (after_names n bytes))) none
-    ∙ no_names_left end ts bytes (λ k lt. h (suc k) (omega (arith, lt)))
+pub no_names_left : (end index place : ℕ) (ts : List TaskRecord) (bytes : List ℕ) → tasks_from First index place ts ≡ None → names_from end ts bytes ≡ left_fault bytes
+no_names_left end index place [] bytes e = refl
+no_names_left end index place (t ∷ ts) bytes e =
+    let a = both_none (task_fault First index t place) (tasks_from First (index + 1) (place + 12) ts) e in
+    ap (λ (n : ℕ). or_else (task_names_fault n [] bytes (end - length bytes)) (names_from end ts (after_names n bytes))) (no_name index t place a.0)
+    ∙ no_names_left end (index + 1) (place + 12) ts bytes a.1
