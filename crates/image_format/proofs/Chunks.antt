@@ -11,7 +11,7 @@ use Rattle.image_format.specs.Regions.{entries_from, entry_fault, own_fault, reg
 use Rattle.image_format.specs.Steps.{Refusal, counted, or_else}
 
 abbrev pub blank : TaskRecord
-blank = record { priority = 0; flags = 0; regions = 0; zero = 0; entry = 0; sp = 0 }
+blank = record { priority = 0; flags = 0; regions = 0; names = 0; entry = 0; sp = 0 }
 
 pub none_found : (found : Option Refusal) → is_some found ≡ false → found ≡ None
 none_found None e = refl

@@ -5,6 +5,8 @@ use Rattle.std.specs.List.{list_all, list_any}
 use Rattle.std.proofs.lemmas.Bool.{cases_lt, eqb-true, le-leb, leb-true, lt-ltb, ltb-false, ltb-true}
 use Rattle.std.proofs.lemmas.Bool.Decides.{nat_tests}
 use Rattle.std.proofs.lemmas.List.{append-nil, get_or-map, get_or_past, length-map, take-append-drop}
+use Rattle.image_format.specs.declared.records.Form.{Form}
+use Rattle.image_format.specs.declared.records.Form.TheVariants.{First, Second}
 use Rattle.image_format.specs.declared.records.Header.{Header}
 use Rattle.image_format.specs.declared.records.TaskRecord.{TaskRecord}
 use Rattle.image_format.specs.declared.records.RegionRecord.{RegionRecord}
@@ -13,17 +15,20 @@ use Rattle.region_check.specs.declared.Region.{Region}
 use Rattle.region_check.specs.declared.Right.TheVariants.{Execute}
 use Rattle.region_check.specs.Rights.{gives, may_use}
 use Rattle.image_format.specs.Accepted.{Accepted}
-use Rattle.image_format.specs.Facts.{Facts, HasLines, HasRegions, HasSizes, HasTasks, IsInFlash, IsInRam, SameOrApart}
-use Rattle.image_format.specs.Picture.{LinePicture, Picture, TaskPicture, line_of, no_line, no_task, picture_of, region_of, regions_in, rights_of, task_of, tasks_of}
+use Rattle.image_format.specs.Facts.{Facts, HasLines, HasNames, HasRegions, HasSizes, HasTasks, IsInFlash, IsInRam, SameOrApart}
+use Rattle.image_format.specs.Picture.{LinePicture, Picture, TaskPicture, line_of, names_in, no_line, no_task, picture_of, region_of, regions_in, rights_of, task_of, tasks_of}
+use Rattle.image_format.specs.Names.{after_names, names_from, names_of, task_names_fault}
 use Rattle.image_format.specs.Records.{Records}
 use Rattle.image_format.specs.Regions.{clashes, cuts, entries_from, entry_fault, has_area, lies_in, meets, own_fault, region_fault, regions_from, runs_at}
 use Rattle.region_check.specs.Sizes.{is_size, sizes}
-use Rattle.image_format.specs.Steps.{counted, line_fault, lines_from, lines_place, task_fault, tasks_from}
+use Rattle.text_lines.specs.Names.{is_name}
+use Rattle.image_format.specs.Steps.{counted, header_size, highest_line, line_fault, lines_from, lines_place, most_names, names_place, regions_place, task_fault, tasks_from}
 use Rattle.image_format.proofs.Chunks.{blank}
-use Rattle.image_format.proofs.Limits.{limits, or_false, row_none}
-use Rattle.image_format.proofs.Lookups.{In, in_list, own_at, region_source, regions_looked, task_looked}
+use Rattle.image_format.proofs.Limits.{limits, lines_64, or_false, row_none, tasks_512}
+use Rattle.image_format.proofs.Lookups.{In, in_list, names_at, names_looked, own_at, region_source, regions_looked, task_looked}
+use Rattle.image_format.proofs.Named.{AreNew, are_new, new_apart, new_named}
 use Rattle.image_format.proofs.Passed.{both_none, passed_steps}
-use Rattle.image_format.proofs.Shape.{Every, IsLine, IsRegion, IsTask, counts, equals, every_append, every_region, is_line, is_region, is_task, not_false, nothing_left, or_cases, rest_counted, rights_cases, tasks_length}
+use Rattle.image_format.proofs.Shape.{Every, IsLine, IsRegion, IsTask, counts, equals, every_append, every_region, is_line, is_region, is_task, names_length, not_false, nothing_left, or_cases, rest_counted, rights_cases, tasks_length}
 
 -- ---- tests
 
@@ -184,38 +189,38 @@ has_regions r a =
     let s = passed_steps r a.records in
     let n = counts r a in
     let p = picture_of r in
-    let place = 20 + 12 * r.header.tasks in
+    let place = regions_place r.header in
     let every = every_region r.header [] place r.tasks r.regions n s.regions in
     let apart = regions_apart r.header [] place r.tasks r.regions n s.regions in
     record {
       readable = λ i g c. (each every i g c).readable;
       no_code = λ i g c. (each every i g c).no_code;
-      sizes = λ i g c. let q = region_source r.tasks r.regions i g c in
+      sizes = λ i g c. let q = region_source r.tasks r.regions r.names i g c in
           subst (λ (z : Region). 256 ≤ z.size) q.2 (sized r.header q.0 (every_in (IsRegion r.header) r.regions q.0 every q.1));
       within = λ i g c. (each every i g c).within;
       writable = λ i g c. (each every i g c).writable;
       devices = λ i g c. (each every i g c).devices;
-      apart = λ i j g e c d. let q = region_source r.tasks r.regions i g c in let o = region_source r.tasks r.regions j e d in
+      apart = λ i j g e c d. let q = region_source r.tasks r.regions r.names i g c in let o = region_source r.tasks r.regions r.names j e d in
           subst (λ (z : Region). SameOrApart z e) q.2 (subst (λ (z : Region). SameOrApart (region_of q.0) z) o.2 (pairs [] r.regions q.0 o.0 apart q.1 o.1));
     }
   where
     each : Every (IsRegion r.header) r.regions → (i : ℕ) (g : Region) → Contains (regions_in (picture_of r) i) g → IsPlaced (picture_of r) g
     each every i g c =
-        let q = region_source r.tasks r.regions i g c in
+        let q = region_source r.tasks r.regions r.names i g c in
         subst (IsPlaced (picture_of r)) q.2 (placed r.header (picture_of r) q.0 a.flash refl (every_in (IsRegion r.header) r.regions q.0 every q.1))
 
 -- ---- tasks
 
-task_steps : (index place : ℕ) (ts : List TaskRecord) (i : ℕ) → i < length ts → tasks_from index place ts ≡ None → IsTask (index + i) (get_or ts i blank)
-task_steps index place [] i lt e = absurd (omega (arith, lt))
-task_steps index place (t ∷ ts) zero lt e =
-    let a = both_none (task_fault index t place) (tasks_from (index + 1) (place + 12) ts) e in
+task_steps : (form : Form) (index place : ℕ) (ts : List TaskRecord) (i : ℕ) → i < length ts → tasks_from form index place ts ≡ None → IsTask form (index + i) (get_or ts i blank)
+task_steps form index place [] i lt e = absurd (omega (arith, lt))
+task_steps form index place (t ∷ ts) zero lt e =
+    let a = both_none (task_fault form index t place) (tasks_from form (index + 1) (place + 12) ts) e in
     let same : index ≡ index + 0 = omega arith in
-    subst (λ (k : ℕ). IsTask k t) same (is_task index t place a.0)
-task_steps index place (t ∷ ts) (suc i) lt e =
-    let a = both_none (task_fault index t place) (tasks_from (index + 1) (place + 12) ts) e in
+    subst (λ (k : ℕ). IsTask form k t) same (is_task form index t place a.0)
+task_steps form index place (t ∷ ts) (suc i) lt e =
+    let a = both_none (task_fault form index t place) (tasks_from form (index + 1) (place + 12) ts) e in
     let same : (index + 1) + i ≡ index + suc i = omega arith in
-    subst (λ (k : ℕ). IsTask k (get_or ts i blank)) same (task_steps (index + 1) (place + 12) ts i (omega (arith, lt)) a.1)
+    subst (λ (k : ℕ). IsTask form k (get_or ts i blank)) same (task_steps form (index + 1) (place + 12) ts i (omega (arith, lt)) a.1)
 
 record Enters (own : List RegionRecord) (t : TaskRecord) : Type 0 where
   odd : t.entry % 2 ≡ 1
@@ -274,8 +279,13 @@ own_length [] rs i lt e = absurd (omega (arith, lt))
 own_length (t ∷ ts) rs zero lt e = (rest_counted t ts rs e).0
 own_length (t ∷ ts) rs (suc i) lt e = own_length ts (drop t.regions rs) i (omega (arith, lt)) (rest_counted t ts rs e).1
 
-past_end : (ts : List TaskRecord) (rs : List RegionRecord) (i : ℕ) → length ts ≤ i → get_or (tasks_of ts rs) i no_task ≡ no_task
-past_end ts rs i le = get_or_past (tasks_of ts rs) i no_task (omega (arith, le, tasks_length ts rs))
+past_end : (ts : List TaskRecord) (rs : List RegionRecord) (ns : List ℕ) (i : ℕ) → length ts ≤ i → get_or (tasks_of ts rs ns) i no_task ≡ no_task
+past_end ts rs ns i le = get_or_past (tasks_of ts rs ns) i no_task (omega (arith, le, tasks_length ts rs ns))
+
+task_there : (r : Records) → Accepted r → (i : ℕ) → i < length r.tasks → IsTask r.header.form i (get_or r.tasks i blank)
+task_there r a i lt =
+    let same : 0 + i ≡ i = omega arith in
+    subst (λ (k : ℕ). IsTask r.header.form k (get_or r.tasks i blank)) same (task_steps r.header.form 0 (header_size r.header.form) r.tasks i lt (passed_steps r a.records).tasks)
 
 has_tasks : (r : Records) → Accepted r → HasTasks (picture_of r)
 has_tasks r a =
@@ -287,12 +297,12 @@ has_tasks r a =
       priorities = λ i above below. let lt = within i below in subst (λ (t : TaskPicture). 0 < t.priority) (sym (look i lt)) ((each i lt).others above);
       stacks = λ i. elim (cases_lt i (length r.tasks)) [
         | inl lt ↦ ap (λ (t : TaskPicture). t.sp % 4) (look i lt) ∙ (each i lt).stack
-        | inr le ↦ ap (λ (t : TaskPicture). t.sp % 4) (past_end r.tasks r.regions i le)
+        | inr le ↦ ap (λ (t : TaskPicture). t.sp % 4) (past_end r.tasks r.regions r.names i le)
       ];
       some_region = λ i below. let lt = within i below in omega (arith, long i lt, (each i lt).some_region);
       most_regions = λ i. elim (cases_lt i (length r.tasks)) [
         | inl lt ↦ omega (arith, long i lt, (each i lt).most_regions)
-        | inr le ↦ let e = ap (λ (t : TaskPicture). length t.regions) (past_end r.tasks r.regions i le) in omega (arith, e)
+        | inr le ↦ let e = ap (λ (t : TaskPicture). length t.regions) (past_end r.tasks r.regions r.names i le) in omega (arith, e)
       ];
       odd_entries = λ i below. let lt = within i below in ap (λ (t : TaskPicture). t.entry % 2) (look i lt) ∙ (enter i lt).odd;
       entries = λ i below. let lt = within i below in
@@ -300,61 +310,65 @@ has_tasks r a =
           ∙ some_gives (get_or r.tasks i blank).entry (own_at r.tasks r.regions i) (enter i lt).runs;
     }
   where
-    within : (i : ℕ) → i < length (tasks_of r.tasks r.regions) → i < length r.tasks
-    within i lt = omega (arith, lt, tasks_length r.tasks r.regions)
+    within : (i : ℕ) → i < length (tasks_of r.tasks r.regions r.names) → i < length r.tasks
+    within i lt = omega (arith, lt, tasks_length r.tasks r.regions r.names)
 
-    look : (i : ℕ) → i < length r.tasks → get_or (tasks_of r.tasks r.regions) i no_task ≡ task_of (get_or r.tasks i blank) (own_at r.tasks r.regions i)
-    look i lt = task_looked r.tasks r.regions i lt
+    look : (i : ℕ) → i < length r.tasks → get_or (tasks_of r.tasks r.regions r.names) i no_task ≡ task_of (get_or r.tasks i blank) (own_at r.tasks r.regions i) (names_at r.tasks r.names i)
+    look i lt = task_looked r.tasks r.regions r.names i lt
 
-    each : (i : ℕ) → i < length r.tasks → IsTask i (get_or r.tasks i blank)
-    each i lt = let same : 0 + i ≡ i = omega arith in subst (λ (k : ℕ). IsTask k (get_or r.tasks i blank)) same (task_steps 0 20 r.tasks i lt (passed_steps r a.records).tasks)
+    each : (i : ℕ) → i < length r.tasks → IsTask r.header.form i (get_or r.tasks i blank)
+    each i lt = task_there r a i lt
 
     enter : (i : ℕ) → i < length r.tasks → Enters (own_at r.tasks r.regions i) (get_or r.tasks i blank)
-    enter i lt = entry_steps 20 r.tasks r.regions i lt (passed_steps r a.records).entries
+    enter i lt = entry_steps (header_size r.header.form) r.tasks r.regions i lt (passed_steps r a.records).entries
 
     long : (i : ℕ) → i < length r.tasks → length (regions_in (picture_of r) i) ≡ (get_or r.tasks i blank).regions
-    long i lt = ap length (regions_looked r.tasks r.regions i) ∙ length-map (own_at r.tasks r.regions i) region_of ∙ own_length r.tasks r.regions i lt (counts r a)
+    long i lt = ap length (regions_looked r.tasks r.regions r.names i) ∙ length-map (own_at r.tasks r.regions i) region_of ∙ own_length r.tasks r.regions i lt (counts r a)
 
 -- ---- interrupts
 
 blank_line : LineRecord
 blank_line = record { line = 0; task = 0; zero = 0; bits = 0 }
 
-line_steps : (least tasks place : ℕ) (ls : List LineRecord) (k : ℕ) → k < length ls → lines_from least tasks place ls ≡ None → IsLine least tasks (get_or ls k blank_line)
-line_steps least tasks place [] k lt e = absurd (omega (arith, lt))
-line_steps least tasks place (l ∷ ls) zero lt e =
-    is_line least tasks l place (both_none (line_fault least tasks l place) (lines_from (l.line + 1) tasks (place + 8) ls) e).0
-line_steps least tasks place (l ∷ ls) (suc k) lt e =
-    let a = both_none (line_fault least tasks l place) (lines_from (l.line + 1) tasks (place + 8) ls) e in
-    let here = is_line least tasks l place a.0 in
-    let next = line_steps (l.line + 1) tasks (place + 8) ls k (omega (arith, lt)) a.1 in
+line_steps : (form : Form) (least tasks place : ℕ) (ls : List LineRecord) (k : ℕ) → k < length ls → lines_from form least tasks place ls ≡ None → IsLine form least tasks (get_or ls k blank_line)
+line_steps form least tasks place [] k lt e = absurd (omega (arith, lt))
+line_steps form least tasks place (l ∷ ls) zero lt e =
+    is_line form least tasks l place (both_none (line_fault form least tasks l place) (lines_from form (l.line + 1) tasks (place + 8) ls) e).0
+line_steps form least tasks place (l ∷ ls) (suc k) lt e =
+    let a = both_none (line_fault form least tasks l place) (lines_from form (l.line + 1) tasks (place + 8) ls) e in
+    let here = is_line form least tasks l place a.0 in
+    let next = line_steps form (l.line + 1) tasks (place + 8) ls k (omega (arith, lt)) a.1 in
     record { most = next.most; least_line = omega (arith, here.least_line, next.least_line); owner = next.owner; zero_half = next.zero_half; bits = next.bits }
 
-line_order : (least tasks place : ℕ) (ls : List LineRecord) (k m : ℕ) → k < m → m < length ls → lines_from least tasks place ls ≡ None
+line_order : (form : Form) (least tasks place : ℕ) (ls : List LineRecord) (k m : ℕ) → k < m → m < length ls → lines_from form least tasks place ls ≡ None
     → (get_or ls k blank_line).line < (get_or ls m blank_line).line
-line_order least tasks place [] k m lt in_list e = absurd (omega (arith, in_list))
-line_order least tasks place (l ∷ ls) k zero lt in_list e = absurd (omega (arith, lt))
-line_order least tasks place (l ∷ ls) zero (suc m) lt in_list e =
-    let a = both_none (line_fault least tasks l place) (lines_from (l.line + 1) tasks (place + 8) ls) e in
-    let next = line_steps (l.line + 1) tasks (place + 8) ls m (omega (arith, in_list)) a.1 in
+line_order form least tasks place [] k m lt in_list e = absurd (omega (arith, in_list))
+line_order form least tasks place (l ∷ ls) k zero lt in_list e = absurd (omega (arith, lt))
+line_order form least tasks place (l ∷ ls) zero (suc m) lt in_list e =
+    let a = both_none (line_fault form least tasks l place) (lines_from form (l.line + 1) tasks (place + 8) ls) e in
+    let next = line_steps form (l.line + 1) tasks (place + 8) ls m (omega (arith, in_list)) a.1 in
     omega (arith, next.least_line)
-line_order least tasks place (l ∷ ls) (suc k) (suc m) lt in_list e =
-    line_order (l.line + 1) tasks (place + 8) ls k m (omega (arith, lt)) (omega (arith, in_list)) (both_none (line_fault least tasks l place) (lines_from (l.line + 1) tasks (place + 8) ls) e).1
+line_order form least tasks place (l ∷ ls) (suc k) (suc m) lt in_list e =
+    line_order form (l.line + 1) tasks (place + 8) ls k m (omega (arith, lt)) (omega (arith, in_list)) (both_none (line_fault form least tasks l place) (lines_from form (l.line + 1) tasks (place + 8) ls) e).1
+
+line_63 : (form : Form) → highest_line form < 64
+line_63 First = omega arith
+line_63 Second = omega arith
 
 has_lines : (r : Records) → Accepted r → HasLines (picture_of r)
 has_lines r a = record {
   ascending = λ k m lt below. let n = within m below in
-      omega (arith, ap (λ (l : LinePicture). l.line) (look k (omega (arith, lt, n))), ap (λ (l : LinePicture). l.line) (look m n), line_order 0 r.header.tasks (lines_place r.header) r.lines k m lt n step);
+      omega (arith, ap (λ (l : LinePicture). l.line) (look k (omega (arith, lt, n))), ap (λ (l : LinePicture). l.line) (look m n), line_order r.header.form 0 r.header.tasks (lines_place r.header) r.lines k m lt n step);
   below = λ k. elim (cases_lt k (length r.lines)) [
-    | inl lt ↦ omega (arith, ap (λ (l : LinePicture). l.line) (look k lt), (each k lt).most)
+    | inl lt ↦ omega (arith, ap (λ (l : LinePicture). l.line) (look k lt), (each k lt).most, line_63 r.header.form)
     | inr le ↦ omega (arith, ap (λ (l : LinePicture). l.line) (get_or_past (map line_of r.lines) k no_line (omega (arith, le, length-map r.lines line_of))))
   ];
   owners = λ k below. let n = within k below in
-      omega (arith, ap (λ (l : LinePicture). l.task) (look k n), (each k n).owner, a.tasks, tasks_length r.tasks r.regions);
+      omega (arith, ap (λ (l : LinePicture). l.task) (look k n), (each k n).owner, a.tasks, tasks_length r.tasks r.regions r.names);
   bits = λ k below. let n = within k below in omega (arith, ap (λ (l : LinePicture). l.bits) (look k n), (each k n).bits);
 }
   where
-    step : lines_from 0 r.header.tasks (lines_place r.header) r.lines ≡ None
+    step : lines_from r.header.form 0 r.header.tasks (lines_place r.header) r.lines ≡ None
     step = (passed_steps r a.records).lines
 
     within : (k : ℕ) → k < length (map line_of r.lines) → k < length r.lines
@@ -363,19 +377,51 @@ has_lines r a = record {
     look : (k : ℕ) → k < length r.lines → get_or (map line_of r.lines) k no_line ≡ line_of (get_or r.lines k blank_line)
     look k lt = get_or-map line_of r.lines k blank_line no_line lt
 
-    each : (k : ℕ) → k < length r.lines → IsLine 0 r.header.tasks (get_or r.lines k blank_line)
-    each k lt = line_steps 0 r.header.tasks (lines_place r.header) r.lines k lt step
+    each : (k : ℕ) → k < length r.lines → IsLine r.header.form 0 r.header.tasks (get_or r.lines k blank_line)
+    each k lt = line_steps r.header.form 0 r.header.tasks (lines_place r.header) r.lines k lt step
+
+-- ---- names
+
+most_32 : (form : Form) → most_names form ≤ 32
+most_32 First = omega arith
+most_32 Second = omega arith
+
+names_new : (end : ℕ) (ts : List TaskRecord) (ns : List ℕ) (i : ℕ) → names_from end ts ns ≡ None → AreNew [] (names_at ts ns i)
+names_new end [] ns i e = tt
+names_new end (t ∷ ts) ns zero e = are_new t.names [] ns (end - length ns) (both_none (task_names_fault t.names [] ns (end - length ns)) (names_from end ts (after_names t.names ns)) e).0
+names_new end (t ∷ ts) ns (suc i) e = names_new end ts (after_names t.names ns) i (both_none (task_names_fault t.names [] ns (end - length ns)) (names_from end ts (after_names t.names ns)) e).1
+
+names_count : (ts : List TaskRecord) (ns : List ℕ) (i : ℕ) → i < length ts → length (names_at ts ns i) ≡ (get_or ts i blank).names
+names_count [] ns i lt = absurd (omega (arith, lt))
+names_count (t ∷ ts) ns zero lt = names_length t.names ns
+names_count (t ∷ ts) ns (suc i) lt = names_count ts (after_names t.names ns) i (omega (arith, lt))
+
+has_names : (r : Records) → Accepted r → HasNames (picture_of r)
+has_names r a = record {
+  few = λ i. elim (cases_lt i (length r.tasks)) [
+    | inl lt ↦ omega (arith, ap length (look i), names_count r.tasks r.names i lt, (task_there r a i lt).most_names, most_32 r.header.form)
+    | inr le ↦ let e = ap (λ (t : TaskPicture). length t.names) (past_end r.tasks r.regions r.names i le) in omega (arith, e)
+  ];
+  named = λ i name c. subst (λ (n : List ℕ). is_name n ≡ true) c.2 (new_named [] (names_in (picture_of r) i) (new i) c.0 name c.1);
+  different = λ i k m lt below. new_apart [] (names_in (picture_of r) i) (new i) k m lt below;
+}
+  where
+    look : (i : ℕ) → names_in (picture_of r) i ≡ names_at r.tasks r.names i
+    look i = names_looked r.tasks r.regions r.names i
+
+    new : (i : ℕ) → AreNew [] (names_in (picture_of r) i)
+    new i = subst (AreNew []) (sym (look i)) (names_new (names_place r.header + length r.names) r.tasks r.names i (passed_steps r a.records).names)
 
 -- ---- the whole
 
 has_sizes : (r : Records) → Accepted r → HasSizes (picture_of r)
 has_sizes r a =
     let l = limits r.header a.fields in
-    let tasks = tasks_length r.tasks r.regions in
+    let tasks = tasks_length r.tasks r.regions r.names in
     record {
       some_task = omega (arith, tasks, a.tasks, l.some_task);
-      most_tasks = omega (arith, tasks, a.tasks, l.tasks);
-      most_lines = omega (arith, length-map r.lines line_of, a.lines, l.lines);
+      most_tasks = omega (arith, tasks, a.tasks, l.tasks, tasks_512 r.header.form);
+      most_lines = omega (arith, length-map r.lines line_of, a.lines, l.lines, lines_64 r.header.form);
       some_flash = omega (arith, a.flash, l.some_flash);
       most_flash = omega (arith, a.flash, l.flash);
       most_ram = l.ram;
@@ -383,4 +429,4 @@ has_sizes r a =
     }
 
 pub facts : (r : Records) → Accepted r → Facts (picture_of r)
-facts r a = record { sizes = has_sizes r a; tasks = has_tasks r a; regions = has_regions r a; lines = has_lines r a }
+facts r a = record { sizes = has_sizes r a; tasks = has_tasks r a; regions = has_regions r a; lines = has_lines r a; names = has_names r a }

@@ -3,7 +3,10 @@ pub mod Chunks
 pub mod Holds
 pub mod Limits
 pub mod Lookups
+pub mod Moved
+pub mod Named
 pub mod Passed
 pub mod Shape
 pub mod Spelled
+pub mod Spellings
 pub mod Steps

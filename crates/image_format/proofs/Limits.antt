@@ -1,78 +1,198 @@
 -- What a header that is not refused says of its numbers.
-use Rattle.std.proofs.Common.{◌≡◌, ◌*◌, ◌≤◌, ◌<◌, ℕ, List, Option, cond, None, Some, arith, Bool, true, false, ◌||◌, ◌==◌, refl, nat_lt}
-use Rattle.std.proofs.lemmas.Bool.{eqb-true, ltb-false}
+use Rattle.std.proofs.Common.{◌≡◌, ◌∙◌, ◌*◌, ◌≤◌, ◌<◌, ℕ, List, Option, cond, None, Some, arith, Bool, true, false, not, ◌||◌, ◌==◌, ap, refl, sym, nat_lt}
+use Rattle.std.proofs.lemmas.Bool.{eqb-true, le-ltb, ltb-false}
 use Rattle.std.proofs.lemmas.Bool.Decides.{nat_tests}
+use Rattle.image_format.specs.declared.records.Form.{Form}
+use Rattle.image_format.specs.declared.records.Form.TheVariants.{First, Second}
 use Rattle.image_format.specs.declared.records.Header.{Header}
 use Rattle.image_format.specs.declared.records.TaskRecord.{TaskRecord}
-use Rattle.image_format.specs.Records.{total}
-use Rattle.image_format.specs.Steps.{Refusal, count_fault, counted, field_fault, lines_place, most_lines, most_tasks}
+use Rattle.image_format.specs.Records.{header_at, total}
+use Rattle.image_format.specs.Steps.{Refusal, count_fault, count_place, counted, field_fault, field_fault_in, first_field_fault, header_size, lines_place, most_lines, most_tasks, names_place, regions_place, second_field_fault}
 
 -- a table that refuses nothing: its first row's condition does not hold, nor does another's
 pub row_none : (b : Bool) (r : Refusal) (next : Option Refusal) → cond b (Some r) next ≡ None → (b ≡ false) × (next ≡ None)
 row_none true r next e = cc
 row_none false r next e = (refl, e)
 
+-- and the other way round
+pub row_pass : (b : Bool) (r : Refusal) (next : Option Refusal) → b ≡ false → next ≡ None → cond b (Some r) next ≡ None
+row_pass true r next b e = cc
+row_pass false r next b e = e
+
 pub or_false : (a b : Bool) → (a || b) ≡ false → (a ≡ false) × (b ≡ false)
 or_false true b e = cc
 or_false false b e = (refl, e)
 
+pub both_false : (a b : Bool) → a ≡ false → b ≡ false → (a || b) ≡ false
+both_false true b e f = e
+both_false false b e f = f
+
 pub above : (most n : ℕ) → nat_lt most n ≡ false → n ≤ most
 above most n e = ltb-false most n e
+
+pub not_above : (most n : ℕ) → n ≤ most → nat_lt most n ≡ false
+not_above most n le = le-ltb most n le
 
 pub positive : (n : ℕ) → (n == 0) ≡ false → 0 < n
 positive n e = grind (arith, nat_tests)
 
-pub record Limits (h : Header) : Type 0 where
+pub not_zero : (n : ℕ) → 0 < n → (n == 0) ≡ false
+not_zero n lt = grind (arith, nat_tests)
+
+is_zero : (n : ℕ) → not (n == 0) ≡ false → n ≡ 0
+is_zero n e = grind (arith, nat_tests)
+
+zero_is : (n : ℕ) → n ≡ 0 → not (n == 0) ≡ false
+zero_is n e = rw e refl
+
+-- the limits of a form
+pub record Limits (f : Form) (h : Header) : Type 0 where
   pub some_task : 1 ≤ h.tasks
-  pub tasks : h.tasks ≤ 32
-  pub lines : h.lines ≤ 32
+  pub tasks : h.tasks ≤ most_tasks f
+  pub lines : h.lines ≤ most_lines f
   pub some_region : h.tasks ≤ h.regions
   pub regions : h.regions ≤ 8 * h.tasks
   pub some_flash : 1 ≤ h.flash
   pub flash : h.flash ≤ 1048576
   pub ram : h.ram ≤ 262144
   pub bits : 0 < h.bits
+  pub second : f ≡ Second → (h.zero ≡ 0) × (h.names ≤ 409600)
 
-pub limits : (h : Header) → field_fault h ≡ None → Limits h
-unfolding field_fault
-limits h e =
-    let a = row_none (nat_lt h.tasks 1 || nat_lt most_tasks h.tasks) _ _ e in
-    let b = row_none (nat_lt most_lines h.lines) _ _ a.1 in
+pub limits_in : (f : Form) (h : Header) → field_fault_in f h ≡ None → Limits f h
+limits_in First h e =
+    let a = row_none (nat_lt h.tasks 1 || nat_lt 32 h.tasks) _ _ e in
+    let b = row_none (nat_lt 32 h.lines) _ _ a.1 in
     let c = row_none (nat_lt h.regions h.tasks || nat_lt (8 * h.tasks) h.regions) _ _ b.1 in
     let d = row_none (nat_lt h.flash 1 || nat_lt 1048576 h.flash) _ _ c.1 in
     let f = row_none (nat_lt 262144 h.ram) _ _ d.1 in
     let g = row_none (h.bits == 0) _ _ f.1 in
-    let tasks = or_false (nat_lt h.tasks 1) (nat_lt most_tasks h.tasks) a.0 in
+    let tasks = or_false (nat_lt h.tasks 1) (nat_lt 32 h.tasks) a.0 in
     let regions = or_false (nat_lt h.regions h.tasks) (nat_lt (8 * h.tasks) h.regions) c.0 in
     let flash = or_false (nat_lt h.flash 1) (nat_lt 1048576 h.flash) d.0 in
-    let most = above most_tasks h.tasks tasks.1 in
-    let lines = above most_lines h.lines b.0 in
     record {
       some_task = above h.tasks 1 tasks.0;
-      tasks = omega (arith, most);
-      lines = omega (arith, lines);
+      tasks = above 32 h.tasks tasks.1;
+      lines = above 32 h.lines b.0;
       some_region = above h.regions h.tasks regions.0;
       regions = above (8 * h.tasks) h.regions regions.1;
       some_flash = above h.flash 1 flash.0;
       flash = above 1048576 h.flash flash.1;
       ram = above 262144 h.ram f.0;
       bits = positive h.bits g.0;
+      second = λ s. cc;
+    }
+limits_in Second h e =
+    let a = row_none (nat_lt h.tasks 1 || nat_lt 512 h.tasks) _ _ e in
+    let b = row_none (nat_lt 64 h.lines) _ _ a.1 in
+    let c = row_none (nat_lt h.regions h.tasks || nat_lt (8 * h.tasks) h.regions) _ _ b.1 in
+    let z = row_none (not (h.zero == 0)) _ _ c.1 in
+    let d = row_none (nat_lt h.flash 1 || nat_lt 1048576 h.flash) _ _ z.1 in
+    let f = row_none (nat_lt 262144 h.ram) _ _ d.1 in
+    let g = row_none (h.bits == 0) _ _ f.1 in
+    let n = row_none (nat_lt 409600 h.names) _ _ g.1 in
+    let tasks = or_false (nat_lt h.tasks 1) (nat_lt 512 h.tasks) a.0 in
+    let regions = or_false (nat_lt h.regions h.tasks) (nat_lt (8 * h.tasks) h.regions) c.0 in
+    let flash = or_false (nat_lt h.flash 1) (nat_lt 1048576 h.flash) d.0 in
+    record {
+      some_task = above h.tasks 1 tasks.0;
+      tasks = above 512 h.tasks tasks.1;
+      lines = above 64 h.lines b.0;
+      some_region = above h.regions h.tasks regions.0;
+      regions = above (8 * h.tasks) h.regions regions.1;
+      some_flash = above h.flash 1 flash.0;
+      flash = above 1048576 h.flash flash.1;
+      ram = above 262144 h.ram f.0;
+      bits = positive h.bits g.0;
+      second = λ s. (is_zero h.zero z.0, above 409600 h.names n.0);
     }
 
-pub few_tasks : (h : Header) → field_fault h ≡ None → h.tasks ≤ 32
-few_tasks h e = (limits h e).tasks
+pub limits : (h : Header) → field_fault h ≡ None → Limits h.form h
+unfolding field_fault
+limits h e = limits_in h.form h e
 
-pub few_lines : (h : Header) → field_fault h ≡ None → h.lines ≤ 32
-few_lines h e = (limits h e).lines
+-- a header within the limits of a form is not refused in it
+pub taken_in : (f : Form) (h : Header) → Limits f h → field_fault_in f h ≡ None
+taken_in First h l =
+    row_pass (nat_lt h.tasks 1 || nat_lt 32 h.tasks) _ _ (both_false (nat_lt h.tasks 1) (nat_lt 32 h.tasks) (not_above h.tasks 1 l.some_task) (not_above 32 h.tasks l.tasks))
+    (row_pass (nat_lt 32 h.lines) _ _ (not_above 32 h.lines l.lines)
+    (row_pass (nat_lt h.regions h.tasks || nat_lt (8 * h.tasks) h.regions) _ _
+    (both_false (nat_lt h.regions h.tasks) (nat_lt (8 * h.tasks) h.regions) (not_above h.regions h.tasks l.some_region) (not_above (8 * h.tasks) h.regions l.regions))
+    (row_pass (nat_lt h.flash 1 || nat_lt 1048576 h.flash) _ _ (both_false (nat_lt h.flash 1) (nat_lt 1048576 h.flash) (not_above h.flash 1 l.some_flash) (not_above 1048576 h.flash l.flash))
+    (row_pass (nat_lt 262144 h.ram) _ _ (not_above 262144 h.ram l.ram)
+    (row_pass (h.bits == 0) _ _ (not_zero h.bits l.bits) refl)))))
+taken_in Second h l =
+    let s = l.second refl in
+    row_pass (nat_lt h.tasks 1 || nat_lt 512 h.tasks) _ _ (both_false (nat_lt h.tasks 1) (nat_lt 512 h.tasks) (not_above h.tasks 1 l.some_task) (not_above 512 h.tasks l.tasks))
+    (row_pass (nat_lt 64 h.lines) _ _ (not_above 64 h.lines l.lines)
+    (row_pass (nat_lt h.regions h.tasks || nat_lt (8 * h.tasks) h.regions) _ _
+    (both_false (nat_lt h.regions h.tasks) (nat_lt (8 * h.tasks) h.regions) (not_above h.regions h.tasks l.some_region) (not_above (8 * h.tasks) h.regions l.regions))
+    (row_pass (not (h.zero == 0)) _ _ (zero_is h.zero s.0)
+    (row_pass (nat_lt h.flash 1 || nat_lt 1048576 h.flash) _ _ (both_false (nat_lt h.flash 1) (nat_lt 1048576 h.flash) (not_above h.flash 1 l.some_flash) (not_above 1048576 h.flash l.flash))
+    (row_pass (nat_lt 262144 h.ram) _ _ (not_above 262144 h.ram l.ram)
+    (row_pass (h.bits == 0) _ _ (not_zero h.bits l.bits)
+    (row_pass (nat_lt 409600 h.names) _ _ (not_above 409600 h.names s.1) refl)))))))
 
-pub few_regions : (h : Header) → field_fault h ≡ None → h.regions ≤ 256
-few_regions h e = let l = limits h e in omega (arith, l.tasks, l.regions)
+pub taken : (h : Header) → Limits h.form h → field_fault h ≡ None
+unfolding field_fault
+taken h l = taken_in h.form h l
 
-pub early_lines : (h : Header) → field_fault h ≡ None → lines_place h ≤ 4096
-early_lines h e = let l = limits h e in omega (arith, l.tasks, l.regions)
+-- ---- of both forms
 
-pub short_total : (h : Header) → field_fault h ≡ None → total h ≤ 2097152
-short_total h e = let l = limits h e in omega (arith, l.tasks, l.regions, l.lines, l.flash)
+size_28 : (f : Form) → header_size f ≤ 28
+size_28 First = omega arith
+size_28 Second = omega arith
+
+pub tasks_512 : (f : Form) → most_tasks f ≤ 512
+tasks_512 First = omega arith
+tasks_512 Second = omega arith
+
+pub lines_64 : (f : Form) → most_lines f ≤ 64
+lines_64 First = omega arith
+lines_64 Second = omega arith
+
+pub few_tasks : (h : Header) → field_fault h ≡ None → h.tasks ≤ 512
+few_tasks h e = let l = limits h e in omega (arith, l.tasks, tasks_512 h.form)
+
+pub few_lines : (h : Header) → field_fault h ≡ None → h.lines ≤ 64
+few_lines h e = let l = limits h e in omega (arith, l.lines, lines_64 h.form)
+
+pub few_regions : (h : Header) → field_fault h ≡ None → h.regions ≤ 4096
+few_regions h e = let l = limits h e in omega (arith, few_tasks h e, l.regions)
+
+pub early_regions : (h : Header) → field_fault h ≡ None → regions_place h ≤ 8192
+early_regions h e = omega (arith, size_28 h.form, few_tasks h e)
+
+pub early_lines : (h : Header) → field_fault h ≡ None → lines_place h ≤ 65536
+early_lines h e = omega (arith, size_28 h.form, few_tasks h e, few_regions h e)
+
+pub early_names : (h : Header) → field_fault h ≡ None → names_place h ≤ 65536
+early_names h e = omega (arith, size_28 h.form, few_tasks h e, few_regions h e, few_lines h e)
+
+-- the bytes of names are few in the second form, and none in the first
+pub few_names : (h : Header) → field_fault h ≡ None → h.form ≡ Second → h.names ≤ 409600
+few_names h e s = ((limits h e).second s).1
+
+pub plain_names : (h : Header) (f : Form) → h.form ≡ f → field_fault h ≡ None → (h.form ≡ First → h.names ≡ 0) → h.names ≤ 409600
+plain_names h First is e none = omega (arith, none is)
+plain_names h Second is e none = few_names h e is
+
+pub short_total : (h : Header) → field_fault h ≡ None → (h.form ≡ First → h.names ≡ 0) → total h ≤ 2097152
+short_total h e none = let l = limits h e in omega (arith, early_names h e, plain_names h h.form refl e none, l.flash)
+
+-- the zero that a header has, if its form has one, is 0
+pub no_zero : (h : Header) → field_fault h ≡ None → (h.form ≡ First → h.zero ≡ 0) → h.zero ≡ 0
+no_zero h e first = by h.form refl
+  where
+    by : (f : Form) → h.form ≡ f → h.zero ≡ 0
+    by First is = first is
+    by Second is = ((limits h e).second is).0
+
+-- what the first form has not is 0
+pub plain_header : (f : Form) (bytes : List ℕ) → (header_at f bytes).form ≡ First → ((header_at f bytes).zero ≡ 0) × ((header_at f bytes).names ≡ 0)
+plain_header First bytes e = (refl, refl)
+plain_header Second bytes e = cc
+
+-- ---- the number of regions
 
 equal : (a b : ℕ) (r : Refusal) → cond (a == b) None (Some r) ≡ None → a ≡ b
 equal a b r e = eqb-true a b (stated (a == b) e)
@@ -83,4 +203,4 @@ equal a b r e = eqb-true a b (stated (a == b) e)
 
 -- the numbers of regions sum to the header's
 pub all_counted : (h : Header) (ts : List TaskRecord) → count_fault h ts ≡ None → counted ts ≡ h.regions
-all_counted h ts e = equal (counted ts) h.regions (3, 6) e
+all_counted h ts e = equal (counted ts) h.regions (3, count_place h.form) e

@@ -1,11 +1,13 @@
--- The i-th task of a picture, and its regions.
+-- The i-th task of a picture, its regions and its names.
 use Rattle.std.proofs.Common.{◌≡◌, ◌∙◌, ◌+◌, ◌<◌, ◌≤◌, ℕ, zero, suc, List, [], ◌∷◌, length, take, drop, get_or, map, arith, ap, refl, subst, sym, ◌⊎◌, inl, inr}
 use Rattle.std.specs.Prelude.{Contains}
 use Rattle.std.proofs.lemmas.List.{drop-drop}
+use Rattle.std.specs.List.{sum_by}
 use Rattle.std.proofs.lemmas.List.Sums.{sum_by-cons, sum_by-take-drop}
 use Rattle.image_format.specs.declared.records.TaskRecord.{TaskRecord}
 use Rattle.image_format.specs.declared.records.RegionRecord.{RegionRecord}
 use Rattle.region_check.specs.declared.Region.{Region}
+use Rattle.image_format.specs.Names.{after_name, after_names, names_of}
 use Rattle.image_format.specs.Picture.{no_task, region_of, task_of, tasks_of}
 use Rattle.image_format.specs.Steps.{counted}
 use Rattle.image_format.proofs.Chunks.{blank, counted_step}
@@ -16,11 +18,40 @@ own_at [] rs i = []
 own_at (t ∷ ts) rs zero = take t.regions rs
 own_at (t ∷ ts) rs (suc i) = own_at ts (drop t.regions rs) i
 
-pub task_looked : (ts : List TaskRecord) (rs : List RegionRecord) (i : ℕ) → i < length ts
-    → get_or (tasks_of ts rs) i no_task ≡ task_of (get_or ts i blank) (own_at ts rs i)
-task_looked [] rs i lt = absurd (omega (arith, lt))
-task_looked (t ∷ ts) rs zero lt = refl
-task_looked (t ∷ ts) rs (suc i) lt = task_looked ts (drop t.regions rs) i (omega (arith, lt))
+-- the i-th task's names
+abbrev pub names_at : List TaskRecord → List ℕ → ℕ → List (List ℕ)
+names_at [] ns i = []
+names_at (t ∷ ts) ns zero = names_of t.names ns
+names_at (t ∷ ts) ns (suc i) = names_at ts (after_names t.names ns) i
+
+pub task_looked : (ts : List TaskRecord) (rs : List RegionRecord) (ns : List ℕ) (i : ℕ) → i < length ts
+    → get_or (tasks_of ts rs ns) i no_task ≡ task_of (get_or ts i blank) (own_at ts rs i) (names_at ts ns i)
+task_looked [] rs ns i lt = absurd (omega (arith, lt))
+task_looked (t ∷ ts) rs ns zero lt = refl
+task_looked (t ∷ ts) rs ns (suc i) lt = task_looked ts (drop t.regions rs) (after_names t.names ns) i (omega (arith, lt))
+
+after_both : (n m : ℕ) (ns : List ℕ) → after_names m (after_names n ns) ≡ after_names (n + m) ns
+after_both zero m ns = let e : zero + m ≡ m = omega arith in ap (λ (k : ℕ). after_names k ns) (sym e)
+after_both (suc n) m ns = let e : suc n + m ≡ suc (n + m) = omega arith in after_both n m (after_name ns) ∙ ap (λ (k : ℕ). after_names k ns) (sym e)
+
+-- they follow those of the tasks before
+pub names_sliced : (ts : List TaskRecord) (ns : List ℕ) (i : ℕ) → i < length ts
+    → names_at ts ns i ≡ names_of (get_or ts i blank).names (after_names (sum_by (λ (t : TaskRecord). t.names) (take i ts)) ns)
+names_sliced [] ns i lt = absurd (omega (arith, lt))
+names_sliced (t ∷ ts) ns zero lt = refl
+names_sliced (t ∷ ts) ns (suc i) lt =
+    let sum = sum_by-cons (λ (t : TaskRecord). t.names) t (take i ts) in
+    names_sliced ts (after_names t.names ns) i (omega (arith, lt))
+    ∙ ap (names_of (get_or ts i blank).names) (after_both t.names (sum_by (λ (t : TaskRecord). t.names) (take i ts)) ns ∙ ap (λ (k : ℕ). after_names k ns) (sym sum))
+
+pub names_looked : (ts : List TaskRecord) (rs : List RegionRecord) (ns : List ℕ) (i : ℕ) → (get_or (tasks_of ts rs ns) i no_task).names ≡ names_at ts ns i
+names_looked [] rs ns i = past i
+  where
+    past : (i : ℕ) → (get_or [] i no_task).names ≡ []
+    past zero = refl
+    past (suc i) = refl
+names_looked (t ∷ ts) rs ns zero = refl
+names_looked (t ∷ ts) rs ns (suc i) = names_looked ts (drop t.regions rs) (after_names t.names ns) i
 
 pub own_sliced : (ts : List TaskRecord) (rs : List RegionRecord) (i : ℕ) → i < length ts
     → own_at ts rs i ≡ take (get_or ts i blank).regions (drop (counted (take i ts)) rs)
@@ -74,19 +105,19 @@ in_own [] rs i r h = absurd h
 in_own (t ∷ ts) rs zero r h = in_take t.regions rs r h
 in_own (t ∷ ts) rs (suc i) r h = in_drop t.regions rs r (in_own ts (drop t.regions rs) i r h)
 
-pub regions_looked : (ts : List TaskRecord) (rs : List RegionRecord) (i : ℕ) → (get_or (tasks_of ts rs) i no_task).regions ≡ map region_of (own_at ts rs i)
-regions_looked [] rs i = past i
+pub regions_looked : (ts : List TaskRecord) (rs : List RegionRecord) (ns : List ℕ) (i : ℕ) → (get_or (tasks_of ts rs ns) i no_task).regions ≡ map region_of (own_at ts rs i)
+regions_looked [] rs ns i = past i
   where
     past : (i : ℕ) → (get_or [] i no_task).regions ≡ []
     past zero = refl
     past (suc i) = refl
-regions_looked (t ∷ ts) rs zero = refl
-regions_looked (t ∷ ts) rs (suc i) = regions_looked ts (drop t.regions rs) i
+regions_looked (t ∷ ts) rs ns zero = refl
+regions_looked (t ∷ ts) rs ns (suc i) = regions_looked ts (drop t.regions rs) (after_names t.names ns) i
 
 -- the record that a region of a task comes from
-pub region_source : (ts : List TaskRecord) (rs : List RegionRecord) (i : ℕ) (r : Region)
-    → Contains (get_or (tasks_of ts rs) i no_task).regions r → (q : RegionRecord) × (In q rs) × (region_of q ≡ r)
-region_source ts rs i r c =
-    let h : In r (map region_of (own_at ts rs i)) = subst (In r) (regions_looked ts rs i) (in_list (get_or (tasks_of ts rs) i no_task).regions r c) in
+pub region_source : (ts : List TaskRecord) (rs : List RegionRecord) (ns : List ℕ) (i : ℕ) (r : Region)
+    → Contains (get_or (tasks_of ts rs ns) i no_task).regions r → (q : RegionRecord) × (In q rs) × (region_of q ≡ r)
+region_source ts rs ns i r c =
+    let h : In r (map region_of (own_at ts rs i)) = subst (In r) (regions_looked ts rs ns i) (in_list (get_or (tasks_of ts rs ns) i no_task).regions r c) in
     let m = in_map region_of (own_at ts rs i) r h in
     (m.0, in_own ts rs i m.0 m.1, m.2)

@@ -1,11 +1,13 @@
 -- The records of an accepted image are those that say its picture.
-use Rattle.std.proofs.Common.{◌≡◌, ◌∙◌, ◌+◌, ◌*◌, ◌%◌, ◌<◌, ◌≤◌, ℕ, List, [], ◌∷◌, ◌++◌, Bool, true, false, not, ◌||◌, ◌&&◌, ◌==◌, None, length, take, drop, map, nat_le, nat_lt, ◌⊎◌, inl, inr, arith, ap, ap₂, refl, sym, subst, length-drop}
+use Rattle.std.proofs.Common.{◌≡◌, ◌∙◌, ◌+◌, ◌*◌, ◌%◌, ◌<◌, ◌≤◌, ℕ, zero, suc, List, All, [], ◌∷◌, ◌++◌, Bool, true, false, not, ◌||◌, ◌&&◌, ◌==◌, None, length, take, drop, map, nat_le, nat_lt, ◌⊎◌, inl, inr, arith, ap, ap₂, refl, sym, subst, length-drop}
 use Rattle.std.specs.List.{list_any}
 use Rattle.std.proofs.Math.Seq.{drop-append_seam, take-append_seam}
 use Rattle.std.proofs.lemmas.Bool.{eqb-true}
 use Rattle.std.proofs.lemmas.Bool.Decides.{nat_tests}
 use Rattle.std.proofs.lemmas.List.{length-map, length-take, map-append, take-append-drop}
 use Rattle.std.proofs.lemmas.List.Sums.{sum_by-cons}
+use Rattle.image_format.specs.declared.records.Form.{Form}
+use Rattle.image_format.specs.declared.records.Form.TheVariants.{First, Second}
 use Rattle.image_format.specs.declared.records.Header.{Header}
 use Rattle.image_format.specs.declared.records.TaskRecord.{TaskRecord}
 use Rattle.image_format.specs.declared.records.RegionRecord.{RegionRecord}
@@ -13,11 +15,14 @@ use Rattle.image_format.specs.declared.records.LineRecord.{LineRecord}
 use Rattle.region_check.specs.declared.Region.{Region}
 use Rattle.region_check.specs.declared.Rights.{Rights}
 use Rattle.image_format.specs.Accepted.{Accepted}
-use Rattle.image_format.specs.Picture.{LinePicture, Picture, TaskPicture, all_regions, bit, line_of, line_record, picture_of, records_of, region_of, region_record, rights_number, rights_of, task_of, task_record, tasks_of}
+use Rattle.image_format.specs.Picture.{LinePicture, Picture, Sound, TaskPicture, all_names, all_regions, bit, line_of, line_record, picture_of, records_of, region_of, region_record, rights_number, rights_of, task_of, task_record, tasks_of}
+use Rattle.image_format.specs.Names.{after_name, after_names, names_of}
 use Rattle.image_format.specs.Records.{Records}
 use Rattle.image_format.specs.Regions.{clashes, has_area, has_rights, has_shape, own_fault, region_fault, regions_from}
-use Rattle.image_format.specs.Steps.{counted, line_fault, lines_from, task_fault, tasks_from}
-use Rattle.image_format.proofs.Limits.{above, all_counted, or_false, positive, row_none}
+use Rattle.image_format.specs.Steps.{counted, header_size, highest_line, line_fault, lines_from, lines_place, most_names, names_place, regions_place, task_fault, tasks_from}
+use Rattle.image_format.proofs.Limits.{above, all_counted, limits, positive, row_none}
+use Rattle.image_format.proofs.Moved.{line_rows}
+use Rattle.image_format.proofs.Named.{all_names_again, names_after, names_back}
 use Rattle.image_format.proofs.Passed.{both_none, passed_steps}
 
 -- ---- tests
@@ -35,26 +40,23 @@ or_cases false b e = inr e
 
 -- ---- what the step says of a task
 
-pub record IsTask (index : ℕ) (t : TaskRecord) : Type 0 where
+pub record IsTask (form : Form) (index : ℕ) (t : TaskRecord) : Type 0 where
   pub supervisor : index ≡ 0 → t.priority ≡ 0
   pub others : 0 < index → 0 < t.priority
   pub flags : t.flags ≤ 1
   pub started : index ≡ 0 → t.flags ≡ 1
   pub some_region : 1 ≤ t.regions
   pub most_regions : t.regions ≤ 8
-  pub zero_byte : t.zero ≡ 0
+  pub most_names : t.names ≤ most_names form
   pub stack : t.sp % 4 ≡ 0
 
-pub is_task : (index : ℕ) (t : TaskRecord) (place : ℕ) → task_fault index t place ≡ None → IsTask index t
-is_task index t place e =
+pub is_task : (form : Form) (index : ℕ) (t : TaskRecord) (place : ℕ) → task_fault form index t place ≡ None → IsTask form index t
+is_task form index t place e =
     let a = row_none ((index == 0 && not (t.priority == 0)) || (not (index == 0) && t.priority == 0)) _ _ e in
     let b = row_none (nat_lt 1 t.flags || (index == 0 && not (t.flags == 1))) _ _ a.1 in
     let c = row_none (nat_lt t.regions 1 || nat_lt 8 t.regions) _ _ b.1 in
-    let d = row_none (not (t.zero == 0)) _ _ c.1 in
+    let d = row_none (nat_lt (most_names form) t.names) _ _ c.1 in
     let f = row_none (not (t.sp % 4 == 0)) _ _ d.1 in
-    let priority = a.0 in
-    let flags = b.0 in
-    let regions = c.0 in
     record {
       supervisor = supervisor index t.priority a.0;
       others = others index t.priority a.0;
@@ -62,7 +64,7 @@ is_task index t place e =
       started = started index t.flags b.0;
       some_region = some t.regions c.0;
       most_regions = most t.regions c.0;
-      zero_byte = equals t.zero 0 d.0;
+      most_names = above (most_names form) t.names d.0;
       stack = equals (t.sp % 4) 0 f.0;
     }
   where
@@ -166,94 +168,115 @@ regions_again h (r ∷ rs) g = ap₂ (λ x xs. x ∷ xs) (region_again h r g.0) 
 
 -- ---- tasks
 
-pub tasks_length : (ts : List TaskRecord) (rs : List RegionRecord) → length (tasks_of ts rs) ≡ length ts
-tasks_length [] rs = refl
-tasks_length (t ∷ ts) rs = omega (arith, tasks_length ts (drop t.regions rs))
+pub tasks_length : (ts : List TaskRecord) (rs : List RegionRecord) (ns : List ℕ) → length (tasks_of ts rs ns) ≡ length ts
+tasks_length [] rs ns = refl
+tasks_length (t ∷ ts) rs ns = omega (arith, tasks_length ts (drop t.regions rs) (after_names t.names ns))
 
-all_again : (ts : List TaskRecord) (rs : List RegionRecord) → counted ts ≡ length rs → all_regions (tasks_of ts rs) ≡ map region_of rs
-all_again [] rs e = sym (ap (map region_of) (nothing_left rs e))
-all_again (t ∷ ts) rs e =
-    ap (λ (xs : List Region). map region_of (take t.regions rs) ++ xs) (all_again ts (drop t.regions rs) (rest_counted t ts rs e).1)
+all_again : (ts : List TaskRecord) (rs : List RegionRecord) (ns : List ℕ) → counted ts ≡ length rs → all_regions (tasks_of ts rs ns) ≡ map region_of rs
+all_again [] rs ns e = sym (ap (map region_of) (nothing_left rs e))
+all_again (t ∷ ts) rs ns e =
+    ap (λ (xs : List Region). map region_of (take t.regions rs) ++ xs) (all_again ts (drop t.regions rs) (after_names t.names ns) (rest_counted t ts rs e).1)
     ∙ sym (map-append region_of (take t.regions rs) (drop t.regions rs)) ∙ ap (map region_of) (take-append-drop t.regions rs)
 
 flag_again : (n : ℕ) → n ≤ 1 → bit (n == 1) 1 ≡ n
 flag_again n le = grind (arith, nat_tests)
 
-same_task : (t : TaskRecord) (f n z : ℕ) → f ≡ t.flags → n ≡ t.regions → z ≡ t.zero
-    → ◌≡◌ {A = TaskRecord} (record { priority = t.priority; flags = f; regions = n; zero = z; entry = t.entry; sp = t.sp }) t
+same_task : (t : TaskRecord) (f n z : ℕ) → f ≡ t.flags → n ≡ t.regions → z ≡ t.names
+    → ◌≡◌ {A = TaskRecord} (record { priority = t.priority; flags = f; regions = n; names = z; entry = t.entry; sp = t.sp }) t
 same_task t f n z a b c = rw (a, b, c) refl
 
-task_again : (index : ℕ) (t : TaskRecord) (own : List RegionRecord) → IsTask index t → length own ≡ t.regions → task_record (task_of t own) ≡ t
-task_again index t own g e = same_task t _ _ _ (flag_again t.flags g.flags) (length-map own region_of ∙ e) (sym g.zero_byte)
+-- so many names are there
+pub names_length : (n : ℕ) (bytes : List ℕ) → length (names_of n bytes) ≡ n
+names_length zero bytes = refl
+names_length (suc n) bytes = omega (arith, names_length n (after_name bytes))
 
-tasks_again : (index place : ℕ) (ts : List TaskRecord) (rs : List RegionRecord) → counted ts ≡ length rs → tasks_from index place ts ≡ None
-    → map task_record (tasks_of ts rs) ≡ ts
-tasks_again index place [] rs n e = refl
-tasks_again index place (t ∷ ts) rs n e =
-    let a = both_none (task_fault index t place) (tasks_from (index + 1) (place + 12) ts) e in
+task_again : (form : Form) (index : ℕ) (t : TaskRecord) (own : List RegionRecord) (ns : List ℕ) → IsTask form index t → length own ≡ t.regions → task_record (task_of t own (names_of t.names ns)) ≡ t
+task_again form index t own ns g e = same_task t _ _ _ (flag_again t.flags g.flags) (length-map own region_of ∙ e) (names_length t.names ns)
+
+tasks_again : (form : Form) (index place : ℕ) (ts : List TaskRecord) (rs : List RegionRecord) (ns : List ℕ) → counted ts ≡ length rs → tasks_from form index place ts ≡ None
+    → map task_record (tasks_of ts rs ns) ≡ ts
+tasks_again form index place [] rs ns n e = refl
+tasks_again form index place (t ∷ ts) rs ns n e =
+    let a = both_none (task_fault form index t place) (tasks_from form (index + 1) (place + 12) ts) e in
     let c = rest_counted t ts rs n in
-    ap₂ (λ x xs. x ∷ xs) (task_again index t (take t.regions rs) (is_task index t place a.0) c.0)
-    (tasks_again (index + 1) (place + 12) ts (drop t.regions rs) c.1 a.1)
+    ap₂ (λ x xs. x ∷ xs) (task_again form index t (take t.regions rs) ns (is_task form index t place a.0) c.0)
+    (tasks_again form (index + 1) (place + 12) ts (drop t.regions rs) (after_names t.names ns) c.1 a.1)
 
 -- ---- interrupts
 
-pub record IsLine (least tasks : ℕ) (l : LineRecord) : Type 0 where
-  pub most : l.line ≤ 31
+pub record IsLine (form : Form) (least tasks : ℕ) (l : LineRecord) : Type 0 where
+  pub most : l.line ≤ highest_line form
   pub least_line : least ≤ l.line
   pub owner : l.task < tasks
   pub zero_half : l.zero ≡ 0
   pub bits : 0 < l.bits
 
-pub is_line : (least tasks : ℕ) (l : LineRecord) (place : ℕ) → line_fault least tasks l place ≡ None → IsLine least tasks l
-is_line least tasks l place e =
-    let a = row_none (nat_lt 31 l.line || nat_lt l.line least) _ _ e in
-    let b = row_none (nat_le tasks l.task) _ _ a.1 in
-    let c = row_none (not (l.zero == 0)) _ _ b.1 in
-    let d = row_none (l.bits == 0) _ _ c.1 in
-    let line = or_false (nat_lt 31 l.line) (nat_lt l.line least) a.0 in
+below : (n m : ℕ) → nat_le n m ≡ false → m < n
+below n m e = grind (arith, nat_tests)
+
+pub is_line : (form : Form) (least tasks : ℕ) (l : LineRecord) (place : ℕ) → line_fault form least tasks l place ≡ None → IsLine form least tasks l
+is_line form least tasks l place e =
+    let rows = line_rows form least tasks l place e in
     record {
-      most = above 31 l.line line.0;
-      least_line = above l.line least line.1;
-      owner = below tasks l.task b.0;
-      zero_half = equals l.zero 0 c.0;
-      bits = positive l.bits d.0;
+      most = above (highest_line form) l.line rows.0;
+      least_line = above l.line least rows.1.low;
+      owner = below tasks l.task rows.1.owner;
+      zero_half = equals l.zero 0 rows.1.zero_half;
+      bits = positive l.bits rows.1.bits;
     }
-  where
-    below : (n m : ℕ) → nat_le n m ≡ false → m < n
-    below n m e = grind (arith, nat_tests)
 
 line_again : (l : LineRecord) → l.zero ≡ 0 → line_record (line_of l) ≡ l
 line_again l e = ap (λ (n : ℕ). record l { zero = n }) (sym e)
 
-lines_again : (least tasks place : ℕ) (ls : List LineRecord) → lines_from least tasks place ls ≡ None → map line_record (map line_of ls) ≡ ls
-lines_again least tasks place [] e = refl
-lines_again least tasks place (l ∷ ls) e =
-    let a = both_none (line_fault least tasks l place) (lines_from (l.line + 1) tasks (place + 8) ls) e in
-    ap₂ (λ x xs. x ∷ xs) (line_again l (is_line least tasks l place a.0).zero_half) (lines_again (l.line + 1) tasks (place + 8) ls a.1)
+lines_again : (form : Form) (least tasks place : ℕ) (ls : List LineRecord) → lines_from form least tasks place ls ≡ None → map line_record (map line_of ls) ≡ ls
+lines_again form least tasks place [] e = refl
+lines_again form least tasks place (l ∷ ls) e =
+    let a = both_none (line_fault form least tasks l place) (lines_from form (l.line + 1) tasks (place + 8) ls) e in
+    ap₂ (λ x xs. x ∷ xs) (line_again l (is_line form least tasks l place a.0).zero_half) (lines_again form (l.line + 1) tasks (place + 8) ls a.1)
+
+-- no interrupt has another zero than 0
+pub no_zeros : (form : Form) (least tasks place : ℕ) (ls : List LineRecord) → lines_from form least tasks place ls ≡ None → All (λ l. l.zero ≡ 0) ls
+no_zeros form least tasks place [] e k d lt = absurd (omega (arith, lt))
+no_zeros form least tasks place (l ∷ ls) e zero d lt =
+    (is_line form least tasks l place (both_none (line_fault form least tasks l place) (lines_from form (l.line + 1) tasks (place + 8) ls) e).0).zero_half
+no_zeros form least tasks place (l ∷ ls) e (suc k) d lt =
+    no_zeros form (l.line + 1) tasks (place + 8) ls (both_none (line_fault form least tasks l place) (lines_from form (l.line + 1) tasks (place + 8) ls) e).1 k d (omega (arith, lt))
 
 -- ---- the whole
 
-same_records : (r : Records) (t l g f : ℕ) (ts : List TaskRecord) (rs : List RegionRecord) (ls : List LineRecord)
-    → t ≡ r.header.tasks → l ≡ r.header.lines → g ≡ r.header.regions → f ≡ r.header.flash → ts ≡ r.tasks → rs ≡ r.regions → ls ≡ r.lines
-    → ◌≡◌ {A = Records} (record { header = record { tasks = t; lines = l; regions = g; flash = f; ram = r.header.ram; bits = r.header.bits }; tasks = ts; regions = rs; lines = ls; flash = r.flash }) r
-same_records r t l g f ts rs ls a b c d x y z = rw (a, b, c, d, x, y, z) refl
+same_records : (r : Records) (t l g z f n : ℕ) (ts : List TaskRecord) (rs : List RegionRecord) (ls : List LineRecord) (ns : List ℕ)
+    → t ≡ r.header.tasks → l ≡ r.header.lines → g ≡ r.header.regions → z ≡ r.header.zero → f ≡ r.header.flash → n ≡ r.header.names → ts ≡ r.tasks → rs ≡ r.regions → ls ≡ r.lines → ns ≡ r.names
+    → ◌≡◌ {A = Records} (record {
+      header = record { form = r.header.form; tasks = t; lines = l; regions = g; zero = z; flash = f; ram = r.header.ram; bits = r.header.bits; names = n };
+      tasks = ts; regions = rs; lines = ls; names = ns; flash = r.flash
+    }) r
+same_records r t l g z f n ts rs ls ns a b c d e h x y u v = rw (a, b, c, d, e, h, x, y, u, v) refl
 
 pub counts : (r : Records) → Accepted r → counted r.tasks ≡ length r.regions
 counts r a = all_counted r.header r.tasks (passed_steps r a.records).count ∙ sym a.regions
 
-pub shape_again : (r : Records) → Accepted r → records_of (picture_of r) ≡ r
-shape_again r a =
+pub shape_again : (r : Records) → Accepted r → r.header.zero ≡ 0 → records_of r.header.form (picture_of r) ≡ r
+shape_again r a nothing =
+    let h = r.header in
     let s = passed_steps r a.records in
     let n = counts r a in
-    let all = all_again r.tasks r.regions n in
-    same_records r _ _ _ _ _ _ _ (tasks_length r.tasks r.regions ∙ a.tasks) (length-map r.lines line_of ∙ a.lines)
-    (ap length all ∙ length-map r.regions region_of ∙ a.regions) a.flash
-    (tasks_again 0 20 r.tasks r.regions n s.tasks)
-    (ap (map region_record) all ∙ regions_again r.header r.regions (every_region r.header [] (20 + 12 * r.header.tasks) r.tasks r.regions n s.regions))
-    (lines_again 0 r.header.tasks _ r.lines s.lines)
+    let all = all_again r.tasks r.regions r.names n in
+    let names = all_names_again (names_place h + length r.names) r.tasks r.regions r.names s.names in
+    same_records r _ _ _ _ _ _ _ _ _ _ (tasks_length r.tasks r.regions r.names ∙ a.tasks) (length-map r.lines line_of ∙ a.lines)
+    (ap length all ∙ length-map r.regions region_of ∙ a.regions) (sym nothing) a.flash (ap length names ∙ a.names)
+    (tasks_again h.form 0 (header_size h.form) r.tasks r.regions r.names n s.tasks)
+    (ap (map region_record) all ∙ regions_again h r.regions (every_region h [] (regions_place h) r.tasks r.regions n s.regions))
+    (lines_again h.form 0 h.tasks (lines_place h) r.lines s.lines)
+    names
 
-pub sound_picture : (r : Records) → Accepted r → Accepted (records_of (picture_of r))
-sound_picture r a = subst Accepted (sym (shape_again r a)) a
+-- records of the second form are those of their picture
+pub second_again : (r : Records) → r.header.form ≡ Second → Accepted r → records_of Second (picture_of r) ≡ r
+second_again r is a =
+    let nothing = ((limits r.header a.fields).second is).0 in
+    ap (λ (f : Form). records_of f (picture_of r)) (sym is) ∙ shape_again r a nothing
+
+pub sound_picture : (r : Records) → r.header.form ≡ Second → Accepted r → Sound (picture_of r)
+sound_picture r is a = subst Accepted (sym (second_again r is a)) a
 
 -- ---- and the other way round, for each picture
 
@@ -297,17 +320,17 @@ behind : (xs ys : List Region) → drop (length xs) (map region_record (xs ++ ys
 behind xs ys = ap (drop (length xs)) (map-append region_record xs ys) ∙ ap (λ (n : ℕ). drop n (map region_record xs ++ map region_record ys)) (sym (length-map xs region_record))
     ∙ drop-append_seam (map region_record xs) (map region_record ys)
 
-same_picture : (t : TaskPicture) (b : Bool) (rs : List Region) → b ≡ t.started → rs ≡ t.regions → ◌≡◌ {A = TaskPicture} (record t { started = b; regions = rs }) t
-same_picture t b rs d e = rw (d, e) refl
+same_picture : (t : TaskPicture) (b : Bool) (rs : List Region) (ns : List (List ℕ)) → b ≡ t.started → rs ≡ t.regions → ns ≡ t.names → ◌≡◌ {A = TaskPicture} (record t { started = b; regions = rs; names = ns }) t
+same_picture t b rs ns d e f = rw (d, e, f) refl
 
-tasks_back : (ts : List TaskPicture) → tasks_of (map task_record ts) (map region_record (all_regions ts)) ≡ ts
+tasks_back : (ts : List TaskPicture) → tasks_of (map task_record ts) (map region_record (all_regions ts)) (all_names ts) ≡ ts
 tasks_back [] = refl
 tasks_back (t ∷ ts) =
-    ap₂ (λ x xs. x ∷ xs) (same_picture t _ _ (bit_again t.started) (ap (map region_of) (front t.regions (all_regions ts)) ∙ regions_back t.regions))
-    (ap (tasks_of (map task_record ts)) (behind t.regions (all_regions ts)) ∙ tasks_back ts)
+    ap₂ (λ x xs. x ∷ xs) (same_picture t _ _ _ (bit_again t.started) (ap (map region_of) (front t.regions (all_regions ts)) ∙ regions_back t.regions) (names_back t.names (all_names ts)))
+    (ap₂ (tasks_of (map task_record ts)) (behind t.regions (all_regions ts)) (names_after t.names (all_names ts)) ∙ tasks_back ts)
 
-pub picture_again : (p : Picture) → picture_of (records_of p) ≡ p
-picture_again p = same_parts (tasks_back p.tasks) (lines_back p.lines)
+pub picture_again : (form : Form) (p : Picture) → picture_of (records_of form p) ≡ p
+picture_again form p = same_parts (tasks_back p.tasks) (lines_back p.lines)
   where
     same_parts : {ts : List TaskPicture} {ls : List LinePicture} → ts ≡ p.tasks → ls ≡ p.lines → ◌≡◌ {A = Picture} (record p { tasks = ts; lines = ls }) p
     same_parts d e = rw (d, e) refl

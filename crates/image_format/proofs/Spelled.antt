@@ -1,12 +1,15 @@
 -- What is read is spelled so.
-use Rattle.std.proofs.Common.{◌≡◌, ◌∙◌, ◌+◌, ◌*◌, ◌/◌, ◌%◌, ◌<◌, ◌≤◌, ℕ, zero, suc, List, [], ◌∷◌, ◌++◌, Ok, Err, None, Some, Option, Result, length, drop, get_or, arith, ap, refl, sym, append_assoc, nat_lt, cond, ◌==◌, true, false, Bool, not, length-drop}
-use Rattle.std.proofs.lemmas.Bool.{ltb-false}
-use Rattle.std.proofs.lemmas.Bool.Decides.{nat_tests}
+use Rattle.std.proofs.Common.{◌≡◌, ◌∙◌, ◌+◌, ◌*◌, ◌/◌, ◌%◌, ◌<◌, ◌≤◌, ℕ, zero, suc, List, [], ◌∷◌, ◌++◌, Ok, Err, None, Some, Option, Result, length, drop, get_or, arith, ap, refl, sym, nat_lt, cond, ◌==◌, true, false, Bool, subst, take, length-drop}
+use Rattle.std.proofs.lemmas.Bool.{eqb-true, ltb-false}
 use Rattle.std.specs.List.{flat_map}
-use Rattle.std.proofs.lemmas.List.{drop-drop, get_or-drop, drop_more}
+use Rattle.std.proofs.lemmas.List.{drop-drop, get_or-drop, drop_more, take-append-drop}
+use Rattle.image_format.specs.declared.records.Form.{Form}
+use Rattle.image_format.specs.declared.records.Form.TheVariants.{First, Second}
 use Rattle.image_format.specs.declared.records.Header.{Header}
-use Rattle.image_format.specs.Records.{Records, bytes_of, flash_place, followed, half, half_bytes, header_at, header_bytes, header_front, header_or_fault, line_at, line_bytes, lines_at, num, num_bytes, records_at, records_fault, records_or_fault, region_at, region_bytes, regions_at, sized, task_at, task_bytes, tasks_at, total, unless}
-use Rattle.image_format.specs.Steps.{Refusal, field_fault, lines_place}
+use Rattle.image_format.specs.Records.{Records, bytes_of, flash_place, followed, form_at, half, half_bytes, header_at, header_bytes, header_bytes_in, header_in, header_or_fault, letters, line_at, line_bytes, lines_at, num, num_bytes, records_at, records_fault, records_or_fault, region_at, region_bytes, regions_at, sized, task_at, task_bytes, tasks_at, total, unless}
+use Rattle.image_format.specs.Steps.{Refusal, field_fault, header_size, lines_place, names_place, regions_place}
+use Rattle.image_format.proofs.Again.{IsPlain}
+use Rattle.image_format.proofs.Limits.{plain_header}
 
 abbrev pub IsBytes : List ℕ → Type 0
 IsBytes bytes = (i : ℕ) → get_or bytes i 0 < 256
@@ -56,22 +59,46 @@ region_spelled bytes le b =
     num_spelled bytes 0 (omega (arith, le)) b ∙ ap (λ (xs : List ℕ). num_bytes (num bytes 0) ++ xs)
     (num_spelled bytes 4 (omega (arith, le)) b ∙ ap (λ (xs : List ℕ). num_bytes (num bytes 4) ++ xs) (num_spelled bytes 8 (omega (arith, le)) b))
 
-line_spelled : (bytes : List ℕ) → 8 ≤ length bytes → IsBytes bytes → bytes ≡ line_bytes (line_at bytes) ++ drop 8 bytes
-line_spelled bytes le b =
+-- two bytes, and those after them
+half_spelled : (bytes : List ℕ) (k : ℕ) → k + 2 ≤ length bytes → IsBytes bytes → drop k bytes ≡ half_bytes (half bytes k) ++ drop (k + 2) bytes
+half_spelled bytes k le b =
+    let one = drop_more bytes k 0 (omega (arith, le)) in
+    let two = drop_more bytes (k + 1) 0 (omega (arith, le)) in
+    let to_two : (k + 1) + 1 ≡ k + 2 = omega arith in
+    one ∙ ap (λ (xs : List ℕ). get_or bytes k 0 ∷ xs) (two ∙ ap (λ (n : ℕ). get_or bytes (k + 1) 0 ∷ drop n bytes) to_two)
+    ∙ ap (λ (xs : List ℕ). xs ++ drop (k + 2) bytes) (sym (halves_again _ _ (b k) (b (k + 1))))
+
+line_spelled : (form : Form) (bytes : List ℕ) → 8 ≤ length bytes → IsBytes bytes → bytes ≡ line_bytes form (line_at form bytes) ++ drop 8 bytes
+line_spelled First bytes le b =
+    four bytes 0 (omega (arith, le)) ∙ ap (λ (xs : List ℕ). get_or bytes 0 0 ∷ get_or bytes 1 0 ∷ (xs ++ drop 4 bytes)) (sym (halves_again (get_or bytes 2 0) (get_or bytes 3 0) (b 2) (b 3)))
+    ∙ ap (λ (xs : List ℕ). (get_or bytes 0 0 ∷ get_or bytes 1 0 ∷ half_bytes (half bytes 2)) ++ xs) (num_spelled bytes 4 (omega (arith, le)) b)
+line_spelled Second bytes le b =
     four bytes 0 (omega (arith, le)) ∙ ap (λ (xs : List ℕ). get_or bytes 0 0 ∷ get_or bytes 1 0 ∷ (xs ++ drop 4 bytes)) (sym (halves_again (get_or bytes 2 0) (get_or bytes 3 0) (b 2) (b 3)))
     ∙ ap (λ (xs : List ℕ). (get_or bytes 0 0 ∷ get_or bytes 1 0 ∷ half_bytes (half bytes 2)) ++ xs) (num_spelled bytes 4 (omega (arith, le)) b)
 
-header_spelled : (bytes : List ℕ) → 20 ≤ length bytes → IsBytes bytes → num bytes 0 ≡ 826884680 → bytes ≡ header_bytes (header_at bytes) ++ drop 20 bytes
-unfolding header_front
-header_spelled bytes le b magic =
-    let first : drop 0 bytes ≡ (72 ∷ 66 ∷ 73 ∷ 49 ∷ []) ++ drop 4 bytes = num_spelled bytes 0 (omega (arith, le)) b ∙ ap (λ (n : ℕ). num_bytes n ++ drop 4 bytes) magic in
-    let second = four bytes 4 (omega (arith, le)) in
+letters_spelled : (f : Form) (bytes : List ℕ) → 4 ≤ length bytes → IsBytes bytes → num bytes 0 ≡ letters f → bytes ≡ num_bytes (letters f) ++ drop 4 bytes
+letters_spelled f bytes le b magic = num_spelled bytes 0 (omega (arith, le)) b ∙ ap (λ (n : ℕ). num_bytes n ++ drop 4 bytes) magic
+
+header_spelled : (f : Form) (bytes : List ℕ) → header_size f ≤ length bytes → IsBytes bytes → num bytes 0 ≡ letters f
+    → bytes ≡ header_bytes (header_at f bytes) ++ drop (header_size (header_at f bytes).form) bytes
+unfolding header_bytes_in
+header_spelled First bytes le b magic =
     let counts = halves_again (get_or bytes 6 0) (get_or bytes 7 0) (b 6) (b 7) in
-    first ∙ ap (λ (xs : List ℕ). (72 ∷ 66 ∷ 73 ∷ 49 ∷ []) ++ xs)
-    (second ∙ ap (λ (xs : List ℕ). get_or bytes 4 0 ∷ get_or bytes 5 0 ∷ (xs ++ drop 8 bytes)) (sym counts)
+    letters_spelled First bytes (omega (arith, le)) b magic ∙ ap (λ (xs : List ℕ). (72 ∷ 66 ∷ 73 ∷ 49 ∷ []) ++ xs)
+    (four bytes 4 (omega (arith, le))
+    ∙ ap (λ (xs : List ℕ). get_or bytes 4 0 ∷ get_or bytes 5 0 ∷ (xs ++ drop 8 bytes)) (sym counts)
     ∙ ap (λ (xs : List ℕ). (get_or bytes 4 0 ∷ get_or bytes 5 0 ∷ half_bytes (half bytes 6)) ++ xs)
     (num_spelled bytes 8 (omega (arith, le)) b ∙ ap (λ (xs : List ℕ). num_bytes (num bytes 8) ++ xs)
     (num_spelled bytes 12 (omega (arith, le)) b ∙ ap (λ (xs : List ℕ). num_bytes (num bytes 12) ++ xs) (num_spelled bytes 16 (omega (arith, le)) b))))
+header_spelled Second bytes le b magic =
+    letters_spelled Second bytes (omega (arith, le)) b magic ∙ ap (λ (xs : List ℕ). (72 ∷ 66 ∷ 73 ∷ 50 ∷ []) ++ xs)
+    (half_spelled bytes 4 (omega (arith, le)) b ∙ ap (λ (xs : List ℕ). half_bytes (half bytes 4) ++ xs)
+    (half_spelled bytes 6 (omega (arith, le)) b ∙ ap (λ (xs : List ℕ). half_bytes (half bytes 6) ++ xs)
+    (half_spelled bytes 8 (omega (arith, le)) b ∙ ap (λ (xs : List ℕ). half_bytes (half bytes 8) ++ xs)
+    (half_spelled bytes 10 (omega (arith, le)) b ∙ ap (λ (xs : List ℕ). half_bytes (half bytes 10) ++ xs)
+    (num_spelled bytes 12 (omega (arith, le)) b ∙ ap (λ (xs : List ℕ). num_bytes (num bytes 12) ++ xs)
+    (num_spelled bytes 16 (omega (arith, le)) b ∙ ap (λ (xs : List ℕ). num_bytes (num bytes 16) ++ xs)
+    (num_spelled bytes 20 (omega (arith, le)) b ∙ ap (λ (xs : List ℕ). num_bytes (num bytes 20) ++ xs) (num_spelled bytes 24 (omega (arith, le)) b))))))))
 
 rest_bytes : (k : ℕ) (bytes : List ℕ) → IsBytes bytes → IsBytes (drop k bytes)
 rest_bytes k bytes b i = omega (arith, get_or-drop k bytes i 0, b (k + i))
@@ -96,37 +123,42 @@ regions_spelled (suc n) bytes le b =
     region_spelled bytes (omega (arith, le)) b ∙ ap (λ (xs : List ℕ). region_bytes (region_at bytes) ++ xs)
     (regions_spelled n (drop 12 bytes) long (rest_bytes 12 bytes b) ∙ ap (λ (xs : List ℕ). more ++ xs) next)
 
-lines_spelled : (n : ℕ) (bytes : List ℕ) → 8 * n ≤ length bytes → IsBytes bytes → bytes ≡ flat_map line_bytes (lines_at n bytes) ++ drop (8 * n) bytes
-lines_spelled zero bytes le b = refl
-lines_spelled (suc n) bytes le b =
-    let more : List ℕ = flat_map line_bytes (lines_at n (drop 8 bytes)) in
+eight_more : (n : ℕ) (bytes : List ℕ) → drop (8 * n) (drop 8 bytes) ≡ drop (8 * suc n) bytes
+eight_more n bytes = let e : 8 + 8 * n ≡ 8 * suc n = omega arith in drop-drop (8 * n) 8 bytes ∙ ap (λ (k : ℕ). drop k bytes) e
+
+lines_spelled : (form : Form) (n : ℕ) (bytes : List ℕ) → 8 * n ≤ length bytes → IsBytes bytes → bytes ≡ flat_map (line_bytes form) (lines_at form n bytes) ++ drop (8 * n) bytes
+lines_spelled form zero bytes le b = refl
+lines_spelled First (suc n) bytes le b =
+    let more : List ℕ = flat_map (line_bytes First) (lines_at First n (drop 8 bytes)) in
     let long : 8 * n ≤ length (drop 8 bytes) = omega (arith, le, length-drop 8 bytes) in
-    let next : drop (8 * n) (drop 8 bytes) ≡ drop (8 * suc n) bytes =
-    let e : 8 + 8 * n ≡ 8 * suc n = omega arith in drop-drop (8 * n) 8 bytes ∙ ap (λ (k : ℕ). drop k bytes) e in
-    line_spelled bytes (omega (arith, le)) b ∙ ap (λ (xs : List ℕ). line_bytes (line_at bytes) ++ xs)
-    (lines_spelled n (drop 8 bytes) long (rest_bytes 8 bytes b) ∙ ap (λ (xs : List ℕ). more ++ xs) next)
+    line_spelled First bytes (omega (arith, le)) b ∙ ap (λ (xs : List ℕ). line_bytes First (line_at First bytes) ++ xs)
+    (lines_spelled First n (drop 8 bytes) long (rest_bytes 8 bytes b) ∙ ap (λ (xs : List ℕ). more ++ xs) (eight_more n bytes))
+lines_spelled Second (suc n) bytes le b =
+    let more : List ℕ = flat_map (line_bytes Second) (lines_at Second n (drop 8 bytes)) in
+    let long : 8 * n ≤ length (drop 8 bytes) = omega (arith, le, length-drop 8 bytes) in
+    line_spelled Second bytes (omega (arith, le)) b ∙ ap (λ (xs : List ℕ). line_bytes Second (line_at Second bytes) ++ xs)
+    (lines_spelled Second n (drop 8 bytes) long (rest_bytes 8 bytes b) ∙ ap (λ (xs : List ℕ). more ++ xs) (eight_more n bytes))
 
 -- the parts at their places, spelled
-parts_spelled : (bytes : List ℕ) → IsBytes bytes → num bytes 0 ≡ 826884680 → length bytes ≡ total (header_at bytes) → bytes ≡ bytes_of (records_at (header_at bytes) bytes)
-parts_spelled bytes b magic long =
-    let h = header_at bytes in
-    let t = 20 + 12 * h.tasks in
+parts_spelled : (h : Header) (bytes : List ℕ) → IsBytes bytes → bytes ≡ header_bytes h ++ drop (header_size h.form) bytes → length bytes ≡ total h → bytes ≡ bytes_of (records_at h bytes)
+parts_spelled h bytes b one long =
+    let size = header_size h.form in
+    let t = regions_place h in
     let r = lines_place h in
-    let n = flash_place h in
+    let l = names_place h in
     let front = header_bytes h in
-    let ts = flat_map task_bytes (tasks_at h.tasks (drop 20 bytes)) in
+    let ts = flat_map task_bytes (tasks_at h.tasks (drop size bytes)) in
     let rs = flat_map region_bytes (regions_at h.regions (drop t bytes)) in
-    let ls = flat_map line_bytes (lines_at h.lines (drop r bytes)) in
-    let flash = drop n bytes in
-    let one : bytes ≡ front ++ drop 20 bytes = header_spelled bytes (omega (arith, long)) b magic in
-    let two : drop 20 bytes ≡ ts ++ drop t bytes = tasks_spelled h.tasks (drop 20 bytes) (omega (arith, long, length-drop 20 bytes)) (rest_bytes 20 bytes b)
-    ∙ ap (λ (xs : List ℕ). ts ++ xs) (drop-drop (12 * h.tasks) 20 bytes) in
+    let ls = flat_map (line_bytes h.form) (lines_at h.form h.lines (drop r bytes)) in
+    let names = take h.names (drop l bytes) in
+    let two : drop size bytes ≡ ts ++ drop t bytes = tasks_spelled h.tasks (drop size bytes) (omega (arith, long, length-drop size bytes)) (rest_bytes size bytes b)
+    ∙ ap (λ (xs : List ℕ). ts ++ xs) (drop-drop (12 * h.tasks) size bytes) in
     let three : drop t bytes ≡ rs ++ drop r bytes = regions_spelled h.regions (drop t bytes) (omega (arith, long, length-drop t bytes)) (rest_bytes t bytes b)
     ∙ ap (λ (xs : List ℕ). rs ++ xs) (drop-drop (12 * h.regions) t bytes) in
-    let four : drop r bytes ≡ ls ++ flash = lines_spelled h.lines (drop r bytes) (omega (arith, long, length-drop r bytes)) (rest_bytes r bytes b)
+    let four : drop r bytes ≡ ls ++ drop l bytes = lines_spelled h.form h.lines (drop r bytes) (omega (arith, long, length-drop r bytes)) (rest_bytes r bytes b)
     ∙ ap (λ (xs : List ℕ). ls ++ xs) (drop-drop (8 * h.lines) r bytes) in
-    one ∙ ap (λ (xs : List ℕ). front ++ xs) (two ∙ ap (λ (xs : List ℕ). ts ++ xs) (three ∙ ap (λ (xs : List ℕ). rs ++ xs) four))
-    ∙ sym (append_assoc (front ++ ts ++ rs) ls flash ∙ append_assoc (front ++ ts) rs (ls ++ flash) ∙ append_assoc front ts (rs ++ (ls ++ flash)))
+    let five : drop l bytes ≡ names ++ drop (flash_place h) bytes = sym (take-append-drop h.names (drop l bytes)) ∙ ap (λ (xs : List ℕ). names ++ xs) (drop-drop h.names l bytes) in
+    one ∙ ap (λ (xs : List ℕ). front ++ xs) (two ∙ ap (λ (xs : List ℕ). ts ++ xs) (three ∙ ap (λ (xs : List ℕ). rs ++ xs) (four ∙ ap (λ (xs : List ℕ). ls ++ xs) five)))
 
 taken : {T : Type 0} (test : Bool) (fault : Refusal) (x : Result T Refusal) (p : T) → cond test (Err fault) x ≡ Ok p → (test ≡ false) × (x ≡ Ok p)
 taken true fault x p e = cc
@@ -139,39 +171,64 @@ passed (Some fault) x p e = cc
 same_ok : {T : Type 0} (p q : T) → ◌≡◌ {A = Result T Refusal} (Ok p) (Ok q) → p ≡ q
 same_ok p q e = cc
 
-is_magic : (n : ℕ) → not (n == 826884680) ≡ false → n ≡ 826884680
-is_magic n e = grind (arith, nat_tests)
+same_form : (f g : Form) → ◌≡◌ {A = Option Form} (Some f) (Some g) → f ≡ g
+same_form f g e = cc
+
+letters_of : (n : ℕ) (f : Form) → cond (n == 826884680) (Some First) (cond (n == 843661896) (Some Second) None) ≡ Some f → n ≡ letters f
+letters_of n f e = by (n == 826884680) (n == 843661896) refl refl e
+  where
+    by : (a b : Bool) → (n == 826884680) ≡ a → (n == 843661896) ≡ b → cond a (Some First) (cond b (Some Second) None) ≡ Some f → n ≡ letters f
+    by true b x y e = eqb-true n 826884680 x ∙ ap letters (same_form First f e)
+    by false true x y e = eqb-true n 843661896 y ∙ ap letters (same_form Second f e)
+    by false false x y e = cc
 
 -- what a header that is taken says of the bytes
 record Begins (bytes : List ℕ) (h : Header) : Type 0 where
-  header : header_at bytes ≡ h
-  magic : num bytes 0 ≡ 826884680
-  fields : field_fault (header_at bytes) ≡ None
-  long : length bytes ≡ total (header_at bytes)
+  form : Form
+  header : header_at form bytes ≡ h
+  magic : num bytes 0 ≡ letters form
+  long : length bytes ≡ total h
+  whole : header_size form ≤ length bytes
 
-begins : (bytes : List ℕ) (h : Header) → header_or_fault bytes ≡ Ok h → Begins bytes h
-begins bytes h e =
-    let g = header_at bytes in
+begins_in : (f : Form) (bytes : List ℕ) (h : Header) → num bytes 0 ≡ letters f → header_in (Some f) bytes ≡ Ok h → Begins bytes h
+begins_in f bytes h magic e =
+    let g = header_at f bytes in
     let n = length bytes in
-    let enough = taken (nat_lt n 20) _ _ h e in
-    let magic = taken (not (num bytes 0 == 826884680)) _ _ h enough.1 in
-    let fields = passed (field_fault g) (sized g n) h magic.1 in
+    let enough = taken (nat_lt n (header_size f)) _ _ h e in
+    let fields = passed (field_fault g) (sized g n) h enough.1 in
     let short = taken (nat_lt n (total g)) _ _ h fields.1 in
     let long = taken (nat_lt (total g) n) _ _ h short.1 in
-    record {
-      header = same_ok g h long.1;
-      magic = is_magic (num bytes 0) magic.0;
-      fields = fields.0;
-      long = omega (arith, ltb-false n (total g) short.0, ltb-false (total g) n long.0);
-    }
+    let same = same_ok g h long.1 in
+    let here : n ≡ total g = omega (arith, ltb-false n (total g) short.0, ltb-false (total g) n long.0) in
+    record { form = f; header = same; magic = magic; long = here ∙ ap total same; whole = ltb-false n (header_size f) enough.0 }
 
--- what is read is spelled so
-pub spelled : (bytes : List ℕ) (r : Records) → IsBytes bytes → records_or_fault bytes ≡ Ok r → bytes ≡ bytes_of r
-spelled bytes r b e = by_header (header_or_fault bytes) refl e
+begins : (bytes : List ℕ) (h : Header) → header_or_fault bytes ≡ Ok h → Begins bytes h
+begins bytes h e = by_form (form_at bytes) refl (taken (nat_lt (length bytes) 20) _ _ h e).1
   where
-    by_header : (x : Result Header Refusal) → header_or_fault bytes ≡ x → followed x bytes ≡ Ok r → bytes ≡ bytes_of r
+    by_form : (x : Option Form) → form_at bytes ≡ x → header_in x bytes ≡ Ok h → Begins bytes h
+    by_form (Some f) is ok = begins_in f bytes h (letters_of (num bytes 0) f is) ok
+    by_form None is ok = cc
+
+-- what is read is spelled so, and its header has 0 for what its form has not
+record Reads (bytes : List ℕ) (r : Records) : Type 0 where
+  spelled : bytes ≡ bytes_of r
+  plain : IsPlain r.header
+
+reads : (bytes : List ℕ) (r : Records) → IsBytes bytes → records_or_fault bytes ≡ Ok r → Reads bytes r
+reads bytes r b e = by_header (header_or_fault bytes) refl e
+  where
+    by_header : (x : Result Header Refusal) → header_or_fault bytes ≡ x → followed x bytes ≡ Ok r → Reads bytes r
     by_header (Ok h) is ok =
         let d = begins bytes h is in
         let last = passed (records_fault (records_at h bytes)) (Ok (records_at h bytes)) r ok in
-        parts_spelled bytes b d.magic d.long ∙ ap (λ (g : Header). bytes_of (records_at g bytes)) d.header ∙ ap bytes_of (same_ok (records_at h bytes) r last.1)
+        let same = same_ok (records_at h bytes) r last.1 in
+        let front : bytes ≡ header_bytes h ++ drop (header_size h.form) bytes =
+        subst (λ (g : Header). bytes ≡ header_bytes g ++ drop (header_size g.form) bytes) d.header (header_spelled d.form bytes d.whole b d.magic) in
+        record {
+          spelled = parts_spelled h bytes b front d.long ∙ ap bytes_of same;
+          plain = subst (λ (q : Records). IsPlain q.header) same (subst IsPlain d.header (plain_header d.form bytes));
+        }
     by_header (Err fault) is ok = cc
+
+pub spelled : (bytes : List ℕ) (r : Records) → IsBytes bytes → records_or_fault bytes ≡ Ok r → bytes ≡ bytes_of r
+spelled bytes r b e = (reads bytes r b e).spelled

@@ -1,26 +1,21 @@
 //! The checks of the header, of tasks and of interrupts.
 
 ghost use Rattle.std.specs.Prelude.{◌≡◌, ◌≤◌, ◌<◌, ◌+◌, ◌*◌, ◌^◌, length, None};
-ghost use Rattle.image_format.specs.Steps.{count_fault, field_fault, line_fault, lines_fault, task_fault, tasks_fault};
+ghost use Rattle.image_format.specs.declared.records.Form.TheVariants.{First, Second};
+ghost use Rattle.image_format.specs.Steps.{count_fault, count_place, field_fault, first_field_fault, line_fault, lines_fault, most_names, second_field_fault, task_fault, tasks_fault};
 
-use crate::records::{Header, LineRecord, TaskRecord};
+use crate::places::{header_size, lines_place};
+use crate::records::{Form, Header, LineRecord, TaskRecord};
 
-/// The most tasks and the most interrupts of an image.
-const MOST_TASKS: u8 = 32;
-
-const MOST_LINES: u8 = 32;
-
-/// The first field of the header that is refused: a cause and the place of a byte, None where none is.
-/// docs/FORMATS.md, Image.
-#[tactic(auto, unfolding(crate::specs::Steps::field_fault))]
-pub fn check_fields(h: &Header) -> Option<(u8, u32)>
-    ensures { result ≡ field_fault h.now }
+/// Of a header of the first form.
+fn check_first(h: &Header) -> Option<(u8, u32)>
+    ensures { result ≡ first_field_fault h.now }
 {
-    if h.tasks < 1 || h.tasks > MOST_TASKS {
+    if h.tasks < 1 || h.tasks > 32 {
         Some((3, 4))
-    } else if h.lines > MOST_LINES {
+    } else if h.lines > 32 {
         Some((3, 5))
-    } else if h.regions < u16::from(h.tasks) || h.regions > 8 * u16::from(h.tasks) {
+    } else if h.regions < h.tasks || h.regions > 8 * h.tasks {
         Some((3, 6))
     } else if h.flash < 1 || h.flash > 1_048_576 {
         Some((3, 8))
@@ -33,10 +28,57 @@ pub fn check_fields(h: &Header) -> Option<(u8, u32)>
     }
 }
 
+/// Of a header of the second form.
+fn check_second(h: &Header) -> Option<(u8, u32)>
+    ensures { result ≡ second_field_fault h.now }
+{
+    if h.tasks < 1 || h.tasks > 512 {
+        Some((3, 4))
+    } else if h.lines > 64 {
+        Some((3, 6))
+    } else if h.regions < h.tasks || h.regions > 8 * h.tasks {
+        Some((3, 8))
+    } else if h.zero != 0 {
+        Some((3, 10))
+    } else if h.flash < 1 || h.flash > 1_048_576 {
+        Some((3, 12))
+    } else if h.ram > 262_144 {
+        Some((3, 16))
+    } else if h.bits == 0 {
+        Some((3, 20))
+    } else if h.names > 409_600 {
+        Some((3, 24))
+    } else {
+        None
+    }
+}
+
+/// The first field of the header that is refused: a cause and the place of a byte, None where none is.
+/// docs/FORMATS.md, Image.
+#[tactic(auto, unfolding(crate::specs::Steps::field_fault))]
+pub fn check_fields(h: &Header) -> Option<(u8, u32)>
+    ensures { result ≡ field_fault h.now }
+{
+    match h.form {
+        Form::First => check_first(h),
+        Form::Second => check_second(h),
+    }
+}
+
+/// The most names that a task has.
+fn most_names(form: Form) -> u8
+    ensures { result ≡ most_names form }
+{
+    match form {
+        Form::First => 0,
+        Form::Second => 32,
+    }
+}
+
 /// Of one task's record, which lies at the place.
-fn check_task(index: usize, t: &TaskRecord, place: u32) -> Option<(u8, u32)>
+fn check_task(form: Form, index: usize, t: &TaskRecord, place: u32) -> Option<(u8, u32)>
     requires { place + 12 ≤ 2 ^ 32 }
-    ensures { result ≡ task_fault index t.now place }
+    ensures { result ≡ task_fault form index t.now place }
 {
     if (index == 0 && t.priority != 0) || (index != 0 && t.priority == 0) {
         Some((5, place))
@@ -44,7 +86,7 @@ fn check_task(index: usize, t: &TaskRecord, place: u32) -> Option<(u8, u32)>
         Some((6, place + 1))
     } else if t.regions < 1 || t.regions > 8 {
         Some((3, place + 2))
-    } else if t.zero != 0 {
+    } else if t.names > most_names(form) {
         Some((3, place + 3))
     } else if t.sp % 4 != 0 {
         Some((7, place + 8))
@@ -59,17 +101,28 @@ fn check_task(index: usize, t: &TaskRecord, place: u32) -> Option<(u8, u32)>
 pub fn check_tasks(h: &Header, tasks: &[TaskRecord]) -> Option<(u8, u32)>
     requires fields { field_fault h.now ≡ None }
     requires tasks { length tasks.now ≡ h.now.tasks }
-    ensures { result ≡ tasks_fault tasks.now }
+    ensures { result ≡ tasks_fault h.now tasks.now }
 {
-    let mut place = 20u32;
+    let form = h.form;
+    let mut place = header_size(form);
     for i in 0..tasks.len() {
-        let found = check_task(i, &tasks[i], place);
+        let found = check_task(form, i, &tasks[i], place);
         if found.is_some() {
             return found;
         }
         place += 12;
     }
     None
+}
+
+/// Where the header tells the number of regions.
+fn count_place(form: Form) -> u32
+    ensures { result ≡ count_place form }
+{
+    match form {
+        Form::First => 6,
+        Form::Second => 8,
+    }
 }
 
 /// Refuses where the tasks' numbers of regions do not sum to the header's.
@@ -85,16 +138,16 @@ pub fn check_count(h: &Header, tasks: &[TaskRecord]) -> Option<(u8, u32)>
         sum += u32::from(t.regions);
     }
     if sum != u32::from(h.regions) {
-        Some((3, 6))
+        Some((3, count_place(h.form)))
     } else {
         None
     }
 }
 
-/// Of one interrupt's record, which lies at the place; its line is to be at least so high.
-fn check_line(least: u16, tasks: u8, l: &LineRecord, place: u32) -> Option<(u8, u32)>
+/// Of one interrupt's record of the first form, which lies at the place; its line is to be at least so high.
+fn check_first_line(least: u16, tasks: u16, l: &LineRecord, place: u32) -> Option<(u8, u32)>
     requires { place + 8 ≤ 2 ^ 32 }
-    ensures { result ≡ line_fault least tasks l.now place }
+    ensures { result ≡ line_fault First least tasks l.now place }
 {
     if l.line > 31 || u16::from(l.line) < least {
         Some((13, place))
@@ -109,6 +162,34 @@ fn check_line(least: u16, tasks: u8, l: &LineRecord, place: u32) -> Option<(u8, 
     }
 }
 
+/// Of one interrupt's record of the second form, which lies at the place; its line is to be at least so high.
+fn check_second_line(least: u16, tasks: u16, l: &LineRecord, place: u32) -> Option<(u8, u32)>
+    requires { place + 8 ≤ 2 ^ 32 }
+    ensures { result ≡ line_fault Second least tasks l.now place }
+{
+    if l.line > 63 || u16::from(l.line) < least {
+        Some((13, place))
+    } else if l.zero != 0 {
+        Some((3, place + 1))
+    } else if l.task >= tasks {
+        Some((14, place + 2))
+    } else if l.bits == 0 {
+        Some((15, place + 4))
+    } else {
+        None
+    }
+}
+
+fn check_line(form: Form, least: u16, tasks: u16, l: &LineRecord, place: u32) -> Option<(u8, u32)>
+    requires { place + 8 ≤ 2 ^ 32 }
+    ensures { result ≡ line_fault form least tasks l.now place }
+{
+    match form {
+        Form::First => check_first_line(least, tasks, l, place),
+        Form::Second => check_second_line(least, tasks, l, place),
+    }
+}
+
 /// The first refusal of the interrupts in order: a cause and the place of a byte, None where none is.
 /// docs/FORMATS.md, Image.
 #[tactic(auto, using(crate::proofs::Limits::few_lines, crate::proofs::Limits::early_lines))]
@@ -117,10 +198,11 @@ pub fn check_lines(h: &Header, lines: &[LineRecord]) -> Option<(u8, u32)>
     requires lines { length lines.now ≡ h.now.lines }
     ensures { result ≡ lines_fault h.now lines.now }
 {
-    let mut place = 20 + 12 * u32::from(h.tasks) + 12 * u32::from(h.regions);
+    let form = h.form;
+    let mut place = lines_place(h);
     let mut least = 0u16;
     for i in 0..lines.len() {
-        let found = check_line(least, h.tasks, &lines[i], place);
+        let found = check_line(form, least, h.tasks, &lines[i], place);
         if found.is_some() {
             return found;
         }

@@ -1,6 +1,7 @@
 //! An image of its parts.
 
 ghost use Rattle.std.specs.Prelude.{◌≡◌};
+ghost use Rattle.image_format.specs.declared.records.Form.TheVariants.{Second};
 ghost use Rattle.image_format.specs.Accepted.{Accepted};
 ghost use Rattle.image_format.specs.Images.{picture};
 ghost use Rattle.image_format.specs.Picture.{Picture, picture_of, records_of};
@@ -9,27 +10,31 @@ use crate::image::Image;
 use crate::records::{Header, LineRecord, RegionRecord, TaskRecord};
 
 impl Image {
-    /// The image of these parts, which no check refuses: the records as they lie in a file, the regions in
-    /// the order of the tasks, and the bytes of flash.
+    /// The image of these parts, which no check refuses: the records as they lie in a file of the second form, the
+    /// regions and the names in the order of the tasks, each name its length and its bytes, and the bytes of flash.
     pub fn of_parts(
         header: Header,
         tasks: Vec<TaskRecord>,
         regions: Vec<RegionRecord>,
         lines: Vec<LineRecord>,
+        names: Vec<u8>,
         flash: Vec<u8>,
     ) -> Image
-        requires { Accepted (record {
+        requires second { header.form ≡ Second }
+        requires accepted { Accepted (record {
           header = header;
           tasks = tasks.items;
           regions = regions.items;
           lines = lines.items;
+          names = names.items;
           flash = flash.items;
         }) }
-        ensures { (p : Picture) → records_of p ≡ record {
+        ensures { (p : Picture) → records_of Second p ≡ record {
           header = header;
           tasks = tasks.items;
           regions = regions.items;
           lines = lines.items;
+          names = names.items;
           flash = flash.items;
         } → picture result ≡ p }
     {
@@ -38,6 +43,7 @@ impl Image {
             tasks,
             regions,
             lines,
+            names,
             flash,
         }
     }

@@ -1,9 +1,12 @@
 //! The parts of an image at their places in the bytes.
 
 ghost use Rattle.std.specs.Prelude.{◌≡◌, ◌≤◌, ◌+◌, ◌*◌, ◌<◌, ◌^◌, length, IfOk};
+ghost use Rattle.image_format.specs.declared.records.Form.TheVariants.{First, Second};
 ghost use Rattle.image_format.specs.Records.{half, header_at, line_at, lines_at, num, records_at, region_at, regions_at, task_at, tasks_at, total};
+ghost use Rattle.image_format.specs.Steps.{header_size};
 
-use crate::records::{Header, LineRecord, RegionRecord, TaskRecord};
+use crate::places::{header_size, lines_place, names_place, regions_place};
+use crate::records::{Form, Header, LineRecord, RegionRecord, TaskRecord};
 use std::alloc::{AllocError, Global};
 
 fn u16_at(bytes: &[u8], at: usize) -> u16
@@ -23,17 +26,47 @@ pub(crate) fn u32_at(bytes: &[u8], at: usize) -> u32
         + 16777216 * u32::from(bytes[at + 3])
 }
 
-pub(crate) fn header_at(bytes: &[u8]) -> Header
+fn first_header(bytes: &[u8]) -> Header
     requires { 20 ≤ length bytes.now }
-    ensures { result ≡ header_at bytes.now }
+    ensures { result ≡ header_at First bytes.now }
 {
     Header {
-        tasks: bytes[4],
-        lines: bytes[5],
+        form: Form::First,
+        tasks: u16::from(bytes[4]),
+        lines: u16::from(bytes[5]),
         regions: u16_at(bytes, 6),
+        zero: 0,
         flash: u32_at(bytes, 8),
         ram: u32_at(bytes, 12),
         bits: u32_at(bytes, 16),
+        names: 0,
+    }
+}
+
+fn second_header(bytes: &[u8]) -> Header
+    requires { 28 ≤ length bytes.now }
+    ensures { result ≡ header_at Second bytes.now }
+{
+    Header {
+        form: Form::Second,
+        tasks: u16_at(bytes, 4),
+        lines: u16_at(bytes, 6),
+        regions: u16_at(bytes, 8),
+        zero: u16_at(bytes, 10),
+        flash: u32_at(bytes, 12),
+        ram: u32_at(bytes, 16),
+        bits: u32_at(bytes, 20),
+        names: u32_at(bytes, 24),
+    }
+}
+
+pub(crate) fn header_at(form: Form, bytes: &[u8]) -> Header
+    requires { header_size form ≤ length bytes.now }
+    ensures { result ≡ header_at form bytes.now }
+{
+    match form {
+        Form::First => first_header(bytes),
+        Form::Second => second_header(bytes),
     }
 }
 
@@ -45,7 +78,7 @@ fn task_at(bytes: &[u8]) -> TaskRecord
         priority: bytes[0],
         flags: bytes[1],
         regions: bytes[2],
-        zero: bytes[3],
+        names: bytes[3],
         entry: u32_at(bytes, 4),
         sp: u32_at(bytes, 8),
     }
@@ -62,15 +95,37 @@ fn region_at(bytes: &[u8]) -> RegionRecord
     }
 }
 
-fn line_at(bytes: &[u8]) -> LineRecord
+fn first_line(bytes: &[u8]) -> LineRecord
     requires { 8 ≤ length bytes.now }
-    ensures { result ≡ line_at bytes.now }
+    ensures { result ≡ line_at First bytes.now }
 {
     LineRecord {
         line: bytes[0],
-        task: bytes[1],
+        task: u16::from(bytes[1]),
         zero: u16_at(bytes, 2),
         bits: u32_at(bytes, 4),
+    }
+}
+
+fn second_line(bytes: &[u8]) -> LineRecord
+    requires { 8 ≤ length bytes.now }
+    ensures { result ≡ line_at Second bytes.now }
+{
+    LineRecord {
+        line: bytes[0],
+        task: u16_at(bytes, 2),
+        zero: u16::from(bytes[1]),
+        bits: u32_at(bytes, 4),
+    }
+}
+
+fn line_at(form: Form, bytes: &[u8]) -> LineRecord
+    requires { 8 ≤ length bytes.now }
+    ensures { result ≡ line_at form bytes.now }
+{
+    match form {
+        Form::First => first_line(bytes),
+        Form::Second => second_line(bytes),
     }
 }
 
@@ -106,53 +161,66 @@ fn regions_of(alloc: Global, n: usize, bytes: &[u8]) -> Result<Vec<RegionRecord>
     Ok(regions)
 }
 
-fn lines_of(alloc: Global, n: usize, bytes: &[u8]) -> Result<Vec<LineRecord>, AllocError>
+fn lines_of(
+    alloc: Global,
+    form: Form,
+    n: usize,
+    bytes: &[u8],
+) -> Result<Vec<LineRecord>, AllocError>
     requires few { n < 2 ^ 16 }
     requires long { 8 * n ≤ length bytes.now }
-    ensures items { IfOk result (λ v. v.items ≡ lines_at n bytes.now) }
+    ensures items { IfOk result (λ v. v.items ≡ lines_at form n bytes.now) }
     ensures len { IfOk result (λ v. length v.items ≡ n) }
 {
     let mut lines = Vec::new(alloc);
     let mut rest = bytes;
     for i in 0..n {
-        lines.push(line_at(rest))?;
+        lines.push(line_at(form, rest))?;
         let (_here, more) = rest.split_at(8);
         rest = more;
     }
     Ok(lines)
 }
 
-/// What follows the header.
+/// The parts of a file.
 #[derive(Drop)]
 pub(crate) struct Parts {
+    pub(crate) header: Header,
     pub(crate) tasks: Vec<TaskRecord>,
     pub(crate) regions: Vec<RegionRecord>,
     pub(crate) lines: Vec<LineRecord>,
+    pub(crate) names: Vec<u8>,
     pub(crate) flash: Vec<u8>,
 }
 
-pub(crate) fn parts_of(alloc: Global, header: &Header, bytes: &[u8]) -> Result<Parts, AllocError>
-    requires long { total header.now ≡ length bytes.now }
-    requires small { (header.now.tasks < 2 ^ 8) × (header.now.lines < 2 ^ 8) × (header.now.regions < 2 ^ 16) }
+pub(crate) fn parts_of(alloc: Global, header: Header, bytes: &[u8]) -> Result<Parts, AllocError>
+    requires long { total header ≡ length bytes.now }
+    ensures header { IfOk result (λ p. p.header ≡ header) }
     ensures parts { IfOk result (λ p. record {
-      header = header.now;
+      header = p.header;
       tasks = p.tasks.items;
       regions = p.regions.items;
       lines = p.lines.items;
+      names = p.names.items;
       flash = p.flash.items;
-    } ≡ records_at header.now bytes.now) }
-    ensures tasks { IfOk result (λ p. length p.tasks.items ≡ header.now.tasks) }
-    ensures regions { IfOk result (λ p. length p.regions.items ≡ header.now.regions) }
-    ensures lines { IfOk result (λ p. length p.lines.items ≡ header.now.lines) }
-    ensures flash { IfOk result (λ p. length p.flash.items ≡ header.now.flash) }
+    } ≡ records_at header bytes.now) }
+    ensures tasks { IfOk result (λ p. length p.tasks.items ≡ header.tasks) }
+    ensures regions { IfOk result (λ p. length p.regions.items ≡ header.regions) }
+    ensures lines { IfOk result (λ p. length p.lines.items ≡ header.lines) }
+    ensures names { IfOk result (λ p. length p.names.items ≡ header.names) }
+    ensures flash { IfOk result (λ p. length p.flash.items ≡ header.flash) }
 {
-    let tasks_end = 20 + 12 * usize::from(header.tasks);
-    let regions_end = tasks_end + 12 * usize::from(header.regions);
-    let lines_end = regions_end + 8 * usize::from(header.lines);
+    let behind_header = &bytes[header_size(header.form) as usize..];
+    let behind_tasks = &bytes[regions_place(&header) as usize..];
+    let behind_regions = &bytes[lines_place(&header) as usize..];
+    let behind_lines = &bytes[names_place(&header) as usize..];
+    let (names, flash) = behind_lines.split_at(header.names as usize);
     Ok(Parts {
-        tasks: tasks_of(alloc, usize::from(header.tasks), &bytes[20..])?,
-        regions: regions_of(alloc, usize::from(header.regions), &bytes[tasks_end..])?,
-        lines: lines_of(alloc, usize::from(header.lines), &bytes[regions_end..])?,
-        flash: bytes[lines_end..].to_vec(alloc)?,
+        header,
+        tasks: tasks_of(alloc, usize::from(header.tasks), behind_header)?,
+        regions: regions_of(alloc, usize::from(header.regions), behind_tasks)?,
+        lines: lines_of(alloc, header.form, usize::from(header.lines), behind_regions)?,
+        names: names.to_vec(alloc)?,
+        flash: flash.to_vec(alloc)?,
     })
 }

@@ -5,6 +5,7 @@ ghost use Rattle.std.specs.List.{list_any};
 ghost use Rattle.image_format.specs.Regions.{clashes, cuts, entries_fault, entry_fault, has_area, has_rights, has_shape, lies_in, meets, own_fault, region_fault, regions_fault, runs_at};
 ghost use Rattle.image_format.specs.Steps.{count_fault, field_fault, tasks_fault};
 
+use crate::places::{header_size, regions_place};
 use crate::records::{Header, RegionRecord, TaskRecord};
 use region_check::is_size;
 
@@ -114,7 +115,7 @@ fn check_own(
 
 /// The first refusal of the regions in order: a cause and the place of a byte, None where none is.
 /// docs/FORMATS.md, Image.
-#[tactic(auto, using(crate::proofs::Limits::few_tasks, crate::proofs::Limits::few_regions, crate::proofs::Limits::all_counted))]
+#[tactic(auto, using(crate::proofs::Limits::few_tasks, crate::proofs::Limits::few_regions, crate::proofs::Limits::early_regions, crate::proofs::Limits::all_counted))]
 pub fn check_regions(
     h: &Header,
     tasks: &[TaskRecord],
@@ -123,12 +124,12 @@ pub fn check_regions(
     requires fields { field_fault h.now ≡ None }
     requires tasks { length tasks.now ≡ h.now.tasks }
     requires regions { length regions.now ≡ h.now.regions }
-    requires each { tasks_fault tasks.now ≡ None }
+    requires each { tasks_fault h.now tasks.now ≡ None }
     requires count { count_fault h.now tasks.now ≡ None }
     ensures { result ≡ regions_fault h.now tasks.now regions.now }
 {
     let mut start = 0usize;
-    let mut place = 20 + 12 * tasks.len() as u32;
+    let mut place = regions_place(h);
     for i in 0..tasks.len() {
         let end = start + usize::from(tasks[i].regions);
         let found = check_own(h, &regions[..start], &regions[start..end], place);
@@ -178,12 +179,12 @@ pub fn check_entries(
     requires fields { field_fault h.now ≡ None }
     requires tasks { length tasks.now ≡ h.now.tasks }
     requires regions { length regions.now ≡ h.now.regions }
-    requires each { tasks_fault tasks.now ≡ None }
+    requires each { tasks_fault h.now tasks.now ≡ None }
     requires count { count_fault h.now tasks.now ≡ None }
-    ensures { result ≡ entries_fault tasks.now regions.now }
+    ensures { result ≡ entries_fault h.now tasks.now regions.now }
 {
     let mut start = 0usize;
-    let mut place = 20u32;
+    let mut place = header_size(h.form);
     for i in 0..tasks.len() {
         let end = start + usize::from(tasks[i].regions);
         let found = check_entry(&regions[start..end], &tasks[i], place);

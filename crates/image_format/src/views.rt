@@ -1,12 +1,16 @@
 //! What an image says.
 
-ghost use Rattle.std.specs.Prelude.{◌≡◌, ◌==◌, ◌≤◌, ◌+◌, ◌<◌, length, map, take, IfOk};
+ghost use Rattle.std.specs.Prelude.{◌≡◌, ◌==◌, ◌≤◌, ◌+◌, ◌<◌, All, length, map, string_bytes, take, true, IfOk};
+ghost use Rattle.std.specs.List.{sum_by};
 ghost use Rattle.image_format.specs.Facts.{Facts};
 ghost use Rattle.image_format.specs.Images.{picture};
-ghost use Rattle.image_format.specs.Picture.{Sound, line_in, region_of, regions_in, rights_of, task_in};
+ghost use Rattle.text_lines.specs.Names.{is_name};
+ghost use Rattle.image_format.specs.Names.{names_of};
+ghost use Rattle.image_format.specs.Picture.{Sound, line_in, names_in, region_of, regions_in, rights_of, task_in};
 ghost use Rattle.image_format.specs.Steps.{counted};
 
 use crate::image::Image;
+use crate::names::{skip_names, split_name};
 use crate::records::{RegionRecord, TaskRecord};
 use region_check::{Region, Rights};
 use std::alloc::{AllocError, Global};
@@ -34,7 +38,7 @@ fn region_of(r: &RegionRecord) -> Region
 
 /// How many regions the first n tasks have.
 fn counted(tasks: &[TaskRecord], n: usize) -> usize
-    requires few { length tasks.now ≤ 32 }
+    requires few { length tasks.now ≤ 512 }
     requires within { n ≤ length tasks.now }
     ensures { result ≡ counted (take n tasks.now) }
 {
@@ -80,6 +84,45 @@ fn regions_of(alloc: Global, own: &[RegionRecord]) -> Result<Vec<Region>, AllocE
     Ok(regions)
 }
 
+/// How many names the first n tasks have.
+fn named(tasks: &[TaskRecord], n: usize) -> usize
+    requires few { length tasks.now ≤ 512 }
+    requires within { n ≤ length tasks.now }
+    ensures { result ≡ sum_by (λ t. t.names) (take n tasks.now) }
+{
+    let mut sum = 0usize;
+    for i in 0..n {
+        sum += usize::from(tasks[i].names);
+    }
+    sum
+}
+
+/// A name as a text.
+fn text_of(alloc: Global, name: &[u8]) -> Result<String, AllocError>
+    requires { is_name name.now ≡ true }
+    ensures { IfOk result (λ t. string_bytes t ≡ name.now) }
+{
+    match str::from_utf8(name) {
+        Ok(text) => String::from_str(alloc, text),
+        Err(_) => unreachable!(),
+    }
+}
+
+/// The n names with which some bytes begin, as texts.
+fn texts_of(alloc: Global, n: usize, bytes: &[u8]) -> Result<Vec<String>, AllocError>
+    requires { All (λ name. is_name name ≡ true) (names_of n bytes.now) }
+    ensures { IfOk result (λ v. map string_bytes v.items ≡ names_of n bytes.now) }
+{
+    let mut texts = Vec::new(alloc);
+    let mut rest = bytes;
+    for k in 0..n {
+        let (name, more) = split_name(rest);
+        texts.push(text_of(alloc, name)?)?;
+        rest = more;
+    }
+    Ok(texts)
+}
+
 impl Image {
     /// What is known of each image.
     pub fn facts(&self)
@@ -87,7 +130,7 @@ impl Image {
         ensures facts { Facts (picture self.now) }
     {}
 
-    /// How many tasks, 1 to 32.
+    /// How many tasks, 1 to 512.
     #[tactic(auto, using(crate::proofs::Shape::tasks_length))]
     pub fn task_count(&self) -> usize
         ensures { result ≡ length (picture self.now).tasks }
@@ -135,14 +178,24 @@ impl Image {
         regions_of(alloc, own_regions(self, i))
     }
 
-    /// How many interrupts, at most 32.
+    /// The names of the i-th task's notifications, of which the k-th is bit k.
+    pub fn notifications(&self, alloc: Global, i: usize) -> Result<Vec<String>, AllocError>
+        requires { i < length (picture self.now).tasks }
+        ensures { IfOk result (λ v. map string_bytes v.items ≡ names_in (picture self.now) i) }
+    {
+        let tasks = self.tasks.as_slice();
+        let own = skip_names(named(tasks, i), self.names.as_slice());
+        texts_of(alloc, usize::from(tasks[i].names), own)
+    }
+
+    /// How many interrupts, at most 64.
     pub fn line_count(&self) -> usize
         ensures { result ≡ length (picture self.now).lines }
     {
         self.lines.len()
     }
 
-    /// The k-th interrupt's line, below 32.
+    /// The k-th interrupt's line, below 64.
     pub fn line(&self, k: usize) -> u8
         requires { k < length (picture self.now).lines }
         ensures { result ≡ (line_in (picture self.now) k).line }
@@ -151,7 +204,7 @@ impl Image {
     }
 
     /// The task that owns the k-th interrupt.
-    pub fn line_task(&self, k: usize) -> u8
+    pub fn line_task(&self, k: usize) -> u16
         requires { k < length (picture self.now).lines }
         ensures { result ≡ (line_in (picture self.now) k).task }
     {

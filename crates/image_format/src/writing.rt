@@ -1,9 +1,10 @@
 //! Writing.
 
-ghost use Rattle.std.specs.Prelude.{◌≡◌, ◌++◌, ◌∷◌, [], IfOk, Ok};
+ghost use Rattle.std.specs.Prelude.{◌≡◌, ◌++◌, ◌∷◌, [], All, IfOk, Ok};
 ghost use Rattle.std.specs.Result.{OnOk};
 ghost use Rattle.std.specs.List.{flat_map};
-ghost use Rattle.image_format.specs.Records.{bytes_of, half_bytes, header_bytes, header_front, line_bytes, num_bytes, region_bytes, task_bytes};
+ghost use Rattle.image_format.specs.declared.records.Form.TheVariants.{Second};
+ghost use Rattle.image_format.specs.Records.{bytes_of, half_bytes, header_bytes_in, line_bytes, num_bytes, region_bytes, task_bytes};
 ghost use Rattle.image_format.specs.Images.{picture, records_in};
 ghost use Rattle.image_format.specs.Picture.{Spells, image_or_fault};
 
@@ -35,34 +36,38 @@ fn push_four(out: &mut Vec<u8>, a: u8, b: u8, c: u8, d: u8) -> Result<(), AllocE
 }
 
 fn push_counts(out: &mut Vec<u8>, h: &Header) -> Result<(), AllocError>
-    ensures { OnOk result (out.new.items ≡ out.old.items ++ (h.now.tasks ∷ h.now.lines ∷ half_bytes h.now.regions)) }
+    ensures { OnOk result (out.new.items ≡ out.old.items
+        ++ (half_bytes h.now.tasks ++ half_bytes h.now.lines ++ half_bytes h.now.regions ++ half_bytes h.now.zero)) }
 {
-    out.push(h.tasks)?;
-    out.push(h.lines)?;
-    push_half(out, h.regions)
+    push_half(out, h.tasks)?;
+    push_half(out, h.lines)?;
+    push_half(out, h.regions)?;
+    push_half(out, h.zero)
 }
 
-#[tactic(auto, unfolding(crate::specs::Records::header_front))]
-fn push_front(out: &mut Vec<u8>, h: &Header) -> Result<(), AllocError>
-    ensures { OnOk result (out.new.items ≡ out.old.items ++ header_front h.now) }
+fn push_sizes(out: &mut Vec<u8>, h: &Header) -> Result<(), AllocError>
+    ensures { OnOk result (out.new.items ≡ out.old.items
+        ++ (num_bytes h.now.flash ++ num_bytes h.now.ram ++ num_bytes h.now.bits ++ num_bytes h.now.names)) }
 {
-    push_four(out, 72, 66, 73, 49)?;
-    push_counts(out, h)?;
-    push_num(out, h.flash)
-}
-
-fn push_header(out: &mut Vec<u8>, h: &Header) -> Result<(), AllocError>
-    ensures { OnOk result (out.new.items ≡ out.old.items ++ header_bytes h.now) }
-{
-    push_front(out, h)?;
+    push_num(out, h.flash)?;
     push_num(out, h.ram)?;
-    push_num(out, h.bits)
+    push_num(out, h.bits)?;
+    push_num(out, h.names)
+}
+
+#[tactic(auto, unfolding(crate::specs::Records::header_bytes_in))]
+fn push_header(out: &mut Vec<u8>, h: &Header) -> Result<(), AllocError>
+    ensures { OnOk result (out.new.items ≡ out.old.items ++ header_bytes_in Second h.now) }
+{
+    push_four(out, 72, 66, 73, 50)?;
+    push_counts(out, h)?;
+    push_sizes(out, h)
 }
 
 fn push_task(out: &mut Vec<u8>, t: &TaskRecord) -> Result<(), AllocError>
     ensures { OnOk result (out.new.items ≡ out.old.items ++ task_bytes t.now) }
 {
-    push_four(out, t.priority, t.flags, t.regions, t.zero)?;
+    push_four(out, t.priority, t.flags, t.regions, t.names)?;
     push_num(out, t.entry)?;
     push_num(out, t.sp)
 }
@@ -76,11 +81,12 @@ fn push_region(out: &mut Vec<u8>, r: &RegionRecord) -> Result<(), AllocError>
 }
 
 fn push_line(out: &mut Vec<u8>, l: &LineRecord) -> Result<(), AllocError>
-    ensures { OnOk result (out.new.items ≡ out.old.items ++ line_bytes l.now) }
+    requires { l.now.zero ≡ 0 }
+    ensures { OnOk result (out.new.items ≡ out.old.items ++ line_bytes Second l.now) }
 {
     out.push(l.line)?;
-    out.push(l.task)?;
-    push_half(out, l.zero)?;
+    out.push(0)?;
+    push_half(out, l.task)?;
     push_num(out, l.bits)
 }
 
@@ -103,7 +109,8 @@ fn push_regions(out: &mut Vec<u8>, regions: &[RegionRecord]) -> Result<(), Alloc
 }
 
 fn push_lines(out: &mut Vec<u8>, lines: &[LineRecord]) -> Result<(), AllocError>
-    ensures { OnOk result (out.new.items ≡ out.old.items ++ flat_map line_bytes lines.now) }
+    requires { All (λ l. l.zero ≡ 0) lines.now }
+    ensures { OnOk result (out.new.items ≡ out.old.items ++ flat_map (line_bytes Second) lines.now) }
 {
     for l in lines {
         push_line(out, l)?;
@@ -119,12 +126,13 @@ fn bytes_of(image: &Image) -> Result<Vec<u8>, AllocError>
     push_tasks(&mut out, image.tasks.as_slice())?;
     push_regions(&mut out, image.regions.as_slice())?;
     push_lines(&mut out, image.lines.as_slice())?;
+    out.extend_from_slice(image.names.as_slice())?;
     out.extend_from_slice(image.flash.as_slice())?;
     Ok(out)
 }
 
 impl Image {
-    /// The one spelling of the image, as docs/FORMATS.md, Image, has it; read again it is the same image.
+    /// The one spelling of the image in the second form, as docs/FORMATS.md, Image, has it; read again it is the same image.
     pub fn write(&self) -> Result<Vec<u8>, AllocError>
         ensures spells { IfOk result (λ v. Spells (picture self.now) v.items) }
         ensures reads_back { IfOk result (λ v. image_or_fault v.items ≡ Ok (picture self.now)) }

@@ -1,22 +1,23 @@
-use Rattle.std.proofs.Common.{◌∙◌, Ok, ap, arith, sym}
-use Rattle.std.proofs.lemmas.Result.{IfOk-weaker}
+use Rattle.std.proofs.Common.{arith, subst, sym}
 use Rattle.image_format.specs.Images.{records_in}
-use Rattle.image_format.specs.Picture.{pictured, records_of}
-use Rattle.image_format.specs.Records.{bytes_of, records_or_fault}
-use Rattle.image_format.proofs.Again.{reads_again}
-use Rattle.image_format.proofs.Shape.{picture_again, shape_again, sound_picture}
+use Rattle.image_format.specs.Picture.{Spells, picture_of}
+use Rattle.image_format.specs.Records.{Records}
+use Rattle.image_format.proofs.Shape.{sound_picture}
 use Rattle.image_format.proofs.Spelled.{spelled}
+use Rattle.image_format.proofs.Spellings.{read_only, spells}
 use Rattle.image_format.proofs.image.Image.read.Goals as goal
 
-pub returns-clause-spelled : goal.returns-clause-spelled
-returns-clause-spelled c = IfOk-weaker c.read_parts.result _ _
-    (λ i e. spelled c.args.bytes.now (records_in i) (λ k. omega (arith, c.type_inv.bytes k)) e ∙ ap bytes_of (sym (shape_again (records_in i) i.accepted))) c.read_parts.ensures.ok
+pub returns-in-Ok-clause-spelled : goal.returns-in-Ok-clause-spelled
+returns-in-Ok-clause-spelled c =
+    let bytes = c.args.bytes.now in
+    subst (λ (q : Records). Spells (picture_of q) bytes) (sym c.kept.ensures)
+    (spells bytes _ (spelled bytes _ (λ k. omega (arith, c.type_inv.bytes k)) c.in-Ok.ensures.ok) c.in-Ok.ensures.accepted c.in-Ok.ensures.plain)
 
-pub returns-clause-sound : goal.returns-clause-sound
-returns-clause-sound c = IfOk-weaker c.read_parts.result _ _
-    (λ i e. sound_picture (records_in i) i.accepted) c.read_parts.ensures.ok
+pub returns-in-Ok-clause-sound : goal.returns-in-Ok-clause-sound
+returns-in-Ok-clause-sound c = sound_picture (records_in c.kept.result) c.kept.result.second c.kept.result.accepted
 
-pub returns-clause-only : goal.returns-clause-only
-returns-clause-only c p spells sound =
-    let again = reads_again (records_of p) sound in
-    ap (λ bytes. pictured (records_or_fault bytes)) spells ∙ ap pictured again ∙ ap Ok (picture_again p)
+pub returns-in-Ok-clause-only : goal.returns-in-Ok-clause-only
+returns-in-Ok-clause-only c p spelling sound = read_only p c.args.bytes.now spelling sound
+
+pub returns-in-Err-clause-only : goal.returns-in-Err-clause-only
+returns-in-Err-clause-only c p spelling sound = read_only p c.args.bytes.now spelling sound

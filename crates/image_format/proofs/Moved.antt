@@ -1,0 +1,241 @@
+-- Records that no step refuses in one form are refused by none in the other, where they keep its limits: the conditions are the same, and a place matters only where something is refused.
+use Rattle.std.proofs.Common.{◌≡◌, ◌∙◌, ◌+◌, ◌*◌, ◌%◌, ◌<◌, ◌≤◌, ℕ, zero, suc, List, [], ◌∷◌, ◌++◌, Bool, true, false, not, ◌||◌, ◌&&◌, ◌==◌, None, Some, Option, length, take, drop, map, get_or, nat_le, nat_lt, cond, arith, ap, refl, sym, subst}
+use Rattle.std.specs.Prelude.{Contains}
+use Rattle.std.specs.List.{list_any}
+use Rattle.image_format.specs.declared.records.Form.{Form}
+use Rattle.image_format.specs.declared.records.Form.TheVariants.{First, Second}
+use Rattle.image_format.specs.declared.records.Header.{Header}
+use Rattle.image_format.specs.declared.records.TaskRecord.{TaskRecord}
+use Rattle.image_format.specs.declared.records.RegionRecord.{RegionRecord}
+use Rattle.image_format.specs.declared.records.LineRecord.{LineRecord}
+use Rattle.image_format.specs.Accepted.{Accepted}
+use Rattle.image_format.specs.Names.{names_fault, names_from}
+use Rattle.image_format.specs.Picture.{LinePicture, Picture, Sound, SpellsFirst, TaskPicture, line_record, records_of, task_record}
+use Rattle.image_format.specs.Records.{Records, records_fault}
+use Rattle.image_format.specs.Regions.{clashes, entries_fault, entries_from, entry_fault, has_area, has_rights, has_shape, own_fault, region_fault, regions_fault, regions_from, runs_at}
+use Rattle.image_format.specs.Steps.{Refusal, count_fault, count_place, counted, field_fault, header_size, highest_line, line_fault, lines_fault, lines_from, lines_place, most_names, names_place, regions_place, task_fault, tasks_fault, tasks_from}
+use Rattle.image_format.proofs.Limits.{Limits, limits, lines_64, no_zero, not_above, plain_names, above, or_false, both_false, row_none, row_pass, taken, tasks_512}
+use Rattle.image_format.proofs.Named.{names_moved}
+use Rattle.image_format.proofs.Passed.{Passed, both_none, none_both, passed_steps, steps_passed}
+
+-- the header, and the records, in the form
+abbrev pub header_in_form : Form → Header → Header
+header_in_form f h = record h { form = f }
+
+abbrev pub in_form : Form → Records → Records
+in_form f r = record r { header = header_in_form f r.header }
+
+-- ---- tasks
+
+-- no task has more names than the form allows
+abbrev pub AreFew : Form → List TaskRecord → Type 0
+AreFew f [] = Unit {0}
+AreFew f (t ∷ ts) = (nat_lt (most_names f) t.names ≡ false) × AreFew f ts
+
+task_moved : (f g : Form) (index : ℕ) (t : TaskRecord) (place other : ℕ) → nat_lt (most_names g) t.names ≡ false → task_fault f index t place ≡ None → task_fault g index t other ≡ None
+task_moved f g index t place other few e =
+    let a = row_none ((index == 0 && not (t.priority == 0)) || (not (index == 0) && t.priority == 0)) _ _ e in
+    let b = row_none (nat_lt 1 t.flags || (index == 0 && not (t.flags == 1))) _ _ a.1 in
+    let c = row_none (nat_lt t.regions 1 || nat_lt 8 t.regions) _ _ b.1 in
+    let d = row_none (nat_lt (most_names f) t.names) _ _ c.1 in
+    let s = row_none (not (t.sp % 4 == 0)) _ _ d.1 in
+    row_pass ((index == 0 && not (t.priority == 0)) || (not (index == 0) && t.priority == 0)) _ _ a.0
+    (row_pass (nat_lt 1 t.flags || (index == 0 && not (t.flags == 1))) _ _ b.0
+    (row_pass (nat_lt t.regions 1 || nat_lt 8 t.regions) _ _ c.0
+    (row_pass (nat_lt (most_names g) t.names) _ _ few
+    (row_pass (not (t.sp % 4 == 0)) _ _ s.0 refl))))
+
+tasks_moved : (f g : Form) (index place other : ℕ) (ts : List TaskRecord) → AreFew g ts → tasks_from f index place ts ≡ None → tasks_from g index other ts ≡ None
+tasks_moved f g index place other [] few e = refl
+tasks_moved f g index place other (t ∷ ts) few e =
+    let a = both_none (task_fault f index t place) (tasks_from f (index + 1) (place + 12) ts) e in
+    none_both (task_fault g index t other) (tasks_from g (index + 1) (other + 12) ts) (task_moved f g index t place other few.0 a.0)
+    (tasks_moved f g (index + 1) (place + 12) (other + 12) ts few.1 a.1)
+
+more_names : (f : Form) (n : ℕ) → nat_lt (most_names f) n ≡ false → nat_lt 32 n ≡ false
+more_names First n e = let le = above 0 n e in not_above 32 n (omega (arith, le))
+more_names Second n e = e
+
+-- what a form allows, the second does
+few_second : (f : Form) (index place : ℕ) (ts : List TaskRecord) → tasks_from f index place ts ≡ None → AreFew Second ts
+few_second f index place [] e = tt
+few_second f index place (t ∷ ts) e =
+    let a = both_none (task_fault f index t place) (tasks_from f (index + 1) (place + 12) ts) e in
+    let b = row_none ((index == 0 && not (t.priority == 0)) || (not (index == 0) && t.priority == 0)) _ _ a.0 in
+    let c = row_none (nat_lt 1 t.flags || (index == 0 && not (t.flags == 1))) _ _ b.1 in
+    let d = row_none (nat_lt t.regions 1 || nat_lt 8 t.regions) _ _ c.1 in
+    let n = row_none (nat_lt (most_names f) t.names) _ _ d.1 in
+    (more_names f t.names n.0, few_second f (index + 1) (place + 12) ts a.1)
+
+-- tasks without names keep the limit of the first form
+few_first : (ts : List TaskPicture) → ((t : TaskPicture) → Contains ts t → t.names ≡ []) → AreFew First (map task_record ts)
+few_first [] h = tt
+few_first (t ∷ ts) h =
+    let none = h t (0, omega arith, refl) in
+    (ap (λ (names : List (List ℕ)). nat_lt 0 (length names)) none, few_first ts (λ u is. h u (suc is.0, omega (arith, is.1), is.2)))
+
+-- ---- the number of regions
+
+count_moved : (b : Bool) (r s : Refusal) → cond b None (Some r) ≡ None → cond b None (Some s) ≡ None
+count_moved true r s e = refl
+count_moved false r s e = cc
+
+-- ---- regions and entries
+
+region_moved : (f : Form) (h : Header) (overlaps : Bool) (r : RegionRecord) (place other : ℕ) → region_fault h overlaps r place ≡ None → region_fault (header_in_form f h) overlaps r other ≡ None
+region_moved f h overlaps r place other e =
+    let a = row_none (not (has_rights r)) _ _ e in
+    let b = row_none (not (has_shape r)) _ _ a.1 in
+    let c = row_none (not (has_area h r)) _ _ b.1 in
+    let d = row_none overlaps _ _ c.1 in
+    row_pass (not (has_rights r)) _ _ a.0 (row_pass (not (has_shape r)) _ _ b.0 (row_pass (not (has_area (header_in_form f h) r)) _ _ c.0 (row_pass overlaps _ _ d.0 refl)))
+
+own_moved : (f : Form) (h : Header) (others own : List RegionRecord) (place other : ℕ) (rs : List RegionRecord) → own_fault h others own place rs ≡ None → own_fault (header_in_form f h) others own other rs ≡ None
+own_moved f h others own place other [] e = refl
+own_moved f h others own place other (r ∷ rs) e =
+    let a = both_none (region_fault h (clashes others own r) r place) (own_fault h others (own ++ r ∷ []) (place + 12) rs) e in
+    none_both (region_fault (header_in_form f h) (clashes others own r) r other) (own_fault (header_in_form f h) others (own ++ r ∷ []) (other + 12) rs)
+    (region_moved f h (clashes others own r) r place other a.0) (own_moved f h others (own ++ r ∷ []) (place + 12) (other + 12) rs a.1)
+
+regions_moved : (f : Form) (h : Header) (others : List RegionRecord) (place other : ℕ) (ts : List TaskRecord) (rs : List RegionRecord)
+    → regions_from h others place ts rs ≡ None → regions_from (header_in_form f h) others other ts rs ≡ None
+regions_moved f h others place other [] rs e = refl
+regions_moved f h others place other (t ∷ ts) rs e =
+    let own = take t.regions rs in
+    let more = drop t.regions rs in
+    let a = both_none (own_fault h others [] place own) (regions_from h (others ++ own) (place + 12 * t.regions) ts more) e in
+    none_both (own_fault (header_in_form f h) others [] other own) (regions_from (header_in_form f h) (others ++ own) (other + 12 * t.regions) ts more)
+    (own_moved f h others [] place other own a.0) (regions_moved f h (others ++ own) (place + 12 * t.regions) (other + 12 * t.regions) ts more a.1)
+
+entry_moved : (own : List RegionRecord) (t : TaskRecord) (place other : ℕ) → entry_fault own t place ≡ None → entry_fault own t other ≡ None
+entry_moved own t place other e =
+    row_pass (t.entry % 2 == 0 || not (list_any (runs_at t.entry) own)) (12, other + 4) None (row_none (t.entry % 2 == 0 || not (list_any (runs_at t.entry) own)) (12, place + 4) None e).0 refl
+
+entries_moved : (place other : ℕ) (ts : List TaskRecord) (rs : List RegionRecord) → entries_from place ts rs ≡ None → entries_from other ts rs ≡ None
+entries_moved place other [] rs e = refl
+entries_moved place other (t ∷ ts) rs e =
+    let a = both_none (entry_fault (take t.regions rs) t place) (entries_from (place + 12) ts (drop t.regions rs)) e in
+    none_both (entry_fault (take t.regions rs) t other) (entries_from (other + 12) ts (drop t.regions rs)) (entry_moved (take t.regions rs) t place other a.0)
+    (entries_moved (place + 12) (other + 12) ts (drop t.regions rs) a.1)
+
+-- ---- interrupts
+
+-- what both forms ask of an interrupt
+pub record IsOwned (least tasks : ℕ) (l : LineRecord) : Type 0 where
+  pub low : nat_lt l.line least ≡ false
+  pub owner : nat_le tasks l.task ≡ false
+  pub zero_half : not (l.zero == 0) ≡ false
+  pub bits : (l.bits == 0) ≡ false
+
+pub line_rows : (f : Form) (least tasks : ℕ) (l : LineRecord) (place : ℕ) → line_fault f least tasks l place ≡ None → (nat_lt (highest_line f) l.line ≡ false) × IsOwned least tasks l
+line_rows First least tasks l place e =
+    let a = row_none (nat_lt 31 l.line || nat_lt l.line least) _ _ e in
+    let b = row_none (nat_le tasks l.task) _ _ a.1 in
+    let c = row_none (not (l.zero == 0)) _ _ b.1 in
+    let d = row_none (l.bits == 0) _ _ c.1 in
+    let line = or_false (nat_lt 31 l.line) (nat_lt l.line least) a.0 in
+    (line.0, record { low = line.1; owner = b.0; zero_half = c.0; bits = d.0 })
+line_rows Second least tasks l place e =
+    let a = row_none (nat_lt 63 l.line || nat_lt l.line least) _ _ e in
+    let b = row_none (not (l.zero == 0)) _ _ a.1 in
+    let c = row_none (nat_le tasks l.task) _ _ b.1 in
+    let d = row_none (l.bits == 0) _ _ c.1 in
+    let line = or_false (nat_lt 63 l.line) (nat_lt l.line least) a.0 in
+    (line.0, record { low = line.1; owner = c.0; zero_half = b.0; bits = d.0 })
+
+rows_line : (f : Form) (least tasks : ℕ) (l : LineRecord) (place : ℕ) → nat_lt (highest_line f) l.line ≡ false → IsOwned least tasks l → line_fault f least tasks l place ≡ None
+rows_line First least tasks l place high o =
+    row_pass (nat_lt 31 l.line || nat_lt l.line least) _ _ (both_false (nat_lt 31 l.line) (nat_lt l.line least) high o.low)
+    (row_pass (nat_le tasks l.task) _ _ o.owner (row_pass (not (l.zero == 0)) _ _ o.zero_half (row_pass (l.bits == 0) _ _ o.bits refl)))
+rows_line Second least tasks l place high o =
+    row_pass (nat_lt 63 l.line || nat_lt l.line least) _ _ (both_false (nat_lt 63 l.line) (nat_lt l.line least) high o.low)
+    (row_pass (not (l.zero == 0)) _ _ o.zero_half (row_pass (nat_le tasks l.task) _ _ o.owner (row_pass (l.bits == 0) _ _ o.bits refl)))
+
+-- no line is above the highest of the form
+abbrev pub AreLow : Form → List LineRecord → Type 0
+AreLow f [] = Unit {0}
+AreLow f (l ∷ ls) = (nat_lt (highest_line f) l.line ≡ false) × AreLow f ls
+
+lines_moved : (f g : Form) (least tasks place other : ℕ) (ls : List LineRecord) → AreLow g ls → lines_from f least tasks place ls ≡ None → lines_from g least tasks other ls ≡ None
+lines_moved f g least tasks place other [] low e = refl
+lines_moved f g least tasks place other (l ∷ ls) low e =
+    let a = both_none (line_fault f least tasks l place) (lines_from f (l.line + 1) tasks (place + 8) ls) e in
+    none_both (line_fault g least tasks l other) (lines_from g (l.line + 1) tasks (other + 8) ls) (rows_line g least tasks l other low.0 (line_rows f least tasks l place a.0).1)
+    (lines_moved f g (l.line + 1) tasks (place + 8) (other + 8) ls low.1 a.1)
+
+higher : (f : Form) (n : ℕ) → nat_lt (highest_line f) n ≡ false → nat_lt 63 n ≡ false
+higher First n e = let le = above 31 n e in not_above 63 n (omega (arith, le))
+higher Second n e = e
+
+low_second : (f : Form) (least tasks place : ℕ) (ls : List LineRecord) → lines_from f least tasks place ls ≡ None → AreLow Second ls
+low_second f least tasks place [] e = tt
+low_second f least tasks place (l ∷ ls) e =
+    let a = both_none (line_fault f least tasks l place) (lines_from f (l.line + 1) tasks (place + 8) ls) e in
+    (higher f l.line (line_rows f least tasks l place a.0).0, low_second f (l.line + 1) tasks (place + 8) ls a.1)
+
+low_first : (ls : List LinePicture) → ((l : LinePicture) → Contains ls l → l.line ≤ highest_line First) → AreLow First (map line_record ls)
+low_first [] h = tt
+low_first (l ∷ ls) h = (not_above 31 l.line (h l (0, omega arith, refl)), low_first ls (λ m is. h m (suc is.0, omega (arith, is.1), is.2)))
+
+-- ---- the whole
+
+passed_moved : (f : Form) (r : Records) → AreFew f r.tasks → AreLow f r.lines → Passed r → Passed (in_form f r)
+passed_moved f r few low p =
+    let h = r.header in
+    let g = header_in_form f h in
+    record {
+      tasks = tasks_moved h.form f 0 (header_size h.form) (header_size f) r.tasks few p.tasks;
+      count = count_moved (counted r.tasks == h.regions) (3, count_place h.form) (3, count_place f) p.count;
+      regions = regions_moved f h [] (regions_place h) (regions_place g) r.tasks r.regions p.regions;
+      entries = entries_moved (header_size h.form) (header_size f) r.tasks r.regions p.entries;
+      lines = lines_moved h.form f 0 h.tasks (lines_place h) (lines_place g) r.lines low p.lines;
+      names = names_moved (names_place h + length r.names) (names_place g + length r.names) r.tasks r.names p.names;
+    }
+
+accepted_moved : (f : Form) (r : Records) → Limits f (header_in_form f r.header) → AreFew f r.tasks → AreLow f r.lines → Accepted r → Accepted (in_form f r)
+accepted_moved f r l few low a = record {
+  tasks = a.tasks;
+  regions = a.regions;
+  lines = a.lines;
+  names = a.names;
+  flash = a.flash;
+  fields = taken (header_in_form f r.header) l;
+  records = steps_passed (in_form f r) (passed_moved f r few low (passed_steps r a.records));
+}
+
+-- accepted records of either form are accepted in the second
+pub second_accepted : (r : Records) → Accepted r → (r.header.form ≡ First → (r.header.zero ≡ 0) × (r.header.names ≡ 0)) → Accepted (in_form Second r)
+second_accepted r a plain =
+    let h = r.header in
+    let l = limits h a.fields in
+    let s = passed_steps r a.records in
+    accepted_moved Second r (record {
+      some_task = l.some_task;
+      tasks = omega (arith, l.tasks, tasks_512 h.form);
+      lines = omega (arith, l.lines, lines_64 h.form);
+      some_region = l.some_region;
+      regions = l.regions;
+      some_flash = l.some_flash;
+      flash = l.flash;
+      ram = l.ram;
+      bits = l.bits;
+      second = λ e. (no_zero h a.fields (λ f. (plain f).0), plain_names h h.form refl a.fields (λ f. (plain f).1));
+    }) (few_second h.form 0 (header_size h.form) r.tasks s.tasks) (low_second h.form 0 h.tasks (lines_place h) r.lines s.lines) a
+
+-- a sound image that the first form can hold is accepted in it
+pub first_accepted : (p : Picture) (bytes : List ℕ) → SpellsFirst p bytes → Sound p → Accepted (records_of First p)
+first_accepted p bytes f a =
+    let r = records_of Second p in
+    let l = limits r.header a.fields in
+    accepted_moved First r (record {
+      some_task = l.some_task;
+      tasks = f.few_tasks;
+      lines = f.few_lines;
+      some_region = l.some_region;
+      regions = l.regions;
+      some_flash = l.some_flash;
+      flash = l.flash;
+      ram = l.ram;
+      bits = l.bits;
+      second = λ e. cc;
+    }) (few_first p.tasks f.unnamed) (low_first p.lines f.low_lines) a

@@ -1,0 +1,131 @@
+-- What bytes of either form are read as.
+use Rattle.std.proofs.Common.{◌≡◌, ◌∙◌, ◌≤◌, ◌<◌, ◌+◌, ℕ, zero, suc, List, [], ◌∷◌, ◌++◌, Ok, None, drop, ◌⊎◌, inl, inr, length, map, get_or, arith, ap, ap₂, refl, sym, subst}
+use Rattle.std.specs.Prelude.{Contains, slice_index}
+use Rattle.std.specs.List.{flat_map}
+use Rattle.std.proofs.lemmas.List.{length-map}
+use Rattle.image_format.specs.declared.records.Form.{Form}
+use Rattle.image_format.specs.declared.records.Form.TheVariants.{First, Second}
+use Rattle.image_format.specs.declared.records.Header.{Header}
+use Rattle.image_format.specs.declared.records.LineRecord.{LineRecord}
+use Rattle.image_format.specs.declared.records.RegionRecord.{RegionRecord}
+use Rattle.image_format.specs.declared.records.TaskRecord.{TaskRecord}
+use Rattle.image_format.specs.Accepted.{Accepted}
+use Rattle.image_format.specs.Names.{after_names, names_of}
+use Rattle.image_format.specs.Picture.{LinePicture, Picture, Sound, Spells, SpellsFirst, TaskPicture, all_names, all_regions, image_or_fault, line_of, line_record, names_bytes, picture_of, pictured, records_of, region_record, spelling, task_record, tasks_of}
+use Rattle.image_format.specs.Records.{Records, bytes_of, header_at, header_bytes_in, line_bytes, records_at, records_or_fault, region_bytes, task_bytes}
+use Rattle.image_format.specs.Steps.{header_size, line_fault, lines_from, lines_place, task_fault, tasks_from}
+use Rattle.image_format.proofs.Again.{IsCounted, IsPlain, header_again, reads_again, records_again}
+use Rattle.image_format.proofs.Limits.{Limits, limits, no_zero}
+use Rattle.image_format.proofs.Moved.{first_accepted}
+use Rattle.image_format.proofs.Named.{no_name}
+use Rattle.image_format.proofs.Passed.{both_none, passed_steps}
+use Rattle.image_format.proofs.Shape.{is_line, picture_again, shape_again, tasks_length}
+
+-- ---- what is read is a spelling
+
+low_at : (least tasks place : ℕ) (ls : List LineRecord) (k : ℕ) (l : LinePicture) → lines_from First least tasks place ls ≡ None → k < length (map line_of ls) → get_or (map line_of ls) k l ≡ l → l.line ≤ 31
+low_at least tasks place [] k l e lt is = absurd (omega (arith, lt))
+low_at least tasks place (m ∷ ls) zero l e lt is =
+    let a = both_none (line_fault First least tasks m place) (lines_from First (m.line + 1) tasks (place + 8) ls) e in
+    subst (λ (x : LinePicture). x.line ≤ 31) is (is_line First least tasks m place a.0).most
+low_at least tasks place (m ∷ ls) (suc k) l e lt is =
+    low_at (m.line + 1) tasks (place + 8) ls k l (both_none (line_fault First least tasks m place) (lines_from First (m.line + 1) tasks (place + 8) ls) e).1 (omega (arith, lt)) is
+
+unnamed_at : (index place : ℕ) (ts : List TaskRecord) (rs : List RegionRecord) (ns : List ℕ) (k : ℕ) (t : TaskPicture) → tasks_from First index place ts ≡ None
+    → k < length (tasks_of ts rs ns) → get_or (tasks_of ts rs ns) k t ≡ t → t.names ≡ []
+unnamed_at index place [] rs ns k t e lt is = absurd (omega (arith, lt))
+unnamed_at index place (u ∷ ts) rs ns zero t e lt is =
+    let a = both_none (task_fault First index u place) (tasks_from First (index + 1) (place + 12) ts) e in
+    sym (ap (λ (x : TaskPicture). x.names) is) ∙ ap (λ (n : ℕ). names_of n ns) (no_name index u place a.0)
+unnamed_at index place (u ∷ ts) rs ns (suc k) t e lt is =
+    unnamed_at (index + 1) (place + 12) ts (drop u.regions rs) (after_names u.names ns) k t (both_none (task_fault First index u place) (tasks_from First (index + 1) (place + 12) ts) e).1 (omega (arith, lt)) is
+
+-- accepted records of the first form are a spelling of their picture in it
+spells_first : (bytes : List ℕ) (r : Records) → r.header.form ≡ First → bytes ≡ bytes_of r → Accepted r → IsPlain r.header → SpellsFirst (picture_of r) bytes
+spells_first bytes r is spelled a plain =
+    let h = r.header in
+    let l : Limits First h = subst (λ (f : Form). Limits f h) is (limits h a.fields) in
+    let s = passed_steps r a.records in
+    let tasks : tasks_from First 0 20 r.tasks ≡ None = subst (λ (f : Form). tasks_from f 0 (header_size f) r.tasks ≡ None) is s.tasks in
+    let lines : lines_from First 0 h.tasks (lines_place h) r.lines ≡ None = subst (λ (f : Form). lines_from f 0 h.tasks (lines_place h) r.lines ≡ None) is s.lines in
+    let again : records_of First (picture_of r) ≡ r = ap (λ (f : Form). records_of f (picture_of r)) (sym is) ∙ shape_again r a (plain is).0 in
+    record {
+      spelled = spelled ∙ ap bytes_of (sym again);
+      few_tasks = omega (arith, l.tasks, a.tasks, tasks_length r.tasks r.regions r.names);
+      few_lines = omega (arith, l.lines, a.lines, length-map r.lines line_of);
+      low_lines = λ x c. low_at 0 h.tasks (lines_place h) r.lines c.0 x lines c.1 c.2;
+      unnamed = λ t c. unnamed_at 0 20 r.tasks r.regions r.names c.0 t tasks c.1 c.2;
+    }
+
+pub spells : (bytes : List ℕ) (r : Records) → bytes ≡ bytes_of r → Accepted r → IsPlain r.header → Spells (picture_of r) bytes
+spells bytes r spelled a plain = by r.header.form refl
+  where
+    by : (f : Form) → r.header.form ≡ f → Spells (picture_of r) bytes
+    by First is = inl (spells_first bytes r is spelled a plain)
+    by Second is =
+        let nothing = ((limits r.header a.fields).second is).0 in
+        let again : records_of Second (picture_of r) ≡ r = ap (λ (f : Form). records_of f (picture_of r)) (sym is) ∙ shape_again r a nothing in
+        inr (spelled ∙ ap bytes_of (sym again))
+
+-- ---- a spelling of a sound image is read as it
+
+pub no_names : (ts : List TaskPicture) → ((t : TaskPicture) → Contains ts t → t.names ≡ []) → all_names ts ≡ []
+no_names [] h = refl
+no_names (t ∷ ts) h = ap₂ (λ (xs ys : List ℕ). xs ++ ys) (ap names_bytes (h t (0, omega arith, refl))) (no_names ts (λ u is. h u (suc is.0, omega (arith, is.1), is.2)))
+
+pub second_plain : (p : Picture) → IsPlain (records_of Second p).header
+second_plain p e = cc
+
+first_plain : (p : Picture) → all_names p.tasks ≡ [] → IsPlain (records_of First p).header
+first_plain p none e = (refl, ap length none)
+
+pub read_only : (p : Picture) (bytes : List ℕ) → Spells p bytes → Sound p → image_or_fault bytes ≡ Ok p
+read_only p bytes (inl f) sound =
+    ap image_or_fault f.spelled ∙ ap pictured (reads_again (records_of First p) (first_accepted p bytes f sound) (first_plain p (no_names p.tasks f.unnamed))) ∙ ap Ok (picture_again First p)
+read_only p bytes (inr e) sound =
+    ap image_or_fault e ∙ ap pictured (reads_again (records_of Second p) sound (second_plain p)) ∙ ap Ok (picture_again Second p)
+
+-- ---- one image
+
+counted_of : (form : Form) (p : Picture) → IsCounted (records_of form p)
+counted_of form p = record {
+  tasks = length-map p.tasks task_record;
+  regions = length-map (all_regions p.tasks) region_record;
+  lines = length-map p.lines line_record;
+  names = refl;
+}
+
+-- the image that bytes of a form are read as, unchecked
+pub read : Form → List ℕ → Picture
+read form bytes = picture_of (records_at (header_at form bytes) bytes)
+
+read_again : (form : Form) (p : Picture) → IsPlain (records_of form p).header → read form (bytes_of (records_of form p)) ≡ p
+unfolding read
+read_again form p plain =
+    let r = records_of form p in
+    let rest = flat_map task_bytes r.tasks ++ (flat_map region_bytes r.regions ++ (flat_map (line_bytes form) r.lines ++ (r.names ++ r.flash))) in
+    ap (λ (h : Header). picture_of (records_at h (bytes_of r))) (header_again r.header rest plain) ∙ ap picture_of (records_again r (counted_of form p)) ∙ picture_again form p
+
+second_read : (p : Picture) → read Second (spelling p) ≡ p
+second_read p = read_again Second p (second_plain p)
+
+first_read : (p : Picture) (bytes : List ℕ) → SpellsFirst p bytes → read First bytes ≡ p
+first_read p bytes f = ap (read First) f.spelled ∙ read_again First p (first_plain p (no_names p.tasks f.unnamed))
+
+abbrev letter_of : Form → ℕ
+letter_of First = 49
+letter_of Second = 50
+
+fourth : (form : Form) (p : Picture) → slice_index (bytes_of (records_of form p)) 3 ≡ letter_of form
+unfolding header_bytes_in
+fourth First p = refl
+fourth Second p = refl
+
+not_both : (p q : Picture) {P : Type 0} → bytes_of (records_of First p) ≡ bytes_of (records_of Second q) → P
+not_both p q e = absurd (omega (arith, fourth First p, fourth Second q, ap (λ (b : List ℕ). slice_index b 3) e))
+
+pub same_image : (p q : Picture) (bytes : List ℕ) → Spells p bytes → Spells q bytes → p ≡ q
+same_image p q bytes (inl f) (inl g) = sym (first_read p bytes f) ∙ first_read q bytes g
+same_image p q bytes (inl f) (inr g) = not_both p q (sym f.spelled ∙ g)
+same_image p q bytes (inr f) (inl g) = not_both q p (sym g.spelled ∙ f)
+same_image p q bytes (inr f) (inr g) = sym (second_read p) ∙ ap (read Second) (sym f ∙ g) ∙ second_read q

@@ -1,0 +1,38 @@
+//! Where the parts of a file lie.
+
+ghost use Rattle.std.specs.Prelude.{◌≡◌, ◌≤◌};
+ghost use Rattle.image_format.specs.Steps.{header_size, lines_place, names_place, regions_place};
+
+use crate::records::{Form, Header};
+
+/// How many bytes the header takes, letters and all.
+pub(crate) fn header_size(form: Form) -> u32
+    ensures value { result ≡ header_size form }
+    ensures most { result ≤ 28 }
+{
+    match form {
+        Form::First => 20,
+        Form::Second => 28,
+    }
+}
+
+pub(crate) fn regions_place(h: &Header) -> u32
+    ensures { result ≡ regions_place h.now }
+{
+    header_size(h.form) + 12 * u32::from(h.tasks)
+}
+
+pub(crate) fn lines_place(h: &Header) -> u32
+    ensures { result ≡ lines_place h.now }
+{
+    header_size(h.form) + 12 * u32::from(h.tasks) + 12 * u32::from(h.regions)
+}
+
+pub(crate) fn names_place(h: &Header) -> u32
+    ensures { result ≡ names_place h.now }
+{
+    header_size(h.form)
+        + 12 * u32::from(h.tasks)
+        + 12 * u32::from(h.regions)
+        + 8 * u32::from(h.lines)
+}
