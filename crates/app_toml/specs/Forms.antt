@@ -1,11 +1,11 @@
 -- The forms that values have, and the first fault of a value: of cause 4 its type, 5 its range,
 -- 6 its form.
-use Rattle.std.specs.Prelude.{ℕ, ℤ, Bool, ◌+◌, ◌&&◌, ◌==◌, length, Option, None, if◌then◌else◌, int_le}
+use Rattle.std.specs.Prelude.{ℕ, ℤ, ◌+◌, ◌&&◌, ◌==◌, length, Option, None, if◌then◌else◌, int_le}
 use Rattle.text_lines.specs.Names.{is_name}
 use Rattle.toml.specs.Data.{Data, string, integer, boolean, array, Items, no_items, item}
 use Rattle.app_toml.specs.declared.forms.Form.{Form}
 use Rattle.app_toml.specs.declared.forms.Form.TheVariants.{Number, Name, Filled, Flag, Names}
-use Rattle.app_toml.specs.Places.{Refusal, Site, Text, at_entry, or_else, refuse}
+use Rattle.app_toml.specs.Places.{Refusal, Site, at_entry, or_else, refuse}
 
 abbrev pub name_fault : Site → Data → Option Refusal
 name_fault site (string text) = if is_name text then None else refuse 6 site

@@ -127,10 +127,7 @@ fn add_symbol(
 }
 
 /// The symbols by their names; of two with one name the first counts.
-fn of_symbols(
-    alloc: Global,
-    symbols: &[(String, u32)],
-) -> Result<BTreeMap<String, u32>, AllocError>
+fn of_symbols(alloc: Global, symbols: &[(String, u32)]) -> Result<BTreeMap<String, u32>, AllocError>
     ensures { IfOk result (λ index. Indexes index (names_of symbols.now)) }
 {
     let mut index: BTreeMap<String, u32> = BTreeMap::new(alloc);

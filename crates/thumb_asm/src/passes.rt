@@ -112,7 +112,7 @@ fn place_lines(
             used,
             &Names {
                 labels: &labels,
-                symbols,
+                symbols: &*symbols,
             },
         ) {
             Err(cause) => return Err(AsmFault::Refused(cause, number)),
@@ -189,7 +189,7 @@ fn assemble_given(
             base,
             &Names {
                 labels: &survey.labels,
-                symbols,
+                symbols: &*symbols,
             },
         ) {
             Err(fault) => Err(fault),

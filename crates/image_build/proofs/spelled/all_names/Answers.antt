@@ -11,7 +11,8 @@ use Rattle.image_build.proofs.spelled.all_names.Goals as goal
 pub loop-task-init : goal.loop-task-init
 loop-task-init c =
     let app = app_of c.args.app.now in
-    sym (flat_map_twice (λ (t : TaskData). names_bytes t.notifications) task_of c.tasks-tasks.result.now)
+    ap (λ (bs : List ℕ). bs ++ flat_map (λ t. names_bytes (map string_bytes t.notifications.items)) c.tasks-tasks.result.now) c.new-out.ensures.items
+    ∙ sym (flat_map_twice (λ (t : TaskData). names_bytes t.notifications) task_of c.tasks-tasks.result.now)
     ∙ ap (flat_map (λ (t : TaskData). names_bytes t.notifications)) c.tasks-tasks.ensures
     ∙ sym (names_built app 0 app.tasks)
 

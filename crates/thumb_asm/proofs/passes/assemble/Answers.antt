@@ -8,7 +8,7 @@ use Rattle.thumb_asm.specs.Passes.{Refuses, over, symbol_values, values_of}
 use Rattle.thumb_asm.proofs.Labels.{over_nothing}
 use Rattle.thumb_asm.proofs.passes.assemble.Goals as goal
 
-only_own : (c : goal.After-assemble_with) → over (symbol_values c.args.symbols.now) (values_of c.none.result) ≡ symbol_values c.args.symbols.now
+only_own : (c : goal.After-drop-none) → over (symbol_values c.args.symbols.now) (values_of c.none.result) ≡ symbol_values c.args.symbols.now
 only_own c = over_nothing (symbol_values c.args.symbols.now) (values_of c.none.result) c.none.ensures
 
 pub returns-clause-accepted : goal.returns-clause-accepted
