@@ -86,7 +86,7 @@ fn a_board_opens(rt: HostRuntime) -> Result<(), Fail> {
     let board = with_script(&rt, rt.alloc(), 0xe7fe, b"")?;
     let counts = (board.task_count(), board.next_call());
     let bytes = [board.byte(0x0800_0001), board.byte(0x0800_0100)];
-    let lines = [board.irq_line(31), board.irq_line(32)];
+    let lines = [board.irq_line(63), board.irq_line(64)];
     let is_there = [
         board.region(0, 0).is_some(),
         board.region(0, 1).is_some(),

@@ -123,7 +123,7 @@ fn the_start_of_a_run(rt: HostRuntime) -> Result<(), Fail> {
     let kernel = two_tasks(rt.alloc())?;
     let counts = [kernel.task_count(), kernel.notes().len(), kernel.current()];
     let run = (kernel.now(), kernel.next_call(), kernel.fault_bits());
-    let lines = [kernel.line(31), kernel.line(32)];
+    let lines = [kernel.line(63), kernel.line(64)];
     let names = [
         kernel.lookup(1),
         kernel.lookup(1 + 5 * 1024),
