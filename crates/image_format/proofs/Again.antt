@@ -149,7 +149,7 @@ records_again r c =
     (ap (take h.names) four ∙ upto h.names r.names r.flash c.names)
     five
 
-bytes_length : (r : Records) → IsCounted r → length r.flash ≡ r.header.flash → length (bytes_of r) ≡ total r.header
+pub bytes_length : (r : Records) → IsCounted r → length r.flash ≡ r.header.flash → length (bytes_of r) ≡ total r.header
 bytes_length r c flash =
     let h = r.header in
     let ts = flat_map task_bytes r.tasks in
