@@ -4,7 +4,6 @@ use Rattle.std.specs.List.{flat_map}
 use Rattle.std.specs.Prelude.{All}
 use Rattle.std.proofs.lemmas.Bool.{leb-true}
 use Rattle.std.proofs.lemmas.List.{get_or-map, length-map}
-use Rattle.text_lines.specs.Names.{is_name}
 use Rattle.app_toml.specs.Accepted.{IsAccepted, IsName}
 use Rattle.app_toml.specs.Apps.{AppData, TaskData}
 use Rattle.app_toml.specs.Places.{Text}
@@ -13,7 +12,7 @@ use Rattle.app_toml.specs.Sites.{task_of}
 use Rattle.app_toml.specs.declared.parts.TaskSpec.{TaskSpec}
 use Rattle.image_format.specs.Picture.{TaskPicture, all_names, name_bytes, names_bytes}
 use Rattle.image_format.proofs.Named.{AreNames}
-use Rattle.image_build.specs.Built.{task_built, tasks_from}
+use Rattle.image_build.specs.Built.{tasks_from}
 use Rattle.image_build.specs.Layout.{no_task, task_at}
 use Rattle.image_build.proofs.Finding.{is_task_in}
 use Rattle.image_build.proofs.Known.{few_notes}

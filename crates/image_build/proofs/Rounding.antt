@@ -1,8 +1,6 @@
 -- The sizes of regions are powers of two, from 256 to 2 ^ 20.
-use Rattle.std.proofs.Common.{◌≡◌, ◌∙◌, ◌++◌, ◌∷◌, [], ℕ, suc, Bool, true, ◌||◌, ◌==◌, ◌*◌, ◌%◌, ◌^◌, ◌≤◌, nat_le, refl, ap, arith, inl, inr}
-use Rattle.std.specs.List.{list_any}
+use Rattle.std.proofs.Common.{◌≡◌, ℕ, suc, true, ◌*◌, ◌%◌, ◌≤◌, nat_le, refl, arith, inl, inr}
 use Rattle.std.proofs.lemmas.Bool.{cases_Bool}
-use Rattle.std.proofs.lemmas.List.Folds.{list_any-append}
 use Rattle.region_check.specs.Sizes.{is_size}
 use Rattle.mem_plan.specs.Sizes.{doubled, rounded}
 

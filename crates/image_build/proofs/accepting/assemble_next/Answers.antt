@@ -1,4 +1,4 @@
-use Rattle.std.proofs.Common.{◌≡◌, ap, subst, IfOk, IfErr, ℕ}
+use Rattle.std.proofs.Common.{◌≡◌, subst, IfOk, IfErr, ℕ}
 use Rattle.std.specs.BTreeMap.{get_by_text}
 use Rattle.text_lines.specs.Text.{lines_of}
 use Rattle.thumb_asm.specs.Assembly.{Assembles}

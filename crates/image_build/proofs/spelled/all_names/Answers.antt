@@ -1,4 +1,4 @@
-use Rattle.std.proofs.Common.{◌≡◌, ◌∙◌, ◌++◌, List, ℕ, ◌≤◌, All, Global, String, ap, arith, length, map, rules, string_bytes, subst, sym}
+use Rattle.std.proofs.Common.{◌∙◌, ◌++◌, List, ℕ, ◌≤◌, All, Global, String, ap, arith, length, map, rules, string_bytes, subst, sym}
 use Rattle.std.proofs.lemmas.Grind.{common_steps}
 use Rattle.std.specs.List.{flat_map}
 use Rattle.app_toml.specs.Apps.{TaskData}
