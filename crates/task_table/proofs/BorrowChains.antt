@@ -21,7 +21,7 @@ use Rattle.task_table.specs.Borrows.{entry_range, grant, lease_range, entry_read
 use Rattle.task_table.specs.Sane.{Sane}
 use Rattle.task_table.specs.Grounds.{IsTakenBy, IsAlive}
 use Rattle.task_table.specs.Chain.{Here}
-use Rattle.task_table.specs.Step.{IsOpenAs, Copies, Looks, Borrows, Strikes, IsEntry, ReadsEntries, Faults}
+use Rattle.task_table.specs.Step.{IsOpenAs, IsMoved, Copies, Looks, Borrows, Strikes, IsEntry, ReadsEntries, Faults}
 use Rattle.task_table.proofs.Chains.{one, ◌▷◌}
 use Rattle.task_table.proofs.Keeps.{added_in}
 use Rattle.task_table.proofs.MessageChains.{found_taken, another}
@@ -139,9 +139,9 @@ module _ (g : Setup) (c : ℕ) (t : Turn) (h : Sane g t.state) (inside : c < len
         tt,
       )
 
-  lends : (way : Way) (x : BorrowArgs) → Moving way x → (i : ℕ) (o : Option Call) → taken_by t.state i c ≡ o → Comes g c t (borrowed_by g way c x o t)
-  lends way x moving i None found = refuses 1 t (Here t)
-  lends way x moving i (Some k) found =
+  lends : (way : Way) (x : BorrowArgs) → ((offset n : ℕ) → IsMoved way.borrow offset n) → Moving way x → (i : ℕ) (o : Option Call) → taken_by t.state i c ≡ o → Comes g c t (borrowed_by g way c x o t)
+  lends way x fits moving i None found = refuses 1 t (Here t)
+  lends way x fits moving i (Some k) found =
       let f = found_taken t.state i c k found in
       let bad = bad_byte g k.client.index right.Read (entry_range k x.lease) in
       let e = grant t.state k x.lease in
@@ -160,23 +160,23 @@ module _ (g : Setup) (c : ℕ) (t : Turn) (h : Sane g t.state) (inside : c < len
       by_outcome (is_some lacking) (λ b. refuses 1 (denied g k.client.index (access_number way.lender_access) lacking t1) (denies_lender k f (access_number way.lender_access) lacking t1 x1)) (λ lender.
       let moving1 = moving k e f (leb-false k.leases x.lease there) (λ zero. absurd (false≢true (sym set ∙ eq-eqb _ _ zero))) (ltb-false e.len x.offset near) (none_left _ own) (none_left _ lender) in
       goes_with g c t inside (0 ∷ part.len ∷ []) _ (omega arith)
-      (moving1 ▷ (Borrows k.number way.borrow x.lease x.offset part.len (moved way.borrow k part.base x.buffer_base part.len t1) (alive k f (moved way.borrow k part.base x.buffer_base part.len t1)) (still k f (moved way.borrow k part.base x.buffer_base part.len t1) (calls-moved way.borrow k part.base x.buffer_base part.len t1 ∙ still_after k f x.lease e)), tt))))))))))
+      (moving1 ▷ (Borrows k.number way.borrow x.lease x.offset part.len (moved way.borrow k part.base x.buffer_base part.len t1) (alive k f (moved way.borrow k part.base x.buffer_base part.len t1)) (still k f (moved way.borrow k part.base x.buffer_base part.len t1) (calls-moved way.borrow k part.base x.buffer_base part.len t1 ∙ still_after k f x.lease e)) (fits x.offset part.len), tt))))))))))
 
-  borrows : (way : Way) → ((x : BorrowArgs) → Moving way x) → Comes g c t (borrowed g way c t)
+  borrows : (way : Way) → ((offset n : ℕ) → IsMoved way.borrow offset n) → ((x : BorrowArgs) → Moving way x) → Comes g c t (borrowed g way c t)
   unfolding borrowed
-  borrows way moving =
+  borrows way fits moving =
       let s = t.state in
       let x = borrow_args (arguments s c) in
       let id = x.lender.number in
       by_outcome (is_out s id) (λ out. comes-misused g c t inside 2) (λ there.
       by_outcome (is_dead s id) (λ dead. refuses (dead_code_for s id) t (Here t)) (λ live.
-      lends way x (moving x) (index_of id) (taken_by s (index_of id) c) refl))
+      lends way x fits (moving x) (index_of id) (taken_by s (index_of id) c) refl))
 
   pub comes-read : Comes g c t (borrowed g reading c t)
-  comes-read = borrows reading read_moves
+  comes-read = borrows reading (λ offset n. tt) read_moves
 
   pub comes-written : Comes g c t (borrowed g writing c t)
-  comes-written = borrows writing write_moves
+  comes-written = borrows writing (λ offset n. tt) write_moves
 
   -- ## what it gets for a lease
 
@@ -191,7 +191,7 @@ module _ (g : Setup) (c : ℕ) (t : Turn) (h : Sane g t.state) (inside : c < len
       by_outcome (leb k.leases lease) (λ out. comes-misused g c t inside 8) (λ there.
       by_outcome (is_some bad) (λ b. uninforms 1 (denied g k.client.index 2 bad t) (denies_lender k f 2 bad t (Here t))) (λ readable.
       by_outcome (not (is_valid (lease_range e))) (λ b. uninforms 1 (misused g k.client.index 3 t1) (misuses_lender k f 3 t1 x1)) (λ valid.
-      goes_with g c t inside (0 ∷ bit_and e.attributes 3 ∷ e.len ∷ []) _ (omega arith) (x1 ▷ (Borrows k.number borrow.Info lease 0 0 t1 (alive k f t1) (still k f t1 (still_after k f lease e)), tt)))))
+      goes_with g c t inside (0 ∷ bit_and e.attributes 3 ∷ e.len ∷ []) _ (omega arith) (x1 ▷ (Borrows k.number borrow.Info lease 0 0 t1 (alive k f t1) (still k f t1 (still_after k f lease e)) (refl, refl), tt)))))
 
   pub comes-informed : Comes g c t (informed g c t)
   unfolding informed
