@@ -58,11 +58,6 @@ among_step p n k m rest lt is none =
     let more : n - k ≡ suc m = omega (arith, lt, is) in
     ap (λ (j : ℕ). list_any p (names_of j rest)) more ∙ ap (λ (b : Bool). b || list_any p (names_of m (after_name rest))) none
 
-pub among_first : (p : List ℕ → Bool) (n k : ℕ) (rest : List ℕ) → k < n → p (first_name rest) ≡ true → list_any p (names_of (n - k) rest) ≡ true
-among_first p n k rest lt some =
-    let more : n - k ≡ suc (n - (k + 1)) = omega (arith, lt) in
-    ap (λ (j : ℕ). list_any p (names_of j rest)) more ∙ ap (λ (b : Bool). b || list_any p (names_of (n - (k + 1)) (after_name rest))) some
-
 -- ---- faults
 
 pub some_found : (found next : Option Refusal) → is_some found ≡ true → or_else found next ≡ found
@@ -92,12 +87,6 @@ tasks_go_on end i n ts rest more found lt is are none after =
     ap (λ (us : List TaskRecord). names_from end us rest) (drop_more ts i blank lt)
     ∙ ap (λ (f : Option Refusal). or_else f (names_from end (drop (i + 1) ts) (after_names (get_or ts i blank).names rest))) (ap (λ (m : ℕ). task_names_fault m [] rest (end - length rest)) (sym is) ∙ sym are ∙ none_found found (sym none))
     ∙ ap (names_from end (drop (i + 1) ts)) (ap (λ (m : ℕ). after_names m rest) (sym is) ∙ sym after)
-
-pub tasks_end : (end i n : ℕ) (ts : List TaskRecord) (rest : List ℕ) (found : Option Refusal) → i < length ts → n ≡ (get_or ts i blank).names → found ≡ task_names_fault n [] rest (end - length rest) → true ≡ is_some found
-    → names_from end (drop i ts) rest ≡ found
-tasks_end end i n ts rest found lt is are some =
-    let mine : task_names_fault (get_or ts i blank).names [] rest (end - length rest) ≡ found = ap (λ (m : ℕ). task_names_fault m [] rest (end - length rest)) (sym is) ∙ sym are in
-    ap (λ (us : List TaskRecord). names_from end us rest) (drop_more ts i blank lt) ∙ some_found _ _ (ap is_some mine ∙ sym some) ∙ mine
 
 -- ---- as the loops have them
 
