@@ -4,6 +4,7 @@ use Rattle.std.specs.List.{range_with_len, list_all, sum_by}
 use Rattle.task_table.specs.State.{TaskSetup}
 use Rattle.task_table.specs.Reading.{around}
 use Rattle.task_table.specs.TaskSets.{has, IsFirstFrom}
+use Rattle.task_table.specs.declared.order.Order.{Order}
 
 -- the priority numbers of tasks, by index
 abbrev pub priorities_of : List TaskSetup → List ℕ
@@ -39,6 +40,11 @@ pub record ArePlaces (n : ℕ) (places : List ℕ) : Type 0 where
 -- a task is in a set of places
 abbrev pub has_task : List ℕ → List ℕ → ℕ → Bool
 has_task places words i = has words (place_in places i)
+
+-- that is the order of the tasks, and a set has the places of just those of which a test holds
+pub record AreAtPlaces (tasks : List TaskSetup) (order : Order) (words : List ℕ) (test : ℕ → Bool) : Type 0 where
+  pub ordered : AreOrdered (priorities_of tasks) order.keys.items order.places.items
+  pub each : (i : ℕ) → i < length tasks → has_task order.places.items words i ≡ test i
 
 -- it is among them, and none of them has a lower priority number
 abbrev pub is_lowest : List ℕ → (ℕ → Bool) → ℕ → ℕ → Bool

@@ -20,7 +20,7 @@ returns-clause-best c = λ g t h.
     let there : c.args.receiver < length ps = omega (arith, c.requires.there, h.holds.count, h.holds.many, many) in
     c.first_around.ensures ps (c.order.ensures.holds g t h.holds) (omega (arith, there))
     ∙ best_is g t.state c.args.receiver (has_task c.order.result.now.places.items words) (length ps) (many ∙ h.holds.many) there
-    (λ j below. ap (λ (o : Order). has_task o.places.items words j) c.order.ensures.value ∙ c.clients.ensures.stands g t h j (omega (arith, below, many)))
+    (λ j below. ap (λ (o : Order). has_task o.places.items words j) c.order.ensures.value ∙ (c.clients.ensures.stands g t h).each j (omega (arith, below, many)))
 
 pub returns-clause-inside : goal.returns-clause-inside
 returns-clause-inside c =

@@ -19,4 +19,4 @@ returns c = λ g t h.
     let inside : c.current.result ≤ length ps = omega (arith, c.current.ensures.there, h.count, h.many, many) in
     c.first_around.ensures ps (c.order.ensures.holds g t h) inside
     ∙ chosen_is g t.state (has_task c.order.result.now.places.items words) (length ps) c.current.result (many ∙ h.many) (c.current.ensures.holds g t h) inside
-    (λ j below. ap (λ (o : Order). has_task o.places.items words j) c.order.ensures.value ∙ c.ready.ensures.holds g t h j (omega (arith, below, many)))
+    (λ j below. ap (λ (o : Order). has_task o.places.items words j) c.order.ensures.value ∙ (c.ready.ensures.holds g t h).each j (omega (arith, below, many)))

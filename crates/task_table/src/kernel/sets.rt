@@ -10,7 +10,7 @@ impl Kernel {
     ghost use Rattle.task_table.specs.Limits.{most_tasks};
     ghost use Rattle.task_table.specs.Reading.{is_ready, offers};
     ghost use Rattle.task_table.specs.TaskSets.{has};
-    ghost use Rattle.task_table.specs.Order.{has_task, priorities_of, AreOrdered};
+    ghost use Rattle.task_table.specs.Order.{priorities_of, AreAtPlaces, AreOrdered};
     ghost use Rattle.task_table.specs.Holds.{Holds, Stands, order_of, task_count};
 
     /// The order in which tasks are chosen: by priority number, and equal ones by index.
@@ -28,7 +28,7 @@ impl Kernel {
     #[inline(always)]
     pub fn ready(&self) -> &TaskSet
         ensures there { (p : ℕ) → has result.now.words p ≡ true → p < task_count self.now }
-        ensures holds { (g : Setup) (t : Turn) → Holds g self.now t → (i : ℕ) → i < length g.tasks → has_task (order_of self.now).places.items result.now.words i ≡ is_ready t.state i }
+        ensures holds { (g : Setup) (t : Turn) → Holds g self.now t → AreAtPlaces g.tasks (order_of self.now) result.now.words (is_ready t.state) }
     {
         &self.ready
     }
@@ -38,7 +38,7 @@ impl Kernel {
     pub fn clients(&self, server: usize) -> &TaskSet
         requires { server < task_count self.now }
         ensures there { (p : ℕ) → has result.now.words p ≡ true → p < task_count self.now }
-        ensures stands { (g : Setup) (t : Turn) → Stands g self.now t → (i : ℕ) → i < length g.tasks → has_task (order_of self.now).places.items result.now.words i ≡ offers t.state server i }
+        ensures stands { (g : Setup) (t : Turn) → Stands g self.now t → AreAtPlaces g.tasks (order_of self.now) result.now.words (offers t.state server) }
     {
         &self.offers[server]
     }

@@ -2,7 +2,7 @@ use Rattle.std.proofs.Common.{◌<◌, ◌≤◌, length, arith, sym, subst}
 use Rattle.task_table.specs.Holds.{kept_of}
 use Rattle.task_table.specs.Readiness.{is_client_of, AreThose}
 use Rattle.task_table.specs.declared.task_set.TaskSet.{TaskSet}
-use Rattle.task_table.proofs.Members.{those_there, offers_kept}
+use Rattle.task_table.proofs.Members.{kernel_ordered, those_there, offers_kept}
 use Rattle.task_table.proofs.kernel.Kernel.clients.Goals as goal
 
 clients_are : (c : goal.After-index) → AreThose (is_client_of c.args.server) c.args.self.now.slots.items c.args.self.now.order.places.items c.index.result.now.words
@@ -17,7 +17,10 @@ returns-clause-there c = λ p is.
     those_there (is_client_of c.args.server) k.slots.items k.order.places.items c.index.result.now.words p (clients_are c) is
 
 pub returns-clause-stands : goal.returns-clause-stands
-returns-clause-stands c = λ g t h i there.
+returns-clause-stands c = λ g t h.
     let k = c.args.self.now in
     let small : length k.slots.items ≤ 1024 = omega (arith, k.few) in
-    offers_kept g (kept_of k) t c.args.server k.order.places.items c.index.result.now.words h.holds h.sane small (clients_are c) i there
+    record {
+      ordered = kernel_ordered g k t h.holds;
+      each = offers_kept g (kept_of k) t c.args.server k.order.places.items c.index.result.now.words h.holds h.sane small (clients_are c);
+    }
