@@ -1,5 +1,5 @@
 -- What is written reads back, in both forms.
-use Rattle.std.proofs.Common.{◌≡◌, ◌∙◌, ◌+◌, ◌*◌, ◌/◌, ◌%◌, ◌≤◌, ℕ, List, [], ◌∷◌, ◌++◌, Ok, None, Some, Option, Result, length, length-append, drop, take, arith, ap, ap₂, refl, sym, subst, append_assoc, ◌==◌, true, false, Bool}
+use Rattle.std.proofs.Common.{◌≡◌, ◌∙◌, ◌+◌, ◌*◌, ◌/◌, ◌%◌, ◌≤◌, ℕ, List, [], ◌∷◌, ◌++◌, Ok, None, Some, Option, Result, length, length-append, drop, take, arith, ap, ap₂, refl, sym, ◌==◌, true, false}
 use Rattle.std.specs.List.{flat_map}
 use Rattle.std.proofs.lemmas.Bool.{le-ltb}
 use Rattle.std.proofs.lemmas.List.{drop-drop}
@@ -89,6 +89,10 @@ first_again h rest is nothing none =
 abbrev pub IsPlain : Header → Type 0
 IsPlain h = h.form ≡ First → (h.zero ≡ 0) × (h.names ≡ 0)
 
+-- a header of the second form is
+pub plain_second : (h : Header) → h.form ≡ Second → IsPlain h
+plain_second h is e = let both : First ≡ Second = sym e ∙ is in cc
+
 header_again_in : (f : Form) (h : Header) (rest : List ℕ) → h.form ≡ f → IsPlain h → header_at f (header_bytes_in f h ++ rest) ≡ h
 header_again_in First h rest is plain = let p = plain is in first_again h rest is p.0 p.1
 header_again_in Second h rest is plain = second_again h rest is
@@ -145,16 +149,28 @@ records_again r c =
     (ap (take h.names) four ∙ upto h.names r.names r.flash c.names)
     five
 
-bytes_length : (r : Records) → IsCounted r → length r.flash ≡ r.header.flash → length (bytes_of r) ≡ total r.header
+pub bytes_length : (r : Records) → IsCounted r → length r.flash ≡ r.header.flash → length (bytes_of r) ≡ total r.header
 bytes_length r c flash =
     let h = r.header in
     let ts = flat_map task_bytes r.tasks in
     let rs = flat_map region_bytes r.regions in
     let ls = flat_map (line_bytes h.form) r.lines in
     omega (
-      arith, header_length h.form h, tasks_length r.tasks, regions_length r.regions, lines_length h.form r.lines, c.tasks, c.regions, c.lines, c.names, flash,
-      length-append (header_bytes h) (ts ++ (rs ++ (ls ++ (r.names ++ r.flash)))), length-append ts (rs ++ (ls ++ (r.names ++ r.flash))), length-append rs (ls ++ (r.names ++ r.flash)),
-      length-append ls (r.names ++ r.flash), length-append r.names r.flash,
+      arith,
+      header_length h.form h,
+      tasks_length r.tasks,
+      regions_length r.regions,
+      lines_length h.form r.lines,
+      c.tasks,
+      c.regions,
+      c.lines,
+      c.names,
+      flash,
+      length-append (header_bytes h) (ts ++ (rs ++ (ls ++ (r.names ++ r.flash)))),
+      length-append ts (rs ++ (ls ++ (r.names ++ r.flash))),
+      length-append rs (ls ++ (r.names ++ r.flash)),
+      length-append ls (r.names ++ r.flash),
+      length-append r.names r.flash,
     )
 
 -- ---- the steps

@@ -1,5 +1,5 @@
 -- What is known of each sound image, from what the steps say.
-use Rattle.std.proofs.Common.{◌≡◌, ◌∙◌, ◌+◌, ◌-◌, ◌*◌, ◌%◌, ◌<◌, ◌≤◌, ℕ, zero, suc, List, [], ◌∷◌, ◌++◌, Bool, true, false, not, ◌||◌, ◌&&◌, ◌==◌, None, length, take, drop, map, get_or, nat_le, nat_lt, ◌⊎◌, inl, inr, arith, ap, refl, sym, subst, append_assoc}
+use Rattle.std.proofs.Common.{◌≡◌, ◌∙◌, ◌+◌, ◌-◌, ◌*◌, ◌%◌, ◌<◌, ◌≤◌, ℕ, zero, suc, List, All, [], ◌∷◌, ◌++◌, Bool, true, false, not, ◌||◌, ◌&&◌, ◌==◌, None, length, take, drop, map, get_or, nat_le, nat_lt, ◌⊎◌, inl, inr, arith, ap, refl, sym, subst, append_assoc}
 use Rattle.std.specs.Prelude.{Contains}
 use Rattle.std.specs.List.{list_all, list_any}
 use Rattle.std.proofs.lemmas.Bool.{cases_lt, eqb-true, le-leb, leb-true, lt-ltb, ltb-false, ltb-true}
@@ -17,7 +17,7 @@ use Rattle.region_check.specs.Rights.{gives, may_use}
 use Rattle.image_format.specs.Accepted.{Accepted}
 use Rattle.image_format.specs.Facts.{Facts, HasLines, HasNames, HasRegions, HasSizes, HasTasks, IsInFlash, IsInRam, SameOrApart}
 use Rattle.image_format.specs.Picture.{LinePicture, Picture, TaskPicture, line_of, names_in, no_line, no_task, picture_of, region_of, regions_in, rights_of, task_of, tasks_of}
-use Rattle.image_format.specs.Names.{after_names, names_from, names_of, task_names_fault}
+use Rattle.image_format.specs.Names.{after_names, names_from, task_names_fault}
 use Rattle.image_format.specs.Records.{Records}
 use Rattle.image_format.specs.Regions.{clashes, cuts, entries_from, entry_fault, has_area, lies_in, meets, own_fault, region_fault, regions_from, runs_at}
 use Rattle.region_check.specs.Sizes.{is_size, sizes}
@@ -396,21 +396,24 @@ names_count [] ns i lt = absurd (omega (arith, lt))
 names_count (t ∷ ts) ns zero lt = names_length t.names ns
 names_count (t ∷ ts) ns (suc i) lt = names_count ts (after_names t.names ns) i (omega (arith, lt))
 
+all_new : (r : Records) → Accepted r → (i : ℕ) → AreNew [] (names_in (picture_of r) i)
+all_new r a i = subst (AreNew []) (sym (names_looked r.tasks r.regions r.names i)) (names_new (names_place r.header + length r.names) r.tasks r.names i (passed_steps r a.records).names)
+
+pub all_named : (r : Records) → Accepted r → (i : ℕ) → All (λ name. is_name name ≡ true) (names_in (picture_of r) i)
+all_named r a i k d lt = new_named [] (names_in (picture_of r) i) (all_new r a i) k d lt
+
 has_names : (r : Records) → Accepted r → HasNames (picture_of r)
 has_names r a = record {
   few = λ i. elim (cases_lt i (length r.tasks)) [
     | inl lt ↦ omega (arith, ap length (look i), names_count r.tasks r.names i lt, (task_there r a i lt).most_names, most_32 r.header.form)
     | inr le ↦ let e = ap (λ (t : TaskPicture). length t.names) (past_end r.tasks r.regions r.names i le) in omega (arith, e)
   ];
-  named = λ i name c. subst (λ (n : List ℕ). is_name n ≡ true) c.2 (new_named [] (names_in (picture_of r) i) (new i) c.0 name c.1);
-  different = λ i k m lt below. new_apart [] (names_in (picture_of r) i) (new i) k m lt below;
+  named = λ i name c. subst (λ (n : List ℕ). is_name n ≡ true) c.2 (new_named [] (names_in (picture_of r) i) (all_new r a i) c.0 name c.1);
+  different = λ i k m lt below. new_apart [] (names_in (picture_of r) i) (all_new r a i) k m (omega (arith, lt)) below;
 }
   where
     look : (i : ℕ) → names_in (picture_of r) i ≡ names_at r.tasks r.names i
     look i = names_looked r.tasks r.regions r.names i
-
-    new : (i : ℕ) → AreNew [] (names_in (picture_of r) i)
-    new i = subst (AreNew []) (sym (look i)) (names_new (names_place r.header + length r.names) r.tasks r.names i (passed_steps r a.records).names)
 
 -- ---- the whole
 

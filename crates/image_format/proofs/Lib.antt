@@ -10,3 +10,4 @@ pub mod Shape
 pub mod Spelled
 pub mod Spellings
 pub mod Steps
+pub mod Texts

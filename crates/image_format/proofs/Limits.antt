@@ -1,5 +1,5 @@
 -- What a header that is not refused says of its numbers.
-use Rattle.std.proofs.Common.{◌≡◌, ◌∙◌, ◌*◌, ◌≤◌, ◌<◌, ℕ, List, Option, cond, None, Some, arith, Bool, true, false, not, ◌||◌, ◌==◌, ap, refl, sym, nat_lt}
+use Rattle.std.proofs.Common.{◌≡◌, ◌*◌, ◌≤◌, ◌<◌, ℕ, List, Option, cond, None, Some, arith, Bool, true, false, not, ◌||◌, ◌==◌, refl, nat_lt}
 use Rattle.std.proofs.lemmas.Bool.{eqb-true, le-ltb, ltb-false}
 use Rattle.std.proofs.lemmas.Bool.Decides.{nat_tests}
 use Rattle.image_format.specs.declared.records.Form.{Form}
@@ -7,7 +7,7 @@ use Rattle.image_format.specs.declared.records.Form.TheVariants.{First, Second}
 use Rattle.image_format.specs.declared.records.Header.{Header}
 use Rattle.image_format.specs.declared.records.TaskRecord.{TaskRecord}
 use Rattle.image_format.specs.Records.{header_at, total}
-use Rattle.image_format.specs.Steps.{Refusal, count_fault, count_place, counted, field_fault, field_fault_in, first_field_fault, header_size, lines_place, most_lines, most_tasks, names_place, regions_place, second_field_fault}
+use Rattle.image_format.specs.Steps.{Refusal, count_fault, count_place, counted, field_fault, field_fault_in, header_size, lines_place, most_lines, most_tasks, names_place, regions_place}
 
 -- a table that refuses nothing: its first row's condition does not hold, nor does another's
 pub row_none : (b : Bool) (r : Refusal) (next : Option Refusal) → cond b (Some r) next ≡ None → (b ≡ false) × (next ≡ None)

@@ -1,5 +1,5 @@
 -- Records that no step refuses in one form are refused by none in the other, where they keep its limits: the conditions are the same, and a place matters only where something is refused.
-use Rattle.std.proofs.Common.{◌≡◌, ◌∙◌, ◌+◌, ◌*◌, ◌%◌, ◌<◌, ◌≤◌, ℕ, zero, suc, List, [], ◌∷◌, ◌++◌, Bool, true, false, not, ◌||◌, ◌&&◌, ◌==◌, None, Some, Option, length, take, drop, map, get_or, nat_le, nat_lt, cond, arith, ap, refl, sym, subst}
+use Rattle.std.proofs.Common.{◌≡◌, ◌+◌, ◌*◌, ◌%◌, ◌≤◌, ℕ, suc, List, [], ◌∷◌, ◌++◌, Bool, true, false, not, ◌||◌, ◌&&◌, ◌==◌, None, Some, length, take, drop, map, nat_le, nat_lt, cond, arith, ap, refl}
 use Rattle.std.specs.Prelude.{Contains}
 use Rattle.std.specs.List.{list_any}
 use Rattle.image_format.specs.declared.records.Form.{Form}
@@ -9,11 +9,10 @@ use Rattle.image_format.specs.declared.records.TaskRecord.{TaskRecord}
 use Rattle.image_format.specs.declared.records.RegionRecord.{RegionRecord}
 use Rattle.image_format.specs.declared.records.LineRecord.{LineRecord}
 use Rattle.image_format.specs.Accepted.{Accepted}
-use Rattle.image_format.specs.Names.{names_fault, names_from}
 use Rattle.image_format.specs.Picture.{LinePicture, Picture, Sound, SpellsFirst, TaskPicture, line_record, records_of, task_record}
-use Rattle.image_format.specs.Records.{Records, records_fault}
-use Rattle.image_format.specs.Regions.{clashes, entries_fault, entries_from, entry_fault, has_area, has_rights, has_shape, own_fault, region_fault, regions_fault, regions_from, runs_at}
-use Rattle.image_format.specs.Steps.{Refusal, count_fault, count_place, counted, field_fault, header_size, highest_line, line_fault, lines_fault, lines_from, lines_place, most_names, names_place, regions_place, task_fault, tasks_fault, tasks_from}
+use Rattle.image_format.specs.Records.{Records}
+use Rattle.image_format.specs.Regions.{clashes, entries_from, entry_fault, has_area, has_rights, has_shape, own_fault, region_fault, regions_from, runs_at}
+use Rattle.image_format.specs.Steps.{Refusal, count_place, counted, header_size, highest_line, line_fault, lines_from, lines_place, most_names, names_place, regions_place, task_fault, tasks_from}
 use Rattle.image_format.proofs.Limits.{Limits, limits, lines_64, no_zero, not_above, plain_names, above, or_false, both_false, row_none, row_pass, taken, tasks_512}
 use Rattle.image_format.proofs.Named.{names_moved}
 use Rattle.image_format.proofs.Passed.{Passed, both_none, none_both, passed_steps, steps_passed}

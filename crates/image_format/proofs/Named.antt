@@ -1,5 +1,5 @@
 -- Names, one after the other.
-use Rattle.std.proofs.Common.{◌≡◌, ◌≢◌, ◌∙◌, ◌+◌, ◌-◌, ◌<◌, ◌≤◌, ℕ, zero, suc, Bool, true, false, not, ◌||◌, ◌&&◌, ◌==◌, ◌⊎◌, inl, inr, List, [], ◌∷◌, ◌++◌, Option, Some, None, All, AllPairs, length, map, take, drop, get_or, refl, sym, subst, ap, ap₂, arith, append_assoc, nat_le, length-append, cond, nat_lt}
+use Rattle.std.proofs.Common.{◌≡◌, ◌≢◌, ◌∙◌, ◌+◌, ◌-◌, ◌<◌, ◌≤◌, ℕ, zero, suc, Bool, true, false, not, ◌||◌, ◌&&◌, ◌==◌, List, [], ◌∷◌, ◌++◌, Option, Some, None, All, AllPairs, length, map, take, drop, get_or, refl, sym, subst, ap, ap₂, arith, append_assoc, nat_le, length-append, cond, nat_lt}
 use Rattle.std.specs.Cmp.Lexicographic.{bytes_decides}
 use Rattle.std.specs.List.{list_any}
 use Rattle.std.specs.Option.{is_some}
@@ -11,13 +11,17 @@ use Rattle.image_format.specs.declared.records.Form.TheVariants.{First, Second}
 use Rattle.image_format.specs.declared.records.RegionRecord.{RegionRecord}
 use Rattle.image_format.specs.declared.records.TaskRecord.{TaskRecord}
 use Rattle.image_format.specs.Names.{after_name, after_names, first_name, is_spelled, left_fault, name_fault, names_fault, names_from, names_of, same_name, task_names_fault}
-use Rattle.image_format.specs.Picture.{Picture, TaskPicture, all_names, header_of, name_bytes, names_bytes, task_of, task_record, tasks_of}
+use Rattle.image_format.specs.Picture.{Picture, TaskPicture, all_names, header_of, name_bytes, names_bytes, task_record, tasks_of}
 use Rattle.image_format.specs.Steps.{Refusal, names_place, or_else, task_fault, tasks_from}
 use Rattle.image_format.proofs.Chunks.{blank, none_found}
 use Rattle.image_format.proofs.Limits.{above, or_false, row_none, row_pass}
 use Rattle.image_format.proofs.Passed.{both_none, none_both}
 
 -- ---- one after the other
+
+pub and_true : (a b : Bool) → (a && b) ≡ true → (a ≡ true) × (b ≡ true)
+and_true true b e = (refl, e)
+and_true false b e = cc
 
 after_suc : (k : ℕ) (bytes : List ℕ) → after_names (suc k) bytes ≡ after_name (after_names k bytes)
 after_suc zero bytes = refl
@@ -54,11 +58,6 @@ among_step p n k m rest lt is none =
     let more : n - k ≡ suc m = omega (arith, lt, is) in
     ap (λ (j : ℕ). list_any p (names_of j rest)) more ∙ ap (λ (b : Bool). b || list_any p (names_of m (after_name rest))) none
 
-pub among_first : (p : List ℕ → Bool) (n k : ℕ) (rest : List ℕ) → k < n → p (first_name rest) ≡ true → list_any p (names_of (n - k) rest) ≡ true
-among_first p n k rest lt some =
-    let more : n - k ≡ suc (n - (k + 1)) = omega (arith, lt) in
-    ap (λ (j : ℕ). list_any p (names_of j rest)) more ∙ ap (λ (b : Bool). b || list_any p (names_of (n - (k + 1)) (after_name rest))) some
-
 -- ---- faults
 
 pub some_found : (found next : Option Refusal) → is_some found ≡ true → or_else found next ≡ found
@@ -88,12 +87,6 @@ tasks_go_on end i n ts rest more found lt is are none after =
     ap (λ (us : List TaskRecord). names_from end us rest) (drop_more ts i blank lt)
     ∙ ap (λ (f : Option Refusal). or_else f (names_from end (drop (i + 1) ts) (after_names (get_or ts i blank).names rest))) (ap (λ (m : ℕ). task_names_fault m [] rest (end - length rest)) (sym is) ∙ sym are ∙ none_found found (sym none))
     ∙ ap (names_from end (drop (i + 1) ts)) (ap (λ (m : ℕ). after_names m rest) (sym is) ∙ sym after)
-
-pub tasks_end : (end i n : ℕ) (ts : List TaskRecord) (rest : List ℕ) (found : Option Refusal) → i < length ts → n ≡ (get_or ts i blank).names → found ≡ task_names_fault n [] rest (end - length rest) → true ≡ is_some found
-    → names_from end (drop i ts) rest ≡ found
-tasks_end end i n ts rest found lt is are some =
-    let mine : task_names_fault (get_or ts i blank).names [] rest (end - length rest) ≡ found = ap (λ (m : ℕ). task_names_fault m [] rest (end - length rest)) (sym is) ∙ sym are in
-    ap (λ (us : List TaskRecord). names_from end us rest) (drop_more ts i blank lt) ∙ some_found _ _ (ap is_some mine ∙ sym some) ∙ mine
 
 -- ---- as the loops have them
 
@@ -140,10 +133,6 @@ names_after (n ∷ names) rest = ap (after_names (length names)) (after_of_bytes
 abbrev pub AreNew : List (List ℕ) → List (List ℕ) → Type 0
 AreNew earlier [] = Unit {0}
 AreNew earlier (n ∷ ns) = (is_name n ≡ true) × (list_any (λ m. same_name m n) earlier ≡ false) × AreNew (earlier ++ n ∷ []) ns
-
-and_true : (a b : Bool) → (a && b) ≡ true → (a ≡ true) × (b ≡ true)
-and_true true b e = (refl, e)
-and_true false b e = cc
 
 not_false : (b : Bool) → not b ≡ false → b ≡ true
 not_false true e = refl
@@ -262,8 +251,7 @@ all_new : (earlier names : List (List ℕ)) → All (λ name. is_name name ≡ t
 all_new earlier [] named apart = tt
 all_new earlier (n ∷ ns) named apart =
     let seam = at_seam earlier ns n in
-    let long : length earlier < length (earlier ++ n ∷ ns) = omega (arith, length-append earlier (n ∷ ns)) in
-    (
+    let long : length earlier < length (earlier ++ n ∷ ns) = omega (arith, length-append earlier (n ∷ ns)) in (
       named 0 [] (omega arith),
       none_before earlier n (λ k lt. subst (λ (x : List ℕ). x ≢ n) (get_or_append_left earlier (n ∷ ns) [] k lt) (subst (λ (y : List ℕ). get_or (earlier ++ n ∷ ns) k [] ≢ y) seam (apart k (length earlier) [] lt long))),
       all_new (earlier ++ n ∷ []) ns (λ k d lt. named (suc k) d (omega (arith, lt))) (subst (AllPairs (λ m n. m ≢ n)) (sym (append_assoc earlier (n ∷ []) ns)) apart),

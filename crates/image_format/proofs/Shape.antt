@@ -7,7 +7,7 @@ use Rattle.std.proofs.lemmas.Bool.Decides.{nat_tests}
 use Rattle.std.proofs.lemmas.List.{length-map, length-take, map-append, take-append-drop}
 use Rattle.std.proofs.lemmas.List.Sums.{sum_by-cons}
 use Rattle.image_format.specs.declared.records.Form.{Form}
-use Rattle.image_format.specs.declared.records.Form.TheVariants.{First, Second}
+use Rattle.image_format.specs.declared.records.Form.TheVariants.{Second}
 use Rattle.image_format.specs.declared.records.Header.{Header}
 use Rattle.image_format.specs.declared.records.TaskRecord.{TaskRecord}
 use Rattle.image_format.specs.declared.records.RegionRecord.{RegionRecord}
@@ -248,7 +248,11 @@ same_records : (r : Records) (t l g z f n : ℕ) (ts : List TaskRecord) (rs : Li
     → t ≡ r.header.tasks → l ≡ r.header.lines → g ≡ r.header.regions → z ≡ r.header.zero → f ≡ r.header.flash → n ≡ r.header.names → ts ≡ r.tasks → rs ≡ r.regions → ls ≡ r.lines → ns ≡ r.names
     → ◌≡◌ {A = Records} (record {
       header = record { form = r.header.form; tasks = t; lines = l; regions = g; zero = z; flash = f; ram = r.header.ram; bits = r.header.bits; names = n };
-      tasks = ts; regions = rs; lines = ls; names = ns; flash = r.flash
+      tasks = ts;
+      regions = rs;
+      lines = ls;
+      names = ns;
+      flash = r.flash;
     }) r
 same_records r t l g z f n ts rs ls ns a b c d e h x y u v = rw (a, b, c, d, e, h, x, y, u, v) refl
 

@@ -1,5 +1,5 @@
 -- What bytes of either form are read as.
-use Rattle.std.proofs.Common.{◌≡◌, ◌∙◌, ◌≤◌, ◌<◌, ◌+◌, ℕ, zero, suc, List, [], ◌∷◌, ◌++◌, Ok, None, drop, ◌⊎◌, inl, inr, length, map, get_or, arith, ap, ap₂, refl, sym, subst}
+use Rattle.std.proofs.Common.{◌≡◌, ◌∙◌, ◌≤◌, ◌<◌, ◌+◌, ℕ, zero, suc, List, [], ◌∷◌, ◌++◌, Ok, None, drop, inl, inr, length, map, get_or, arith, ap, ap₂, refl, sym, subst}
 use Rattle.std.specs.Prelude.{Contains, slice_index}
 use Rattle.std.specs.List.{flat_map}
 use Rattle.std.proofs.lemmas.List.{length-map}
@@ -12,10 +12,10 @@ use Rattle.image_format.specs.declared.records.TaskRecord.{TaskRecord}
 use Rattle.image_format.specs.Accepted.{Accepted}
 use Rattle.image_format.specs.Names.{after_names, names_of}
 use Rattle.image_format.specs.Picture.{LinePicture, Picture, Sound, Spells, SpellsFirst, TaskPicture, all_names, all_regions, image_or_fault, line_of, line_record, names_bytes, picture_of, pictured, records_of, region_record, spelling, task_record, tasks_of}
-use Rattle.image_format.specs.Records.{Records, bytes_of, header_at, header_bytes_in, line_bytes, records_at, records_or_fault, region_bytes, task_bytes}
+use Rattle.image_format.specs.Records.{Records, bytes_of, header_at, header_bytes_in, line_bytes, records_at, region_bytes, task_bytes}
 use Rattle.image_format.specs.Steps.{header_size, line_fault, lines_from, lines_place, task_fault, tasks_from}
-use Rattle.image_format.proofs.Again.{IsCounted, IsPlain, header_again, reads_again, records_again}
-use Rattle.image_format.proofs.Limits.{Limits, limits, no_zero}
+use Rattle.image_format.proofs.Again.{IsCounted, IsPlain, bytes_length, header_again, reads_again, records_again}
+use Rattle.image_format.proofs.Limits.{Limits, limits, short_total}
 use Rattle.image_format.proofs.Moved.{first_accepted}
 use Rattle.image_format.proofs.Named.{no_name}
 use Rattle.image_format.proofs.Passed.{both_none, passed_steps}
@@ -94,6 +94,12 @@ counted_of form p = record {
   lines = length-map p.lines line_record;
   names = refl;
 }
+
+-- a spelling of a sound image is no longer than a file may be
+pub short_spelling : (p : Picture) → Sound p → length (spelling p) ≤ 2097152
+short_spelling p a =
+    let r = records_of Second p in
+    omega (arith, bytes_length r (counted_of Second p) a.flash, short_total r.header a.fields (λ e. (second_plain p e).1))
 
 -- the image that bytes of a form are read as, unchecked
 pub read : Form → List ℕ → Picture

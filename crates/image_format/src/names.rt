@@ -103,7 +103,11 @@ pub(crate) fn skip_names(n: usize, bytes: &[u8]) -> &[u8]
 fn check_left(bytes: &[u8]) -> Option<(u8, u32)>
     ensures { result ≡ left_fault bytes.now }
 {
-    if bytes.is_empty() { None } else { Some((3, 24)) }
+    if bytes.is_empty() {
+        None
+    } else {
+        Some((3, 24))
+    }
 }
 
 /// The first refusal of the names of all tasks, which end at the place, and of bytes behind them.

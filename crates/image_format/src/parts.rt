@@ -219,7 +219,12 @@ pub(crate) fn parts_of(alloc: Global, header: Header, bytes: &[u8]) -> Result<Pa
         header,
         tasks: tasks_of(alloc, usize::from(header.tasks), behind_header)?,
         regions: regions_of(alloc, usize::from(header.regions), behind_tasks)?,
-        lines: lines_of(alloc, header.form, usize::from(header.lines), behind_regions)?,
+        lines: lines_of(
+            alloc,
+            header.form,
+            usize::from(header.lines),
+            behind_regions,
+        )?,
         names: names.to_vec(alloc)?,
         flash: flash.to_vec(alloc)?,
     })

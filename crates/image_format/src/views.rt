@@ -179,6 +179,7 @@ impl Image {
     }
 
     /// The names of the i-th task's notifications, of which the k-th is bit k.
+    #[tactic(auto, using(crate::proofs::Shape::tasks_length))]
     pub fn notifications(&self, alloc: Global, i: usize) -> Result<Vec<String>, AllocError>
         requires { i < length (picture self.now).tasks }
         ensures { IfOk result (λ v. map string_bytes v.items ≡ names_in (picture self.now) i) }

@@ -84,9 +84,7 @@ fn push_line(out: &mut Vec<u8>, l: &LineRecord) -> Result<(), AllocError>
     requires { l.now.zero ≡ 0 }
     ensures { OnOk result (out.new.items ≡ out.old.items ++ line_bytes Second l.now) }
 {
-    out.push(l.line)?;
-    out.push(0)?;
-    push_half(out, l.task)?;
+    push_four(out, l.line, 0, (l.task % 256) as u8, (l.task / 256) as u8)?;
     push_num(out, l.bits)
 }
 

@@ -2,6 +2,7 @@
 #![tactic(auto)]
 
 ghost use Rattle.std.specs.Prelude.{◌≡◌, ◌≤◌, ◌<◌, IfOk, length, map, string_bytes};
+ghost use Rattle.serde_json.specs.Data.{string};
 ghost use Rattle.serde_json.specs.View.{view};
 ghost use Rattle.serde_json.specs.Written.{compact_text};
 ghost use Rattle.image_format.specs.Images.{picture};
@@ -52,6 +53,32 @@ fn regions_of(alloc: Global, image: &Image, i: usize) -> Result<Vec<Value>, Allo
     region_values(alloc, regions.as_slice())
 }
 
+fn name_value(alloc: Global, name: &str) -> Result<Value, AllocError>
+    ensures { IfOk result (λ v. view v ≡ string name.now) }
+{
+    let text = String::from_str(alloc, name)?;
+    Ok(Value::String(text))
+}
+
+fn name_values(alloc: Global, names: &[String]) -> Result<Vec<Value>, AllocError>
+    ensures { IfOk result (λ v. map view v.items ≡ map string (map string_bytes names.now)) }
+{
+    let mut values = Vec::new(alloc);
+    for name in names {
+        values.push(name_value(alloc, name.as_str())?)?;
+    }
+    Ok(values)
+}
+
+/// The names of the i-th task's notifications.
+fn names_of(alloc: Global, image: &Image, i: usize) -> Result<Vec<Value>, AllocError>
+    requires { i < length (picture image.now).tasks }
+    ensures { IfOk result (λ v. map view v.items ≡ map string (task_in (picture image.now) i).names) }
+{
+    let names = image.notifications(alloc, i)?;
+    name_values(alloc, names.as_slice())
+}
+
 /// 1 for a task that runs at the start, else 0.
 fn start_of(image: &Image, i: usize) -> u8
     requires { i < length (picture image.now).tasks }
@@ -65,9 +92,11 @@ fn task_value(alloc: Global, image: &Image, i: usize) -> Result<Value, AllocErro
     ensures { IfOk result (λ v. view v ≡ task_data (task_in (picture image.now) i)) }
 {
     let start = start_of(image, i);
+    let names = names_of(alloc, image, i)?;
     let regions = regions_of(alloc, image, i)?;
     json!(in alloc; {
         "entry": image.entry(i),
+        "notifications": names,
         "priority": image.priority(i),
         "regions": regions,
         "sp": image.sp(i),
@@ -122,7 +151,7 @@ fn image_value(alloc: Global, image: &Image) -> Result<Value, AllocError>
 
 /// The image as one JSON object without blanks, its keys in byte order (docs/FORMATS.md, Listing):
 /// how many bytes of flash and of RAM, the interrupts, the bits posted to the supervisor at a fault,
-/// and the tasks, each with its regions; rights as a sum of 1 read, 2 write, 4 execute, 8 device.
+/// and the tasks, each with the names of its notifications and its regions; rights as a sum of 1 read, 2 write, 4 execute, 8 device.
 ///
 /// # Errors
 ///

@@ -1,6 +1,6 @@
 use Rattle.std.proofs.Common.{◌≡◌, ◌∙◌, ap, refl, List, [], ◌∷◌, map, false, rules}
 use Rattle.std.proofs.lemmas.Result.{IfOk-weaker}
-use Rattle.serde_json.specs.Data.{Data}
+use Rattle.serde_json.specs.Data.{Data, string}
 use Rattle.serde_json.specs.View.{items_of, view}
 use Rattle.serde_json.specs.Written.{compact_text, has_float, items_have_float}
 use Rattle.image_format.specs.Images.{picture}
@@ -14,7 +14,7 @@ whole_items f h [] = refl
 whole_items f h (x ∷ xs) = rw (h x, whole_items f h xs) refl
 
 whole_task : (t : TaskPicture) → has_float (task_data t) ≡ false
-whole_task t = rw (whole_items region_data (λ r. refl) t.regions) refl
+whole_task t = rw (whole_items string (λ n. refl) t.names, whole_items region_data (λ r. refl) t.regions) refl
 
 whole_image : (p : Picture) → has_float (image_data p) ≡ false
 whole_image p = rw (whole_items line_data (λ l. refl) p.lines, whole_items task_data whole_task p.tasks) refl

@@ -19,7 +19,8 @@ pub returns : goal.returns
 returns c =
     let tasks = c.args.image.now.tasks.items in
     let regions = c.args.image.now.regions.items in
-    let lt : c.args.i < length tasks = omega (arith, tasks_length tasks regions) in
+    let names = c.args.image.now.names.items in
+    let lt : c.args.i < length tasks = omega (arith, tasks_length tasks regions names) in
     let start : c.counted-start.result ≡ counted (take c.args.i tasks) = c.counted-start.ensures ∙ ap (λ (ts : List TaskRecord). counted (take c.args.i ts)) c.as_slice-tasks.ensures.value in
     let n : c.from.result ≡ (get_or tasks c.args.i blank).regions = c.from.ensures ∙ ap (λ (ts : List TaskRecord). (get_or ts c.args.i blank).regions) c.as_slice-tasks.ensures.value in
     let few : (c.counted-start.result + c.from.result) - c.counted-start.result ≡ (get_or tasks c.args.i blank).regions = omega (arith, n) in
@@ -27,4 +28,4 @@ returns c =
     ∙ ap (λ (k : ℕ). map region_of (take (get_or tasks c.args.i blank).regions (drop k c.as_slice-regions.result.now))) start
     ∙ ap (λ (rs : List RegionRecord). map region_of (take (get_or tasks c.args.i blank).regions (drop (counted (take c.args.i tasks)) rs))) c.as_slice-regions.ensures.value
     ∙ ap (map region_of) (sym (own_sliced tasks regions c.args.i lt))
-    ∙ sym (regions_looked tasks regions c.args.i)
+    ∙ sym (regions_looked tasks regions names c.args.i)

@@ -10,9 +10,10 @@ pub returns : goal.returns
 returns c =
     let tasks = c.args.image.now.tasks.items in
     let regions = c.args.image.now.regions.items in
-    let lt : c.args.i < length tasks = omega (arith, tasks_length tasks regions) in
+    let names = c.args.image.now.names.items in
+    let lt : c.args.i < length tasks = omega (arith, tasks_length tasks regions names) in
     let e = c.index.ensures ∙ any_default tasks c.args.i c.index.result.now blank lt in
-    let t = sym (task_looked tasks regions c.args.i lt) in
+    let t = sym (task_looked tasks regions names c.args.i lt) in
     record {
       priority = ap (λ (r : TaskRecord). r.priority) e ∙ ap (λ (p : TaskPicture). p.priority) t;
       started = ap (λ (r : TaskRecord). r.flags == 1) e ∙ ap (λ (p : TaskPicture). p.started) t;
