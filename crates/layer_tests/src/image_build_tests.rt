@@ -85,6 +85,10 @@ const SOURCES: [&[u8]; 3] = [
 /// Where the flash lies in the file: behind the header, 3 tasks, 6 regions and 30 bytes of names.
 const FLASH: usize = 28 + 3 * 12 + 6 * 12 + 30;
 
+const FIRST_WORD: [u8; 4] = [1, 0, 0, 0];
+
+const SECOND_WORDS: [u8; 12] = [4, 0, 0, 0, 2, 0, 0, 0, 2, 0, 0, 0];
+
 fn copies(alloc: Global) -> Result<Vec<Vec<u8>>, AllocError> {
     let mut copies = Vec::new(alloc);
     for source in &SOURCES {
@@ -108,10 +112,8 @@ fn sources_at_once_and_one_by_one(rt: HostRuntime) -> Result<(), Fail> {
     assert!(rt; builder.next() == app.tasks().len());
     let image = builder.finish().expect(&rt, "an image");
     let bytes = image.write().expect(&rt, "its bytes");
-    let first = bytes.as_slice().get(FLASH..FLASH + 4);
-    assert!(rt; first == Some([1, 0, 0, 0].as_slice()));
-    let second = bytes.as_slice().get(FLASH + 256..FLASH + 268);
-    assert!(rt; second == Some([4, 0, 0, 0, 2, 0, 0, 0, 2, 0, 0, 0].as_slice()));
+    assert!(rt; bytes.as_slice().get(FLASH..FLASH + 4) == Some(FIRST_WORD.as_slice()));
+    assert!(rt; bytes.as_slice().get(FLASH + 256..FLASH + 268) == Some(SECOND_WORDS.as_slice()));
     let sources = copies(rt.alloc())?;
     assert!(rt; sources.len() == app.tasks().len());
     let built = build(rt.alloc(), &app, sources.as_slice()).expect(&rt, "an image");

@@ -296,12 +296,7 @@ const SHARED: [(&str, u8, u8); 4] = [
     ("far: nop", 13, 0),
 ];
 
-fn first_byte(
-    alloc: Global,
-    source: &str,
-    shared: &Symbols,
-    own: &[(String, u32)],
-) -> (u8, u8) {
+fn first_byte(alloc: Global, source: &str, shared: &Symbols, own: &[(String, u32)]) -> (u8, u8) {
     match assemble_with(alloc, source.as_bytes(), BASE, shared, own) {
         Ok(object) => (0, object.bytes.first().copied().unwrap_or(0)),
         Err(AsmFault::Refused(cause, _)) => (cause.number(), 0),
