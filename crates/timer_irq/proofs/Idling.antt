@@ -1,5 +1,5 @@
 -- The tasks that a tick need not look at.
-use Rattle.std.proofs.Common.{◌≡◌, ◌≢◌, ◌+◌, ◌<◌, ◌≤◌, ℕ, zero, suc, Bool, true, false, cond, List, length, inl, inr, Option, Some, None, refl, sym, ◌∙◌, ap, arith, leb, IfSome}
+use Rattle.std.proofs.Common.{◌≡◌, ◌+◌, ◌<◌, ◌≤◌, ℕ, zero, suc, Bool, true, false, cond, List, length, inl, inr, Option, Some, None, refl, sym, subst, ◌∙◌, ap, arith, leb, IfSome}
 use Rattle.std.specs.Prelude.{fold}
 use Rattle.std.specs.List.{range_with_len}
 use Rattle.std.proofs.lemmas.Bool.{false≢true, lt-leb}
@@ -61,7 +61,8 @@ after t (suc m) =
     let u = fold expired t (range_with_len 0 m) in
     let here = same_but-expired u m in
     let next : IsAfter (suc m) t.state (expired u m).state = record { now = here.now ∙ before.now; task = λ i from. here.task i (λ same. omega (arith, same, from)) ∙ before.task i (omega (arith, from)) } in
-    rw (more, fold_range_more expired t m) next
+    let is : fold expired t (range_with_len 0 (suc m)) ≡ expired u m = ap (λ (k : ℕ). fold expired t (range_with_len 0 k)) more ∙ fold_range_more expired t m in
+    subst (λ (v : Turn). IsAfter (suc m) t.state v.state) (sym is) next
 
 -- ## a task whose timer is not due is passed over
 
