@@ -7,8 +7,8 @@ ghost use Rattle.task_table.specs.TaskSets.{IsSummary};
 
 use crate::limits::TASK_WORDS;
 
-/// Some of the tasks of an application, by their places in its `Order` or by their indices. The summary makes each search one of two
-/// words, however many there are.
+/// Some of the tasks of an application, by their places in its `Order` or by their indices. The summary makes each
+/// search one of two words, however many there are.
 #[derive(Clone, Copy)]
 pub struct TaskSet {
     words: [u32; TASK_WORDS],
