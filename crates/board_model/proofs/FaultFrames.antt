@@ -11,52 +11,10 @@ use Rattle.task_table.specs.Reading.{task_at, listen_of, IsIdle, IsSameAt, IsSam
 use Rattle.task_table.specs.Effects.{with_task, without_call, without_listen, changed, noted, with_health, with_results, given, returned, bits_added, bits_cleared, woken_by, woken, posted, closed, faulted_as, faulted}
 use Rattle.task_table.specs.Start.{begun}
 use Rattle.task_table.specs.Step.{ReadsEntries}
-use Rattle.task_table.proofs.Changes.{task_at-with_task, call_of-with_task, listen_of-with_task, length-with_task, call_of-without_call, listen_of-without_call, call_of-without_listen, listen_of-without_listen, same_but-with_task, same_but-without_call, same_but-without_listen, task_at-without_call, task_at-without_listen}
+use Rattle.task_table.proofs.Changes.{task_at-with_task, call_of-with_task, listen_of-with_task, length-with_task, call_of-without_call, listen_of-without_call, call_of-without_listen, listen_of-without_listen, same_but-with_task, same_but-without_call, same_but-without_listen, same_but_then, task_at-without_call, task_at-without_listen}
+use Rattle.task_table.proofs.Frames.{same_but-posted}
 use Rattle.task_table.proofs.Moves.{aside-posted}
 use Rattle.board_model.specs.Faults.{IsSameButForFault}
-
--- ## a post changes no task but its own
-
-same_but_then : (i : ℕ) (s u v : State) → IsSameBut i s u → IsSameBut i u v → IsSameBut i s v
-same_but_then i s u v a b = record {
-  count = b.count ∙ a.count;
-  task = λ j ne. b.task j ne ∙ a.task j ne;
-  call = λ j ne. b.call j ne ∙ a.call j ne;
-  listen = λ j ne. b.listen j ne ∙ a.listen j ne;
-  memory = b.memory ∙ a.memory;
-  now = b.now ∙ a.now;
-  current = b.current ∙ a.current;
-  next_call = b.next_call ∙ a.next_call;
-  lines = b.lines ∙ a.lines;
-  turn = b.turn ∙ a.turn;
-}
-
-same_but_here : (i : ℕ) (s : State) → IsSameBut i s s
-same_but_here i s = record { count = refl; task = λ j ne. refl; call = λ j ne. refl; listen = λ j ne. refl; memory = refl; now = refl; current = refl; next_call = refl; lines = refl; turn = refl }
-
-same_but-woken_by : (i : ℕ) (lo : Option Listen) (t : Turn) → IsSameBut i t.state (woken_by i lo t).state
-unfolding returned noted given bits_cleared
-same_but-woken_by i None t = same_but_here i t.state
-same_but-woken_by i (Some l) t = by_bits (eqb (bit_and (task_at t.state i).posted l.mask) 0)
-  where
-    u : State
-    u = without_listen i t.state
-
-    v : Turn
-    v = bits_cleared i l.mask (changed (without_listen i) t)
-
-    w : Turn
-    w = given i (0 ∷ 0xFFFF ∷ bit_and (task_at t.state i).posted l.mask ∷ 0 ∷ 0 ∷ 0 ∷ []) v
-
-    by_bits : (b : Bool) → IsSameBut i t.state (cond b t (returned i w)).state
-    by_bits true = same_but_here i t.state
-    by_bits false = same_but_then i t.state u w.state (same_but-without_listen t.state i) (same_but_then i u v.state w.state (same_but-with_task u i _) (same_but-with_task v.state i _))
-
-pub same_but-posted : (i bits : ℕ) (t : Turn) → IsSameBut i t.state (posted i bits t).state
-unfolding posted woken bits_added noted
-same_but-posted i bits t =
-    let u = bits_added i bits t in
-    same_but_then i t.state u.state _ (same_but-with_task t.state i _) (same_but-woken_by i (listen_of u.state i) u)
 
 -- ## a post does the same to a task that is the same
 

@@ -159,6 +159,24 @@ same_but-without_listen s i = record {
   turn = refl;
 }
 
+-- one change after another, and none
+pub same_but_then : (i : ℕ) (s u v : State) → IsSameBut i s u → IsSameBut i u v → IsSameBut i s v
+same_but_then i s u v a b = record {
+  count = b.count ∙ a.count;
+  task = λ j ne. b.task j ne ∙ a.task j ne;
+  call = λ j ne. b.call j ne ∙ a.call j ne;
+  listen = λ j ne. b.listen j ne ∙ a.listen j ne;
+  memory = b.memory ∙ a.memory;
+  now = b.now ∙ a.now;
+  current = b.current ∙ a.current;
+  next_call = b.next_call ∙ a.next_call;
+  lines = b.lines ∙ a.lines;
+  turn = b.turn ∙ a.turn;
+}
+
+pub same_but_here : (i : ℕ) (s : State) → IsSameBut i s s
+same_but_here i s = record { count = refl; task = λ j ne. refl; call = λ j ne. refl; listen = λ j ne. refl; memory = refl; now = refl; current = refl; next_call = refl; lines = refl; turn = refl }
+
 -- ## dropping what is not there
 
 filter_none : {X : Type 0} (key : X → ℕ) (i : ℕ) (xs : List X) → find (λ x. eqb (key x) i) xs ≡ None → filter (λ x. not (eqb (key x) i)) xs ≡ xs

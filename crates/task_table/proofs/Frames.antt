@@ -1,4 +1,4 @@
--- What effects leave alone: who waits.
+-- What effects leave alone: who waits, and other tasks.
 use Rattle.std.proofs.Common.{◌≡◌, ℕ, Bool, true, false, ◌&&◌, List, [], ◌∷◌, Option, Some, None, inl, inr, refl, ◌∙◌, eqb, bit_and, cond, is_none}
 use Rattle.std.proofs.lemmas.Bool.Decides.{eqb_tells}
 use Rattle.std.proofs.lemmas.Bool.{false≢true}
@@ -6,9 +6,9 @@ use Rattle.kernel_abi.specs.declared.Note.{Note}
 use Rattle.kernel_abi.specs.declared.Timer.{Timer}
 use Rattle.task_table.specs.declared.Line.{Line}
 use Rattle.task_table.specs.State.{State, Listen, Turn, Ground}
-use Rattle.task_table.specs.Reading.{task_at, call_of, listen_of, is_ready, is_well, IsIdle, IsSameAt}
+use Rattle.task_table.specs.Reading.{task_at, call_of, listen_of, is_ready, is_well, IsIdle, IsSameAt, IsSameBut}
 use Rattle.task_table.specs.Effects.{without_listen, changed, noted, given, returned, bits_added, bits_cleared, woken_by, woken, posted, with_timer, with_line, stored}
-use Rattle.task_table.proofs.Changes.{call_of-with_task, listen_of-with_task, call_of-without_listen, listen_of-without_listen, listen_of-without_listen_other}
+use Rattle.task_table.proofs.Changes.{call_of-with_task, listen_of-with_task, call_of-without_listen, listen_of-without_listen, listen_of-without_listen_other, same_but-with_task, same_but-without_listen, same_but_here, same_but_then}
 
 none_is : {A : Type 0} (o : Option A) → is_none o ≡ true → o ≡ None
 none_is None h = refl
@@ -105,3 +105,29 @@ idle-woken_by i j (Some l) t h = go (eqb (bit_and (task_at t.state j).posted l.m
 pub idle-posted : (i j bits : ℕ) (t : Turn) → IsIdle t.state i → IsIdle (posted j bits t).state i
 unfolding posted woken
 idle-posted i j bits t h = idle-woken_by i j (listen_of (bits_added j bits t).state j) (bits_added j bits t) (idle-added i j bits t h)
+
+-- ## a post changes no task but its own
+
+same_but-woken_by : (i : ℕ) (lo : Option Listen) (t : Turn) → IsSameBut i t.state (woken_by i lo t).state
+unfolding returned noted given bits_cleared
+same_but-woken_by i None t = same_but_here i t.state
+same_but-woken_by i (Some l) t = by_bits (eqb (bit_and (task_at t.state i).posted l.mask) 0)
+  where
+    u : State
+    u = without_listen i t.state
+
+    v : Turn
+    v = bits_cleared i l.mask (changed (without_listen i) t)
+
+    w : Turn
+    w = given i (0 ∷ 0xFFFF ∷ bit_and (task_at t.state i).posted l.mask ∷ 0 ∷ 0 ∷ 0 ∷ []) v
+
+    by_bits : (b : Bool) → IsSameBut i t.state (cond b t (returned i w)).state
+    by_bits true = same_but_here i t.state
+    by_bits false = same_but_then i t.state u w.state (same_but-without_listen t.state i) (same_but_then i u v.state w.state (same_but-with_task u i _) (same_but-with_task v.state i _))
+
+pub same_but-posted : (i bits : ℕ) (t : Turn) → IsSameBut i t.state (posted i bits t).state
+unfolding posted woken bits_added noted
+same_but-posted i bits t =
+    let u = bits_added i bits t in
+    same_but_then i t.state u.state _ (same_but-with_task t.state i _) (same_but-woken_by i (listen_of u.state i) u)

@@ -10,7 +10,7 @@ use Rattle.task_table.specs.Sane.{Sane}
 use Rattle.task_table.specs.Reading.{is_ready, is_well, is_offered, task_at, call_of, listen_of, offer_by, offers, no_task, no_flags}
 use Rattle.task_table.specs.TaskSets.{has}
 use Rattle.task_table.specs.Order.{AreOrdered, ArePlaces, has_task, place_in, priorities_of}
-use Rattle.task_table.specs.Readiness.{is_free, is_server, server_in, is_client_of, AreThose, AreOffers}
+use Rattle.task_table.specs.Readiness.{is_free, is_at, server_in, is_client_of, AreThose, AreOffers}
 use Rattle.task_table.specs.Holds.{Holds, Shows, Kept, kept_call, offered_in}
 use Rattle.task_table.specs.declared.kernel.Kernel.{Kernel}
 use Rattle.task_table.specs.declared.slot.Slot.{Slot}
@@ -62,7 +62,7 @@ ready_kept g k t places words h those i there =
 
 -- ## who offers a call to whom
 
-waits_for : (c : OpenCall) (k : ℕ) (p : Phase) → is_server k (cond (is_offered p) (Some (index_of c.server.number)) None) ≡ is_some (cond (eqb (index_of c.server.number) k && is_offered p) (Some c) None)
+waits_for : (c : OpenCall) (k : ℕ) (p : Phase) → is_at k (cond (is_offered p) (Some (index_of c.server.number)) None) ≡ is_some (cond (eqb (index_of c.server.number) k && is_offered p) (Some c) None)
 waits_for c k Offered = by_index (eqb (index_of c.server.number) k)
   where
     by_index : (b : Bool) → b ≡ is_some (cond (b && true) (Some c) None)
@@ -74,7 +74,7 @@ waits_for c k Taken = by_index (eqb (index_of c.server.number) k)
     by_index true = refl
     by_index false = refl
 
-client_offered : (w : Wait) (k : ℕ) → is_server k (server_in w) ≡ is_some (offered_in w k)
+client_offered : (w : Wait) (k : ℕ) → is_at k (server_in w) ≡ is_some (offered_in w k)
 client_offered (wait.Call c) k = waits_for c k c.phase
 client_offered (wait.Listen l) k = refl
 client_offered wait.Nothing k = refl
@@ -96,17 +96,18 @@ offers_kept g k t server places words h sane small those i there =
 
 -- ## at first
 
-idle_at : {X : Type 0} (f : X → Slot) (k : ℕ) → ((x : X) → is_client_of k (f x) ≡ false) → (xs : List X) (i : ℕ) (d : Slot) → i < length (map f xs) → is_client_of k (get_or (map f xs) i d) ≡ false
-idle_at f k idle [] i d below = absurd (omega arith)
-idle_at f k idle (x ∷ xs) zero d below = idle x
-idle_at f k idle (x ∷ xs) (suc i) d below = idle_at f k idle xs i d (omega (arith, below))
+-- none passes a test that each fails
+pub none_at : {X : Type 0} (f : X → Slot) (test : Slot → Bool) → ((x : X) → test (f x) ≡ false) → (xs : List X) (i : ℕ) (d : Slot) → i < length (map f xs) → test (get_or (map f xs) i d) ≡ false
+none_at f test fails [] i d below = absurd (omega arith)
+none_at f test fails (x ∷ xs) zero d below = fails x
+none_at f test fails (x ∷ xs) (suc i) d below = none_at f test fails xs i d (omega (arith, below))
 
 -- none offers a call where each waits for nothing
 pub no_offers : {X : Type 0} (f : X → Slot) (xs : List X) (slots : List Slot) (places : List ℕ) (sets : List TaskSet) → slots ≡ map f xs → ((x : X) → (f x).wait ≡ wait.Nothing) → length sets ≡ length slots → ((k i : ℕ) (d : TaskSet) → k < length sets → has (get_or sets k d).words i ≡ false) → AreOffers slots places sets
 no_offers f xs slots places sets e idle count none = record {
   count = count;
   each = λ k inside d. record {
-    each = λ i below x. none k (place_in places i) d inside ∙ sym (ap (λ (ys : List Slot). is_client_of k (get_or ys i x)) e ∙ idle_at f k (λ y. ap (λ (w : Wait). is_server k (server_in w)) (idle y)) xs i x (rw e at below));
+    each = λ i below x. none k (place_in places i) d inside ∙ sym (ap (λ (ys : List Slot). is_client_of k (get_or ys i x)) e ∙ none_at f (is_client_of k) (λ y. ap (λ (w : Wait). is_at k (server_in w)) (idle y)) xs i x (rw e at below));
     no_others = λ p past. none k p d inside;
   };
 }

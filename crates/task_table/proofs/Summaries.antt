@@ -1,12 +1,12 @@
 -- Summaries of sets of tasks.
-use Rattle.std.proofs.Common.{◌≡◌, ◌≢◌, ◌+◌, ◌-◌, ◌*◌, ◌/◌, ◌%◌, ◌<◌, ◌≤◌, ◌^◌, ℕ, zero, suc, true, false, cond, ◌&&◌, ◌||◌, not, List, [], ◌∷◌, length, Option, Some, None, inl, inr, refl, sym, subst, ◌∙◌, ap, arith, eqb, leb, get_or, set, replicate, get_or-set_same, get_or-set_other, w32, min}
+use Rattle.std.proofs.Common.{◌≡◌, ◌≢◌, ◌+◌, ◌-◌, ◌*◌, ◌/◌, ◌%◌, ◌<◌, ◌≤◌, ◌^◌, ℕ, zero, suc, true, false, cond, ◌&&◌, ◌||◌, not, List, [], ◌∷◌, length, Option, Some, None, inl, inr, refl, sym, subst, ◌∙◌, ap, arith, eqb, leb, get_or, set, replicate, get_or-set_same, get_or-set_other, w32}
 use Rattle.std.specs.Int.{bit_at, bit_not}
 use Rattle.std.specs.Int.Bits.{bit_and, bit_or}
 use lib.Count.{count_trailing_zeros, count_leading_zeros}
 use Rattle.std.proofs.lemmas.Bool.Decides.{eqb_tells}
 use Rattle.std.proofs.lemmas.Bool.{cases_lt, false≢true}
 use Rattle.std.proofs.lemmas.List.{get_or_past}
-use Rattle.std.proofs.lemmas.Nat.Bits.{bit_at-zero, bit_at_and, bit_at-trailing_zeros, bit_at_set_same, bit_at-lt, bit_at_above, bit_at_cat_high, bit_at_lowest}
+use Rattle.std.proofs.lemmas.Nat.Bits.{bit_at-zero, bit_at-trailing_zeros, bit_at_set_same, bit_at_above, bit_at_cat_high, bit_at_lowest}
 use Rattle.std.proofs.lemmas.Nat.{leading_top, leading_length, pow_pos}
 use native.Mathlib.Nat.{pow-suc}
 use Rattle.task_table.specs.TaskSets.{has, IsFirstFrom, IsSummary, IsUsed}

@@ -9,6 +9,10 @@ most_tasks = 512
 abbrev pub task_words : ℕ
 task_words = 16
 
+-- sets of tasks by the deadlines of their timers, one for each remainder of a deadline
+abbrev pub wheel_sets : ℕ
+wheel_sets = 64
+
 -- interrupt lines of a board
 abbrev pub board_lines : ℕ
 board_lines = 64

@@ -24,14 +24,14 @@ server_in (wait.Call c) = if is_offered c.phase then Some (index_of c.server.num
 server_in (wait.Listen l) = None
 server_in wait.Nothing = None
 
--- it is the server with this index
-abbrev pub is_server : ℕ → Option ℕ → Bool
-is_server server None = false
-is_server server (Some index) = index == server
+-- there is a number, and it is this one
+abbrev pub is_at : ℕ → Option ℕ → Bool
+is_at k None = false
+is_at k (Some index) = index == k
 
 -- a task of which this is kept offers a call to a server
 abbrev pub is_client_of : ℕ → Slot → Bool
-is_client_of server slot = is_server server (server_in slot.wait)
+is_client_of server slot = is_at server (server_in slot.wait)
 
 -- a set of places has just the tasks of which what is kept passes a test
 pub record AreThose (test : Slot → Bool) (slots : List Slot) (places words : List ℕ) : Type 0 where

@@ -1,4 +1,4 @@
--- Sets of tasks, each a list of words of 32 bits, as sets of their places in the order of the tasks.
+-- Sets of tasks, each a list of words of 32 bits, as sets of their places in the order of the tasks, or of their indices.
 use Rattle.std.specs.Prelude.{ℕ, ◌≡◌, ◌/◌, ◌%◌, ◌<◌, ◌≤◌, ◌+◌, Bool, true, false, not, List, [], ◌∷◌, Option, Some, None, slice_index_or, ◌==◌}
 use Rattle.std.specs.Int.{bit_at}
 

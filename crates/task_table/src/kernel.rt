@@ -8,7 +8,7 @@ ghost use Rattle.task_table.specs.Limits.{most_tasks, board_lines, turn_notes};
 ghost use Rattle.task_table.specs.Parts.{task_setup};
 ghost use Rattle.task_table.specs.Order.{priorities_of, AreOrdered};
 ghost use Rattle.task_table.specs.Readiness.{is_free, AreThose, AreOffers};
-ghost use Rattle.task_table.specs.Deadlines.{AreNotBefore};
+ghost use Rattle.task_table.specs.Deadlines.{AreTimed};
 ghost use Rattle.task_table.specs.Entries.{AreFresh, AreEntriesOf};
 ghost use Rattle.task_table.specs.Openable.{AreOpenable};
 
@@ -20,7 +20,7 @@ mod window;
 
 use crate::Line;
 use crate::entry::{KeptEntry, Watch, no_entries};
-use crate::limits::{LINES, TURN_NOTES};
+use crate::limits::{LINES, TURN_NOTES, WHEEL};
 use crate::order::{Order, order_of};
 use crate::readiness::{empty_sets, ready_tasks};
 use crate::slot::{Found, Slot, Wait};
@@ -49,7 +49,7 @@ pub struct Kernel {
     notes: Vec<Note>,
     memory: Memory,
     clock: u64,
-    earliest: u64,
+    wheel: Vec<TaskSet>,
     current: usize,
     next_call: u32,
     ghost few: { length slots.items ≤ most_tasks },
@@ -60,7 +60,7 @@ pub struct Kernel {
     ghost order_is: { AreOrdered (priorities_of (map task_setup tasks.items)) order.keys.items order.places.items },
     ghost ready_now: { AreThose is_free slots.items order.places.items ready.words },
     ghost offered_now: { AreOffers slots.items order.places.items offers.items },
-    ghost deadlines: { AreNotBefore earliest slots.items },
+    ghost timed_now: { AreTimed slots.items wheel.items },
     ghost openable: { ∥ AreOpenable memory.regions (map task_setup tasks.items) ∥₁ },
     ghost fresh: { AreFresh memory.bytes watch.low watch.span entries.items },
     ghost of_calls: { AreEntriesOf (map task_setup tasks.items) slots.items entries.items },
@@ -114,6 +114,7 @@ impl Kernel {
         let ready = ready_tasks(&slots, &order);
         let offers = empty_sets(alloc, slots.len())?;
         let entries = no_entries(alloc, slots.len())?;
+        let wheel = empty_sets(alloc, WHEEL)?;
         let notes = Vec::with_capacity(alloc, TURN_NOTES)?;
         Ok(Kernel {
             tasks: copies,
@@ -132,7 +133,7 @@ impl Kernel {
             notes,
             memory,
             clock: 0,
-            earliest: u64::MAX,
+            wheel,
             current: 0,
             next_call: 1,
         })

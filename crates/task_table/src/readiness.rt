@@ -1,10 +1,10 @@
-//! Which tasks are ready, and which offer a call to each server, as sets of places.
+//! Which tasks are ready, and lists of sets of which a task is in one at most, as those of the clients of each server.
 
 ghost use Rattle.std.specs.Prelude.{◌≡◌, ◌<◌, ◌≤◌, ◌&&◌, ◌==◌, ℕ, false, length, IfOk, if◌then◌else◌, slice_index_or};
 ghost use Rattle.task_table.specs.Limits.{most_tasks};
 ghost use Rattle.task_table.specs.TaskSets.{has};
 ghost use Rattle.task_table.specs.Order.{ArePlaces};
-ghost use Rattle.task_table.specs.Readiness.{is_free, is_server, AreThose};
+ghost use Rattle.task_table.specs.Readiness.{is_free, is_at, AreThose};
 ghost use Rattle.task_table.specs.declared.task_set.TaskSet.{TaskSet};
 
 use crate::order::Order;
@@ -48,34 +48,34 @@ pub(crate) fn follow_readiness(ready: &mut TaskSet, place: usize, before: bool, 
     }
 }
 
-/// Puts the task at a place into the set of a server, or takes it out, where there is such a server.
-fn set_client(sets: &mut [TaskSet], server: Option<usize>, place: usize, offers: bool)
-    requires { place < most_tasks }
+/// Puts a task into the set with a number, or takes it out, where there is such a set.
+fn set_member(sets: &mut [TaskSet], number: Option<usize>, task: usize, member: bool)
+    requires { task < most_tasks }
     ensures count { length sets.new ≡ length sets.old }
-    ensures each { (k p : ℕ) (d : TaskSet) → k < length sets.old → has (slice_index_or sets.new k d).words p ≡ (if is_server k server && p == place then offers else has (slice_index_or sets.old k d).words p) }
+    ensures each { (k i : ℕ) (d : TaskSet) → k < length sets.old → has (slice_index_or sets.new k d).words i ≡ (if is_at k number && i == task then member else has (slice_index_or sets.old k d).words i) }
 {
-    if let Some(server) = server {
-        if server < sets.len() {
-            sets[server].set(place, offers);
+    if let Some(number) = number {
+        if number < sets.len() {
+            sets[number].set(task, member);
         }
     }
 }
 
-/// The sets of the clients of each server once the task at a place offers its call to this server, or to none, of
-/// which it was known to whom it offered one.
-pub(crate) fn follow_offer(
+/// The sets once a task, by its place or its index, is in the one with this number, or in none, of which it was known in
+/// which it was.
+pub(crate) fn move_member(
     sets: &mut [TaskSet],
-    place: usize,
+    task: usize,
     before: Option<usize>,
     after: Option<usize>,
 )
-    requires small { place < most_tasks }
-    requires before { (k : ℕ) (d : TaskSet) → k < length sets.old → has (slice_index_or sets.old k d).words place ≡ is_server k before }
+    requires small { task < most_tasks }
+    requires before { (k : ℕ) (d : TaskSet) → k < length sets.old → has (slice_index_or sets.old k d).words task ≡ is_at k before }
     ensures count { length sets.new ≡ length sets.old }
-    ensures each { (k p : ℕ) (d : TaskSet) → k < length sets.old → has (slice_index_or sets.new k d).words p ≡ (if p == place then is_server k after else has (slice_index_or sets.old k d).words p) }
+    ensures each { (k i : ℕ) (d : TaskSet) → k < length sets.old → has (slice_index_or sets.new k d).words i ≡ (if i == task then is_at k after else has (slice_index_or sets.old k d).words i) }
 {
     if before != after {
-        set_client(sets, before, place, false);
-        set_client(sets, after, place, true);
+        set_member(sets, before, task, false);
+        set_member(sets, after, task, true);
     }
 }

@@ -1,5 +1,5 @@
-//! Sets of tasks, as sets of their places in the order of the tasks: bit p % 32 of word p / 32 tells whether the task
-//! at place p is in the set, and bit w of the summary whether word w has any.
+//! Sets of tasks, as sets of their places in the order of the tasks, or of their indices: bit p % 32 of word p / 32 tells
+//! whether the task at place p is in the set, and bit w of the summary whether word w has any.
 
 ghost use Rattle.std.specs.Prelude.{◌≡◌, length};
 ghost use Rattle.task_table.specs.Limits.{task_words};
@@ -7,8 +7,8 @@ ghost use Rattle.task_table.specs.TaskSets.{IsSummary};
 
 use crate::limits::TASK_WORDS;
 
-/// Some of the tasks of an application, by their places in its `Order`. The summary makes each search one of two
-/// words, however many there are.
+/// Some of the tasks of an application, by their places in its `Order` or by their indices. The summary makes each
+/// search one of two words, however many there are.
 #[derive(Clone, Copy)]
 pub struct TaskSet {
     words: [u32; TASK_WORDS],

@@ -1,9 +1,14 @@
--- A fold over those items of a list that pass, on its way; and how lines are, taken together.
-use Rattle.std.specs.Prelude.{ℕ, ◌+◌, ◌==◌, ◌||◌, not, Bool, List, Option, None, Some, if◌then◌else◌}
+-- What holds midway through an event or a system call: timers once the time has gone on, a fold over those items of a list that pass, on
+-- its way; and how lines are, taken together.
+use Rattle.std.specs.Prelude.{ℕ, ◌+◌, ◌<◌, ◌≤◌, ◌==◌, ◌||◌, not, Bool, List, length, Option, None, Some, IfSome, if◌then◌else◌}
 use Rattle.std.specs.List.{list_any}
 use Rattle.task_table.specs.State.{LineSetup, State}
-use Rattle.task_table.specs.Reading.{line_at}
+use Rattle.task_table.specs.Reading.{task_at, line_at}
 use Rattle.task_table.specs.declared.Line.{Line}
+
+-- no deadline of a timer that is set has gone by before now
+abbrev pub AreNotPast : State → Type 0
+AreNotPast s = (i : ℕ) → i < length s.tasks → IfSome (task_at s i).timer (λ x. s.now ≤ x.deadline)
 
 -- one more item, where there is one, and where it passes
 abbrev pub with_next : {A B : Type 0} → (B → A → B) → (A → Bool) → Option A → B → B

@@ -16,7 +16,7 @@ ghost use Rattle.task_table.specs.Parts.{line_setup};
 ghost use Rattle.task_table.specs.Holds.{Holds, Stands, Stood, task_count, note_count, clock_of};
 ghost use Rattle.task_table.specs.Limits.{most_tasks, board_lines, syscall_notes, turn_notes};
 ghost use Rattle.task_table.specs.Frames.{AddsNotes, AddsAtMost};
-ghost use Rattle.timer_irq.specs.Midway.{with_next, lines_together, status_sum, joined};
+ghost use Rattle.timer_irq.specs.Midway.{AreNotPast, with_next, lines_together, status_sum, joined};
 
 use kernel_abi::{Handled, IrqArgs, Note, Timer, TimerArgs, Usage};
 use task_table::{Kernel, Line, LineStart};
@@ -36,29 +36,18 @@ fn expire(k: &mut Kernel, task: usize)
     }
 }
 
-/// Each task in order whose timer is due is posted.
+/// Each task in order whose timer is due is posted, where no deadline has gone by before now. So only those are looked at
+/// whose deadline may be just now.
 fn expire_all(k: &mut Kernel)
     requires { note_count k.old + 2 * most_tasks ≤ turn_notes }
-    ensures holds { (g : Setup) (t : Turn) → Holds g k.old t → Holds g k.new (fold expired t (range_with_len 0 (length t.state.tasks))) }
+    ensures holds { (g : Setup) (t : Turn) → Holds g k.old t → AreNotPast t.state → Holds g k.new (fold expired t (range_with_len 0 (length t.state.tasks))) }
     ensures frame { AddsAtMost k.old (2 * most_tasks) k.new }
 {
-    for i in 0..k.task_count() {
-        expire(k, i);
-    }
-}
-
-/// The time goes on, and each task whose timer is due is posted; the timers are looked at only where one
-/// may be due.
-fn tick_all(k: &mut Kernel)
-    requires room { note_count k.old + syscall_notes ≤ turn_notes }
-    requires small { clock_of k.old + 1 < 2 ^ 64 }
-    ensures holds { (g : Setup) (t : Turn) → Holds g k.old t → Holds g k.new (ticked t) }
-    ensures frame { AddsAtMost k.old syscall_notes k.new }
-{
-    k.step_clock();
-    if k.is_any_due() {
-        expire_all(k);
-        k.find_earliest();
+    let due = *k.due();
+    let mut from = 0;
+    'members: while let Some(task) = due.first_from(from) {
+        expire(k, task);
+        from = task + 1;
     }
 }
 
@@ -70,7 +59,8 @@ pub fn tick(k: &mut Kernel)
     ensures stands { (g : Setup) (t : Turn) → Stands g k.old t → Stands g k.new (ticked t) }
     ensures frame { AddsAtMost k.old syscall_notes k.new }
 {
-    tick_all(k);
+    k.step_clock();
+    expire_all(k);
 }
 
 /// The owner of a line.

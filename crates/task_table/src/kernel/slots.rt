@@ -1,7 +1,7 @@
 //! What is kept of a task, and how it is written.
 
 use super::Kernel;
-use crate::readiness::{follow_offer, follow_readiness};
+use crate::readiness::{follow_readiness, move_member};
 use crate::slot::Slot;
 use crate::start::birth_slot;
 use kernel_abi::Generation;
@@ -27,7 +27,7 @@ impl Kernel {
         let before = &self.slots[task];
         let place = self.order.place(task);
         follow_readiness(&mut self.ready, place, before.is_ready(), slot.is_ready());
-        follow_offer(
+        move_member(
             &mut self.offers,
             place,
             before.wait.server(),

@@ -1,5 +1,11 @@
+use Rattle.task_table.specs.Effects.{clocked}
+use Rattle.task_table.specs.Events.{ticked}
 use Rattle.task_table.proofs.Timing.{sane-ticked}
+use Rattle.timer_irq.proofs.Idling.{length-clocked, not_past-clocked}
 use Rattle.timer_irq.proofs.tick.Goals as goal
 
 pub returns-clause-stands : goal.returns-clause-stands
-returns-clause-stands c = λ g t h. record { holds = c.tick_all.ensures.holds g t h.holds; sane = sane-ticked t h.sane }
+unfolding ticked
+returns-clause-stands c = λ g t h.
+    let next = c.step_clock.ensures.holds g t h.holds in
+    record { holds = rw (length-clocked t) at (c.expire_all.ensures.holds g (clocked t) next (not_past-clocked t h.sane.ahead)); sane = sane-ticked t h.sane }

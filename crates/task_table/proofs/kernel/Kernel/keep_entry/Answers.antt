@@ -70,8 +70,8 @@ invariant_of-self-clause-ready_now c = c.args.self.now.ready_now
 pub invariant_of-self-clause-offered_now : goal.invariant_of-self-clause-offered_now
 invariant_of-self-clause-offered_now c = c.args.self.now.offered_now
 
-pub invariant_of-self-clause-deadlines : goal.invariant_of-self-clause-deadlines
-invariant_of-self-clause-deadlines c = c.args.self.now.deadlines
+pub invariant_of-self-clause-timed_now : goal.invariant_of-self-clause-timed_now
+invariant_of-self-clause-timed_now c = c.args.self.now.timed_now
 
 pub invariant_of-self-clause-openable : goal.invariant_of-self-clause-openable
 invariant_of-self-clause-openable c = c.args.self.now.openable

@@ -76,8 +76,8 @@ invariant_of-self-clause-ready_now g c = c.touched.new.self.ready_now
 pub invariant_of-self-clause-offered_now : goal.invariant_of-self-clause-offered_now
 invariant_of-self-clause-offered_now g c = c.touched.new.self.offered_now
 
-pub invariant_of-self-clause-deadlines : goal.invariant_of-self-clause-deadlines
-invariant_of-self-clause-deadlines g c = c.touched.new.self.deadlines
+pub invariant_of-self-clause-timed_now : goal.invariant_of-self-clause-timed_now
+invariant_of-self-clause-timed_now g c = c.touched.new.self.timed_now
 
 pub invariant_of-self-clause-of_calls : goal.invariant_of-self-clause-of_calls
 invariant_of-self-clause-of_calls g c = c.touched.new.self.of_calls

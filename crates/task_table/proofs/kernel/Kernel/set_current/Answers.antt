@@ -6,7 +6,7 @@ use Rattle.task_table.proofs.kernel.Kernel.set_current.Goals as goal
 pub invariant_of-self : goal.invariant_of-self
 invariant_of-self c =
     let k = c.args.self.now in
-    record { few = k.few; all_lines = k.all_lines; few_owners = k.few_owners; many = k.many; there = c.requires; order_is = k.order_is; ready_now = k.ready_now; offered_now = k.offered_now; deadlines = k.deadlines; openable = k.openable; fresh = k.fresh; of_calls = k.of_calls; room = k.room }
+    record { few = k.few; all_lines = k.all_lines; few_owners = k.few_owners; many = k.many; there = c.requires; order_is = k.order_is; ready_now = k.ready_now; offered_now = k.offered_now; timed_now = k.timed_now; openable = k.openable; fresh = k.fresh; of_calls = k.of_calls; room = k.room }
 
 pub returns-clause-holds : goal.returns-clause-holds
 returns-clause-holds c = λ g t h. steps.holds_current g (kept_of c.args.self.now) t c.args.task h

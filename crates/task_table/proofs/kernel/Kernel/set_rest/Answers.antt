@@ -6,18 +6,18 @@ use Rattle.task_table.specs.Readiness.{is_free}
 use Rattle.task_table.proofs.Written.{those_same, offers_same}
 use Rattle.task_table.specs.Parts.{task_setup}
 use Rattle.task_table.proofs.Kept.{of_same}
-use Rattle.task_table.proofs.Deadlines.{not_before-same}
+use Rattle.task_table.proofs.Deadlines.{timed_same}
 use Rattle.task_table.proofs.kernel.Kernel.set_rest.Goals as goal
 
 pub returns-clause-holds : goal.returns-clause-holds
 returns-clause-holds c = λ g t u h kept rest.
     steps.holds_rest g (kept_of c.args.self.now) t u c.args.task c.index_mut-slot.result.now c.args.rest.now _ h c.requires c.index_mut-slot.ensures.value refl kept rest.0 rest.1 rest.2
 
-pub invariant_of-self-clause-deadlines : goal.invariant_of-self-clause-deadlines
-invariant_of-self-clause-deadlines c =
+pub invariant_of-self-clause-timed_now : goal.invariant_of-self-clause-timed_now
+invariant_of-self-clause-timed_now c =
     let a = c.args in
     let old = c.index_mut-slot.result.now in
-    not_before-same a.self.now.earliest a.self.now.slots.items a.task old record a.rest.now { health = old.health; wait = old.wait; timer = old.timer } a.self.now.deadlines c.requires c.index_mut-slot.ensures.value refl
+    timed_same a.self.now.slots.items a.task old record a.rest.now { health = old.health; wait = old.wait; timer = old.timer } a.self.now.wheel.items a.self.now.timed_now c.requires c.index_mut-slot.ensures.value refl
 
 pub invariant_of-self-clause-many : goal.invariant_of-self-clause-many
 invariant_of-self-clause-many c =

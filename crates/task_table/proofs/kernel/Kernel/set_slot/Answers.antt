@@ -4,12 +4,12 @@ use Rattle.task_table.specs.declared.slot.Slot.{Slot}
 use Rattle.task_table.specs.Holds.{kept_of}
 use Rattle.task_table.proofs.Steps as steps
 use Rattle.task_table.specs.TaskSets.{has}
-use Rattle.task_table.specs.Readiness.{is_client_of, is_free, is_server, AreOffers}
+use Rattle.task_table.specs.Readiness.{is_client_of, is_free, is_at, AreOffers}
 use Rattle.task_table.proofs.Members.{kernel_places}
 use Rattle.task_table.proofs.Written.{front, those_set, offers_set}
 use Rattle.task_table.specs.Parts.{task_setup}
 use Rattle.task_table.proofs.Kept.{fresh_cleared, of_cleared}
-use Rattle.task_table.proofs.Deadlines.{not_before-same}
+use Rattle.task_table.proofs.Deadlines.{timed_same}
 use Rattle.task_table.proofs.kernel.Kernel.set_slot.Goals as goal
 
 pub place-place-requires : goal.place-place-requires
@@ -26,30 +26,30 @@ follow_readiness-requires-clause-before c =
     let slot = c.index-before.result.now in
     ap (has k.ready.words) c.place-place.ensures ∙ k.ready_now.each c.args.task c.requires slot ∙ sym (ap is_free c.index-before.ensures) ∙ sym c.is_ready.ensures
 
-pub follow_offer-requires-clause-small : goal.follow_offer-requires-clause-small
-follow_offer-requires-clause-small c =
+pub move_member-requires-clause-small : goal.move_member-requires-clause-small
+move_member-requires-clause-small c =
     let k = c.args.self.now in
     omega (arith, c.place-place.ensures, (kernel_places k).below c.args.task c.requires, k.few)
 
-pub follow_offer-requires-clause-before : goal.follow_offer-requires-clause-before
-follow_offer-requires-clause-before c = λ server d under.
+pub move_member-requires-clause-before : goal.move_member-requires-clause-before
+move_member-requires-clause-before c = λ server d under.
     let k = c.args.self.now in
     let slot = c.index-before.result.now in
     let was : AreOffers k.slots.items k.order.places.items c.deref_mut.result.now = rw c.deref_mut.ensures.value k.offered_now in
     ap (has (get_or c.deref_mut.result.now server d).words) c.place-place.ensures
     ∙ (was.each server under d).each c.args.task c.requires slot
     ∙ sym (ap (is_client_of server) c.index-before.ensures)
-    ∙ ap (is_server server) (sym c.server.ensures)
+    ∙ ap (is_at server) (sym c.server.ensures)
 
 pub returns-clause-holds : goal.returns-clause-holds
 returns-clause-holds c = λ g t u h kept same timers.
     steps.holds_timer_kept g (kept_of c.args.self.now) t u c.args.task c.index_mut-kept.result.now c.args.slot _ h c.requires c.index_mut-kept.ensures.value refl kept same timers
 
-pub invariant_of-self-clause-deadlines : goal.invariant_of-self-clause-deadlines
-invariant_of-self-clause-deadlines c =
+pub invariant_of-self-clause-timed_now : goal.invariant_of-self-clause-timed_now
+invariant_of-self-clause-timed_now c =
     let a = c.args in
     let old = c.index_mut-kept.result.now in
-    not_before-same a.self.now.earliest a.self.now.slots.items a.task old record a.slot { timer = old.timer } a.self.now.deadlines c.requires c.index_mut-kept.ensures.value refl
+    timed_same a.self.now.slots.items a.task old record a.slot { timer = old.timer } a.self.now.wheel.items a.self.now.timed_now c.requires c.index_mut-kept.ensures.value refl
 
 pub invariant_of-self-clause-many : goal.invariant_of-self-clause-many
 invariant_of-self-clause-many c =
@@ -77,11 +77,11 @@ invariant_of-self-clause-offered_now c =
     let slot : Slot = record a.slot { timer = old.timer } in
     let places = a.self.now.order.places.items in
     let was : AreOffers a.self.now.slots.items places c.deref_mut.result.now = rw c.deref_mut.ensures.value a.self.now.offered_now in
-    let sets = c.follow_offer.new.sets in
+    let sets = c.move_member.new.sets in
     let next : AreOffers (set a.self.now.slots.items a.task slot) places sets =
-    offers_set a.self.now.slots.items places a.task slot c.deref_mut.result.now sets was (kernel_places a.self.now) c.requires c.follow_offer.ensures.count
-    (λ k p d under. rw (c.server-2.ensures, c.place-place.ensures) at (c.follow_offer.ensures.each k p d under)) in
-    let count : length sets ≡ a.self.now.offers.len = omega (arith, c.follow_offer.ensures.count, c.deref_mut.ensures.len) in
+    offers_set a.self.now.slots.items places a.task slot c.deref_mut.result.now sets was (kernel_places a.self.now) c.requires c.move_member.ensures.count
+    (λ k p d under. rw (c.server-2.ensures, c.place-place.ensures) at (c.move_member.ensures.each k p d under)) in
+    let count : length sets ≡ a.self.now.offers.len = omega (arith, c.move_member.ensures.count, c.deref_mut.ensures.len) in
     subst (λ xs. AreOffers (set a.self.now.slots.items a.task slot) places xs) (sym (front a.self.now.offers.len sets _ count)) next
 
 pub invariant_of-self-clause-fresh : goal.invariant_of-self-clause-fresh

@@ -1,4 +1,4 @@
-use Rattle.std.proofs.Common.{◌<◌, ap, sym, ◌∙◌, subst, arith, length, map, length-set, refl, ◌≤◌, ℕ}
+use Rattle.std.proofs.Common.{◌≡◌, ◌<◌, ap, sym, ◌∙◌, subst, arith, length, map, set, length-set, refl, ◌≤◌, ℕ}
 use Rattle.task_table.specs.Limits.{most_tasks}
 use Rattle.task_table.specs.State.{Task}
 use Rattle.task_table.specs.Reading.{task_at}
@@ -6,11 +6,12 @@ use Rattle.task_table.specs.declared.slot.Slot.{Slot}
 use Rattle.task_table.specs.Holds.{IsKept, kept_of}
 use Rattle.task_table.proofs.Steps as steps
 use Rattle.task_table.proofs.Changes.{same_but-with_task}
-use Rattle.task_table.specs.Readiness.{is_free}
-use Rattle.task_table.proofs.Written.{those_same, offers_same}
+use Rattle.task_table.specs.Readiness.{is_at, is_free}
+use Rattle.task_table.specs.Deadlines.{is_timed_at, AreTimed}
+use Rattle.task_table.proofs.Written.{front, those_same, offers_same}
 use Rattle.task_table.specs.Parts.{task_setup}
 use Rattle.task_table.proofs.Kept.{of_same}
-use Rattle.task_table.proofs.Deadlines.{not_before-set}
+use Rattle.task_table.proofs.Deadlines.{timed_set}
 use Rattle.task_table.specs.Effects.{with_timer}
 use Rattle.task_table.proofs.kernel.Kernel.set_timer.Goals as goal
 
@@ -25,10 +26,26 @@ returns-clause-holds c = λ g t h.
     let is = ap (λ (o : Slot). record o { timer = c.args.timer }) was.is in
     steps.holds_slot g (kept_of c.args.self.now) t _ i record old { timer = c.args.timer } _ h c.requires refl (steps.kept_task t.state i x old _ there was is) (same_but-with_task t.state i x)
 
-pub invariant_of-self-clause-deadlines : goal.invariant_of-self-clause-deadlines
-invariant_of-self-clause-deadlines c =
+pub move_member-requires-clause-small : goal.move_member-requires-clause-small
+move_member-requires-clause-small c = omega (arith, c.requires, c.args.self.now.few)
+
+pub move_member-requires-clause-before : goal.move_member-requires-clause-before
+move_member-requires-clause-before c = λ k d under.
     let a = c.args in
-    not_before-set a.self.now.earliest _ a.self.now.slots.items a.task record c.index_mut.result.now { timer = a.timer } a.self.now.deadlines c.earlier-self.ensures.time c.earlier-self.ensures.deadline
+    let was : AreTimed a.self.now.slots.items c.deref_mut.result.now = rw c.deref_mut.ensures.value a.self.now.timed_now in
+    was.each k under d a.task c.requires c.index.result.now ∙ sym (ap (is_timed_at k) c.index.ensures) ∙ ap (is_at k) (sym c.wheel_set.ensures)
+
+pub invariant_of-self-clause-timed_now : goal.invariant_of-self-clause-timed_now
+invariant_of-self-clause-timed_now c =
+    let a = c.args in
+    let slot : Slot = record c.index_mut.result.now { timer = a.timer } in
+    let was : AreTimed a.self.now.slots.items c.deref_mut.result.now = rw c.deref_mut.ensures.value a.self.now.timed_now in
+    let sets = c.move_member.new.sets in
+    let next : AreTimed (set a.self.now.slots.items a.task slot) sets =
+    timed_set a.self.now.slots.items a.task slot c.deref_mut.result.now sets was c.requires c.move_member.ensures.count
+    (λ k p e under. rw c.wheel_set-2.ensures at (c.move_member.ensures.each k p e under)) in
+    let count : length sets ≡ a.self.now.wheel.len = omega (arith, c.move_member.ensures.count, c.deref_mut.ensures.len) in
+    subst (λ xs. AreTimed (set a.self.now.slots.items a.task slot) xs) (sym (front a.self.now.wheel.len sets _ count)) next
 
 pub invariant_of-self-clause-many : goal.invariant_of-self-clause-many
 invariant_of-self-clause-many c =

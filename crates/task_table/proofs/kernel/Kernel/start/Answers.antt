@@ -13,7 +13,7 @@ use Rattle.task_table.specs.declared.slot.Slot.{Slot}
 use Rattle.task_table.specs.declared.start.TaskStart.{TaskStart}
 use Rattle.task_table.proofs.Members.{no_offers}
 use Rattle.task_table.proofs.Ordered.{as_many_priorities, own_places}
-use Rattle.task_table.proofs.Deadlines.{not_before-unset}
+use Rattle.task_table.proofs.Deadlines.{none_timed}
 use Rattle.task_table.proofs.Starts.{shows_start, sane-begun}
 use Rattle.task_table.proofs.kernel.Kernel.start.Goals as goal
 
@@ -46,9 +46,9 @@ invariant_of-result-clause-offered_now c =
     let count : length c.in_ok-offers.offers.items ≡ length c.in_ok-slots.slots.items = search rules in
     no_offers (λ x. packed_task (born (task_setup x)) Nothing) c.args.tasks.now c.in_ok-slots.slots.items c.in_ok-order.order.places.items c.in_ok-offers.offers.items c.in_ok-slots.ensures (λ x. refl) count c.in_ok-offers.ensures.empty
 
-pub invariant_of-result-clause-deadlines : goal.invariant_of-result-clause-deadlines
-invariant_of-result-clause-deadlines c =
-    not_before-unset _ (λ x. packed_task (born (task_setup x)) Nothing) c.args.tasks.now c.in_ok-slots.slots.items c.in_ok-slots.ensures (λ x. refl)
+pub invariant_of-result-clause-timed_now : goal.invariant_of-result-clause-timed_now
+invariant_of-result-clause-timed_now c =
+    none_timed (λ x. packed_task (born (task_setup x)) Nothing) c.args.tasks.now c.in_ok-slots.slots.items c.in_ok-wheel.wheel.items c.in_ok-slots.ensures (λ x. refl) c.in_ok-wheel.ensures.count c.in_ok-wheel.ensures.empty
 
 pub invariant_of-result-clause-openable : goal.invariant_of-result-clause-openable
 invariant_of-result-clause-openable c = ∣ rw c.in_ok-copies.ensures.setup c.requires.given ∣₁
@@ -165,6 +165,18 @@ returns-in_err-entries-clause-count c = IfOk-from_err c.from_residual-in_err-ent
 
 pub returns-in_err-entries-clause-notes : goal.returns-in_err-entries-clause-notes
 returns-in_err-entries-clause-notes c = IfOk-from_err c.from_residual-in_err-entries.result _ c.from_residual-in_err-entries.ensures.0
+
+pub returns-in_err-wheel-clause-holds : goal.returns-in_err-wheel-clause-holds
+returns-in_err-wheel-clause-holds c = IfOk-from_err c.from_residual-in_err-wheel.result _ c.from_residual-in_err-wheel.ensures.0
+
+pub returns-in_err-wheel-clause-stands : goal.returns-in_err-wheel-clause-stands
+returns-in_err-wheel-clause-stands c = λ sound. IfOk-from_err c.from_residual-in_err-wheel.result _ c.from_residual-in_err-wheel.ensures.0
+
+pub returns-in_err-wheel-clause-count : goal.returns-in_err-wheel-clause-count
+returns-in_err-wheel-clause-count c = IfOk-from_err c.from_residual-in_err-wheel.result _ c.from_residual-in_err-wheel.ensures.0
+
+pub returns-in_err-wheel-clause-notes : goal.returns-in_err-wheel-clause-notes
+returns-in_err-wheel-clause-notes c = IfOk-from_err c.from_residual-in_err-wheel.result _ c.from_residual-in_err-wheel.ensures.0
 
 pub returns-in_err-notes-clause-holds : goal.returns-in_err-notes-clause-holds
 returns-in_err-notes-clause-holds c = IfOk-from_err c.from_residual-in_err-notes.result _ c.from_residual-in_err-notes.ensures.0
