@@ -81,7 +81,7 @@ pub fn faults_change_nothing_else()
 /// Where the task that was chosen makes a system call that names an earlier birth of a task, the turn changes nothing but that
 /// the task gets its answer and is past the call: SEND and a closed RECV that nothing before decides, the borrows and POST
 /// the dead code with the present generation, REPLY and REPLY_FAULT nothing; nothing was written, nor read for another task.
-/// REFRESH_TASK_ID gets the id of the present birth, and REPLY_FAULT with a reason that there is none of faults the task.
+/// REFRESH_TASK_ID gets the id of the present birth, and REPLY_FAULT with a reason above 5 faults the task.
 /// (Hubris Reference: task ids and generations.)
 pub fn turns_with_dead_ids_change_their_caller_alone()
     ensures { (level : Detail) (x : Scenario) (s : State) → Sane x.setup s → IsDeadTurn level x s }
