@@ -11,6 +11,8 @@ ghost use Rattle.board_model.specs.declared.outcomes.Level.TheVariants.{All, Cal
 ghost use Rattle.board_model.specs.Script.{Scenario};
 ghost use Rattle.board_model.specs.Turn.{turn, turned};
 ghost use Rattle.board_model.specs.Run.{state_after};
+ghost use Rattle.board_model.specs.Faults.{IsFaulting, ChangesNothingElse};
+ghost use Rattle.board_model.specs.DeadCalls.{IsDeadTurn};
 ghost use Rattle.board_model.specs.Lifetimes.{IsGroundedTurn};
 ghost use Rattle.board_model.specs.Agreement.{DependsOnReads};
 ghost use Rattle.board_core.specs.Opened.{scenario_of, setup_of_image};
@@ -79,6 +81,11 @@ impl Board {
         // memory that agrees on what the turn reads it would have done the same.
         ensures grounds { (x : Scenario) (s : State) → Stands x self.old s → IsGroundedTurn All x s }
         ensures reads { (x : Scenario) (s : State) → Stands x self.old s → DependsOnReads All x s }
+
+        // A task that faults changes nothing else, and one whose system call names an earlier birth of a task is answered, and
+        // nothing else changes.
+        ensures faults { (x : Scenario) (s : State) → Stands x self.old s → (c : ℕ) → IsFaulting All x s c → ChangesNothingElse All x s c }
+        ensures dead_ids { (x : Scenario) (s : State) → Stands x self.old s → IsDeadTurn All x s }
     {
         self.turn_at(Level::All)
     }

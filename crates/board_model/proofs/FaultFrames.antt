@@ -131,6 +131,15 @@ module _ (g : Setup) (c : ℕ) (f : Fault) (t : Turn) where
   same_at-shut : (i : ℕ) → i ≢ c → IsSameAt i s shut.state
   same_at-shut i ne = record { task = same_but-shut.task i ne; call = same_but-shut.call i ne; listen = same_but-shut.listen i ne }
 
+  -- the task is as it was, but Faulted
+  pub task-faulted : c < length t.state.tasks → task_at (faulted g c f t).state c ≡ record (task_at t.state c) { health = Faulted f }
+  unfolding shut faulted_as
+  task-faulted inside = by_zero (eqb c 0) refl
+    where
+      by_zero : (b : Bool) → eqb c 0 ≡ b → task_at (cond b shut (posted 0 g.fault_bits shut)).state c ≡ record (task_at s c) { health = Faulted f }
+      by_zero true e = task-shut inside
+      by_zero false e = (same_but-posted 0 g.fault_bits shut).task c (λ same. false≢true (sym e ∙ eq-eqb c 0 same)) ∙ task-shut inside
+
   faulted_is : (x y : Task) → y ≡ record x { health = Faulted f } → y ≡ record x { health = y.health }
   faulted_is x y e = e ∙ ap (λ (h : Health). record x { health = h }) (sym (ap (λ (z : Task). z.health) e))
 

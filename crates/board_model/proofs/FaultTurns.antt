@@ -23,7 +23,7 @@ use Rattle.board_model.specs.declared.outcomes.Level.{Level}
 use Rattle.board_model.specs.declared.outcomes.Level.TheVariants.{Calls, All}
 use Rattle.board_model.specs.Script.{Scenario}
 use Rattle.board_model.specs.Turn.{put, acted, executed, noted_at, stepped_by, stepped, after_events, with_current, low_note, high_note, with_registers_noted, turn_of, ended, turn}
-use Rattle.board_model.specs.Faults.{IsSameButForFault, AreEntries}
+use Rattle.board_model.specs.Faults.{IsSameButForFault, AreEntries, IsFaulting, ChangesNothingElse}
 use Rattle.board_model.proofs.Events.{fresh-after_events}
 use Rattle.board_model.proofs.TurnChains.{IsChosen, chosen_is, as_current, sane-after_events}
 use Rattle.board_model.proofs.Stepping.{puts_state}
@@ -143,3 +143,6 @@ faulted_turn level x s c sane e = by_choice (chosen x.setup t.state) e
     by_choice : (o : Option ℕ) → o ≡ Some c → is_faulted (task_at (ended (turn_of level x.setup o t)).state c).health ≡ true → IsFaultedTurn x.setup c t.state (ended (turn_of level x.setup o t))
     by_choice None none = absurd cc
     by_choice (Some d) same = by_task d cc
+
+pub changes_nothing_else : (level : Level) (x : Scenario) (s : State) (c : ℕ) → Sane x.setup s → IsFaulting level x s c → ChangesNothingElse level x s c
+changes_nothing_else level x s c sane h = let f = faulted_turn level x s c sane h.chosen h.faulted in record { state = f.same; writes = f.writes; reads = f.reads }

@@ -6,6 +6,7 @@ pub mod Quiet
 pub mod FaultFrames
 pub mod FaultRows
 pub mod FaultTurns
+pub mod DeadTurns
 pub mod Stepping
 pub mod Endings
 pub mod Outside

@@ -1,5 +1,5 @@
 -- What the fault of a task changes: its own health, and task 0, to which it is posted; nothing else.
-use Rattle.std.specs.Prelude.{ℕ, ◌≡◌, ◌≢◌, true, List, Some, Contains}
+use Rattle.std.specs.Prelude.{ℕ, ◌≡◌, ◌≢◌, true, List, [], Some, Contains}
 use Rattle.task_table.specs.State.{Setup, State, Read}
 use Rattle.task_table.specs.Reading.{task_at, is_faulted, chosen, IsIdle, IsSameAt}
 use Rattle.task_table.specs.Effects.{posted}
@@ -30,3 +30,9 @@ pub record IsFaulting (level : Level) (x : Scenario) (s : State) (c : ℕ) : Typ
 -- each is an entry of a lease table, which is read before what the borrower asks of it is checked
 abbrev pub AreEntries : List Read → Type 0
 AreEntries reads = (r : Read) → Contains reads r → IsEntry r.part
+
+-- but that task c faults, the turn after s changes nothing; nothing was written, nor read for another task but such entries
+pub record ChangesNothingElse (level : Level) (x : Scenario) (s : State) (c : ℕ) : Type 0 where
+  pub state : IsSameButForFault x.setup c (after_events x s).state (turn level x s).state
+  pub writes : (turn level x s).writes ≡ []
+  pub reads : AreEntries (turn level x s).reads

@@ -3,6 +3,7 @@ pub mod Turn
 pub mod Faults
 pub mod Run
 pub mod Lifetimes
+pub mod DeadCalls
 pub mod Levels
 pub mod Alike
 pub mod Agreement

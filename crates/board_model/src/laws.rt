@@ -18,6 +18,7 @@ ghost use Rattle.board_model.specs.declared.outcomes.Level.{Level as Detail};
 ghost use Rattle.board_model.specs.Script.{Scenario};
 ghost use Rattle.board_model.specs.Turn.{effect_of, put, noted_at, stepped, happened, after_events, with_current, turn_of, turn};
 ghost use Rattle.board_model.specs.Faults.{IsFaulting, IsSameButForFault, AreEntries};
+ghost use Rattle.board_model.specs.DeadCalls.{IsDeadTurn};
 ghost use Rattle.board_model.specs.Run.{is_down, end_at, ending};
 ghost use Rattle.board_model.specs.Lifetimes.{IsGroundedTurn, IsLedgerOfRun};
 
@@ -75,6 +76,15 @@ pub fn faults_change_nothing_else()
     ensures state { (level : Detail) (x : Scenario) (s : State) (c : ℕ) → Sane x.setup s → IsFaulting level x s c → IsSameButForFault x.setup c (after_events x s).state (turn level x s).state }
     ensures writes { (level : Detail) (x : Scenario) (s : State) (c : ℕ) → Sane x.setup s → IsFaulting level x s c → (turn level x s).writes ≡ [] }
     ensures reads { (level : Detail) (x : Scenario) (s : State) (c : ℕ) → Sane x.setup s → IsFaulting level x s c → AreEntries (turn level x s).reads }
+{}
+
+/// Where the task that was chosen makes a system call that names an earlier birth of a task, the turn changes nothing but that
+/// the task gets its answer and is past the call: SEND and a closed RECV that nothing before decides, the borrows and POST
+/// the dead code with the present generation, REPLY and REPLY_FAULT nothing; nothing was written, nor read for another task.
+/// REFRESH_TASK_ID gets the id of the present birth, and REPLY_FAULT with a reason above 5 faults the task.
+/// (Hubris Reference: task ids and generations.)
+pub fn turns_with_dead_ids_change_their_caller_alone()
+    ensures { (level : Detail) (x : Scenario) (s : State) → Sane x.setup s → IsDeadTurn level x s }
 {}
 
 /// The stores of an instruction change nothing of a state but its memory, and what is noted changes none.

@@ -1,11 +1,27 @@
 //! Laws that stand over the definitions of the program's verdicts. Nothing runs here.
 
-ghost use Rattle.std.specs.Prelude.{◌≡◌, ◌≢◌, ℕ, List, Option, Some};
+ghost use Rattle.std.specs.Prelude.{◌≡◌, ◌≢◌, ◌↔◌, ℕ, List, ◌++◌, Option, Some, None};
+ghost use Rattle.task_table.specs.Start.{start};
+ghost use Rattle.board_model.specs.Run.{run};
+ghost use Rattle.board_run.specs.Text.{trace_text};
 ghost use Rattle.command_line.specs.CommandLine.{build as build_job, run as run_job, go as go_job};
 ghost use Rattle.command_line.specs.declared.job.Detail.{Detail};
 ghost use Rattle.trace_cli.specs.Words.{job_in};
-ghost use Rattle.trace_cli.specs.Verdict.{Verdict, IsVerdict};
+ghost use Rattle.trace_cli.specs.Contents.{image_refusal, script_refusal, picture_of, scenario_of};
+ghost use Rattle.trace_cli.specs.Verdict.{Verdict, IsVerdict, line_alone, status_of, level_of, memory_if};
 ghost use Rattle.trace_cli.specs.Answer.{HasPut};
+
+/// Words that ask for `run` of an image with a script, both seen and accepted, have just one verdict. Its text is the trace of
+/// the abstract kernel's run from the start of that image, with the events of that script, of at most so many turns, and
+/// with `--mem` the memory of its last state; its status is 0, or 6 where the run ended because the supervisor faulted.
+pub fn run_tells_the_abstract_run()
+    ensures { (words : List (List ℕ)) (seen : List ℕ → Option (List ℕ)) (image_name script_name image script : List ℕ) (n : ℕ) (detail : Detail) (v : Verdict)
+        → job_in words ≡ Some (run_job image_name script_name n detail) → seen image_name ≡ Some image → seen script_name ≡ Some script
+        → image_refusal image ≡ None → script_refusal script ≡ None
+        → let x = scenario_of (picture_of image) script in
+          let r = run (level_of detail) x n (start x.setup) in
+          IsVerdict words seen v ↔ (v ≡ line_alone (status_of r.end) (trace_text r ++ memory_if detail.memory x.setup r.last)) }
+{}
 
 /// `build` and then `run` write what `go` writes: where an application was built and put under OUT, and no other name
 /// changed, the run of OUT with a script of another name has the verdict of `go`.

@@ -1,6 +1,8 @@
 use Rattle.board_model.specs.declared.outcomes.Level.TheVariants.{All}
 use Rattle.board_model.proofs.Lifetimes.{grounded-turn}
 use Rattle.board_model.proofs.SameReads.{same_turn}
+use Rattle.board_model.proofs.FaultTurns.{changes_nothing_else}
+use Rattle.board_model.proofs.DeadTurns.{dead_turn}
 use Rattle.board_core.proofs.board.Board.turn.Goals as goal
 
 pub returns-clause-grounds : goal.returns-clause-grounds
@@ -8,3 +10,9 @@ returns-clause-grounds c = λ x s st. grounded-turn All x s st.sane
 
 pub returns-clause-reads : goal.returns-clause-reads
 returns-clause-reads c = λ x s st m agrees. same_turn All x s m st.sane agrees
+
+pub returns-clause-faults : goal.returns-clause-faults
+returns-clause-faults c = λ x s st i h. changes_nothing_else All x s i st.sane h
+
+pub returns-clause-dead_ids : goal.returns-clause-dead_ids
+returns-clause-dead_ids c = λ x s st. dead_turn All x s st.sane
