@@ -128,6 +128,6 @@ instructions "32 tasks with timers" 400 out/timers.img timers/script.txt
 instructions "16 clients, 4 servers" 290 out/messages.img out/empty.txt
 instructions "8 lenders, 1 server" 280 out/leases.img out/empty.txt
 instructions "large sample" 180 sample/sample.img sample/script.txt
-instructions "512 tasks with timers" 520 out/timers512.img timers/script.txt
+instructions "512 tasks with timers" 440 out/timers512.img timers/script.txt
 instructions "507 clients, 4 servers" 377 out/messages512.img out/empty.txt
 exit $short
