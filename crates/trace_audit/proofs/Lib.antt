@@ -1,0 +1,9 @@
+pub mod Cutting
+pub mod Forming
+pub mod Telling
+pub mod Counting
+pub mod Hearing
+pub mod Pushing
+pub mod Adding
+pub mod Taking
+pub mod Deciding

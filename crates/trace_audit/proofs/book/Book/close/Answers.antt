@@ -1,0 +1,13 @@
+use Rattle.std.proofs.Common.{sym, ◌∙◌, refl}
+use Rattle.trace_audit.proofs.Telling.{open_none, open_some, not_close, true_false}
+use Rattle.trace_audit.proofs.Hearing.{hears_close}
+use Rattle.trace_audit.proofs.book.Book.close.Goals as goal
+use Rattle.trace_audit.proofs.book.Book.close.Goals.{else-answer-via-then-answer+else-not-taken, else-answer-via-else-answer}
+
+pub returns-in-None-clause-told : goal.returns-in-None-clause-told
+returns-in-None-clause-told c = λ said h. not_close said _ h c.args.call c.args.answer (open_none said _ h c.args.call _ refl (sym c.open_call.ensures ∙ c.in-None.is))
+
+pub returns-else-answer-clause-told : goal.returns-else-answer-clause-told
+returns-else-answer-clause-told c = λ said h.
+    let u = c.remove.ensures.updates in
+    hears_close said _ _ h c.args.call c.in-Some.client c.in-Some.taken c.args.answer (elim c.else-answer.branch [ else-answer-via-then-answer+else-not-taken w ↦ λ e. w.if-not-taken.false | else-answer-via-else-answer w ↦ λ e. true_false (sym e ∙ w.if-answer.false) ]) (open_some said _ h c.args.call c.in-Some.client c.in-Some.taken _ (sym c.open_call.ensures ∙ c.in-Some.is)) refl u.2 u.1 c.remove.result c.remove.ensures.value c.remove.ensures.len

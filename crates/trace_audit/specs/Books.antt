@@ -1,0 +1,95 @@
+-- What a book keeps of good lines.
+use Rattle.std.specs.Prelude.{ℕ, ◌+◌, ◌-◌, ◌≡◌, ◌<◌, ◌≤◌, Bool, true, false, ◌==◌, ◌&&◌, ◌||◌, not, nat_lt, if◌then◌else◌, List, [], ◌∷◌, ◌++◌, length, map, count_by, slice_index, Option, Some, None}
+use Rattle.std.specs.BTreeMap.{get, btree_map_len}
+use Rattle.std.specs.Ordering.{nat_cmp}
+use Rattle.trace_audit.specs.declared.book.Book.{Book}
+use Rattle.trace_audit.specs.declared.book.Open.{Open}
+use Rattle.trace_audit.specs.declared.reading.Line.{Line}
+use Rattle.trace_audit.specs.declared.reading.Saying.{Saying}
+use Rattle.trace_audit.specs.declared.reading.Saying.TheVariants as saying
+use Rattle.trace_audit.specs.declared.reading.Wait.{Wait}
+use Rattle.trace_audit.specs.declared.reading.Wait.TheVariants as wait
+use Rattle.trace_audit.specs.Rules.{said, is_offer, is_left, IsOffered, IsTaken, IsClosed, IsGoodSaying, IsGoodLine, turn_after, has_ended}
+
+-- the clients of the calls in the order of their numbers, the open call of each client, and how many are open
+pub record Calls : Type 0 where
+  pub clients : List ℕ
+  pub held : ℕ → Option Open
+  pub left : ℕ
+
+abbrev pub calls_of : Book → Calls
+calls_of b = record { clients = b.clients.items; held = get nat_cmp b.calls; left = btree_map_len b.calls }
+
+abbrev pub client_at : List ℕ → ℕ → Option ℕ
+client_at clients k = if (k == 0) || nat_lt (length clients) k then None else Some (slice_index clients (k - 1))
+
+abbrev pub as_open : ℕ → ℕ → Option Open → Option (ℕ × Bool)
+as_open k i None = None
+as_open k i (Some o) = if o.call == k then Some (i, o.taken) else None
+
+abbrev pub open_by : (ℕ → Option Open) → ℕ → Option ℕ → Option (ℕ × Bool)
+open_by held k None = None
+open_by held k (Some i) = as_open k i (held i)
+
+abbrev pub open_at : List ℕ → (ℕ → Option Open) → ℕ → Option (ℕ × Bool)
+open_at clients held k = open_by held k (client_at clients k)
+
+abbrev pub waits_as : Option Open → Wait → Bool
+waits_as None (wait.Offered k) = false
+waits_as None (wait.Taken k) = false
+waits_as None wait.Other = true
+waits_as (Some o) (wait.Offered k) = (o.call == k) && not o.taken
+waits_as (Some o) (wait.Taken k) = (o.call == k) && o.taken
+waits_as (Some o) wait.Other = false
+
+-- the saying offers the call of this number
+abbrev pub is_numbered : ℕ → Saying → Bool
+is_numbered k (saying.Offers j i) = j == k
+is_numbered k (saying.Takes j) = false
+is_numbered k (saying.Closes j answer) = false
+is_numbered k (saying.Borrows j) = false
+is_numbered k saying.Nothing = false
+
+-- client i offered call k, and no line closed it; one has taken it, or none has
+pub record IsOpenAs (before : List Saying) (k i : ℕ) (taken : Bool) : Type 0 where
+  pub offered : IsOffered before k i
+  pub still : ¬ IsClosed before k
+  pub yes : taken ≡ true → IsTaken before k
+  pub no : taken ≡ false → ¬ IsTaken before k
+
+-- the calls are those of which the lines say so
+pub record IsTold (before : List Saying) (x : Calls) : Type 0 where
+  pub number : length x.clients ≡ count_by is_offer before
+  pub client : (k : ℕ) → k < length x.clients → IsOffered before (k + 1) (slice_index x.clients k)
+  pub least : (k i : ℕ) → IsOffered before k i → 1 ≤ k
+  pub most : (k i : ℕ) → IsOffered before k i → k ≤ length x.clients
+  pub by : (k i : ℕ) → IsOffered before k i → slice_index x.clients (k - 1) ≡ i
+  pub taken : (k : ℕ) → IsTaken before k → k ≤ length x.clients
+  pub taken_least : (k : ℕ) → IsTaken before k → 1 ≤ k
+  pub closed : (k : ℕ) → IsClosed before k → k ≤ length x.clients
+  pub once : (k i : ℕ) → IsOffered before k i → count_by (is_numbered k) before ≡ 1
+  pub no_more : (k : ℕ) → length x.clients < k → count_by (is_numbered k) before ≡ 0
+  pub kept : (i : ℕ) (o : Open) → x.held i ≡ Some o → IsOpenAs before o.call i o.taken
+  pub left : (k i : ℕ) → IsOffered before k i → ¬ IsClosed before k → (o : Open) × (x.held i ≡ Some o) × (o.call ≡ k)
+  pub count : x.left ≡ count_by (is_left before) before
+
+-- what is said is good, and the calls are then these; or it is not
+abbrev pub Hears : List Saying → Saying → Calls → Bool → Type 0
+Hears before s x true = IsGoodSaying before s × IsTold (before ++ s ∷ []) x
+Hears before s x false = ¬ IsGoodSaying before s
+
+-- besides the calls nothing changes
+pub record IsRest (b c : Book) : Type 0 where
+  pub turn : c.turn ≡ b.turn
+  pub ended : c.ended ≡ b.ended
+
+-- the book is that of these lines
+pub record IsKept (lines : List Line) (b : Book) : Type 0 where
+  pub turn : b.turn ≡ turn_after 0 lines
+  pub ended : b.ended ≡ has_ended lines
+  pub told : IsTold (map said lines) (calls_of b)
+
+-- the line is good, and the book is then that of it too; or it is not
+abbrev pub Adds : List Line → Line → Book → Bool → Type 0
+Adds lines l b true = IsGoodLine lines l × IsKept (lines ++ l ∷ []) b
+Adds lines l b false = ¬ IsGoodLine lines l

@@ -1,0 +1,46 @@
+-- What an audit answers (the causes, the rules and the numbers are this project's).
+use Rattle.std.specs.Prelude.{ℕ, ◌+◌, ◌≡◌, Bool, not, nat_lt, if◌then◌else◌, List, ◌∷◌, ◌++◌, length, map, All, Option, Some, None}
+use Rattle.std.specs.List.{list_all}
+use Rattle.text_lines.specs.Text.{is_between}
+use Rattle.trace_audit.specs.declared.verdict.Verdict.{Verdict}
+use Rattle.trace_audit.specs.declared.verdict.Verdict.TheVariants as verdict
+use Rattle.trace_audit.specs.Texts.{lines_of}
+use Rattle.trace_audit.specs.declared.reading.Line.{Line}
+use Rattle.trace_audit.specs.Meaning.{read}
+use Rattle.trace_audit.specs.Rules.{IsGood, IsFirstBad, offers_in, left_in}
+
+-- ## lines that are no text of a trace
+
+abbrev pub is_printable : ℕ → Bool
+is_printable c = is_between 32 126 c
+
+-- 1 a byte other than 32 to 126 (an LF is in no line); 2 more than 159 bytes
+unfoldable pub cause_of : List ℕ → Option ℕ
+cause_of line = if not (list_all is_printable line) then Some 1 else if nat_lt 159 (length line) then Some 2 else None
+
+-- line n is the first with a cause, which is this one
+pub record IsFirstCause (lines : List (List ℕ)) (cause n : ℕ) : Type 0 where
+  pub before : List (List ℕ)
+  pub line : List ℕ
+  pub after : List (List ℕ)
+  pub is : lines ≡ before ++ line ∷ after
+  pub fine : All (λ l. cause_of l ≡ None) before
+  pub here : cause_of line ≡ Some cause
+  pub number : n ≡ length before + 1
+
+abbrev pub HasNoCause : List (List ℕ) → Type 0
+HasNoCause lines = All (λ l. cause_of l ≡ None) lines
+
+-- ## the answers
+
+-- what the lines of a text say
+abbrev pub read_lines : List ℕ → List Line
+read_lines text = map read (lines_of text)
+
+-- the lines are good, offer so many calls, and leave so many of them open
+abbrev pub IsGoodWith : List Line → ℕ → ℕ → Type 0
+IsGoodWith lines calls left = IsGood lines × (calls ≡ offers_in lines) × (left ≡ left_in lines)
+
+abbrev pub IsVerdict : List ℕ → Verdict → Type 0
+IsVerdict text (verdict.Yes calls left) = IsGoodWith (read_lines text) calls left
+IsVerdict text (verdict.No n) = IsFirstBad (read_lines text) n

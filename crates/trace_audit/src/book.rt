@@ -1,0 +1,252 @@
+//! What the lines so far say, as far as it counts for the next one.
+ghost use Rattle.std.specs.Prelude.{◌≡◌, ◌<◌, ◌^◌, List, [], length, IfOk};
+ghost use Rattle.std.specs.BTreeMap.{get, btree_map_len};
+ghost use Rattle.std.specs.Ordering.{nat_cmp};
+
+use crate::reading::{Line, Saying, Wait};
+use std::alloc::{AllocError, Global};
+use std::collections::BTreeMap;
+
+/// An open call, as an audit keeps it. (It is public since laws speak of what is kept.)
+#[derive(Clone, Copy)]
+pub struct Open {
+    /// Its number, from 1 on.
+    pub call: u64,
+    /// Whether its server took it.
+    pub taken: bool,
+}
+
+/// What good lines have said.
+#[derive(Drop)]
+pub(crate) struct Book {
+    /// The turn of the last line of a turn.
+    pub(crate) turn: u64,
+    /// The line that ends the turns has come.
+    pub(crate) ended: bool,
+    /// The client of each call, in the order of their numbers, which begin with 1.
+    pub(crate) clients: Vec<u64>,
+    /// The open call of each client that has one.
+    pub(crate) calls: BTreeMap<u64, Open>,
+}
+
+impl Book {
+    ghost use Rattle.trace_audit.specs.Books.{client_at, open_at, waits_as, calls_of, IsTold, Hears, IsRest, IsKept, Adds};
+    ghost use Rattle.trace_audit.specs.declared.reading.Saying.{Saying as Word};
+    ghost use Rattle.trace_audit.specs.declared.reading.Line.{Line as Said};
+
+    /// Of no line.
+    pub(crate) fn new(alloc: Global) -> Book
+        ensures { IsKept [] result }
+    {
+        Book {
+            turn: 0,
+            ended: false,
+            clients: Vec::new(alloc),
+            calls: BTreeMap::new(alloc),
+        }
+    }
+
+    /// The line that ends the turns has come.
+    pub(crate) fn has_ended(&self) -> bool
+        ensures { result ≡ self.now.ended }
+    {
+        self.ended
+    }
+
+    /// How many calls were offered.
+    pub(crate) fn offered(&self) -> u64
+        ensures value { result ≡ length self.now.clients.items }
+        ensures few { result < 2 ^ 63 }
+    {
+        self.clients.len() as u64
+    }
+
+    /// How many calls are open.
+    pub(crate) fn left(&self) -> u64
+        ensures { result ≡ btree_map_len self.now.calls }
+    {
+        self.calls.len() as u64
+    }
+
+    /// The client of a call, if that was offered.
+    fn client_of(&self, call: u64) -> Option<u64>
+        ensures { result ≡ client_at self.now.clients.items call }
+    {
+        if call == 0 || call > self.offered() {
+            return None;
+        }
+        Some(self.clients[(call - 1) as usize])
+    }
+
+    /// The client of an open call, and whether it was taken.
+    fn open_call(&self, call: u64) -> Option<(u64, bool)>
+        ensures { result ≡ open_at self.now.clients.items (get nat_cmp self.now.calls) call }
+    {
+        match self.client_of(call) {
+            None => None,
+            Some(client) => {
+                match self.calls.get(&client) {
+                    None => None,
+                    Some(open) => {
+                        if open.call == call {
+                            Some((client, open.taken))
+                        } else {
+                            None
+                        }
+                    }
+                }
+            }
+        }
+    }
+
+    /// Takes an offer, if it has the next number and its client has no open call.
+    fn offer(&mut self, call: u64, client: u64) -> Result<bool, AllocError>
+        ensures told { (said : List Word) → IsTold said (calls_of self.old) → IfOk result (Hears said (Saying.Offers call client) (calls_of self.new)) }
+        ensures same { IsRest self.old self.new }
+    {
+        if call != self.offered() + 1 {
+            return Ok(false);
+        }
+        if self.calls.contains_key(&client) {
+            return Ok(false);
+        }
+        self.clients.push(client)?;
+        self.calls.insert(client, Open { call, taken: false })?;
+        Ok(true)
+    }
+
+    /// Takes that a call is taken, if it is open and was not taken.
+    fn take(&mut self, call: u64) -> Result<bool, AllocError>
+        ensures told { (said : List Word) → IsTold said (calls_of self.old) → IfOk result (Hears said (Saying.Takes call) (calls_of self.new)) }
+        ensures same { IsRest self.old self.new }
+    {
+        match self.open_call(call) {
+            None => Ok(false),
+            Some((client, taken)) => {
+                if taken {
+                    return Ok(false);
+                }
+                self.calls.insert(client, Open { call, taken: true })?;
+                Ok(true)
+            }
+        }
+    }
+
+    /// Takes that a call is closed, if it is open, and taken where this is an answer.
+    fn close(&mut self, call: u64, answer: bool) -> bool
+        ensures told { (said : List Word) → IsTold said (calls_of self.old) → Hears said (Saying.Closes call answer) (calls_of self.new) result }
+        ensures same { IsRest self.old self.new }
+    {
+        match self.open_call(call) {
+            Some((client, taken)) => {
+                if answer && !taken {
+                    return false;
+                }
+                self.calls.remove(&client);
+                true
+            }
+            None => false,
+        }
+    }
+
+    /// Whether the leases of a call may be used: it is open and taken.
+    fn may_borrow(&self, call: u64) -> bool
+        ensures { (said : List Word) → IsTold said (calls_of self.now) → Hears said (Saying.Borrows call) (calls_of self.now) result }
+    {
+        match self.open_call(call) {
+            Some((_, taken)) => taken,
+            None => false,
+        }
+    }
+
+    /// Takes what a line says of calls, if it is good.
+    fn hear(&mut self, saying: Saying) -> Result<bool, AllocError>
+        ensures told { (said : List Word) → IsTold said (calls_of self.old) → IfOk result (Hears said saying (calls_of self.new)) }
+        ensures same { IsRest self.old self.new }
+    {
+        match saying {
+            Saying::Offers(call, client) => self.offer(call, client),
+            Saying::Takes(call) => self.take(call),
+            Saying::Closes(call, answer) => Ok(self.close(call, answer)),
+            Saying::Borrows(call) => Ok(self.may_borrow(call)),
+            Saying::Nothing => Ok(true),
+        }
+    }
+
+    /// Whether a task waits as it should.
+    fn is_waiting(&self, task: u64, wait: Wait) -> bool
+        ensures { result ≡ waits_as (get nat_cmp self.now.calls task) wait }
+    {
+        match self.calls.get(&task) {
+            None => {
+                match wait {
+                    Wait::Other => true,
+                    Wait::Offered(_) | Wait::Taken(_) => false,
+                }
+            }
+            Some(open) => {
+                match wait {
+                    Wait::Offered(call) => open.call == call && !open.taken,
+                    Wait::Taken(call) => open.call == call && open.taken,
+                    Wait::Other => false,
+                }
+            }
+        }
+    }
+
+    /// Takes a line of a turn, if it is good.
+    fn tell(&mut self, turn: u64, saying: Saying) -> Result<bool, AllocError>
+        ensures { (lines : List Said) → IsKept lines self.old → IfOk result (Adds lines (Line.Tells turn saying) self.new) }
+    {
+        if self.ended {
+            return Ok(false);
+        }
+        if turn < self.turn {
+            return Ok(false);
+        }
+        self.turn = turn;
+        self.hear(saying)
+    }
+
+    /// Takes the line that ends the turns, if none has come.
+    fn end(&mut self) -> bool
+        ensures { (lines : List Said) → IsKept lines self.old → Adds lines Line.Ends self.new result }
+    {
+        if self.ended {
+            return false;
+        }
+        self.ended = true;
+        true
+    }
+
+    /// Whether the line of a task is good: it stands after the end, and the task waits as the lines of the turns say.
+    fn may_wait(&self, task: u64, wait: Wait) -> bool
+        ensures { (lines : List Said) → IsKept lines self.now → Adds lines (Line.Waits task wait) self.now result }
+    {
+        if self.ended {
+            self.is_waiting(task, wait)
+        } else {
+            false
+        }
+    }
+
+    /// Whether a line that shows something is good: it stands after the end.
+    fn may_show(&self) -> bool
+        ensures { (lines : List Said) → IsKept lines self.now → Adds lines Line.Shows self.now result }
+    {
+        self.ended
+    }
+
+    /// Takes a line, if it is good after those before.
+    pub(crate) fn add(&mut self, line: Line) -> Result<bool, AllocError>
+        ensures { (lines : List Said) → IsKept lines self.old → IfOk result (Adds lines line self.new) }
+    {
+        match line {
+            Line::Tells(turn, saying) => self.tell(turn, saying),
+            Line::Ends => Ok(self.end()),
+            Line::Waits(task, wait) => Ok(self.may_wait(task, wait)),
+            Line::Shows => Ok(self.may_show()),
+            Line::Strange => Ok(false),
+        }
+    }
+}

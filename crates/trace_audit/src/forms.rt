@@ -1,0 +1,316 @@
+//! The forms of lines, as tables: a further form is a row.
+ghost use Rattle.std.specs.Prelude.{◌≡◌, map, option_map, List, false};
+ghost use Rattle.trace_audit.specs.Fields.{are_of, has_text, are_over, ends_with_text, turn_forms, last_forms, end_form, form_named, is_rest};
+ghost use Rattle.trace_audit.specs.Views.{words_left, form_in, forms_in};
+
+use crate::fields::is_same;
+use crate::pieces::Words;
+
+/// What a word of a line is (docs/FORMATS.md, Trace).
+#[derive(Clone, Copy)]
+pub enum Field {
+    /// A decimal number below 2^32, without leading zeros.
+    Number,
+    /// The same below 2^64.
+    Time,
+    /// Eight hexadecimal digits, in lower case.
+    Word,
+    /// Thirty-two of them.
+    Row,
+    /// Four or eight of them.
+    Code,
+    /// Four digits 0 or 1.
+    Flags,
+    /// What an interrupt did.
+    Handled,
+    /// Whose message a task listens for.
+    Listened,
+    /// Why a call was closed.
+    Ending,
+    /// What was done with a lease.
+    Borrow,
+    /// How a run ended.
+    End,
+    /// How a task is.
+    Health,
+    /// What it waits for.
+    Wait,
+    /// Its timer.
+    Timer,
+}
+
+/// What a line is for an audit.
+#[derive(Clone, Copy)]
+pub enum Kind {
+    /// It says nothing of calls.
+    Plain,
+    /// It says nothing of calls, and ends with the text of an instruction.
+    Insn,
+    /// A call is offered.
+    Offer,
+    /// A call is taken.
+    Take,
+    /// A call is closed.
+    Close,
+    /// A lease is used.
+    Borrow,
+    /// A task at the end.
+    Task,
+}
+
+/// The form of a line: its name, what it is, and the words behind the name.
+#[derive(Clone, Copy)]
+pub(crate) struct Form {
+    pub(crate) name: &'static [u8],
+    pub(crate) kind: Kind,
+    pub(crate) fields: &'static [Field],
+}
+
+/// The lines of a turn, behind its number.
+pub(crate) const TURN_FORMS: &[Form] = &[
+    Form {
+        name: b"tick",
+        kind: Kind::Plain,
+        fields: &[Field::Time],
+    },
+    Form {
+        name: b"irq",
+        kind: Kind::Plain,
+        fields: &[Field::Number, Field::Handled],
+    },
+    Form {
+        name: b"post",
+        kind: Kind::Plain,
+        fields: &[Field::Number, Field::Word, Field::Word],
+    },
+    Form {
+        name: b"call",
+        kind: Kind::Plain,
+        fields: &[
+            Field::Number,
+            Field::Number,
+            Field::Word,
+            Field::Word,
+            Field::Word,
+            Field::Word,
+            Field::Word,
+            Field::Word,
+            Field::Word,
+        ],
+    },
+    Form {
+        name: b"offer",
+        kind: Kind::Offer,
+        fields: &[Field::Number, Field::Number, Field::Number],
+    },
+    Form {
+        name: b"take",
+        kind: Kind::Take,
+        fields: &[Field::Number, Field::Number],
+    },
+    Form {
+        name: b"listen",
+        kind: Kind::Plain,
+        fields: &[Field::Number, Field::Listened, Field::Word],
+    },
+    Form {
+        name: b"borrow",
+        kind: Kind::Borrow,
+        fields: &[
+            Field::Number,
+            Field::Borrow,
+            Field::Number,
+            Field::Number,
+            Field::Number,
+        ],
+    },
+    Form {
+        name: b"ret",
+        kind: Kind::Plain,
+        fields: &[
+            Field::Number,
+            Field::Word,
+            Field::Word,
+            Field::Word,
+            Field::Word,
+            Field::Word,
+            Field::Word,
+        ],
+    },
+    Form {
+        name: b"close",
+        kind: Kind::Close,
+        fields: &[Field::Number, Field::Ending],
+    },
+    Form {
+        name: b"fault",
+        kind: Kind::Plain,
+        fields: &[Field::Number, Field::Number, Field::Word, Field::Word],
+    },
+    Form {
+        name: b"restart",
+        kind: Kind::Plain,
+        fields: &[Field::Number, Field::Number],
+    },
+    Form {
+        name: b"irqstat",
+        kind: Kind::Plain,
+        fields: &[Field::Number, Field::Word, Field::Number],
+    },
+    Form {
+        name: b"find",
+        kind: Kind::Plain,
+        fields: &[Field::Number, Field::Number],
+    },
+    Form {
+        name: b"insn",
+        kind: Kind::Insn,
+        fields: &[Field::Number, Field::Word, Field::Code],
+    },
+    Form {
+        name: b"idle",
+        kind: Kind::Plain,
+        fields: &[],
+    },
+    LOW,
+    HIGH,
+];
+
+const LOW: Form = Form {
+    name: b"low",
+    kind: Kind::Plain,
+    fields: &[
+        Field::Word,
+        Field::Word,
+        Field::Word,
+        Field::Word,
+        Field::Word,
+        Field::Word,
+        Field::Word,
+        Field::Word,
+    ],
+};
+
+const HIGH: Form = Form {
+    name: b"high",
+    kind: Kind::Plain,
+    fields: &[
+        Field::Word,
+        Field::Word,
+        Field::Word,
+        Field::Word,
+        Field::Word,
+        Field::Word,
+        Field::Word,
+        Field::Word,
+        Field::Flags,
+    ],
+};
+
+/// The lines after the end.
+pub(crate) const LAST_FORMS: &[Form] = &[
+    Form {
+        name: b"task",
+        kind: Kind::Task,
+        fields: &[
+            Field::Number,
+            Field::Number,
+            Field::Health,
+            Field::Wait,
+            Field::Word,
+            Field::Timer,
+        ],
+    },
+    LOW,
+    HIGH,
+    Form {
+        name: b"mem",
+        kind: Kind::Plain,
+        fields: &[Field::Word, Field::Number],
+    },
+];
+
+/// The line that ends the turns.
+pub(crate) const END_FORMS: &[Form] = &[Form {
+    name: b"end",
+    kind: Kind::Plain,
+    fields: &[Field::End, Field::Number, Field::Time],
+}];
+
+/// The bytes at an address.
+pub(crate) const ROW_FIELDS: &[Field] = &[Field::Word, Field::Row];
+
+impl Kind {
+    /// Whether a text stands behind the fields.
+    pub(crate) fn ends_with_text(self) -> bool
+        ensures { result ≡ ends_with_text self }
+    {
+        match self {
+            Kind::Insn => true,
+            Kind::Plain | Kind::Offer | Kind::Take | Kind::Close | Kind::Borrow | Kind::Task =>
+                false,
+        }
+    }
+}
+
+/// The form of this name.
+pub(crate) fn form_named(mut forms: &[Form], name: &[u8]) -> Option<Form>
+    ensures { option_map form_in result ≡ form_named name.now (forms_in forms.entry.now) }
+{
+    while let [form, rest @ ..] = forms {
+        if is_same(name, form.name) {
+            return Some(*form);
+        }
+        forms = rest;
+    }
+    None
+}
+
+/// The words are those of a text of at least one byte.
+fn has_text(words: Words<'_>) -> bool
+    ensures { result ≡ has_text (words_left words.entry) }
+{
+    let mut words = words;
+    match words.next() {
+        None => false,
+        Some(word) => !word.is_empty() || words.next().is_some(),
+    }
+}
+
+/// No word is left.
+fn are_over(words: Words<'_>) -> bool
+    ensures { result ≡ are_over (words_left words.entry) }
+{
+    let mut words = words;
+    words.next().is_none()
+}
+
+/// Behind the fields is a text, or nothing.
+fn is_rest(text: bool, words: Words<'_>) -> bool
+    ensures { result ≡ is_rest text (words_left words.entry) }
+{
+    if text {
+        has_text(words)
+    } else {
+        are_over(words)
+    }
+}
+
+/// Whether the words are of these fields, and of the text behind them where there is one.
+#[tactic(auto, unfolding(crate::specs::Fields::are_of))]
+pub(crate) fn are_of(fields: &[Field], text: bool, words: Words<'_>) -> bool
+    ensures { result ≡ are_of fields.now text (words_left words.entry) }
+{
+    let mut words = words;
+    for field in fields {
+        match words.next() {
+            None => return false,
+            Some(word) => {
+                if !field.is_of(word) {
+                    return false;
+                }
+            }
+        }
+    }
+    is_rest(text, words)
+}

@@ -1,0 +1,269 @@
+//! What a line says.
+ghost use Rattle.std.specs.Prelude.{◌≡◌, ℕ, option_map, unwrap_or, codes, IfSome, ◌∷◌, []};
+ghost use Rattle.trace_audit.specs.Texts.{words_of};
+ghost use Rattle.trace_audit.specs.Fields.{turn_forms, last_forms, end_form};
+ghost use Rattle.trace_audit.specs.Views.{words_left, form_in, forms_in};
+ghost use Rattle.trace_audit.specs.Meaning.{word_at, number_at, is_answer, saying_of, moves_nothing, is_right, fits, form_of, told, turn_line, wait_by, wait_of, shown_by, shown, row_of, last_line, end_line, read};
+
+use crate::fields::{is_any_of, is_same, number, number_behind};
+use crate::forms::{END_FORMS, Form, Kind, LAST_FORMS, ROW_FIELDS, TURN_FORMS, are_of, form_named};
+use crate::pieces::Words;
+
+/// What a line of a turn says of calls. Calls are numbered from 1 on, and clients are indices of tasks.
+#[derive(Clone, Copy)]
+pub enum Saying {
+    /// A call, by its number, is offered by a client.
+    Offers(u64, u64),
+    /// It is taken.
+    Takes(u64),
+    /// It is closed, by an answer of its server or otherwise.
+    Closes(u64, bool),
+    /// One of its leases is used.
+    Borrows(u64),
+    /// It does not speak of calls.
+    Nothing,
+}
+
+/// What a task waits for at the end.
+#[derive(Clone, Copy)]
+pub enum Wait {
+    /// For its call, by number, to be taken.
+    Offered(u64),
+    /// For an answer to it.
+    Taken(u64),
+    /// No call of its own.
+    Other,
+}
+
+/// What a line says (docs/FORMATS.md, Trace).
+#[derive(Clone, Copy)]
+pub enum Line {
+    /// In a turn, by its number.
+    Tells(u64, Saying),
+    /// The end of the turns.
+    Ends,
+    /// Of a task at the end, by its index.
+    Waits(u64, Wait),
+    /// Registers or memory at the end.
+    Shows,
+    /// It has no form.
+    Strange,
+}
+
+/// The i-th of the words.
+fn word_at<'a>(words: Words<'a>, i: usize) -> &'a [u8]
+    ensures { result.now ≡ word_at (words_left words.entry) i }
+{
+    let mut words = words;
+    for k in 0..i {
+        words.next();
+    }
+    words.next().unwrap_or(b"")
+}
+
+/// The number that it is; 0 where it is none.
+fn number_at(words: Words<'_>, i: usize) -> u64
+    ensures { result ≡ number_at (words_left words.entry) i }
+{
+    number(word_at(words, i), 0xFFFF_FFFF).unwrap_or(0)
+}
+
+/// A call was closed by an answer of its server.
+fn is_answer(word: &[u8]) -> bool
+    ensures { result ≡ is_answer word.now }
+{
+    is_any_of(&[b"reply", b"replyfault"], word)
+}
+
+/// What the words behind the name of a line say of calls.
+fn saying_of(kind: Kind, words: Words<'_>) -> Saying
+    ensures { result ≡ saying_of kind (words_left words.entry) }
+{
+    match kind {
+        Kind::Offer => Saying::Offers(number_at(words, 0), number_at(words, 1)),
+        Kind::Take => Saying::Takes(number_at(words, 0)),
+        Kind::Close => Saying::Closes(number_at(words, 0), is_answer(word_at(words, 1))),
+        Kind::Borrow => Saying::Borrows(number_at(words, 0)),
+        Kind::Plain | Kind::Insn | Kind::Task => Saying::Nothing,
+    }
+}
+
+/// The offset and the bytes moved of a borrow are 0.
+fn moves_nothing(words: Words<'_>) -> bool
+    ensures { result ≡ moves_nothing (words_left words.entry) }
+{
+    number_at(words, 3) == 0 && number_at(words, 4) == 0
+}
+
+/// For information nothing moves.
+fn is_right(kind: Kind, words: Words<'_>) -> bool
+    ensures { result ≡ is_right kind (words_left words.entry) }
+{
+    match kind {
+        Kind::Borrow => !is_same(word_at(words, 1), b"info") || moves_nothing(words),
+        Kind::Plain | Kind::Insn | Kind::Offer | Kind::Take | Kind::Close | Kind::Task => true,
+    }
+}
+
+/// The words behind the name are those of the form.
+fn fits(form: &Form, words: Words<'_>) -> bool
+    ensures { result ≡ fits (form_in form.now) (words_left words.entry) }
+{
+    are_of(form.fields, form.kind.ends_with_text(), words) && is_right(form.kind, words)
+}
+
+/// The form of this name, where the words behind it fit.
+fn form_of(forms: &[Form], name: &[u8], words: Words<'_>) -> Option<Form>
+    ensures { option_map form_in result ≡ form_of (forms_in forms.now) name.now (words_left words.entry) }
+{
+    match form_named(forms, name) {
+        None => None,
+        Some(form) => { if fits(&form, words) { Some(form) } else { None } }
+    }
+}
+
+fn turn_form(name: &[u8], words: Words<'_>) -> Option<Form>
+    ensures { option_map form_in result ≡ form_of turn_forms name.now (words_left words.entry) }
+{
+    form_of(TURN_FORMS, name, words)
+}
+
+fn told(turn: Option<u64>, form: Option<Form>, words: Words<'_>) -> Option<Line>
+    ensures { result ≡ told turn (words_left words.entry) (option_map form_in form) }
+{
+    match (turn, form) {
+        (Some(turn), Some(form)) => Some(Line::Tells(turn, saying_of(form.kind, words))),
+        (Some(_), None) => None,
+        (None, _) => None,
+    }
+}
+
+/// A line of a turn.
+#[tactic(auto, unfolding(crate::specs::Meaning::turn_line))]
+fn turn_line(words: Words<'_>) -> Option<Line>
+    ensures { result ≡ turn_line (words_left words.entry) }
+{
+    let mut words = words;
+    match words.next() {
+        None => None,
+        Some(turn) => {
+            match words.next() {
+                None => None,
+                Some(name) => told(number(turn, 0xFFFF_FFFF), turn_form(name, words), words),
+            }
+        }
+    }
+}
+
+fn wait_by(offered: Option<u64>, taken: Option<u64>) -> Wait
+    ensures { result ≡ wait_by offered taken }
+{
+    match offered {
+        Some(call) => Wait::Offered(call),
+        None => {
+            match taken {
+                Some(call) => Wait::Taken(call),
+                None => Wait::Other,
+            }
+        }
+    }
+}
+
+#[tactic(auto, unfolding(crate::specs::Meaning::wait_of))]
+fn wait_of(word: &[u8]) -> Wait
+    ensures { result ≡ wait_of word.now }
+{
+    wait_by(
+        number_behind(word, b"offered:"),
+        number_behind(word, b"taken:"),
+    )
+}
+
+fn shown_by(kind: Kind, words: Words<'_>) -> Line
+    ensures { result ≡ shown_by kind (words_left words.entry) }
+{
+    match kind {
+        Kind::Task => Line::Waits(number_at(words, 0), wait_of(word_at(words, 3))),
+        Kind::Plain | Kind::Insn | Kind::Offer | Kind::Take | Kind::Close | Kind::Borrow => {
+            Line::Shows
+        }
+    }
+}
+
+fn last_form(name: &[u8], words: Words<'_>) -> Option<Form>
+    ensures { option_map form_in result ≡ form_of last_forms name.now (words_left words.entry) }
+{
+    form_of(LAST_FORMS, name, words)
+}
+
+fn row_of(words: Words<'_>) -> Option<Line>
+    ensures { result ≡ row_of (words_left words.entry) }
+{
+    if are_of(ROW_FIELDS, false, words) {
+        Some(Line::Shows)
+    } else {
+        None
+    }
+}
+
+/// A line after the end: one with a name, or the bytes at an address.
+#[tactic(auto, unfolding(crate::specs::Meaning::last_line))]
+fn last_line(words: Words<'_>) -> Option<Line>
+    ensures { result ≡ last_line (words_left words.entry) }
+{
+    let mut behind = words;
+    match behind.next() {
+        None => None,
+        Some(name) => {
+            match last_form(name, behind) {
+                Some(form) => Some(shown_by(form.kind, behind)),
+                None => row_of(words),
+            }
+        }
+    }
+}
+
+fn end_form(name: &[u8], words: Words<'_>) -> Option<Form>
+    ensures { option_map form_in result ≡ form_of (end_form ∷ []) name.now (words_left words.entry) }
+{
+    form_of(END_FORMS, name, words)
+}
+
+/// The end of the turns.
+#[tactic(auto, unfolding(crate::specs::Meaning::end_line))]
+fn end_line(words: Words<'_>) -> Option<Line>
+    ensures { result ≡ end_line (words_left words.entry) }
+{
+    let mut words = words;
+    match words.next() {
+        None => None,
+        Some(name) => {
+            match end_form(name, words) {
+                Some(_) => Some(Line::Ends),
+                None => None,
+            }
+        }
+    }
+}
+
+/// What a line says.
+#[tactic(auto, unfolding(crate::specs::Meaning::read))]
+pub(crate) fn read(line: &[u8]) -> Line
+    ensures { result ≡ read line.now }
+{
+    let words = Words::of(line);
+    match end_line(words) {
+        Some(line) => line,
+        None => {
+            match turn_line(words) {
+                Some(line) => line,
+                None => {
+                    match last_line(words) {
+                        Some(line) => line,
+                        None => Line::Strange,
+                    }
+                }
+            }
+        }
+    }
+}
