@@ -2,6 +2,7 @@
 ghost use Rattle.std.specs.Prelude.{◌≡◌, ◌≤◌, length, decimal, Option, Some};
 ghost use Rattle.trace_text.specs.Text.{line_of};
 ghost use Rattle.trace_text.specs.Digits.{IsBegun};
+ghost use Rattle.trace_text.specs.Fit.{IsFit, IsFitNote};
 
 use crate::lines::line;
 use crate::words::push_decimal;
@@ -17,6 +18,7 @@ pub struct TurnLines {
     // behind how many bytes a line goes on; None before the first one
     begun: Option<usize>,
     ghost begun_of: { IsBegun number text.bytes begun },
+    ghost small: { IsFit number },
 }
 
 impl TurnLines {
@@ -55,6 +57,8 @@ impl TurnLines {
     pub fn write(&mut self, note: &Note)
         ensures line { last_line self.new ≡ line_of self.old.number note.now }
         ensures number { self.new.number ≡ self.old.number }
+        ensures turn { IsFit self.old.number }
+        ensures fit { IsFitNote note.now }
     {
         self.begin_line();
         line(note, &mut self.text);

@@ -20,4 +20,4 @@ invariant_of-self c =
       count = count;
       few = c.begin_line.new.self.begun_of.few;
     } in
-    record { begun_of = subst (λ (k : ℕ). IsBegun k c.line.new.out.bytes c.begin_line.new.self.begun) (sym c.begin_line.ensures.number) kept }
+    record { begun_of = subst (λ (k : ℕ). IsBegun k c.line.new.out.bytes c.begin_line.new.self.begun) (sym c.begin_line.ensures.number) kept; small = c.begin_line.new.self.small }

@@ -1,0 +1,41 @@
+-- Notes whose lines have the numbers of their types: what is written in decimal is in range, there are as many registers as
+-- the line has words for, and the text of an instruction is no longer than its room.
+use Rattle.std.specs.Prelude.{ℕ, ◌<◌, ◌≤◌, ◌^◌, ◌≡◌, List, [], ◌∷◌, length}
+use Rattle.kernel_abi.specs.declared.FromIndex.{FromIndex}
+use Rattle.kernel_abi.specs.declared.FromIndex.TheVariants.{Any, Kernel, One}
+use Rattle.kernel_abi.specs.declared.Note.{Note}
+use Rattle.kernel_abi.specs.declared.Note.TheVariants as note
+use Rattle.trace_text.specs.Text.{code_decoded, decoded_text}
+
+abbrev pub IsFit : ℕ → Type 0
+IsFit n = n < 2 ^ 32
+
+abbrev pub IsFitFrom : FromIndex → Type 0
+IsFitFrom Any = Unit {0}
+IsFitFrom Kernel = Unit {0}
+IsFitFrom (One index) = IsFit index
+
+abbrev pub IsFitNote : Note → Type 0
+IsFitNote (note.Tick now) = now < 2 ^ 64
+IsFitNote (note.Irq line handled) = IsFit line
+IsFitNote (note.Post task bits posted) = IsFit task
+IsFitNote (note.Syscall task number arguments) = IsFit task × IsFit number × (length arguments ≡ 7)
+IsFitNote (note.Ret task results) = IsFit task × (length results ≡ 6)
+IsFitNote (note.Close call ending) = IsFit call
+IsFitNote (note.Fault task fault) = IsFit task × IsFit fault.number
+IsFitNote (note.Listen task from mask) = IsFit task × IsFitFrom from
+IsFitNote (note.Take call copied) = IsFit call × IsFit copied
+IsFitNote (note.Offer call client server) = IsFit call × IsFit client × IsFit server
+IsFitNote (note.Borrow call borrow lease offset moved) = IsFit call × IsFit lease × IsFit offset × IsFit moved
+IsFitNote (note.Restart task generation) = IsFit task × IsFit generation
+IsFitNote (note.IrqStatus task bits status) = IsFit task × IsFit status
+IsFitNote (note.Find index found) = IsFit index × IsFit found
+IsFitNote (note.Insn task at code) = IsFit task × (length (decoded_text at (code_decoded code)) ≤ 64)
+IsFitNote note.Idle = Unit {0}
+IsFitNote (note.Low registers) = length registers ≡ 8
+IsFitNote (note.High registers n z c v) = length registers ≡ 8
+
+-- each of some notes with their turns
+abbrev pub AreFit : List (ℕ × Note) → Type 0
+AreFit [] = Unit {0}
+AreFit (n ∷ notes) = IsFit n.0 × IsFitNote n.1 × AreFit notes
