@@ -1,0 +1,13 @@
+pub mod Decimals
+pub mod Spelling
+pub mod Reading
+pub mod Lines
+pub mod Last
+pub mod Hexes
+pub mod Instructions
+pub mod Spelled
+pub mod Ended
+pub mod Short
+pub mod Fitting
+pub mod Assembled
+pub mod Fine
