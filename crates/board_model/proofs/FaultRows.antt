@@ -185,7 +185,7 @@ module _ (c : ℕ) where
   well-step g s _ _ (Stores on at bytes t all within room may) spared h = well-stored on at bytes t h
   well-step g s _ _ (Copies on from at n i r t target may) spared h = well-copied on from at n t h
   well-step g s _ _ (Looks r t alive) spared h = well-looked r t h
-  well-step g s _ _ (Borrows k borrow lease offset moved t alive) spared h = well-noted _ t h
+  well-step g s _ _ (Borrows k borrow lease offset moved t alive taken fits) spared h = well-noted _ t h
   well-step g s _ _ (Ceases i ending t ends) spared h = well-closed i ending t h
   well-step g s _ _ (Halts fault t lt low high) spared h = absurd spared
   well-step g s _ _ (Strikes i fault ending t other lt low high party ends) spared h = well-struck g i fault ending t other h

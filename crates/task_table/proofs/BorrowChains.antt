@@ -1,25 +1,27 @@
 -- Each row of BORROW_READ, BORROW_WRITE and BORROW_INFO.
-use Rattle.std.proofs.Common.{◌≡◌, ◌≢◌, ◌+◌, ◌*◌, ◌<◌, ◌≤◌, inl, inr, ℕ, not, [], ◌∷◌, length, Option, Some, None, refl, sym, ◌∙◌, arith, eqb, leb, ltb, bit_and, is_some}
+use Rattle.std.proofs.Common.{◌≡◌, ◌≢◌, ◌+◌, ◌*◌, ◌<◌, ◌≤◌, inl, inr, ℕ, not, [], ◌∷◌, length, Option, Some, None, refl, sym, subst, ap, ◌∙◌, arith, eqb, leb, ltb, bit_and, is_some}
 use Rattle.std.proofs.lemmas.Bool.{eq-eqb, leb-false, ltb-false, false≢true}
+use Rattle.std.specs.Prelude.{Contains}
 use Rattle.std.proofs.lemmas.List.Elements.{Contains-push}
 use Rattle.kernel_abi.specs.Arguments.{borrow_args, info_args}
 use Rattle.kernel_abi.specs.Faults.{access_number}
 use Rattle.kernel_abi.specs.Ids.{index_of}
+use Rattle.kernel_abi.specs.declared.Borrow.{Borrow}
 use Rattle.kernel_abi.specs.declared.Borrow.TheVariants as borrow
 use Rattle.kernel_abi.specs.declared.Ending.TheVariants.{Client}
 use Rattle.kernel_abi.specs.declared.Fault.{Fault}
 use Rattle.kernel_abi.specs.declared.LeaseEntry.{LeaseEntry}
 use Rattle.kernel_abi.specs.declared.arguments.BorrowArgs.{BorrowArgs}
 use Rattle.region_check.specs.declared.Right.TheVariants as right
-use Rattle.task_table.specs.State.{Setup, Call, Own, Lease, Read, Entry, Leased, Turn}
+use Rattle.task_table.specs.State.{Setup, State, Call, Taken, Own, Lease, Read, Entry, Leased, Turn}
 use Rattle.task_table.specs.Reading.{arguments, is_out, is_dead, dead_code_for, taken_by, is_valid, bad_byte}
-use Rattle.task_table.specs.Effects.{looked, faulted}
+use Rattle.task_table.specs.Effects.{looked, copied, faulted}
 use Rattle.task_table.specs.Rows.{misused, denied}
 use Rattle.task_table.specs.Borrows.{entry_range, grant, lease_range, entry_read, Way, reading, writing, moved, refused, buffer_of, part_of, borrowed_by, borrowed, uninformed, informed_by, informed}
 use Rattle.task_table.specs.Sane.{Sane}
 use Rattle.task_table.specs.Grounds.{IsTakenBy, IsAlive}
 use Rattle.task_table.specs.Chain.{Here}
-use Rattle.task_table.specs.Step.{Copies, Looks, Borrows, Strikes, IsEntry, ReadsEntries, Faults}
+use Rattle.task_table.specs.Step.{IsOpenAs, IsMoved, Copies, Looks, Borrows, Strikes, IsEntry, ReadsEntries, Faults}
 use Rattle.task_table.proofs.Chains.{one, ◌▷◌}
 use Rattle.task_table.proofs.Keeps.{added_in}
 use Rattle.task_table.proofs.MessageChains.{found_taken, another}
@@ -40,6 +42,12 @@ writes-looked : (r : Read) (t : Turn) → (looked r t).writes ≡ t.writes
 unfolding looked
 writes-looked r t = refl
 
+calls-moved : (way : Borrow) (k : Call) (leased own n : ℕ) (t : Turn) → (moved way k leased own n t).state.calls ≡ t.state.calls
+unfolding looked copied
+calls-moved borrow.Read k leased own n t = refl
+calls-moved borrow.Write k leased own n t = refl
+calls-moved borrow.Info k leased own n t = refl
+
 reads-looked : (r : Read) (t : Turn) → IsEntry r.part → ReadsEntries t (looked r t)
 unfolding looked
 reads-looked r t entry x here = elim (added_in t.reads r x here) [ inl old ↦ inl old | inr new ↦ inr (rw new entry) ]
@@ -59,6 +67,10 @@ module _ (g : Setup) (c : ℕ) (t : Turn) (h : Sane g t.state) (inside : c < len
     alive : (u : Turn) → IsAlive t.state c u k.number
     alive u = inl (k, taken.here, refl)
 
+    -- it is open as taken still, where the calls stayed
+    still : (u : Turn) → u.state.calls ≡ t.state.calls → IsOpenAs u.state k.number Taken
+    still u same = (k, subst (λ calls. Contains calls k) (sym same) taken.here, refl, taken.phase)
+
     -- the lender faults
     strikes : (fault : Fault) (u : Turn) → 1 ≤ fault.number → fault.number ≤ 10 → Leads g c t u → Leads g c t (faulted g k.client.index fault u)
     strikes fault u low high x = x ▷ (Strikes k.client.index fault Client u (another h c k taken) (h.steady.calls.fit k taken.here).client low high (inl (inr (k, taken.here, refl))) tt, tt)
@@ -71,6 +83,9 @@ module _ (g : Setup) (c : ℕ) (t : Turn) (h : Sane g t.state) (inside : c < len
 
     abbrev entry : (lease : ℕ) (e : LeaseEntry) → Read
     entry lease e = record { call = k.number; part = Entry e.attributes e.base e.len; base = k.table + 12 * lease; len = 12 }
+
+    still_after : (lease : ℕ) (e : LeaseEntry) → (entry_read k lease e t).state.calls ≡ t.state.calls
+    still_after lease e = ap (λ (s : State). s.calls) (state-looked (entry lease e) t)
 
     -- its entry is read; then the borrower may fault still
     reads_entry : (lease : ℕ) (e : LeaseEntry) → Leads g c t (entry_read k lease e t)
@@ -124,9 +139,9 @@ module _ (g : Setup) (c : ℕ) (t : Turn) (h : Sane g t.state) (inside : c < len
         tt,
       )
 
-  lends : (way : Way) (x : BorrowArgs) → Moving way x → (i : ℕ) (o : Option Call) → taken_by t.state i c ≡ o → Comes g c t (borrowed_by g way c x o t)
-  lends way x moving i None found = refuses 1 t (Here t)
-  lends way x moving i (Some k) found =
+  lends : (way : Way) (x : BorrowArgs) → ((offset n : ℕ) → IsMoved way.borrow offset n) → Moving way x → (i : ℕ) (o : Option Call) → taken_by t.state i c ≡ o → Comes g c t (borrowed_by g way c x o t)
+  lends way x fits moving i None found = refuses 1 t (Here t)
+  lends way x fits moving i (Some k) found =
       let f = found_taken t.state i c k found in
       let bad = bad_byte g k.client.index right.Read (entry_range k x.lease) in
       let e = grant t.state k x.lease in
@@ -145,23 +160,23 @@ module _ (g : Setup) (c : ℕ) (t : Turn) (h : Sane g t.state) (inside : c < len
       by_outcome (is_some lacking) (λ b. refuses 1 (denied g k.client.index (access_number way.lender_access) lacking t1) (denies_lender k f (access_number way.lender_access) lacking t1 x1)) (λ lender.
       let moving1 = moving k e f (leb-false k.leases x.lease there) (λ zero. absurd (false≢true (sym set ∙ eq-eqb _ _ zero))) (ltb-false e.len x.offset near) (none_left _ own) (none_left _ lender) in
       goes_with g c t inside (0 ∷ part.len ∷ []) _ (omega arith)
-      (moving1 ▷ (Borrows k.number way.borrow x.lease x.offset part.len (moved way.borrow k part.base x.buffer_base part.len t1) (alive k f (moved way.borrow k part.base x.buffer_base part.len t1)), tt))))))))))
+      (moving1 ▷ (Borrows k.number way.borrow x.lease x.offset part.len (moved way.borrow k part.base x.buffer_base part.len t1) (alive k f (moved way.borrow k part.base x.buffer_base part.len t1)) (still k f (moved way.borrow k part.base x.buffer_base part.len t1) (calls-moved way.borrow k part.base x.buffer_base part.len t1 ∙ still_after k f x.lease e)) (fits x.offset part.len), tt))))))))))
 
-  borrows : (way : Way) → ((x : BorrowArgs) → Moving way x) → Comes g c t (borrowed g way c t)
+  borrows : (way : Way) → ((offset n : ℕ) → IsMoved way.borrow offset n) → ((x : BorrowArgs) → Moving way x) → Comes g c t (borrowed g way c t)
   unfolding borrowed
-  borrows way moving =
+  borrows way fits moving =
       let s = t.state in
       let x = borrow_args (arguments s c) in
       let id = x.lender.number in
       by_outcome (is_out s id) (λ out. comes-misused g c t inside 2) (λ there.
       by_outcome (is_dead s id) (λ dead. refuses (dead_code_for s id) t (Here t)) (λ live.
-      lends way x (moving x) (index_of id) (taken_by s (index_of id) c) refl))
+      lends way x fits (moving x) (index_of id) (taken_by s (index_of id) c) refl))
 
   pub comes-read : Comes g c t (borrowed g reading c t)
-  comes-read = borrows reading read_moves
+  comes-read = borrows reading (λ offset n. tt) read_moves
 
   pub comes-written : Comes g c t (borrowed g writing c t)
-  comes-written = borrows writing write_moves
+  comes-written = borrows writing (λ offset n. tt) write_moves
 
   -- ## what it gets for a lease
 
@@ -176,7 +191,7 @@ module _ (g : Setup) (c : ℕ) (t : Turn) (h : Sane g t.state) (inside : c < len
       by_outcome (leb k.leases lease) (λ out. comes-misused g c t inside 8) (λ there.
       by_outcome (is_some bad) (λ b. uninforms 1 (denied g k.client.index 2 bad t) (denies_lender k f 2 bad t (Here t))) (λ readable.
       by_outcome (not (is_valid (lease_range e))) (λ b. uninforms 1 (misused g k.client.index 3 t1) (misuses_lender k f 3 t1 x1)) (λ valid.
-      goes_with g c t inside (0 ∷ bit_and e.attributes 3 ∷ e.len ∷ []) _ (omega arith) (x1 ▷ (Borrows k.number borrow.Info lease 0 0 t1 (alive k f t1), tt)))))
+      goes_with g c t inside (0 ∷ bit_and e.attributes 3 ∷ e.len ∷ []) _ (omega arith) (x1 ▷ (Borrows k.number borrow.Info lease 0 0 t1 (alive k f t1) (still k f t1 (still_after k f lease e)) (refl, refl), tt)))))
 
   pub comes-informed : Comes g c t (informed g c t)
   unfolding informed

@@ -94,7 +94,7 @@ module _ (z : State) where
   move_reopened g s c _ _ (Aside u v a) h = reopened-outside u v a.outside h
   move_reopened g s c _ _ (Writes on at bytes u within may) h = reopened-same u (stored on at bytes u) refl refl refl h
   move_reopened g s c _ _ (Reads r u alive) h = reopened-same u (looked r u) refl refl refl h
-  move_reopened g s c _ _ (Lends k borrow lease offset moved u alive) h = reopened-lent k borrow lease offset moved u h
+  move_reopened g s c _ _ (Lends k borrow lease offset moved u alive taken fits) h = reopened-lent k borrow lease offset moved u h
   move_reopened g s c _ _ (Offers k u new) h = reopened-offered k u new.number h
   move_reopened g s c _ _ (Takes on k buffer u t) h = reopened-taken on k buffer u h
   move_reopened g s c _ _ (Closes i ending u ends) h = reopened-closed i ending u h

@@ -78,7 +78,7 @@ unfolding looked noted offered with_call copied with_taken closed without_call
 move_counts g s c _ _ (Aside u v a) h = counts_then s u.state v.state h (time-aside u v a)
 move_counts g s c _ _ (Writes on at bytes u within may) h = counts_then s u.state _ h (time-stored on at bytes u)
 move_counts g s c _ _ (Reads r u alive) h = counts_then s u.state (looked r u).state h record { count = refl; turn = refl; now = refl; next_call = refl }
-move_counts g s c _ _ (Lends k borrow lease offset moved u alive) h = counts_then s u.state _ h (time-noted (note.Borrow k borrow lease offset moved) u)
+move_counts g s c _ _ (Lends k borrow lease offset moved u alive taken fits) h = counts_then s u.state _ h (time-noted (note.Borrow k borrow lease offset moved) u)
 move_counts g s c _ _ (Offers k u new) h = let next = new.next in record { count = h.count; turn = h.turn; now = h.now; from = omega arith; upto = omega arith }
 move_counts g s c _ _ (Takes on k buffer u t) h = counts_then s u.state (taken_over on k buffer u).state h record { count = refl; turn = refl; now = refl; next_call = refl }
 move_counts g s c _ _ (Closes i ending u ends) h = counts_then s u.state (closed i ending u).state h record { count = refl; turn = refl; now = refl; next_call = refl }

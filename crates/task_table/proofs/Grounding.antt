@@ -177,7 +177,7 @@ module _ (g : Setup) (s : State) (c : ℕ) where
   moved _ _ (Aside u v a) = moved-aside u v a.outside
   moved _ _ (Writes on at bytes u within may) = moved-stored on at bytes u may
   moved _ _ (Reads r u alive) = moved-looked r u alive
-  moved _ _ (Lends k borrow lease offset n u alive) = moved-noted (note.Borrow k borrow lease offset n) u alive
+  moved _ _ (Lends k borrow lease offset n u alive taken fits) = moved-noted (note.Borrow k borrow lease offset n) u alive
   moved _ _ (Offers k u new) = moved-offered k u
   moved _ _ (Takes on k buffer u t) = moved-taken on k buffer u t
   moved _ _ (Closes i ending u ends) = moved-closed i ending u

@@ -170,7 +170,7 @@ module _ (g : Setup) (s : State) (c : ℕ) where
   step_moves placed _ _ (Stores on at bytes u all within room may) = one (Writes on at bytes u room may)
   step_moves placed _ _ (Copies on from at n i r u target may) = copies placed on from at n i r u target may
   step_moves placed _ _ (Looks r u alive) = one (Reads r u alive)
-  step_moves placed _ _ (Borrows k borrow lease offset moved u alive) = one (Lends k borrow lease offset moved u alive)
+  step_moves placed _ _ (Borrows k borrow lease offset moved u alive taken fits) = one (Lends k borrow lease offset moved u alive taken fits)
   step_moves placed _ _ (Ceases i ending u ends) = one (Closes i ending u ends)
   step_moves placed _ _ (Halts fault u lt low high) = faults c fault Client u tt
   step_moves placed _ _ (Strikes i fault ending u apart lt low high party ends) = faults i fault ending u ends

@@ -304,7 +304,7 @@ unfolding looked noted
 move_as_noted g s c old _ _ (Aside u v a) h = as_noted-aside old u v a.outside h
 move_as_noted g s c old _ _ (Writes on at bytes u within may) h = as_noted-stored old on at bytes u h
 move_as_noted g s c old _ _ (Reads r u alive) h = as_noted-same old u (looked r u) refl refl refl h
-move_as_noted g s c old _ _ (Lends k borrow lease offset n u alive) h = as_noted_on old u.notes (note.Borrow k borrow lease offset n ∷ []) u.state u.state h.apart (λ j l x. x) h
+move_as_noted g s c old _ _ (Lends k borrow lease offset n u alive taken fits) h = as_noted_on old u.notes (note.Borrow k borrow lease offset n ∷ []) u.state u.state h.apart (λ j l x. x) h
 move_as_noted g s c old _ _ (Offers k u new) h = as_noted-offered g s c old k u new h
 move_as_noted g s c old _ _ (Takes on k buffer u t) h = as_noted-taken g s c old on k buffer u t h
 move_as_noted g s c old _ _ (Closes i ending u ends) h = as_noted-closed old i ending u ends h

@@ -10,11 +10,11 @@ use Rattle.kernel_abi.specs.declared.Timer.{Timer}
 use Rattle.words_core.specs.declared.Flags.{Flags}
 use Rattle.task_table.specs.declared.Line.{Line}
 use Rattle.mem_banks.specs.Memory.{IsWithinRam}
-use Rattle.task_table.specs.State.{Setup, State, Call, Listen, Slice, Offered, Ground, Read, MessageFront, Turn}
+use Rattle.task_table.specs.State.{Setup, State, Call, Listen, Slice, Offered, Taken, Ground, Read, MessageFront, Turn}
 use Rattle.task_table.specs.Reading.{task_at, call_of, listen_of}
 use Rattle.task_table.specs.Effects.{with_task, without_listen, with_listen, with_taken, changed, noted, with_processor, with_health, stored, copied, looked, given, returned, past_syscall, bits_added, bits_cleared, woken_by, woken, posted, with_timer, clocked, with_line, closed, offered, reborn}
 use Rattle.task_table.specs.Grounds.{Lies, MayChange, IsAlive}
-use Rattle.task_table.specs.Step.{is_plain, IsNew, MayChangeAll, Ends}
+use Rattle.task_table.specs.Step.{is_plain, IsOpenAs, IsMoved, IsNew, MayChangeAll, Ends}
 
 -- ## what stands aside
 
@@ -190,7 +190,7 @@ pub data Move (g : Setup) (s : State) (c : ℕ) : Turn → Turn → Type 0 where
   Aside : (u v : Turn) → IsAside u v → Move g s c u v
   Writes : (on : Ground) (at : ℕ) (bytes : List ℕ) (u : Turn) → IsWithinRam s.memory at (length bytes) → MayChangeAll g s c u on at (length bytes) → Move g s c u (stored on at bytes u)
   Reads : (r : Read) (u : Turn) → IsAlive s c u r.call → Move g s c u (looked r u)
-  Lends : (k : ℕ) (borrow : Borrow) (lease offset moved : ℕ) (u : Turn) → IsAlive s c u k → Move g s c u (noted (note.Borrow k borrow lease offset moved) u)
+  Lends : (k : ℕ) (borrow : Borrow) (lease offset moved : ℕ) (u : Turn) → IsAlive s c u k → IsOpenAs u.state k Taken → IsMoved borrow offset moved → Move g s c u (noted (note.Borrow k borrow lease offset moved) u)
   Offers : (k : Call) (u : Turn) → IsNew s c u k → Move g s c u (offered k u)
   Takes : (on : Ground) (k : Call) (buffer : Slice) (u : Turn) → IsTaking g s c u on k buffer → Move g s c u (taken_over on k buffer u)
   Closes : (i : ℕ) (ending : Ending) (u : Turn) → Ends ending (call_of u.state i) → Move g s c u (closed i ending u)

@@ -84,7 +84,7 @@ step_quiet g s c _ _ (Receives k buffer u may) = λ none. absurd (noted-handed O
 step_quiet g s c _ _ (Stores on at bytes u all within room may) = λ none. record { count = refl; health = λ i. refl; ready = λ i. refl; current = refl }
 step_quiet g s c _ _ (Copies on from at n i r u target may) = λ none. record { count = refl; health = λ i. refl; ready = λ i. refl; current = refl }
 step_quiet g s c _ _ (Looks r u alive) = λ none. ready_same u.state
-step_quiet g s c _ _ (Borrows k borrow lease offset moved u alive) = λ none. absurd (noted-noted _ u none)
+step_quiet g s c _ _ (Borrows k borrow lease offset moved u alive taken fits) = λ none. absurd (noted-noted _ u none)
 step_quiet g s c _ _ (Ceases i ending u ends) = λ none. ready-closed i ending u (call_of u.state i) refl none
 step_quiet g s c _ _ (Halts fault u lt low high) = λ none. absurd (noted-faulted_as g c fault Client u none)
 step_quiet g s c _ _ (Strikes i fault ending u other lt low high party ends) = λ none. absurd (noted-faulted_as g i fault ending u none)

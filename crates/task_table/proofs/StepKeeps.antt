@@ -45,7 +45,7 @@ module _ (g : Setup) (s : State) (c : ℕ) where
   step_sane _ _ (Stores on at bytes u all within room may) h = sane-stored on at bytes u h all within
   step_sane _ _ (Copies on from at n i r u target may) h = keeps-copied on from at n u h (rw target.base (within_ram-front u.state.memory r.base r.len n (within_ram-good g u.state.memory i r h.steady.placed target.good) target.fits))
   step_sane _ _ (Looks r u alive) h = keeps-looked r u h
-  step_sane _ _ (Borrows k borrow lease offset moved u alive) h = keeps-noted _ u h
+  step_sane _ _ (Borrows k borrow lease offset moved u alive taken fits) h = keeps-noted _ u h
   step_sane _ _ (Ceases i ending u ends) h = keeps-closed i ending u h
   step_sane _ _ (Halts fault u lt low high) h = sane-faulted_as c fault Client u h (here h lt) low high
   step_sane _ _ (Strikes i fault ending u other lt low high party ends) h = sane-faulted_as i fault ending u h (here h lt) low high

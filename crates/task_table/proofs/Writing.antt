@@ -111,7 +111,7 @@ unfolding stored looked noted offered with_call copied copied_memory with_taken 
 move_written g s c _ _ (Aside u v a) h = written_same s.memory u v a.outside.memory a.outside.writes h
 move_written g s c _ _ (Writes on at bytes u within may) h = written_more s.memory on at bytes u (stored on at bytes u) within refl refl h
 move_written g s c _ _ (Reads r u alive) h = written_same s.memory u (looked r u) refl refl h
-move_written g s c _ _ (Lends k borrow lease offset n u alive) h = written_same s.memory u (noted _ u) refl refl h
+move_written g s c _ _ (Lends k borrow lease offset n u alive taken fits) h = written_same s.memory u (noted _ u) refl refl h
 move_written g s c _ _ (Offers k u new) h = written_same s.memory u (offered k u) refl refl h
 move_written g s c _ _ (Takes on k buffer u t) h =
     let n = min k.message.len buffer.len in

@@ -1,10 +1,10 @@
 -- The lives of calls, as the notes of a run say them, and what a turn begins with.
 use Rattle.std.specs.Prelude.{ℕ, ◌<◌, ◌≤◌, ◌≡◌, ◌≢◌, ◌⊎◌, Bool, List, [], ◌∷◌, Contains, Some, ◌==◌, if◌then◌else◌, true}
 use Rattle.kernel_abi.specs.declared.Note.{Note}
-use Rattle.task_table.specs.State.{State, Call, Phase, Offered, Taken, Write as Written, Turn}
+use Rattle.task_table.specs.State.{State, Call, Offered, Taken, Write as Written, Turn}
 use Rattle.task_table.specs.Grounds.{call_of_ground}
 use Rattle.task_table.specs.Ledger.{Saying, Offers, Takes, Closes, Nothing, saying, is_answer, IsOpen}
-use Rattle.task_table.specs.Step.{is_plain}
+use Rattle.task_table.specs.Step.{is_plain, IsOpenAs}
 
 -- ## what notes say
 
@@ -59,9 +59,6 @@ pub record AreApart (s : State) : Type 0 where
   pub below : (c : Call) → Contains s.calls c → c.number < s.next_call
   pub client : (c d : Call) → Contains s.calls c → Contains s.calls d → c.client.index ≡ d.client.index → c ≡ d
   pub number : (c d : Call) → Contains s.calls c → Contains s.calls d → c.number ≡ d.number → c ≡ d
-
-abbrev pub IsOpenAs : State → ℕ → Phase → Type 0
-IsOpenAs s k p = (call : Call) × Contains s.calls call × (call.number ≡ k) × (call.phase ≡ p)
 
 -- call k has this life in a state
 abbrev pub Lives : State → ℕ → Life → Type 0

@@ -4,6 +4,7 @@
 use Rattle.std.specs.Prelude.{ℕ, ◌≡◌, ◌≢◌, ◌+◌, ◌<◌, ◌≤◌, ◌⊎◌, Bool, true, false, List, length, Option, None, Contains, IfSome, bit_and}
 use Rattle.kernel_abi.specs.Faults.{injected_fault}
 use Rattle.kernel_abi.specs.declared.Borrow.{Borrow}
+use Rattle.kernel_abi.specs.declared.Borrow.TheVariants as borrow
 use Rattle.kernel_abi.specs.declared.Ending.{Ending}
 use Rattle.kernel_abi.specs.declared.Ending.TheVariants.{Reply, ReplyFault, Client, Restart}
 use Rattle.kernel_abi.specs.declared.Fault.{Fault}
@@ -15,7 +16,7 @@ use Rattle.region_check.specs.declared.Right.TheVariants.{Write}
 use Rattle.words_core.specs.declared.Flags.{Flags}
 use Rattle.task_table.specs.declared.Line.{Line}
 use Rattle.mem_banks.specs.Memory.{IsWithinRam, AreAllBytes}
-use Rattle.task_table.specs.State.{Setup, State, Birth, Call, Listen, Slice, Part, MessageFront, Entry, Leased, Read, One, Offered, Taken, Ground, Own, Turn}
+use Rattle.task_table.specs.State.{Setup, State, Birth, Call, Phase, Listen, Slice, Part, MessageFront, Entry, Leased, Read, One, Offered, Taken, Ground, Own, Turn}
 use Rattle.task_table.specs.Reading.{task_at, call_of, listen_of, bad_byte, admits, IsIdle}
 use Rattle.task_table.specs.Effects.{◌⨾◌, with_listen, changed, noted, with_processor, stored, copied, looked, given, returned, past_syscall, bits_cleared, posted, with_timer, with_line, closed, faulted_as, faulted, handed, restarted}
 use Rattle.task_table.specs.Rows.{listened_from}
@@ -49,6 +50,16 @@ is_plain (note.High registers n z c v) = true
 -- who has a part in what c does: c itself, and the client of an open call
 abbrev pub IsParty : State → ℕ → ℕ → Type 0
 IsParty s c i = (i ≡ c) ⊎ ((call : Call) × Contains s.calls call × (call.client.index ≡ i))
+
+-- call k is open, in this phase
+abbrev pub IsOpenAs : State → ℕ → Phase → Type 0
+IsOpenAs s k p = (call : Call) × Contains s.calls call × (call.number ≡ k) × (call.phase ≡ p)
+
+-- for information nothing moves, from offset 0
+abbrev pub IsMoved : Borrow → ℕ → ℕ → Type 0
+IsMoved borrow.Read offset moved = Unit {0}
+IsMoved borrow.Write offset moved = Unit {0}
+IsMoved borrow.Info offset moved = (offset ≡ 0) × (moved ≡ 0)
 
 -- a listen that its task may begin
 pub record MayListen (g : Setup) (s : State) (l : Listen) : Type 0 where
@@ -119,7 +130,7 @@ pub data Step (g : Setup) (s : State) (c : ℕ) : Turn → Turn → Type 0 where
   Stores : (on : Ground) (at : ℕ) (bytes : List ℕ) (u : Turn) → AreAllBytes bytes → IsWithinRam u.state.memory at (length bytes) → IsWithinRam s.memory at (length bytes) → MayChangeAll g s c u on at (length bytes) → Step g s c u (stored on at bytes u)
   Copies : (on : Ground) (from at n i : ℕ) (r : Slice) (u : Turn) → IsTarget g i r at n → MayChangeAll g s c u on at n → Step g s c u (copied on from at n u)
   Looks : (r : Read) (u : Turn) → IsAlive s c u r.call → Step g s c u (looked r u)
-  Borrows : (k : ℕ) (borrow : Borrow) (lease offset moved : ℕ) (u : Turn) → IsAlive s c u k → Step g s c u (noted (note.Borrow k borrow lease offset moved) u)
+  Borrows : (k : ℕ) (way : Borrow) (lease offset moved : ℕ) (u : Turn) → IsAlive s c u k → IsOpenAs u.state k Taken → IsMoved way offset moved → Step g s c u (noted (note.Borrow k way lease offset moved) u)
   Ceases : (i : ℕ) (ending : Ending) (u : Turn) → Ends ending (call_of u.state i) → Step g s c u (closed i ending u)
   Halts : (fault : Fault) (u : Turn) → c < length g.tasks → 1 ≤ fault.number → fault.number ≤ 10 → Step g s c u (faulted g c fault u)
   Strikes : (i : ℕ) (fault : Fault) (ending : Ending) (u : Turn) → i ≢ c → i < length g.tasks → 1 ≤ fault.number → fault.number ≤ 10 → IsParty s c i ⊎ (fault ≡ injected_fault) → Ends ending (call_of u.state i) → Step g s c u (faulted_as g i fault ending u)
@@ -144,7 +155,7 @@ Spares (Receives k buffer u a) = Unit {0}
 Spares (Stores on at bytes u a b d e) = Unit {0}
 Spares (Copies on from at n i r u a b) = Unit {0}
 Spares (Looks r u a) = Unit {0}
-Spares (Borrows k borrow lease offset moved u a) = Unit {0}
+Spares (Borrows k way lease offset moved u a b d) = Unit {0}
 Spares (Ceases i ending u a) = Unit {0}
 Spares (Halts fault u a b d) = ⊥
 Spares (Strikes i fault ending u a b d e f h) = Unit {0}
