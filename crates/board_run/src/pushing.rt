@@ -1,8 +1,9 @@
 //! Lines go to a sink, one push each. After a failing push nothing more is pushed.
-ghost use Rattle.std.specs.Prelude.{◌≡◌, ◌≤◌, length};
+ghost use Rattle.std.specs.Prelude.{◌≡◌, ◌≤◌, length, IfOk};
 ghost use Rattle.outside_io.specs.Outside.{Pushes, HasCause};
 ghost use Rattle.board_model.specs.Run.{at_turn};
 ghost use Rattle.trace_text.specs.Text.{line_of};
+ghost use Rattle.trace_text.specs.Fit.{IsFit, IsFitNote, AreFit};
 ghost use Rattle.board_run.specs.Text.{notes_text, task_line, low_text, high_text, end_line};
 ghost use Rattle.board_run.specs.ViewText.{view_text, wait_words, timer_of};
 
@@ -18,6 +19,7 @@ use words_core::Flags;
 fn push_note<S: Sink>(lines: &mut TurnLines, note: &Note, out: &mut S) -> Result<(), Failed>
     ensures number { lines.new.number ≡ lines.old.number }
     ensures bytes { Pushes (S.seen out.old).written (S.seen out.new).written (line_of lines.old.number note.now) result }
+    ensures fit { IsFit lines.old.number × IsFitNote note.now }
     ensures cause { HasCause (S.seen out.old).faults (S.seen out.new).faults result }
 {
     lines.write(note);
@@ -27,6 +29,7 @@ fn push_note<S: Sink>(lines: &mut TurnLines, note: &Note, out: &mut S) -> Result
 /// The notes of a turn, one line each.
 pub fn push_notes<S: Sink>(turn: u32, notes: &[Note], out: &mut S) -> Result<(), Failed>
     ensures bytes { Pushes (S.seen out.old).written (S.seen out.new).written (notes_text (at_turn turn notes.now)) result }
+    ensures fit { IfOk result (λ _. AreFit (at_turn turn notes.now)) }
     ensures cause { HasCause (S.seen out.old).faults (S.seen out.new).faults result }
 {
     let mut lines = TurnLines::new(turn);
