@@ -8,7 +8,8 @@ use Rattle.task_table.specs.State.{Setup, State, Call}
 use Rattle.task_table.specs.Reading.{task_at, call_of}
 use Rattle.task_table.specs.Sane.{IsFaultKnown, Sane}
 use Rattle.task_table.proofs.Keeps.{found_in}
-use Rattle.audit_laws.specs.Ends.{IsFitHealth, IsFitTimer}
+use Rattle.trace_text.specs.Fit.{IsFitTimer}
+use Rattle.audit_laws.specs.Ends.{IsFitHealth}
 use Rattle.audit_runs.specs.Last.{IsFitLast}
 
 -- the numbers of a task's lines are in range, and there are as many registers as they have

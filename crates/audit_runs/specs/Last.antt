@@ -6,7 +6,7 @@ use Rattle.task_table.specs.Reading.{task_at}
 use Rattle.task_table.specs.Sane.{IsCounted}
 use Rattle.trace_audit.specs.declared.reading.Line.TheVariants as line
 use Rattle.audit_laws.specs.Told.{IsLine}
-use Rattle.audit_laws.specs.Ends.{IsFitTimer}
+use Rattle.board_run.specs.Timers.{HasFitTimers}
 use Rattle.audit_laws.specs.Whole.{joined}
 use Rattle.board_run.specs.MemoryText.{regions_of}
 use Rattle.board_run.specs.Text.{trace_text}
@@ -24,7 +24,7 @@ pub record IsFitLast (s : State) : Type 0 where
   pub counted : IsCounted s
   pub turns : s.turn ≤ 1000000000
   pub tasks : length s.tasks ≤ 65536
-  pub timers : (i : ℕ) → i < length s.tasks → IsFitTimer (task_at s i).timer
+  pub timers : HasFitTimers s
 
 -- each text is one line, not too long, which shows something (those of --mem)
 abbrev pub AreShown : List (List ℕ) → Type 0
