@@ -15,8 +15,9 @@ use Rattle.trace_audit.specs.Meaning.{read, wait_of}
 use Rattle.audit_laws.proofs.Spelling.{is_in_word, IsWord, AreWords, spaced, all_joined, words_printable}
 use Rattle.audit_laws.proofs.Reading.{decimal_word, short, hex_word, hex_words}
 use Rattle.audit_laws.proofs.Last.{end_back, last_low_back, last_high_back, mem_back, row_back, task_back, wait_offered, wait_taken, of_wait_offered, of_wait_taken, of_faulted, of_timer}
+use Rattle.trace_text.specs.Fit.{IsFitTimer}
 use Rattle.audit_laws.specs.Told.{IsLine}
-use Rattle.audit_laws.specs.Ends.{IsHow, end_line, health_text, IsFitHealth, timer_text, IsFitTimer, IsWaitText, task_line, mem_line, row_line}
+use Rattle.audit_laws.specs.Ends.{IsHow, end_line, health_text, IsFitHealth, timer_text, IsWaitText, task_line, mem_line, row_line}
 use Rattle.audit_laws.proofs.Hexes.{hex_fits, registers_spaced, spaced_joined}
 use Rattle.audit_laws.proofs.Spelled.{so_many, flags, flags_word}
 

@@ -22,8 +22,8 @@ use Rattle.trace_text.specs.Text.{hex, spaced_hex, bit, handled_name, ending_nam
 use Rattle.trace_audit.specs.declared.reading.Wait.{Wait}
 use Rattle.trace_audit.specs.declared.reading.Wait.TheVariants as wait
 use Rattle.audit_laws.proofs.Last.{hex_length}
-use Rattle.trace_text.specs.Fit.{IsFitFrom, IsFitNote}
-use Rattle.audit_laws.specs.Ends.{IsHow, end_line, health_text, IsFitHealth, timer_text, IsFitTimer, IsWaitText, task_line}
+use Rattle.trace_text.specs.Fit.{IsFitFrom, IsFitNote, IsFitTimer}
+use Rattle.audit_laws.specs.Ends.{IsHow, end_line, health_text, IsFitHealth, timer_text, IsWaitText, task_line}
 use Rattle.audit_laws.proofs.Hexes.{hex_fits}
 use Rattle.audit_laws.proofs.Spelled.{code_fits}
 

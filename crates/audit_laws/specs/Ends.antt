@@ -6,7 +6,7 @@ use Rattle.kernel_abi.specs.declared.Timer.{Timer}
 use Rattle.trace_text.specs.Text.{hex, spaced_hex}
 use Rattle.trace_audit.specs.declared.reading.Wait.{Wait}
 use Rattle.trace_audit.specs.declared.reading.Wait.TheVariants as wait
-use Rattle.trace_text.specs.Fit.{IsFit}
+use Rattle.trace_text.specs.Fit.{IsFit, IsFitTimer}
 
 -- how the turns ended
 abbrev pub IsHow : List ℕ → Type 0
@@ -29,10 +29,6 @@ IsFitHealth (Faulted fault) = IsFit fault.number
 abbrev pub timer_text : Option Timer → List ℕ
 timer_text None = codes "-"
 timer_text (Some timer) = decimal timer.deadline ++ codes ":" ++ hex timer.bits
-
-abbrev pub IsFitTimer : Option Timer → Type 0
-IsFitTimer None = Unit {0}
-IsFitTimer (Some timer) = timer.deadline < 2 ^ 64
 
 -- a text of what a task waits for, and what it is read as
 abbrev pub IsWaitText : List ℕ → Wait → Type 0

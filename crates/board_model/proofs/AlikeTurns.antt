@@ -37,10 +37,10 @@ IsHeardAs w Calls All = (n : Note) → is_noted_always n ≡ false → w.hears n
 IsHeardAs w All Calls = ⊥
 
 -- alike, and what listens name is told apart in both
-record AreAlikeAndNoted (w : Viewer) (t u : Turn) : Type 0 where
-  alike : IsAlike w t u
-  first : AreTellable w.birth t.state
-  second : AreTellable w.birth u.state
+pub record AreAlikeAndNoted (w : Viewer) (t u : Turn) : Type 0 where
+  pub alike : IsAlike w t u
+  pub first : AreTellable w.birth t.state
+  pub second : AreTellable w.birth u.state
 
 notable_noted : (v : ℕ → ℕ) (l : Level) (n : Note) (t : Turn) → AreTellable v t.state → AreTellable v (noted_at l n t).state
 unfolding noted
@@ -81,7 +81,7 @@ module _ (w : Viewer) (a : IsAttentive w) where
 
   -- the walk of an instruction, to this viewer
   module _ (l m : Level) (heard : IsHeardAs w l m) (g : Setup) (c : ℕ) (open_to : IsOpen w g c) where
-    followed : IsFollowed l m g g c c (AreAlikeAndNoted w) (IsAlikeWhereSeen w)
+    pub followed : IsFollowed l m g g c c (AreAlikeAndNoted w) (IsAlikeWhereSeen w)
     followed = record {
       refused = refl;
       pc = λ t u h. register_alike w.birth t.state u.state c 15 h.alike.state;

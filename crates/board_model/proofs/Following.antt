@@ -65,7 +65,7 @@ module _ (l m : Level) (g k : Setup) (c d : ℕ) (R W : Turn → Turn → Type 0
   follow-acted Syscall t u h = f.call t u h
   follow-acted (Trap x) t u h = f.fault x t u h
 
-  follow-executed : (insn : Insn) (t u : Turn) → R t u → W (executed g c insn t) (executed k d insn u)
+  pub follow-executed : (insn : Insn) (t u : Turn) → R t u → W (executed g c insn t) (executed k d insn u)
   follow-executed insn t u h = go _ _ same
     where
       same : effect (refusals g c) (number_at t.state.memory) (cpu_of (task_at t.state c)) insn ≡ effect (refusals k d) (number_at u.state.memory) (cpu_of (task_at u.state d)) insn

@@ -1,4 +1,5 @@
 pub mod Appending
+pub mod Fitted
 pub mod Going
 pub mod Grown
 pub mod MemoryLines

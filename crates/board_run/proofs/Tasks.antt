@@ -1,5 +1,5 @@
 -- The text of the tasks, one more at a time.
-use Rattle.std.proofs.Common.{◌≡◌, ℕ, ◌+◌, List, ◌++◌, Option, Some, None, refl, sym, ap, subst, ◌∙◌, length, ◌%◌}
+use Rattle.std.proofs.Common.{◌≡◌, ℕ, ◌+◌, ◌<◌, ◌≤◌, inl, inr, List, ◌++◌, Option, Some, None, refl, sym, ap, subst, ◌∙◌, length, ◌%◌, arith, eq-or-lt_of_le}
 use Rattle.std.specs.Prelude.{Result, Err}
 use Rattle.std.specs.Option.{option_map}
 use Rattle.std.specs.Io.KnownBytes.{Appends}
@@ -14,6 +14,8 @@ use Rattle.task_table.specs.Reading.{task_at, call_of, listen_of}
 use Rattle.board_core.specs.declared.views.TaskView.{TaskView}
 use Rattle.board_core.specs.Views.{IsTask}
 use Rattle.board_run.specs.Text.{task_line, low_text, high_text, task_lines, task_text, tasks_text, wait_text}
+use Rattle.trace_text.specs.Fit.{IsFitTimer}
+use Rattle.board_run.specs.Timers.{AreFitTimers}
 use Rattle.board_run.specs.ViewText.{view_text, wait_words, timer_of}
 use Rattle.board_run.proofs.Appending.{appends_more, range_more, range_fails}
 
@@ -49,3 +51,13 @@ pub tasks_fail : {T E : Type 0} (a b c : Option (List ℕ)) (s : State) (i : ℕ
 tasks_fail {T} {E} a b c s i v r e failed t p q =
     let Q : List ℕ → Type 0 = λ w. AppendsFront b c w in
     range_fails a b c (task_text s) i (length s.tasks) r e failed t.inside p (subst Q (view_is s i v t) q)
+
+-- the timers of one task more are in range
+pub timers_more : (s : State) (i : ℕ) (v : TaskView) → IsTask s i v → IsFitTimer (timer_of v.timer) → AreFitTimers s i → AreFitTimers s (i + 1)
+timers_more s i v t fit before k lt = elim (eq-or-lt_of_le (below k i lt)) [ inl same ↦ subst (λ j. IsFitTimer (task_at s j).timer) (sym same) here | inr less ↦ before k less ]
+  where
+    here : IsFitTimer (task_at s i).timer
+    here = subst IsFitTimer (ap timer_of t.timer ∙ timer_is (task_at s i).timer) fit
+
+    below : (a b : ℕ) → a < b + 1 → a ≤ b
+    below a b h = omega arith

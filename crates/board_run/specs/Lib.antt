@@ -6,3 +6,4 @@ pub mod Running
 pub mod Telling
 pub mod Text
 pub mod ViewText
+pub mod Timers

@@ -3,6 +3,7 @@ use Rattle.std.specs.Prelude.{◌≡◌, ℕ, ◌-◌, ◌<◌, ◌≤◌, List,
 use Rattle.std.specs.Io.KnownBytes.{Appends}
 use Rattle.outside_io.specs.Outside.{AppendsFront, Rose}
 use Rattle.kernel_abi.specs.declared.Note.{Note}
+use Rattle.trace_text.specs.Fit.{AreFit}
 use Rattle.task_table.specs.State.{State}
 use Rattle.board_core.specs.declared.board.Board.{Board}
 use Rattle.board_core.specs.Stands.{turns_of}
@@ -27,10 +28,11 @@ pub record BreaksTelling {T : Type 0} (heard broke : T → List (ℕ × Note) �
 
 -- ## a sink, by what it has written and its count of faults, before and after
 
--- the lines of these notes were appended
+-- the lines of these notes were appended, and their numbers are in range
 pub record HearsText (w w' : Option (List ℕ)) (f f' : ℕ) (notes : List (ℕ × Note)) : Type 0 where
   pub pushed : Appends w w' (notes_text notes)
   pub later : f ≤ f'
+  pub fit : AreFit notes
 
 -- a front of them was, and the failure was counted
 pub record BreaksText (w w' : Option (List ℕ)) (f f' : ℕ) (notes : List (ℕ × Note)) : Type 0 where

@@ -2,6 +2,7 @@
 //! empty before.
 ghost use Rattle.std.specs.Prelude.{◌≡◌, ◌≤◌, ◌+◌, length, ◌++◌, []};
 ghost use Rattle.arrayvec.specs.ArrayString.{array_string_len};
+ghost use Rattle.trace_text.specs.Fit.{IsFitTimer};
 ghost use Rattle.board_run.specs.Text.{health_text, timer_text, task_line, low_text, high_text, end_name, end_line};
 ghost use Rattle.board_run.specs.ViewText.{wait_words, timer_of};
 ghost use Rattle.board_run.specs.MemoryText.{byte_hex, region_line};
@@ -80,6 +81,7 @@ fn push_wait(out: &mut ArrayString<160>, wait: Wait)
 fn push_timer(out: &mut ArrayString<160>, timer: Option<(u64, u32)>)
     requires { array_string_len out.old + 29 ≤ 160 }
     ensures bytes { out.new.bytes ≡ out.old.bytes ++ timer_text (timer_of timer) }
+    ensures fit { IsFitTimer (timer_of timer) }
     ensures len { array_string_len out.new ≤ array_string_len out.old + 29 }
 {
     match timer {
@@ -104,7 +106,8 @@ pub fn task_line(
     out: &mut ArrayString<160>,
 )
     requires { out.old.bytes ≡ [] }
-    ensures { out.new.bytes ≡ task_line i generation health (wait_words wait) posted (timer_of timer) }
+    ensures line { out.new.bytes ≡ task_line i generation health (wait_words wait) posted (timer_of timer) }
+    ensures fit { IsFitTimer (timer_of timer) }
 {
     out.push_str("task ");
     push_decimal(out, i);

@@ -1,8 +1,9 @@
 //! Lines go to a sink, one push each. After a failing push nothing more is pushed.
-ghost use Rattle.std.specs.Prelude.{◌≡◌, ◌≤◌, length};
+ghost use Rattle.std.specs.Prelude.{◌≡◌, ◌≤◌, length, IfOk};
 ghost use Rattle.outside_io.specs.Outside.{Pushes, HasCause};
 ghost use Rattle.board_model.specs.Run.{at_turn};
 ghost use Rattle.trace_text.specs.Text.{line_of};
+ghost use Rattle.trace_text.specs.Fit.{IsFit, IsFitNote, IsFitTimer, AreFit};
 ghost use Rattle.board_run.specs.Text.{notes_text, task_line, low_text, high_text, end_line};
 ghost use Rattle.board_run.specs.ViewText.{view_text, wait_words, timer_of};
 
@@ -18,6 +19,7 @@ use words_core::Flags;
 fn push_note<S: Sink>(lines: &mut TurnLines, note: &Note, out: &mut S) -> Result<(), Failed>
     ensures number { lines.new.number ≡ lines.old.number }
     ensures bytes { Pushes (S.seen out.old).written (S.seen out.new).written (line_of lines.old.number note.now) result }
+    ensures fit { IsFit lines.old.number × IsFitNote note.now }
     ensures cause { HasCause (S.seen out.old).faults (S.seen out.new).faults result }
 {
     lines.write(note);
@@ -27,6 +29,7 @@ fn push_note<S: Sink>(lines: &mut TurnLines, note: &Note, out: &mut S) -> Result
 /// The notes of a turn, one line each.
 pub fn push_notes<S: Sink>(turn: u32, notes: &[Note], out: &mut S) -> Result<(), Failed>
     ensures bytes { Pushes (S.seen out.old).written (S.seen out.new).written (notes_text (at_turn turn notes.now)) result }
+    ensures fit { IfOk result (λ _. AreFit (at_turn turn notes.now)) }
     ensures cause { HasCause (S.seen out.old).faults (S.seen out.new).faults result }
 {
     let mut lines = TurnLines::new(turn);
@@ -39,6 +42,7 @@ pub fn push_notes<S: Sink>(turn: u32, notes: &[Note], out: &mut S) -> Result<(),
 fn push_task_line<S: Sink>(i: u64, task: &TaskView, out: &mut S) -> Result<(), Failed>
     ensures bytes { Pushes (S.seen out.old).written (S.seen out.new).written
         (task_line i task.now.generation task.now.health (wait_words task.now.wait) task.now.posted (timer_of task.now.timer)) result }
+    ensures fit { IsFitTimer (timer_of task.now.timer) }
     ensures cause { HasCause (S.seen out.old).faults (S.seen out.new).faults result }
 {
     let mut line = Line::new();
@@ -84,6 +88,7 @@ pub fn push_end_line<S: Sink>(end: End, turns: u32, now: u64, out: &mut S) -> Re
 // The three lines of a task.
 fn push_task<S: Sink>(i: u64, task: &TaskView, out: &mut S) -> Result<(), Failed>
     ensures bytes { Pushes (S.seen out.old).written (S.seen out.new).written (view_text i task.now) result }
+    ensures fit { IsFitTimer (timer_of task.now.timer) }
     ensures cause { HasCause (S.seen out.old).faults (S.seen out.new).faults result }
 {
     push_task_line(i, task, out)?;
@@ -95,9 +100,11 @@ ghost use Rattle.task_table.specs.State.{State};
 ghost use Rattle.board_model.specs.Script.{Scenario};
 ghost use Rattle.board_core.specs.Stands.{Stands};
 ghost use Rattle.board_run.specs.Text.{tasks_text, end_text};
+ghost use Rattle.board_run.specs.Timers.{HasFitTimers};
 
 fn push_tasks<S: Sink>(board: &Board, out: &mut S) -> Result<(), Failed>
     ensures bytes { (x : Scenario) (s : State) → Stands x board.now s → Pushes (S.seen out.old).written (S.seen out.new).written (tasks_text s (length s.tasks)) result }
+    ensures timers { (x : Scenario) (s : State) → Stands x board.now s → IfOk result (λ _. HasFitTimers s) }
     ensures cause { HasCause (S.seen out.old).faults (S.seen out.new).faults result }
 {
     for i in 0..board.task_count() {
@@ -112,6 +119,7 @@ fn push_tasks<S: Sink>(board: &Board, out: &mut S) -> Result<(), Failed>
 /// How a run ended, and each task.
 pub fn push_end<S: Sink>(end: End, board: &Board, out: &mut S) -> Result<(), Failed>
     ensures bytes { (x : Scenario) (s : State) → Stands x board.now s → Pushes (S.seen out.old).written (S.seen out.new).written (end_text end s) result }
+    ensures timers { (x : Scenario) (s : State) → Stands x board.now s → IfOk result (λ _. HasFitTimers s) }
     ensures cause { HasCause (S.seen out.old).faults (S.seen out.new).faults result }
 {
     push_end_line(end, board.turns(), board.now(), out)?;

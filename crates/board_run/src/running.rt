@@ -8,7 +8,9 @@ ghost use Rattle.board_model.specs.Run.{run, ending};
 ghost use Rattle.board_model.specs.Lifetimes.{IsLedgerOfRun};
 ghost use Rattle.task_table.specs.Limits.{turn_notes};
 ghost use Rattle.task_table.specs.Start.{start};
+ghost use Rattle.trace_text.specs.Fit.{AreFit};
 ghost use Rattle.board_run.specs.Text.{trace_text};
+ghost use Rattle.board_run.specs.Timers.{HasFitTimers};
 ghost use Rattle.board_run.specs.Running.{StandsMidway, BreaksOff, end_within};
 ghost use Rattle.board_run.specs.Telling.{BreaksTelling, notes_in};
 
@@ -105,6 +107,10 @@ pub fn run<S: Sink>(board: &mut Board, limit: u32, level: Level, out: &mut S) ->
         IfOk result (λ e. e ≡ (run level x (limit - s.turn) s).end) }
     ensures last { (x : Scenario) (s : State) → Stands x board.old s →
         IfOk result (λ _. Stands x board.new (run level x (limit - s.turn) s).last) }
+
+    // The numbers of the notes are in range, and so are the deadlines at the end.
+    ensures fit { (x : Scenario) (s : State) → Stands x board.old s → IfOk result (λ _. AreFit (run level x (limit - s.turn) s).notes) }
+    ensures timers { (x : Scenario) (s : State) → Stands x board.old s → IfOk result (λ _. HasFitTimers (run level x (limit - s.turn) s).last) }
 
     // From the start, what the notes say of each call is so, and agrees with the calls that are open at the end.
     ensures ledger { (x : Scenario) → Stands x board.old (start x.setup) → IsLedgerOfRun level x limit }

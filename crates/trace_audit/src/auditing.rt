@@ -49,7 +49,7 @@ pub fn audit(alloc: Global, text: &[u8]) -> Result<Verdict, AuditFault>
     ensures yes { IfOk result (λ v. (calls left : ℕ) → (v ≡ Verdict.Yes calls left) ↔ IsGoodWith (read_lines text.now) calls left) }
     ensures no { IfOk result (λ v. (n : ℕ) → (v ≡ Verdict.No n) ↔ IsFirstBad (read_lines text.now) n) }
     ensures fine { IfOk result (λ v. HasNoCause (lines_of text.now)) }
-    ensures refused { (cause n : ℕ) → (result ≡ Err (AuditFault.Refused cause n)) ↔ IsFirstCause (lines_of text.now) cause n }
+    ensures exact { (cause n : ℕ) → (result ≡ Err (AuditFault.Refused cause n)) ↔ IsFirstCause (lines_of text.now) cause n }
 {
     if let Some((cause, line)) = first_cause(text) {
         return Err(AuditFault::Refused { cause, line });

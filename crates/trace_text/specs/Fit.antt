@@ -1,10 +1,11 @@
 -- Notes whose lines have the numbers of their types: what is written in decimal is in range, there are as many registers as
 -- the line has words for, and the text of an instruction is no longer than its room.
-use Rattle.std.specs.Prelude.{ℕ, ◌<◌, ◌≤◌, ◌^◌, ◌≡◌, List, [], ◌∷◌, length}
+use Rattle.std.specs.Prelude.{ℕ, ◌<◌, ◌≤◌, ◌^◌, ◌≡◌, List, [], ◌∷◌, length, Option, None, Some}
 use Rattle.kernel_abi.specs.declared.FromIndex.{FromIndex}
 use Rattle.kernel_abi.specs.declared.FromIndex.TheVariants.{Any, Kernel, One}
 use Rattle.kernel_abi.specs.declared.Note.{Note}
 use Rattle.kernel_abi.specs.declared.Note.TheVariants as note
+use Rattle.kernel_abi.specs.declared.Timer.{Timer}
 use Rattle.trace_text.specs.Text.{code_decoded, decoded_text}
 
 abbrev pub IsFit : ℕ → Type 0
@@ -14,6 +15,11 @@ abbrev pub IsFitFrom : FromIndex → Type 0
 IsFitFrom Any = Unit {0}
 IsFitFrom Kernel = Unit {0}
 IsFitFrom (One index) = IsFit index
+
+-- the deadline of a timer is written in decimal
+abbrev pub IsFitTimer : Option Timer → Type 0
+IsFitTimer None = Unit {0}
+IsFitTimer (Some timer) = timer.deadline < 2 ^ 64
 
 abbrev pub IsFitNote : Note → Type 0
 IsFitNote (note.Tick now) = now < 2 ^ 64

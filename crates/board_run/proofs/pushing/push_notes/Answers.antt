@@ -4,6 +4,8 @@ use Rattle.std.specs.Io.KnownBytes.{Appends}
 use Rattle.board_model.specs.Run.{at_turn}
 use Rattle.board_run.specs.Text.{notes_text}
 use Rattle.board_run.proofs.Appending.{appends_more, part_fails, notes_at, notes_more}
+use Rattle.trace_text.specs.Fit.{IsFit}
+use Rattle.board_run.proofs.Fitted.{fit_next}
 use Rattle.board_run.proofs.pushing.push_notes.Goals as goal
 
 pub loop-note-preserved : goal.loop-note-preserved
@@ -16,6 +18,7 @@ loop-note-preserved g c =
     record {
       number = c.push_note.ensures.number ∙ c.loop-note.invariant.number;
       pushed = subst Q (sym c.push_note.ensures.number) pushed;
+      fit = fit_next c.args.turn c.args.notes.now i _ within (subst IsFit c.loop-note.invariant.number c.push_note.ensures.fit.0) c.push_note.ensures.fit.1 c.loop-note.invariant.fit;
       later = omega (arith, c.loop-note.invariant.later, c.in_ok-push_note.ensures.cause.later);
     }
 

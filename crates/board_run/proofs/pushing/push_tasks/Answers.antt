@@ -1,11 +1,12 @@
 use Rattle.std.proofs.Common.{arith}
 use Rattle.std.proofs.lemmas.Result.{err_from_is_err_and}
-use Rattle.board_run.proofs.Tasks.{tasks_more, tasks_fail}
+use Rattle.board_run.proofs.Tasks.{tasks_more, tasks_fail, timers_more}
 use Rattle.board_run.proofs.pushing.push_tasks.Goals as goal
 
 pub loop-i-preserved : goal.loop-i-preserved
 loop-i-preserved g c = record {
   pushed = λ x s st. tasks_more _ _ _ s c.loop-i.i c.in-Some.task (c.in-Some.ensures.view x s st) (c.loop-i.invariant.pushed x s st) c.in_ok-push_task-in-Some.ensures.bytes;
+  timers = λ x s st. timers_more s c.loop-i.i c.in-Some.task (c.in-Some.ensures.view x s st) c.push_task.ensures.fit (c.loop-i.invariant.timers x s st);
   later = omega (arith, c.loop-i.invariant.later, c.in_ok-push_task-in-Some.ensures.cause.later);
 }
 

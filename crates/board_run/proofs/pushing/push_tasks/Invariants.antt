@@ -4,10 +4,12 @@ use Rattle.task_table.specs.State.{State}
 use Rattle.board_model.specs.Script.{Scenario}
 use Rattle.board_core.specs.Stands.{Stands}
 use Rattle.board_run.specs.Text.{tasks_text}
+use Rattle.board_run.specs.Timers.{AreFitTimers}
 use Rattle.board_run.proofs.pushing.push_tasks.Given as goal
 
 abbrev pub invariant-loop-i : goal.invariant-loop-i
 invariant-loop-i g l = record {
   pushed : (x : Scenario) (s : State) → Stands x l.board s → Appends (g.S.Sink.seen l.fn.out).written (g.S.Sink.seen l.out).written (tasks_text s l.i);
+  timers : (x : Scenario) (s : State) → Stands x l.board s → AreFitTimers s l.i;
   later : (g.S.Sink.seen l.fn.out).faults ≤ (g.S.Sink.seen l.out).faults;
 }

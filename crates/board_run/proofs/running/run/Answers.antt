@@ -73,3 +73,9 @@ returns-clause-cause g c =
 
 pub returns-clause-ledger : goal.returns-clause-ledger
 returns-clause-ledger g c = λ x st. ledger-run c.args.level x c.args.limit st.sane
+
+pub returns-clause-fit : goal.returns-clause-fit
+returns-clause-fit g c = λ x s st. (c.in_ok-end.ensures.told x s st).fit
+
+pub returns-clause-timers : goal.returns-clause-timers
+returns-clause-timers g c = λ x s st. c.in_ok-push_end.ensures.timers x _ (c.in_ok-end.ensures.last x s st)

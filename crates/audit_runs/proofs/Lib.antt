@@ -1,0 +1,9 @@
+pub mod Finding
+pub mod Speaking
+pub mod Waiting
+pub mod Running
+pub mod Coded
+pub mod Right
+pub mod Lasting
+pub mod Telling
+pub mod Memories

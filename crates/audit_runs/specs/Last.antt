@@ -1,0 +1,51 @@
+-- What is known of the last state of a run, and of the lines behind those of its tasks.
+use Rattle.std.specs.Prelude.{ℕ, ◌<◌, ◌≤◌, ◌^◌, ◌≡◌, List, [], ◌∷◌, ◌++◌, length, Contains}
+use Rattle.region_check.specs.declared.Region.{Region}
+use Rattle.task_table.specs.State.{Setup, State}
+use Rattle.task_table.specs.Reading.{task_at}
+use Rattle.task_table.specs.Sane.{IsCounted}
+use Rattle.trace_audit.specs.declared.reading.Line.TheVariants as line
+use Rattle.audit_laws.specs.Told.{IsLine}
+use Rattle.board_run.specs.Timers.{HasFitTimers}
+use Rattle.audit_laws.specs.Whole.{joined}
+use Rattle.board_run.specs.MemoryText.{regions_of}
+use Rattle.board_run.specs.Text.{trace_text}
+use Rattle.board_model.specs.declared.outcomes.Level.{Level}
+use Rattle.board_model.specs.Script.{Scenario}
+use Rattle.board_model.specs.Run.{run}
+use Rattle.task_table.specs.Start.{start}
+use Rattle.trace_text.specs.Fit.{AreFit}
+use Rattle.trace_audit.specs.Rules.{IsGood}
+use Rattle.trace_audit.specs.Texts.{lines_of}
+use Rattle.trace_audit.specs.Verdicts.{read_lines, HasNoCause}
+
+-- no more turns than a run has, no more tasks than an image, and each deadline below 2^64
+pub record IsFitLast (s : State) : Type 0 where
+  pub counted : IsCounted s
+  pub turns : s.turn ≤ 1000000000
+  pub tasks : length s.tasks ≤ 65536
+  pub timers : HasFitTimers s
+
+-- each text is one line, not too long, which shows something (those of --mem)
+abbrev pub AreShown : List (List ℕ) → Type 0
+AreShown [] = Unit {0}
+AreShown (t ∷ texts) = IsLine t line.Shows × (length t ≤ 160) × AreShown texts
+
+-- the bytes are such lines
+pub record IsShown (bytes : List ℕ) : Type 0 where
+  pub texts : List (List ℕ)
+  pub each : AreShown texts
+  pub whole : joined texts ≡ bytes
+
+-- the sizes of regions are in range
+abbrev pub HasFitRegions : Setup → Type 0
+HasFitRegions g = (r : Region) → Contains (regions_of g) r → r.size < 2 ^ 32
+
+-- the lines of the text are good, and an audit refuses none of them
+pub record IsGoodText (text : List ℕ) : Type 0 where
+  pub good : IsGood (read_lines text)
+  pub fine : HasNoCause (lines_of text)
+
+-- so is the text of a run from the start with what is shown behind it, where the numbers of its notes and of its last state are in range
+abbrev pub IsGoodRun : Level → Scenario → ℕ → Type 0
+IsGoodRun level x n = let r = run level x n (start x.setup) in (more : List ℕ) → IsFitLast r.last → AreFit r.notes → IsShown more → IsGoodText (trace_text r ++ more)

@@ -1,0 +1,31 @@
+//! The text of a run.
+ghost use Rattle.std.specs.Prelude.{ℕ, List, [], ◌++◌};
+ghost use Rattle.task_table.specs.State.{Setup, State};
+ghost use Rattle.task_table.specs.Sane.{Sane};
+ghost use Rattle.task_table.specs.Start.{start};
+ghost use Rattle.board_model.specs.declared.outcomes.Level.{Level};
+ghost use Rattle.board_model.specs.Script.{Scenario};
+ghost use Rattle.board_model.specs.Run.{Run};
+ghost use Rattle.board_model.specs.Lifetimes.{notes_in};
+ghost use Rattle.board_run.specs.Text.{trace_text};
+ghost use Rattle.board_run.specs.MemoryText.{memory_text};
+ghost use Rattle.trace_text.specs.Fit.{AreFit};
+ghost use Rattle.audit_laws.specs.Whole.{AreInOrder, AreRight};
+ghost use Rattle.audit_runs.specs.Spoken.{IsSpoken};
+ghost use Rattle.audit_runs.specs.Last.{IsFitLast, IsShown, HasFitRegions, IsGoodText, IsGoodRun};
+
+/// The lines of the last memory show something, where the sizes of regions are in range; so does no line.
+pub fn memories_are_shown()
+    ensures none { IsShown [] }
+    ensures memories { (g : Setup) (s : State) → HasFitRegions g → IsShown (memory_text g s) }
+{}
+
+/// The text of a run, with any lines behind it that show something, is good, and no line of it has a cause: where its last state is
+/// sane and in range, its notes are in range and right, in turns that do not fall, and say of calls what is good and agrees with the
+/// last state. A run from the start is such a run, but for what is in range.
+pub fn texts_of_runs_are_good()
+    ensures any { (g : Setup) (r : Run) (more : List ℕ) → Sane g r.last → IsFitLast r.last → IsShown more
+        → AreInOrder 0 r.notes → AreFit r.notes → AreRight r.notes → IsSpoken (notes_in r.notes) r.last
+        → IsGoodText (trace_text r ++ more) }
+    ensures runs { (level : Level) (x : Scenario) (n : ℕ) → Sane x.setup (start x.setup) → IsGoodRun level x n }
+{}
