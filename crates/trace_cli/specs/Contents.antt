@@ -31,9 +31,13 @@ abbrev pub fault_in : {T W : Type 0} → Result T W → Option W
 fault_in (Ok value) = None
 fault_in (Err why) = Some why
 
--- a file of more than 2,097,152 bytes is refused by its length; of others its definition decides
-abbrev pub unless_long : List ℕ → Option Why → Option Why
-unless_long bytes refusal = if nat_lt 2097152 (length bytes) then Some (at_number (0, 2097152)) else refusal
+-- the most bytes of an image, of a script, of an application or of a source
+abbrev pub file_limit : ℕ
+file_limit = 2097152
+
+-- a file of more bytes than its limit is refused by its length; of others its definition decides
+abbrev pub unless_long : ℕ → List ℕ → Option Why → Option Why
+unless_long limit bytes refusal = if nat_lt limit (length bytes) then Some (at_number (0, limit)) else refusal
 
 -- ## an image
 
@@ -47,7 +51,7 @@ image_in (Err why) = no_picture
 
 -- why an image is refused, if it is (docs/FORMATS.md, Image)
 unfoldable pub image_refusal : List ℕ → Option Why
-image_refusal bytes = unless_long bytes (option_map at_number (fault_in (image_or_fault bytes)))
+image_refusal bytes = unless_long file_limit bytes (option_map at_number (fault_in (image_or_fault bytes)))
 
 -- the image that accepted bytes spell
 unfoldable pub picture_of : List ℕ → Picture
@@ -65,7 +69,7 @@ script_in (Err why) = no_script
 
 -- why a script is refused, if it is (docs/FORMATS.md, Script)
 unfoldable pub script_refusal : List ℕ → Option Why
-script_refusal bytes = unless_long bytes (option_map at_number (fault_in (script_or_fault bytes)))
+script_refusal bytes = unless_long file_limit bytes (option_map at_number (fault_in (script_or_fault bytes)))
 
 -- what accepted bytes say
 unfoldable pub script_of : List ℕ → ScriptData
@@ -97,7 +101,7 @@ room_refusal app = if nat_lt app.flash (flash_needed app) then Some (21, codes "
 
 -- why an application is refused, if it is: its description (docs/FORMATS.md, Application), or its plan
 unfoldable pub app_refusal : List ℕ → Option Why
-app_refusal bytes = unless_long bytes (or_later (fault_in (read_app bytes)) (room_refusal (application_of bytes)))
+app_refusal bytes = unless_long file_limit bytes (or_later (fault_in (read_app bytes)) (room_refusal (application_of bytes)))
 
 -- ## the source of a task
 
@@ -115,7 +119,7 @@ code_refusal app i source =
 
 -- why the i-th task's source is refused, if it is: the assembler's first cause (docs/FORMATS.md, Assembler), or its length
 unfoldable pub source_refusal : AppData → ℕ → List ℕ → Option Why
-source_refusal app i source = unless_long source (or_later (option_map at_line (source_cause app i source)) (code_refusal app i source))
+source_refusal app i source = unless_long file_limit source (or_later (option_map at_line (source_cause app i source)) (code_refusal app i source))
 
 -- ## a run
 

@@ -8,25 +8,26 @@ use Rattle.board_model.specs.Script.{Scenario}
 use Rattle.command_line.specs.CommandLine.{Asked, build, run, go, list, sample, migrate}
 use Rattle.command_line.specs.declared.job.Detail.{Detail}
 use Rattle.sample_gen.specs.Sample.{sample_app, sample_sources}
-use Rattle.trace_cli.specs.Contents.{Why, image_refusal, script_refusal, app_refusal, source_refusal, picture_of, application_of, scenario_of, sample_scenario}
+use Rattle.trace_cli.specs.Contents.{Why, file_limit, image_refusal, script_refusal, app_refusal, source_refusal, picture_of, application_of, scenario_of, sample_scenario}
 
--- a file, and why contents of it are refused
+-- a file, the most bytes that it may have, and why contents of it are refused
 pub record File : Type 0 where
   pub name : List ℕ
+  pub limit : ℕ
   pub refusal : List ℕ → Option Why
 
 abbrev pub image_file : List ℕ → File
-image_file name = record { name = name; refusal = image_refusal }
+image_file name = record { name = name; limit = file_limit; refusal = image_refusal }
 
 abbrev pub script_file : List ℕ → File
-script_file name = record { name = name; refusal = script_refusal }
+script_file name = record { name = name; limit = file_limit; refusal = script_refusal }
 
 abbrev pub app_file : List ℕ → File
-app_file name = record { name = name; refusal = app_refusal }
+app_file name = record { name = name; limit = file_limit; refusal = app_refusal }
 
 -- the source of the i-th task, under the name that its key `source` holds
 abbrev pub source_file : AppData → ℕ → TaskData → File
-source_file app i t = record { name = t.source; refusal = source_refusal app i }
+source_file app i t = record { name = t.source; limit = file_limit; refusal = source_refusal app i }
 
 -- the sources of these tasks in their order, of which the first is the i-th
 abbrev pub sources_from : AppData → ℕ → List TaskData → List File
