@@ -69,10 +69,11 @@ def tasks(size):
 
 def shared(size):
     """512 tasks of 32 notifications each, at the largest size: each source may name all of them."""
-    count = max(1, 512 * size // 2097152)
     notes = ",".join(f'"n{k}"' for k in range(32))
-    form = TASK.format("t{}", 1, 256, notes, "")
-    return application("".join(form.format(k) for k in range(1, count)), flash=256)
+    tasks = "".join(TASK.format(f"t{k}", min(k, 1), 256, notes, "") for k in range(max(1, 512 * size // 2097152)))
+    put("app.toml", '[board]\nflash=1048576\nram=262144\n[supervisor]\nfault="n0"\n' + tasks)
+    put("s.s", "here: b here\n")
+    return "build app.toml out.img"
 
 
 def keys(size):

@@ -290,7 +290,11 @@ module _ (x : Scenario) (u : State) (b : Board) (m : Machine) (task most n until
             turns = omega (arith, a, turns);
             choice = record {
               next = st.holds.choice.next ∙ is_chosen ∙ sym (are.chosen n (omega arith));
-              ready = λ i. st.holds.choice.ready i ∙ sym (are.ready i);
+              order = st.holds.choice.order;
+              ready = record {
+                ordered = st.holds.choice.ready.ordered;
+                each = λ i there. st.holds.choice.ready.each i there ∙ sym (are.ready i);
+              };
               down = st.holds.choice.down ∙ sym (are.down n (omega arith));
             };
             script = st.holds.script;

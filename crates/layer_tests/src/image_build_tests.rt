@@ -4,6 +4,7 @@
 use app_toml::App;
 use image_build::{Builder, build};
 use std::alloc::{AllocError, Global};
+use std::test::Fail;
 
 const ONE: &str = "[board]
 flash = 65536

@@ -1,16 +1,17 @@
 -- The sets of tasks that the kernel keeps.
-use Rattle.std.proofs.Common.{◌≡◌, ◌<◌, ◌≤◌, ℕ, zero, suc, Bool, true, false, cond, ◌&&◌, List, [], ◌∷◌, length, map, Option, Some, None, is_some, inl, inr, refl, sym, ◌∙◌, ap, arith, eqb, get_or}
+use Rattle.std.proofs.Common.{◌≡◌, ◌<◌, ◌≤◌, ℕ, zero, suc, Bool, true, false, cond, ◌&&◌, List, [], ◌∷◌, length, map, Option, Some, None, is_none, is_some, inl, inr, refl, sym, subst, ◌∙◌, ap, arith, eqb, get_or}
 use Rattle.std.specs.Option.{option_map}
 use Rattle.std.proofs.lemmas.Bool.{false≢true, cases_lt}
+use Rattle.std.proofs.lemmas.List.{get_or_past}
 use Rattle.kernel_abi.specs.Ids.{index_of}
 use Rattle.kernel_abi.specs.declared.Health.TheVariants.{Stopped}
-use Rattle.task_table.specs.State.{Setup, Turn, Call, Phase, Offered, Taken}
+use Rattle.task_table.specs.State.{State, Task, Setup, Turn, Call, Phase, Offered, Taken}
 use Rattle.task_table.specs.Sane.{Sane}
-use Rattle.task_table.specs.Reading.{is_ready, is_offered, offer_by, offers, no_flags}
+use Rattle.task_table.specs.Reading.{is_ready, is_well, is_offered, task_at, call_of, listen_of, offer_by, offers, no_task, no_flags}
 use Rattle.task_table.specs.TaskSets.{has}
-use Rattle.task_table.specs.Order.{ArePlaces, has_task, place_in}
+use Rattle.task_table.specs.Order.{AreOrdered, ArePlaces, has_task, place_in, priorities_of}
 use Rattle.task_table.specs.Readiness.{is_free, is_server, server_in, is_client_of, AreThose, AreOffers}
-use Rattle.task_table.specs.Holds.{Shows, Kept, kept_call, offered_in}
+use Rattle.task_table.specs.Holds.{Holds, Shows, Kept, kept_call, offered_in}
 use Rattle.task_table.specs.declared.kernel.Kernel.{Kernel}
 use Rattle.task_table.specs.declared.slot.Slot.{Slot}
 use Rattle.task_table.specs.declared.slot.OpenCall.{OpenCall}
@@ -33,6 +34,10 @@ no_slot = record {
   wait = wait.Nothing;
 }
 
+-- the order that a kernel keeps is that of its setup
+pub kernel_ordered : (g : Setup) (k : Kernel) (t : Turn) → Holds g k t → AreOrdered (priorities_of g.tasks) k.order.keys.items k.order.places.items
+kernel_ordered g k t h = subst (λ (x : Setup). AreOrdered (priorities_of x.tasks) k.order.keys.items k.order.places.items) h.setup k.order_is
+
 -- each task of a kernel has a place of its own
 pub kernel_places : (k : Kernel) → ArePlaces (length k.slots.items) k.order.places.items
 kernel_places k = own_places _ k.order.keys.items k.order.places.items (length k.slots.items) k.order_is (as_many_priorities k.tasks.items ∙ k.many)
@@ -44,6 +49,11 @@ those_there test slots places words p h is = elim (cases_lt p (length slots)) [
   | inl lt ↦ lt
   | inr past ↦ absurd (false≢true (sym (h.no_others p past) ∙ is))
 ]
+
+-- a task that is not there is not ready
+pub unready_past : (s : State) (i : ℕ) → length s.tasks ≤ i → is_ready s i ≡ false
+unfolding is_ready task_at
+unready_past s i past = ap (λ (x : Task). is_well x.health && is_none (call_of s i) && is_none (listen_of s i)) (get_or_past s.tasks i no_task past)
 
 pub ready_kept : (g : Setup) (k : Kept) (t : Turn) (places words : List ℕ) → Shows g k t → AreThose is_free k.slots places words → (i : ℕ) → i < length g.tasks → has_task places words i ≡ is_ready t.state i
 ready_kept g k t places words h those i there =

@@ -109,7 +109,7 @@ impl Order {
     /// # Errors
     ///
     /// Only want of memory.
-    pub(crate) fn of(alloc: Global, priorities: &[u8]) -> Result<Order, AllocError>
+    pub fn of(alloc: Global, priorities: &[u8]) -> Result<Order, AllocError>
         requires { length priorities.now ≤ 1024 }
         ensures { IfOk result (λ o. AreOrdered priorities.now o.keys.items o.places.items) }
     {

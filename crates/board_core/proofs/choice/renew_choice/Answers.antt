@@ -15,15 +15,15 @@ returns-then-stays c = λ g t h was.
     let now = c.ready.ensures.holds g t h in
     let ready = same_ready g s t.state (sym was.1.steady.as_many) h.many (λ i there. sym (same_tests g.tasks is.order _ _ _ (is_ready s) (is_ready t.state) is.ready now kept i there)) in
     let again = chosen_again g s t.state c.current.result was.1 h.many ready (sym is.next ∙ next) (sym (c.current.ensures.holds g t h)) in
-    record { next = next ∙ sym again; order = is.order; ready = record { ordered = is.ready.ordered; each = λ i there. is.ready.each i there ∙ sym (ready i) }; down = c.is_down.ensures g t h }
+    record { next = next ∙ sym again; order = is.order; ready = record { ordered = is.ready.ordered; each = λ i there. is.ready.each i there ∙ sym (ready i) }; down = c.is_down-choice.ensures g t h }
 
 pub returns : goal.returns
 returns c = λ g t h was.
     let now = c.ready-2.ensures.holds g t h in
     let order = order_of c.args.kernel.now in
     record {
-      next = c.choose.ensures g t h;
+      next = c.choose-choice.ensures g t h;
       order = order;
       ready = record { ordered = now.ordered; each = λ i there. c.become_as.ensures (place_in order.places.items i) ∙ now.each i there };
-      down = c.is_down.ensures g t h;
+      down = c.is_down-choice.ensures g t h;
     }

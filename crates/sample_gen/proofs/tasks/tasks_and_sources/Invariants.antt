@@ -1,4 +1,4 @@
-use Rattle.std.proofs.Common.{◌≡◌, ◌≤◌, map, string_bytes}
+use Rattle.std.proofs.Common.{◌≡◌, map, string_bytes}
 use Rattle.std.specs.List.{range_with_len}
 use Rattle.app_toml.specs.Sites.{task_of}
 use Rattle.sample_gen.specs.Draws.{number}

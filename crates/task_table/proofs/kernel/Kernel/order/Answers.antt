@@ -1,6 +1,5 @@
-use Rattle.std.proofs.Common.{◌∙◌, arith, subst}
-use Rattle.task_table.specs.State.{Setup}
-use Rattle.task_table.specs.Order.{AreOrdered, priorities_of}
+use Rattle.std.proofs.Common.{◌∙◌, arith}
+use Rattle.task_table.proofs.Members.{kernel_ordered}
 use Rattle.task_table.proofs.Ordered.{as_many_priorities}
 use Rattle.task_table.proofs.kernel.Kernel.order.Goals as goal
 
@@ -15,6 +14,4 @@ returns-clause-there c =
     k.order_is.key_count ∙ as_many_priorities k.tasks.items ∙ k.many
 
 pub returns-clause-holds : goal.returns-clause-holds
-returns-clause-holds c = λ g t h.
-    let k = c.args.self.now in
-    subst (λ (x : Setup). AreOrdered (priorities_of x.tasks) k.order.keys.items k.order.places.items) h.setup k.order_is
+returns-clause-holds c = λ g t h. kernel_ordered g c.args.self.now t h
