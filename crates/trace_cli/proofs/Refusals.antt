@@ -1,5 +1,5 @@
 -- Why an application or a source is refused, by what its builder says.
-use Rattle.std.proofs.Common.{◌≡◌, ℕ, ◌≤◌, ◌++◌, true, false, List, length, Option, Some, None, refl, sym, ap, ◌∙◌, arith, ltb, codes}
+use Rattle.std.proofs.Common.{◌≡◌, ℕ, ◌≤◌, ◌↔◌, ◌++◌, true, false, List, length, Option, Some, None, refl, sym, ap, ◌∙◌, arith, ltb, codes}
 use Rattle.std.specs.Prelude.{decimal, option_map, Ok, Err}
 use Rattle.std.proofs.lemmas.Bool.Decides.{nat_tests}
 use Rattle.app_toml.specs.Apps.{AppData}
@@ -13,7 +13,12 @@ use Rattle.image_build.specs.Building.{HasRoom, LacksRoom, RefusesSource, IsAcce
 use Rattle.image_build.specs.declared.fault.BuildFault.TheVariants as fault
 use Rattle.image_format.specs.Picture.{Picture, image_or_fault}
 use Rattle.run_script.specs.Scripts.{ScriptData, script_or_fault}
-use Rattle.trace_cli.specs.Contents.{Why, file_limit, or_later, at_number, script_in, script_refusal, script_of, at_line, fault_in, app_in, image_in, image_refusal, picture_of, application_of, app_refusal, room_refusal, source_refusal, code_refusal, code_length}
+use Rattle.trace_cli.specs.Contents.{Why, file_limit, trace_limit, trace_refusal, or_later, at_number, script_in, script_refusal, script_of, at_line, fault_in, app_in, image_in, image_refusal, picture_of, application_of, app_refusal, room_refusal, source_refusal, code_refusal, code_length}
+use Rattle.trace_audit.specs.declared.verdict.Verdict.{Verdict}
+use Rattle.trace_audit.specs.declared.verdict.Verdict.TheVariants.{Yes, No}
+use Rattle.trace_audit.specs.Texts as trace
+use Rattle.trace_audit.specs.Rules.{IsFirstBad}
+use Rattle.trace_audit.specs.Verdicts.{first_cause, read_lines, IsGoodWith, IsVerdict}
 use Rattle.trace_cli.proofs.Faulting.{short}
 
 -- ## an image
@@ -35,6 +40,24 @@ script_taken bytes x le is = (short file_limit bytes _ le ∙ ap (λ r. option_m
 pub script_refused : (bytes : List ℕ) (why : ℕ × ℕ) → length bytes ≤ file_limit → script_or_fault bytes ≡ Err why → script_refusal bytes ≡ Some (at_number why)
 unfolding script_refusal
 script_refused bytes why le is = short file_limit bytes _ le ∙ ap (λ r. option_map at_number (fault_in r)) is
+
+-- ## a trace
+
+by_first : (bytes : List ℕ) (o : Option (ℕ × ℕ)) → length bytes ≤ trace_limit → first_cause 1 (trace.lines_of bytes) ≡ o → trace_refusal bytes ≡ option_map at_number o
+unfolding trace_refusal
+by_first bytes o le is = short trace_limit bytes _ le ∙ ap (option_map at_number) is
+
+pub trace_taken : (bytes : List ℕ) → length bytes ≤ trace_limit → first_cause 1 (trace.lines_of bytes) ≡ None → trace_refusal bytes ≡ None
+trace_taken bytes le is = by_first bytes None le is
+
+pub trace_refused : (bytes : List ℕ) (why : ℕ × ℕ) → length bytes ≤ trace_limit → first_cause 1 (trace.lines_of bytes) ≡ Some why → trace_refusal bytes ≡ Some (at_number why)
+trace_refused bytes why le is = by_first bytes (Some why) le is
+
+-- what is answered exactly where it is so
+pub verdict_found : (text : List ℕ) (v : Verdict) → ((calls left : ℕ) → (v ≡ Yes calls left) ↔ IsGoodWith (read_lines text) calls left)
+    → ((n : ℕ) → (v ≡ No n) ↔ IsFirstBad (read_lines text) n) → IsVerdict text v
+verdict_found text (Yes calls left) yes no = (yes calls left).0 refl
+verdict_found text (No n) yes no = (no n).0 refl
 
 -- ## an application
 

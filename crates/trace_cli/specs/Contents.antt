@@ -14,6 +14,8 @@ use Rattle.board_core.specs.Opened as opened
 use Rattle.run_script.specs.Scripts.{ScriptData, script_or_fault}
 use Rattle.board_model.specs.Script.{Scenario}
 use Rattle.sample_gen.specs.Sample.{sample_script}
+use Rattle.trace_audit.specs.Texts as trace
+use Rattle.trace_audit.specs.Verdicts.{first_cause}
 
 -- the number of a cause, and the place as it is told
 abbrev pub Why : Type 0
@@ -34,6 +36,10 @@ fault_in (Err why) = Some why
 -- the most bytes of an image, of a script, of an application or of a source
 abbrev pub file_limit : ℕ
 file_limit = 2097152
+
+-- the most bytes of a trace
+abbrev pub trace_limit : ℕ
+trace_limit = 16777216
 
 -- a file of more bytes than its limit is refused by its length; of others its definition decides
 abbrev pub unless_long : ℕ → List ℕ → Option Why → Option Why
@@ -120,6 +126,12 @@ code_refusal app i source =
 -- why the i-th task's source is refused, if it is: the assembler's first cause (docs/FORMATS.md, Assembler), or its length
 unfoldable pub source_refusal : AppData → ℕ → List ℕ → Option Why
 source_refusal app i source = unless_long file_limit source (or_later (option_map at_line (source_cause app i source)) (code_refusal app i source))
+
+-- ## a trace
+
+-- why a trace is refused, if it is: its first line that is no text of a trace (docs/FORMATS.md, Audit)
+unfoldable pub trace_refusal : List ℕ → Option Why
+trace_refusal bytes = unless_long trace_limit bytes (option_map at_number (first_cause 1 (trace.lines_of bytes)))
 
 -- ## a run
 
