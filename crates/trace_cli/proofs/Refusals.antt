@@ -56,8 +56,8 @@ trace_refused bytes why le is = by_first bytes (Some why) le is
 -- what is answered exactly where it is so
 pub verdict_found : (text : List ℕ) (v : Verdict) → ((calls left : ℕ) → (v ≡ Yes calls left) ↔ IsGoodWith (read_lines text) calls left)
     → ((n : ℕ) → (v ≡ No n) ↔ IsFirstBad (read_lines text) n) → IsVerdict text v
-verdict_found text (Yes calls left) yes no = (yes calls left).0 refl
-verdict_found text (No n) yes no = (no n).0 refl
+verdict_found text (Yes calls left) good bad = (good calls left).0 refl
+verdict_found text (No n) good bad = (bad n).0 refl
 
 -- ## an application
 

@@ -303,7 +303,6 @@ ran_by words a b w w' v e t (of_job job at (does cs all (runs n m x h is))) = in
 })
 ran_by words a b w w' v e t (of_job job at (does cs all (lists i h is))) = let s : v.status ≡ 0 = ap (λ (u : Verdict). u.status) is in absurd (omega arith)
 ran_by words a b w w' v e t (of_job job at (does cs all (builds o i h is))) = let s : v.status ≡ 0 = ap (λ (u : Verdict). u.status) is in absurd (omega arith)
-
 ran_by words a b w w' v e t (of_job job at (does cs all (audits s found h is d))) = absurd (by (audit_zero_or_seven found)) where
   by : ((audited found).status ≡ 0) ⊎ ((audited found).status ≡ 7) → ⊥
   by (inl z) = let s : v.status ≡ 0 = ap (λ (u : Verdict). u.status) d ∙ z in omega arith

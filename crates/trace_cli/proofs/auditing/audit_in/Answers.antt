@@ -12,5 +12,5 @@ returns-in-Ok-clause-verdict c = verdict_found c.args.bytes.now c.in-Ok.verdict 
 pub returns-in-Err-Refused-clause-file_fault : goal.returns-in-Err-Refused-clause-file_fault
 returns-in-Err-Refused-clause-file_fault c =
     let why : ℕ × ℕ = (c.in-Err-Refused.cause, c.in-Err-Refused.line) in
-    let first = c.in-Err.ensures.first c.in-Err-Refused.cause c.in-Err-Refused.line c.in-Err-Refused.is in
+    let first = c.audit.ensures.first c.in-Err-Refused.cause c.in-Err-Refused.line (rw c.in-Err-Refused.field-0-is at c.in-Err-Refused.is) in
     subst (λ r. IsFaultFor r c.refused_at_number.result) (sym (trace_refused c.args.bytes.now why c.requires first)) c.refused_at_number.ensures

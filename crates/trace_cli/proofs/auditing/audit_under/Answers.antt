@@ -10,8 +10,8 @@ returns-in-Err-clause-named_fault g c =
     let f = trace_file c.args.name.now in
     c.fault_named.ensures a b f refl (cannot_take a b f c.in-Err.file_fault long_trace c.in-Err.ensures.file_fault)
 
-pub returns-in-Err-audit_in-clause-named_fault : goal.returns-in-Err-audit_in-clause-named_fault
-returns-in-Err-audit_in-clause-named_fault g c =
+pub returns-clause-named_fault : goal.returns-clause-named_fault
+returns-clause-named_fault g c =
     let a = g.F.Files.seen c.args.files.now in
     let b = g.F.Files.seen c.read_contents.new.files in
     let f = trace_file c.args.name.now in
