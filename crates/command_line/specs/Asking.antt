@@ -1,6 +1,6 @@
 -- What a job of the code asks for.
 use Rattle.std.specs.Prelude.{ℕ}
-use Rattle.command_line.specs.CommandLine.{Asked, build, run, go, list, sample, migrate}
+use Rattle.command_line.specs.CommandLine.{Asked, build, run, go, list, sample, migrate, audit}
 use Rattle.command_line.specs.declared.job.Job.{Job}
 use Rattle.command_line.specs.declared.job.Job.TheVariants as job
 
@@ -11,6 +11,7 @@ asked (job.Go app script steps detail) = go app.now script.now steps detail
 asked (job.List image) = list image.now
 asked (job.Sample seed steps) = sample seed steps
 asked (job.Migrate image out) = migrate image.now out.now
+asked (job.Audit trace) = audit trace.now
 
 -- how many turns it may take
 abbrev pub steps_of : Job → ℕ
@@ -20,3 +21,4 @@ steps_of (job.Go app script steps detail) = steps
 steps_of (job.List image) = 0
 steps_of (job.Sample seed steps) = steps
 steps_of (job.Migrate image out) = 0
+steps_of (job.Audit trace) = 0

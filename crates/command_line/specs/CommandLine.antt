@@ -68,7 +68,8 @@ number_in id rows = number_of (unwrap_or (one_of id rows) [])
 -- What the program may be asked for: to build an application, and the name of the image; a run of an
 -- image with a script, for so many turns at most, and in which detail it is told; the same of an
 -- application; a list of an image; a run of the sample of a seed for so many turns at most, of which the
--- notes are counted; to write an image in the form of today, and the name of that file.
+-- notes are counted; to write an image in the form of today, and the name of that file; whether a trace
+-- holds together.
 pub data Asked : Type 0 where
   build : Text → Text → Asked
   run : Text → Text → ℕ → Detail → Asked
@@ -76,6 +77,7 @@ pub data Asked : Type 0 where
   list : Text → Asked
   sample : ℕ → ℕ → Asked
   migrate : Text → Text → Asked
+  audit : Text → Asked
 
 -- `--all` and `--mem`
 abbrev pub detail_in : List Row → Detail
@@ -140,8 +142,16 @@ migrate_form = record {
   asks = λ rows. migrate (text_in (codes "image") rows) (text_in (codes "out") rows);
 }
 
+-- `audit TRACE`
+abbrev pub audit_form : Form
+audit_form = record {
+  name = codes "audit";
+  rules = positional_rule (codes "trace") ∷ [];
+  asks = λ rows. audit (text_in (codes "trace") rows);
+}
+
 abbrev pub forms : List Form
-forms = build_form ∷ run_form ∷ go_form ∷ list_form ∷ sample_form ∷ migrate_form ∷ []
+forms = build_form ∷ run_form ∷ go_form ∷ list_form ∷ sample_form ∷ migrate_form ∷ audit_form ∷ []
 
 -- ---- the program
 

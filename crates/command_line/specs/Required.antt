@@ -59,6 +59,9 @@ pub record IsWholeMigrate (rows : List Row) : Type 0 where
   pub image : HasText (codes "image") rows
   pub out : HasText (codes "out") rows
 
+pub record IsWholeAudit (rows : List Row) : Type 0 where
+  pub trace : HasText (codes "trace") rows
+
 -- a command of the program, with all that it wants
 abbrev pub IsWhole : Option (Text × List Row) → Type 0
 IsWhole None = ⊥
@@ -67,4 +70,5 @@ IsWhole (Some p) = ((p.0 ≡ codes "build") × IsWholeBuild p.1)
     ⊎ (((p.0 ≡ codes "go") × IsWholeGo p.1)
     ⊎ (((p.0 ≡ codes "list") × IsWholeList p.1)
     ⊎ (((p.0 ≡ codes "sample") × IsWholeSample p.1)
-    ⊎ ((p.0 ≡ codes "migrate") × IsWholeMigrate p.1)))))
+    ⊎ (((p.0 ≡ codes "migrate") × IsWholeMigrate p.1)
+    ⊎ ((p.0 ≡ codes "audit") × IsWholeAudit p.1))))))

@@ -1,7 +1,7 @@
 //! What the matches of a command ask for.
 ghost use Rattle.std.specs.Prelude.{◌≡◌, ◌≤◌, ◌<◌, ◌^◌, ℕ, Some, codes};
 ghost use Rattle.clap.specs.Words.{rows_of, found_of, one_of};
-ghost use Rattle.command_line.specs.CommandLine.{asked_by, build_form, run_form, go_form, list_form, sample_form, migrate_form, text_in, is_set, detail_in, number_in, most_steps};
+ghost use Rattle.command_line.specs.CommandLine.{asked_by, build_form, run_form, go_form, list_form, sample_form, migrate_form, audit_form, text_in, is_set, detail_in, number_in, most_steps};
 ghost use Rattle.command_line.specs.Required.{IsNumber, IsSeed, IsSteps, IsWhole};
 ghost use Rattle.command_line.specs.Asking.{asked, steps_of};
 
@@ -50,6 +50,10 @@ pub enum Job<'a> {
     Migrate {
         image: &'a str,
         out: &'a str,
+    },
+    /// Whether TRACE is a trace that holds together.
+    Audit {
+        trace: &'a str,
     },
 }
 
@@ -164,6 +168,15 @@ fn migrate_by<'a>(matches: &ArgMatches<'a>) -> Job<'a>
     }
 }
 
+fn audit_by<'a>(matches: &ArgMatches<'a>) -> Job<'a>
+    ensures job { asked result ≡ audit_form.asks (rows_of (found_of matches.now)) }
+    ensures few { steps_of result ≡ 0 }
+{
+    Job::Audit {
+        trace: text_of(matches, "trace"),
+    }
+}
+
 /// The job that a command's name and matches ask for.
 pub fn job_by<'a>(name: &str, matches: &ArgMatches<'a>) -> Job<'a>
     ensures job { IsWhole (Some (name.now, rows_of (found_of matches.now))) → asked_by name.now (rows_of (found_of matches.now)) ≡ Some (asked result) }
@@ -179,7 +192,9 @@ pub fn job_by<'a>(name: &str, matches: &ArgMatches<'a>) -> Job<'a>
         list_by(matches)
     } else if name == "sample" {
         sample_by(matches)
-    } else {
+    } else if name == "migrate" {
         migrate_by(matches)
+    } else {
+        audit_by(matches)
     }
 }

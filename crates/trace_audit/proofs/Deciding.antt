@@ -1,5 +1,5 @@
 -- A text has one answer.
-use Rattle.std.proofs.Common.{◌≡◌, ℕ, zero, ◌+◌, ◌<◌, ◌⊎◌, inl, inr, ◌↔◌, false, List, [], ◌∷◌, ◌++◌, length, Some, None, refl, sym, subst, ap, ◌∙◌, arith, append-nil, length-append}
+use Rattle.std.proofs.Common.{◌≡◌, ℕ, zero, suc, ◌+◌, ◌<◌, ◌⊎◌, inl, inr, ◌↔◌, false, List, [], ◌∷◌, ◌++◌, length, Some, None, refl, sym, subst, ap, ◌∙◌, arith, append-nil, length-append}
 use Rattle.std.specs.Prelude.{All, Contains}
 use Rattle.std.specs.declared.result.Result.{Result}
 use Rattle.std.specs.declared.result.Result.TheVariants.{Ok, Err}
@@ -13,7 +13,7 @@ use Rattle.trace_audit.specs.Rules.{has_ended, IsGoodLine, IsGood, IsFirstBad}
 use Rattle.trace_audit.specs.declared.verdict.AuditFault.{AuditFault}
 use Rattle.trace_audit.specs.declared.verdict.AuditFault.TheVariants as fault
 use Rattle.trace_audit.proofs.Pushing.{head_same, tail_same}
-use Rattle.trace_audit.specs.Verdicts.{cause_of, IsFirstCause, HasNoCause, read_lines, IsGoodWith, IsVerdict}
+use Rattle.trace_audit.specs.Verdicts.{cause_of, cause_at, first_cause, IsFirstCause, HasNoCause, read_lines, IsGoodWith, IsVerdict}
 
 some_same : {a b : ℕ} → Some a ≡ Some b → a ≡ b
 some_same e = cc
@@ -101,6 +101,38 @@ one_cause lines a b n m p q = elim (leb_tells (length p.before) (length q.before
   | inr gt ↦ absurd (cause_earlier lines b a m n q p gt.1)
 ]
 
+-- ## the first cause as a function
+
+abbrev tail_fine : (l : List ℕ) (ls : List (List ℕ)) → HasNoCause (l ∷ ls) → HasNoCause ls
+tail_fine l ls all = λ k d lt. all (suc k) d (omega arith)
+
+abbrev head_fine : (l : List ℕ) (ls : List (List ℕ)) → HasNoCause (l ∷ ls) → cause_of l ≡ None
+head_fine l ls all = all zero l (omega arith)
+
+none_from : (n : ℕ) (ls : List (List ℕ)) → HasNoCause ls → first_cause n ls ≡ None
+unfolding first_cause
+none_from n [] all = refl
+none_from n (l ∷ ls) all =
+    ap (λ c. cause_at n c (first_cause (n + 1) ls)) (head_fine l ls all) ∙ none_from (n + 1) ls (tail_fine l ls all)
+
+behind : (n : ℕ) (before : List (List ℕ)) (l : List ℕ) (after : List (List ℕ)) (cause : ℕ) → HasNoCause before → cause_of l ≡ Some cause
+    → first_cause n (before ++ l ∷ after) ≡ Some (cause, n + length before)
+unfolding first_cause
+behind n [] l after cause all here =
+    let same : n ≡ n + 0 = omega arith in
+    ap (λ c. cause_at n c (first_cause (n + 1) after)) here ∙ ap (λ k. Some (cause, k)) same
+behind n (b ∷ bs) l after cause all here =
+    let same : (n + 1) + length bs ≡ n + suc (length bs) = omega arith in
+    ap (λ c. cause_at n c (first_cause (n + 1) (bs ++ l ∷ after))) (head_fine b bs all) ∙ behind (n + 1) bs l after cause (tail_fine b bs all) here ∙ ap (λ k. Some (cause, k)) same
+
+pub no_first : (lines : List (List ℕ)) → HasNoCause lines → first_cause 1 lines ≡ None
+no_first lines all = none_from 1 lines all
+
+pub is_first : (lines : List (List ℕ)) (a n : ℕ) → IsFirstCause lines a n → first_cause 1 lines ≡ Some (a, n)
+is_first lines a n p =
+    let same : 1 + length p.before ≡ n = let m = p.number in omega arith in
+    ap (first_cause 1) p.is ∙ behind 1 p.before p.line p.after a p.fine p.here ∙ ap (λ k. Some (a, k)) same
+
 -- ## each answer exactly where it is so
 
 pub yes_exactly : (text : List ℕ) (v : Verdict) → IsVerdict text v → (calls left : ℕ) → (v ≡ verdict.Yes calls left) ↔ IsGoodWith (read_lines text) calls left
@@ -138,6 +170,9 @@ verdict_not v b m e = cc
 
 memory_not : (b m : ℕ) → out_of_memory ≡ refusal b m → ⊥
 memory_not b m e = cc
+
+pub first_refused : (r : answer) (lines : List (List ℕ)) → ((b m : ℕ) → (r ≡ refusal b m) ↔ IsFirstCause lines b m) → (b m : ℕ) → r ≡ refusal b m → first_cause 1 lines ≡ Some (b, m)
+first_refused r lines exactly b m e = is_first lines b m ((exactly b m).0 e)
 
 pub judged : (v : Verdict) (lines : List (List ℕ)) → HasNoCause lines → (b m : ℕ) → (the_answer v ≡ refusal b m) ↔ IsFirstCause lines b m
 judged v = not_refused (the_answer v) (verdict_not v)

@@ -1,5 +1,5 @@
 -- What an audit answers (the causes, the rules and the numbers are this project's).
-use Rattle.std.specs.Prelude.{ℕ, ◌+◌, ◌≡◌, Bool, not, nat_lt, if◌then◌else◌, List, ◌∷◌, ◌++◌, length, map, All, Option, Some, None}
+use Rattle.std.specs.Prelude.{ℕ, ◌+◌, ◌≡◌, Bool, not, nat_lt, if◌then◌else◌, List, [], ◌∷◌, ◌++◌, length, map, All, Option, Some, None}
 use Rattle.std.specs.List.{list_all}
 use Rattle.text_lines.specs.Text.{is_between}
 use Rattle.trace_audit.specs.declared.verdict.Verdict.{Verdict}
@@ -30,6 +30,15 @@ pub record IsFirstCause (lines : List (List ℕ)) (cause n : ℕ) : Type 0 where
 
 abbrev pub HasNoCause : List (List ℕ) → Type 0
 HasNoCause lines = All (λ l. cause_of l ≡ None) lines
+
+-- the first cause and its line, where the first of these lines is the n-th of its text: the same as a function
+abbrev pub cause_at : ℕ → Option ℕ → Option (ℕ × ℕ) → Option (ℕ × ℕ)
+cause_at n (Some cause) later = Some (cause, n)
+cause_at n None later = later
+
+unfoldable pub first_cause : ℕ → List (List ℕ) → Option (ℕ × ℕ)
+first_cause n [] = None
+first_cause n (line ∷ lines) = cause_at n (cause_of line) (first_cause (n + 1) lines)
 
 -- ## the answers
 

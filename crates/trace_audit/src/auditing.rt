@@ -1,8 +1,8 @@
 //! The audit of a text.
-ghost use Rattle.std.specs.Prelude.{ℕ, ◌≡◌, ◌↔◌, IfOk, Err};
+ghost use Rattle.std.specs.Prelude.{ℕ, ◌≡◌, ◌↔◌, IfOk, Err, Some, None};
 ghost use Rattle.trace_audit.specs.Rules.{IsFirstBad};
 ghost use Rattle.trace_audit.specs.Texts.{lines_of};
-ghost use Rattle.trace_audit.specs.Verdicts.{read_lines, HasNoCause, IsFirstCause, IsGoodWith, IsVerdict};
+ghost use Rattle.trace_audit.specs.Verdicts.{read_lines, HasNoCause, first_cause, IsFirstCause, IsGoodWith, IsVerdict};
 
 use crate::book::Book;
 use crate::causes::first_cause;
@@ -50,6 +50,8 @@ pub fn audit(alloc: Global, text: &[u8]) -> Result<Verdict, AuditFault>
     ensures no { IfOk result (λ v. (n : ℕ) → (v ≡ Verdict.No n) ↔ IsFirstBad (read_lines text.now) n) }
     ensures fine { IfOk result (λ v. HasNoCause (lines_of text.now)) }
     ensures exact { (cause n : ℕ) → (result ≡ Err (AuditFault.Refused cause n)) ↔ IsFirstCause (lines_of text.now) cause n }
+    ensures first { (cause n : ℕ) → result ≡ Err (AuditFault.Refused cause n) → first_cause 1 (lines_of text.now) ≡ Some (cause, n) }
+    ensures none { IfOk result (λ v. first_cause 1 (lines_of text.now) ≡ None) }
 {
     if let Some((cause, line)) = first_cause(text) {
         return Err(AuditFault::Refused { cause, line });

@@ -2,7 +2,7 @@
 use Rattle.std.proofs.Common.{◌≡◌, ℕ, ◌<◌, ◌≤◌, List, [], ◌∷◌, length, Option, Some, None, refl, sym, ap, subst, ◌∙◌, arith}
 use Rattle.std.specs.Prelude.{slice_get}
 use Rattle.std.proofs.lemmas.Option.{same_Some}
-use Rattle.command_line.specs.CommandLine.{Asked, build, run, go, list, sample, migrate}
+use Rattle.command_line.specs.CommandLine.{Asked, build, run, go, list, sample, migrate, audit}
 use Rattle.trace_cli.specs.Sources.{File, files_of, files_by, first_of, MayBe, Are, Takes}
 use Rattle.trace_cli.proofs.Lists.{get_below, is_below, same_lists}
 
@@ -14,6 +14,7 @@ first_file (go app script steps detail) a b = refl
 first_file (list image) a b = refl
 first_file (sample seed steps) a b = refl
 first_file (migrate image out) a b = refl
+first_file (audit trace) a b = refl
 
 pub same_held : (seen : List ℕ → Option (List ℕ)) (name c d : List ℕ) → seen name ≡ Some c → MayBe seen name d → d ≡ c
 same_held seen name c d is may = may c is

@@ -8,15 +8,18 @@ use Rattle.app_toml.specs.Apps.{AppData}
 use Rattle.image_build.specs.Built.{Built}
 use Rattle.sample_gen.specs.Sample.{sample_app, sample_sources}
 use Rattle.board_model.specs.Script.{Scenario}
-use Rattle.command_line.specs.CommandLine.{Asked, build, run, go, list, sample, migrate, is_accepted, job_of}
+use Rattle.command_line.specs.CommandLine.{Asked, build, run, go, list, sample, migrate, audit, is_accepted, job_of}
 use Rattle.command_line.specs.declared.job.Detail.{Detail}
 use Rattle.build_laws.proofs.OnePicture.{one_picture}
+use Rattle.trace_audit.specs.declared.verdict.Verdict as trace
+use Rattle.trace_audit.specs.Verdicts as trace_audit
+use Rattle.trace_audit.proofs.Deciding.{one_verdict}
 use Rattle.trace_cli.specs.Contents.{Why, scenario_of, sample_scenario}
 use Rattle.outside_io.specs.Seen.{FilesSeen}
 use Rattle.trace_cli.specs.Words.{job_in}
-use Rattle.trace_cli.specs.Sources.{File, files_by, MayBe, Are, Reaches, TakesAll, IsBuilt, IsRun, IsListing, IsBuild, IsSample, described, sources_in, script_in}
+use Rattle.trace_cli.specs.Sources.{File, files_by, MayBe, Are, Reaches, TakesAll, IsBuilt, IsRun, IsListing, IsBuild, IsSample, IsAudit, first_of, described, sources_in, script_in}
 use Rattle.trace_cli.specs.Verdict as verdict
-use Rattle.trace_cli.specs.Verdict.{Verdict, IsVerdict, Does, runs, lists, builds, samples, usage, refused, unread, ran, listed, built, sampled}
+use Rattle.trace_cli.specs.Verdict.{Verdict, IsVerdict, Does, runs, lists, builds, samples, audits, usage, refused, unread, ran, listed, built, sampled, audited}
 use Rattle.trace_cli.specs.Answer.{JobReason, cannot_read, refuses, does, IsUnread, IsRefused, Reason, no_job, of_job}
 use Rattle.trace_cli.proofs.Lists.{is_below}
 use Rattle.trace_cli.proofs.Faulting.{where_seen}
@@ -43,6 +46,7 @@ same_run (build app out) cs n n' m m' x y p q = absurd p
 same_run (list image) cs n n' m m' x y p q = absurd p
 same_run (sample seed steps) cs n n' m m' x y p q = absurd p
 same_run (migrate image out) cs n n' m m' x y p q = absurd p
+same_run (audit trace) cs n n' m m' x y p q = absurd p
 
 same_listing : (job : Asked) (cs : List (List ℕ)) (a b : Picture) → IsListing job cs a → IsListing job cs b → listed a ≡ listed b
 same_listing (list image) cs a b p q = ap listed (p ∙ sym q)
@@ -51,6 +55,7 @@ same_listing (run image script steps detail) cs a b p q = absurd p
 same_listing (go app script steps detail) cs a b p q = absurd p
 same_listing (sample seed steps) cs a b p q = absurd p
 same_listing (migrate image out) cs a b p q = absurd p
+same_listing (audit trace) cs a b p q = absurd p
 
 same_build : (job : Asked) (cs : List (List ℕ)) (o o' : List ℕ) (a b : Picture) → IsBuild job cs o a → IsBuild job cs o' b → built o a ≡ built o' b
 same_build (build app out) cs o o' a b p q =
@@ -65,6 +70,7 @@ same_build (migrate file out) cs o o' a b p q =
     let name : o ≡ o' = p.0 ∙ sym q.0 in
     let image : a ≡ b = p.1 ∙ sym q.1 in
     ap (λ (n : List ℕ). built n a) name ∙ ap (built o') image
+same_build (audit trace) cs o o' a b p q = absurd p
 
 -- of applications and sources by number
 same_image_at : (app : ℕ → AppData) (sources : ℕ → List (List ℕ)) (s s' : ℕ) (a b : Picture) → s' ≡ s → Built (app s) (sources s) a → Built (app s') (sources s') b → a ≡ b
@@ -92,6 +98,7 @@ run_or_listing (build app out) cs n m x a p q = q
 run_or_listing (list image) cs n m x a p q = p
 run_or_listing (sample seed steps) cs n m x a p q = p
 run_or_listing (migrate image out) cs n m x a p q = p
+run_or_listing (audit trace) cs n m x a p q = p
 
 run_or_build : (job : Asked) (cs : List (List ℕ)) (n : ℕ) (m : Detail) (x : Scenario) (o : List ℕ) (a : Picture) → IsRun job cs n m x → IsBuild job cs o a → ⊥
 run_or_build (run image script steps detail) cs n m x o a p q = q
@@ -100,6 +107,7 @@ run_or_build (build app out) cs n m x o a p q = p
 run_or_build (list image) cs n m x o a p q = p
 run_or_build (sample seed steps) cs n m x o a p q = p
 run_or_build (migrate image out) cs n m x o a p q = p
+run_or_build (audit trace) cs n m x o a p q = p
 
 listing_or_build : (job : Asked) (cs : List (List ℕ)) (a : Picture) (o : List ℕ) (b : Picture) → IsListing job cs a → IsBuild job cs o b → ⊥
 listing_or_build (run image script steps detail) cs a o b p q = q
@@ -108,6 +116,7 @@ listing_or_build (build app out) cs a o b p q = p
 listing_or_build (list image) cs a o b p q = q
 listing_or_build (sample seed steps) cs a o b p q = p
 listing_or_build (migrate image out) cs a o b p q = p
+listing_or_build (audit trace) cs a o b p q = p
 
 run_or_sample : (job : Asked) (cs : List (List ℕ)) (n : ℕ) (m : Detail) (x : Scenario) (s k : ℕ) (y : Scenario) → IsRun job cs n m x → IsSample job s k y → ⊥
 run_or_sample job cs n m x s k y p q = subst (λ (j : Asked). IsRun j cs n m x) q.is p
@@ -117,6 +126,33 @@ listing_or_sample job cs a s k y p q = subst (λ (j : Asked). IsListing j cs a) 
 
 build_or_sample : (job : Asked) (cs : List (List ℕ)) (o : List ℕ) (a : Picture) (s k : ℕ) (y : Scenario) → IsBuild job cs o a → IsSample job s k y → ⊥
 build_or_sample job cs o a s k y p q = subst (λ (j : Asked). IsBuild j cs o a) q.is p
+
+-- an audit is of the first of the files
+is_audit : (job : Asked) (cs : List (List ℕ)) (t : List ℕ) → IsAudit job cs t → ((name : List ℕ) × (job ≡ audit name)) × (t ≡ first_of cs)
+is_audit (audit name) cs t p = ((name, refl), p)
+is_audit (build app out) cs t p = absurd p
+is_audit (run image script steps detail) cs t p = absurd p
+is_audit (go app script steps detail) cs t p = absurd p
+is_audit (list image) cs t p = absurd p
+is_audit (sample seed steps) cs t p = absurd p
+is_audit (migrate image out) cs t p = absurd p
+
+same_audit : (job : Asked) (cs : List (List ℕ)) (t s : List ℕ) (a b : trace.Verdict) → IsAudit job cs t → IsAudit job cs s → trace_audit.IsVerdict t a → trace_audit.IsVerdict s b → audited a ≡ audited b
+same_audit job cs t s a b p q g h =
+    let text : s ≡ t = (is_audit job cs s q).1 ∙ sym (is_audit job cs t p).1 in
+    ap audited (one_verdict t a b g (subst (λ (u : List ℕ). trace_audit.IsVerdict u b) text h))
+
+run_or_audit : (job : Asked) (cs : List (List ℕ)) (n : ℕ) (m : Detail) (x : Scenario) (t : List ℕ) → IsRun job cs n m x → IsAudit job cs t → ⊥
+run_or_audit job cs n m x t p q = let j = (is_audit job cs t q).0 in subst (λ (j : Asked). IsRun j cs n m x) j.1 p
+
+listing_or_audit : (job : Asked) (cs : List (List ℕ)) (a : Picture) (t : List ℕ) → IsListing job cs a → IsAudit job cs t → ⊥
+listing_or_audit job cs a t p q = let j = (is_audit job cs t q).0 in subst (λ (j : Asked). IsListing j cs a) j.1 p
+
+build_or_audit : (job : Asked) (cs : List (List ℕ)) (o : List ℕ) (a : Picture) (t : List ℕ) → IsBuild job cs o a → IsAudit job cs t → ⊥
+build_or_audit job cs o a t p q = let j = (is_audit job cs t q).0 in subst (λ (j : Asked). IsBuild j cs o a) j.1 p
+
+sample_or_audit : (job : Asked) (cs : List (List ℕ)) (s n : ℕ) (x : Scenario) (t : List ℕ) → IsSample job s n x → IsAudit job cs t → ⊥
+sample_or_audit job cs s n x t p q = subst (λ (j : Asked). IsAudit j cs t) p.is q
 
 same_done : (job : Asked) (cs : List (List ℕ)) (u v : Verdict) → Does job cs u → Does job cs v → u ≡ v
 same_done job cs u v (runs n m x p e) (runs n' m' y q d) = e ∙ same_run job cs n n' m m' x y p q ∙ sym d
@@ -135,6 +171,15 @@ same_done job cs u v (samples s k y p e) (runs n m x q d) = absurd (run_or_sampl
 same_done job cs u v (samples s k y p e) (lists a q d) = absurd (listing_or_sample job cs a s k y q p)
 same_done job cs u v (samples s k y p e) (builds o a q d) = absurd (build_or_sample job cs o a s k y q p)
 same_done job cs u v (samples s n x p e) (samples s' n' y q d) = e ∙ same_sample job s s' n n' x y p q ∙ sym d
+same_done job cs u v (runs n m x p e) (audits t b q h d) = absurd (run_or_audit job cs n m x t p q)
+same_done job cs u v (lists a p e) (audits t b q h d) = absurd (listing_or_audit job cs a t p q)
+same_done job cs u v (builds o a p e) (audits t b q h d) = absurd (build_or_audit job cs o a t p q)
+same_done job cs u v (samples s n x p e) (audits t b q h d) = absurd (sample_or_audit job cs s n x t p q)
+same_done job cs u v (audits t a p g e) (runs n m x q d) = absurd (run_or_audit job cs n m x t q p)
+same_done job cs u v (audits t a p g e) (lists b q d) = absurd (listing_or_audit job cs b t q p)
+same_done job cs u v (audits t a p g e) (builds o b q d) = absurd (build_or_audit job cs o b t q p)
+same_done job cs u v (audits t a p g e) (samples s n x q d) = absurd (sample_or_audit job cs s n x t q p)
+same_done job cs u v (audits t a p g e) (audits s b q h d) = e ∙ same_audit job cs t s a b p q g h ∙ sym d
 
 -- ## three ways in which lengths meet
 

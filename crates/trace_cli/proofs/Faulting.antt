@@ -9,7 +9,7 @@ use Rattle.trace_cli.specs.declared.file_faults.FileFault.{FileFault}
 use Rattle.trace_cli.specs.declared.file_faults.FileFault.TheVariants as file_faults
 use Rattle.trace_cli.specs.declared.file_faults.NamedFault.{NamedFault}
 use Rattle.trace_cli.specs.declared.file_faults.NamedFault.TheVariants as named_faults
-use Rattle.trace_cli.specs.Contents.{Why, at_number, unless_long, image_refusal, script_refusal, app_refusal, source_refusal}
+use Rattle.trace_cli.specs.Contents.{Why, at_number, file_limit, trace_limit, unless_long, image_refusal, script_refusal, app_refusal, source_refusal, trace_refusal}
 use Rattle.outside_io.specs.Seen.{FilesSeen}
 use Rattle.trace_cli.specs.Sources.{File, MayBe, MayBeRefused}
 use Rattle.trace_cli.specs.FileFaults.{IsCannotRead, MayBeLong, IsFaultFor, CannotTake, IsFaultOf, IsNamedFaultOf}
@@ -17,30 +17,34 @@ use Rattle.app_toml.specs.Apps.{AppData}
 
 -- ## long and short files
 
-abbrev too_long : Option Why
-too_long = Some (at_number (0, 2097152))
+abbrev pub too_long : ℕ → Option Why
+too_long limit = Some (at_number (0, limit))
 
-long_refused : (bytes : List ℕ) (r : Option Why) → 2097152 < length bytes → unless_long bytes r ≡ too_long
-long_refused bytes r lt = let t : nat_lt 2097152 (length bytes) ≡ true = grind (arith, nat_tests) in ap (λ (b : Bool). cond b too_long r) t
+long_refused : (limit : ℕ) (bytes : List ℕ) (r : Option Why) → limit < length bytes → unless_long limit bytes r ≡ too_long limit
+long_refused limit bytes r lt = let t : nat_lt limit (length bytes) ≡ true = grind (arith, nat_tests) in ap (λ (b : Bool). cond b (too_long limit) r) t
 
-pub long_image : (bytes : List ℕ) → 2097152 < length bytes → image_refusal bytes ≡ Some (at_number (0, 2097152))
+pub long_image : (bytes : List ℕ) → file_limit < length bytes → image_refusal bytes ≡ too_long file_limit
 unfolding image_refusal
-long_image bytes lt = long_refused bytes _ lt
+long_image bytes lt = long_refused file_limit bytes _ lt
 
-pub long_script : (bytes : List ℕ) → 2097152 < length bytes → script_refusal bytes ≡ Some (at_number (0, 2097152))
+pub long_script : (bytes : List ℕ) → file_limit < length bytes → script_refusal bytes ≡ too_long file_limit
 unfolding script_refusal
-long_script bytes lt = long_refused bytes _ lt
+long_script bytes lt = long_refused file_limit bytes _ lt
 
-pub long_app : (bytes : List ℕ) → 2097152 < length bytes → app_refusal bytes ≡ Some (at_number (0, 2097152))
+pub long_app : (bytes : List ℕ) → file_limit < length bytes → app_refusal bytes ≡ too_long file_limit
 unfolding app_refusal
-long_app bytes lt = long_refused bytes _ lt
+long_app bytes lt = long_refused file_limit bytes _ lt
 
-pub long_source : (app : AppData) (i : ℕ) (bytes : List ℕ) → 2097152 < length bytes → source_refusal app i bytes ≡ Some (at_number (0, 2097152))
+pub long_source : (app : AppData) (i : ℕ) (bytes : List ℕ) → file_limit < length bytes → source_refusal app i bytes ≡ too_long file_limit
 unfolding source_refusal
-long_source app i bytes lt = long_refused bytes _ lt
+long_source app i bytes lt = long_refused file_limit bytes _ lt
 
-pub short : (bytes : List ℕ) (r : Option Why) → length bytes ≤ 2097152 → unless_long bytes r ≡ r
-short bytes r le = let e : ltb 2097152 (length bytes) ≡ false = grind (arith, nat_tests) in rw e refl
+pub long_trace : (bytes : List ℕ) → trace_limit < length bytes → trace_refusal bytes ≡ too_long trace_limit
+unfolding trace_refusal
+long_trace bytes lt = long_refused trace_limit bytes _ lt
+
+pub short : (limit : ℕ) (bytes : List ℕ) (r : Option Why) → length bytes ≤ limit → unless_long limit bytes r ≡ r
+short limit bytes r le = let e : ltb limit (length bytes) ≡ false = grind (arith, nat_tests) in rw e refl
 
 -- what may be there where nothing is seen
 a_longer : (n : ℕ) → (bytes : List ℕ) × (n < length bytes)
@@ -53,23 +57,23 @@ longer_than : (n : ℕ) (o : Option (List ℕ)) → WhereSeen o (λ all. n < len
 longer_than n None long = let more = a_longer n in (more.0, (λ all is. absurd (cc)), more.1)
 longer_than n (Some all) long = (all, (λ c is. same_Some all c is), long all refl)
 
-may_be_long : (seen : List ℕ → Option (List ℕ)) (name : List ℕ) → WhereSeen (seen name) (λ all. 2097152 < length all) → MayBeLong seen name
-may_be_long seen name long = let more = longer_than 2097152 (seen name) long in record { bytes = more.0; held = more.1; long = more.2 }
+may_be_long : (seen : List ℕ → Option (List ℕ)) (name : List ℕ) (limit : ℕ) → WhereSeen (seen name) (λ all. limit < length all) → MayBeLong seen name limit
+may_be_long seen name limit long = let more = longer_than limit (seen name) long in record { bytes = more.0; held = more.1; long = more.2 }
 
 -- a file that is too long
-pub by_length : (a b : FilesSeen) (name : List ℕ) (file_fault : FileFault) → IsFaultFor (Some (at_number (0, 2097152))) file_fault → WhereSeen (a.contents name) (λ all. 2097152 < length all)
-    → CannotTake a b name file_fault
-by_length a b name file_faults.Memory at long = tt
-by_length a b name file_faults.CannotRead at long = absurd at
-by_length a b name (file_faults.Refused cause place) at long =
+pub by_length : (a b : FilesSeen) (name : List ℕ) (limit : ℕ) (file_fault : FileFault) → IsFaultFor (too_long limit) file_fault → WhereSeen (a.contents name) (λ all. limit < length all)
+    → CannotTake a b name limit file_fault
+by_length a b name limit file_faults.Memory at long = tt
+by_length a b name limit file_faults.CannotRead at long = absurd at
+by_length a b name limit (file_faults.Refused cause place) at long =
     let why : Why = (cause, string_bytes place) in
-    let same : at_number (0, 2097152) ≡ why = same_Some (at_number (0, 2097152)) why at in
-    (ap (λ (p : Why). p.0) (sym same), ap (λ (p : Why). p.1) (sym same), may_be_long a.contents name long)
+    let same : at_number (0, limit) ≡ why = same_Some (at_number (0, limit)) why at in
+    (ap (λ (p : Why). p.0) (sym same), ap (λ (p : Why). p.1) (sym same), may_be_long a.contents name limit long)
 
 -- ## from contents to their file
 
-pub cannot_take : (a b : FilesSeen) (f : File) (file_fault : FileFault) → ((bytes : List ℕ) → 2097152 < length bytes → f.refusal bytes ≡ Some (at_number (0, 2097152)))
-    → CannotTake a b f.name file_fault → IsFaultOf a b f file_fault
+pub cannot_take : (a b : FilesSeen) (f : File) (file_fault : FileFault) → ((bytes : List ℕ) → f.limit < length bytes → f.refusal bytes ≡ too_long f.limit)
+    → CannotTake a b f.name f.limit file_fault → IsFaultOf a b f file_fault
 cannot_take a b f file_faults.Memory long t = tt
 cannot_take a b f file_faults.CannotRead long t = t
 cannot_take a b f (file_faults.Refused cause place) long t =

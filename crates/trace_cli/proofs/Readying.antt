@@ -8,18 +8,20 @@ use Rattle.board_core.specs.declared.board.Board.{Board}
 use Rattle.board_model.specs.Script.{Scenario}
 use Rattle.board_core.specs.Stands.{Stands, Stood, turns_of}
 use Rattle.outside_io.specs.Outside.{Rose}
-use Rattle.command_line.specs.CommandLine.{Asked, build, run, go, list, migrate}
+use Rattle.trace_audit.specs.declared.verdict.Verdict as trace
+use Rattle.trace_audit.specs.declared.verdict.Verdict.TheVariants.{Yes, No}
+use Rattle.command_line.specs.CommandLine.{Asked, build, run, go, list, migrate, audit}
 use Rattle.command_line.specs.declared.job.Detail.{Detail}
 use Rattle.trace_cli.specs.declared.file_faults.NamedFault.{NamedFault}
 use Rattle.trace_cli.specs.declared.file_faults.NamedFault.TheVariants as named_faults
 use Rattle.trace_cli.specs.Contents.{Why, scenario_of, application_of}
 use Rattle.outside_io.specs.Seen.{FilesSeen, SinkSeen}
-use Rattle.trace_cli.specs.Sources.{File, image_file, script_file, files_to_build, first_of, MayBe, Takes, IsBuilt, script_in}
+use Rattle.trace_cli.specs.Sources.{File, image_file, script_file, trace_file, files_to_build, first_of, MayBe, Takes, IsBuilt, script_in}
 use Rattle.trace_cli.specs.FileFaults.{IsNamedFaultOf}
 use Rattle.trace_cli.specs.Building.{IsImage, IsNamedFaultInApp}
-use Rattle.trace_cli.specs.Ready.{IsImageFile, IsSet, IsReady, IsNamedFaultIn}
+use Rattle.trace_cli.specs.Ready.{IsImageFile, IsSet, IsReady, IsAuditOf, IsNamedFaultIn}
 use Rattle.trace_cli.specs.Pushed.{Pushed, whole, cut, Says, pushed, silent, IsSilent, SaysNamedFault}
-use Rattle.trace_cli.specs.Verdict.{Verdict, runs, lists, builds, refused, unread, ran, listed, built}
+use Rattle.trace_cli.specs.Verdict.{Verdict, runs, lists, builds, audits, refused, unread, ran, listed, built, audited}
 use Rattle.trace_cli.specs.Answer as answer
 use Rattle.trace_cli.specs.Answer.{JobReason, cannot_read, refuses, does, IsShort, HasPut, HasSpoiled, Tells, AnswersJob}
 use Rattle.trace_cli.proofs.Lists.{at_end, longer, takes_none, takes_first, takes_wider, takes_last, get_more, get_last}
@@ -86,6 +88,23 @@ migrate_faults a c image out h fault = record {
 migrate_reason : (a b : FilesSeen) (image out : List ℕ) (picture : Picture) → IsImageFile a.contents image picture → JobReason (migrate image out) a b (built out picture)
 migrate_reason a b image out picture i =
     does (i.bytes ∷ []) (record { takes = one_file a.contents image picture [] i; all = refl }) (builds out picture (refl, i.is) refl)
+
+-- ## `audit`
+
+pub audit_faults : (a c : FilesSeen) (name : List ℕ) (h : NamedFault) → IsNamedFaultOf a c (trace_file name) h → IsNamedFaultIn (audit name) a c h
+audit_faults a c name h fault = record {
+  contents = [];
+  at = record { takes = takes_none (MayBe a.contents) (trace_file name ∷ []); file = trace_file name; next = refl; fault = fault };
+}
+
+audit_reason : (a b : FilesSeen) (name : List ℕ) (found : trace.Verdict) → IsAuditOf a.contents name found → JobReason (audit name) a b (audited found)
+audit_reason a b name found i =
+    does (i.bytes ∷ []) (record { takes = takes_first (MayBe a.contents) (trace_file name) [] i.bytes [] i.held i.accepted (takes_none (MayBe a.contents) []); all = refl })
+    (audits i.bytes found refl i.verdict refl)
+
+pub audited_alone : (found : trace.Verdict) → (audited found).put ≡ None
+audited_alone (Yes calls left) = refl
+audited_alone (No line) = refl
 
 -- ## `build`
 
@@ -227,3 +246,7 @@ answers_built a b c w w' app out image r same puts i t = answers_put (build app 
 pub answers_migrated : (a b c : FilesSeen) (w w' : SinkSeen) (file out : List ℕ) (image : Picture) (r : ℕ) → b.contents ≡ a.contents → b.put_faults ≡ a.put_faults → IsImageFile a.contents file image
     → Tells b c w w' (built out image) r → AnswersJob (migrate file out) a c w w' r
 answers_migrated a b c w w' file out image r same puts i t = answers_put (migrate file out) a b c w w' out image r same puts (migrate_reason a c file out image i) t
+
+pub answers_audited : (a b : FilesSeen) (w w' : SinkSeen) (name : List ℕ) (found : trace.Verdict) (r : ℕ) → b.contents ≡ a.contents → IsAuditOf a.contents name found → Says w w' (audited found) r
+    → AnswersJob (audit name) a b w w' r
+answers_audited a b w w' name found r same i says = answers_said (audit name) a b w w' (audited found) r same (audited_alone found) (audit_reason a b name found i) says

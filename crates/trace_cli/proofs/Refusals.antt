@@ -1,5 +1,5 @@
 -- Why an application or a source is refused, by what its builder says.
-use Rattle.std.proofs.Common.{◌≡◌, ℕ, ◌≤◌, ◌++◌, true, false, List, length, Option, Some, None, refl, sym, ap, ◌∙◌, arith, ltb, codes}
+use Rattle.std.proofs.Common.{◌≡◌, ℕ, ◌≤◌, ◌↔◌, ◌++◌, true, false, List, length, Option, Some, None, refl, sym, ap, ◌∙◌, arith, ltb, codes}
 use Rattle.std.specs.Prelude.{decimal, option_map, Ok, Err}
 use Rattle.std.proofs.lemmas.Bool.Decides.{nat_tests}
 use Rattle.app_toml.specs.Apps.{AppData}
@@ -13,43 +13,66 @@ use Rattle.image_build.specs.Building.{HasRoom, LacksRoom, RefusesSource, IsAcce
 use Rattle.image_build.specs.declared.fault.BuildFault.TheVariants as fault
 use Rattle.image_format.specs.Picture.{Picture, image_or_fault}
 use Rattle.run_script.specs.Scripts.{ScriptData, script_or_fault}
-use Rattle.trace_cli.specs.Contents.{Why, or_later, at_number, script_in, script_refusal, script_of, at_line, fault_in, app_in, image_in, image_refusal, picture_of, application_of, app_refusal, room_refusal, source_refusal, code_refusal, code_length}
+use Rattle.trace_cli.specs.Contents.{Why, file_limit, trace_limit, trace_refusal, or_later, at_number, script_in, script_refusal, script_of, at_line, fault_in, app_in, image_in, image_refusal, picture_of, application_of, app_refusal, room_refusal, source_refusal, code_refusal, code_length}
+use Rattle.trace_audit.specs.declared.verdict.Verdict.{Verdict}
+use Rattle.trace_audit.specs.declared.verdict.Verdict.TheVariants.{Yes, No}
+use Rattle.trace_audit.specs.Texts as trace
+use Rattle.trace_audit.specs.Rules.{IsFirstBad}
+use Rattle.trace_audit.specs.Verdicts.{first_cause, read_lines, IsGoodWith, IsVerdict}
 use Rattle.trace_cli.proofs.Faulting.{short}
 
 -- ## an image
 
-pub image_taken : (bytes : List ℕ) (p : Picture) → length bytes ≤ 2097152 → image_or_fault bytes ≡ Ok p → (image_refusal bytes ≡ None) × (p ≡ picture_of bytes)
+pub image_taken : (bytes : List ℕ) (p : Picture) → length bytes ≤ file_limit → image_or_fault bytes ≡ Ok p → (image_refusal bytes ≡ None) × (p ≡ picture_of bytes)
 unfolding image_refusal picture_of
-image_taken bytes p le is = (short bytes _ le ∙ ap (λ r. option_map at_number (fault_in r)) is, ap image_in (sym is))
+image_taken bytes p le is = (short file_limit bytes _ le ∙ ap (λ r. option_map at_number (fault_in r)) is, ap image_in (sym is))
 
-pub image_refused : (bytes : List ℕ) (why : ℕ × ℕ) → length bytes ≤ 2097152 → image_or_fault bytes ≡ Err why → image_refusal bytes ≡ Some (at_number why)
+pub image_refused : (bytes : List ℕ) (why : ℕ × ℕ) → length bytes ≤ file_limit → image_or_fault bytes ≡ Err why → image_refusal bytes ≡ Some (at_number why)
 unfolding image_refusal
-image_refused bytes why le is = short bytes _ le ∙ ap (λ r. option_map at_number (fault_in r)) is
+image_refused bytes why le is = short file_limit bytes _ le ∙ ap (λ r. option_map at_number (fault_in r)) is
 
 -- ## a script
 
-pub script_taken : (bytes : List ℕ) (x : ScriptData) → length bytes ≤ 2097152 → script_or_fault bytes ≡ Ok x → (script_refusal bytes ≡ None) × (x ≡ script_of bytes)
+pub script_taken : (bytes : List ℕ) (x : ScriptData) → length bytes ≤ file_limit → script_or_fault bytes ≡ Ok x → (script_refusal bytes ≡ None) × (x ≡ script_of bytes)
 unfolding script_refusal script_of
-script_taken bytes x le is = (short bytes _ le ∙ ap (λ r. option_map at_number (fault_in r)) is, ap script_in (sym is))
+script_taken bytes x le is = (short file_limit bytes _ le ∙ ap (λ r. option_map at_number (fault_in r)) is, ap script_in (sym is))
 
-pub script_refused : (bytes : List ℕ) (why : ℕ × ℕ) → length bytes ≤ 2097152 → script_or_fault bytes ≡ Err why → script_refusal bytes ≡ Some (at_number why)
+pub script_refused : (bytes : List ℕ) (why : ℕ × ℕ) → length bytes ≤ file_limit → script_or_fault bytes ≡ Err why → script_refusal bytes ≡ Some (at_number why)
 unfolding script_refusal
-script_refused bytes why le is = short bytes _ le ∙ ap (λ r. option_map at_number (fault_in r)) is
+script_refused bytes why le is = short file_limit bytes _ le ∙ ap (λ r. option_map at_number (fault_in r)) is
+
+-- ## a trace
+
+by_first : (bytes : List ℕ) (o : Option (ℕ × ℕ)) → length bytes ≤ trace_limit → first_cause 1 (trace.lines_of bytes) ≡ o → trace_refusal bytes ≡ option_map at_number o
+unfolding trace_refusal
+by_first bytes o le is = short trace_limit bytes _ le ∙ ap (option_map at_number) is
+
+pub trace_taken : (bytes : List ℕ) → length bytes ≤ trace_limit → first_cause 1 (trace.lines_of bytes) ≡ None → trace_refusal bytes ≡ None
+trace_taken bytes le is = by_first bytes None le is
+
+pub trace_refused : (bytes : List ℕ) (why : ℕ × ℕ) → length bytes ≤ trace_limit → first_cause 1 (trace.lines_of bytes) ≡ Some why → trace_refusal bytes ≡ Some (at_number why)
+trace_refused bytes why le is = by_first bytes (Some why) le is
+
+-- what is answered exactly where it is so
+pub verdict_found : (text : List ℕ) (v : Verdict) → ((calls left : ℕ) → (v ≡ Yes calls left) ↔ IsGoodWith (read_lines text) calls left)
+    → ((n : ℕ) → (v ≡ No n) ↔ IsFirstBad (read_lines text) n) → IsVerdict text v
+verdict_found text (Yes calls left) good bad = (good calls left).0 refl
+verdict_found text (No n) good bad = (bad n).0 refl
 
 -- ## an application
 
-pub app_refused : (bytes : List ℕ) (why : Why) → length bytes ≤ 2097152 → read_app bytes ≡ Err why → app_refusal bytes ≡ Some why
+pub app_refused : (bytes : List ℕ) (why : Why) → length bytes ≤ file_limit → read_app bytes ≡ Err why → app_refusal bytes ≡ Some why
 unfolding app_refusal
-app_refused bytes why le is = short bytes _ le ∙ ap (λ r. or_later (fault_in r) (room_refusal (application_of bytes))) is
+app_refused bytes why le is = short file_limit bytes _ le ∙ ap (λ r. or_later (fault_in r) (room_refusal (application_of bytes))) is
 
 pub is_application : (bytes : List ℕ) (app : AppData) → read_app bytes ≡ Ok app → application_of bytes ≡ app
 unfolding application_of
 is_application bytes app is = ap app_in is
 
 -- of a description that is accepted the plan decides
-pub app_by_room : (bytes : List ℕ) (app : AppData) → length bytes ≤ 2097152 → read_app bytes ≡ Ok app → app_refusal bytes ≡ room_refusal app
+pub app_by_room : (bytes : List ℕ) (app : AppData) → length bytes ≤ file_limit → read_app bytes ≡ Ok app → app_refusal bytes ≡ room_refusal app
 unfolding app_refusal
-app_by_room bytes app le is = short bytes _ le ∙ ap (λ r. or_later (fault_in r) (room_refusal (application_of bytes))) is ∙ ap room_refusal (is_application bytes app is)
+app_by_room bytes app le is = short file_limit bytes _ le ∙ ap (λ r. or_later (fault_in r) (room_refusal (application_of bytes))) is ∙ ap room_refusal (is_application bytes app is)
 
 pub lacks_flash : (app : AppData) (needed : ℕ) → LacksRoom app (fault.Flash needed) → room_refusal app ≡ Some (21, codes "flash:" ++ decimal needed)
 lacks_flash app needed h =
@@ -72,17 +95,17 @@ has_room app h =
 
 -- ## a source
 
-by_cause : (app : AppData) (i : ℕ) (source : List ℕ) (o : Option (Cause × ℕ)) → length source ≤ 2097152 → source_cause app i source ≡ o
+by_cause : (app : AppData) (i : ℕ) (source : List ℕ) (o : Option (Cause × ℕ)) → length source ≤ file_limit → source_cause app i source ≡ o
     → source_refusal app i source ≡ or_later (option_map at_line o) (code_refusal app i source)
 unfolding source_refusal
-by_cause app i source o le is = short source _ le ∙ ap (λ p. or_later (option_map at_line p) (code_refusal app i source)) is
+by_cause app i source o le is = short file_limit source _ le ∙ ap (λ p. or_later (option_map at_line p) (code_refusal app i source)) is
 
-pub source_by_cause : (app : AppData) (i : ℕ) (source : List ℕ) (task cause line : ℕ) → length source ≤ 2097152 → RefusesSource app i source (fault.Source task cause line)
+pub source_by_cause : (app : AppData) (i : ℕ) (source : List ℕ) (task cause line : ℕ) → length source ≤ file_limit → RefusesSource app i source (fault.Source task cause line)
     → source_refusal app i source ≡ Some (at_number (cause, line))
 source_by_cause app i source task cause line le h =
     by_cause app i source (Some (h.1, line)) le h.2 ∙ ap (λ n. Some (at_number (n, line))) (sym h.3)
 
-pub source_too_long : (app : AppData) (i : ℕ) (source : List ℕ) (task bytes : ℕ) → length source ≤ 2097152 → RefusesSource app i source (fault.Code task bytes)
+pub source_too_long : (app : AppData) (i : ℕ) (source : List ℕ) (task bytes : ℕ) → length source ≤ file_limit → RefusesSource app i source (fault.Code task bytes)
     → source_refusal app i source ≡ Some (at_number (15, bytes))
 source_too_long app i source task bytes le h =
     let long = h.1 in
@@ -91,7 +114,7 @@ source_too_long app i source task bytes le h =
     let code : code_refusal app i source ≡ Some (at_number (15, code_length app i source)) = rw above refl in
     by_cause app i source None le long.assembled.accepted ∙ code ∙ ap (λ n. Some (at_number (15, n))) (sym (long.is ∙ size))
 
-pub source_taken : (app : AppData) (i : ℕ) (source : List ℕ) → length source ≤ 2097152 → IsAcceptedSource app i source → source_refusal app i source ≡ None
+pub source_taken : (app : AppData) (i : ℕ) (source : List ℕ) → length source ≤ file_limit → IsAcceptedSource app i source → source_refusal app i source ≡ None
 source_taken app i source le h =
     let size : length h.code ≡ code_length app i source = image_sized (lines_of source) (flash_base app i) (given app i) h.code h.labels h.assembled in
     let fits : ltb (task_at app i).flash (code_length app i source) ≡ false = let at_most = h.fits in grind (arith, nat_tests) in

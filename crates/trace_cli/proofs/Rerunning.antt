@@ -9,7 +9,7 @@ use Rattle.command_line.specs.declared.job.Detail.{Detail}
 use Rattle.trace_cli.specs.Contents.{Why, image_refusal, script_refusal, picture_of, application_of, scenario_of}
 use Rattle.trace_cli.specs.Words.{job_in}
 use Rattle.trace_cli.specs.Sources.{File, image_file, script_file, files_to_build, Are, Takes, Reaches, TakesAll, IsBuilt, script_in}
-use Rattle.trace_cli.specs.Verdict.{Verdict, IsVerdict, no_job, refuses, does, Does, runs, lists, builds, samples, refused, ran}
+use Rattle.trace_cli.specs.Verdict.{Verdict, IsVerdict, no_job, refuses, does, Does, runs, lists, builds, samples, audits, refused, ran}
 use Rattle.trace_cli.specs.Answer.{HasPut}
 use Rattle.trace_cli.proofs.Lists.{longer, is_below, takes_wider, takes_last}
 use Rattle.trace_cli.proofs.Taking.{as_many_sources}
@@ -48,6 +48,7 @@ no_sample_run image script n detail s k e = cc
 made_by : (seen : List ℕ → Option (List ℕ)) (app out : List ℕ) (cs : List (List ℕ)) (b : Verdict) → TakesAll (Are seen) (build app out) cs → Does (build app out) cs b → IsMade seen app out b
 made_by seen app out cs b all (runs n m x is e) = absurd is
 made_by seen app out cs b all (lists i is e) = absurd is
+made_by seen app out cs b all (audits t found is v e) = absurd is
 made_by seen app out cs b all (samples s n x is e) = absurd (no_sample app out s n is.is)
 made_by seen app out cs b all (builds o i is e) = record {
   image = i;
@@ -138,6 +139,7 @@ ran_of out script n detail image c s w same (runs k m x is e) =
     e ∙ ap (λ (i : ℕ). ran i m x) is.0 ∙ ap (λ (a : Detail). ran n a x) is.1 ∙ ap (ran n detail) scenario
 ran_of out script n detail image c s w same (lists i is e) = absurd is
 ran_of out script n detail image c s w same (builds o i is e) = absurd is
+ran_of out script n detail image c s w same (audits t found is v e) = absurd is
 ran_of out script n detail image c s w same (samples seed k x is e) = absurd (no_sample_run out script n detail seed k is.is)
 
 after_run : (words : List (List ℕ)) (seen seen' : List ℕ → Option (List ℕ)) (app out script : List ℕ) (n : ℕ) (detail : Detail) (cs : List (List ℕ)) (w : Verdict)

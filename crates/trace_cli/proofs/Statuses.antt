@@ -7,14 +7,18 @@ use Rattle.board_model.specs.declared.outcomes.Level.TheVariants.{Calls}
 use Rattle.board_model.specs.Script.{Scenario}
 use Rattle.board_model.specs.declared.outcomes.End.{End}
 use Rattle.board_model.specs.declared.outcomes.End.TheVariants.{Bound, Still, Supervisor}
-use Rattle.command_line.specs.CommandLine.{Asked, build, run, go, list, sample, migrate, is_accepted, job_of}
+use Rattle.command_line.specs.CommandLine.{Asked, build, run, go, list, sample, migrate, audit, is_accepted, job_of}
+use Rattle.trace_audit.specs.declared.verdict.Verdict as trace
+use Rattle.trace_audit.specs.declared.verdict.Verdict.TheVariants.{Yes, No}
+use Rattle.trace_audit.specs.Verdicts as trace_audit
 use Rattle.outside_io.specs.Seen.{FilesSeen, SinkSeen}
 use Rattle.trace_cli.specs.Words.{job_in, out_of}
-use Rattle.trace_cli.specs.Sources.{IsBuild, IsSample}
-use Rattle.trace_cli.specs.Verdict.{Verdict, IsVerdict, Does, runs, lists, builds, samples, usage, usage_line, refused, unread, ran, listed, built, sampled, run_of, level_of, status_of}
-use Rattle.trace_cli.specs.Answer.{JobReason, cannot_read, refuses, does, Reason, no_job, of_job, HasPut, HasSpoiled, Tells, whole, cut, spoiled, short, AnswersJob, Answers, HasSampled, HasPlayed, HasDone, HasRefused, HasUnread, HasFront, Answered, IsComplete}
+use Rattle.trace_cli.specs.Sources.{IsBuild, IsSample, IsAudit}
+use Rattle.trace_cli.specs.Verdict.{Verdict, IsVerdict, Does, runs, lists, builds, samples, audits, usage, usage_line, refused, unread, ran, listed, built, sampled, audited, run_of, level_of, status_of}
+use Rattle.trace_cli.specs.Answer.{JobReason, cannot_read, refuses, does, IsAccepted, Reason, no_job, of_job, HasPut, HasSpoiled, Tells, whole, cut, spoiled, short, AnswersJob, Answers, HasSampled, HasAudited, HasPlayed, HasDone, HasRefused, HasUnread, HasFront, Answered, IsComplete}
 use Rattle.trace_cli.specs.Pushed as seen
 use Rattle.trace_cli.specs.Pushed.{Pushed, Says, pushed, silent}
+use Rattle.trace_cli.proofs.Readying.{audited_alone}
 use Rattle.trace_cli.proofs.Deciding.{Decided, agreed, not_read, decided}
 
 -- ## where the contents are seen
@@ -64,46 +68,70 @@ end_status e status is = by_end (end_zero_or_six e) where
   by_end (inl z) = inl (is ∙ z)
   by_end (inr s) = inr (is ∙ s)
 
+-- of an audit
+audit_zero_or_seven : (found : trace.Verdict) → ((audited found).status ≡ 0) ⊎ ((audited found).status ≡ 7)
+audit_zero_or_seven (Yes calls left) = inl refl
+audit_zero_or_seven (No line) = inr refl
+
+-- 0, 6 or 7
+abbrev IsOfDone : ℕ → Type 0
+IsOfDone status = (status ≡ 0) ⊎ ((status ≡ 6) ⊎ (status ≡ 7))
+
+of_run : (status : ℕ) → (status ≡ 0) ⊎ (status ≡ 6) → IsOfDone status
+of_run status (inl z) = inl z
+of_run status (inr s) = inr (inl s)
+
+of_audit : (status status' : ℕ) → status ≡ status' → (status' ≡ 0) ⊎ (status' ≡ 7) → IsOfDone status
+of_audit status status' same (inl z) = inl (same ∙ z)
+of_audit status status' same (inr s) = inr (inr (same ∙ s))
+
 -- of what is done with files
-done_status : (job : Asked) (cs : List (List ℕ)) (v : Verdict) → Does job cs v → (v.status ≡ 0) ⊎ (v.status ≡ 6)
-done_status job cs v (runs n m x p e) = end_status (run_of (level_of m) n x).end v.status (ap (λ (u : Verdict). u.status) e)
+done_status : (job : Asked) (cs : List (List ℕ)) (v : Verdict) → Does job cs v → IsOfDone v.status
+done_status job cs v (runs n m x p e) = of_run v.status (end_status (run_of (level_of m) n x).end v.status (ap (λ (u : Verdict). u.status) e))
 done_status job cs v (lists i p e) = inl (ap (λ (u : Verdict). u.status) e)
 done_status job cs v (builds o i p e) = inl (ap (λ (u : Verdict). u.status) e)
-done_status job cs v (samples s n x p e) = end_status (run_of Calls n x).end v.status (ap (λ (u : Verdict). u.status) e)
+done_status job cs v (samples s n x p e) = of_run v.status (end_status (run_of Calls n x).end v.status (ap (λ (u : Verdict). u.status) e))
+done_status job cs v (audits t a p g e) = of_audit v.status (audited a).status (ap (λ (u : Verdict). u.status) e) (audit_zero_or_seven a)
 
-not_done : (v : Verdict) (n : ℕ) → (v.status ≡ 0) ⊎ (v.status ≡ 6) → v.status ≡ n → (n ≡ 0 → ⊥) → (n ≡ 6 → ⊥) → ⊥
+not_done : (v : Verdict) (n : ℕ) → IsOfDone v.status → v.status ≡ n → (n ≡ 0 → ⊥) → (6 ≤ n → ⊥) → ⊥
 not_done v n (inl z) e not0 not6 = not0 (sym e ∙ z)
-not_done v n (inr s) e not0 not6 = not6 (sym e ∙ s)
+not_done v n (inr (inl s)) e not0 not6 = not6 (omega arith)
+not_done v n (inr (inr s)) e not0 not6 = not6 (omega arith)
 
-job_status : (job : Asked) (a b : FilesSeen) (v : Verdict) → JobReason job a b v → (v.status ≤ 3) ⊎ (v.status ≡ 6)
+-- of a verdict on a job: at most 3, or 6, or 7
+abbrev IsOfJob : ℕ → Type 0
+IsOfJob status = (status ≤ 3) ⊎ ((6 ≤ status) × (status ≤ 7))
+
+job_status : (job : Asked) (a b : FilesSeen) (v : Verdict) → JobReason job a b v → IsOfJob v.status
 job_status job a b v (cannot_read f h is) = let s : v.status ≡ 3 = ap (λ (u : Verdict). u.status) is in inl (omega arith)
 job_status job a b v (refuses f why h is) = let s : v.status ≡ 1 = ap (λ (u : Verdict). u.status) is in inl (omega arith)
 job_status job a b v (does cs all p) = by (done_status job cs v p) where
-  by : (v.status ≡ 0) ⊎ (v.status ≡ 6) → (v.status ≤ 3) ⊎ (v.status ≡ 6)
+  by : IsOfDone v.status → IsOfJob v.status
   by (inl z) = inl (omega arith)
-  by (inr s) = inr s
+  by (inr (inl s)) = inr (omega arith, omega arith)
+  by (inr (inr s)) = inr (omega arith, omega arith)
 
-reason_status : (words : List (List ℕ)) (a b : FilesSeen) (v : Verdict) → Reason words a b v → (v.status ≤ 3) ⊎ (v.status ≡ 6)
+reason_status : (words : List (List ℕ)) (a b : FilesSeen) (v : Verdict) → Reason words a b v → IsOfJob v.status
 reason_status words a b v (no_job none is) = let s : v.status ≡ 2 = ap (λ (u : Verdict). u.status) is in inl (omega arith)
 reason_status words a b v (of_job job at why) = job_status job a b v why
 
-not_four_or_five : (v : Verdict) → (v.status ≤ 3) ⊎ (v.status ≡ 6) → 4 ≤ v.status → v.status ≤ 5 → ⊥
+not_four_or_five : (v : Verdict) → IsOfJob v.status → 4 ≤ v.status → v.status ≤ 5 → ⊥
 not_four_or_five v (inl few) low high = omega arith
-not_four_or_five v (inr six) low high = omega arith
+not_four_or_five v (inr many) low high = let six = many.0 in omega arith
 
-at_most_six : (v : Verdict) → (v.status ≤ 3) ⊎ (v.status ≡ 6) → v.status ≤ 6
-at_most_six v (inl few) = omega arith
-at_most_six v (inr six) = omega arith
+at_most_seven : (v : Verdict) → IsOfJob v.status → v.status ≤ 7
+at_most_seven v (inl few) = omega arith
+at_most_seven v (inr many) = many.1
 
 -- ## by status
 
-known_by : (words : List (List ℕ)) (a b : FilesSeen) (w w' : SinkSeen) (v : Verdict) (r : ℕ) → Reason words a b v → Tells a b w w' v r → r ≤ 6
-known_by words a b w w' v r g (whole is put text) = let most = at_most_six v (reason_status words a b v g) in omega arith
+known_by : (words : List (List ℕ)) (a b : FilesSeen) (w w' : SinkSeen) (v : Verdict) (r : ℕ) → Reason words a b v → Tells a b w w' v r → r ≤ 7
+known_by words a b w w' v r g (whole is put text) = let most = at_most_seven v (reason_status words a b v g) in omega arith
 known_by words a b w w' v r g (cut is rose put front) = omega arith
 known_by words a b w w' v r g (spoiled is rose left same) = omega arith
 known_by words a b w w' v r g (short s) = let is = s.status in omega arith
 
-pub known : (words : List (List ℕ)) (a b : FilesSeen) (w w' : SinkSeen) (r : ℕ) → Answers words a b w w' r → r ≤ 6
+pub known : (words : List (List ℕ)) (a b : FilesSeen) (w w' : SinkSeen) (r : ℕ) → Answers words a b w w' r → r ≤ 7
 known words a b w w' r (inl s) = let is = s.status in omega arith
 known words a b w w' r (inr h) = known_by words a b w w' h.0 r h.1 h.2
 
@@ -203,6 +231,22 @@ has_sampled words w w' job s n x v r at h is e t = record {
   text = same_text w w' v (sampled n x) is t;
 }
 
+has_audited : (words : List (List ℕ)) (a : FilesSeen) (w w' : SinkSeen) (job : Asked) (cs : List (List ℕ)) (t : List ℕ) (found : trace.Verdict) (v : Verdict) (r : ℕ)
+    → job_in words ≡ Some job → IsAccepted job a.contents cs → IsAudit job cs t → trace_audit.IsVerdict t found → v ≡ audited found
+    → v.status ≡ r → Appends w.written w'.written v.text → HasAudited words a.contents w w' r
+has_audited words a w w' job cs t found v r at all h is e status text = record {
+  job = job;
+  command = at;
+  contents = cs;
+  accepted = all;
+  bytes = t;
+  is = h;
+  found = found;
+  verdict = is;
+  status = sym (ap (λ (u : Verdict). u.status) e) ∙ status;
+  text = same_text w w' v (audited found) e text;
+}
+
 done_by : (words : List (List ℕ)) (a b : FilesSeen) (w w' : SinkSeen) (v : Verdict) → v.status ≡ 0 → HasPut a.contents b.contents v.put → Appends w.written w'.written v.text → Reason words a b v → HasDone words a b w w'
 done_by words a b w w' v e p t (no_job none is) = let s : v.status ≡ 2 = ap (λ (u : Verdict). u.status) is in absurd (omega arith)
 done_by words a b w w' v e p t (of_job job at (cannot_read f h is)) = let s : v.status ≡ 3 = ap (λ (u : Verdict). u.status) is in absurd (omega arith)
@@ -222,7 +266,7 @@ done_by words a b w w' v e p t (of_job job at (does cs all (runs n m x h is))) =
 }))
 done_by words a b w w' v e p t (of_job job at (does cs all (lists i h is))) =
     inr (inl (record { job = job; command = at; contents = cs; accepted = all; image = i; is = h; text = same_text w w' v (listed i) is t }))
-done_by words a b w w' v e p t (of_job job at (does cs all (builds o i h is))) = inr (inr (record {
+done_by words a b w w' v e p t (of_job job at (does cs all (builds o i h is))) = inr (inr (inl (record {
   job = job;
   command = at;
   contents = cs;
@@ -232,7 +276,8 @@ done_by words a b w w' v e p t (of_job job at (does cs all (builds o i h is))) =
   is = h;
   file = (same_put a b v (built o i) is p).0;
   text = same_text w w' v (built o i) is t;
-}))
+})))
+done_by words a b w w' v e p t (of_job job at (does cs all (audits s found h is d))) = inr (inr (inr (has_audited words a w w' job cs s found v 0 at all h is d e t)))
 
 pub was_done : (words : List (List ℕ)) (a b : FilesSeen) (w w' : SinkSeen) (r : ℕ) → Answers words a b w w' r → r ≡ 0 → HasDone words a b w w'
 was_done words a b w w' r h e =
@@ -258,11 +303,37 @@ ran_by words a b w w' v e t (of_job job at (does cs all (runs n m x h is))) = in
 })
 ran_by words a b w w' v e t (of_job job at (does cs all (lists i h is))) = let s : v.status ≡ 0 = ap (λ (u : Verdict). u.status) is in absurd (omega arith)
 ran_by words a b w w' v e t (of_job job at (does cs all (builds o i h is))) = let s : v.status ≡ 0 = ap (λ (u : Verdict). u.status) is in absurd (omega arith)
+ran_by words a b w w' v e t (of_job job at (does cs all (audits s found h is d))) = absurd (by (audit_zero_or_seven found)) where
+  by : ((audited found).status ≡ 0) ⊎ ((audited found).status ≡ 7) → ⊥
+  by (inl z) = let s : v.status ≡ 0 = ap (λ (u : Verdict). u.status) d ∙ z in omega arith
+  by (inr n) = let s : v.status ≡ 7 = ap (λ (u : Verdict). u.status) d ∙ n in omega arith
 
 pub was_ran : (words : List (List ℕ)) (a b : FilesSeen) (w w' : SinkSeen) (r : ℕ) → Answers words a b w w' r → r ≡ 6 → HasPlayed words a.contents w w' 6
 was_ran words a b w w' r h e =
     let t = seen_whole words a b w w' r h (λ is. omega arith) (λ is. omega arith) in
     ran_by words a b w w' t.verdict (t.status ∙ e) t.text t.reason
+
+-- a run has no such status
+not_seven : (e : End) (v : Verdict) → v.status ≡ status_of e → v.status ≡ 7 → ⊥
+not_seven e v is seven = by (end_zero_or_six e) where
+  by : (status_of e ≡ 0) ⊎ (status_of e ≡ 6) → ⊥
+  by (inl z) = omega arith
+  by (inr s) = omega arith
+
+audited_by : (words : List (List ℕ)) (a b : FilesSeen) (w w' : SinkSeen) (v : Verdict) → v.status ≡ 7 → Appends w.written w'.written v.text → Reason words a b v → HasAudited words a.contents w w' 7
+audited_by words a b w w' v e t (no_job none is) = let s : v.status ≡ 2 = ap (λ (u : Verdict). u.status) is in absurd (omega arith)
+audited_by words a b w w' v e t (of_job job at (cannot_read f h is)) = let s : v.status ≡ 3 = ap (λ (u : Verdict). u.status) is in absurd (omega arith)
+audited_by words a b w w' v e t (of_job job at (refuses f why h is)) = let s : v.status ≡ 1 = ap (λ (u : Verdict). u.status) is in absurd (omega arith)
+audited_by words a b w w' v e t (of_job job at (does cs all (samples s n x h is))) = absurd (not_seven (run_of Calls n x).end v (ap (λ (u : Verdict). u.status) is) e)
+audited_by words a b w w' v e t (of_job job at (does cs all (runs n m x h is))) = absurd (not_seven (run_of (level_of m) n x).end v (ap (λ (u : Verdict). u.status) is) e)
+audited_by words a b w w' v e t (of_job job at (does cs all (lists i h is))) = let s : v.status ≡ 0 = ap (λ (u : Verdict). u.status) is in absurd (omega arith)
+audited_by words a b w w' v e t (of_job job at (does cs all (builds o i h is))) = let s : v.status ≡ 0 = ap (λ (u : Verdict). u.status) is in absurd (omega arith)
+audited_by words a b w w' v e t (of_job job at (does cs all (audits s found h is d))) = has_audited words a w w' job cs s found v 7 at all h is d e t
+
+pub was_bad : (words : List (List ℕ)) (a b : FilesSeen) (w w' : SinkSeen) (r : ℕ) → Answers words a b w w' r → r ≡ 7 → HasAudited words a.contents w w' 7
+was_bad words a b w w' r h e =
+    let t = seen_whole words a b w w' r h (λ is. omega arith) (λ is. omega arith) in
+    audited_by words a b w w' t.verdict (t.status ∙ e) t.text t.reason
 
 -- ## which file is changed, and when
 
@@ -278,6 +349,7 @@ built_out (go app script steps detail) cs o i p = absurd p
 built_out (list image) cs o i p = absurd p
 built_out (sample seed steps) cs o i p = absurd p
 built_out (migrate image out) cs o i p = ap Some (sym p.0)
+built_out (audit trace) cs o i p = absurd p
 
 reason_puts : (words : List (List ℕ)) (a b : FilesSeen) (v : Verdict) → Reason words a b v → Puts words v
 reason_puts words a b v (no_job none is) = puts_none (ap (λ (u : Verdict). u.put) is)
@@ -286,6 +358,7 @@ reason_puts words a b v (of_job job at (refuses f why h is)) = puts_none (ap (λ
 reason_puts words a b v (of_job job at (does cs all (runs n m x h is))) = puts_none (ap (λ (u : Verdict). u.put) is)
 reason_puts words a b v (of_job job at (does cs all (lists i h is))) = puts_none (ap (λ (u : Verdict). u.put) is)
 reason_puts words a b v (of_job job at (does cs all (samples s n x h is))) = puts_none (ap (λ (u : Verdict). u.put) is)
+reason_puts words a b v (of_job job at (does cs all (audits s found h is d))) = puts_none (ap (λ (u : Verdict). u.put) d ∙ audited_alone found)
 reason_puts words a b v (of_job job at (does cs all (builds o i h is))) =
     puts_out o (spelling i) (ap (λ (u : Verdict). u.put) is) (ap out_of at ∙ built_out job cs o i h) (ap (λ (u : Verdict). u.status) is)
 

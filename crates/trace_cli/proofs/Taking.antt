@@ -9,7 +9,7 @@ use Rattle.image_build.specs.Accepted.{HasAccepted, described, next_task}
 use Rattle.image_build.specs.declared.builder.Builder.{Builder}
 use Rattle.app_toml.specs.Reading.{read_app}
 use Rattle.image_format.specs.Picture.{Picture, Sound}
-use Rattle.trace_cli.specs.Contents.{source_refusal, app_refusal, application_of, room_refusal}
+use Rattle.trace_cli.specs.Contents.{file_limit, source_refusal, app_refusal, application_of, room_refusal}
 use Rattle.outside_io.specs.Seen.{FilesSeen}
 use Rattle.trace_cli.specs.Sources.{File, source_file, sources_from, source_files, files_to_build, app_file, first_of, MayBe, Takes}
 use Rattle.trace_cli.specs.FileFaults.{IsNamedFaultOf}
@@ -95,12 +95,12 @@ app_then_sources seen name bytes app sources held accepted takes = takes_first (
 
 -- the next source is not accepted
 pub faults_next : (a b c : FilesSeen) (app : AppData) (builder : Builder) (k : ℕ) (t : TaskData) (named_fault : NamedFault) → HasFirst a.contents app builder k → b.contents ≡ a.contents → a.read_faults ≤ b.read_faults
-    → described builder ≡ app → slice_get app.tasks k ≡ Some t → IsNamedFaultOf b c record { name = t.source; refusal = source_refusal (described builder) (next_task builder) } named_fault
+    → described builder ≡ app → slice_get app.tasks k ≡ Some t → IsNamedFaultOf b c record { name = t.source; limit = file_limit; refusal = source_refusal (described builder) (next_task builder) } named_fault
     → IsNamedFaultInSources a c app named_fault
 faults_next a b c app builder k t named_fault h seen le same at fault =
     let index : next_task builder ≡ k = h.accepted_sources.next ∙ h.count in
-    let at_app : AppData → File = λ x. record { name = t.source; refusal = source_refusal x (next_task builder) } in
-    let at_index : ℕ → File = λ i. record { name = t.source; refusal = source_refusal app i } in
+    let at_app : AppData → File = λ x. record { name = t.source; limit = file_limit; refusal = source_refusal x (next_task builder) } in
+    let at_index : ℕ → File = λ i. record { name = t.source; limit = file_limit; refusal = source_refusal app i } in
     let file : at_app (described builder) ≡ source_file app k t = ap at_app same ∙ ap at_index index in
     let mine : IsNamedFaultOf b c (source_file app k t) named_fault = subst (λ (f : File). IsNamedFaultOf b c f named_fault) file fault in
     record {
@@ -138,13 +138,13 @@ sources_are seen name bytes app image is held accepted h =
       };
     }
 
-pub image_of_files : (seen : List ℕ → Option (List ℕ)) (name bytes : List ℕ) (app : AppData) (image : Picture) → length bytes ≤ 2097152 → read_app bytes ≡ Ok app → room_refusal app ≡ None
+pub image_of_files : (seen : List ℕ → Option (List ℕ)) (name bytes : List ℕ) (app : AppData) (image : Picture) → length bytes ≤ file_limit → read_app bytes ≡ Ok app → room_refusal app ≡ None
     → MayBe seen name bytes → IsImageOf seen app image → IsImage seen name image
 image_of_files seen name bytes app image le is room held h =
     sources_are seen name bytes app image (is_application bytes app is) held (app_by_room bytes app le is ∙ room) h
 
 -- a source is not accepted
-pub faults_in_app : (a b c : FilesSeen) (name bytes : List ℕ) (app : AppData) (named_fault : NamedFault) → length bytes ≤ 2097152 → read_app bytes ≡ Ok app → room_refusal app ≡ None
+pub faults_in_app : (a b c : FilesSeen) (name bytes : List ℕ) (app : AppData) (named_fault : NamedFault) → length bytes ≤ file_limit → read_app bytes ≡ Ok app → room_refusal app ≡ None
     → MayBe a.contents name bytes → b.contents ≡ a.contents → a.read_faults ≤ b.read_faults → IsNamedFaultInSources b c app named_fault → IsNamedFaultInApp a c name named_fault
 faults_in_app a b c name bytes app named_fault le is room held seen later h =
     let mine : IsNamedFaultInSources b c (application_of bytes) named_fault = subst (λ (x : AppData). IsNamedFaultInSources b c x named_fault) (sym (is_application bytes app is)) h in
@@ -186,7 +186,7 @@ all_next seen app builder same all =
     all.accepted_sources.next ∙ sym count ∙ ap (λ (a : AppData). length a.tasks) (sym same)
 
 -- memory is short, or a source is not accepted
-pub faults_later : (a b c : FilesSeen) (name bytes : List ℕ) (app : AppData) (named_fault : NamedFault) → length bytes ≤ 2097152 → read_app bytes ≡ Ok app → room_refusal app ≡ None
+pub faults_later : (a b c : FilesSeen) (name bytes : List ℕ) (app : AppData) (named_fault : NamedFault) → length bytes ≤ file_limit → read_app bytes ≡ Ok app → room_refusal app ≡ None
     → MayBe a.contents name bytes → b.contents ≡ a.contents → a.read_faults ≤ b.read_faults → (named_fault ≡ named_faults.Memory) ⊎ IsNamedFaultInSources b c app named_fault → IsNamedFaultInApp a c name named_fault
 faults_later a b c name bytes app named_fault le is room held seen later (inl memory) = memory_in_app a c name named_fault memory
 faults_later a b c name bytes app named_fault le is room held seen later (inr h) = faults_in_app a b c name bytes app named_fault le is room held seen later h

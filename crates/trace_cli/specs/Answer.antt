@@ -4,13 +4,15 @@ use Rattle.std.specs.Io.KnownBytes.{Appends}
 use Rattle.outside_io.specs.Outside.{WhereSeen, Rose, AppendsFront, IsFront, short_name}
 use Rattle.image_format.specs.Picture.{Picture, spelling}
 use Rattle.board_model.specs.Script.{Scenario}
+use Rattle.trace_audit.specs.declared.verdict.Verdict as trace
+use Rattle.trace_audit.specs.Verdicts as trace_audit
 use Rattle.command_line.specs.CommandLine.{Asked, is_accepted}
 use Rattle.command_line.specs.declared.job.Detail.{Detail}
 use Rattle.trace_cli.specs.Contents.{Why}
 use Rattle.outside_io.specs.Seen.{FilesSeen, SinkSeen}
 use Rattle.trace_cli.specs.Words.{job_in}
-use Rattle.trace_cli.specs.Sources.{File, MayBe, MayBeRefused, Reaches, TakesAll, IsRun, IsListing, IsBuild, IsSample}
-use Rattle.trace_cli.specs.Verdict.{Verdict, usage, refused, refused_line, unread, unread_line, ran, listed, built, sampled, Does}
+use Rattle.trace_cli.specs.Sources.{File, MayBe, MayBeRefused, Reaches, TakesAll, IsRun, IsListing, IsBuild, IsSample, IsAudit}
+use Rattle.trace_cli.specs.Verdict.{Verdict, usage, refused, refused_line, unread, unread_line, ran, listed, built, sampled, audited, Does}
 
 -- ## why a verdict was given on a job (the files: before and after the call)
 
@@ -128,13 +130,29 @@ pub record HasSampled (words : List (List ℕ)) (w w' : SinkSeen) (r : ℕ) : Ty
   pub status : (sampled bound scenario).status ≡ r
   pub text : Appends w.written w'.written (sampled bound scenario).text
 
+-- the line of an audit that has this status: 0 where the trace holds together, 7 where it does not
+pub record HasAudited (words : List (List ℕ)) (seen : List ℕ → Option (List ℕ)) (w w' : SinkSeen) (r : ℕ) : Type 0 where
+  pub job : Asked
+  pub command : job_in words ≡ Some job
+  pub contents : List (List ℕ)
+  pub accepted : IsAccepted job seen contents
+  pub bytes : List ℕ
+  pub is : IsAudit job contents bytes
+  pub found : trace.Verdict
+  pub verdict : trace_audit.IsVerdict bytes found
+  pub status : (audited found).status ≡ r
+  pub text : Appends w.written w'.written (audited found).text
+
 -- what is told of a run that ended so, of files or of a sample: 6 where the supervisor faulted
 abbrev pub HasPlayed : List (List ℕ) → (List ℕ → Option (List ℕ)) → SinkSeen → SinkSeen → ℕ → Type 0
 HasPlayed words seen w w' r = HasRun words seen w w' r ⊎ HasSampled words w w' r
 
 -- 0: the job was done
 abbrev pub HasDone : List (List ℕ) → FilesSeen → FilesSeen → SinkSeen → SinkSeen → Type 0
-HasDone words before after w w' = HasPlayed words before.contents w w' 0 ⊎ (HasListed words before.contents w w' ⊎ HasBuilt words before.contents after.contents w w')
+HasDone words before after w w' = HasPlayed words before.contents w w' 0
+    ⊎ (HasListed words before.contents w w'
+    ⊎ (HasBuilt words before.contents after.contents w w'
+    ⊎ HasAudited words before.contents w w' 0))
 
 -- 1: the line of the file that is refused
 pub record HasRefused (words : List (List ℕ)) (seen : List ℕ → Option (List ℕ)) (w w' : SinkSeen) : Type 0 where

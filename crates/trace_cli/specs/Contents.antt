@@ -14,6 +14,8 @@ use Rattle.board_core.specs.Opened as opened
 use Rattle.run_script.specs.Scripts.{ScriptData, script_or_fault}
 use Rattle.board_model.specs.Script.{Scenario}
 use Rattle.sample_gen.specs.Sample.{sample_script}
+use Rattle.trace_audit.specs.Texts as trace
+use Rattle.trace_audit.specs.Verdicts.{first_cause}
 
 -- the number of a cause, and the place as it is told
 abbrev pub Why : Type 0
@@ -31,9 +33,17 @@ abbrev pub fault_in : {T W : Type 0} → Result T W → Option W
 fault_in (Ok value) = None
 fault_in (Err why) = Some why
 
--- a file of more than 2,097,152 bytes is refused by its length; of others its definition decides
-abbrev pub unless_long : List ℕ → Option Why → Option Why
-unless_long bytes refusal = if nat_lt 2097152 (length bytes) then Some (at_number (0, 2097152)) else refusal
+-- the most bytes of an image, of a script, of an application or of a source
+abbrev pub file_limit : ℕ
+file_limit = 2097152
+
+-- the most bytes of a trace
+abbrev pub trace_limit : ℕ
+trace_limit = 16777216
+
+-- a file of more bytes than its limit is refused by its length; of others its definition decides
+abbrev pub unless_long : ℕ → List ℕ → Option Why → Option Why
+unless_long limit bytes refusal = if nat_lt limit (length bytes) then Some (at_number (0, limit)) else refusal
 
 -- ## an image
 
@@ -47,7 +57,7 @@ image_in (Err why) = no_picture
 
 -- why an image is refused, if it is (docs/FORMATS.md, Image)
 unfoldable pub image_refusal : List ℕ → Option Why
-image_refusal bytes = unless_long bytes (option_map at_number (fault_in (image_or_fault bytes)))
+image_refusal bytes = unless_long file_limit bytes (option_map at_number (fault_in (image_or_fault bytes)))
 
 -- the image that accepted bytes spell
 unfoldable pub picture_of : List ℕ → Picture
@@ -65,7 +75,7 @@ script_in (Err why) = no_script
 
 -- why a script is refused, if it is (docs/FORMATS.md, Script)
 unfoldable pub script_refusal : List ℕ → Option Why
-script_refusal bytes = unless_long bytes (option_map at_number (fault_in (script_or_fault bytes)))
+script_refusal bytes = unless_long file_limit bytes (option_map at_number (fault_in (script_or_fault bytes)))
 
 -- what accepted bytes say
 unfoldable pub script_of : List ℕ → ScriptData
@@ -97,7 +107,7 @@ room_refusal app = if nat_lt app.flash (flash_needed app) then Some (21, codes "
 
 -- why an application is refused, if it is: its description (docs/FORMATS.md, Application), or its plan
 unfoldable pub app_refusal : List ℕ → Option Why
-app_refusal bytes = unless_long bytes (or_later (fault_in (read_app bytes)) (room_refusal (application_of bytes)))
+app_refusal bytes = unless_long file_limit bytes (or_later (fault_in (read_app bytes)) (room_refusal (application_of bytes)))
 
 -- ## the source of a task
 
@@ -115,7 +125,13 @@ code_refusal app i source =
 
 -- why the i-th task's source is refused, if it is: the assembler's first cause (docs/FORMATS.md, Assembler), or its length
 unfoldable pub source_refusal : AppData → ℕ → List ℕ → Option Why
-source_refusal app i source = unless_long source (or_later (option_map at_line (source_cause app i source)) (code_refusal app i source))
+source_refusal app i source = unless_long file_limit source (or_later (option_map at_line (source_cause app i source)) (code_refusal app i source))
+
+-- ## a trace
+
+-- why a trace is refused, if it is: its first line that is no text of a trace (docs/FORMATS.md, Audit)
+unfoldable pub trace_refusal : List ℕ → Option Why
+trace_refusal bytes = unless_long trace_limit bytes (option_map at_number (first_cause 1 (trace.lines_of bytes)))
 
 -- ## a run
 

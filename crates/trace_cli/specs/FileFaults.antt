@@ -14,11 +14,11 @@ pub record IsCannotRead (before after : FilesSeen) (name : List ℕ) : Type 0 wh
   pub rose : Rose before.read_faults after.read_faults
   pub named : WhereSeen after.last_failing (λ n. n ≡ short_name name)
 
--- there are contents that may be the file's, and they are longer than any file that is read
-pub record MayBeLong (seen : List ℕ → Option (List ℕ)) (name : List ℕ) : Type 0 where
+-- there are contents that may be the file's, and they are longer than the limit
+pub record MayBeLong (seen : List ℕ → Option (List ℕ)) (name : List ℕ) (limit : ℕ) : Type 0 where
   pub bytes : List ℕ
   pub held : MayBe seen name bytes
-  pub long : 2097152 < length bytes
+  pub long : limit < length bytes
 
 -- the bytes are refused so, or memory is short
 abbrev pub IsFaultFor : Option Why → FileFault → Type 0
@@ -26,12 +26,12 @@ IsFaultFor refusal file_faults.Memory = ⊤
 IsFaultFor refusal file_faults.CannotRead = ⊥
 IsFaultFor refusal (file_faults.Refused cause place) = refusal ≡ Some (cause, string_bytes place)
 
--- the file cannot be read, may hold contents that are too long, or memory is short
-abbrev pub CannotTake : FilesSeen → FilesSeen → List ℕ → FileFault → Type 0
-CannotTake before after name file_faults.Memory = ⊤
-CannotTake before after name file_faults.CannotRead = IsCannotRead before after name
-CannotTake before after name (file_faults.Refused cause place) =
-    (cause ≡ 0) × (string_bytes place ≡ decimal 2097152) × MayBeLong before.contents name
+-- the file cannot be read, may hold contents that are longer than the limit, or memory is short
+abbrev pub CannotTake : FilesSeen → FilesSeen → List ℕ → ℕ → FileFault → Type 0
+CannotTake before after name limit file_faults.Memory = ⊤
+CannotTake before after name limit file_faults.CannotRead = IsCannotRead before after name
+CannotTake before after name limit (file_faults.Refused cause place) =
+    (cause ≡ 0) × (string_bytes place ≡ decimal limit) × MayBeLong before.contents name limit
 
 -- the file cannot be read, may hold contents that are refused so, or memory is short
 abbrev pub IsFaultOf : FilesSeen → FilesSeen → File → FileFault → Type 0

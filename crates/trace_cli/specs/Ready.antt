@@ -7,10 +7,12 @@ use Rattle.sample_gen.specs.Sample.{sample_app, sample_sources}
 use Rattle.board_core.specs.declared.board.Board.{Board}
 use Rattle.board_model.specs.Script.{Scenario}
 use Rattle.board_core.specs.Stands.{Stands, turns_of}
+use Rattle.trace_audit.specs.declared.verdict.Verdict as trace
+use Rattle.trace_audit.specs.Verdicts as trace_audit
 use Rattle.command_line.specs.CommandLine.{Asked}
 use Rattle.command_line.specs.declared.job.Detail.{Detail}
 use Rattle.trace_cli.specs.declared.file_faults.NamedFault.{NamedFault}
-use Rattle.trace_cli.specs.Contents.{image_refusal, script_refusal, picture_of, scenario_of, sample_scenario}
+use Rattle.trace_cli.specs.Contents.{image_refusal, script_refusal, trace_refusal, picture_of, scenario_of, sample_scenario}
 use Rattle.outside_io.specs.Seen.{FilesSeen}
 use Rattle.trace_cli.specs.Sources.{MayBe, TakesAll, files_by, IsRun}
 use Rattle.trace_cli.specs.Building.{IsNamedFaultAfter}
@@ -45,6 +47,13 @@ pub record IsSampleReady (seed : ℕ) (b : Board) : Type 0 where
   pub built : Built (sample_app seed) (sample_sources seed) image
   pub stands : Stands (sample_scenario seed image) b (start (sample_scenario seed image).setup)
   pub turns : turns_of b ≡ 0
+
+-- the trace of this name was accepted, and this is the verdict on it
+pub record IsAuditOf (seen : List ℕ → Option (List ℕ)) (name : List ℕ) (found : trace.Verdict) : Type 0 where
+  pub bytes : List ℕ
+  pub held : MayBe seen name bytes
+  pub accepted : trace_refusal bytes ≡ None
+  pub verdict : trace_audit.IsVerdict bytes found
 
 -- a file of the job is not accepted
 pub record IsNamedFaultIn (job : Asked) (before after : FilesSeen) (named_fault : NamedFault) : Type 0 where

@@ -5,28 +5,32 @@ use Rattle.app_toml.specs.Apps.{AppData, TaskData}
 use Rattle.image_format.specs.Picture.{Picture, Sound}
 use Rattle.image_build.specs.Built.{Built}
 use Rattle.board_model.specs.Script.{Scenario}
-use Rattle.command_line.specs.CommandLine.{Asked, build, run, go, list, sample, migrate}
+use Rattle.command_line.specs.CommandLine.{Asked, build, run, go, list, sample, migrate, audit}
 use Rattle.command_line.specs.declared.job.Detail.{Detail}
 use Rattle.sample_gen.specs.Sample.{sample_app, sample_sources}
-use Rattle.trace_cli.specs.Contents.{Why, image_refusal, script_refusal, app_refusal, source_refusal, picture_of, application_of, scenario_of, sample_scenario}
+use Rattle.trace_cli.specs.Contents.{Why, file_limit, trace_limit, image_refusal, script_refusal, app_refusal, source_refusal, trace_refusal, picture_of, application_of, scenario_of, sample_scenario}
 
--- a file, and why contents of it are refused
+-- a file, the most bytes that it may have, and why contents of it are refused
 pub record File : Type 0 where
   pub name : List ℕ
+  pub limit : ℕ
   pub refusal : List ℕ → Option Why
 
 abbrev pub image_file : List ℕ → File
-image_file name = record { name = name; refusal = image_refusal }
+image_file name = record { name = name; limit = file_limit; refusal = image_refusal }
 
 abbrev pub script_file : List ℕ → File
-script_file name = record { name = name; refusal = script_refusal }
+script_file name = record { name = name; limit = file_limit; refusal = script_refusal }
 
 abbrev pub app_file : List ℕ → File
-app_file name = record { name = name; refusal = app_refusal }
+app_file name = record { name = name; limit = file_limit; refusal = app_refusal }
 
 -- the source of the i-th task, under the name that its key `source` holds
 abbrev pub source_file : AppData → ℕ → TaskData → File
-source_file app i t = record { name = t.source; refusal = source_refusal app i }
+source_file app i t = record { name = t.source; limit = file_limit; refusal = source_refusal app i }
+
+abbrev pub trace_file : List ℕ → File
+trace_file name = record { name = name; limit = trace_limit; refusal = trace_refusal }
 
 -- the sources of these tasks in their order, of which the first is the i-th
 abbrev pub sources_from : AppData → ℕ → List TaskData → List File
@@ -41,7 +45,8 @@ abbrev pub files_to_build : List ℕ → List ℕ → List File
 files_to_build app first = app_file app ∷ source_files (application_of first)
 
 -- The files of a job of which the first file holds these bytes: `build` takes those of its application, `go` too and then
--- its script; `run` takes its image and then its script, `list` and `migrate` their image, `sample` none.
+-- its script; `run` takes its image and then its script, `list` and `migrate` their image, `sample` none,
+-- `audit` its trace.
 abbrev pub files_of : Asked → List ℕ → List File
 files_of (build app out) first = files_to_build app first
 files_of (run image script steps detail) first = image_file image ∷ script_file script ∷ []
@@ -49,6 +54,7 @@ files_of (go app script steps detail) first = files_to_build app first ++ script
 files_of (list image) first = image_file image ∷ []
 files_of (sample seed steps) first = []
 files_of (migrate image out) first = image_file image ∷ []
+files_of (audit trace) first = trace_file trace ∷ []
 
 abbrev pub first_of : List (List ℕ) → List ℕ
 first_of contents = slice_index_or contents 0 []
@@ -119,6 +125,7 @@ IsRun (build app out) contents n d x = ⊥
 IsRun (list image) contents n d x = ⊥
 IsRun (sample seed steps) contents n d x = ⊥
 IsRun (migrate image out) contents n d x = ⊥
+IsRun (audit trace) contents n d x = ⊥
 
 -- the job is a listing of this image
 abbrev pub IsListing : Asked → List (List ℕ) → Picture → Type 0
@@ -128,6 +135,7 @@ IsListing (run name script steps detail) contents image = ⊥
 IsListing (go app script steps detail) contents image = ⊥
 IsListing (sample seed steps) contents image = ⊥
 IsListing (migrate file out) contents image = ⊥
+IsListing (audit trace) contents image = ⊥
 
 -- the job is to build this image, or it is the one that the file spells, and to put it under this name
 abbrev pub IsBuild : Asked → List (List ℕ) → List ℕ → Picture → Type 0
@@ -137,6 +145,17 @@ IsBuild (go app script steps detail) contents name image = ⊥
 IsBuild (list file) contents name image = ⊥
 IsBuild (sample seed steps) contents name image = ⊥
 IsBuild (migrate file out) contents name image = (name ≡ out) × (image ≡ picture_of (first_of contents))
+IsBuild (audit trace) contents name image = ⊥
+
+-- the job is the audit of this text
+abbrev pub IsAudit : Asked → List (List ℕ) → List ℕ → Type 0
+IsAudit (audit trace) contents text = text ≡ first_of contents
+IsAudit (build app out) contents text = ⊥
+IsAudit (run image script steps detail) contents text = ⊥
+IsAudit (go app script steps detail) contents text = ⊥
+IsAudit (list image) contents text = ⊥
+IsAudit (sample seed steps) contents text = ⊥
+IsAudit (migrate image out) contents text = ⊥
 
 -- the job is a run of this scenario up to this bound, of which the notes are counted: the sample of this seed, as it is built
 pub record IsSample (job : Asked) (seed n : ℕ) (x : Scenario) : Type 0 where

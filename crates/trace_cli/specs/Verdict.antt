@@ -14,11 +14,14 @@ use Rattle.board_model.specs.Run as board
 use Rattle.board_run.specs.Text.{trace_text}
 use Rattle.board_run.specs.Counts.{summary_text}
 use Rattle.board_run.specs.MemoryText.{memory_text}
+use Rattle.trace_audit.specs.declared.verdict.Verdict as trace
+use Rattle.trace_audit.specs.declared.verdict.Verdict.TheVariants.{Yes, No}
+use Rattle.trace_audit.specs.Verdicts as trace_audit
 use Rattle.command_line.specs.CommandLine.{Asked, is_accepted}
 use Rattle.command_line.specs.declared.job.Detail.{Detail}
 use Rattle.trace_cli.specs.Contents.{Why}
 use Rattle.trace_cli.specs.Words.{job_in}
-use Rattle.trace_cli.specs.Sources.{File, Are, Reaches, TakesAll, IsRun, IsListing, IsBuild, IsSample}
+use Rattle.trace_cli.specs.Sources.{File, Are, Reaches, TakesAll, IsRun, IsListing, IsBuild, IsSample, IsAudit}
 
 pub record Verdict : Type 0 where
   pub status : ℕ
@@ -31,7 +34,7 @@ abbrev pub line_alone : ℕ → List ℕ → Verdict
 line_alone status line = record { status = status; text = line; put = None }
 
 abbrev pub usage_line : List ℕ
-usage_line = codes "usage: hubris build, run, go, list, sample or migrate\n"
+usage_line = codes "usage: hubris build, run, go, list, sample, migrate or audit\n"
 
 -- `refused <name> <cause> <place>`
 unfoldable pub refused_front : List ℕ → ℕ → List ℕ
@@ -47,6 +50,14 @@ unread_line name = codes "cannot read " ++ name ++ codes "\n"
 -- `built <length> bytes`
 unfoldable pub built_line : ℕ → List ℕ
 built_line bytes = codes "built " ++ decimal bytes ++ codes " bytes\n"
+
+-- `yes <calls> <left>`
+unfoldable pub yes_line : ℕ → ℕ → List ℕ
+yes_line calls left = codes "yes " ++ decimal calls ++ codes " " ++ decimal left ++ codes "\n"
+
+-- `no <line>`
+unfoldable pub no_line : ℕ → List ℕ
+no_line line = codes "no " ++ decimal line ++ codes "\n"
 
 -- the words are not accepted
 abbrev pub usage : Verdict
@@ -100,6 +111,11 @@ sampled n x =
     let r = run_of Calls n x in
     line_alone (status_of r.end) (summary_text r)
 
+-- a trace was audited: it holds together, or this is its first line that does not follow
+abbrev pub audited : trace.Verdict → Verdict
+audited (Yes calls left) = line_alone 0 (yes_line calls left)
+audited (No line) = line_alone 7 (no_line line)
+
 -- ## what comes of accepted files with these contents
 
 pub data Does (job : Asked) (contents : List (List ℕ)) (v : Verdict) : Type 0 where
@@ -107,6 +123,7 @@ pub data Does (job : Asked) (contents : List (List ℕ)) (v : Verdict) : Type 0 
   lists : (image : Picture) → IsListing job contents image → v ≡ listed image → Does job contents v
   builds : (out : List ℕ) (image : Picture) → IsBuild job contents out image → v ≡ built out image → Does job contents v
   samples : (seed n : ℕ) (x : Scenario) → IsSample job seed n x → v ≡ sampled n x → Does job contents v
+  audits : (text : List ℕ) (found : trace.Verdict) → IsAudit job contents text → trace_audit.IsVerdict text found → v ≡ audited found → Does job contents v
 
 -- ## the verdict on words and contents, where they are seen as far as they count
 

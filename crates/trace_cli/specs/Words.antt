@@ -2,7 +2,7 @@
 use Rattle.std.specs.Prelude.{ℕ, if◌then◌else◌, List, map, Option, Some, None, string_bytes}
 use Rattle.std.specs.declared.string.String.{String}
 use Rattle.std.specs.declared.alloc.Global.{Global}
-use Rattle.command_line.specs.CommandLine.{Asked, build, run, go, list, sample, migrate, is_accepted, job_of}
+use Rattle.command_line.specs.CommandLine.{Asked, build, run, go, list, sample, migrate, audit, is_accepted, job_of}
 
 abbrev pub texts_of : List (String Global) → List (List ℕ)
 texts_of words = map string_bytes words
@@ -20,3 +20,4 @@ out_of (Some (go app script steps detail)) = None
 out_of (Some (list image)) = None
 out_of (Some (sample seed steps)) = None
 out_of (Some (migrate image out)) = Some out
+out_of (Some (audit trace)) = None

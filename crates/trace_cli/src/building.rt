@@ -3,13 +3,13 @@ ghost use Rattle.std.specs.Prelude.{◌≡◌, ◌≤◌, ◌<◌, ◌⊎◌, �
 ghost use Rattle.app_toml.specs.Held.{app_of};
 ghost use Rattle.image_format.specs.Images.{picture};
 ghost use Rattle.image_build.specs.Accepted.{HasAccepted, described, next_task};
-ghost use Rattle.trace_cli.specs.Contents.{room_refusal, source_refusal};
+ghost use Rattle.trace_cli.specs.Contents.{file_limit, room_refusal, source_refusal};
 ghost use Rattle.trace_cli.specs.Sources.{MayBe};
 ghost use Rattle.trace_cli.specs.FileFaults.{IsFaultFor, IsNamedFaultOf};
 ghost use Rattle.trace_cli.specs.Building.{HasNext, HasAll, IsImageOf, IsImage, IsNamedFaultInApp, IsNamedFaultInSources};
 
 use crate::file_faults::{FileFault, NamedFault, fault_by_plan, fault_by_source, fault_named};
-use crate::sources::{app_in, read_contents};
+use crate::sources::{FILE_LIMIT, app_in, read_contents};
 use app_toml::App;
 use image_build::Builder;
 use image_format::Image;
@@ -32,7 +32,7 @@ fn opened<'a>(alloc: Global, app: &'a App) -> Result<Builder<'a>, FileFault>
 // Takes the bytes of a file as the source of the next task.
 fn take_bytes(alloc: Global, builder: &mut Builder<'_>, bytes: &[u8]) -> Result<(), FileFault>
     requires next { next_task builder.old < length (described builder.old).tasks }
-    requires few { length bytes.now ≤ 2097152 }
+    requires few { length bytes.now ≤ file_limit }
     ensures described { described builder.new ≡ described builder.old }
     ensures accepted_sources { (sources : List (List ℕ)) → HasAccepted sources builder.old → OnOk result (HasAccepted (sources ++ bytes.now ∷ []) builder.new) }
     ensures accepted { (sources : List (List ℕ)) → HasAccepted sources builder.old → OnOk result (source_refusal (described builder.old) (next_task builder.old) bytes.now ≡ None) }
@@ -54,12 +54,12 @@ fn take_source<F: Files>(
     requires next { next_task builder.old < length (described builder.old).tasks }
     ensures described { described builder.new ≡ described builder.old }
     ensures accepted_sources { (sources : List (List ℕ)) → HasAccepted sources builder.old → OnOk result (HasNext (F.seen files.old).contents name.now sources builder.old builder.new) }
-    ensures named_fault { IfErr result (IsNamedFaultOf (F.seen files.old) (F.seen files.new) record { name = name.now; refusal = source_refusal (described builder.old) (next_task builder.old) }) }
+    ensures named_fault { IfErr result (IsNamedFaultOf (F.seen files.old) (F.seen files.new) record { name = name.now; limit = file_limit; refusal = source_refusal (described builder.old) (next_task builder.old) }) }
     ensures later { (F.seen files.old).read_faults ≤ (F.seen files.new).read_faults }
     ensures contents { (F.seen files.new).contents ≡ (F.seen files.old).contents }
     ensures puts { (F.seen files.new).put_faults ≡ (F.seen files.old).put_faults }
 {
-    let bytes = match read_contents(alloc, files, name) {
+    let bytes = match read_contents(alloc, files, name, FILE_LIMIT) {
         Ok(bytes) => bytes,
         Err(file_fault) => return Err(fault_named(alloc, name, file_fault)),
     };
@@ -128,7 +128,7 @@ pub fn built_image<F: Files>(alloc: Global, files: &mut F, name: &str) -> Result
     ensures contents { (F.seen files.new).contents ≡ (F.seen files.old).contents }
     ensures puts { (F.seen files.new).put_faults ≡ (F.seen files.old).put_faults }
 {
-    let bytes = match read_contents(alloc, files, name) {
+    let bytes = match read_contents(alloc, files, name, FILE_LIMIT) {
         Ok(bytes) => bytes,
         Err(file_fault) => return Err(fault_named(alloc, name, file_fault)),
     };

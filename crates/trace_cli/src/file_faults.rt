@@ -2,7 +2,7 @@
 ghost use Rattle.std.specs.Prelude.{◌≡◌, ◌≤◌, ℕ, List, length, Some, IfOk, string_bytes};
 ghost use Rattle.app_toml.specs.Apps.{AppData};
 ghost use Rattle.image_build.specs.Building.{LacksRoom, RefusesSource};
-ghost use Rattle.trace_cli.specs.Contents.{at_number, room_refusal, source_refusal};
+ghost use Rattle.trace_cli.specs.Contents.{file_limit, at_number, room_refusal, source_refusal};
 ghost use Rattle.outside_io.specs.Seen.{FilesSeen};
 ghost use Rattle.trace_cli.specs.Sources.{File};
 ghost use Rattle.trace_cli.specs.FileFaults.{IsFaultFor, IsFaultOf, IsNamedFaultOf};
@@ -62,7 +62,7 @@ pub fn fault_by_plan(alloc: Global, fault: BuildFault) -> FileFault
 
 /// Why the source of a task is refused.
 pub fn fault_by_source(alloc: Global, fault: BuildFault) -> FileFault
-    ensures { (app : AppData) (i : ℕ) (source : List ℕ) → length source ≤ 2097152 → RefusesSource app i source fault → IsFaultFor (source_refusal app i source) result }
+    ensures { (app : AppData) (i : ℕ) (source : List ℕ) → length source ≤ file_limit → RefusesSource app i source fault → IsFaultFor (source_refusal app i source) result }
 {
     match fault {
         BuildFault::Source { cause, line, .. } => refused_at_number(alloc, cause, line as u64),

@@ -9,7 +9,7 @@ ghost use Rattle.trace_cli.specs.Ready.{IsImageFile, IsSet, IsReady, IsNamedFaul
 
 use crate::building::built_image;
 use crate::file_faults::{NamedFault, fault_named};
-use crate::sources::{image_in, read_contents, script_in};
+use crate::sources::{FILE_LIMIT, image_in, read_contents, script_in};
 use board_core::Board;
 use image_format::Image;
 use outside_io::Files;
@@ -23,7 +23,7 @@ pub fn read_image<F: Files>(alloc: Global, files: &mut F, name: &str) -> Result<
     ensures contents { (F.seen files.new).contents ≡ (F.seen files.old).contents }
     ensures puts { (F.seen files.new).put_faults ≡ (F.seen files.old).put_faults }
 {
-    let bytes = match read_contents(alloc, files, name) {
+    let bytes = match read_contents(alloc, files, name, FILE_LIMIT) {
         Ok(bytes) => bytes,
         Err(file_fault) => return Err(fault_named(alloc, name, file_fault)),
     };
@@ -46,7 +46,7 @@ fn set_up<F: Files>(
     ensures contents { (F.seen files.new).contents ≡ (F.seen files.old).contents }
     ensures puts { (F.seen files.new).put_faults ≡ (F.seen files.old).put_faults }
 {
-    let bytes = match read_contents(alloc, files, script) {
+    let bytes = match read_contents(alloc, files, script, FILE_LIMIT) {
         Ok(bytes) => bytes,
         Err(file_fault) => return Err(fault_named(alloc, script, file_fault)),
     };

@@ -6,14 +6,15 @@ ghost use Rattle.image_format.specs.Images.{picture};
 ghost use Rattle.board_model.specs.Script.{Scenario};
 ghost use Rattle.board_core.specs.Stands.{Stands, Stood, turns_of};
 ghost use Rattle.task_table.specs.Start.{start};
-ghost use Rattle.command_line.specs.CommandLine.{Asked, is_accepted, build as build_job, run as run_job, go as go_job, list as list_job, migrate as migrate_job};
+ghost use Rattle.command_line.specs.CommandLine.{Asked, is_accepted, build as build_job, run as run_job, go as go_job, list as list_job, migrate as migrate_job, audit as audit_job};
 ghost use Rattle.outside_io.specs.Seen.{FilesSeen};
 ghost use Rattle.trace_cli.specs.Words.{texts_of, job_in, out_of};
 ghost use Rattle.trace_cli.specs.Verdict.{Verdict, IsVerdict, usage_line, ran, built, level_of, run_of, status_of};
 ghost use Rattle.trace_cli.specs.Pushed.{Pushed, Says, SaysNamedFault};
 ghost use Rattle.trace_cli.specs.Ready.{IsReady, IsNamedFaultIn};
-ghost use Rattle.trace_cli.specs.Answer.{Tells, AnswersJob, Answers, Answered, IsComplete, HasPlayed, HasDone, HasRefused, HasUnread, HasFront};
+ghost use Rattle.trace_cli.specs.Answer.{Tells, AnswersJob, Answers, Answered, IsComplete, HasPlayed, HasDone, HasAudited, HasRefused, HasUnread, HasFront};
 
+use crate::auditing::{audit_under, tell_audit};
 use crate::building::built_image;
 use crate::file_faults::NamedFault;
 use crate::preparing::{prepare_go, prepare_run, read_image};
@@ -208,6 +209,19 @@ fn migrate_file<F: Files, S: Sink>(
     }
 }
 
+// `audit TRACE`.
+fn audit_file<F: Files, S: Sink>(alloc: Global, trace: &str, files: &mut F, out: &mut S) -> u8
+    ensures answer { AnswersJob (audit_job trace.now) (F.seen files.old) (F.seen files.new) (S.seen out.old) (S.seen out.new) result }
+    ensures later { (F.seen files.old).read_faults ≤ (F.seen files.new).read_faults }
+    ensures contents { (F.seen files.new).contents ≡ (F.seen files.old).contents }
+    ensures puts { (F.seen files.new).put_faults ≡ (F.seen files.old).put_faults }
+{
+    match audit_under(alloc, files, trace) {
+        Ok(verdict) => tell_audit(alloc, verdict, out),
+        Err(named_fault) => tell_named_fault(alloc, &named_fault, out),
+    }
+}
+
 fn answer<F: Files, S: Sink>(alloc: Global, words: &[String], files: &mut F, out: &mut S) -> u8
     ensures answer { Answers (texts_of words.now) (F.seen files.old) (F.seen files.new) (S.seen out.old) (S.seen out.new) result }
     ensures later { (F.seen files.old).read_faults ≤ (F.seen files.new).read_faults }
@@ -235,6 +249,7 @@ fn answer<F: Files, S: Sink>(alloc: Global, words: &[String], files: &mut F, out
         Ok(Job::List { image }) => list_file(alloc, image, files, out),
         Ok(Job::Sample { seed, steps }) => run_sample(alloc, seed, steps, out),
         Ok(Job::Migrate { image, out: name }) => migrate_file(alloc, image, name, files, out),
+        Ok(Job::Audit { trace }) => audit_file(alloc, trace, files, out),
         Err(Refusal::NotAccepted) => tell_usage(out),
         Err(Refusal::Memory) => 5,
     }
@@ -245,7 +260,8 @@ fn answer<F: Files, S: Sink>(alloc: Global, words: &[String], files: &mut F, out
 ///
 /// - 0: the trace of the run (docs/FORMATS.md, Trace), with `--all` each of its instructions, with `--mem` its last
 ///   memory, or the listing of the image was written; or the image that was built, or migrated, is under OUT, and its line was written;
-///   or the sample was run, and its end and the numbers of its notes were written.
+///   or the sample was run, and its end and the numbers of its notes were written; or the trace holds together (docs/FORMATS.md,
+///   Audit), and `yes <calls> <left>` was written: so many calls were offered in it, and so many of them no line closes.
 /// - 1: a file is refused, and `refused <name> <cause> <place>` was written.
 /// - 2: the words are not accepted (docs/FORMATS.md, Command line), and the usage line was written.
 /// - 3: a file cannot be read, and `cannot read <name>` was written.
@@ -253,6 +269,7 @@ fn answer<F: Files, S: Sink>(alloc: Global, words: &[String], files: &mut F, out
 ///   failed, nothing was written, and under OUT are the old contents or the beginning of the image.
 /// - 5: memory is short, and nothing was written or put.
 /// - 6: as 0, and the run ended because the supervisor faulted.
+/// - 7: a trace does not hold together, and `no <line>` was written: its first line, from 1 on, that does not follow.
 pub fn hubris_main<F: Files, S: Sink>(
     alloc: Global,
     words: &[String],
@@ -260,7 +277,7 @@ pub fn hubris_main<F: Files, S: Sink>(
     out: &mut S,
 ) -> u8
     // Where the words and the seen contents give a verdict (of accepted words and files: the trace of
-    // their run, the listing, the image that is built or migrated, or the two lines of a sample), its file was put, its whole text was pushed
+    // their run, the listing, the image that is built or migrated, the two lines of a sample, or what an audit found), its file was put, its whole text was pushed
     // under its status; or the sink's count of faults rose, the status is 4, and a front of the text was
     // pushed; or the count of failed puts rose, the status is 4, and nothing was pushed; or memory is
     // short, the status is 5, and nothing was pushed or put; or the count of failed reads rose, and the
@@ -277,7 +294,8 @@ pub fn hubris_main<F: Files, S: Sink>(
     ensures cut { result ≡ 4 → HasFront (texts_of words.now) (F.seen files.old) (F.seen files.new) (S.seen out.old) (S.seen out.new) }
     ensures short { result ≡ 5 → ((S.seen out.new).written ≡ (S.seen out.old).written) × ((S.seen out.new).faults ≡ (S.seen out.old).faults) × ((F.seen files.new).contents ≡ (F.seen files.old).contents) }
     ensures supervisor { result ≡ 6 → HasPlayed (texts_of words.now) (F.seen files.old).contents (S.seen out.old) (S.seen out.new) 6 }
-    ensures known { result ≤ 6 }
+    ensures bad { result ≡ 7 → HasAudited (texts_of words.now) (F.seen files.old).contents (S.seen out.old) (S.seen out.new) 7 }
+    ensures known { result ≤ 7 }
 
     // Only the file under OUT is changed, and only under the statuses 0 and 4.
     ensures others { (name : List ℕ) → out_of (job_in (texts_of words.now)) ≢ Some name → (F.seen files.new).contents name ≡ (F.seen files.old).contents name }

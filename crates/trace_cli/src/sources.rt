@@ -4,7 +4,7 @@ ghost use Rattle.app_toml.specs.Held.{app_of};
 ghost use Rattle.app_toml.specs.Reading.{read_app};
 ghost use Rattle.image_format.specs.Images.{picture};
 ghost use Rattle.run_script.specs.Events.{script_data};
-ghost use Rattle.trace_cli.specs.Contents.{image_refusal, picture_of, script_refusal, script_of, app_refusal};
+ghost use Rattle.trace_cli.specs.Contents.{file_limit, image_refusal, picture_of, script_refusal, script_of, app_refusal};
 ghost use Rattle.trace_cli.specs.Sources.{MayBe};
 ghost use Rattle.trace_cli.specs.FileFaults.{IsFaultFor, CannotTake};
 
@@ -15,33 +15,34 @@ use outside_io::{Files, ReadAll, read_all};
 use run_script::{Script, ScriptFault};
 use std::alloc::Global;
 
-/// The longest file that is read, in bytes.
-const LIMIT: usize = 2_097_152;
+/// The most bytes of an image, of a script, of an application or of a source.
+pub const FILE_LIMIT: u32 = 2_097_152;
 
-/// The contents under a name.
+/// The contents under a name, of at most `limit` bytes.
 pub fn read_contents<F: Files>(
     alloc: Global,
     files: &mut F,
     name: &str,
+    limit: u32,
 ) -> Result<Vec<u8>, FileFault>
     ensures held { IfOk result (λ v. MayBe (F.seen files.old).contents name.now v.items) }
-    ensures few { IfOk result (λ v. length v.items ≤ 2097152) }
-    ensures file_fault { IfErr result (CannotTake (F.seen files.old) (F.seen files.new) name.now) }
+    ensures few { IfOk result (λ v. length v.items ≤ limit) }
+    ensures file_fault { IfErr result (CannotTake (F.seen files.old) (F.seen files.new) name.now limit) }
     ensures later { (F.seen files.old).read_faults ≤ (F.seen files.new).read_faults }
     ensures contents { (F.seen files.new).contents ≡ (F.seen files.old).contents }
     ensures puts { (F.seen files.new).put_faults ≡ (F.seen files.old).put_faults }
 {
-    match read_all(alloc, files, name, LIMIT) {
+    match read_all(alloc, files, name, limit as usize) {
         Ok(bytes) => Ok(bytes),
         Err(ReadAll::Failed) => Err(FileFault::CannotRead),
-        Err(ReadAll::TooLong) => Err(refused_at_number(alloc, 0, 2_097_152)),
+        Err(ReadAll::TooLong) => Err(refused_at_number(alloc, 0, limit as u64)),
         Err(ReadAll::Memory) => Err(FileFault::Memory),
     }
 }
 
 /// The image that the bytes of a file spell.
 pub fn image_in(alloc: Global, bytes: &[u8]) -> Result<Image, FileFault>
-    requires { length bytes.now ≤ 2097152 }
+    requires { length bytes.now ≤ file_limit }
     ensures accepted { IfOk result (λ i. image_refusal bytes.now ≡ None) }
     ensures image { IfOk result (λ i. picture i ≡ picture_of bytes.now) }
     ensures file_fault { IfErr result (IsFaultFor (image_refusal bytes.now)) }
@@ -57,7 +58,7 @@ pub fn image_in(alloc: Global, bytes: &[u8]) -> Result<Image, FileFault>
 
 /// The script that the bytes of a file are.
 pub fn script_in(alloc: Global, bytes: &[u8]) -> Result<Script, FileFault>
-    requires { length bytes.now ≤ 2097152 }
+    requires { length bytes.now ≤ file_limit }
     ensures accepted { IfOk result (λ s. script_refusal bytes.now ≡ None) }
     ensures script { IfOk result (λ s. script_data s ≡ script_of bytes.now) }
     ensures file_fault { IfErr result (IsFaultFor (script_refusal bytes.now)) }
@@ -73,7 +74,7 @@ pub fn script_in(alloc: Global, bytes: &[u8]) -> Result<Script, FileFault>
 
 /// The application that the bytes of a file describe.
 pub fn app_in(alloc: Global, bytes: &[u8]) -> Result<App, FileFault>
-    requires { length bytes.now ≤ 2097152 }
+    requires { length bytes.now ≤ file_limit }
     ensures app { IfOk result (λ a. read_app bytes.now ≡ Ok (app_of a)) }
     ensures file_fault { IfErr result (IsFaultFor (app_refusal bytes.now)) }
 {

@@ -2,6 +2,7 @@ use Rattle.std.proofs.Common.{◌≤◌, ℕ, List, length, refl, sym, subst}
 use Rattle.std.proofs.lemmas.Result.{IfOk-weaker, IfErr-weaker}
 use Rattle.app_toml.specs.Held.{app_of}
 use Rattle.image_format.specs.Images.{picture}
+use Rattle.trace_cli.specs.Contents.{file_limit}
 use Rattle.trace_cli.specs.Sources.{app_file, MayBe}
 use Rattle.trace_cli.specs.FileFaults.{IsFaultFor}
 use Rattle.trace_cli.specs.Building.{IsImageOf}
@@ -32,7 +33,7 @@ returns-clause-named_fault g c =
     let b = g.F.Files.seen c.read_contents.new.files in
     let f = app_file c.args.name.now in
     let held = subst (λ (x : List ℕ). MayBe (g.F.Files.seen c.args.files.now).contents c.args.name.now x) (sym c.deref.ensures.value) c.in-Ok.ensures.held in
-    let few = subst (λ (x : List ℕ). length x ≤ 2097152) (sym c.deref.ensures.value) c.in-Ok.ensures.few in
+    let few = subst (λ (x : List ℕ). length x ≤ file_limit) (sym c.deref.ensures.value) c.in-Ok.ensures.few in
     let app = app_of c.in-Ok-app_in.app in
     let stops = subst (λ r. IsFaultFor r c.in-Err-opened.file_fault) (sym (app_by_room c.deref.result.now app few c.in-Ok-app_in.ensures.app)) c.in-Err-opened.ensures.file_fault in
     faults_at_app a b c.args.name.now c.fault_named-in-Err-opened.result (c.fault_named-in-Err-opened.ensures a b f refl
@@ -41,7 +42,7 @@ returns-clause-named_fault g c =
 pub returns-in-Ok-opened-clause-image : goal.returns-in-Ok-opened-clause-image
 returns-in-Ok-opened-clause-image g c =
     let held = subst (λ (x : List ℕ). MayBe (g.F.Files.seen c.args.files.now).contents c.args.name.now x) (sym c.deref.ensures.value) c.in-Ok.ensures.held in
-    let few = subst (λ (x : List ℕ). length x ≤ 2097152) (sym c.deref.ensures.value) c.in-Ok.ensures.few in
+    let few = subst (λ (x : List ℕ). length x ≤ file_limit) (sym c.deref.ensures.value) c.in-Ok.ensures.few in
     let app = app_of c.in-Ok-app_in.app in
     let seen = (g.F.Files.seen c.args.files.now).contents in
     IfOk-weaker c.image_of.result _ _ (λ i h. image_of_files seen c.args.name.now c.deref.result.now app (picture i) few c.in-Ok-app_in.ensures.app c.in-Ok-opened.ensures.room held
@@ -53,7 +54,7 @@ returns-in-Ok-opened-clause-named_fault g c =
     let b = g.F.Files.seen c.read_contents.new.files in
     let e = g.F.Files.seen c.image_of.new.files in
     let held = subst (λ (x : List ℕ). MayBe (g.F.Files.seen c.args.files.now).contents c.args.name.now x) (sym c.deref.ensures.value) c.in-Ok.ensures.held in
-    let few = subst (λ (x : List ℕ). length x ≤ 2097152) (sym c.deref.ensures.value) c.in-Ok.ensures.few in
+    let few = subst (λ (x : List ℕ). length x ≤ file_limit) (sym c.deref.ensures.value) c.in-Ok.ensures.few in
     let app = app_of c.in-Ok-app_in.app in
     IfErr-weaker c.image_of.result _ _ (λ h is. faults_later a b e c.args.name.now c.deref.result.now app h few c.in-Ok-app_in.ensures.app c.in-Ok-opened.ensures.room held
     c.in-Ok.ensures.contents c.in-Ok.ensures.later is) c.image_of.ensures.named_fault

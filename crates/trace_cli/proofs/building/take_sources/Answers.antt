@@ -5,7 +5,7 @@ use Rattle.app_toml.specs.Apps.{TaskData}
 use Rattle.app_toml.specs.Held.{app_of}
 use Rattle.app_toml.specs.Sites.{task_of}
 use Rattle.image_build.specs.Accepted.{described, next_task}
-use Rattle.trace_cli.specs.Contents.{source_refusal}
+use Rattle.trace_cli.specs.Contents.{file_limit, source_refusal}
 use Rattle.trace_cli.specs.Sources.{File}
 use Rattle.trace_cli.specs.FileFaults.{IsNamedFaultOf}
 use Rattle.trace_cli.specs.Building.{HasNext}
@@ -19,7 +19,7 @@ returns-in-Err-clause-named_fault g c =
     let t = task_of c.task-item.result in
     let at : slice_get (app_of c.args.app.now).tasks k ≡ Some t =
     subst (λ (ts : List TaskData). slice_get ts k ≡ Some t) inv.items (subst (λ x. slice_get (map task_of c.tasks-task-items.result.now) k ≡ Some (task_of x)) (sym c.task-item.is) (get_mapped task_of c.tasks-task-items.result.now k _ c.loop-task-test.true)) in
-    let f : List ℕ → File = λ name. record { name = name; refusal = source_refusal (described c.loop-task.builder) (next_task c.loop-task.builder) } in
+    let f : List ℕ → File = λ name. record { name = name; limit = file_limit; refusal = source_refusal (described c.loop-task.builder) (next_task c.loop-task.builder) } in
     let a = g.F.Files.seen c.args.files.now in
     let b = g.F.Files.seen c.loop-task.files in
     let e = g.F.Files.seen c.take_source.new.files in

@@ -32,6 +32,11 @@ returns-in-Ok-Migrate-clause-answer g c =
     let job = rw c.in-Ok-Migrate.field-0-is at c.in-Ok-Migrate.ensures.job in
     by_job _ _ _ _ _ _ _ c.in-Ok-Migrate.ensures.accepted job c.migrate_file.ensures.answer
 
+pub returns-in-Ok-Audit-clause-answer : goal.returns-in-Ok-Audit-clause-answer
+returns-in-Ok-Audit-clause-answer g c =
+    let job = rw c.in-Ok-Audit.field-0-is at c.in-Ok-Audit.ensures.job in
+    by_job _ _ _ _ _ _ _ c.in-Ok-Audit.ensures.accepted job c.audit_file.ensures.answer
+
 pub run_sample-requires : goal.run_sample-requires
 run_sample-requires g c = record { few = rw c.in-Ok-Sample.field-0-is at c.in-Ok-Sample.ensures.few }
 

@@ -1,4 +1,4 @@
-use Rattle.trace_cli.proofs.Statuses.{answered, completed, was_cut, was_done, was_refused, was_no_command, was_unread, was_short, was_ran, known, others, kept}
+use Rattle.trace_cli.proofs.Statuses.{answered, completed, was_cut, was_done, was_refused, was_no_command, was_unread, was_short, was_ran, was_bad, known, others, kept}
 use Rattle.trace_cli.proofs.program.hubris_main.Goals as goal
 
 pub returns-clause-seen : goal.returns-clause-seen
@@ -36,3 +36,6 @@ returns-clause-short g c = λ e. was_short _ _ _ _ _ _ c.answer.ensures.answer e
 
 pub returns-clause-supervisor : goal.returns-clause-supervisor
 returns-clause-supervisor g c = λ e. was_ran _ _ _ _ _ _ c.answer.ensures.answer e
+
+pub returns-clause-bad : goal.returns-clause-bad
+returns-clause-bad g c = λ e. was_bad _ _ _ _ _ _ c.answer.ensures.answer e

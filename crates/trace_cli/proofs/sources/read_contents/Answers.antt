@@ -5,4 +5,4 @@ use Rattle.trace_cli.proofs.sources.read_contents.Goals as goal
 pub returns-in-Err-TooLong-clause-file_fault : goal.returns-in-Err-TooLong-clause-file_fault
 returns-in-Err-TooLong-clause-file_fault g c =
     let seen = rw c.in-Err-TooLong.field-0-is at c.in-Err-TooLong.ensures.long_seen in
-    by_length _ _ c.args.name.now c.refused_at_number.result c.refused_at_number.ensures (seen refl)
+    by_length _ _ c.args.name.now c.args.limit c.refused_at_number.result c.refused_at_number.ensures (seen refl)

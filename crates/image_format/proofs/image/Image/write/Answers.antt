@@ -7,6 +7,11 @@ use Rattle.image_format.proofs.Again.{plain_second, reads_again}
 use Rattle.image_format.proofs.Shape.{second_again}
 use Rattle.image_format.proofs.image.Image.write.Goals as goal
 
+pub returns-clause-exact : goal.returns-clause-exact
+returns-clause-exact c =
+    let i = c.args.self.now in
+    IfOk-weaker c.bytes_of.result _ _ (λ v e. e ∙ ap bytes_of (sym (second_again (records_in i) i.second i.accepted))) c.bytes_of.ensures
+
 pub returns-clause-spells : goal.returns-clause-spells
 returns-clause-spells c =
     let i = c.args.self.now in
