@@ -56,7 +56,7 @@ chain_grounded : (g : Setup) (s : State) (c : ℕ) (t v : Turn) → ArePlaced g 
 chain_grounded g s c t v placed f x =
     let u = with_current c t in
     let now : IsFresh u.state u = record { calls = refl; next_call = refl; memory = refl; writes = f.writes; reads = f.reads; plain = f.plain } in
-    let honest = honest_same g u.state t.state c v v refl refl refl refl refl (chain_honest g u.state c placed u v x now) in
+    let honest = honest_same g u.state t.state c v v refl refl refl refl refl refl (chain_honest g u.state c placed u v x now) in
     record {
       written = subst (λ m. v.state.memory ≡ with_writes m v.writes) f.memory (chain_written g u.state c placed u v x now);
       idle = λ e. absurd cc;
@@ -77,7 +77,7 @@ ended_grounded g s z o u h = record {
 }
   where
     honest_ended : (c : ℕ) → AreGrounded g z c u → AreAlive z c u → IsHonest g z c record u { state = record u.state { turn = u.state.turn + 1 } }
-    honest_ended c grounded alive = honest_same g z z c u _ refl refl refl refl refl record { grounded = grounded; read = alive.read; touches = alive.touches }
+    honest_ended c grounded alive = honest_same g z z c u _ refl refl refl refl refl refl record { grounded = grounded; read = alive.read; touches = alive.touches }
 
 module _ (level : Level) (x : Scenario) (s : State) (h : Sane x.setup s) where
   turn_grounded : (o : Option ℕ) → chosen x.setup (after_events x s).state ≡ o → IsGroundedBy x.setup s (after_events x s).state o (ended (turn_of level x.setup o (after_events x s)))

@@ -15,13 +15,13 @@ use Rattle.task_table.specs.State.{Setup, State, Call, Turn}
 use Rattle.task_table.specs.Reading.{is_out, is_dead, dead_code_for, present_id, is_valid, bad_byte, taken_by}
 use Rattle.task_table.specs.Effects.{posted}
 use Rattle.task_table.specs.Rows.{buffer_of, misused, denied, goes_on, goes_on_with, input_received}
-use Rattle.task_table.specs.Sends.{replied_to, reply_faulted_to}
+use Rattle.task_table.specs.Sends.{sent_to, replied_to, reply_faulted_to}
 use Rattle.task_table.specs.Holds.{Holds, kept_call}
 use Rattle.task_table.specs.declared.kernel.Kernel.{Kernel}
 use Rattle.ipc_core.specs.declared.receiving.Sender.{Sender}
 use Rattle.ipc_core.specs.declared.receiving.Sender.TheVariants as sender
 use Rattle.ipc_core.specs.Named.{IsSender}
-use Rattle.ipc_core.specs.Sending.{IsRecipient, sent_to}
+use Rattle.ipc_core.specs.Sending.{IsRecipient}
 use Rattle.ipc_core.specs.declared.sending.Recipient.{Recipient}
 use Rattle.ipc_core.specs.declared.sending.Recipient.TheVariants as recipient
 

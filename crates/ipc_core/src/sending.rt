@@ -3,11 +3,11 @@
 ghost use Rattle.std.specs.Prelude.{◌≡◌, ◌+◌, ◌*◌, ◌<◌, ◌≤◌, ◌^◌, ◌||◌, not, true, Option, IfSome};
 ghost use Rattle.task_table.specs.State.{Setup, Turn};
 ghost use Rattle.task_table.specs.Reading.{arguments, is_ready, is_valid, IsIdle};
-ghost use Rattle.task_table.specs.Sends.{message_of, reply_room, table_of, sent};
+ghost use Rattle.task_table.specs.Sends.{message_of, reply_room, table_of, sent_to, sent};
 ghost use Rattle.task_table.specs.Holds.{Holds, Stands, task_count, note_count, next_call_of};
 ghost use Rattle.task_table.specs.Limits.{syscall_notes, turn_notes};
 ghost use Rattle.task_table.specs.Frames.{AddsAtMost};
-ghost use Rattle.ipc_core.specs.Sending.{IsRecipient, IsRecipientOf, IsAmong, sent_to};
+ghost use Rattle.ipc_core.specs.Sending.{IsRecipient, IsRecipientOf, IsAmong};
 
 use crate::range::is_valid;
 use kernel_abi::{Access, Generation, Range, SendArgs, TaskId, Usage, dead_code};

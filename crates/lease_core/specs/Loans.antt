@@ -1,20 +1,17 @@
 -- Borrows as the code carries them, and when one leaves the entry of its lease kept.
 use Rattle.kernel_abi.specs.Arguments.{r4, borrow_args, info_args}
 use Rattle.kernel_abi.specs.Ids.{index_of}
-use Rattle.std.specs.Prelude.{ℕ, ◌≡◌, ◌+◌, ◌*◌, ◌<◌, ◌≤◌, ◌⊎◌, true, false, not, List, [], ◌∷◌, None, Some, Result, Ok, Err, is_some, Contains, ◌==◌, nat_lt, nat_le, bit_and}
-use Rattle.kernel_abi.specs.Faults.{usage_number, access_number}
+use Rattle.std.specs.Prelude.{ℕ, ◌≡◌, ◌+◌, ◌*◌, ◌<◌, ◌≤◌, ◌⊎◌, true, false, List, [], ◌∷◌, None, Some, Result, Ok, Err, Contains, ◌==◌, nat_lt, nat_le, bit_and}
 use Rattle.kernel_abi.specs.declared.LeaseEntry.{LeaseEntry}
 use Rattle.kernel_abi.specs.declared.Note.TheVariants as note
-use Rattle.kernel_abi.specs.declared.Usage.TheVariants.{InvalidSlice}
-use Rattle.kernel_abi.specs.declared.arguments.BorrowArgs.{BorrowArgs}
 use Rattle.region_check.specs.declared.Right.TheVariants.{Read}
 use Rattle.mem_banks.specs.Memory.{Memory, IsWithin, IsWithinRam}
 use Rattle.task_table.specs.State.{Setup, State, Call, Write, Turn}
 use Rattle.task_table.specs.Reading.{register, arguments, is_ready, is_valid, bad_byte, taken_by}
 use Rattle.task_table.specs.Entries.{kept_at, IsKeptFor, entry_at}
 use Rattle.task_table.specs.Effects.{◌⨾◌, noted}
-use Rattle.task_table.specs.Rows.{first_row, misused, denied, goes_on_with}
-use Rattle.task_table.specs.Borrows.{Way as Needs, reading, writing, entry_range, grant, lease_range, buffer_of, part_of, lent, borrowed, informed}
+use Rattle.task_table.specs.Rows.{goes_on_with}
+use Rattle.task_table.specs.Borrows.{Way as Needs, reading, writing, entry_range, grant, lease_range, buffer_of, part_of, borrowed, informed}
 use Rattle.task_table.specs.Holds.{entries_of}
 use Rattle.task_table.specs.declared.entry.KeptEntry.{KeptEntry}
 use Rattle.task_table.specs.declared.kernel.Kernel.{Kernel}
@@ -56,15 +53,6 @@ IsEntryAt g s lender base (Err at) = bad_byte g lender Read record { base = base
 abbrev pub IsEntry : Setup → State → ℕ → Call → ℕ → Result LeaseEntry ℕ → Type 0
 IsEntry g s lender k lease (Ok e) = (bad_byte g lender Read (entry_range k lease) ≡ None) × (grant s k lease ≡ e)
 IsEntry g s lender k lease (Err at) = bad_byte g lender Read (entry_range k lease) ≡ Some at
-
--- the rows on the borrower's buffer
-abbrev pub buffered : Setup → Needs → ℕ → BorrowArgs → Call → LeaseEntry → Turn → Turn
-buffered g way c x k e t =
-    let buffer = buffer_of x in
-    first_row (
-    (not (is_valid buffer), t ⨾ misused g c (usage_number InvalidSlice))
-    ∷ (is_some (bad_byte g c way.own buffer), t ⨾ denied g c (access_number way.own_access) (bad_byte g c way.own buffer))
-    ∷ []) (t ⨾ lent g way c x k (part_of x e))
 
 -- ## a borrow that went well leaves the entry of its lease kept
 

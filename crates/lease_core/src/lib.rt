@@ -7,13 +7,13 @@ ghost use Rattle.kernel_abi.specs.declared.Note.TheVariants as note;
 ghost use Rattle.task_table.specs.State.{Setup, Turn, Call};
 ghost use Rattle.task_table.specs.Reading.{arguments, is_valid, is_ready};
 ghost use Rattle.task_table.specs.Effects.{noted};
-ghost use Rattle.task_table.specs.Borrows.{reading, writing, moved, refused, uninformed, lent, granted, part_of, lease_range, borrowed_by, borrowed, grant_answered, informed_by, informed};
+ghost use Rattle.task_table.specs.Borrows.{reading, writing, moved, refused, uninformed, lent, buffered, granted, part_of, lease_range, borrowed_by, borrowed, grant_answered, informed_by, informed};
 ghost use Rattle.task_table.specs.Holds.{Holds, Stands, Stood, kept_call, task_count, note_count, memory_of, entries_of};
 ghost use Rattle.task_table.specs.Entries.{IsKeptFor};
 ghost use Rattle.task_table.specs.Messages.{IsLent};
 ghost use Rattle.task_table.specs.Limits.{syscall_notes, turn_notes};
 ghost use Rattle.task_table.specs.Frames.{AddsNotes, AddsAtMost};
-ghost use Rattle.lease_core.specs.Loans.{way_of, IsBuffer, IsLeased, IsLoanOf, IsEntry, IsEntryAt, buffered, lent_answered, KeepsBorrowed, KeepsInformed, IsHeldAfter, IsEntryRead, HoldsGranted, IsGranted, MayLend, MayInform, StayKept};
+ghost use Rattle.lease_core.specs.Loans.{way_of, IsBuffer, IsLeased, IsLoanOf, IsEntry, IsEntryAt, lent_answered, KeepsBorrowed, KeepsInformed, IsHeldAfter, IsEntryRead, HoldsGranted, IsGranted, MayLend, MayInform, StayKept};
 
 mod way;
 

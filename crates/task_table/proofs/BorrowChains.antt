@@ -105,11 +105,11 @@ module _ (g : Setup) (c : ℕ) (t : Turn) (h : Sane g t.state) (inside : c < len
 
   abbrev Moving : Way → BorrowArgs → Type 0
   Moving way x =
-      (k : Call) (e : LeaseEntry) → IsTakenBy t.state c k.number k → x.lease < k.leases → bit_and e.attributes way.bit ≢ 0 → x.offset ≤ e.len → bad_byte g c way.own (buffer_of x) ≡ None → bad_byte g k.client.index way.lender (part_of x e) ≡ None →
+      (k : Call) (e : LeaseEntry) → IsTakenBy t.state c k.number k → x.lease < k.leases → grant t.state k x.lease ≡ e → bit_and e.attributes way.bit ≢ 0 → x.offset ≤ e.len → bad_byte g c way.own (buffer_of x) ≡ None → bad_byte g k.client.index way.lender (part_of x e) ≡ None →
       Leads g c t (moved way.borrow k (part_of x e).base x.buffer_base (part_of x e).len (entry_read k x.lease e t))
 
   read_moves : (x : BorrowArgs) → Moving reading x
-  read_moves x k e taken there bit offset own lender =
+  read_moves x k e taken there is bit offset own lender =
       let part = part_of x e in
       let t1 = entry_read k x.lease e t in
       let r : Read = record { call = k.number; part = Leased; base = part.base; len = part.len } in
@@ -119,7 +119,7 @@ module _ (g : Setup) (c : ℕ) (t : Turn) (h : Sane g t.state) (inside : c < len
 
   write_moves : (x : BorrowArgs) → Moving writing x
   unfolding looked
-  write_moves x k e taken there bit offset own lender =
+  write_moves x k e taken there is bit offset own lender =
       let part = part_of x e in
       let t1 = entry_read k x.lease e t in
       reads_entry k taken x.lease e
@@ -132,6 +132,7 @@ module _ (g : Setup) (c : ℕ) (t : Turn) (h : Sane g t.state) (inside : c < len
           attributes = e.attributes;
           range = lease_range e;
           read = Contains-push t.reads (entry k taken x.lease e);
+          in_memory = is;
           writable = bit;
           lies = (omega arith, omega arith);
           may = may-write g k.client.index part a lender (low, high);
@@ -158,7 +159,7 @@ module _ (g : Setup) (c : ℕ) (t : Turn) (h : Sane g t.state) (inside : c < len
       by_outcome (not (is_valid buffer)) (λ b. misuses_after k f x.lease e 3) (λ ok.
       by_outcome (is_some (bad_byte g c way.own buffer)) (λ b. denies_after k f x.lease e (access_number way.own_access) (bad_byte g c way.own buffer)) (λ own.
       by_outcome (is_some lacking) (λ b. refuses 1 (denied g k.client.index (access_number way.lender_access) lacking t1) (denies_lender k f (access_number way.lender_access) lacking t1 x1)) (λ lender.
-      let moving1 = moving k e f (leb-false k.leases x.lease there) (λ zero. absurd (false≢true (sym set ∙ eq-eqb _ _ zero))) (ltb-false e.len x.offset near) (none_left _ own) (none_left _ lender) in
+      let moving1 = moving k e f (leb-false k.leases x.lease there) refl (λ zero. absurd (false≢true (sym set ∙ eq-eqb _ _ zero))) (ltb-false e.len x.offset near) (none_left _ own) (none_left _ lender) in
       goes_with g c t inside (0 ∷ part.len ∷ []) _ (omega arith)
       (moving1 ▷ (Borrows k.number way.borrow x.lease x.offset part.len (moved way.borrow k part.base x.buffer_base part.len t1) (alive k f (moved way.borrow k part.base x.buffer_base part.len t1)) (still k f (moved way.borrow k part.base x.buffer_base part.len t1) (calls-moved way.borrow k part.base x.buffer_base part.len t1 ∙ still_after k f x.lease e)) (fits x.offset part.len), tt))))))))))
 

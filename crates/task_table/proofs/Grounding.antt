@@ -1,5 +1,5 @@
 -- Each write of a turn stands on its ground, and each read and each touch is of a call that is alive.
-use Rattle.std.proofs.Common.{◌≡◌, ◌+◌, ◌<◌, ◌≤◌, ◌⊎◌, inl, inr, ℕ, zero, suc, true, List, [], ◌∷◌, ◌++◌, length, Option, Some, None, refl, sym, ap, arith, IfSome, min}
+use Rattle.std.proofs.Common.{◌≡◌, ◌+◌, ◌<◌, ◌≤◌, ◌⊎◌, inl, inr, ℕ, zero, suc, true, List, [], ◌∷◌, ◌++◌, length, Option, Some, None, refl, sym, ap, ◌∙◌, arith, IfSome, min}
 use Rattle.std.specs.Prelude.{Contains}
 use Rattle.std.proofs.lemmas.Bool.{false≢true}
 use Rattle.std.proofs.lemmas.List.Elements.{Contains-append_left, Contains-append_cases}
@@ -10,6 +10,7 @@ use Rattle.mem_banks.specs.Memory.{bytes_at}
 use Rattle.task_table.specs.State.{Setup, State, Call, Slice, Ground, Own, Message, Reply, Lease, Write as Written, Read, MessageFront, Turn}
 use Rattle.task_table.specs.Reading.{call_of}
 use Rattle.task_table.specs.Effects.{with_taken, with_call, noted, stored, copied, looked, writes_on, close_notes, closed, offered}
+use Rattle.task_table.specs.Borrows.{grant}
 use Rattle.task_table.specs.Placed.{ArePlaced}
 use Rattle.task_table.specs.Grounds.{MayChange, AreGrounded, IsAlive, AreAlive, call_of_ground, touched}
 use Rattle.task_table.specs.Chain.{Chain}
@@ -38,7 +39,7 @@ may_stays : (g : Setup) (s : State) (c : ℕ) (u v : Turn) (on : Ground) (a : �
 may_stays g s c u v Own a notes reads h = h
 may_stays g s c u v (Message k) a notes reads h = record { listen = h.listen; here = h.here; offered = notes _ h.offered; copied = h.copied; taken = notes _ h.taken; lies = h.lies; may = h.may }
 may_stays g s c u v (Reply k) a notes reads h = h
-may_stays g s c u v (Lease k) a notes reads h = record { call = h.call; taken = h.taken; lease = h.lease; there = h.there; attributes = h.attributes; range = h.range; read = reads _ h.read; writable = h.writable; lies = h.lies; may = h.may }
+may_stays g s c u v (Lease k) a notes reads h = record { call = h.call; taken = h.taken; lease = h.lease; there = h.there; attributes = h.attributes; range = h.range; read = reads _ h.read; in_memory = h.in_memory; writable = h.writable; lies = h.lies; may = h.may }
 
 writes_in : (on : Ground) (at : ℕ) (bytes : List ℕ) (w : Written) → Contains (writes_on on at bytes) w → (w.on ≡ on) × (at ≤ w.address) × (w.address < at + length bytes)
 writes_in on at [] w h = absurd (omega (arith, h.1))
@@ -224,19 +225,24 @@ fresh_honest g s c u f = record {
 pub chain_honest : (g : Setup) (s : State) (c : ℕ) → ArePlaced g s.memory → (u v : Turn) → Chain (Step g s c) u v → IsFresh s u → IsHonest g s c v
 chain_honest g s c placed u v x f = chain_keeps (Move g s c) (IsHonest g s c) (move_honest g s c) u v (chain_moves g s c placed u v x) (fresh_honest g s c u f)
 
--- it is the same where calls and listens, notes, writes and reads are
-may_same : (g : Setup) (s z : State) (c : ℕ) (u v : Turn) → z.calls ≡ s.calls → z.listens ≡ s.listens → v.notes ≡ u.notes → v.reads ≡ u.reads → (on : Ground) (a : ℕ) → MayChange g s c u on a → MayChange g z c v on a
-may_same g s z c u v calls listens notes reads Own a h = h
-may_same g s z c u v calls listens notes reads (Message k) a h = record { listen = h.listen; here = rw listens h.here; offered = rw notes h.offered; copied = h.copied; taken = rw notes h.taken; lies = h.lies; may = h.may }
-may_same g s z c u v calls listens notes reads (Reply k) a h = record { call = h.call; taken = record { here = rw calls h.taken.here; number = h.taken.number; server_is = h.taken.server_is; phase = h.taken.phase }; lies = h.lies; may = h.may }
-may_same g s z c u v calls listens notes reads (Lease k) a h = record { call = h.call; taken = record { here = rw calls h.taken.here; number = h.taken.number; server_is = h.taken.server_is; phase = h.taken.phase }; lease = h.lease; there = h.there; attributes = h.attributes; range = h.range; read = rw reads h.read; writable = h.writable; lies = h.lies; may = h.may }
+-- an entry is what memory has
+same_grant : (s z : State) (call : Call) (lease : ℕ) → z.memory ≡ s.memory → grant z call lease ≡ grant s call lease
+unfolding grant
+same_grant s z call lease memory = rw memory refl
+
+-- it is the same where calls, listens and memory, notes, writes and reads are
+may_same : (g : Setup) (s z : State) (c : ℕ) (u v : Turn) → z.calls ≡ s.calls → z.listens ≡ s.listens → z.memory ≡ s.memory → v.notes ≡ u.notes → v.reads ≡ u.reads → (on : Ground) (a : ℕ) → MayChange g s c u on a → MayChange g z c v on a
+may_same g s z c u v calls listens memory notes reads Own a h = h
+may_same g s z c u v calls listens memory notes reads (Message k) a h = record { listen = h.listen; here = rw listens h.here; offered = rw notes h.offered; copied = h.copied; taken = rw notes h.taken; lies = h.lies; may = h.may }
+may_same g s z c u v calls listens memory notes reads (Reply k) a h = record { call = h.call; taken = record { here = rw calls h.taken.here; number = h.taken.number; server_is = h.taken.server_is; phase = h.taken.phase }; lies = h.lies; may = h.may }
+may_same g s z c u v calls listens memory notes reads (Lease k) a h = record { call = h.call; taken = record { here = rw calls h.taken.here; number = h.taken.number; server_is = h.taken.server_is; phase = h.taken.phase }; lease = h.lease; there = h.there; attributes = h.attributes; range = h.range; read = rw reads h.read; in_memory = same_grant s z h.call h.lease memory ∙ h.in_memory; writable = h.writable; lies = h.lies; may = h.may }
 
 alive_same : (s z : State) (c : ℕ) (u v : Turn) → z.calls ≡ s.calls → v.notes ≡ u.notes → (k : ℕ) → IsAlive s c u k → IsAlive z c v k
 alive_same s z c u v calls notes k h = rw (calls, notes) h
 
-pub honest_same : (g : Setup) (s z : State) (c : ℕ) (u v : Turn) → z.calls ≡ s.calls → z.listens ≡ s.listens → v.notes ≡ u.notes → v.reads ≡ u.reads → v.writes ≡ u.writes → IsHonest g s c u → IsHonest g z c v
-honest_same g s z c u v calls listens notes reads writes h = record {
-  grounded = λ w here. may_same g s z c u v calls listens notes reads w.on w.address (h.grounded w (rw writes at here));
+pub honest_same : (g : Setup) (s z : State) (c : ℕ) (u v : Turn) → z.calls ≡ s.calls → z.listens ≡ s.listens → z.memory ≡ s.memory → v.notes ≡ u.notes → v.reads ≡ u.reads → v.writes ≡ u.writes → IsHonest g s c u → IsHonest g z c v
+honest_same g s z c u v calls listens memory notes reads writes h = record {
+  grounded = λ w here. may_same g s z c u v calls listens memory notes reads w.on w.address (h.grounded w (rw writes at here));
   read = λ r here. alive_same s z c u v calls notes r.call (h.read r (rw reads at here));
   touches = λ n here. by_touch (touched n) (h.touches n (rw notes at here));
 }

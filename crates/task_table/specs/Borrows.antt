@@ -94,16 +94,23 @@ lent g way c x k part t =
     ⨾ noted (note.Borrow k.number way.borrow x.lease x.offset part.len)
     ⨾ goes_on_with c (0 ∷ part.len ∷ []))
 
+-- the rows on the borrower's buffer
+abbrev pub buffered : Setup → Way → ℕ → BorrowArgs → Call → LeaseEntry → Turn → Turn
+buffered g way c x k e t =
+    let buffer = buffer_of x in
+    first_row (
+    (not (is_valid buffer), t ⨾ misused g c (usage_number InvalidSlice))
+    ∷ (is_some (bad_byte g c way.own buffer), t ⨾ denied g c (access_number way.own_access) (bad_byte g c way.own buffer))
+    ∷ []) (t ⨾ lent g way c x k (part_of x e))
+
+-- those on the lease come before
 abbrev pub granted : Setup → Way → ℕ → BorrowArgs → Call → LeaseEntry → Turn → Turn
 granted g way c x k e t =
-    let buffer = buffer_of x in
     first_row (
     (not (is_valid (lease_range e)), t ⨾ misused g k.client.index (usage_number InvalidSlice) ⨾ refused c no_lease)
     ∷ (bit_and e.attributes way.bit == 0, t ⨾ refused c no_lease)
     ∷ (nat_lt e.len x.offset, t ⨾ misused g c (usage_number OffsetOutOfRange))
-    ∷ (not (is_valid buffer), t ⨾ misused g c (usage_number InvalidSlice))
-    ∷ (is_some (bad_byte g c way.own buffer), t ⨾ denied g c (access_number way.own_access) (bad_byte g c way.own buffer))
-    ∷ []) (t ⨾ lent g way c x k (part_of x e))
+    ∷ []) (t ⨾ buffered g way c x k e)
 
 abbrev pub borrowed_by : Setup → Way → ℕ → BorrowArgs → Option Call → Turn → Turn
 borrowed_by g way c x None t = t ⨾ refused c no_lease

@@ -8,6 +8,7 @@ use Rattle.region_check.specs.Rights.{may_copy}
 use Rattle.mem_banks.specs.Memory.{Memory, with_bytes}
 use Rattle.task_table.specs.State.{Setup, State, Call, Listen, Slice, Taken, Ground, Own, Message, Reply, Lease, Write as Written, Read, Entry, Turn}
 use Rattle.task_table.specs.Reading.{setup_at}
+use Rattle.task_table.specs.Borrows.{grant}
 
 -- a byte lies in a range
 abbrev pub Lies : Slice → ℕ → Type 0
@@ -43,8 +44,8 @@ pub record IsReplyGround (g : Setup) (s : State) (c k a : ℕ) : Type 0 where
   pub lies : Lies call.reply a
   pub may : MayWrite g call.client.index a
 
--- it lies in the range of a lease of call k, which c has taken; the lease's entry was read in this turn, its bit 1
--- is set, and the client may write the byte
+-- it lies in the range of a lease of call k, which c has taken; the lease's entry was read in this turn as memory has it
+-- after the events, its bit 1 is set, and the client may write the byte
 pub record IsLeaseGround (g : Setup) (s : State) (c : ℕ) (u : Turn) (k a : ℕ) : Type 0 where
   pub call : Call
   pub taken : IsTakenBy s c k call
@@ -53,6 +54,7 @@ pub record IsLeaseGround (g : Setup) (s : State) (c : ℕ) (u : Turn) (k a : ℕ
   pub attributes : ℕ
   pub range : Slice
   pub read : Contains u.reads record { call = k; part = Entry attributes range.base range.len; base = call.table + 12 * lease; len = 12 }
+  pub in_memory : grant s call lease ≡ record { attributes = attributes; base = range.base; len = range.len }
   pub writable : bit_and attributes 2 ≢ 0
   pub lies : Lies range a
   pub may : MayWrite g call.client.index a

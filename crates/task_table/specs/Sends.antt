@@ -56,7 +56,19 @@ offers_call k t = t ⨾ offered k ⨾ taken_at_once k (listen_of t.state k.serve
 abbrev pub sends : ℕ → SendArgs → ℕ → Turn → Turn
 sends c x server t = let u = t ⨾ past_syscall c in u ⨾ offers_call (call_made u.state c x server)
 
--- to a task; message, reply buffer and lease table are checked in this order
+-- to another task: message, reply buffer and lease table are checked in this order
+abbrev pub sent_to : Setup → ℕ → SendArgs → Turn → Turn
+sent_to g c x t =
+    let s = t.state in
+    let id = x.recipient.number in
+    first_row (
+    (not (is_valid (message_of x)) || (not (is_valid (reply_room x)) || not (is_valid (table_of x))), t ⨾ misused g c (usage_number InvalidSlice))
+    ∷ (is_some (bad_byte g c Read (message_of x)), t ⨾ denied g c (access_number KernelRead) (bad_byte g c Read (message_of x)))
+    ∷ (is_some (bad_byte g c Write (reply_room x)), t ⨾ denied g c (access_number KernelWrite) (bad_byte g c Write (reply_room x)))
+    ∷ (is_dead s id, t ⨾ goes_on_with c (dead_code_for s id ∷ 0 ∷ []))
+    ∷ []) (t ⨾ sends c x (index_of id))
+
+-- to a task that is there, and not to the caller itself
 unfoldable pub sent : Setup → ℕ → Turn → Turn
 sent g c t =
     let s = t.state in
@@ -64,11 +76,7 @@ sent g c t =
     let id = x.recipient.number in
     first_row (
     (is_out s id || (index_of id == c), t ⨾ misused g c (usage_number BadTaskIndex))
-    ∷ (not (is_valid (message_of x)) || (not (is_valid (reply_room x)) || not (is_valid (table_of x))), t ⨾ misused g c (usage_number InvalidSlice))
-    ∷ (is_some (bad_byte g c Read (message_of x)), t ⨾ denied g c (access_number KernelRead) (bad_byte g c Read (message_of x)))
-    ∷ (is_some (bad_byte g c Write (reply_room x)), t ⨾ denied g c (access_number KernelWrite) (bad_byte g c Write (reply_room x)))
-    ∷ (is_dead s id, t ⨾ goes_on_with c (dead_code_for s id ∷ 0 ∷ []))
-    ∷ []) (t ⨾ sends c x (index_of id))
+    ∷ []) (t ⨾ sent_to g c x)
 
 -- ## REPLY: r4 client, r5 code, r6 and r7 reply
 
