@@ -4,10 +4,10 @@
 
 mod names;
 
-pub use names::is_name;
-
 ghost use Rattle.std.specs.Prelude.{◌≡◌, ℕ, ◌-◌, ◌<◌, ◌≤◌, ◌+◌, ◌*◌, ◌^◌, length, true, IfSome, IfNone, ◌∷◌, [], slice_index, nat_le, if◌then◌else◌};
 ghost use Rattle.text_lines.specs.Text.{lines_of, is_digit, is_hex, digit, number_of, hex_number_of, without_cr, FirstLineEnds, LastLineEnds, NothingHasNoLine};
+
+pub use names::is_name;
 
 /// The lines of a text that have not been given yet.
 #[derive(Clone, Copy, Debug)]
