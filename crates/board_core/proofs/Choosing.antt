@@ -19,17 +19,17 @@ no_later ps ks ls ms ns p a b lt before =
     let same : key_in ms q ≡ key_in ks p = b.key task there ∙ sym key in
     elim (cases_lt q p) [
       | inl less ↦ (
-        let both : key_in ks q ≡ key_in ks p = before q less ∙ same in
-        let rises : key_in ks q < key_in ks p = a.rising q p less lt in
-        absurd (omega (arith, both, rises))
-      )
+          let both : key_in ks q ≡ key_in ks p = before q less ∙ same in
+          let rises : key_in ks q < key_in ks p = a.rising q p less lt in
+          absurd (omega (arith, both, rises))
+          )
       | inr most ↦ elim (cases_lt p q) [
         | inl less ↦ (let rises : key_in ms p < key_in ms q = b.rising p q less inside in omega (arith, same, rises))
         | inr least ↦ (
-          let at : q ≡ p = omega (arith, most, least) in
-          let here : key_in ms p ≡ key_in ks p = ap (key_in ms) (sym at) ∙ same in
-          omega (arith, here)
-        )
+            let at : q ≡ p = omega (arith, most, least) in
+            let here : key_in ms p ≡ key_in ks p = ap (key_in ms) (sym at) ∙ same in
+            omega (arith, here)
+            )
       ]
     ]
 
