@@ -19,8 +19,8 @@ pub fn run_tells_the_abstract_run()
         → job_in words ≡ Some (run_job image_name script_name n detail) → seen image_name ≡ Some image → seen script_name ≡ Some script
         → image_refusal image ≡ None → script_refusal script ≡ None
         → let x = scenario_of (picture_of image) script in
-          let r = run (level_of detail) x n (start x.setup) in
-          IsVerdict words seen v ↔ (v ≡ line_alone (status_of r.end) (trace_text r ++ memory_if detail.memory x.setup r.last)) }
+        let r = run (level_of detail) x n (start x.setup) in
+        IsVerdict words seen v ↔ (v ≡ line_alone (status_of r.end) (trace_text r ++ memory_if detail.memory x.setup r.last)) }
 {}
 
 /// `build` and then `run` write what `go` writes: where an application was built and put under OUT, and no other name
