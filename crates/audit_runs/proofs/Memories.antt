@@ -1,25 +1,30 @@
 -- The lines of the last memory show something.
-use Rattle.std.proofs.Common.{◌≡◌, ℕ, ◌+◌, ◌*◌, ◌/◌, ◌%◌, ◌^◌, ◌<◌, ◌≤◌, Bool, true, false, cond, eqb, List, [], ◌∷◌, ◌++◌, length, Option, None, Some, refl, ap, ◌∙◌, arith, append-nil}
-use Rattle.std.specs.Prelude.{codes, decimal}
+use Rattle.std.proofs.Common.{◌≡◌, ℕ, zero, suc, inl, inr, sym, ◌+◌, ◌*◌, ◌/◌, ◌%◌, ◌^◌, ◌<◌, ◌≤◌, Bool, true, false, cond, eqb, List, [], ◌∷◌, ◌++◌, length, Option, None, Some, refl, ap, ◌∙◌, arith, append-nil}
+use Rattle.std.specs.Prelude.{codes, decimal, Contains}
 use Rattle.std.specs.List.{list_all, flat_map, range_with_len}
 use Rattle.std.specs.Option.{option_map_or}
-use Rattle.std.proofs.lemmas.Bool.Decides.{nat_tests}
+use Rattle.std.proofs.lemmas.Bool.{false≢true}
+use Rattle.std.proofs.lemmas.Bool.Decides.{nat_tests, eqb_tells}
+use Rattle.std.proofs.lemmas.List.Elements.{Contains-append_cases}
 use Rattle.region_check.specs.declared.Region.{Region}
-use Rattle.mem_banks.specs.Memory.{Memory}
+use Rattle.mem_banks.specs.Memory.{Memory, IsWithin}
 use Rattle.thumb_insn.specs.Text.{hex_digit}
-use Rattle.task_table.specs.State.{Setup, State}
+use Rattle.task_table.specs.State.{Setup, TaskSetup, State}
+use Rattle.task_table.specs.Placed.{ArePlaced}
+use Rattle.task_table.specs.Reading.{setup_in, setup_at}
+use Rattle.task_table.specs.Sane.{Sane}
 use Rattle.task_table.proofs.Keeps.{found_in}
 use Rattle.trace_text.specs.Text.{hex}
 use Rattle.trace_audit.specs.declared.reading.Line.TheVariants as line
 use Rattle.trace_audit.specs.Fields.{is_low_hex, is_hex}
-use Rattle.board_run.specs.MemoryText.{byte_of, hex_at, bytes_hex, are_zeros, row_text, region_line, row_at, rows_text, row_count, region_text, regions_of, region_at, place_text, places_text, memory_text, row_line as told_row}
+use Rattle.board_run.specs.MemoryText.{byte_of, hex_at, bytes_hex, are_zeros, row_text, region_line, row_at, rows_text, row_count, region_text, begins_at, regions_of, region_at, place_text, places_text, memory_text, row_line as told_row}
 use Rattle.audit_laws.specs.Told.{IsLine}
 use Rattle.audit_laws.specs.Ends.{mem_line, row_line}
 use Rattle.audit_laws.specs.Whole.{joined}
 use Rattle.audit_laws.proofs.Hexes.{all_more, digit_of}
 use Rattle.audit_laws.proofs.Short.{plus, lit, ten, eight}
 use Rattle.audit_laws.proofs.Ended.{mem_read, row_read}
-use Rattle.audit_runs.specs.Last.{AreShown, IsShown, HasFitRegions}
+use Rattle.audit_runs.specs.Last.{AreShown, IsShown}
 use Rattle.audit_runs.proofs.Telling.{joined_more}
 
 -- ## lines that show something, one after another
@@ -44,6 +49,11 @@ shown_line t is short = record { texts = t ∷ []; each = (is, short, tt); whole
 shown_each : (f : ℕ → List ℕ) → ((k : ℕ) → IsShown (f k)) → (ks : List ℕ) → IsShown (flat_map f ks)
 shown_each f h [] = shown_none
 shown_each f h (k ∷ ks) = shown_then (f k) (flat_map f ks) (h k) (shown_each f h ks)
+
+-- those of the numbers from a on, all of them below a most
+shown_from : (f : ℕ → List ℕ) (most : ℕ) → ((k : ℕ) → k < most → IsShown (f k)) → (n a : ℕ) → a + n ≤ most → IsShown (flat_map f (range_with_len a n))
+shown_from f most h zero a few = shown_none
+shown_from f most h (suc n) a few = shown_then (f a) (flat_map f (range_with_len (a + 1) n)) (h a (omega arith)) (shown_from f most h n (a + 1) (omega arith))
 
 -- ## sixteen bytes
 
@@ -108,22 +118,46 @@ region_shown : (m : Memory) (r : Region) → r.size < 2 ^ 32 → IsShown (region
 unfolding region_text region_line
 region_shown m r fit = shown_then (mem_line r.base r.size) (rows_text m r.base (row_count r)) (shown_line (mem_line r.base r.size) (mem_read r.base r.size fit) (mem_short r.base r.size fit)) (rows_shown m r.base (row_count r))
 
-module _ (g : Setup) (m : Memory) (fit : HasFitRegions g) where
-  found_fit : (base : ℕ) (r : Region) → region_at g base ≡ Some r → r.size < 2 ^ 32
-  unfolding region_at
-  found_fit base r e = fit r (found_in _ (regions_of g) r e).0
+-- a region of a setup is one of a task's
+region_of_task : (tasks : List TaskSetup) (r : Region) → Contains (flat_map (λ t. t.regions) tasks) r → (i : ℕ) × Contains (setup_in tasks i).regions r
+region_of_task [] r c = absurd (omega (arith, c.1))
+region_of_task (t ∷ ts) r c = elim (Contains-append_cases t.regions (flat_map (λ u. u.regions) ts) r c) [ inl here ↦ (zero, here) | inr later ↦ let next = region_of_task ts r later in (suc next.0, next.1) ]
 
-  place_shown : (k : ℕ) → IsShown (place_text g m k)
-  place_shown k = by (region_at g (0x20000000 + 256 * k)) refl
+begins : (a b : ℕ) → eqb a b ≡ true → a ≡ b
+begins a b e = elim (eqb_tells a b) [ inl h ↦ h.1 | inr h ↦ absurd (false≢true (sym h.0 ∙ e)) ]
+
+module _ (g : Setup) (m : Memory) (placed : ArePlaced g m) where
+  -- below the devices each lies in flash or in RAM
+  size_fits : (i : ℕ) (r : Region) → Contains (setup_at g i).regions r → r.base < 0x40000000 → r.size < 2 ^ 32
+  size_fits i r c low = by r.rights.device refl
+    where
+      inside : IsWithin m r.base r.size → r.size < 2 ^ 32
+      inside (inl (inl none)) = omega arith
+      inside (inl (inr ram)) = let from = ram.0 in let end = ram.1 in let short = placed.below in omega arith
+      inside (inr flash) = let from = flash.0 in let end = flash.1 in let short = placed.flash in omega arith
+
+      by : (b : Bool) → r.rights.device ≡ b → r.size < 2 ^ 32
+      by true e = let high = placed.devices i r c e in absurd (omega arith)
+      by false e = inside (placed.within i r c e)
+
+  found_fit : (base : ℕ) (r : Region) → base < 0x40000000 → region_at g base ≡ Some r → r.size < 2 ^ 32
+  unfolding region_at
+  found_fit base r low e =
+      let found = found_in (begins_at base) (regions_of g) r e in
+      let own = region_of_task g.tasks r found.0 in
+      size_fits own.0 r own.1 (omega (arith, begins r.base base found.1, low))
+
+  place_shown : (k : ℕ) → k < 1024 → IsShown (place_text g m k)
+  place_shown k few = by (region_at g (0x20000000 + 256 * k)) refl
     where
       by : (o : Option Region) → region_at g (0x20000000 + 256 * k) ≡ o → IsShown (option_map_or (region_text m) o [])
       by None e = shown_none
-      by (Some r) e = region_shown m r (found_fit (0x20000000 + 256 * k) r e)
+      by (Some r) e = region_shown m r (found_fit (0x20000000 + 256 * k) r (omega arith) e)
 
-  places_shown : (n : ℕ) → IsShown (places_text g m n)
+  places_shown : (n : ℕ) → n ≤ 1024 → IsShown (places_text g m n)
   unfolding places_text
-  places_shown n = shown_each (place_text g m) place_shown (range_with_len 0 n)
+  places_shown n few = shown_from (place_text g m) 1024 place_shown n 0 (omega arith)
 
-pub memory_shown : (g : Setup) (s : State) → HasFitRegions g → IsShown (memory_text g s)
+pub memory_shown : (g : Setup) (s : State) → Sane g s → IsShown (memory_text g s)
 unfolding memory_text
-memory_shown g s fit = places_shown g s.memory fit 1024
+memory_shown g s sane = places_shown g s.memory sane.steady.placed 1024 (omega arith)

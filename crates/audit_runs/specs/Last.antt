@@ -1,14 +1,12 @@
 -- What is known of the last state of a run, and of the lines behind those of its tasks.
-use Rattle.std.specs.Prelude.{ℕ, ◌<◌, ◌≤◌, ◌^◌, ◌≡◌, List, [], ◌∷◌, ◌++◌, length, Contains}
-use Rattle.region_check.specs.declared.Region.{Region}
-use Rattle.task_table.specs.State.{Setup, State}
+use Rattle.std.specs.Prelude.{ℕ, ◌≤◌, ◌≡◌, List, [], ◌∷◌, ◌++◌, length}
+use Rattle.task_table.specs.State.{State}
 use Rattle.task_table.specs.Reading.{task_at}
 use Rattle.task_table.specs.Sane.{IsCounted}
 use Rattle.trace_audit.specs.declared.reading.Line.TheVariants as line
 use Rattle.audit_laws.specs.Told.{IsLine}
 use Rattle.board_run.specs.Timers.{HasFitTimers}
 use Rattle.audit_laws.specs.Whole.{joined}
-use Rattle.board_run.specs.MemoryText.{regions_of}
 use Rattle.board_run.specs.Text.{trace_text}
 use Rattle.board_model.specs.declared.outcomes.Level.{Level}
 use Rattle.board_model.specs.Script.{Scenario}
@@ -36,10 +34,6 @@ pub record IsShown (bytes : List ℕ) : Type 0 where
   pub texts : List (List ℕ)
   pub each : AreShown texts
   pub whole : joined texts ≡ bytes
-
--- the sizes of regions are in range
-abbrev pub HasFitRegions : Setup → Type 0
-HasFitRegions g = (r : Region) → Contains (regions_of g) r → r.size < 2 ^ 32
 
 -- the lines of the text are good, and an audit refuses none of them
 pub record IsGoodText (text : List ℕ) : Type 0 where

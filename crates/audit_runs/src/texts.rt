@@ -12,12 +12,12 @@ ghost use Rattle.board_run.specs.MemoryText.{memory_text};
 ghost use Rattle.trace_text.specs.Fit.{AreFit};
 ghost use Rattle.audit_laws.specs.Whole.{AreInOrder, AreRight};
 ghost use Rattle.audit_runs.specs.Spoken.{IsSpoken};
-ghost use Rattle.audit_runs.specs.Last.{IsFitLast, IsShown, HasFitRegions, IsGoodText, IsGoodRun};
+ghost use Rattle.audit_runs.specs.Last.{IsFitLast, IsShown, IsGoodText, IsGoodRun};
 
-/// The lines of the last memory show something, where the sizes of regions are in range; so does no line.
+/// The lines of the memory of a sane state show something; so does no line.
 pub fn memories_are_shown()
     ensures none { IsShown [] }
-    ensures memories { (g : Setup) (s : State) → HasFitRegions g → IsShown (memory_text g s) }
+    ensures memories { (g : Setup) (s : State) → Sane g s → IsShown (memory_text g s) }
 {}
 
 /// The text of a run, with any lines behind it that show something, is good, and no line of it has a cause: where its last state is

@@ -8,6 +8,7 @@ pub mod Rerunning
 pub mod Seeding
 pub mod Spelling
 pub mod Starting
+pub mod Ending
 pub mod Statuses
 pub mod Faulting
 pub mod Taking

@@ -8,9 +8,10 @@ use Rattle.board_core.specs.declared.board.Board.{Board}
 use Rattle.board_model.specs.Script.{Scenario}
 use Rattle.board_core.specs.Stands.{Stands, Stood, turns_of}
 use Rattle.outside_io.specs.Outside.{Rose}
+use Rattle.audit_runs.specs.Last.{IsGoodText}
 use Rattle.trace_audit.specs.declared.verdict.Verdict as trace
 use Rattle.trace_audit.specs.declared.verdict.Verdict.TheVariants.{Yes, No}
-use Rattle.command_line.specs.CommandLine.{Asked, build, run, go, list, migrate, audit}
+use Rattle.command_line.specs.CommandLine.{Asked, build, run, go, list, sample, migrate, audit}
 use Rattle.command_line.specs.declared.job.Detail.{Detail}
 use Rattle.trace_cli.specs.declared.file_faults.NamedFault.{NamedFault}
 use Rattle.trace_cli.specs.declared.file_faults.NamedFault.TheVariants as named_faults
@@ -23,7 +24,7 @@ use Rattle.trace_cli.specs.Ready.{IsImageFile, IsSet, IsReady, IsAuditOf, IsName
 use Rattle.trace_cli.specs.Pushed.{Pushed, whole, cut, Says, pushed, silent, IsSilent, SaysNamedFault}
 use Rattle.trace_cli.specs.Verdict.{Verdict, runs, lists, builds, audits, refused, unread, ran, listed, built, audited}
 use Rattle.trace_cli.specs.Answer as answer
-use Rattle.trace_cli.specs.Answer.{JobReason, cannot_read, refuses, does, IsShort, HasPut, HasSpoiled, Tells, AnswersJob}
+use Rattle.trace_cli.specs.Answer.{JobReason, cannot_read, refuses, does, IsShort, HasPut, HasSpoiled, Tells, IsOfRun, TellsGood, AnswersJob}
 use Rattle.trace_cli.proofs.Lists.{at_end, longer, takes_none, takes_first, takes_wider, takes_last, get_more, get_last}
 use Rattle.trace_cli.proofs.Faulting.{faults_earlier}
 use Rattle.trace_cli.proofs.Taking.{as_many_sources}
@@ -181,6 +182,27 @@ go_script_faults a b c app script n detail picture h i seen later fault =
       };
     }
 
+-- ## what an audit says of it
+
+tells_good : (job : Asked) (v : Verdict) (r : ℕ) → (IsOfRun r → IsGoodText v.text) → TellsGood job v r
+tells_good (build app out) v r h = tt
+tells_good (run image script steps detail) v r h = h
+tells_good (go app script steps detail) v r h = h
+tells_good (list image) v r h = tt
+tells_good (sample seed steps) v r h = tt
+tells_good (migrate image out) v r h = tt
+tells_good (audit trace) v r h = tt
+
+no_run : (r : ℕ) → 1 ≤ r → r ≤ 5 → IsOfRun r → ⊥
+no_run r low high (inl z) = omega arith
+no_run r low high (inr s) = omega arith
+
+-- the line of a file that is not accepted has no status of a run
+fault_good : (job : Asked) (w w' : SinkSeen) (v : Verdict) (r : ℕ) → 1 ≤ v.status → v.status ≤ 5 → Says w w' v r → TellsGood job v r
+fault_good job w w' v r low high (pushed (whole is text)) = tells_good job v r (λ told. absurd (no_run r (omega arith) (omega arith) told))
+fault_good job w w' v r low high (pushed (cut is rose front)) = tells_good job v r (λ told. absurd (no_run r (omega arith) (omega arith) told))
+fault_good job w w' v r low high (silent s) = let is = s.status in tells_good job v r (λ told. absurd (no_run r (omega arith) (omega arith) told))
+
 -- ## the answer
 
 silent_short : (a b : FilesSeen) (w w' : SinkSeen) (r : ℕ) → b.contents ≡ a.contents → IsSilent w w' r → IsShort a b w w' r
@@ -193,12 +215,12 @@ pub tells_pushed : (a b : FilesSeen) (w w' : SinkSeen) (v : Verdict) (r : ℕ) �
 tells_pushed a b w w' v r put (whole is text) = answer.whole is put text
 tells_pushed a b w w' v r put (cut is rose front) = answer.cut is rose put front
 
-pub answers_pushed : (job : Asked) (a b : FilesSeen) (w w' : SinkSeen) (v : Verdict) (r : ℕ) → b.contents ≡ a.contents → v.put ≡ None → JobReason job a b v → Pushed w w' v r → AnswersJob job a b w w' r
-answers_pushed job a b w w' v r same none why p = inr (v, why, tells_pushed a b w w' v r (put_nothing a b v same none) p)
+pub answers_pushed : (job : Asked) (a b : FilesSeen) (w w' : SinkSeen) (v : Verdict) (r : ℕ) → b.contents ≡ a.contents → v.put ≡ None → JobReason job a b v → TellsGood job v r → Pushed w w' v r → AnswersJob job a b w w' r
+answers_pushed job a b w w' v r same none why good p = inr (v, why, tells_pushed a b w w' v r (put_nothing a b v same none) p, good)
 
-pub answers_said : (job : Asked) (a b : FilesSeen) (w w' : SinkSeen) (v : Verdict) (r : ℕ) → b.contents ≡ a.contents → v.put ≡ None → JobReason job a b v → Says w w' v r → AnswersJob job a b w w' r
-answers_said job a b w w' v r same none why (pushed p) = answers_pushed job a b w w' v r same none why p
-answers_said job a b w w' v r same none why (silent s) = inl (silent_short a b w w' r same s)
+pub answers_said : (job : Asked) (a b : FilesSeen) (w w' : SinkSeen) (v : Verdict) (r : ℕ) → b.contents ≡ a.contents → v.put ≡ None → JobReason job a b v → TellsGood job v r → Says w w' v r → AnswersJob job a b w w' r
+answers_said job a b w w' v r same none why good (pushed p) = answers_pushed job a b w w' v r same none why good p
+answers_said job a b w w' v r same none why good (silent s) = inl (silent_short a b w w' r same s)
 
 pub answers_named_fault : (job : Asked) (a b : FilesSeen) (w w' : SinkSeen) (h : NamedFault) (r : ℕ) → b.contents ≡ a.contents → IsNamedFaultIn job a b h → SaysNamedFault w w' h r → AnswersJob job a b w w' r
 answers_named_fault job a b w w' named_faults.Memory r same h s = inl (silent_short a b w w' r same s)
@@ -206,18 +228,20 @@ answers_named_fault job a b w w' (named_faults.CannotRead name) r same h s =
     let at = h.at.fault in
     let file = h.at.file in
     let why = cannot_read file (record { contents = h.contents; reached = record { takes = h.at.takes; next = h.at.next }; rose = at.1.rose; named = at.1.named }) (ap unread at.0) in
-    answers_said job a b w w' (unread (string_bytes name)) r same refl why s
+    answers_said job a b w w' (unread (string_bytes name)) r same refl why (fault_good job w w' (unread (string_bytes name)) r (omega arith) (omega arith) s) s
 answers_named_fault job a b w w' (named_faults.Refused name cause place) r same h s =
     let at = h.at.fault in
     let file = h.at.file in
     let reason : Why = (cause, string_bytes place) in
     let why = refuses file reason (record { contents = h.contents; reached = record { takes = h.at.takes; next = h.at.next }; refused = at.1 }) (ap (λ (n : List ℕ). refused n reason) at.0) in
-    answers_said job a b w w' (refused (string_bytes name) reason) r same refl why s
+    answers_said job a b w w' (refused (string_bytes name) reason) r same refl why (fault_good job w w' (refused (string_bytes name) reason) r (omega arith) (omega arith) s) s
 
 pub answers_run : (job : Asked) (a b : FilesSeen) (w w' : SinkSeen) (n : ℕ) (detail : Detail) (bd : Board) (r : ℕ) → b.contents ≡ a.contents → IsReady job a.contents n detail bd
-    → ((x : Scenario) → Stands x bd (start x.setup) → Pushed w w' (ran n detail x) r) → AnswersJob job a b w w' r
-answers_run job a b w w' n detail bd r same ready tells =
-    answers_pushed job a b w w' (ran n detail ready.scenario) r same refl (does ready.contents ready.accepted (runs n detail ready.scenario ready.is refl)) (tells ready.scenario ready.stands)
+    → ((x : Scenario) → Stands x bd (start x.setup) → Pushed w w' (ran n detail x) r) → ((x : Scenario) → Stands x bd (start x.setup) → IsOfRun r → IsGoodText (ran n detail x).text)
+    → AnswersJob job a b w w' r
+answers_run job a b w w' n detail bd r same ready tells good =
+    let x = ready.scenario in
+    answers_pushed job a b w w' (ran n detail x) r same refl (does ready.contents ready.accepted (runs n detail x ready.is refl)) (tells_good job (ran n detail x) r (good x ready.stands)) (tells x ready.stands)
 
 pub ready_stood : (job : Asked) (seen : List ℕ → Option (List ℕ)) (n : ℕ) (detail : Detail) (bd : Board) → IsReady job seen n detail bd → Stood bd × (turns_of bd ≡ 0)
 ready_stood job seen n detail bd h = ((h.scenario, start h.scenario.setup, h.stands), h.turns)
@@ -236,17 +260,17 @@ tells_earlier a b c w w' v r same puts (answer.short s) =
     answer.short (record { status = s.status; written = s.written; faults = s.faults; files = s.files ∙ same })
 
 answers_put : (job : Asked) (a b c : FilesSeen) (w w' : SinkSeen) (out : List ℕ) (image : Picture) (r : ℕ) → b.contents ≡ a.contents → b.put_faults ≡ a.put_faults → JobReason job a c (built out image)
-    → Tells b c w w' (built out image) r → AnswersJob job a c w w' r
-answers_put job a b c w w' out image r same puts why t = inr (built out image, why, tells_earlier a b c w w' (built out image) r same puts t)
+    → TellsGood job (built out image) r → Tells b c w w' (built out image) r → AnswersJob job a c w w' r
+answers_put job a b c w w' out image r same puts why good t = inr (built out image, why, tells_earlier a b c w w' (built out image) r same puts t, good)
 
 pub answers_built : (a b c : FilesSeen) (w w' : SinkSeen) (app out : List ℕ) (image : Picture) (r : ℕ) → b.contents ≡ a.contents → b.put_faults ≡ a.put_faults → IsImage a.contents app image
     → Tells b c w w' (built out image) r → AnswersJob (build app out) a c w w' r
-answers_built a b c w w' app out image r same puts i t = answers_put (build app out) a b c w w' out image r same puts (build_reason a c app out image i) t
+answers_built a b c w w' app out image r same puts i t = answers_put (build app out) a b c w w' out image r same puts (build_reason a c app out image i) tt t
 
 pub answers_migrated : (a b c : FilesSeen) (w w' : SinkSeen) (file out : List ℕ) (image : Picture) (r : ℕ) → b.contents ≡ a.contents → b.put_faults ≡ a.put_faults → IsImageFile a.contents file image
     → Tells b c w w' (built out image) r → AnswersJob (migrate file out) a c w w' r
-answers_migrated a b c w w' file out image r same puts i t = answers_put (migrate file out) a b c w w' out image r same puts (migrate_reason a c file out image i) t
+answers_migrated a b c w w' file out image r same puts i t = answers_put (migrate file out) a b c w w' out image r same puts (migrate_reason a c file out image i) tt t
 
 pub answers_audited : (a b : FilesSeen) (w w' : SinkSeen) (name : List ℕ) (found : trace.Verdict) (r : ℕ) → b.contents ≡ a.contents → IsAuditOf a.contents name found → Says w w' (audited found) r
     → AnswersJob (audit name) a b w w' r
-answers_audited a b w w' name found r same i says = answers_said (audit name) a b w w' (audited found) r same (audited_alone found) (audit_reason a b name found i) says
+answers_audited a b w w' name found r same i says = answers_said (audit name) a b w w' (audited found) r same (audited_alone found) (audit_reason a b name found i) tt says

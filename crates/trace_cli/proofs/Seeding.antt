@@ -65,4 +65,4 @@ pub answers_sample : (seed n : ℕ) (a b : FilesSeen) (w w' : SinkSeen) (bd : Bo
     → ((x : Scenario) → Stands x bd (start x.setup) → Pushed w w' (sampled n x) r) → AnswersJob (sample seed n) a b w w' r
 answers_sample seed n a b w w' bd r same ready tells =
     let x = sample_scenario seed ready.image in
-    answers_pushed (sample seed n) a b w w' (sampled n x) r same refl (sample_reason a b seed n bd ready) (tells x ready.stands)
+    answers_pushed (sample seed n) a b w w' (sampled n x) r same refl (sample_reason a b seed n bd ready) tt (tells x ready.stands)

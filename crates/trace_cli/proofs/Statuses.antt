@@ -8,14 +8,16 @@ use Rattle.board_model.specs.Script.{Scenario}
 use Rattle.board_model.specs.declared.outcomes.End.{End}
 use Rattle.board_model.specs.declared.outcomes.End.TheVariants.{Bound, Still, Supervisor}
 use Rattle.command_line.specs.CommandLine.{Asked, build, run, go, list, sample, migrate, audit, is_accepted, job_of}
+use Rattle.command_line.specs.declared.job.Detail.{Detail}
 use Rattle.trace_audit.specs.declared.verdict.Verdict as trace
 use Rattle.trace_audit.specs.declared.verdict.Verdict.TheVariants.{Yes, No}
 use Rattle.trace_audit.specs.Verdicts as trace_audit
+use Rattle.audit_runs.specs.Last.{IsGoodText}
 use Rattle.outside_io.specs.Seen.{FilesSeen, SinkSeen}
 use Rattle.trace_cli.specs.Words.{job_in, out_of}
-use Rattle.trace_cli.specs.Sources.{IsBuild, IsSample, IsAudit}
+use Rattle.trace_cli.specs.Sources.{IsRun, IsBuild, IsSample, IsAudit}
 use Rattle.trace_cli.specs.Verdict.{Verdict, IsVerdict, Does, runs, lists, builds, samples, audits, usage, usage_line, refused, unread, ran, listed, built, sampled, audited, run_of, level_of, status_of}
-use Rattle.trace_cli.specs.Answer.{JobReason, cannot_read, refuses, does, IsAccepted, Reason, no_job, of_job, HasPut, HasSpoiled, Tells, whole, cut, spoiled, short, AnswersJob, Answers, HasSampled, HasAudited, HasPlayed, HasDone, HasRefused, HasUnread, HasFront, Answered, IsComplete}
+use Rattle.trace_cli.specs.Answer.{JobReason, cannot_read, refuses, does, IsAccepted, Reason, no_job, of_job, HasPut, HasSpoiled, Tells, whole, cut, spoiled, short, IsOfRun, TellsGood, TellsGoodIn, AnswersJob, Answers, HasRun, HasSampled, HasAudited, HasPlayed, HasDone, HasRefused, HasUnread, HasFront, Answered, IsComplete}
 use Rattle.trace_cli.specs.Pushed as seen
 use Rattle.trace_cli.specs.Pushed.{Pushed, Says, pushed, silent}
 use Rattle.trace_cli.proofs.Readying.{audited_alone}
@@ -52,7 +54,7 @@ pub by_job : (words : List (List ℕ)) (job : Asked) (a b : FilesSeen) (w w' : S
 by_job words job a b w w' r accepted_sources is (inl s) = inl s
 by_job words job a b w w' r accepted_sources is (inr h) =
     let in_words : job_in words ≡ Some job = ap (λ (b : Bool). cond b (job_of words) None) accepted_sources ∙ is in
-    inr (h.0, of_job job in_words h.1, h.2)
+    inr (h.0, of_job job in_words h.1, h.2, subst (λ (o : Option Asked). TellsGoodIn o h.0 r) (sym in_words) h.3)
 
 -- ## statuses of verdicts
 
@@ -165,16 +167,17 @@ record IsWhole (words : List (List ℕ)) (a b : FilesSeen) (w w' : SinkSeen) (r 
   status : verdict.status ≡ r
   put : HasPut a.contents b.contents verdict.put
   text : Appends w.written w'.written verdict.text
+  good : TellsGoodIn (job_in words) verdict r
 
-whole_by : (words : List (List ℕ)) (a b : FilesSeen) (w w' : SinkSeen) (v : Verdict) (r : ℕ) → (r ≡ 4 → ⊥) → (r ≡ 5 → ⊥) → Reason words a b v → Tells a b w w' v r → IsWhole words a b w w' r
-whole_by words a b w w' v r not4 not5 g (whole is put text) = record { verdict = v; reason = g; status = sym is; put = put; text = text }
-whole_by words a b w w' v r not4 not5 g (cut is rose put front) = absurd (not4 is)
-whole_by words a b w w' v r not4 not5 g (spoiled is rose left same) = absurd (not4 is)
-whole_by words a b w w' v r not4 not5 g (short s) = absurd (not5 s.status)
+whole_by : (words : List (List ℕ)) (a b : FilesSeen) (w w' : SinkSeen) (v : Verdict) (r : ℕ) → (r ≡ 4 → ⊥) → (r ≡ 5 → ⊥) → Reason words a b v → TellsGoodIn (job_in words) v r → Tells a b w w' v r → IsWhole words a b w w' r
+whole_by words a b w w' v r not4 not5 g good (whole is put text) = record { verdict = v; reason = g; status = sym is; put = put; text = text; good = good }
+whole_by words a b w w' v r not4 not5 g good (cut is rose put front) = absurd (not4 is)
+whole_by words a b w w' v r not4 not5 g good (spoiled is rose left same) = absurd (not4 is)
+whole_by words a b w w' v r not4 not5 g good (short s) = absurd (not5 s.status)
 
 seen_whole : (words : List (List ℕ)) (a b : FilesSeen) (w w' : SinkSeen) (r : ℕ) → Answers words a b w w' r → (r ≡ 4 → ⊥) → (r ≡ 5 → ⊥) → IsWhole words a b w w' r
 seen_whole words a b w w' r (inl s) not4 not5 = absurd (not5 s.status)
-seen_whole words a b w w' r (inr h) not4 not5 = whole_by words a b w w' h.0 r not4 not5 h.1 h.2
+seen_whole words a b w w' r (inr h) not4 not5 = whole_by words a b w w' h.0 r not4 not5 h.1 h.3 h.2
 
 same_text : (w w' : SinkSeen) (v u : Verdict) → v ≡ u → Appends w.written w'.written v.text → Appends w.written w'.written u.text
 same_text w w' v u e t = let P : Verdict → Type 0 = λ x. Appends w.written w'.written x.text in subst P e t
@@ -218,6 +221,32 @@ was_unread words a b w w' r h e =
     let t = seen_whole words a b w w' r h (λ is. omega arith) (λ is. omega arith) in
     unread_by words a b w w' t.verdict (t.status ∙ e) t.text t.reason
 
+good_of_run : (job : Asked) (cs : List (List ℕ)) (n : ℕ) (m : Detail) (x : Scenario) (v : Verdict) (r : ℕ) → IsRun job cs n m x → IsOfRun r → TellsGood job v r → IsGoodText v.text
+good_of_run (build app out) cs n m x v r p told h = absurd p
+good_of_run (run image script steps detail) cs n m x v r p told h = h told
+good_of_run (go app script steps detail) cs n m x v r p told h = h told
+good_of_run (list image) cs n m x v r p told h = absurd p
+good_of_run (sample seed steps) cs n m x v r p told h = absurd p
+good_of_run (migrate image out) cs n m x v r p told h = absurd p
+good_of_run (audit trace) cs n m x v r p told h = absurd p
+
+has_run : (words : List (List ℕ)) (a : FilesSeen) (w w' : SinkSeen) (job : Asked) (cs : List (List ℕ)) (n : ℕ) (m : Detail) (x : Scenario) (v : Verdict) (r : ℕ)
+    → job_in words ≡ Some job → IsAccepted job a.contents cs → IsRun job cs n m x → v ≡ ran n m x → v.status ≡ r → Appends w.written w'.written v.text
+    → IsOfRun r → TellsGoodIn (job_in words) v r → HasRun words a.contents w w' r
+has_run words a w w' job cs n m x v r at all h is e t told good = record {
+  job = job;
+  command = at;
+  contents = cs;
+  accepted = all;
+  bound = n;
+  detail = m;
+  scenario = x;
+  is = h;
+  status = sym (ap (λ (u : Verdict). u.status) is) ∙ e;
+  text = same_text w w' v (ran n m x) is t;
+  good = subst (λ (u : Verdict). IsGoodText u.text) is (good_of_run job cs n m x v r h told (subst (λ (o : Option Asked). TellsGoodIn o v r) at good));
+}
+
 has_sampled : (words : List (List ℕ)) (w w' : SinkSeen) (job : Asked) (s n : ℕ) (x : Scenario) (v : Verdict) (r : ℕ) → job_in words ≡ Some job → IsSample job s n x → v ≡ sampled n x
     → v.status ≡ r → Appends w.written w'.written v.text → HasSampled words w w' r
 has_sampled words w w' job s n x v r at h is e t = record {
@@ -247,26 +276,15 @@ has_audited words a w w' job cs t found v r at all h is e status text = record {
   text = same_text w w' v (audited found) e text;
 }
 
-done_by : (words : List (List ℕ)) (a b : FilesSeen) (w w' : SinkSeen) (v : Verdict) → v.status ≡ 0 → HasPut a.contents b.contents v.put → Appends w.written w'.written v.text → Reason words a b v → HasDone words a b w w'
-done_by words a b w w' v e p t (no_job none is) = let s : v.status ≡ 2 = ap (λ (u : Verdict). u.status) is in absurd (omega arith)
-done_by words a b w w' v e p t (of_job job at (cannot_read f h is)) = let s : v.status ≡ 3 = ap (λ (u : Verdict). u.status) is in absurd (omega arith)
-done_by words a b w w' v e p t (of_job job at (refuses f why h is)) = let s : v.status ≡ 1 = ap (λ (u : Verdict). u.status) is in absurd (omega arith)
-done_by words a b w w' v e p t (of_job job at (does cs all (samples s n x h is))) = inl (inr (has_sampled words w w' job s n x v 0 at h is e t))
-done_by words a b w w' v e p t (of_job job at (does cs all (runs n m x h is))) = inl (inl (record {
-  job = job;
-  command = at;
-  contents = cs;
-  accepted = all;
-  bound = n;
-  detail = m;
-  scenario = x;
-  is = h;
-  status = sym (ap (λ (u : Verdict). u.status) is) ∙ e;
-  text = same_text w w' v (ran n m x) is t;
-}))
-done_by words a b w w' v e p t (of_job job at (does cs all (lists i h is))) =
+done_by : (words : List (List ℕ)) (a b : FilesSeen) (w w' : SinkSeen) (v : Verdict) → v.status ≡ 0 → HasPut a.contents b.contents v.put → Appends w.written w'.written v.text → TellsGoodIn (job_in words) v 0 → Reason words a b v → HasDone words a b w w'
+done_by words a b w w' v e p t good (no_job none is) = let s : v.status ≡ 2 = ap (λ (u : Verdict). u.status) is in absurd (omega arith)
+done_by words a b w w' v e p t good (of_job job at (cannot_read f h is)) = let s : v.status ≡ 3 = ap (λ (u : Verdict). u.status) is in absurd (omega arith)
+done_by words a b w w' v e p t good (of_job job at (refuses f why h is)) = let s : v.status ≡ 1 = ap (λ (u : Verdict). u.status) is in absurd (omega arith)
+done_by words a b w w' v e p t good (of_job job at (does cs all (samples s n x h is))) = inl (inr (has_sampled words w w' job s n x v 0 at h is e t))
+done_by words a b w w' v e p t good (of_job job at (does cs all (runs n m x h is))) = inl (inl (has_run words a w w' job cs n m x v 0 at all h is e t (inl refl) good))
+done_by words a b w w' v e p t good (of_job job at (does cs all (lists i h is))) =
     inr (inl (record { job = job; command = at; contents = cs; accepted = all; image = i; is = h; text = same_text w w' v (listed i) is t }))
-done_by words a b w w' v e p t (of_job job at (does cs all (builds o i h is))) = inr (inr (inl (record {
+done_by words a b w w' v e p t good (of_job job at (does cs all (builds o i h is))) = inr (inr (inl (record {
   job = job;
   command = at;
   contents = cs;
@@ -277,33 +295,22 @@ done_by words a b w w' v e p t (of_job job at (does cs all (builds o i h is))) =
   file = (same_put a b v (built o i) is p).0;
   text = same_text w w' v (built o i) is t;
 })))
-done_by words a b w w' v e p t (of_job job at (does cs all (audits s found h is d))) = inr (inr (inr (has_audited words a w w' job cs s found v 0 at all h is d e t)))
+done_by words a b w w' v e p t good (of_job job at (does cs all (audits s found h is d))) = inr (inr (inr (has_audited words a w w' job cs s found v 0 at all h is d e t)))
 
 pub was_done : (words : List (List ℕ)) (a b : FilesSeen) (w w' : SinkSeen) (r : ℕ) → Answers words a b w w' r → r ≡ 0 → HasDone words a b w w'
 was_done words a b w w' r h e =
     let t = seen_whole words a b w w' r h (λ is. omega arith) (λ is. omega arith) in
-    done_by words a b w w' t.verdict (t.status ∙ e) t.put t.text t.reason
+    done_by words a b w w' t.verdict (t.status ∙ e) t.put t.text (subst (λ (n : ℕ). TellsGoodIn (job_in words) t.verdict n) e t.good) t.reason
 
-ran_by : (words : List (List ℕ)) (a b : FilesSeen) (w w' : SinkSeen) (v : Verdict) → v.status ≡ 6 → Appends w.written w'.written v.text → Reason words a b v → HasPlayed words a.contents w w' 6
-ran_by words a b w w' v e t (no_job none is) = let s : v.status ≡ 2 = ap (λ (u : Verdict). u.status) is in absurd (omega arith)
-ran_by words a b w w' v e t (of_job job at (cannot_read f h is)) = let s : v.status ≡ 3 = ap (λ (u : Verdict). u.status) is in absurd (omega arith)
-ran_by words a b w w' v e t (of_job job at (refuses f why h is)) = let s : v.status ≡ 1 = ap (λ (u : Verdict). u.status) is in absurd (omega arith)
-ran_by words a b w w' v e t (of_job job at (does cs all (samples s n x h is))) = inr (has_sampled words w w' job s n x v 6 at h is e t)
-ran_by words a b w w' v e t (of_job job at (does cs all (runs n m x h is))) = inl (record {
-  job = job;
-  command = at;
-  contents = cs;
-  accepted = all;
-  bound = n;
-  detail = m;
-  scenario = x;
-  is = h;
-  status = sym (ap (λ (u : Verdict). u.status) is) ∙ e;
-  text = same_text w w' v (ran n m x) is t;
-})
-ran_by words a b w w' v e t (of_job job at (does cs all (lists i h is))) = let s : v.status ≡ 0 = ap (λ (u : Verdict). u.status) is in absurd (omega arith)
-ran_by words a b w w' v e t (of_job job at (does cs all (builds o i h is))) = let s : v.status ≡ 0 = ap (λ (u : Verdict). u.status) is in absurd (omega arith)
-ran_by words a b w w' v e t (of_job job at (does cs all (audits s found h is d))) = absurd (by (audit_zero_or_seven found)) where
+ran_by : (words : List (List ℕ)) (a b : FilesSeen) (w w' : SinkSeen) (v : Verdict) → v.status ≡ 6 → Appends w.written w'.written v.text → TellsGoodIn (job_in words) v 6 → Reason words a b v → HasPlayed words a.contents w w' 6
+ran_by words a b w w' v e t good (no_job none is) = let s : v.status ≡ 2 = ap (λ (u : Verdict). u.status) is in absurd (omega arith)
+ran_by words a b w w' v e t good (of_job job at (cannot_read f h is)) = let s : v.status ≡ 3 = ap (λ (u : Verdict). u.status) is in absurd (omega arith)
+ran_by words a b w w' v e t good (of_job job at (refuses f why h is)) = let s : v.status ≡ 1 = ap (λ (u : Verdict). u.status) is in absurd (omega arith)
+ran_by words a b w w' v e t good (of_job job at (does cs all (samples s n x h is))) = inr (has_sampled words w w' job s n x v 6 at h is e t)
+ran_by words a b w w' v e t good (of_job job at (does cs all (runs n m x h is))) = inl (has_run words a w w' job cs n m x v 6 at all h is e t (inr refl) good)
+ran_by words a b w w' v e t good (of_job job at (does cs all (lists i h is))) = let s : v.status ≡ 0 = ap (λ (u : Verdict). u.status) is in absurd (omega arith)
+ran_by words a b w w' v e t good (of_job job at (does cs all (builds o i h is))) = let s : v.status ≡ 0 = ap (λ (u : Verdict). u.status) is in absurd (omega arith)
+ran_by words a b w w' v e t good (of_job job at (does cs all (audits s found h is d))) = absurd (by (audit_zero_or_seven found)) where
   by : ((audited found).status ≡ 0) ⊎ ((audited found).status ≡ 7) → ⊥
   by (inl z) = let s : v.status ≡ 0 = ap (λ (u : Verdict). u.status) d ∙ z in omega arith
   by (inr n) = let s : v.status ≡ 7 = ap (λ (u : Verdict). u.status) d ∙ n in omega arith
@@ -311,7 +318,7 @@ ran_by words a b w w' v e t (of_job job at (does cs all (audits s found h is d))
 pub was_ran : (words : List (List ℕ)) (a b : FilesSeen) (w w' : SinkSeen) (r : ℕ) → Answers words a b w w' r → r ≡ 6 → HasPlayed words a.contents w w' 6
 was_ran words a b w w' r h e =
     let t = seen_whole words a b w w' r h (λ is. omega arith) (λ is. omega arith) in
-    ran_by words a b w w' t.verdict (t.status ∙ e) t.text t.reason
+    ran_by words a b w w' t.verdict (t.status ∙ e) t.text (subst (λ (n : ℕ). TellsGoodIn (job_in words) t.verdict n) e t.good) t.reason
 
 -- a run has no such status
 not_seven : (e : End) (v : Verdict) → v.status ≡ status_of e → v.status ≡ 7 → ⊥
@@ -415,5 +422,7 @@ usage_said words a w w' r none (seen.whole is text) = whole is refl text
 usage_said words a w w' r none (seen.cut is rose front) = cut is rose refl front
 
 pub answers_usage : (words : List (List ℕ)) (a : FilesSeen) (w w' : SinkSeen) (r : ℕ) → is_accepted words ≡ false → Says w w' usage r → Answers words a a w w' r
-answers_usage words a w w' r none (pushed p) = inr (usage, no_job none refl, usage_said words a w w' r none p)
+answers_usage words a w w' r none (pushed p) =
+    let nothing : job_in words ≡ None = ap (λ (b : Bool). cond b (job_of words) None) none in
+    inr (usage, no_job none refl, usage_said words a w w' r none p, subst (λ (o : Option Asked). TellsGoodIn o usage r) (sym nothing) tt)
 answers_usage words a w w' r none (silent s) = inl (record { status = s.status; written = s.written; faults = s.faults; files = refl })

@@ -6,7 +6,8 @@ use Rattle.image_format.specs.Picture.{Picture, spelling}
 use Rattle.board_model.specs.Script.{Scenario}
 use Rattle.trace_audit.specs.declared.verdict.Verdict as trace
 use Rattle.trace_audit.specs.Verdicts as trace_audit
-use Rattle.command_line.specs.CommandLine.{Asked, is_accepted}
+use Rattle.audit_runs.specs.Last.{IsGoodText}
+use Rattle.command_line.specs.CommandLine.{Asked, build, run, go, list, sample, migrate, audit, is_accepted}
 use Rattle.command_line.specs.declared.job.Detail.{Detail}
 use Rattle.trace_cli.specs.Contents.{Why}
 use Rattle.outside_io.specs.Seen.{FilesSeen, SinkSeen}
@@ -75,16 +76,38 @@ pub data Tells (before after : FilesSeen) (w w' : SinkSeen) (v : Verdict) (r : �
   spoiled : r ≡ 4 → Rose before.put_faults after.put_faults → HasSpoiled before.contents after.contents v.put → w'.written ≡ w.written → Tells before after w w' v r
   short : IsShort before after w w' r → Tells before after w w' v r
 
--- the answer to a job, and to words: some verdict, for its reason, was told, or memory is short
+-- ## what an audit says of it
+
+-- the status of a run that was told to its end
+abbrev pub IsOfRun : ℕ → Type 0
+IsOfRun r = (r ≡ 0) ⊎ (r ≡ 6)
+
+-- where `run` or `go` told a run to its end, an audit finds its text good (docs/FORMATS.md, Audit)
+abbrev pub TellsGood : Asked → Verdict → ℕ → Type 0
+TellsGood (run image script steps detail) v r = IsOfRun r → IsGoodText v.text
+TellsGood (go app script steps detail) v r = IsOfRun r → IsGoodText v.text
+TellsGood (build app out) v r = Unit {0}
+TellsGood (list image) v r = Unit {0}
+TellsGood (sample seed steps) v r = Unit {0}
+TellsGood (migrate image out) v r = Unit {0}
+TellsGood (audit trace) v r = Unit {0}
+
+-- where the words ask for a job
+abbrev pub TellsGoodIn : Option Asked → Verdict → ℕ → Type 0
+TellsGoodIn None v r = Unit {0}
+TellsGoodIn (Some job) v r = TellsGood job v r
+
+-- ## the answer to a job, and to words: some verdict, for its reason, was told, or memory is short
+
 abbrev pub AnswersJob : Asked → FilesSeen → FilesSeen → SinkSeen → SinkSeen → ℕ → Type 0
-AnswersJob job before after w w' r = IsShort before after w w' r ⊎ ((v : Verdict) × JobReason job before after v × Tells before after w w' v r)
+AnswersJob job before after w w' r = IsShort before after w w' r ⊎ ((v : Verdict) × JobReason job before after v × Tells before after w w' v r × TellsGood job v r)
 
 abbrev pub Answers : List (List ℕ) → FilesSeen → FilesSeen → SinkSeen → SinkSeen → ℕ → Type 0
-Answers words before after w w' r = IsShort before after w w' r ⊎ ((v : Verdict) × Reason words before after v × Tells before after w w' v r)
+Answers words before after w w' r = IsShort before after w w' r ⊎ ((v : Verdict) × Reason words before after v × Tells before after w w' v r × TellsGoodIn (job_in words) v r)
 
 -- ## by status
 
--- the whole text of a run that ended so, with its memory where it was asked for
+-- the whole text of a run that ended so, with its memory where it was asked for; an audit finds it good
 pub record HasRun (words : List (List ℕ)) (seen : List ℕ → Option (List ℕ)) (w w' : SinkSeen) (r : ℕ) : Type 0 where
   pub job : Asked
   pub command : job_in words ≡ Some job
@@ -96,6 +119,7 @@ pub record HasRun (words : List (List ℕ)) (seen : List ℕ → Option (List �
   pub is : IsRun job contents bound detail scenario
   pub status : (ran bound detail scenario).status ≡ r
   pub text : Appends w.written w'.written (ran bound detail scenario).text
+  pub good : IsGoodText (ran bound detail scenario).text
 
 -- the line of a listing
 pub record HasListed (words : List (List ℕ)) (seen : List ℕ → Option (List ℕ)) (w w' : SinkSeen) : Type 0 where

@@ -8,11 +8,12 @@ ghost use Rattle.board_core.specs.Stands.{Stands, Stood, turns_of};
 ghost use Rattle.task_table.specs.Start.{start};
 ghost use Rattle.command_line.specs.CommandLine.{Asked, is_accepted, build as build_job, run as run_job, go as go_job, list as list_job, migrate as migrate_job, audit as audit_job};
 ghost use Rattle.outside_io.specs.Seen.{FilesSeen};
+ghost use Rattle.audit_runs.specs.Last.{IsGoodText};
 ghost use Rattle.trace_cli.specs.Words.{texts_of, job_in, out_of};
 ghost use Rattle.trace_cli.specs.Verdict.{Verdict, IsVerdict, usage_line, ran, built, level_of, run_of, status_of};
 ghost use Rattle.trace_cli.specs.Pushed.{Pushed, Says, SaysNamedFault};
 ghost use Rattle.trace_cli.specs.Ready.{IsReady, IsNamedFaultIn};
-ghost use Rattle.trace_cli.specs.Answer.{Tells, AnswersJob, Answers, Answered, IsComplete, HasPlayed, HasDone, HasAudited, HasRefused, HasUnread, HasFront};
+ghost use Rattle.trace_cli.specs.Answer.{Tells, IsOfRun, AnswersJob, Answers, Answered, IsComplete, HasPlayed, HasDone, HasAudited, HasRefused, HasUnread, HasFront};
 
 use crate::auditing::{audit_under, tell_audit};
 use crate::building::built_image;
@@ -20,6 +21,7 @@ use crate::file_faults::NamedFault;
 use crate::preparing::{prepare_go, prepare_run, read_image};
 use crate::sampling::run_sample;
 use crate::telling::{line_of_built, status_by, tell, tell_listing, tell_named_fault, tell_usage};
+use audit_runs::{memories_are_shown, texts_of_runs_are_good};
 use board_core::{Board, End, Level};
 use board_run::{run, write_memory};
 use command_line::{Detail, Job, Refusal, read_words};
@@ -37,7 +39,7 @@ fn level_of(detail: Detail) -> Level
     }
 }
 
-// A run's trace, and then maybe its memory.
+// A run's trace, and then maybe its memory. An audit finds the whole text good.
 fn push_run<S: Sink>(
     board: &mut Board,
     steps: u32,
@@ -49,8 +51,11 @@ fn push_run<S: Sink>(
     requires few { steps ≤ 1000000000 }
     ensures text { (x : Scenario) → Stands x board.old (start x.setup) → Pushes (S.seen out.old).written (S.seen out.new).written (ran steps detail x).text result }
     ensures end { (x : Scenario) → Stands x board.old (start x.setup) → IfOk result (λ e. e ≡ (run_of (level_of detail) steps x).end) }
+    ensures good { (x : Scenario) → Stands x board.old (start x.setup) → IfOk result (λ _. IsGoodText (ran steps detail x).text) }
     ensures cause { HasCause (S.seen out.old).faults (S.seen out.new).faults result }
 {
+    texts_of_runs_are_good();
+    memories_are_shown();
     let end = run(board, steps, level_of(detail), out)?;
     if detail.memory {
         write_memory(board, out)?;
@@ -63,7 +68,8 @@ fn tell_run<S: Sink>(board: &mut Board, steps: u32, detail: Detail, out: &mut S)
     requires stood { Stood board.old }
     requires fresh { turns_of board.old ≡ 0 }
     requires few { steps ≤ 1000000000 }
-    ensures { (x : Scenario) → Stands x board.old (start x.setup) → Pushed (S.seen out.old) (S.seen out.new) (ran steps detail x) result }
+    ensures pushed { (x : Scenario) → Stands x board.old (start x.setup) → Pushed (S.seen out.old) (S.seen out.new) (ran steps detail x) result }
+    ensures good { (x : Scenario) → Stands x board.old (start x.setup) → IsOfRun result → IsGoodText (ran steps detail x).text }
 {
     match push_run(board, steps, detail, out) {
         Ok(end) => status_by(end),

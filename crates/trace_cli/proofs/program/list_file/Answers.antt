@@ -12,7 +12,7 @@ returns-in-Ok-clause-answer g c =
     let w = g.S.Sink.seen c.args.out.now in
     let w' = g.S.Sink.seen c.tell_listing.new.out in
     let image = picture c.in-Ok.picture in
-    answers_said (list c.args.image.now) a b w w' (listed image) c.tell_listing.result c.in-Ok.ensures.contents refl (list_reason a b c.args.image.now image c.in-Ok.ensures.image) c.tell_listing.ensures
+    answers_said (list c.args.image.now) a b w w' (listed image) c.tell_listing.result c.in-Ok.ensures.contents refl (list_reason a b c.args.image.now image c.in-Ok.ensures.image) tt c.tell_listing.ensures
 
 pub returns-in-Err-clause-answer : goal.returns-in-Err-clause-answer
 returns-in-Err-clause-answer g c =

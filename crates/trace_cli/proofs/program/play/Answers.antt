@@ -8,7 +8,7 @@ pub returns-in-Ok : goal.returns-in-Ok
 returns-in-Ok g c = λ job a b same ready named_fault.
     let w = g.S.Sink.seen c.args.out.now in
     let w' = g.S.Sink.seen c.tell_run.new.out in
-    answers_run job a b w w' c.args.steps c.args.detail c.in-Ok.board c.tell_run.result same (subst (λ p. IfOk p (IsReady job a.contents c.args.steps c.args.detail)) c.in-Ok.is ready) c.tell_run.ensures
+    answers_run job a b w w' c.args.steps c.args.detail c.in-Ok.board c.tell_run.result same (subst (λ p. IfOk p (IsReady job a.contents c.args.steps c.args.detail)) c.in-Ok.is ready) c.tell_run.ensures.pushed c.tell_run.ensures.good
 
 pub returns-in-Err : goal.returns-in-Err
 returns-in-Err g c = λ job a b same ready named_fault.

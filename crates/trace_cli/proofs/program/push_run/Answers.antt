@@ -1,17 +1,19 @@
-use Rattle.std.proofs.Common.{ap, subst, ◌∙◌}
+use Rattle.std.proofs.Common.{ap, subst, ◌∙◌, ◌-◌, ◌++◌, []}
 use Rattle.std.proofs.lemmas.List.{append-nil}
 use Rattle.std.proofs.lemmas.Result.{err_from_is_err_and}
 use Rattle.std.specs.Io.KnownBytes.{Appends}
 use Rattle.outside_io.specs.Outside.{AppendsFront}
 use Rattle.task_table.specs.Start.{start}
-use Rattle.board_model.specs.Run.{Run}
+use Rattle.board_model.specs.Run.{Run, run}
 use Rattle.board_model.specs.declared.outcomes.Level.{Level}
 use Rattle.board_core.specs.Stands.{Stands}
 use Rattle.board_run.specs.Text.{trace_text}
 use Rattle.board_run.specs.MemoryText.{memory_text}
+use Rattle.audit_runs.specs.Last.{IsGoodText}
 use Rattle.board_run.proofs.Appending.{appends_more, front_more, front_wider}
 use Rattle.trace_cli.specs.Verdict.{memory_if, run_of, level_of}
 use Rattle.trace_cli.proofs.Starting.{from_start}
+use Rattle.trace_cli.proofs.Ending.{last_fits}
 use Rattle.trace_cli.proofs.program.push_run.Goals as goal
 
 pub returns-in_err-end-clause-text : goal.returns-in_err-end-clause-text
@@ -54,3 +56,26 @@ returns-else-detail-clause-text g c = λ x st.
     let same = from_start c.level_of.result x c.args.board.now c.args.steps st c.requires.fresh ∙ ap (λ (l : Level). run_of l c.args.steps x) c.level_of.ensures in
     let P : Run → Type 0 = λ r. Appends (g.S.Sink.seen c.args.out.now).written (g.S.Sink.seen c.run.new.out).written (trace_text r) in
     rw (c.if-detail.false, append-nil (trace_text (run_of (level_of c.args.detail) c.args.steps x))) (subst P same (c.in_ok-end.ensures.text x (start x.setup) st))
+
+pub returns-in_ok-write_memory-clause-good : goal.returns-in_ok-write_memory-clause-good
+returns-in_ok-write_memory-clause-good g c = λ x st.
+    let n = c.args.steps in
+    let same = from_start c.level_of.result x c.args.board.now n st c.requires.fresh ∙ ap (λ (l : Level). run_of l n x) c.level_of.ensures in
+    let whole = run c.level_of.result x (n - (start x.setup).turn) (start x.setup) in
+    let last = c.in_ok-end.ensures.last x (start x.setup) st in
+    let fits = last_fits x c.run.new.board whole.last n c.requires.few c.in_ok-end.ensures.within last (c.in_ok-end.ensures.timers x (start x.setup) st) in
+    let good = c.texts_of_runs_are_good.ensures.runs c.level_of.result x (n - (start x.setup).turn) st.sane in
+    let shown = c.memories_are_shown.ensures.memories x.setup whole.last last.sane in
+    let P : Run → Type 0 = λ r. IsGoodText (trace_text r ++ memory_text x.setup r.last) in
+    rw c.if-detail.true (subst P same (good (memory_text x.setup whole.last) fits (c.in_ok-end.ensures.fit x (start x.setup) st) shown))
+
+pub returns-else-detail-clause-good : goal.returns-else-detail-clause-good
+returns-else-detail-clause-good g c = λ x st.
+    let n = c.args.steps in
+    let same = from_start c.level_of.result x c.args.board.now n st c.requires.fresh ∙ ap (λ (l : Level). run_of l n x) c.level_of.ensures in
+    let whole = run c.level_of.result x (n - (start x.setup).turn) (start x.setup) in
+    let last = c.in_ok-end.ensures.last x (start x.setup) st in
+    let fits = last_fits x c.run.new.board whole.last n c.requires.few c.in_ok-end.ensures.within last (c.in_ok-end.ensures.timers x (start x.setup) st) in
+    let good = c.texts_of_runs_are_good.ensures.runs c.level_of.result x (n - (start x.setup).turn) st.sane in
+    let P : Run → Type 0 = λ r. IsGoodText (trace_text r ++ []) in
+    rw c.if-detail.false (subst P same (good [] fits (c.in_ok-end.ensures.fit x (start x.setup) st) c.memories_are_shown.ensures.none))

@@ -1,0 +1,24 @@
+-- What is in range at the end of a run.
+use Rattle.std.proofs.Common.{◌≡◌, ◌≤◌, ℕ, Bool, true, false, [], length, arith}
+use Rattle.task_table.specs.State.{State}
+use Rattle.board_model.specs.Script.{Scenario}
+use Rattle.board_core.specs.declared.board.Board.{Board}
+use Rattle.board_core.specs.Machine.{HoldsBy}
+use Rattle.board_core.specs.Stands.{Stands, notes_of, turns_of}
+use Rattle.board_run.specs.Timers.{HasFitTimers}
+use Rattle.audit_runs.specs.Last.{IsFitLast}
+
+-- a kernel has as many tasks as the setup that it stands for, and not more than it may have
+few_tasks : (x : Scenario) (b : Board) (s : State) → Stands x b s → length s.tasks ≤ 512
+few_tasks x b s st = by b.machine.loaded st.holds.machine
+  where
+    by : (loaded : Bool) → HoldsBy loaded x.setup b.machine.reach.kernel b.machine.processor record { state = s; notes = notes_of b; writes = []; reads = [] } → length s.tasks ≤ 512
+    by true h = let most = b.machine.reach.kernel.few in let same = st.sane.steady.as_many in let many = h.holds.many in let count = h.holds.count in omega arith
+    by false h = let most = b.machine.reach.kernel.few in let count = h.count in omega arith
+
+-- the board stands for the last state
+pub last_fits : (x : Scenario) (b : Board) (s : State) (n : ℕ) → n ≤ 1000000000 → turns_of b ≤ n → Stands x b s → HasFitTimers s → IsFitLast s
+last_fits x b s n few within st timers =
+    let at = st.holds.turns in
+    let tasks = few_tasks x b s st in
+    record { counted = st.counted; turns = omega arith; tasks = omega arith; timers = timers }
