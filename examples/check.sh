@@ -43,5 +43,16 @@ for run in "driver script.txt 500" "restart empty.txt 300" "timers script.txt 50
     "$program" go "$at/app.toml" "$at/$script" --steps "$steps" --mem > "$made/mem.txt"
     same "$made/mem.txt" "$at/expected-mem.txt" "$example, go with its memory"
 done
+# each run holds together, its memory behind it too; a borrow of a call that nobody took does not
+for example in one-task client-server blinker driver restart timers watch; do
+    for text in expected expected-mem; do
+        "$program" audit "examples/$example/$text.txt" > "$made/audit.txt"
+        grep -q '^yes ' "$made/audit.txt" || { echo "$example, audit of $text: $(cat "$made/audit.txt")"; exit 1; }
+    done
+    echo "$example, audit: yes"
+done
+grep -v ' take 1 ' "$loan/expected.txt" > "$made/untaken.txt"
+"$program" audit "$made/untaken.txt" > "$made/audit.txt" && status=0 || status=$?
+[ "$status $(cat "$made/audit.txt")" = "7 no 9" ] || { echo "an audit of a call that was not taken: $status $(cat "$made/audit.txt")"; exit 1; }
 awk -f examples/readable.awk examples/restart/app.toml examples/restart/expected.txt > "$made/readable.txt"
 same "$made/readable.txt" examples/restart/readable.txt "restart, in words"
