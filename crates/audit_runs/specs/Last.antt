@@ -1,7 +1,6 @@
 -- What is known of the last state of a run, and of the lines behind those of its tasks.
 use Rattle.std.specs.Prelude.{ℕ, ◌≤◌, ◌≡◌, List, [], ◌∷◌, ◌++◌, length}
 use Rattle.task_table.specs.State.{State}
-use Rattle.task_table.specs.Reading.{task_at}
 use Rattle.task_table.specs.Sane.{IsCounted}
 use Rattle.trace_audit.specs.declared.reading.Line.TheVariants as line
 use Rattle.audit_laws.specs.Told.{IsLine}
