@@ -12,7 +12,7 @@ use Rattle.mem_banks.specs.Memory.{Memory}
 use Rattle.task_table.specs.State.{Setup, State}
 use Rattle.task_table.proofs.Keeps.{found_in, not_found}
 use Rattle.board_run.specs.MemoryText.{begins_at, regions_of, region_at, region_text, places_text, memory_text}
-use Rattle.board_run.specs.Regions.{IsInRam, HasRamRegions, ListsRam}
+use Rattle.board_run.specs.Regions.{BeginsInRam, HasRamRegions, ListsRam}
 
 -- ## what a function gives over a range
 
@@ -104,9 +104,9 @@ some_region g i r has e = go (find (begins_at (0x20000000 + 256 * i)) (regions_o
     go None none = absurd (not_found (begins_at (0x20000000 + 256 * i)) (regions_of g) r none has (eq-eqb r.base (0x20000000 + 256 * i) e))
     go (Some q) found = (q, found)
 
--- the place of an address of RAM
-place_of : (b : ℕ) → IsInRam b → b % 256 ≡ 0 → (i : ℕ) × (i < 1024) × (b ≡ 0x20000000 + 256 * i)
-place_of b inside multiple = let low = inside.0 in let high = inside.1 in (b / 256 - 0x200000, omega arith, omega arith)
+-- the place at which a region of RAM begins
+place_of : (r : Region) → BeginsInRam r → r.base % 256 ≡ 0 → (i : ℕ) × (i < 1024) × (r.base ≡ 0x20000000 + 256 * i)
+place_of r inside multiple = let low = inside.0 in let high = inside.1 in (r.base / 256 - 0x200000, omega arith, omega arith)
 
 later_base : (g : Setup) (i j : ℕ) (r q : Region) → i < j → region_of g i ≡ Some r → region_of g j ≡ Some q → r.base < q.base
 later_base g i j r q lt a b = omega (arith, (found_region g i r a).1, (found_region g j q b).1)
@@ -120,7 +120,7 @@ lists_ram g n is h = record {
       let f = found_region g a.0 r a.3 in
       (f.0, (omega (arith, f.1), omega (arith, f.1, a.2)));
   all = λ r has inside.
-      let p = place_of r.base inside (h.placed r has inside) in
+      let p = place_of r inside (h.placed r has inside) in
       let s = some_region g p.0 r has p.2 in
       let f = found_region g p.0 s.0 s.1 in
       let same : r.base ≡ s.0.base = p.2 ∙ sym f.1 in
