@@ -1,5 +1,5 @@
 -- The regions of which a memory text tells (docs/FORMATS.md, Memories; this project's own).
-use Rattle.std.specs.Prelude.{◌≡◌, ℕ, ◌<◌, ◌≤◌, ◌%◌, List, Contains, AllPairs}
+use Rattle.std.specs.Prelude.{◌≡◌, ◌<◌, ◌≤◌, ◌%◌, List, Contains, AllPairs}
 use Rattle.region_check.specs.declared.Region.{Region}
 use Rattle.task_table.specs.State.{Setup}
 use Rattle.board_run.specs.MemoryText.{regions_of}
