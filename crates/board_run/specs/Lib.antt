@@ -2,6 +2,7 @@ pub mod Counting
 pub mod Counts
 pub mod Midway
 pub mod MemoryText
+pub mod Regions
 pub mod Running
 pub mod Telling
 pub mod Text

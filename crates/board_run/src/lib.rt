@@ -2,6 +2,7 @@
 #![tactic(auto)]
 
 mod counts;
+mod laws;
 mod line;
 mod memory;
 mod pushing;
@@ -10,6 +11,7 @@ mod summary;
 mod telling;
 
 pub use counts::Counts;
+pub use laws::memories_have_each_region_once;
 pub use memory::write_memory;
 pub use running::{play, run};
 pub use summary::summarize;
