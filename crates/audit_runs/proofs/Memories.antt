@@ -18,6 +18,7 @@ use Rattle.trace_text.specs.Text.{hex}
 use Rattle.trace_audit.specs.declared.reading.Line.TheVariants as line
 use Rattle.trace_audit.specs.Fields.{is_low_hex, is_hex}
 use Rattle.board_run.specs.MemoryText.{byte_of, hex_at, bytes_hex, are_zeros, row_text, region_line, row_at, rows_text, row_count, region_text, begins_at, regions_of, region_at, place_text, places_text, memory_text, row_line as told_row}
+use Rattle.board_run.proofs.Listing.{region_of_task}
 use Rattle.audit_laws.specs.Told.{IsLine}
 use Rattle.audit_laws.specs.Ends.{mem_line, row_line}
 use Rattle.audit_laws.specs.Whole.{joined}
@@ -117,11 +118,6 @@ mem_short base size fit =
 region_shown : (m : Memory) (r : Region) → r.size < 2 ^ 32 → IsShown (region_text m r)
 unfolding region_text region_line
 region_shown m r fit = shown_then (mem_line r.base r.size) (rows_text m r.base (row_count r)) (shown_line (mem_line r.base r.size) (mem_read r.base r.size fit) (mem_short r.base r.size fit)) (rows_shown m r.base (row_count r))
-
--- a region of a setup is one of a task's
-region_of_task : (tasks : List TaskSetup) (r : Region) → Contains (flat_map (λ t. t.regions) tasks) r → (i : ℕ) × Contains (setup_in tasks i).regions r
-region_of_task [] r c = absurd (omega (arith, c.1))
-region_of_task (t ∷ ts) r c = elim (Contains-append_cases t.regions (flat_map (λ u. u.regions) ts) r c) [ inl here ↦ (zero, here) | inr later ↦ let next = region_of_task ts r later in (suc next.0, next.1) ]
 
 begins : (a b : ℕ) → eqb a b ≡ true → a ≡ b
 begins a b e = elim (eqb_tells a b) [ inl h ↦ h.1 | inr h ↦ absurd (false≢true (sym h.0 ∙ e)) ]

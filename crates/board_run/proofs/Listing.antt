@@ -1,5 +1,5 @@
 -- What a function gives over a range of numbers, as a list; and the regions of RAM as such a list.
-use Rattle.std.proofs.Common.{◌≡◌, ℕ, zero, suc, ◌+◌, ◌-◌, ◌*◌, ◌/◌, ◌%◌, ◌<◌, ◌≤◌, inl, inr, true, ◌==◌, List, [], ◌∷◌, ◌++◌, get_or, Option, Some, None, refl, sym, ap, ◌∙◌, arith, append-nil, eq-eqb}
+use Rattle.std.proofs.Common.{◌≡◌, ℕ, zero, suc, ◌+◌, ◌-◌, ◌*◌, ◌/◌, ◌%◌, ◌<◌, ◌≤◌, inl, inr, true, ◌==◌, List, [], ◌∷◌, ◌++◌, get_or, Option, Some, None, refl, sym, ap, subst, ◌∙◌, arith, append-nil, eq-eqb}
 use Rattle.std.specs.Prelude.{Contains, AllPairs, flat_map, option_to_list, find}
 use Rattle.std.specs.List.{range_with_len}
 use Rattle.std.specs.Option.{option_map_or}
@@ -9,7 +9,12 @@ use Rattle.std.proofs.lemmas.List.Concat.{flat_map-append}
 use Rattle.std.proofs.lemmas.List.Elements.{Contains-get_or, Contains-append_left, Contains-append_right, Contains-append_cases}
 use Rattle.region_check.specs.declared.Region.{Region}
 use Rattle.mem_banks.specs.Memory.{Memory}
-use Rattle.task_table.specs.State.{Setup, State}
+use Rattle.task_table.specs.State.{Setup, TaskSetup, State}
+use Rattle.task_table.specs.Reading.{setup_in}
+use Rattle.image_format.specs.Picture.{Picture, regions_in}
+use Rattle.image_format.specs.Facts.{Facts, SameOrApart}
+use Rattle.board_core.specs.Opened.{setup_of_image}
+use Rattle.board_core.proofs.Opens.{setup_is}
 use Rattle.task_table.proofs.Keeps.{found_in, not_found}
 use Rattle.board_run.specs.MemoryText.{begins_at, regions_of, region_at, region_text, places_text, memory_text}
 use Rattle.board_run.specs.Regions.{BeginsInRam, HasRamRegions, ListsRam}
@@ -134,3 +139,30 @@ places_told g m n = each_told (region_text m) (region_of g) 0 n
 pub memory_told : (g : Setup) (n : ℕ) → n ≡ 1024 → (s : State) → memory_text g s ≡ flat_map (region_text s.memory) (ram_regions g n)
 unfolding memory_text
 memory_told g n is s = ap (places_text g s.memory) (sym is) ∙ places_told g s.memory n
+
+-- ## the regions of an image
+
+-- a region of a setup is one of a task's
+pub region_of_task : (tasks : List TaskSetup) (r : Region) → Contains (flat_map (λ t. t.regions) tasks) r → (i : ℕ) × Contains (setup_in tasks i).regions r
+region_of_task [] r c = absurd (omega (arith, c.1))
+region_of_task (t ∷ ts) r c = elim (Contains-append_cases t.regions (flat_map (λ u. u.regions) ts) r c) [ inl here ↦ (zero, here) | inr later ↦ let next = region_of_task ts r later in (suc next.0, next.1) ]
+
+of_image : (p : Picture) (r : Region) → Contains (regions_of (setup_of_image p)) r → (i : ℕ) × Contains (regions_in p i) r
+of_image p r has =
+    let own = region_of_task (setup_of_image p).tasks r has in
+    (own.0, subst (λ (t : TaskSetup). Contains t.regions r) (setup_is p own.0) own.1)
+
+-- regions of some size that begin alike are as long, where they are the same or apart
+as_long : (r q : Region) → 256 ≤ r.size → 256 ≤ q.size → r.base ≡ q.base → SameOrApart r q → r.size ≡ q.size
+as_long r q some also same (inl alike) = alike.1
+as_long r q some also same (inr (inl before)) = absurd (omega (arith, some, same, before))
+as_long r q some also same (inr (inr behind)) = absurd (omega (arith, also, same, behind))
+
+pub of_images : (p : Picture) → Facts p → HasRamRegions (setup_of_image p)
+of_images p f = record {
+  placed = λ r has inside. let own = of_image p r has in f.regions.aligned own.0 r own.1;
+  sized = λ r q has also inside same.
+      let a = of_image p r has in
+      let b = of_image p q also in
+      as_long r q (f.regions.sizes a.0 r a.1) (f.regions.sizes b.0 q b.1) same (f.regions.apart a.0 b.0 r q a.1 b.1);
+}

@@ -1,9 +1,10 @@
 -- What is known of each sound image, from what the steps say.
-use Rattle.std.proofs.Common.{◌≡◌, ◌∙◌, ◌+◌, ◌-◌, ◌*◌, ◌%◌, ◌<◌, ◌≤◌, ℕ, zero, suc, List, All, [], ◌∷◌, ◌++◌, Bool, true, false, not, ◌||◌, ◌&&◌, ◌==◌, None, length, take, drop, map, get_or, nat_le, nat_lt, ◌⊎◌, inl, inr, arith, ap, refl, sym, subst, append_assoc}
+use Rattle.std.proofs.Common.{◌≡◌, ◌∙◌, ◌+◌, ◌-◌, ◌*◌, ◌/◌, ◌%◌, ◌<◌, ◌≤◌, ℕ, zero, suc, List, All, [], ◌∷◌, ◌++◌, Bool, true, false, not, ◌||◌, ◌&&◌, ◌==◌, None, length, take, drop, map, get_or, nat_le, nat_lt, ◌⊎◌, inl, inr, arith, ap, refl, sym, subst, append_assoc, mul_assoc, div-add-mod'}
 use Rattle.std.specs.Prelude.{Contains}
 use Rattle.std.specs.List.{list_all, list_any}
 use Rattle.std.proofs.lemmas.Bool.{cases_lt, eqb-true, le-leb, leb-true, lt-ltb, ltb-false, ltb-true}
 use Rattle.std.proofs.lemmas.Bool.Decides.{nat_tests}
+use Rattle.std.proofs.lemmas.Nat.{mod-mul-add}
 use Rattle.std.proofs.lemmas.List.{append-nil, get_or-map, get_or_past, length-map, take-append-drop}
 use Rattle.image_format.specs.declared.records.Form.{Form}
 use Rattle.image_format.specs.declared.records.Form.TheVariants.{First, Second}
@@ -82,21 +83,34 @@ placed h p r f m g =
 
 -- ---- sizes
 
-at_least : (least n : ℕ) (ks : List ℕ) → list_all (nat_le least) ks ≡ true → list_any (λ k. n == k) ks ≡ true → least ≤ n
-at_least least n [] a e = cc
-at_least least n (k ∷ ks) a e =
-    let b = and_true (nat_le least k) (list_all (nat_le least) ks) a in
+-- what holds of each number of a list holds of one that is among them
+among : (test : ℕ → Bool) (n : ℕ) (ks : List ℕ) → list_all test ks ≡ true → list_any (λ k. n == k) ks ≡ true → test n ≡ true
+among test n [] a e = cc
+among test n (k ∷ ks) a e =
+    let b = and_true (test k) (list_all test ks) a in
     elim (or_cases (n == k) (list_any (λ k. n == k) ks) e) [
-      | inl h ↦ same least n k b.0 h
-      | inr h ↦ at_least least n ks b.1 h
+      | inl h ↦ ap test (eqb-true n k h) ∙ b.0
+      | inr h ↦ among test n ks b.1 h
     ]
-  where
-    same : (least n k : ℕ) → nat_le least k ≡ true → (n == k) ≡ true → least ≤ n
-    same least n k a b = grind (arith, nat_tests)
 
 sized : (h : Header) (r : RegionRecord) → IsRegion h r → 256 ≤ r.size
 unfolding is_size
-sized h r g = at_least 256 r.size sizes refl (and_true (is_size r.size) (r.base % r.size == 0) g.shape).0
+sized h r g = leb-true 256 r.size (among (nat_le 256) r.size sizes refl (and_true (is_size r.size) (r.base % r.size == 0) g.shape).0)
+
+-- a multiple of a multiple of 256 is one too
+multiple : (base size : ℕ) → size % 256 ≡ 0 → base % size ≡ 0 → base % 256 ≡ 0
+multiple base size by_256 whole =
+    let parts : size ≡ size / 256 * 256 = omega (arith, by_256) in
+    let times : base ≡ base / size * size + 0 = sym (div-add-mod' base size) ∙ ap (λ (n : ℕ). base / size * size + n) whole in
+    let all : base / size * size ≡ base / size * (size / 256) * 256 = ap (λ (n : ℕ). base / size * n) parts ∙ sym (mul_assoc (base / size) (size / 256) 256) in
+    ap (λ (n : ℕ). n % 256) (times ∙ ap (λ (n : ℕ). n + 0) all) ∙ mod-mul-add (base / size * (size / 256)) 256 0 (omega arith)
+
+aligned : (h : Header) (r : RegionRecord) → IsRegion h r → r.base % 256 ≡ 0
+unfolding is_size
+aligned h r g =
+    let shape = and_true (is_size r.size) (r.base % r.size == 0) g.shape in
+    let size : r.size % 256 ≡ 0 = eqb-true (r.size % 256) 0 (among (λ k. k % 256 == 0) r.size sizes refl shape.0) in
+    multiple r.base r.size size (eqb-true (r.base % r.size) 0 shape.1)
 
 -- ---- regions apart
 
@@ -197,6 +211,8 @@ has_regions r a =
       no_code = λ i g c. (each every i g c).no_code;
       sizes = λ i g c. let q = region_source r.tasks r.regions r.names i g c in
           subst (λ (z : Region). 256 ≤ z.size) q.2 (sized r.header q.0 (every_in (IsRegion r.header) r.regions q.0 every q.1));
+      aligned = λ i g c. let q = region_source r.tasks r.regions r.names i g c in
+          subst (λ (z : Region). z.base % 256 ≡ 0) q.2 (aligned r.header q.0 (every_in (IsRegion r.header) r.regions q.0 every q.1));
       within = λ i g c. (each every i g c).within;
       writable = λ i g c. (each every i g c).writable;
       devices = λ i g c. (each every i g c).devices;

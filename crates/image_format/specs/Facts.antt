@@ -44,6 +44,7 @@ pub record HasRegions (p : Picture) : Type 0 where
   pub no_code : (i : ℕ) (r : Region) → Contains (regions_in p i) r
       → r.rights.device ≡ true → r.rights.execute ≡ false
   pub sizes : (i : ℕ) (r : Region) → Contains (regions_in p i) r → 256 ≤ r.size
+  pub aligned : (i : ℕ) (r : Region) → Contains (regions_in p i) r → r.base % 256 ≡ 0
   pub within : (i : ℕ) (r : Region) → Contains (regions_in p i) r
       → r.rights.device ≡ false → IsInFlash p r ⊎ IsInRam p r
   pub writable : (i : ℕ) (r : Region) → Contains (regions_in p i) r
