@@ -5,13 +5,12 @@ use Rattle.std.specs.List.{list_all, flat_map, range_with_len}
 use Rattle.std.specs.Option.{option_map_or}
 use Rattle.std.proofs.lemmas.Bool.{false≢true}
 use Rattle.std.proofs.lemmas.Bool.Decides.{nat_tests, eqb_tells}
-use Rattle.std.proofs.lemmas.List.Elements.{Contains-append_cases}
 use Rattle.region_check.specs.declared.Region.{Region}
 use Rattle.mem_banks.specs.Memory.{Memory, IsWithin}
 use Rattle.thumb_insn.specs.Text.{hex_digit}
-use Rattle.task_table.specs.State.{Setup, TaskSetup, State}
+use Rattle.task_table.specs.State.{Setup, State}
 use Rattle.task_table.specs.Placed.{ArePlaced}
-use Rattle.task_table.specs.Reading.{setup_in, setup_at}
+use Rattle.task_table.specs.Reading.{setup_at}
 use Rattle.task_table.specs.Sane.{Sane}
 use Rattle.task_table.proofs.Keeps.{found_in}
 use Rattle.trace_text.specs.Text.{hex}

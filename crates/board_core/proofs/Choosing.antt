@@ -1,5 +1,5 @@
 -- There is one order of the tasks, so the same set of places has the same tasks.
-use Rattle.std.proofs.Common.{◌≡◌, ◌∙◌, ◌%◌, ◌*◌, ◌+◌, ◌<◌, ◌≤◌, ◌⊎◌, ℕ, zero, suc, Bool, false, ◌&&◌, List, length, map, ap, arith, inl, inr, is_none, sym}
+use Rattle.std.proofs.Common.{◌≡◌, ◌∙◌, ◌%◌, ◌*◌, ◌+◌, ◌<◌, ◌≤◌, ℕ, zero, suc, Bool, false, ◌&&◌, List, length, ap, arith, inl, inr, is_none, sym}
 use Rattle.std.proofs.lemmas.Bool.{cases_lt}
 use Rattle.std.proofs.lemmas.List.{get_or_past, length-map}
 use Rattle.task_table.specs.State.{Setup, State, Task, TaskSetup}

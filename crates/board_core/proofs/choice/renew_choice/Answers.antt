@@ -1,4 +1,4 @@
-use Rattle.std.proofs.Common.{◌≡◌, ◌∙◌, ℕ, sym}
+use Rattle.std.proofs.Common.{◌∙◌, sym}
 use Rattle.task_table.specs.Reading.{is_ready}
 use Rattle.task_table.specs.Holds.{order_of}
 use Rattle.task_table.specs.Order.{place_in}

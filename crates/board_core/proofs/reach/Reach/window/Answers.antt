@@ -1,4 +1,4 @@
-use Rattle.std.proofs.Common.{◌≡◌, ◌∙◌, ℕ, List, false, sym, ap, subst}
+use Rattle.std.proofs.Common.{◌≡◌, ◌∙◌, ℕ, List, false, ap, subst}
 use Rattle.std.specs.List.{list_any}
 use Rattle.region_check.specs.declared.Region.{Region}
 use Rattle.task_table.specs.Reading.{setup_at}
