@@ -12,9 +12,9 @@ use Rattle.trace_audit.specs.declared.reading.Saying.TheVariants as saying
 use Rattle.trace_audit.specs.declared.reading.Wait.{Wait}
 use Rattle.trace_audit.specs.declared.reading.Wait.TheVariants as wait
 use Rattle.trace_audit.specs.Rules.{said, is_end, turn_after, has_ended, IsOffered, IsTaken, IsClosed, IsGoodWait, IsGoodLine, AreGood}
-use Rattle.trace_audit.specs.Books.{Calls, calls_of, waits_as, IsTold, Hears, IsRest, IsKept, Adds}
+use Rattle.trace_audit.specs.Books.{Calls, Kept, kept_in, calls_with, waits_as, IsTold, HasHeard, Notes, IsRest, IsKept, Adds}
 use Rattle.trace_audit.proofs.Telling.{only, none_some, true_false}
-use Rattle.trace_audit.proofs.Hearing.{hears_nothing}
+use Rattle.trace_audit.proofs.Hearing.{books_nothing}
 use Rattle.trace_audit.proofs.Pushing.{push_split}
 
 -- ## lists of lines
@@ -38,23 +38,23 @@ said_push : (lines : List Line) (l : Line) → map said (lines ++ l ∷ []) ≡ 
 said_push [] l = refl
 said_push (x ∷ lines) l = ap (λ xs. said x ∷ xs) (said_push lines l)
 
-told_push : (lines : List Line) (l : Line) (x : Calls) → IsTold (map said lines ++ said l ∷ []) x → IsTold (map said (lines ++ l ∷ [])) x
-told_push lines l x h = subst (λ ss. IsTold ss x) (sym (said_push lines l)) h
+heard_push : (lines : List Line) (l : Line) (b : Kept) → HasHeard (map said lines ++ said l ∷ []) b → HasHeard (map said (lines ++ l ∷ [])) b
+heard_push lines l b h = subst (λ ss. HasHeard ss b) (sym (said_push lines l)) h
 
 -- ## a book of one more line
 
-adds_told : (lines : List Line) (b c : Book) (turn : ℕ) (s : Saying) → IsKept lines b → b.ended ≡ false → b.turn ≤ turn → c.turn ≡ turn → c.ended ≡ b.ended → (good : Bool) → Hears (map said lines) s (calls_of c) good → Adds lines (line.Tells turn s) c good
+adds_told : (lines : List Line) (b c : Book) (turn : ℕ) (s : Saying) → IsKept lines b → b.ended ≡ false → b.turn ≤ turn → c.turn ≡ turn → c.ended ≡ b.ended → (good : Bool) → Notes (map said lines) s (kept_in c) good → Adds lines (line.Tells turn s) c good
 adds_told lines b c turn s h going low now same true k = (
   record { before_end = sym h.ended ∙ going; not_below = subst (λ n. n ≤ turn) h.turn low; saying = k.0 },
   record {
     turn = now ∙ sym (turn_push 0 lines (line.Tells turn s));
     ended = same ∙ h.ended ∙ sym (ended_push lines (line.Tells turn s) ∙ or_none (has_ended lines));
-    told = told_push lines (line.Tells turn s) (calls_of c) k.1;
+    heard = heard_push lines (line.Tells turn s) (kept_in c) k.1;
   },
 )
 adds_told lines b c turn s h going low now same false k = λ g. k g.saying
 
-pub adds_tell : (lines : List Line) (b c : Book) (turn : ℕ) (s : Saying) → IsKept lines b → b.ended ≡ false → b.turn ≤ turn → IsRest (record b { turn = turn }) c → (good : Bool) → Hears (map said lines) s (calls_of c) good → Adds lines (line.Tells turn s) c good
+pub adds_tell : (lines : List Line) (b c : Book) (turn : ℕ) (s : Saying) → IsKept lines b → b.ended ≡ false → b.turn ≤ turn → IsRest (record b { turn = turn }) c → (good : Bool) → Notes (map said lines) s (kept_in c) good → Adds lines (line.Tells turn s) c good
 adds_tell lines b c turn s h going low rest good k = adds_told lines b c turn s h going low rest.turn rest.ended good k
 
 pub tells_late : (lines : List Line) (b : Book) (turn : ℕ) (s : Saying) → IsKept lines b → b.ended ≡ true → ¬ IsGoodLine lines (line.Tells turn s)
@@ -68,7 +68,7 @@ aside : (lines : List Line) (b : Book) (l : Line) → said l ≡ saying.Nothing 
 aside lines b l nothing plain same h = record {
   turn = h.turn ∙ sym (turn_push 0 lines l ∙ same);
   ended = h.ended ∙ sym (ended_push lines l ∙ ap (λ e. has_ended lines || e) plain ∙ or_none (has_ended lines));
-  told = told_push lines l (calls_of b) (hears_nothing (map said lines) (calls_of b) h.told (said l) nothing).1;
+  heard = heard_push lines l (kept_in b) (books_nothing (map said lines) (kept_in b) h.heard (said l) nothing).1;
 }
 
 pub adds_end : (lines : List Line) (b : Book) → IsKept lines b → b.ended ≡ false → Adds lines line.Ends (record b { ended = true }) true
@@ -77,7 +77,7 @@ adds_end lines b h going = (
   record {
     turn = h.turn ∙ sym (turn_push 0 lines line.Ends);
     ended = sym (ended_push lines line.Ends ∙ or_true (has_ended lines));
-    told = told_push lines line.Ends (calls_of b) (hears_nothing (map said lines) (calls_of b) h.told saying.Nothing refl).1;
+    heard = heard_push lines line.Ends (kept_in b) (books_nothing (map said lines) (kept_in b) h.heard saying.Nothing refl).1;
   },
 )
   where
@@ -192,9 +192,9 @@ module _ (before : List Saying) (x : Calls) (h : IsTold before x) (i : ℕ) wher
   judged (Some z) e (wait.Taken k) false is = not_taken_so z e k z.taken refl is
 
 -- the line of a task
-pub adds_wait : (lines : List Line) (b : Book) (i : ℕ) (w : Wait) → IsKept lines b → b.ended ≡ true → (good : Bool) → waits_as ((calls_of b).held i) w ≡ good → Adds lines (line.Waits i w) b good
-adds_wait lines b i w h e true is = ((sym h.ended ∙ e, judged (map said lines) (calls_of b) h.told i _ refl w true is), aside lines b (line.Waits i w) refl refl refl h)
-adds_wait lines b i w h e false is = λ g. judged (map said lines) (calls_of b) h.told i _ refl w false is g.1
+pub adds_wait : (lines : List Line) (b : Book) (i : ℕ) (w : Wait) → IsKept lines b → b.ended ≡ true → (good : Bool) → waits_as ((kept_in b).held i) w ≡ good → Adds lines (line.Waits i w) b good
+adds_wait lines b i w h e true is = ((sym h.ended ∙ e, judged (map said lines) (calls_with h.heard.clients (kept_in b)) h.heard.told i _ refl w true is), aside lines b (line.Waits i w) refl refl refl h)
+adds_wait lines b i w h e false is = λ g. judged (map said lines) (calls_with h.heard.clients (kept_in b)) h.heard.told i _ refl w false is g.1
 
 pub waits_early : (lines : List Line) (b : Book) (i : ℕ) (w : Wait) → IsKept lines b → b.ended ≡ false → ¬ IsGoodLine lines (line.Waits i w)
 waits_early lines b i w h e = λ g. false≢true (sym e ∙ h.ended ∙ g.0)

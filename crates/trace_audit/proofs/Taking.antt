@@ -9,7 +9,7 @@ use Rattle.trace_audit.specs.declared.verdict.Verdict.TheVariants as verdict
 use Rattle.trace_audit.specs.Texts.{lines_of}
 use Rattle.trace_audit.specs.Meaning.{read}
 use Rattle.trace_audit.specs.Rules.{said, is_offer, is_left, has_ended, AreGood}
-use Rattle.trace_audit.specs.Books.{calls_of, IsKept, Adds}
+use Rattle.trace_audit.specs.Books.{kept_in, IsKept, Adds}
 use Rattle.trace_audit.specs.Verdicts.{cause_of, IsFirstCause, HasNoCause, read_lines, IsVerdict}
 use Rattle.trace_audit.specs.Midway.{IsMidway, IsFineSoFar, IsGoodSoFar}
 use Rattle.trace_audit.proofs.Adding.{good_none, good_push}
@@ -78,12 +78,12 @@ module _ (text rest : List ℕ) (n : ℕ) (over : lines_of rest ≡ []) where
   read_all : (t : IsMidway text rest n) → read_lines text ≡ map read t.done
   read_all t = ap (map read) (all_done t)
 
-  pub good_end : (b : Book) (calls left : ℕ) → IsGoodSoFar text rest n b → b.ended ≡ true → calls ≡ length b.clients.items → left ≡ (calls_of b).left → IsVerdict text (verdict.Yes calls left)
+  pub good_end : (b : Book) (calls left : ℕ) → IsGoodSoFar text rest n b → b.ended ≡ true → calls ≡ b.offered → left ≡ (kept_in b).left → IsVerdict text (verdict.Yes calls left)
   good_end b calls left h ended c l =
       let e = sym (read_all h.taken) in (
         record { each = subst AreGood e h.good; ended = subst (λ ls. has_ended ls ≡ true) e (sym h.kept.ended ∙ ended) },
-        c ∙ h.kept.told.number ∙ ap (λ ls. count_by is_offer (map said ls)) e,
-        l ∙ h.kept.told.count ∙ ap (λ ls. count_by (is_left (map said ls)) (map said ls)) e,
+        c ∙ h.kept.heard.offered ∙ h.kept.heard.told.number ∙ ap (λ ls. count_by is_offer (map said ls)) e,
+        l ∙ h.kept.heard.told.count ∙ ap (λ ls. count_by (is_left (map said ls)) (map said ls)) e,
       )
 
   pub no_end : (b : Book) → IsGoodSoFar text rest n b → b.ended ≡ false → IsVerdict text (verdict.No (n + 1))

@@ -4,14 +4,14 @@ use Rattle.std.specs.Prelude.{Contains, count_by}
 use Rattle.std.proofs.lemmas.List.{length-append}
 use Rattle.std.proofs.lemmas.List.Elements.{Contains-push, Contains-push_cases, Contains-append_left}
 use Rattle.std.proofs.lemmas.List.Sums.{sum_by_push}
-use Rattle.std.proofs.lemmas.Bool.Decides.{eqb_tells, nat_tests}
+use Rattle.std.proofs.lemmas.Bool.Decides.{eqb_tells}
 use Rattle.std.proofs.Math.ListN.{get_or-append}
 use Rattle.std.proofs.Math.Seq.{get_or-append_seam}
 use Rattle.trace_audit.specs.declared.book.Open.{Open}
 use Rattle.trace_audit.specs.declared.reading.Saying.{Saying}
 use Rattle.trace_audit.specs.declared.reading.Saying.TheVariants as saying
 use Rattle.trace_audit.specs.Rules.{is_offer, is_left, IsOffered, IsTaken, IsClosed, MayOffer, MayTake, MayClose, MayBorrow}
-use Rattle.trace_audit.specs.Books.{Calls, is_numbered, client_at, as_open, open_by, IsOpenAs, IsTold}
+use Rattle.trace_audit.specs.Books.{Calls, is_numbered, as_open, open_by, IsOpenAs, IsTold}
 
 -- ## what one more saying adds
 
@@ -106,17 +106,6 @@ module _ (before : List Saying) (x : Calls) (h : IsTold before x) where
 
   pub found : (k i : ℕ) (o : Open) → x.held i ≡ Some o → o.call ≡ k → IsOpenAs before k i o.taken
   found k i o e same = subst (λ n. IsOpenAs before n i o.taken) same (h.kept i o e)
-
-  -- no such number, or none at its client: it is not open
-  pub none_past : (k : ℕ) → (k ≡ 0) ⊎ (length x.clients < k) → (i : ℕ) → IsOffered before k i → ⊥
-  none_past k (inl e) i offered = let l = h.least k i offered in absurd (omega arith)
-  none_past k (inr lt) i offered = let m = h.most k i offered in absurd (omega arith)
-
-  pub none_at : (k j : ℕ) → get_or x.clients (k - 1) 0 ≡ j → ((o : Open) → x.held j ≡ Some o → o.call ≡ k → ⊥) → (i : ℕ) → IsOffered before k i → ¬ IsClosed before k → ⊥
-  none_at k j at never i offered still =
-      let l = h.left k i offered still in
-      let same : i ≡ j = sym (h.by k i offered) ∙ at in
-      never l.0 (ap x.held (sym same) ∙ l.1) l.2
 
   pub may_take : (k i : ℕ) → IsOpenAs before k i false → MayTake before k
   may_take k i a = record { offered = (i, a.offered); first = a.no refl; still = a.still }
@@ -348,25 +337,15 @@ told_aside before x s h no_offer no_take no_close plain count = record {
   count = count;
 }
 
--- ## what the code finds at a number
-
-wrong_place : (clients : List ℕ) (k : ℕ) → client_at clients k ≡ None → (k ≡ 0) ⊎ (length clients < k)
-wrong_place clients k e = grind (arith, nat_tests)
-
-right_place : (clients : List ℕ) (k j : ℕ) → client_at clients k ≡ Some j → get_or clients (k - 1) 0 ≡ j
-right_place clients k j e = grind (arith, nat_tests)
+-- ## what is found at a number
 
 module _ (before : List Saying) (x : Calls) (h : IsTold before x) where
-  held_none : (k j : ℕ) (o : Option Open) → x.held j ≡ o → as_open k j o ≡ None → (z : Open) → x.held j ≡ Some z → z.call ≡ k → ⊥
+  pub held_none : (k j : ℕ) (o : Option Open) → x.held j ≡ o → as_open k j o ≡ None → (z : Open) → x.held j ≡ Some z → z.call ≡ k → ⊥
   held_none k j None is e z at same = none_some (sym is ∙ at)
   held_none k j (Some o) is e z at same = elim (eqb_tells o.call k) [
     | inl t ↦ none_some (sym (sym (ap (λ b. cond b (Some (j, o.taken)) None) t.0) ∙ e))
     | inr f ↦ f.1 (ap (λ (w : Open). w.call) (some_same (sym is ∙ at)) ∙ same)
   ]
-
-  pub open_none : (k : ℕ) (c : Option ℕ) → client_at x.clients k ≡ c → open_by x.held k c ≡ None → (i : ℕ) → IsOffered before k i → ¬ IsClosed before k → ⊥
-  open_none k None is e i offered still = none_past before x h k (wrong_place x.clients k is) i offered
-  open_none k (Some j) is e i offered still = none_at before x h k j (right_place x.clients k j is) (held_none k j (x.held j) refl e) i offered still
 
   held_some : (k j i : ℕ) (taken : Bool) (o : Option Open) → as_open k j o ≡ Some (i, taken) → (o ≡ Some (record { call = k; taken = taken })) × (j ≡ i)
   held_some k j i taken None e = none_some e

@@ -1,5 +1,5 @@
 -- What a book keeps of good lines.
-use Rattle.std.specs.Prelude.{ℕ, ◌+◌, ◌-◌, ◌≡◌, ◌<◌, ◌≤◌, Bool, true, false, ◌==◌, ◌&&◌, ◌||◌, not, nat_lt, if◌then◌else◌, List, [], ◌∷◌, ◌++◌, length, map, count_by, slice_index, Option, Some, None}
+use Rattle.std.specs.Prelude.{ℕ, ◌+◌, ◌-◌, ◌≡◌, ◌<◌, ◌≤◌, Bool, true, false, ◌==◌, ◌&&◌, not, if◌then◌else◌, List, [], ◌∷◌, ◌++◌, length, map, count_by, slice_index, Option, Some, None}
 use Rattle.std.specs.BTreeMap.{get, btree_map_len}
 use Rattle.std.specs.Ordering.{nat_cmp}
 use Rattle.trace_audit.specs.declared.book.Book.{Book}
@@ -17,22 +17,15 @@ pub record Calls : Type 0 where
   pub held : ℕ → Option Open
   pub left : ℕ
 
-abbrev pub calls_of : Book → Calls
-calls_of b = record { clients = b.clients.items; held = get nat_cmp b.calls; left = btree_map_len b.calls }
-
-abbrev pub client_at : List ℕ → ℕ → Option ℕ
-client_at clients k = if (k == 0) || nat_lt (length clients) k then None else Some (slice_index clients (k - 1))
-
+-- the open call of task i, if that is call k, and whether it was taken
 abbrev pub as_open : ℕ → ℕ → Option Open → Option (ℕ × Bool)
 as_open k i None = None
 as_open k i (Some o) = if o.call == k then Some (i, o.taken) else None
 
+-- of the task that a call has, if it has one
 abbrev pub open_by : (ℕ → Option Open) → ℕ → Option ℕ → Option (ℕ × Bool)
 open_by held k None = None
 open_by held k (Some i) = as_open k i (held i)
-
-abbrev pub open_at : List ℕ → (ℕ → Option Open) → ℕ → Option (ℕ × Bool)
-open_at clients held k = open_by held k (client_at clients k)
 
 abbrev pub waits_as : Option Open → Wait → Bool
 waits_as None (wait.Offered k) = false
@@ -78,6 +71,33 @@ abbrev pub Hears : List Saying → Saying → Calls → Bool → Type 0
 Hears before s x true = IsGoodSaying before s × IsTold (before ++ s ∷ []) x
 Hears before s x false = ¬ IsGoodSaying before s
 
+-- ## a book
+
+-- what a book keeps of calls: how many were offered, the client of each open call, the open call of each client, and how many are open
+pub record Kept : Type 0 where
+  pub offered : ℕ
+  pub client : ℕ → Option ℕ
+  pub held : ℕ → Option Open
+  pub left : ℕ
+
+abbrev pub kept_in : Book → Kept
+kept_in b = record { offered = b.offered; client = get nat_cmp b.clients; held = get nat_cmp b.calls; left = btree_map_len b.calls }
+
+abbrev pub calls_with : List ℕ → Kept → Calls
+calls_with clients b = record { clients = clients; held = b.held; left = b.left }
+
+-- a book keeps it of the calls of which the lines say so, whose clients are known though it has them of open ones alone
+pub record HasHeard (before : List Saying) (b : Kept) : Type 0 where
+  pub clients : List ℕ
+  pub told : IsTold before (calls_with clients b)
+  pub offered : b.offered ≡ length clients
+  pub found : (i : ℕ) (o : Open) → b.held i ≡ Some o → b.client o.call ≡ Some i
+
+-- what is said is good, and a book then keeps this; or it is not
+abbrev pub Notes : List Saying → Saying → Kept → Bool → Type 0
+Notes before s b true = IsGoodSaying before s × HasHeard (before ++ s ∷ []) b
+Notes before s b false = ¬ IsGoodSaying before s
+
 -- besides the calls nothing changes
 pub record IsRest (b c : Book) : Type 0 where
   pub turn : c.turn ≡ b.turn
@@ -87,7 +107,7 @@ pub record IsRest (b c : Book) : Type 0 where
 pub record IsKept (lines : List Line) (b : Book) : Type 0 where
   pub turn : b.turn ≡ turn_after 0 lines
   pub ended : b.ended ≡ has_ended lines
-  pub told : IsTold (map said lines) (calls_of b)
+  pub heard : HasHeard (map said lines) (kept_in b)
 
 -- the line is good, and the book is then that of it too; or it is not
 abbrev pub Adds : List Line → Line → Book → Bool → Type 0

@@ -39,7 +39,7 @@ fn verdict(alloc: Global, text: &[u8]) -> Result<Verdict, AllocError>
 /// close, exactly where each of its lines has a form of a trace (docs/FORMATS.md, Trace) and follows from those before it
 /// (`specs/Rules`, this project's); else `No` with its first line, from 1 on, that does not, which is one past the last where no
 /// line ends the turns. The text may have any bytes and any length. It takes time in line with the length, times the
-/// logarithm of the number of clients, and memory in line with the number of calls.
+/// logarithm of the number of clients, and memory in line with that of the calls that are open at once.
 ///
 /// # Errors
 ///

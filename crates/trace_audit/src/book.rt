@@ -1,5 +1,5 @@
 //! What the lines so far say, as far as it counts for the next one.
-ghost use Rattle.std.specs.Prelude.{◌≡◌, ◌<◌, ◌^◌, List, [], length, IfOk};
+ghost use Rattle.std.specs.Prelude.{◌≡◌, List, [], IfOk};
 ghost use Rattle.std.specs.BTreeMap.{get, btree_map_len};
 ghost use Rattle.std.specs.Ordering.{nat_cmp};
 
@@ -23,14 +23,16 @@ pub(crate) struct Book {
     pub(crate) turn: u64,
     /// The line that ends the turns has come.
     pub(crate) ended: bool,
-    /// The client of each call, in the order of their numbers, which begin with 1.
-    pub(crate) clients: Vec<u64>,
+    /// How many calls were offered: the number of the last one, since they begin with 1.
+    pub(crate) offered: u64,
+    /// The client of each open call.
+    pub(crate) clients: BTreeMap<u64, u64>,
     /// The open call of each client that has one.
     pub(crate) calls: BTreeMap<u64, Open>,
 }
 
 impl Book {
-    ghost use Rattle.trace_audit.specs.Books.{client_at, open_at, waits_as, calls_of, IsTold, Hears, IsRest, IsKept, Adds};
+    ghost use Rattle.trace_audit.specs.Books.{open_by, waits_as, kept_in, HasHeard, Notes, IsRest, IsKept, Adds};
     ghost use Rattle.trace_audit.specs.declared.reading.Saying.{Saying as Word};
     ghost use Rattle.trace_audit.specs.declared.reading.Line.{Line as Said};
 
@@ -41,7 +43,8 @@ impl Book {
         Book {
             turn: 0,
             ended: false,
-            clients: Vec::new(alloc),
+            offered: 0,
+            clients: BTreeMap::new(alloc),
             calls: BTreeMap::new(alloc),
         }
     }
@@ -55,10 +58,9 @@ impl Book {
 
     /// How many calls were offered.
     pub(crate) fn offered(&self) -> u64
-        ensures value { result ≡ length self.now.clients.items }
-        ensures few { result < 2 ^ 63 }
+        ensures { result ≡ self.now.offered }
     {
-        self.clients.len() as u64
+        self.offered
     }
 
     /// How many calls are open.
@@ -68,19 +70,19 @@ impl Book {
         self.calls.len() as u64
     }
 
-    /// The client of a call, if that was offered.
+    /// The client of a call, if that is open.
     fn client_of(&self, call: u64) -> Option<u64>
-        ensures { result ≡ client_at self.now.clients.items call }
+        ensures { result ≡ get nat_cmp self.now.clients call }
     {
-        if call == 0 || call > self.offered() {
-            return None;
+        match self.clients.get(&call) {
+            None => None,
+            Some(client) => Some(*client),
         }
-        Some(self.clients[(call - 1) as usize])
     }
 
     /// The client of an open call, and whether it was taken.
     fn open_call(&self, call: u64) -> Option<(u64, bool)>
-        ensures { result ≡ open_at self.now.clients.items (get nat_cmp self.now.calls) call }
+        ensures { result ≡ open_by (get nat_cmp self.now.calls) call (get nat_cmp self.now.clients call) }
     {
         match self.client_of(call) {
             None => None,
@@ -101,23 +103,24 @@ impl Book {
 
     /// Takes an offer, if it has the next number and its client has no open call.
     fn offer(&mut self, call: u64, client: u64) -> Result<bool, AllocError>
-        ensures told { (said : List Word) → IsTold said (calls_of self.old) → IfOk result (Hears said (Saying.Offers call client) (calls_of self.new)) }
+        ensures told { (said : List Word) → HasHeard said (kept_in self.old) → IfOk result (Notes said (Saying.Offers call client) (kept_in self.new)) }
         ensures same { IsRest self.old self.new }
     {
-        if call != self.offered() + 1 {
+        if call == 0 || call - 1 != self.offered {
             return Ok(false);
         }
         if self.calls.contains_key(&client) {
             return Ok(false);
         }
-        self.clients.push(client)?;
+        self.offered = call;
+        self.clients.insert(call, client)?;
         self.calls.insert(client, Open { call, taken: false })?;
         Ok(true)
     }
 
     /// Takes that a call is taken, if it is open and was not taken.
     fn take(&mut self, call: u64) -> Result<bool, AllocError>
-        ensures told { (said : List Word) → IsTold said (calls_of self.old) → IfOk result (Hears said (Saying.Takes call) (calls_of self.new)) }
+        ensures told { (said : List Word) → HasHeard said (kept_in self.old) → IfOk result (Notes said (Saying.Takes call) (kept_in self.new)) }
         ensures same { IsRest self.old self.new }
     {
         match self.open_call(call) {
@@ -134,7 +137,7 @@ impl Book {
 
     /// Takes that a call is closed, if it is open, and taken where this is an answer.
     fn close(&mut self, call: u64, answer: bool) -> bool
-        ensures told { (said : List Word) → IsTold said (calls_of self.old) → Hears said (Saying.Closes call answer) (calls_of self.new) result }
+        ensures told { (said : List Word) → HasHeard said (kept_in self.old) → Notes said (Saying.Closes call answer) (kept_in self.new) result }
         ensures same { IsRest self.old self.new }
     {
         match self.open_call(call) {
@@ -142,6 +145,7 @@ impl Book {
                 if answer && !taken {
                     return false;
                 }
+                self.clients.remove(&call);
                 self.calls.remove(&client);
                 true
             }
@@ -151,7 +155,7 @@ impl Book {
 
     /// Whether the leases of a call may be used: it is open and taken.
     fn may_borrow(&self, call: u64) -> bool
-        ensures { (said : List Word) → IsTold said (calls_of self.now) → Hears said (Saying.Borrows call) (calls_of self.now) result }
+        ensures { (said : List Word) → HasHeard said (kept_in self.now) → Notes said (Saying.Borrows call) (kept_in self.now) result }
     {
         match self.open_call(call) {
             Some((_, taken)) => taken,
@@ -161,7 +165,7 @@ impl Book {
 
     /// Takes what a line says of calls, if it is good.
     fn hear(&mut self, saying: Saying) -> Result<bool, AllocError>
-        ensures told { (said : List Word) → IsTold said (calls_of self.old) → IfOk result (Hears said saying (calls_of self.new)) }
+        ensures told { (said : List Word) → HasHeard said (kept_in self.old) → IfOk result (Notes said saying (kept_in self.new)) }
         ensures same { IsRest self.old self.new }
     {
         match saying {

@@ -22,7 +22,7 @@ returns-then-not-good c =
     (adds_so lines (read c.in-Some.line.now) c.read.result c.add.new.self c.in_ok-good.good false c.read.ensures c.if-not-good.true (c.in_ok-good.ensures lines h.kept))
 
 pub returns-then-has_ended : goal.returns-then-has_ended
-returns-then-has_ended c = good_end c.args.text.now c.loop-line.lines.rest.now c.loop-line.number c.in_default.ensures.end c.loop-line.book c.offered.result c.left.result c.loop-line.invariant (sym c.has_ended.ensures ∙ c.if-has_ended.true) c.offered.ensures.value c.left.ensures
+returns-then-has_ended c = good_end c.args.text.now c.loop-line.lines.rest.now c.loop-line.number c.in_default.ensures.end c.loop-line.book c.offered.result c.left.result c.loop-line.invariant (sym c.has_ended.ensures ∙ c.if-has_ended.true) c.offered.ensures c.left.ensures
 
 pub returns : goal.returns
 returns c = no_end c.args.text.now c.loop-line.lines.rest.now c.loop-line.number c.in_default.ensures.end c.loop-line.book c.loop-line.invariant (sym c.has_ended.ensures ∙ c.if-has_ended.false)
