@@ -1,5 +1,5 @@
 #!/usr/bin/env bash
-# What the built program answers where memory ends: each allocation of `go`, `build`, `list` and `sample` is refused in turn
+# What the built program answers where memory ends: each allocation of each command is refused in turn
 # (refuse.c). Each answer is status 5 with no byte written and no file put, or the whole text with the status of the run in
 # which none is refused. It ends with status 1 where one is neither.
 # It needs gcc and the built program (crates/hubris/out/hubris, made by `rt ci` or `rt run`).
@@ -25,7 +25,7 @@ while read -r words; do
     cmp $out/text $out/again || bad=1
     awk -v words="$words" -v status=$status '
         $2 == 5 && $3 == 0 && $5 == "none" && $6 == "kept" { refused++; next }
-        $2 == status && $5 == "same" && ($6 == "put") == (words ~ /^build/) { whole++; next }
+        $2 == status && $5 == "same" && ($6 == "put") == (words ~ /^(build|migrate)/) { whole++; next }
         { print "  allocation " $1 ": status " $2 ", " $3 " bytes before and " $4 " behind (" $5 "), file " $6; wrong++ }
         END {
             printf "%s: %d allocations, %d with status 5 and nothing told, %d with the whole text, %d otherwise\n", words, NR, refused, whole, wrong
@@ -39,6 +39,8 @@ build examples/blinker/app.toml $out/app.img
 list crates/hubris/data/a.img
 run crates/hubris/data/a.img crates/hubris/data/e.txt --steps 3
 sample 1 64
+migrate crates/hubris/data/a.img $out/app.img
+audit examples/client-server/expected-mem.txt
 WORDS
 rm -rf $out
 [ $bad = 0 ]
