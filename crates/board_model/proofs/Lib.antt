@@ -32,3 +32,12 @@ pub mod SaneReduced
 pub mod Views
 pub mod SameReads
 pub mod AlikeRuns
+pub mod LonerMembers
+pub mod LonerSteps
+pub mod LonerBytes
+pub mod LonerFrame
+pub mod LonerMemories
+pub mod LonerWalk
+pub mod LonerOwnTurns
+pub mod LonerLives
+pub mod LonerBirths

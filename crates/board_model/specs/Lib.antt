@@ -7,3 +7,5 @@ pub mod DeadCalls
 pub mod Levels
 pub mod Alike
 pub mod Agreement
+pub mod Loners
+pub mod LonerTurns

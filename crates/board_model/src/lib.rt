@@ -2,6 +2,7 @@
 #![tactic(auto)]
 
 mod laws;
+mod loners;
 mod outcomes;
 mod two_runs;
 
@@ -11,6 +12,10 @@ pub use laws::{
     turns_keep_sane, turns_left_end_no_run, turns_stand_on_their_grounds,
     turns_with_dead_ids_change_their_caller_alone, turns_without_events_begin_at_once,
     turns_without_notes_keep_the_choice, who_is_chosen_is_ready,
+};
+pub use loners::{
+    births_begin_alike, loners_decide_their_own_turns, loners_go_their_own_way,
+    others_leave_loners_alone,
 };
 pub use outcomes::{End, Level, Turned};
 pub use two_runs::{

@@ -1,0 +1,8 @@
+use Rattle.board_model.proofs.LonerBirths.{birth-start, birth-turn}
+use Rattle.board_model.proofs.loners.births_begin_alike.Goals as goal
+
+pub returns-clause-first : goal.returns-clause-first
+returns-clause-first c = λ g i inside. birth-start g i inside
+
+pub returns-clause-later : goal.returns-clause-later
+returns-clause-later c = λ level x s i v values run t own does inside other. birth-turn level x s i v values run t own does inside other

@@ -1,0 +1,79 @@
+-- The turns of one birth of a task, counted by its own.
+use Rattle.std.specs.Prelude.{◌≡◌, ◌⊎◌, ℕ, zero, suc, ◌+◌, ◌<◌, Bool, false, ◌==◌, if◌then◌else◌, List, Contains, Option, None, Some}
+use Rattle.kernel_abi.specs.declared.Note.{Note}
+use Rattle.kernel_abi.specs.declared.Note.TheVariants as note
+use Rattle.task_table.specs.State.{State}
+use Rattle.task_table.specs.Reading.{task_at, setup_at, chosen, IsIdle}
+use Rattle.board_model.specs.declared.outcomes.Level.{Level}
+use Rattle.board_model.specs.Script.{Scenario}
+use Rattle.board_model.specs.Turn.{after_events, turn}
+use Rattle.board_model.specs.Run.{turn_after, state_after}
+use Rattle.task_table.specs.Sane.{Sane}
+use Rattle.board_model.specs.Loners.{IsLoner, AreMadeAlike, HaveSameBytes, HaveSameOwn, IsUntouched, IsStruck, IsAtBirth}
+
+-- the turn from this state is the task's own
+abbrev pub IsOwnTurn : Scenario → ℕ → State → Type 0
+IsOwnTurn x i s = chosen x.setup (after_events x s).state ≡ Some i
+
+-- by what these notes tell the task goes by itself: the supervisor neither restarted it nor made it fault, and it made
+-- no system call but PANIC
+pub record IsToItself (i : ℕ) (notes : List Note) : Type 0 where
+  pub not_struck : IsStruck i notes → ⊥
+  pub no_call : (number : ℕ) (arguments : List ℕ) → Contains notes (note.Syscall i number arguments) → number ≡ 8
+
+-- ## one turn
+
+-- a turn leaves alone whoever waits for nothing and does not run in it, unless the supervisor strikes it, and the bytes of
+-- a loner in any case
+abbrev pub LeavesLoners : Level → Scenario → State → Type 0
+LeavesLoners level x s = (i : ℕ) → IsIdle s i → (IsOwnTurn x i s → ⊥) → (IsStruck i (turn level x s).notes ⊎ IsUntouched s i (turn level x s).state) × (IsLoner x.setup i → HaveSameBytes x.setup i (turn level x s).state s)
+
+-- loners in two states, perhaps of two images, with the same regions, registers, flags and bytes, that wait for nothing
+pub record AreAlike (x y : Scenario) (i j : ℕ) (s u : State) : Type 0 where
+  pub loners : IsLoner x.setup i × IsLoner y.setup j
+  pub regions : (setup_at x.setup i).regions ≡ (setup_at y.setup j).regions
+  pub registers : (task_at s i).registers ≡ (task_at u j).registers
+  pub flags : (task_at s i).flags ≡ (task_at u j).flags
+  pub bytes : HaveSameBytes x.setup i s u
+  pub idle : IsIdle s i × IsIdle u j
+
+-- what a loner's own turn makes of it, what it has for itself decides alone: where it made no system call but PANIC, a
+-- loner that is alike in another state has the same after its own turn there
+abbrev pub LonersDecide : Level → Scenario → State → Type 0
+LonersDecide level x s = (other : Level) (y : Scenario) (u : State) (i j : ℕ) → Sane y.setup u → AreAlike x y i j s u → IsOwnTurn x i s → IsOwnTurn y j u → IsToItself i (turn level x s).notes → HaveSameOwn x.setup i j (turn level x s).state (turn other y u).state
+
+-- ## many turns
+
+-- from one state to another by turns in which the task goes by itself, of which so many are its own
+pub data Lives (level : Level) (x : Scenario) (i : ℕ) (s : State) : ℕ → State → Type 0 where
+  Begins : Lives level x i s 0 s
+  Waits : (k : ℕ) (z : State) → Lives level x i s k z → (IsOwnTurn x i z → ⊥) → IsToItself i (turn level x z).notes → Lives level x i s k (turn level x z).state
+  Runs : (k : ℕ) (z : State) → Lives level x i s k z → IsOwnTurn x i z → IsToItself i (turn level x z).notes → Lives level x i s (suc k) (turn level x z).state
+
+-- states of two runs, perhaps of two images, in each of which a loner is at birth: the images give both the same entry,
+-- stack and regions, and the same bytes are in these
+pub record AreBornAlike (x y : Scenario) (i j : ℕ) (s u : State) : Type 0 where
+  pub sane : Sane x.setup s × Sane y.setup u
+  pub loners : IsLoner x.setup i × IsLoner y.setup j
+  pub made : AreMadeAlike x.setup y.setup i j
+  pub born : IsAtBirth x.setup i s × IsAtBirth y.setup j u
+  pub bytes : HaveSameBytes x.setup i s u
+
+-- ## the turns of a run
+
+-- the turn from this state is the task's own, as a test
+abbrev pub is_task : ℕ → Option ℕ → Bool
+is_task i None = false
+is_task i (Some c) = c == i
+
+abbrev pub is_own_turn : Scenario → ℕ → State → Bool
+is_own_turn x i s = is_task i (chosen x.setup (after_events x s).state)
+
+-- how many of the first n turns from a state are the task's own
+unfoldable pub own_count : Level → Scenario → ℕ → State → ℕ → ℕ
+own_count level x i s zero = 0
+own_count level x i s (suc n) = own_count level x i s n + (if is_own_turn x i (state_after level x n s) then 1 else 0)
+
+-- in each of the first n turns from a state the task goes by itself
+abbrev pub GoesByItself : Level → Scenario → ℕ → State → ℕ → Type 0
+GoesByItself level x i s n = (m : ℕ) → m < n → IsToItself i (turn_after level x m s).notes

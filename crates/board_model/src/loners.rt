@@ -1,0 +1,51 @@
+//! Laws of tasks that share nothing. Nothing runs here.
+//!
+//! - A turn that is not its own, and the events of any turn, leave what a task has for itself as it was, where it waits for
+//!   nothing, unless the supervisor restarts it or makes it fault (`others_leave_loners_alone`).
+//! - Its own turn goes by what it has for itself alone (`loners_decide_their_own_turns`).
+//! - So what a loner comes to by itself is the same in any two runs (`loners_go_their_own_way`), from a birth on, and each
+//!   birth begins alike (`births_begin_alike`).
+
+ghost use Rattle.std.specs.Prelude.{◌≡◌, ◌≢◌, ◌<◌, ℕ, suc, Bool, List, Some, length};
+ghost use Rattle.task_table.specs.State.{Setup, State, Turn};
+ghost use Rattle.task_table.specs.Reading.{chosen, IsIdle};
+ghost use Rattle.task_table.specs.Effects.{restarted};
+ghost use Rattle.task_table.specs.Rows.{goes_on_with};
+ghost use Rattle.task_table.specs.Start.{start};
+ghost use Rattle.task_table.specs.Sane.{Sane};
+ghost use Rattle.board_model.specs.declared.outcomes.Level.{Level as Detail};
+ghost use Rattle.board_model.specs.Script.{Scenario};
+ghost use Rattle.board_model.specs.Turn.{after_events, stepped, with_current, turn};
+ghost use Rattle.board_model.specs.Run.{state_after};
+ghost use Rattle.board_model.specs.Loners.{HaveSameOwn, IsUntouched, IsAtBirth};
+ghost use Rattle.board_model.specs.LonerTurns.{LeavesLoners, LonersDecide, Lives, AreBornAlike, own_count, GoesByItself};
+
+/// What others do leaves a loner alone. A task that waits for nothing has after a turn that is not its own the births,
+/// registers, flags and health that it had, and waits for nothing, unless the supervisor restarted it or made it fault in
+/// that turn; and the events of a turn, whosever it is, do not even that. The bytes of a loner stay in any case.
+pub fn others_leave_loners_alone()
+    ensures events { (x : Scenario) (s : State) (i : ℕ) → IsIdle s i → IsUntouched s i (after_events x s).state }
+    ensures turn { (level : Detail) (x : Scenario) (s : State) → Sane x.setup s → LeavesLoners level x s }
+{}
+
+/// A loner's own turn goes by its registers, its flags and the bytes of its regions alone, where it makes no system call but
+/// PANIC: a loner of the same regions, in whatever other state of whatever other image, has the same after its own turn.
+pub fn loners_decide_their_own_turns()
+    ensures { (level : Detail) (x : Scenario) (s : State) → Sane x.setup s → LonersDecide level x s }
+{}
+
+/// A loner goes its own way. Two loners that the images make alike, at births with the same bytes in their regions, have the
+/// same registers, flags, health and bytes after as many own turns of these births, of which there was one at least, whatever
+/// the other tasks, the priorities and the scripts are and whenever these turns fall: as long as neither makes a system call
+/// but PANIC, nor is made to fault by the supervisor.
+pub fn loners_go_their_own_way()
+    ensures runs { (level other : Detail) (x y : Scenario) (i j n m : ℕ) (s u : State) → AreBornAlike x y i j s u → GoesByItself level x i s n → GoesByItself other y j u m → 0 < own_count level x i s n → own_count other y j u m ≡ own_count level x i s n → HaveSameOwn x.setup i j (state_after level x n s) (state_after other y m u) }
+    ensures lives { (level other : Detail) (x y : Scenario) (i j k : ℕ) (s u z v : State) → AreBornAlike x y i j s u → Lives level x i s (suc k) z → Lives other y j u (suc k) v → HaveSameOwn x.setup i j z v }
+{}
+
+/// A birth begins with the registers and flags that the image gives it, and waits for nothing: the first one at the start of
+/// a run, each other one after the turn in which a task restarted it and went on.
+pub fn births_begin_alike()
+    ensures first { (g : Setup) (i : ℕ) → i < length g.tasks → IsAtBirth g i (start g) }
+    ensures later { (level : Detail) (x : Scenario) (s : State) (i c : ℕ) (values : List ℕ) (run : Bool) (t : Turn) → chosen x.setup (after_events x s).state ≡ Some c → stepped level x.setup c (with_current c (after_events x s)) ≡ goes_on_with c values (restarted x.setup i run t) → i < length t.state.tasks → i ≢ c → IsAtBirth x.setup i (turn level x s).state }
+{}
