@@ -12,7 +12,8 @@ use Rattle.mem_banks.specs.Memory.{Memory}
 use Rattle.task_table.specs.State.{Setup, TaskSetup, State}
 use Rattle.task_table.specs.Reading.{setup_in}
 use Rattle.image_format.specs.Picture.{Picture, regions_in}
-use Rattle.image_format.specs.Facts.{Facts, SameOrApart}
+use Rattle.region_check.specs.Rights.{SameOrApart}
+use Rattle.image_format.specs.Facts.{Facts}
 use Rattle.board_core.specs.Opened.{setup_of_image}
 use Rattle.board_core.proofs.Opens.{setup_is}
 use Rattle.task_table.proofs.Keeps.{found_in, not_found}

@@ -14,9 +14,9 @@ use Rattle.image_format.specs.declared.records.RegionRecord.{RegionRecord}
 use Rattle.image_format.specs.declared.records.LineRecord.{LineRecord}
 use Rattle.region_check.specs.declared.Region.{Region}
 use Rattle.region_check.specs.declared.Right.TheVariants.{Execute}
-use Rattle.region_check.specs.Rights.{gives, may_use}
+use Rattle.region_check.specs.Rights.{gives, may_use, SameOrApart}
 use Rattle.image_format.specs.Accepted.{Accepted}
-use Rattle.image_format.specs.Facts.{Facts, HasLines, HasNames, HasRegions, HasSizes, HasTasks, IsInFlash, IsInRam, SameOrApart}
+use Rattle.image_format.specs.Facts.{Facts, HasLines, HasNames, HasRegions, HasSizes, HasTasks, IsInFlash, IsInRam}
 use Rattle.image_format.specs.Picture.{LinePicture, Picture, TaskPicture, line_of, names_in, no_line, no_task, picture_of, region_of, regions_in, rights_of, task_of, tasks_of}
 use Rattle.image_format.specs.Names.{after_names, names_from, task_names_fault}
 use Rattle.image_format.specs.Records.{Records}

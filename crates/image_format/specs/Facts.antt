@@ -2,7 +2,7 @@
 use Rattle.std.specs.Prelude.{ℕ, List, [], ◌≡◌, ◌≢◌, ◌⊎◌, slice_index_or, ◌+◌, ◌-◌, ◌≤◌, ◌<◌, ◌%◌, true, false, length, Contains}
 use Rattle.region_check.specs.declared.Region.{Region}
 use Rattle.region_check.specs.declared.Right.TheVariants.{Execute}
-use Rattle.region_check.specs.Rights.{may_use}
+use Rattle.region_check.specs.Rights.{may_use, SameOrApart}
 use Rattle.text_lines.specs.Names.{is_name}
 use Rattle.image_format.specs.Picture.{Picture, line_in, names_in, regions_in, task_in}
 
@@ -12,11 +12,6 @@ IsInFlash p r = (0x08000000 ≤ r.base) × (r.base + r.size ≤ 0x08000000 + len
 
 abbrev pub IsInRam : Picture → Region → Type 0
 IsInRam p r = (0x20000000 ≤ r.base) × (r.base + r.size ≤ 0x20000000 + p.ram)
-
--- they are the same bytes, or have none in common
-abbrev pub SameOrApart : Region → Region → Type 0
-SameOrApart r e = ((r.base ≡ e.base) × (r.size ≡ e.size))
-    ⊎ (r.base + r.size ≤ e.base) ⊎ (e.base + e.size ≤ r.base)
 
 pub record HasSizes (p : Picture) : Type 0 where
   pub some_task : 1 ≤ length p.tasks

@@ -1,6 +1,7 @@
 pub mod Accepted
 pub mod Facts
 pub mod Images
+pub mod Loners
 pub mod Names
 pub mod Picture
 pub mod Records

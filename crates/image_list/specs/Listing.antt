@@ -3,6 +3,7 @@ use Rattle.std.specs.Prelude.{ℕ, List, codes, length, map}
 use Rattle.serde_json.specs.Data.{Data, Items, number, unsigned, string, array, object, member, no_members}
 use Rattle.serde_json.specs.View.{items_of}
 use Rattle.region_check.specs.declared.Region.{Region}
+use Rattle.image_format.specs.Loners.{loners}
 use Rattle.image_format.specs.Picture.{Picture, TaskPicture, LinePicture, bit, rights_number}
 
 -- a whole number, from 0 on
@@ -41,10 +42,15 @@ line_data l = object (member (codes "bits") (whole l.bits)
 abbrev pub lines_data : List LinePicture → Items
 lines_data ls = items_of (map line_data ls)
 
+-- the indices of the tasks that share nothing with another one, ascending
+abbrev pub loners_data : Picture → Items
+loners_data p = items_of (map whole (loners p))
+
 -- flash and ram are numbers of bytes; supervisor has the bits posted to task 0 at a fault
 abbrev pub image_data : Picture → Data
 image_data p = object (member (codes "flash") (whole (length p.flash))
     (member (codes "interrupts") (array (lines_data p.lines))
+    (member (codes "loners") (array (loners_data p))
     (member (codes "ram") (whole p.ram)
     (member (codes "supervisor") (whole p.fault_bits)
-    (member (codes "tasks") (array (tasks_data p.tasks)) no_members)))))
+    (member (codes "tasks") (array (tasks_data p.tasks)) no_members))))))

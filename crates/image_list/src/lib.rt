@@ -1,16 +1,18 @@
 //! What an image says, as one line of JSON.
 #![tactic(auto)]
 
-ghost use Rattle.std.specs.Prelude.{◌≡◌, ◌≤◌, ◌<◌, IfOk, length, map, string_bytes};
+ghost use Rattle.std.specs.Prelude.{◌≡◌, ◌≤◌, ◌<◌, IfOk, length, map, string_bytes, vec_items};
 ghost use Rattle.serde_json.specs.Data.{string};
 ghost use Rattle.serde_json.specs.View.{view};
 ghost use Rattle.serde_json.specs.Written.{compact_text};
 ghost use Rattle.image_format.specs.Images.{picture};
+ghost use Rattle.region_check.specs.Rights.{is_alone};
+ghost use Rattle.image_format.specs.Loners.{is_loner, loners, own_regions, regions_beside, regions_by_task};
 ghost use Rattle.image_format.specs.Picture.{bit, line_in, rights_number, task_in};
-ghost use Rattle.image_list.specs.Listing.{image_data, line_data, region_data, task_data};
+ghost use Rattle.image_list.specs.Listing.{image_data, line_data, region_data, task_data, whole};
 
 use image_format::Image;
-use region_check::{Region, Rights};
+use region_check::{Region, Rights, alone};
 use serde_json::{Value, json};
 use std::alloc::{AllocError, Global};
 
@@ -135,14 +137,68 @@ fn line_values(alloc: Global, image: &Image) -> Result<Vec<Value>, AllocError>
     Ok(values)
 }
 
+/// The regions of each task, in the order of the tasks.
+fn regions_by_task(alloc: Global, image: &Image) -> Result<Vec<Vec<Region>>, AllocError>
+    ensures { IfOk result (λ v. map vec_items v.items ≡ regions_by_task (picture image.now)) }
+{
+    let mut tasks = Vec::new(alloc);
+    for i in 0..image.task_count() {
+        tasks.push(image.regions(alloc, i)?)?;
+    }
+    Ok(tasks)
+}
+
+/// Whether task i has no device, and no region of task j if that is another one.
+fn is_alone_beside(tasks: &[Vec<Region>], i: usize, j: usize) -> bool
+    requires own { i < length tasks.now }
+    requires other { j < length tasks.now }
+    ensures { result ≡ is_alone (own_regions (map vec_items tasks.now) i) (regions_beside (map vec_items tasks.now) i j) }
+{
+    let own = tasks[i].as_slice();
+    if j == i {
+        alone(own, &[])
+    } else {
+        alone(own, tasks[j].as_slice())
+    }
+}
+
+/// Whether task i shares nothing with another one, where these are the regions of each.
+fn is_loner(tasks: &[Vec<Region>], i: usize) -> bool
+    requires { i < length tasks.now }
+    ensures { result ≡ is_loner (map vec_items tasks.now) i }
+{
+    for j in 0..tasks.len() {
+        if !is_alone_beside(tasks, i, j) {
+            return false;
+        }
+    }
+    true
+}
+
+/// The indices of the tasks that share nothing with another one, ascending.
+fn loner_values(alloc: Global, image: &Image) -> Result<Vec<Value>, AllocError>
+    ensures { IfOk result (λ v. map view v.items ≡ map whole (loners (picture image.now))) }
+{
+    let tasks = regions_by_task(alloc, image)?;
+    let mut values = Vec::new(alloc);
+    for i in 0..tasks.len() {
+        if is_loner(tasks.as_slice(), i) {
+            values.push(json!(in alloc; i)?)?;
+        }
+    }
+    Ok(values)
+}
+
 fn image_value(alloc: Global, image: &Image) -> Result<Value, AllocError>
     ensures { IfOk result (λ v. view v ≡ image_data (picture image.now)) }
 {
     let tasks = task_values(alloc, image)?;
     let lines = line_values(alloc, image)?;
+    let loners = loner_values(alloc, image)?;
     json!(in alloc; {
         "flash": image.flash().len(),
         "interrupts": lines,
+        "loners": loners,
         "ram": image.ram(),
         "supervisor": image.fault_bits(),
         "tasks": tasks
@@ -150,8 +206,9 @@ fn image_value(alloc: Global, image: &Image) -> Result<Value, AllocError>
 }
 
 /// The image as one JSON object without blanks, its keys in byte order (docs/FORMATS.md, Listing):
-/// how many bytes of flash and of RAM, the interrupts, the bits posted to the supervisor at a fault,
-/// and the tasks, each with the names of its notifications and its regions; rights as a sum of 1 read, 2 write, 4 execute, 8 device.
+/// how many bytes of flash and of RAM, the interrupts, the tasks that share nothing with another one, the bits
+/// posted to the supervisor at a fault, and the tasks, each with the names of its notifications and its regions;
+/// rights as a sum of 1 read, 2 write, 4 execute, 8 device.
 ///
 /// # Errors
 ///

@@ -1,5 +1,5 @@
 -- Who is alone.
-use Rattle.std.proofs.Common.{◌≡◌, ◌⊎◌, inl, inr, ◌+◌, ◌<◌, ◌≤◌, ℕ, zero, suc, Bool, true, false, ◌&&◌, ◌||◌, not, leb, ltb, List, [], ◌∷◌, refl, sym, ◌∙◌, ap, arith, ltb-true}
+use Rattle.std.proofs.Common.{◌≡◌, ◌⊎◌, inl, inr, ◌+◌, ◌<◌, ◌≤◌, ℕ, zero, suc, Bool, true, false, ◌&&◌, ◌||◌, not, leb, ltb, List, [], ◌∷◌, refl, sym, ◌∙◌, ap, arith, ltb-true, eq-eqb, eqb}
 use Rattle.std.specs.Prelude.{Contains}
 use Rattle.std.specs.List.{list_any, list_all}
 use Rattle.std.proofs.lemmas.Bool.{leb-true, false≢true, not-false}
@@ -32,6 +32,9 @@ none_of p (y ∷ ys) x e (suc k, lt, same) = none_of p ys x (second (p y) (list_
     second false b q = q
     second true b q = absurd (false≢true (sym q))
 
+same_place : (r q : Region) → r.base ≡ q.base → r.size ≡ q.size → is_same_place r q ≡ true
+same_place r q base size = rw (eq-eqb r.base q.base base, eq-eqb r.size q.size size) refl
+
 module _ (own others : List Region) (alone : is_alone own others ≡ true) where
   own_alone : (r : Region) → Contains own r → (not r.rights.device ≡ true) × (not (list_any (is_same_place r) others) ≡ true)
   own_alone r here = parts (not r.rights.device) _ (each_of (λ (x : Region). not x.rights.device && not (list_any (is_same_place x) others)) own r alone here)
@@ -40,7 +43,7 @@ module _ (own others : List Region) (alone : is_alone own others ≡ true) where
   no_device r here = not_true _ (own_alone r here).0
 
   pub apart : (r q : Region) → Contains own r → Contains others q → SameOrApart r q → (a : ℕ) → is_inside r a ≡ true → is_inside q a ≡ false
-  apart r q here there (inl same) a inside = absurd (false≢true (sym (none_of (is_same_place r) others q (not_true _ (own_alone r here).1) there) ∙ same))
+  apart r q here there (inl same) a inside = absurd (false≢true (sym (none_of (is_same_place r) others q (not_true _ (own_alone r here).1) there) ∙ same_place r q same.0 same.1))
   apart r q here there (inr either) a inside = by_inside (is_inside q a) refl
     where
       from_to : (x : Region) → is_inside x a ≡ true → (x.base ≤ a) × (a < x.base + x.size)
