@@ -1,7 +1,8 @@
 //! What an image says, as one line of JSON.
 #![tactic(auto)]
 
-ghost use Rattle.std.specs.Prelude.{◌≡◌, ◌≤◌, ◌<◌, IfOk, length, map, string_bytes, vec_items};
+ghost use Rattle.std.specs.Prelude.{◌≡◌, ◌≤◌, ◌<◌, IfOk, filter, length, map, string_bytes, vec_items};
+ghost use Rattle.std.specs.List.{range_with_len};
 ghost use Rattle.serde_json.specs.Data.{string};
 ghost use Rattle.serde_json.specs.View.{view};
 ghost use Rattle.serde_json.specs.Written.{compact_text};
@@ -175,18 +176,35 @@ fn is_loner(tasks: &[Vec<Region>], i: usize) -> bool
     true
 }
 
-/// The indices of the tasks that share nothing with another one, ascending.
+/// The indices of the tasks that share nothing with another one, ascending, where these are the regions of each.
+fn loners_among(alloc: Global, tasks: &[Vec<Region>]) -> Result<Vec<usize>, AllocError>
+    ensures { IfOk result (λ v. v.items ≡ filter (is_loner (map vec_items tasks.now)) (range_with_len 0 (length tasks.now))) }
+{
+    let mut loners = Vec::new(alloc);
+    for i in 0..tasks.len() {
+        if is_loner(tasks, i) {
+            loners.push(i)?;
+        }
+    }
+    Ok(loners)
+}
+
+fn number_values(alloc: Global, numbers: &[usize]) -> Result<Vec<Value>, AllocError>
+    ensures { IfOk result (λ v. map view v.items ≡ map whole numbers.now) }
+{
+    let mut values = Vec::new(alloc);
+    for number in numbers {
+        values.push(json!(in alloc; *number)?)?;
+    }
+    Ok(values)
+}
+
 fn loner_values(alloc: Global, image: &Image) -> Result<Vec<Value>, AllocError>
     ensures { IfOk result (λ v. map view v.items ≡ map whole (loners (picture image.now))) }
 {
     let tasks = regions_by_task(alloc, image)?;
-    let mut values = Vec::new(alloc);
-    for i in 0..tasks.len() {
-        if is_loner(tasks.as_slice(), i) {
-            values.push(json!(in alloc; i)?)?;
-        }
-    }
-    Ok(values)
+    let loners = loners_among(alloc, tasks.as_slice())?;
+    number_values(alloc, loners.as_slice())
 }
 
 fn image_value(alloc: Global, image: &Image) -> Result<Value, AllocError>

@@ -1,5 +1,6 @@
 //! Hands the program stored files, malformed and hostile ones among them, and counts the cases in which it answers what a
-//! second reading of the rules, in a language of its own, answers; then runs two images compiled by gcc, and each halfword.
+//! second reading of the rules, in a language of its own, answers; then runs a task that shares nothing beside others, two
+//! images compiled by gcc, and each halfword.
 //!
 //! A case begins with a line `= STATUS NAME`. Each of its parts begins with a line `+ KEY`: `words`, the command line after
 //! the program's name, or `each word`, the same with one word a line, or neither where not even the program's name is
@@ -13,6 +14,7 @@
 
 mod halfwords;
 mod images;
+mod loners;
 mod players;
 mod repeated;
 
@@ -145,11 +147,12 @@ enum Form {
 }
 
 /// The keys of parts that tell no file, besides `left NAME`.
-const NO_FILES: [&str; 6] = [
+const NO_FILES: [&str; 7] = [
     "words",
     "each word",
     "failing calls",
     "failing pushes",
+    "turns",
     "text",
     "sum",
 ];
@@ -315,6 +318,7 @@ fn main(rt: HostRuntime) -> io::Result<()> {
     for path in env::args(&rt)?.skip(1) {
         play_file(&rt, path.as_str())?;
     }
+    loners::compare_all(&rt)?;
     images::run_both(&rt)?;
     halfwords::run_all(&rt)
 }

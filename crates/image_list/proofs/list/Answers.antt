@@ -5,7 +5,8 @@ use Rattle.serde_json.specs.View.{items_of, view}
 use Rattle.serde_json.specs.Written.{compact_text, has_float, items_have_float}
 use Rattle.image_format.specs.Images.{picture}
 use Rattle.image_format.specs.Picture.{Picture, TaskPicture}
-use Rattle.image_list.specs.Listing.{image_data, line_data, region_data, task_data}
+use Rattle.image_list.specs.Listing.{image_data, line_data, region_data, task_data, whole}
+use Rattle.image_format.specs.Loners.{loners}
 use Rattle.image_list.proofs.list.Goals as goal
 
 -- items of which none has a float
@@ -17,7 +18,7 @@ whole_task : (t : TaskPicture) → has_float (task_data t) ≡ false
 whole_task t = rw (whole_items string (λ n. refl) t.names, whole_items region_data (λ r. refl) t.regions) refl
 
 whole_image : (p : Picture) → has_float (image_data p) ≡ false
-whole_image p = rw (whole_items line_data (λ l. refl) p.lines, whole_items task_data whole_task p.tasks) refl
+whole_image p = rw (whole_items whole (λ n. refl) (loners p), whole_items line_data (λ l. refl) p.lines, whole_items task_data whole_task p.tasks) refl
 
 pub returns : goal.returns
 returns c =
