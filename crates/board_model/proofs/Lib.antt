@@ -41,3 +41,4 @@ pub mod LonerWalk
 pub mod LonerOwnTurns
 pub mod LonerLives
 pub mod LonerBirths
+pub mod BirthTurns

@@ -8,7 +8,7 @@
 
 ghost use Rattle.std.specs.Prelude.{◌≡◌, ◌≢◌, ◌<◌, ℕ, suc, Bool, List, Some, length};
 ghost use Rattle.task_table.specs.State.{Setup, State, Turn};
-ghost use Rattle.task_table.specs.Reading.{chosen, IsIdle};
+ghost use Rattle.task_table.specs.Reading.{task_at, chosen, IsIdle};
 ghost use Rattle.task_table.specs.Effects.{restarted};
 ghost use Rattle.task_table.specs.Rows.{goes_on_with};
 ghost use Rattle.task_table.specs.Start.{start};
@@ -44,8 +44,10 @@ pub fn loners_go_their_own_way()
 {}
 
 /// A birth begins with the registers and flags that the image gives it, and waits for nothing: the first one at the start of
-/// a run, each other one after the turn in which a task restarted it and went on.
+/// a run, each other one after the turn in which a task restarted it and went on; and a turn that changes how often a task
+/// was born is such a turn.
 pub fn births_begin_alike()
     ensures first { (g : Setup) (i : ℕ) → i < length g.tasks → IsAtBirth g i (start g) }
     ensures later { (level : Detail) (x : Scenario) (s : State) (i c : ℕ) (values : List ℕ) (run : Bool) (t : Turn) → chosen x.setup (after_events x s).state ≡ Some c → stepped level x.setup c (with_current c (after_events x s)) ≡ goes_on_with c values (restarted x.setup i run t) → i < length t.state.tasks → i ≢ c → IsAtBirth x.setup i (turn level x s).state }
+    ensures each { (level : Detail) (x : Scenario) (s : State) (i : ℕ) → Sane x.setup s → (task_at (turn level x s).state i).births ≢ (task_at s i).births → IsAtBirth x.setup i (turn level x s).state }
 {}
