@@ -1,5 +1,5 @@
 -- A turn leaves the births of every task, or restarts one, which begins a birth then.
-use Rattle.std.proofs.Common.{◌≡◌, ◌≢◌, ◌+◌, ◌<◌, inl, inr, ℕ, Bool, true, false, cond, List, [], ◌∷◌, length, Option, Some, None, refl, sym, ◌∙◌, ap, leb}
+use Rattle.std.proofs.Common.{◌≡◌, ◌≢◌, ◌+◌, ◌<◌, inl, inr, ℕ, Bool, true, false, cond, List, [], ◌∷◌, length, Option, Some, None, refl, ◌∙◌, ap, leb}
 use Rattle.std.specs.Prelude.{fold, Result, Ok, Err}
 use Rattle.std.specs.List.{range_with_len}
 use Rattle.std.proofs.lemmas.Bool.Decides.{eqb_tells}
@@ -16,7 +16,7 @@ use Rattle.thumb_insn.specs.declared.Insn.{Insn}
 use Rattle.thumb_exec.specs.Effect.{Effect, Next, Syscall, Trap, Store}
 use Rattle.thumb_exec.specs.declared.fetch.Fetched.{Fetched}
 use Rattle.task_table.specs.State.{Setup, LineSetup, State, Task, Turn}
-use Rattle.task_table.specs.Reading.{task_at, line_at, line_off, is_ready, chosen}
+use Rattle.task_table.specs.Reading.{task_at, line_at, line_off, chosen}
 use Rattle.task_table.specs.Effects.{noted, posted, with_timer, with_line, clocked, faulted, restarted}
 use Rattle.task_table.specs.Events.{expired_by, expired, ticked, owner_of, interrupted_by, interrupted}
 use Rattle.task_table.specs.Rows.{goes_on_with, syscall_noted}
