@@ -1,5 +1,5 @@
 -- A system call either faults its caller at once, which changes nothing else, or leaves the caller well.
-use Rattle.std.proofs.Common.{◌≡◌, ◌≢◌, ◌<◌, inl, ℕ, Bool, true, false, cond, List, length, sym, ◌∙◌}
+use Rattle.std.proofs.Common.{◌≡◌, ◌<◌, inl, ℕ, Bool, true, List, length, sym, ◌∙◌}
 use Rattle.kernel_abi.specs.declared.Fault.{Fault}
 use Rattle.kernel_abi.specs.declared.Health.{Health}
 use Rattle.kernel_abi.specs.declared.Health.TheVariants.{Well}
@@ -33,10 +33,6 @@ well-processor c i registers flags t h = left-processor health_of by_health c i 
 pub data Outcome (g : Setup) (c : ℕ) (t u : Turn) : Type 0 where
   FaultsAlone : IsLoneFault g c t u → Outcome g c t u
   StaysWell : IsWell c u → Outcome g c t u
-
-pub by_outcome : {g : Setup} {c : ℕ} {t : Turn} (b : Bool) {x y : Turn} → Outcome g c t x → Outcome g c t y → Outcome g c t (cond b x y)
-by_outcome true here later = here
-by_outcome false here later = later
 
 module _ (g : Setup) (c : ℕ) where
   pub outcome-faulted : (t : Turn) → c < length t.state.tasks → (f : Fault) → Outcome g c t (faulted g c f t)
