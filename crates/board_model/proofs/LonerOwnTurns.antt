@@ -8,7 +8,7 @@ use Rattle.region_check.specs.declared.Region.{Region}
 use Rattle.region_check.specs.declared.Right.{Right}
 use Rattle.region_check.specs.declared.Right.TheVariants.{Write}
 use Rattle.region_check.specs.Rights.{is_inside, has_right, gives}
-use Rattle.mem_banks.specs.Memory.{Memory, IsWithin, IsWithinRam}
+use Rattle.mem_banks.specs.Memory.{Memory, IsWithinRam}
 use Rattle.task_table.specs.State.{Setup, State, Turn}
 use Rattle.task_table.specs.Reading.{task_at, setup_at, call_of, listen_of, chosen, IsIdle}
 use Rattle.task_table.specs.Effects.{noted}

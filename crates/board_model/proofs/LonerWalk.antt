@@ -1,11 +1,10 @@
 -- The turns of two loners of the same make, side by side: what one does for itself the other does too, unless it makes a
 -- system call.
-use Rattle.std.proofs.Common.{◌≡◌, ◌≢◌, ◌⊎◌, inl, inr, ◌+◌, ◌-◌, ◌<◌, ◌≤◌, ℕ, zero, suc, Bool, true, false, leb, eqb, ◌&&◌, List, [], ◌∷◌, length, None, refl, sym, ◌∙◌, ap, arith, get_or, le-leb, eqb-true, eq-eqb}
+use Rattle.std.proofs.Common.{◌≡◌, ◌≢◌, ◌⊎◌, inl, inr, ◌+◌, ◌-◌, ◌<◌, ◌≤◌, ℕ, zero, suc, Bool, true, false, eqb, ◌&&◌, List, [], ◌∷◌, length, refl, sym, ◌∙◌, ap, arith, get_or, le-leb, eqb-true, eq-eqb}
 use Rattle.std.specs.Prelude.{Contains, fold, Result, Ok, Err}
 use Rattle.std.proofs.lemmas.Bool.{false≢true}
 use Rattle.std.proofs.lemmas.List.Elements.{Contains-push}
 use Rattle.kernel_abi.specs.declared.Fault.{Fault}
-use Rattle.kernel_abi.specs.declared.Health.TheVariants.{Faulted}
 use Rattle.kernel_abi.specs.declared.Note.{Note}
 use Rattle.kernel_abi.specs.declared.Note.TheVariants as note
 use Rattle.words_core.specs.declared.Flags.{Flags}

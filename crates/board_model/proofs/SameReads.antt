@@ -1,12 +1,12 @@
 -- A turn depends on memory only where it reads.
-use Rattle.std.proofs.Common.{◌≡◌, ◌+◌, ◌-◌, ◌<◌, ◌≤◌, ℕ, Bool, true, false, cond, not, leb, ltb, ◌&&◌, ◌||◌, List, length, Option, Some, None, refl, sym, ◌∙◌, subst, arith, le-leb, leb-true, lt-ltb, ltb-true, ltb-false}
+use Rattle.std.proofs.Common.{◌≡◌, ◌+◌, ◌<◌, ◌≤◌, ℕ, Bool, true, false, not, leb, ltb, ◌&&◌, ◌||◌, List, length, Option, Some, None, refl, sym, ◌∙◌, subst, arith, le-leb, leb-true, lt-ltb, ltb-true, ltb-false}
 use Rattle.std.specs.Prelude.{Contains, slice_get}
 use Rattle.std.specs.List.{list_any}
 use Rattle.std.proofs.lemmas.Option.{slice_get_past}
 use Rattle.region_check.specs.declared.Region.{Region}
 use Rattle.region_check.specs.declared.Right.{Right}
 use Rattle.region_check.specs.Rights.{gives, has_right, is_inside}
-use Rattle.mem_banks.specs.Memory.{Memory, byte_at}
+use Rattle.mem_banks.specs.Memory.{Memory}
 use Rattle.task_table.specs.State.{Setup, State, Read, Turn}
 use Rattle.task_table.specs.Reading.{setup_at, chosen}
 use Rattle.task_table.specs.Effects.{noted}

@@ -160,7 +160,7 @@ ram_stored on at bytes v within = length-with_bytes v.state.memory at bytes with
 -- ## an instruction
 
 module _ (g : Setup) (s : State) (c : ℕ) (inside : c < length g.tasks) where
-  pub put_chain : (x : Store) (v : Turn) → Sane g v.state → length v.state.memory.ram ≡ length s.memory.ram → IsPermitted (refusals g c) x → Chain (Step g s c) v (put v x) × Sane g (put v x).state × (length (put v x).state.memory.ram ≡ length s.memory.ram)
+  put_chain : (x : Store) (v : Turn) → Sane g v.state → length v.state.memory.ram ≡ length s.memory.ram → IsPermitted (refusals g c) x → Chain (Step g s c) v (put v x) × Sane g (put v x).state × (length (put v x).state.memory.ram ≡ length s.memory.ram)
   put_chain x v h same permitted = by_ram (is_ram v.state.memory x.addr x.bytes) refl
     where
       by_ram : (b : Bool) → is_ram v.state.memory x.addr x.bytes ≡ b → Chain (Step g s c) v (cond b (stored Own x.addr (bytes_of x.value x.bytes) v) v) × Sane g (cond b (stored Own x.addr (bytes_of x.value x.bytes) v) v).state × (length (cond b (stored Own x.addr (bytes_of x.value x.bytes) v) v).state.memory.ram ≡ length s.memory.ram)
