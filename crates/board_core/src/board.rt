@@ -15,6 +15,7 @@ ghost use Rattle.board_model.specs.Faults.{IsFaulting, ChangesNothingElse};
 ghost use Rattle.board_model.specs.DeadCalls.{IsDeadTurn};
 ghost use Rattle.board_model.specs.Lifetimes.{IsGroundedTurn};
 ghost use Rattle.board_model.specs.Agreement.{DependsOnReads};
+ghost use Rattle.board_model.specs.LonerTurns.{LeavesLoners, LonersDecide};
 ghost use Rattle.board_core.specs.Opened.{scenario_of, setup_of_image};
 ghost use Rattle.board_core.specs.Stands.{Stands, Stood, notes_of, turns_of};
 ghost use Rattle.board_core.specs.Machine.{MachineHolds, MachineStands};
@@ -86,6 +87,9 @@ impl Board {
         // nothing else changes.
         ensures faults { (x : Scenario) (s : State) → Stands x self.old s → (c : ℕ) → IsFaulting All x s c → ChangesNothingElse All x s c }
         ensures dead_ids { (x : Scenario) (s : State) → Stands x self.old s → IsDeadTurn All x s }
+        // What others do leaves a loner alone, and its own turn goes by what it has for itself.
+        ensures loners { (x : Scenario) (s : State) → Stands x self.old s → LeavesLoners All x s }
+        ensures alone { (x : Scenario) (s : State) → Stands x self.old s → LonersDecide All x s }
     {
         self.turn_at(Level::All)
     }

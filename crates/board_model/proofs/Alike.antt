@@ -1,5 +1,5 @@
 -- What alike turns have in common, and effects keep two turns alike.
-use Rattle.std.proofs.Common.{◌≡◌, ◌+◌, ◌-◌, ◌<◌, ◌≤◌, ◌&&◌, ◌||◌, ℕ, zero, suc, Bool, true, false, not, leb, eqb, is_some, is_none, List, [], ◌∷◌, ◌++◌, map, length, take, drop, get_or, Option, Some, None, refl, sym, ◌∙◌, ap, cond, arith, length-append, length-take, length-drop, leb-true}
+use Rattle.std.proofs.Common.{◌≡◌, ◌+◌, ◌-◌, ◌<◌, ◌≤◌, ◌&&◌, ◌||◌, ℕ, zero, suc, Bool, true, false, not, leb, eqb, is_some, is_none, List, [], ◌∷◌, ◌++◌, map, length, take, drop, get_or, Option, Some, None, refl, sym, ◌∙◌, ap, cond, arith, length-append, length-take, length-drop}
 use Rattle.std.specs.Prelude.{filter, find, option_map, slice_get, slice_range, slice_index}
 use Rattle.std.specs.List.{range_with_len, list_all}
 use Rattle.std.proofs.Math.ListN.{get_or-map}
@@ -8,6 +8,7 @@ use Rattle.mem_banks.specs.Memory.{Memory, bytes_at, with_bytes, pasted}
 use Rattle.task_table.specs.State.{Setup, Task, State, Call, Listen}
 use Rattle.task_table.specs.Reading.{task_at, line_at, register, arguments, call_of, listen_of, is_ready, is_well, priority, around, chosen, offer_by, offers, is_offered, taken_by, is_taken, best_sender, no_task}
 use Rattle.task_table.specs.Effects.{with_task, without_call, without_listen, with_listen, with_taken, with_call, taken_from}
+use Rattle.board_model.proofs.SameBytes.{read_same}
 use Rattle.board_model.specs.Alike.{seen_task, seen_call, seen_listen, seen, but_memory, AreAlikeMemories}
 
 -- ## lists whose elements are seen
@@ -245,35 +246,8 @@ alike-with_bytes sees m n a bytes h = go (leb 0x20000000 a)
     }
 
 -- bytes that are read where all are seen
-part_same : (i n : ℕ) (xs ys : List ℕ) → length xs ≡ length ys → ((k : ℕ) → i ≤ k → k < i + n → slice_get xs k ≡ slice_get ys k) → take n (drop i xs) ≡ take n (drop i ys)
-part_same zero zero xs ys e h = refl
-part_same zero (suc n) [] [] e h = refl
-part_same zero (suc n) [] (y ∷ ys) e h = absurd (omega arith)
-part_same zero (suc n) (x ∷ xs) [] e h = absurd (omega arith)
-part_same zero (suc n) (x ∷ xs) (y ∷ ys) e h = λ j. first (h 0 (omega arith) (omega arith)) j ∷ part_same zero n xs ys (omega arith) (λ k a b. h (suc k) (omega arith) (omega arith)) j
-  where
-    first : Some x ≡ Some y → x ≡ y
-    first e = cc
-part_same (suc i) n [] [] e h = refl
-part_same (suc i) n [] (y ∷ ys) e h = absurd (omega arith)
-part_same (suc i) n (x ∷ xs) [] e h = absurd (omega arith)
-part_same (suc i) n (x ∷ xs) (y ∷ ys) e h = part_same i n xs ys (omega arith) (λ k a b. h (suc k) (omega arith) (omega arith))
-
 pub bytes_alike : (sees : ℕ → Bool) (m n : Memory) (a count : ℕ) → AreAlikeMemories sees m n → ((x : ℕ) → a ≤ x → x < a + count → sees x ≡ true) → bytes_at m a count ≡ bytes_at n a count
-unfolding bytes_at
-bytes_alike sees m n a count h see = by_ram (leb 0x20000000 a) refl
-  where
-    by_flash : (b : Bool) → leb 0x08000000 a ≡ b → cond b (take count (drop (a - 0x08000000) m.flash)) [] ≡ cond b (take count (drop (a - 0x08000000) n.flash)) []
-    by_flash false e = refl
-    by_flash true e =
-        let above : 0x08000000 ≤ a = leb-true _ _ e in
-        part_same (a - 0x08000000) count m.flash n.flash h.flash_length (λ k x y. h.flash k (see (0x08000000 + k) (omega arith) (omega arith)))
-
-    by_ram : (b : Bool) → leb 0x20000000 a ≡ b → cond b (take count (drop (a - 0x20000000) m.ram)) (cond (leb 0x08000000 a) (take count (drop (a - 0x08000000) m.flash)) []) ≡ cond b (take count (drop (a - 0x20000000) n.ram)) (cond (leb 0x08000000 a) (take count (drop (a - 0x08000000) n.flash)) [])
-    by_ram false e = by_flash (leb 0x08000000 a) refl
-    by_ram true e =
-        let above : 0x20000000 ≤ a = leb-true _ _ e in
-        part_same (a - 0x20000000) count m.ram n.ram h.ram_length (λ k x y. h.ram k (see (0x20000000 + k) (omega arith) (omega arith)))
+bytes_alike sees m n a count h see = read_same sees m n a count record { flash = h.flash; ram = h.ram } see
 
 -- where all is seen, the memories are the same
 pub memories_same : (m n : Memory) → AreAlikeMemories (λ a. true) m n → m ≡ n

@@ -35,7 +35,7 @@ module _ (refuses : Refusals) (holds held : Contents) (same : (a : ℕ) → refu
   by_same : (at first : ℕ) → fetched_by refuses holds at first ≡ fetched_by refuses held at first
   by_same at first = ap (λ (r : Result Fetched Fault). cond (is_wide first) r (instruction at first (decoded_of first None))) (wide_same at first)
 
-  fetched_same : (at : ℕ) → fetched refuses holds at ≡ fetched refuses held at
+  pub fetched_same : (at : ℕ) → fetched refuses holds at ≡ fetched refuses held at
   fetched_same at = unless_same (refuses at 2 Execute) at _ _ (λ e. ap (fetched_by refuses holds at) (same at e) ∙ by_same at (held at 2))
 
 -- ## the walk

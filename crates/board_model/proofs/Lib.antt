@@ -18,6 +18,7 @@ pub mod AllNoted
 pub mod ClientServer
 pub mod TwoServers
 pub mod SumOfLease
+pub mod SameBytes
 pub mod Alike
 pub mod Sight
 pub mod Births
@@ -32,12 +33,11 @@ pub mod SaneReduced
 pub mod Views
 pub mod SameReads
 pub mod AlikeRuns
-pub mod LonerMembers
 pub mod LonerSteps
 pub mod LonerBytes
 pub mod LonerFrame
-pub mod LonerMemories
 pub mod LonerWalk
 pub mod LonerOwnTurns
 pub mod LonerLives
 pub mod LonerBirths
+pub mod BirthTurns

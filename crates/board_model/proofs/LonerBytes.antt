@@ -14,7 +14,8 @@ use Rattle.task_table.specs.Grounds.{MayWrite, MayChange, AreGrounded, with_writ
 use Rattle.task_table.proofs.Keeps.{idle_call, idle_listen}
 use Rattle.task_table.proofs.Ranges.{within_ram-given}
 use Rattle.task_table.proofs.Steps.{length-with_bytes}
-use Rattle.board_model.proofs.LonerMembers.{both, any_in}
+use Rattle.board_model.proofs.TurnChains.{both_true}
+use Rattle.board_model.proofs.Views.{any_in}
 use Rattle.board_model.specs.Loners.{IsLoner, owns}
 
 -- ## a byte that is not written
@@ -69,7 +70,7 @@ pub own_alone : (g : Setup) (j i a : ℕ) → IsLoner g j → owns g j a ≡ tru
 own_alone g j i a loner own ne may =
     let r = any_in (λ (x : Region). is_inside x a) (setup_at g j).regions own in
     let q = any_in (gives_copy right.Write a) (setup_at g i).regions may in
-    let inside : is_inside q.0 a ≡ true = (both (is_inside q.0 a) _ (both _ _ q.2).0).0 in
+    let inside : is_inside q.0 a ≡ true = (both_true (is_inside q.0 a) _ (both_true _ _ q.2).0).0 in
     false≢true (sym (loner.apart i ne r.0 q.0 r.1 q.1 a r.2) ∙ inside)
 
 module _ (g : Setup) (s : State) (c : ℕ) (u : Turn) (j : ℕ) (apart : j ≢ c) (waits : IsIdle s j) where

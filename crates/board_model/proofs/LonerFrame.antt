@@ -18,7 +18,7 @@ use Rattle.task_table.specs.Start.{begun}
 use Rattle.task_table.specs.Sane.{Sane}
 use Rattle.task_table.specs.Grounds.{with_writes}
 use Rattle.board_model.specs.declared.outcomes.Level.{Level}
-use Rattle.board_model.specs.declared.outcomes.Level.TheVariants.{Brief, All}
+use Rattle.board_model.specs.declared.outcomes.Level.TheVariants.{Calls, All}
 use Rattle.board_model.specs.Script.{Scenario}
 use Rattle.board_model.specs.Turn.{noted_at, happened, after_events, with_current, turn_of, ended, turn}
 use Rattle.board_model.specs.Lifetimes.{IsGroundedTurn}
@@ -89,7 +89,7 @@ module _ (s : State) (j : ℕ) where
   -- ## the turn
 
   alone-idle : (level : Level) (t : Turn) → IsUntouched s j t.state → IsUntouched s j (noted_at level note.Idle t).state
-  alone-idle Brief t h = h
+  alone-idle Calls t h = h
   alone-idle All t h = same-noted s j note.Idle t h
 
   alone-ended : (u : Turn) → IsLeftAlone s j u → IsLeftAlone s j (ended u)

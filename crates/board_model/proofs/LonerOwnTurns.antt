@@ -8,7 +8,7 @@ use Rattle.region_check.specs.declared.Region.{Region}
 use Rattle.region_check.specs.declared.Right.{Right}
 use Rattle.region_check.specs.declared.Right.TheVariants.{Write}
 use Rattle.region_check.specs.Rights.{is_inside, has_right, gives}
-use Rattle.mem_banks.specs.Memory.{Memory, IsWithin, IsWithinRam}
+use Rattle.mem_banks.specs.Memory.{Memory, IsWithinRam}
 use Rattle.task_table.specs.State.{Setup, State, Turn}
 use Rattle.task_table.specs.Reading.{task_at, setup_at, call_of, listen_of, chosen, IsIdle}
 use Rattle.task_table.specs.Effects.{noted}
@@ -17,44 +17,36 @@ use Rattle.task_table.specs.Sane.{Sane}
 use Rattle.task_table.proofs.Receives.{well-ready}
 use Rattle.task_table.proofs.Sanity.{sane-current}
 use Rattle.board_model.specs.declared.outcomes.Level.{Level}
-use Rattle.board_model.specs.declared.outcomes.Level.TheVariants.{Brief, All}
+use Rattle.board_model.specs.declared.outcomes.Level.TheVariants.{Calls, All}
 use Rattle.board_model.specs.Script.{Scenario}
 use Rattle.board_model.specs.Turn.{may, noted_at, stepped, after_events, with_current, low_note, high_note, with_registers_noted, ended, turn}
 use Rattle.board_model.proofs.Events.{fresh-after_events}
-use Rattle.board_model.proofs.TurnChains.{IsChosen, chosen_is, as_current, sane-after_events, noted_state}
-use Rattle.board_model.proofs.LonerMembers.{both, any_in, any_of}
+use Rattle.board_model.proofs.TurnChains.{both_true, IsChosen, chosen_is, as_current, sane-after_events, noted_state}
+use Rattle.board_model.proofs.Views.{any_in, any_of}
 use Rattle.board_model.specs.Loners.{IsLoner, owns, HaveSameOwn, IsUntouched}
 use Rattle.board_model.specs.LonerTurns.{IsOwnTurn, IsToItself, AreAlike}
 use Rattle.board_model.proofs.LonerFrame.{untouched-after_events}
-use Rattle.board_model.proofs.LonerMemories.{AreAlikeMemories, alike_of_bytes, bytes_of_alike}
-use Rattle.board_model.proofs.LonerWalk.{IsPair, AreSame, AreReady, HasCalled, same-stepped}
+use Rattle.board_model.proofs.SameBytes.{HoldSame, same_of_bytes, bytes_of_same}
+use Rattle.board_model.proofs.LonerWalk.{IsPair, AreSame, IsAbout, HasCalled, same-stepped}
 
 -- ## where a loner's bytes lie
 
-module _ (g : Setup) (i : ℕ) (loner : IsLoner g i) where
+module _ (g : Setup) (i : ℕ) where
   -- a region that gives the right at an address
   given_by : (right : Right) (a : ℕ) → may g i right a ≡ true → (r : Region) × Contains (setup_at g i).regions r × (is_inside r a ≡ true) × (has_right r.rights right ≡ true)
   given_by right a e =
       let r = any_in (gives right a) (setup_at g i).regions e in
-      let b = both (is_inside r.0 a) (has_right r.0.rights right) r.2 in
+      let b = both_true (is_inside r.0 a) (has_right r.0.rights right) r.2 in
       (r.0, r.1, b.0, b.1)
 
   from_to : (r : Region) (a : ℕ) → is_inside r a ≡ true → (r.base ≤ a) × (a < r.base + r.size)
-  from_to r a e = let b = both (leb r.base a) (ltb a (r.base + r.size)) e in (leb-true _ _ b.0, ltb-true _ _ b.1)
+  from_to r a e = let b = both_true (leb r.base a) (ltb a (r.base + r.size)) e in (leb-true _ _ b.0, ltb-true _ _ b.1)
 
-  pub own_below : (m : Memory) → ArePlaced g m → (right : Right) (a : ℕ) → may g i right a ≡ true → (owns g i a ≡ true) × (a < 0x40000000)
-  own_below m placed right a e =
-      let r = given_by right a e in
-      let b = from_to r.0 a r.2 in
-      (any_of (λ (x : Region). is_inside x a) (setup_at g i).regions r.0 r.1 r.2, by_place r.0.base r.0.size b.0 b.1 (placed.within i r.0 r.1 (loner.no_device r.0 r.1)))
-    where
-      by_place : (base size : ℕ) → base ≤ a → a < base + size → IsWithin m base size → a < 0x40000000
-      by_place base size lo hi (inl (inl none)) = absurd (omega arith)
-      by_place base size lo hi (inl (inr ram)) = let few = placed.below in let end = ram.1 in omega arith
-      by_place base size lo hi (inr flash) = let few = placed.flash in let end = flash.1 in omega arith
+  own : (right : Right) (a : ℕ) → may g i right a ≡ true → owns g i a ≡ true
+  own right a e = let r = given_by right a e in any_of (λ (x : Region). is_inside x a) (setup_at g i).regions r.0 r.1 r.2
 
   -- in RAM, where it may be written: also in the memory of another image, in which a task has this region and no device
-  pub own_ram : (h : Setup) (j : ℕ) (m : Memory) → ArePlaced h m → IsLoner h j → (setup_at g i).regions ≡ (setup_at h j).regions → (a : ℕ) → may g i Write a ≡ true → (0x20000000 ≤ a) × (a < 0x20000000 + length m.ram)
+  own_ram : (h : Setup) (j : ℕ) (m : Memory) → ArePlaced h m → IsLoner h j → (setup_at g i).regions ≡ (setup_at h j).regions → (a : ℕ) → may g i Write a ≡ true → (0x20000000 ≤ a) × (a < 0x20000000 + length m.ram)
   own_ram h j m placed other same a e =
       let r = given_by Write a e in
       let b = from_to r.0 a r.2 in
@@ -73,7 +65,7 @@ turn_is level x s c e = rw e refl
 
 kept-noted_at : (level : Level) (n m : Note) (t : Turn) → Contains t.notes m → Contains (noted_at level n t).notes m
 unfolding noted
-kept-noted_at Brief n m t here = here
+kept-noted_at Calls n m t here = here
 kept-noted_at All n m t here = Contains-append_left t.notes (n ∷ []) m here
 
 kept-registers : (level : Level) (c : ℕ) (m : Note) (t : Turn) → Contains t.notes m → Contains (with_registers_noted level c t).notes m
@@ -122,8 +114,8 @@ module _ (l p : Level) (x y : Scenario) (i j : ℕ) (s u : State) (h : AreAlike 
   pair : (m n : Memory) → ArePlaced x.setup m → ArePlaced y.setup n → IsPair x.setup y.setup i j (length m.ram) (length n.ram)
   pair m n a b = record {
     regions = h.regions;
-    own = own_below x.setup i h.loners.0 m a;
-    ram = λ at may_write. let one = own_ram x.setup i h.loners.0 x.setup i m a h.loners.0 refl at may_write in let two = own_ram x.setup i h.loners.0 y.setup j n b h.loners.1 h.regions at may_write in (one.0, one.1, two.1);
+    own = own x.setup i;
+    ram = λ at may_write. let one = own_ram x.setup i x.setup i m a h.loners.0 refl at may_write in let two = own_ram x.setup i y.setup j n b h.loners.1 h.regions at may_write in (one.0, one.1, two.1);
   }
 
   -- after an own turn of each, in which the first made no system call but PANIC
@@ -160,8 +152,8 @@ module _ (l p : Level) (x y : Scenario) (i j : ℕ) (s u : State) (h : AreAlike 
       memory_v : v.state.memory ≡ u.memory
       memory_v = (fresh-after_events y u).memory
 
-      alike : AreAlikeMemories (owns x.setup i) s.memory u.memory
-      alike = alike_of_bytes (owns x.setup i) s.memory u.memory hs.steady.placed.flash hu.steady.placed.flash h.bytes
+      alike : HoldSame (owns x.setup i) s.memory u.memory
+      alike = same_of_bytes (owns x.setup i) s.memory u.memory hs.steady.placed.flash hu.steady.placed.flash h.bytes
 
       before : AreSame x.setup i j (length s.memory.ram) (length u.memory.ram) t.state v.state
       before = record {
@@ -174,11 +166,11 @@ module _ (l p : Level) (x y : Scenario) (i j : ℕ) (s u : State) (h : AreAlike 
         idle = (left_t.idle, left_v.idle);
       }
 
-      ready : AreReady x.setup y.setup i j (length s.memory.ram) (length u.memory.ram) (with_current i t).state (with_current j v).state
+      ready : IsAbout x.setup i j (length s.memory.ram) (length u.memory.ram) (with_current i t).state (with_current j v).state
       ready = record {
         same = same_currents x.setup i j (length s.memory.ram) (length u.memory.ram) i j t.state v.state before;
-        sane = (sane-current i t sane_t is_t.inside, sane-current j v sane_v is_v.inside);
-        ready = (as_current i i t.state is_t.ready, as_current j j v.state is_v.ready);
+        sane = sane-current i t sane_t is_t.inside;
+        ready = as_current i i t.state is_t.ready;
       }
 
       one : Turn
@@ -199,5 +191,5 @@ module _ (l p : Level) (x y : Scenario) (i j : ℕ) (s u : State) (h : AreAlike 
       by_outcome : AreSame x.setup i j (length s.memory.ram) (length u.memory.ram) one.state two.state ⊎ HasCalled i one.notes → HaveSameOwn x.setup i j (turn l x s).state (turn p y u).state × IsIdle (turn l x s).state i × IsIdle (turn p y u).state j
       by_outcome (inl after) =
           let late = same_later x.setup i j (length s.memory.ram) (length u.memory.ram) (one.state.turn + 1) (two.state.turn + 1) one.state two.state after in
-          rw (state_one, state_two) (record { registers = late.registers; flags = late.flags; health = late.health; bytes = bytes_of_alike (owns x.setup i) _ _ late.memory }, late.idle.0, late.idle.1)
+          rw (state_one, state_two) (record { registers = late.registers; flags = late.flags; health = late.health; bytes = bytes_of_same (owns x.setup i) _ _ late.memory }, late.idle.0, late.idle.1)
       by_outcome (inr called) = absurd (called.3 (itself.no_call called.0 called.1 (notes_one _ called.2)))

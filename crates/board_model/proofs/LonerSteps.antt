@@ -14,7 +14,7 @@ use Rattle.kernel_abi.specs.declared.Note.{Note}
 use Rattle.kernel_abi.specs.declared.Note.TheVariants as note
 use Rattle.kernel_abi.specs.declared.Timer.{Timer}
 use Rattle.task_table.specs.declared.Line.{Line}
-use Rattle.task_table.specs.declared.slot.Range.{Range}
+use Rattle.task_table.specs.declared.slot.Slice.{Slice}
 use Rattle.task_table.specs.State.{Setup, State, Task, Call, Listen, Ground, Own, Message, Turn}
 use Rattle.task_table.specs.Reading.{task_at, no_task, call_of, listen_of, admits, IsIdle}
 use Rattle.task_table.specs.Effects.{with_task, without_call, without_listen, with_listen, with_taken, taken_from, with_call, changed, noted, with_processor, with_health, stored, copied, looked, given, returned, past_syscall, bits_added, bits_cleared, woken_by, woken, posted, with_timer, with_line, closed, faulted_as, offered, handed, reborn, is_to, awaits, dead_answered, restarted}
@@ -224,11 +224,11 @@ module _ (s : State) (j : ℕ) where
     | inr other ↦ same-other i bits u other.1 h
   ]
 
-  same-handed : (on : Ground) (k : Call) (buffer : Range) (u : Turn) → j ≢ k.server.index → Same u.state → Same (handed on k buffer u).state
+  same-handed : (on : Ground) (k : Call) (buffer : Slice) (u : Turn) → j ≢ k.server.index → Same u.state → Same (handed on k buffer u).state
   unfolding handed noted looked
   same-handed on k buffer u ne h =
-      let n = min k.message.length buffer.length in
-      same-given k.server.index (0 ∷ id_of k.client.index k.client.birth ∷ k.operation ∷ k.message.length ∷ k.reply.length ∷ k.leases ∷ []) _ ne
+      let n = min k.message.len buffer.len in
+      same-given k.server.index (0 ∷ id_of k.client.index k.client.birth ∷ k.operation ∷ k.message.len ∷ k.reply.len ∷ k.leases ∷ []) _ ne
       (same-unlistened k.server.index _ (same-taken k.client.index _ (same-copied on k.message.base buffer.base n _ h)))
 
   same-offers : (k : Call) (u : Turn) → k.client.index ≢ j → Same u.state → Same (offers_call k u).state
@@ -340,7 +340,7 @@ module _ (s : State) (j : ℕ) where
     step_alone _ _ (Stores on at bytes u all within room may) h = inr (same-stored on at bytes u h)
     step_alone _ _ (Copies on from at n i r u target may) h = inr (same-copied on from at n u h)
     step_alone _ _ (Looks r u alive) h = inr h
-    step_alone _ _ (Borrows k borrow lease offset moved u alive) h = inr h
+    step_alone _ _ (Borrows k way lease offset moved u alive taken none) h = inr h
     step_alone _ _ (Ceases i ending u ends) h = inr (same-closed i ending u h)
     step_alone _ _ (Halts fault u lt low high) h = inr (same-faulted g c fault ending.Client u apart h)
     step_alone _ _ (Strikes i fault ending u other lt low high who ends) h = elim (eqb_tells j i) [

@@ -1,12 +1,12 @@
 -- A turn depends on memory only where it reads.
-use Rattle.std.proofs.Common.{◌≡◌, ◌+◌, ◌-◌, ◌<◌, ◌≤◌, ℕ, Bool, true, false, cond, not, leb, ltb, ◌&&◌, ◌||◌, List, length, Option, Some, None, refl, sym, ◌∙◌, subst, arith, le-leb, leb-true, lt-ltb, ltb-true, ltb-false}
+use Rattle.std.proofs.Common.{◌≡◌, ◌+◌, ◌<◌, ◌≤◌, ℕ, Bool, true, false, not, leb, ltb, ◌&&◌, ◌||◌, List, length, Option, Some, None, refl, sym, ◌∙◌, subst, arith, le-leb, leb-true, lt-ltb, ltb-true, ltb-false}
 use Rattle.std.specs.Prelude.{Contains, slice_get}
 use Rattle.std.specs.List.{list_any}
 use Rattle.std.proofs.lemmas.Option.{slice_get_past}
 use Rattle.region_check.specs.declared.Region.{Region}
 use Rattle.region_check.specs.declared.Right.{Right}
 use Rattle.region_check.specs.Rights.{gives, has_right, is_inside}
-use Rattle.mem_banks.specs.Memory.{Memory, byte_at}
+use Rattle.mem_banks.specs.Memory.{Memory}
 use Rattle.task_table.specs.State.{Setup, State, Read, Turn}
 use Rattle.task_table.specs.Reading.{setup_at, chosen}
 use Rattle.task_table.specs.Effects.{noted}
@@ -16,17 +16,14 @@ use Rattle.board_model.specs.declared.outcomes.Level.{Level}
 use Rattle.board_model.specs.declared.outcomes.Level.TheVariants.{Calls, All}
 use Rattle.board_model.specs.Script.{Scenario}
 use Rattle.board_model.specs.Turn.{may, after_events, turn_of, ended, turn}
-use Rattle.board_model.proofs.TurnChains.{sane-after_events}
+use Rattle.board_model.proofs.TurnChains.{both_true, sane-after_events}
 use Rattle.board_model.specs.Alike.{Viewer, IsAttentive, seen, AreAlikeMemories, IsAlike, AreSeen}
 use Rattle.board_model.specs.Agreement.{is_own, covers, is_read, AgreesOnReads, rest_of, with_memory, IsSameButMemory}
+use Rattle.board_model.proofs.SameBytes.{flash_byte, ram_byte}
 use Rattle.board_model.proofs.Alike.{shown, chosen_alike}
 use Rattle.board_model.proofs.AlikeTurns.{IsHeardAs, alike-rest}
 use Rattle.board_model.proofs.Sight.{IsOpen}
 use Rattle.board_model.proofs.Views.{all_heard, any_in, any_of, either, first, same_but_memory, told_plainly}
-
-both : (a b : Bool) → (a && b) ≡ true → (a ≡ true) × (b ≡ true)
-both true b h = (refl, h)
-both false b h = cc
 
 -- the one who sees what is read, and what lies above all memory
 unfoldable pub reader : Setup → ℕ → List Read → Viewer
@@ -49,13 +46,13 @@ module _ (g : Setup) (c : ℕ) (reads : List Read) where
   own_seen : (m : Memory) → ArePlaced g m → (right : Right) (a : ℕ) → may g c right a ≡ true → (is_read g c reads a || leb 0x40000000 a) ≡ true
   own_seen m placed right a e =
       let r = any_in (gives right a) (setup_at g c).regions e in
-      let inside = both (is_inside r.0 a) (has_right r.0.rights right) r.2 in
+      let inside = both_true (is_inside r.0 a) (has_right r.0.rights right) r.2 in
       go r.0 r.1 inside.0 r.0.rights.device refl
     where
       go : (r : Region) → Contains (setup_at g c).regions r → is_inside r a ≡ true → (b : Bool) → r.rights.device ≡ b → (is_read g c reads a || leb 0x40000000 a) ≡ true
       go r here inside true q =
           let base = placed.devices c r here q in
-          let lo : r.base ≤ a = leb-true _ _ (both (leb r.base a) _ inside).0 in
+          let lo : r.base ≤ a = leb-true _ _ (both_true (leb r.base a) _ inside).0 in
           above_seen a (omega arith)
       go r here inside false q =
           let mine : list_any (λ (x : Region). is_inside x a && not x.rights.device) (setup_at g c).regions ≡ true = any_of (λ (x : Region). is_inside x a && not x.rights.device) (setup_at g c).regions r here ((λ i. inside i && not (q i)) ∙ refl) in
@@ -70,27 +67,6 @@ module _ (g : Setup) (c : ℕ) (reads : List Read) where
   reads_seen r here a lo hi =
       let in_it : covers a r ≡ true = (λ i. le-leb _ _ lo i && lt-ltb _ _ hi i) ∙ refl in
       first (is_read g c reads a) (leb 0x40000000 a) (either (is_own g c a) (list_any (covers a) reads) (any_of (covers a) reads r here in_it))
-
-  -- the byte at an address of the flash, and at one of the RAM
-  flash_byte : (m : Memory) (k : ℕ) → k < 0x18000000 → byte_at m (0x08000000 + k) ≡ slice_get m.flash k
-  flash_byte m k below =
-      let no_ram : leb 0x20000000 (0x08000000 + k) ≡ false = lt_no_leb (0x08000000 + k) (omega arith) in
-      let there : leb 0x08000000 (0x08000000 + k) ≡ true = le-leb _ _ (omega arith) in
-      let back : 0x08000000 + k - 0x08000000 ≡ k = omega arith in
-      (λ i. cond (no_ram i) (slice_get m.ram (0x08000000 + k - 0x20000000)) (cond (there i) (slice_get m.flash (back i)) None))
-    where
-      lt_no_leb : (a : ℕ) → a < 0x20000000 → leb 0x20000000 a ≡ false
-      lt_no_leb a h = go (leb 0x20000000 a) refl
-        where
-          go : (b : Bool) → leb 0x20000000 a ≡ b → b ≡ false
-          go false q = refl
-          go true q = let above : 0x20000000 ≤ a = leb-true _ _ q in absurd (omega arith)
-
-  ram_byte : (m : Memory) (k : ℕ) → byte_at m (0x20000000 + k) ≡ slice_get m.ram k
-  ram_byte m k =
-      let there : leb 0x20000000 (0x20000000 + k) ≡ true = le-leb _ _ (omega arith) in
-      let back : 0x20000000 + k - 0x20000000 ≡ k = omega arith in
-      (λ i. cond (there i) (slice_get m.ram (back i)) (cond (leb 0x08000000 (0x20000000 + k)) (slice_get m.flash (0x20000000 + k - 0x08000000)) None))
 
   seen_or_above : (a : ℕ) → (is_read g c reads a || leb 0x40000000 a) ≡ true → a < 0x40000000 → is_read g c reads a ≡ true
   seen_or_above a e below = go (is_read g c reads a) refl e

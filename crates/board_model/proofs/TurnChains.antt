@@ -57,7 +57,7 @@ use Rattle.thumb_insn.specs.declared.Code.TheVariants.{One, Two}
 
 -- ## small things
 
-both_true : (a b : Bool) → (a && b) ≡ true → (a ≡ true) × (b ≡ true)
+pub both_true : (a b : Bool) → (a && b) ≡ true → (a ≡ true) × (b ≡ true)
 both_true true b h = (refl, h)
 both_true false b h = cc
 
@@ -73,7 +73,7 @@ all_bytes v n b here =
     one_more (v % 256) (v / 2 ^ 8 % 256 ∷ v / 2 ^ 16 % 256 ∷ v / 2 ^ 24 % 256 ∷ []) (omega arith) (one_more (v / 2 ^ 8 % 256) (v / 2 ^ 16 % 256 ∷ v / 2 ^ 24 % 256 ∷ []) (omega arith) (one_more (v / 2 ^ 16 % 256) (v / 2 ^ 24 % 256 ∷ []) (omega arith) (one_more (v / 2 ^ 24 % 256) [] (omega arith) no_byte))) b
     (take_in n (v % 256 ∷ v / 2 ^ 8 % 256 ∷ v / 2 ^ 16 % 256 ∷ v / 2 ^ 24 % 256 ∷ []) b here)
 
-few_bytes : (v n : ℕ) → (n ≡ 1) ⊎ (n ≡ 2) ⊎ (n ≡ 4) → length (bytes_of v n) ≡ n
+pub few_bytes : (v n : ℕ) → (n ≡ 1) ⊎ (n ≡ 2) ⊎ (n ≡ 4) → length (bytes_of v n) ≡ n
 few_bytes v n (inl e) = rw e refl
 few_bytes v n (inr (inl e)) = rw e refl
 few_bytes v n (inr (inr e)) = rw e refl
@@ -214,7 +214,7 @@ decoded_coded first None i f g true (inl e) = absurd cc
 decoded_coded first None i f g true (inr e) = absurd cc
 
 -- an instruction that has a code, or a fault that a fetch may be
-abbrev IsFetchable : Result Fetched Fault → Type 0
+abbrev pub IsFetchable : Result Fetched Fault → Type 0
 IsFetchable (Ok f) = IsCoded f.insn
 IsFetchable (Err fault) = (1 ≤ fault.number) × (fault.number ≤ 10)
 
@@ -232,7 +232,7 @@ either : (b : Bool) (r s : Result Fetched Fault) → IsFetchable r → IsFetchab
 either true r s h k = h
 either false r s h k = k
 
-fetchable : (refuses : Refusals) (holds : Contents) (at : ℕ) → ((a : ℕ) → holds a 2 < 65536) → IsFetchable (fetched refuses holds at)
+pub fetchable : (refuses : Refusals) (holds : Contents) (at : ℕ) → ((a : ℕ) → holds a 2 < 65536) → IsFetchable (fetched refuses holds at)
 fetchable refuses holds at small =
     let first = holds at 2 in
     let second = holds (after at) 2 in
@@ -247,7 +247,7 @@ noted-call g c t h inside ready =
     let u = syscall_noted c t in
     chain_noted g t.state c u (syscall_made g c u) (chain-syscall_made g c u h (rw (← h.steady.as_many) inside) ready) (noted-noted _ t)
 
-keeps-here : {g : Setup} (c : ℕ) (t : Turn) (h : Sane g t.state) (inside : c < length t.state.tasks) (insn : Insn) → IsCoded insn → Keeps (refusals g c) (effect (refusals g c) (number_at t.state.memory) (cpu_of (task_at t.state c)) insn)
+pub keeps-here : {g : Setup} (c : ℕ) (t : Turn) (h : Sane g t.state) (inside : c < length t.state.tasks) (insn : Insn) → IsCoded insn → Keeps (refusals g c) (effect (refusals g c) (number_at t.state.memory) (cpu_of (task_at t.state c)) insn)
 keeps-here {g} c t h inside insn coded = keeps (refusals g c) (number_at t.state.memory) (cpu_of (task_at t.state c)) insn coded (whole_cpu c t h inside)
 
 module _ (level : Level) (g : Setup) (c : ℕ) (t : Turn) (h : Sane g t.state) (inside : c < length g.tasks) (ready : is_ready t.state c ≡ true) where

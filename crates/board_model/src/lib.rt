@@ -15,7 +15,7 @@ pub use laws::{
 };
 pub use loners::{
     births_begin_alike, loners_decide_their_own_turns, loners_go_their_own_way,
-    others_leave_loners_alone,
+    others_leave_loners_alone, who_is_alone_is_a_loner,
 };
 pub use outcomes::{End, Level, Turned};
 pub use two_runs::{

@@ -5,10 +5,13 @@
 //! - Its own turn goes by what it has for itself alone (`loners_decide_their_own_turns`).
 //! - So what a loner comes to by itself is the same in any two runs (`loners_go_their_own_way`), from a birth on, and each
 //!   birth begins alike (`births_begin_alike`).
+//! - Who is alone, as regions are compared, is one of these (`who_is_alone_is_a_loner`).
 
-ghost use Rattle.std.specs.Prelude.{◌≡◌, ◌≢◌, ◌<◌, ℕ, suc, Bool, List, Some, length};
+ghost use Rattle.std.specs.Prelude.{◌≡◌, ◌≢◌, ◌<◌, ℕ, suc, Bool, true, false, List, Some, Contains, length};
+ghost use Rattle.region_check.specs.declared.Region.{Region};
+ghost use Rattle.region_check.specs.Rights.{is_alone, SameOrApart};
 ghost use Rattle.task_table.specs.State.{Setup, State, Turn};
-ghost use Rattle.task_table.specs.Reading.{chosen, IsIdle};
+ghost use Rattle.task_table.specs.Reading.{task_at, setup_at, chosen, IsIdle};
 ghost use Rattle.task_table.specs.Effects.{restarted};
 ghost use Rattle.task_table.specs.Rows.{goes_on_with};
 ghost use Rattle.task_table.specs.Start.{start};
@@ -17,7 +20,7 @@ ghost use Rattle.board_model.specs.declared.outcomes.Level.{Level as Detail};
 ghost use Rattle.board_model.specs.Script.{Scenario};
 ghost use Rattle.board_model.specs.Turn.{after_events, stepped, with_current, turn};
 ghost use Rattle.board_model.specs.Run.{state_after};
-ghost use Rattle.board_model.specs.Loners.{HaveSameOwn, IsUntouched, IsAtBirth};
+ghost use Rattle.board_model.specs.Loners.{IsLoner, HaveSameOwn, IsUntouched, IsAtBirth};
 ghost use Rattle.board_model.specs.LonerTurns.{LeavesLoners, LonersDecide, Lives, AreBornAlike, own_count, GoesByItself};
 
 /// What others do leaves a loner alone. A task that waits for nothing has after a turn that is not its own the births,
@@ -44,8 +47,16 @@ pub fn loners_go_their_own_way()
 {}
 
 /// A birth begins with the registers and flags that the image gives it, and waits for nothing: the first one at the start of
-/// a run, each other one after the turn in which a task restarted it and went on.
+/// a run, each other one after the turn in which a task restarted it and went on; and a turn that changes how often a task
+/// was born is such a turn.
 pub fn births_begin_alike()
     ensures first { (g : Setup) (i : ℕ) → i < length g.tasks → IsAtBirth g i (start g) }
     ensures later { (level : Detail) (x : Scenario) (s : State) (i c : ℕ) (values : List ℕ) (run : Bool) (t : Turn) → chosen x.setup (after_events x s).state ≡ Some c → stepped level x.setup c (with_current c (after_events x s)) ≡ goes_on_with c values (restarted x.setup i run t) → i < length t.state.tasks → i ≢ c → IsAtBirth x.setup i (turn level x s).state }
+    ensures each { (level : Detail) (x : Scenario) (s : State) (i : ℕ) → Sane x.setup s → (task_at (turn level x s).state i).births ≢ (task_at s i).births → IsAtBirth x.setup i (turn level x s).state }
+{}
+
+/// A task that is alone among the others, and has no device, is a loner, where any two regions are at the same place or have
+/// no byte in common, as in every image.
+pub fn who_is_alone_is_a_loner()
+    ensures { (g : Setup) (i : ℕ) → i < length g.tasks → ((j : ℕ) → j ≢ i → is_alone (setup_at g i).regions (setup_at g j).regions ≡ true) → ((r : Region) → Contains (setup_at g i).regions r → r.rights.device ≡ false) → ((j : ℕ) (r q : Region) → Contains (setup_at g i).regions r → Contains (setup_at g j).regions q → SameOrApart r q) → IsLoner g i }
 {}

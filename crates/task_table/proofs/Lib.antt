@@ -35,6 +35,7 @@ pub mod BorrowChains
 pub mod OrderChains
 pub mod RowChains
 pub mod StepKeeps
+pub mod Spared
 pub mod Counting
 pub mod Noting
 pub mod Quieting

@@ -15,12 +15,13 @@ use Rattle.task_table.specs.State.{Setup, Own, Turn}
 use Rattle.task_table.specs.Reading.{task_at, arguments, is_valid, bad_byte}
 use Rattle.task_table.specs.Effects.{stored}
 use Rattle.task_table.specs.Sends.{message_of, reply_room}
+use Rattle.task_table.specs.Rows.{goes_on_with}
 use Rattle.task_table.specs.Orders.{Order, word_bytes, status_bytes, injected_by, injected, first_faulted, fault_found, orders, order_of, obeyed, ordered}
 use Rattle.task_table.specs.Sane.{Sane}
 use Rattle.task_table.specs.Chain.{Here}
-use Rattle.task_table.specs.Step.{Notes, Stores, Strikes, Restarts}
+use Rattle.task_table.specs.Step.{Notes, Stores, Strikes}
 use Rattle.task_table.proofs.Chains.{one, ◌▷◌}
-use Rattle.task_table.proofs.Outcomes.{Leads, Comes, by_outcome, comes-misused, comes-denied, goes_with}
+use Rattle.task_table.proofs.Outcomes.{Leads, Comes, by_outcome, comes-misused, comes-denied, goes_with, goes_after_restart}
 use Rattle.task_table.proofs.Ranges.{may-write, within_ram-good, within_ram-front}
 use Rattle.task_table.proofs.Receives.{none_left}
 
@@ -74,9 +75,12 @@ not_itself index false h e = λ zero. absurd (false≢true (sym (rw zero at h)))
 module _ (g : Setup) (c : ℕ) (t : Turn) (h : Sane g t.state) (inside : c < length g.tasks) where
   -- ## what each order does
 
-  -- an order that c may give is done by steps that spare c
+  -- an order that c may give is done, and c goes on
   abbrev IsDone : SendArgs → Order → Type 0
-  IsDone x o = (index : ℕ) → index < length g.tasks → (o.on_supervisor ≡ false → index ≢ c) → o.reply ≤ x.reply_capacity → Leads g c t (o.does g x index t)
+  IsDone x o = (index : ℕ) → index < length g.tasks → (o.on_supervisor ≡ false → index ≢ c) → o.reply ≤ x.reply_capacity → Comes g c t (goes_on_with c (0 ∷ o.reply ∷ []) (o.does g x index t))
+
+  answers : (reply : ℕ) (u : Turn) → Leads g c t u → Comes g c t (goes_on_with c (0 ∷ reply ∷ []) u)
+  answers reply u x = goes_with g c t inside (0 ∷ reply ∷ []) u (omega arith) x
 
   leads-injected : (i : ℕ) → i < length g.tasks → i ≢ c → Leads g c t (injected g i t)
   unfolding injected
@@ -103,10 +107,10 @@ module _ (g : Setup) (c : ℕ) (t : Turn) (h : Sane g t.state) (inside : c < len
 
     all_done : EachOrder (IsDone x) orders
     all_done = (
-      λ index lt other room. leads-status (task_at t.state index).health room,
+      λ index lt other room. answers 16 _ (leads-status (task_at t.state index).health room),
       (
-        λ index lt other room. one (Restarts index _ t (other refl) lt, tt),
-        (λ index lt other room. leads-injected index lt (other refl), (λ index lt other room. leads-found index room, tt)),
+        λ index lt other room. goes_after_restart g c t inside index _ (0 ∷ 0 ∷ []) (other refl) lt (omega arith),
+        (λ index lt other room. answers 0 _ (leads-injected index lt (other refl)), (λ index lt other room. answers 4 _ (leads-found index room), tt)),
       ),
     )
 
@@ -121,7 +125,7 @@ module _ (g : Setup) (c : ℕ) (t : Turn) (h : Sane g t.state) (inside : c < len
         by_outcome (eqb index 0 && not o.on_supervisor) (λ bad. comes-misused g c t inside 4) (λ may.
         let lt : index < length g.tasks = rw (← h.steady.as_many) (leb-false _ _ there) in
         let room = leb-true _ _ (and_parts (eqb x.message_length o.message) (leb o.reply x.reply_capacity) (not-false _ known)).1 in
-        goes_with g c t inside (0 ∷ o.reply ∷ []) (o.does g x index t) (omega arith) (done index lt (λ off. rw is_first (not_itself index o.on_supervisor may off)) room))))
+        done index lt (λ off. rw is_first (not_itself index o.on_supervisor may off)) room)))
 
   pub comes-ordered : Comes g c t (ordered g c t)
   unfolding ordered

@@ -1,11 +1,11 @@
--- How a system call comes out: its caller faults, or goes on by steps that spare it.
-use Rattle.std.proofs.Common.{◌≡◌, ◌<◌, ◌≤◌, inl, ℕ, Bool, true, false, cond, List, length, Option, refl, arith}
+-- How a system call comes out: its caller faults, or goes on by steps that spare it, or restarts a task and goes on.
+use Rattle.std.proofs.Common.{◌≡◌, ◌≢◌, ◌<◌, ◌≤◌, inl, ℕ, Bool, true, false, cond, List, length, Option, refl, arith}
 use Rattle.kernel_abi.specs.declared.Fault.{Fault}
 use Rattle.task_table.specs.State.{Setup, State, Turn}
-use Rattle.task_table.specs.Effects.{given, past_syscall, faulted}
+use Rattle.task_table.specs.Effects.{given, past_syscall, faulted, restarted}
 use Rattle.task_table.specs.Rows.{misused, denied, goes_on, goes_on_with}
 use Rattle.task_table.specs.Chain.{Chain, Here}
-use Rattle.task_table.specs.Step.{Step, Gives, Returns, PassesSyscall, Halts, Spared, Outcome, Faults, Goes}
+use Rattle.task_table.specs.Step.{Step, Gives, Returns, PassesSyscall, Halts, Restarts, Spared, Outcome, Faults, Goes, GoesAfterRestart}
 use Rattle.task_table.proofs.Chains.{one, ◌▷◌, refined}
 
 -- ## an outcome is a chain of steps
@@ -16,6 +16,10 @@ chain-spared g s c u v x = refined (Spared g s c) (Step g s c) (λ a b step. one
 pub chain-outcome : (g : Setup) (s : State) (c : ℕ) (u v : Turn) → Outcome g s c u v → Chain (Step g s c) u v
 chain-outcome g s c _ _ (Faults fault u v inside low high x state notes writes reads) = chain-spared g s c u v x ▷ Halts fault v inside low high
 chain-outcome g s c _ _ (Goes u v x) = chain-spared g s c u v x
+chain-outcome g s c _ _ (GoesAfterRestart i start values u inside other there few) =
+    let v = restarted g i start u in
+    let w = given c values v in
+    one (Restarts i start u other there) ▷ Gives c values v inside few (inl refl) ▷ PassesSyscall w inside ▷ Returns c (past_syscall c w)
 
 -- ## how outcomes are made
 
@@ -47,3 +51,7 @@ module _ (g : Setup) (c : ℕ) (t : Turn) (inside : c < length g.tasks) where
 
   pub goes_with : (values : List ℕ) (u : Turn) → length values ≤ 6 → Leads g c t u → Comes g c t (goes_on_with c values u)
   goes_with values u few x = goes (given c values u) (x ▷ (Gives c values u inside few (inl refl), tt))
+
+  -- it restarted another task, and goes on
+  pub goes_after_restart : (i : ℕ) (start : Bool) (values : List ℕ) → i ≢ c → i < length g.tasks → length values ≤ 6 → Comes g c t (goes_on_with c values (restarted g i start t))
+  goes_after_restart i start values other there few = GoesAfterRestart i start values t inside other there few

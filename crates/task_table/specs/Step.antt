@@ -19,7 +19,7 @@ use Rattle.mem_banks.specs.Memory.{IsWithinRam, AreAllBytes}
 use Rattle.task_table.specs.State.{Setup, State, Birth, Call, Phase, Listen, Slice, Part, MessageFront, Entry, Leased, Read, One, Offered, Taken, Ground, Own, Turn}
 use Rattle.task_table.specs.Reading.{task_at, call_of, listen_of, bad_byte, admits, IsIdle}
 use Rattle.task_table.specs.Effects.{◌⨾◌, with_listen, changed, noted, with_processor, stored, copied, looked, given, returned, past_syscall, bits_cleared, posted, with_timer, with_line, closed, faulted_as, faulted, handed, restarted}
-use Rattle.task_table.specs.Rows.{listened_from}
+use Rattle.task_table.specs.Rows.{listened_from, goes_on_with}
 use Rattle.task_table.specs.Sends.{offers_call}
 use Rattle.task_table.specs.Sane.{IsFitCall, IsFitListen, IsOwned}
 use Rattle.task_table.specs.Counts.{AreWhole}
@@ -138,7 +138,7 @@ pub data Step (g : Setup) (s : State) (c : ℕ) : Turn → Turn → Type 0 where
 
 -- ## what a call or an instruction comes to
 
--- the step is not the fault of c
+-- the step is not the fault of c, and restarts nobody
 abbrev pub Spares : {g : Setup} {s : State} {c : ℕ} {u v : Turn} → Step g s c u v → Type 0
 Spares (Notes n u a) = Unit {0}
 Spares (Gives i values u a b d) = Unit {0}
@@ -159,9 +159,9 @@ Spares (Borrows k way lease offset moved u a b d) = Unit {0}
 Spares (Ceases i ending u a) = Unit {0}
 Spares (Halts fault u a b d) = ⊥
 Spares (Strikes i fault ending u a b d e f h) = Unit {0}
-Spares (Restarts i start u a b) = Unit {0}
+Spares (Restarts i start u a b) = ⊥
 
--- a step that spares c
+-- a step that spares c and all births
 abbrev pub Spared : Setup → State → ℕ → Turn → Turn → Type 0
 Spared g s c u v = (step : Step g s c u v) × Spares step
 
@@ -176,7 +176,8 @@ abbrev pub ReadsEntries : Turn → Turn → Type 0
 ReadsEntries u v = (r : Read) → Contains v.reads r → Contains u.reads r ⊎ IsEntry r.part
 
 -- c faults at once, or after steps that changed nothing, noted nothing, wrote nothing and read entries alone; or steps
--- that spare it
+-- that spare it; or it restarts another task at once, and goes on with results
 pub data Outcome (g : Setup) (s : State) (c : ℕ) : Turn → Turn → Type 0 where
   Faults : (fault : Fault) (u v : Turn) → c < length g.tasks → 1 ≤ fault.number → fault.number ≤ 10 → Chain (Spared g s c) u v → v.state ≡ u.state → v.notes ≡ u.notes → v.writes ≡ u.writes → ReadsEntries u v → Outcome g s c u (faulted g c fault v)
   Goes : (u v : Turn) → Chain (Spared g s c) u v → Outcome g s c u v
+  GoesAfterRestart : (i : ℕ) (start : Bool) (values : List ℕ) (u : Turn) → c < length g.tasks → i ≢ c → i < length g.tasks → length values ≤ 6 → Outcome g s c u (goes_on_with c values (restarted g i start u))

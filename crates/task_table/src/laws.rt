@@ -65,8 +65,9 @@ pub fn rows_keep_sane()
     ensures syscall_made { (g : Setup) (c : ℕ) (t : Turn) → Sane g t.state → c < length t.state.tasks → is_ready t.state c ≡ true → Sane g (syscall_made g c t).state }
 {}
 
-/// Every system call faults its caller at once, or after steps that changed nothing, or is a chain of steps that spare
-/// its caller: the one walk over the rows, from which follows whatever holds of each step.
+/// Every system call faults its caller at once, or after steps that changed nothing; or is a chain of steps that spare
+/// its caller and restart nobody; or restarts another task at once, and its caller goes on: the one walk over the rows,
+/// from which follows whatever holds of each step.
 pub fn syscalls_fault_at_once_or_spare_their_caller()
     ensures { (g : Setup) (c : ℕ) (t : Turn) → Sane g t.state → c < length t.state.tasks → is_ready t.state c ≡ true → Outcome g t.state c t (syscall_made g c t) }
 {}

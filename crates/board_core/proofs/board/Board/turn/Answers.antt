@@ -3,6 +3,8 @@ use Rattle.board_model.proofs.Lifetimes.{grounded-turn}
 use Rattle.board_model.proofs.SameReads.{same_turn}
 use Rattle.board_model.proofs.FaultTurns.{changes_nothing_else}
 use Rattle.board_model.proofs.DeadTurns.{dead_turn}
+use Rattle.board_model.proofs.LonerFrame.{alone-turn, bytes-turn}
+use Rattle.board_model.proofs.LonerOwnTurns.{own_turns}
 use Rattle.board_core.proofs.board.Board.turn.Goals as goal
 
 pub returns-clause-grounds : goal.returns-clause-grounds
@@ -16,3 +18,9 @@ returns-clause-faults c = λ x s st i h. changes_nothing_else All x s i st.sane 
 
 pub returns-clause-dead_ids : goal.returns-clause-dead_ids
 returns-clause-dead_ids c = λ x s st. dead_turn All x s st.sane
+
+pub returns-clause-loners : goal.returns-clause-loners
+returns-clause-loners c = λ x s st i idle other. (alone-turn s i All x st.sane idle other, λ loner a own. bytes-turn s i All x st.sane idle other loner a own)
+
+pub returns-clause-alone : goal.returns-clause-alone
+returns-clause-alone c = λ x s st level y u i j sane alike own own_too itself. (own_turns All level x y i j s u alike st.sane sane own own_too itself).0

@@ -1,0 +1,10 @@
+use Rattle.region_check.proofs.Sharing as alone
+use Rattle.task_table.specs.Reading.{setup_at}
+use Rattle.board_model.proofs.loners.who_is_alone_is_a_loner.Goals as goal
+
+pub returns : goal.returns
+returns c = λ g i there lone no_device places. record {
+  there = there;
+  no_device = no_device;
+  apart = λ j other r q here yonder a inside. alone.apart (setup_at g i).regions (setup_at g j).regions (lone j other) r q here yonder (places j r q here yonder) a inside;
+}
