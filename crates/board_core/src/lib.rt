@@ -4,6 +4,7 @@
 mod board;
 mod choice;
 mod glider;
+mod loners;
 mod machine;
 mod opening;
 mod reach;
@@ -13,5 +14,6 @@ mod window_laws;
 
 pub use board::Board;
 pub use board_model::{End, Level, Turned};
+pub use loners::listed_loners_share_nothing;
 pub use views::TaskView;
 pub use window_laws::instructions_within_a_window_are_turns;

@@ -11,3 +11,4 @@ pub mod Spelled
 pub mod Spellings
 pub mod Steps
 pub mod Texts
+pub mod Ranges

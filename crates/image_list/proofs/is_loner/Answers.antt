@@ -3,7 +3,7 @@ use Rattle.std.proofs.lemmas.List.{length-map}
 use Rattle.std.specs.List.{list_all, range_with_len}
 use Rattle.region_check.specs.Rights.{is_alone}
 use Rattle.image_format.specs.Loners.{own_regions, regions_beside}
-use Rattle.image_list.proofs.Ranges.{all_more, all_fails}
+use Rattle.image_format.proofs.Ranges.{all_more, all_fails}
 use Rattle.image_list.proofs.is_loner.Goals as goal
 
 pub returns-then-not-is_alone_beside : goal.returns-then-not-is_alone_beside

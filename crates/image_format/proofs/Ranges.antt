@@ -1,6 +1,7 @@
 -- A range of numbers that grows at its end.
-use Rattle.std.proofs.Common.{◌≡◌, ◌+◌, ◌<◌, ℕ, zero, suc, Bool, true, false, ◌&&◌, cond, List, [], ◌∷◌, ◌++◌, filter, refl, sym, ◌∙◌, ap, arith, add-one, append-nil}
+use Rattle.std.proofs.Common.{◌≡◌, Contains, ◌+◌, ◌<◌, ℕ, zero, suc, Bool, true, false, ◌&&◌, cond, List, [], ◌∷◌, ◌++◌, filter, refl, sym, ◌∙◌, ap, arith, add-one, append-nil}
 use Rattle.std.specs.List.{list_all, range_with_len}
+use Rattle.std.proofs.lemmas.Bool.{false≢true}
 use Rattle.std.proofs.lemmas.List.Elements.{filter-append}
 
 range_end : (a n : ℕ) → range_with_len a (suc n) ≡ range_with_len a n ++ ((a + n) ∷ [])
@@ -53,3 +54,30 @@ kept_more p n e = ap (filter p) (grown n) ∙ filter-append p (range_with_len 0 
 
 pub kept_still : (p : ℕ → Bool) (n : ℕ) → p n ≡ false → filter p (range_with_len 0 (n + 1)) ≡ filter p (range_with_len 0 n)
 kept_still p n e = ap (filter p) (grown n) ∙ filter-append p (range_with_len 0 n) (n ∷ []) ∙ ap (λ b. filter p (range_with_len 0 n) ++ cond b (n ∷ []) []) e ∙ append-nil (filter p (range_with_len 0 n))
+
+-- what holds of all holds of each
+pub all_of : (p : ℕ → Bool) (n k : ℕ) → list_all p (range_with_len 0 n) ≡ true → k < n → p k ≡ true
+all_of p n k e lt = go (p k) refl
+  where
+    go : (b : Bool) → p k ≡ b → p k ≡ true
+    go true h = h
+    go false h = absurd (false≢true (sym (all_fails p n k lt h) ∙ e))
+
+kept_from : (p : ℕ → Bool) (a n i : ℕ) → Contains (filter p (range_with_len a n)) i → (i < a + n) × (p i ≡ true)
+kept_from p a zero i here = absurd (omega (arith, here.1))
+kept_from p a (suc n) i here = go (p a) refl here (kept_from p (a + 1) n i)
+  where
+    Later : Type 0
+    Later = Contains (filter p (range_with_len (a + 1) n)) i → (i < a + 1 + n) × (p i ≡ true)
+
+    later : (i < a + 1 + n) × (p i ≡ true) → (i < a + suc n) × (p i ≡ true)
+    later h = (omega (arith, h.0), h.1)
+
+    go : (b : Bool) → p a ≡ b → Contains (cond b (a ∷ filter p (range_with_len (a + 1) n)) (filter p (range_with_len (a + 1) n))) i → Later → (i < a + suc n) × (p i ≡ true)
+    go false e h rest = later (rest h)
+    go true e (zero, lt, same) rest = (omega (arith, same), ap p (sym same) ∙ e)
+    go true e (suc k, lt, same) rest = later (rest (k, omega arith, same))
+
+-- who is among those that pass is in the range, and passes
+pub kept_is : (p : ℕ → Bool) (n i : ℕ) → Contains (filter p (range_with_len 0 n)) i → (i < n) × (p i ≡ true)
+kept_is p n i here = let h = kept_from p 0 n i here in (omega (arith, h.0), h.1)
