@@ -36,7 +36,7 @@ module _ (p : Picture) (i : ℕ) (facts : Facts p) (named : Contains (loners p) 
   set_up j = ap (λ (x : TaskSetup). x.regions) (setup_is p j)
 
   alone_beside : (j : ℕ) → j < length p.tasks → is_alone (own_regions tasks i) (regions_beside tasks i j) ≡ true
-  alone_beside j lt = all_of (λ k. is_alone (own_regions tasks i) (regions_beside tasks i k)) (length tasks) j passes.1 (subst (λ n. j < n) (sym (length-map (λ (t : TaskPicture). t.regions) p.tasks)) lt)
+  alone_beside j lt = all_of (λ k. is_alone (own_regions tasks i) (regions_beside tasks i k)) (length tasks) j passes.1 (subst (λ n. j < n) (sym (length-map p.tasks (λ (t : TaskPicture). t.regions))) lt)
 
   alone_itself : is_alone (regions_in p i) [] ≡ true
   alone_itself = ap (λ rs. is_alone rs []) (sym (own_is i)) ∙ ap (λ b. is_alone (own_regions tasks i) (cond b [] (own_regions tasks i))) (sym (eq-eqb i i refl)) ∙ alone_beside i passes.0
@@ -46,7 +46,7 @@ module _ (p : Picture) (i : ℕ) (facts : Facts p) (named : Contains (loners p) 
 
   pub listed_loner : IsLoner (setup_of_image p) i
   listed_loner = record {
-    there = subst (λ n. i < n) (sym (length-map setup_of_task p.tasks)) passes.0;
+    there = subst (λ n. i < n) (sym (length-map p.tasks setup_of_task)) passes.0;
     no_device = λ r here. sharing.no_device (regions_in p i) [] alone_itself r (subst (λ rs. Contains rs r) (set_up i) here);
     apart = λ j other r q here yonder.
         let mine = subst (λ rs. Contains rs r) (set_up i) here in
