@@ -48,3 +48,4 @@ pub mod Summaries
 pub mod Choices
 pub mod Searches
 pub mod Ordered
+pub mod Setting
