@@ -7,7 +7,7 @@ use Rattle.region_check.specs.declared.Right.TheVariants.{Read, Execute}
 use Rattle.run_script.specs.declared.events.Event.{Event}
 use Rattle.run_script.specs.declared.events.Event.TheVariants.{Tick, Irq}
 use Rattle.run_script.specs.Scripts.{events_of}
-use Rattle.thumb_exec.specs.Effect.{Store}
+use Rattle.thumb_exec.specs.Effect.{Store, Move, Puts, Takes}
 use Rattle.mem_banks.specs.Memory.{number_of, is_ram}
 use Rattle.task_table.specs.State.{Setup, State, Own, Turn}
 use Rattle.task_table.specs.Reading.{task_at, listen_of, chosen}
@@ -19,7 +19,7 @@ use Rattle.board_model.specs.declared.outcomes.Level.{Level}
 use Rattle.board_model.specs.declared.outcomes.Level.TheVariants.{Calls, All}
 use Rattle.board_model.specs.Script.{Scenario}
 use Rattle.thumb_exec.specs.Bytes.{bytes_of}
-use Rattle.board_model.specs.Turn.{may, cpu_of, put, noted_at, stepped, happened, after_events, with_current, low_note, high_note, with_registers_noted, turn_of, ended, turn}
+use Rattle.board_model.specs.Turn.{may, cpu_of, put, moved, noted_at, stepped, happened, after_events, with_current, low_note, high_note, with_registers_noted, turn_of, ended, turn}
 use Rattle.board_model.specs.Alike.{Viewer, IsAttentive, IsAlike, IsAlikeWhereSeen}
 use Rattle.board_model.specs.Agreement.{rest_of}
 use Rattle.board_model.proofs.Alike.{register_alike, chosen_alike, bytes_alike, turn_alike}
@@ -55,6 +55,10 @@ notable_put v t x h = go (is_ram t.state.memory x.addr x.bytes)
     go true = h
     go false = h
 
+notable_moved : (v : ℕ → ℕ) (t : Turn) (x : Move) → AreTellable v t.state → AreTellable v (moved t x).state
+notable_moved v t (Puts x) h = notable_put v t x h
+notable_moved v t (Takes addr bytes) h = h
+
 notable_current : (v : ℕ → ℕ) (c : ℕ) (t : Turn) → AreTellable v t.state → AreTellable v (with_current c t).state
 unfolding listen_of task_at
 notable_current v c t h = h
@@ -79,6 +83,10 @@ module _ (w : Viewer) (a : IsAttentive w) where
       (ap (λ n. leb 0x20000000 x.addr && leb (x.addr + x.bytes) (0x20000000 + n)) h.memory.ram_length)
       (alike-stored w a Own x.addr (bytes_of x.value x.bytes) t u h) h
 
+  alike-moved : (x : Move) (t u : Turn) → IsAlike w t u → IsAlike w (moved t x) (moved u x)
+  alike-moved (Puts x) t u h = alike-put x t u h
+  alike-moved (Takes addr bytes) t u h = h
+
   -- the walk of an instruction, to this viewer
   module _ (l m : Level) (heard : IsHeardAs w l m) (g : Setup) (c : ℕ) (open_to : IsOpen w g c) where
     pub followed : IsFollowed l m g g c c (AreAlikeAndNoted w) (IsAlikeWhereSeen w)
@@ -89,7 +97,7 @@ module _ (w : Viewer) (a : IsAttentive w) where
       fetches = λ t u h a e. ap number_of (bytes_alike w.sees t.state.memory u.state.memory a 2 h.alike.memory (λ x lo hi. open_to.rights Execute x (none_lacking (may g c Execute) a 2 e x lo hi)));
       loads = λ t u h at n e. ap number_of (bytes_alike w.sees t.state.memory u.state.memory at n h.alike.memory (λ x lo hi. open_to.rights Read x (none_lacking (may g c Read) at n e x lo hi)));
       noted_at = λ at code t u h. record { alike = alike-noted_at l m heard (note.Insn c at code) (note.Insn c at code) t u refl refl h.alike; first = notable_noted w.birth l _ t h.first; second = notable_noted w.birth m _ u h.second };
-      put = λ x t u h. record { alike = alike-put x t u h.alike; first = notable_put w.birth t x h.first; second = notable_put w.birth u x h.second };
+      moved = λ x t u h. record { alike = alike-moved x t u h.alike; first = notable_moved w.birth t x h.first; second = notable_moved w.birth u x h.second };
       processor = λ registers flags t u h. surely w a (alike-processor w a c registers flags t u h.alike);
       fault = λ x t u h. surely w a (alike-faulted w a g c x t u h.alike);
       call = λ t u h. alike-syscall_made w a g c _ _ open_to (notable_syscall_noted w.birth c t h.first) (notable_syscall_noted w.birth c u h.second) (alike-syscall_noted w a c t u h.alike);

@@ -8,7 +8,7 @@ use Rattle.region_check.specs.declared.Right.TheVariants.{Execute}
 use Rattle.words_core.specs.declared.Flags.{Flags}
 use Rattle.thumb_insn.specs.declared.Insn.{Insn}
 use Rattle.thumb_insn.specs.Table.{decoded_of, is_wide}
-use Rattle.thumb_exec.specs.Effect.{Effect, Next, Syscall, Trap, Store, Refusals, Contents, effect}
+use Rattle.thumb_exec.specs.Effect.{Effect, Next, Syscall, Trap, Move, Refusals, Contents, effect}
 use Rattle.thumb_exec.specs.declared.fetch.Fetched.{Fetched}
 use Rattle.thumb_exec.specs.Fetch.{instruction, unless_barred, after, fetched_wide, fetched_by, fetched}
 use Rattle.thumb_exec.specs.Keeps.{Agree}
@@ -20,7 +20,7 @@ use Rattle.task_table.specs.Effects.{with_processor, faulted}
 use Rattle.task_table.specs.Rows.{syscall_noted}
 use Rattle.task_table.specs.Syscalls.{syscall_made}
 use Rattle.board_model.specs.declared.outcomes.Level.{Level}
-use Rattle.board_model.specs.Turn.{refusals, cpu_of, put, acted, executed, noted_at, stepped_by, stepped}
+use Rattle.board_model.specs.Turn.{refusals, cpu_of, moved, acted, executed, noted_at, stepped_by, stepped}
 
 -- ## what is fetched from two memories that hold the same where a halfword may be executed
 
@@ -50,18 +50,18 @@ pub record IsFollowed (l m : Level) (g k : Setup) (c d : ℕ) (R W : Turn → Tu
   pub loads : (t u : Turn) → R t u → Agree (refusals g c) (number_at t.state.memory) (number_at u.state.memory)
   -- what an instruction does keeps the relation
   pub noted_at : (at code : ℕ) (t u : Turn) → R t u → R (noted_at l (note.Insn c at code) t) (noted_at m (note.Insn d at code) u)
-  pub put : (x : Store) (t u : Turn) → R t u → R (put t x) (put u x)
+  pub moved : (x : Move) (t u : Turn) → R t u → R (moved t x) (moved u x)
   pub processor : (registers : List ℕ) (flags : Flags) (t u : Turn) → R t u → W (with_processor c registers flags t) (with_processor d registers flags u)
   pub fault : (x : Fault) (t u : Turn) → R t u → W (faulted g c x t) (faulted k d x u)
   pub call : (t u : Turn) → R t u → W (syscall_made g c (syscall_noted c t)) (syscall_made k d (syscall_noted d u))
 
 module _ (l m : Level) (g k : Setup) (c d : ℕ) (R W : Turn → Turn → Type 0) (f : IsFollowed l m g k c d R W) where
-  follow-puts : (xs : List Store) (t u : Turn) → R t u → R (fold put t xs) (fold put u xs)
-  follow-puts [] t u h = h
-  follow-puts (x ∷ xs) t u h = follow-puts xs (put t x) (put u x) (f.put x t u h)
+  follow-moves : (xs : List Move) (t u : Turn) → R t u → R (fold moved t xs) (fold moved u xs)
+  follow-moves [] t u h = h
+  follow-moves (x ∷ xs) t u h = follow-moves xs (moved t x) (moved u x) (f.moved x t u h)
 
   follow-acted : (e : Effect) (t u : Turn) → R t u → W (acted g c e t) (acted k d e u)
-  follow-acted (Next cpu stores) t u h = f.processor cpu.regs.words cpu.flags _ _ (follow-puts stores t u h)
+  follow-acted (Next cpu moves) t u h = f.processor cpu.regs.words cpu.flags _ _ (follow-moves moves t u h)
   follow-acted Syscall t u h = f.call t u h
   follow-acted (Trap x) t u h = f.fault x t u h
 

@@ -15,10 +15,10 @@ use Rattle.mem_banks.specs.Memory.{number_at, number_of, is_ram}
 use Rattle.thumb_insn.specs.declared.Insn.{Insn}
 use Rattle.thumb_insn.specs.Range.{IsCoded}
 use Rattle.thumb_exec.specs.Bytes.{bytes_of}
-use Rattle.thumb_exec.specs.Effect.{Effect, Next, Syscall, Trap, Store, effect}
+use Rattle.thumb_exec.specs.Effect.{Effect, Next, Syscall, Trap, Store, Move, Puts, Takes, effect}
 use Rattle.thumb_exec.specs.Fetch.{fetched}
 use Rattle.thumb_exec.specs.declared.fetch.Fetched.{Fetched}
-use Rattle.thumb_exec.specs.Keeps.{IsPermitted, Keeps, Agree}
+use Rattle.thumb_exec.specs.Keeps.{IsPermittedTo, IsPermitted, Keeps, Agree}
 use Rattle.thumb_exec.proofs.Agreeing.{effect_same}
 use Rattle.task_table.specs.State.{Setup, State, Task, Own, Turn}
 use Rattle.task_table.specs.Reading.{task_at, setup_at, register, call_of, listen_of, is_ready, IsIdle}
@@ -34,7 +34,7 @@ use Rattle.task_table.proofs.Noting.{step_noted}
 use Rattle.task_table.proofs.RowChains.{chain-syscall_made}
 use Rattle.task_table.proofs.Steps.{length-with_bytes}
 use Rattle.board_model.specs.declared.outcomes.Level.{Level}
-use Rattle.board_model.specs.Turn.{may, refusals, cpu_of, put, acted, executed, noted_at, stepped_by, stepped}
+use Rattle.board_model.specs.Turn.{may, refusals, cpu_of, put, moved, acted, executed, noted_at, stepped_by, stepped}
 use Rattle.board_model.proofs.FaultFrames.{task-faulted, lone-faulted}
 use Rattle.board_model.proofs.TurnChains.{few_bytes, half_small, IsFetchable, fetchable, keeps-here, noted_state}
 use Rattle.board_model.proofs.Sight.{none_lacking}
@@ -152,7 +152,7 @@ module _ (l p : Level) (g k : Setup) (c d n m : ℕ) (pair : IsPair g k c d n m)
     idle = (record { call = h.idle.0.call; listen = h.idle.0.listen }, record { call = h.idle.1.call; listen = h.idle.1.listen });
   }
 
-  same-put : (x : Store) (t u : Turn) → IsPermitted (refusals g c) x → Same t.state u.state → Same (put t x).state (put u x).state
+  same-put : (x : Store) (t u : Turn) → IsPermittedTo Write (refusals g c) x.addr x.bytes → Same t.state u.state → Same (put t x).state (put u x).state
   same-put x t u permitted h =
       let may_write : (a : ℕ) → x.addr ≤ a → a < x.addr + x.bytes → may g c Write a ≡ true = λ a lo hi. none_lacking (may g c Write) x.addr x.bytes permitted.allowed a lo hi in
       let one = in_both x t.state n h.ram.0 (λ a lo hi. let r = pair.ram a (may_write a lo hi) in (r.0, r.1)) permitted.size in
@@ -160,9 +160,13 @@ module _ (l p : Level) (g k : Setup) (c d n m : ℕ) (pair : IsPair g k c d n m)
       let few = few_bytes x.value x.bytes permitted.size in
       rw (one.0, two.0) (same-stored x.addr (bytes_of x.value x.bytes) t u one.1 (rw few one.2) (rw few two.2) h)
 
-  same-puts : (xs : List Store) (t u : Turn) → ((x : Store) → Contains xs x → IsPermitted (refusals g c) x) → Same t.state u.state → Same (fold put t xs).state (fold put u xs).state
-  same-puts [] t u ok h = h
-  same-puts (x ∷ xs) t u ok h = same-puts xs (put t x) (put u x) (λ y here. ok y (suc here.0, omega (arith, here.1), here.2)) (same-put x t u (ok x (zero, omega arith, refl)) h)
+  same-move : (x : Move) (t u : Turn) → IsPermitted (refusals g c) x → Same t.state u.state → Same (moved t x).state (moved u x).state
+  same-move (Puts x) t u permitted h = same-put x t u permitted h
+  same-move (Takes addr bytes) t u permitted h = h
+
+  same-moves : (xs : List Move) (t u : Turn) → ((x : Move) → Contains xs x → IsPermitted (refusals g c) x) → Same t.state u.state → Same (fold moved t xs).state (fold moved u xs).state
+  same-moves [] t u ok h = h
+  same-moves (x ∷ xs) t u ok h = same-moves xs (moved t x) (moved u x) (λ y here. ok y (suc here.0, omega (arith, here.1), here.2)) (same-move x t u (ok x (zero, omega arith, refl)) h)
 
   same-processor : (registers : List ℕ) (flags : Flags) (t u : Turn) → Same t.state u.state → Same (with_processor c registers flags t).state (with_processor d registers flags u).state
   unfolding with_processor
@@ -211,7 +215,7 @@ module _ (l p : Level) (g k : Setup) (c d n m : ℕ) (pair : IsPair g k c d n m)
   -- ## an instruction
 
   same-acted : (e : Effect) (t u : Turn) → Keeps (refusals g c) e → About t.state u.state → Outcome (acted g c e t) (acted k d e u)
-  same-acted (Next cpu stores) t u kept h = inl (same-processor cpu.regs.words cpu.flags _ _ (same-puts stores t u kept.1 h.same))
+  same-acted (Next cpu moves) t u kept h = inl (same-processor cpu.regs.words cpu.flags _ _ (same-moves moves t u kept.1 h.same))
   same-acted Syscall t u kept h = same-call t u h
   same-acted (Trap x) t u kept h = inl (same-faulted x t u h.same)
 

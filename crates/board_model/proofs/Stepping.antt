@@ -1,10 +1,10 @@
--- One instruction of a task: its stores and its faults.
+-- One instruction of a task: its moves and its faults.
 use Rattle.std.proofs.Common.{◌≡◌, ◌≤◌, Bool, true, false, cond, List, [], ◌∷◌, refl, ◌∙◌, ap, arith}
 use Rattle.std.specs.Prelude.{fold}
 use Rattle.kernel_abi.specs.declared.Fault.{Fault}
 use Rattle.thumb_insn.specs.declared.Insn.{Insn}
 use Rattle.thumb_insn.specs.Range.{IsCoded}
-use Rattle.thumb_exec.specs.Effect.{Trap, Store, effect}
+use Rattle.thumb_exec.specs.Effect.{Trap, Store, Move, Puts, Takes, effect}
 use Rattle.thumb_exec.specs.Keeps.{IsRaised}
 use Rattle.thumb_exec.proofs.Keeping.{keeps as keeps_coded}
 use Rattle.mem_banks.specs.Memory.{number_at, is_ram}
@@ -13,10 +13,10 @@ use Rattle.task_table.specs.Reading.{task_at}
 use Rattle.task_table.specs.Effects.{stored}
 use Rattle.task_table.specs.Sane.{Sane}
 use Rattle.thumb_exec.specs.Bytes.{bytes_of}
-use Rattle.board_model.specs.Turn.{refusals, cpu_of, put}
+use Rattle.board_model.specs.Turn.{refusals, cpu_of, put, moved}
 use Rattle.board_model.proofs.TurnChains.{whole_cpu}
 
--- ## its stores
+-- ## its moves
 
 -- they change nothing of a state but its memory
 put_state : (t : Turn) (x : Store) → (put t x).state ≡ record t.state { memory = (put t x).state.memory }
@@ -27,9 +27,13 @@ put_state t x = by_ram (is_ram t.state.memory x.addr x.bytes)
     by_ram true = refl
     by_ram false = refl
 
-pub puts_state : (ss : List Store) (t : Turn) → (fold put t ss).state ≡ record t.state { memory = (fold put t ss).state.memory }
-puts_state [] t = refl
-puts_state (x ∷ xs) t = puts_state xs (put t x) ∙ ap (λ (s : State). record s { memory = (fold put (put t x) xs).state.memory }) (put_state t x)
+move_state : (t : Turn) (x : Move) → (moved t x).state ≡ record t.state { memory = (moved t x).state.memory }
+move_state t (Puts x) = put_state t x
+move_state t (Takes addr bytes) = refl
+
+pub moves_state : (ms : List Move) (t : Turn) → (fold moved t ms).state ≡ record t.state { memory = (fold moved t ms).state.memory }
+moves_state [] t = refl
+moves_state (x ∷ xs) t = moves_state xs (moved t x) ∙ ap (λ (s : State). record s { memory = (fold moved (moved t x) xs).state.memory }) (move_state t x)
 
 -- ## its faults
 

@@ -18,7 +18,7 @@ use Rattle.thumb_insn.specs.declared.Insn.{Insn}
 use Rattle.thumb_insn.specs.declared.Decoded.{Decoded}
 use Rattle.thumb_insn.specs.declared.Decoded.TheVariants.{Narrow, Wide, Illegal, NeedsSecond}
 use Rattle.thumb_insn.specs.Table.{decoded_of, is_wide}
-use Rattle.thumb_exec.specs.Effect.{Effect, Next, Syscall, Trap, Store, Refusals, Contents, effect}
+use Rattle.thumb_exec.specs.Effect.{Effect, Next, Syscall, Trap, Store, Move, Puts, Takes, Refusals, Contents, effect}
 use Rattle.thumb_exec.specs.declared.fetch.Fetched.{Fetched}
 use Rattle.thumb_exec.specs.Fetch.{instruction, unless_barred, after, fetched}
 use Rattle.mem_banks.specs.Memory.{Memory, IsWithinRam, number_at, number_of, bytes_at, is_ram, AreAllBytes}
@@ -48,8 +48,8 @@ use Rattle.board_model.specs.declared.outcomes.Level.{Level}
 use Rattle.board_model.specs.declared.outcomes.Level.TheVariants.{Calls, All}
 use Rattle.board_model.specs.Script.{Scenario}
 use Rattle.thumb_exec.specs.Bytes.{bytes_of}
-use Rattle.board_model.specs.Turn.{may, refusals, cpu_of, put, acted, executed, noted_at, stepped_by, stepped, happened, after_events, with_current, low_note, high_note, with_registers_noted, turn_of, ended, turn}
-use Rattle.thumb_exec.specs.Keeps.{IsWholeCpu, IsPermitted, Keeps}
+use Rattle.board_model.specs.Turn.{may, refusals, cpu_of, put, moved, acted, executed, noted_at, stepped_by, stepped, happened, after_events, with_current, low_note, high_note, with_registers_noted, turn_of, ended, turn}
+use Rattle.thumb_exec.specs.Keeps.{IsWholeCpu, IsPermittedTo, IsPermitted, Keeps}
 use Rattle.thumb_exec.proofs.Keeping.{keeps}
 use Rattle.thumb_insn.specs.Table.{narrow_of, wide_of, narrow_result, wide_result, with_second}
 use Rattle.thumb_insn.specs.Range.{IsCoded}
@@ -160,7 +160,7 @@ ram_stored on at bytes v within = length-with_bytes v.state.memory at bytes with
 -- ## an instruction
 
 module _ (g : Setup) (s : State) (c : ℕ) (inside : c < length g.tasks) where
-  put_chain : (x : Store) (v : Turn) → Sane g v.state → length v.state.memory.ram ≡ length s.memory.ram → IsPermitted (refusals g c) x → Chain (Step g s c) v (put v x) × Sane g (put v x).state × (length (put v x).state.memory.ram ≡ length s.memory.ram)
+  put_chain : (x : Store) (v : Turn) → Sane g v.state → length v.state.memory.ram ≡ length s.memory.ram → IsPermittedTo Write (refusals g c) x.addr x.bytes → Chain (Step g s c) v (put v x) × Sane g (put v x).state × (length (put v x).state.memory.ram ≡ length s.memory.ram)
   put_chain x v h same permitted = by_ram (is_ram v.state.memory x.addr x.bytes) refl
     where
       by_ram : (b : Bool) → is_ram v.state.memory x.addr x.bytes ≡ b → Chain (Step g s c) v (cond b (stored Own x.addr (bytes_of x.value x.bytes) v) v) × Sane g (cond b (stored Own x.addr (bytes_of x.value x.bytes) v) v).state × (length (cond b (stored Own x.addr (bytes_of x.value x.bytes) v) v).state.memory.ram ≡ length s.memory.ram)
@@ -175,11 +175,15 @@ module _ (g : Setup) (s : State) (c : ℕ) (inside : c < length g.tasks) where
           let all = all_bytes x.value x.bytes in
           (one (Stores Own x.addr (bytes_of x.value x.bytes) v all within room (λ a low high. may_store g c v.state.memory x.addr x.bytes a h.steady.placed permitted.allowed e low (rw few at high))), sane-stored Own x.addr (bytes_of x.value x.bytes) v h all within, ram_stored Own x.addr (bytes_of x.value x.bytes) v within ∙ same)
 
-  puts_chain : (stores : List Store) (v : Turn) → Sane g v.state → length v.state.memory.ram ≡ length s.memory.ram → ((x : Store) → Contains stores x → IsPermitted (refusals g c) x) → Chain (Step g s c) v (fold put v stores)
-  puts_chain [] v h same ok = Here v
-  puts_chain (x ∷ xs) v h same ok =
-      let p = put_chain x v h same (ok x (zero, omega arith, refl)) in
-      joined (Step g s c) v (put v x) _ p.0 (puts_chain xs (put v x) p.1 p.2 (λ y here. ok y (suc here.0, omega (arith, here.1), here.2)))
+  move_chain : (x : Move) (v : Turn) → Sane g v.state → length v.state.memory.ram ≡ length s.memory.ram → IsPermitted (refusals g c) x → Chain (Step g s c) v (moved v x) × Sane g (moved v x).state × (length (moved v x).state.memory.ram ≡ length s.memory.ram)
+  move_chain (Puts x) v h same permitted = put_chain x v h same permitted
+  move_chain (Takes addr bytes) v h same permitted = (Here v, h, same)
+
+  moves_chain : (moves : List Move) (v : Turn) → Sane g v.state → length v.state.memory.ram ≡ length s.memory.ram → ((x : Move) → Contains moves x → IsPermitted (refusals g c) x) → Chain (Step g s c) v (fold moved v moves)
+  moves_chain [] v h same ok = Here v
+  moves_chain (x ∷ xs) v h same ok =
+      let p = move_chain x v h same (ok x (zero, omega arith, refl)) in
+      joined (Step g s c) v (moved v x) _ p.0 (moves_chain xs (moved v x) p.1 p.2 (λ y here. ok y (suc here.0, omega (arith, here.1), here.2)))
 
 pub whole_cpu : {g : Setup} (c : ℕ) (t : Turn) → Sane g t.state → c < length t.state.tasks → IsWholeCpu (cpu_of (task_at t.state c))
 whole_cpu c t h inside = let x = h.steady.tasks c inside in record { sixteen = x.sixteen; even = x.even; aligned = x.aligned }
@@ -190,7 +194,7 @@ module _ (g : Setup) (c : ℕ) (t : Turn) (h : Sane g t.state) (inside : c < len
   calls_chain = joined (Step g t.state c) t (syscall_noted c t) _ (one (Notes _ t refl)) (chain-syscall_made g c (syscall_noted c t) h inside ready)
 
   acted_chain : (e : Effect) → Keeps (refusals g c) e → Chain (Step g t.state c) t (acted g c e t)
-  acted_chain (Next cpu stores) k = puts_chain g t.state c inside stores t h refl k.1 ▷ Runs cpu.regs.words cpu.flags _ inside record { sixteen = k.0.sixteen; even = k.0.even; aligned = k.0.aligned }
+  acted_chain (Next cpu moves) k = moves_chain g t.state c inside moves t h refl k.1 ▷ Runs cpu.regs.words cpu.flags _ inside record { sixteen = k.0.sixteen; even = k.0.even; aligned = k.0.aligned }
   acted_chain Syscall k = calls_chain
   acted_chain (Trap f) k = one (Halts f t inside (omega (arith, k.0)) (omega (arith, k.1)))
 

@@ -1,6 +1,6 @@
 -- One turn of the board: what happens from outside, then one instruction of the chosen task, or an idle turn.
 use Rattle.words_core.specs.Regs.{program_counter}
-use Rattle.std.specs.Prelude.{ℕ, ◌+◌, Bool, [], ◌∷◌, Option, Some, None, Result, Ok, Err, fold, take, drop, if◌then◌else◌}
+use Rattle.std.specs.Prelude.{ℕ, ◌+◌, Bool, Option, Some, None, Result, Ok, Err, fold, take, drop, if◌then◌else◌}
 use Rattle.kernel_abi.specs.declared.Fault.{Fault}
 use Rattle.kernel_abi.specs.declared.Note.{Note}
 use Rattle.kernel_abi.specs.declared.Note.TheVariants as note
@@ -10,7 +10,7 @@ use Rattle.thumb_insn.specs.declared.Insn.{Insn}
 use Rattle.thumb_exec.specs.declared.cpu.Cpu.{Cpu}
 use Rattle.thumb_exec.specs.declared.fetch.Fetched.{Fetched}
 use Rattle.thumb_exec.specs.Bytes.{bytes_of}
-use Rattle.thumb_exec.specs.Effect.{Effect, Next, Syscall, Trap, Store, Refusals, effect}
+use Rattle.thumb_exec.specs.Effect.{Effect, Next, Syscall, Trap, Store, Move, Puts, Takes, Refusals, effect}
 use Rattle.thumb_exec.specs.Fetch.{fetched}
 use Rattle.mem_banks.specs.Memory.{number_at, is_ram}
 use Rattle.task_table.specs.State.{Setup, Task, State, Own, Turn}
@@ -47,8 +47,13 @@ cpu_of x = record { regs = record { words = x.registers }; flags = x.flags }
 abbrev pub put : Turn → Store → Turn
 put t x = if is_ram t.state.memory x.addr x.bytes then (t ⨾ stored Own x.addr (bytes_of x.value x.bytes)) else t
 
+-- a load leaves what it loaded
+abbrev pub moved : Turn → Move → Turn
+moved t (Puts x) = put t x
+moved t (Takes addr bytes) = t
+
 abbrev pub acted : Setup → ℕ → Effect → Turn → Turn
-acted g c (Next cpu stores) t = fold put t stores ⨾ with_processor c cpu.regs.words cpu.flags
+acted g c (Next cpu moves) t = fold moved t moves ⨾ with_processor c cpu.regs.words cpu.flags
 acted g c Syscall t = t ⨾ syscall_noted c ⨾ syscall_made g c
 acted g c (Trap f) t = t ⨾ faulted g c f
 

@@ -7,7 +7,7 @@ ghost use Rattle.run_script.specs.declared.events.Event.{Event};
 ghost use Rattle.run_script.specs.Scripts.{ScriptData, IsNext, events_of};
 ghost use Rattle.thumb_insn.specs.declared.Insn.{Insn};
 ghost use Rattle.thumb_insn.specs.Range.{IsCoded};
-ghost use Rattle.thumb_exec.specs.Effect.{Store, Trap};
+ghost use Rattle.thumb_exec.specs.Effect.{Move, Trap};
 ghost use Rattle.task_table.specs.State.{Setup, State, Turn};
 ghost use Rattle.task_table.specs.Reading.{chosen, is_ready};
 ghost use Rattle.task_table.specs.Start.{begun, start};
@@ -16,7 +16,7 @@ ghost use Rattle.task_table.specs.Chain.{Chain};
 ghost use Rattle.task_table.specs.Step.{Step};
 ghost use Rattle.board_model.specs.declared.outcomes.Level.{Level as Detail};
 ghost use Rattle.board_model.specs.Script.{Scenario};
-ghost use Rattle.board_model.specs.Turn.{effect_of, put, noted_at, stepped, happened, after_events, with_current, turn_of, turn};
+ghost use Rattle.board_model.specs.Turn.{effect_of, moved, noted_at, stepped, happened, after_events, with_current, turn_of, turn};
 ghost use Rattle.board_model.specs.Faults.{IsFaulting, IsSameButForFault, AreEntries};
 ghost use Rattle.board_model.specs.DeadCalls.{IsDeadTurn};
 ghost use Rattle.board_model.specs.Run.{is_down, end_at, ending};
@@ -87,9 +87,9 @@ pub fn turns_with_dead_ids_change_their_caller_alone()
     ensures { (level : Detail) (x : Scenario) (s : State) → Sane x.setup s → IsDeadTurn level x s }
 {}
 
-/// The stores of an instruction change nothing of a state but its memory, and what is noted changes none.
-pub fn stores_change_memory_alone()
-    ensures stores { (stores : List Store) (t : Turn) → (fold put t stores).state ≡ record t.state { memory = (fold put t stores).state.memory } }
+/// The moves of an instruction change nothing of a state but its memory, and what is noted changes none.
+pub fn moves_change_memory_alone()
+    ensures moves { (moves : List Move) (t : Turn) → (fold moved t moves).state ≡ record t.state { memory = (fold moved t moves).state.memory } }
     ensures noted_at { (level : Detail) (n : Note) (t : Turn) → (noted_at level n t).state ≡ t.state }
 {}
 
