@@ -387,6 +387,17 @@ pub enum Note {
         task: u16,
         generation: u8,
     },
+    /// A byte came from outside for a device; what came of it, or None where there is no such device.
+    In {
+        device: u8,
+        byte: u8,
+        fed: Option<Fed>,
+    },
+    /// A device, by its index, gave out a byte.
+    Out {
+        device: usize,
+        byte: u8,
+    },
     /// A task asked how its interrupt lines with these bits are, and was answered so.
     IrqStatus {
         task: u16,
