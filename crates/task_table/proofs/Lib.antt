@@ -49,3 +49,5 @@ pub mod Choices
 pub mod Searches
 pub mod Ordered
 pub mod Setting
+pub mod Equipped
+pub mod Reaching

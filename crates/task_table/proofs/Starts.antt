@@ -1,4 +1,5 @@
 -- The start of a run is sane.
+use Rattle.kernel_abi.proofs.Devices.{none_sane}
 use Rattle.std.proofs.Common.{◌≡◌, ◌%◌, ◌<◌, ℕ, zero, suc, Bool, true, false, cond, List, [], ◌∷◌, length, map, replicate, refl, sym, ◌∙◌, ap, arith, get_or, IfSome}
 use Rattle.std.specs.Prelude.{Contains}
 use Rattle.std.proofs.lemmas.List.{length-map}
@@ -56,6 +57,7 @@ sane-start g sound = record {
     current = rw length-map sound.some;
     flash = refl;
     flash_bytes = sound.flash_bytes;
+    devices = none_sane;
     bytes = zero_bytes g.ram;
     placed = sound.placed;
   };

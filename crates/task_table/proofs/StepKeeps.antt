@@ -1,4 +1,5 @@
 -- Each step keeps a state sane; so does a chain, and so does every row.
+use Rattle.task_table.proofs.Equipped.{sane-reached}
 use Rattle.std.proofs.Common.{◌≡◌, ◌<◌, ℕ, true, length, Option}
 use Rattle.kernel_abi.specs.declared.Ending.TheVariants.{Client}
 use Rattle.task_table.specs.State.{Setup, State, Turn, Own}
@@ -10,7 +11,7 @@ use Rattle.task_table.specs.Orders.{ordered}
 use Rattle.task_table.specs.Syscalls.{syscall_made}
 use Rattle.task_table.specs.Sane.{Sane}
 use Rattle.task_table.specs.Chain.{Chain}
-use Rattle.task_table.specs.Step.{Step, Notes, Gives, Returns, PassesSyscall, Runs, Clears, Posts, Times, Lines, Listens, Sends, Receives, Stores, Copies, Looks, Borrows, Ceases, Halts, Strikes, Restarts, Outcome}
+use Rattle.task_table.specs.Step.{Step, Notes, Gives, Returns, PassesSyscall, Runs, Clears, Posts, Times, Lines, Listens, Sends, Receives, Stores, Copies, Looks, Borrows, Ceases, Halts, Strikes, Restarts, Outcome, Reaches}
 use Rattle.task_table.proofs.BorrowChains.{comes-read, comes-written, comes-informed}
 use Rattle.task_table.proofs.Chains.{chain_keeps}
 use Rattle.task_table.proofs.Handing.{keeps-looked, keeps-copied, keeps-handed}
@@ -44,6 +45,7 @@ module _ (g : Setup) (s : State) (c : ℕ) where
   step_sane _ _ (Receives k buffer u may) h = keeps-handed Own k buffer u h (λ j ne. tt) (here h (h.steady.calls.fit k may.here).server) (within_ram-good g u.state.memory c buffer h.steady.placed may.good)
   step_sane _ _ (Stores on at bytes u all within room may) h = sane-stored on at bytes u h all within
   step_sane _ _ (Copies on from at n i r u target may) h = keeps-copied on from at n u h (rw target.base (within_ram-front u.state.memory r.base r.len n (within_ram-good g u.state.memory i r h.steady.placed target.good) target.fits))
+  step_sane _ _ (Reaches devices u reached) h = sane-reached c devices u h reached
   step_sane _ _ (Looks r u alive) h = keeps-looked r u h
   step_sane _ _ (Borrows k borrow lease offset moved u alive taken fits) h = keeps-noted _ u h
   step_sane _ _ (Ceases i ending u ends) h = keeps-closed i ending u h
