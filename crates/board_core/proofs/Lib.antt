@@ -12,3 +12,4 @@ pub mod Noting
 pub mod SyscallRows
 pub mod Fetching
 pub mod Windowing
+mod Told

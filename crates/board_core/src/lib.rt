@@ -7,6 +7,7 @@ mod glider;
 mod machine;
 mod opening;
 mod reach;
+mod setting;
 mod syscalls;
 mod views;
 mod window_laws;
