@@ -13,3 +13,4 @@ pub mod SyscallRows
 pub mod Fetching
 pub mod Windowing
 pub mod Loners
+mod Told

@@ -8,6 +8,7 @@ mod loners;
 mod machine;
 mod opening;
 mod reach;
+mod setting;
 mod syscalls;
 mod views;
 mod window_laws;
