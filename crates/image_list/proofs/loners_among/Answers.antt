@@ -1,4 +1,4 @@
-use Rattle.std.proofs.Common.{◌≡◌, [], ◌∷◌, ◌++◌, sym, ◌∙◌, ap}
+use Rattle.std.proofs.Common.{[], ◌∷◌, ◌++◌, sym, ◌∙◌, ap}
 use Rattle.image_format.proofs.Ranges.{kept_more, kept_still}
 use Rattle.image_list.proofs.loners_among.Goals as goal
 use Rattle.image_list.proofs.loners_among.Goals.{then-is_loner+in_ok-push, else-is_loner}
