@@ -1,7 +1,9 @@
 -- The digits of four numbers, lane by lane.
-use Rattle.std.proofs.Common.{◌≡◌, ℕ, zero, suc, ◌+◌, ◌-◌, ◌*◌, ◌/◌, ◌%◌, ◌^◌, ◌<◌, ◌≤◌, Bool, true, cond, ◌&&◌, T, eqb, List, [], ◌∷◌, ◌++◌, length, map, take, get_or, replicate, bit_and, refl, ap, ◌∙◌, inl, inr, arith, w8, w32, Fits, eq-zero-or-pos, eqb→eq}
+use Rattle.std.proofs.Common.{◌≡◌, ℕ, zero, suc, ◌+◌, ◌-◌, ◌*◌, ◌/◌, ◌%◌, ◌^◌, ◌<◌, ◌≤◌, Bool, true, cond, ◌&&◌, T, eqb, List, [], ◌∷◌, ◌++◌, length, map, take, get_or, replicate, bit_and, refl, sym, ap, ◌∙◌, inl, inr, arith, w8, w32, Fits, eq-zero-or-pos, eqb→eq}
 use Rattle.std.proofs.lemmas.Bool.{cases_lt}
 use Rattle.std.proofs.lemmas.Bool.Decides.{nat_tests}
+use Rattle.std.proofs.lemmas.List.{flat_map_more, take_more}
+use Rattle.std.proofs.lemmas.List.Edits.{get_or-between}
 use Rattle.std.proofs.lemmas.Nat.{and_mask}
 use Rattle.std.proofs.lemmas.Simd.{get_or_narrower, below_from_Fits, swz_l, SwzOk, SwzOk-from_below}
 use Rattle.std.proofs.lemmas.Str.{IsAscii-append}
@@ -13,7 +15,7 @@ use lib.Lanes.{Each1, number_l, digits_l, pick_l, zip2}
 use borrow.Rule.Slice.PartMut.{put_mid}
 use mir.Val.{zeroes}
 use Rattle.thumb_insn.specs.Text.{hex_digit}
-use Rattle.trace_text.specs.Text.{hex, hex_values, spaced_hex}
+use Rattle.trace_text.specs.Text.{hex, half_hex, hex_values, spaced_hex}
 use Rattle.trace_text.specs.declared.words.TheConstants.{DIGITS}
 
 -- ## bytes and their halves
@@ -77,27 +79,31 @@ values_below : (xs : List ℕ) → Each1 (λ j. j < 16) (flat_map hex_values xs)
 values_below [] = tt
 values_below (x ∷ xs) = (omega arith, (omega arith, (omega arith, (omega arith, (omega arith, (omega arith, (omega arith, (omega arith, values_below xs))))))))
 
+-- what a look-up of p at place q of the table gives
+abbrev found : ℕ → ℕ → ℕ
+found p q = cond (zeroes 16 w8 p) 0 (get_or DIGITS q 0)
+
 -- in each half of the table
 abbrev low : ℕ → Bool
-low p = eqb (cond (zeroes 16 w8 p) 0 (get_or DIGITS p 0)) (hex_digit p)
+low p = eqb (found p p) (hex_digit p)
 
 abbrev high : ℕ → Bool
-high p = eqb (cond (zeroes 16 w8 p) 0 (get_or DIGITS (16 + p) 0)) (hex_digit p)
+high p = eqb (found p (16 + p)) (hex_digit p)
 
 abbrev are_digits : ℕ → Bool
 are_digits zero = true
 are_digits (suc p) = (low p && high p) && are_digits p
 
-below : (n p : ℕ) → T (are_digits n) → p < n → (cond (zeroes 16 w8 p) 0 (get_or DIGITS p 0) ≡ hex_digit p) × (cond (zeroes 16 w8 p) 0 (get_or DIGITS (16 + p) 0) ≡ hex_digit p)
+below : (n p : ℕ) → T (are_digits n) → p < n → (found p p ≡ hex_digit p) × (found p (16 + p) ≡ hex_digit p)
 below zero p t h = absurd (omega arith)
 below (suc n) p t h =
     elim (eq-zero-or-pos (n - p)) [
-      | inl z ↦ let e : p ≡ n = omega arith in let a = and_l (low n && high n) (are_digits n) t in rw e (eqb→eq _ _ (and_l (low n) (high n) a), eqb→eq _ _ (and_r (low n) (high n) a))
+      | inl z ↦ let e : p ≡ n = omega arith in let a = and_l (low n && high n) (are_digits n) t in rw e (eqb→eq (found n n) (hex_digit n) (and_l (low n) (high n) a), eqb→eq (found n (16 + n)) (hex_digit n) (and_r (low n) (high n) a))
       | inr g ↦ below n p (and_r (low n && high n) (are_digits n) t) (omega arith)
     ]
 
 -- in either half
-at_lane : (i j : ℕ) → i < 32 → j < 16 → cond (zeroes 16 w8 j) 0 (get_or DIGITS (16 * (i / 16) + j) 0) ≡ hex_digit j
+at_lane : (i j : ℕ) → i < 32 → j < 16 → found j (16 * (i / 16) + j) ≡ hex_digit j
 at_lane i j h small =
     elim (cases_lt i 16) [
       | inl l ↦ let e : 16 * (i / 16) + j ≡ j = omega arith in rw e (below 16 j tt small).0
@@ -128,13 +134,17 @@ four_in_table xs long = SwzOk-from_below w8 16 2 32 0 (flat_map hex_values xs) r
 digit_ascii : (d : ℕ) → d < 16 → hex_digit d < 128
 digit_ascii d small = grind (arith, nat_tests)
 
+ascii_of : (ds : List ℕ) → Each1 (λ d. d < 16) ds → IsAscii (map hex_digit ds)
+ascii_of [] small = IsAscii-nil
+ascii_of (d ∷ ds) small = IsAscii-cons (hex_digit d) (map hex_digit ds) (digit_ascii d small.0) (ascii_of ds small.1)
+
 pub hex_ascii : (n : ℕ) → IsAscii (hex n)
 unfolding hex
-hex_ascii n = go (hex_values n) (values_below (n ∷ []))
-  where
-    go : (ds : List ℕ) → Each1 (λ d. d < 16) (ds ++ []) → IsAscii (map hex_digit ds)
-    go [] small = IsAscii-nil
-    go (d ∷ ds) small = IsAscii-cons (hex_digit d) (map hex_digit ds) (digit_ascii d small.0) (go ds small.1)
+hex_ascii n = ascii_of (hex_values n) (values_below (n ∷ []))
+
+pub half_ascii : (n : ℕ) → IsAscii (half_hex n)
+unfolding half_hex
+half_ascii n = ascii_of (n / 16 ^ 3 % 16 ∷ n / 16 ^ 2 % 16 ∷ n / 16 % 16 ∷ n % 16 ∷ []) (omega arith, (omega arith, (omega arith, (omega arith, tt))))
 
 pub spaced_ascii : (xs : List ℕ) → IsAscii (flat_map spaced_hex xs)
 spaced_ascii [] = IsAscii-nil
@@ -173,3 +183,14 @@ placed_are_spaced (a ∷ b ∷ []) long = absurd (omega arith)
 placed_are_spaced (a ∷ b ∷ c ∷ []) long = absurd (omega arith)
 placed_are_spaced (a ∷ b ∷ c ∷ d ∷ e ∷ xs) long = absurd (omega arith)
 placed_are_spaced (a ∷ b ∷ c ∷ d ∷ []) long = refl
+
+-- ## one text more
+
+pub one_more : (f : ℕ → List ℕ) (bs xs : List ℕ) (k i : ℕ) → k + i < length xs → (bs ++ flat_map f (take (k + i) xs)) ++ f (get_or (between k (length xs) xs) i 0) ≡ bs ++ flat_map f (take (k + (i + 1)) xs)
+one_more f bs xs k i within =
+    let front : List ℕ = take (k + i) xs in
+    let next : k + i + 1 ≡ k + (i + 1) = omega arith in
+    ap (λ (x : ℕ). (bs ++ flat_map f front) ++ f x) (get_or-between xs k (length xs) i 0 within)
+    ∙ flat_map_more f bs front (get_or xs (k + i) 0)
+    ∙ ap (λ (ys : List ℕ). bs ++ flat_map f ys) (sym (take_more xs (k + i) 0 within))
+    ∙ ap (λ (n : ℕ). bs ++ flat_map f (take n xs)) next
