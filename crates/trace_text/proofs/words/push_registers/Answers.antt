@@ -1,4 +1,4 @@
-use Rattle.std.proofs.Common.{◌≡◌, ◌*◌, ◌/◌, ◌++◌, List, ℕ, length, get_or, ap, ◌∙◌, arith}
+use Rattle.std.proofs.Common.{◌*◌, ◌/◌, ◌++◌, List, ℕ, length, get_or, ap, ◌∙◌, arith}
 use Rattle.std.specs.List.{between}
 use Rattle.trace_text.specs.Text.{spaced_hex}
 use Rattle.trace_text.proofs.Lanes.{one_more}
