@@ -7,6 +7,7 @@ ghost use Rattle.board_run.specs.Counting.{HaveGrown, count_at, counted};
 use crate::telling::Teller;
 use kernel_abi::Note;
 use outside_io::Failed;
+use trace_text::TurnLines;
 
 /// How many notes of each kind were told: up to 2^64 - 1, which no run comes near.
 #[derive(Clone, Copy, Debug, PartialEq, Eq)]
@@ -85,7 +86,7 @@ impl Teller for Counts {
 
     ghost broke = { λ _ _ _. ⊥ };
 
-    fn tell(&mut self, turn: u32, notes: &[Note]) -> Result<(), Failed> {
+    fn tell(&mut self, turn: u32, notes: &[Note], _lines: &mut TurnLines) -> Result<(), Failed> {
         self.count_all(turn, notes);
         Ok(())
     }
