@@ -65,6 +65,7 @@ impl Counts {
             Note::Fault { .. } => self.fault = self.fault.saturating_add(1),
             Note::Restart { .. } => self.restart = self.restart.saturating_add(1),
             // of no kind that is counted
+            Note::In { .. } | Note::Out { .. } => {}
             Note::IrqStatus { .. } | Note::Find { .. } => {}
             Note::Insn { .. } | Note::Idle | Note::Low { .. } | Note::High { .. } => {}
         }
