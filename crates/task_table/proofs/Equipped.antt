@@ -1,5 +1,5 @@
 -- What happens to devices keeps a state sane.
-use Rattle.std.proofs.Common.{◌≡◌, ◌<◌, ℕ, List, inl, inr, sym, subst}
+use Rattle.std.proofs.Common.{◌<◌, ℕ, List, inl, inr, sym, subst}
 use Rattle.kernel_abi.specs.Devices.{DeviceData, AreSaneDevices}
 use Rattle.kernel_abi.proofs.Devices.{sane_devices_loaded, sane_devices_stored, sane_devices_fed}
 use Rattle.task_table.specs.State.{Setup, State, Turn}

@@ -50,4 +50,5 @@ pub mod Searches
 pub mod Ordered
 pub mod Setting
 pub mod Equipped
+pub mod Devices
 pub mod Reaching

@@ -1,7 +1,7 @@
 -- What happens to calls, to memory and to what is noted of them; and what stands aside.
-use Rattle.kernel_abi.specs.Devices.{DeviceData}
 use Rattle.std.proofs.Common.{◌≡◌, ◌+◌, ℕ, zero, suc, Bool, true, false, cond, List, [], ◌∷◌, ◌++◌, length, Option, Some, None, refl, sym, ◌∙◌, ap, arith, eqb, bit_and, append_assoc, append-nil, length-set, min}
 use Rattle.std.specs.Prelude.{Contains, fold}
+use Rattle.kernel_abi.specs.Devices.{DeviceData}
 use Rattle.kernel_abi.specs.declared.Borrow.{Borrow}
 use Rattle.kernel_abi.specs.declared.Ending.{Ending}
 use Rattle.kernel_abi.specs.declared.Health.{Health}

@@ -1,15 +1,15 @@
 -- Devices change only where the chosen task reaches them.
-use Rattle.std.proofs.Common.{◌≡◌, ℕ, List, refl, sym, subst}
+use Rattle.std.proofs.Common.{ℕ, List, sym, subst}
 use Rattle.kernel_abi.specs.Devices.{DeviceData}
 use Rattle.task_table.specs.State.{Setup, State, Turn}
 use Rattle.task_table.specs.Effects.{with_call, with_taken, without_call, noted, stored, copied, looked, closed, offered, with_devices}
 use Rattle.task_table.specs.Grounds.{AreReached, Untouched, Once}
-use Rattle.task_table.specs.Chain.{Chain, Here, More}
+use Rattle.task_table.specs.Chain.{Chain}
 use Rattle.task_table.specs.Placed.{ArePlaced}
 use Rattle.task_table.specs.Step.{Step}
 use Rattle.task_table.proofs.Chains.{chain_keeps}
 use Rattle.task_table.proofs.Happens.{chain_moves}
-use Rattle.task_table.proofs.Moves.{taken_over, Move, Aside, Writes, Reads, Alters, Lends, Offers, Takes, Closes}
+use Rattle.task_table.proofs.Moves.{Move, Aside, Writes, Reads, Alters, Lends, Offers, Takes, Closes}
 
 move_reaches : (g : Setup) (s : State) (c : ℕ) (old : List DeviceData) (u v : Turn) → Move g s c u v → AreReached g c old u.state.devices → AreReached g c old v.state.devices
 unfolding stored looked noted offered with_call copied with_taken closed without_call with_devices

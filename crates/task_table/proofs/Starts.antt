@@ -1,9 +1,9 @@
 -- The start of a run is sane.
-use Rattle.kernel_abi.proofs.Devices.{none_sane}
 use Rattle.std.proofs.Common.{◌≡◌, ◌%◌, ◌<◌, ℕ, zero, suc, Bool, true, false, cond, List, [], ◌∷◌, length, map, replicate, refl, sym, ◌∙◌, ap, arith, get_or, IfSome}
 use Rattle.std.specs.Prelude.{Contains}
 use Rattle.std.proofs.lemmas.List.{length-map}
 use Rattle.std.proofs.lemmas.Bool.{false≢true}
+use Rattle.kernel_abi.proofs.Devices.{none_sane}
 use Rattle.kernel_abi.specs.declared.Health.TheVariants.{Well, Stopped}
 use Rattle.task_table.specs.declared.Line.{Line}
 use Rattle.task_table.specs.declared.start.TaskStart.{TaskStart}
