@@ -12,4 +12,5 @@ pub mod Noting
 pub mod SyscallRows
 pub mod Fetching
 pub mod Windowing
-mod Told
+pub mod Told
+pub mod KeptAlike

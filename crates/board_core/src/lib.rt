@@ -8,11 +8,13 @@ mod machine;
 mod opening;
 mod reach;
 mod setting;
+mod setting_laws;
 mod syscalls;
 mod views;
 mod window_laws;
 
 pub use board::Board;
 pub use board_model::{End, Level, Turned};
+pub use setting_laws::a_board_stands_for_each_state_that_is_kept_alike;
 pub use views::TaskView;
 pub use window_laws::instructions_within_a_window_are_turns;

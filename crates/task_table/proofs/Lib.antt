@@ -49,3 +49,4 @@ pub mod Choices
 pub mod Searches
 pub mod Ordered
 pub mod Setting
+pub mod KeptAlike
