@@ -13,4 +13,5 @@ pub mod SyscallRows
 pub mod Fetching
 pub mod Windowing
 pub mod Loners
-mod Told
+pub mod Told
+pub mod KeptAlike

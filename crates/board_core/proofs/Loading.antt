@@ -105,7 +105,7 @@ loaded_cpu g k cpu t h inside =
     sym (task-with_cpu cpu h.saved there) ∙ ap (λ (u : Turn). cpu_of (task_at u.state h.saved.state.current)) (sym h.is) ∙ ap (λ (i : ℕ). cpu_of (task_at t.state i)) (sym rest.current)
 
 -- who gets the processor with its own registers is as it was
-with_own : (c : ℕ) (s : State) (t : Turn) → s ≡ t.state → with_processor c (task_at s c).registers (task_at s c).flags t ≡ t
+pub with_own : (c : ℕ) (s : State) (t : Turn) → s ≡ t.state → with_processor c (task_at s c).registers (task_at s c).flags t ≡ t
 unfolding with_processor with_task task_at
 with_own c s t e = rw e (ap (λ (xs : List Task). record t { state = record t.state { tasks = xs } }) (set-get_or t.state.tasks c no_task))
 
@@ -141,7 +141,7 @@ set_twice : (s : State) (i : ℕ) (x y : Task) → with_task i y (with_task i x 
 unfolding with_task
 set_twice s i x y = ap (λ (xs : List Task). record s { tasks = xs }) (set-set s.tasks i x y)
 
-twice : (c : ℕ) (r r' : List ℕ) (f f' : Flags) (t : Turn) → c < length t.state.tasks → with_processor c r' f' (with_processor c r f t) ≡ with_processor c r' f' t
+pub twice : (c : ℕ) (r r' : List ℕ) (f f' : Flags) (t : Turn) → c < length t.state.tasks → with_processor c r' f' (with_processor c r f t) ≡ with_processor c r' f' t
 unfolding with_processor
 twice c r r' f f' t inside =
     let s = t.state in

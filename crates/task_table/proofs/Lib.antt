@@ -52,3 +52,4 @@ pub mod Setting
 pub mod Equipped
 pub mod Devices
 pub mod Reaching
+pub mod KeptAlike

@@ -1,5 +1,5 @@
 -- A part of a state becomes as it is told: what a slot tells of its task, with the births that its ids name.
-use Rattle.std.specs.Prelude.{ℕ, ◌≡◌, ◌+◌, ◌*◌, ◌<◌, [], ◌∷◌, ◌++◌}
+use Rattle.std.specs.Prelude.{ℕ, ◌≡◌, ◌+◌, ◌*◌, ◌<◌, [], ◌∷◌, ◌++◌, length}
 use Rattle.kernel_abi.specs.Ids.{index_of, generation_of}
 use Rattle.kernel_abi.specs.declared.TaskId.{TaskId}
 use Rattle.task_table.specs.declared.slot.FromId.{FromId}
@@ -11,6 +11,7 @@ use Rattle.task_table.specs.declared.slot.Wait.{Wait}
 use Rattle.task_table.specs.declared.slot.Wait.TheVariants as wait
 use Rattle.task_table.specs.State.{Task, Birth, Call, Listen, State, From, Any, One, KernelOnly}
 use Rattle.task_table.specs.Effects.{with_task, without_call, without_listen, with_listen}
+use Rattle.task_table.specs.Holds.{packed}
 
 -- the birth that an id names, by its generation
 abbrev pub birth_of : TaskId → Birth
@@ -70,3 +71,14 @@ pub record IsTold (i : ℕ) (slot : Slot) : Type 0 where
   pub client : (c : OpenCall) → slot.wait ≡ wait.Call c → c.client.number ≡ i + 1024 * slot.generation.number
   pub server : (c : OpenCall) → slot.wait ≡ wait.Call c → c.server.number < 65536
   pub named : (l : Listening) (id : TaskId) → slot.wait ≡ wait.Listen l → l.from ≡ from_id.One id → id.number < 65536
+
+-- a kernel keeps the same of both: of births the generation, and calls and listens by their task, in no order
+pub record AreKeptAlike (s u : State) : Type 0 where
+  pub count : length u.tasks ≡ length s.tasks
+  pub tasks : (i : ℕ) → i < length s.tasks → packed u i ≡ packed s i
+  pub memory : u.memory ≡ s.memory
+  pub now : u.now ≡ s.now
+  pub lines : u.lines ≡ s.lines
+  pub current : u.current ≡ s.current
+  pub next_call : u.next_call ≡ s.next_call
+  pub turn : u.turn ≡ s.turn
