@@ -1,0 +1,6 @@
+mod Accepts
+mod Again
+mod First
+mod Grow
+mod Places
+mod Splits

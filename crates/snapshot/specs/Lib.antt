@@ -1,0 +1,5 @@
+pub mod Records
+pub mod Causes
+pub mod Waits
+pub mod Spelling
+pub mod Accepted
