@@ -1,4 +1,5 @@
 pub mod Arguments
+pub mod Devices
 pub mod Faults
 pub mod Ids
 pub mod Leases

@@ -295,6 +295,29 @@ pub enum Borrow {
     Info,
 }
 
+/// What a device is: a console counts the bytes that are stored to it and gives them out, a port keeps the
+/// bytes that come from outside until they are loaded.
+#[derive(Clone, Copy, Debug, PartialEq, Eq)]
+pub enum Kind {
+    Console,
+    Port,
+}
+
+/// What came of a byte from outside: it stands in the queue now, the queue was full, or the device is no port.
+#[derive(Clone, Copy, Debug, PartialEq, Eq)]
+pub enum Fed {
+    Queued,
+    Full,
+    NotPort,
+}
+
+/// A byte that a device has given out, with the device's index.
+#[derive(Clone, Copy, Debug, PartialEq, Eq)]
+pub struct Given {
+    pub device: usize,
+    pub byte: u8,
+}
+
 /// A line of the trace without its turn. The last four are told with `--all` alone.
 #[derive(Clone, Copy, PartialEq, Eq)]
 pub enum Note {
