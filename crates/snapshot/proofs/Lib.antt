@@ -3,4 +3,5 @@ mod Again
 mod First
 mod Grow
 mod Places
+mod Single
 mod Splits
