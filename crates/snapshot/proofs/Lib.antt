@@ -3,5 +3,6 @@ mod Again
 mod First
 mod Grow
 mod Places
+mod Saves
 mod Single
 mod Splits
