@@ -3,6 +3,7 @@ mod Again
 mod First
 mod Grow
 mod Places
+mod Rows
 mod Saves
 mod Single
 mod Splits
