@@ -1,0 +1,9 @@
+mod Accepts
+mod Again
+mod First
+mod Grow
+mod Places
+mod Rows
+mod Saves
+mod Single
+mod Splits
