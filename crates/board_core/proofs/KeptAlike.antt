@@ -123,11 +123,11 @@ loaded_alike g k cpu t v h alike notes alone =
       holds = shows_alike g (kept_of k) w u h.holds now (lent_notes c w.state v ∙ notes ∙ same_notes cpu w t h.is) (subst Q at (alone_lent c w.state v.state alone));
       ready = ap (is_ready u.state) (sym current) ∙ sym (ready_alike u.state w.state now c) ∙ h.ready;
       is =
-        sym (with_own c v.state v refl)
-        ∙ ap (λ (r : List ℕ). with_processor c r (task_at v.state c).flags v) (own_registers c cpu.regs.words cpu.flags w.state t.state v.state is there alike)
-        ∙ ap (λ (f : Flags). with_processor c cpu.regs.words f v) (own_flags c cpu.regs.words cpu.flags w.state t.state v.state is there alike)
-        ∙ sym (twice c (task_at w.state c).registers cpu.regs.words (task_at w.state c).flags cpu.flags v here)
-        ∙ ap (λ (j : ℕ). with_processor j cpu.regs.words cpu.flags u) current;
+          sym (with_own c v.state v refl)
+          ∙ ap (λ (r : List ℕ). with_processor c r (task_at v.state c).flags v) (own_registers c cpu.regs.words cpu.flags w.state t.state v.state is there alike)
+          ∙ ap (λ (f : Flags). with_processor c cpu.regs.words f v) (own_flags c cpu.regs.words cpu.flags w.state t.state v.state is there alike)
+          ∙ sym (twice c (task_at w.state c).registers cpu.regs.words (task_at w.state c).flags cpu.flags v here)
+          ∙ ap (λ (j : ℕ). with_processor j cpu.regs.words cpu.flags u) current;
     }
   where
     current_there : (g : Setup) (k : Kernel) (w : Turn) → KernelHolds g k w → w.state.current < length w.state.tasks
