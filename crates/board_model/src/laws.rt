@@ -77,8 +77,8 @@ pub fn runs_keep_a_ledger()
     ensures { (level : Detail) (x : Scenario) (n : ℕ) → Sane x.setup (start_of x) → IsLedgerOfRun level x n }
 {}
 
-/// A fault changes nothing else. Where an instruction or a system call faults the task that was chosen, memory and all the
-/// registers and flags of the task are after the turn as they were after its events, nothing was written for another
+/// A fault changes nothing else. Where an instruction or a system call faults the task that was chosen, memory, the devices and
+/// all the registers and flags of the task are after the turn as they were after its events, nothing was written for another
 /// task, nor read of one but entries of lease tables, and of the other tasks only task 0 changes: by the post of its
 /// fault bits. (Hubris Reference: supervision; that a refused instruction or system call takes no effect is docs/FORMATS.md.)
 pub fn faults_change_nothing_else()
