@@ -4,6 +4,7 @@ ghost use Rattle.std.specs.Prelude.{◌≡◌, ◌≢◌, ◌+◌, ◌<◌, ◌�
 ghost use Rattle.kernel_abi.specs.declared.Fault.{Fault};
 ghost use Rattle.kernel_abi.specs.declared.Note.{Note};
 ghost use Rattle.run_script.specs.declared.events.Event.{Event};
+ghost use Rattle.run_script.specs.declared.events.Event.TheVariants.{Feed};
 ghost use Rattle.run_script.specs.Scripts.{ScriptData, IsNext, events_of};
 ghost use Rattle.thumb_insn.specs.declared.Insn.{Insn};
 ghost use Rattle.thumb_insn.specs.Range.{IsCoded};
@@ -55,6 +56,14 @@ pub fn turns_keep_counts_in_order()
 pub fn turns_without_notes_keep_the_choice()
     ensures next { (level : Detail) (x : Scenario) (s : State) → Sane x.setup s → (turn level x s).notes ≡ [] → chosen x.setup (turn level x s).state ≡ chosen x.setup (after_events x s).state }
     ensures down { (level : Detail) (x : Scenario) (s : State) → Sane x.setup s → (turn level x s).notes ≡ [] → is_down (turn level x s).state ≡ is_down (after_events x s).state }
+{}
+
+/// A byte that comes for a device leaves the choice: each task is as ready as before, the same one is chosen, and the
+/// supervisor has faulted just where it had.
+pub fn bytes_for_devices_keep_the_choice()
+    ensures ready { (g : Setup) (device byte i : ℕ) (t : Turn) → is_ready (happened g t (Feed device byte)).state i ≡ is_ready t.state i }
+    ensures next { (g : Setup) (device byte : ℕ) (t : Turn) → chosen g (happened g t (Feed device byte)).state ≡ chosen g t.state }
+    ensures down { (g : Setup) (device byte : ℕ) (t : Turn) → is_down (happened g t (Feed device byte)).state ≡ is_down t.state }
 {}
 
 /// A turn writes on its grounds alone, touches no call but those that are open or that it offers, and leaves alone what is
