@@ -11,6 +11,8 @@ mod choosing;
 #[cfg(test)]
 mod memory;
 #[cfg(test)]
+mod saved_states;
+#[cfg(test)]
 mod tasks;
 #[cfg(test)]
 mod window;
