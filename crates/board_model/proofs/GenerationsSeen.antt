@@ -1,5 +1,5 @@
 -- What is seen of a state between turns rests on its births modulo 64: why a run ends there, and what its turn runs.
-use Rattle.std.proofs.Common.{◌≡◌, ◌∙◌, ℕ, Bool, not, ◌&&◌, Option, Some, None, refl, ap}
+use Rattle.std.proofs.Common.{◌≡◌, ◌∙◌, ℕ, ◌%◌, Bool, not, ◌&&◌, Option, Some, None, refl, ap}
 use Rattle.std.specs.Prelude.{is_none}
 use Rattle.words_core.specs.Regs.{program_counter}
 use Rattle.task_table.specs.State.{State, Task, Turn}
@@ -16,9 +16,9 @@ use Rattle.board_model.proofs.Alike.{shown, task_alike, register_alike, chosen_a
 use Rattle.board_model.proofs.AlikeTurns.{alike-events}
 use Rattle.board_model.proofs.Views.{archivist, attentive_archivist, alike-reduced}
 
-alike_start : (s : State) → shown archivist.birth (reduced s) ≡ shown archivist.birth s
-unfolding begun
-alike_start s = (alike-reduced s).state
+pub shown_reduced : (s : State) → shown (λ b. b % 64) (reduced s) ≡ shown (λ b. b % 64) s
+unfolding archivist begun
+shown_reduced s = (alike-reduced s).state
 
 turned_same : (v : ℕ → ℕ) (s u : State) → shown v s ≡ shown v u → (o p : Option ℕ) → o ≡ p → turned_of s o ≡ turned_of u p
 turned_same v s u h o p e = go o ∙ ap (turned_of u) e
@@ -36,9 +36,10 @@ turned_reduced x s =
 pub ending_reduced : (x : Scenario) (left : ℕ) (s : State) → ending x left (reduced s) ≡ ending x left s
 unfolding ending
 ending_reduced x left s =
-    let h = alike_start s in
-    let down : is_down (reduced s) ≡ is_down s = ap (λ (t : Task). is_faulted t.health) (task_alike archivist.birth (reduced s) s 0 h) in
-    let c = chosen_alike archivist.birth x.setup (reduced s) s h in
-    let n = turn_alike archivist.birth (reduced s) s h in
+    let births : ℕ → ℕ = λ b. b % 64 in
+    let h = shown_reduced s in
+    let down : is_down (reduced s) ≡ is_down s = ap (λ (t : Task). is_faulted t.health) (task_alike births (reduced s) s 0 h) in
+    let c = chosen_alike births x.setup (reduced s) s h in
+    let n = turn_alike births (reduced s) s h in
     let still : is_still x (reduced s) ≡ is_still x s = λ k. is_none (c k) && not (lasts x.script (n k)) in
     λ k. end_by (down k) left (still k)
