@@ -1,17 +1,16 @@
 -- What is seen of a state between turns rests on its births modulo 64: why a run ends there, and what its turn runs.
-use Rattle.std.proofs.Common.{◌≡◌, ◌∙◌, ℕ, ◌%◌, Bool, not, ◌&&◌, Option, Some, None, refl, ap}
+use Rattle.std.proofs.Common.{◌≡◌, ◌∙◌, ℕ, ◌%◌, not, ◌&&◌, Option, Some, None, refl, ap}
 use Rattle.std.specs.Prelude.{is_none}
 use Rattle.words_core.specs.Regs.{program_counter}
-use Rattle.task_table.specs.State.{State, Task, Turn}
-use Rattle.task_table.specs.Reading.{chosen, is_faulted, register}
+use Rattle.task_table.specs.State.{State, Task}
+use Rattle.task_table.specs.Reading.{is_faulted}
 use Rattle.task_table.specs.Start.{begun}
 use Rattle.run_script.specs.Scripts.{lasts}
-use Rattle.board_model.specs.declared.outcomes.Turned.{Turned}
-use Rattle.board_model.specs.declared.outcomes.Turned.TheVariants.{Idle, Ran}
+use Rattle.board_model.specs.declared.outcomes.Turned.TheVariants.{Ran}
 use Rattle.board_model.specs.Script.{Scenario}
 use Rattle.board_model.specs.Turn.{after_events, turned_of, turned}
 use Rattle.board_model.specs.Run.{ending, end_by, is_down, is_still}
-use Rattle.board_model.specs.Alike.{IsAlike, reduced}
+use Rattle.board_model.specs.Alike.{reduced}
 use Rattle.board_model.proofs.Alike.{shown, task_alike, register_alike, chosen_alike, turn_alike}
 use Rattle.board_model.proofs.AlikeTurns.{alike-events}
 use Rattle.board_model.proofs.Views.{archivist, attentive_archivist, alike-reduced}

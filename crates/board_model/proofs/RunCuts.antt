@@ -1,6 +1,6 @@
 -- A run that is cut at a turn, and goes on.
-use Rattle.std.proofs.Common.{◌≡◌, ◌∙◌, ℕ, zero, suc, ◌+◌, ◌-◌, ◌<◌, ◌≤◌, ◌⊎◌, inl, inr, Bool, true, false, cond, eqb, leb, List, [], ◌∷◌, ◌++◌, length, Option, Some, None, refl, sym, ap, subst, append_assoc, arith}
-use Rattle.std.specs.Prelude.{Contains, filter}
+use Rattle.std.proofs.Common.{◌≡◌, ◌∙◌, ℕ, zero, suc, ◌+◌, ◌-◌, ◌≤◌, Bool, true, false, cond, eqb, leb, List, [], ◌∷◌, ◌++◌, Option, Some, None, refl, sym, ap, subst, append_assoc, arith}
+use Rattle.std.specs.Prelude.{filter}
 use Rattle.std.proofs.lemmas.Bool.{lt-leb, le-leb}
 use Rattle.std.proofs.lemmas.Bool.Decides.{nat_tests}
 use Rattle.kernel_abi.specs.declared.Note.{Note}
@@ -9,7 +9,7 @@ use Rattle.task_table.specs.Sane.{Sane}
 use Rattle.board_model.specs.declared.outcomes.Level.{Level}
 use Rattle.board_model.specs.declared.outcomes.Level.TheVariants.{Calls, All}
 use Rattle.board_model.specs.declared.outcomes.End.{End}
-use Rattle.board_model.specs.declared.outcomes.End.TheVariants.{Bound, Still, Supervisor}
+use Rattle.board_model.specs.declared.outcomes.End.TheVariants.{Bound, Still}
 use Rattle.board_model.specs.Script.{Scenario}
 use Rattle.board_model.specs.Turn.{turn}
 use Rattle.board_model.specs.Run.{Run, run, ending, end_by, is_down, is_still, unless, ended_at, with_front, at_turn}
@@ -155,8 +155,8 @@ before_cut level x (suc n) s k h =
     let front = at_turn s.turn (turn level x s).notes in
     by_turn level x n s (NoneFrom k) (λ e le rest. refl)
     (λ is le rest.
-        let early : leb k s.turn ≡ false = lt-leb _ _ (omega (arith, le, next, more)) in
-        ap (from k) (append_assoc front r.notes rest) ∙ of_turn s.turn (turn level x s).notes (leb k) false early (r.notes ++ rest) ∙ before_cut level x n t k sane le rest)
+    let early : leb k s.turn ≡ false = lt-leb _ _ (omega (arith, le, next, more)) in
+    ap (from k) (append_assoc front r.notes rest) ∙ of_turn s.turn (turn level x s).notes (leb k) false early (r.notes ++ rest) ∙ before_cut level x n t k sane le rest)
 
 abbrev AllFrom : ℕ → Run → Type 0
 AllFrom k r = from k r.notes ≡ r.notes
@@ -170,7 +170,7 @@ after_start level x (suc n) s k h le =
     let there : leb k s.turn ≡ true = le-leb _ _ le in
     by_turn level x n s (AllFrom k) (λ e. refl)
     (λ is. of_turn s.turn (turn level x s).notes (leb k) true there (run level x n t).notes
-        ∙ ap (λ l. at_turn s.turn (turn level x s).notes ++ l) (after_start level x n t k (sane-after level x s h) (omega (arith, more, le))))
+    ∙ ap (λ l. at_turn s.turn (turn level x s).notes ++ l) (after_start level x n t k (sane-after level x s h) (omega (arith, more, le))))
 
 -- ## what is left of a run behind a cut
 

@@ -1,4 +1,4 @@
-use Rattle.std.proofs.Common.{◌≡◌, ◌∙◌, ap}
+use Rattle.std.proofs.Common.{◌∙◌, ap}
 use Rattle.board_model.specs.Run.{Run}
 use Rattle.board_model.specs.Alike.{reduced}
 use Rattle.board_model.proofs.AlikeRuns.{reduced-run}
