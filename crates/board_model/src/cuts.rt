@@ -1,7 +1,7 @@
 //! Laws of a run that is cut at a turn and goes on from there. Nothing runs here.
 //!
-//! - The two parts are the whole run (`runs_go_on_from_a_cut`), and so they are where the births at the cut are kept modulo 64
-//!   alone.
+//! - The two parts are the whole run, and have the same notes and the same end where births are kept modulo 64 at the cut
+//!   (`runs_go_on_from_a_cut`).
 //! - What is seen at a cut rests on births modulo 64 too (`generations_decide_what_is_seen`).
 
 ghost use Rattle.std.specs.Prelude.{◌≡◌, ◌≤◌, ◌+◌, ℕ};
@@ -17,8 +17,8 @@ ghost use Rattle.board_model.specs.Cut.{cut_at, from_turn, left_of};
 /// A run of at most n turns, and then from its last state the turns that are left of m, is the run of at most m turns: its
 /// notes, its end and its last state. What comes after the cut is the run without what was noted before it, at whatever level
 /// that was noted; and it has the same notes and the same end from the cut's state with its births modulo 64 (as
-/// `generations_decide` says of each state), and the same last state with births modulo 64. Such a run comes to each turn before
-/// the cut, with a bound of just so many turns.
+/// `generations_decide` says of each state), and the same last state with births modulo 64. The run to the cut comes to each turn
+/// before it, with a bound of just so many turns.
 pub fn runs_go_on_from_a_cut()
     ensures whole { (level : Detail) (x : Scenario) (n m : ℕ) (s : State) → Sane x.setup s → (cut_at level x n s).turn ≤ s.turn + m → run level x m s ≡ with_front (run level x n s).notes (run level x (left_of m s (cut_at level x n s)) (cut_at level x n s)) }
     ensures rest { (level before : Detail) (x : Scenario) (n m : ℕ) (s : State) → Sane x.setup s → (cut_at before x n s).turn ≤ s.turn + m → run level x (left_of m s (cut_at before x n s)) (cut_at before x n s) ≡ from_turn (cut_at before x n s).turn (run level x m s) }
