@@ -43,3 +43,5 @@ pub mod LonerOwnTurns
 pub mod LonerLives
 pub mod LonerBirths
 pub mod BirthTurns
+pub mod RunCuts
+pub mod GenerationsSeen

@@ -9,3 +9,4 @@ pub mod Alike
 pub mod Agreement
 pub mod Loners
 pub mod LonerTurns
+pub mod Cut

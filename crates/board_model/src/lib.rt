@@ -1,11 +1,13 @@
 //! The model of the board: one turn, a run of turns, and the laws that hold of them. Nothing runs here.
 #![tactic(auto)]
 
+mod cuts;
 mod laws;
 mod loners;
 mod outcomes;
 mod two_runs;
 
+pub use cuts::{generations_decide_what_is_seen, runs_go_on_from_a_cut};
 pub use laws::{
     bytes_for_devices_keep_the_choice, faults_change_nothing_else,
     faults_of_instructions_are_known, moves_change_memory_and_devices_alone, runs_keep_a_ledger,
