@@ -91,6 +91,7 @@ from_events g c n s u inside h = record {
       record { task = posted_to.task ∙ same.task; call = posted_to.call ∙ same.call; listen = posted_to.listen ∙ same.listen };
   others = λ i apart above. let o = h.others i apart above in record { task = o.task; call = o.call; listen = o.listen };
   memory = h.memory;
+  devices = h.devices;
   now = h.now;
   next_call = h.next_call;
   lines = h.lines;

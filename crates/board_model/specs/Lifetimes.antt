@@ -1,5 +1,5 @@
 -- What a turn may do to memory and to calls, and the ledger of a run.
-use Rattle.std.specs.Prelude.{ℕ, ◌≡◌, List, [], map, None, Some}
+use Rattle.std.specs.Prelude.{ℕ, ◌%◌, ◌≡◌, List, [], map, None, Some}
 use Rattle.kernel_abi.specs.declared.Note.{Note}
 use Rattle.kernel_abi.specs.Devices.{DeviceData, devices_fed}
 use Rattle.run_script.specs.declared.events.Event.{Event}
@@ -38,4 +38,4 @@ IsLedgerOfRun level x n = let r = run level x n (start_of x) in IsLedger (notes_
 abbrev pub devices_after : List DeviceData → Event → List DeviceData
 devices_after devices Tick = devices
 devices_after devices (Irq line) = devices
-devices_after devices (Feed device byte) = devices_fed devices device byte
+devices_after devices (Feed device byte) = devices_fed devices device (byte % 256)
