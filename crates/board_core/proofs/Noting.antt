@@ -3,6 +3,7 @@ use Rattle.std.proofs.Common.{◌≡◌, ◌<◌, ◌≤◌, ℕ, zero, suc, tru
 use Rattle.kernel_abi.specs.declared.Note.{Note}
 use Rattle.thumb_exec.specs.declared.cpu.Cpu.{Cpu}
 use Rattle.task_table.specs.declared.kernel.Kernel.{Kernel}
+use Rattle.board_core.specs.declared.reach.Reach.{Reach}
 use Rattle.task_table.specs.State.{Setup, Turn}
 use Rattle.task_table.specs.Reading.{is_ready, task_at}
 use Rattle.task_table.specs.Effects.{noted}
@@ -19,8 +20,8 @@ use Rattle.board_core.proofs.Loading.{rest_of, loaded_noted}
 use Rattle.board_model.proofs.Quiet.{ready-with_processor}
 use Rattle.board_model.proofs.TurnChains.{noted_state, ready-syscall_noted}
 
-pub loaded_ready : (g : Setup) (k : Kernel) (cpu : Cpu) (t : Turn) → IsLoaded g k cpu t → t.state.current < length t.state.tasks → is_ready t.state t.state.current ≡ true
-loaded_ready g k cpu t h inside =
+pub loaded_ready : (g : Setup) (r : Reach) (cpu : Cpu) (t : Turn) → IsLoaded g r cpu t → t.state.current < length t.state.tasks → is_ready t.state t.state.current ≡ true
+loaded_ready g r cpu t h inside =
     let s = h.saved in
     let rest = rest_of s t cpu h.is in
     let same : is_ready (with_cpu cpu s).state s.state.current ≡ true = ready-with_processor s.state.current cpu.regs.words cpu.flags s ∙ h.ready in
@@ -34,7 +35,7 @@ pub record IsCalling (g : Setup) (k : Kernel) (c : ℕ) (t : Turn) : Type 0 wher
 pub calling : (g : Setup) (k k' : Kernel) (m : Machine) (c : ℕ) (t : Turn) → IsReady g m t → c ≡ t.state.current → Holds g k t → (Holds g k t → Holds g k' (syscall_noted c t)) → IsCalling g k' c t
 calling g k k' m c t r at h f =
     let inside : c < length t.state.tasks = rw at r.sane.steady.current in
-    let ready : is_ready t.state c ≡ true = ap (λ (i : ℕ). is_ready t.state i) at ∙ loaded_ready g m.reach.kernel m.processor t r.holds r.sane.steady.current in
+    let ready : is_ready t.state c ≡ true = ap (λ (i : ℕ). is_ready t.state i) at ∙ loaded_ready g m.reach m.processor t r.holds r.sane.steady.current in
     record { stands = record { holds = f h; sane = sane-syscall_noted c t r.sane inside }; ready = ready-syscall_noted c t ready }
 
 -- a system call that is noted has the number that it had
@@ -71,7 +72,7 @@ pub noted_current : (level : Level) (n : Note) (t : Turn) → (noted_at level n 
 noted_current level n t = ap (λ s. s.current) (noted_state level n t)
 
 pub ready_noted : (g : Setup) (m : Machine) (k : Kernel) (n : Note) (t : Turn) → ((u : Turn) → Holds g m.reach.kernel u → Holds g k (noted n u)) → IsReady g m t → IsReady g record m { reach = record m.reach { kernel = k } } (noted n t)
-ready_noted g m k n t f r = record { loaded = r.loaded; holds = loaded_noted g m.reach.kernel k m.processor n t f r.holds; sane = sane-noted n t r.sane }
+ready_noted g m k n t f r = record { loaded = r.loaded; holds = loaded_noted g m.reach record m.reach { kernel = k } m.processor n t f r.holds; sane = sane-noted n t r.sane }
 
 -- both notes of the registers, one after the other
 pub registers_noted : (c : ℕ) (t : Turn) → noted (high_note (task_at t.state c)) (noted (low_note (task_at t.state c)) t) ≡ with_registers_noted All c t
