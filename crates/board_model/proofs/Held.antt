@@ -1,11 +1,11 @@
 -- What bytes hold where no device lies: what the memory does.
-use Rattle.std.proofs.Common.{◌≡◌, ◌*◌, ◌%◌, ◌^◌, ◌<◌, ◌&&◌, ℕ, Bool, true, false, cond, leb, ltb, [], Option, None, Some, take, drop, refl, sym, ◌∙◌, ap, arith, leb-true}
+use Rattle.std.proofs.Common.{◌≡◌, ◌-◌, ◌*◌, ◌%◌, ◌^◌, ◌<◌, ◌&&◌, ℕ, Bool, true, false, cond, leb, ltb, [], Option, None, Some, take, drop, refl, arith}
 use Rattle.std.specs.Prelude.{option_map}
+use Rattle.std.proofs.lemmas.Bool.{leb-true}
 use Rattle.kernel_abi.specs.Devices.{behind, device_at, device_number, device_start, device_end, looked, offset_in}
 use Rattle.mem_banks.specs.Memory.{Memory, bytes_at, number_at, number_of}
 use Rattle.task_table.specs.State.{State}
 use Rattle.board_model.specs.Turn.{held, is_device, or_zero}
-use Rattle.board_model.proofs.TurnChains.{both_true}
 
 pub no_device_below : (a : ℕ) → a < 0x40000000 → is_device a ≡ false
 no_device_below a below = by_start (leb device_start a) refl
