@@ -1,5 +1,6 @@
 -- What a load, a store and a byte from outside leave where there is no device.
-use Rattle.std.proofs.Common.{◌≡◌, ℕ, Bool, true, false, cond, List, [], None, refl, sym, ◌∙◌, ap, subst}
+use Rattle.std.proofs.Common.{◌≡◌, ◌%◌, ◌<◌, ℕ, Bool, true, false, cond, List, [], None, refl, sym, ◌∙◌, ap, subst, arith}
+use Rattle.kernel_abi.specs.declared.Note.{Note}
 use Rattle.kernel_abi.specs.declared.Note.TheVariants as note
 use Rattle.kernel_abi.specs.Devices.{DeviceData, device_number, devices_stored, devices_loaded, device_out, devices_fed, feed_answer}
 use Rattle.thumb_exec.specs.Bytes.{bytes_of}
@@ -35,11 +36,23 @@ unfolding device_taken with_devices
 none_taken a t e = ap (λ (ds : List DeviceData). with_devices (devices_loaded ds a) t) (sym e) ∙ same_devices t [] e
 
 -- a byte from outside is noted, and nobody takes it
-pub none_fed : (device byte : ℕ) (t : Turn) → [] ≡ t.state.devices → fed device byte t ≡ noted (note.In device byte None) t
+none_fed : (device byte : ℕ) (t : Turn) → [] ≡ t.state.devices → fed device byte t ≡ noted (note.In device byte None) t
 unfolding fed with_devices
 none_fed device byte t e =
     ap (λ (ds : List DeviceData). noted (note.In device byte (feed_answer ds device)) (with_devices (devices_fed ds device byte) t)) (sym e)
     ∙ ap (noted (note.In device byte None)) (same_devices t [] e)
+
+-- the byte is one of 8 bits
+pub none_fed_byte : (device byte : ℕ) (t : Turn) → [] ≡ t.state.devices → byte < 256 → fed device (byte % 256) t ≡ noted (note.In device byte None) t
+none_fed_byte device byte t e small = let same : byte % 256 ≡ byte = omega (arith, small) in none_fed device (byte % 256) t e ∙ ap (λ (b : ℕ). noted (note.In device b None) t) same
+
+-- a note changes none
+pub noted_none : (n : Note) (t : Turn) → [] ≡ t.state.devices → [] ≡ (noted n t).state.devices
+unfolding noted
+noted_none n t e = e
+
+pub both_noted : (n m : Note) (t : Turn) → [] ≡ t.state.devices → [] ≡ (noted n (noted m t)).state.devices
+both_noted n m t e = noted_none n (noted m t) (noted_none m t e)
 
 -- ## what the machine reaches
 
