@@ -23,7 +23,7 @@ there (x ∷ xs) zero q here = omega arith
 there (x ∷ xs) (suc j) q here = let lt = there xs j q here in omega arith
 
 module _ (p : Picture) (i : ℕ) (facts : Facts p) (named : Contains (loners p) i) where
-  tasks : List (List Region)
+  abbrev tasks : List (List Region)
   tasks = regions_by_task p
 
   passes : (i < length p.tasks) × (is_loner tasks i ≡ true)

@@ -1,8 +1,9 @@
 -- What a load, a store and a byte from outside leave where there is no device.
-use Rattle.std.proofs.Common.{◌≡◌, ◌%◌, ◌<◌, ℕ, Bool, true, false, cond, List, [], None, refl, sym, ◌∙◌, ap, subst, arith}
+use Rattle.std.proofs.Common.{◌≡◌, ◌%◌, ◌<◌, ℕ, Bool, true, false, cond, List, [], Some, None, refl, sym, ◌∙◌, ap, subst, arith}
+use Rattle.std.proofs.lemmas.Bool.{le-ltb}
 use Rattle.kernel_abi.specs.declared.Note.{Note}
 use Rattle.kernel_abi.specs.declared.Note.TheVariants as note
-use Rattle.kernel_abi.specs.Devices.{DeviceData, device_number, devices_stored, devices_loaded, device_out, devices_fed, feed_answer}
+use Rattle.kernel_abi.specs.Devices.{DeviceData, device_number, devices_stored, devices_loaded, device_out, device_at, with_device, after_input, fed_by, devices_fed, feed_answer}
 use Rattle.thumb_exec.specs.Bytes.{bytes_of}
 use Rattle.mem_banks.specs.Memory.{Memory, number_at, is_ram}
 use Rattle.task_table.specs.declared.kernel.Kernel.{Kernel}
@@ -39,7 +40,9 @@ none_taken a t e = ap (λ (ds : List DeviceData). with_devices (devices_loaded d
 none_fed : (device byte : ℕ) (t : Turn) → [] ≡ t.state.devices → fed device byte t ≡ noted (note.In device byte None) t
 unfolding fed with_devices
 none_fed device byte t e =
+    let beyond : Bool → Turn = λ b. noted (note.In device byte (cond b (Some (fed_by (device_at [] device).kind (device_at [] device).queue)) None)) (with_devices (cond b (with_device [] device (after_input (device_at [] device) byte)) []) t) in
     ap (λ (ds : List DeviceData). noted (note.In device byte (feed_answer ds device)) (with_devices (devices_fed ds device byte) t)) (sym e)
+    ∙ ap beyond (le-ltb device 0 (omega arith))
     ∙ ap (noted (note.In device byte None)) (same_devices t [] e)
 
 -- the byte is one of 8 bits
