@@ -5,7 +5,7 @@ use Rattle.kernel_abi.specs.declared.Fault.{Fault}
 use Rattle.kernel_abi.specs.Devices.{DeviceData}
 use Rattle.thumb_exec.specs.declared.fetch.Fetched.{Fetched}
 use Rattle.thumb_exec.specs.Fetch.{fetched}
-use Rattle.task_table.specs.Holds.{setup_of, current_of, memory_of}
+use Rattle.task_table.specs.Holds.{setup_of, current_of}
 use Rattle.mem_banks.specs.Memory.{Memory}
 use Rattle.task_table.specs.Reading.{register}
 use Rattle.task_table.specs.State.{Setup, Turn}

@@ -14,7 +14,7 @@ use Rattle.mem_banks.specs.Memory.{Memory, is_ram}
 use Rattle.task_table.specs.State.{Setup, State, Task, Own, Turn}
 use Rattle.task_table.specs.Reading.{register, task_at, call_of, listen_of, is_ready, no_task}
 use Rattle.task_table.specs.Effects.{with_task, noted, stored, with_processor, with_devices, given_out, device_stored, device_taken}
-use Rattle.task_table.specs.Holds.{Holds, Stands, notes_of, setup_of, current_of, memory_of, task_count}
+use Rattle.task_table.specs.Holds.{Holds, Stands, notes_of, setup_of, current_of, task_count}
 use Rattle.task_table.specs.Start.{begun}
 use Rattle.task_table.proofs.Changes.{task_at-with_task}
 use Rattle.thumb_exec.specs.Bytes.{bytes_of}

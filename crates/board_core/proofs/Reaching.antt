@@ -11,7 +11,7 @@ use Rattle.task_table.specs.State.{Setup, Own, Turn}
 use Rattle.task_table.specs.Effects.{noted, stored, with_devices, given_out, device_stored, device_taken}
 use Rattle.task_table.specs.Events.{fed}
 use Rattle.task_table.specs.Holds.{Holds, memory_of}
-use Rattle.board_model.specs.Turn.{put, took, is_device, or_zero}
+use Rattle.board_model.specs.Turn.{put, is_device, or_zero}
 use Rattle.board_core.specs.declared.reach.Reach.{Reach}
 use Rattle.board_core.specs.Machine.{ReachHolds, IsTaken, shown_in}
 

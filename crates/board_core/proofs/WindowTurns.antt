@@ -1,5 +1,5 @@
 -- Instructions on end within a window are turns.
-use Rattle.std.proofs.Common.{◌≡◌, ◌+◌, ◌-◌, ◌≤◌, ◌<◌, ℕ, zero, suc, Bool, true, false, List, [], ◌∷◌, length, Option, Some, None, refl, sym, ◌∙◌, ap, subst, arith, leb, ltb, inl, inr, set, get_or, length-take, length-drop}
+use Rattle.std.proofs.Common.{◌≡◌, ◌+◌, ◌-◌, ◌≤◌, ◌<◌, ℕ, zero, suc, Bool, true, false, List, [], ◌∷◌, length, Option, Some, refl, sym, ◌∙◌, ap, subst, arith, leb, ltb, inl, inr, set, get_or, length-take, length-drop}
 use Rattle.std.specs.Prelude.{fold, Result, Ok, Err, Contains}
 use Rattle.std.proofs.lemmas.Bool.{le-leb, ltb-true, ltb-false}
 use Rattle.std.proofs.lemmas.List.{set-set, set-get_or, length-append, same_lists, places}

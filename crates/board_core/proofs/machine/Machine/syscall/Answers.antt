@@ -1,4 +1,4 @@
-use Rattle.std.proofs.Common.{◌≡◌, ℕ, subst, arith}
+use Rattle.std.proofs.Common.{ℕ, subst, arith}
 use Rattle.task_table.specs.Rows.{syscall_noted}
 use Rattle.task_table.specs.Syscalls.{syscall_made}
 use Rattle.board_core.specs.Machine.{ReachHolds}
