@@ -1,6 +1,6 @@
 -- The turn of a task that makes a system call, and of one whose call names an earlier birth of a task.
 use Rattle.words_core.specs.Regs.{program_counter}
-use Rattle.std.proofs.Common.{◌≡◌, ◌+◌, ◌<◌, ◌≤◌, ℕ, false, List, [], ◌∷◌, length, refl, ◌∙◌, ap, arith}
+use Rattle.std.proofs.Common.{◌≡◌, ◌+◌, ◌<◌, ◌≤◌, ℕ, true, false, List, [], ◌∷◌, length, refl, ◌∙◌, ap, arith}
 use Rattle.std.specs.Prelude.{Result, Ok}
 use Rattle.kernel_abi.specs.Faults.{usage_fault_by}
 use Rattle.kernel_abi.specs.Ids.{index_of}
@@ -14,7 +14,7 @@ use Rattle.thumb_exec.specs.Effect.{effect}
 use Rattle.thumb_exec.specs.Fetch.{fetched}
 use Rattle.thumb_exec.specs.declared.fetch.Fetched.{Fetched}
 use Rattle.task_table.specs.State.{Setup, State, Task, Turn}
-use Rattle.task_table.specs.Reading.{task_at, register, arguments, is_out, is_dead, present_id, dead_code_for, is_faulted}
+use Rattle.task_table.specs.Reading.{task_at, register, arguments, is_ready, is_out, is_dead, present_id, dead_code_for, is_faulted}
 use Rattle.task_table.specs.Effects.{noted, faulted}
 use Rattle.task_table.specs.Rows.{syscall_noted, goes_on, goes_on_with}
 use Rattle.task_table.specs.Sane.{Sane}
@@ -22,13 +22,15 @@ use Rattle.task_table.specs.Sends.{refreshed}
 use Rattle.task_table.specs.Syscalls.{syscall_made}
 use Rattle.task_table.specs.DeadIds.{Calls, IsAnsweredAlone, IsDeadId, recipient, sender, client, lender, asked_lender, posted_to}
 use Rattle.task_table.proofs.DeadRows as dead
+use Rattle.task_table.proofs.RowChains.{stay-syscall_made}
+use Rattle.task_table.proofs.Sanity.{sane-current}
 use Rattle.board_model.specs.declared.outcomes.Level.{Level}
 use Rattle.board_model.specs.declared.outcomes.Level.TheVariants as level_of
 use Rattle.board_model.specs.Script.{Scenario}
 use Rattle.board_model.specs.Turn.{refusals, held, noted_at, stepped_by, stepped, after_events, with_current, with_registers_noted, ended, turn}
 use Rattle.board_model.specs.DeadCalls.{MakesCall, IsSameButForResults, OnlyAnswers, OnlyFaults, IsDeadTurn, old_id}
 use Rattle.board_model.proofs.Events.{fresh-after_events}
-use Rattle.board_model.proofs.TurnChains.{chosen_is, sane-after_events}
+use Rattle.board_model.proofs.TurnChains.{chosen_is, as_current, sane-after_events}
 use Rattle.board_model.proofs.FaultFrames.{task-faulted}
 use Rattle.board_model.proofs.FaultTurns.{changes_nothing_else}
 
@@ -83,15 +85,16 @@ over-reads level_of.All c u = refl
 -- ## results alone
 
 -- from the events to the end of the turn, who is current and the turn's number aside
-answered_over : (c n : ℕ) (values : List ℕ) (s : State) (v u : Turn) (w : State) → v.state ≡ record s { current = c } → w ≡ record u.state { turn = n } → IsAnsweredAlone c values v u → IsSameButForResults c values s w
+answered_over : (c n : ℕ) (values : List ℕ) (s : State) (v u : Turn) (w : State) → v.state ≡ record s { current = c } → w ≡ record u.state { turn = n } → u.state.devices ≡ s.devices → IsAnsweredAlone c values v u → IsSameButForResults c values s w
 unfolding task_at register
-answered_over c n values s v u w e f h = rw f record {
+answered_over c n values s v u w e f devices h = rw f record {
   caller = rw e at h.caller;
   registers = rw e at h.registers;
   others = λ i ne. rw e at (h.others i ne);
   calls = rw e at h.calls;
   listens = rw e at h.listens;
   memory = rw e at h.memory;
+  devices = devices;
   now = rw e at h.now;
   lines = rw e at h.lines;
   next_call = rw e at h.next_call;
@@ -126,13 +129,22 @@ module _ (level : Level) (x : Scenario) (s : State) (sane : Sane x.setup s) wher
   unfolding task_at
   sixteen c call h = rw (row_state c h.code) ((sane-after_events x s sane).steady.tasks c (inside c call h)).sixteen
 
+  -- no system call changes a device
+  devices_stay : (c : ℕ) (call : Syscall) (h : MakesCall x s c call) → (syscall_made x.setup c (row c h.code)).state.devices ≡ t.state.devices
+  devices_stay c call h =
+      let sane_now = sane-after_events x s sane in
+      let is = chosen_is t.state c sane_now h.chosen in
+      let sane_row : Sane x.setup (row c h.code).state = rw (row_state c h.code) (sane-current c t sane_now is.inside) in
+      let ready : is_ready (row c h.code).state c ≡ true = rw (row_state c h.code) (as_current c c t.state is.ready) in
+      stay-syscall_made x.setup c (row c h.code) sane_row (rw (← sane_now.steady.as_many) is.inside) ready ∙ ap (λ (u : State). u.devices) (row_state c h.code)
+
   answers : (c : ℕ) (call : Syscall) (values : List ℕ) (h : MakesCall x s c call) → IsAnsweredAlone c values (row c h.code) (syscall_made x.setup c (row c h.code)) → OnlyAnswers level x s c values
   answers c call values h a =
       let made = syscall_made x.setup c (row c h.code) in
       let e = call_is level x s c call h in
       let fresh = fresh-after_events x s in
       record {
-        state = answered_over c (made.state.turn + 1) values t.state (row c h.code) made (turn level x s).state (row_state c h.code) (ap (λ (u : Turn). u.state) e ∙ over level c made) a;
+        state = answered_over c (made.state.turn + 1) values t.state (row c h.code) made (turn level x s).state (row_state c h.code) (ap (λ (u : Turn). u.state) e ∙ over level c made) (devices_stay c call h) a;
         writes = ap (λ (u : Turn). u.writes) e ∙ over-writes level c made ∙ a.writes ∙ begins-writes level c h.code t ∙ fresh.writes;
         reads = ap (λ (u : Turn). u.reads) e ∙ over-reads level c made ∙ a.reads ∙ begins-reads level c h.code t ∙ fresh.reads;
       }

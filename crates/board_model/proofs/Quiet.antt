@@ -6,7 +6,8 @@ use Rattle.kernel_abi.specs.declared.Note.TheVariants as note
 use Rattle.words_core.specs.declared.Flags.{Flags}
 use Rattle.task_table.specs.State.{Setup, State, Turn}
 use Rattle.task_table.specs.Reading.{task_at, call_of, listen_of, chosen, qualifies, around, is_ready, is_faulted, priority}
-use Rattle.task_table.specs.Effects.{with_processor}
+use Rattle.task_table.specs.Effects.{noted, with_processor, with_devices}
+use Rattle.task_table.specs.Events.{fed}
 use Rattle.task_table.specs.Counts.{IsAsReady}
 use Rattle.task_table.specs.Sane.{Sane}
 use Rattle.task_table.proofs.Noting.{noted-noted}
@@ -86,6 +87,22 @@ chosen_again g s u c sane many same is current =
     let v : State = record s { current = c } in
     chosen_by g v u count (λ i. same i ∙ sym (ready-current s c i)) current ∙ chosen_stays s c sane is
 
+-- who is ready, who is chosen next, and whether the supervisor has faulted, as in another state
+pub record IsChosenAlike (g : Setup) (s u : State) : Type 0 where
+  pub next : chosen g u ≡ chosen g s
+  pub ready : (i : ℕ) → is_ready u i ≡ is_ready s i
+  pub down : is_down u ≡ is_down s
+
+-- a byte for a device makes no one ready, and no one wait
+ready-fed : (device byte : ℕ) (t : Turn) → IsAsReady t.state (fed device byte t).state
+unfolding fed with_devices noted is_ready task_at call_of listen_of
+ready-fed device byte t = record { count = refl; health = λ i. refl; ready = λ i. refl; current = refl }
+
+pub quiet-fed : (g : Setup) (device byte : ℕ) (t : Turn) → IsChosenAlike g t.state (fed device byte t).state
+quiet-fed g device byte t =
+    let same = ready-fed device byte t in
+    record { next = chosen_same g t.state _ same; ready = same.ready; down = same-down t.state _ same }
+
 current-down : (s : State) (c : ℕ) → is_down record s { current = c } ≡ is_down s
 unfolding task_at
 current-down s c = refl
@@ -93,12 +110,6 @@ current-down s c = refl
 quiet-idle : (level : Level) (t : Turn) → (noted_at level note.Idle t).notes ≡ [] → IsAsReady t.state (noted_at level note.Idle t).state
 quiet-idle Calls t none = ready_same t.state
 quiet-idle All t none = absurd (noted-noted note.Idle t none)
-
--- who is ready, who is chosen next, and whether the supervisor has faulted, as in another state
-pub record IsChosenAlike (g : Setup) (s u : State) : Type 0 where
-  pub next : chosen g u ≡ chosen g s
-  pub ready : (i : ℕ) → is_ready u i ≡ is_ready s i
-  pub down : is_down u ≡ is_down s
 
 -- the choice after the events is the one after the turn
 pub quiet-turn : (level : Level) (x : Scenario) (s : State) → Sane x.setup (after_events x s).state → (turn level x s).notes ≡ [] → IsChosenAlike x.setup (after_events x s).state (turn level x s).state

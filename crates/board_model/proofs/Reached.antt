@@ -2,25 +2,23 @@
 use Rattle.std.proofs.Common.{◌≡◌, ℕ, List, [], ◌∷◌, Option, Some, None, refl, sym, ◌∙◌, ap, subst}
 use Rattle.std.specs.Prelude.{fold}
 use Rattle.kernel_abi.specs.Devices.{DeviceData}
-use Rattle.kernel_abi.specs.declared.Note.{Note}
 use Rattle.kernel_abi.specs.declared.Note.TheVariants as note
 use Rattle.run_script.specs.declared.events.Event.{Event}
 use Rattle.run_script.specs.declared.events.Event.TheVariants.{Tick, Irq, Feed}
 use Rattle.run_script.specs.Scripts.{events_of}
 use Rattle.task_table.specs.State.{Setup, State, Turn}
 use Rattle.task_table.specs.Reading.{chosen}
-use Rattle.task_table.specs.Effects.{noted, with_devices, clocked}
-use Rattle.task_table.specs.Events.{ticked, interrupted, fed}
+use Rattle.task_table.specs.Effects.{noted, with_devices}
+use Rattle.task_table.specs.Events.{fed}
 use Rattle.task_table.specs.Grounds.{AreReached}
 use Rattle.task_table.specs.Start.{begun}
 use Rattle.task_table.specs.Sane.{Sane}
 use Rattle.task_table.proofs.Outside.{devices-ticked, aside-interrupted}
 use Rattle.task_table.proofs.Reaching.{chain_reaches}
 use Rattle.board_model.specs.declared.outcomes.Level.{Level}
-use Rattle.board_model.specs.declared.outcomes.Level.TheVariants.{Calls, All}
 use Rattle.board_model.specs.Script.{Scenario}
 use Rattle.board_model.specs.Lifetimes.{devices_after}
-use Rattle.board_model.specs.Turn.{happened, after_events, turn_of, noted_at, ended, turn}
+use Rattle.board_model.specs.Turn.{happened, after_events, turn_of, ended, turn}
 use Rattle.board_model.proofs.TurnChains.{sane-after_events, turn_chain, noted_state}
 
 -- ## events

@@ -4,9 +4,10 @@ use Rattle.std.specs.Prelude.{Contains, fold, find, Result, Ok, Err, option_map}
 use Rattle.std.specs.List.{range_with_len, list_any}
 use Rattle.std.proofs.lemmas.List.Elements.{Contains-append_cases}
 use Rattle.std.proofs.lemmas.Bool.{leb-true, false≢true}
-use Rattle.std.proofs.lemmas.Bool.Decides.{eqb_tells}
+use Rattle.std.proofs.lemmas.Bool.Decides.{nat_tests, eqb_tells}
 use Rattle.kernel_abi.specs.declared.Fault.{Fault}
 use Rattle.kernel_abi.specs.declared.Given.{Given}
+use Rattle.kernel_abi.proofs.Devices.{given_inside}
 use Rattle.kernel_abi.specs.Devices.{DeviceData, devices_stored, devices_loaded, device_out, device_number, device_at, offset_in, looked, behind}
 use Rattle.kernel_abi.specs.declared.Note.{Note}
 use Rattle.kernel_abi.specs.declared.Note.TheVariants as note
@@ -174,6 +175,10 @@ ram_stored : (on : Ground) (at : ℕ) (bytes : List ℕ) (v : Turn) → IsWithin
 unfolding stored
 ram_stored on at bytes v within = length-with_bytes v.state.memory at bytes within
 
+-- one of the devices that there may be
+may_give : (k : ℕ) → k < 8 → ltb k 8 ≡ true
+may_give k h = grind (arith, nat_tests)
+
 -- ## an instruction
 
 -- by steps, to a sane state with as many bytes of RAM
@@ -186,14 +191,14 @@ module _ (g : Setup) (s : State) (c : ℕ) (inside : c < length g.tasks) where
   unfolding with_devices
   reach_chain devices v h same reached = (one (Reaches devices v reached), sane-reached c devices v h reached, same)
 
-  out_chain : (o : Option Given) (v w : Turn) → Came g s c v w → Came g s c v (given_out o w)
+  out_chain : (o : Option Given) (v w : Turn) → ((x : Given) → o ≡ Some x → x.device < 8) → Came g s c v w → Came g s c v (given_out o w)
   unfolding noted
-  out_chain None v w k = k
-  out_chain (Some x) v w k = (k.0 ▷ Notes (note.Out x.device x.byte) w refl, keeps-noted (note.Out x.device x.byte) w k.1, k.2)
+  out_chain None v w few k = k
+  out_chain (Some x) v w few k = (k.0 ▷ Notes (note.Out x.device x.byte) w (may_give x.device (few x refl)), keeps-noted (note.Out x.device x.byte) w k.1, k.2)
 
   device_store_chain : (a value : ℕ) (v : Turn) → Sane g v.state → length v.state.memory.ram ≡ length s.memory.ram → MayUse g c Write a → Came g s c v (device_stored a value v)
   unfolding device_stored
-  device_store_chain a value v h same may = out_chain (device_out v.state.devices a value) v _ (reach_chain (devices_stored v.state.devices a) v h same (inr (a, may, refl)))
+  device_store_chain a value v h same may = out_chain (device_out v.state.devices a value) v _ (λ x e. let inside = given_inside v.state.devices a value x e in let few = h.steady.devices.few in omega arith) (reach_chain (devices_stored v.state.devices a) v h same (inr (a, may, refl)))
 
   device_take_chain : (a : ℕ) (v : Turn) → Sane g v.state → length v.state.memory.ram ≡ length s.memory.ram → MayUse g c Read a → Came g s c v (device_taken a v)
   unfolding device_taken

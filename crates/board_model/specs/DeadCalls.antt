@@ -30,7 +30,7 @@ pub record MakesCall (x : Scenario) (s : State) (c : ℕ) (call : Syscall) : Typ
   pub calls : Calls call c (after_events x s)
 
 -- u is s but that task c has these results from r4 on and is past its system call: every other task, the open calls, the
--- listens, the memory, the time, the lines and the number of the next call are as they were
+-- listens, the memory, the devices, the time, the lines and the number of the next call are as they were
 pub record IsSameButForResults (c : ℕ) (values : List ℕ) (s u : State) : Type 0 where
   pub caller : task_at u c ≡ record (task_at s c) { registers = (task_at u c).registers }
   pub registers : (task_at u c).registers ≡ slice_set (with_results values (task_at s c).registers) program_counter ((register s c program_counter + 2) % 2 ^ 32)
@@ -38,6 +38,7 @@ pub record IsSameButForResults (c : ℕ) (values : List ℕ) (s u : State) : Typ
   pub calls : u.calls ≡ s.calls
   pub listens : u.listens ≡ s.listens
   pub memory : u.memory ≡ s.memory
+  pub devices : u.devices ≡ s.devices
   pub now : u.now ≡ s.now
   pub lines : u.lines ≡ s.lines
   pub next_call : u.next_call ≡ s.next_call

@@ -4,6 +4,7 @@ ghost use Rattle.std.specs.Prelude.{◌≡◌, ◌≢◌, ◌+◌, ◌<◌, ◌�
 ghost use Rattle.kernel_abi.specs.declared.Fault.{Fault};
 ghost use Rattle.kernel_abi.specs.declared.Note.{Note};
 ghost use Rattle.run_script.specs.declared.events.Event.{Event};
+ghost use Rattle.run_script.specs.declared.events.Event.TheVariants.{Feed};
 ghost use Rattle.run_script.specs.Scripts.{ScriptData, IsNext, events_of};
 ghost use Rattle.thumb_insn.specs.declared.Insn.{Insn};
 ghost use Rattle.thumb_insn.specs.Range.{IsCoded};
@@ -57,6 +58,14 @@ pub fn turns_without_notes_keep_the_choice()
     ensures down { (level : Detail) (x : Scenario) (s : State) → Sane x.setup s → (turn level x s).notes ≡ [] → is_down (turn level x s).state ≡ is_down (after_events x s).state }
 {}
 
+/// A byte that comes for a device leaves the choice: each task is as ready as before, the same one is chosen, and the
+/// supervisor has faulted just where it had.
+pub fn bytes_for_devices_keep_the_choice()
+    ensures ready { (g : Setup) (device byte i : ℕ) (t : Turn) → is_ready (happened g t (Feed device byte)).state i ≡ is_ready t.state i }
+    ensures next { (g : Setup) (device byte : ℕ) (t : Turn) → chosen g (happened g t (Feed device byte)).state ≡ chosen g t.state }
+    ensures down { (g : Setup) (device byte : ℕ) (t : Turn) → is_down (happened g t (Feed device byte)).state ≡ is_down t.state }
+{}
+
 /// A turn writes on its grounds alone, touches no call but those that are open or that it offers, and leaves alone what is
 /// closed. (Hubris Reference: IPC, leases.)
 pub fn turns_stand_on_their_grounds()
@@ -77,8 +86,8 @@ pub fn runs_keep_a_ledger()
     ensures { (level : Detail) (x : Scenario) (n : ℕ) → Sane x.setup (start_of x) → IsLedgerOfRun level x n }
 {}
 
-/// A fault changes nothing else. Where an instruction or a system call faults the task that was chosen, memory and all the
-/// registers and flags of the task are after the turn as they were after its events, nothing was written for another
+/// A fault changes nothing else. Where an instruction or a system call faults the task that was chosen, memory, the devices and
+/// all the registers and flags of the task are after the turn as they were after its events, nothing was written for another
 /// task, nor read of one but entries of lease tables, and of the other tasks only task 0 changes: by the post of its
 /// fault bits. (Hubris Reference: supervision; that a refused instruction or system call takes no effect is docs/FORMATS.md.)
 pub fn faults_change_nothing_else()

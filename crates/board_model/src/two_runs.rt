@@ -32,8 +32,8 @@ pub fn instructions_are_noted_beside()
 {}
 
 /// What a turn does after its events depends on memory only where it reads: in the regions of its own task
-/// that are no device, and where it read for another task. With any memory that has the same bytes there
-/// it gives the same writes, reads and notes, and the same next state but for memory.
+/// that are no device, and where it read for another task. With the same devices and any memory that has the same bytes
+/// there it gives the same writes, reads and notes, and the same next state but for memory.
 pub fn a_turn_depends_on_what_it_reads()
     ensures { (level : Detail) (x : Scenario) (s : State) → Sane x.setup s → DependsOnReads level x s }
 {}

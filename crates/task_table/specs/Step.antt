@@ -1,13 +1,13 @@
 -- What may happen in a turn, each with what makes it good: whatever is kept by each step is kept by every call and
 -- every instruction, since each is a chain of steps.
 -- (s: the state after the events of the turn; c: the chosen task; u: what the turn has come to)
-use Rattle.std.specs.Prelude.{ℕ, ◌≡◌, ◌≢◌, ◌+◌, ◌<◌, ◌≤◌, ◌⊎◌, Bool, true, false, List, length, Option, None, Contains, IfSome, bit_and}
+use Rattle.std.specs.Prelude.{ℕ, ◌≡◌, ◌≢◌, ◌+◌, ◌<◌, ◌≤◌, ◌⊎◌, Bool, true, false, List, length, Option, None, Contains, IfSome, bit_and, nat_lt}
 use Rattle.kernel_abi.specs.Faults.{injected_fault}
 use Rattle.kernel_abi.specs.declared.Borrow.{Borrow}
 use Rattle.kernel_abi.specs.declared.Borrow.TheVariants as borrow
 use Rattle.kernel_abi.specs.declared.Ending.{Ending}
 use Rattle.kernel_abi.specs.declared.Ending.TheVariants.{Reply, ReplyFault, Client, Restart}
-use Rattle.kernel_abi.specs.Devices.{DeviceData}
+use Rattle.kernel_abi.specs.Devices.{DeviceData, device_limit}
 use Rattle.kernel_abi.specs.declared.Fault.{Fault}
 use Rattle.kernel_abi.specs.declared.Health.TheVariants.{Well}
 use Rattle.kernel_abi.specs.declared.Note.{Note}
@@ -27,7 +27,7 @@ use Rattle.task_table.specs.Counts.{AreWhole}
 use Rattle.task_table.specs.Grounds.{IsReached, MayChange, IsAlive}
 use Rattle.task_table.specs.Chain.{Chain}
 
--- a note that offers, takes, closes and borrows from no call
+-- a note that offers, takes, closes and borrows from no call; a byte comes from one of the devices that there may be
 abbrev pub is_plain : Note → Bool
 is_plain (note.Offer call client server) = false
 is_plain (note.Take call copied) = false
@@ -41,7 +41,7 @@ is_plain (note.Ret task results) = true
 is_plain (note.Fault task fault) = true
 is_plain (note.Restart task generation) = true
 is_plain (note.In device byte fed) = true
-is_plain (note.Out device byte) = true
+is_plain (note.Out device byte) = nat_lt device device_limit
 is_plain (note.IrqStatus task bits status) = true
 is_plain (note.Find index found) = true
 is_plain (note.Listen task from mask) = true
