@@ -3,12 +3,12 @@ use Rattle.std.proofs.Common.{◌≡◌, ◌≤◌, ℕ, zero, suc, List, [], �
 use Rattle.kernel_abi.specs.declared.Note.{Note}
 use Rattle.task_table.specs.State.{State, Turn}
 use Rattle.task_table.specs.Reading.{chosen}
-use Rattle.task_table.specs.Start.{begun, start}
+use Rattle.task_table.specs.Start.{begun}
 use Rattle.task_table.specs.Sane.{Sane}
 use Rattle.board_model.specs.declared.outcomes.End.{End}
 use Rattle.board_model.specs.declared.outcomes.End.TheVariants.{Bound}
 use Rattle.board_model.specs.declared.outcomes.Level.{Level}
-use Rattle.board_model.specs.Script.{Scenario}
+use Rattle.board_model.specs.Script.{Scenario, start_of}
 use Rattle.board_model.specs.Turn.{after_events, with_current, stepped, with_registers_noted, turn_of, ended, turn}
 use Rattle.board_model.specs.Run.{run, ending, ended_at, with_front, unless, at_turn}
 use Rattle.board_model.specs.Lifetimes.{notes_in}
@@ -85,8 +85,8 @@ module _ (level : Level) (x : Scenario) where
           let r = run level x n (turn level x s).state in
           subst (λ ms. IsSpoken ms r.last) (append_assoc old ns (notes_in r.notes) ∙ ap (λ ms. old ++ ms) (ap (λ ms. ms ++ notes_in r.notes) (sym (front_notes s.turn ns)) ∙ sym (joined_notes (at_turn s.turn ns) r.notes))) k
 
-  pub run_spoken : (n : ℕ) → Sane x.setup (start x.setup) → IsSpoken (notes_in (run level x n (start x.setup)).notes) (run level x n (start x.setup)).last
-  run_spoken n h = spoken_run n (start x.setup) [] h (spoken_start x.setup)
+  pub run_spoken : (n : ℕ) → Sane x.setup (start_of x) → IsSpoken (notes_in (run level x n (start_of x)).notes) (run level x n (start_of x)).last
+  run_spoken n h = spoken_run n (start_of x) [] h (spoken_start x.setup x.devices)
 
   -- the notes of a run from a state are of turns from its own on
   pub run_in_order : (n last : ℕ) (s : State) → Sane x.setup s → last ≤ s.turn → AreInOrder last (run level x n s).notes

@@ -5,6 +5,7 @@ use Rattle.std.specs.BTreeMap.{is_at}
 use Rattle.std.specs.Ordering.{nat_cmp}
 use Rattle.std.proofs.lemmas.Bool.{false≢true}
 use Rattle.std.proofs.lemmas.Bool.Decides.{nat_tests, eqb_tells}
+use Rattle.kernel_abi.specs.Devices.{DeviceData}
 use Rattle.kernel_abi.specs.declared.Ending.{Ending}
 use Rattle.kernel_abi.specs.declared.Ending.TheVariants as ending
 use Rattle.kernel_abi.specs.declared.Note.{Note}
@@ -252,10 +253,10 @@ move_spoken g s c old _ _ (Offers k u new) h = offered_spoken s c old k u new h
 move_spoken g s c old _ _ (Takes on k buffer u t) h = taken_spoken g s c old on k buffer u t h
 move_spoken g s c old _ _ (Closes i e u ends) h = closed_spoken old i e u ends h
 
--- at the start nothing was said
-pub spoken_start : (g : Setup) → IsSpoken [] (start g)
+-- at the start nothing was said, whatever devices there are
+pub spoken_start : (g : Setup) (devices : List DeviceData) → IsSpoken [] record (start g) { devices = devices }
 unfolding start
-spoken_start g = record {
+spoken_start g devices = record {
   kept = none;
   held = λ i. refl;
   next = refl;

@@ -8,9 +8,8 @@ use Rattle.board_run.specs.Timers.{HasFitTimers}
 use Rattle.audit_laws.specs.Whole.{joined}
 use Rattle.board_run.specs.Text.{trace_text}
 use Rattle.board_model.specs.declared.outcomes.Level.{Level}
-use Rattle.board_model.specs.Script.{Scenario}
+use Rattle.board_model.specs.Script.{Scenario, start_of}
 use Rattle.board_model.specs.Run.{run}
-use Rattle.task_table.specs.Start.{start}
 use Rattle.trace_text.specs.Fit.{AreFit}
 use Rattle.trace_audit.specs.Rules.{IsGood}
 use Rattle.trace_audit.specs.Texts.{lines_of}
@@ -41,4 +40,4 @@ pub record IsGoodText (text : List ℕ) : Type 0 where
 
 -- so is the text of a run from the start with what is shown behind it, where the numbers of its notes and of its last state are in range
 abbrev pub IsGoodRun : Level → Scenario → ℕ → Type 0
-IsGoodRun level x n = let r = run level x n (start x.setup) in (more : List ℕ) → IsFitLast r.last → AreFit r.notes → IsShown more → IsGoodText (trace_text r ++ more)
+IsGoodRun level x n = let r = run level x n (start_of x) in (more : List ℕ) → IsFitLast r.last → AreFit r.notes → IsShown more → IsGoodText (trace_text r ++ more)

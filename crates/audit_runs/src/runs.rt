@@ -1,9 +1,8 @@
 //! The notes of a run.
 ghost use Rattle.std.specs.Prelude.{ℕ};
 ghost use Rattle.task_table.specs.Sane.{Sane};
-ghost use Rattle.task_table.specs.Start.{start};
 ghost use Rattle.board_model.specs.declared.outcomes.Level.{Level};
-ghost use Rattle.board_model.specs.Script.{Scenario};
+ghost use Rattle.board_model.specs.Script.{Scenario, start_of};
 ghost use Rattle.board_model.specs.Run.{run};
 ghost use Rattle.board_model.specs.Lifetimes.{notes_in};
 ghost use Rattle.audit_laws.specs.Whole.{AreInOrder, AreRight};
@@ -12,8 +11,8 @@ ghost use Rattle.audit_runs.specs.Spoken.{IsSpoken};
 /// What the notes of a run from the start say of calls is good and agrees with the calls that are open at its end, and their turns
 /// do not fall; an instruction is noted with the code of one, and for information nothing moves.
 pub fn runs_say_what_is_good()
-    ensures spoken { (level : Level) (x : Scenario) (n : ℕ) → Sane x.setup (start x.setup)
-        → IsSpoken (notes_in (run level x n (start x.setup)).notes) (run level x n (start x.setup)).last }
-    ensures order { (level : Level) (x : Scenario) (n : ℕ) → Sane x.setup (start x.setup) → AreInOrder 0 (run level x n (start x.setup)).notes }
-    ensures right { (level : Level) (x : Scenario) (n : ℕ) → Sane x.setup (start x.setup) → AreRight (run level x n (start x.setup)).notes }
+    ensures spoken { (level : Level) (x : Scenario) (n : ℕ) → Sane x.setup (start_of x)
+        → IsSpoken (notes_in (run level x n (start_of x)).notes) (run level x n (start_of x)).last }
+    ensures order { (level : Level) (x : Scenario) (n : ℕ) → Sane x.setup (start_of x) → AreInOrder 0 (run level x n (start_of x)).notes }
+    ensures right { (level : Level) (x : Scenario) (n : ℕ) → Sane x.setup (start_of x) → AreRight (run level x n (start_of x)).notes }
 {}

@@ -2,9 +2,8 @@
 ghost use Rattle.std.specs.Prelude.{ℕ, List, [], ◌++◌};
 ghost use Rattle.task_table.specs.State.{Setup, State};
 ghost use Rattle.task_table.specs.Sane.{Sane};
-ghost use Rattle.task_table.specs.Start.{start};
 ghost use Rattle.board_model.specs.declared.outcomes.Level.{Level};
-ghost use Rattle.board_model.specs.Script.{Scenario};
+ghost use Rattle.board_model.specs.Script.{Scenario, start_of};
 ghost use Rattle.board_model.specs.Run.{Run};
 ghost use Rattle.board_model.specs.Lifetimes.{notes_in};
 ghost use Rattle.board_run.specs.Text.{trace_text};
@@ -27,5 +26,5 @@ pub fn texts_of_runs_are_good()
     ensures any { (g : Setup) (r : Run) (more : List ℕ) → Sane g r.last → IsFitLast r.last → IsShown more
         → AreInOrder 0 r.notes → AreFit r.notes → AreRight r.notes → IsSpoken (notes_in r.notes) r.last
         → IsGoodText (trace_text r ++ more) }
-    ensures runs { (level : Level) (x : Scenario) (n : ℕ) → Sane x.setup (start x.setup) → IsGoodRun level x n }
+    ensures runs { (level : Level) (x : Scenario) (n : ℕ) → Sane x.setup (start_of x) → IsGoodRun level x n }
 {}

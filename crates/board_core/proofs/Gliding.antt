@@ -26,7 +26,7 @@ use Rattle.board_model.proofs.Outside.{nothing_due, due_later, no_event, begun_s
 use Rattle.board_core.proofs.Turning.{HasTurned, rested, stands_after, choice_kept, few_events}
 
 pub current_seen : (g : Setup) (m : Machine) (t : Turn) → IsReady g m t → current_of m.reach.kernel ≡ t.state.current
-current_seen g m t r = let rest = rest_of r.holds.saved t m.processor r.holds.is in r.holds.holds.current ∙ sym rest.current
+current_seen g m t r = let rest = rest_of r.holds.saved t m.processor r.holds.is in r.holds.holds.kernel.current ∙ sym rest.current
 
 -- ## a turn in which nothing is due
 

@@ -2,6 +2,7 @@ pub mod Choosing
 pub mod WindowCovers
 pub mod WindowTurns
 pub mod Running
+pub mod Reaching
 pub mod Opens
 pub mod Loading
 pub mod Viewing
@@ -12,6 +13,6 @@ pub mod Noting
 pub mod SyscallRows
 pub mod Fetching
 pub mod Windowing
-pub mod Loners
+pub mod ListedLoners
 pub mod Told
 pub mod KeptAlike

@@ -1,56 +1,62 @@
 -- What the executor says over the bus is the turn's instruction.
-use Rattle.std.proofs.Common.{◌≡◌, ℕ, List, [], ◌∷◌, refl, ◌∙◌, ap}
+use Rattle.std.proofs.Common.{◌≡◌, ℕ, List, [], ◌∷◌, cond, refl, ◌∙◌, ap}
 use Rattle.std.specs.Prelude.{fold}
 use Rattle.kernel_abi.specs.declared.Fault.{Fault}
 use Rattle.thumb_insn.specs.declared.Insn.{Insn}
 use Rattle.thumb_exec.specs.declared.cpu.Cpu.{Cpu}
 use Rattle.thumb_exec.specs.declared.cpu.Outcome.{Outcome}
 use Rattle.thumb_exec.specs.declared.cpu.Outcome.TheVariants as outcome
+use Rattle.kernel_abi.specs.Devices.{DeviceData, device_number}
 use Rattle.thumb_exec.specs.Effect.{Effect, Next, Syscall, Trap, Move, Puts, Takes, Moves, Acts, effect}
 use Rattle.task_table.specs.declared.kernel.Kernel.{Kernel}
-use Rattle.mem_banks.specs.Memory.{Memory, number_at}
 use Rattle.task_table.specs.State.{Setup, State, Turn}
 use Rattle.task_table.specs.Reading.{task_at}
 use Rattle.task_table.specs.Holds.{Holds, Stands, setup_of, current_of, memory_of, notes_of, kept_of, note_count}
+use Rattle.mem_banks.specs.Memory.{Memory, number_at}
 use Rattle.task_table.specs.Start.{begun, start}
 use Rattle.task_table.specs.Sane.{Sane}
 use Rattle.task_table.proofs.Steps.{holds_turn}
 use Rattle.board_core.specs.declared.reach.Reach.{Reach}
-use Rattle.board_model.specs.Turn.{refusals, cpu_of, put, moved}
-use Rattle.board_core.specs.Machine.{IsStored}
+use Rattle.board_model.specs.Turn.{refusals, is_device, or_zero, held, cpu_of, put, took, moved}
+use Rattle.board_core.specs.Machine.{ReachHolds, IsStored, IsTaken, shown_by}
 use Rattle.board_core.specs.declared.choice.Choice.{Choice}
 use Rattle.board_core.specs.Kept.{IsChoice}
 
 -- what the bus says of a store
 abbrev pub stored_by : Reach → ℕ → ℕ → ℕ → Reach → Type 0
-stored_by m a n v m' = IsStored m.kernel a n v m'.kernel
+stored_by m a n v m' = IsStored m a n v m'
 
 -- what it says of a load
 abbrev pub taken_by : Reach → ℕ → Reach → Type 0
-taken_by m a m' = m' ≡ m
+taken_by m a m' = IsTaken m a m'
 
 -- ## moves through the bus are the turn's
 
-pub moves_hold : (ms : List Move) (m m' : Reach) → Moves stored_by taken_by m ms m' → (g : Setup) (t : Turn) → Holds g m.kernel t → Holds g m'.kernel (fold moved t ms)
+pub moves_hold : (ms : List Move) (m m' : Reach) → Moves stored_by taken_by m ms m' → (g : Setup) (t : Turn) → ReachHolds g m t → ReachHolds g m' (fold moved t ms)
 moves_hold [] m m' e g t h = rw e h
 moves_hold (Puts x ∷ xs) m m' e g t h = moves_hold xs e.0 m' e.2 g (put t x) (e.1.holds g t h)
-moves_hold (Takes a n ∷ xs) m m' e g t h = moves_hold xs e.0 m' e.2 g t (rw e.1 h)
+moves_hold (Takes a n ∷ xs) m m' e g t h = moves_hold xs e.0 m' e.2 g (took t a) (e.1.holds g t h)
 
 pub moves_notes : (ms : List Move) (m m' : Reach) → Moves stored_by taken_by m ms m' → note_count m'.kernel ≡ note_count m.kernel
 moves_notes [] m m' e = ap (λ (n : Reach). note_count n.kernel) e
 moves_notes (Puts x ∷ xs) m m' e = moves_notes xs e.0 m' e.2 ∙ e.1.notes
-moves_notes (Takes a n ∷ xs) m m' e = moves_notes xs e.0 m' e.2 ∙ ap (λ (n : Reach). note_count n.kernel) e.1
+moves_notes (Takes a n ∷ xs) m m' e = moves_notes xs e.0 m' e.2 ∙ ap (λ (k : Kernel). note_count k) e.1.kernel
 
 -- ## what came of an instruction
 
+-- what bytes hold, by the memory and the devices
+abbrev pub held_in : Memory → List DeviceData → ℕ → ℕ → ℕ
+held_in m ds a n = cond (is_device a) (or_zero (device_number ds a n)) (number_at m a n)
+
 -- the effect by the bus is the effect by the turn
-pub effect_here : (g : Setup) (t : Turn) (k : Kernel) (cpu : Cpu) (insn : Insn) → setup_of k ≡ g → current_of k ≡ t.state.current → memory_of k ≡ t.state.memory → cpu ≡ cpu_of (task_at t.state t.state.current) →
-    effect (refusals (setup_of k) (current_of k)) (number_at (memory_of k)) cpu insn ≡ effect (refusals g t.state.current) (number_at t.state.memory) (cpu_of (task_at t.state t.state.current)) insn
-effect_here g t k cpu insn setup current memory same =
-    ap (λ (x : Setup). effect (refusals x (current_of k)) (number_at (memory_of k)) cpu insn) setup
-    ∙ ap (λ (c : ℕ). effect (refusals g c) (number_at (memory_of k)) cpu insn) current
-    ∙ ap (λ (m : Memory). effect (refusals g t.state.current) (number_at m) cpu insn) memory
-    ∙ ap (λ (c : Cpu). effect (refusals g t.state.current) (number_at t.state.memory) c insn) same
+pub effect_here : (g : Setup) (t : Turn) (r : Reach) (cpu : Cpu) (insn : Insn) → setup_of r.kernel ≡ g → current_of r.kernel ≡ t.state.current → memory_of r.kernel ≡ t.state.memory → [] ≡ t.state.devices → cpu ≡ cpu_of (task_at t.state t.state.current) →
+    effect (refusals (setup_of r.kernel) (current_of r.kernel)) (shown_by r) cpu insn ≡ effect (refusals g t.state.current) (held t.state) (cpu_of (task_at t.state t.state.current)) insn
+effect_here g t r cpu insn setup current memory devices same =
+    ap (λ (x : Setup). effect (refusals x (current_of r.kernel)) (shown_by r) cpu insn) setup
+    ∙ ap (λ (c : ℕ). effect (refusals g c) (shown_by r) cpu insn) current
+    ∙ ap (λ (m : Memory). effect (refusals g t.state.current) (held_in m []) cpu insn) memory
+    ∙ ap (λ (ds : List DeviceData). effect (refusals g t.state.current) (held_in t.state.memory ds) cpu insn) devices
+    ∙ ap (λ (c : Cpu). effect (refusals g t.state.current) (held t.state) c insn) same
 
 pub record WasNext (c' : Cpu) (m m' : Reach) (e : Effect) : Type 0 where
   pub processor : Cpu
@@ -97,7 +103,15 @@ between g k u n h =
       next_call = h1.next_call;
     }
 
+-- the start, without a device
+abbrev pub started : Setup → State
+started g = record (start g) { devices = [] }
+
+pub started_same : (g : Setup) → start g ≡ started g
+unfolding start
+started_same g = refl
+
 -- a kernel at the start of a run stands for the start, between turns
-pub opened : (g : Setup) (k : Kernel) → Stands g k (begun (start g)) → Holds g k record { state = start g; notes = notes_of k; writes = []; reads = [] } × Sane g (start g) × (0 ≡ (start g).turn)
+pub opened : (g : Setup) (k : Kernel) → Stands g k (begun (start g)) → Holds g k record { state = started g; notes = notes_of k; writes = []; reads = [] } × Sane g (started g) × (0 ≡ (started g).turn)
 unfolding begun start
 opened g k h = (between g k (begun (start g)) 0 h.holds, h.sane, refl)

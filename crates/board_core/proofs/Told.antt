@@ -16,15 +16,16 @@ use Rattle.board_model.specs.Script.{Scenario}
 use Rattle.board_core.specs.declared.board.Board.{Board}
 use Rattle.board_core.specs.declared.choice.Choice.{Choice}
 use Rattle.board_core.specs.Kept.{IsChoice}
+use Rattle.board_core.specs.Machine.{ReachHolds}
 use Rattle.board_core.specs.Setting.{with_flash}
 use Rattle.board_core.specs.Stands.{Holds}
 use Rattle.board_core.proofs.Loading.{unloaded_by}
 use Rattle.board_core.proofs.Turning.{rested, rested_as}
 
--- its kernel holds the state, and has all contexts; the turn and what is known of the events are as they were
-pub holds_told : (x y : Scenario) (s u : State) (b b' : Board) → Holds x b s → y.script ≡ x.script → u.turn ≡ s.turn → KernelHolds y.setup b'.machine.reach.kernel (rested b.machine u) → b'.machine.loaded ≡ false → IsChoice y.setup u b'.choice → b'.turns ≡ b.turns → b'.script ≡ b.script → b'.due ≡ b.due → Holds y b' u
-holds_told x y s u b b' h same turn kernel unloaded choice turns script due = record {
-  machine = rested_as y.setup b.machine b'.machine u (unloaded_by b'.machine.loaded y.setup b'.machine.reach.kernel b'.machine.processor (rested b.machine u) unloaded kernel);
+-- its kernel holds the state, and has all contexts; the devices, the turn and what is known of the events are as they were
+pub holds_told : (x y : Scenario) (s u : State) (b b' : Board) → Holds x b s → y.script ≡ x.script → u.turn ≡ s.turn → ReachHolds y.setup b'.machine.reach (rested b.machine u) → b'.machine.loaded ≡ false → IsChoice y.setup u b'.choice → b'.turns ≡ b.turns → b'.script ≡ b.script → b'.due ≡ b.due → Holds y b' u
+holds_told x y s u b b' h same turn reach unloaded choice turns script due = record {
+  machine = rested_as y.setup b.machine b'.machine u (unloaded_by b'.machine.loaded y.setup b'.machine.reach b'.machine.processor (rested b.machine u) unloaded reach);
   turns = turns ∙ h.turns ∙ sym turn;
   choice = choice;
   script = rw (script, same) h.script;
@@ -41,23 +42,34 @@ choice_stays g s c flash memory turn time next_call lines h = record {
   down = h.down;
 }
 
-open_turn : (c : Call) (s : State) → (with_open_call c s).turn ≡ s.turn
+-- the turn's number and the devices are as they were
+record IsSameRound (s u : State) : Type 0 where
+  turn : u.turn ≡ s.turn
+  devices : u.devices ≡ s.devices
+
+open_round : (c : Call) (s : State) → IsSameRound s (with_open_call c s)
 unfolding with_open_call
-open_turn c s = refl
+open_round c s = record { turn = refl; devices = refl }
 
-listen_turn : (l : Listen) (s : State) → (with_listen l s).turn ≡ s.turn
+listen_round : (l : Listen) (s : State) → IsSameRound s (with_listen l s)
 unfolding with_listen
-listen_turn l s = refl
+listen_round l s = record { turn = refl; devices = refl }
 
--- a task that is told leaves the turn's number
-pub turn-with_slot : (i : ℕ) (slot : Slot) (s : State) → (with_slot i slot s).turn ≡ s.turn
+-- a task that is told leaves them
+round-with_slot : (i : ℕ) (slot : Slot) (s : State) → IsSameRound s (with_slot i slot s)
 unfolding with_slot with_task without_call without_listen
-turn-with_slot i slot s = by_wait slot.wait _
+round-with_slot i slot s = let h = by_wait slot.wait _ in record { turn = h.turn; devices = h.devices }
   where
-    by_wait : (w : Wait) (u : State) → (with_wait i w u).turn ≡ u.turn
-    by_wait (wait.Call c) u = open_turn (call_told c) u
-    by_wait (wait.Listen l) u = listen_turn (listen_told i l) u
-    by_wait wait.Nothing u = refl
+    by_wait : (w : Wait) (u : State) → IsSameRound u (with_wait i w u)
+    by_wait (wait.Call c) u = open_round (call_told c) u
+    by_wait (wait.Listen l) u = listen_round (listen_told i l) u
+    by_wait wait.Nothing u = record { turn = refl; devices = refl }
+
+pub turn-with_slot : (i : ℕ) (slot : Slot) (s : State) → (with_slot i slot s).turn ≡ s.turn
+turn-with_slot i slot s = (round-with_slot i slot s).turn
+
+pub devices-with_slot : (i : ℕ) (slot : Slot) (s : State) → (with_slot i slot s).devices ≡ s.devices
+devices-with_slot i slot s = (round-with_slot i slot s).devices
 
 -- the flash with a byte set, and of a byte of the RAM it is the image's
 pub flash_set : (g : Setup) (k k' : Kernel) (t : Turn) (a : ℕ) (bytes : List ℕ) → KernelHolds g k t → memory_of k' ≡ with_bytes (memory_of k) a bytes → (memory_of k').flash ≡ (with_bytes t.state.memory a bytes).flash

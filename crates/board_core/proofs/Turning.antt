@@ -28,7 +28,7 @@ abbrev pub rested : Machine → State → Turn
 rested m s = record { state = s; notes = notes_of m.reach.kernel; writes = []; reads = [] }
 
 pub noted_in : (g : Setup) (m : Machine) (t : Turn) → MachineHolds g m t → notes_of m.reach.kernel ≡ t.notes
-noted_in g m t h = let w = rest_held m.loaded g m.reach.kernel m.processor t h in w.holds.notes ∙ sym w.rest.notes
+noted_in g m t h = let w = rest_held m.loaded g m.reach m.processor t h in w.holds.notes ∙ sym w.rest.notes
 
 some_left : (x : Note) (xs : List Note) → length (x ∷ xs) ≡ 0 → ⊥
 some_left x xs e = omega arith
@@ -57,7 +57,7 @@ module _ (level : Level) (x : Scenario) (s : State) (m : Machine) where
   stands_after sane h =
       let t = after_events x s in
       let u : Turn = turn_of level x.setup (chosen x.setup t.state) t in
-      record { holds = between_by m.loaded x.setup m.reach.kernel m.processor u (u.state.turn + 1) h; sane = sane-after level x s sane }
+      record { holds = between_by m.loaded x.setup m.reach m.processor u (u.state.turn + 1) h; sane = sane-after level x s sane }
 
   pub turn_notes : HasTurned → notes_of m.reach.kernel ≡ (turn level x s).notes
   unfolding turn ended

@@ -3,13 +3,13 @@ use Rattle.std.proofs.Common.{◌≡◌, ◌≢◌, ◌⊎◌, inl, inr, ◌%◌
 use Rattle.std.specs.Option.{option_map}
 use Rattle.std.proofs.lemmas.Bool.{false≢true}
 use Rattle.thumb_exec.specs.declared.cpu.Cpu.{Cpu}
-use Rattle.task_table.specs.declared.kernel.Kernel.{Kernel}
 use Rattle.task_table.specs.State.{Setup, Task, Turn}
 use Rattle.task_table.specs.Reading.{task_at}
 use Rattle.task_table.specs.Effects.{with_task, with_processor}
 use Rattle.task_table.specs.Holds.{Holds, current_of}
 use Rattle.task_table.proofs.Changes.{task_at-with_task, task_at-with_task_other, call_of-with_task, listen_of-with_task, length-with_task}
 use Rattle.board_core.specs.declared.views.TaskView.{TaskView}
+use Rattle.board_core.specs.declared.reach.Reach.{Reach}
 use Rattle.board_core.specs.Views.{IsTask}
 use Rattle.board_core.specs.Machine.{with_cpu, IsLoaded, HoldsBy}
 
@@ -52,18 +52,18 @@ own_at cpu s v b =
     }
 
 -- no context is loaded, or that of another task
-pub other_view : (loaded : Bool) (g : Setup) (k : Kernel) (cpu : Cpu) (t : Turn) (i : ℕ) (v : TaskView) → (loaded ≡ false) ⊎ (current_of k ≢ i) → HoldsBy loaded g k cpu t → ((u : Turn) → Holds g k u → IsTask u.state i v) → IsTask t.state i v
-other_view false g k cpu t i v d h f = f t h
-other_view true g k cpu t i v (inl e) h f = absurd (false≢true (sym e))
-other_view true g k cpu t i v (inr ne) h f =
+pub other_view : (loaded : Bool) (g : Setup) (r : Reach) (cpu : Cpu) (t : Turn) (i : ℕ) (v : TaskView) → (loaded ≡ false) ⊎ (current_of r.kernel ≢ i) → HoldsBy loaded g r cpu t → ((u : Turn) → Holds g r.kernel u → IsTask u.state i v) → IsTask t.state i v
+other_view false g r cpu t i v d h f = f t h.kernel
+other_view true g r cpu t i v (inl e) h f = absurd (false≢true (sym e))
+other_view true g r cpu t i v (inr ne) h f =
     let P : Turn → Type 0 = λ u. IsTask u.state i v in
-    subst P (sym h.is) (other_at cpu h.saved i v (λ e. ne (h.holds.current ∙ sym e)) (f h.saved h.holds))
+    subst P (sym h.is) (other_at cpu h.saved i v (λ e. ne (h.holds.kernel.current ∙ sym e)) (f h.saved h.holds.kernel))
 
 -- it is this one's
-pub own_view : (g : Setup) (k : Kernel) (cpu : Cpu) (t : Turn) (i : ℕ) (v : TaskView) → current_of k ≡ i → IsLoaded g k cpu t → ((u : Turn) → Holds g k u → IsTask u.state i v) → IsTask t.state i record v { regs = cpu.regs.words; flags = cpu.flags }
-own_view g k cpu t i v e h f =
-    let same : h.saved.state.current ≡ i = sym h.holds.current ∙ e in
+pub own_view : (g : Setup) (r : Reach) (cpu : Cpu) (t : Turn) (i : ℕ) (v : TaskView) → current_of r.kernel ≡ i → IsLoaded g r cpu t → ((u : Turn) → Holds g r.kernel u → IsTask u.state i v) → IsTask t.state i record v { regs = cpu.regs.words; flags = cpu.flags }
+own_view g r cpu t i v e h f =
+    let same : h.saved.state.current ≡ i = sym h.holds.kernel.current ∙ e in
     let P : Turn → Type 0 = λ u. IsTask u.state i record v { regs = cpu.regs.words; flags = cpu.flags } in
     let Q : ℕ → Type 0 = λ j. IsTask (with_cpu cpu h.saved).state j record v { regs = cpu.regs.words; flags = cpu.flags } in
     let R : ℕ → Type 0 = λ j. IsTask h.saved.state j v in
-    subst P (sym h.is) (subst Q same (own_at cpu h.saved v (subst R (sym same) (f h.saved h.holds))))
+    subst P (sym h.is) (subst Q same (own_at cpu h.saved v (subst R (sym same) (f h.saved h.holds.kernel))))

@@ -1,5 +1,5 @@
 -- What a window gives, the task's regions give too, and where it may be read it holds what memory holds.
-use Rattle.std.proofs.Common.{◌≡◌, ◌+◌, ◌-◌, ◌≤◌, ◌<◌, ℕ, Bool, true, false, not, ◌&&◌, ◌||◌, List, length, take, drop, Some, None, refl, sym, ◌∙◌, ap, arith, leb, inl, inr, ◌⊎◌}
+use Rattle.std.proofs.Common.{◌≡◌, ◌+◌, ◌-◌, ◌≤◌, ◌<◌, ℕ, zero, suc, Bool, true, false, not, cond, ◌&&◌, ◌||◌, List, length, take, drop, Some, None, refl, sym, ◌∙◌, ap, arith, leb, inl, inr, ◌⊎◌}
 use Rattle.std.proofs.lemmas.Bool.{leb-true, false≢true}
 use Rattle.region_check.specs.declared.Right.{Right}
 use Rattle.region_check.specs.declared.Right.TheVariants.{Read, Write, Execute}
@@ -7,8 +7,10 @@ use Rattle.region_check.proofs.FirstBad.{find_range_none}
 use Rattle.mem_banks.specs.Memory.{Memory, number_of, number_at}
 use Rattle.thumb_exec.specs.Fetch.{WidensFetch}
 use Rattle.thumb_step.specs.Windows.{View, has, given, number_in, refused_by, held_by}
-use Rattle.task_table.specs.State.{Setup}
-use Rattle.board_model.specs.Turn.{may, refusals}
+use Rattle.task_table.specs.Placed.{ArePlaced}
+use Rattle.task_table.specs.State.{Setup, State}
+use Rattle.board_model.specs.Turn.{may, refusals, is_device, held}
+use Rattle.board_model.proofs.Held.{no_device_below, held_in_memory, held_nothing}
 use Rattle.board_core.specs.Windowed.{IsWindow}
 use Rattle.mem_banks.proofs.Windows.{number_inside}
 
@@ -74,5 +76,39 @@ module _ (g : Setup) (c : ℕ) (m : Memory) (v : View) (w : IsWindow g c m v) wh
   flash_same : (a : ℕ) → refused_by v a 2 Execute ≡ None → held_by v a 2 ≡ number_at m a 2
   flash_same a e = held_in (has v.ram_base v.ram a 2) a 2 refl (λ no. flash_here a 2 (all_there _ a e))
 
-  pub widens : WidensFetch (refused_by v) (refusals g c) (held_by v) (number_at m)
-  widens = record { widens = record { granted = granted; same = same }; fetches = flash_same }
+-- ## no device lies in a window
+
+no_bytes : (v : View) (a : ℕ) → held_by v a 0 ≡ 0
+no_bytes v a = by_ram (has v.ram_base v.ram a 0)
+  where
+    by_ram : (b : Bool) → cond b (number_in v.ram_base v.ram a 0) (number_in v.flash_base v.flash a 0) ≡ 0
+    by_ram true = refl
+    by_ram false = refl
+
+module _ (g : Setup) (c : ℕ) (s : State) (v : View) (w : IsWindow g c s.memory v) (placed : ArePlaced g s.memory) where
+  ram_below : (a n : ℕ) → has v.ram_base v.ram a n ≡ true → a + n ≤ 0x40000000
+  ram_below a n h = let i = inside v.ram_base v.ram a n h in let room = placed.below in let there = w.in_ram in omega (arith, i.1, there.1, room)
+
+  flash_below : (a n : ℕ) → has v.flash_base v.flash a n ≡ true → a + n ≤ 0x40000000
+  flash_below a n h = let i = inside v.flash_base v.flash a n h in let there = w.in_flash in omega (arith, i.1, there.2)
+
+  -- what may be read ends below the devices
+  ends_below : (a n : ℕ) → refused_by v a n Read ≡ None → a + n ≤ 0x40000000
+  ends_below a n e = by (either (has v.ram_base v.ram a n) (v.readable && has v.flash_base v.flash a n) (all_there _ a e))
+    where
+      by : (has v.ram_base v.ram a n ≡ true) ⊎ ((has v.ram_base v.ram a n ≡ false) × ((v.readable && has v.flash_base v.flash a n) ≡ true)) → a + n ≤ 0x40000000
+      by (inl h) = ram_below a n h
+      by (inr h) = flash_below a n (both v.readable (has v.flash_base v.flash a n) h.1).1
+
+  pub loads_below : (a n : ℕ) → 0 < n → refused_by v a n Read ≡ None → is_device a ≡ false
+  loads_below a n some e = let end = ends_below a n e in no_device_below a (omega (arith, some, end))
+
+  held_same : (a n : ℕ) → refused_by v a n Read ≡ None → held_by v a n ≡ held s a n
+  held_same a zero e = no_bytes v a ∙ sym (held_nothing s a)
+  held_same a (suc n) e = same g c s.memory v w a (suc n) e ∙ sym (held_in_memory s a (suc n) (loads_below a (suc n) (omega arith) e))
+
+  fetched_same : (a : ℕ) → refused_by v a 2 Execute ≡ None → held_by v a 2 ≡ held s a 2
+  fetched_same a e = let end = flash_below a 2 (all_there _ a e) in flash_same g c s.memory v w a e ∙ sym (held_in_memory s a 2 (no_device_below a (omega (arith, end))))
+
+  pub widens : WidensFetch (refused_by v) (refusals g c) (held_by v) (held s)
+  widens = record { widens = record { granted = granted g c s.memory v w; same = held_same }; fetches = fetched_same }

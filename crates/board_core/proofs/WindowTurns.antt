@@ -1,22 +1,26 @@
 -- Instructions on end within a window are turns.
 use Rattle.std.proofs.Common.{◌≡◌, ◌+◌, ◌-◌, ◌≤◌, ◌<◌, ℕ, zero, suc, Bool, true, false, List, [], ◌∷◌, length, Option, Some, refl, sym, ◌∙◌, ap, subst, arith, leb, ltb, inl, inr, set, get_or, length-take, length-drop}
-use Rattle.std.specs.Prelude.{fold, Result, Ok, Err}
+use Rattle.std.specs.Prelude.{fold, Result, Ok, Err, Contains}
 use Rattle.std.proofs.lemmas.Bool.{le-leb, ltb-true, ltb-false}
 use Rattle.std.proofs.lemmas.List.{set-set, set-get_or, length-append, same_lists, places}
 use Rattle.kernel_abi.specs.declared.Fault.{Fault}
+use Rattle.kernel_abi.specs.Devices.{DeviceData}
 use Rattle.run_script.specs.Scripts.{events_of}
-use Rattle.mem_banks.specs.Memory.{Memory, number_at, with_bytes, pasted, is_ram}
+use Rattle.mem_banks.specs.Memory.{Memory, with_bytes, pasted, is_ram}
 use Rattle.mem_banks.proofs.Copies.{length-pasted}
 use Rattle.words_core.specs.Regs.{reg_at}
 use Rattle.thumb_exec.specs.declared.cpu.Cpu.{Cpu}
 use Rattle.thumb_exec.specs.Effect.{Effect, Next, Store, Move, Puts, Takes}
+use Rattle.thumb_exec.specs.Keeps.{IsPermitted, AllPermitted}
 use Rattle.thumb_exec.specs.Sizes.{IsSize}
+use Rattle.thumb_exec.proofs.Permitting.{permitted}
 use Rattle.thumb_exec.specs.declared.fetch.Fetched.{Fetched}
 use Rattle.thumb_exec.specs.Fetch.{fetched, executed as executed_by, step_effect}
 use Rattle.thumb_step.proofs.Widening.{step_wider}
 use Rattle.thumb_exec.specs.Bytes.{bytes_of}
 use Rattle.thumb_step.specs.Windows.{View, has, refused_by, held_by, write, put as lands, GoesOn, Glides, Keeps, IsInside, AreInside}
 use Rattle.thumb_step.proofs.Gliding.{kept, kept_on}
+use Rattle.task_table.specs.Placed.{ArePlaced}
 use Rattle.task_table.specs.State.{Setup, State, Task, Turn}
 use Rattle.task_table.specs.Reading.{task_at, register, chosen, is_ready, no_task}
 use Rattle.task_table.specs.Effects.{with_task, with_processor, stored}
@@ -25,7 +29,7 @@ use Rattle.task_table.specs.Sane.{Sane, IsCounted}
 use Rattle.task_table.proofs.Changes.{task_at-with_task}
 use Rattle.board_model.specs.declared.outcomes.Level.TheVariants.{Calls}
 use Rattle.board_model.specs.Script.{Scenario}
-use Rattle.board_model.specs.Turn.{refusals, cpu_of, put, moved, acted, stepped_by, stepped, after_events, with_registers_noted, turn_of, ended, turn}
+use Rattle.board_model.specs.Turn.{refusals, is_device, held, cpu_of, put, took, moved, acted, stepped_by, stepped, after_events, with_registers_noted, turn_of, ended, turn}
 use Rattle.board_model.specs.Run.{is_down, turn_after, state_after}
 use Rattle.board_model.proofs.TurnChains.{chosen_is, sane-after}
 use Rattle.board_model.proofs.Stepping.{moves_state}
@@ -36,24 +40,49 @@ use Rattle.board_model.proofs.Further.{last_turn}
 use Rattle.board_core.specs.Windowed.{IsWindow, later, AreTurns}
 use Rattle.mem_banks.specs.Windows.{IsInRam}
 use Rattle.mem_banks.proofs.Windows.{written_inside, written_same, region_written, same_ram_length, same_flash_length, bytes_below}
-use Rattle.board_core.proofs.WindowCovers.{inside, widens}
+use Rattle.board_core.proofs.WindowCovers.{inside, widens, loads_below}
 
 -- ## the instruction of the turn
 
 -- carried out, what was fetched is its effect
-carried_next : (g : Setup) (c : ℕ) (t : Turn) (at : ℕ) (d : Cpu) (ms : List Move) (r : Result Fetched Fault) → executed_by (refusals g c) (number_at t.state.memory) (cpu_of (task_at t.state c)) r ≡ Next d ms → stepped_by Calls g c at r t ≡ acted g c (Next d ms) t
+carried_next : (g : Setup) (c : ℕ) (t : Turn) (at : ℕ) (d : Cpu) (ms : List Move) (r : Result Fetched Fault) → executed_by (refusals g c) (held t.state) (cpu_of (task_at t.state c)) r ≡ Next d ms → stepped_by Calls g c at r t ≡ acted g c (Next d ms) t
 carried_next g c t at d ms (Ok f) e = ap (λ (x : Effect). acted g c x t) e
 carried_next g c t at d ms (Err fault) e = absurd cc
 
-module _ (g : Setup) (c : ℕ) (t : Turn) (v w : View) (d : Cpu) (window : IsWindow g c t.state.memory v) (on : GoesOn v (cpu_of (task_at t.state c)) w d) where
-  wide : step_effect (refusals g c) (number_at t.state.memory) (cpu_of (task_at t.state c)) ≡ Next d on.moves
-  wide = step_wider (refused_by v) (refusals g c) (held_by v) (number_at t.state.memory) (widens g c t.state.memory v window) (cpu_of (task_at t.state c)) d on.moves on.effect
+-- a load is of no device
+abbrev IsBelow : Move → Type 0
+IsBelow (Puts x) = Unit {0}
+IsBelow (Takes a n) = is_device a ≡ false
+
+-- what is carried out moves what it may
+carried_permitted : (v : View) (c d : Cpu) (ms : List Move) (r : Result Fetched Fault) → executed_by (refused_by v) (held_by v) c r ≡ Next d ms → (x : Move) → Contains ms x → IsPermitted (refused_by v) x
+carried_permitted v c d ms (Ok f) e = let P : Effect → Type 0 = λ k. AllPermitted (refused_by v) k in subst P e (permitted (refused_by v) (held_by v) c f.insn)
+carried_permitted v c d ms (Err fault) e = absurd cc
+
+some_bytes : (n : ℕ) → IsSize n → 0 < n
+some_bytes n (inl e) = omega arith
+some_bytes n (inr (inl e)) = omega arith
+some_bytes n (inr (inr e)) = omega arith
+
+-- what is loaded within a window is of no device
+permitted_below : (g : Setup) (c : ℕ) (s : State) (v : View) → IsWindow g c s.memory v → ArePlaced g s.memory → (x : Move) → IsPermitted (refused_by v) x → IsBelow x
+permitted_below g c s v w placed (Puts x) p = tt
+permitted_below g c s v w placed (Takes a n) p = loads_below g c s v w placed a n (some_bytes n p.size) p.allowed
+
+module _ (g : Setup) (c : ℕ) (t : Turn) (v w : View) (d : Cpu) (window : IsWindow g c t.state.memory v) (placed : ArePlaced g t.state.memory) (on : GoesOn v (cpu_of (task_at t.state c)) w d) where
+  wide : step_effect (refusals g c) (held t.state) (cpu_of (task_at t.state c)) ≡ Next d on.moves
+  wide = step_wider (refused_by v) (refusals g c) (held_by v) (held t.state) (widens g c t.state v window placed) (cpu_of (task_at t.state c)) d on.moves on.effect
+
+  no_device : (x : Move) → Contains on.moves x → IsBelow x
+  no_device x here =
+      let at : ℕ = reg_at (cpu_of (task_at t.state c)).regs 15 in
+      permitted_below g c t.state v window placed x (carried_permitted v (cpu_of (task_at t.state c)) d on.moves (fetched (refused_by v) (held_by v) at) on.effect x here)
 
   pub stepped_next : stepped Calls g c t ≡ acted g c (Next d on.moves) t
   unfolding stepped register
   stepped_next =
       let at : ℕ = reg_at (cpu_of (task_at t.state c)).regs 15 in
-      carried_next g c t at d on.moves (fetched (refusals g c) (number_at t.state.memory) at) wide
+      carried_next g c t at d on.moves (fetched (refusals g c) (held t.state) at) wide
 
 -- ## its moves
 
@@ -89,17 +118,27 @@ moves_keep (x ∷ xs) v h =
     let k = move_keeps v x (first_inside v x xs h) in
     kept_on v (lands v x) _ k (moves_keep xs (lands v x) (rest_inside v (lands v x) x xs k h))
 
+-- what moves within the window come to: such a memory, the notes and the devices that there were
+record HasMoved (m : Memory) (t u : Turn) : Type 0 where
+  memory : u.state.memory ≡ m
+  notes : u.notes ≡ t.notes
+  devices : u.state.devices ≡ t.state.devices
+
+-- a load that is of no device changes nothing
+took_none : (t : Turn) (a : ℕ) → is_device a ≡ false → took t a ≡ t
+took_none t a e = rw e refl
+
 -- a store in the RAM is noted nowhere, and changes the memory
-put_there : (t : Turn) (x : Store) → is_ram t.state.memory x.addr x.bytes ≡ true → ((put t x).state.memory ≡ with_bytes t.state.memory x.addr (bytes_of x.value x.bytes)) × ((put t x).notes ≡ t.notes)
+put_there : (t : Turn) (x : Store) → is_ram t.state.memory x.addr x.bytes ≡ true → HasMoved (with_bytes t.state.memory x.addr (bytes_of x.value x.bytes)) t (put t x)
 unfolding stored
-put_there t x e = rw e (refl, refl)
+put_there t x e = rw e record { memory = refl; notes = refl; devices = refl }
 
 module _ (m : Memory) where
   in_ram : (u : Memory) (a n : ℕ) → 0x20000000 ≤ a → a + n ≤ 0x20000000 + length u.ram → is_ram u a n ≡ true
   in_ram u a n low high = let p : leb 0x20000000 a ≡ true = le-leb _ _ low in let q : leb (a + n) (0x20000000 + length u.ram) ≡ true = le-leb _ _ high in rw (p, q) refl
 
   one_put : (x : Store) (v : View) (t : Turn) → 0x20000000 ≤ v.ram_base → v.ram_base + length v.ram ≤ 0x20000000 + length m.ram → t.state.memory ≡ with_bytes m v.ram_base v.ram → IsInside v (Puts x) →
-      ((put t x).state.memory ≡ with_bytes m v.ram_base (write v x).ram) × ((put t x).notes ≡ t.notes)
+      HasMoved (with_bytes m v.ram_base (write v x).ram) t (put t x)
   one_put x v t low high is one =
       let at : ℕ = x.addr in
       let bytes : List ℕ = bytes_of x.value x.bytes in
@@ -109,25 +148,25 @@ module _ (m : Memory) where
       let here = put_there t x (in_ram t.state.memory at x.bytes (omega (arith, low, i.0)) (omega (arith, long, high, i.1))) in
       let again : with_bytes t.state.memory at bytes ≡ with_bytes m v.ram_base (pasted v.ram (at - v.ram_base) bytes) =
       ap (λ (y : Memory). with_bytes y at bytes) is ∙ written_inside m v.ram_base at v.ram bytes (low, high) i.0 (omega (arith, size, i.1)) in
-      (here.0 ∙ again, here.1)
+      record { memory = here.memory ∙ again; notes = here.notes; devices = here.devices }
 
-  one_move : (x : Move) (v : View) (t : Turn) → 0x20000000 ≤ v.ram_base → v.ram_base + length v.ram ≤ 0x20000000 + length m.ram → t.state.memory ≡ with_bytes m v.ram_base v.ram → IsInside v x →
-      ((moved t x).state.memory ≡ with_bytes m v.ram_base (lands v x).ram) × ((moved t x).notes ≡ t.notes)
-  one_move (Puts x) v t low high is one = one_put x v t low high is one
-  one_move (Takes a n) v t low high is one = (is, refl)
+  one_move : (x : Move) (v : View) (t : Turn) → 0x20000000 ≤ v.ram_base → v.ram_base + length v.ram ≤ 0x20000000 + length m.ram → t.state.memory ≡ with_bytes m v.ram_base v.ram → IsInside v x → IsBelow x →
+      HasMoved (with_bytes m v.ram_base (lands v x).ram) t (moved t x)
+  one_move (Puts x) v t low high is one none = one_put x v t low high is one
+  one_move (Takes a n) v t low high is one none = subst (λ (u : Turn). HasMoved (with_bytes m v.ram_base v.ram) t u) (sym (took_none t a none)) record { memory = is; notes = refl; devices = refl }
 
   -- moves within the window change what it says they change
-  moves_land : (ms : List Move) (v : View) (t : Turn) → 0x20000000 ≤ v.ram_base → v.ram_base + length v.ram ≤ 0x20000000 + length m.ram → t.state.memory ≡ with_bytes m v.ram_base v.ram → AreInside v ms →
-      ((fold moved t ms).state.memory ≡ with_bytes m v.ram_base (fold lands v ms).ram) × ((fold moved t ms).notes ≡ t.notes)
-  moves_land [] v t low high is h = (is, refl)
-  moves_land (x ∷ xs) v t low high is h =
+  moves_land : (ms : List Move) (v : View) (t : Turn) → 0x20000000 ≤ v.ram_base → v.ram_base + length v.ram ≤ 0x20000000 + length m.ram → t.state.memory ≡ with_bytes m v.ram_base v.ram → AreInside v ms → ((x : Move) → Contains ms x → IsBelow x) →
+      HasMoved (with_bytes m v.ram_base (fold lands v ms).ram) t (fold moved t ms)
+  moves_land [] v t low high is h none = record { memory = is; notes = refl; devices = refl }
+  moves_land (x ∷ xs) v t low high is h none =
       let one = first_inside v x xs h in
       let k = move_keeps v x one in
       let same : (lands v x).ram_base ≡ v.ram_base = k.ram_base in
-      let here = one_move x v t low high is one in
-      let own : (moved t x).state.memory ≡ with_bytes m (lands v x).ram_base (lands v x).ram = here.0 ∙ ap (λ (b : ℕ). with_bytes m b (lands v x).ram) (sym same) in
-      let rest = moves_land xs (lands v x) (moved t x) (rw same low) (rw (same, k.size) high) own (rest_inside v (lands v x) x xs k h) in
-      (rest.0 ∙ ap (λ (b : ℕ). with_bytes m b (fold lands (lands v x) xs).ram) same, rest.1 ∙ here.1)
+      let here = one_move x v t low high is one (none x (zero, omega arith, refl)) in
+      let own : (moved t x).state.memory ≡ with_bytes m (lands v x).ram_base (lands v x).ram = here.memory ∙ ap (λ (b : ℕ). with_bytes m b (lands v x).ram) (sym same) in
+      let rest = moves_land xs (lands v x) (moved t x) (rw same low) (rw (same, k.size) high) own (rest_inside v (lands v x) x xs k h) (λ y there. none y (suc there.0, omega (arith, there.1), there.2)) in
+      record { memory = rest.memory ∙ ap (λ (b : ℕ). with_bytes m b (fold lands (lands v x) xs).ram) same; notes = rest.notes ∙ here.notes; devices = rest.devices ∙ here.devices }
 
 -- other bytes over all of a region
 pasted_whole : (xs ys : List ℕ) → length ys ≡ length xs → pasted xs 0 ys ≡ ys
@@ -173,11 +212,11 @@ plain_turn x s c is current nothing =
     let R : ℕ → Turn = λ i. ended (stepped Calls x.setup c record (begun s) { state = record s { current = i } }) in
     ap P e ∙ ap Q is ∙ ap R (sym current)
 
-acted_state : (g : Setup) (c : ℕ) (s : State) (d : Cpu) (ms : List Move) (m : Memory) → (fold moved (begun s) ms).state.memory ≡ m → (ended (acted g c (Next d ms) (begun s))).state ≡ later s c d m 1
+acted_state : (g : Setup) (c : ℕ) (s : State) (d : Cpu) (ms : List Move) (m : Memory) → (fold moved (begun s) ms).state.memory ≡ m → (fold moved (begun s) ms).state.devices ≡ s.devices → (ended (acted g c (Next d ms) (begun s))).state ≡ later s c d m 1
 unfolding ended begun with_processor with_task task_at
-acted_state g c s d ms m e =
+acted_state g c s d ms m e f =
     let u : State = (fold moved (begun s) ms).state in
-    let same : u ≡ record s { memory = m } = moves_state ms (begun s) ∙ ap (λ (y : Memory). record s { memory = y }) e in
+    let same : u ≡ record s { memory = m } = moves_state ms (begun s) ∙ ap (λ (y : Memory). record s { memory = y; devices = u.devices }) e ∙ ap (λ (ds : List DeviceData). record s { memory = m; devices = ds }) f in
     ap (λ (y : State). record (with_task c record (task_at y c) { registers = d.regs.words; flags = d.flags } y) { turn = y.turn + 1 }) same
 
 acted_notes : (g : Setup) (c : ℕ) (s : State) (d : Cpu) (ms : List Move) → (fold moved (begun s) ms).notes ≡ [] → (ended (acted g c (Next d ms) (begun s))).notes ≡ []
@@ -188,16 +227,16 @@ begun_same : (s : State) → ((begun s).state ≡ s) × ((begun s).notes ≡ [])
 unfolding begun
 begun_same s = (refl, refl)
 
-pub one_turn : (x : Scenario) (s : State) (c : ℕ) (v w : View) (d : Cpu) → chosen x.setup s ≡ Some c → s.current ≡ c → events_of x.script s.turn ≡ [] → IsWindow x.setup c s.memory v → GoesOn v (cpu_of (task_at s c)) w d → IsGone x s c v w d
+pub one_turn : (x : Scenario) (s : State) (c : ℕ) (v w : View) (d : Cpu) → chosen x.setup s ≡ Some c → s.current ≡ c → events_of x.script s.turn ≡ [] → IsWindow x.setup c s.memory v → ArePlaced x.setup s.memory → GoesOn v (cpu_of (task_at s c)) w d → IsGone x s c v w d
 unfolding begun
-one_turn x s c v w d is current nothing window on =
+one_turn x s c v w d is current nothing window placed on =
     let g : Setup = x.setup in
-    let whole : turn Calls x s ≡ ended (acted g c (Next d on.moves) (begun s)) = plain_turn x s c is current nothing ∙ ap ended (stepped_next g c (begun s) v w d window on) in
+    let whole : turn Calls x s ≡ ended (acted g c (Next d on.moves) (begun s)) = plain_turn x s c is current nothing ∙ ap ended (stepped_next g c (begun s) v w d window placed on) in
     let own : s.memory ≡ with_bytes s.memory v.ram_base v.ram = sym (ap (with_bytes s.memory v.ram_base) (sym window.ram) ∙ written_same s.memory v.ram_base (length v.ram) window.in_ram) in
-    let put = moves_land s.memory on.moves v (begun s) window.in_ram.0 window.in_ram.1 own on.inside in
+    let put = moves_land s.memory on.moves v (begun s) window.in_ram.0 window.in_ram.1 own on.inside (no_device g c (begun s) v w d window placed on) in
     record {
-      state = ap (λ (t : Turn). t.state) whole ∙ acted_state g c s d on.moves _ (put.0 ∙ ap (λ (y : View). with_bytes s.memory v.ram_base y.ram) (sym on.after));
-      notes = ap (λ (t : Turn). t.notes) whole ∙ acted_notes g c s d on.moves put.1;
+      state = ap (λ (t : Turn). t.state) whole ∙ acted_state g c s d on.moves _ (put.memory ∙ ap (λ (y : View). with_bytes s.memory v.ram_base y.ram) (sym on.after)) put.devices;
+      notes = ap (λ (t : Turn). t.notes) whole ∙ acted_notes g c s d on.moves put.notes;
       same = rw on.after (moves_keep on.moves v on.inside);
     }
 
@@ -256,7 +295,7 @@ module _ (x : Scenario) (s : State) (c : ℕ) (v : View) (sane : Sane x.setup s)
       let C : State → Type 0 = λ y. chosen x.setup y ≡ Some c in
       let over : IsWindow x.setup c m w = window_again x.setup c s.memory v w window h.keeps in
       let own = cpu_after s c d m n there in
-      subst P (sym h.state) (one_turn x (later s c d m n) c w u e (subst C h.state h.chosen) current nothing over (subst (λ (k : Cpu). GoesOn w k u e) (sym own) on))
+      subst P (sym h.state) (one_turn x (later s c d m n) c w u e (subst C h.state h.chosen) current nothing over (subst (λ (y : State). ArePlaced x.setup y.memory) h.state h.sane.steady.placed) (subst (λ (k : Cpu). GoesOn w k u e) (sym own) on))
 
   -- a turn that notes nothing leaves the choice
   chosen_next : (y : State) → Sane x.setup y → chosen x.setup y ≡ Some c → events_of x.script y.turn ≡ [] → (turn Calls x y).notes ≡ [] → (chosen x.setup (turn Calls x y).state ≡ Some c) × (is_down (turn Calls x y).state ≡ is_down y) × ((i : ℕ) → is_ready (turn Calls x y).state i ≡ is_ready y i)

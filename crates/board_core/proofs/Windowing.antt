@@ -23,7 +23,6 @@ use Rattle.task_table.specs.Effects.{with_task, with_processor}
 use Rattle.task_table.specs.Holds.{Holds, current_of, kept_of, note_count, notes_of as kernel_notes}
 use Rattle.task_table.specs.Openable.{AreUsable}
 use Rattle.task_table.specs.Window.{overlaid}
-use Rattle.task_table.specs.declared.kernel.Kernel.{Kernel}
 use Rattle.task_table.proofs.Changes.{task_at-with_task}
 use Rattle.task_table.proofs.Steps.{holds_turn}
 use Rattle.board_model.specs.declared.outcomes.Level.TheVariants.{Calls}
@@ -35,6 +34,7 @@ use Rattle.board_core.specs.Reached.{is_flash_at, is_ram_at, IsStackRegion, AreR
 use Rattle.board_core.specs.Windowed.{IsWindow, IsWholeWindow, IsAtEnd, MustStop, AreTurns, later}
 use Rattle.board_core.proofs.WindowTurns.{are_turns, window_then}
 use Rattle.board_core.specs.declared.machine.Machine.{Machine}
+use Rattle.board_core.specs.declared.reach.Reach.{Reach}
 use Rattle.board_core.specs.Machine.{IsReady, IsLoaded, MachineHolds, with_cpu}
 use Rattle.board_core.specs.Gliding.{IsGlided, HasGlided}
 use Rattle.board_core.specs.declared.board.Board.{Board}
@@ -202,9 +202,9 @@ later_ready : (s : State) (m : Memory) (n : ℕ) → is_ready s s.current ≡ tr
 unfolding is_ready task_at call_of listen_of
 later_ready s m n h = h
 
-pub lent_loaded : (g : Setup) (k k' : Kernel) (cpu cpu' : Cpu) (t : Turn) (at : ℕ) (bytes : List ℕ) (n : ℕ) → IsLoaded g k cpu t → t.state.current < length t.state.tasks → ((u : Turn) → Holds g k u → Holds g k' (overlaid at bytes u)) →
-    IsLoaded g k' cpu' record t { state = later t.state t.state.current cpu' (with_bytes t.state.memory at bytes) n }
-lent_loaded g k k' cpu cpu' t at bytes n h inside f =
+pub lent_loaded : (g : Setup) (r r' : Reach) (cpu cpu' : Cpu) (t : Turn) (at : ℕ) (bytes : List ℕ) (n : ℕ) → IsLoaded g r cpu t → t.state.current < length t.state.tasks → ((u : Turn) → Holds g r.kernel u → Holds g r'.kernel (overlaid at bytes u)) →
+    IsLoaded g r' cpu' record t { state = later t.state t.state.current cpu' (with_bytes t.state.memory at bytes) n }
+lent_loaded g r r' cpu cpu' t at bytes n h inside f =
     let saved = h.saved in
     let rest = rest_of saved t cpu h.is in
     let m : Memory = with_bytes saved.state.memory at bytes in
@@ -216,12 +216,12 @@ lent_loaded g k k' cpu cpu' t at bytes n h inside f =
     ∙ later_loaded saved cpu cpu' m n there in
     record {
       saved = saved_later saved m n;
-      holds = held (holds_turn g (kept_of k') (overlaid at bytes saved) (saved.state.turn + n) (f saved h.holds));
+      holds = record { kernel = held (holds_turn g (kept_of r'.kernel) (overlaid at bytes saved) (saved.state.turn + n) (f saved h.holds.kernel)); devices = h.holds.devices };
       ready = later_ready saved.state m (saved.state.turn + n) h.ready;
       is = now;
     }
   where
-    held : {u : Turn} → Holds g k' u → Holds g k' u
+    held : {u : Turn} → Holds g r'.kernel u → Holds g r'.kernel u
     held x = x
 
 -- ## the board

@@ -1,5 +1,7 @@
 -- The kernel as the bus of its current task, and the processor that has that task's context.
-use Rattle.std.specs.Prelude.{ℕ, ◌≡◌, ◌+◌, ◌<◌, ◌^◌, Bool, true, false, Option}
+use Rattle.std.specs.Prelude.{ℕ, ◌≡◌, ◌+◌, ◌<◌, ◌^◌, Bool, true, false, List, [], Option, if◌then◌else◌}
+use Rattle.kernel_abi.specs.Devices.{DeviceData, device_number}
+use Rattle.mem_banks.specs.Memory.{number_at}
 use Rattle.region_check.specs.declared.Right.{Right}
 use Rattle.thumb_exec.specs.declared.cpu.Cpu.{Cpu}
 use Rattle.task_table.specs.declared.kernel.Kernel.{Kernel}
@@ -8,17 +10,36 @@ use Rattle.task_table.specs.Reading.{is_ready, chosen}
 use Rattle.task_table.specs.Effects.{with_processor}
 use Rattle.task_table.specs.Start.{start, begun}
 use Rattle.task_table.specs.Sane.{Sane}
-use Rattle.task_table.specs.Holds.{Holds, Stands, setup_of, current_of, task_count, note_count}
+use Rattle.task_table.specs.Holds.{Holds, Stands, setup_of, current_of, task_count, note_count, memory_of}
 use Rattle.board_core.specs.declared.machine.Machine.{Machine}
-use Rattle.board_model.specs.Turn.{put, refusals}
+use Rattle.board_core.specs.declared.reach.Reach.{Reach}
+use Rattle.board_model.specs.Turn.{put, took, is_device, or_zero, refusals}
+
+-- what the kernel keeps is just what the turn has come to, and there is no device
+pub record ReachHolds (g : Setup) (r : Reach) (t : Turn) : Type 0 where
+  pub kernel : Holds g r.kernel t
+  pub devices : [] ≡ t.state.devices
+
+-- what so many bytes from an address on hold, by the memory of the kernel and the devices
+abbrev pub shown_in : Kernel → List DeviceData → ℕ → ℕ → ℕ
+shown_in k ds a n = if is_device a then or_zero (device_number ds a n) else number_at (memory_of k) a n
+
+abbrev pub shown_by : Reach → ℕ → ℕ → ℕ
+shown_by r a n = shown_in r.kernel [] a n
 
 -- what a store leaves: the turn that was held, with the store; all else is as it was
-pub record IsStored (k : Kernel) (a n v : ℕ) (k' : Kernel) : Type 0 where
-  pub holds : (g : Setup) (t : Turn) → Holds g k t → Holds g k' (put t record { addr = a; bytes = n; value = v })
-  pub setup : setup_of k' ≡ setup_of k
-  pub current : current_of k' ≡ current_of k
-  pub tasks : task_count k' ≡ task_count k
-  pub notes : note_count k' ≡ note_count k
+pub record IsStored (r : Reach) (a n v : ℕ) (r' : Reach) : Type 0 where
+  pub holds : (g : Setup) (t : Turn) → ReachHolds g r t → ReachHolds g r' (put t record { addr = a; bytes = n; value = v })
+  pub setup : setup_of r'.kernel ≡ setup_of r.kernel
+  pub current : current_of r'.kernel ≡ current_of r.kernel
+  pub tasks : task_count r'.kernel ≡ task_count r.kernel
+  pub notes : note_count r'.kernel ≡ note_count r.kernel
+
+-- what is left once an instruction that went on has loaded from an address: the turn that was held, in which a device there
+-- gave up what it gave
+pub record IsTaken (r : Reach) (a : ℕ) (r' : Reach) : Type 0 where
+  pub holds : (g : Setup) (t : Turn) → ReachHolds g r t → ReachHolds g r' (took t a)
+  pub kernel : r'.kernel ≡ r.kernel
 
 -- the registers and flags of the current task become the processor's
 abbrev pub with_cpu : Cpu → Turn → Turn
@@ -26,19 +47,19 @@ with_cpu cpu t = with_processor t.state.current cpu.regs.words cpu.flags t
 
 -- the context of the current task is loaded: what the kernel has of that task's registers and flags
 -- is of an earlier time
-pub record IsLoaded (g : Setup) (k : Kernel) (cpu : Cpu) (t : Turn) : Type 0 where
+pub record IsLoaded (g : Setup) (r : Reach) (cpu : Cpu) (t : Turn) : Type 0 where
   pub saved : Turn
-  pub holds : Holds g k saved
+  pub holds : ReachHolds g r saved
   pub ready : is_ready saved.state saved.state.current ≡ true
   pub is : t ≡ with_cpu cpu saved
 
-abbrev pub HoldsBy : Bool → Setup → Kernel → Cpu → Turn → Type 0
-HoldsBy true g k cpu t = IsLoaded g k cpu t
-HoldsBy false g k cpu t = Holds g k t
+abbrev pub HoldsBy : Bool → Setup → Reach → Cpu → Turn → Type 0
+HoldsBy true g r cpu t = IsLoaded g r cpu t
+HoldsBy false g r cpu t = ReachHolds g r t
 
 -- the machine holds just what the turn has come to
 abbrev pub MachineHolds : Setup → Machine → Turn → Type 0
-MachineHolds g m t = HoldsBy m.loaded g m.reach.kernel m.processor t
+MachineHolds g m t = HoldsBy m.loaded g m.reach m.processor t
 
 -- and the state is sane
 pub record MachineStands (g : Setup) (m : Machine) (t : Turn) : Type 0 where
@@ -48,7 +69,7 @@ pub record MachineStands (g : Setup) (m : Machine) (t : Turn) : Type 0 where
 -- the machine stands for the turn, and the context of the current task, which is ready, is loaded
 pub record IsReady (g : Setup) (m : Machine) (t : Turn) : Type 0 where
   pub loaded : m.loaded ≡ true
-  pub holds : IsLoaded g m.reach.kernel m.processor t
+  pub holds : IsLoaded g m.reach m.processor t
   pub sane : Sane g t.state
 
 -- the machine stands for the turn, and this is the choice

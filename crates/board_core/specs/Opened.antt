@@ -1,5 +1,5 @@
 -- What an image fixes for ever, and the run over it.
-use Rattle.std.specs.Prelude.{map}
+use Rattle.std.specs.Prelude.{map, []}
 use Rattle.image_format.specs.Picture.{Picture, TaskPicture, LinePicture}
 use Rattle.task_table.specs.Limits.{board_lines}
 use Rattle.task_table.specs.State.{Setup, TaskSetup, LineSetup}
@@ -23,4 +23,4 @@ setup_of_image p = record {
 }
 
 abbrev pub scenario_of : Picture → ScriptData → Scenario
-scenario_of p script = record { setup = setup_of_image p; script = script }
+scenario_of p script = record { setup = setup_of_image p; script = script; devices = [] }

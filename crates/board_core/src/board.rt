@@ -3,12 +3,11 @@ ghost use Rattle.std.specs.Prelude.{ℕ, ◌≡◌, ◌≢◌, ◌<◌, ◌≤�
 ghost use Rattle.image_format.specs.Images.{picture};
 ghost use Rattle.task_table.specs.State.{Setup, State, Turn};
 ghost use Rattle.task_table.specs.Reading.{chosen};
-ghost use Rattle.task_table.specs.Start.{start};
 ghost use Rattle.task_table.specs.Limits.{syscall_notes, turn_notes};
 ghost use Rattle.run_script.specs.Events.{script_data};
 ghost use Rattle.run_script.specs.Scripts.{lasts};
 ghost use Rattle.board_model.specs.declared.outcomes.Level.TheVariants.{All, Calls};
-ghost use Rattle.board_model.specs.Script.{Scenario};
+ghost use Rattle.board_model.specs.Script.{Scenario, start_of};
 ghost use Rattle.board_model.specs.Turn.{turn, turned};
 ghost use Rattle.board_model.specs.Run.{state_after};
 ghost use Rattle.board_model.specs.Faults.{IsFaulting, ChangesNothingElse};
@@ -16,7 +15,7 @@ ghost use Rattle.board_model.specs.DeadCalls.{IsDeadTurn};
 ghost use Rattle.board_model.specs.Lifetimes.{IsGroundedTurn};
 ghost use Rattle.board_model.specs.Agreement.{DependsOnReads};
 ghost use Rattle.board_model.specs.LonerTurns.{LeavesLoners, LonersDecide};
-ghost use Rattle.board_core.specs.Opened.{scenario_of, setup_of_image};
+ghost use Rattle.board_core.specs.Opened.{scenario_of};
 ghost use Rattle.board_core.specs.Stands.{Stands, Stood, notes_of, turns_of};
 ghost use Rattle.board_core.specs.Machine.{MachineHolds, MachineStands};
 ghost use Rattle.board_core.specs.Kept.{IsChoice, WasChoice};
@@ -45,13 +44,13 @@ pub struct Board {
 }
 
 impl Board {
-    /// The board at the start of a run of an image with a script.
+    /// The board at the start of a run of an image with a script, without a device.
     ///
     /// # Errors
     ///
     /// Only want of memory.
     pub fn open(alloc: Global, image: &Image, script: &Script) -> Result<Board, AllocError>
-        ensures stands { IfOk result (λ b. Stands (scenario_of (picture image.now) (script_data script.now)) b (start (setup_of_image (picture image.now)))) }
+        ensures stands { let x = scenario_of (picture image.now) (script_data script.now) in IfOk result (λ b. Stands x b (start_of x)) }
         ensures turns { IfOk result (λ b. turns_of b ≡ 0) }
     {
         let kernel = kernel(alloc, image)?;

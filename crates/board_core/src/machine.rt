@@ -13,7 +13,7 @@ ghost use Rattle.task_table.specs.Limits.{syscall_notes, turn_notes};
 ghost use Rattle.task_table.specs.Frames.{AddsNotes};
 ghost use Rattle.thumb_insn.specs.Range.{IsCoded};
 ghost use Rattle.board_model.specs.Turn.{with_current, noted_at, happened, stepped, executed, cpu_of, with_registers_noted, turn_of, turned_of, happened_next};
-ghost use Rattle.board_core.specs.Machine.{IsReady, IsNext, HasNumber, MachineHolds, MachineStands, IsLoaded};
+ghost use Rattle.board_core.specs.Machine.{IsReady, IsNext, HasNumber, ReachHolds, MachineHolds, MachineStands, IsLoaded};
 ghost use Rattle.board_core.specs.Gliding.{HasGlided};
 
 use crate::glider::Glider;
@@ -79,7 +79,7 @@ impl Machine {
 
     /// The kernel has the registers and flags of the current task again: before it acts.
     pub fn save_context(&mut self)
-        ensures holds { (g : Setup) (t : Turn) → MachineHolds g self.old t → Holds g self.new.reach.kernel t }
+        ensures holds { (g : Setup) (t : Turn) → MachineHolds g self.old t → ReachHolds g self.new.reach t }
         ensures unloaded { self.new.loaded ≡ false }
         ensures frame { AddsNotes self.old.reach.kernel 0 self.new.reach.kernel }
     {
@@ -110,7 +110,7 @@ impl Machine {
     fn load_context(&mut self, task: usize)
         requires { task < task_count self.old.reach.kernel }
         ensures loaded { self.new.loaded ≡ true }
-        ensures holds { (g : Setup) (t : Turn) → MachineHolds g self.old t → is_ready t.state task ≡ true → IsLoaded g self.new.reach.kernel self.new.processor (with_current task t) }
+        ensures holds { (g : Setup) (t : Turn) → MachineHolds g self.old t → is_ready t.state task ≡ true → IsLoaded g self.new.reach self.new.processor (with_current task t) }
         ensures count { note_count self.new.reach.kernel ≡ note_count self.old.reach.kernel }
     {
         if self.is_loaded_for(task) {
@@ -163,6 +163,12 @@ impl Machine {
         match event {
             Event::Tick => tick(&mut self.reach.kernel),
             Event::Irq { line } => interrupt(&mut self.reach.kernel, line),
+            // There is no device that could take it.
+            Event::Feed { device, byte } => self.reach.kernel.note(Note::In {
+                device,
+                byte,
+                fed: None,
+            }),
         }
     }
 

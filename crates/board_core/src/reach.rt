@@ -4,10 +4,10 @@ ghost use Rattle.std.specs.List.{list_any};
 ghost use Rattle.region_check.specs.declared.Right.TheVariants.{Execute, Read};
 ghost use Rattle.board_core.specs.Reached.{is_flash_at, is_ram_at, IsStackRegion, AreReached};
 ghost use Rattle.task_table.specs.Reading.{setup_at};
-ghost use Rattle.mem_banks.specs.Memory.{number_at};
-ghost use Rattle.task_table.specs.Holds.{memory_of, setup_of, current_of};
+ghost use Rattle.task_table.specs.Holds.{setup_of, current_of};
 ghost use Rattle.thumb_exec.specs.Sizes.{IsSize};
-ghost use Rattle.board_core.specs.Machine.{IsStored, refused};
+ghost use Rattle.board_model.specs.Turn.{is_device};
+ghost use Rattle.board_core.specs.Machine.{IsStored, IsTaken, shown_by, refused};
 
 use mem_banks::RAM;
 use region_check::{Region, Right, Rights, first_lacking, one_gives};
@@ -20,19 +20,52 @@ pub struct Reach {
     pub kernel: Kernel,
 }
 
-/// Writes the low n bytes of a value where they lie in the RAM; elsewhere a store changes nothing.
+/// Whether an address is one of those where devices lie, 0x40000000 to 0x5FFFFFFF.
 #[inline(always)]
-fn write(kernel: &mut Kernel, addr: u32, n: u32, value: u32)
-    requires { IsSize n }
-    ensures { IsStored kernel.old addr n value kernel.new }
+fn is_device(addr: u32) -> bool
+    ensures { result ≡ is_device addr }
 {
-    let bytes = value.to_le_bytes();
-    if kernel.is_ram(addr, n) {
-        kernel.store(addr, &bytes[..n as usize]);
-    }
+    addr >> 29 == 2
 }
 
 impl Reach {
+    /// What n bytes hold: those of the kernel's memory; 0 where devices lie, since there is none.
+    #[inline(always)]
+    fn number(&self, addr: u32, n: u32) -> u32
+        requires { IsSize n }
+        ensures { result ≡ shown_by self.now addr n }
+    {
+        if is_device(addr) {
+            0
+        } else {
+            self.kernel.number(addr, n)
+        }
+    }
+
+    /// The same of a halfword.
+    #[inline(always)]
+    fn half(&self, addr: u32) -> u16
+        ensures { result ≡ shown_by self.now addr 2 }
+    {
+        if is_device(addr) {
+            0
+        } else {
+            self.kernel.half(addr)
+        }
+    }
+
+    /// Writes the low n bytes of a value where they lie in the RAM; elsewhere a store changes nothing.
+    #[inline(always)]
+    fn write(&mut self, addr: u32, n: u32, value: u32)
+        requires { IsSize n }
+        ensures { IsStored self.old addr n value self.new }
+    {
+        let bytes = value.to_le_bytes();
+        if self.kernel.is_ram(addr, n) {
+            self.kernel.store(addr, &bytes[..n as usize]);
+        }
+    }
+
     /// The first of n bytes that lacks the right.
     #[inline(never)]
     fn lacks(&self, addr: u32, n: u32, right: Right) -> Option<u32>
@@ -110,11 +143,11 @@ impl Reach {
 impl Bus for Reach {
     ghost refuses = { λ m a n r. refused m.kernel a n r };
 
-    ghost holds = { λ m a n. number_at (memory_of m.kernel) a n };
+    ghost holds = { λ m a n. shown_by m a n };
 
-    ghost stored = { λ m a n v m'. IsStored m.kernel a n v m'.kernel };
+    ghost stored = { λ m a n v m'. IsStored m a n v m' };
 
-    ghost took = { λ m a m'. m' ≡ m };
+    ghost took = { λ m a m'. IsTaken m a m' };
 
     #[inline(always)]
     fn allows(&self, addr: u32, n: u32, right: Right) -> Option<u32> {
@@ -124,7 +157,7 @@ impl Bus for Reach {
     fn fetch(&self, addr: u32) -> Result<u16, u32> {
         match self.lacks(addr, 2, Right::Execute) {
             Some(at) => Err(at),
-            None => Ok(self.kernel.half(addr)),
+            None => Ok(self.half(addr)),
         }
     }
 
@@ -132,7 +165,7 @@ impl Bus for Reach {
     fn load(&self, addr: u32, n: u32) -> Result<u32, u32> {
         match self.lacks(addr, n, Right::Read) {
             Some(at) => Err(at),
-            None => Ok(self.kernel.number(addr, n)),
+            None => Ok(self.number(addr, n)),
         }
     }
 
@@ -141,7 +174,7 @@ impl Bus for Reach {
         match self.lacks(addr, n, Right::Write) {
             Some(at) => Err(at),
             None => {
-                write(&mut self.kernel, addr, n, value);
+                self.write(addr, n, value);
                 Ok(())
             }
         }

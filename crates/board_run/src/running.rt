@@ -2,12 +2,11 @@
 ghost use Rattle.std.specs.Prelude.{◌≡◌, ◌≤◌, ◌<◌, ◌-◌, ◌*◌, length, IfOk, OnOk, OnErr, IsNone, None};
 ghost use Rattle.outside_io.specs.Outside.{Pushes, HasCause};
 ghost use Rattle.task_table.specs.State.{State};
-ghost use Rattle.board_model.specs.Script.{Scenario};
+ghost use Rattle.board_model.specs.Script.{Scenario, start_of};
 ghost use Rattle.board_core.specs.Stands.{Stands, Stood, turns_of};
 ghost use Rattle.board_model.specs.Run.{run, ending};
 ghost use Rattle.board_model.specs.Lifetimes.{IsLedgerOfRun};
 ghost use Rattle.task_table.specs.Limits.{turn_notes};
-ghost use Rattle.task_table.specs.Start.{start};
 ghost use Rattle.trace_text.specs.Fit.{AreFit};
 ghost use Rattle.board_run.specs.Text.{trace_text};
 ghost use Rattle.board_run.specs.Timers.{HasFitTimers};
@@ -115,7 +114,7 @@ pub fn run<S: Sink>(board: &mut Board, limit: u32, level: Level, out: &mut S) ->
     ensures timers { (x : Scenario) (s : State) → Stands x board.old s → IfOk result (λ _. HasFitTimers (run level x (limit - s.turn) s).last) }
 
     // From the start, what the notes say of each call is so, and agrees with the calls that are open at the end.
-    ensures ledger { (x : Scenario) → Stands x board.old (start x.setup) → IsLedgerOfRun level x limit }
+    ensures ledger { (x : Scenario) → Stands x board.old (start_of x) → IsLedgerOfRun level x limit }
 
     // Where a push failed, the lines of the turns before the last one are whole, and no further turn is made.
     ensures broken { (x : Scenario) (s : State) → Stands x board.old s →

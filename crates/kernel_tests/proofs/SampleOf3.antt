@@ -89,7 +89,7 @@ setup = record {
 }
 
 scenario : Scenario
-scenario = record { setup = setup; script = record { every = Some 64; events = (28, Irq 0) ∷ (34, Irq 7) ∷ (50, Irq 7) ∷ (76, Irq 3) ∷ (95, Irq 0) ∷ (106, Irq 7) ∷ (116, Irq 3) ∷ (136, Irq 2) ∷ (153, Irq 4) ∷ (165, Irq 0) ∷ (179, Irq 5) ∷ (197, Irq 0) ∷ (216, Irq 5) ∷ (231, Irq 5) ∷ (242, Irq 1) ∷ (265, Irq 2) ∷ (274, Irq 2) ∷ (298, Irq 3) ∷ (311, Irq 7) ∷ (320, Irq 1) ∷ (350, Irq 4) ∷ (363, Irq 5) ∷ (380, Irq 2) ∷ (394, Irq 1) ∷ (409, Irq 0) ∷ (428, Irq 3) ∷ (446, Irq 2) ∷ [] } }
+scenario = record { setup = setup; script = record { every = Some 64; events = (28, Irq 0) ∷ (34, Irq 7) ∷ (50, Irq 7) ∷ (76, Irq 3) ∷ (95, Irq 0) ∷ (106, Irq 7) ∷ (116, Irq 3) ∷ (136, Irq 2) ∷ (153, Irq 4) ∷ (165, Irq 0) ∷ (179, Irq 5) ∷ (197, Irq 0) ∷ (216, Irq 5) ∷ (231, Irq 5) ∷ (242, Irq 1) ∷ (265, Irq 2) ∷ (274, Irq 2) ∷ (298, Irq 3) ∷ (311, Irq 7) ∷ (320, Irq 1) ∷ (350, Irq 4) ∷ (363, Irq 5) ∷ (380, Irq 2) ∷ (394, Irq 1) ∷ (409, Irq 0) ∷ (428, Irq 3) ∷ (446, Irq 2) ∷ [] }; devices = [] }
 
 expected : List (ℕ × Note)
 expected =

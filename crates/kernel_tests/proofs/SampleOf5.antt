@@ -89,7 +89,7 @@ setup = record {
 }
 
 scenario : Scenario
-scenario = record { setup = setup; script = record { every = Some 64; events = (16, Irq 4) ∷ (47, Irq 2) ∷ (52, Irq 0) ∷ (65, Irq 5) ∷ (94, Irq 5) ∷ (109, Irq 2) ∷ (114, Irq 7) ∷ (130, Irq 4) ∷ (146, Irq 4) ∷ (162, Irq 6) ∷ (186, Irq 6) ∷ (201, Irq 6) ∷ (221, Irq 5) ∷ (238, Irq 0) ∷ (240, Irq 0) ∷ (263, Irq 5) ∷ (276, Irq 4) ∷ (290, Irq 2) ∷ (313, Irq 0) ∷ (320, Irq 5) ∷ (337, Irq 0) ∷ (356, Irq 5) ∷ (371, Irq 0) ∷ (396, Irq 0) ∷ (400, Irq 2) ∷ (430, Irq 3) ∷ (442, Irq 3) ∷ [] } }
+scenario = record { setup = setup; script = record { every = Some 64; events = (16, Irq 4) ∷ (47, Irq 2) ∷ (52, Irq 0) ∷ (65, Irq 5) ∷ (94, Irq 5) ∷ (109, Irq 2) ∷ (114, Irq 7) ∷ (130, Irq 4) ∷ (146, Irq 4) ∷ (162, Irq 6) ∷ (186, Irq 6) ∷ (201, Irq 6) ∷ (221, Irq 5) ∷ (238, Irq 0) ∷ (240, Irq 0) ∷ (263, Irq 5) ∷ (276, Irq 4) ∷ (290, Irq 2) ∷ (313, Irq 0) ∷ (320, Irq 5) ∷ (337, Irq 0) ∷ (356, Irq 5) ∷ (371, Irq 0) ∷ (396, Irq 0) ∷ (400, Irq 2) ∷ (430, Irq 3) ∷ (442, Irq 3) ∷ [] }; devices = [] }
 
 expected : List (ℕ × Note)
 expected =

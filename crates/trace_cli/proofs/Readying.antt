@@ -3,9 +3,8 @@ use Rattle.std.proofs.Common.{◌≡◌, ℕ, suc, ◌≤◌, List, [], ◌∷�
 use Rattle.std.specs.Prelude.{slice_get}
 use Rattle.image_format.specs.Picture.{Picture}
 use Rattle.image_build.specs.Built.{Built}
-use Rattle.task_table.specs.Start.{start}
 use Rattle.board_core.specs.declared.board.Board.{Board}
-use Rattle.board_model.specs.Script.{Scenario}
+use Rattle.board_model.specs.Script.{Scenario, start_of}
 use Rattle.board_core.specs.Stands.{Stands, Stood, turns_of}
 use Rattle.outside_io.specs.Outside.{Rose}
 use Rattle.audit_runs.specs.Last.{IsGoodText}
@@ -237,14 +236,14 @@ answers_named_fault job a b w w' (named_faults.Refused name cause place) r same 
     answers_said job a b w w' (refused (string_bytes name) reason) r same refl why (fault_good job w w' (refused (string_bytes name) reason) r (omega arith) (omega arith) s) s
 
 pub answers_run : (job : Asked) (a b : FilesSeen) (w w' : SinkSeen) (n : ℕ) (detail : Detail) (bd : Board) (r : ℕ) → b.contents ≡ a.contents → IsReady job a.contents n detail bd
-    → ((x : Scenario) → Stands x bd (start x.setup) → Pushed w w' (ran n detail x) r) → ((x : Scenario) → Stands x bd (start x.setup) → IsOfRun r → IsGoodText (ran n detail x).text)
+    → ((x : Scenario) → Stands x bd (start_of x) → Pushed w w' (ran n detail x) r) → ((x : Scenario) → Stands x bd (start_of x) → IsOfRun r → IsGoodText (ran n detail x).text)
     → AnswersJob job a b w w' r
 answers_run job a b w w' n detail bd r same ready tells good =
     let x = ready.scenario in
     answers_pushed job a b w w' (ran n detail x) r same refl (does ready.contents ready.accepted (runs n detail x ready.is refl)) (tells_good job (ran n detail x) r (good x ready.stands)) (tells x ready.stands)
 
 pub ready_stood : (job : Asked) (seen : List ℕ → Option (List ℕ)) (n : ℕ) (detail : Detail) (bd : Board) → IsReady job seen n detail bd → Stood bd × (turns_of bd ≡ 0)
-ready_stood job seen n detail bd h = ((h.scenario, start h.scenario.setup, h.stands), h.turns)
+ready_stood job seen n detail bd h = ((h.scenario, start_of h.scenario, h.stands), h.turns)
 
 -- ## what an image is put under
 

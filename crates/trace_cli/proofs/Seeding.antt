@@ -9,11 +9,10 @@ use Rattle.image_build.specs.declared.fault.BuildFault.{BuildFault}
 use Rattle.image_build.specs.declared.fault.BuildFault.TheVariants as fault
 use Rattle.run_script.specs.Scripts.{ScriptData}
 use Rattle.sample_gen.specs.Sample.{app_by, task_by, source_of, client_priority, sample_app, sample_sources, sample_script}
-use Rattle.task_table.specs.Start.{start}
 use Rattle.board_core.specs.declared.board.Board.{Board}
 use Rattle.board_core.specs.Opened as opened
 use Rattle.board_core.specs.Stands.{Stands, Stood, turns_of}
-use Rattle.board_model.specs.Script.{Scenario}
+use Rattle.board_model.specs.Script.{Scenario, start_of}
 use Rattle.command_line.specs.CommandLine.{sample}
 use Rattle.trace_cli.specs.Contents.{sample_scenario}
 use Rattle.outside_io.specs.Seen.{FilesSeen, SinkSeen}
@@ -44,16 +43,16 @@ refused_as_sample seed app sources f is are law h =
     law seed f (subst (λ (ss : List (List ℕ)). Refuses (sample_app seed) ss f) are (subst (λ (a : AppData). Refuses a sources f) is h))
 
 pub sample_ready : (seed : ℕ) (app : AppData) (sources : List (List ℕ)) (script : ScriptData) (image : Picture) (b : Board) → app ≡ sample_app seed → sources ≡ sample_sources seed
-    → script ≡ sample_script seed → Built app sources image → Stands (opened.scenario_of image script) b (start (opened.setup_of_image image)) → turns_of b ≡ 0 → IsSampleReady seed b
+    → script ≡ sample_script seed → Built app sources image → Stands (opened.scenario_of image script) b (start_of (opened.scenario_of image script)) → turns_of b ≡ 0 → IsSampleReady seed b
 sample_ready seed app sources script image b is are seen built stands turns = record {
   image = image;
   built = subst (λ (ss : List (List ℕ)). Built (sample_app seed) ss image) are (subst (λ (a : AppData). Built a sources image) is built);
-  stands = subst (λ (s : ScriptData). Stands (opened.scenario_of image s) b (start (opened.setup_of_image image))) seen stands;
+  stands = subst (λ (s : ScriptData). Stands (opened.scenario_of image s) b (start_of (opened.scenario_of image s))) seen stands;
   turns = turns;
 }
 
 pub sample_stood : (seed : ℕ) (b : Board) → IsSampleReady seed b → Stood b × (turns_of b ≡ 0)
-sample_stood seed b h = ((sample_scenario seed h.image, start (sample_scenario seed h.image).setup, h.stands), h.turns)
+sample_stood seed b h = ((sample_scenario seed h.image, start_of (sample_scenario seed h.image), h.stands), h.turns)
 
 -- ## the answer
 
@@ -62,7 +61,7 @@ sample_reason a b seed n bd r = does [] (record { takes = takes_none (MayBe a.co
     (samples seed n (sample_scenario seed r.image) (record { is = refl; image = r.image; built = r.built; scenario = refl }) refl)
 
 pub answers_sample : (seed n : ℕ) (a b : FilesSeen) (w w' : SinkSeen) (bd : Board) (r : ℕ) → b.contents ≡ a.contents → IsSampleReady seed bd
-    → ((x : Scenario) → Stands x bd (start x.setup) → Pushed w w' (sampled n x) r) → AnswersJob (sample seed n) a b w w' r
+    → ((x : Scenario) → Stands x bd (start_of x) → Pushed w w' (sampled n x) r) → AnswersJob (sample seed n) a b w w' r
 answers_sample seed n a b w w' bd r same ready tells =
     let x = sample_scenario seed ready.image in
     answers_pushed (sample seed n) a b w w' (sampled n x) r same refl (sample_reason a b seed n bd ready) tt (tells x ready.stands)

@@ -1,15 +1,14 @@
 -- The run from the start.
 use Rattle.std.proofs.Common.{◌≡◌, ℕ, ◌-◌, ap, arith}
-use Rattle.task_table.specs.Start.{start}
 use Rattle.board_core.specs.declared.board.Board.{Board}
 use Rattle.board_model.specs.declared.outcomes.Level.{Level}
 use Rattle.board_model.specs.Run as board
-use Rattle.board_model.specs.Script.{Scenario}
+use Rattle.board_model.specs.Script.{Scenario, start_of}
 use Rattle.board_core.specs.Stands.{Stands, turns_of}
 use Rattle.trace_cli.specs.Verdict.{run_of}
 
-pub from_start : (level : Level) (x : Scenario) (b : Board) (n : ℕ) → Stands x b (start x.setup) → turns_of b ≡ 0 → board.run level x (n - (start x.setup).turn) (start x.setup) ≡ run_of level n x
+pub from_start : (level : Level) (x : Scenario) (b : Board) (n : ℕ) → Stands x b (start_of x) → turns_of b ≡ 0 → board.run level x (n - (start_of x).turn) (start_of x) ≡ run_of level n x
 from_start level x b n st none =
-    let at : turns_of b ≡ (start x.setup).turn = st.holds.turns in
-    let e : n - (start x.setup).turn ≡ n = omega arith in
-    ap (λ (k : ℕ). board.run level x k (start x.setup)) e
+    let at : turns_of b ≡ (start_of x).turn = st.holds.turns in
+    let e : n - (start_of x).turn ≡ n = omega arith in
+    ap (λ (k : ℕ). board.run level x k (start_of x)) e

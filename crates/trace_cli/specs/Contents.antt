@@ -140,8 +140,8 @@ abbrev pub setup_of_image : Picture → Setup
 setup_of_image image = opened.setup_of_image image
 
 abbrev pub scenario_of : Picture → List ℕ → Scenario
-scenario_of image script = record { setup = setup_of_image image; script = script_of script }
+scenario_of image script = record { setup = setup_of_image image; script = script_of script; devices = [] }
 
 -- the run of the sample of a seed, of which this is the image
 abbrev pub sample_scenario : ℕ → Picture → Scenario
-sample_scenario seed image = record { setup = setup_of_image image; script = sample_script seed }
+sample_scenario seed image = record { setup = setup_of_image image; script = sample_script seed; devices = [] }

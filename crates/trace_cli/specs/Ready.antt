@@ -1,11 +1,10 @@
 -- A board at the start of a job's run, or the file that is not accepted.
 use Rattle.std.specs.Prelude.{◌≡◌, ℕ, List, Option, None}
-use Rattle.task_table.specs.Start.{start}
 use Rattle.image_format.specs.Picture.{Picture}
 use Rattle.image_build.specs.Built.{Built}
 use Rattle.sample_gen.specs.Sample.{sample_app, sample_sources}
 use Rattle.board_core.specs.declared.board.Board.{Board}
-use Rattle.board_model.specs.Script.{Scenario}
+use Rattle.board_model.specs.Script.{Scenario, start_of}
 use Rattle.board_core.specs.Stands.{Stands, turns_of}
 use Rattle.trace_audit.specs.declared.verdict.Verdict as trace
 use Rattle.trace_audit.specs.Verdicts as trace_audit
@@ -29,7 +28,7 @@ pub record IsSet (seen : List ℕ → Option (List ℕ)) (image : Picture) (name
   pub script : List ℕ
   pub held : MayBe seen name script
   pub accepted : script_refusal script ≡ None
-  pub stands : Stands (scenario_of image script) b (start (scenario_of image script).setup)
+  pub stands : Stands (scenario_of image script) b (start_of (scenario_of image script))
   pub turns : turns_of b ≡ 0
 
 -- each file of the job is accepted, and the board stands for the start of its run
@@ -38,14 +37,14 @@ pub record IsReady (job : Asked) (seen : List ℕ → Option (List ℕ)) (n : �
   pub accepted : TakesAll (MayBe seen) job contents
   pub scenario : Scenario
   pub is : IsRun job contents n detail scenario
-  pub stands : Stands scenario b (start scenario.setup)
+  pub stands : Stands scenario b (start_of scenario)
   pub turns : turns_of b ≡ 0
 
 -- the board stands for the start of the run of the sample of a seed
 pub record IsSampleReady (seed : ℕ) (b : Board) : Type 0 where
   pub image : Picture
   pub built : Built (sample_app seed) (sample_sources seed) image
-  pub stands : Stands (sample_scenario seed image) b (start (sample_scenario seed image).setup)
+  pub stands : Stands (sample_scenario seed image) b (start_of (sample_scenario seed image))
   pub turns : turns_of b ≡ 0
 
 -- the trace of this name was accepted, and this is the verdict on it

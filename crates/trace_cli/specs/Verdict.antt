@@ -5,11 +5,10 @@ use Rattle.image_format.specs.Picture.{Picture, spelling}
 use Rattle.image_list.specs.Listing.{image_data}
 use Rattle.board_model.specs.declared.outcomes.End.{End}
 use Rattle.board_model.specs.declared.outcomes.End.TheVariants.{Bound, Still, Supervisor}
-use Rattle.task_table.specs.Start.{start}
 use Rattle.task_table.specs.State.{Setup, State}
 use Rattle.board_model.specs.declared.outcomes.Level.{Level}
 use Rattle.board_model.specs.declared.outcomes.Level.TheVariants.{Calls, All}
-use Rattle.board_model.specs.Script.{Scenario}
+use Rattle.board_model.specs.Script.{Scenario, start_of}
 use Rattle.board_model.specs.Run as board
 use Rattle.board_run.specs.Text.{trace_text}
 use Rattle.board_run.specs.Counts.{summary_text}
@@ -82,7 +81,7 @@ level_of detail = if detail.instructions then All else Calls
 
 -- the run of a scenario from its start, of at most n turns
 abbrev pub run_of : Level → ℕ → Scenario → board.Run
-run_of level n x = board.run level x n (start x.setup)
+run_of level n x = board.run level x n (start_of x)
 
 -- the memory of its last state, where it is asked for
 abbrev pub memory_if : Bool → Setup → State → List ℕ

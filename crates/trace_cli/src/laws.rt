@@ -1,8 +1,8 @@
 //! Laws that stand over the definitions of the program's verdicts. Nothing runs here.
 
 ghost use Rattle.std.specs.Prelude.{◌≡◌, ◌≢◌, ◌↔◌, ℕ, List, ◌++◌, Option, Some, None};
-ghost use Rattle.task_table.specs.Start.{start};
 ghost use Rattle.board_model.specs.Run.{run};
+ghost use Rattle.board_model.specs.Script.{start_of};
 ghost use Rattle.board_run.specs.Text.{trace_text};
 ghost use Rattle.command_line.specs.CommandLine.{build as build_job, run as run_job, go as go_job};
 ghost use Rattle.command_line.specs.declared.job.Detail.{Detail};
@@ -19,7 +19,7 @@ pub fn run_tells_the_abstract_run()
         → job_in words ≡ Some (run_job image_name script_name n detail) → seen image_name ≡ Some image → seen script_name ≡ Some script
         → image_refusal image ≡ None → script_refusal script ≡ None
         → let x = scenario_of (picture_of image) script in
-        let r = run (level_of detail) x n (start x.setup) in
+        let r = run (level_of detail) x n (start_of x) in
         IsVerdict words seen v ↔ (v ≡ line_alone (status_of r.end) (trace_text r ++ memory_if detail.memory x.setup r.last)) }
 {}
 

@@ -3,9 +3,8 @@ ghost use Rattle.std.specs.Prelude.{◌≡◌, ◌≢◌, ◌≤◌, ◌⊎◌, 
 ghost use Rattle.std.specs.Io.KnownBytes.{Appends};
 ghost use Rattle.outside_io.specs.Outside.{Pushes, Rose, HasCause};
 ghost use Rattle.image_format.specs.Images.{picture};
-ghost use Rattle.board_model.specs.Script.{Scenario};
+ghost use Rattle.board_model.specs.Script.{Scenario, start_of};
 ghost use Rattle.board_core.specs.Stands.{Stands, Stood, turns_of};
-ghost use Rattle.task_table.specs.Start.{start};
 ghost use Rattle.command_line.specs.CommandLine.{Asked, is_accepted, build as build_job, run as run_job, go as go_job, list as list_job, migrate as migrate_job, audit as audit_job};
 ghost use Rattle.outside_io.specs.Seen.{FilesSeen};
 ghost use Rattle.audit_runs.specs.Last.{IsGoodText};
@@ -49,9 +48,9 @@ fn push_run<S: Sink>(
     requires stood { Stood board.old }
     requires fresh { turns_of board.old ≡ 0 }
     requires few { steps ≤ 1000000000 }
-    ensures text { (x : Scenario) → Stands x board.old (start x.setup) → Pushes (S.seen out.old).written (S.seen out.new).written (ran steps detail x).text result }
-    ensures end { (x : Scenario) → Stands x board.old (start x.setup) → IfOk result (λ e. e ≡ (run_of (level_of detail) steps x).end) }
-    ensures good { (x : Scenario) → Stands x board.old (start x.setup) → IfOk result (λ _. IsGoodText (ran steps detail x).text) }
+    ensures text { (x : Scenario) → Stands x board.old (start_of x) → Pushes (S.seen out.old).written (S.seen out.new).written (ran steps detail x).text result }
+    ensures end { (x : Scenario) → Stands x board.old (start_of x) → IfOk result (λ e. e ≡ (run_of (level_of detail) steps x).end) }
+    ensures good { (x : Scenario) → Stands x board.old (start_of x) → IfOk result (λ _. IsGoodText (ran steps detail x).text) }
     ensures cause { HasCause (S.seen out.old).faults (S.seen out.new).faults result }
 {
     texts_of_runs_are_good();
@@ -68,8 +67,8 @@ fn tell_run<S: Sink>(board: &mut Board, steps: u32, detail: Detail, out: &mut S)
     requires stood { Stood board.old }
     requires fresh { turns_of board.old ≡ 0 }
     requires few { steps ≤ 1000000000 }
-    ensures pushed { (x : Scenario) → Stands x board.old (start x.setup) → Pushed (S.seen out.old) (S.seen out.new) (ran steps detail x) result }
-    ensures good { (x : Scenario) → Stands x board.old (start x.setup) → IsOfRun result → IsGoodText (ran steps detail x).text }
+    ensures pushed { (x : Scenario) → Stands x board.old (start_of x) → Pushed (S.seen out.old) (S.seen out.new) (ran steps detail x) result }
+    ensures good { (x : Scenario) → Stands x board.old (start_of x) → IsOfRun result → IsGoodText (ran steps detail x).text }
 {
     match push_run(board, steps, detail, out) {
         Ok(end) => status_by(end),

@@ -2,12 +2,11 @@
 ghost use Rattle.std.specs.Prelude.{◌≡◌, ◌≤◌, IfOk, IfErr, length, map, string_bytes};
 ghost use Rattle.app_toml.specs.Held.{app_of};
 ghost use Rattle.board_core.specs.Stands.{Stands, Stood, turns_of};
-ghost use Rattle.board_model.specs.Script.{Scenario};
+ghost use Rattle.board_model.specs.Script.{Scenario, start_of};
 ghost use Rattle.command_line.specs.CommandLine.{sample as sample_job};
 ghost use Rattle.image_build.specs.Building.{Refuses};
 ghost use Rattle.image_build.specs.Built.{Built};
 ghost use Rattle.image_format.specs.Images.{picture};
-ghost use Rattle.task_table.specs.Start.{start};
 ghost use Rattle.trace_cli.specs.Answer.{AnswersJob};
 ghost use Rattle.trace_cli.specs.Ready.{IsSampleReady};
 ghost use Rattle.outside_io.specs.Seen.{FilesSeen};
@@ -60,7 +59,7 @@ fn tell_sample<S: Sink>(board: &mut Board, steps: u32, out: &mut S) -> u8
     requires stood { Stood board.old }
     requires fresh { turns_of board.old ≡ 0 }
     requires few { steps ≤ 1000000000 }
-    ensures { (x : Scenario) → Stands x board.old (start x.setup) → Pushed (S.seen out.old) (S.seen out.new) (sampled steps x) result }
+    ensures { (x : Scenario) → Stands x board.old (start_of x) → Pushed (S.seen out.old) (S.seen out.new) (sampled steps x) result }
 {
     match summarize(board, steps, out) {
         Ok(end) => status_by(end),

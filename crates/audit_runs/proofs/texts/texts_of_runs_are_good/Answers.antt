@@ -1,12 +1,12 @@
 use Rattle.std.proofs.Common.{ℕ, List, ◌++◌, subst, arith}
 use Rattle.task_table.specs.State.{Setup}
 use Rattle.task_table.specs.Sane.{Sane}
-use Rattle.task_table.specs.Start.{start}
 use Rattle.trace_text.specs.Fit.{AreFit}
 use Rattle.trace_audit.specs.Rules.{IsGood}
 use Rattle.trace_audit.specs.Texts.{lines_of}
 use Rattle.trace_audit.specs.Verdicts.{HasNoCause, read_lines}
 use Rattle.board_model.specs.Run.{Run, run}
+use Rattle.board_model.specs.Script.{start_of}
 use Rattle.board_model.specs.Lifetimes.{notes_in}
 use Rattle.board_run.specs.Text.{trace_text}
 use Rattle.audit_laws.specs.Whole.{AreInOrder, AreRight}
@@ -27,4 +27,4 @@ pub returns-clause-any : goal.returns-clause-any
 returns-clause-any c = text_of
 
 pub returns-clause-runs : goal.returns-clause-runs
-returns-clause-runs c = λ level x n sane more last fit shown. text_of x.setup (run level x n (start x.setup)) more (sane_run level x n (start x.setup) sane) last shown (run_in_order level x n 0 (start x.setup) sane (omega arith)) fit (run_right level x n (start x.setup) sane) (run_spoken level x n sane)
+returns-clause-runs c = λ level x n sane more last fit shown. text_of x.setup (run level x n (start_of x)) more (sane_run level x n (start_of x) sane) last shown (run_in_order level x n 0 (start_of x) sane (omega arith)) fit (run_right level x n (start_of x) sane) (run_spoken level x n sane)

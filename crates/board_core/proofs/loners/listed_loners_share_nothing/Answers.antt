@@ -1,4 +1,4 @@
-use Rattle.board_core.proofs.Loners.{listed_loner}
+use Rattle.board_core.proofs.ListedLoners.{listed_loner}
 use Rattle.board_core.proofs.loners.listed_loners_share_nothing.Goals as goal
 
 pub returns : goal.returns

@@ -3,8 +3,8 @@ use Rattle.std.proofs.lemmas.List.{append-nil}
 use Rattle.std.proofs.lemmas.Result.{err_from_is_err_and}
 use Rattle.std.specs.Io.KnownBytes.{Appends}
 use Rattle.outside_io.specs.Outside.{AppendsFront}
-use Rattle.task_table.specs.Start.{start}
 use Rattle.board_model.specs.Run.{Run, run}
+use Rattle.board_model.specs.Script.{start_of}
 use Rattle.board_model.specs.declared.outcomes.Level.{Level}
 use Rattle.board_core.specs.Stands.{Stands}
 use Rattle.board_run.specs.Text.{trace_text}
@@ -22,7 +22,7 @@ returns-in_err-end-clause-text g c = λ x st.
     let same = from_start c.level_of.result x c.args.board.now c.args.steps st c.requires.fresh ∙ ap (λ (l : Level). run_of l c.args.steps x) c.level_of.ensures in
     let whole = run_of (level_of c.args.detail) c.args.steps x in
     let P : Run → Type 0 = λ r. AppendsFront (g.S.Sink.seen c.args.out.now).written (g.S.Sink.seen c.run.new.out).written (trace_text r) in
-    rw (p.1) (front_wider _ _ (trace_text whole) (memory_if c.args.detail.memory x.setup whole.last) (subst P same (c.in_err-end.ensures.text x (start x.setup) st)))
+    rw (p.1) (front_wider _ _ (trace_text whole) (memory_if c.args.detail.memory x.setup whole.last) (subst P same (c.in_err-end.ensures.text x (start_of x) st)))
 
 pub returns-in_err-write_memory-clause-text : goal.returns-in_err-write_memory-clause-text
 returns-in_err-write_memory-clause-text g c = λ x st.
@@ -31,8 +31,8 @@ returns-in_err-write_memory-clause-text g c = λ x st.
     let whole = run_of (level_of c.args.detail) c.args.steps x in
     let P : Run → Type 0 = λ r. Appends (g.S.Sink.seen c.args.out.now).written (g.S.Sink.seen c.run.new.out).written (trace_text r) in
     let L : Run → Type 0 = λ r. Stands x c.run.new.board r.last in
-    let last = subst L same (c.in_ok-end.ensures.last x (start x.setup) st) in
-    rw (p.1, c.if-detail.true) (front_more _ _ _ (trace_text whole) (memory_text x.setup whole.last) (subst P same (c.in_ok-end.ensures.text x (start x.setup) st)) (c.in_err-write_memory.ensures.text x whole.last last))
+    let last = subst L same (c.in_ok-end.ensures.last x (start_of x) st) in
+    rw (p.1, c.if-detail.true) (front_more _ _ _ (trace_text whole) (memory_text x.setup whole.last) (subst P same (c.in_ok-end.ensures.text x (start_of x) st)) (c.in_err-write_memory.ensures.text x whole.last last))
 
 pub returns-in_ok-write_memory-clause-text : goal.returns-in_ok-write_memory-clause-text
 returns-in_ok-write_memory-clause-text g c = λ x st.
@@ -40,42 +40,42 @@ returns-in_ok-write_memory-clause-text g c = λ x st.
     let whole = run_of (level_of c.args.detail) c.args.steps x in
     let P : Run → Type 0 = λ r. Appends (g.S.Sink.seen c.args.out.now).written (g.S.Sink.seen c.run.new.out).written (trace_text r) in
     let L : Run → Type 0 = λ r. Stands x c.run.new.board r.last in
-    let last = subst L same (c.in_ok-end.ensures.last x (start x.setup) st) in
-    rw c.if-detail.true (appends_more _ _ _ (trace_text whole) (memory_text x.setup whole.last) (subst P same (c.in_ok-end.ensures.text x (start x.setup) st)) (c.in_ok-write_memory.ensures.text x whole.last last))
+    let last = subst L same (c.in_ok-end.ensures.last x (start_of x) st) in
+    rw c.if-detail.true (appends_more _ _ _ (trace_text whole) (memory_text x.setup whole.last) (subst P same (c.in_ok-end.ensures.text x (start_of x) st)) (c.in_ok-write_memory.ensures.text x whole.last last))
 
 pub returns-in_ok-write_memory-clause-end : goal.returns-in_ok-write_memory-clause-end
 returns-in_ok-write_memory-clause-end g c = λ x st.
-    c.in_ok-end.ensures.end x (start x.setup) st ∙ ap (λ (r : Run). r.end) (from_start c.level_of.result x c.args.board.now c.args.steps st c.requires.fresh ∙ ap (λ (l : Level). run_of l c.args.steps x) c.level_of.ensures)
+    c.in_ok-end.ensures.end x (start_of x) st ∙ ap (λ (r : Run). r.end) (from_start c.level_of.result x c.args.board.now c.args.steps st c.requires.fresh ∙ ap (λ (l : Level). run_of l c.args.steps x) c.level_of.ensures)
 
 pub returns-else-detail-clause-end : goal.returns-else-detail-clause-end
 returns-else-detail-clause-end g c = λ x st.
-    c.in_ok-end.ensures.end x (start x.setup) st ∙ ap (λ (r : Run). r.end) (from_start c.level_of.result x c.args.board.now c.args.steps st c.requires.fresh ∙ ap (λ (l : Level). run_of l c.args.steps x) c.level_of.ensures)
+    c.in_ok-end.ensures.end x (start_of x) st ∙ ap (λ (r : Run). r.end) (from_start c.level_of.result x c.args.board.now c.args.steps st c.requires.fresh ∙ ap (λ (l : Level). run_of l c.args.steps x) c.level_of.ensures)
 
 pub returns-else-detail-clause-text : goal.returns-else-detail-clause-text
 returns-else-detail-clause-text g c = λ x st.
     let same = from_start c.level_of.result x c.args.board.now c.args.steps st c.requires.fresh ∙ ap (λ (l : Level). run_of l c.args.steps x) c.level_of.ensures in
     let P : Run → Type 0 = λ r. Appends (g.S.Sink.seen c.args.out.now).written (g.S.Sink.seen c.run.new.out).written (trace_text r) in
-    rw (c.if-detail.false, append-nil (trace_text (run_of (level_of c.args.detail) c.args.steps x))) (subst P same (c.in_ok-end.ensures.text x (start x.setup) st))
+    rw (c.if-detail.false, append-nil (trace_text (run_of (level_of c.args.detail) c.args.steps x))) (subst P same (c.in_ok-end.ensures.text x (start_of x) st))
 
 pub returns-in_ok-write_memory-clause-good : goal.returns-in_ok-write_memory-clause-good
 returns-in_ok-write_memory-clause-good g c = λ x st.
     let n = c.args.steps in
     let same = from_start c.level_of.result x c.args.board.now n st c.requires.fresh ∙ ap (λ (l : Level). run_of l n x) c.level_of.ensures in
-    let whole = run c.level_of.result x (n - (start x.setup).turn) (start x.setup) in
-    let last = c.in_ok-end.ensures.last x (start x.setup) st in
-    let fits = last_fits x c.run.new.board whole.last n c.requires.few c.in_ok-end.ensures.within last (c.in_ok-end.ensures.timers x (start x.setup) st) in
-    let good = c.texts_of_runs_are_good.ensures.runs c.level_of.result x (n - (start x.setup).turn) st.sane in
+    let whole = run c.level_of.result x (n - (start_of x).turn) (start_of x) in
+    let last = c.in_ok-end.ensures.last x (start_of x) st in
+    let fits = last_fits x c.run.new.board whole.last n c.requires.few c.in_ok-end.ensures.within last (c.in_ok-end.ensures.timers x (start_of x) st) in
+    let good = c.texts_of_runs_are_good.ensures.runs c.level_of.result x (n - (start_of x).turn) st.sane in
     let shown = c.memories_are_shown.ensures.memories x.setup whole.last last.sane in
     let P : Run → Type 0 = λ r. IsGoodText (trace_text r ++ memory_text x.setup r.last) in
-    rw c.if-detail.true (subst P same (good (memory_text x.setup whole.last) fits (c.in_ok-end.ensures.fit x (start x.setup) st) shown))
+    rw c.if-detail.true (subst P same (good (memory_text x.setup whole.last) fits (c.in_ok-end.ensures.fit x (start_of x) st) shown))
 
 pub returns-else-detail-clause-good : goal.returns-else-detail-clause-good
 returns-else-detail-clause-good g c = λ x st.
     let n = c.args.steps in
     let same = from_start c.level_of.result x c.args.board.now n st c.requires.fresh ∙ ap (λ (l : Level). run_of l n x) c.level_of.ensures in
-    let whole = run c.level_of.result x (n - (start x.setup).turn) (start x.setup) in
-    let last = c.in_ok-end.ensures.last x (start x.setup) st in
-    let fits = last_fits x c.run.new.board whole.last n c.requires.few c.in_ok-end.ensures.within last (c.in_ok-end.ensures.timers x (start x.setup) st) in
-    let good = c.texts_of_runs_are_good.ensures.runs c.level_of.result x (n - (start x.setup).turn) st.sane in
+    let whole = run c.level_of.result x (n - (start_of x).turn) (start_of x) in
+    let last = c.in_ok-end.ensures.last x (start_of x) st in
+    let fits = last_fits x c.run.new.board whole.last n c.requires.few c.in_ok-end.ensures.within last (c.in_ok-end.ensures.timers x (start_of x) st) in
+    let good = c.texts_of_runs_are_good.ensures.runs c.level_of.result x (n - (start_of x).turn) st.sane in
     let P : Run → Type 0 = λ r. IsGoodText (trace_text r ++ []) in
-    rw c.if-detail.false (subst P same (good [] fits (c.in_ok-end.ensures.fit x (start x.setup) st) c.memories_are_shown.ensures.none))
+    rw c.if-detail.false (subst P same (good [] fits (c.in_ok-end.ensures.fit x (start_of x) st) c.memories_are_shown.ensures.none))

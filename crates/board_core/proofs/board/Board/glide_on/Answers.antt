@@ -15,7 +15,7 @@ reload_context-requires c =
     let x = c.requires.stood.0 in
     let s = c.requires.stood.1 in
     let st = c.requires.stood.2 in
-    below _ x.setup b.machine.reach.kernel _ (rested b.machine s) c.args.task st.holds.machine (chosen_is s c.args.task st.sane (sym st.holds.choice.next ∙ c.requires.next)).inside
+    below _ x.setup b.machine.reach _ (rested b.machine s) c.args.task st.holds.machine (chosen_is s c.args.task st.sane (sym st.holds.choice.next ∙ c.requires.next)).inside
 
 pub returns-then-reload_context-clause-glided : goal.returns-then-reload_context-clause-glided
 returns-then-reload_context-clause-glided c = λ x s st.

@@ -31,11 +31,12 @@ returns-clause-midway c = λ x s due.
     let T : ℕ → Type 0 = λ turn. MachineStands g c.happen_all.new.self (fold (happened g) (begun s) (events_of x.script turn)) in
     let A : Turn → Type 0 = λ t. MachineStands g c.happen_all.new.self t in
     let after : MachineStands g c.happen_all.new.self (after_events x s) = subst A (all_events x s) (subst T due.turns (subst S due.script (c.happen_all.ensures.stands g (begun s) due.machine))) in
-    let stands : Stands g c.save_context.new.self.reach.kernel (after_events x s) = record { holds = c.save_context.ensures.holds g (after_events x s) after.holds; sane = after.sane } in
+    let saved = c.save_context.ensures.holds g (after_events x s) after.holds in
+    let stands : Stands g c.save_context.new.self.reach.kernel (after_events x s) = record { holds = saved.kernel; sane = after.sane } in
     let N : ScriptData → Type 0 = λ script. IsNext script (b.turns + 1) c.next-self.result in
     let M : ℕ → Type 0 = λ turn. IsNext x.script (turn + 1) c.next-self.result in
     record {
-      machine = unloaded_stands g m (after_events x s) c.save_context.ensures.unloaded stands;
+      machine = unloaded_stands g m (after_events x s) c.save_context.ensures.unloaded stands saved.devices;
       choice = c.renew_choice.ensures g (after_events x s) stands.holds due.choice;
       script = due.script;
       due = subst M due.turns (subst N due.script c.next-self.ensures);

@@ -9,4 +9,4 @@ returns-else-not-is_empty-clause-choice c = λ g t st was f.
     f (sym (noted_in g c.args.self.now.machine t st.holds) ∙ none)
 
 pub returns-then-not-is_empty-clause-choice : goal.returns-then-not-is_empty-clause-choice
-returns-then-not-is_empty-clause-choice c = λ g t st was f. c.renew_choice.ensures g t (c.save_context.ensures.holds g t st.holds) was
+returns-then-not-is_empty-clause-choice c = λ g t st was f. c.renew_choice.ensures g t (c.save_context.ensures.holds g t st.holds).kernel was

@@ -9,5 +9,5 @@ returns-clause-holds c = λ x s h.
     let b = c.args.self.now in
     let u : State = record s { current = c.args.v } in
     let saved = c.save_context.ensures.holds x.setup (rested b.machine s) h.machine in
-    let kernel = c.set_current.ensures.holds x.setup (rested b.machine s) saved in
-    holds_told x x s u b _ h refl refl kernel c.save_context.ensures.unloaded (c.choice_of-self.ensures x.setup (rested b.machine u) kernel) refl refl refl
+    let kernel = c.set_current.ensures.holds x.setup (rested b.machine s) saved.kernel in
+    holds_told x x s u b _ h refl refl record { kernel = kernel; devices = saved.devices } c.save_context.ensures.unloaded (c.choice_of-self.ensures x.setup (rested b.machine u) kernel) refl refl refl

@@ -12,6 +12,7 @@ use Rattle.task_table.specs.Holds.{current_of, memory_of}
 use Rattle.board_model.specs.Turn.{cpu_of}
 use Rattle.board_core.specs.Reached.{is_flash_at, AreReached}
 use Rattle.board_core.specs.Windowed.{IsWholeWindow, later}
+use Rattle.board_core.specs.declared.reach.Reach.{Reach}
 use Rattle.board_core.specs.Machine.{IsLoaded}
 use Rattle.board_core.specs.Gliding.{lent_view}
 use Rattle.board_core.proofs.Loading.{rest_of, loaded_cpu, loaded_by, loaded_register}
@@ -23,15 +24,15 @@ pub returns-in_default-clause-glided : goal.returns-in_default-clause-glided
 returns-in_default-clause-glided c = λ g t r.
     let m = c.args.self.now in
     let k = m.reach.kernel in
-    let pc : c.get-pc.result ≡ register t.state t.state.current program_counter = c.get-pc.ensures ∙ loaded_register program_counter g k m.processor t r.holds r.sane.steady.current in
+    let pc : c.get-pc.result ≡ register t.state t.state.current program_counter = c.get-pc.ensures ∙ loaded_register program_counter g m.reach m.processor t r.holds r.sane.steady.current in
     inr record {
       none = refl;
       beyond =
           ap (λ (at : ℕ). list_any (is_flash_at at) (setup_at g t.state.current).regions) (sym pc)
           ∙ ap (λ (i : ℕ). list_any (is_flash_at c.get-pc.result) (setup_at g i).regions) (sym (current_seen g m t r))
-          ∙ ap (λ (x : Setup). list_any (is_flash_at c.get-pc.result) (setup_at x (current_of k)).regions) (sym r.holds.holds.setup)
+          ∙ ap (λ (x : Setup). list_any (is_flash_at c.get-pc.result) (setup_at x (current_of k)).regions) (sym r.holds.holds.kernel.setup)
           ∙ c.in_default.ensures;
-      holds = loaded_by m.loaded g k m.processor t r.loaded r.holds;
+      holds = loaded_by m.loaded g m.reach m.processor t r.loaded r.holds;
     }
 
 pub returns-then-not-open_window-clause-glided : goal.returns-then-not-open_window-clause-glided
@@ -56,23 +57,24 @@ returns-clause-glided c = λ g t r.
     let sp : ℕ = c.get-sp.result in
     let v : View = lent_view a (bytes_of (memory_of k) (flash.base, flash.size)) (bytes_of (memory_of k) (ram.base, ram.size)) in
     let w : View = lent_view a (bytes_of (memory_of k) (flash.base, flash.size)) window.after in
-    let memory : memory_of k ≡ t.state.memory = h.holds.memory ∙ sym rest.memory in
+    let memory : memory_of k ≡ t.state.memory = h.holds.kernel.memory ∙ sym rest.memory in
     let A : Setup → Type 0 = λ x. AreReached (setup_at x (current_of k)).regions pc sp flash ram in
     let C : ℕ → Type 0 = λ i. AreReached (setup_at g i).regions pc sp flash ram in
-    let are = subst C (current_seen g m t r) (subst A h.holds.setup c.in-Some.ensures) in
-    let stack : sp ≡ register t.state t.state.current stack_pointer = c.get-sp.ensures ∙ loaded_register stack_pointer g k m.processor t h r.sane.steady.current in
-    let there : pc ≡ register t.state t.state.current program_counter = c.get-pc.ensures ∙ loaded_register program_counter g k m.processor t h r.sane.steady.current in
+    let are = subst C (current_seen g m t r) (subst A h.holds.kernel.setup c.in-Some.ensures) in
+    let stack : sp ≡ register t.state t.state.current stack_pointer = c.get-sp.ensures ∙ loaded_register stack_pointer g m.reach m.processor t h r.sane.steady.current in
+    let there : pc ≡ register t.state t.state.current program_counter = c.get-pc.ensures ∙ loaded_register program_counter g m.reach m.processor t h r.sane.steady.current in
     let W : Memory → Type 0 = λ y. IsWholeWindow g t.state.current y pc sp v in
     let P : ℕ → Type 0 = λ at. IsWholeWindow g t.state.current t.state.memory at sp v in
     let S : ℕ → Type 0 = λ at. IsWholeWindow g t.state.current t.state.memory (register t.state t.state.current program_counter) at v in
-    let own : m.processor ≡ cpu_of (task_at t.state t.state.current) = loaded_cpu g k m.processor t h r.sane.steady.current in
+    let own : m.processor ≡ cpu_of (task_at t.state t.state.current) = loaded_cpu g m.reach m.processor t h r.sane.steady.current in
     let G : Cpu → Type 0 = λ y. Glides v y b.made w b.runner.processor in
-    let H : ℕ → Type 0 = λ at. IsLoaded g c.open_window.new.self b.runner.processor record t { state = later t.state t.state.current b.runner.processor (with_bytes t.state.memory at window.after) b.made } in
+    let reach : Reach = record m.reach { kernel = c.open_window.new.self } in
+    let H : ℕ → Type 0 = λ at. IsLoaded g reach b.runner.processor record t { state = later t.state t.state.current b.runner.processor (with_bytes t.state.memory at window.after) b.made } in
     inl record {
       window = v;
       after = w;
       whole = subst S stack (subst P there (subst W memory (whole_window g t.state.current (memory_of k) pc sp flash ram v are c.aim.ensures.flash c.aim.ensures.readable c.aim.ensures.ram window.flash_there window.ram_there refl refl)));
       far = λ lt. window.work.far (flash_below g t.state.current (memory_of k) pc sp flash ram v are c.aim.ensures.flash c.aim.ensures.readable c.aim.ensures.ram window.flash_there window.ram_there refl refl) (let most = c.aim.ensures.most in omega (arith, lt, most));
       glides = subst G (c.aim.ensures.processor ∙ own) window.work.glides;
-      holds = loaded_by m.loaded g c.open_window.new.self b.runner.processor _ r.loaded (subst H (sym c.aim.ensures.ram) (lent_loaded g k c.open_window.new.self m.processor b.runner.processor t ram.base window.after b.made h r.sane.steady.current (λ u held. opened.holds g u held)));
+      holds = loaded_by m.loaded g reach b.runner.processor _ r.loaded (subst H (sym c.aim.ensures.ram) (lent_loaded g m.reach reach m.processor b.runner.processor t ram.base window.after b.made h r.sane.steady.current (λ u held. opened.holds g u held)));
     }

@@ -8,9 +8,10 @@ pub returns-then-is_loaded_for-clause-holds : goal.returns-then-is_loaded_for-cl
 returns-then-is_loaded_for-clause-holds c = λ g t h0 ready.
     let h = is_loaded _ g _ _ t (c.is_loaded_for.ensures.loaded c.if-is_loaded_for.true) h0 in
     let rest = rest_of h.saved t _ h.is in
-    loaded_again g _ _ t c.args.task (sym (c.is_loaded_for.ensures.current c.if-is_loaded_for.true) ∙ h.holds.current ∙ sym rest.current) h
+    loaded_again g _ _ t c.args.task (sym (c.is_loaded_for.ensures.current c.if-is_loaded_for.true) ∙ h.holds.kernel.current ∙ sym rest.current) h
 
 pub returns-clause-holds : goal.returns-clause-holds
 returns-clause-holds c = λ g t h0 ready.
-    let h = c.set_current.ensures.holds g t (c.save_context.ensures.holds g t h0) in
-    loaded_own g _ _ (with_current c.args.task t) h (as_current c.args.task c.args.task t.state ready) (c.cpu-self.ensures g (with_current c.args.task t) h)
+    let saved = c.save_context.ensures.holds g t h0 in
+    let h = c.set_current.ensures.holds g t saved.kernel in
+    loaded_own g record c.save_context.new.self.reach { kernel = c.set_current.new.self } _ (with_current c.args.task t) record { kernel = h; devices = saved.devices } (as_current c.args.task c.args.task t.state ready) (c.cpu-self.ensures g (with_current c.args.task t) h)

@@ -11,4 +11,4 @@ pub returns-in-All-clause-holds : goal.returns-in-All-clause-holds
 returns-in-All-clause-holds c = λ g t h.
     let m : Machine = record c.args.self.now { reach = record c.args.self.now.reach { kernel = c.note.new.self } } in
     let P : Level → Type 0 = λ level. MachineHolds g m (noted_at level note.Idle t) in
-    subst P (sym c.in-All.is) (noted_by _ g c.args.self.now.reach.kernel c.note.new.self _ note.Idle t (λ u hu. c.note.ensures.holds g u hu) h)
+    subst P (sym c.in-All.is) (noted_by _ g c.args.self.now.reach m.reach _ note.Idle t (λ u hu. c.note.ensures.holds g u hu) h)

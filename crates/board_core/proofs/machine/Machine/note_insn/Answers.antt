@@ -17,7 +17,7 @@ returns-in-All-clause-ready c = λ g t r.
     let m : Machine = record c.args.self.now { reach = record c.args.self.now.reach { kernel = c.note.new.self } } in
     let h = r.holds in
     let rest = rest_of h.saved t _ h.is in
-    let task = c.current-task.ensures.holds g h.saved h.holds ∙ sym rest.current in
+    let task = c.current-task.ensures.holds g h.saved h.holds.kernel ∙ sym rest.current in
     let P : Level → Type 0 = λ level. IsReady g m (noted_at level (note.Insn t.state.current c.args.at c.args.code) t) in
     let Q : ℕ → Type 0 = λ i. IsReady g m (noted (note.Insn i c.args.at c.args.code) t) in
     subst P (sym c.in-All.is) (subst Q task (ready_noted g c.args.self.now c.note.new.self (note.Insn c.current-task.result c.args.at c.args.code) t (λ u hu. c.note.ensures.holds g u hu) r))

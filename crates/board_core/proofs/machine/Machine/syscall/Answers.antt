@@ -1,9 +1,10 @@
 use Rattle.std.proofs.Common.{ℕ, subst, arith}
 use Rattle.task_table.specs.Rows.{syscall_noted}
 use Rattle.task_table.specs.Syscalls.{syscall_made}
-use Rattle.task_table.specs.Holds.{Holds}
+use Rattle.board_core.specs.Machine.{ReachHolds}
+use Rattle.board_core.specs.declared.reach.Reach.{Reach}
 use Rattle.board_core.proofs.Loading.{stands_of, unloaded_by}
-use Rattle.board_core.proofs.Noting.{calling, number-syscall_noted}
+use Rattle.board_core.proofs.Noting.{calling, called, number-syscall_noted}
 use Rattle.board_core.proofs.machine.Machine.syscall.Goals as goal
 
 pub syscall-requires-clause-ready : goal.syscall-requires-clause-ready
@@ -12,16 +13,17 @@ syscall-requires-clause-ready c =
     let t = c.requires.ready.1 in
     let r = c.requires.ready.2 in
     let h = c.save_context.ensures.holds g t (stands_of _ _ _ r).holds in
-    let by = calling g c.save_context.new.self.reach.kernel c.note_syscall.new.self c.args.self.now c.current-task.result t r (c.current-task.ensures.holds g t h) h (c.note_syscall.ensures.holds g t) in
+    let by = calling g c.save_context.new.self.reach c.note_syscall.new.self c.args.self.now c.current-task.result t r (c.current-task.ensures.holds g t h.kernel) h (c.note_syscall.ensures.holds g t) in
     (g, syscall_noted c.current-task.result t, by.stands, by.ready)
 
 pub returns-clause-holds : goal.returns-clause-holds
 returns-clause-holds c = λ g t r.
     let h = c.save_context.ensures.holds g t (stands_of _ _ _ r).holds in
-    let task = c.current-task.ensures.holds g t h in
-    let by = calling g c.save_context.new.self.reach.kernel c.note_syscall.new.self c.args.self.now c.current-task.result t r task h (c.note_syscall.ensures.holds g t) in
-    let P : ℕ → Type 0 = λ i. Holds g c.syscall.new.k (syscall_made g i (syscall_noted i t)) in
-    unloaded_by _ g _ _ _ c.save_context.ensures.unloaded (subst P task (c.syscall.ensures.stands g _ by.stands by.ready).holds)
+    let task = c.current-task.ensures.holds g t h.kernel in
+    let by = calling g c.save_context.new.self.reach c.note_syscall.new.self c.args.self.now c.current-task.result t r task h (c.note_syscall.ensures.holds g t) in
+    let after : Reach = record c.save_context.new.self.reach { kernel = c.syscall.new.k } in
+    let P : ℕ → Type 0 = λ i. ReachHolds g after (syscall_made g i (syscall_noted i t)) in
+    unloaded_by _ g _ _ _ c.save_context.ensures.unloaded (subst P task (called g after c.note_syscall.new.self c.current-task.result t by (c.syscall.ensures.stands g _ by.stands by.ready).holds))
 
 pub syscall-requires-clause-number : goal.syscall-requires-clause-number
 syscall-requires-clause-number c =
@@ -30,7 +32,7 @@ syscall-requires-clause-number c =
     let r = c.requires.ready.2 in
     let number = c.requires.ready.3 in
     let h = c.save_context.ensures.holds g t (stands_of _ _ _ r).holds in
-    let by = calling g c.save_context.new.self.reach.kernel c.note_syscall.new.self c.args.self.now c.current-task.result t r (c.current-task.ensures.holds g t h) h (c.note_syscall.ensures.holds g t) in
+    let by = calling g c.save_context.new.self.reach c.note_syscall.new.self c.args.self.now c.current-task.result t r (c.current-task.ensures.holds g t h.kernel) h (c.note_syscall.ensures.holds g t) in
     let kept = by.stands.holds.next_call in
     let same = number-syscall_noted c.current-task.result t in
     omega (arith, kept, same, number)

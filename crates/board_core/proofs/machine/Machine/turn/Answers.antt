@@ -14,7 +14,7 @@ load_context-requires c =
     let t = c.requires.next.1 in
     let n = c.requires.next.2 in
     let is = chosen_is t.state c.in-Some.task n.stands.sane (sym n.is ∙ c.in-Some.is) in
-    below _ g c.args.self.now.reach.kernel _ t c.in-Some.task n.stands.holds is.inside
+    below _ g c.args.self.now.reach _ t c.in-Some.task n.stands.holds is.inside
 
 pub step-requires-clause-ready : goal.step-requires-clause-ready
 step-requires-clause-ready c =
@@ -42,7 +42,7 @@ note_task-requires-clause-there c =
     let many = sane.steady.as_many in
     let there = is.inside in
     let inside : task < length u.state.tasks = omega (arith, before, many, there) in
-    below _ g c.step.new.self.reach.kernel _ u task (c.step.ensures.holds g (with_current task t) ready) inside
+    below _ g c.step.new.self.reach _ u task (c.step.ensures.holds g (with_current task t) ready) inside
 
 pub overflow_cast-result : goal.overflow_cast-result
 overflow_cast-result c =
@@ -50,7 +50,7 @@ overflow_cast-result c =
     let t = c.requires.next.1 in
     let n = c.requires.next.2 in
     let is = chosen_is t.state c.in-Some.task n.stands.sane (sym n.is ∙ c.in-Some.is) in
-    let there = below _ g c.args.self.now.reach.kernel _ t c.in-Some.task n.stands.holds is.inside in
+    let there = below _ g c.args.self.now.reach _ t c.in-Some.task n.stands.holds is.inside in
     let few = c.args.self.now.reach.kernel.few in
     omega (arith, there, few)
 

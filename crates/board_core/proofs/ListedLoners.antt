@@ -1,5 +1,5 @@
 -- Whom the listing of an image names shares nothing.
-use Rattle.std.proofs.Common.{◌≡◌, ◌≢◌, ◌<◌, ℕ, zero, suc, true, List, [], ◌∷◌, Contains, length, map, cond, get_or, refl, sym, subst, ◌∙◌, ap, arith, eq-eqb}
+use Rattle.std.proofs.Common.{◌≡◌, ◌≢◌, ◌<◌, ℕ, zero, suc, true, List, [], ◌∷◌, Contains, length, cond, get_or, refl, sym, subst, ◌∙◌, ap, arith, eq-eqb}
 use Rattle.std.proofs.lemmas.Bool.{ne_eqb}
 use Rattle.std.proofs.lemmas.List.{length-map}
 use Rattle.std.proofs.Math.ListN.{get_or-map}
@@ -23,7 +23,7 @@ there (x ∷ xs) zero q here = omega arith
 there (x ∷ xs) (suc j) q here = let lt = there xs j q here in omega arith
 
 module _ (p : Picture) (i : ℕ) (facts : Facts p) (named : Contains (loners p) i) where
-  tasks : List (List Region)
+  abbrev tasks : List (List Region)
   tasks = regions_by_task p
 
   passes : (i < length p.tasks) × (is_loner tasks i ≡ true)
