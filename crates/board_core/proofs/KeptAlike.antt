@@ -21,6 +21,7 @@ use Rattle.board_model.proofs.Quiet.{chosen_by}
 use Rattle.board_core.specs.declared.board.Board.{Board}
 use Rattle.board_core.specs.declared.choice.Choice.{Choice}
 use Rattle.board_core.specs.Kept.{IsChoice}
+use Rattle.board_core.specs.declared.reach.Reach.{Reach}
 use Rattle.board_core.specs.Machine.{with_cpu, IsLoaded, HoldsBy}
 use Rattle.board_core.specs.Stands.{Holds, Stands}
 use Rattle.board_core.proofs.Loading.{twice, with_own}
@@ -71,6 +72,7 @@ module _ (c : ℕ) (registers : List ℕ) (flags : Flags) (w t s : State) (is : 
     current = sym (ap (λ (u : State). u.current) is) ∙ alike.current;
     next_call = sym (ap (λ (u : State). u.next_call) is) ∙ alike.next_call;
     turn = sym (ap (λ (u : State). u.turn) is) ∙ alike.turn;
+    devices = sym (ap (λ (u : State). u.devices) is) ∙ alike.devices;
   }
 
   own_registers : (task_at s c).registers ≡ registers
@@ -104,12 +106,12 @@ lent_notes c w v = refl
 alone_lent : (c : ℕ) (w s : State) → IsAlone s → IsAlone (lent c w s)
 alone_lent c w s alone i = rw (call_of-with_task s c i _, listen_of-with_task s c i _) (alone i)
 
-loaded_alike : (g : Setup) (k : Kernel) (cpu : Cpu) (t v : Turn) → IsLoaded g k cpu t → AreKeptAlike v.state t.state → v.notes ≡ t.notes → IsAlone v.state → IsLoaded g k cpu v
-loaded_alike g k cpu t v h alike notes alone =
+loaded_alike : (g : Setup) (r : Reach) (cpu : Cpu) (t v : Turn) → IsLoaded g r cpu t → AreKeptAlike v.state t.state → v.notes ≡ t.notes → IsAlone v.state → IsLoaded g r cpu v
+loaded_alike g r cpu t v h alike notes alone =
     let w = h.saved in
     let c = w.state.current in
     let is = given_back c cpu w t refl h.is in
-    let there : c < length w.state.tasks = current_there g k w h.holds in
+    let there : c < length w.state.tasks = current_there g r.kernel w h.holds.kernel in
     let here = inside c cpu.regs.words cpu.flags w.state t.state v.state is there alike in
     let same = lent_alike c cpu.regs.words cpu.flags w.state t.state v.state is there alike in
     let P : State → Type 0 = λ s. AreKeptAlike s w.state in
@@ -120,7 +122,10 @@ loaded_alike g k cpu t v h alike notes alone =
     let current : c ≡ u.state.current = now.current in
     record {
       saved = u;
-      holds = shows_alike g (kept_of k) w u h.holds now (lent_notes c w.state v ∙ notes ∙ same_notes cpu w t h.is) (subst Q at (alone_lent c w.state v.state alone));
+      holds = record {
+        kernel = shows_alike g (kept_of r.kernel) w u h.holds.kernel now (lent_notes c w.state v ∙ notes ∙ same_notes cpu w t h.is) (subst Q at (alone_lent c w.state v.state alone));
+        devices = h.holds.devices ∙ now.devices;
+      };
       ready = ap (is_ready u.state) (sym current) ∙ sym (ready_alike u.state w.state now c) ∙ h.ready;
       is =
           sym (with_own c v.state v refl)
@@ -135,9 +140,9 @@ loaded_alike g k cpu t v h alike notes alone =
 
 -- ## a board
 
-pub machine_alike : (loaded : Bool) (g : Setup) (k : Kernel) (cpu : Cpu) (t v : Turn) → HoldsBy loaded g k cpu t → AreKeptAlike v.state t.state → v.notes ≡ t.notes → IsAlone v.state → HoldsBy loaded g k cpu v
-machine_alike true g k cpu t v h alike notes alone = loaded_alike g k cpu t v h alike notes alone
-machine_alike false g k cpu t v h alike notes alone = shows_alike g (kept_of k) t v h alike notes alone
+pub machine_alike : (loaded : Bool) (g : Setup) (r : Reach) (cpu : Cpu) (t v : Turn) → HoldsBy loaded g r cpu t → AreKeptAlike v.state t.state → v.notes ≡ t.notes → IsAlone v.state → HoldsBy loaded g r cpu v
+machine_alike true g r cpu t v h alike notes alone = loaded_alike g r cpu t v h alike notes alone
+machine_alike false g r cpu t v h alike notes alone = record { kernel = shows_alike g (kept_of r.kernel) t v h.kernel alike notes alone; devices = h.devices ∙ alike.devices }
 
 choice_alike : (g : Setup) (s u : State) (c : Choice) → 0 < length s.tasks → IsChoice g u c → AreKeptAlike s u → IsChoice g s c
 choice_alike g s u c some h alike = record {
@@ -151,7 +156,7 @@ choice_alike g s u c some h alike = record {
 pub stands_alike : (x : Scenario) (b : Board) (s u : State) → Holds x b u → AreKeptAlike s u → Sane x.setup s → IsCounted s → Stands x b s
 stands_alike x b s u h alike sane counted = record {
   holds = record {
-    machine = machine_alike b.machine.loaded x.setup b.machine.reach.kernel b.machine.processor (rested b.machine u) (rested b.machine s) h.machine alike refl (λ i. alone_of x.setup s i sane);
+    machine = machine_alike b.machine.loaded x.setup b.machine.reach b.machine.processor (rested b.machine u) (rested b.machine s) h.machine alike refl (λ i. alone_of x.setup s i sane);
     turns = h.turns ∙ alike.turn;
     choice = choice_alike x.setup s u b.choice (let inside = sane.steady.current in omega (arith, inside)) h.choice alike;
     script = h.script;

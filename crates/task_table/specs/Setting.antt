@@ -82,3 +82,4 @@ pub record AreKeptAlike (s u : State) : Type 0 where
   pub current : u.current ≡ s.current
   pub next_call : u.next_call ≡ s.next_call
   pub turn : u.turn ≡ s.turn
+  pub devices : u.devices ≡ s.devices
