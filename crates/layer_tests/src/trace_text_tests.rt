@@ -551,6 +551,25 @@ fn a_line_stands_in_the_place_of_the_line_before(rt: HostRuntime) {
 }
 
 #[test]
+fn lines_go_on_to_another_turn(rt: HostRuntime) {
+    let mut lines = TurnLines::new(98);
+    for (turn, want) in [
+        (99, "99 idle\n"),
+        (100, "100 idle\n"),
+        (107, "107 idle\n"),
+        (199, "199 idle\n"),
+        (200, "200 idle\n"),
+        (4294967200, "4294967200 idle\n"),
+        (MOST, "4294967295 idle\n"),
+        (7, "7 idle\n"),
+    ] {
+        lines.go_to(turn);
+        lines.write(&Note::Idle);
+        assert!(rt; lines.text() == want);
+    }
+}
+
+#[test]
 fn the_longest_lines_fit(rt: HostRuntime) {
     for (note, length) in &LONGEST {
         assert!(rt; text(MOST, *note).len() == *length);
