@@ -6,3 +6,4 @@ pub mod Listing
 pub mod MemoryLines
 pub mod Tasks
 pub mod Breaking
+pub mod GenerationsTold

@@ -1,4 +1,4 @@
-//! A law of the text of a run's last memory. Nothing runs here.
+//! Laws of the text of a run's last state and memory. Nothing runs here.
 
 ghost use Rattle.std.specs.Prelude.{◌≡◌, List};
 ghost use Rattle.std.specs.List.{flat_map};
@@ -6,9 +6,12 @@ ghost use Rattle.region_check.specs.declared.Region.{Region};
 ghost use Rattle.image_format.specs.Picture.{Picture};
 ghost use Rattle.image_format.specs.Facts.{Facts};
 ghost use Rattle.task_table.specs.State.{Setup, State};
+ghost use Rattle.board_model.specs.declared.outcomes.End.{End as Ending};
+ghost use Rattle.board_model.specs.Alike.{reduced};
 ghost use Rattle.board_core.specs.Opened.{setup_of_image};
 ghost use Rattle.board_run.specs.MemoryText.{memory_text, region_text};
 ghost use Rattle.board_run.specs.Regions.{HasRamRegions, ListsRam};
+ghost use Rattle.board_run.specs.Text.{end_text};
 
 /// The memory text of a state tells each region of RAM once, by ascending base (docs/FORMATS.md, Memories): it is the
 /// texts of the regions of a list, the same for every state, which has all of them. Said of setups whose regions in RAM
@@ -16,4 +19,11 @@ ghost use Rattle.board_run.specs.Regions.{HasRamRegions, ListsRam};
 pub fn memories_have_each_region_once()
     ensures images { (p : Picture) → Facts p → HasRamRegions (setup_of_image p) }
     ensures once { (g : Setup) → HasRamRegions g → (rs : List Region) × ListsRam g rs × ((s : State) → memory_text g s ≡ flat_map (region_text s.memory) rs) }
+{}
+
+/// What is told of a state at the end of a run rests on its births modulo 64: a task's lines tell its generation, and of what it
+/// waits for no birth; the lines of memory tell none. (docs/FORMATS.md, Trace and Memories.)
+pub fn generations_decide_what_is_told()
+    ensures end { (end : Ending) (s : State) → end_text end (reduced s) ≡ end_text end s }
+    ensures memory { (g : Setup) (s : State) → memory_text g (reduced s) ≡ memory_text g s }
 {}

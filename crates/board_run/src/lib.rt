@@ -11,7 +11,7 @@ mod summary;
 mod telling;
 
 pub use counts::Counts;
-pub use laws::memories_have_each_region_once;
+pub use laws::{generations_decide_what_is_told, memories_have_each_region_once};
 pub use memory::write_memory;
 pub use running::{play, run};
 pub use summary::summarize;
