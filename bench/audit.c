@@ -10,10 +10,11 @@
 typedef uint32_t u32;
 typedef uint64_t u64;
 
-/* Fields of a line: n number, t time, w eight digits, r 32 digits, c four or eight digits, f four bits, and words by a list. */
+/* Fields of a line: n number, t time, w eight digits, r 32 digits, c four or eight digits, b two digits, f four bits, and words by a list. */
 struct form { const char *name, *fields; };
 static const struct form TURN[] = {{"tick", "t"}, {"irq", "nH"}, {"post", "nww"}, {"call", "nnwwwwwww"}, {"offer", "nnn"}, {"take", "nn"}, {"listen", "nLw"},
-    {"borrow", "nBnnn"}, {"ret", "nwwwwww"}, {"close", "nC"}, {"fault", "nnww"}, {"restart", "nn"}, {"irqstat", "nwn"}, {"find", "nn"}, {"insn", "nwc*"}, {"idle", ""},
+    {"borrow", "nBnnn"}, {"ret", "nwwwwww"}, {"close", "nC"}, {"fault", "nnww"}, {"restart", "nn"}, {"in", "nbF"}, {"out", "nb"},
+    {"irqstat", "nwn"}, {"find", "nn"}, {"insn", "nwc*"}, {"idle", ""},
     {"low", "wwwwwwww"}, {"high", "wwwwwwwwf"}, {0, 0}};
 static const struct form LAST[] = {{"task", "nnhWwT"}, {"low", "wwwwwwww"}, {"high", "wwwwwwwwf"}, {"mem", "wn"}, {0, 0}};
 static const struct form END[] = {{"end", "Ent"}, {0, 0}};
@@ -52,7 +53,7 @@ static bool timer(struct word w) {
     return is(w, "-") || (w.length > 9 && w.at[w.length - 9] == ':' && number((struct word){w.at, w.length - 9}, UINT64_MAX, &n) && digits((struct word){w.at + w.length - 8, 8}, 8));
 }
 static bool field(char kind, struct word w) {
-    static const char *const handled[] = {"post", "held", "none", 0}, *const endings[] = {"reply", "replyfault", "client", "restart", 0}, *const ways[] = {"read", "write", "info", 0},
+    static const char *const handled[] = {"post", "held", "none", 0}, *const fed[] = {"queued", "full", "none", 0}, *const endings[] = {"reply", "replyfault", "client", "restart", 0}, *const ways[] = {"read", "write", "info", 0},
         *const ends[] = {"bound", "still", "supervisor", 0}, *const listened[] = {"any", "kernel", 0}, *const healths[] = {"well", "stopped", 0}, *const waits[] = {"-", "listen", 0};
     u64 n;
     switch (kind) {
@@ -61,11 +62,13 @@ static bool field(char kind, struct word w) {
         case 'w': return digits(w, 8);
         case 'r': return digits(w, 32);
         case 'c': return digits(w, 4) || digits(w, 8);
+        case 'b': return digits(w, 2);
         case 'f':
             if (w.length != 4) return false;
             for (u32 k = 0; k < 4; k++) if (w.at[k] != '0' && w.at[k] != '1') return false;
             return true;
         case 'H': return is_any(w, handled);
+        case 'F': return is_any(w, fed);
         case 'C': return is_any(w, endings);
         case 'B': return is_any(w, ways);
         case 'E': return is_any(w, ends);

@@ -1,9 +1,9 @@
--- Eight digits, and registers behind spaces.
+-- Eight digits, four and two, and registers behind spaces.
 use Rattle.std.proofs.Common.{◌≡◌, ℕ, ◌/◌, ◌%◌, ◌^◌, ◌<◌, true, List, [], ◌∷◌, ◌++◌, length, map, refl, sym, ap, ◌∙◌, arith, append_assoc}
 use Rattle.std.specs.List.{list_all, flat_map}
 use Rattle.std.proofs.lemmas.Bool.Decides.{nat_tests}
 use Rattle.thumb_insn.specs.Text.{hex_digit}
-use Rattle.trace_text.specs.Text.{hex, half_hex, spaced_hex}
+use Rattle.trace_text.specs.Text.{hex, half_hex, byte_hex, spaced_hex}
 use Rattle.trace_audit.specs.Fields.{is_low_hex, is_hex}
 use Rattle.audit_laws.proofs.Spelling.{spaced}
 use Rattle.audit_laws.proofs.Reading.{AreHex}
@@ -28,6 +28,10 @@ hex_fits n = all_low (n / 16 ^ 7 ∷ n / 16 ^ 6 ∷ n / 16 ^ 5 ∷ n / 16 ^ 4 �
 pub half_fits : (n : ℕ) → is_hex 4 (half_hex n) ≡ true
 unfolding half_hex is_hex
 half_fits n = all_low (n / 16 ^ 3 ∷ n / 16 ^ 2 ∷ n / 16 ∷ n ∷ [])
+
+pub byte_fits : (n : ℕ) → is_hex 2 (byte_hex n) ≡ true
+unfolding byte_hex is_hex
+byte_fits n = all_low (n / 16 ∷ n ∷ [])
 
 pub hexes : (xs : List ℕ) → AreHex (length xs) (map hex xs)
 hexes [] = tt

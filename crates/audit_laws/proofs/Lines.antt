@@ -11,7 +11,7 @@ use Rattle.trace_audit.specs.Texts.{words_of, pieces_of}
 use Rattle.trace_audit.specs.Fields.{form, is_hex, is_any_of, is_of, has_text}
 use Rattle.trace_audit.specs.Meaning.{read, fits, number_at, is_answer, moves_nothing}
 use Rattle.audit_laws.proofs.Spelling.{IsWord, spaced, words_then_text}
-use Rattle.audit_laws.proofs.Reading.{decimal_word, small, short, number_of_word, hex_word, of_number, of_time, of_word, all_of, plain, all_and_text, AreHex, hex_fields, hex_fit, hex_words, turn_read, read_words, spelled_read}
+use Rattle.audit_laws.proofs.Reading.{decimal_word, small, short, number_of_word, hex_word, of_number, of_time, of_word, of_byte, all_of, plain, all_and_text, AreHex, hex_fields, hex_fit, hex_words, turn_read, read_words, spelled_read}
 
 pub tick_back : (t now : ℕ) → t < 2 ^ 32 → now < 2 ^ 64 → read (decimal t ++ spaced (codes "tick" ∷ decimal now ∷ [])) ≡ line.Tells t saying.Nothing
 tick_back t now h a = spelled_read t (codes "tick") (decimal now ∷ []) (form (codes "tick") kind.Plain (field.Time ∷ [])) h refl (decimal_word now a, tt) refl (plain (field.Time ∷ []) (decimal now ∷ []) (of_time now a, tt))
@@ -36,6 +36,12 @@ listen_back t task from mask h a w o x = spelled_read t (codes "listen") (decima
 
 pub restart_back : (t task generation : ℕ) → t < 2 ^ 32 → task < 2 ^ 32 → generation < 2 ^ 32 → read (decimal t ++ spaced (codes "restart" ∷ decimal task ∷ decimal generation ∷ [])) ≡ line.Tells t saying.Nothing
 restart_back t task generation h a b = spelled_read t (codes "restart") (decimal task ∷ decimal generation ∷ []) (form (codes "restart") kind.Plain (field.Number ∷ field.Number ∷ [])) h refl (short task a, (short generation b, tt)) refl (plain (field.Number ∷ field.Number ∷ []) (decimal task ∷ decimal generation ∷ []) (of_number task a, (of_number generation b, tt)))
+
+pub in_back : (t device : ℕ) (byte fed : List ℕ) → t < 2 ^ 32 → device < 2 ^ 32 → is_hex 2 byte ≡ true → IsWord fed → is_of field.Fed fed ≡ true → read (decimal t ++ spaced (codes "in" ∷ decimal device ∷ byte ∷ fed ∷ [])) ≡ line.Tells t saying.Nothing
+in_back t device byte fed h a x w o = spelled_read t (codes "in") (decimal device ∷ byte ∷ fed ∷ []) (form (codes "in") kind.Plain (field.Number ∷ field.Byte ∷ field.Fed ∷ [])) h refl (short device a, (hex_word 2 byte x, (w, tt))) refl (plain (field.Number ∷ field.Byte ∷ field.Fed ∷ []) (decimal device ∷ byte ∷ fed ∷ []) (of_number device a, (of_byte byte x, (o, tt))))
+
+pub out_back : (t device : ℕ) (byte : List ℕ) → t < 2 ^ 32 → device < 2 ^ 32 → is_hex 2 byte ≡ true → read (decimal t ++ spaced (codes "out" ∷ decimal device ∷ byte ∷ [])) ≡ line.Tells t saying.Nothing
+out_back t device byte h a x = spelled_read t (codes "out") (decimal device ∷ byte ∷ []) (form (codes "out") kind.Plain (field.Number ∷ field.Byte ∷ [])) h refl (short device a, (hex_word 2 byte x, tt)) refl (plain (field.Number ∷ field.Byte ∷ []) (decimal device ∷ byte ∷ []) (of_number device a, (of_byte byte x, tt)))
 
 pub irq_status_back : (t task status : ℕ) (bits : List ℕ) → t < 2 ^ 32 → task < 2 ^ 32 → status < 2 ^ 32 → is_hex 8 bits ≡ true → read (decimal t ++ spaced (codes "irqstat" ∷ decimal task ∷ bits ∷ decimal status ∷ [])) ≡ line.Tells t saying.Nothing
 irq_status_back t task status bits h a b x = spelled_read t (codes "irqstat") (decimal task ∷ bits ∷ decimal status ∷ []) (form (codes "irqstat") kind.Plain (field.Number ∷ field.Word ∷ field.Number ∷ [])) h refl (short task a, (hex_word 8 bits x, (short status b, tt))) refl (plain (field.Number ∷ field.Word ∷ field.Number ∷ []) (decimal task ∷ bits ∷ decimal status ∷ []) (of_number task a, (of_word bits x, (of_number status b, tt))))

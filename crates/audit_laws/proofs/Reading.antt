@@ -57,6 +57,10 @@ pub of_row : (w : List ℕ) → is_hex 32 w ≡ true → is_of field.Row w ≡ t
 unfolding is_of
 of_row w h = h
 
+pub of_byte : (w : List ℕ) → is_hex 2 w ≡ true → is_of field.Byte w ≡ true
+unfolding is_of
+of_byte w h = h
+
 or_left : (a b : Bool) → a ≡ true → (a || b) ≡ true
 or_left true b h = refl
 or_left false b h = absurd (false≢true h)

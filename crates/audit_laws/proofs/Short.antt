@@ -9,6 +9,8 @@ use Rattle.kernel_abi.specs.declared.Borrow.TheVariants as borrow
 use Rattle.kernel_abi.specs.declared.Ending.{Ending}
 use Rattle.kernel_abi.specs.declared.Ending.TheVariants.{Reply, ReplyFault, Client, Restart}
 use Rattle.kernel_abi.specs.declared.Fault.{Fault}
+use Rattle.kernel_abi.specs.declared.Fed.{Fed}
+use Rattle.kernel_abi.specs.declared.Fed.TheVariants.{Queued, Full, NotPort}
 use Rattle.kernel_abi.specs.declared.Handled.{Handled}
 use Rattle.kernel_abi.specs.declared.Handled.TheVariants.{Posted, Held, Unowned}
 use Rattle.kernel_abi.specs.declared.Health.{Health}
@@ -18,13 +20,13 @@ use Rattle.kernel_abi.specs.declared.FromIndex.TheVariants.{Any, Kernel, One}
 use Rattle.kernel_abi.specs.declared.Note.{Note}
 use Rattle.kernel_abi.specs.declared.Note.TheVariants as note
 use Rattle.kernel_abi.specs.declared.Timer.{Timer}
-use Rattle.trace_text.specs.Text.{hex, spaced_hex, bit, handled_name, ending_name, listened_name, borrow_name, code_hex, code_decoded, decoded_text, line_of, tick_line, irq_line, post_line, syscall_line, ret_line, close_line, fault_line, listen_line, take_line, offer_line, borrow_line, restart_line, irq_status_line, find_line, insn_line, idle_line, low_line, high_line, low_words, high_words}
+use Rattle.trace_text.specs.Text.{hex, byte_hex, spaced_hex, bit, handled_name, fed_name, ending_name, listened_name, borrow_name, code_hex, code_decoded, decoded_text, line_of, tick_line, irq_line, post_line, syscall_line, ret_line, close_line, fault_line, listen_line, take_line, offer_line, borrow_line, restart_line, in_line, out_line, irq_status_line, find_line, insn_line, idle_line, low_line, high_line, low_words, high_words}
 use Rattle.trace_audit.specs.declared.reading.Wait.{Wait}
 use Rattle.trace_audit.specs.declared.reading.Wait.TheVariants as wait
 use Rattle.audit_laws.proofs.Last.{hex_length}
 use Rattle.trace_text.specs.Fit.{IsFitFrom, IsFitNote, IsFitTimer}
 use Rattle.audit_laws.specs.Ends.{IsHow, end_line, health_text, IsFitHealth, timer_text, IsWaitText, task_line}
-use Rattle.audit_laws.proofs.Hexes.{hex_fits}
+use Rattle.audit_laws.proofs.Hexes.{hex_fits, byte_fits}
 use Rattle.audit_laws.proofs.Spelled.{code_fits}
 
 pub plus : (a b : List ℕ) (m n : ℕ) → length a ≤ m → length b ≤ n → length (a ++ b) ≤ m + n
@@ -54,6 +56,15 @@ many n xs e = subst (λ m. length (flat_map spaced_hex xs) ≤ 9 * m) e (nines x
 
 code_length : (code : ℕ) → length (code_hex code) ≤ 8
 code_length code = elim (code_fits code) [ inl h ↦ (let e = hex_length 4 (code_hex code) h in omega arith) | inr h ↦ (let e = hex_length 8 (code_hex code) h in omega arith) ]
+
+two : (n : ℕ) → length (byte_hex n) ≤ 2
+two n = let e = hex_length 2 (byte_hex n) (byte_fits n) in omega arith
+
+fed_length : (fed : Option Fed) → length (fed_name fed) ≤ 10
+fed_length None = omega arith
+fed_length (Some Queued) = omega arith
+fed_length (Some Full) = omega arith
+fed_length (Some NotPort) = omega arith
 
 handled_length : (h : Handled) → length (handled_name h) ≤ 10
 handled_length Posted = omega arith
@@ -128,6 +139,14 @@ restart_short : (t task n : ℕ) → t < 2 ^ 32 → task < 2 ^ 32 → n < 2 ^ 32
 unfolding restart_line
 restart_short t task n a b c = under _ 41 (plus _ _ 40 1 (plus _ _ 30 10 (plus _ _ 29 1 (plus _ _ 19 10 (plus _ _ 10 9 (ten t a) (lit (codes " restart "))) (ten task b)) (lit (codes " "))) (ten n c)) (lit (codes "\n"))) (omega arith)
 
+in_short : (t device byte : ℕ) (fed : Option Fed) → t < 2 ^ 32 → device < 2 ^ 32 → length (in_line t device byte fed) ≤ 160
+unfolding in_line
+in_short t device byte fed a b = under _ 39 (plus _ _ 38 1 (plus _ _ 28 10 (plus _ _ 27 1 (plus _ _ 25 2 (plus _ _ 24 1 (plus _ _ 14 10 (plus _ _ 10 4 (ten t a) (lit (codes " in "))) (ten device b)) (lit (codes " "))) (two byte)) (lit (codes " "))) (fed_length fed)) (lit (codes "\n"))) (omega arith)
+
+out_short : (t device byte : ℕ) → t < 2 ^ 32 → device < 2 ^ 64 → length (out_line t device byte) ≤ 160
+unfolding out_line
+out_short t device byte a b = under _ 39 (plus _ _ 38 1 (plus _ _ 36 2 (plus _ _ 35 1 (plus _ _ 15 20 (plus _ _ 10 5 (ten t a) (lit (codes " out "))) (twenty device b)) (lit (codes " "))) (two byte)) (lit (codes "\n"))) (omega arith)
+
 irq_status_short : (t task bits status : ℕ) → t < 2 ^ 32 → task < 2 ^ 32 → status < 2 ^ 32 → length (irq_status_line t task bits status) ≤ 160
 unfolding irq_status_line
 irq_status_short t task bits status a b c = under _ 50 (plus _ _ 49 1 (plus _ _ 39 10 (plus _ _ 38 1 (plus _ _ 29 9 (plus _ _ 19 10 (plus _ _ 10 9 (ten t a) (lit (codes " irqstat "))) (ten task b)) (nine bits)) (lit (codes " "))) (ten status c)) (lit (codes "\n"))) (omega arith)
@@ -171,6 +190,8 @@ note_short t (note.Take call copied) h fit = take_short t call copied h fit.0 fi
 note_short t (note.Offer call client server) h fit = offer_short t call client server h fit.0 fit.1 fit.2
 note_short t (note.Borrow call way lease offset moved) h fit = borrow_short t call way lease offset moved h fit.0 fit.1 fit.2 fit.3
 note_short t (note.Restart task generation) h fit = restart_short t task generation h fit.0 fit.1
+note_short t (note.In device byte fed) h fit = in_short t device byte fed h fit
+note_short t (note.Out device byte) h fit = out_short t device byte h fit
 note_short t (note.IrqStatus task bits status) h fit = irq_status_short t task bits status h fit.0 fit.1
 note_short t (note.Find index found) h fit = find_short t index found h fit.0 fit.1
 note_short t (note.Insn task at code) h fit = insn_short t task at code h fit.0 fit.1

@@ -1,19 +1,21 @@
 -- The line of each note is a turn's number and words, each behind a space, and an LF.
 use Rattle.std.proofs.Common.{◌≡◌, ℕ, ◌^◌, ◌<◌, ◌⊎◌, inl, inr, Bool, true, false, cond, ltb, List, [], ◌∷◌, ◌++◌, length, map, refl, sym, subst, ap, ◌∙◌, arith, append_assoc, append-nil}
-use Rattle.std.specs.Prelude.{decimal, codes}
+use Rattle.std.specs.Prelude.{Option, None, Some, decimal, codes}
 use Rattle.std.specs.List.{list_all}
 use Rattle.kernel_abi.specs.declared.Borrow.{Borrow}
 use Rattle.kernel_abi.specs.declared.Borrow.TheVariants as borrow
 use Rattle.kernel_abi.specs.declared.Ending.{Ending}
 use Rattle.kernel_abi.specs.declared.Ending.TheVariants.{Reply, ReplyFault, Client, Restart}
 use Rattle.kernel_abi.specs.declared.Fault.{Fault}
+use Rattle.kernel_abi.specs.declared.Fed.{Fed}
+use Rattle.kernel_abi.specs.declared.Fed.TheVariants.{Queued, Full, NotPort}
 use Rattle.kernel_abi.specs.declared.Handled.{Handled}
 use Rattle.kernel_abi.specs.declared.Handled.TheVariants.{Posted, Held, Unowned}
 use Rattle.kernel_abi.specs.declared.FromIndex.{FromIndex}
 use Rattle.kernel_abi.specs.declared.FromIndex.TheVariants.{Any, Kernel, One}
 use Rattle.kernel_abi.specs.declared.Note.{Note}
 use Rattle.kernel_abi.specs.declared.Note.TheVariants as note
-use Rattle.trace_text.specs.Text.{hex, half_hex, bit, handled_name, ending_name, listened_name, borrow_name, code_hex, code_decoded, decoded_text, tick_line, irq_line, post_line, syscall_line, ret_line, close_line, fault_line, listen_line, take_line, offer_line, borrow_line, restart_line, irq_status_line, find_line, insn_line, idle_line, low_line, high_line}
+use Rattle.trace_text.specs.Text.{hex, half_hex, byte_hex, bit, handled_name, fed_name, ending_name, listened_name, borrow_name, code_hex, code_decoded, decoded_text, tick_line, irq_line, post_line, syscall_line, ret_line, close_line, fault_line, listen_line, take_line, offer_line, borrow_line, restart_line, in_line, out_line, irq_status_line, find_line, insn_line, idle_line, low_line, high_line}
 use Rattle.trace_audit.specs.declared.forms.Field.TheVariants as field
 use Rattle.trace_audit.specs.declared.reading.Line.{Line}
 use Rattle.trace_audit.specs.Fields.{is_hex, is_bit, are_bits, is_of}
@@ -21,11 +23,11 @@ use Rattle.trace_audit.specs.Meaning.{read, is_answer as answers}
 use Rattle.trace_audit.specs.Verdicts.{is_printable}
 use Rattle.audit_laws.proofs.Spelling.{is_in_word, IsWord, AreWords, spaced, all_joined, words_printable}
 use Rattle.audit_laws.proofs.Reading.{AreHex, decimal_word, short, hex_word, hex_words, of_code, of_listened}
-use Rattle.audit_laws.proofs.Lines.{tick_back, irq_back, post_back, call_back, ret_back, fault_back, listen_back, restart_back, irq_status_back, find_back, idle_back, low_back, high_back, offer_back, take_back, close_back, lend_back, info_back, insn_back}
+use Rattle.audit_laws.proofs.Lines.{tick_back, irq_back, post_back, call_back, ret_back, fault_back, listen_back, restart_back, in_back, out_back, irq_status_back, find_back, idle_back, low_back, high_back, offer_back, take_back, close_back, lend_back, info_back, insn_back}
 use Rattle.trace_text.specs.Fit.{IsFitFrom, IsFitNote}
 use Rattle.audit_laws.specs.Told.{IsInsn, IsRight, is_answer, IsLine, IsReadAs}
 use Rattle.audit_laws.proofs.Instructions.{decoded_is_text}
-use Rattle.audit_laws.proofs.Hexes.{hex_fits, half_fits, hexes, registers_spaced, spaced_joined}
+use Rattle.audit_laws.proofs.Hexes.{hex_fits, half_fits, byte_fits, hexes, registers_spaced, spaced_joined}
 
 -- a line of words
 of_words : (t : ℕ) (ws : List (List ℕ)) (bytes : List ℕ) (l : Line) → t < 2 ^ 32 → AreWords ws → bytes ≡ (decimal t ++ spaced ws) ++ 10 ∷ [] → read (decimal t ++ spaced ws) ≡ l → IsLine bytes l
@@ -46,6 +48,14 @@ take_spelled t k n = simp (append_assoc, append-nil)
 restart_spelled : (t k n : ℕ) → restart_line t k n ≡ (decimal t ++ spaced (codes "restart" ∷ decimal k ∷ decimal n ∷ [])) ++ 10 ∷ []
 unfolding restart_line
 restart_spelled t k n = simp (append_assoc, append-nil)
+
+in_spelled : (t device byte : ℕ) (fed : Option Fed) → in_line t device byte fed ≡ (decimal t ++ spaced (codes "in" ∷ decimal device ∷ byte_hex byte ∷ fed_name fed ∷ [])) ++ 10 ∷ []
+unfolding in_line
+in_spelled t device byte fed = simp (append_assoc, append-nil)
+
+out_spelled : (t device byte : ℕ) → out_line t device byte ≡ (decimal t ++ spaced (codes "out" ∷ decimal device ∷ byte_hex byte ∷ [])) ++ 10 ∷ []
+unfolding out_line
+out_spelled t device byte = simp (append_assoc, append-nil)
 
 irq_status_spelled : (t task bits status : ℕ) → irq_status_line t task bits status ≡ (decimal t ++ spaced (codes "irqstat" ∷ decimal task ∷ hex bits ∷ decimal status ∷ [])) ++ 10 ∷ []
 unfolding irq_status_line
@@ -139,6 +149,19 @@ handled_word Unowned = (refl, refl)
 
 pub irq_read : (t l : ℕ) (handled : Handled) → t < 2 ^ 32 → l < 2 ^ 32 → IsReadAs t (note.Irq l handled)
 irq_read t l handled h a = let w = handled_word handled in of_words t (codes "irq" ∷ decimal l ∷ handled_name handled ∷ []) _ _ h (refl, (short l a, (w.0, tt))) (irq_spelled t l handled) (irq_back t l (handled_name handled) h a w.0 w.1)
+
+fed_word : (fed : Option Fed) → IsWord (fed_name fed) × (is_of field.Fed (fed_name fed) ≡ true)
+unfolding is_of
+fed_word None = (refl, refl)
+fed_word (Some Queued) = (refl, refl)
+fed_word (Some Full) = (refl, refl)
+fed_word (Some NotPort) = (refl, refl)
+
+pub in_read : (t device byte : ℕ) (fed : Option Fed) → t < 2 ^ 32 → device < 2 ^ 32 → IsReadAs t (note.In device byte fed)
+in_read t device byte fed h a = let w = fed_word fed in of_words t (codes "in" ∷ decimal device ∷ byte_hex byte ∷ fed_name fed ∷ []) _ _ h (refl, (short device a, (hex_word 2 (byte_hex byte) (byte_fits byte), (w.0, tt)))) (in_spelled t device byte fed) (in_back t device (byte_hex byte) (fed_name fed) h a (byte_fits byte) w.0 w.1)
+
+pub out_read : (t device byte : ℕ) → t < 2 ^ 32 → device < 2 ^ 32 → IsReadAs t (note.Out device byte)
+out_read t device byte h a = of_words t (codes "out" ∷ decimal device ∷ byte_hex byte ∷ []) _ _ h (refl, (short device a, (hex_word 2 (byte_hex byte) (byte_fits byte), tt))) (out_spelled t device byte) (out_back t device (byte_hex byte) h a (byte_fits byte))
 
 record IsEndingWord (ending : Ending) : Type 0 where
   word : IsWord (ending_name ending)
@@ -279,6 +302,8 @@ note_read t (note.Take call copied) h fit right = take_read t call copied h fit
 note_read t (note.Offer call client server) h fit right = offer_read t call client server h fit
 note_read t (note.Borrow call way lease offset moved) h fit right = borrow_read t call way lease offset moved h fit right
 note_read t (note.Restart task generation) h fit right = restart_read t task generation h fit
+note_read t (note.In device byte fed) h fit right = in_read t device byte fed h fit
+note_read t (note.Out device byte) h fit right = out_read t device byte h right
 note_read t (note.IrqStatus task bits status) h fit right = irq_status_read t task bits status h fit
 note_read t (note.Find index found) h fit right = find_read t index found h fit
 note_read t (note.Insn task at code) h fit right = insn_read t task at code h fit right

@@ -8,6 +8,7 @@ use Rattle.kernel_abi.specs.declared.Note.{Note}
 use Rattle.kernel_abi.specs.declared.Note.TheVariants as note
 use Rattle.thumb_insn.specs.declared.Decoded.{Decoded}
 use Rattle.thumb_insn.specs.declared.Decoded.TheVariants as decoded
+use Rattle.trace_text.specs.Fit.{IsFit}
 use Rattle.trace_text.specs.Text.{line_of, code_decoded}
 use Rattle.trace_audit.specs.declared.reading.Line.{Line}
 use Rattle.trace_audit.specs.declared.reading.Line.TheVariants as line
@@ -32,6 +33,7 @@ IsInsn (decoded.Wide i) = Unit {0}
 IsInsn decoded.Illegal = ⊥
 IsInsn decoded.NeedsSecond = ⊥
 
+-- a device is told by its index, which is small
 abbrev pub IsRight : Note → Type 0
 IsRight (note.Borrow call way lease offset moved) = IsRightBorrow way offset moved
 IsRight (note.Insn task at code) = IsInsn (code_decoded code)
@@ -46,6 +48,8 @@ IsRight (note.Listen task from mask) = Unit {0}
 IsRight (note.Take call copied) = Unit {0}
 IsRight (note.Offer call client server) = Unit {0}
 IsRight (note.Restart task generation) = Unit {0}
+IsRight (note.In device byte fed) = Unit {0}
+IsRight (note.Out device byte) = IsFit device
 IsRight (note.IrqStatus task bits status) = Unit {0}
 IsRight (note.Find index found) = Unit {0}
 IsRight note.Idle = Unit {0}
@@ -73,6 +77,8 @@ told_by (note.Ret task results) = saying.Nothing
 told_by (note.Fault task fault) = saying.Nothing
 told_by (note.Restart task generation) = saying.Nothing
 told_by (note.Listen task from mask) = saying.Nothing
+told_by (note.In device byte fed) = saying.Nothing
+told_by (note.Out device byte) = saying.Nothing
 told_by (note.IrqStatus task bits status) = saying.Nothing
 told_by (note.Find index found) = saying.Nothing
 told_by (note.Insn task at code) = saying.Nothing

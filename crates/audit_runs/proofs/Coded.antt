@@ -8,7 +8,7 @@ use Rattle.std.proofs.lemmas.Bool.Decides.{nat_tests}
 use Rattle.kernel_abi.specs.declared.Fault.{Fault}
 use Rattle.kernel_abi.specs.declared.Note.{Note}
 use Rattle.kernel_abi.specs.declared.Note.TheVariants as note
-use Rattle.mem_banks.specs.Memory.{AreAllBytes, number_at}
+use Rattle.mem_banks.specs.Memory.{AreAllBytes}
 use Rattle.region_check.specs.declared.Right.TheVariants.{Execute}
 use Rattle.thumb_insn.specs.declared.Insn.{Insn}
 use Rattle.thumb_insn.specs.declared.Decoded.{Decoded}
@@ -28,12 +28,12 @@ use Rattle.board_model.specs.declared.outcomes.Level.TheVariants.{Calls, All}
 use Rattle.board_model.specs.Alike.{Viewer, IsAttentive, IsAlike, IsAlikeWhereSeen}
 use Rattle.board_model.specs.Levels.{is_noted_always}
 use Rattle.board_model.specs.Script.{Scenario}
-use Rattle.board_model.specs.Turn.{refusals, executed, noted_at, stepped_by, stepped, after_events, with_current, with_registers_noted, turn_of, ended, turn}
+use Rattle.board_model.specs.Turn.{refusals, held, executed, noted_at, stepped_by, stepped, after_events, with_current, with_registers_noted, turn_of, ended, turn}
 use Rattle.board_model.proofs.AlikeRows.{alike-heard, alike-current, alike-next_turn, alike-faulted}
 use Rattle.board_model.proofs.AlikeTurns.{AreAlikeAndNoted, followed, alike-events}
 use Rattle.board_model.proofs.Following.{follow-executed}
 use Rattle.board_model.proofs.Sight.{IsOpen}
-use Rattle.board_model.proofs.TurnChains.{half_small, sane-after_events}
+use Rattle.board_model.proofs.TurnChains.{held_small, sane-after_events}
 use Rattle.board_model.proofs.Views.{told_plainly}
 use Rattle.trace_audit.proofs.Pushing.{tail_same}
 
@@ -126,6 +126,8 @@ hears (note.Listen task from mask) = true
 hears (note.Take call copied) = true
 hears (note.Offer call client server) = true
 hears (note.Restart task generation) = true
+hears (note.In device byte fed) = true
+hears (note.Out device byte) = true
 hears (note.IrqStatus task bits status) = true
 hears (note.Find index found) = true
 hears (note.Borrow call way lease offset moved) = true
@@ -148,6 +150,8 @@ always (note.Listen task from mask) h = refl
 always (note.Take call copied) h = refl
 always (note.Offer call client server) h = refl
 always (note.Restart task generation) h = refl
+always (note.In device byte fed) h = refl
+always (note.Out device byte) h = refl
 always (note.IrqStatus task bits status) h = refl
 always (note.Find index found) h = refl
 always (note.Borrow call way lease offset moved) h = refl
@@ -195,7 +199,7 @@ alike_failed g c fault t h = alike-faulted reader attentive g c fault t t h
 
 alike_stepped : (level : Level) (g : Setup) (c : ℕ) (t : Turn) → AreAllBytes t.state.memory.flash → AreAllBytes t.state.memory.ram → Alike t → Alike (stepped level g c t)
 unfolding stepped
-alike_stepped level g c t flash ram h = go (fetched (refusals g c) (number_at t.state.memory) at) (λ f e. fetched_coded (refusals g c) (number_at t.state.memory) (λ a. half_small t.state.memory a flash ram) at f e)
+alike_stepped level g c t flash ram h = go (fetched (refusals g c) (held t.state) at) (λ f e. fetched_coded (refusals g c) (held t.state) (λ a. held_small t.state a flash ram) at f e)
   where
     at : ℕ
     at = register t.state c 15

@@ -1,7 +1,7 @@
--- The notes of a run are right: for information nothing moves, and the code of an instruction is one.
-use Rattle.std.proofs.Common.{◌≡◌, ℕ, zero, suc, Bool, true, false, ◌&&◌, min, List, [], ◌∷◌, ◌++◌, Option, Some, None, refl, sym, subst}
+-- The notes of a run are right: for information nothing moves, the index of a device is small, and the code of an instruction is one.
+use Rattle.std.proofs.Common.{◌≡◌, ◌<◌, ℕ, zero, suc, Bool, true, false, ◌&&◌, arith, min, List, [], ◌∷◌, ◌++◌, Option, Some, None, refl, sym, subst}
 use Rattle.std.specs.List.{list_all}
-use Rattle.std.proofs.lemmas.Bool.{false≢true}
+use Rattle.std.proofs.lemmas.Bool.{false≢true, ltb-true}
 use Rattle.kernel_abi.specs.declared.Borrow.{Borrow}
 use Rattle.kernel_abi.specs.declared.Borrow.TheVariants as borrow
 use Rattle.kernel_abi.specs.declared.Ending.{Ending}
@@ -11,7 +11,7 @@ use Rattle.thumb_insn.specs.declared.Decoded.{Decoded}
 use Rattle.thumb_insn.specs.declared.Decoded.TheVariants as decoded
 use Rattle.task_table.specs.State.{Setup, State, Call, Turn}
 use Rattle.task_table.specs.Reading.{call_of, chosen}
-use Rattle.task_table.specs.Effects.{noted, stored, copied, looked, closed, close_notes, offered}
+use Rattle.task_table.specs.Effects.{noted, stored, copied, looked, closed, close_notes, offered, with_devices}
 use Rattle.task_table.specs.Sane.{Sane}
 use Rattle.task_table.specs.Start.{begun}
 use Rattle.task_table.specs.Chain.{Chain}
@@ -19,7 +19,7 @@ use Rattle.task_table.specs.Placed.{ArePlaced}
 use Rattle.task_table.specs.Step.{Step, is_plain, IsMoved}
 use Rattle.task_table.proofs.Chains.{chain_keeps}
 use Rattle.task_table.proofs.Happens.{chain_moves}
-use Rattle.task_table.proofs.Moves.{ArePlain, IsOutside, Move, Aside, Writes, Reads, Lends, Offers, Takes, Closes}
+use Rattle.task_table.proofs.Moves.{ArePlain, IsOutside, outside-devices, Move, Aside, Writes, Reads, Alters, Lends, Offers, Takes, Closes}
 use Rattle.trace_text.specs.Text.{code_decoded}
 use Rattle.board_model.specs.declared.outcomes.End.{End}
 use Rattle.board_model.specs.declared.outcomes.End.TheVariants.{Bound}
@@ -33,7 +33,7 @@ use Rattle.audit_laws.specs.Told.{IsInsn, IsRightBorrow, IsRight}
 use Rattle.audit_laws.specs.Whole.{AreRight}
 use Rattle.audit_runs.proofs.Coded.{is_insn, hears, turn_heard, each_heard}
 
--- ## borrows
+-- ## borrows and devices
 
 abbrev IsLent : Note → Type 0
 IsLent (note.Borrow call way lease offset moved) = IsMoved way offset moved
@@ -48,6 +48,8 @@ IsLent (note.Listen task from mask) = Unit {0}
 IsLent (note.Take call copied) = Unit {0}
 IsLent (note.Offer call client server) = Unit {0}
 IsLent (note.Restart task generation) = Unit {0}
+IsLent (note.In device byte fed) = Unit {0}
+IsLent (note.Out device byte) = device < 8
 IsLent (note.IrqStatus task bits status) = Unit {0}
 IsLent (note.Find index found) = Unit {0}
 IsLent (note.Insn task at code) = Unit {0}
@@ -75,6 +77,8 @@ plain_lent (note.Listen task from mask) h = tt
 plain_lent (note.Take call copied) h = absurd (false≢true h)
 plain_lent (note.Offer call client server) h = absurd (false≢true h)
 plain_lent (note.Restart task generation) h = tt
+plain_lent (note.In device byte fed) h = tt
+plain_lent (note.Out device byte) h = ltb-true device 8 h
 plain_lent (note.IrqStatus task bits status) h = tt
 plain_lent (note.Find index found) h = tt
 plain_lent (note.Insn task at code) h = tt
@@ -103,6 +107,7 @@ unfolding stored looked noted copied offered
 move_lent g s c _ _ (Aside u v a) h = outside_lent u v a.outside h
 move_lent g s c _ _ (Writes on at bytes u within may) h = h
 move_lent g s c _ _ (Reads r u alive) h = h
+move_lent g s c _ _ (Alters devices u reached) h = outside_lent u (with_devices devices u) (outside-devices devices u) h
 move_lent g s c _ _ (Lends k way lease offset moved u alive taken fits) h = lent_joined u.notes (note.Borrow k way lease offset moved ∷ []) h (fits, tt)
 move_lent g s c _ _ (Offers k u new) h = lent_joined u.notes (note.Offer k.number k.client.index k.server.index ∷ []) h (tt, tt)
 move_lent g s c _ _ (Takes on k buffer u t) h = lent_joined u.notes (note.Take k.number (min k.message.len buffer.len) ∷ []) h (tt, tt)
@@ -142,6 +147,8 @@ note_right (note.Listen task from mask) lent heard = tt
 note_right (note.Take call copied) lent heard = tt
 note_right (note.Offer call client server) lent heard = tt
 note_right (note.Restart task generation) lent heard = tt
+note_right (note.In device byte fed) lent heard = tt
+note_right (note.Out device byte) lent heard = omega (arith, lent)
 note_right (note.IrqStatus task bits status) lent heard = tt
 note_right (note.Find index found) lent heard = tt
 note_right note.Idle lent heard = tt

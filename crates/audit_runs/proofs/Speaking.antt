@@ -13,11 +13,11 @@ use Rattle.task_table.specs.State.{Setup, State, Call, Ground, Turn}
 use Rattle.task_table.specs.declared.slot.Slice.{Slice}
 use Rattle.task_table.specs.declared.slot.Phase.TheVariants.{Offered, Taken}
 use Rattle.task_table.specs.Reading.{call_of}
-use Rattle.task_table.specs.Effects.{without_call, with_call, with_taken, taken_from, noted, stored, copied, looked, closed, close_notes, offered}
+use Rattle.task_table.specs.Effects.{without_call, with_call, with_taken, taken_from, noted, stored, copied, looked, closed, close_notes, offered, with_devices}
 use Rattle.task_table.specs.Step.{is_plain, IsNew, Ends}
 use Rattle.task_table.proofs.Keeps.{added_in, map_in, idle_call, unmade, dropped_call}
 use Rattle.task_table.specs.Start.{start}
-use Rattle.task_table.proofs.Moves.{ArePlain, IsOutside, IsTaking, taken_over, Move, Aside, Writes, Reads, Lends, Offers, Takes, Closes}
+use Rattle.task_table.proofs.Moves.{ArePlain, IsOutside, outside-devices, IsTaking, taken_over, Move, Aside, Writes, Reads, Alters, Lends, Offers, Takes, Closes}
 use Rattle.trace_audit.proofs.Adding.{none_said}
 use Rattle.trace_audit.specs.declared.book.Open.{Open}
 use Rattle.trace_audit.specs.declared.reading.Saying.{Saying}
@@ -90,6 +90,8 @@ plain_nothing (note.Ret task results) h = refl
 plain_nothing (note.Fault task fault) h = refl
 plain_nothing (note.Restart task generation) h = refl
 plain_nothing (note.Listen task from mask) h = refl
+plain_nothing (note.In device byte fed) h = refl
+plain_nothing (note.Out device byte) h = refl
 plain_nothing (note.IrqStatus task bits status) h = refl
 plain_nothing (note.Find index found) h = refl
 plain_nothing (note.Insn task at code) h = refl
@@ -244,6 +246,7 @@ unfolding looked noted
 move_spoken g s c old _ _ (Aside u v a) h = spoken_outside old u v a.outside h
 move_spoken g s c old _ _ (Writes on at bytes u within may) h = stored_spoken old on at bytes u h
 move_spoken g s c old _ _ (Reads r u alive) h = h
+move_spoken g s c old _ _ (Alters devices u reached) h = spoken_outside old u (with_devices devices u) (outside-devices devices u) h
 move_spoken g s c old _ _ (Lends k borrow lease offset moved u alive taken fits) h = one_note old u.notes (note.Borrow k borrow lease offset moved) u.state (spoken_borrow (old ++ u.notes) u.state taken.0 (note.Borrow k borrow lease offset moved) (ap saying.Borrows (sym taken.2)) taken.1 taken.3 h)
 move_spoken g s c old _ _ (Offers k u new) h = offered_spoken s c old k u new h
 move_spoken g s c old _ _ (Takes on k buffer u t) h = taken_spoken g s c old on k buffer u t h

@@ -13,3 +13,5 @@ pub mod SyscallRows
 pub mod Fetching
 pub mod Windowing
 pub mod Loners
+pub mod Told
+pub mod KeptAlike

@@ -4,7 +4,7 @@ use Rattle.std.specs.Prelude.{fold, slice_index}
 use Rattle.std.proofs.lemmas.List.{set-set, set-get_or}
 use Rattle.words_core.specs.declared.Flags.{Flags}
 use Rattle.thumb_exec.specs.declared.cpu.Cpu.{Cpu}
-use Rattle.thumb_exec.specs.Effect.{Effect, Next, Store, effect}
+use Rattle.thumb_exec.specs.Effect.{Effect, Next, Store, Move, Puts, Takes, effect}
 use Rattle.thumb_insn.specs.declared.Insn.{Insn}
 use Rattle.kernel_abi.specs.declared.Note.{Note}
 use Rattle.task_table.specs.declared.kernel.Kernel.{Kernel}
@@ -16,12 +16,12 @@ use Rattle.task_table.specs.Holds.{Holds, Stands, notes_of, setup_of, current_of
 use Rattle.task_table.specs.Start.{begun}
 use Rattle.task_table.proofs.Changes.{task_at-with_task}
 use Rattle.thumb_exec.specs.Bytes.{bytes_of}
-use Rattle.board_model.specs.Turn.{refusals, cpu_of, put, acted, with_current}
+use Rattle.board_model.specs.Turn.{refusals, cpu_of, put, moved, acted, with_current}
 use Rattle.board_core.specs.Machine.{with_cpu, IsLoaded, HoldsBy, IsReady, MachineStands}
 use Rattle.board_core.specs.declared.machine.Machine.{Machine}
 use Rattle.board_core.specs.declared.reach.Reach.{Reach}
 use Rattle.board_core.proofs.Running.{between, effect_here}
-use Rattle.board_model.proofs.Stepping.{puts_state}
+use Rattle.board_model.proofs.Stepping.{moves_state}
 
 -- ## what the kernel knows all the same
 
@@ -105,7 +105,7 @@ loaded_cpu g k cpu t h inside =
     sym (task-with_cpu cpu h.saved there) ∙ ap (λ (u : Turn). cpu_of (task_at u.state h.saved.state.current)) (sym h.is) ∙ ap (λ (i : ℕ). cpu_of (task_at t.state i)) (sym rest.current)
 
 -- who gets the processor with its own registers is as it was
-with_own : (c : ℕ) (s : State) (t : Turn) → s ≡ t.state → with_processor c (task_at s c).registers (task_at s c).flags t ≡ t
+pub with_own : (c : ℕ) (s : State) (t : Turn) → s ≡ t.state → with_processor c (task_at s c).registers (task_at s c).flags t ≡ t
 unfolding with_processor with_task task_at
 with_own c s t e = rw e (ap (λ (xs : List Task). record t { state = record t.state { tasks = xs } }) (set-get_or t.state.tasks c no_task))
 
@@ -128,16 +128,20 @@ put-with_cpu c registers flags t x = by_ram (is_ram t.state.memory x.addr x.byte
     by_ram true = refl
     by_ram false = refl
 
-puts-with_cpu : (c : ℕ) (registers : List ℕ) (flags : Flags) (ss : List Store) (t : Turn) → fold put (with_processor c registers flags t) ss ≡ with_processor c registers flags (fold put t ss)
-puts-with_cpu c registers flags [] t = refl
-puts-with_cpu c registers flags (x ∷ xs) t = ap (λ (u : Turn). fold put u xs) (put-with_cpu c registers flags t x) ∙ puts-with_cpu c registers flags xs (put t x)
+move-with_cpu : (c : ℕ) (registers : List ℕ) (flags : Flags) (t : Turn) (x : Move) → moved (with_processor c registers flags t) x ≡ with_processor c registers flags (moved t x)
+move-with_cpu c registers flags t (Puts x) = put-with_cpu c registers flags t x
+move-with_cpu c registers flags t (Takes a n) = refl
+
+moves-with_cpu : (c : ℕ) (registers : List ℕ) (flags : Flags) (ms : List Move) (t : Turn) → fold moved (with_processor c registers flags t) ms ≡ with_processor c registers flags (fold moved t ms)
+moves-with_cpu c registers flags [] t = refl
+moves-with_cpu c registers flags (x ∷ xs) t = ap (λ (u : Turn). fold moved u xs) (move-with_cpu c registers flags t x) ∙ moves-with_cpu c registers flags xs (moved t x)
 
 -- of two writes of a processor the later stays
 set_twice : (s : State) (i : ℕ) (x y : Task) → with_task i y (with_task i x s) ≡ with_task i y s
 unfolding with_task
 set_twice s i x y = ap (λ (xs : List Task). record s { tasks = xs }) (set-set s.tasks i x y)
 
-twice : (c : ℕ) (r r' : List ℕ) (f f' : Flags) (t : Turn) → c < length t.state.tasks → with_processor c r' f' (with_processor c r f t) ≡ with_processor c r' f' t
+pub twice : (c : ℕ) (r r' : List ℕ) (f f' : Flags) (t : Turn) → c < length t.state.tasks → with_processor c r' f' (with_processor c r f t) ≡ with_processor c r' f' t
 unfolding with_processor
 twice c r r' f f' t inside =
     let s = t.state in
@@ -147,40 +151,40 @@ twice c r r' f f' t inside =
     ap (λ (z : Task). record t { state = with_task c (y z) (with_task c x s) }) at
     ∙ ap (λ (u : State). record t { state = u }) (set_twice s c x (y x))
 
-puts_rest : (ss : List Store) (t : Turn) → (fold put t ss).state.current ≡ t.state.current
-puts_rest ss t = ap (λ (s : State). s.current) (puts_state ss t)
+moves_rest : (ms : List Move) (t : Turn) → (fold moved t ms).state.current ≡ t.state.current
+moves_rest ms t = ap (λ (s : State). s.current) (moves_state ms t)
 
-puts_count : (ss : List Store) (t : Turn) → length (fold put t ss).state.tasks ≡ length t.state.tasks
-puts_count ss t = ap (λ (s : State). length s.tasks) (puts_state ss t)
+moves_count : (ms : List Move) (t : Turn) → length (fold moved t ms).state.tasks ≡ length t.state.tasks
+moves_count ms t = ap (λ (s : State). length s.tasks) (moves_state ms t)
 
 memory_ready : (s : State) (m : Memory) (i : ℕ) → is_ready s i ≡ true → is_ready (record s { memory = m }) i ≡ true
 unfolding is_ready task_at call_of listen_of
 memory_ready s m i h = h
 
-puts_ready : (ss : List Store) (t : Turn) (i : ℕ) → is_ready t.state i ≡ true → is_ready (fold put t ss).state i ≡ true
-puts_ready ss t i h = rw (puts_state ss t) (memory_ready t.state (fold put t ss).state.memory i h)
+moves_ready : (ms : List Move) (t : Turn) (i : ℕ) → is_ready t.state i ≡ true → is_ready (fold moved t ms).state i ≡ true
+moves_ready ms t i h = rw (moves_state ms t) (memory_ready t.state (fold moved t ms).state.memory i h)
 
 -- the processor goes on in place, and the stores are the kernel's
-pub goes_on : (g : Setup) (k k' : Kernel) (cpu cpu' : Cpu) (t : Turn) (ss : List Store) → IsLoaded g k cpu t → t.state.current < length t.state.tasks → ((u : Turn) → Holds g k u → Holds g k' (fold put u ss)) → IsLoaded g k' cpu' (with_processor t.state.current cpu'.regs.words cpu'.flags (fold put t ss))
-goes_on g k k' cpu cpu' t ss h inside f =
+pub goes_on : (g : Setup) (k k' : Kernel) (cpu cpu' : Cpu) (t : Turn) (ms : List Move) → IsLoaded g k cpu t → t.state.current < length t.state.tasks → ((u : Turn) → Holds g k u → Holds g k' (fold moved u ms)) → IsLoaded g k' cpu' (with_processor t.state.current cpu'.regs.words cpu'.flags (fold moved t ms))
+goes_on g k k' cpu cpu' t ms h inside f =
     let s = h.saved in
     let c = s.state.current in
     let rest = rest_of s t cpu h.is in
     let there : c < length s.state.tasks = rw (rest.current, rest.count) at inside in
     let r = cpu'.regs.words in
-    let u : Turn = fold put s ss in
-    let count = puts_count ss s in
+    let u : Turn = fold moved s ms in
+    let count = moves_count ms s in
     let below : c < length u.state.tasks = rw count there in
-    let here : with_processor t.state.current r cpu'.flags (fold put t ss) ≡ with_processor c r cpu'.flags u =
-    ap (λ (i : ℕ). with_processor i r cpu'.flags (fold put t ss)) rest.current
-    ∙ ap (λ (v : Turn). with_processor c r cpu'.flags (fold put v ss)) h.is
-    ∙ ap (λ (v : Turn). with_processor c r cpu'.flags v) (puts-with_cpu c cpu.regs.words cpu.flags ss s)
+    let here : with_processor t.state.current r cpu'.flags (fold moved t ms) ≡ with_processor c r cpu'.flags u =
+    ap (λ (i : ℕ). with_processor i r cpu'.flags (fold moved t ms)) rest.current
+    ∙ ap (λ (v : Turn). with_processor c r cpu'.flags (fold moved v ms)) h.is
+    ∙ ap (λ (v : Turn). with_processor c r cpu'.flags v) (moves-with_cpu c cpu.regs.words cpu.flags ms s)
     ∙ twice c cpu.regs.words r cpu.flags cpu'.flags u below in
     record {
       saved = u;
       holds = f s h.holds;
-      ready = subst (λ (i : ℕ). is_ready u.state i ≡ true) (sym (puts_rest ss s)) (puts_ready ss s c h.ready);
-      is = here ∙ ap (λ (i : ℕ). with_processor i r cpu'.flags u) (sym (puts_rest ss s));
+      ready = subst (λ (i : ℕ). is_ready u.state i ≡ true) (sym (moves_rest ms s)) (moves_ready ms s c h.ready);
+      is = here ∙ ap (λ (i : ℕ). with_processor i r cpu'.flags u) (sym (moves_rest ms s));
     }
 
 -- ## as the machine's functions use it
@@ -213,9 +217,9 @@ effect_loaded g k cpu t insn h inside =
     let rest = rest_of h.saved t cpu h.is in
     effect_here g t k cpu insn h.holds.setup (h.holds.current ∙ sym rest.current) (h.holds.memory ∙ sym rest.memory) (loaded_cpu g k cpu t h inside)
 
-pub next_loaded : (g : Setup) (k : Kernel) (t : Turn) (c : ℕ) (e : Effect) (d cpu : Cpu) (ss : List Store) → e ≡ Next d ss → cpu ≡ d → IsLoaded g k cpu (with_processor c cpu.regs.words cpu.flags (fold put t ss)) → IsLoaded g k cpu (acted g c e t)
-next_loaded g k t c e d cpu ss is same h =
-    let P : Cpu → Type 0 = λ x. IsLoaded g k cpu (with_processor c x.regs.words x.flags (fold put t ss)) in
+pub next_loaded : (g : Setup) (k : Kernel) (t : Turn) (c : ℕ) (e : Effect) (d cpu : Cpu) (ms : List Move) → e ≡ Next d ms → cpu ≡ d → IsLoaded g k cpu (with_processor c cpu.regs.words cpu.flags (fold moved t ms)) → IsLoaded g k cpu (acted g c e t)
+next_loaded g k t c e d cpu ms is same h =
+    let P : Cpu → Type 0 = λ x. IsLoaded g k cpu (with_processor c x.regs.words x.flags (fold moved t ms)) in
     let S : Effect → Type 0 = λ x. IsLoaded g k cpu (acted g c x t) in
     subst S (sym is) (subst P same h)
 

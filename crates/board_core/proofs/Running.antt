@@ -6,7 +6,7 @@ use Rattle.thumb_insn.specs.declared.Insn.{Insn}
 use Rattle.thumb_exec.specs.declared.cpu.Cpu.{Cpu}
 use Rattle.thumb_exec.specs.declared.cpu.Outcome.{Outcome}
 use Rattle.thumb_exec.specs.declared.cpu.Outcome.TheVariants as outcome
-use Rattle.thumb_exec.specs.Effect.{Effect, Next, Syscall, Trap, Store, Stores, Acts, effect}
+use Rattle.thumb_exec.specs.Effect.{Effect, Next, Syscall, Trap, Move, Puts, Takes, Moves, Acts, effect}
 use Rattle.task_table.specs.declared.kernel.Kernel.{Kernel}
 use Rattle.mem_banks.specs.Memory.{Memory, number_at}
 use Rattle.task_table.specs.State.{Setup, State, Turn}
@@ -16,7 +16,7 @@ use Rattle.task_table.specs.Start.{begun, start}
 use Rattle.task_table.specs.Sane.{Sane}
 use Rattle.task_table.proofs.Steps.{holds_turn}
 use Rattle.board_core.specs.declared.reach.Reach.{Reach}
-use Rattle.board_model.specs.Turn.{refusals, cpu_of, put}
+use Rattle.board_model.specs.Turn.{refusals, cpu_of, put, moved}
 use Rattle.board_core.specs.Machine.{IsStored}
 use Rattle.board_core.specs.declared.choice.Choice.{Choice}
 use Rattle.board_core.specs.Kept.{IsChoice}
@@ -25,15 +25,21 @@ use Rattle.board_core.specs.Kept.{IsChoice}
 abbrev pub stored_by : Reach → ℕ → ℕ → ℕ → Reach → Type 0
 stored_by m a n v m' = IsStored m.kernel a n v m'.kernel
 
--- ## stores through the bus are the turn's
+-- what it says of a load
+abbrev pub taken_by : Reach → ℕ → Reach → Type 0
+taken_by m a m' = m' ≡ m
 
-pub stores_hold : (ss : List Store) (m m' : Reach) → Stores stored_by m ss m' → (g : Setup) (t : Turn) → Holds g m.kernel t → Holds g m'.kernel (fold put t ss)
-stores_hold [] m m' e g t h = rw e h
-stores_hold (x ∷ xs) m m' e g t h = stores_hold xs e.0 m' e.2 g (put t x) (e.1.holds g t h)
+-- ## moves through the bus are the turn's
 
-pub stores_notes : (ss : List Store) (m m' : Reach) → Stores stored_by m ss m' → note_count m'.kernel ≡ note_count m.kernel
-stores_notes [] m m' e = ap (λ (n : Reach). note_count n.kernel) e
-stores_notes (x ∷ xs) m m' e = stores_notes xs e.0 m' e.2 ∙ e.1.notes
+pub moves_hold : (ms : List Move) (m m' : Reach) → Moves stored_by taken_by m ms m' → (g : Setup) (t : Turn) → Holds g m.kernel t → Holds g m'.kernel (fold moved t ms)
+moves_hold [] m m' e g t h = rw e h
+moves_hold (Puts x ∷ xs) m m' e g t h = moves_hold xs e.0 m' e.2 g (put t x) (e.1.holds g t h)
+moves_hold (Takes a n ∷ xs) m m' e g t h = moves_hold xs e.0 m' e.2 g t (rw e.1 h)
+
+pub moves_notes : (ms : List Move) (m m' : Reach) → Moves stored_by taken_by m ms m' → note_count m'.kernel ≡ note_count m.kernel
+moves_notes [] m m' e = ap (λ (n : Reach). note_count n.kernel) e
+moves_notes (Puts x ∷ xs) m m' e = moves_notes xs e.0 m' e.2 ∙ e.1.notes
+moves_notes (Takes a n ∷ xs) m m' e = moves_notes xs e.0 m' e.2 ∙ ap (λ (n : Reach). note_count n.kernel) e.1
 
 -- ## what came of an instruction
 
@@ -48,23 +54,23 @@ effect_here g t k cpu insn setup current memory same =
 
 pub record WasNext (c' : Cpu) (m m' : Reach) (e : Effect) : Type 0 where
   pub processor : Cpu
-  pub stores : List Store
-  pub is : e ≡ Next processor stores
+  pub moves : List Move
+  pub is : e ≡ Next processor moves
   pub after : c' ≡ processor
-  pub bus : Stores stored_by m stores m'
+  pub bus : Moves stored_by taken_by m moves m'
 
-pub was_next : (c c' : Cpu) (m m' : Reach) (o : Outcome) (e : Effect) → Acts stored_by c c' m m' o e → o ≡ outcome.Next → WasNext c' m m' e
-was_next c c' m m' o (Next d ss) a p = record { processor = d; stores = ss; is = refl; after = a.1; bus = a.2 }
+pub was_next : (c c' : Cpu) (m m' : Reach) (o : Outcome) (e : Effect) → Acts stored_by taken_by c c' m m' o e → o ≡ outcome.Next → WasNext c' m m' e
+was_next c c' m m' o (Next d ms) a p = record { processor = d; moves = ms; is = refl; after = a.1; bus = a.2 }
 was_next c c' m m' o Syscall a p = absurd (let q : o ≡ outcome.Call = a.0 in cc)
 was_next c c' m m' o (Trap f) a p = absurd (let q : o ≡ outcome.Trap f = a.0 in cc)
 
-pub was_syscall : (c c' : Cpu) (m m' : Reach) (o : Outcome) (e : Effect) → Acts stored_by c c' m m' o e → o ≡ outcome.Call → (e ≡ Syscall) × (m' ≡ m) × (c' ≡ c)
-was_syscall c c' m m' o (Next d ss) a p = absurd (let q : o ≡ outcome.Next = a.0 in cc)
+pub was_syscall : (c c' : Cpu) (m m' : Reach) (o : Outcome) (e : Effect) → Acts stored_by taken_by c c' m m' o e → o ≡ outcome.Call → (e ≡ Syscall) × (m' ≡ m) × (c' ≡ c)
+was_syscall c c' m m' o (Next d ms) a p = absurd (let q : o ≡ outcome.Next = a.0 in cc)
 was_syscall c c' m m' o Syscall a p = (refl, a.2, a.1)
 was_syscall c c' m m' o (Trap f) a p = absurd (let q : o ≡ outcome.Trap f = a.0 in cc)
 
-pub was_trap : (c c' : Cpu) (m m' : Reach) (o : Outcome) (e : Effect) (f : Fault) → Acts stored_by c c' m m' o e → o ≡ outcome.Trap f → (e ≡ Trap f) × (m' ≡ m) × (c' ≡ c)
-was_trap c c' m m' o (Next d ss) f a p = absurd (let q : o ≡ outcome.Next = a.0 in cc)
+pub was_trap : (c c' : Cpu) (m m' : Reach) (o : Outcome) (e : Effect) (f : Fault) → Acts stored_by taken_by c c' m m' o e → o ≡ outcome.Trap f → (e ≡ Trap f) × (m' ≡ m) × (c' ≡ c)
+was_trap c c' m m' o (Next d ms) f a p = absurd (let q : o ≡ outcome.Next = a.0 in cc)
 was_trap c c' m m' o Syscall f a p = absurd (let q : o ≡ outcome.Call = a.0 in cc)
 was_trap c c' m m' o (Trap d) f a p = (let q : o ≡ outcome.Trap d = a.0 in let r : d ≡ f = cc in ap Trap r, a.2, a.1)
 

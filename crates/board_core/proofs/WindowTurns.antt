@@ -9,13 +9,13 @@ use Rattle.mem_banks.specs.Memory.{Memory, number_at, with_bytes, pasted, is_ram
 use Rattle.mem_banks.proofs.Copies.{length-pasted}
 use Rattle.words_core.specs.Regs.{reg_at}
 use Rattle.thumb_exec.specs.declared.cpu.Cpu.{Cpu}
-use Rattle.thumb_exec.specs.Effect.{Effect, Next, Store}
+use Rattle.thumb_exec.specs.Effect.{Effect, Next, Store, Move, Puts, Takes}
 use Rattle.thumb_exec.specs.Sizes.{IsSize}
 use Rattle.thumb_exec.specs.declared.fetch.Fetched.{Fetched}
 use Rattle.thumb_exec.specs.Fetch.{fetched, executed as executed_by, step_effect}
 use Rattle.thumb_step.proofs.Widening.{step_wider}
 use Rattle.thumb_exec.specs.Bytes.{bytes_of}
-use Rattle.thumb_step.specs.Windows.{View, has, refused_by, held_by, put as write, GoesOn, Glides, Keeps, AreInside}
+use Rattle.thumb_step.specs.Windows.{View, has, refused_by, held_by, write, put as lands, GoesOn, Glides, Keeps, IsInside, AreInside}
 use Rattle.thumb_step.proofs.Gliding.{kept, kept_on}
 use Rattle.task_table.specs.State.{Setup, State, Task, Turn}
 use Rattle.task_table.specs.Reading.{task_at, register, chosen, is_ready, no_task}
@@ -25,10 +25,10 @@ use Rattle.task_table.specs.Sane.{Sane, IsCounted}
 use Rattle.task_table.proofs.Changes.{task_at-with_task}
 use Rattle.board_model.specs.declared.outcomes.Level.TheVariants.{Calls}
 use Rattle.board_model.specs.Script.{Scenario}
-use Rattle.board_model.specs.Turn.{refusals, cpu_of, put, acted, stepped_by, stepped, after_events, with_registers_noted, turn_of, ended, turn}
+use Rattle.board_model.specs.Turn.{refusals, cpu_of, put, moved, acted, stepped_by, stepped, after_events, with_registers_noted, turn_of, ended, turn}
 use Rattle.board_model.specs.Run.{is_down, turn_after, state_after}
 use Rattle.board_model.proofs.TurnChains.{chosen_is, sane-after}
-use Rattle.board_model.proofs.Stepping.{puts_state}
+use Rattle.board_model.proofs.Stepping.{moves_state}
 use Rattle.board_model.proofs.Outside.{no_event, begun_state}
 use Rattle.board_model.proofs.Quiet.{quiet-turn}
 use Rattle.board_model.proofs.Counts.{counted_turn}
@@ -41,21 +41,21 @@ use Rattle.board_core.proofs.WindowCovers.{inside, widens}
 -- ## the instruction of the turn
 
 -- carried out, what was fetched is its effect
-carried_next : (g : Setup) (c : ℕ) (t : Turn) (at : ℕ) (d : Cpu) (ss : List Store) (r : Result Fetched Fault) → executed_by (refusals g c) (number_at t.state.memory) (cpu_of (task_at t.state c)) r ≡ Next d ss → stepped_by Calls g c at r t ≡ acted g c (Next d ss) t
-carried_next g c t at d ss (Ok f) e = ap (λ (x : Effect). acted g c x t) e
-carried_next g c t at d ss (Err fault) e = absurd cc
+carried_next : (g : Setup) (c : ℕ) (t : Turn) (at : ℕ) (d : Cpu) (ms : List Move) (r : Result Fetched Fault) → executed_by (refusals g c) (number_at t.state.memory) (cpu_of (task_at t.state c)) r ≡ Next d ms → stepped_by Calls g c at r t ≡ acted g c (Next d ms) t
+carried_next g c t at d ms (Ok f) e = ap (λ (x : Effect). acted g c x t) e
+carried_next g c t at d ms (Err fault) e = absurd cc
 
 module _ (g : Setup) (c : ℕ) (t : Turn) (v w : View) (d : Cpu) (window : IsWindow g c t.state.memory v) (on : GoesOn v (cpu_of (task_at t.state c)) w d) where
-  wide : step_effect (refusals g c) (number_at t.state.memory) (cpu_of (task_at t.state c)) ≡ Next d on.stores
-  wide = step_wider (refused_by v) (refusals g c) (held_by v) (number_at t.state.memory) (widens g c t.state.memory v window) (cpu_of (task_at t.state c)) d on.stores on.effect
+  wide : step_effect (refusals g c) (number_at t.state.memory) (cpu_of (task_at t.state c)) ≡ Next d on.moves
+  wide = step_wider (refused_by v) (refusals g c) (held_by v) (number_at t.state.memory) (widens g c t.state.memory v window) (cpu_of (task_at t.state c)) d on.moves on.effect
 
-  pub stepped_next : stepped Calls g c t ≡ acted g c (Next d on.stores) t
+  pub stepped_next : stepped Calls g c t ≡ acted g c (Next d on.moves) t
   unfolding stepped register
   stepped_next =
       let at : ℕ = reg_at (cpu_of (task_at t.state c)).regs 15 in
-      carried_next g c t at d on.stores (fetched (refusals g c) (number_at t.state.memory) at) wide
+      carried_next g c t at d on.moves (fetched (refusals g c) (number_at t.state.memory) at) wide
 
--- ## its stores
+-- ## its moves
 
 same_size : (v n : ℕ) → IsSize n → length (bytes_of v n) ≡ n
 same_size v n (inl e) = rw e refl
@@ -69,18 +69,25 @@ put_keeps v x small here =
     let size = same_size x.value x.bytes small in
     record { flash_base = refl; flash = refl; readable = refl; ram_base = refl; size = length-pasted v.ram (x.addr - v.ram_base) (bytes_of x.value x.bytes) (omega (arith, size, i.0, i.1)) }
 
-first_inside : (v : View) (x : Store) (xs : List Store) → AreInside v (x ∷ xs) → IsSize x.bytes × (has v.ram_base v.ram x.addr x.bytes ≡ true)
+first_inside : (v : View) (x : Move) (xs : List Move) → AreInside v (x ∷ xs) → IsInside v x
 first_inside v x xs h = h x (zero, omega arith, refl)
 
-rest_inside : (v w : View) (x : Store) (xs : List Store) → Keeps v w → AreInside v (x ∷ xs) → AreInside w xs
-rest_inside v w x xs k h y (i, lt, same) = let e = h y (suc i, omega arith, same) in (e.0, rw (k.ram_base, k.size) e.1)
+inside_still : (v w : View) (x : Move) → Keeps v w → IsInside v x → IsInside w x
+inside_still v w (Puts x) k h = (h.0, rw (k.ram_base, k.size) h.1)
+inside_still v w (Takes a n) k h = tt
 
-stores_keep : (ss : List Store) (v : View) → AreInside v ss → Keeps v (fold write v ss)
-stores_keep [] v h = kept v v refl
-stores_keep (x ∷ xs) v h =
-    let one = first_inside v x xs h in
-    let k = put_keeps v x one.0 one.1 in
-    kept_on v (write v x) _ k (stores_keep xs (write v x) (rest_inside v (write v x) x xs k h))
+rest_inside : (v w : View) (x : Move) (xs : List Move) → Keeps v w → AreInside v (x ∷ xs) → AreInside w xs
+rest_inside v w x xs k h y (i, lt, same) = inside_still v w y k (h y (suc i, omega arith, same))
+
+move_keeps : (v : View) (x : Move) → IsInside v x → Keeps v (lands v x)
+move_keeps v (Puts x) h = put_keeps v x h.0 h.1
+move_keeps v (Takes a n) h = kept v v refl
+
+moves_keep : (ms : List Move) (v : View) → AreInside v ms → Keeps v (fold lands v ms)
+moves_keep [] v h = kept v v refl
+moves_keep (x ∷ xs) v h =
+    let k = move_keeps v x (first_inside v x xs h) in
+    kept_on v (lands v x) _ k (moves_keep xs (lands v x) (rest_inside v (lands v x) x xs k h))
 
 -- a store in the RAM is noted nowhere, and changes the memory
 put_there : (t : Turn) (x : Store) → is_ram t.state.memory x.addr x.bytes ≡ true → ((put t x).state.memory ≡ with_bytes t.state.memory x.addr (bytes_of x.value x.bytes)) × ((put t x).notes ≡ t.notes)
@@ -91,13 +98,9 @@ module _ (m : Memory) where
   in_ram : (u : Memory) (a n : ℕ) → 0x20000000 ≤ a → a + n ≤ 0x20000000 + length u.ram → is_ram u a n ≡ true
   in_ram u a n low high = let p : leb 0x20000000 a ≡ true = le-leb _ _ low in let q : leb (a + n) (0x20000000 + length u.ram) ≡ true = le-leb _ _ high in rw (p, q) refl
 
-  stores_put : (ss : List Store) (v : View) (t : Turn) → 0x20000000 ≤ v.ram_base → v.ram_base + length v.ram ≤ 0x20000000 + length m.ram → t.state.memory ≡ with_bytes m v.ram_base v.ram → AreInside v ss →
-      ((fold put t ss).state.memory ≡ with_bytes m v.ram_base (fold write v ss).ram) × ((fold put t ss).notes ≡ t.notes)
-  stores_put [] v t low high is h = (is, refl)
-  stores_put (x ∷ xs) v t low high is h =
-      let u : View = write v x in
-      let one = first_inside v x xs h in
-      let k = put_keeps v x one.0 one.1 in
+  one_put : (x : Store) (v : View) (t : Turn) → 0x20000000 ≤ v.ram_base → v.ram_base + length v.ram ≤ 0x20000000 + length m.ram → t.state.memory ≡ with_bytes m v.ram_base v.ram → IsInside v (Puts x) →
+      ((put t x).state.memory ≡ with_bytes m v.ram_base (write v x).ram) × ((put t x).notes ≡ t.notes)
+  one_put x v t low high is one =
       let at : ℕ = x.addr in
       let bytes : List ℕ = bytes_of x.value x.bytes in
       let i = inside v.ram_base v.ram at x.bytes one.1 in
@@ -106,8 +109,25 @@ module _ (m : Memory) where
       let here = put_there t x (in_ram t.state.memory at x.bytes (omega (arith, low, i.0)) (omega (arith, long, high, i.1))) in
       let again : with_bytes t.state.memory at bytes ≡ with_bytes m v.ram_base (pasted v.ram (at - v.ram_base) bytes) =
       ap (λ (y : Memory). with_bytes y at bytes) is ∙ written_inside m v.ram_base at v.ram bytes (low, high) i.0 (omega (arith, size, i.1)) in
-      let rest = stores_put xs u (put t x) low (rw k.size high) (here.0 ∙ again) (rest_inside v u x xs k h) in
-      (rest.0, rest.1 ∙ here.1)
+      (here.0 ∙ again, here.1)
+
+  one_move : (x : Move) (v : View) (t : Turn) → 0x20000000 ≤ v.ram_base → v.ram_base + length v.ram ≤ 0x20000000 + length m.ram → t.state.memory ≡ with_bytes m v.ram_base v.ram → IsInside v x →
+      ((moved t x).state.memory ≡ with_bytes m v.ram_base (lands v x).ram) × ((moved t x).notes ≡ t.notes)
+  one_move (Puts x) v t low high is one = one_put x v t low high is one
+  one_move (Takes a n) v t low high is one = (is, refl)
+
+  -- moves within the window change what it says they change
+  moves_land : (ms : List Move) (v : View) (t : Turn) → 0x20000000 ≤ v.ram_base → v.ram_base + length v.ram ≤ 0x20000000 + length m.ram → t.state.memory ≡ with_bytes m v.ram_base v.ram → AreInside v ms →
+      ((fold moved t ms).state.memory ≡ with_bytes m v.ram_base (fold lands v ms).ram) × ((fold moved t ms).notes ≡ t.notes)
+  moves_land [] v t low high is h = (is, refl)
+  moves_land (x ∷ xs) v t low high is h =
+      let one = first_inside v x xs h in
+      let k = move_keeps v x one in
+      let same : (lands v x).ram_base ≡ v.ram_base = k.ram_base in
+      let here = one_move x v t low high is one in
+      let own : (moved t x).state.memory ≡ with_bytes m (lands v x).ram_base (lands v x).ram = here.0 ∙ ap (λ (b : ℕ). with_bytes m b (lands v x).ram) (sym same) in
+      let rest = moves_land xs (lands v x) (moved t x) (rw same low) (rw (same, k.size) high) own (rest_inside v (lands v x) x xs k h) in
+      (rest.0 ∙ ap (λ (b : ℕ). with_bytes m b (fold lands (lands v x) xs).ram) same, rest.1 ∙ here.1)
 
 -- other bytes over all of a region
 pasted_whole : (xs ys : List ℕ) → length ys ≡ length xs → pasted xs 0 ys ≡ ys
@@ -153,16 +173,16 @@ plain_turn x s c is current nothing =
     let R : ℕ → Turn = λ i. ended (stepped Calls x.setup c record (begun s) { state = record s { current = i } }) in
     ap P e ∙ ap Q is ∙ ap R (sym current)
 
-acted_state : (g : Setup) (c : ℕ) (s : State) (d : Cpu) (ss : List Store) (m : Memory) → (fold put (begun s) ss).state.memory ≡ m → (ended (acted g c (Next d ss) (begun s))).state ≡ later s c d m 1
+acted_state : (g : Setup) (c : ℕ) (s : State) (d : Cpu) (ms : List Move) (m : Memory) → (fold moved (begun s) ms).state.memory ≡ m → (ended (acted g c (Next d ms) (begun s))).state ≡ later s c d m 1
 unfolding ended begun with_processor with_task task_at
-acted_state g c s d ss m e =
-    let u : State = (fold put (begun s) ss).state in
-    let same : u ≡ record s { memory = m } = puts_state ss (begun s) ∙ ap (λ (y : Memory). record s { memory = y }) e in
+acted_state g c s d ms m e =
+    let u : State = (fold moved (begun s) ms).state in
+    let same : u ≡ record s { memory = m } = moves_state ms (begun s) ∙ ap (λ (y : Memory). record s { memory = y }) e in
     ap (λ (y : State). record (with_task c record (task_at y c) { registers = d.regs.words; flags = d.flags } y) { turn = y.turn + 1 }) same
 
-acted_notes : (g : Setup) (c : ℕ) (s : State) (d : Cpu) (ss : List Store) → (fold put (begun s) ss).notes ≡ [] → (ended (acted g c (Next d ss) (begun s))).notes ≡ []
+acted_notes : (g : Setup) (c : ℕ) (s : State) (d : Cpu) (ms : List Move) → (fold moved (begun s) ms).notes ≡ [] → (ended (acted g c (Next d ms) (begun s))).notes ≡ []
 unfolding ended with_processor
-acted_notes g c s d ss e = e
+acted_notes g c s d ms e = e
 
 begun_same : (s : State) → ((begun s).state ≡ s) × ((begun s).notes ≡ [])
 unfolding begun
@@ -172,13 +192,13 @@ pub one_turn : (x : Scenario) (s : State) (c : ℕ) (v w : View) (d : Cpu) → c
 unfolding begun
 one_turn x s c v w d is current nothing window on =
     let g : Setup = x.setup in
-    let whole : turn Calls x s ≡ ended (acted g c (Next d on.stores) (begun s)) = plain_turn x s c is current nothing ∙ ap ended (stepped_next g c (begun s) v w d window on) in
+    let whole : turn Calls x s ≡ ended (acted g c (Next d on.moves) (begun s)) = plain_turn x s c is current nothing ∙ ap ended (stepped_next g c (begun s) v w d window on) in
     let own : s.memory ≡ with_bytes s.memory v.ram_base v.ram = sym (ap (with_bytes s.memory v.ram_base) (sym window.ram) ∙ written_same s.memory v.ram_base (length v.ram) window.in_ram) in
-    let put = stores_put s.memory on.stores v (begun s) window.in_ram.0 window.in_ram.1 own on.inside in
+    let put = moves_land s.memory on.moves v (begun s) window.in_ram.0 window.in_ram.1 own on.inside in
     record {
-      state = ap (λ (t : Turn). t.state) whole ∙ acted_state g c s d on.stores _ (put.0 ∙ ap (λ (y : View). with_bytes s.memory v.ram_base y.ram) (sym on.after));
-      notes = ap (λ (t : Turn). t.notes) whole ∙ acted_notes g c s d on.stores put.1;
-      same = rw on.after (stores_keep on.stores v on.inside);
+      state = ap (λ (t : Turn). t.state) whole ∙ acted_state g c s d on.moves _ (put.0 ∙ ap (λ (y : View). with_bytes s.memory v.ram_base y.ram) (sym on.after));
+      notes = ap (λ (t : Turn). t.notes) whole ∙ acted_notes g c s d on.moves put.1;
+      same = rw on.after (moves_keep on.moves v on.inside);
     }
 
 -- ## turns on end

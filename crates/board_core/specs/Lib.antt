@@ -10,3 +10,4 @@ pub mod Skipped
 pub mod Views
 pub mod Regions
 pub mod Gliding
+pub mod Setting

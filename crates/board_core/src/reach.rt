@@ -114,6 +114,8 @@ impl Bus for Reach {
 
     ghost stored = { λ m a n v m'. IsStored m.kernel a n v m'.kernel };
 
+    ghost took = { λ m a m'. m' ≡ m };
+
     #[inline(always)]
     fn allows(&self, addr: u32, n: u32, right: Right) -> Option<u32> {
         self.lacks(addr, n, right)
@@ -143,6 +145,15 @@ impl Bus for Reach {
                 Ok(())
             }
         }
+    }
+
+    /// There is no device.
+    #[inline(always)]
+    fn taken(&mut self, _addr: u32) {}
+
+    #[inline(always)]
+    fn takes(&self) -> bool {
+        false
     }
 
     #[inline(always)]

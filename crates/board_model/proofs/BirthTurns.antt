@@ -1,5 +1,5 @@
 -- A turn leaves the births of every task, or restarts one, which begins a birth then.
-use Rattle.std.proofs.Common.{◌≡◌, ◌≢◌, ◌+◌, ◌<◌, inl, inr, ℕ, Bool, true, false, cond, List, [], ◌∷◌, length, Option, Some, None, refl, ◌∙◌, ap, leb}
+use Rattle.std.proofs.Common.{◌≡◌, ◌≢◌, ◌+◌, ◌%◌, ◌<◌, inl, inr, ℕ, Bool, true, false, cond, List, [], ◌∷◌, length, Option, Some, None, refl, ◌∙◌, ap, leb}
 use Rattle.std.specs.Prelude.{fold, Result, Ok, Err}
 use Rattle.std.specs.List.{range_with_len}
 use Rattle.std.proofs.lemmas.Bool.Decides.{eqb_tells}
@@ -10,15 +10,15 @@ use Rattle.kernel_abi.specs.declared.Note.{Note}
 use Rattle.kernel_abi.specs.declared.Note.TheVariants as note
 use Rattle.kernel_abi.specs.declared.Timer.{Timer}
 use Rattle.run_script.specs.declared.events.Event.{Event}
-use Rattle.run_script.specs.declared.events.Event.TheVariants.{Tick, Irq}
+use Rattle.run_script.specs.declared.events.Event.TheVariants.{Tick, Irq, Feed}
 use Rattle.run_script.specs.Scripts.{events_of}
 use Rattle.thumb_insn.specs.declared.Insn.{Insn}
-use Rattle.thumb_exec.specs.Effect.{Effect, Next, Syscall, Trap, Store}
+use Rattle.thumb_exec.specs.Effect.{Effect, Next, Syscall, Trap, Move}
 use Rattle.thumb_exec.specs.declared.fetch.Fetched.{Fetched}
 use Rattle.task_table.specs.State.{Setup, LineSetup, State, Task, Turn}
 use Rattle.task_table.specs.Reading.{task_at, line_at, line_off, chosen}
-use Rattle.task_table.specs.Effects.{noted, posted, with_timer, with_line, clocked, faulted, restarted}
-use Rattle.task_table.specs.Events.{expired_by, expired, ticked, owner_of, interrupted_by, interrupted}
+use Rattle.task_table.specs.Effects.{noted, posted, with_timer, with_line, clocked, faulted, restarted, with_devices}
+use Rattle.task_table.specs.Events.{expired_by, expired, ticked, owner_of, interrupted_by, interrupted, fed}
 use Rattle.task_table.specs.Rows.{goes_on_with, syscall_noted}
 use Rattle.task_table.specs.Start.{begun}
 use Rattle.task_table.specs.Syscalls.{syscall_made}
@@ -31,11 +31,11 @@ use Rattle.task_table.proofs.Spared.{left-noted, left-processor, left-timer, lef
 use Rattle.board_model.specs.declared.outcomes.Level.{Level}
 use Rattle.board_model.specs.declared.outcomes.Level.TheVariants.{Calls, All}
 use Rattle.board_model.specs.Script.{Scenario}
-use Rattle.board_model.specs.Turn.{put, acted, executed, noted_at, stepped_by, stepped, happened, after_events, with_current, with_registers_noted, turn_of, ended, turn}
+use Rattle.board_model.specs.Turn.{moved, acted, executed, noted_at, stepped_by, stepped, happened, after_events, with_current, with_registers_noted, turn_of, ended, turn}
 use Rattle.board_model.specs.Loners.{IsAtBirth}
 use Rattle.board_model.proofs.LonerBirths.{birth-turn}
 use Rattle.board_model.proofs.LonerOwnTurns.{state-registers, state-ended}
-use Rattle.board_model.proofs.Stepping.{puts_state}
+use Rattle.board_model.proofs.Stepping.{moves_state}
 use Rattle.board_model.proofs.TurnChains.{IsChosen, chosen_is, as_current, sane-after_events, noted_state}
 
 abbrev births_of : Task → ℕ
@@ -89,10 +89,15 @@ module _ (i : ℕ) where
               ∙ left-noted births_of by_births i (note.Irq k Posted) t
           by_line false = left-line births_of by_births i k (line_off true) _ ∙ left-noted births_of by_births i (note.Irq k Held) t
 
+  births-fed : (device byte : ℕ) (t : Turn) → SameBirths i t.state (fed device byte t).state
+  unfolding fed with_devices noted task_at
+  births-fed device byte t = refl
+
   births-events : (g : Setup) (events : List Event) (t : Turn) → SameBirths i t.state (fold (happened g) t events).state
   births-events g [] t = refl
   births-events g (Tick ∷ events) t = births-events g events (ticked t) ∙ births-ticked t
   births-events g (Irq line ∷ events) t = births-events g events (interrupted g line t) ∙ births-interrupted g line t
+  births-events g (Feed device byte ∷ events) t = births-events g events (fed device (byte % 256) t) ∙ births-fed device (byte % 256) t
 
   births-begun : (s : State) → SameBirths i s (begun s).state
   unfolding begun
@@ -121,9 +126,9 @@ module _ (g : Setup) (c : ℕ) where
   births-faulted : (fault : Fault) (t : Turn) → Births g c t (faulted g c fault t)
   births-faulted fault t = Stay (λ i. left-faulted births_of by_births i g c fault Client t (inr (λ x f. refl)))
 
-  births-puts : (stores : List Store) (t : Turn) (i : ℕ) → SameBirths i t.state (fold put t stores).state
+  births-moves : (moves : List Move) (t : Turn) (i : ℕ) → SameBirths i t.state (fold moved t moves).state
   unfolding task_at
-  births-puts stores t i = ap (λ (s : State). (task_at s i).births) (puts_state stores t)
+  births-moves moves t i = ap (λ (s : State). (task_at s i).births) (moves_state moves t)
 
   -- what was noted before changed nothing
   noted_first : (n : Note) (t u : Turn) → Births g c (noted n t) u → Births g c t u
@@ -148,8 +153,8 @@ module _ (g : Setup) (c : ℕ) where
 
   births-acted : (e : Effect) (t : Turn) → Sane g t.state → IsChosen t.state c → Births g c t (acted g c e t)
   unfolding syscall_noted noted
-  births-acted (Next cpu stores) t h is =
-      Stay (λ i. left-processor births_of by_births i c cpu.regs.words cpu.flags (fold put t stores) ∙ births-puts stores t i)
+  births-acted (Next cpu moves) t h is =
+      Stay (λ i. left-processor births_of by_births i c cpu.regs.words cpu.flags (fold moved t moves) ∙ births-moves moves t i)
   births-acted Syscall t h is = noted_first _ t _ (births-syscall_made (syscall_noted c t) h is)
   births-acted (Trap fault) t h is = births-faulted fault t
 

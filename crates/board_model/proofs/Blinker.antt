@@ -33,6 +33,7 @@ scenario : Scenario
 scenario = record {
   setup = setup;
   script = record { every = Some 30; events = (200, Irq 5) ∷ (400, Irq 5) ∷ (403, Irq 5) ∷ (500, Irq 9) ∷ [] };
+  devices = [];
 }
 
 expected : List (ℕ × Note)

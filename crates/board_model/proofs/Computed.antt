@@ -1,11 +1,11 @@
 -- What a trace unfolds where it is computed: a theorem that names `computed` on its line names all of it.
 use Rattle.mem_banks.specs.Memory.{bytes_at, with_bytes, copied as copied_memory}
 use Rattle.region_check.specs.Rights.{first_bad}
-use Rattle.thumb_exec.specs.Effect.{words, transfers, first_refused, stores_of, loaded_all, ones, count, effect}
+use Rattle.thumb_exec.specs.Effect.{words, transfers, first_refused, stores_of, loads_of, loaded_all, ones, count, effect}
 use Rattle.thumb_insn.specs.Table.{rows, narrow_of, wide_rows, wide_of}
 use Rattle.task_table.specs.Reading.{task_at, line_at, register, arguments, call_of, listen_of, dead_code_for, is_out, is_dead, is_ready, bad_byte, chosen, offer_by, best_sender, present_id, taken_by}
-use Rattle.task_table.specs.Effects.{with_task, without_call, without_listen, with_listen, with_taken, noted, with_processor, with_health, stored, copied, looked, given, returned, past_syscall, bits_added, bits_cleared, woken, posted, with_timer, clocked, with_line, closed, faulted_as, handed, with_call, offered, reborn, restarted}
-use Rattle.task_table.specs.Events.{ticked, interrupted, owner_of}
+use Rattle.task_table.specs.Effects.{with_task, without_call, without_listen, with_listen, with_taken, noted, with_processor, with_health, stored, copied, looked, given, returned, past_syscall, bits_added, bits_cleared, woken, posted, with_timer, clocked, with_line, closed, faulted_as, handed, with_call, offered, reborn, restarted, with_devices, device_stored, device_taken}
+use Rattle.task_table.specs.Events.{ticked, interrupted, owner_of, fed}
 use Rattle.task_table.specs.Rows.{panicked, timer_set, timer_answered, irq_controlled, received, syscall_noted}
 use Rattle.task_table.specs.Syscalls.{syscall_made}
 use Rattle.task_table.specs.Sends.{sent, replied, reply_faulted, post_made, refreshed}
@@ -17,7 +17,7 @@ use Rattle.task_table.specs.Start.{begun, start}
 
 -- memory, and the instructions over it
 unfoldable pub of_instructions : Unit {0}
-unfolding bytes_at with_bytes copied_memory first_bad words transfers first_refused stores_of loaded_all ones count effect rows narrow_of wide_rows wide_of
+unfolding bytes_at with_bytes copied_memory first_bad words transfers first_refused stores_of loads_of loaded_all ones count effect rows narrow_of wide_rows wide_of
 of_instructions = tt
 
 -- what is read of a state
@@ -27,12 +27,12 @@ of_readings = tt
 
 -- what changes it
 unfoldable pub of_effects : Unit {0}
-unfolding with_task without_call without_listen with_listen with_taken noted with_processor with_health stored copied looked given returned past_syscall bits_added bits_cleared woken posted with_timer clocked with_line closed faulted_as handed with_call offered reborn restarted
+unfolding with_task without_call without_listen with_listen with_taken noted with_processor with_health stored copied looked given returned past_syscall bits_added bits_cleared woken posted with_timer clocked with_line closed faulted_as handed with_call offered reborn restarted with_devices device_stored device_taken
 of_effects = tt
 
 -- system calls and events, row by row
 unfoldable pub of_rows : Unit {0}
-unfolding ticked interrupted owner_of panicked timer_set timer_answered irq_controlled received syscall_noted syscall_made sent replied reply_faulted post_made refreshed grant borrowed informed injected ordered
+unfolding ticked interrupted owner_of fed panicked timer_set timer_answered irq_controlled received syscall_noted syscall_made sent replied reply_faulted post_made refreshed grant borrowed informed injected ordered
 of_rows = tt
 
 -- turns and runs of them

@@ -1,18 +1,18 @@
 -- A turn changes its number by one, the time by its ticks alone, and the next call's number by at most one.
-use Rattle.std.proofs.Common.{◌≡◌, ◌+◌, ◌≤◌, ℕ, List, [], ◌∷◌, length, Option, Some, None, refl, ◌∙◌, arith}
+use Rattle.std.proofs.Common.{◌≡◌, ◌+◌, ◌%◌, ◌≤◌, ℕ, List, [], ◌∷◌, length, Option, Some, None, refl, ◌∙◌, arith}
 use Rattle.std.specs.Prelude.{fold}
 use Rattle.kernel_abi.specs.declared.Note.TheVariants as note
 use Rattle.run_script.specs.declared.events.Event.{Event}
-use Rattle.run_script.specs.declared.events.Event.TheVariants.{Tick, Irq}
+use Rattle.run_script.specs.declared.events.Event.TheVariants.{Tick, Irq, Feed}
 use Rattle.run_script.specs.Scripts.{events_of}
 use Rattle.task_table.specs.State.{Setup, State, Turn}
 use Rattle.task_table.specs.Reading.{chosen}
-use Rattle.task_table.specs.Events.{ticked, interrupted}
+use Rattle.task_table.specs.Events.{ticked, interrupted, fed}
 use Rattle.task_table.specs.Start.{begun}
 use Rattle.task_table.specs.Sane.{Sane, IsCounted}
 use Rattle.task_table.specs.Counts.{AreCounts}
 use Rattle.task_table.proofs.Counting.{time-aside, counts_same, chain_counts}
-use Rattle.task_table.proofs.Outside.{outside-ticked, now-ticked, aside-interrupted}
+use Rattle.task_table.proofs.Outside.{outside-ticked, now-ticked, aside-interrupted, outside-fed, now-fed}
 use Rattle.board_model.specs.declared.outcomes.Level.{Level}
 use Rattle.board_model.specs.Script.{Scenario}
 use Rattle.board_model.specs.Turn.{noted_at, happened, after_events, with_current, turn_of, ended, turn}
@@ -30,6 +30,10 @@ later-events g (Tick ∷ events) t =
     let a = outside-ticked t in
     let b = later-events g events (ticked t) in
     record { turn = b.turn ∙ a.turn; now = omega (arith, b.now, now-ticked t); next_call = b.next_call ∙ a.next_call }
+later-events g (Feed device byte ∷ events) t =
+    let a = outside-fed device (byte % 256) t in
+    let b = later-events g events (fed device (byte % 256) t) in
+    record { turn = b.turn ∙ a.turn; now = omega (arith, b.now, now-fed device (byte % 256) t); next_call = b.next_call ∙ a.next_call }
 later-events g (Irq line ∷ events) t =
     let a = aside-interrupted g line t in
     let b = later-events g events (interrupted g line t) in

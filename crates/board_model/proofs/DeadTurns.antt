@@ -13,7 +13,6 @@ use Rattle.thumb_insn.specs.declared.Insn.TheVariants.{Svc}
 use Rattle.thumb_exec.specs.Effect.{effect}
 use Rattle.thumb_exec.specs.Fetch.{fetched}
 use Rattle.thumb_exec.specs.declared.fetch.Fetched.{Fetched}
-use Rattle.mem_banks.specs.Memory.{number_at}
 use Rattle.task_table.specs.State.{Setup, State, Task, Turn}
 use Rattle.task_table.specs.Reading.{task_at, register, arguments, is_out, is_dead, present_id, dead_code_for, is_faulted}
 use Rattle.task_table.specs.Effects.{noted, faulted}
@@ -26,7 +25,7 @@ use Rattle.task_table.proofs.DeadRows as dead
 use Rattle.board_model.specs.declared.outcomes.Level.{Level}
 use Rattle.board_model.specs.declared.outcomes.Level.TheVariants as level_of
 use Rattle.board_model.specs.Script.{Scenario}
-use Rattle.board_model.specs.Turn.{refusals, noted_at, stepped_by, stepped, after_events, with_current, with_registers_noted, ended, turn}
+use Rattle.board_model.specs.Turn.{refusals, held, noted_at, stepped_by, stepped, after_events, with_current, with_registers_noted, ended, turn}
 use Rattle.board_model.specs.DeadCalls.{MakesCall, IsSameButForResults, OnlyAnswers, OnlyFaults, IsDeadTurn, old_id}
 use Rattle.board_model.proofs.Events.{fresh-after_events}
 use Rattle.board_model.proofs.TurnChains.{chosen_is, sane-after_events}
@@ -40,7 +39,7 @@ abbrev row_of : Level → ℕ → ℕ → Turn → Turn
 row_of level c code t = syscall_noted c (noted_at level (note.Insn c (register t.state c program_counter) code) (with_current c t))
 
 -- an SVC of c, as it is fetched and carried out
-stepped_is : (level : Level) (g : Setup) (c code immediate : ℕ) (v : Turn) → fetched (refusals g c) (number_at v.state.memory) (register v.state c program_counter) ≡ Ok record { insn = Svc immediate; code = code }
+stepped_is : (level : Level) (g : Setup) (c code immediate : ℕ) (v : Turn) → fetched (refusals g c) (held v.state) (register v.state c program_counter) ≡ Ok record { insn = Svc immediate; code = code }
     → stepped level g c v ≡ syscall_made g c (syscall_noted c (noted_at level (note.Insn c (register v.state c program_counter) code) v))
 unfolding stepped effect
 stepped_is level g c code immediate v found = ap (λ (r : Result Fetched Fault). stepped_by level g c (register v.state c program_counter) r v) found

@@ -1,22 +1,23 @@
 -- What comes from outside touches no call, writes nothing and reads nothing for a task.
-use Rattle.std.proofs.Common.{List, [], ◌∷◌, arith, inl, inr, refl, ◌∙◌}
+use Rattle.std.proofs.Common.{◌%◌, List, [], ◌∷◌, arith, inl, inr, refl, ◌∙◌}
 use Rattle.std.specs.Prelude.{fold}
 use Rattle.std.proofs.lemmas.List.Elements.{Contains-append_cases}
 use Rattle.run_script.specs.declared.events.Event.{Event}
-use Rattle.run_script.specs.declared.events.Event.TheVariants.{Tick, Irq}
+use Rattle.run_script.specs.declared.events.Event.TheVariants.{Tick, Irq, Feed}
 use Rattle.run_script.specs.Scripts.{events_of}
 use Rattle.task_table.specs.State.{Setup, State, Turn}
-use Rattle.task_table.specs.Events.{ticked, interrupted}
+use Rattle.task_table.specs.Events.{ticked, interrupted, fed}
 use Rattle.task_table.specs.Start.{begun}
 use Rattle.task_table.specs.Lives.{IsFresh}
 use Rattle.task_table.proofs.Moves.{plain_one, IsOutside, outside_here, outside_then}
-use Rattle.task_table.proofs.Outside.{outside-ticked, aside-interrupted}
+use Rattle.task_table.proofs.Outside.{outside-ticked, aside-interrupted, outside-fed}
 use Rattle.board_model.specs.Script.{Scenario}
 use Rattle.board_model.specs.Turn.{happened, after_events}
 
 outside-events : (g : Setup) (events : List Event) (t : Turn) → IsOutside t (fold (happened g) t events)
 outside-events g [] t = outside_here t
 outside-events g (Tick ∷ events) t = outside_then t (ticked t) _ (outside-ticked t) (outside-events g events (ticked t))
+outside-events g (Feed device byte ∷ events) t = outside_then t (fed device (byte % 256) t) _ (outside-fed device (byte % 256) t) (outside-events g events (fed device (byte % 256) t))
 outside-events g (Irq line ∷ events) t = outside_then t (interrupted g line t) _ (aside-interrupted g line t).outside (outside-events g events (interrupted g line t))
 
 pub outside-after_events : (x : Scenario) (s : State) → IsOutside (begun s) (after_events x s)

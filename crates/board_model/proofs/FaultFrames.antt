@@ -128,6 +128,10 @@ module _ (g : Setup) (c : ℕ) (f : Fault) (t : Turn) where
   unfolding shut closed noted with_health
   silent-shut = (refl, refl)
 
+  devices-shut : shut.state.devices ≡ s.devices
+  unfolding shut closed noted with_health with_task without_call without_listen
+  devices-shut = refl
+
   same_at-shut : (i : ℕ) → i ≢ c → IsSameAt i s shut.state
   same_at-shut i ne = record { task = same_but-shut.task i ne; call = same_but-shut.call i ne; listen = same_but-shut.listen i ne }
 
@@ -160,6 +164,7 @@ module _ (g : Setup) (c : ℕ) (f : Fault) (t : Turn) where
         supervisor = λ ne. absurd (ne (eqb-true c 0 e));
         others = λ i apart above. same_at-shut i apart;
         memory = same_but-shut.memory;
+        devices = devices-shut;
         now = same_but-shut.now;
         next_call = same_but-shut.next_call;
         lines = same_but-shut.lines;
@@ -167,7 +172,8 @@ module _ (g : Setup) (c : ℕ) (f : Fault) (t : Turn) where
       by_zero false e =
           let u = posted 0 g.fault_bits shut in
           let answered = same_but-posted 0 g.fault_bits shut in
-          let aside = (aside-posted 0 g.fault_bits shut).outside in
+          let posting = aside-posted 0 g.fault_bits shut in
+          let aside = posting.outside in
           let apart : c ≢ 0 = λ same. false≢true (sym e ∙ eq-eqb c 0 same) in
           let other : 0 ≢ c = λ same. apart (sym same) in
           lone u record {
@@ -176,6 +182,7 @@ module _ (g : Setup) (c : ℕ) (f : Fault) (t : Turn) where
             supervisor = λ ne. both-posted 0 g.fault_bits (begun s) shut first (rw same_but-shut.count first) (same_at-shut 0 other);
             others = λ i other above. let o = same_at-shut i other in record { task = answered.task i above ∙ o.task; call = answered.call i above ∙ o.call; listen = answered.listen i above ∙ o.listen };
             memory = answered.memory ∙ same_but-shut.memory;
+            devices = posting.devices ∙ devices-shut;
             now = answered.now ∙ same_but-shut.now;
             next_call = answered.next_call ∙ same_but-shut.next_call;
             lines = answered.lines ∙ same_but-shut.lines;

@@ -9,7 +9,7 @@ use Rattle.kernel_abi.specs.declared.Note.{Note}
 use Rattle.kernel_abi.specs.declared.Note.TheVariants as note
 use Rattle.thumb_insn.specs.declared.Insn.{Insn}
 use Rattle.thumb_exec.specs.declared.fetch.Fetched.{Fetched}
-use Rattle.thumb_exec.specs.Effect.{Effect, Next, Syscall, Trap, Store}
+use Rattle.thumb_exec.specs.Effect.{Effect, Next, Syscall, Trap, Move}
 use Rattle.task_table.specs.State.{Setup, State, Read, Turn}
 use Rattle.task_table.specs.Reading.{task_at, call_of, listen_of, chosen, is_faulted}
 use Rattle.task_table.specs.Effects.{noted}
@@ -22,11 +22,11 @@ use Rattle.task_table.proofs.Sanity.{sane-current}
 use Rattle.board_model.specs.declared.outcomes.Level.{Level}
 use Rattle.board_model.specs.declared.outcomes.Level.TheVariants.{Calls, All}
 use Rattle.board_model.specs.Script.{Scenario}
-use Rattle.board_model.specs.Turn.{put, acted, executed, noted_at, stepped_by, stepped, after_events, with_current, low_note, high_note, with_registers_noted, turn_of, ended, turn}
+use Rattle.board_model.specs.Turn.{moved, acted, executed, noted_at, stepped_by, stepped, after_events, with_current, low_note, high_note, with_registers_noted, turn_of, ended, turn}
 use Rattle.board_model.specs.Faults.{IsSameButForFault, AreEntries, IsFaulting, ChangesNothingElse}
 use Rattle.board_model.proofs.Events.{fresh-after_events}
 use Rattle.board_model.proofs.TurnChains.{IsChosen, chosen_is, as_current, sane-after_events}
-use Rattle.board_model.proofs.Stepping.{puts_state}
+use Rattle.board_model.proofs.Stepping.{moves_state}
 use Rattle.board_model.proofs.FaultFrames.{both-posted, lone_after}
 use Rattle.board_model.proofs.FaultRows.{IsWell, well-processor, Outcome, FaultsAlone, StaysWell, outcome-faulted, outcome-syscall_made}
 
@@ -45,14 +45,14 @@ noted_after All g c n t u (StaysWell w) = StaysWell w
 
 -- ## an instruction
 
-well-puts : (c : ℕ) (stores : List Store) (t : Turn) → IsWell c t → IsWell c (fold put t stores)
+well-moves : (c : ℕ) (moves : List Move) (t : Turn) → IsWell c t → IsWell c (fold moved t moves)
 unfolding task_at
-well-puts c stores t h = ap (λ (s : State). (task_at s c).health) (puts_state stores t) ∙ h
+well-moves c moves t h = ap (λ (s : State). (task_at s c).health) (moves_state moves t) ∙ h
 
 module _ (g : Setup) (c : ℕ) where
   outcome-acted : (t : Turn) → Sane g t.state → IsChosen t.state c → (e : Effect) → Outcome g c t (acted g c e t)
   unfolding syscall_noted noted
-  outcome-acted t h is (Next cpu stores) = StaysWell (well-processor c c cpu.regs.words cpu.flags _ (well-puts c stores t (well-ready t.state c is.ready)))
+  outcome-acted t h is (Next cpu moves) = StaysWell (well-processor c c cpu.regs.words cpu.flags _ (well-moves c moves t (well-ready t.state c is.ready)))
   outcome-acted t h is Syscall = noted_before g c _ t _ (outcome-syscall_made g c (syscall_noted c t) h is.inside is.ready)
   outcome-acted t h is (Trap f) = outcome-faulted g c t is.inside f
 
@@ -91,6 +91,7 @@ from_events g c n s u inside h = record {
       record { task = posted_to.task ∙ same.task; call = posted_to.call ∙ same.call; listen = posted_to.listen ∙ same.listen };
   others = λ i apart above. let o = h.others i apart above in record { task = o.task; call = o.call; listen = o.listen };
   memory = h.memory;
+  devices = h.devices;
   now = h.now;
   next_call = h.next_call;
   lines = h.lines;

@@ -39,6 +39,7 @@ unfoldable pub scenario : Scenario
 scenario = record {
   setup = setup;
   script = record { every = Some 30; events = (5, Irq 7) ∷ (90, Irq 7) ∷ (90, Irq 7) ∷ (91, Tick) ∷ (150, Irq 8) ∷ (171, Irq 7) ∷ [] };
+  devices = [];
 }
 
 expected : List (ℕ × Note)

@@ -8,35 +8,34 @@ use Rattle.region_check.specs.declared.Right.TheVariants.{Execute}
 use Rattle.words_core.specs.declared.Flags.{Flags}
 use Rattle.thumb_insn.specs.declared.Insn.{Insn}
 use Rattle.thumb_insn.specs.Table.{decoded_of, is_wide}
-use Rattle.thumb_exec.specs.Effect.{Effect, Next, Syscall, Trap, Store, Refusals, Contents, effect}
+use Rattle.thumb_exec.specs.Effect.{Effect, Next, Syscall, Trap, Move, Refusals, Contents, effect}
 use Rattle.thumb_exec.specs.declared.fetch.Fetched.{Fetched}
 use Rattle.thumb_exec.specs.Fetch.{instruction, unless_barred, after, fetched_wide, fetched_by, fetched}
 use Rattle.thumb_exec.specs.Keeps.{Agree}
 use Rattle.thumb_exec.proofs.Agreeing.{effect_same}
-use Rattle.mem_banks.specs.Memory.{number_at}
 use Rattle.task_table.specs.State.{Setup, Turn}
 use Rattle.task_table.specs.Reading.{task_at, register}
 use Rattle.task_table.specs.Effects.{with_processor, faulted}
 use Rattle.task_table.specs.Rows.{syscall_noted}
 use Rattle.task_table.specs.Syscalls.{syscall_made}
 use Rattle.board_model.specs.declared.outcomes.Level.{Level}
-use Rattle.board_model.specs.Turn.{refusals, cpu_of, put, acted, executed, noted_at, stepped_by, stepped}
+use Rattle.board_model.specs.Turn.{refusals, held, cpu_of, moved, acted, executed, noted_at, stepped_by, stepped}
 
 -- ## what is fetched from two memories that hold the same where a halfword may be executed
 
-module _ (refuses : Refusals) (holds held : Contents) (same : (a : ℕ) → refuses a 2 Execute ≡ None → holds a 2 ≡ held a 2) where
+module _ (refuses : Refusals) (holds shows : Contents) (same : (a : ℕ) → refuses a 2 Execute ≡ None → holds a 2 ≡ shows a 2) where
   unless_same : (o : Option ℕ) (at : ℕ) (r x : Result Fetched Fault) → (o ≡ None → r ≡ x) → unless_barred o at r ≡ unless_barred o at x
   unless_same None at r x e = e refl
   unless_same (Some byte) at r x e = refl
 
-  wide_same : (at first : ℕ) → fetched_wide refuses holds at first ≡ fetched_wide refuses held at first
+  wide_same : (at first : ℕ) → fetched_wide refuses holds at first ≡ fetched_wide refuses shows at first
   wide_same at first = unless_same (refuses (after at) 2 Execute) (after at) _ _ (λ e. ap (λ (second : ℕ). instruction at (first * 2 ^ 16 + second) (decoded_of first (Some second))) (same (after at) e))
 
-  by_same : (at first : ℕ) → fetched_by refuses holds at first ≡ fetched_by refuses held at first
+  by_same : (at first : ℕ) → fetched_by refuses holds at first ≡ fetched_by refuses shows at first
   by_same at first = ap (λ (r : Result Fetched Fault). cond (is_wide first) r (instruction at first (decoded_of first None))) (wide_same at first)
 
-  pub fetched_same : (at : ℕ) → fetched refuses holds at ≡ fetched refuses held at
-  fetched_same at = unless_same (refuses at 2 Execute) at _ _ (λ e. ap (fetched_by refuses holds at) (same at e) ∙ by_same at (held at 2))
+  pub fetched_same : (at : ℕ) → fetched refuses holds at ≡ fetched refuses shows at
+  fetched_same at = unless_same (refuses at 2 Execute) at _ _ (λ e. ap (fetched_by refuses holds at) (same at e) ∙ by_same at (shows at 2))
 
 -- ## the walk
 
@@ -46,32 +45,32 @@ pub record IsFollowed (l m : Level) (g k : Setup) (c d : ℕ) (R W : Turn → Tu
   pub refused : refusals g c ≡ refusals k d
   pub pc : (t u : Turn) → R t u → register t.state c 15 ≡ register u.state d 15
   pub cpu : (t u : Turn) → R t u → cpu_of (task_at t.state c) ≡ cpu_of (task_at u.state d)
-  pub fetches : (t u : Turn) → R t u → (a : ℕ) → refusals g c a 2 Execute ≡ None → number_at t.state.memory a 2 ≡ number_at u.state.memory a 2
-  pub loads : (t u : Turn) → R t u → Agree (refusals g c) (number_at t.state.memory) (number_at u.state.memory)
+  pub fetches : (t u : Turn) → R t u → (a : ℕ) → refusals g c a 2 Execute ≡ None → held t.state a 2 ≡ held u.state a 2
+  pub loads : (t u : Turn) → R t u → Agree (refusals g c) (held t.state) (held u.state)
   -- what an instruction does keeps the relation
   pub noted_at : (at code : ℕ) (t u : Turn) → R t u → R (noted_at l (note.Insn c at code) t) (noted_at m (note.Insn d at code) u)
-  pub put : (x : Store) (t u : Turn) → R t u → R (put t x) (put u x)
+  pub moved : (x : Move) (t u : Turn) → R t u → R (moved t x) (moved u x)
   pub processor : (registers : List ℕ) (flags : Flags) (t u : Turn) → R t u → W (with_processor c registers flags t) (with_processor d registers flags u)
   pub fault : (x : Fault) (t u : Turn) → R t u → W (faulted g c x t) (faulted k d x u)
   pub call : (t u : Turn) → R t u → W (syscall_made g c (syscall_noted c t)) (syscall_made k d (syscall_noted d u))
 
 module _ (l m : Level) (g k : Setup) (c d : ℕ) (R W : Turn → Turn → Type 0) (f : IsFollowed l m g k c d R W) where
-  follow-puts : (xs : List Store) (t u : Turn) → R t u → R (fold put t xs) (fold put u xs)
-  follow-puts [] t u h = h
-  follow-puts (x ∷ xs) t u h = follow-puts xs (put t x) (put u x) (f.put x t u h)
+  follow-moves : (xs : List Move) (t u : Turn) → R t u → R (fold moved t xs) (fold moved u xs)
+  follow-moves [] t u h = h
+  follow-moves (x ∷ xs) t u h = follow-moves xs (moved t x) (moved u x) (f.moved x t u h)
 
   follow-acted : (e : Effect) (t u : Turn) → R t u → W (acted g c e t) (acted k d e u)
-  follow-acted (Next cpu stores) t u h = f.processor cpu.regs.words cpu.flags _ _ (follow-puts stores t u h)
+  follow-acted (Next cpu moves) t u h = f.processor cpu.regs.words cpu.flags _ _ (follow-moves moves t u h)
   follow-acted Syscall t u h = f.call t u h
   follow-acted (Trap x) t u h = f.fault x t u h
 
   pub follow-executed : (insn : Insn) (t u : Turn) → R t u → W (executed g c insn t) (executed k d insn u)
   follow-executed insn t u h = go _ _ same
     where
-      same : effect (refusals g c) (number_at t.state.memory) (cpu_of (task_at t.state c)) insn ≡ effect (refusals k d) (number_at u.state.memory) (cpu_of (task_at u.state d)) insn
+      same : effect (refusals g c) (held t.state) (cpu_of (task_at t.state c)) insn ≡ effect (refusals k d) (held u.state) (cpu_of (task_at u.state d)) insn
       same =
-          effect_same (refusals g c) (number_at t.state.memory) (number_at u.state.memory) (f.loads t u h) (cpu_of (task_at t.state c)) insn
-          ∙ (λ j. effect (f.refused j) (number_at u.state.memory) (f.cpu t u h j) insn)
+          effect_same (refusals g c) (held t.state) (held u.state) (f.loads t u h) (cpu_of (task_at t.state c)) insn
+          ∙ (λ j. effect (f.refused j) (held u.state) (f.cpu t u h j) insn)
 
       go : (e x : Effect) → e ≡ x → W (acted g c e t) (acted k d x u)
       go e x q = rw (sym q) (follow-acted e t u h)
@@ -87,4 +86,4 @@ module _ (l m : Level) (g k : Setup) (c d : ℕ) (R W : Turn → Turn → Type 0
   unfolding stepped
   follow-stepped t u h =
       follow-by _ _ _ _ t u h (f.pc t u h)
-      (fetched_same (refusals g c) (number_at t.state.memory) (number_at u.state.memory) (f.fetches t u h) (register t.state c 15) ∙ (λ j. fetched (f.refused j) (number_at u.state.memory) (f.pc t u h j)))
+      (fetched_same (refusals g c) (held t.state) (held u.state) (f.fetches t u h) (register t.state c 15) ∙ (λ j. fetched (f.refused j) (held u.state) (f.pc t u h j)))

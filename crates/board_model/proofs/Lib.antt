@@ -18,6 +18,8 @@ pub mod AllNoted
 pub mod ClientServer
 pub mod TwoServers
 pub mod SumOfLease
+pub mod Reached
+pub mod Held
 pub mod SameBytes
 pub mod Alike
 pub mod Sight

@@ -1,4 +1,5 @@
 -- Every write of a turn stands on its ground, and the ledger of a run is right.
+use Rattle.kernel_abi.specs.Devices.{DeviceData}
 use Rattle.std.proofs.Common.{◌≡◌, ◌+◌, ℕ, zero, suc, List, [], ◌∷◌, ◌++◌, Option, Some, None, refl, sym, subst, ◌∙◌, ap, arith, append_assoc, append-nil}
 use Rattle.kernel_abi.specs.declared.Note.{Note}
 use Rattle.task_table.specs.State.{Setup, State, Turn}
@@ -18,7 +19,7 @@ use Rattle.task_table.proofs.Ledgers.{as_noted-start, as_noted-aside, as_noted-s
 use Rattle.board_model.specs.declared.outcomes.End.{End}
 use Rattle.board_model.specs.declared.outcomes.End.TheVariants.{Bound}
 use Rattle.board_model.specs.declared.outcomes.Level.{Level}
-use Rattle.board_model.specs.Script.{Scenario}
+use Rattle.board_model.specs.Script.{Scenario, start_of}
 use Rattle.board_model.specs.Turn.{after_events, with_current, stepped, with_registers_noted, turn_of, ended, turn}
 use Rattle.board_model.specs.Run.{run, ending, ended_at, with_front, unless, at_turn}
 use Rattle.board_model.specs.Lifetimes.{IsGroundedTurn, IsLedgerOfRun, notes_in}
@@ -150,5 +151,8 @@ module _ (level : Level) (x : Scenario) where
           let r = run level x n (turn level x s).state in
           subst (λ ms. IsAsNoted ms r.last) (append_assoc old ns (notes_in r.notes) ∙ ap (λ ms. old ++ ms) (ap (λ ms. ms ++ notes_in r.notes) (sym (front_as_noted s.turn ns)) ∙ sym (joined_as_noted (at_turn s.turn ns) r.notes))) k
 
-  pub ledger-run : (n : ℕ) → Sane x.setup (start x.setup) → IsLedgerOfRun level x n
-  ledger-run n h = as_noted-ledger _ _ (as_noted_run n (start x.setup) [] h (as_noted-start x.setup))
+  as_noted_with : (s : State) (devices : List DeviceData) → IsAsNoted [] s → IsAsNoted [] record s { devices = devices }
+  as_noted_with s devices h = record { apart = record { some = h.apart.some; from = h.apart.from; below = h.apart.below; client = h.apart.client; number = h.apart.number }; lives = h.lives }
+
+  pub ledger-run : (n : ℕ) → Sane x.setup (start_of x) → IsLedgerOfRun level x n
+  ledger-run n h = as_noted-ledger _ _ (as_noted_run n (start_of x) [] h (as_noted_with (start x.setup) x.devices (as_noted-start x.setup)))

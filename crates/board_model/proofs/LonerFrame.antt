@@ -1,6 +1,6 @@
 -- A turn that is not a task's own, and the events of any turn, leave what it has for itself as it was, where it waits
 -- for nothing and the supervisor does not strike it.
-use Rattle.std.proofs.Common.{◌≡◌, ◌≢◌, inl, inr, ◌+◌, ℕ, Bool, true, false, cond, List, [], ◌∷◌, length, Option, Some, None, refl, sym, ◌∙◌, ap, leb}
+use Rattle.std.proofs.Common.{◌≡◌, ◌≢◌, inl, inr, ◌+◌, ◌%◌, ℕ, Bool, true, false, cond, List, [], ◌∷◌, length, Option, Some, None, refl, sym, ◌∙◌, ap, leb}
 use Rattle.std.specs.Prelude.{fold}
 use Rattle.std.specs.List.{range_with_len}
 use Rattle.kernel_abi.specs.declared.Handled.TheVariants.{Posted, Held, Unowned}
@@ -8,12 +8,12 @@ use Rattle.kernel_abi.specs.declared.Note.TheVariants as note
 use Rattle.kernel_abi.specs.declared.Timer.{Timer}
 use Rattle.mem_banks.specs.Memory.{byte_at}
 use Rattle.run_script.specs.declared.events.Event.{Event}
-use Rattle.run_script.specs.declared.events.Event.TheVariants.{Tick, Irq}
+use Rattle.run_script.specs.declared.events.Event.TheVariants.{Tick, Irq, Feed}
 use Rattle.run_script.specs.Scripts.{events_of}
 use Rattle.task_table.specs.State.{Setup, LineSetup, State, Turn}
 use Rattle.task_table.specs.Reading.{task_at, line_at, line_off, chosen, IsIdle}
-use Rattle.task_table.specs.Effects.{noted, posted, with_timer, with_line, clocked}
-use Rattle.task_table.specs.Events.{expired_by, expired, ticked, owner_of, interrupted_by, interrupted}
+use Rattle.task_table.specs.Effects.{noted, posted, with_timer, with_line, clocked, with_devices}
+use Rattle.task_table.specs.Events.{expired_by, expired, ticked, owner_of, interrupted_by, interrupted, fed}
 use Rattle.task_table.specs.Start.{begun}
 use Rattle.task_table.specs.Sane.{Sane}
 use Rattle.task_table.specs.Grounds.{with_writes}
@@ -25,7 +25,7 @@ use Rattle.board_model.specs.Lifetimes.{IsGroundedTurn}
 use Rattle.board_model.proofs.Lifetimes.{grounded-turn}
 use Rattle.board_model.proofs.TurnChains.{turn_chain}
 use Rattle.board_model.specs.Loners.{IsLoner, owns, IsUntouched}
-use Rattle.board_model.proofs.LonerSteps.{IsLeftAlone, same-noted, same-now, same-turn, same-current, same-timer, same-posted, same-line, chain_alone}
+use Rattle.board_model.proofs.LonerSteps.{IsLeftAlone, same-noted, same-now, same-turn, same-current, same-timer, same-posted, same-line, same-devices, chain_alone}
 use Rattle.board_model.proofs.LonerBytes.{own_stays}
 
 -- it is as it is
@@ -73,10 +73,15 @@ module _ (s : State) (j : ℕ) where
           by_line true = same-posted s j o.owner o.bits _ (same-line s j k (line_off false) _ (same-noted s j (note.Irq k Posted) t h))
           by_line false = same-line s j k (line_off true) _ (same-noted s j (note.Irq k Held) t h)
 
+  untouched-fed : (device byte : ℕ) (t : Turn) → IsUntouched s j t.state → IsUntouched s j (fed device byte t).state
+  unfolding fed with_devices noted
+  untouched-fed device byte t h = same-devices s j _ t.state h
+
   untouched-events : (g : Setup) (events : List Event) (t : Turn) → IsUntouched s j t.state → IsUntouched s j (fold (happened g) t events).state
   untouched-events g [] t h = h
   untouched-events g (Tick ∷ events) t h = untouched-events g events (ticked t) (untouched-ticked t h)
   untouched-events g (Irq line ∷ events) t h = untouched-events g events (interrupted g line t) (untouched-interrupted g line t h)
+  untouched-events g (Feed device byte ∷ events) t h = untouched-events g events (fed device (byte % 256) t) (untouched-fed device (byte % 256) t h)
 
   untouched-begun : IsIdle s j → IsUntouched s j (begun s).state
   unfolding begun

@@ -1,5 +1,5 @@
 -- The own turns of two loners that have the same for themselves.
-use Rattle.std.proofs.Common.{◌≡◌, ◌⊎◌, inl, inr, ◌+◌, ◌<◌, ◌≤◌, ℕ, true, leb, ltb, [], ◌∷◌, length, Some, refl, sym, subst, ◌∙◌, ap, arith, ltb-true}
+use Rattle.std.proofs.Common.{◌≡◌, ◌⊎◌, inl, inr, ◌+◌, ◌<◌, ◌≤◌, ℕ, true, false, leb, ltb, [], ◌∷◌, length, Some, refl, sym, subst, ◌∙◌, ap, arith, ltb-true}
 use Rattle.std.specs.Prelude.{Contains}
 use Rattle.std.proofs.lemmas.Bool.{leb-true}
 use Rattle.std.proofs.lemmas.List.Elements.{Contains-append_left}
@@ -8,7 +8,7 @@ use Rattle.region_check.specs.declared.Region.{Region}
 use Rattle.region_check.specs.declared.Right.{Right}
 use Rattle.region_check.specs.declared.Right.TheVariants.{Write}
 use Rattle.region_check.specs.Rights.{is_inside, has_right, gives}
-use Rattle.mem_banks.specs.Memory.{Memory, IsWithinRam}
+use Rattle.mem_banks.specs.Memory.{Memory, IsWithin, IsWithinRam}
 use Rattle.task_table.specs.State.{Setup, State, Turn}
 use Rattle.task_table.specs.Reading.{task_at, setup_at, call_of, listen_of, chosen, IsIdle}
 use Rattle.task_table.specs.Effects.{noted}
@@ -19,12 +19,13 @@ use Rattle.task_table.proofs.Sanity.{sane-current}
 use Rattle.board_model.specs.declared.outcomes.Level.{Level}
 use Rattle.board_model.specs.declared.outcomes.Level.TheVariants.{Calls, All}
 use Rattle.board_model.specs.Script.{Scenario}
-use Rattle.board_model.specs.Turn.{may, noted_at, stepped, after_events, with_current, low_note, high_note, with_registers_noted, ended, turn}
+use Rattle.board_model.specs.Turn.{may, is_device, noted_at, stepped, after_events, with_current, low_note, high_note, with_registers_noted, ended, turn}
 use Rattle.board_model.proofs.Events.{fresh-after_events}
 use Rattle.board_model.proofs.TurnChains.{both_true, IsChosen, chosen_is, as_current, sane-after_events, noted_state}
 use Rattle.board_model.proofs.Views.{any_in, any_of}
 use Rattle.board_model.specs.Loners.{IsLoner, owns, HaveSameOwn, IsUntouched}
 use Rattle.board_model.specs.LonerTurns.{IsOwnTurn, IsToItself, AreAlike}
+use Rattle.board_model.proofs.Held.{no_device_below}
 use Rattle.board_model.proofs.LonerFrame.{untouched-after_events}
 use Rattle.board_model.proofs.SameBytes.{HoldSame, same_of_bytes, bytes_of_same}
 use Rattle.board_model.proofs.LonerWalk.{IsPair, AreSame, IsAbout, HasCalled, same-stepped}
@@ -44,6 +45,18 @@ module _ (g : Setup) (i : ℕ) where
 
   own : (right : Right) (a : ℕ) → may g i right a ≡ true → owns g i a ≡ true
   own right a e = let r = given_by right a e in any_of (λ (x : Region). is_inside x a) (setup_at g i).regions r.0 r.1 r.2
+
+  -- in memory, where no device lies
+  own_memory : (m : Memory) → ArePlaced g m → IsLoner g i → (right : Right) (a : ℕ) → may g i right a ≡ true → is_device a ≡ false
+  own_memory m placed loner right a e =
+      let r = given_by right a e in
+      let b = from_to r.0 a r.2 in
+      no_device_below a (by_place r.0.base r.0.size b.0 b.1 (placed.within i r.0 r.1 (loner.no_device r.0 r.1)))
+    where
+      by_place : (base size : ℕ) → base ≤ a → a < base + size → IsWithin m base size → a < 0x40000000
+      by_place base size lo hi (inl (inl none)) = absurd (omega arith)
+      by_place base size lo hi (inl (inr ram)) = let end = ram.1 in let few = placed.below in omega arith
+      by_place base size lo hi (inr flash) = let end = flash.1 in let few = placed.flash in omega arith
 
   -- in RAM, where it may be written: also in the memory of another image, in which a task has this region and no device
   own_ram : (h : Setup) (j : ℕ) (m : Memory) → ArePlaced h m → IsLoner h j → (setup_at g i).regions ≡ (setup_at h j).regions → (a : ℕ) → may g i Write a ≡ true → (0x20000000 ≤ a) × (a < 0x20000000 + length m.ram)
@@ -115,6 +128,7 @@ module _ (l p : Level) (x y : Scenario) (i j : ℕ) (s u : State) (h : AreAlike 
   pair m n a b = record {
     regions = h.regions;
     own = own x.setup i;
+    memory = own_memory x.setup i m a h.loners.0;
     ram = λ at may_write. let one = own_ram x.setup i x.setup i m a h.loners.0 refl at may_write in let two = own_ram x.setup i y.setup j n b h.loners.1 h.regions at may_write in (one.0, one.1, two.1);
   }
 

@@ -4,6 +4,7 @@ use Rattle.std.specs.Prelude.{Contains, fold}
 use Rattle.std.specs.List.{range_with_len}
 use Rattle.std.proofs.lemmas.Bool.Decides.{eqb_tells}
 use Rattle.std.proofs.lemmas.List.Elements.{Contains-append_left, Contains-push}
+use Rattle.kernel_abi.specs.Devices.{DeviceData}
 use Rattle.kernel_abi.specs.Ids.{id_of, dead_code_of}
 use Rattle.kernel_abi.specs.Faults.{injected_fault}
 use Rattle.kernel_abi.specs.declared.Ending.{Ending}
@@ -17,11 +18,11 @@ use Rattle.task_table.specs.declared.Line.{Line}
 use Rattle.task_table.specs.declared.slot.Slice.{Slice}
 use Rattle.task_table.specs.State.{Setup, State, Task, Call, Listen, Ground, Own, Message, Turn}
 use Rattle.task_table.specs.Reading.{task_at, no_task, call_of, listen_of, admits, IsIdle}
-use Rattle.task_table.specs.Effects.{with_task, without_call, without_listen, with_listen, with_taken, taken_from, with_call, changed, noted, with_processor, with_health, stored, copied, looked, given, returned, past_syscall, bits_added, bits_cleared, woken_by, woken, posted, with_timer, with_line, closed, faulted_as, offered, handed, reborn, is_to, awaits, dead_answered, restarted}
+use Rattle.task_table.specs.Effects.{with_task, without_call, without_listen, with_listen, with_taken, taken_from, with_call, changed, noted, with_processor, with_health, stored, copied, looked, given, returned, past_syscall, bits_added, bits_cleared, woken_by, woken, posted, with_timer, with_line, closed, faulted_as, offered, handed, reborn, is_to, awaits, dead_answered, restarted, with_devices}
 use Rattle.task_table.specs.Sends.{taken_at_once, offers_call}
 use Rattle.task_table.specs.Chain.{Chain}
 use Rattle.task_table.specs.Counts.{AreNoted}
-use Rattle.task_table.specs.Step.{IsParty, Step, Notes, Gives, Returns, PassesSyscall, Runs, Clears, Posts, Times, Lines, Listens, Sends, Receives, Stores, Copies, Looks, Borrows, Ceases, Halts, Strikes, Restarts}
+use Rattle.task_table.specs.Step.{IsParty, Step, Notes, Gives, Returns, PassesSyscall, Runs, Clears, Posts, Times, Lines, Listens, Sends, Receives, Stores, Copies, Looks, Borrows, Ceases, Halts, Strikes, Restarts, Reaches}
 use Rattle.task_table.proofs.Chains.{chain_keeps}
 use Rattle.task_table.proofs.Changes.{task_at-with_task_other, call_of-with_task, listen_of-with_task}
 use Rattle.task_table.proofs.Clients.{option_cases, found_call, client_is}
@@ -165,6 +166,10 @@ module _ (s : State) (j : ℕ) where
   pub same-turn : (n : ℕ) (z : State) → Same z → Same record z { turn = n }
   unfolding task_at call_of listen_of
   same-turn n z h = same_tasks z record z { turn = n } refl record { call = h.idle.call; listen = h.idle.listen } h
+
+  pub same-devices : (devices : List DeviceData) (z : State) → Same z → Same record z { devices = devices }
+  unfolding task_at call_of listen_of
+  same-devices devices z h = same_tasks z record z { devices = devices } refl record { call = h.idle.call; listen = h.idle.listen } h
 
   pub same-timer : (i : ℕ) (timer : Option Timer) (u : Turn) → Same u.state → Same (with_timer i timer u).state
   unfolding with_timer
@@ -324,7 +329,7 @@ module _ (s : State) (j : ℕ) where
     no_party i (inr call) = λ e. idle_call z j call.0 waits.call call.1 (call.2 ∙ sym e)
 
     step_alone : (u v : Turn) → Step g z c u v → IsUntouched s j u.state → IsLeftAlone s j v
-    unfolding noted looked past_syscall bits_cleared with_timer with_processor
+    unfolding noted looked past_syscall bits_cleared with_timer with_processor with_devices
     step_alone _ _ (Notes n u plain) h = inr h
     step_alone _ _ (Gives i values u lt few party) h = inr (same-given i values u (no_party i party) h)
     step_alone _ _ (Returns i u) h = inr (same-returned i u h)
@@ -339,6 +344,7 @@ module _ (s : State) (j : ℕ) where
     step_alone _ _ (Receives k buffer u may) h = inr (same-handed Own k buffer u (λ e. apart (e ∙ may.server)) h)
     step_alone _ _ (Stores on at bytes u all within room may) h = inr (same-stored on at bytes u h)
     step_alone _ _ (Copies on from at n i r u target may) h = inr (same-copied on from at n u h)
+    step_alone _ _ (Reaches devices u reached) h = inr (same-devices devices u.state h)
     step_alone _ _ (Looks r u alive) h = inr h
     step_alone _ _ (Borrows k way lease offset moved u alive taken none) h = inr h
     step_alone _ _ (Ceases i ending u ends) h = inr (same-closed i ending u h)

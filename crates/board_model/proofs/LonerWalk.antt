@@ -1,9 +1,10 @@
 -- The turns of two loners of the same make, side by side: what one does for itself the other does too, unless it makes a
 -- system call.
-use Rattle.std.proofs.Common.{◌≡◌, ◌≢◌, ◌⊎◌, inl, inr, ◌+◌, ◌-◌, ◌<◌, ◌≤◌, ℕ, zero, suc, Bool, true, false, eqb, ◌&&◌, List, [], ◌∷◌, length, refl, sym, ◌∙◌, ap, arith, get_or, le-leb, eqb-true, eq-eqb}
+use Rattle.std.proofs.Common.{◌≡◌, ◌≢◌, ◌⊎◌, inl, inr, ◌+◌, ◌-◌, ◌<◌, ◌≤◌, ℕ, zero, suc, Bool, true, false, eqb, ◌&&◌, List, [], ◌∷◌, length, None, refl, sym, ◌∙◌, ap, arith, cond, get_or, le-leb, eqb-true, eq-eqb}
 use Rattle.std.specs.Prelude.{Contains, fold, Result, Ok, Err}
 use Rattle.std.proofs.lemmas.Bool.{false≢true}
 use Rattle.std.proofs.lemmas.List.Elements.{Contains-push}
+use Rattle.kernel_abi.specs.Devices.{DeviceData}
 use Rattle.kernel_abi.specs.declared.Fault.{Fault}
 use Rattle.kernel_abi.specs.declared.Note.{Note}
 use Rattle.kernel_abi.specs.declared.Note.TheVariants as note
@@ -11,18 +12,18 @@ use Rattle.words_core.specs.declared.Flags.{Flags}
 use Rattle.region_check.specs.declared.Right.{Right}
 use Rattle.region_check.specs.declared.Right.TheVariants.{Read, Write, Execute}
 use Rattle.region_check.specs.Rights.{may_use, first_lacking}
-use Rattle.mem_banks.specs.Memory.{number_at, number_of, is_ram}
+use Rattle.mem_banks.specs.Memory.{number_of, is_ram}
 use Rattle.thumb_insn.specs.declared.Insn.{Insn}
 use Rattle.thumb_insn.specs.Range.{IsCoded}
 use Rattle.thumb_exec.specs.Bytes.{bytes_of}
-use Rattle.thumb_exec.specs.Effect.{Effect, Next, Syscall, Trap, Store, effect}
+use Rattle.thumb_exec.specs.Effect.{Effect, Next, Syscall, Trap, Store, Move, Puts, Takes, effect}
 use Rattle.thumb_exec.specs.Fetch.{fetched}
 use Rattle.thumb_exec.specs.declared.fetch.Fetched.{Fetched}
-use Rattle.thumb_exec.specs.Keeps.{IsPermitted, Keeps, Agree}
+use Rattle.thumb_exec.specs.Keeps.{IsPermittedTo, IsPermitted, Keeps, Agree}
 use Rattle.thumb_exec.proofs.Agreeing.{effect_same}
 use Rattle.task_table.specs.State.{Setup, State, Task, Own, Turn}
 use Rattle.task_table.specs.Reading.{task_at, setup_at, register, call_of, listen_of, is_ready, IsIdle}
-use Rattle.task_table.specs.Effects.{with_task, noted, with_processor, stored, faulted}
+use Rattle.task_table.specs.Effects.{with_task, noted, with_processor, stored, faulted, with_devices, device_taken}
 use Rattle.task_table.specs.Rows.{syscall_noted, panicked}
 use Rattle.task_table.specs.Syscalls.{syscall_made}
 use Rattle.task_table.specs.Sane.{Sane}
@@ -34,11 +35,12 @@ use Rattle.task_table.proofs.Noting.{step_noted}
 use Rattle.task_table.proofs.RowChains.{chain-syscall_made}
 use Rattle.task_table.proofs.Steps.{length-with_bytes}
 use Rattle.board_model.specs.declared.outcomes.Level.{Level}
-use Rattle.board_model.specs.Turn.{may, refusals, cpu_of, put, acted, executed, noted_at, stepped_by, stepped}
+use Rattle.board_model.specs.Turn.{may, refusals, is_device, held, cpu_of, put, took, moved, acted, executed, noted_at, stepped_by, stepped}
 use Rattle.board_model.proofs.FaultFrames.{task-faulted, lone-faulted}
-use Rattle.board_model.proofs.TurnChains.{few_bytes, half_small, IsFetchable, fetchable, keeps-here, noted_state}
+use Rattle.board_model.proofs.TurnChains.{few_bytes, held_small, IsFetchable, fetchable, keeps-here, noted_state}
 use Rattle.board_model.proofs.Sight.{none_lacking}
 use Rattle.board_model.proofs.Following.{fetched_same}
+use Rattle.board_model.proofs.Held.{held_in_memory, held_nothing}
 use Rattle.board_model.specs.Loners.{owns}
 use Rattle.board_model.proofs.LonerSteps.{still_there}
 use Rattle.board_model.proofs.SameBytes.{HoldSame, read_same, written_same}
@@ -67,10 +69,11 @@ task_memory s i x = refl
 
 -- ## the walk
 
--- tasks c under g and d under k, of the same regions, in memories with so many bytes of RAM
+-- tasks c under g and d under k, of the same regions, none a device, in memories with so many bytes of RAM
 pub record IsPair (g k : Setup) (c d n m : ℕ) : Type 0 where
   pub regions : (setup_at g c).regions ≡ (setup_at k d).regions
   pub own : (right : Right) (a : ℕ) → may g c right a ≡ true → owns g c a ≡ true
+  pub memory : (right : Right) (a : ℕ) → may g c right a ≡ true → is_device a ≡ false
   pub ram : (a : ℕ) → may g c Write a ≡ true → (0x20000000 ≤ a) × (a < 0x20000000 + n) × (a < 0x20000000 + m)
 
 -- what is the same of both, and that neither waits for anything
@@ -152,7 +155,7 @@ module _ (l p : Level) (g k : Setup) (c d n m : ℕ) (pair : IsPair g k c d n m)
     idle = (record { call = h.idle.0.call; listen = h.idle.0.listen }, record { call = h.idle.1.call; listen = h.idle.1.listen });
   }
 
-  same-put : (x : Store) (t u : Turn) → IsPermitted (refusals g c) x → Same t.state u.state → Same (put t x).state (put u x).state
+  same-put : (x : Store) (t u : Turn) → IsPermittedTo Write (refusals g c) x.addr x.bytes → Same t.state u.state → Same (put t x).state (put u x).state
   same-put x t u permitted h =
       let may_write : (a : ℕ) → x.addr ≤ a → a < x.addr + x.bytes → may g c Write a ≡ true = λ a lo hi. none_lacking (may g c Write) x.addr x.bytes permitted.allowed a lo hi in
       let one = in_both x t.state n h.ram.0 (λ a lo hi. let r = pair.ram a (may_write a lo hi) in (r.0, r.1)) permitted.size in
@@ -160,9 +163,33 @@ module _ (l p : Level) (g k : Setup) (c d n m : ℕ) (pair : IsPair g k c d n m)
       let few = few_bytes x.value x.bytes permitted.size in
       rw (one.0, two.0) (same-stored x.addr (bytes_of x.value x.bytes) t u one.1 (rw few one.2) (rw few two.2) h)
 
-  same-puts : (xs : List Store) (t u : Turn) → ((x : Store) → Contains xs x → IsPermitted (refusals g c) x) → Same t.state u.state → Same (fold put t xs).state (fold put u xs).state
-  same-puts [] t u ok h = h
-  same-puts (x ∷ xs) t u ok h = same-puts xs (put t x) (put u x) (λ y here. ok y (suc here.0, omega (arith, here.1), here.2)) (same-put x t u (ok x (zero, omega arith, refl)) h)
+  same-devices : (a b : List DeviceData) (s u : State) → Same s u → Same record s { devices = a } record u { devices = b }
+  unfolding task_at call_of listen_of
+  same-devices a b s u h = record {
+    there = h.there;
+    registers = h.registers;
+    flags = h.flags;
+    health = h.health;
+    memory = h.memory;
+    ram = h.ram;
+    idle = (record { call = h.idle.0.call; listen = h.idle.0.listen }, record { call = h.idle.1.call; listen = h.idle.1.listen });
+  }
+
+  same-took : (a : ℕ) (t u : Turn) → Same t.state u.state → Same (took t a).state (took u a).state
+  unfolding device_taken with_devices
+  same-took a t u h = by_device (is_device a)
+    where
+      by_device : (b : Bool) → Same (cond b (device_taken a t) t).state (cond b (device_taken a u) u).state
+      by_device true = same-devices _ _ t.state u.state h
+      by_device false = h
+
+  same-move : (x : Move) (t u : Turn) → IsPermitted (refusals g c) x → Same t.state u.state → Same (moved t x).state (moved u x).state
+  same-move (Puts x) t u permitted h = same-put x t u permitted h
+  same-move (Takes addr bytes) t u permitted h = same-took addr t u h
+
+  same-moves : (xs : List Move) (t u : Turn) → ((x : Move) → Contains xs x → IsPermitted (refusals g c) x) → Same t.state u.state → Same (fold moved t xs).state (fold moved u xs).state
+  same-moves [] t u ok h = h
+  same-moves (x ∷ xs) t u ok h = same-moves xs (moved t x) (moved u x) (λ y here. ok y (suc here.0, omega (arith, here.1), here.2)) (same-move x t u (ok x (zero, omega arith, refl)) h)
 
   same-processor : (registers : List ℕ) (flags : Flags) (t u : Turn) → Same t.state u.state → Same (with_processor c registers flags t).state (with_processor d registers flags u).state
   unfolding with_processor
@@ -211,17 +238,27 @@ module _ (l p : Level) (g k : Setup) (c d n m : ℕ) (pair : IsPair g k c d n m)
   -- ## an instruction
 
   same-acted : (e : Effect) (t u : Turn) → Keeps (refusals g c) e → About t.state u.state → Outcome (acted g c e t) (acted k d e u)
-  same-acted (Next cpu stores) t u kept h = inl (same-processor cpu.regs.words cpu.flags _ _ (same-puts stores t u kept.1 h.same))
+  same-acted (Next cpu moves) t u kept h = inl (same-processor cpu.regs.words cpu.flags _ _ (same-moves moves t u kept.1 h.same))
   same-acted Syscall t u kept h = same-call t u h
   same-acted (Trap x) t u kept h = inl (same-faulted x t u h.same)
 
-  same-loads : (s u : State) → Same s u → Agree (refusals g c) (number_at s.memory) (number_at u.memory)
-  same-loads s u h a w e = ap number_of (read_same (owns g c) s.memory u.memory a w h.memory (λ x lo hi. pair.own Read x (none_lacking (may g c Read) a w e x lo hi)))
+  -- bytes that may be used so hold the same in both: they lie in memory
+  same-held : (right : Right) (s u : State) → Same s u → (a w : ℕ) → refusals g c a w right ≡ None → held s a w ≡ held u a w
+  same-held right s u h a zero e = held_nothing s a ∙ sym (held_nothing u a)
+  same-held right s u h a (suc w) e =
+      let may_use : (x : ℕ) → a ≤ x → x < a + suc w → may g c right x ≡ true = none_lacking (may g c right) a (suc w) e in
+      let here = pair.memory right a (may_use a (omega arith) (omega arith)) in
+      held_in_memory s a (suc w) here
+      ∙ ap number_of (read_same (owns g c) s.memory u.memory a (suc w) h.memory (λ x lo hi. pair.own right x (may_use x lo hi)))
+      ∙ sym (held_in_memory u a (suc w) here)
 
-  same-fetched : (s u : State) → Same s u → fetched (refusals g c) (number_at s.memory) (register s c 15) ≡ fetched (refusals k d) (number_at u.memory) (register u d 15)
+  same-loads : (s u : State) → Same s u → Agree (refusals g c) (held s) (held u)
+  same-loads s u h a w e = same-held Read s u h a w e
+
+  same-fetched : (s u : State) → Same s u → fetched (refusals g c) (held s) (register s c 15) ≡ fetched (refusals k d) (held u) (register u d 15)
   same-fetched s u h =
-      fetched_same (refusals g c) (number_at s.memory) (number_at u.memory) (λ a e. ap number_of (read_same (owns g c) s.memory u.memory a 2 h.memory (λ x lo hi. pair.own Execute x (none_lacking (may g c Execute) a 2 e x lo hi)))) (register s c 15)
-      ∙ (λ j. fetched (same_refusals j) (number_at u.memory) (same_word s u h 15 j))
+      fetched_same (refusals g c) (held s) (held u) (λ a e. same-held Execute s u h a 2 e) (register s c 15)
+      ∙ (λ j. fetched (same_refusals j) (held u) (same_word s u h 15 j))
 
   same-executed : (insn : Insn) (t u : Turn) → IsCoded insn → About t.state u.state → Outcome (executed g c insn t) (executed k d insn u)
   same-executed insn t u coded h = go _ _ same (keeps-here c t h.sane h.same.there.0 insn coded)
@@ -232,10 +269,10 @@ module _ (l p : Level) (g k : Setup) (c d n m : ℕ) (pair : IsPair g k c d n m)
       z : State
       z = u.state
 
-      same : effect (refusals g c) (number_at s.memory) (cpu_of (task_at s c)) insn ≡ effect (refusals k d) (number_at z.memory) (cpu_of (task_at z d)) insn
+      same : effect (refusals g c) (held s) (cpu_of (task_at s c)) insn ≡ effect (refusals k d) (held z) (cpu_of (task_at z d)) insn
       same =
-          effect_same (refusals g c) (number_at s.memory) (number_at z.memory) (same-loads s z h.same) (cpu_of (task_at s c)) insn
-          ∙ (λ j. effect (same_refusals j) (number_at z.memory) (same_cpu s z h.same j) insn)
+          effect_same (refusals g c) (held s) (held z) (same-loads s z h.same) (cpu_of (task_at s c)) insn
+          ∙ (λ j. effect (same_refusals j) (held z) (same_cpu s z h.same j) insn)
 
       go : (e x : Effect) → e ≡ x → Keeps (refusals g c) e → Outcome (acted g c e t) (acted k d x u)
       go e x q r = rw (sym q) (same-acted e t u r h)
@@ -253,5 +290,5 @@ module _ (l p : Level) (g k : Setup) (c d n m : ℕ) (pair : IsPair g k c d n m)
   pub same-stepped : (t u : Turn) → About t.state u.state → Outcome (stepped l g c t) (stepped p k d u)
   unfolding stepped
   same-stepped t u h =
-      let known = fetchable (refusals g c) (number_at t.state.memory) (register t.state c 15) (λ a. half_small t.state.memory a h.sane.steady.flash_bytes h.sane.steady.bytes) in
+      let known = fetchable (refusals g c) (held t.state) (register t.state c 15) (λ a. held_small t.state a h.sane.steady.flash_bytes h.sane.steady.bytes) in
       same-by (register t.state c 15) (register u.state d 15) _ _ t u known (same-fetched t.state u.state h.same) h

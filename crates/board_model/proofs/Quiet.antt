@@ -53,7 +53,7 @@ goes_same g p q n i h =
     ∙ ap (λ (b : Bool). q i && b) (all_same first then (range_with_len 0 n) (λ j. ap (λ (b : Bool). not b || leb (priority g i) (priority g j)) (h j)))
 
 -- the choice hangs on who is ready and who is current
-chosen_by : (g : Setup) (s u : State) → length u.tasks ≡ length s.tasks → ((i : ℕ) → is_ready u i ≡ is_ready s i) → u.current ≡ s.current → chosen g u ≡ chosen g s
+pub chosen_by : (g : Setup) (s u : State) → length u.tasks ≡ length s.tasks → ((i : ℕ) → is_ready u i ≡ is_ready s i) → u.current ≡ s.current → chosen g u ≡ chosen g s
 unfolding chosen
 chosen_by g s u count ready current =
     ap (λ (n : ℕ). find (goes g (is_ready u) n) (around n u.current)) count

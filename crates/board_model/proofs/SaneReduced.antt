@@ -33,6 +33,10 @@ kept_now : (s : State) → (reduced s).now ≡ s.now
 unfolding seen
 kept_now s = refl
 
+kept_devices : (s : State) → (reduced s).devices ≡ s.devices
+unfolding seen
+kept_devices s = refl
+
 kept_memory : (s : State) → (reduced s).memory ≡ s.memory
 unfolding seen
 kept_memory s = refl
@@ -100,6 +104,7 @@ sane-reduced g s h = record {
     current = rw (reduced_count, same_current) h.steady.current;
     flash = ap (λ (m : Memory). m.flash) same_memory ∙ h.steady.flash;
     flash_bytes = rw same_memory h.steady.flash_bytes;
+    devices = rw same_devices h.steady.devices;
     bytes = rw same_memory h.steady.bytes;
     placed = rw same_memory h.steady.placed;
   };
@@ -128,6 +133,9 @@ sane-reduced g s h = record {
 
     same_now : (reduced s).now ≡ s.now
     same_now = kept_now s
+
+    same_devices : (reduced s).devices ≡ s.devices
+    same_devices = kept_devices s
 
     same_memory : (reduced s).memory ≡ s.memory
     same_memory = kept_memory s

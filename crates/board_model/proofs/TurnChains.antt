@@ -1,45 +1,50 @@
 -- A turn is a chain of steps: its instruction, or the row of its system call, with what is noted besides.
 use Rattle.std.proofs.Common.{◌≡◌, ◌≢◌, ◌+◌, ◌-◌, ◌*◌, ◌/◌, ◌%◌, ◌^◌, ◌<◌, ◌≤◌, ◌⊎◌, inl, inr, ℕ, zero, suc, Bool, true, false, cond, not, ◌&&◌, ◌||◌, List, [], ◌∷◌, length, take, drop, Option, Some, None, refl, sym, ◌∙◌, ap, arith, leb, ltb, IfSome}
-use Rattle.std.specs.Prelude.{Contains, fold, find, Result, Ok, Err}
+use Rattle.std.specs.Prelude.{Contains, fold, find, Result, Ok, Err, option_map}
 use Rattle.std.specs.List.{range_with_len, list_any}
 use Rattle.std.proofs.lemmas.List.Elements.{Contains-append_cases}
 use Rattle.std.proofs.lemmas.Bool.{leb-true, false≢true}
-use Rattle.std.proofs.lemmas.Bool.Decides.{eqb_tells}
+use Rattle.std.proofs.lemmas.Bool.Decides.{nat_tests, eqb_tells}
 use Rattle.kernel_abi.specs.declared.Fault.{Fault}
+use Rattle.kernel_abi.specs.declared.Given.{Given}
+use Rattle.kernel_abi.proofs.Devices.{given_inside}
+use Rattle.kernel_abi.specs.Devices.{DeviceData, devices_stored, devices_loaded, device_out, device_number, device_at, offset_in, looked, behind}
 use Rattle.kernel_abi.specs.declared.Note.{Note}
 use Rattle.kernel_abi.specs.declared.Note.TheVariants as note
 use Rattle.region_check.specs.declared.Region.{Region}
-use Rattle.region_check.specs.declared.Right.TheVariants.{Write, Execute}
+use Rattle.region_check.specs.declared.Right.{Right}
+use Rattle.region_check.specs.declared.Right.TheVariants.{Write, Read, Execute}
 use Rattle.region_check.specs.Rights.{gives, gives_copy, is_inside, has_right}
 use Rattle.run_script.specs.declared.events.Event.{Event}
-use Rattle.run_script.specs.declared.events.Event.TheVariants.{Tick, Irq}
+use Rattle.run_script.specs.declared.events.Event.TheVariants.{Tick, Irq, Feed}
 use Rattle.run_script.specs.Scripts.{events_of}
 use Rattle.thumb_insn.specs.declared.Insn.{Insn}
 use Rattle.thumb_insn.specs.declared.Decoded.{Decoded}
 use Rattle.thumb_insn.specs.declared.Decoded.TheVariants.{Narrow, Wide, Illegal, NeedsSecond}
 use Rattle.thumb_insn.specs.Table.{decoded_of, is_wide}
-use Rattle.thumb_exec.specs.Effect.{Effect, Next, Syscall, Trap, Store, Refusals, Contents, effect}
+use Rattle.thumb_exec.specs.Effect.{Effect, Next, Syscall, Trap, Store, Move, Puts, Takes, Refusals, Contents, effect}
 use Rattle.thumb_exec.specs.declared.fetch.Fetched.{Fetched}
 use Rattle.thumb_exec.specs.Fetch.{instruction, unless_barred, after, fetched}
 use Rattle.mem_banks.specs.Memory.{Memory, IsWithinRam, number_at, number_of, bytes_at, is_ram, AreAllBytes}
 use Rattle.task_table.specs.State.{Setup, State, Ground, Own, Turn}
 use Rattle.task_table.specs.Reading.{setup_at, task_at, register, call_of, listen_of, chosen, qualifies, around, is_ready}
-use Rattle.task_table.specs.Effects.{noted, stored}
-use Rattle.task_table.specs.Events.{ticked, interrupted}
+use Rattle.task_table.specs.Effects.{noted, stored, with_devices, given_out, device_stored, device_taken}
+use Rattle.task_table.specs.Events.{ticked, interrupted, fed}
 use Rattle.task_table.specs.Rows.{syscall_noted}
 use Rattle.task_table.specs.Syscalls.{syscall_made}
 use Rattle.task_table.specs.Start.{begun}
 use Rattle.task_table.specs.Placed.{ArePlaced}
 use Rattle.task_table.specs.Sane.{Sane}
 use Rattle.task_table.specs.Counts.{IsNoted}
-use Rattle.task_table.specs.Grounds.{MayWrite}
+use Rattle.task_table.specs.Grounds.{MayWrite, MayUse, IsReached}
 use Rattle.task_table.proofs.Posting.{keeps-noted}
+use Rattle.task_table.proofs.Equipped.{sane-reached, sane-fed}
 use Rattle.task_table.proofs.Sanity.{take_in, drop_in, sane-stored, sane-current, sane-turn}
 use Rattle.task_table.proofs.Steps.{length-with_bytes}
 use Rattle.task_table.proofs.StepKeeps.{chain_sane}
 use Rattle.task_table.proofs.Timing.{sane-ticked, sane-interrupted}
 use Rattle.task_table.specs.Chain.{Chain, Here}
-use Rattle.task_table.specs.Step.{Step, Notes, Runs, Stores, Halts}
+use Rattle.task_table.specs.Step.{Step, Notes, Runs, Stores, Halts, Reaches}
 use Rattle.task_table.proofs.Chains.{one, ◌▷◌, joined}
 use Rattle.task_table.proofs.Moves.{IsAside, aside_here, aside-noted}
 use Rattle.task_table.proofs.Noting.{noted-noted, chain_noted}
@@ -48,8 +53,9 @@ use Rattle.board_model.specs.declared.outcomes.Level.{Level}
 use Rattle.board_model.specs.declared.outcomes.Level.TheVariants.{Calls, All}
 use Rattle.board_model.specs.Script.{Scenario}
 use Rattle.thumb_exec.specs.Bytes.{bytes_of}
-use Rattle.board_model.specs.Turn.{may, refusals, cpu_of, put, acted, executed, noted_at, stepped_by, stepped, happened, after_events, with_current, low_note, high_note, with_registers_noted, turn_of, ended, turn}
-use Rattle.thumb_exec.specs.Keeps.{IsWholeCpu, IsPermitted, Keeps}
+use Rattle.thumb_exec.specs.Sizes.{IsSize}
+use Rattle.board_model.specs.Turn.{may, refusals, is_device, or_zero, held, cpu_of, put, took, moved, acted, executed, noted_at, stepped_by, stepped, happened, after_events, with_current, low_note, high_note, with_registers_noted, turn_of, ended, turn}
+use Rattle.thumb_exec.specs.Keeps.{IsWholeCpu, IsPermittedTo, IsPermitted, Keeps}
 use Rattle.thumb_exec.proofs.Keeping.{keeps}
 use Rattle.thumb_insn.specs.Table.{narrow_of, wide_of, narrow_result, wide_result, with_second}
 use Rattle.thumb_insn.specs.Range.{IsCoded}
@@ -95,6 +101,18 @@ half_small m a flash ram = by_ram (leb 0x20000000 a)
     by_ram : (b : Bool) → number_of (cond b (take 2 (drop (a - 0x20000000) m.ram)) (cond (leb 0x08000000 a) (take 2 (drop (a - 0x08000000) m.flash)) [])) < 65536
     by_ram true = number_small (drop (a - 0x20000000) m.ram) (λ b here. ram b (drop_in _ m.ram b here))
     by_ram false = by_flash (leb 0x08000000 a)
+
+-- and what two bytes show where devices lie
+pub held_small : (s : State) (a : ℕ) → AreAllBytes s.memory.flash → AreAllBytes s.memory.ram → held s a 2 < 65536
+held_small s a flash ram = by_device (is_device a)
+  where
+    cut : (o : Option ℕ) → or_zero (option_map (λ k. looked (device_at s.devices k) (offset_in s.devices k a) % 2 ^ (8 * 2)) o) < 65536
+    cut None = omega arith
+    cut (Some k) = omega arith
+
+    by_device : (b : Bool) → cond b (or_zero (device_number s.devices a 2)) (number_at s.memory a 2) < 65536
+    by_device true = cut (behind a s.devices)
+    by_device false = half_small s.memory a flash ram
 
 -- ## what an instruction may store
 
@@ -157,14 +175,53 @@ ram_stored : (on : Ground) (at : ℕ) (bytes : List ℕ) (v : Turn) → IsWithin
 unfolding stored
 ram_stored on at bytes v within = length-with_bytes v.state.memory at bytes within
 
+-- one of the devices that there may be
+may_give : (k : ℕ) → k < 8 → ltb k 8 ≡ true
+may_give k h = grind (arith, nat_tests)
+
 -- ## an instruction
 
+-- by steps, to a sane state with as many bytes of RAM
+abbrev Came : (g : Setup) (s : State) (c : ℕ) → Turn → Turn → Type 0
+Came g s c v w = Chain (Step g s c) v w × Sane g w.state × (length w.state.memory.ram ≡ length s.memory.ram)
+
 module _ (g : Setup) (s : State) (c : ℕ) (inside : c < length g.tasks) where
-  put_chain : (x : Store) (v : Turn) → Sane g v.state → length v.state.memory.ram ≡ length s.memory.ram → IsPermitted (refusals g c) x → Chain (Step g s c) v (put v x) × Sane g (put v x).state × (length (put v x).state.memory.ram ≡ length s.memory.ram)
+  -- devices are reached
+  reach_chain : (devices : List DeviceData) (v : Turn) → Sane g v.state → length v.state.memory.ram ≡ length s.memory.ram → IsReached g c v.state.devices devices → Came g s c v (with_devices devices v)
+  unfolding with_devices
+  reach_chain devices v h same reached = (one (Reaches devices v reached), sane-reached c devices v h reached, same)
+
+  out_chain : (o : Option Given) (v w : Turn) → ((x : Given) → o ≡ Some x → x.device < 8) → Came g s c v w → Came g s c v (given_out o w)
+  unfolding noted
+  out_chain None v w few k = k
+  out_chain (Some x) v w few k = (k.0 ▷ Notes (note.Out x.device x.byte) w (may_give x.device (few x refl)), keeps-noted (note.Out x.device x.byte) w k.1, k.2)
+
+  device_store_chain : (a value : ℕ) (v : Turn) → Sane g v.state → length v.state.memory.ram ≡ length s.memory.ram → MayUse g c Write a → Came g s c v (device_stored a value v)
+  unfolding device_stored
+  device_store_chain a value v h same may = out_chain (device_out v.state.devices a value) v _ (λ x e. let inside = given_inside v.state.devices a value x e in let few = h.steady.devices.few in omega arith) (reach_chain (devices_stored v.state.devices a) v h same (inr (a, may, refl)))
+
+  device_take_chain : (a : ℕ) (v : Turn) → Sane g v.state → length v.state.memory.ram ≡ length s.memory.ram → MayUse g c Read a → Came g s c v (device_taken a v)
+  unfolding device_taken
+  device_take_chain a v h same may = reach_chain (devices_loaded v.state.devices a) v h same (inl (a, may, refl))
+
+  some_bytes : (n : ℕ) → IsSize n → 0 < n
+  some_bytes n (inl e) = omega arith
+  some_bytes n (inr (inl e)) = omega arith
+  some_bytes n (inr (inr e)) = omega arith
+
+  -- the first of the bytes may be used so
+  may_first : (right : Right) (a n : ℕ) → IsPermittedTo right (refusals g c) a n → MayUse g c right a
+  may_first right a n p = let some = some_bytes n p.size in none_lacks (may g c right) a n a p.allowed (omega arith) (omega (arith, some))
+
+  put_chain : (x : Store) (v : Turn) → Sane g v.state → length v.state.memory.ram ≡ length s.memory.ram → IsPermittedTo Write (refusals g c) x.addr x.bytes → Came g s c v (put v x)
   put_chain x v h same permitted = by_ram (is_ram v.state.memory x.addr x.bytes) refl
     where
-      by_ram : (b : Bool) → is_ram v.state.memory x.addr x.bytes ≡ b → Chain (Step g s c) v (cond b (stored Own x.addr (bytes_of x.value x.bytes) v) v) × Sane g (cond b (stored Own x.addr (bytes_of x.value x.bytes) v) v).state × (length (cond b (stored Own x.addr (bytes_of x.value x.bytes) v) v).state.memory.ram ≡ length s.memory.ram)
-      by_ram false e = (Here v, h, same)
+      by_device : (b : Bool) → Came g s c v (cond b (device_stored x.addr x.value v) v)
+      by_device false = (Here v, h, same)
+      by_device true = device_store_chain x.addr x.value v h same (may_first Write x.addr x.bytes permitted)
+
+      by_ram : (b : Bool) → is_ram v.state.memory x.addr x.bytes ≡ b → Came g s c v (cond b (stored Own x.addr (bytes_of x.value x.bytes) v) (cond (is_device x.addr) (device_stored x.addr x.value v) v))
+      by_ram false e = by_device (is_device x.addr)
       by_ram true e =
           let both = both_true (leb 0x20000000 x.addr) (leb (x.addr + x.bytes) (0x20000000 + length v.state.memory.ram)) e in
           let few = few_bytes x.value x.bytes permitted.size in
@@ -175,11 +232,22 @@ module _ (g : Setup) (s : State) (c : ℕ) (inside : c < length g.tasks) where
           let all = all_bytes x.value x.bytes in
           (one (Stores Own x.addr (bytes_of x.value x.bytes) v all within room (λ a low high. may_store g c v.state.memory x.addr x.bytes a h.steady.placed permitted.allowed e low (rw few at high))), sane-stored Own x.addr (bytes_of x.value x.bytes) v h all within, ram_stored Own x.addr (bytes_of x.value x.bytes) v within ∙ same)
 
-  puts_chain : (stores : List Store) (v : Turn) → Sane g v.state → length v.state.memory.ram ≡ length s.memory.ram → ((x : Store) → Contains stores x → IsPermitted (refusals g c) x) → Chain (Step g s c) v (fold put v stores)
-  puts_chain [] v h same ok = Here v
-  puts_chain (x ∷ xs) v h same ok =
-      let p = put_chain x v h same (ok x (zero, omega arith, refl)) in
-      joined (Step g s c) v (put v x) _ p.0 (puts_chain xs (put v x) p.1 p.2 (λ y here. ok y (suc here.0, omega (arith, here.1), here.2)))
+  took_chain : (a n : ℕ) (v : Turn) → Sane g v.state → length v.state.memory.ram ≡ length s.memory.ram → IsPermittedTo Read (refusals g c) a n → Came g s c v (took v a)
+  took_chain a n v h same permitted = by_device (is_device a)
+    where
+      by_device : (b : Bool) → Came g s c v (cond b (device_taken a v) v)
+      by_device false = (Here v, h, same)
+      by_device true = device_take_chain a v h same (may_first Read a n permitted)
+
+  move_chain : (x : Move) (v : Turn) → Sane g v.state → length v.state.memory.ram ≡ length s.memory.ram → IsPermitted (refusals g c) x → Came g s c v (moved v x)
+  move_chain (Puts x) v h same permitted = put_chain x v h same permitted
+  move_chain (Takes addr bytes) v h same permitted = took_chain addr bytes v h same permitted
+
+  moves_chain : (moves : List Move) (v : Turn) → Sane g v.state → length v.state.memory.ram ≡ length s.memory.ram → ((x : Move) → Contains moves x → IsPermitted (refusals g c) x) → Chain (Step g s c) v (fold moved v moves)
+  moves_chain [] v h same ok = Here v
+  moves_chain (x ∷ xs) v h same ok =
+      let p = move_chain x v h same (ok x (zero, omega arith, refl)) in
+      joined (Step g s c) v (moved v x) _ p.0 (moves_chain xs (moved v x) p.1 p.2 (λ y here. ok y (suc here.0, omega (arith, here.1), here.2)))
 
 pub whole_cpu : {g : Setup} (c : ℕ) (t : Turn) → Sane g t.state → c < length t.state.tasks → IsWholeCpu (cpu_of (task_at t.state c))
 whole_cpu c t h inside = let x = h.steady.tasks c inside in record { sixteen = x.sixteen; even = x.even; aligned = x.aligned }
@@ -190,7 +258,7 @@ module _ (g : Setup) (c : ℕ) (t : Turn) (h : Sane g t.state) (inside : c < len
   calls_chain = joined (Step g t.state c) t (syscall_noted c t) _ (one (Notes _ t refl)) (chain-syscall_made g c (syscall_noted c t) h inside ready)
 
   acted_chain : (e : Effect) → Keeps (refusals g c) e → Chain (Step g t.state c) t (acted g c e t)
-  acted_chain (Next cpu stores) k = puts_chain g t.state c inside stores t h refl k.1 ▷ Runs cpu.regs.words cpu.flags _ inside record { sixteen = k.0.sixteen; even = k.0.even; aligned = k.0.aligned }
+  acted_chain (Next cpu moves) k = moves_chain g t.state c inside moves t h refl k.1 ▷ Runs cpu.regs.words cpu.flags _ inside record { sixteen = k.0.sixteen; even = k.0.even; aligned = k.0.aligned }
   acted_chain Syscall k = calls_chain
   acted_chain (Trap f) k = one (Halts f t inside (omega (arith, k.0)) (omega (arith, k.1)))
 
@@ -247,8 +315,8 @@ noted-call g c t h inside ready =
     let u = syscall_noted c t in
     chain_noted g t.state c u (syscall_made g c u) (chain-syscall_made g c u h (rw (← h.steady.as_many) inside) ready) (noted-noted _ t)
 
-pub keeps-here : {g : Setup} (c : ℕ) (t : Turn) (h : Sane g t.state) (inside : c < length t.state.tasks) (insn : Insn) → IsCoded insn → Keeps (refusals g c) (effect (refusals g c) (number_at t.state.memory) (cpu_of (task_at t.state c)) insn)
-keeps-here {g} c t h inside insn coded = keeps (refusals g c) (number_at t.state.memory) (cpu_of (task_at t.state c)) insn coded (whole_cpu c t h inside)
+pub keeps-here : {g : Setup} (c : ℕ) (t : Turn) (h : Sane g t.state) (inside : c < length t.state.tasks) (insn : Insn) → IsCoded insn → Keeps (refusals g c) (effect (refusals g c) (held t.state) (cpu_of (task_at t.state c)) insn)
+keeps-here {g} c t h inside insn coded = keeps (refusals g c) (held t.state) (cpu_of (task_at t.state c)) insn coded (whole_cpu c t h inside)
 
 module _ (level : Level) (g : Setup) (c : ℕ) (t : Turn) (h : Sane g t.state) (inside : c < length g.tasks) (ready : is_ready t.state c ≡ true) where
   within : c < length t.state.tasks
@@ -267,7 +335,7 @@ module _ (level : Level) (g : Setup) (c : ℕ) (t : Turn) (h : Sane g t.state) (
 
   pub stepped_chain : Chain (Step g t.state c) t (stepped level g c t)
   unfolding stepped
-  stepped_chain = chain_by _ _ (fetchable (refusals g c) (number_at t.state.memory) (register t.state c 15) (λ a. half_small t.state.memory a h.steady.flash_bytes h.steady.bytes))
+  stepped_chain = chain_by _ _ (fetchable (refusals g c) (held t.state) (register t.state c 15) (λ a. held_small t.state a h.steady.flash_bytes h.steady.bytes))
 
 -- what is noted besides
 tells : (g : Setup) (s : State) (c : ℕ) (level : Level) (n : Note) (t u : Turn) → Chain (Step g s c) t u → ((u : Turn) → Step g s c u (noted n u)) → Chain (Step g s c) t (noted_at level n u)
@@ -331,6 +399,7 @@ pub sane-events : (g : Setup) (events : List Event) (t : Turn) → Sane g t.stat
 sane-events g [] t h = h
 sane-events g (Tick ∷ events) t h = sane-events g events (ticked t) (sane-ticked t h)
 sane-events g (Irq line ∷ events) t h = sane-events g events (interrupted g line t) (sane-interrupted line t h)
+sane-events g (Feed device byte ∷ events) t h = sane-events g events (fed device (byte % 256) t) (sane-fed device (byte % 256) t (omega arith) h)
 
 pub begun_sane : (g : Setup) (s : State) → Sane g s → Sane g (begun s).state
 unfolding begun

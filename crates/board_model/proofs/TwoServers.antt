@@ -41,7 +41,7 @@ setup = record {
 }
 
 scenario : Scenario
-scenario = record { setup = setup; script = record { every = None; events = [] } }
+scenario = record { setup = setup; script = record { every = None; events = [] }; devices = [] }
 
 expected : List (ℕ × Note)
 expected =

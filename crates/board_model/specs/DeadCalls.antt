@@ -11,7 +11,6 @@ use Rattle.kernel_abi.specs.declared.syscalls.Syscall.{Syscall}
 use Rattle.kernel_abi.specs.declared.syscalls.Syscall.TheVariants.{Send, Recv, Reply, BorrowRead, BorrowWrite, BorrowInfo, RefreshTaskId, Post, ReplyFault}
 use Rattle.thumb_insn.specs.declared.Insn.TheVariants.{Svc}
 use Rattle.thumb_exec.specs.Fetch.{fetched}
-use Rattle.mem_banks.specs.Memory.{number_at}
 use Rattle.task_table.specs.State.{State}
 use Rattle.task_table.specs.Reading.{task_at, register, arguments, chosen, is_out, present_id, dead_code_for}
 use Rattle.task_table.specs.Effects.{with_results}
@@ -19,7 +18,7 @@ use Rattle.task_table.specs.Sends.{last_reason}
 use Rattle.task_table.specs.DeadIds.{Calls, IsDeadId, MaySend, MayReceiveFrom, recipient, sender, client, lender, asked_lender, posted_to, reason}
 use Rattle.board_model.specs.declared.outcomes.Level.{Level}
 use Rattle.board_model.specs.Script.{Scenario}
-use Rattle.board_model.specs.Turn.{refusals, after_events, turn}
+use Rattle.board_model.specs.Turn.{refusals, held, after_events, turn}
 use Rattle.board_model.specs.Faults.{ChangesNothingElse}
 
 -- in the turn after s task c is chosen, and the instruction that is fetched for it is the SVC of this system call
@@ -27,7 +26,7 @@ pub record MakesCall (x : Scenario) (s : State) (c : ℕ) (call : Syscall) : Typ
   pub chosen : chosen x.setup (after_events x s).state ≡ Some c
   pub immediate : ℕ
   pub code : ℕ
-  pub svc : let u = (after_events x s).state in fetched (refusals x.setup c) (number_at u.memory) (register u c program_counter) ≡ Ok record { insn = Svc immediate; code = code }
+  pub svc : let u = (after_events x s).state in fetched (refusals x.setup c) (held u) (register u c program_counter) ≡ Ok record { insn = Svc immediate; code = code }
   pub calls : Calls call c (after_events x s)
 
 -- u is s but that task c has these results from r4 on and is past its system call: every other task, the open calls, the

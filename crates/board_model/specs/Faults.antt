@@ -11,13 +11,14 @@ use Rattle.board_model.specs.Turn.{after_events, turn}
 
 -- u is s but for a fault of task c, which waits for nothing: of c the health alone changed, so it has all the registers
 -- and flags that it had; the supervisor, unless it is c, was posted the fault bits; every other task with its call and
--- its listen, the memory, the time, the number of the next call and the lines are as they were
+-- its listen, the memory, the devices, the time, the number of the next call and the lines are as they were
 pub record IsSameButForFault (g : Setup) (c : ℕ) (s u : State) : Type 0 where
   pub task : task_at u c ≡ record (task_at s c) { health = (task_at u c).health }
   pub idle : IsIdle u c
   pub supervisor : c ≢ 0 → IsSameAt 0 (posted 0 g.fault_bits (begun s)).state u
   pub others : (i : ℕ) → i ≢ c → i ≢ 0 → IsSameAt i s u
   pub memory : u.memory ≡ s.memory
+  pub devices : u.devices ≡ s.devices
   pub now : u.now ≡ s.now
   pub next_call : u.next_call ≡ s.next_call
   pub lines : u.lines ≡ s.lines

@@ -1,14 +1,16 @@
 -- What a turn may do to memory and to calls, and the ledger of a run.
-use Rattle.std.specs.Prelude.{ℕ, ◌≡◌, List, [], map, None, Some}
+use Rattle.std.specs.Prelude.{ℕ, ◌%◌, ◌≡◌, List, [], map, None, Some}
 use Rattle.kernel_abi.specs.declared.Note.{Note}
+use Rattle.kernel_abi.specs.Devices.{DeviceData, devices_fed}
+use Rattle.run_script.specs.declared.events.Event.{Event}
+use Rattle.run_script.specs.declared.events.Event.TheVariants.{Tick, Irq, Feed}
 use Rattle.task_table.specs.State.{State}
 use Rattle.task_table.specs.Reading.{chosen}
-use Rattle.task_table.specs.Start.{start}
 use Rattle.task_table.specs.Grounds.{AreGrounded, AreAlive, with_writes}
 use Rattle.task_table.specs.Ledger.{IsLedger}
 use Rattle.task_table.specs.Lives.{IsClosed, IsSilent}
 use Rattle.board_model.specs.declared.outcomes.Level.{Level}
-use Rattle.board_model.specs.Script.{Scenario}
+use Rattle.board_model.specs.Script.{Scenario, start_of}
 use Rattle.board_model.specs.Turn.{after_events, turn}
 use Rattle.board_model.specs.Run.{run}
 
@@ -30,4 +32,10 @@ notes_in notes = map (λ n. n.1) notes
 
 -- what the notes of a run from the start say of calls is so, and agrees with the calls that are open at its end
 abbrev pub IsLedgerOfRun : Level → Scenario → ℕ → Type 0
-IsLedgerOfRun level x n = let r = run level x n (start x.setup) in IsLedger (notes_in r.notes) r.last
+IsLedgerOfRun level x n = let r = run level x n (start_of x) in IsLedger (notes_in r.notes) r.last
+
+-- devices after what comes from outside: a byte goes to its own
+abbrev pub devices_after : List DeviceData → Event → List DeviceData
+devices_after devices Tick = devices
+devices_after devices (Irq line) = devices
+devices_after devices (Feed device byte) = devices_fed devices device (byte % 256)

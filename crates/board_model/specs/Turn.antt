@@ -1,6 +1,7 @@
 -- One turn of the board: what happens from outside, then one instruction of the chosen task, or an idle turn.
 use Rattle.words_core.specs.Regs.{program_counter}
-use Rattle.std.specs.Prelude.{ℕ, ◌+◌, Bool, [], ◌∷◌, Option, Some, None, Result, Ok, Err, fold, take, drop, if◌then◌else◌}
+use Rattle.kernel_abi.specs.Devices.{device_start, device_end, device_number}
+use Rattle.std.specs.Prelude.{ℕ, ◌+◌, ◌%◌, Bool, ◌&&◌, nat_le, nat_lt, Option, Some, None, Result, Ok, Err, fold, take, drop, if◌then◌else◌}
 use Rattle.kernel_abi.specs.declared.Fault.{Fault}
 use Rattle.kernel_abi.specs.declared.Note.{Note}
 use Rattle.kernel_abi.specs.declared.Note.TheVariants as note
@@ -10,18 +11,18 @@ use Rattle.thumb_insn.specs.declared.Insn.{Insn}
 use Rattle.thumb_exec.specs.declared.cpu.Cpu.{Cpu}
 use Rattle.thumb_exec.specs.declared.fetch.Fetched.{Fetched}
 use Rattle.thumb_exec.specs.Bytes.{bytes_of}
-use Rattle.thumb_exec.specs.Effect.{Effect, Next, Syscall, Trap, Store, Refusals, effect}
+use Rattle.thumb_exec.specs.Effect.{Effect, Next, Syscall, Trap, Store, Move, Puts, Takes, Refusals, Contents, effect}
 use Rattle.thumb_exec.specs.Fetch.{fetched}
 use Rattle.mem_banks.specs.Memory.{number_at, is_ram}
 use Rattle.task_table.specs.State.{Setup, Task, State, Own, Turn}
 use Rattle.task_table.specs.Reading.{task_at, setup_at, register, chosen}
-use Rattle.task_table.specs.Effects.{◌⨾◌, changed, noted, with_processor, stored, faulted}
-use Rattle.task_table.specs.Events.{ticked, interrupted}
+use Rattle.task_table.specs.Effects.{◌⨾◌, changed, noted, with_processor, stored, faulted, device_stored, device_taken}
+use Rattle.task_table.specs.Events.{ticked, interrupted, fed}
 use Rattle.task_table.specs.Rows.{syscall_noted}
 use Rattle.task_table.specs.Syscalls.{syscall_made}
 use Rattle.task_table.specs.Start.{begun}
 use Rattle.run_script.specs.declared.events.Event.{Event}
-use Rattle.run_script.specs.declared.events.Event.TheVariants.{Tick, Irq}
+use Rattle.run_script.specs.declared.events.Event.TheVariants.{Tick, Irq, Feed}
 use Rattle.run_script.specs.Scripts.{events_of}
 use Rattle.board_model.specs.declared.outcomes.Level.{Level}
 use Rattle.board_model.specs.declared.outcomes.Level.TheVariants.{Calls, All}
@@ -38,23 +39,47 @@ may g c right a = may_use (setup_at g c).regions right a
 abbrev pub refusals : Setup → ℕ → Refusals
 refusals g c = first_lacking (may g c)
 
+-- whether an address is one of those where devices lie
+abbrev pub is_device : ℕ → Bool
+is_device a = nat_le device_start a && nat_lt a device_end
+
+-- what n bytes show where devices lie: what the device behind them shows; 0 where there is none
+abbrev pub or_zero : Option ℕ → ℕ
+or_zero None = 0
+or_zero (Some value) = value
+
+-- what n bytes from an address on hold
+abbrev pub held : State → Contents
+held s a n = if is_device a then or_zero (device_number s.devices a n) else number_at s.memory a n
+
 abbrev pub cpu_of : Task → Cpu
 cpu_of x = record { regs = record { words = x.registers }; flags = x.flags }
 
 -- ## what it does
 
--- a store outside the memory, which a device region may permit, changes nothing
+-- a store in the RAM; one at an address where devices lie goes to the device behind it; elsewhere, and where there is none,
+-- it changes nothing
 abbrev pub put : Turn → Store → Turn
-put t x = if is_ram t.state.memory x.addr x.bytes then (t ⨾ stored Own x.addr (bytes_of x.value x.bytes)) else t
+put t x =
+    if is_ram t.state.memory x.addr x.bytes then (t ⨾ stored Own x.addr (bytes_of x.value x.bytes))
+    else (if is_device x.addr then (t ⨾ device_stored x.addr x.value) else t)
+
+-- what was loaded from a device is taken
+abbrev pub took : Turn → ℕ → Turn
+took t a = if is_device a then (t ⨾ device_taken a) else t
+
+abbrev pub moved : Turn → Move → Turn
+moved t (Puts x) = put t x
+moved t (Takes addr bytes) = took t addr
 
 abbrev pub acted : Setup → ℕ → Effect → Turn → Turn
-acted g c (Next cpu stores) t = fold put t stores ⨾ with_processor c cpu.regs.words cpu.flags
+acted g c (Next cpu moves) t = fold moved t moves ⨾ with_processor c cpu.regs.words cpu.flags
 acted g c Syscall t = t ⨾ syscall_noted c ⨾ syscall_made g c
 acted g c (Trap f) t = t ⨾ faulted g c f
 
 -- the effect of an instruction for task c, as things stand
 abbrev pub effect_of : Setup → ℕ → Insn → Turn → Effect
-effect_of g c insn t = effect (refusals g c) (number_at t.state.memory) (cpu_of (task_at t.state c)) insn
+effect_of g c insn t = effect (refusals g c) (held t.state) (cpu_of (task_at t.state c)) insn
 
 abbrev pub executed : Setup → ℕ → Insn → Turn → Turn
 executed g c insn t = t ⨾ acted g c (effect_of g c insn t)
@@ -73,7 +98,7 @@ stepped_by level g c at (Err fault) t = t ⨾ faulted g c fault
 unfoldable pub stepped : Level → Setup → ℕ → Turn → Turn
 stepped level g c t =
     let at = register t.state c program_counter in
-    t ⨾ stepped_by level g c at (fetched (refusals g c) (number_at t.state.memory) at)
+    t ⨾ stepped_by level g c at (fetched (refusals g c) (held t.state) at)
 
 -- ## the turn
 
@@ -81,6 +106,7 @@ stepped level g c t =
 abbrev pub happened : Setup → Turn → Event → Turn
 happened g t Tick = ticked t
 happened g t (Irq line) = interrupted g line t
+happened g t (Feed device byte) = fed device (byte % 256) t  -- a byte: of any number its low eight bits
 
 -- the next event, where there is one
 abbrev pub happened_next : Setup → Option Event → Turn → Turn

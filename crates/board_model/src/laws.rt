@@ -1,26 +1,27 @@
 //! Laws of the board, each the contract of a function that does nothing.
 
-ghost use Rattle.std.specs.Prelude.{◌≡◌, ◌≢◌, ◌+◌, ◌<◌, ◌≤◌, ℕ, true, List, [], Option, Some, length, fold};
+ghost use Rattle.std.specs.Prelude.{◌≡◌, ◌≢◌, ◌+◌, ◌<◌, ◌≤◌, ℕ, true, List, [], Option, Some, None, length, fold};
 ghost use Rattle.kernel_abi.specs.declared.Fault.{Fault};
 ghost use Rattle.kernel_abi.specs.declared.Note.{Note};
 ghost use Rattle.run_script.specs.declared.events.Event.{Event};
 ghost use Rattle.run_script.specs.Scripts.{ScriptData, IsNext, events_of};
 ghost use Rattle.thumb_insn.specs.declared.Insn.{Insn};
 ghost use Rattle.thumb_insn.specs.Range.{IsCoded};
-ghost use Rattle.thumb_exec.specs.Effect.{Store, Trap};
+ghost use Rattle.thumb_exec.specs.Effect.{Move, Trap};
 ghost use Rattle.task_table.specs.State.{Setup, State, Turn};
 ghost use Rattle.task_table.specs.Reading.{chosen, is_ready};
-ghost use Rattle.task_table.specs.Start.{begun, start};
+ghost use Rattle.task_table.specs.Start.{begun};
 ghost use Rattle.task_table.specs.Sane.{Sane, IsCounted};
 ghost use Rattle.task_table.specs.Chain.{Chain};
+ghost use Rattle.task_table.specs.Grounds.{AreReached};
 ghost use Rattle.task_table.specs.Step.{Step};
 ghost use Rattle.board_model.specs.declared.outcomes.Level.{Level as Detail};
-ghost use Rattle.board_model.specs.Script.{Scenario};
-ghost use Rattle.board_model.specs.Turn.{effect_of, put, noted_at, stepped, happened, after_events, with_current, turn_of, turn};
+ghost use Rattle.board_model.specs.Script.{Scenario, start_of};
+ghost use Rattle.board_model.specs.Turn.{effect_of, moved, noted_at, stepped, happened, after_events, with_current, turn_of, turn};
 ghost use Rattle.board_model.specs.Faults.{IsFaulting, IsSameButForFault, AreEntries};
 ghost use Rattle.board_model.specs.DeadCalls.{IsDeadTurn};
 ghost use Rattle.board_model.specs.Run.{is_down, end_at, ending};
-ghost use Rattle.board_model.specs.Lifetimes.{IsGroundedTurn, IsLedgerOfRun};
+ghost use Rattle.board_model.specs.Lifetimes.{IsGroundedTurn, IsLedgerOfRun, devices_after};
 
 /// The turn of the chosen task, from where it is the current one, is a chain of steps: those of its
 /// instruction or of its system call's row, and what is noted besides.
@@ -62,10 +63,18 @@ pub fn turns_stand_on_their_grounds()
     ensures { (level : Detail) (x : Scenario) (s : State) → Sane x.setup s → IsGroundedTurn level x s }
 {}
 
+/// A turn changes devices only at addresses that the chosen task may read, or write; before it each byte that comes from
+/// outside changes its own, and an idle turn changes none.
+pub fn turns_reach_devices_where_they_may()
+    ensures reached { (level : Detail) (x : Scenario) (s : State) (c : ℕ) → Sane x.setup s → chosen x.setup (after_events x s).state ≡ Some c → AreReached x.setup c (after_events x s).state.devices (turn level x s).state.devices }
+    ensures idle { (level : Detail) (x : Scenario) (s : State) → chosen x.setup (after_events x s).state ≡ None → (turn level x s).state.devices ≡ (after_events x s).state.devices }
+    ensures fed { (x : Scenario) (s : State) → (after_events x s).state.devices ≡ fold devices_after s.devices (events_of x.script s.turn) }
+{}
+
 /// The notes of a run from the start are a right ledger of its calls: each is offered once, taken and closed at most once,
 /// in this order, and it is open at the end just where it was offered and not closed.
 pub fn runs_keep_a_ledger()
-    ensures { (level : Detail) (x : Scenario) (n : ℕ) → Sane x.setup (start x.setup) → IsLedgerOfRun level x n }
+    ensures { (level : Detail) (x : Scenario) (n : ℕ) → Sane x.setup (start_of x) → IsLedgerOfRun level x n }
 {}
 
 /// A fault changes nothing else. Where an instruction or a system call faults the task that was chosen, memory and all the
@@ -87,9 +96,9 @@ pub fn turns_with_dead_ids_change_their_caller_alone()
     ensures { (level : Detail) (x : Scenario) (s : State) → Sane x.setup s → IsDeadTurn level x s }
 {}
 
-/// The stores of an instruction change nothing of a state but its memory, and what is noted changes none.
-pub fn stores_change_memory_alone()
-    ensures stores { (stores : List Store) (t : Turn) → (fold put t stores).state ≡ record t.state { memory = (fold put t stores).state.memory } }
+/// The moves of an instruction change nothing of a state but its memory and its devices, and what is noted changes none.
+pub fn moves_change_memory_and_devices_alone()
+    ensures moves { (moves : List Move) (t : Turn) → (fold moved t moves).state ≡ record t.state { memory = (fold moved t moves).state.memory; devices = (fold moved t moves).state.devices } }
     ensures noted_at { (level : Detail) (n : Note) (t : Turn) → (noted_at level n t).state ≡ t.state }
 {}
 

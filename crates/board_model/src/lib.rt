@@ -7,9 +7,10 @@ mod outcomes;
 mod two_runs;
 
 pub use laws::{
-    faults_change_nothing_else, faults_of_instructions_are_known, runs_keep_a_ledger,
-    stores_change_memory_alone, turns_are_chains_of_steps, turns_keep_counts_in_order,
-    turns_keep_sane, turns_left_end_no_run, turns_stand_on_their_grounds,
+    faults_change_nothing_else, faults_of_instructions_are_known,
+    moves_change_memory_and_devices_alone, runs_keep_a_ledger, turns_are_chains_of_steps,
+    turns_keep_counts_in_order, turns_keep_sane, turns_left_end_no_run,
+    turns_reach_devices_where_they_may, turns_stand_on_their_grounds,
     turns_with_dead_ids_change_their_caller_alone, turns_without_events_begin_at_once,
     turns_without_notes_keep_the_choice, who_is_chosen_is_ready,
 };

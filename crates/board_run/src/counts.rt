@@ -7,6 +7,7 @@ ghost use Rattle.board_run.specs.Counting.{HaveGrown, count_at, counted};
 use crate::telling::Teller;
 use kernel_abi::Note;
 use outside_io::Failed;
+use trace_text::TurnLines;
 
 /// How many notes of each kind were told: up to 2^64 - 1, which no run comes near.
 #[derive(Clone, Copy, Debug, PartialEq, Eq)]
@@ -64,6 +65,7 @@ impl Counts {
             Note::Fault { .. } => self.fault = self.fault.saturating_add(1),
             Note::Restart { .. } => self.restart = self.restart.saturating_add(1),
             // of no kind that is counted
+            Note::In { .. } | Note::Out { .. } => {}
             Note::IrqStatus { .. } | Note::Find { .. } => {}
             Note::Insn { .. } | Note::Idle | Note::Low { .. } | Note::High { .. } => {}
         }
@@ -85,7 +87,7 @@ impl Teller for Counts {
 
     ghost broke = { λ _ _ _. ⊥ };
 
-    fn tell(&mut self, turn: u32, notes: &[Note]) -> Result<(), Failed> {
+    fn tell(&mut self, turn: u32, notes: &[Note], _lines: &mut TurnLines) -> Result<(), Failed> {
         self.count_all(turn, notes);
         Ok(())
     }

@@ -26,15 +26,23 @@ fn push_note<S: Sink>(lines: &mut TurnLines, note: &Note, out: &mut S) -> Result
     out.push(lines.text().as_bytes())
 }
 
-/// The notes of a turn, one line each.
-pub fn push_notes<S: Sink>(turn: u32, notes: &[Note], out: &mut S) -> Result<(), Failed>
+/// The notes of a turn, one line each. What stands in `lines` is of a turn before.
+pub fn push_notes<S: Sink>(
+    turn: u32,
+    notes: &[Note],
+    lines: &mut TurnLines,
+    out: &mut S,
+) -> Result<(), Failed>
     ensures bytes { Pushes (S.seen out.old).written (S.seen out.new).written (notes_text (at_turn turn notes.now)) result }
     ensures fit { IfOk result (λ _. AreFit (at_turn turn notes.now)) }
     ensures cause { HasCause (S.seen out.old).faults (S.seen out.new).faults result }
 {
-    let mut lines = TurnLines::new(turn);
+    if notes.is_empty() {
+        return Ok(());
+    }
+    lines.go_to(turn);
     for note in notes {
-        push_note(&mut lines, note, out)?;
+        push_note(lines, note, out)?;
     }
     Ok(())
 }

@@ -18,6 +18,7 @@ use crate::pushing::push_end;
 use crate::telling::Teller;
 use board_core::{Board, End, Level};
 use outside_io::{Failed, Sink};
+use trace_text::TurnLines;
 
 // The supervisor's fault ends a run before its bound does, the bound before standing still.
 fn end_within(ended: Option<End>, left: u32) -> Option<End>
@@ -84,13 +85,14 @@ pub fn play<T: Teller>(
     ensures within { turns_of board.new ≤ limit }
 {
     T::hears_in_parts();
+    let mut lines = TurnLines::new(0);
     'turns: loop {
         match ending(board, limit) {
             Some(end) => return Ok(end),
             None => {}
         }
         board.advance(level, limit);
-        teller.tell(board.turns() - 1, board.notes())?;
+        teller.tell(board.turns() - 1, board.notes(), &mut lines)?;
     }
 }
 

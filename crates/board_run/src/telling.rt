@@ -7,6 +7,7 @@ ghost use Rattle.board_run.specs.Telling.{HearsText, BreaksText};
 use crate::pushing::push_notes;
 use kernel_abi::Note;
 use outside_io::{Failed, Sink};
+use trace_text::TurnLines;
 
 /// What listens to the turns of a run.
 ///
@@ -19,8 +20,8 @@ pub trait Teller {
     /// The telling of these notes failed on the way.
     ghost broke: { Self → List (ℕ × Noted) → Self → Type 0 };
 
-    /// The notes of a turn.
-    fn tell(&mut self, turn: u32, notes: &[Note]) -> Result<(), Failed>
+    /// The notes of a turn. A teller of text has its lines in `lines`, where those of the turn before stood.
+    fn tell(&mut self, turn: u32, notes: &[Note], lines: &mut TurnLines) -> Result<(), Failed>
         ensures { MatchResult result (λ _. heard self.old (at_turn turn notes.now) self.new) (λ _. broke self.old (at_turn turn notes.now) self.new) };
 
     /// Where nothing is told, nothing changes, and notes may be told in parts. It does nothing, and is a law.
@@ -35,8 +36,8 @@ impl<S: Sink> Teller for S {
 
     ghost broke = { λ t notes u. BreaksText (S.seen t).written (S.seen u).written (S.seen t).faults (S.seen u).faults notes };
 
-    fn tell(&mut self, turn: u32, notes: &[Note]) -> Result<(), Failed> {
-        push_notes(turn, notes, self)
+    fn tell(&mut self, turn: u32, notes: &[Note], lines: &mut TurnLines) -> Result<(), Failed> {
+        push_notes(turn, notes, lines, self)
     }
 
     fn hears_in_parts() {}

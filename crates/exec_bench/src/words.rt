@@ -51,6 +51,8 @@ impl Bus for Words {
 
     ghost stored = { λ s a n v t. t ≡ record s { ram = slice_set s.ram (word_index a) v } };
 
+    ghost took = { λ s a t. t ≡ s };
+
     fn allows(&self, addr: u32, n: u32, right: Right) -> Option<u32> {
         let is_allowed = match right {
             Right::Read | Right::Write => is_word(addr, n),
@@ -82,6 +84,13 @@ impl Bus for Words {
         } else {
             Err(addr)
         }
+    }
+
+    /// There is no device.
+    fn taken(&mut self, _addr: u32) {}
+
+    fn takes(&self) -> bool {
+        false
     }
 
     fn gives(&self, _addr: u32, _count: u32, _right: Right) -> bool {

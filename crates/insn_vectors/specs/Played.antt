@@ -19,6 +19,10 @@ held_by m = λ a n. number_of m.flash.items m.ram.items a n
 abbrev pub IsAfter : Memory → ℕ → ℕ → ℕ → Memory → Type 0
 IsAfter m a n v t = IsStored m.ram.items a n v t.ram.items × (length t.ram.items ≡ length m.ram.items) × (t.flash ≡ m.flash) × (t.regions ≡ m.regions)
 
+-- there is no device
+abbrev pub IsTaken : Memory → ℕ → Memory → Type 0
+IsTaken m a t = t ≡ m
+
 -- ## a case
 
 abbrev pub banks_of : Memory → Banks
@@ -50,5 +54,5 @@ pub record Judges (case : Case) (passed : Bool) : Type 0 where
   pub cpu : Cpu
   pub outcome : Outcome
   pub begins : IsBefore case before
-  pub acts : Acts IsAfter case.cpu cpu before memory outcome (step_effect (refused_by before) (held_by before) case.cpu)
+  pub acts : Acts IsAfter IsTaken case.cpu cpu before memory outcome (step_effect (refused_by before) (held_by before) case.cpu)
   pub judged : IsTrue passed ↔ IsWanted case cpu outcome memory

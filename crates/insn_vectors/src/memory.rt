@@ -162,6 +162,8 @@ impl Bus for Memory {
 
     ghost stored = { λ s a n v t. IsStored s.ram.items a n v t.ram.items × (length t.ram.items ≡ length s.ram.items) × (t.flash ≡ s.flash) × (t.regions ≡ s.regions) };
 
+    ghost took = { λ s a t. t ≡ s };
+
     fn allows(&self, addr: u32, n: u32, right: Right) -> Option<u32> {
         first_bad(self.regions.as_slice(), addr, n, right)
     }
@@ -201,6 +203,13 @@ impl Bus for Memory {
             rest /= 256;
         }
         Ok(())
+    }
+
+    /// There is no device.
+    fn taken(&mut self, _addr: u32) {}
+
+    fn takes(&self) -> bool {
+        false
     }
 
     fn gives(&self, _addr: u32, _count: u32, _right: Right) -> bool {

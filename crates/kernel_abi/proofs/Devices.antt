@@ -1,12 +1,14 @@
 -- Devices stay sane whatever comes to them.
-use Rattle.std.proofs.Common.{◌≡◌, ℕ, zero, suc, ◌+◌, ◌%◌, ◌^◌, ◌<◌, ◌≤◌, ◌⊎◌, inl, inr, Bool, true, false, cond, List, [], ◌∷◌, ◌++◌, length, drop, Option, Some, None, refl, sym, ◌∙◌, subst, arith, set, length-set}
-use Rattle.std.specs.Prelude.{Contains, nat_eq, nat_lt}
+use Rattle.std.proofs.Common.{◌≡◌, ℕ, zero, suc, ◌+◌, ◌%◌, ◌^◌, ◌<◌, ◌≤◌, ◌⊎◌, inl, inr, Bool, true, false, cond, List, [], ◌∷◌, ◌++◌, length, drop, Option, Some, None, refl, sym, ◌∙◌, subst, ap, arith, set, length-set}
+use Rattle.std.specs.Prelude.{Contains, nat_eq, nat_lt, option_map}
 use Rattle.std.proofs.lemmas.Bool.{ltb-true}
 use Rattle.std.proofs.lemmas.List.{length-append, length-drop}
 use Rattle.std.proofs.lemmas.List.Quantifiers.{position-Some}
+use Rattle.std.proofs.lemmas.Option.{same_Some}
+use Rattle.kernel_abi.specs.declared.Given.{Given}
 use Rattle.kernel_abi.specs.declared.Kind.{Kind}
 use Rattle.kernel_abi.specs.declared.Kind.TheVariants as kind
-use Rattle.kernel_abi.specs.Devices.{DeviceData, device_at, with_device, IsSettable, AreBytes, IsSaneDevice, AreSaneDevices, AreFresh, after_load, after_store, after_input, queue_after_load, count_after_store, queue_after_input, behind, is_behind, offset_in, loaded_at, devices_loaded, stored_at, devices_stored, devices_fed}
+use Rattle.kernel_abi.specs.Devices.{DeviceData, device_at, with_device, IsSettable, AreBytes, IsSaneDevice, AreSaneDevices, AreFresh, after_load, after_store, after_input, queue_after_load, count_after_store, queue_after_input, behind, is_behind, offset_in, given_out, out_at, device_out, loaded_at, devices_loaded, stored_at, devices_stored, devices_fed}
 
 -- ## one device
 
@@ -109,6 +111,18 @@ sane_with ds k d h e s = record {
 
 behind_inside : (ds : List DeviceData) (addr k : ℕ) → behind addr ds ≡ Some k → k < length ds
 behind_inside ds addr k e = (position-Some (is_behind addr) ds k (device_at ds k) e).0
+
+-- what a store gives out is given out by one of them
+pub given_inside : (ds : List DeviceData) (addr value : ℕ) (x : Given) → device_out ds addr value ≡ Some x → x.device < length ds
+given_inside ds addr value x e = go (behind addr ds) refl e
+  where
+    by_byte : (k : ℕ) (o : Option ℕ) → k < length ds → option_map (λ byte. record { device = k; byte = byte }) o ≡ Some x → x.device < length ds
+    by_byte k None inside e = absurd cc
+    by_byte k (Some byte) inside e = let same : k ≡ x.device = ap (λ (y : Given). y.device) (same_Some _ x e) in rw (← same) inside
+
+    go : (o : Option ℕ) → behind addr ds ≡ o → out_at ds o addr value ≡ Some x → x.device < length ds
+    go None is e = absurd cc
+    go (Some k) is e = by_byte k (given_out (device_at ds k).kind (offset_in ds k addr) value) (behind_inside ds addr k is) e
 
 pub sane_devices_loaded : (ds : List DeviceData) (addr : ℕ) → AreSaneDevices ds → AreSaneDevices (devices_loaded ds addr)
 sane_devices_loaded ds addr h = go (behind addr ds) refl

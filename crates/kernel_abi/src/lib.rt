@@ -297,14 +297,14 @@ pub enum Borrow {
 
 /// What a device is: a console counts the bytes that are stored to it and gives them out, a port keeps the
 /// bytes that come from outside until they are loaded.
-#[derive(Clone, Copy, Debug, PartialEq, Eq)]
+#[derive(Clone, Copy, PartialEq, Eq)]
 pub enum Kind {
     Console,
     Port,
 }
 
 /// What came of a byte from outside: it stands in the queue now, the queue was full, or the device is no port.
-#[derive(Clone, Copy, Debug, PartialEq, Eq)]
+#[derive(Clone, Copy, PartialEq, Eq)]
 pub enum Fed {
     Queued,
     Full,
@@ -312,7 +312,7 @@ pub enum Fed {
 }
 
 /// A byte that a device has given out, with the device's index.
-#[derive(Clone, Copy, Debug, PartialEq, Eq)]
+#[derive(Clone, Copy, PartialEq, Eq)]
 pub struct Given {
     pub device: usize,
     pub byte: u8,
@@ -386,6 +386,17 @@ pub enum Note {
     Restart {
         task: u16,
         generation: u8,
+    },
+    /// A byte came from outside for a device; what came of it, or None where there is no such device.
+    In {
+        device: u8,
+        byte: u8,
+        fed: Option<Fed>,
+    },
+    /// A device, by its index, gave out a byte.
+    Out {
+        device: usize,
+        byte: u8,
     },
     /// A task asked how its interrupt lines with these bits are, and was answered so.
     IrqStatus {

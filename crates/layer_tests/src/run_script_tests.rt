@@ -1,5 +1,5 @@
-//! What no run shows of scripts: how many events there may be (docs/FORMATS.md, Script), where the turns end, and scripts that
-//! are copied or made of events. The order of events and what is refused are stored rows (crates/stored_runs).
+//! What no run shows of scripts: how many events there may be (docs/FORMATS.md, Script), where the turns end, bytes for devices, and
+//! scripts that are copied or made of events. The order of events and what is refused are stored rows (crates/stored_runs).
 use run_script::{Event, Script, ScriptFault};
 use std::alloc::{AllocError, Global};
 use std::test::Fail;
@@ -62,6 +62,30 @@ fn no_event_is_past_the_last_turn(rt: HostRuntime) -> Result<(), Fail> {
     let lasts = script.lasts(1_000_000_000);
     assert!(rt; (of_none, events) == (None, [Some(Event::Tick), None, Some(Event::Tick)]));
     assert!(rt; (next, lasts) == ([Some(999_999_995), None, None], true));
+    Ok(())
+}
+
+#[test]
+fn bytes_for_devices(rt: HostRuntime) -> Result<(), Fail> {
+    let script = Script::read(rt.alloc(), b"at 3 in 1 7\nat 3 tick\nat 5 in 7 255\n")?;
+    let events = [
+        script.event_at(3, 0),
+        script.event_at(3, 1),
+        script.event_at(5, 0),
+    ];
+    let first = Event::Feed { device: 1, byte: 7 };
+    let last = Event::Feed {
+        device: 7,
+        byte: 255,
+    };
+    assert!(rt; events == [Some(first), Some(Event::Tick), Some(last)]);
+    let refused = [
+        answer(rt.alloc(), b"at 3 in 1"),
+        answer(rt.alloc(), b"at 3 in 1 7 0"),
+        answer(rt.alloc(), b"at 3 in 8 0"),
+        answer(rt.alloc(), b"at 3 in 0 256"),
+    ];
+    assert!(rt; refused == [(2, 1), (2, 1), (3, 1), (3, 1)]);
     Ok(())
 }
 

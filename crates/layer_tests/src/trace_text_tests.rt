@@ -1,6 +1,6 @@
 //! A line of each note, and that the longest of each kind fits.
 use arrayvec::ArrayString;
-use kernel_abi::{Borrow, Ending, Fault, FromIndex, Handled, Note};
+use kernel_abi::{Borrow, Ending, Fault, Fed, FromIndex, Handled, Note};
 use trace_text::TurnLines;
 
 /// A turn, a note that it leaves, and what is told of it.
@@ -10,7 +10,7 @@ struct Row {
     text: &'static str,
 }
 
-const NOTES: [Row; 35] = [
+const NOTES: [Row; 41] = [
     Row {
         turn: 0,
         note: Note::Tick { now: 1 },
@@ -231,6 +231,58 @@ const NOTES: [Row; 35] = [
         text: "6 restart 3 63\n",
     },
     Row {
+        turn: 0,
+        note: Note::In {
+            device: 1,
+            byte: 7,
+            fed: Some(Fed::Queued),
+        },
+        text: "0 in 1 07 queued\n",
+    },
+    Row {
+        turn: 1,
+        note: Note::In {
+            device: 1,
+            byte: 255,
+            fed: Some(Fed::Full),
+        },
+        text: "1 in 1 ff full\n",
+    },
+    Row {
+        turn: 2,
+        note: Note::In {
+            device: 0,
+            byte: 0xa9,
+            fed: Some(Fed::NotPort),
+        },
+        text: "2 in 0 a9 none\n",
+    },
+    Row {
+        turn: 3,
+        note: Note::In {
+            device: 7,
+            byte: 0,
+            fed: None,
+        },
+        text: "3 in 7 00 none\n",
+    },
+    Row {
+        turn: 2,
+        note: Note::Out {
+            device: 0,
+            byte: 0x41,
+        },
+        text: "2 out 0 41\n",
+    },
+    Row {
+        turn: 4,
+        note: Note::Out {
+            device: 7,
+            byte: 0x0f,
+        },
+        text: "4 out 7 0f\n",
+    },
+    Row {
         turn: 8,
         note: Note::IrqStatus {
             task: 0,
@@ -321,7 +373,7 @@ const NOTES: [Row; 35] = [
 const MOST: u32 = u32::MAX;
 
 /// The longest line of each kind, and how long it is.
-const LONGEST: [(Note, usize); 18] = [
+const LONGEST: [(Note, usize); 20] = [
     (Note::Tick { now: u64::MAX }, 37),
     (
         Note::Irq {
@@ -410,6 +462,21 @@ const LONGEST: [(Note, usize); 18] = [
             generation: 255,
         },
         29,
+    ),
+    (
+        Note::In {
+            device: 255,
+            byte: 255,
+            fed: Some(Fed::Queued),
+        },
+        28,
+    ),
+    (
+        Note::Out {
+            device: usize::MAX,
+            byte: 255,
+        },
+        39,
     ),
     (
         Note::IrqStatus {

@@ -5,12 +5,12 @@ use Rattle.std.proofs.lemmas.List.Elements.{All-push}
 use Rattle.std.proofs.lemmas.List.Sorted.{IsNonDecreasingBy-push}
 use Rattle.std.proofs.lemmas.List.Sums.{sum_by-append}
 use Rattle.run_script.specs.declared.events.Event.{Event}
-use Rattle.run_script.specs.declared.events.Event.TheVariants.{Tick, Irq}
+use Rattle.run_script.specs.declared.events.Event.TheVariants.{Tick, Irq, Feed}
 use Rattle.run_script.specs.declared.statement.Statement.{Statement}
 use Rattle.run_script.specs.declared.statement.Statement.TheVariants.{Nothing, Every, At, Refused}
 use Rattle.run_script.specs.Facts.{Facts, IsListed, IsPeriod}
 use Rattle.run_script.specs.Words.{is_allowed, words}
-use Rattle.run_script.specs.Statements.{at_said, every_said, irq_said, line_in, period_in, period_said, starts_by_hash, statement_of, tick_said, turn_in, words_said}
+use Rattle.run_script.specs.Statements.{at_said, every_said, irq_said, feed_said, device_in, byte_in, line_in, period_in, period_said, starts_by_hash, statement_of, tick_said, turn_in, words_said}
 use Rattle.run_script.specs.Scripts.{Listed, ScriptData, Refusal, go_on, has_later, is_full, is_of, no_script, with_lines, with_statement}
 use Rattle.run_script.proofs.Numbers.{number_within_bounds}
 use Rattle.run_script.proofs.Walk.{no_line, one_line}
@@ -46,6 +46,15 @@ known_irq None p h k = tt
 known_irq (Some n) None h k = tt
 known_irq (Some n) (Some own) h k = let both = h n refl in let bound = k own refl in record { turn = omega (arith, both.1); line = λ line e. line_of_irq line own bound.1 e }
 
+no_line_of_feed : (line device byte : ℕ) → Feed device byte ≡ Irq line → line < 64
+no_line_of_feed line device byte e = absurd (cc)
+
+known_feed : (o p q : Option ℕ) → ((n : ℕ) → o ≡ Some n → (0 ≤ n) × (n ≤ 999999999)) → Known (feed_said o p q)
+known_feed None p q h = tt
+known_feed (Some n) None q h = tt
+known_feed (Some n) (Some device) None h = tt
+known_feed (Some n) (Some device) (Some byte) h = let both = h n refl in record { turn = omega (arith, both.1); line = λ line e. no_line_of_feed line device byte e }
+
 known_every : (ws : List (List ℕ)) → Known (every_said ws)
 known_every [] = tt
 known_every (a ∷ []) = tt
@@ -57,7 +66,8 @@ known_at [] = tt
 known_at (a ∷ []) = tt
 known_at (a ∷ b ∷ []) = choice (bytes_eq b (codes "tick")) _ _ (known_tick (turn_in a) (number_within_bounds 0 999999999 a)) tt
 known_at (a ∷ b ∷ c ∷ []) = choice (bytes_eq b (codes "irq")) _ _ (known_irq (turn_in a) (line_in c) (number_within_bounds 0 999999999 a) (number_within_bounds 0 63 c)) tt
-known_at (a ∷ b ∷ c ∷ d ∷ ws) = tt
+known_at (a ∷ b ∷ c ∷ d ∷ []) = choice (bytes_eq b (codes "in")) _ _ (known_feed (turn_in a) (device_in c) (byte_in d) (number_within_bounds 0 999999999 a)) tt
+known_at (a ∷ b ∷ c ∷ d ∷ e ∷ ws) = tt
 
 known_words : (ws : List (List ℕ)) → Known (words_said ws)
 known_words [] = tt

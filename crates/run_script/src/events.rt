@@ -9,6 +9,8 @@ pub enum Event {
     Tick,
     /// An interrupt on a line, 0 to 63.
     Irq { line: u8 },
+    /// A byte for a device, 0 to 7.
+    Feed { device: u8, byte: u8 },
 }
 
 /// Why `Script::read` gives no script: the bytes are refused, or memory ran out.

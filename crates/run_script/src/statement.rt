@@ -2,7 +2,7 @@
 
 ghost use Rattle.std.specs.Prelude.{◌≡◌, ◌≤◌, ◌<◌, ◌∷◌, [], IfSome, Some, None};
 ghost use Rattle.run_script.specs.Words.{words};
-ghost use Rattle.run_script.specs.Statements.{at_said, every_said, irq_said, number_within, period_in, period_said, starts_by_hash, statement_of, tick_said, turn_in, line_in, words_said};
+ghost use Rattle.run_script.specs.Statements.{at_said, every_said, irq_said, feed_said, device_in, byte_in, number_within, period_in, period_said, starts_by_hash, statement_of, tick_said, turn_in, line_in, words_said};
 
 use crate::events::Event;
 use crate::words::{are_allowed, first_word, is_word};
@@ -15,7 +15,7 @@ pub(crate) enum Statement {
     Nothing,
     /// `every P tick`.
     Every { period: u32 },
-    /// `at T tick`, `at T irq L`.
+    /// `at T tick`, `at T irq L`, `at T in D B`.
     At { turn: u32, event: Event },
     /// The first of the causes 1 to 3 that applies.
     Refused { cause: u8 },
@@ -57,6 +57,24 @@ fn line_in(word: &[u8]) -> Option<u8>
     }
 }
 
+fn device_in(word: &[u8]) -> Option<u8>
+    ensures { result ≡ device_in word.now }
+{
+    match number_within(word, 0, 7) {
+        None => None,
+        Some(device) => Some(device as u8),
+    }
+}
+
+fn byte_in(word: &[u8]) -> Option<u8>
+    ensures { result ≡ byte_in word.now }
+{
+    match number_within(word, 0, 255) {
+        None => None,
+        Some(byte) => Some(byte as u8),
+    }
+}
+
 fn period_said(word: &[u8]) -> Statement
     ensures { result ≡ period_said (period_in word.now) }
 {
@@ -88,6 +106,24 @@ fn irq_said(turn: &[u8], line: &[u8]) -> Statement
             Some(line) => Statement::At {
                 turn,
                 event: Event::Irq { line },
+            },
+        },
+    }
+}
+
+fn feed_said(turn: &[u8], device: &[u8], byte: &[u8]) -> Statement
+    ensures { result ≡ feed_said (turn_in turn.now) (device_in device.now) (byte_in byte.now) }
+{
+    match turn_in(turn) {
+        None => Statement::Refused { cause: 3 },
+        Some(turn) => match device_in(device) {
+            None => Statement::Refused { cause: 3 },
+            Some(device) => match byte_in(byte) {
+                None => Statement::Refused { cause: 3 },
+                Some(byte) => Statement::At {
+                    turn,
+                    event: Event::Feed { device, byte },
+                },
             },
         },
     }
@@ -125,14 +161,26 @@ fn at_said(text: &[u8]) -> Statement
 {
     let (turn, behind) = first_word(text);
     let (kind, behind) = first_word(behind);
-    let (line, behind) = first_word(behind);
-    let (more, _behind) = first_word(behind);
     if kind.is_empty() {
         Statement::Refused { cause: 2 }
-    } else if line.is_empty() {
+    } else {
+        kind_said(turn, kind, behind)
+    }
+}
+
+/// Behind a turn and a kind.
+fn kind_said(turn: &[u8], kind: &[u8], text: &[u8]) -> Statement
+    ensures { result ≡ at_said (turn.now ∷ kind.now ∷ words text.now) }
+{
+    let (line, behind) = first_word(text);
+    let (byte, behind) = first_word(behind);
+    let (more, _behind) = first_word(behind);
+    if line.is_empty() {
         turn_and_kind(turn, kind)
-    } else if more.is_empty() {
+    } else if byte.is_empty() {
         turn_and_line(turn, kind, line)
+    } else if more.is_empty() {
+        turn_and_byte(turn, kind, line, byte)
     } else {
         Statement::Refused { cause: 2 }
     }
@@ -153,6 +201,16 @@ fn turn_and_line(turn: &[u8], kind: &[u8], line: &[u8]) -> Statement
 {
     if is_word(kind, b"irq") {
         irq_said(turn, line)
+    } else {
+        Statement::Refused { cause: 2 }
+    }
+}
+
+fn turn_and_byte(turn: &[u8], kind: &[u8], device: &[u8], byte: &[u8]) -> Statement
+    ensures { result ≡ at_said (turn.now ∷ kind.now ∷ device.now ∷ byte.now ∷ []) }
+{
+    if is_word(kind, b"in") {
+        feed_said(turn, device, byte)
     } else {
         Statement::Refused { cause: 2 }
     }

@@ -45,7 +45,11 @@ fn played(alloc: Global, parts: &[Part<'_>], turns: &str) -> Result<String, Allo
 fn count_alike(alloc: Global, case: &str, first: &mut Vec<String>) -> Result<u64, AllocError> {
     let parts = parts_of(alloc, behind(case, "\n+ "))?;
     let mut alike = 0_u64;
-    for (k, run) in contents(&parts, "turns").unwrap_or("").split('\n').enumerate() {
+    for (k, run) in contents(&parts, "turns")
+        .unwrap_or("")
+        .split('\n')
+        .enumerate()
+    {
         let own = played(alloc, &parts, behind(run, " "))?;
         if first.len() == k {
             first.push(own)?;

@@ -21,11 +21,11 @@ use Rattle.task_table.specs.Borrows.{entry_range, grant, lease_range, entry_read
 use Rattle.task_table.specs.Sane.{Sane}
 use Rattle.task_table.specs.Grounds.{IsTakenBy, IsAlive}
 use Rattle.task_table.specs.Chain.{Here}
-use Rattle.task_table.specs.Step.{IsOpenAs, IsMoved, Copies, Looks, Borrows, Strikes, IsEntry, ReadsEntries, Faults}
+use Rattle.task_table.specs.Step.{IsOpenAs, IsMoved, Copies, Looks, Borrows, Strikes, IsEntry, ReadsEntries}
 use Rattle.task_table.proofs.Chains.{one, ◌▷◌}
 use Rattle.task_table.proofs.Keeps.{added_in}
 use Rattle.task_table.proofs.MessageChains.{found_taken, another}
-use Rattle.task_table.proofs.Outcomes.{Leads, Comes, by_outcome, comes-misused, goes_with}
+use Rattle.task_table.proofs.Outcomes.{Leads, Comes, by_outcome, comes-faulted_after, comes-misused, goes_with}
 use Rattle.task_table.proofs.Ranges.{may-write}
 use Rattle.task_table.proofs.Receives.{none_left}
 
@@ -93,7 +93,7 @@ module _ (g : Setup) (c : ℕ) (t : Turn) (h : Sane g t.state) (inside : c < len
 
     faults_after : (lease : ℕ) (e : LeaseEntry) (fault : Fault) → 1 ≤ fault.number → fault.number ≤ 10 → Comes g c t (faulted g c fault (entry_read k lease e t))
     faults_after lease e fault low high =
-        Faults fault t (entry_read k lease e t) inside low high (reads_entry lease e) (state-looked (entry lease e) t) (notes-looked (entry lease e) t) (writes-looked (entry lease e) t) (reads-looked (entry lease e) t tt)
+        comes-faulted_after g c t inside fault (entry_read k lease e t) low high (reads_entry lease e) (state-looked (entry lease e) t) (notes-looked (entry lease e) t) (writes-looked (entry lease e) t) (reads-looked (entry lease e) t tt)
 
     misuses_after : (lease : ℕ) (e : LeaseEntry) (usage : ℕ) → Comes g c t (misused g c usage (entry_read k lease e t))
     misuses_after lease e usage = faults_after lease e record { number = 7; x = usage; y = 0 } (omega arith) (omega arith)

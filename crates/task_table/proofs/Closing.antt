@@ -18,7 +18,7 @@ use Rattle.task_table.specs.Step.{Step}
 use Rattle.task_table.specs.Lives.{IsFresh, IsClosed, IsSilent}
 use Rattle.task_table.proofs.Chains.{chain_keeps}
 use Rattle.task_table.proofs.Keeps.{added_in, map_in, dropped_call}
-use Rattle.task_table.proofs.Moves.{plain_one, IsOutside, taken_over, Move, Aside, Writes, Reads, Lends, Offers, Takes, Closes}
+use Rattle.task_table.proofs.Moves.{plain_one, IsOutside, taken_over, Move, Aside, Writes, Reads, Alters, Lends, Offers, Takes, Closes, outside-devices}
 use Rattle.task_table.proofs.Happens.{chain_moves}
 use Rattle.task_table.proofs.Grounding.{one_in, honest_alive, chain_honest}
 
@@ -94,6 +94,7 @@ module _ (z : State) where
   move_reopened g s c _ _ (Aside u v a) h = reopened-outside u v a.outside h
   move_reopened g s c _ _ (Writes on at bytes u within may) h = reopened-same u (stored on at bytes u) refl refl refl h
   move_reopened g s c _ _ (Reads r u alive) h = reopened-same u (looked r u) refl refl refl h
+  move_reopened g s c _ _ (Alters devices u reached) h = reopened-outside u _ (outside-devices devices u) h
   move_reopened g s c _ _ (Lends k borrow lease offset moved u alive taken fits) h = reopened-lent k borrow lease offset moved u h
   move_reopened g s c _ _ (Offers k u new) h = reopened-offered k u new.number h
   move_reopened g s c _ _ (Takes on k buffer u t) h = reopened-taken on k buffer u h

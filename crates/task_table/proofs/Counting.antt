@@ -7,7 +7,7 @@ use Rattle.kernel_abi.specs.declared.Note.{Note}
 use Rattle.kernel_abi.specs.declared.Note.TheVariants as note
 use Rattle.words_core.specs.declared.Flags.{Flags}
 use Rattle.task_table.specs.State.{Setup, State, Turn, Ground}
-use Rattle.task_table.specs.Effects.{with_task, with_call, without_call, without_listen, with_taken, changed, noted, with_processor, with_health, stored, copied, looked, posted, closed, faulted_as, faulted, offered}
+use Rattle.task_table.specs.Effects.{with_task, with_call, without_call, without_listen, with_taken, changed, noted, with_processor, with_health, stored, copied, looked, posted, closed, faulted_as, faulted, offered, with_devices}
 use Rattle.task_table.specs.Rows.{syscall_noted}
 use Rattle.task_table.specs.Placed.{ArePlaced}
 use Rattle.task_table.specs.Sane.{IsCounted}
@@ -15,7 +15,7 @@ use Rattle.task_table.specs.Counts.{IsSameTime, AreCounts}
 use Rattle.task_table.specs.Chain.{Chain}
 use Rattle.task_table.specs.Step.{Step}
 use Rattle.task_table.proofs.Chains.{chain_keeps}
-use Rattle.task_table.proofs.Moves.{IsAside, aside-processor, aside-posted, taken_over, Move, Aside, Writes, Reads, Lends, Offers, Takes, Closes}
+use Rattle.task_table.proofs.Moves.{IsAside, aside-processor, aside-posted, taken_over, Move, Aside, Writes, Reads, Alters, Lends, Offers, Takes, Closes}
 use Rattle.task_table.proofs.Happens.{chain_moves}
 
 -- ## effects
@@ -74,10 +74,11 @@ pub counts_same : (s u : State) → IsSameTime s u → AreCounts s u
 counts_same s u same = counts_then s s u (counts_here s) same
 
 move_counts : (g : Setup) (s : State) (c : ℕ) (u v : Turn) → Move g s c u v → AreCounts s u.state → AreCounts s v.state
-unfolding looked noted offered with_call copied with_taken closed without_call
+unfolding looked noted offered with_call copied with_taken closed without_call with_devices
 move_counts g s c _ _ (Aside u v a) h = counts_then s u.state v.state h (time-aside u v a)
 move_counts g s c _ _ (Writes on at bytes u within may) h = counts_then s u.state _ h (time-stored on at bytes u)
 move_counts g s c _ _ (Reads r u alive) h = counts_then s u.state (looked r u).state h record { count = refl; turn = refl; now = refl; next_call = refl }
+move_counts g s c _ _ (Alters devices u reached) h = counts_then s u.state (with_devices devices u).state h record { count = refl; turn = refl; now = refl; next_call = refl }
 move_counts g s c _ _ (Lends k borrow lease offset moved u alive taken fits) h = counts_then s u.state _ h (time-noted (note.Borrow k borrow lease offset moved) u)
 move_counts g s c _ _ (Offers k u new) h = let next = new.next in record { count = h.count; turn = h.turn; now = h.now; from = omega arith; upto = omega arith }
 move_counts g s c _ _ (Takes on k buffer u t) h = counts_then s u.state (taken_over on k buffer u).state h record { count = refl; turn = refl; now = refl; next_call = refl }

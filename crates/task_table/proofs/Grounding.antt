@@ -18,7 +18,7 @@ use Rattle.task_table.specs.Step.{is_plain, MayChangeAll, Step}
 use Rattle.task_table.specs.Lives.{IsFresh}
 use Rattle.task_table.proofs.Chains.{chain_keeps}
 use Rattle.task_table.proofs.Handing.{few_bytes}
-use Rattle.task_table.proofs.Moves.{plain_one, IsOutside, taken_over, IsTaking, Move, Aside, Writes, Reads, Lends, Offers, Takes, Closes}
+use Rattle.task_table.proofs.Moves.{plain_one, IsOutside, taken_over, IsTaking, Move, Aside, Writes, Reads, Alters, Lends, Offers, Takes, Closes, outside-devices}
 use Rattle.task_table.proofs.Happens.{chain_moves}
 
 -- ## what each move adds
@@ -67,6 +67,8 @@ plain_touched (note.Syscall task number arguments) h = refl
 plain_touched (note.Ret task results) h = refl
 plain_touched (note.Fault task fault) h = refl
 plain_touched (note.Restart task generation) h = refl
+plain_touched (note.In device byte fed) h = refl
+plain_touched (note.Out device byte) h = refl
 plain_touched (note.IrqStatus task bits status) h = refl
 plain_touched (note.Find index found) h = refl
 plain_touched (note.Listen task from mask) h = refl
@@ -178,6 +180,7 @@ module _ (g : Setup) (s : State) (c : ℕ) where
   moved _ _ (Aside u v a) = moved-aside u v a.outside
   moved _ _ (Writes on at bytes u within may) = moved-stored on at bytes u may
   moved _ _ (Reads r u alive) = moved-looked r u alive
+  moved _ _ (Alters devices u reached) = moved-aside u _ (outside-devices devices u)
   moved _ _ (Lends k borrow lease offset n u alive taken fits) = moved-noted (note.Borrow k borrow lease offset n) u alive
   moved _ _ (Offers k u new) = moved-offered k u
   moved _ _ (Takes on k buffer u t) = moved-taken on k buffer u t

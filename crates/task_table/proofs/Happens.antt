@@ -20,12 +20,12 @@ use Rattle.task_table.specs.Sends.{taken_at_once, offers_call}
 use Rattle.task_table.specs.Placed.{ArePlaced}
 use Rattle.task_table.specs.Grounds.{Lies, MayWrite}
 use Rattle.task_table.specs.Chain.{Chain, Here}
-use Rattle.task_table.specs.Step.{MayOffer, MayReceive, IsTarget, MayChangeAll, Ends, Step, Notes, Gives, Returns, PassesSyscall, Runs, Clears, Posts, Times, Lines, Listens, Sends, Receives, Stores, Copies, Looks, Borrows, Ceases, Halts, Strikes, Restarts}
+use Rattle.task_table.specs.Step.{MayOffer, MayReceive, IsTarget, MayChangeAll, Ends, Step, Notes, Gives, Returns, PassesSyscall, Runs, Clears, Posts, Times, Lines, Listens, Sends, Receives, Stores, Copies, Looks, Borrows, Ceases, Halts, Strikes, Restarts, Reaches}
 use Rattle.task_table.proofs.Chains.{one, ◌▷◌, joined, refined, chain-fold}
 use Rattle.task_table.proofs.Handing.{few_bytes}
 use Rattle.task_table.proofs.Ranges.{within_ram-good, within_ram-front}
 use Rattle.task_table.proofs.Posting.{found_listen}
-use Rattle.task_table.proofs.Moves.{IsAside, aside-noted, aside-given, aside-returned, aside-past_syscall, aside-cleared, aside-unlistened, aside-listening, aside-timer, aside-line, aside-health, aside-processor, aside-reborn, aside-posted, taken_over, IsTaking, Move, Aside, Writes, Reads, Lends, Offers, Takes, Closes}
+use Rattle.task_table.proofs.Moves.{IsAside, aside-noted, aside-given, aside-returned, aside-past_syscall, aside-cleared, aside-unlistened, aside-listening, aside-timer, aside-line, aside-health, aside-processor, aside-reborn, aside-posted, taken_over, IsTaking, Move, Aside, Writes, Reads, Lends, Offers, Takes, Closes, Alters}
 
 -- the bytes of a range that is good may each be written
 may-write : (g : Setup) (i : ℕ) (r : Slice) (a : ℕ) → bad_byte g i Write r ≡ None → Lies r a → MayWrite g i a
@@ -169,6 +169,7 @@ module _ (g : Setup) (s : State) (c : ℕ) where
   step_moves placed _ _ (Receives k buffer u may) = receives placed k buffer u may
   step_moves placed _ _ (Stores on at bytes u all within room may) = one (Writes on at bytes u room may)
   step_moves placed _ _ (Copies on from at n i r u target may) = copies placed on from at n i r u target may
+  step_moves placed _ _ (Reaches devices u reached) = one (Alters devices u reached)
   step_moves placed _ _ (Looks r u alive) = one (Reads r u alive)
   step_moves placed _ _ (Borrows k borrow lease offset moved u alive taken fits) = one (Lends k borrow lease offset moved u alive taken fits)
   step_moves placed _ _ (Ceases i ending u ends) = one (Closes i ending u ends)

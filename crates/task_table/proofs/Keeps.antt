@@ -122,6 +122,7 @@ keeps-with_task {g = g} {s = s} i {x} h inside good = record {
     current = rw length-with_task h.steady.current;
     flash = h.steady.flash;
     flash_bytes = h.steady.flash_bytes;
+    devices = h.steady.devices;
     bytes = h.steady.bytes;
     placed = h.steady.placed;
   };
@@ -168,6 +169,7 @@ keeps-fewer calls listens h a b fewer_calls fewer_listens = record {
     current = h.steady.current;
     flash = h.steady.flash;
     flash_bytes = h.steady.flash_bytes;
+    devices = h.steady.devices;
     bytes = h.steady.bytes;
     placed = h.steady.placed;
   };
@@ -227,6 +229,7 @@ keeps-with_listen {s = s} l h fit well idle named unmet unfit = record {
     current = h.steady.current;
     flash = h.steady.flash;
     flash_bytes = h.steady.flash_bytes;
+    devices = h.steady.devices;
     bytes = h.steady.bytes;
     placed = h.steady.placed;
   };
@@ -266,6 +269,7 @@ keeps-with_taken {s = s} i h but = record {
     current = h.steady.current;
     flash = h.steady.flash;
     flash_bytes = h.steady.flash_bytes;
+    devices = h.steady.devices;
     bytes = h.steady.bytes;
     placed = h.steady.placed;
   };
@@ -295,7 +299,7 @@ keeps-with_taken {s = s} i h but = record {
 pub keeps-memory : {M F T : ℕ → Type 0} {W : ℕ → ℕ → Type 0} {g : Setup} {s : State} (m : Memory) → IsSaneBut M F T W g s → m.flash ≡ s.memory.flash → AreAllBytes m.ram → ArePlaced g m → IsSaneBut M F T W g record s { memory = m }
 unfolding task_at line_at
 keeps-memory m h flash bytes placed = record {
-  steady = record { calls = h.steady.calls; listens = h.steady.listens; tasks = h.steady.tasks; lines = h.steady.lines; as_many = h.steady.as_many; current = h.steady.current; flash = flash ∙ h.steady.flash; flash_bytes = λ b here. h.steady.flash_bytes b (rw flash at here); bytes = bytes; placed = placed };
+  steady = record { devices = h.steady.devices; calls = h.steady.calls; listens = h.steady.listens; tasks = h.steady.tasks; lines = h.steady.lines; as_many = h.steady.as_many; current = h.steady.current; flash = flash ∙ h.steady.flash; flash_bytes = λ b here. h.steady.flash_bytes b (rw flash at here); bytes = bytes; placed = placed };
   well = record { client = h.well.client; listener = h.well.listener; alone = h.well.alone };
   present = record { client = h.present.client; server = h.present.server; named = h.present.named };
   unmet = h.unmet;
@@ -306,7 +310,7 @@ keeps-memory m h flash bytes placed = record {
 pub keeps-current : {M F T : ℕ → Type 0} {W : ℕ → ℕ → Type 0} {g : Setup} {s : State} (i : ℕ) → IsSaneBut M F T W g s → i < length s.tasks → IsSaneBut M F T W g record s { current = i }
 unfolding task_at line_at
 keeps-current i h inside = record {
-  steady = record { calls = h.steady.calls; listens = h.steady.listens; tasks = h.steady.tasks; lines = h.steady.lines; as_many = h.steady.as_many; current = inside; flash = h.steady.flash; flash_bytes = h.steady.flash_bytes; bytes = h.steady.bytes; placed = h.steady.placed };
+  steady = record { devices = h.steady.devices; calls = h.steady.calls; listens = h.steady.listens; tasks = h.steady.tasks; lines = h.steady.lines; as_many = h.steady.as_many; current = inside; flash = h.steady.flash; flash_bytes = h.steady.flash_bytes; bytes = h.steady.bytes; placed = h.steady.placed };
   well = record { client = h.well.client; listener = h.well.listener; alone = h.well.alone };
   present = record { client = h.present.client; server = h.present.server; named = h.present.named };
   unmet = h.unmet;
@@ -318,7 +322,7 @@ keeps-current i h inside = record {
 pub keeps-lines : {M F T : ℕ → Type 0} {W : ℕ → ℕ → Type 0} {g : Setup} {s : State} (lines : List Line) → IsSaneBut M F T W g s → ((k : ℕ) → (line_at record s { lines = lines } k).pending ≡ true → ((line_at record s { lines = lines } k).enabled ≡ false) × IsOwned g k) → IsSaneBut M F T W g record s { lines = lines }
 unfolding task_at
 keeps-lines lines h owned = record {
-  steady = record { calls = h.steady.calls; listens = h.steady.listens; tasks = h.steady.tasks; lines = owned; as_many = h.steady.as_many; current = h.steady.current; flash = h.steady.flash; flash_bytes = h.steady.flash_bytes; bytes = h.steady.bytes; placed = h.steady.placed };
+  steady = record { devices = h.steady.devices; calls = h.steady.calls; listens = h.steady.listens; tasks = h.steady.tasks; lines = owned; as_many = h.steady.as_many; current = h.steady.current; flash = h.steady.flash; flash_bytes = h.steady.flash_bytes; bytes = h.steady.bytes; placed = h.steady.placed };
   well = record { client = h.well.client; listener = h.well.listener; alone = h.well.alone };
   present = record { client = h.present.client; server = h.present.server; named = h.present.named };
   unmet = h.unmet;
@@ -330,7 +334,7 @@ keeps-lines lines h owned = record {
 pub keeps-now : {M F T : ℕ → Type 0} {W : ℕ → ℕ → Type 0} {g : Setup} {s : State} (now : ℕ) → IsSaneBut M F T W g s → IsSaneBut M F (λ i. ⊥) W g record s { now = now }
 unfolding task_at line_at
 keeps-now now h = record {
-  steady = record { calls = h.steady.calls; listens = h.steady.listens; tasks = h.steady.tasks; lines = h.steady.lines; as_many = h.steady.as_many; current = h.steady.current; flash = h.steady.flash; flash_bytes = h.steady.flash_bytes; bytes = h.steady.bytes; placed = h.steady.placed };
+  steady = record { devices = h.steady.devices; calls = h.steady.calls; listens = h.steady.listens; tasks = h.steady.tasks; lines = h.steady.lines; as_many = h.steady.as_many; current = h.steady.current; flash = h.steady.flash; flash_bytes = h.steady.flash_bytes; bytes = h.steady.bytes; placed = h.steady.placed };
   well = record { client = h.well.client; listener = h.well.listener; alone = h.well.alone };
   present = record { client = h.present.client; server = h.present.server; named = h.present.named };
   unmet = h.unmet;
@@ -341,7 +345,7 @@ keeps-now now h = record {
 pub keeps-turn : {M F T : ℕ → Type 0} {W : ℕ → ℕ → Type 0} {g : Setup} {s : State} (turn : ℕ) → IsSaneBut M F T W g s → IsSaneBut M F T W g record s { turn = turn }
 unfolding task_at line_at
 keeps-turn turn h = record {
-  steady = record { calls = h.steady.calls; listens = h.steady.listens; tasks = h.steady.tasks; lines = h.steady.lines; as_many = h.steady.as_many; current = h.steady.current; flash = h.steady.flash; flash_bytes = h.steady.flash_bytes; bytes = h.steady.bytes; placed = h.steady.placed };
+  steady = record { devices = h.steady.devices; calls = h.steady.calls; listens = h.steady.listens; tasks = h.steady.tasks; lines = h.steady.lines; as_many = h.steady.as_many; current = h.steady.current; flash = h.steady.flash; flash_bytes = h.steady.flash_bytes; bytes = h.steady.bytes; placed = h.steady.placed };
   well = record { client = h.well.client; listener = h.well.listener; alone = h.well.alone };
   present = record { client = h.present.client; server = h.present.server; named = h.present.named };
   unmet = h.unmet;

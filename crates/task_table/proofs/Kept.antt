@@ -103,7 +103,7 @@ fresh_set m low span low' span' entries t y there h is new old = record {
 
 -- ## bytes are written elsewhere
 
-drop_pasted : (xs : List ℕ) (p : ℕ) (ys : List ℕ) (b : ℕ) → p + length ys ≤ length xs → p + length ys ≤ b → drop b (pasted xs p ys) ≡ drop b xs
+pub drop_pasted : (xs : List ℕ) (p : ℕ) (ys : List ℕ) (b : ℕ) → p + length ys ≤ length xs → p + length ys ≤ b → drop b (pasted xs p ys) ≡ drop b xs
 drop_pasted xs p ys b fits above = same_lists _ _ (simp (length-append, length-take, length-drop) (omega arith)) (λ i d u. grind (arith, places))
 
 flash_only : (m : Memory) (ram : List ℕ) (b n : ℕ) → b < 0x20000000 → bytes_at record m { ram = ram } b n ≡ bytes_at m b n
@@ -136,7 +136,7 @@ entry_apart m a ys b within apart =
     rw (first, second, third) refl
 
 -- n bytes from an address on, of which so many are written
-meets_not : (x : KeptEntry) (a n : ℕ) → meets x a n ≡ false → (x.base + 12 ≤ a) ⊎ (a + n ≤ x.base)
+pub meets_not : (x : KeptEntry) (a n : ℕ) → meets x a n ≡ false → (x.base + 12 ≤ a) ⊎ (a + n ≤ x.base)
 meets_not x a n h = elim (cases_lt a (x.base + 12)) [
   | inl lt ↦ let t : ltb a (x.base + 12) ≡ true = lt-ltb _ _ lt in inr (ltb-false _ _ (rw t at h))
   | inr past ↦ inl past

@@ -20,7 +20,7 @@ use Rattle.task_table.specs.Step.{is_plain, IsNew, Ends, Step}
 use Rattle.task_table.specs.Lives.{Life, New, Waiting, Held, Over, Wrong, after_offer, after_take, after_close, after, lived, AreApart, Lives, IsAsNoted}
 use Rattle.task_table.proofs.Chains.{chain_keeps}
 use Rattle.task_table.proofs.Lives.{lived_on}
-use Rattle.task_table.proofs.Moves.{ArePlain, IsOutside, taken_over, IsTaking, Move, Aside, Writes, Reads, Lends, Offers, Takes, Closes}
+use Rattle.task_table.proofs.Moves.{ArePlain, IsOutside, taken_over, IsTaking, Move, Aside, Writes, Reads, Alters, Lends, Offers, Takes, Closes, outside-devices}
 use Rattle.task_table.proofs.Happens.{chain_moves}
 
 -- ## lists
@@ -253,6 +253,8 @@ plain_says (note.Syscall task number arguments) h = refl
 plain_says (note.Ret task results) h = refl
 plain_says (note.Fault task fault) h = refl
 plain_says (note.Restart task generation) h = refl
+plain_says (note.In device byte fed) h = refl
+plain_says (note.Out device byte) h = refl
 plain_says (note.IrqStatus task bits status) h = refl
 plain_says (note.Find index found) h = refl
 plain_says (note.Listen task from mask) h = refl
@@ -304,6 +306,7 @@ unfolding looked noted
 move_as_noted g s c old _ _ (Aside u v a) h = as_noted-aside old u v a.outside h
 move_as_noted g s c old _ _ (Writes on at bytes u within may) h = as_noted-stored old on at bytes u h
 move_as_noted g s c old _ _ (Reads r u alive) h = as_noted-same old u (looked r u) refl refl refl h
+move_as_noted g s c old _ _ (Alters devices u reached) h = as_noted-aside old u _ (outside-devices devices u) h
 move_as_noted g s c old _ _ (Lends k borrow lease offset n u alive taken fits) h = as_noted_on old u.notes (note.Borrow k borrow lease offset n ∷ []) u.state u.state h.apart (λ j l x. x) h
 move_as_noted g s c old _ _ (Offers k u new) h = as_noted-offered g s c old k u new h
 move_as_noted g s c old _ _ (Takes on k buffer u t) h = as_noted-taken g s c old on k buffer u t h

@@ -48,3 +48,8 @@ pub mod Summaries
 pub mod Choices
 pub mod Searches
 pub mod Ordered
+pub mod Setting
+pub mod Equipped
+pub mod Devices
+pub mod Reaching
+pub mod KeptAlike

@@ -14,11 +14,11 @@ use Rattle.task_table.specs.Sends.{message_of, reply_room, table_of, call_made, 
 use Rattle.task_table.specs.Sane.{Sane}
 use Rattle.task_table.specs.Grounds.{Lies, IsTakenBy}
 use Rattle.task_table.specs.Chain.{Here}
-use Rattle.task_table.specs.Step.{Gives, Returns, PassesSyscall, Posts, Sends, Copies, Ceases, Strikes, Goes}
+use Rattle.task_table.specs.Step.{Gives, Returns, PassesSyscall, Posts, Sends, Copies, Ceases, Strikes}
 use Rattle.task_table.proofs.Chains.{one, ◌▷◌}
 use Rattle.task_table.proofs.Frames.{idle-ready}
 use Rattle.task_table.proofs.Keeps.{found_in}
-use Rattle.task_table.proofs.Outcomes.{Comes, by_outcome, comes-misused, comes-denied, goes, goes_with}
+use Rattle.task_table.proofs.Outcomes.{Comes, by_outcome, comes, comes-misused, comes-denied, goes, goes_with}
 use Rattle.task_table.proofs.Ranges.{may-write}
 use Rattle.task_table.proofs.Receives.{health-past_syscall, idle-past_syscall, listens-past_syscall, next-past_syscall, well-ready, is_there, none_left}
 
@@ -85,7 +85,7 @@ module _ (g : Setup) (c : ℕ) (t : Turn) (h : Sane g t.state) (inside : c < len
         let u = past_syscall c t in
         let server = index_of id in
         let there : server < length g.tasks = rw (← h.steady.as_many) (is_there s id two.0) in
-        Goes t _ (one (PassesSyscall t inside, tt) ▷ (
+        comes g c t inside _ (one (PassesSyscall t inside, tt) ▷ (
           Sends (call_made u.state c x server) u record {
             fit = record {
               client = inside;

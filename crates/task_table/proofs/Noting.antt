@@ -11,11 +11,11 @@ use Rattle.kernel_abi.specs.declared.Note.{Note}
 use Rattle.kernel_abi.specs.declared.Note.TheVariants as note
 use Rattle.task_table.specs.State.{Setup, State, Call, Listen, Slice, Ground, Own, Message, Turn}
 use Rattle.task_table.specs.Reading.{task_at, call_of, listen_of, admits}
-use Rattle.task_table.specs.Effects.{without_listen, with_listen, changed, noted, with_processor, with_health, stored, copied, looked, given, returned, past_syscall, bits_added, bits_cleared, woken_by, woken, posted, with_timer, with_line, close_notes, closed, faulted_as, faulted, offered, handed, reborn, is_to, awaits, dead_answered, restarted}
+use Rattle.task_table.specs.Effects.{without_listen, with_listen, changed, noted, with_processor, with_health, stored, copied, looked, given, returned, past_syscall, bits_added, bits_cleared, woken_by, woken, posted, with_timer, with_line, close_notes, closed, faulted_as, faulted, offered, handed, reborn, is_to, awaits, dead_answered, restarted, with_devices}
 use Rattle.task_table.specs.Sends.{taken_at_once, offers_call}
 use Rattle.task_table.specs.Counts.{AreNoted, IsNoted}
 use Rattle.task_table.specs.Chain.{Chain}
-use Rattle.task_table.specs.Step.{Step, Notes, Gives, Returns, PassesSyscall, Runs, Clears, Posts, Times, Lines, Listens, Sends, Receives, Stores, Copies, Looks, Borrows, Ceases, Halts, Strikes, Restarts}
+use Rattle.task_table.specs.Step.{Step, Notes, Gives, Returns, PassesSyscall, Runs, Clears, Posts, Times, Lines, Listens, Sends, Receives, Stores, Copies, Looks, Borrows, Ceases, Halts, Strikes, Restarts, Reaches}
 use Rattle.task_table.proofs.Chains.{chain_keeps}
 
 -- ## how many lines
@@ -186,7 +186,7 @@ at_most : (n : ℕ) (u v : Turn) → n ≤ 4 → AreNoted n u v → AreNoted (4 
 at_most n u v le a = more n (4 + 2 * length u.state.tasks) u v (omega (arith, le)) a
 
 pub step_noted : (g : Setup) (s : State) (c : ℕ) (u v : Turn) → Step g s c u v → AreNoted (4 + 2 * length u.state.tasks) u v
-unfolding past_syscall with_processor with_timer with_line stored copied looked
+unfolding past_syscall with_processor with_timer with_line stored copied looked with_devices
 step_noted g s c _ _ (Notes n u plain) = at_most 1 u _ (omega arith) (one n u)
 step_noted g s c _ _ (Gives i values u lt few party) = none u _ (quiet-given i values u)
 step_noted g s c _ _ (Returns i u) = at_most 1 u _ (omega arith) (noted-returned i u)
@@ -201,6 +201,7 @@ step_noted g s c _ _ (Sends k u may) = at_most 3 u _ (omega arith) (offers k u)
 step_noted g s c _ _ (Receives k buffer u may) = at_most 1 u _ (omega arith) (hands Own k buffer u)
 step_noted g s c _ _ (Stores on at bytes u all within room may) = none u (stored on at bytes u) refl
 step_noted g s c _ _ (Copies on from at n i r u target may) = none u (copied on from at n u) refl
+step_noted g s c _ _ (Reaches devices u reached) = none u (with_devices devices u) refl
 step_noted g s c _ _ (Looks r u alive) = none u (looked r u) refl
 step_noted g s c _ _ (Borrows k borrow lease offset moved u alive taken fits) = at_most 1 u _ (omega arith) (one _ u)
 step_noted g s c _ _ (Ceases i ending u ends) = at_most 1 u _ (omega arith) (closes i ending u)

@@ -6,9 +6,9 @@ use Rattle.kernel_abi.specs.declared.Note.TheVariants as note
 use Rattle.kernel_abi.specs.declared.Timer.{Timer}
 use Rattle.task_table.specs.State.{Setup, LineSetup, Turn}
 use Rattle.task_table.specs.Reading.{task_at, line_at, line_off}
-use Rattle.task_table.specs.Effects.{noted, posted, with_timer, clocked, with_line}
-use Rattle.task_table.specs.Events.{expired_by, expired, ticked, owner_of, interrupted_by, interrupted}
-use Rattle.task_table.proofs.Moves.{IsOutside, outside_then, outside-clocked, IsAside, aside_here, aside_then, aside-noted, aside-posted, aside-timer, aside-line, aside-fold}
+use Rattle.task_table.specs.Effects.{noted, posted, with_timer, clocked, with_line, with_devices}
+use Rattle.task_table.specs.Events.{expired_by, expired, ticked, owner_of, interrupted_by, interrupted, fed}
+use Rattle.task_table.proofs.Moves.{IsOutside, outside_then, outside-clocked, IsAside, aside_here, aside_then, aside-noted, aside-posted, aside-timer, aside-line, aside-fold, outside-devices}
 
 aside-expired : (i : ℕ) (t : Turn) → IsAside t (expired t i)
 aside-expired i t = by_timer (task_at t.state i).timer
@@ -38,6 +38,22 @@ now-clocked t = refl
 -- the time is one more
 pub now-ticked : (t : Turn) → (ticked t).state.now ≡ t.state.now + 1
 now-ticked t = (all_expired t).now ∙ now-clocked t
+
+devices-clocked : (t : Turn) → (clocked t).state.devices ≡ t.state.devices
+unfolding clocked noted
+devices-clocked t = refl
+
+pub devices-ticked : (t : Turn) → (ticked t).state.devices ≡ t.state.devices
+devices-ticked t = (all_expired t).devices ∙ devices-clocked t
+
+-- a byte for a device
+pub outside-fed : (device byte : ℕ) (t : Turn) → IsOutside t (fed device byte t)
+unfolding fed
+outside-fed device byte t = outside_then t _ _ (outside-devices _ t) (aside-noted _ _ refl).outside
+
+pub now-fed : (device byte : ℕ) (t : Turn) → (fed device byte t).state.now ≡ t.state.now
+unfolding fed noted with_devices
+now-fed device byte t = refl
 
 pub aside-interrupted : (g : Setup) (k : ℕ) (t : Turn) → IsAside t (interrupted g k t)
 unfolding interrupted

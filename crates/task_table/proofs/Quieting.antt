@@ -6,10 +6,10 @@ use Rattle.kernel_abi.specs.declared.Note.{Note}
 use Rattle.kernel_abi.specs.declared.Note.TheVariants as note
 use Rattle.task_table.specs.State.{Setup, State, Task, Call, Slice, Ground, Own, Turn}
 use Rattle.task_table.specs.Reading.{task_at, call_of, listen_of, is_ready, no_task}
-use Rattle.task_table.specs.Effects.{with_task, with_processor, stored, copied, looked, given, returned, past_syscall, bits_cleared, with_timer, with_line, closed, handed}
+use Rattle.task_table.specs.Effects.{with_task, with_processor, stored, copied, looked, given, returned, past_syscall, bits_cleared, with_timer, with_line, closed, handed, with_devices}
 use Rattle.task_table.specs.Counts.{IsNoted, IsAsReady}
 use Rattle.task_table.specs.Chain.{Chain, Here, More}
-use Rattle.task_table.specs.Step.{Step, Notes, Gives, Returns, PassesSyscall, Runs, Clears, Posts, Times, Lines, Listens, Sends, Receives, Stores, Copies, Looks, Borrows, Ceases, Halts, Strikes, Restarts}
+use Rattle.task_table.specs.Step.{Step, Notes, Gives, Returns, PassesSyscall, Runs, Clears, Posts, Times, Lines, Listens, Sends, Receives, Stores, Copies, Looks, Borrows, Ceases, Halts, Strikes, Restarts, Reaches}
 use Rattle.task_table.proofs.Changes.{call_of-with_task, listen_of-with_task, length-with_task, closed_none}
 use Rattle.task_table.proofs.Noting.{some_note, step_noted, noted-noted, noted-posted, noted-faulted_as, noted-offers, noted-restarted}
 
@@ -68,7 +68,7 @@ ready-closed i ending u None e none = rw (closed_none i ending u e) (ready_same 
 ready-closed i ending u (Some k) e none = absurd (noted-closed i ending u k e none)
 
 step_quiet : (g : Setup) (s : State) (c : ℕ) (u v : Turn) → Step g s c u v → v.notes ≡ [] → IsAsReady u.state v.state
-unfolding given past_syscall with_processor bits_cleared with_timer with_line stored copied looked is_ready task_at call_of listen_of
+unfolding given past_syscall with_processor bits_cleared with_timer with_line stored copied looked with_devices is_ready task_at call_of listen_of
 step_quiet g s c _ _ (Notes n u plain) = λ none. absurd (noted-noted n u none)
 step_quiet g s c _ _ (Gives i values u lt few party) = λ none. ready-with_task u.state i _ refl
 step_quiet g s c _ _ (Returns i u) = λ none. absurd (noted-returned i u none)
@@ -83,6 +83,7 @@ step_quiet g s c _ _ (Sends k u may) = λ none. absurd (noted-offers k u none)
 step_quiet g s c _ _ (Receives k buffer u may) = λ none. absurd (noted-handed Own k buffer u none)
 step_quiet g s c _ _ (Stores on at bytes u all within room may) = λ none. record { count = refl; health = λ i. refl; ready = λ i. refl; current = refl }
 step_quiet g s c _ _ (Copies on from at n i r u target may) = λ none. record { count = refl; health = λ i. refl; ready = λ i. refl; current = refl }
+step_quiet g s c _ _ (Reaches devices u reached) = λ none. record { count = refl; health = λ i. refl; ready = λ i. refl; current = refl }
 step_quiet g s c _ _ (Looks r u alive) = λ none. ready_same u.state
 step_quiet g s c _ _ (Borrows k borrow lease offset moved u alive taken fits) = λ none. absurd (noted-noted _ u none)
 step_quiet g s c _ _ (Ceases i ending u ends) = λ none. ready-closed i ending u (call_of u.state i) refl none

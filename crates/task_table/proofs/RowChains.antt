@@ -19,7 +19,7 @@ use Rattle.task_table.specs.Sends.{sent}
 use Rattle.task_table.specs.Syscalls.{Meaning, is_to_kernel, syscalls, meaning_among, syscall_made}
 use Rattle.task_table.specs.Sane.{Sane, IsOwned}
 use Rattle.task_table.specs.Chain.{Chain, Here}
-use Rattle.task_table.specs.Step.{Step, Notes, Returns, PassesSyscall, Clears, Posts, Times, Lines, Listens, Receives, Spared, Goes}
+use Rattle.task_table.specs.Step.{Step, Notes, Returns, PassesSyscall, Clears, Posts, Times, Lines, Listens, Receives, Outcome}
 use Rattle.task_table.proofs.BorrowChains.{comes-read, comes-written, comes-informed}
 use Rattle.task_table.proofs.Chains.{one, ◌▷◌, chain-fold}
 use Rattle.task_table.proofs.Frames.{idle-ready}
@@ -28,7 +28,7 @@ use Rattle.task_table.proofs.Meanings.{EachMeaning}
 use Rattle.task_table.proofs.MessageChains.{comes-sent, comes-replied, comes-reply_faulted, comes-post_made, comes-refreshed}
 use Rattle.task_table.proofs.Offers.{offer_is, no_offer, IsBestOf, best_is_best}
 use Rattle.task_table.proofs.OrderChains.{comes-ordered}
-use Rattle.task_table.proofs.Outcomes.{chain-outcome, Comes, by_outcome, comes-faulted, comes-misused, comes-denied, goes, goes_with}
+use Rattle.task_table.proofs.Outcomes.{chain-outcome, Made, Comes, by_outcome, comes, comes-faulted, comes-misused, comes-denied, goes, goes_with}
 use Rattle.task_table.proofs.Receives.{births-past_syscall, health-past_syscall, posted-past_syscall, idle-past_syscall, calls-past_syscall, well-ready, is_there, none_left, same_index, no_kernel_birth, no_any_birth, one_birth, names_another}
 
 -- ## what needs nothing but the caller
@@ -62,13 +62,13 @@ module _ (g : Setup) (c : ℕ) (t : Turn) (inside : c < length g.tasks) where
       few None = omega arith
       few (Some x) = omega arith
 
-  controls : (bits : ℕ) (enable : Bool) (o : LineSetup) → Contains g.lines o → (u : Turn) → Chain (Spared g t.state c) u (line_controlled c bits enable o.line u)
+  controls : (bits : ℕ) (enable : Bool) (o : LineSetup) → Contains g.lines o → (u : Turn) → Chain (Made g t.state c) u (line_controlled c bits enable o.line u)
   controls bits enable o here u = by_tests enable (line_at u.state o.line).pending
     where
       owned : (line : Line) → line.enabled ≡ false → line.pending ≡ true → (line.enabled ≡ false) × IsOwned g o.line
       owned line off p = (off, (o, here, refl))
 
-      by_tests : (b p : Bool) → Chain (Spared g t.state c) u (cond (not b) (with_line o.line (line_off p) u) (cond p (posted c bits (with_line o.line (line_off false) u)) (with_line o.line line_on u)))
+      by_tests : (b p : Bool) → Chain (Made g t.state c) u (cond (not b) (with_line o.line (line_off p) u) (cond p (posted c bits (with_line o.line (line_off false) u)) (with_line o.line line_on u)))
       by_tests false p = one (Lines o.line (line_off p) u (owned (line_off p) refl), tt)
       by_tests true true = one (Lines o.line (line_off false) u (owned (line_off false) refl), tt) ▷ (Posts c bits (with_line o.line (line_off false) u) inside, tt)
       by_tests true false = one (Lines o.line line_on u (λ p. absurd (false≢true p)), tt)
@@ -101,7 +101,7 @@ module _ (g : Setup) (c : ℕ) (t : Turn) (h : Sane g t.state) (inside : c < len
   listen : (x : RecvArgs) (from : From) → is_valid (buffer_of x) ≡ true → bad_byte g c Write (buffer_of x) ≡ None → bit_and (task_at t.state c).posted x.mask ≡ 0 → ((b : Birth) → from ≡ One b → (b.index < length g.tasks) × (b.index ≢ c) × ((task_at t.state b.index).births ≡ b.birth)) → ((k : Call) → Contains t.state.calls k → k.phase ≡ Offered → k.server.index ≡ c → admits from k.client ≡ false) → Comes g c t (listens c x from t)
   listen x from valid writable unmet names unfit =
       let l : Listen = record { task = c; from = from; mask = x.mask; buffer = buffer_of x } in
-      Goes t _ (one (PassesSyscall t inside, tt) ▷ (
+      comes g c t inside _ (one (PassesSyscall t inside, tt) ▷ (
         Listens l (past_syscall c t) refl record {
           fit = record { there = inside; names = λ b e. let n = names b e in (n.0, n.1); valid = valid; writable = writable };
           well = health-past_syscall c t c within ∙ well-ready t.state c ready;
@@ -115,7 +115,7 @@ module _ (g : Setup) (c : ℕ) (t : Turn) (h : Sane g t.state) (inside : c < len
 
   receive : (x : RecvArgs) (k : Call) → Contains t.state.calls k → k.phase ≡ Offered → k.server.index ≡ c → bad_byte g c Write (buffer_of x) ≡ None → Comes g c t (receives c x k t)
   receive x k here offered server writable =
-      Goes t _
+      comes g c t inside _
       (one (PassesSyscall t inside, tt)
       ▷ (Receives k (buffer_of x) (past_syscall c t) record { here = rw (calls-past_syscall c t) here; before = here; offered = offered; server = server; good = writable }, tt)
       ▷ (Returns c _, tt))
@@ -217,9 +217,16 @@ module _ (g : Setup) (c : ℕ) (t : Turn) (h : Sane g t.state) (inside : c < len
     ),
   )
 
-  pub comes-syscall_made : Comes g c t (syscall_made g c t)
+  made : Comes g c t (syscall_made g c t)
   unfolding syscall_made
-  comes-syscall_made = among syscalls (register t.state c 11) each
+  made = among syscalls (register t.state c 11) each
+
+  pub comes-syscall_made : Outcome g t.state c t (syscall_made g c t)
+  comes-syscall_made = made.outcome
+
+  -- no system call changes a device
+  pub stay-syscall_made : (syscall_made g c t).state.devices ≡ t.state.devices
+  stay-syscall_made = made.devices
 
   pub chain-syscall_made : Chain (Step g t.state c) t (syscall_made g c t)
   chain-syscall_made = chain-outcome g t.state c t _ comes-syscall_made

@@ -2,6 +2,7 @@
 use Rattle.std.proofs.Common.{◌≡◌, ◌≢◌, ◌⊎◌, inl, inr, ◌%◌, ℕ, zero, suc, Bool, true, false, cond, List, [], ◌∷◌, length, Option, Some, None, refl, ◌∙◌, ap, eqb, bit_and, get_or, set}
 use Rattle.std.specs.Prelude.{fold}
 use Rattle.std.specs.List.{range_with_len}
+use Rattle.kernel_abi.specs.Devices.{DeviceData}
 use Rattle.kernel_abi.specs.Ids.{dead_code_of}
 use Rattle.kernel_abi.specs.declared.Ending.{Ending}
 use Rattle.kernel_abi.specs.declared.Ending.TheVariants.{Restart}
@@ -14,11 +15,11 @@ use Rattle.words_core.specs.declared.Flags.{Flags}
 use Rattle.task_table.specs.declared.Line.{Line}
 use Rattle.task_table.specs.State.{Setup, State, Task, Call, Listen, Slice, Ground, Own, Message, Read, Turn}
 use Rattle.task_table.specs.Reading.{task_at, no_task, call_of, listen_of, admits}
-use Rattle.task_table.specs.Effects.{with_task, with_call, without_listen, with_listen, with_taken, changed, noted, with_processor, with_health, stored, copied, looked, given, returned, past_syscall, bits_added, bits_cleared, woken_by, woken, posted, with_timer, with_line, closed, faulted_as, offered, handed, reborn, is_to, awaits, dead_answered, restarted}
+use Rattle.task_table.specs.Effects.{with_task, with_call, without_listen, with_listen, with_taken, changed, noted, with_processor, with_health, stored, copied, looked, given, returned, past_syscall, bits_added, bits_cleared, woken_by, woken, posted, with_timer, with_line, closed, faulted_as, offered, handed, reborn, is_to, awaits, dead_answered, restarted, with_devices}
 use Rattle.task_table.specs.Rows.{goes_on_with}
 use Rattle.task_table.specs.Sends.{taken_at_once, offers_call}
 use Rattle.task_table.specs.Chain.{Chain}
-use Rattle.task_table.specs.Step.{Step, Notes, Gives, Returns, PassesSyscall, Runs, Clears, Posts, Times, Lines, Listens, Sends, Receives, Stores, Copies, Looks, Borrows, Ceases, Halts, Strikes, Restarts, Spares, Spared}
+use Rattle.task_table.specs.Step.{Step, Notes, Gives, Returns, PassesSyscall, Runs, Clears, Posts, Times, Lines, Listens, Sends, Receives, Stores, Copies, Looks, Borrows, Ceases, Halts, Strikes, Restarts, Spares, Spared, Reaches}
 use Rattle.task_table.proofs.Chains.{chain_keeps}
 use Rattle.task_table.proofs.Changes.{task_at-with_task_other, task_at-without_call, task_at-without_listen}
 use Rattle.task_table.proofs.Waiting.{task_at-with_listen}
@@ -112,6 +113,10 @@ module _ {A : Type 0} (part : Task → A) (decided : (x y : Task) → x.births �
   left-copied : (on : Ground) (from at n : ℕ) (t : Turn) → Left t (copied on from at n t)
   unfolding copied task_at
   left-copied on from at n t = refl
+
+  left-devices : (devices : List DeviceData) (t : Turn) → Left t (with_devices devices t)
+  unfolding with_devices task_at
+  left-devices devices t = refl
 
   left-closed : (i : ℕ) (ending : Ending) (t : Turn) → Left t (closed i ending t)
   unfolding closed
@@ -221,6 +226,7 @@ module _ {A : Type 0} (part : Task → A) (decided : (x y : Task) → x.births �
     left-step _ _ (Receives k buffer t may) spared = left-handed Own k buffer t
     left-step _ _ (Stores on at bytes t all within room may) spared = left-stored on at bytes t
     left-step _ _ (Copies on from at n i r t target may) spared = left-copied on from at n t
+    left-step _ _ (Reaches devices t reached) spared = left-devices devices t
     left-step _ _ (Looks r t alive) spared = left-looked r t
     left-step _ _ (Borrows k borrow lease offset moved t alive taken fits) spared = left-noted _ t
     left-step _ _ (Ceases i ending t ends) spared = left-closed i ending t

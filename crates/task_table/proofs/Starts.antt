@@ -3,6 +3,7 @@ use Rattle.std.proofs.Common.{◌≡◌, ◌%◌, ◌<◌, ℕ, zero, suc, Bool,
 use Rattle.std.specs.Prelude.{Contains}
 use Rattle.std.proofs.lemmas.List.{length-map}
 use Rattle.std.proofs.lemmas.Bool.{false≢true}
+use Rattle.kernel_abi.proofs.Devices.{none_sane}
 use Rattle.kernel_abi.specs.declared.Health.TheVariants.{Well, Stopped}
 use Rattle.task_table.specs.declared.Line.{Line}
 use Rattle.task_table.specs.declared.start.TaskStart.{TaskStart}
@@ -56,6 +57,7 @@ sane-start g sound = record {
     current = rw length-map sound.some;
     flash = refl;
     flash_bytes = sound.flash_bytes;
+    devices = none_sane;
     bytes = zero_bytes g.ram;
     placed = sound.placed;
   };

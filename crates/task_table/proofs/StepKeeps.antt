@@ -10,18 +10,19 @@ use Rattle.task_table.specs.Orders.{ordered}
 use Rattle.task_table.specs.Syscalls.{syscall_made}
 use Rattle.task_table.specs.Sane.{Sane}
 use Rattle.task_table.specs.Chain.{Chain}
-use Rattle.task_table.specs.Step.{Step, Notes, Gives, Returns, PassesSyscall, Runs, Clears, Posts, Times, Lines, Listens, Sends, Receives, Stores, Copies, Looks, Borrows, Ceases, Halts, Strikes, Restarts, Outcome}
+use Rattle.task_table.specs.Step.{Step, Notes, Gives, Returns, PassesSyscall, Runs, Clears, Posts, Times, Lines, Listens, Sends, Receives, Stores, Copies, Looks, Borrows, Ceases, Halts, Strikes, Restarts, Reaches}
 use Rattle.task_table.proofs.BorrowChains.{comes-read, comes-written, comes-informed}
 use Rattle.task_table.proofs.Chains.{chain_keeps}
+use Rattle.task_table.proofs.Equipped.{sane-reached}
 use Rattle.task_table.proofs.Handing.{keeps-looked, keeps-copied, keeps-handed}
 use Rattle.task_table.proofs.Keeps.{keeps-with_listen}
 use Rattle.task_table.proofs.MessageChains.{comes-sent, comes-replied, comes-reply_faulted, comes-post_made, comes-refreshed}
 use Rattle.task_table.proofs.Offering.{keeps-closed, sane-offers, sane-restarted}
 use Rattle.task_table.proofs.OrderChains.{comes-ordered}
-use Rattle.task_table.proofs.Outcomes.{chain-outcome, comes-misused}
+use Rattle.task_table.proofs.Outcomes.{chain-outcome, Comes, comes-misused}
 use Rattle.task_table.proofs.Posting.{keeps-noted, keeps-given, keeps-returned, keeps-past_syscall, keeps-cleared, keeps-timer, sane-posted}
 use Rattle.task_table.proofs.Ranges.{within_ram-good, within_ram-front}
-use Rattle.task_table.proofs.RowChains.{chain-syscall_noted, comes-panicked, comes-timer_set, comes-timer_answered, comes-irq_controlled, comes-irq_answered, comes-received, comes-syscall_made}
+use Rattle.task_table.proofs.RowChains.{chain-syscall_noted, comes-panicked, comes-timer_set, comes-timer_answered, comes-irq_controlled, comes-irq_answered, comes-received, chain-syscall_made}
 use Rattle.task_table.proofs.Sanity.{sane-processor, sane-stored, sane-faulted_as}
 use Rattle.task_table.proofs.Timing.{keeps-line}
 
@@ -44,6 +45,7 @@ module _ (g : Setup) (s : State) (c : ℕ) where
   step_sane _ _ (Receives k buffer u may) h = keeps-handed Own k buffer u h (λ j ne. tt) (here h (h.steady.calls.fit k may.here).server) (within_ram-good g u.state.memory c buffer h.steady.placed may.good)
   step_sane _ _ (Stores on at bytes u all within room may) h = sane-stored on at bytes u h all within
   step_sane _ _ (Copies on from at n i r u target may) h = keeps-copied on from at n u h (rw target.base (within_ram-front u.state.memory r.base r.len n (within_ram-good g u.state.memory i r h.steady.placed target.good) target.fits))
+  step_sane _ _ (Reaches devices u reached) h = sane-reached c devices u h reached
   step_sane _ _ (Looks r u alive) h = keeps-looked r u h
   step_sane _ _ (Borrows k borrow lease offset moved u alive taken fits) h = keeps-noted _ u h
   step_sane _ _ (Ceases i ending u ends) h = keeps-closed i ending u h
@@ -60,8 +62,8 @@ module _ {g : Setup} (c : ℕ) (t : Turn) (h : Sane g t.state) (within : c < len
   inside : c < length g.tasks
   inside = rw (← h.steady.as_many) within
 
-  kept : (u : Turn) → Outcome g t.state c t u → Sane g u.state
-  kept u x = chain_sane g t.state c t u (chain-outcome g t.state c t u x) h
+  kept : (u : Turn) → Comes g c t u → Sane g u.state
+  kept u x = chain_sane g t.state c t u (chain-outcome g t.state c t u x.outcome) h
 
   pub sane-misused : (usage : ℕ) → Sane g (misused g c usage t).state
   sane-misused usage = kept _ (comes-misused g c t inside usage)
@@ -116,4 +118,4 @@ module _ {g : Setup} (c : ℕ) (t : Turn) (h : Sane g t.state) (within : c < len
     sane-received best is = kept _ (comes-received g c t h inside ready best is)
 
     pub sane-syscall_made : Sane g (syscall_made g c t).state
-    sane-syscall_made = kept _ (comes-syscall_made g c t h inside ready)
+    sane-syscall_made = chain_sane g t.state c t _ (chain-syscall_made g c t h inside ready) h

@@ -159,11 +159,14 @@ and_assoc : (a b c : Bool) → (a && (b && c)) ≡ ((a && b) && c)
 and_assoc true b c = refl
 and_assoc false b c = refl
 
-pub free_kept : (s : State) (i : ℕ) (slot : Slot) → IsKept s i slot → is_free slot ≡ is_ready s i
+pub free_packed : (s : State) (i : ℕ) → is_free (packed s i) ≡ is_ready s i
 unfolding is_ready
-free_kept s i slot h =
-    ap is_free h.is ∙ ap (λ b. is_well (task_at s i).health && b) (nothing_waits (call_of s i) (listen_of s i))
+free_packed s i =
+    ap (λ b. is_well (task_at s i).health && b) (nothing_waits (call_of s i) (listen_of s i))
     ∙ and_assoc (is_well (task_at s i).health) (is_none (call_of s i)) (is_none (listen_of s i))
+
+pub free_kept : (s : State) (i : ℕ) (slot : Slot) → IsKept s i slot → is_free slot ≡ is_ready s i
+free_kept s i slot h = ap is_free h.is ∙ free_packed s i
 
 -- ## dropped
 

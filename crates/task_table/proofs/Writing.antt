@@ -3,7 +3,7 @@ use Rattle.std.proofs.Common.{◌≡◌, ◌+◌, ◌-◌, ◌<◌, ◌≤◌, i
 use Rattle.mem_banks.proofs.Copies.{with_bytes_ram, with_bytes_none}
 use Rattle.mem_banks.specs.Memory.{Memory, bytes_at, with_bytes, copied as copied_memory, IsWithinRam}
 use Rattle.task_table.specs.State.{Setup, State, Ground, Write as Written, Turn}
-use Rattle.task_table.specs.Effects.{with_call, with_taken, without_call, noted, stored, copied, looked, writes_on, closed, offered}
+use Rattle.task_table.specs.Effects.{with_call, with_taken, without_call, noted, stored, copied, looked, writes_on, closed, offered, with_devices}
 use Rattle.task_table.specs.Placed.{ArePlaced}
 use Rattle.task_table.specs.Grounds.{with_writes}
 use Rattle.task_table.specs.Chain.{Chain}
@@ -13,7 +13,7 @@ use Rattle.task_table.proofs.Chains.{chain_keeps}
 use Rattle.task_table.proofs.Handing.{few_bytes}
 use Rattle.task_table.proofs.Ranges.{within_ram-front}
 use Rattle.task_table.proofs.Steps.{length-with_bytes}
-use Rattle.task_table.proofs.Moves.{taken_over, Move, Aside, Writes, Reads, Lends, Offers, Takes, Closes}
+use Rattle.task_table.proofs.Moves.{taken_over, Move, Aside, Writes, Reads, Alters, Lends, Offers, Takes, Closes}
 use Rattle.task_table.proofs.Happens.{chain_moves}
 
 -- ## bytes over bytes, one by one
@@ -107,10 +107,11 @@ fresh_written : (s : State) (u : Turn) → IsFresh s u → IsWritten s.memory u
 fresh_written s u f = record { memory = f.memory ∙ ap (with_writes s.memory) (sym f.writes); room = ap (λ (m : Memory). length m.ram) f.memory }
 
 move_written : (g : Setup) (s : State) (c : ℕ) (u v : Turn) → Move g s c u v → IsWritten s.memory u → IsWritten s.memory v
-unfolding stored looked noted offered with_call copied copied_memory with_taken closed without_call
+unfolding stored looked noted offered with_call copied copied_memory with_taken closed without_call with_devices
 move_written g s c _ _ (Aside u v a) h = written_same s.memory u v a.outside.memory a.outside.writes h
 move_written g s c _ _ (Writes on at bytes u within may) h = written_more s.memory on at bytes u (stored on at bytes u) within refl refl h
 move_written g s c _ _ (Reads r u alive) h = written_same s.memory u (looked r u) refl refl h
+move_written g s c _ _ (Alters devices u reached) h = written_same s.memory u (with_devices devices u) refl refl h
 move_written g s c _ _ (Lends k borrow lease offset n u alive taken fits) h = written_same s.memory u (noted _ u) refl refl h
 move_written g s c _ _ (Offers k u new) h = written_same s.memory u (offered k u) refl refl h
 move_written g s c _ _ (Takes on k buffer u t) h =

@@ -12,6 +12,8 @@ use Rattle.kernel_abi.specs.declared.Health.TheVariants.{Well, Stopped, Faulted}
 use Rattle.kernel_abi.specs.declared.Note.{Note}
 use Rattle.kernel_abi.specs.declared.Note.TheVariants as note
 use Rattle.kernel_abi.specs.declared.Timer.{Timer}
+use Rattle.kernel_abi.specs.declared.Given.{Given}
+use Rattle.kernel_abi.specs.Devices.{DeviceData, devices_stored, devices_loaded, device_out}
 use Rattle.words_core.specs.declared.Flags.{Flags}
 use Rattle.task_table.specs.declared.Line.{Line}
 use Rattle.mem_banks.specs.Memory.{with_bytes, bytes_at, copied as copied_memory}
@@ -151,6 +153,26 @@ clocked t = t ⨾ changed (λ s. record s { now = s.now + 1 }) ⨾ noted (note.T
 -- an interrupt line is so from now on; a line that is not there stays away
 unfoldable pub with_line : ℕ → Line → Turn → Turn
 with_line k line t = t ⨾ changed (λ s. record s { lines = slice_set s.lines k line })
+
+-- ## devices
+
+-- the devices are these from now on
+unfoldable pub with_devices : List DeviceData → Turn → Turn
+with_devices devices t = t ⨾ changed (λ s. record s { devices = devices })
+
+-- a byte is given out, where there is one
+abbrev pub given_out : Option Given → Turn → Turn
+given_out None t = t
+given_out (Some x) t = t ⨾ noted (note.Out x.device x.byte)
+
+-- a value is stored to the device behind an address, which may give a byte out
+unfoldable pub device_stored : ℕ → ℕ → Turn → Turn
+device_stored addr value t =
+    t ⨾ with_devices (devices_stored t.state.devices addr) ⨾ given_out (device_out t.state.devices addr value)
+
+-- the device behind an address was loaded from, and gives up what it gave
+unfoldable pub device_taken : ℕ → Turn → Turn
+device_taken addr t = t ⨾ with_devices (devices_loaded t.state.devices addr)
 
 -- ## a task faults
 

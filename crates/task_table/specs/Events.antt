@@ -1,13 +1,14 @@
--- What comes from outside within a turn: ticks of the clock and interrupts. (Hubris Reference: timers,
+-- What comes from outside within a turn: ticks of the clock, interrupts and bytes for devices. (Hubris Reference: timers,
 -- interrupts; that a timer is due at its deadline, and that an interrupt on a disabled line is held once, is this project's profile.)
 use Rattle.std.specs.Prelude.{ℕ, length, Option, None, Some, true, false, ◌==◌, nat_le, if◌then◌else◌, find, fold}
 use Rattle.std.specs.List.{range_with_len}
 use Rattle.kernel_abi.specs.declared.Handled.TheVariants.{Posted, Held, Unowned}
 use Rattle.kernel_abi.specs.declared.Note.TheVariants as note
 use Rattle.kernel_abi.specs.declared.Timer.{Timer}
+use Rattle.kernel_abi.specs.Devices.{devices_fed, feed_answer}
 use Rattle.task_table.specs.State.{Setup, LineSetup, Turn}
 use Rattle.task_table.specs.Reading.{task_at, line_at, line_off}
-use Rattle.task_table.specs.Effects.{◌⨾◌, noted, posted, with_timer, clocked, with_line}
+use Rattle.task_table.specs.Effects.{◌⨾◌, noted, posted, with_timer, clocked, with_line, with_devices}
 
 -- ## a tick
 
@@ -23,6 +24,13 @@ expired t i = t ⨾ expired_by i (task_at t.state i).timer
 -- the time goes on by one, then each task in order whose timer is due is posted
 unfoldable pub ticked : Turn → Turn
 ticked t = fold expired (clocked t) (range_with_len 0 (length t.state.tasks))
+
+-- ## a byte for a device
+
+-- it is put into the device's queue, where there is such a device, it is a port and has room
+unfoldable pub fed : ℕ → ℕ → Turn → Turn
+fed device byte t =
+    t ⨾ with_devices (devices_fed t.state.devices device byte) ⨾ noted (note.In device byte (feed_answer t.state.devices device))
 
 -- ## an interrupt
 

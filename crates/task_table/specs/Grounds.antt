@@ -3,10 +3,12 @@
 use Rattle.std.specs.Prelude.{ℕ, ◌+◌, ◌*◌, ◌<◌, ◌≤◌, ◌≡◌, ◌≢◌, ◌⊎◌, true, Option, None, Some, IfSome, Contains, bit_and, List, [], ◌∷◌, fold}
 use Rattle.kernel_abi.specs.declared.Note.{Note}
 use Rattle.kernel_abi.specs.declared.Note.TheVariants as note
-use Rattle.region_check.specs.declared.Right.TheVariants.{Write}
-use Rattle.region_check.specs.Rights.{may_copy}
+use Rattle.kernel_abi.specs.Devices.{DeviceData, devices_loaded, devices_stored}
+use Rattle.region_check.specs.declared.Right.{Right}
+use Rattle.region_check.specs.declared.Right.TheVariants.{Read, Write}
+use Rattle.region_check.specs.Rights.{may_copy, may_use}
 use Rattle.mem_banks.specs.Memory.{Memory, with_bytes}
-use Rattle.task_table.specs.State.{Setup, State, Call, Listen, Slice, Taken, Ground, Own, Message, Reply, Lease, Write as Written, Read, Entry, Turn}
+use Rattle.task_table.specs.State.{Setup, State, Call, Listen, Slice, Taken, Ground, Own, Message, Reply, Lease, Write as Written, Read as ReadPart, Entry, Turn}
 use Rattle.task_table.specs.Reading.{setup_at}
 use Rattle.task_table.specs.Borrows.{grant}
 
@@ -65,6 +67,20 @@ MayChange g s c u (Message k) a = IsMessageGround g s c u k a
 MayChange g s c u (Reply k) a = IsReplyGround g s c k a
 MayChange g s c u (Lease k) a = IsLeaseGround g s c u k a
 
+-- a task may use the byte so
+abbrev pub MayUse : Setup → ℕ → Right → ℕ → Type 0
+MayUse g i right a = may_use (setup_at g i).regions right a ≡ true
+
+-- devices become these where c loads from an address that it may read, or stores to one that it may write
+abbrev pub IsReached : Setup → ℕ → List DeviceData → List DeviceData → Type 0
+IsReached g c old new =
+    ((a : ℕ) × MayUse g c Read a × (new ≡ devices_loaded old a)) ⊎ ((a : ℕ) × MayUse g c Write a × (new ≡ devices_stored old a))
+
+-- the devices of a turn of c: each change is one of these
+pub data AreReached (g : Setup) (c : ℕ) : List DeviceData → List DeviceData → Type 0 where
+  Untouched : (devices : List DeviceData) → AreReached g c devices devices
+  Once : (old between new : List DeviceData) → AreReached g c old between → IsReached g c between new → AreReached g c old new
+
 -- every write stands on its ground
 abbrev pub AreGrounded : Setup → State → ℕ → Turn → Type 0
 AreGrounded g s c u = (w : Written) → Contains u.writes w → MayChange g s c u w.on w.address
@@ -99,6 +115,8 @@ touched (note.Offer call client server) = None
 touched (note.Close call ending) = None
 touched (note.Fault task fault) = None
 touched (note.Restart task generation) = None
+touched (note.In device byte fed) = None
+touched (note.Out device byte) = None
 touched (note.IrqStatus task bits status) = None
 touched (note.Find index found) = None
 touched (note.Listen task from mask) = None
@@ -110,5 +128,5 @@ touched (note.High registers n z c v) = None
 -- who writes on a call's ground, reads for it, takes it or borrows from it finds it alive
 pub record AreAlive (s : State) (c : ℕ) (u : Turn) : Type 0 where
   pub written : (w : Written) → Contains u.writes w → IfSome (call_of_ground w.on) (IsAlive s c u)
-  pub read : (r : Read) → Contains u.reads r → IsAlive s c u r.call
+  pub read : (r : ReadPart) → Contains u.reads r → IsAlive s c u r.call
   pub touches : (n : Note) → Contains u.notes n → IfSome (touched n) (IsAlive s c u)

@@ -31,3 +31,4 @@ pub mod DeadIds
 pub mod Waits
 pub mod Openable
 pub mod Window
+pub mod Setting

@@ -2,6 +2,7 @@
 use Rattle.words_core.specs.Regs.{stack_pointer, program_counter}
 use Rattle.std.specs.Prelude.{ℕ, ◌+◌, ◌*◌, ◌%◌, ◌<◌, ◌≤◌, ◌≡◌, ◌≢◌, true, false, List, length, None, Contains, slice_index, IfSome, bit_and, ◌==◌}
 use Rattle.std.specs.List.{count_by}
+use Rattle.kernel_abi.specs.Devices.{AreSaneDevices}
 use Rattle.kernel_abi.specs.declared.Health.{Health}
 use Rattle.kernel_abi.specs.declared.Health.TheVariants.{Well, Stopped, Faulted}
 use Rattle.region_check.specs.declared.Right.TheVariants.{Read, Write}
@@ -97,6 +98,7 @@ pub record IsSteady (g : Setup) (s : State) : Type 0 where
   pub flash_bytes : AreAllBytes s.memory.flash
   pub bytes : AreAllBytes s.memory.ram
   pub placed : ArePlaced g s.memory
+  pub devices : AreSaneDevices s.devices
 
 -- sane, but for what M, F, T and W leave out
 pub record IsSaneBut (M F T : ℕ → Type 0) (W : ℕ → ℕ → Type 0) (g : Setup) (s : State) : Type 0 where

@@ -9,7 +9,7 @@ use Rattle.task_table.specs.Effects.{at_birth}
 abbrev pub born : TaskSetup → Task
 born x = at_birth x 0 (if x.start then Well else Stopped)
 
--- turn 0: the image's flash, RAM of zeros, nothing waits, lines are disabled with nothing pending
+-- turn 0: the image's flash, RAM of zeros, nothing waits, lines are disabled with nothing pending, no device
 unfoldable pub start : Setup → State
 start g =
     record {
@@ -22,6 +22,7 @@ start g =
       lines = replicate g.line_count no_line;
       current = 0;
       next_call = 1;
+      devices = [];
     }
 
 -- a turn that has come to nothing yet

@@ -5,6 +5,7 @@ use Rattle.kernel_abi.specs.declared.Health.{Health}
 use Rattle.words_core.specs.declared.Flags.{Flags}
 use Rattle.kernel_abi.specs.declared.Timer.{Timer}
 use Rattle.kernel_abi.specs.declared.Note.{Note}
+use Rattle.kernel_abi.specs.Devices.{DeviceData}
 use Rattle.region_check.specs.declared.Region.{Region}
 use Rattle.mem_banks.specs.Memory.{Memory}
 use Rattle.task_table.specs.declared.Line.{Line}
@@ -79,6 +80,7 @@ pub record State : Type 0 where
   pub lines : List Line
   pub current : ℕ
   pub next_call : ℕ
+  pub devices : List DeviceData
 
 -- on whose ground a byte is written
 pub data Ground : Type 0 where

@@ -1,12 +1,13 @@
 -- What may happen in a turn, each with what makes it good: whatever is kept by each step is kept by every call and
 -- every instruction, since each is a chain of steps.
 -- (s: the state after the events of the turn; c: the chosen task; u: what the turn has come to)
-use Rattle.std.specs.Prelude.{ℕ, ◌≡◌, ◌≢◌, ◌+◌, ◌<◌, ◌≤◌, ◌⊎◌, Bool, true, false, List, length, Option, None, Contains, IfSome, bit_and}
+use Rattle.std.specs.Prelude.{ℕ, ◌≡◌, ◌≢◌, ◌+◌, ◌<◌, ◌≤◌, ◌⊎◌, Bool, true, false, List, length, Option, None, Contains, IfSome, bit_and, nat_lt}
 use Rattle.kernel_abi.specs.Faults.{injected_fault}
 use Rattle.kernel_abi.specs.declared.Borrow.{Borrow}
 use Rattle.kernel_abi.specs.declared.Borrow.TheVariants as borrow
 use Rattle.kernel_abi.specs.declared.Ending.{Ending}
 use Rattle.kernel_abi.specs.declared.Ending.TheVariants.{Reply, ReplyFault, Client, Restart}
+use Rattle.kernel_abi.specs.Devices.{DeviceData, device_limit}
 use Rattle.kernel_abi.specs.declared.Fault.{Fault}
 use Rattle.kernel_abi.specs.declared.Health.TheVariants.{Well}
 use Rattle.kernel_abi.specs.declared.Note.{Note}
@@ -18,15 +19,15 @@ use Rattle.task_table.specs.declared.Line.{Line}
 use Rattle.mem_banks.specs.Memory.{IsWithinRam, AreAllBytes}
 use Rattle.task_table.specs.State.{Setup, State, Birth, Call, Phase, Listen, Slice, Part, MessageFront, Entry, Leased, Read, One, Offered, Taken, Ground, Own, Turn}
 use Rattle.task_table.specs.Reading.{task_at, call_of, listen_of, bad_byte, admits, IsIdle}
-use Rattle.task_table.specs.Effects.{◌⨾◌, with_listen, changed, noted, with_processor, stored, copied, looked, given, returned, past_syscall, bits_cleared, posted, with_timer, with_line, closed, faulted_as, faulted, handed, restarted}
+use Rattle.task_table.specs.Effects.{◌⨾◌, with_listen, changed, noted, with_processor, stored, copied, looked, given, returned, past_syscall, bits_cleared, posted, with_timer, with_line, closed, faulted_as, faulted, handed, restarted, with_devices}
 use Rattle.task_table.specs.Rows.{listened_from, goes_on_with}
 use Rattle.task_table.specs.Sends.{offers_call}
 use Rattle.task_table.specs.Sane.{IsFitCall, IsFitListen, IsOwned}
 use Rattle.task_table.specs.Counts.{AreWhole}
-use Rattle.task_table.specs.Grounds.{MayChange, IsAlive}
+use Rattle.task_table.specs.Grounds.{IsReached, MayChange, IsAlive}
 use Rattle.task_table.specs.Chain.{Chain}
 
--- a note that offers, takes, closes and borrows from no call
+-- a note that offers, takes, closes and borrows from no call; a byte comes from one of the devices that there may be
 abbrev pub is_plain : Note → Bool
 is_plain (note.Offer call client server) = false
 is_plain (note.Take call copied) = false
@@ -39,6 +40,8 @@ is_plain (note.Syscall task number arguments) = true
 is_plain (note.Ret task results) = true
 is_plain (note.Fault task fault) = true
 is_plain (note.Restart task generation) = true
+is_plain (note.In device byte fed) = true
+is_plain (note.Out device byte) = nat_lt device device_limit
 is_plain (note.IrqStatus task bits status) = true
 is_plain (note.Find index found) = true
 is_plain (note.Listen task from mask) = true
@@ -129,6 +132,7 @@ pub data Step (g : Setup) (s : State) (c : ℕ) : Turn → Turn → Type 0 where
   Receives : (k : Call) (buffer : Slice) (u : Turn) → MayReceive g s c u k buffer → Step g s c u (handed Own k buffer u)
   Stores : (on : Ground) (at : ℕ) (bytes : List ℕ) (u : Turn) → AreAllBytes bytes → IsWithinRam u.state.memory at (length bytes) → IsWithinRam s.memory at (length bytes) → MayChangeAll g s c u on at (length bytes) → Step g s c u (stored on at bytes u)
   Copies : (on : Ground) (from at n i : ℕ) (r : Slice) (u : Turn) → IsTarget g i r at n → MayChangeAll g s c u on at n → Step g s c u (copied on from at n u)
+  Reaches : (devices : List DeviceData) (u : Turn) → IsReached g c u.state.devices devices → Step g s c u (with_devices devices u)
   Looks : (r : Read) (u : Turn) → IsAlive s c u r.call → Step g s c u (looked r u)
   Borrows : (k : ℕ) (way : Borrow) (lease offset moved : ℕ) (u : Turn) → IsAlive s c u k → IsOpenAs u.state k Taken → IsMoved way offset moved → Step g s c u (noted (note.Borrow k way lease offset moved) u)
   Ceases : (i : ℕ) (ending : Ending) (u : Turn) → Ends ending (call_of u.state i) → Step g s c u (closed i ending u)
@@ -154,6 +158,7 @@ Spares (Sends k u a) = Unit {0}
 Spares (Receives k buffer u a) = Unit {0}
 Spares (Stores on at bytes u a b d e) = Unit {0}
 Spares (Copies on from at n i r u a b) = Unit {0}
+Spares (Reaches devices u a) = Unit {0}
 Spares (Looks r u a) = Unit {0}
 Spares (Borrows k way lease offset moved u a b d) = Unit {0}
 Spares (Ceases i ending u a) = Unit {0}

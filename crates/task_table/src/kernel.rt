@@ -14,6 +14,7 @@ ghost use Rattle.task_table.specs.Openable.{AreOpenable};
 
 mod entries;
 mod sets;
+mod setting;
 mod slots;
 mod timers;
 mod window;

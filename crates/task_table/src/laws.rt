@@ -18,13 +18,13 @@ ghost use Rattle.task_table.specs.Sends.{sent, replied, reply_faulted, post_made
 ghost use Rattle.task_table.specs.Borrows.{reading, writing, borrowed, informed};
 ghost use Rattle.task_table.specs.Orders.{ordered};
 ghost use Rattle.task_table.specs.Syscalls.{syscall_made};
-ghost use Rattle.task_table.specs.Events.{ticked, interrupted};
+ghost use Rattle.task_table.specs.Events.{ticked, interrupted, fed};
 ghost use Rattle.task_table.specs.Placed.{ArePlaced};
 ghost use Rattle.task_table.specs.Sane.{Sane, IsCounted};
 ghost use Rattle.task_table.specs.Counts.{AreWhole, IsSameTime, AreCounts, IsNoted, AreNoted, IsAsReady};
 ghost use Rattle.task_table.specs.Chain.{Chain};
 ghost use Rattle.task_table.specs.Step.{Step, Outcome};
-ghost use Rattle.task_table.specs.Grounds.{AreGrounded, AreAlive, with_writes};
+ghost use Rattle.task_table.specs.Grounds.{AreGrounded, AreAlive, AreReached, with_writes};
 ghost use Rattle.task_table.specs.Ledger.{IsLedger};
 ghost use Rattle.task_table.specs.Lives.{IsAsNoted, IsFresh, IsClosed, IsSilent};
 ghost use Rattle.task_table.specs.Parts.{IsSound};
@@ -77,6 +77,17 @@ pub fn syscalls_are_chains_of_steps()
     ensures { (g : Setup) (c : ℕ) (t : Turn) → Sane g t.state → c < length t.state.tasks → is_ready t.state c ≡ true → Chain (Step g t.state c) t (syscall_made g c t) }
 {}
 
+/// No system call changes a device.
+pub fn syscalls_leave_devices_alone()
+    ensures { (g : Setup) (c : ℕ) (t : Turn) → Sane g t.state → c < length t.state.tasks → is_ready t.state c ≡ true → (syscall_made g c t).state.devices ≡ t.state.devices }
+{}
+
+/// A chain of steps changes devices only by loads from addresses that the chosen task may read, and stores to those that
+/// it may write.
+pub fn chains_reach_devices_where_they_may()
+    ensures { (g : Setup) (s : State) (c : ℕ) (u v : Turn) → ArePlaced g s.memory → Chain (Step g s c) u v → AreReached g c u.state.devices v.state.devices }
+{}
+
 /// A chain of steps leaves a sane state sane, changes no turn and no time, and makes at most one call. It
 /// takes back no note; where none was noted, each task is as ready as before. A step notes at most four, and a
 /// restart two for each task besides.
@@ -112,10 +123,11 @@ pub fn posts_and_faults_are_noted()
     ensures faulted { (g : Setup) (i : ℕ) (fault : Fault) (t : Turn) → IsNoted (faulted g i fault t) }
 {}
 
-/// A tick and an interrupt leave a sane state sane.
+/// A tick, an interrupt and a byte for a device leave a sane state sane.
 pub fn events_keep_sane()
     ensures ticked { (g : Setup) (t : Turn) → Sane g t.state → Sane g (ticked t).state }
     ensures interrupted { (g : Setup) (k : ℕ) (t : Turn) → Sane g t.state → Sane g (interrupted g k t).state }
+    ensures fed { (g : Setup) (device byte : ℕ) (t : Turn) → byte < 256 → Sane g t.state → Sane g (fed device byte t).state }
 {}
 
 /// The start of a run of a sound image is sane, and its counts are in order.

@@ -1,5 +1,5 @@
 -- An instruction keeps PC even and SP aligned, stores what it may, and raises its own faults.
-use Rattle.std.proofs.Common.{◌≡◌, ◌≢◌, ◌+◌, ◌-◌, ◌*◌, ◌/◌, ◌%◌, ◌^◌, ◌<◌, inl, inr, ℕ, zero, suc, Bool, true, false, cond, List, [], ◌∷◌, length, Option, Some, None, refl, sym, arith, get_or, length-set, get_or-set_same, get_or-set_other, ◌∙◌}
+use Rattle.std.proofs.Common.{◌≡◌, ◌≢◌, ◌+◌, ◌-◌, ◌*◌, ◌/◌, ◌%◌, ◌^◌, ◌<◌, ◌≤◌, ap, inl, inr, ℕ, zero, suc, Bool, true, false, cond, List, [], ◌∷◌, length, Option, Some, None, refl, sym, arith, get_or, length-set, get_or-set_same, get_or-set_other, ◌∙◌}
 use Rattle.std.specs.Prelude.{Contains, nat_eq}
 use Rattle.std.proofs.lemmas.Bool.{eq-eqb, eqb-true, false≢true}
 use Rattle.kernel_abi.specs.declared.Access.{Access}
@@ -23,12 +23,12 @@ use Rattle.thumb_insn.proofs.InRange.{coded_in_range}
 use Rattle.thumb_exec.specs.declared.cpu.Cpu.{Cpu}
 use Rattle.thumb_exec.specs.Sizes.{IsSize}
 use Rattle.thumb_exec.specs.Keeps.{IsWholeCpu, IsPermitted, Keeps}
-use Rattle.thumb_exec.specs.Effect.{Effect, Next, Trap, Store, Refusals, Contents, put, with_flags, go_past, result, tested, data_effect, load_effect, store_effect, size_of, load_size, widened, unless_unaligned, unless_refused, get, jump, branch_to, place, linked, link_to, pc, sum, operand, target, holds_if, word_of, words, transfers, first_refused, stores_of, loaded_all, store_all, load_all, with_regs, lowered, count, with_bit, ldm_next, pop_next, effect}
+use Rattle.thumb_exec.specs.Effect.{Effect, Next, Trap, Store, Move, Puts, Takes, Refusals, Contents, put, with_flags, go_past, result, tested, data_effect, load_effect, store_effect, size_of, load_size, widened, unless_unaligned, unless_refused, get, jump, branch_after, place, linked, link_to, pc, sum, operand, target, holds_if, word_of, words, transfers, first_refused, stores_of, loads_of, loaded_all, store_all, load_all, with_regs, lowered, count, with_bit, ldm_next, pop_next, effect}
 use Rattle.thumb_exec.proofs.Transfers.{allowed_here, allowed_later}
 use Rattle.thumb_exec.proofs.Fields.{IsPlain, IsExtra, coded_extra}
 
 -- the words of a transfer lie at multiples of 4
-words_aligned : (mask k n addr : ℕ) (w : ℕ × ℕ) → addr % 4 ≡ 0 → Contains (words mask k n addr) w → w.1 % 4 ≡ 0
+pub words_aligned : (mask k n addr : ℕ) (w : ℕ × ℕ) → addr % 4 ≡ 0 → Contains (words mask k n addr) w → w.1 % 4 ≡ 0
 unfolding words
 words_aligned mask k zero addr w al h = absurd (omega (arith, h.1))
 words_aligned mask k (suc n) addr w al h = go (nat_eq (mask / 2 ^ k % 2) 1) h (words_aligned mask (k + 1) n addr w al) (words_aligned mask (k + 1) n ((addr + 4) % 2 ^ 32) w (omega arith))
@@ -38,15 +38,44 @@ words_aligned mask k (suc n) addr w al h = go (nat_eq (mask / 2 ^ k % 2) 1) h (w
     go true (zero, lt, same) p q = let z : ◌≡◌ {A = ℕ × ℕ} (k, addr) w = same in rw (← z) al
     go true (suc i, lt, same) p q = q (i, omega arith, same)
 
--- each store of several words is of a whole word that may be written
-stores_permitted : (refuses : Refusals) (rs : Regs) (ws : List (ℕ × ℕ)) → first_refused refuses right.Write ws ≡ None → ((w : ℕ × ℕ) → Contains ws w → w.1 % 4 ≡ 0) → (x : Store) → Contains (stores_of rs ws) x → IsPermitted refuses x
+-- each store of several words is of a whole word that may be written, each load of one that may be read
+pub stores_permitted : (refuses : Refusals) (rs : Regs) (ws : List (ℕ × ℕ)) → first_refused refuses right.Write ws ≡ None → ((w : ℕ × ℕ) → Contains ws w → w.1 % 4 ≡ 0) → (x : Move) → Contains (stores_of rs ws) x → IsPermitted refuses x
 unfolding stores_of
 stores_permitted refuses rs [] e al x h = absurd (omega (arith, h.1))
 stores_permitted refuses rs (w ∷ ws) e al x (zero, lt, same) =
-    let z : ◌≡◌ {A = Store} (record { addr = w.1; bytes = 4; value = reg_at rs w.0 }) x = same in
+    let z : ◌≡◌ {A = Move} (Puts record { addr = w.1; bytes = 4; value = reg_at rs w.0 }) x = same in
     let free : refuses w.1 4 right.Write ≡ None = allowed_here refuses right.Write w.0 w.1 ws e in
     rw (← z) record { size = inr (inr refl); aligned = al w (zero, omega arith, refl); allowed = free }
 stores_permitted refuses rs (w ∷ ws) e al x (suc k, lt, same) = stores_permitted refuses rs ws (allowed_later refuses right.Write w.0 w.1 ws e) (λ y here. al y (suc here.0, omega (arith, here.1), here.2)) x (k, omega arith, same)
+
+pub loads_permitted : (refuses : Refusals) (ws : List (ℕ × ℕ)) → first_refused refuses right.Read ws ≡ None → ((w : ℕ × ℕ) → Contains ws w → w.1 % 4 ≡ 0) → (x : Move) → Contains (loads_of ws) x → IsPermitted refuses x
+unfolding loads_of
+loads_permitted refuses [] e al x h = absurd (omega (arith, h.1))
+loads_permitted refuses (w ∷ ws) e al x (zero, lt, same) =
+    let z : ◌≡◌ {A = Move} (Takes w.1 4) x = same in
+    let free : refuses w.1 4 right.Read ≡ None = allowed_here refuses right.Read w.0 w.1 ws e in
+    rw (← z) record { size = inr (inr refl); aligned = al w (zero, omega arith, refl); allowed = free }
+loads_permitted refuses (w ∷ ws) e al x (suc k, lt, same) = loads_permitted refuses ws (allowed_later refuses right.Read w.0 w.1 ws e) (λ y here. al y (suc here.0, omega (arith, here.1), here.2)) x (k, omega arith, same)
+
+-- there are as many as words, and these are sixteen at most
+stores_length : (rs : Regs) (ws : List (ℕ × ℕ)) → length (stores_of rs ws) ≡ length ws
+unfolding stores_of
+stores_length rs [] = refl
+stores_length rs (w ∷ ws) = ap suc (stores_length rs ws)
+
+loads_length : (ws : List (ℕ × ℕ)) → length (loads_of ws) ≡ length ws
+unfolding loads_of
+loads_length [] = refl
+loads_length (w ∷ ws) = ap suc (loads_length ws)
+
+words_few : (mask k n addr : ℕ) → length (words mask k n addr) ≤ n
+unfolding words
+words_few mask k zero addr = omega arith
+words_few mask k (suc n) addr = go (nat_eq (mask / 2 ^ k % 2) 1) (words_few mask (k + 1) n addr) (words_few mask (k + 1) n ((addr + 4) % 2 ^ 32))
+  where
+    go : (b : Bool) → length (words mask (k + 1) n addr) ≤ n → length (words mask (k + 1) n ((addr + 4) % 2 ^ 32)) ≤ n → length (cond b ((k, addr) ∷ words mask (k + 1) n ((addr + 4) % 2 ^ 32)) (words mask (k + 1) n addr)) ≤ suc n
+    go false p q = omega (arith, p)
+    go true p q = omega (arith, q)
 
 low_plain : (i : ℕ) → i < 8 → IsPlain i
 low_plain i h = (λ e. absurd (omega arith), λ e. absurd (omega arith))
@@ -88,9 +117,28 @@ whole_past n c e h = whole_to c ((pc c + n) % 2 ^ 32) (even_sum (pc c) n h.even 
     even_sum : (a b : ℕ) → a % 2 ≡ 0 → b % 2 ≡ 0 → (a + b) % 2 ^ 32 % 2 ≡ 0
     even_sum a b x y = omega arith
 
+-- moves that are permitted, and few
+abbrev AreGood : Refusals → List Move → Type 0
+AreGood refuses ms = ((x : Move) → Contains ms x → IsPermitted refuses x) × (length ms ≤ 16)
+
 module _ (refuses : Refusals) where
   keeps_next : (c : Cpu) → IsWholeCpu c → Keeps refuses (Next c [])
-  keeps_next c h = (h, λ x here. absurd (omega (arith, here.1)))
+  keeps_next c h = (h, λ x here. absurd (omega (arith, here.1)), omega arith)
+
+  -- one move
+  keeps_one : (c : Cpu) (y : Move) → IsPermitted refuses y → IsWholeCpu c → Keeps refuses (Next c (y ∷ []))
+  keeps_one c y p h = (h, one, omega arith)
+    where
+      one : (x : Move) → Contains (y ∷ []) x → IsPermitted refuses x
+      one x (zero, lt, same) = let e : ◌≡◌ {A = Move} y x = same in rw (← e) p
+      one x (suc k, lt, same) = absurd (omega arith)
+
+  load_sizes : (k : Load) → IsSize (load_size k)
+  load_sizes (load.Whole size.Word) = inr (inr refl)
+  load_sizes (load.Whole size.Half) = inr (inl refl)
+  load_sizes (load.Whole size.Byte) = inl refl
+  load_sizes load.SignedHalf = inr (inl refl)
+  load_sizes load.SignedByte = inl refl
 
   keeps_result : (c : Cpu) (d : Reg) (v : ℕ) (f : Flags) → IsPlain d.number → IsWholeCpu c → Keeps refuses (result c d v f)
   keeps_result c d v f p h = keeps_next _ (whole_past 2 _ refl (whole_flags (put c d.number v) f (whole_put c d.number v p h)))
@@ -112,29 +160,28 @@ module _ (refuses : Refusals) where
   keeps_load : (holds : Contents) (c : Cpu) (kind : Load) (t : Reg) (addr : ℕ) → IsPlain t.number → IsWholeCpu c → Keeps refuses (load_effect refuses holds c kind t addr)
   keeps_load holds c kind t addr p h =
       let v = widened kind (holds addr (load_size kind)) in
-      let next = Next (go_past 2 (put c t.number v)) [] in
-      keeps_aligned addr (load_size kind) false (unless_refused (refuses addr (load_size kind) right.Read) access.Load next) (λ _. keeps_checked (refuses addr (load_size kind) right.Read) access.Load next (λ _. keeps_next _ (whole_past 2 _ refl (whole_put c t.number v p h))))
+      let next = Next (go_past 2 (put c t.number v)) (Takes addr (load_size kind) ∷ []) in
+      keeps_aligned addr (load_size kind) false (unless_refused (refuses addr (load_size kind) right.Read) access.Load next) (λ al. keeps_checked (refuses addr (load_size kind) right.Read) access.Load next (λ free. keeps_one _ (Takes addr (load_size kind)) record { size = load_sizes kind; aligned = al; allowed = free } (whole_past 2 _ refl (whole_put c t.number v p h))))
 
   keeps_store : (c : Cpu) (s : Size) (t : Reg) (addr : ℕ) → IsWholeCpu c → Keeps refuses (store_effect refuses c s t addr)
   keeps_store c s t addr h =
       let it : Store = record { addr = addr; bytes = size_of s; value = get c t % 2 ^ (8 * size_of s) } in
-      let next = Next (go_past 2 c) (it ∷ []) in
-      keeps_aligned addr (size_of s) true (unless_refused (refuses addr (size_of s) right.Write) access.Store next) (λ al. keeps_checked (refuses addr (size_of s) right.Write) access.Store next (λ free. (whole_past 2 c refl h, one it record { size = sizes s; aligned = al; allowed = free })))
+      let next = Next (go_past 2 c) (Puts it ∷ []) in
+      keeps_aligned addr (size_of s) true (unless_refused (refuses addr (size_of s) right.Write) access.Store next) (λ al. keeps_checked (refuses addr (size_of s) right.Write) access.Store next (λ free. keeps_one _ (Puts it) record { size = sizes s; aligned = al; allowed = free } (whole_past 2 c refl h)))
     where
       sizes : (s : Size) → IsSize (size_of s)
       sizes size.Word = inr (inr refl)
       sizes size.Half = inr (inl refl)
       sizes size.Byte = inl refl
 
-      one : (y : Store) → IsPermitted refuses y → (x : Store) → Contains (y ∷ []) x → IsPermitted refuses x
-      one y p x (zero, lt, same) = let e : ◌≡◌ {A = Store} y x = same in rw (← e) p
-      one y p x (suc k, lt, same) = absurd (omega arith)
+  good_none : AreGood refuses []
+  good_none = (λ x here. absurd (omega (arith, here.1)), omega arith)
 
-  keeps_branch : (c : Cpu) (v : ℕ) → IsWholeCpu c → Keeps refuses (branch_to c v)
-  keeps_branch c v h = go (nat_eq (v % 2) 1) refl
+  keeps_branch : (c : Cpu) (v : ℕ) (ms : List Move) → AreGood refuses ms → IsWholeCpu c → Keeps refuses (branch_after c v ms)
+  keeps_branch c v ms good h = go (nat_eq (v % 2) 1) refl
     where
-      go : (b : Bool) → nat_eq (v % 2) 1 ≡ b → Keeps refuses (cond b (jump c (v - 1)) (Trap (state_fault v)))
-      go true e = let odd = eqb-true _ _ e in keeps_next _ (whole_to c (v - 1) (omega arith) h)
+      go : (b : Bool) → nat_eq (v % 2) 1 ≡ b → Keeps refuses (cond b (Next (put c 15 (v - 1)) ms) (Trap (state_fault v)))
+      go true e = let odd = eqb-true _ _ e in (whole_to c (v - 1) (omega arith) h, good.0, good.1)
       go false e = (omega arith, omega arith)
 
   keeps_place : (c : Cpu) (d : Reg) (v : ℕ) → IsWholeCpu c → Keeps refuses (place c d v)
@@ -169,10 +216,11 @@ module _ (refuses : Refusals) where
   unfolding transfers
   keeps_store_all c mask addr d h =
       let next = Next d (stores_of c.regs (transfers mask addr)) in
-      keeps_aligned addr 4 true (unless_refused (first_refused refuses right.Write (transfers mask addr)) access.Store next) (λ al. keeps_checked (first_refused refuses right.Write (transfers mask addr)) access.Store next (λ free. (h, stores_permitted refuses c.regs (transfers mask addr) free (λ w here. words_aligned mask 0 16 addr w al here))))
+      keeps_aligned addr 4 true (unless_refused (first_refused refuses right.Write (transfers mask addr)) access.Store next) (λ al. keeps_checked (first_refused refuses right.Write (transfers mask addr)) access.Store next (λ free. (h, stores_permitted refuses c.regs (transfers mask addr) free (λ w here. words_aligned mask 0 16 addr w al here), rw (stores_length c.regs (transfers mask addr)) (words_few mask 0 16 addr))))
 
-  keeps_load_all : (holds : Contents) (c : Cpu) (mask addr : ℕ) (next : Regs → Effect) → Keeps refuses (next (loaded_all holds c.regs (transfers mask addr))) → Keeps refuses (load_all refuses holds c mask addr next)
-  keeps_load_all holds c mask addr next k = keeps_aligned addr 4 false (unless_refused (first_refused refuses right.Read (transfers mask addr)) access.Load (next (loaded_all holds c.regs (transfers mask addr)))) (λ _. keeps_checked (first_refused refuses right.Read (transfers mask addr)) access.Load (next (loaded_all holds c.regs (transfers mask addr))) (λ _. k))
+  keeps_load_all : (holds : Contents) (c : Cpu) (mask addr : ℕ) (next : Regs → Effect) → (AreGood refuses (loads_of (transfers mask addr)) → Keeps refuses (next (loaded_all holds c.regs (transfers mask addr)))) → Keeps refuses (load_all refuses holds c mask addr next)
+  unfolding transfers
+  keeps_load_all holds c mask addr next k = keeps_aligned addr 4 false (unless_refused (first_refused refuses right.Read (transfers mask addr)) access.Load (next (loaded_all holds c.regs (transfers mask addr)))) (λ al. keeps_checked (first_refused refuses right.Read (transfers mask addr)) access.Load (next (loaded_all holds c.regs (transfers mask addr))) (λ free. k (loads_permitted refuses (transfers mask addr) free (λ w here. words_aligned mask 0 16 addr w al here), rw (loads_length (transfers mask addr)) (words_few mask 0 16 addr))))
 
 -- ## the rows
 
@@ -262,18 +310,19 @@ loaded_whole holds c mask addr sp pc' h = record {
 }
 
 -- a branch needs no even PC before
-branch_whole : (refuses : Refusals) (c : Cpu) (v : ℕ) → length c.regs.words ≡ 16 → get_or c.regs.words 13 0 % 4 ≡ 0 → Keeps refuses (branch_to c v)
-branch_whole refuses c v sixteen al = go (nat_eq (v % 2) 1) refl
+branch_whole : (refuses : Refusals) (c : Cpu) (v : ℕ) (ms : List Move) → AreGood refuses ms → length c.regs.words ≡ 16 → get_or c.regs.words 13 0 % 4 ≡ 0 → Keeps refuses (branch_after c v ms)
+branch_whole refuses c v ms good sixteen al = go (nat_eq (v % 2) 1) refl
   where
-    go : (b : Bool) → nat_eq (v % 2) 1 ≡ b → Keeps refuses (cond b (jump c (v - 1)) (Trap (state_fault v)))
+    go : (b : Bool) → nat_eq (v % 2) 1 ≡ b → Keeps refuses (cond b (Next (put c 15 (v - 1)) ms) (Trap (state_fault v)))
     go true e =
         let odd = eqb-true _ _ e in
         let here : 15 < length c.regs.words = omega arith in
-        keeps_next refuses _ record {
+        let whole : IsWholeCpu (put c 15 (v - 1)) = record {
           sixteen = rw length-set sixteen;
           even = rw (get_or-set_same c.regs.words 15 (v - 1) 0 here) (omega arith);
           aligned = rw (get_or-set_other c.regs.words 15 13 (v - 1) 0 (omega arith)) al;
-        }
+        } in
+        (whole, good.0, good.1)
     go false e = (omega arith, omega arith)
 
 sp_sum : (a n : ℕ) → a % 4 ≡ 0 → n % 4 ≡ 0 → (a + n) % 2 ^ 32 % 4 ≡ 0
@@ -301,7 +350,7 @@ module _ (refuses : Refusals) (holds : Contents) (c : Cpu) (h : IsWholeCpu c) wh
   keeps_effect (AddHigh d m) e = keeps_place refuses c d (sum (operand c d) (operand c m)) h
   keeps_effect (CmpHigh n m) e = keeps_tested refuses c _ h
   keeps_effect (MovHigh d m) e = keeps_place refuses c d (operand c m) h
-  keeps_effect (Bx m) e = keeps_branch refuses c (get c m) h
+  keeps_effect (Bx m) e = keeps_branch refuses c (get c m) [] (good_none refuses) h
   keeps_effect (Blx m) e = keeps_link (get c m)
     where
       keeps_link : (v : ℕ) → Keeps refuses (link_to c v)
@@ -343,16 +392,16 @@ module _ (refuses : Refusals) (holds : Contents) (c : Cpu) (h : IsWholeCpu c) wh
       let clear = clear_low list e.1 in
       let rs = loaded_all holds c.regs (transfers list (get c n)) in
       let w = loaded_whole holds c list (get c n) clear.0 clear.1 h in
-      keeps_load_all refuses holds c list (get c n) (ldm_next c n list) (go (nat_eq (list / 2 ^ n.number % 2) 1) w)
+      keeps_load_all refuses holds c list (get c n) (ldm_next c n list) (λ good. go (nat_eq (list / 2 ^ n.number % 2) 1) w good)
     where
-      go : (b : Bool) → IsWholeCpu (with_regs c (loaded_all holds c.regs (transfers list (get c n)))) → Keeps refuses (Next (go_past 2 (cond b (with_regs c (loaded_all holds c.regs (transfers list (get c n)))) (put (with_regs c (loaded_all holds c.regs (transfers list (get c n)))) n.number (sum (get c n) (4 * count list))))) [])
-      go true w = keeps_next refuses _ (whole_past 2 _ refl w)
-      go false w = keeps_next refuses _ (whole_past 2 _ refl (whole_put _ n.number _ e.0 w))
+      go : (b : Bool) → IsWholeCpu (with_regs c (loaded_all holds c.regs (transfers list (get c n)))) → AreGood refuses (loads_of (transfers list (get c n))) → Keeps refuses (Next (go_past 2 (cond b (with_regs c (loaded_all holds c.regs (transfers list (get c n)))) (put (with_regs c (loaded_all holds c.regs (transfers list (get c n)))) n.number (sum (get c n) (4 * count list))))) (loads_of (transfers list (get c n))))
+      go true w good = (whole_past 2 _ refl w, good.0, good.1)
+      go false w good = (whole_past 2 _ refl (whole_put _ n.number _ e.0 w), good.0, good.1)
   keeps_effect (Pop list false) e =
       let clear = clear_low list e in
       let rs = loaded_all holds c.regs (transfers list (reg_at c.regs 13)) in
       let w = loaded_whole holds c list (reg_at c.regs 13) clear.0 clear.1 h in
-      keeps_load_all refuses holds c list (reg_at c.regs 13) (pop_next c list false) (keeps_next refuses _ (whole_past 2 _ refl (whole_sp (with_regs c rs) (sum (reg_at c.regs 13) (4 * count list)) (sp_sum (reg_at c.regs 13) (4 * count list) h.aligned (omega arith)) w)))
+      keeps_load_all refuses holds c list (reg_at c.regs 13) (pop_next c list false) (λ good. (whole_past 2 _ refl (whole_sp (with_regs c rs) (sum (reg_at c.regs 13) (4 * count list)) (sp_sum (reg_at c.regs 13) (4 * count list) h.aligned (omega arith)) w), good.0, good.1))
   keeps_effect (Pop list true) e =
       let mask = list + 2 ^ 15 in
       let rs = loaded_all holds c.regs (transfers mask (reg_at c.regs 13)) in
@@ -360,7 +409,7 @@ module _ (refuses : Refusals) (holds : Contents) (c : Cpu) (h : IsWholeCpu c) wh
       let there : 13 < length rs.words = omega arith in
       let v = sum (reg_at c.regs 13) (4 * count mask) in
       keeps_load_all refuses holds c mask (reg_at c.regs 13) (pop_next c mask true)
-      (branch_whole refuses (put (with_regs c rs) 13 v) (reg_at rs 15) (length-set rs.words 13 v ∙ n) (rw (get_or-set_same rs.words 13 v 0 there) (sp_sum (reg_at c.regs 13) (4 * count mask) h.aligned (omega arith))))
+      (λ good. branch_whole refuses (put (with_regs c rs) 13 v) (reg_at rs 15) _ good (length-set rs.words 13 v ∙ n) (rw (get_or-set_same rs.words 13 v 0 there) (sp_sum (reg_at c.regs 13) (4 * count mask) h.aligned (omega arith))))
 
 -- what the table and its ranges say together
 from_range : (i : Insn) → InRange i → IsExtra i → IsEven i

@@ -5,3 +5,4 @@ pub mod Widening
 pub mod Fields
 pub mod Keeping
 pub mod Acting
+pub mod Permitting

@@ -14,7 +14,7 @@ use Rattle.thumb_insn.specs.declared.Size.{Size}
 use Rattle.thumb_insn.specs.declared.Size.TheVariants as size
 use Rattle.thumb_insn.specs.declared.Insn.{Insn}
 use Rattle.thumb_insn.specs.declared.Insn.TheVariants.{LdrLiteral, LoadReg, LoadImm, LoadSp, StoreReg, StoreImm, StoreSp, Push, Pop, Stm, Ldm}
-use Rattle.thumb_exec.specs.Effect.{Effect, Next, Trap, Store, effect, Refusals, Contents, load_effect, load_size, store_effect, size_of, unless_refused, unless_unaligned, first_refused, load_all, store_all, transfers, pop_next, ldm_next, with_bit}
+use Rattle.thumb_exec.specs.Effect.{Effect, Next, Trap, Move, effect, Refusals, Contents, load_effect, load_size, store_effect, size_of, unless_refused, unless_unaligned, first_refused, load_all, store_all, transfers, pop_next, ldm_next, with_bit}
 use Rattle.thumb_exec.specs.Keeps.{Widens}
 use Rattle.thumb_exec.proofs.Agreeing.{effect_same}
 use Rattle.thumb_exec.proofs.Transfers.{allowed_here, allowed_later, refused_later, refused_none}
@@ -25,7 +25,7 @@ Grants R R' = (a n : ℕ) (r : Right) → R a n r ≡ None → R' a n r ≡ None
 
 -- a goes on as d and ss say only where b does so too
 abbrev Follows : Effect → Effect → Type 0
-Follows a b = (d : Cpu) (ss : List Store) → a ≡ Next d ss → b ≡ Next d ss
+Follows a b = (d : Cpu) (ss : List Move) → a ≡ Next d ss → b ≡ Next d ss
 
 granted_later : (o o' : Option ℕ) (y : Access) (e : Effect) → (o ≡ None → o' ≡ None) → Follows (unless_refused o y e) (unless_refused o' y e)
 granted_later None o' y e h d ss s = rw (h refl) s
@@ -70,5 +70,5 @@ effect_later R R' H g c (Pop list p) = load_all_later R R' H g c _ _ (pop_next c
 effect_later R R' H g c (Ldm n list) = load_all_later R R' H g c _ _ (ldm_next c n list)
 effect_later R R' H g c i = λ d ss s. s
 
-pub effect_wider : (R R' : Refusals) (H H' : Contents) → Widens R R' H H' → (c : Cpu) (i : Insn) (d : Cpu) (ss : List Store) → effect R H c i ≡ Next d ss → effect R' H' c i ≡ Next d ss
+pub effect_wider : (R R' : Refusals) (H H' : Contents) → Widens R R' H H' → (c : Cpu) (i : Insn) (d : Cpu) (ss : List Move) → effect R H c i ≡ Next d ss → effect R' H' c i ≡ Next d ss
 effect_wider R R' H H' w c i d ss s = effect_later R R' H' w.granted c i d ss (sym (effect_same R H H' w.same c i) ∙ s)

@@ -37,9 +37,15 @@ pub record Store : Type 0 where
   pub bytes : ℕ
   pub value : ℕ
 
--- An instruction goes on with a new processor and stores in order; or is a system call, which leaves the processor as it is; or faults.
+-- What an instruction does beside its registers: it stores, or it has loaded so many bytes from an address, which then gives up
+-- what it gave where it is a device's.
+pub data Move : Type 0 where
+  Puts : Store → Move
+  Takes : ℕ → ℕ → Move  -- address, how many bytes
+
+-- An instruction goes on with a new processor and moves in order; or is a system call, which leaves the processor as it is; or faults.
 pub data Effect : Type 0 where
-  Next : Cpu → List Store → Effect
+  Next : Cpu → List Move → Effect
   Syscall : Effect
   Trap : Fault → Effect
 
@@ -165,10 +171,10 @@ widened load.SignedByte v = extend_of v 8 true
 
 -- a load to a register, and a store of a register's low bytes
 abbrev pub load_effect : Refusals → Contents → Cpu → Load → Reg → ℕ → Effect
-load_effect refuses holds c kind t addr = load_with refuses addr (load_size kind) (Next (go_past 2 (put c t.number (widened kind (holds addr (load_size kind))))) [])
+load_effect refuses holds c kind t addr = load_with refuses addr (load_size kind) (Next (go_past 2 (put c t.number (widened kind (holds addr (load_size kind))))) (Takes addr (load_size kind) ∷ []))
 
 abbrev pub store_effect : Refusals → Cpu → Size → Reg → ℕ → Effect
-store_effect refuses c s t addr = store_with refuses addr (size_of s) (Next (go_past 2 c) (record { addr = addr; bytes = size_of s; value = get c t % 2 ^ (8 * size_of s) } ∷ []))
+store_effect refuses c s t addr = store_with refuses addr (size_of s) (Next (go_past 2 c) (Puts record { addr = addr; bytes = size_of s; value = get c t % 2 ^ (8 * size_of s) } ∷ []))
 
 -- a sum of words
 abbrev pub sum : ℕ → ℕ → ℕ
@@ -206,9 +212,12 @@ target c offset = (pc c + 4 + word_of offset) % 2 ^ 32
 abbrev pub jump : Cpu → ℕ → Effect
 jump c to = Next (put c program_counter to) []
 
--- a branch to a value with bit 0 set; State without it
+-- a branch to a value with bit 0 set, after these moves; State without it
+abbrev pub branch_after : Cpu → ℕ → List Move → Effect
+branch_after c v moves = if nat_eq (v % 2) 1 then Next (put c program_counter (v - 1)) moves else Trap (state_fault v)
+
 abbrev pub branch_to : Cpu → ℕ → Effect
-branch_to c v = if nat_eq (v % 2) 1 then jump c (v - 1) else Trap (state_fault v)
+branch_to c v = branch_after c v []
 
 -- ## Several words
 
@@ -232,9 +241,14 @@ first_refused refuses r [] = None
 first_refused refuses r (w ∷ ws) = or_first (refuses w.1 4 r) (first_refused refuses r ws)
 
 -- the stores of these registers
-unfoldable pub stores_of : Regs → List (ℕ × ℕ) → List Store
+unfoldable pub stores_of : Regs → List (ℕ × ℕ) → List Move
 stores_of rs [] = []
-stores_of rs (w ∷ ws) = record { addr = w.1; bytes = 4; value = reg_at rs w.0 } ∷ stores_of rs ws
+stores_of rs (w ∷ ws) = Puts record { addr = w.1; bytes = 4; value = reg_at rs w.0 } ∷ stores_of rs ws
+
+-- the loads of these words
+unfoldable pub loads_of : List (ℕ × ℕ) → List Move
+loads_of [] = []
+loads_of (w ∷ ws) = Takes w.1 4 ∷ loads_of ws
 
 -- the registers with these words loaded
 unfoldable pub loaded_all : Contents → Regs → List (ℕ × ℕ) → Regs
@@ -275,16 +289,19 @@ stm_effect refuses c n mask = store_all refuses c mask (get c n) (go_past 2 (put
 
 -- loaded from register n on, which is raised unless it is loaded itself
 abbrev pub ldm_next : Cpu → Reg → ℕ → Regs → Effect
-ldm_next c n mask rs = Next (go_past 2 (if nat_eq (mask / 2 ^ n.number % 2) 1 then with_regs c rs else put (with_regs c rs) n.number (sum (get c n) (4 * count mask)))) []
+ldm_next c n mask rs = Next (go_past 2 (if nat_eq (mask / 2 ^ n.number % 2) 1 then with_regs c rs else put (with_regs c rs) n.number (sum (get c n) (4 * count mask)))) (loads_of (transfers mask (get c n)))
 
 abbrev pub ldm_effect : Refusals → Contents → Cpu → Reg → ℕ → Effect
 ldm_effect refuses holds c n mask = load_all refuses holds c mask (get c n) (ldm_next c n mask)
 
 -- loaded from SP on, which is raised; PC, bit 15 of the mask, is last, and a branch
+abbrev pub popped : Cpu → ℕ → Regs → Cpu
+popped c mask rs = put (with_regs c rs) stack_pointer (sum (reg_at c.regs stack_pointer) (4 * count mask))
+
 abbrev pub pop_next : Cpu → ℕ → Bool → Regs → Effect
 pop_next c mask has_pc rs =
-    if has_pc then branch_to (put (with_regs c rs) stack_pointer (sum (reg_at c.regs stack_pointer) (4 * count mask))) (reg_at rs program_counter)
-    else Next (go_past 2 (put (with_regs c rs) stack_pointer (sum (reg_at c.regs stack_pointer) (4 * count mask)))) []
+    if has_pc then branch_after (popped c mask rs) (reg_at rs program_counter) (loads_of (transfers mask (reg_at c.regs stack_pointer)))
+    else Next (go_past 2 (popped c mask rs)) (loads_of (transfers mask (reg_at c.regs stack_pointer)))
 
 abbrev pub pop_effect : Refusals → Contents → Cpu → ℕ → Bool → Effect
 pop_effect refuses holds c mask has_pc = load_all refuses holds c mask (reg_at c.regs stack_pointer) (pop_next c mask has_pc)
@@ -380,26 +397,27 @@ effect refuses holds c (Msr n) = Next (go_past 4 (with_flags c (flags_from (get 
 
 -- ## What comes of an effect
 
--- A bus after stores in order, where `stored` says what it is after one.
-abbrev pub Stores : {B : Type 0} → (B → ℕ → ℕ → ℕ → B → Type 0) → B → List Store → B → Type 0
-Stores stored b [] b' = b' ≡ b
-Stores {B} stored b (s ∷ ss) b' = (m : B) × stored b s.addr s.bytes s.value m × Stores stored m ss b'
+-- A bus after moves in order, where `stored` says what it is after a store, and `taken` once it was loaded from.
+abbrev pub Moves : {B : Type 0} → (B → ℕ → ℕ → ℕ → B → Type 0) → (B → ℕ → B → Type 0) → B → List Move → B → Type 0
+Moves stored taken b [] b' = b' ≡ b
+Moves {B} stored taken b (Puts s ∷ ms) b' = (m : B) × stored b s.addr s.bytes s.value m × Moves stored taken m ms b'
+Moves {B} stored taken b (Takes addr bytes ∷ ms) b' = (m : B) × taken b addr m × Moves stored taken m ms b'
 
 -- What an effect makes of the processor c and the bus b, and the outcome that tells it. A system call and a fault change nothing.
-abbrev pub Acts : {B : Type 0} → (B → ℕ → ℕ → ℕ → B → Type 0) → Cpu → Cpu → B → B → Outcome → Effect → Type 0
-Acts stored c c' b b' o (Next d ss) = (o ≡ outcome.Next) × (c' ≡ d) × Stores stored b ss b'
-Acts stored c c' b b' o Syscall = (o ≡ outcome.Call) × (c' ≡ c) × (b' ≡ b)
-Acts stored c c' b b' o (Trap f) = (o ≡ outcome.Trap f) × (c' ≡ c) × (b' ≡ b)
+abbrev pub Acts : {B : Type 0} → (B → ℕ → ℕ → ℕ → B → Type 0) → (B → ℕ → B → Type 0) → Cpu → Cpu → B → B → Outcome → Effect → Type 0
+Acts stored taken c c' b b' o (Next d ms) = (o ≡ outcome.Next) × (c' ≡ d) × Moves stored taken b ms b'
+Acts stored taken c c' b b' o Syscall = (o ≡ outcome.Call) × (c' ≡ c) × (b' ≡ b)
+Acts stored taken c c' b b' o (Trap f) = (o ≡ outcome.Trap f) × (c' ≡ c) × (b' ≡ b)
 
--- What comes of an effect that stores nothing, without a bus.
+-- What comes of an effect that moves nothing, without a bus.
 abbrev pub Effects : Cpu → Cpu → Outcome → Effect → Type 0
 Effects c c' o (Next d []) = (o ≡ outcome.Next) × (c' ≡ d)
-Effects c c' o (Next d (s ∷ ss)) = ⊥
+Effects c c' o (Next d (m ∷ ms)) = ⊥
 Effects c c' o Syscall = (o ≡ outcome.Call) × (c' ≡ c)
 Effects c c' o (Trap f) = (o ≡ outcome.Trap f) × (c' ≡ c)
 
 -- An effect after which the instruction does not simply go on.
 abbrev pub Halts : Effect → Type 0
-Halts (Next d ss) = ⊥
+Halts (Next d ms) = ⊥
 Halts Syscall = Unit {0}
 Halts (Trap f) = Unit {0}

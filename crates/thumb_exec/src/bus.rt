@@ -1,5 +1,5 @@
 //! What an instruction sees of memory.
-ghost use Rattle.std.specs.Prelude.{◌≡◌, ℕ, ◌<◌, ◌≤◌, ◌+◌, ◌%◌, ◌^◌, Option, Some, None, MatchOption, MatchResult, IfOk, IfErr, ◌*◌, true};
+ghost use Rattle.std.specs.Prelude.{◌≡◌, ℕ, ◌<◌, ◌≤◌, ◌+◌, ◌%◌, ◌^◌, Option, Some, None, MatchOption, MatchResult, IfOk, IfErr, ◌*◌, true, false};
 ghost use Rattle.thumb_exec.specs.Sizes.{IsSize};
 ghost use Rattle.region_check.specs.declared.Right.{Right as Rights};
 ghost use Rattle.region_check.specs.declared.Right.TheVariants.{Read, Write, Execute};
@@ -9,8 +9,9 @@ use region_check::Right;
 /// Memory behind a check of rights, byte by byte. Addresses have 32 bits; a value of n bytes has
 /// the lowest byte first. A refusal is the address of the first byte that lacks the right.
 ///
-/// An implementation says what it is by three meanings: which bytes are refused, what bytes hold,
-/// and how it is after a store. The last is a relation, so that a store may reach more than memory.
+/// An implementation says what it is by four meanings: which bytes are refused, what bytes hold, how
+/// it is after a store, and how once it was loaded from. The last two are relations, so that they may
+/// reach more than memory.
 pub trait Bus {
     /// The first of so many bytes, from an address on, that lacks the right.
     ghost refuses: { Self → ℕ → ℕ → Rights → Option ℕ };
@@ -20,6 +21,9 @@ pub trait Bus {
 
     /// Before, address, number of bytes, value, and how it is after that store.
     ghost stored: { Self → ℕ → ℕ → ℕ → Self → Type 0 };
+
+    /// Before, address, and how it is once an instruction that went on has loaded from there.
+    ghost took: { Self → ℕ → Self → Type 0 };
 
     /// The first of n bytes, 1, 2 or 4 of them, that lacks the right.
     fn allows(&self, addr: u32, n: u32, right: Right) -> Option<u32>
@@ -46,6 +50,16 @@ pub trait Bus {
         ensures done { IfOk result (λ done. (refuses self.old addr n Write ≡ None) × stored self.old addr n value self.new) }
         ensures refused { IfErr result (λ at. (refuses self.old addr n Write ≡ Some at) × (self.new ≡ self.old)) }
         ensures rights { (a m : ℕ) (r : Rights) → refuses self.new a m r ≡ refuses self.old a m r };
+
+    /// An instruction that goes on has loaded from an address: a device there gives up what it gave. That
+    /// changes no right.
+    fn taken(&mut self, addr: u32)
+        ensures done { took self.old addr self.new }
+        ensures rights { (a m : ℕ) (r : Rights) → refuses self.new a m r ≡ refuses self.old a m r };
+
+    /// Whether a load may take anything; false says that none does.
+    fn takes(&self) -> bool
+        ensures { result ≡ false → (addr : ℕ) → took self.now addr self.now };
 
     /// Whether one test tells that each of so many words from an address on gives the right; false says
     /// nothing.

@@ -2,15 +2,21 @@
 //! runs here.
 ghost use Rattle.std.specs.Prelude.{◌≡◌};
 ghost use Rattle.thumb_exec.specs.Effect.{Refusals, Contents, effect};
-ghost use Rattle.thumb_exec.specs.Keeps.{IsWholeCpu, Keeps, Agree, Widens, GoesOnAs};
+ghost use Rattle.thumb_exec.specs.Keeps.{IsWholeCpu, Keeps, AllPermitted, Agree, Widens, GoesOnAs};
 ghost use Rattle.thumb_exec.specs.declared.cpu.Cpu.{Cpu as Processor};
 ghost use Rattle.thumb_insn.specs.Range.{IsCoded};
 ghost use Rattle.thumb_insn.specs.declared.Insn.{Insn as Instruction};
 
 /// An instruction that has a code keeps PC even and SP a multiple of 4, stores only bytes that may
-/// be written, and raises none but its own faults.
+/// be written and loads only bytes that may be read, sixteen times at most, and raises none but its
+/// own faults.
 pub fn every_effect_keeps()
     ensures { (refuses : Refusals) (holds : Contents) (c : Processor) (i : Instruction) → IsCoded i → IsWholeCpu c → Keeps refuses (effect refuses holds c i) }
+{}
+
+/// What an instruction stores it may store, and what it loads it may load.
+pub fn every_move_is_permitted()
+    ensures { (refuses : Refusals) (holds : Contents) (c : Processor) (i : Instruction) → AllPermitted refuses (effect refuses holds c i) }
 {}
 
 /// What an instruction does depends on memory only where it may be read.

@@ -58,7 +58,7 @@ fn low_part(word: u32, size: Size) -> u32
 #[inline(always)]
 pub fn load<B: Bus>(cpu: &mut Cpu, bus: &mut B, kind: Load, t: Reg, addr: u32) -> Outcome
     requires { t.number < 16 }
-    ensures { Acts B.stored cpu.old cpu.new bus.old bus.new result (load_effect (B.refuses bus.old) (B.holds bus.old) cpu.old kind t addr) }
+    ensures { Acts B.stored B.took cpu.old cpu.new bus.old bus.new result (load_effect (B.refuses bus.old) (B.holds bus.old) cpu.old kind t addr) }
 {
     let n = loaded_bytes(kind);
     if addr % n != 0 {
@@ -67,6 +67,7 @@ pub fn load<B: Bus>(cpu: &mut Cpu, bus: &mut B, kind: Load, t: Reg, addr: u32) -
     match bus.load(addr, n) {
         Err(at) => Outcome::Trap(Fault::access(at, Access::Load)),
         Ok(value) => {
+            bus.taken(addr);
             cpu.regs.set(usize::from(t.number), widen(kind, value));
             go_past(cpu, 2);
             Outcome::Next
@@ -78,7 +79,7 @@ pub fn load<B: Bus>(cpu: &mut Cpu, bus: &mut B, kind: Load, t: Reg, addr: u32) -
 #[inline(always)]
 pub fn store<B: Bus>(cpu: &mut Cpu, bus: &mut B, size: Size, t: Reg, addr: u32) -> Outcome
     requires { t.number < 16 }
-    ensures { Acts B.stored cpu.old cpu.new bus.old bus.new result (store_effect (B.refuses bus.old) cpu.old size t addr) }
+    ensures { Acts B.stored B.took cpu.old cpu.new bus.old bus.new result (store_effect (B.refuses bus.old) cpu.old size t addr) }
 {
     let n = bytes_of(size);
     if addr % n != 0 {

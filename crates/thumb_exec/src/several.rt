@@ -3,7 +3,7 @@
 ghost use Rattle.std.specs.Prelude.{◌≡◌, ◌<◌, ◌≤◌, ◌+◌, ◌/◌, ◌%◌, ◌^◌, ℕ, nat_eq, Bool, [], ◌∷◌, true, false, if◌then◌else◌, None, IfSome, IfNone};
 ghost use Rattle.region_check.specs.declared.Right.{Right as Rights};
 ghost use Rattle.region_check.specs.declared.Right.TheVariants as rights;
-ghost use Rattle.thumb_exec.specs.Effect.{Acts, Stores, transfers, first_refused, stores_of, loaded_all, count, store_all, effect, go_past, put};
+ghost use Rattle.thumb_exec.specs.Effect.{Acts, Moves, transfers, first_refused, stores_of, loads_of, loaded_all, count, store_all, effect, go_past, put};
 ghost use Rattle.thumb_insn.specs.declared.Insn.TheVariants as insns;
 
 use crate::arith::{get, go_past, set};
@@ -97,11 +97,28 @@ fn load_words<B: Bus>(regs: &mut Regs, bus: &B, mask: u16, addr: u32)
     }
 }
 
+/// The words of a mask were loaded: a device gives up what it gave.
+fn take_words<B: Bus>(bus: &mut B, mask: u16, addr: u32)
+    ensures { Moves B.stored B.took bus.old (loads_of (transfers mask addr)) bus.new }
+{
+    if !bus.takes() {
+        return;
+    }
+    let mut at = addr;
+    let mut rest = mask;
+    while rest != 0 {
+        let (_, others) = split_lowest(rest);
+        bus.taken(at);
+        at = at.wrapping_add(4);
+        rest = others;
+    }
+}
+
 /// Stores the registers of a mask to ascending words.
 fn store_words<B: Bus>(regs: &Regs, bus: &mut B, mask: u16, addr: u32)
     requires aligned { addr % 4 ≡ 0 }
     requires allowed { first_refused (B.refuses bus.old) rights.Write (transfers mask addr) ≡ None }
-    ensures { Stores B.stored bus.old (stores_of regs.now (transfers mask addr)) bus.new }
+    ensures { Moves B.stored B.took bus.old (stores_of regs.now (transfers mask addr)) bus.new }
 {
     let mut at = addr;
     let mut rest = mask;
@@ -119,7 +136,7 @@ fn store_if_allowed<B: Bus>(regs: &Regs, bus: &mut B, mask: u16, addr: u32) -> O
     requires { addr % 4 ≡ 0 }
     ensures tells { result ≡ first_refused (B.refuses bus.old) rights.Write (transfers mask addr) }
     ensures nothing { IfSome result (λ at. bus.new ≡ bus.old) }
-    ensures all { IfNone result (Stores B.stored bus.old (stores_of regs.now (transfers mask addr)) bus.new) }
+    ensures all { IfNone result (Moves B.stored B.took bus.old (stores_of regs.now (transfers mask addr)) bus.new) }
 {
     let refusal = refused(bus, mask, addr, Right::Write);
     if refusal.is_none() {
@@ -150,7 +167,7 @@ pub fn store_all<B: Bus>(
     value: u32,
 ) -> Outcome
     requires { d.number < 16 }
-    ensures { Acts B.stored cpu.old cpu.new bus.old bus.new result (store_all (B.refuses bus.old) cpu.old mask addr (go_past 2 (put cpu.old d.number value))) }
+    ensures { Acts B.stored B.took cpu.old cpu.new bus.old bus.new result (store_all (B.refuses bus.old) cpu.old mask addr (go_past 2 (put cpu.old d.number value))) }
 {
     if addr % 4 != 0 {
         return Outcome::Trap(Fault::unaligned(addr, true));
@@ -175,7 +192,7 @@ fn has(mask: u16, r: Reg) -> bool
 #[tactic(auto, unfolding(crate::specs::Effect::effect))]
 pub fn ldm<B: Bus>(cpu: &mut Cpu, bus: &mut B, n: Reg, list: u8) -> Outcome
     requires { n.number < 8 }
-    ensures { Acts B.stored cpu.old cpu.new bus.old bus.new result (effect (B.refuses bus.old) (B.holds bus.old) cpu.old (insns.Ldm n list)) }
+    ensures { Acts B.stored B.took cpu.old cpu.new bus.old bus.new result (effect (B.refuses bus.old) (B.holds bus.old) cpu.old (insns.Ldm n list)) }
 {
     let mask = u16::from(list);
     let addr = get(cpu, n);
@@ -189,6 +206,7 @@ pub fn ldm<B: Bus>(cpu: &mut Cpu, bus: &mut B, n: Reg, list: u8) -> Outcome
     if !has(mask, n) {
         cpu.regs.set(usize::from(n.number), addr.wrapping_add(4 * count_of(mask)));
     }
+    take_words(bus, mask, addr);
     go_past(cpu, 2);
     Outcome::Next
 }
@@ -196,7 +214,7 @@ pub fn ldm<B: Bus>(cpu: &mut Cpu, bus: &mut B, n: Reg, list: u8) -> Outcome
 /// Loads the registers of a mask from SP on, and raises it; PC last, as a branch.
 #[tactic(auto, unfolding(crate::specs::Effect::effect))]
 pub fn pop<B: Bus>(cpu: &mut Cpu, bus: &mut B, list: u8, has_pc: bool) -> Outcome
-    ensures { Acts B.stored cpu.old cpu.new bus.old bus.new result (effect (B.refuses bus.old) (B.holds bus.old) cpu.old (insns.Pop list has_pc)) }
+    ensures { Acts B.stored B.took cpu.old cpu.new bus.old bus.new result (effect (B.refuses bus.old) (B.holds bus.old) cpu.old (insns.Pop list has_pc)) }
 {
     let mask = mask_of(list, has_pc, 0x8000);
     let addr = cpu.regs.get(STACK_POINTER);
@@ -220,5 +238,6 @@ pub fn pop<B: Bus>(cpu: &mut Cpu, bus: &mut B, list: u8, has_pc: bool) -> Outcom
     } else {
         go_past(cpu, 2);
     }
+    take_words(bus, mask, addr);
     Outcome::Next
 }

@@ -310,7 +310,7 @@ fn storing_all(cpu: &Cpu, insn: Insn) -> (u16, u32, Reg, u32)
 fn rest<B: Bus>(cpu: &mut Cpu, insn: Insn, bus: &mut B) -> Outcome
     requires range { InRange insn }
     requires rest { IsRest insn }
-    ensures { Acts B.stored cpu.old cpu.new bus.old bus.new result (effect (B.refuses bus.old) (B.holds bus.old) cpu.old insn) }
+    ensures { Acts B.stored B.took cpu.old cpu.new bus.old bus.new result (effect (B.refuses bus.old) (B.holds bus.old) cpu.old insn) }
 {
     match insn {
         Insn::Push { .. } | Insn::Stm { .. } => {
@@ -335,7 +335,7 @@ fn rest<B: Bus>(cpu: &mut Cpu, insn: Insn, bus: &mut B) -> Outcome
 #[inline(always)]
 fn step<B: Bus>(cpu: &mut Cpu, insn: Insn, bus: &mut B) -> Outcome
     requires { InRange insn }
-    ensures { Acts B.stored cpu.old cpu.new bus.old bus.new result (effect (B.refuses bus.old) (B.holds bus.old) cpu.old insn) }
+    ensures { Acts B.stored B.took cpu.old cpu.new bus.old bus.new result (effect (B.refuses bus.old) (B.holds bus.old) cpu.old insn) }
 {
     match insn {
         Insn::AddsReg { .. }
@@ -395,7 +395,7 @@ fn step<B: Bus>(cpu: &mut Cpu, insn: Insn, bus: &mut B) -> Outcome
 #[inline(never)]
 pub fn exec<B: Bus>(cpu: &mut Cpu, insn: &Insn, bus: &mut B) -> Outcome
     requires { IsCoded insn.now }
-    ensures { Acts B.stored cpu.old cpu.new bus.old bus.new result (effect (B.refuses bus.old) (B.holds bus.old) cpu.old insn.now) }
+    ensures { Acts B.stored B.took cpu.old cpu.new bus.old bus.new result (effect (B.refuses bus.old) (B.holds bus.old) cpu.old insn.now) }
 {
     step(cpu, *insn, bus)
 }
@@ -406,7 +406,7 @@ pub fn exec<B: Bus>(cpu: &mut Cpu, insn: &Insn, bus: &mut B) -> Outcome
 #[inline(always)]
 pub fn proceed<B: Bus>(cpu: &mut Cpu, insn: &Insn, bus: &mut B) -> bool
     requires { IsCoded insn.now }
-    ensures done { result ≡ true → Acts B.stored cpu.old cpu.new bus.old bus.new outcome.Next (effect (B.refuses bus.old) (B.holds bus.old) cpu.old insn.now) }
+    ensures done { result ≡ true → Acts B.stored B.took cpu.old cpu.new bus.old bus.new outcome.Next (effect (B.refuses bus.old) (B.holds bus.old) cpu.old insn.now) }
     ensures halts { result ≡ false → Halts (effect (B.refuses bus.old) (B.holds bus.old) cpu.old insn.now) }
     ensures cpu { result ≡ false → cpu.new ≡ cpu.old }
     ensures bus { result ≡ false → bus.new ≡ bus.old }

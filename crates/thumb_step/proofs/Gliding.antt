@@ -8,15 +8,15 @@ use Rattle.thumb_insn.specs.declared.Decoded.TheVariants.{Narrow, Wide, Illegal,
 use Rattle.thumb_insn.specs.Table.{narrow_of, narrow_result, decoded_of, is_wide}
 use Rattle.thumb_exec.specs.declared.cpu.Cpu.{Cpu}
 use Rattle.thumb_exec.specs.declared.cpu.Outcome.TheVariants as outcome
-use Rattle.thumb_exec.specs.Effect.{Effect, Next, Syscall, Trap, Store, Stores, Acts, Halts, Refusals, Contents}
+use Rattle.thumb_exec.specs.Effect.{Effect, Next, Syscall, Trap, Move, Puts, Takes, Moves, Acts, Halts, Refusals, Contents}
 use Rattle.thumb_exec.specs.Fetch.{instruction, after, executed, step_effect}
 use Rattle.words_core.specs.Regs.{reg_at}
 use Rattle.thumb_step.specs.declared.window.Window.{Window}
 use Rattle.thumb_step.specs.declared.window.Runner.{Runner}
-use Rattle.thumb_step.specs.Windows.{View, AreInside, has, number_in, given, refused_by, held_by, put, IsFetched, view_of, GoesOn, Keeps}
-use Rattle.thumb_step.specs.Did.{IsStored, Did}
+use Rattle.thumb_step.specs.Windows.{View, AreInside, has, number_in, given, refused_by, held_by, put, IsInside, IsFetched, view_of, GoesOn, Keeps}
+use Rattle.thumb_step.specs.Did.{IsStored, IsTaken, Did}
 
--- ## Stores
+-- ## Moves
 
 pub kept : (v v' : View) → v' ≡ v → Keeps v v'
 kept v v' e = rw e record { flash_base = refl; flash = refl; readable = refl; ram_base = refl; size = refl }
@@ -30,40 +30,45 @@ kept_on u v w a b = record {
   size = b.size ∙ a.size;
 }
 
-stores_put : (ss : List Store) (w w' : Window) → Stores IsStored w ss w' → view_of w' ≡ fold put (view_of w) ss
-stores_put [] w w' e = ap view_of e
-stores_put (s ∷ ss) w w' e = stores_put ss e.0 w' e.2 ∙ ap (λ (v : View). fold put v ss) e.1.after
+moves_put : (ms : List Move) (w w' : Window) → Moves IsStored IsTaken w ms w' → view_of w' ≡ fold put (view_of w) ms
+moves_put [] w w' e = ap view_of e
+moves_put (Puts x ∷ ms) w w' e = moves_put ms e.0 w' e.2 ∙ ap (λ (v : View). fold put v ms) e.1.after
+moves_put (Takes a n ∷ ms) w w' e = moves_put ms e.0 w' e.2 ∙ ap (λ (u : Window). fold put (view_of u) ms) e.1
 
-stores_keep : (ss : List Store) (w w' : Window) → Stores IsStored w ss w' → Keeps (view_of w) (view_of w')
-stores_keep [] w w' e = kept (view_of w) (view_of w') (ap view_of e)
-stores_keep (s ∷ ss) w w' e = kept_on (view_of w) (view_of e.0) (view_of w') e.1.keeps (stores_keep ss e.0 w' e.2)
+moves_keep : (ms : List Move) (w w' : Window) → Moves IsStored IsTaken w ms w' → Keeps (view_of w) (view_of w')
+moves_keep [] w w' e = kept (view_of w) (view_of w') (ap view_of e)
+moves_keep (Puts x ∷ ms) w w' e = kept_on (view_of w) (view_of e.0) (view_of w') e.1.keeps (moves_keep ms e.0 w' e.2)
+moves_keep (Takes a n ∷ ms) w w' e = kept_on (view_of w) (view_of e.0) (view_of w') (kept (view_of w) (view_of e.0) (ap view_of e.1)) (moves_keep ms e.0 w' e.2)
 
-stores_inside : (ss : List Store) (w w' : Window) → Stores IsStored w ss w' → AreInside (view_of w) ss
-stores_inside [] w w' e x (i, lt, same) = absurd (omega (arith, lt))
-stores_inside (s ∷ ss) w w' e x (zero, lt, same) = let is : s ≡ x = same in rw (← is) (e.1.size, e.1.inside)
-stores_inside (s ∷ ss) w w' e x (suc i, lt, same) =
-    let k = e.1.keeps in
-    let h = stores_inside ss e.0 w' e.2 x (i, omega arith, same) in
-    (h.0, rw (← k.ram_base, ← k.size) h.1)
+inside_again : (v w : View) (x : Move) → Keeps v w → IsInside w x → IsInside v x
+inside_again v w (Puts x) k h = (h.0, rw (← k.ram_base, ← k.size) h.1)
+inside_again v w (Takes a n) k h = tt
+
+moves_inside : (ms : List Move) (w w' : Window) → Moves IsStored IsTaken w ms w' → AreInside (view_of w) ms
+moves_inside [] w w' e x (i, lt, same) = absurd (omega (arith, lt))
+moves_inside (Puts s ∷ ms) w w' e x (zero, lt, same) = let is : ◌≡◌ {A = Move} (Puts s) x = same in rw (← is) (e.1.size, e.1.inside)
+moves_inside (Takes a n ∷ ms) w w' e x (zero, lt, same) = let is : ◌≡◌ {A = Move} (Takes a n) x = same in rw (← is) tt
+moves_inside (Puts s ∷ ms) w w' e x (suc i, lt, same) = inside_again (view_of w) (view_of e.0) x e.1.keeps (moves_inside ms e.0 w' e.2 x (i, omega arith, same))
+moves_inside (Takes a n ∷ ms) w w' e x (suc i, lt, same) = inside_again (view_of w) (view_of e.0) x (kept (view_of w) (view_of e.0) (ap view_of e.1)) (moves_inside ms e.0 w' e.2 x (i, omega arith, same))
 
 -- what an effect that goes on leaves
 pub record Went (c' : Cpu) (w w' : Window) (e : Effect) : Type 0 where
-  pub stores : List Store
-  pub is : e ≡ Next c' stores
-  pub inside : AreInside (view_of w) stores
-  pub put : view_of w' ≡ fold put (view_of w) stores
+  pub moves : List Move
+  pub is : e ≡ Next c' moves
+  pub inside : AreInside (view_of w) moves
+  pub put : view_of w' ≡ fold put (view_of w) moves
   pub keeps : Keeps (view_of w) (view_of w')
 
-pub went_on : (c c' : Cpu) (w w' : Window) (e : Effect) → Acts IsStored c c' w w' outcome.Next e → Went c' w w' e
-went_on c c' w w' (Next d ss) h = record { stores = ss; is = ap (λ (x : Cpu). Next x ss) (sym h.1); inside = stores_inside ss w w' h.2; put = stores_put ss w w' h.2; keeps = stores_keep ss w w' h.2 }
+pub went_on : (c c' : Cpu) (w w' : Window) (e : Effect) → Acts IsStored IsTaken c c' w w' outcome.Next e → Went c' w w' e
+went_on c c' w w' (Next d ms) h = record { moves = ms; is = ap (λ (x : Cpu). Next x ms) (sym h.1); inside = moves_inside ms w w' h.2; put = moves_put ms w w' h.2; keeps = moves_keep ms w w' h.2 }
 went_on c c' w w' Syscall h = absurd (cc h.0)
 went_on c c' w w' (Trap f) h = absurd (cc h.0)
 
-pub goes_so : (c c' : Cpu) (w w' : Window) (e : Effect) → step_effect (refused_by (view_of w)) (held_by (view_of w)) c ≡ e → Acts IsStored c c' w w' outcome.Next e → GoesOn (view_of w) c (view_of w') c'
-goes_so c c' w w' e is h = let g = went_on c c' w w' e h in record { stores = g.stores; effect = is ∙ g.is; inside = g.inside; after = g.put }
+pub goes_so : (c c' : Cpu) (w w' : Window) (e : Effect) → step_effect (refused_by (view_of w)) (held_by (view_of w)) c ≡ e → Acts IsStored IsTaken c c' w w' outcome.Next e → GoesOn (view_of w) c (view_of w') c'
+goes_so c c' w w' e is h = let g = went_on c c' w w' e h in record { moves = g.moves; effect = is ∙ g.is; inside = g.inside; after = g.put }
 
 -- by the answer
-pub keeps_by : (c c' : Cpu) (w w' : Window) (e : Effect) (r : Bool) → (r ≡ true → Acts IsStored c c' w w' outcome.Next e) → (r ≡ false → w' ≡ w) → Keeps (view_of w) (view_of w')
+pub keeps_by : (c c' : Cpu) (w w' : Window) (e : Effect) (r : Bool) → (r ≡ true → Acts IsStored IsTaken c c' w w' outcome.Next e) → (r ≡ false → w' ≡ w) → Keeps (view_of w) (view_of w')
 keeps_by c c' w w' e true goes stays = (went_on c c' w w' e (goes refl)).keeps
 keeps_by c c' w w' e false goes stays = kept (view_of w) (view_of w') (ap view_of (stays refl))
 

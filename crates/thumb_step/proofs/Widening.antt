@@ -5,7 +5,7 @@ use Rattle.region_check.specs.declared.Right.TheVariants.{Execute}
 use Rattle.words_core.specs.Regs.{reg_at}
 use Rattle.thumb_insn.specs.Table.{decoded_of, is_wide}
 use Rattle.thumb_exec.specs.declared.cpu.Cpu.{Cpu}
-use Rattle.thumb_exec.specs.Effect.{Next, Store, Refusals, Contents}
+use Rattle.thumb_exec.specs.Effect.{Next, Move, Refusals, Contents}
 use Rattle.thumb_exec.proofs.Widening.{effect_wider}
 use Rattle.thumb_exec.specs.declared.fetch.Fetched.{Fetched}
 use Rattle.thumb_exec.specs.Fetch.{WidensFetch, instruction, unless_barred, after, fetched_wide, fetched_by, fetched, executed, step_effect}
@@ -34,9 +34,9 @@ by_wider R R' H H' w at first = either (is_wide first) _ _ _ (wide_wider R R' H 
 fetched_wider : (R R' : Refusals) (H H' : Contents) → WidensFetch R R' H H' → (at : ℕ) → Gives (fetched R H at) (fetched R' H' at)
 fetched_wider R R' H H' w at = granted (R at 2 Execute) (R' at 2 Execute) at _ _ (w.widens.granted at 2 Execute) (λ e. rw (sym (w.fetches at e)) (by_wider R R' H H' w at (H at 2)))
 
-executed_wider : (R R' : Refusals) (H H' : Contents) → WidensFetch R R' H H' → (c : Cpu) (a b : Result Fetched Fault) → Gives a b → (d : Cpu) (ss : List Store) → executed R H c a ≡ Next d ss → executed R' H' c b ≡ Next d ss
+executed_wider : (R R' : Refusals) (H H' : Contents) → WidensFetch R R' H H' → (c : Cpu) (a b : Result Fetched Fault) → Gives a b → (d : Cpu) (ss : List Move) → executed R H c a ≡ Next d ss → executed R' H' c b ≡ Next d ss
 executed_wider R R' H H' w c (Ok f) b g d ss s = rw (g f refl) (effect_wider R R' H H' w.widens c f.insn d ss s)
 executed_wider R R' H H' w c (Err fault) b g d ss s = absurd cc
 
-pub step_wider : (R R' : Refusals) (H H' : Contents) → WidensFetch R R' H H' → (c d : Cpu) (ss : List Store) → step_effect R H c ≡ Next d ss → step_effect R' H' c ≡ Next d ss
+pub step_wider : (R R' : Refusals) (H H' : Contents) → WidensFetch R R' H H' → (c d : Cpu) (ss : List Move) → step_effect R H c ≡ Next d ss → step_effect R' H' c ≡ Next d ss
 step_wider R R' H H' w c d ss = executed_wider R R' H H' w c (fetched R H (reg_at c.regs 15)) (fetched R' H' (reg_at c.regs 15)) (fetched_wider R R' H H' w (reg_at c.regs 15)) d ss

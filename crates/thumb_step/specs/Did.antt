@@ -8,14 +8,18 @@ use Rattle.thumb_exec.specs.declared.cpu.Outcome.TheVariants as outcome
 use Rattle.thumb_exec.specs.Sizes.{IsSize}
 use Rattle.thumb_step.specs.declared.window.Runner.{Runner}
 use Rattle.thumb_step.specs.declared.window.Window.{Window}
-use Rattle.thumb_step.specs.Windows.{has, Keeps, refused_by, held_by, put, view_of}
+use Rattle.thumb_step.specs.Windows.{has, Keeps, refused_by, held_by, write, view_of}
 
 -- a window after a store of so many bytes
 pub record IsStored (w : Window) (a n x : ℕ) (w' : Window) : Type 0 where
   pub size : IsSize n
   pub inside : has w.ram_base w.ram.items a n ≡ true
-  pub after : view_of w' ≡ put (view_of w) record { addr = a; bytes = n; value = x }
+  pub after : view_of w' ≡ write (view_of w) record { addr = a; bytes = n; value = x }
   pub keeps : Keeps (view_of w) (view_of w')
+
+-- a window once it was loaded from: it has no device
+abbrev pub IsTaken : Window → ℕ → Window → Type 0
+IsTaken w a w' = w' ≡ w
 
 -- what an instruction does to what the runner holds
 abbrev pub effect_on : Runner → Insn → Effect
@@ -23,7 +27,7 @@ effect_on r i = effect (refused_by (view_of r.window)) (held_by (view_of r.windo
 
 -- by the answer: it went on, or it is a system call, faults or is illegal, and nothing changed
 abbrev pub Did : Runner → Decoded → Bool → Runner → Type 0
-Did a (Narrow i) true b = Acts IsStored a.processor b.processor a.window b.window outcome.Next (effect_on a i)
+Did a (Narrow i) true b = Acts IsStored IsTaken a.processor b.processor a.window b.window outcome.Next (effect_on a i)
 Did a (Narrow i) false b = Halts (effect_on a i) × (b ≡ a)
 Did a Illegal true b = ⊥
 Did a Illegal false b = b ≡ a

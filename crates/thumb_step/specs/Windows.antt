@@ -4,7 +4,7 @@ use Rattle.mem_banks.specs.Memory.{number_of, pasted}
 use Rattle.region_check.specs.declared.Right.TheVariants.{Read, Write, Execute}
 use Rattle.thumb_exec.specs.declared.cpu.Cpu.{Cpu}
 use Rattle.thumb_exec.specs.Bytes.{bytes_of}
-use Rattle.thumb_exec.specs.Effect.{Next, Store, Refusals, Contents}
+use Rattle.thumb_exec.specs.Effect.{Next, Store, Move, Puts, Takes, Refusals, Contents}
 use Rattle.thumb_exec.specs.Sizes.{IsSize}
 use Rattle.thumb_exec.specs.Fetch.{step_effect}
 use Rattle.thumb_step.specs.declared.window.Window.{Window}
@@ -45,24 +45,32 @@ pub record IsFetched (v : View) (a half : ℕ) : Type 0 where
   pub there : has v.flash_base v.flash a 2 ≡ true
   pub is : half ≡ number_in v.flash_base v.flash a 2
 
--- ## Stores
+-- ## Moves
 
--- what it reaches after a store in the RAM
-abbrev pub put : View → Store → View
-put v x = record v { ram = pasted v.ram (x.addr - v.ram_base) (bytes_of x.value x.bytes) }
+-- what it reaches after a store in the RAM; a load takes nothing there
+abbrev pub write : View → Store → View
+write v x = record v { ram = pasted v.ram (x.addr - v.ram_base) (bytes_of x.value x.bytes) }
+
+abbrev pub put : View → Move → View
+put v (Puts x) = write v x
+put v (Takes a n) = v
 
 -- each store is one of 1, 2 or 4 bytes of the RAM
-abbrev pub AreInside : View → List Store → Type 0
-AreInside v stores = (x : Store) → Contains stores x → IsSize x.bytes × (has v.ram_base v.ram x.addr x.bytes ≡ true)
+abbrev pub IsInside : View → Move → Type 0
+IsInside v (Puts x) = IsSize x.bytes × (has v.ram_base v.ram x.addr x.bytes ≡ true)
+IsInside v (Takes a n) = Unit {0}
+
+abbrev pub AreInside : View → List Move → Type 0
+AreInside v moves = (x : Move) → Contains moves x → IsInside v x
 
 -- ## Instructions
 
--- the instruction at PC goes on, with its stores
+-- the instruction at PC goes on, with its moves
 pub record GoesOn (v : View) (c : Cpu) (v' : View) (c' : Cpu) : Type 0 where
-  pub stores : List Store
-  pub effect : step_effect (refused_by v) (held_by v) c ≡ Next c' stores
-  pub inside : AreInside v stores
-  pub after : v' ≡ fold put v stores
+  pub moves : List Move
+  pub effect : step_effect (refused_by v) (held_by v) c ≡ Next c' moves
+  pub inside : AreInside v moves
+  pub after : v' ≡ fold put v moves
 
 -- n instructions on end go on
 abbrev pub Glides : View → Cpu → ℕ → View → Cpu → Type 0

@@ -8,7 +8,7 @@ ghost use Rattle.thumb_exec.specs.Sizes.{IsSize};
 ghost use Rattle.thumb_exec.specs.Fetch.{step_effect};
 ghost use Rattle.words_core.specs.Regs.{reg_at, program_counter};
 ghost use Rattle.thumb_step.specs.Windows.{has, IsFetched, refused_by, held_by, view_of, Glides, GoesOn, Keeps, IsApart};
-ghost use Rattle.thumb_step.specs.Did.{Did, IsStored};
+ghost use Rattle.thumb_step.specs.Did.{Did, IsStored, IsTaken};
 
 use region_check::Right;
 use thumb_decode::{Taker, decode, narrow_to};
@@ -147,6 +147,8 @@ impl Bus for Window {
 
     ghost stored = { λ w a n x w'. IsStored w a n x w' };
 
+    ghost took = { λ w a w'. IsTaken w a w' };
+
     #[inline(always)]
     fn allows(&self, addr: u32, n: u32, right: Right) -> Option<u32> {
         let is_given = match right {
@@ -186,6 +188,15 @@ impl Bus for Window {
         let bytes = value.to_le_bytes();
         put(&mut self.ram, at, &bytes[..n as usize]);
         Ok(())
+    }
+
+    /// There is no device in the flash and the RAM.
+    #[inline(always)]
+    fn taken(&mut self, _addr: u32) {}
+
+    #[inline(always)]
+    fn takes(&self) -> bool {
+        false
     }
 
     #[inline(always)]

@@ -55,6 +55,9 @@ is_timer word =
 abbrev pub handled_words : List (List ℕ)
 handled_words = codes "post" ∷ codes "held" ∷ codes "none" ∷ []
 
+abbrev pub fed_words : List (List ℕ)
+fed_words = codes "queued" ∷ codes "full" ∷ codes "none" ∷ []
+
 abbrev pub ending_words : List (List ℕ)
 ending_words = codes "reply" ∷ codes "replyfault" ∷ codes "client" ∷ codes "restart" ∷ []
 
@@ -71,8 +74,10 @@ is_of field.Time word = is_number most_time word
 is_of field.Word word = is_hex 8 word
 is_of field.Row word = is_hex 32 word
 is_of field.Code word = is_hex 4 word || is_hex 8 word
+is_of field.Byte word = is_hex 2 word
 is_of field.Flags word = are_bits 4 word
 is_of field.Handled word = is_any_of handled_words word
+is_of field.Fed word = is_any_of fed_words word
 is_of field.Listened word = is_any_of (codes "any" ∷ codes "kernel" ∷ []) word || is_number most_number word
 is_of field.Ending word = is_any_of ending_words word
 is_of field.Borrow word = is_any_of borrow_words word
@@ -127,6 +132,8 @@ turn_forms =
     ∷ form (codes "close") kind.Close (field.Number ∷ field.Ending ∷ [])
     ∷ form (codes "fault") kind.Plain (field.Number ∷ field.Number ∷ field.Word ∷ field.Word ∷ [])
     ∷ form (codes "restart") kind.Plain (field.Number ∷ field.Number ∷ [])
+    ∷ form (codes "in") kind.Plain (field.Number ∷ field.Byte ∷ field.Fed ∷ [])
+    ∷ form (codes "out") kind.Plain (field.Number ∷ field.Byte ∷ [])
     ∷ form (codes "irqstat") kind.Plain (field.Number ∷ field.Word ∷ field.Number ∷ [])
     ∷ form (codes "find") kind.Plain (field.Number ∷ field.Number ∷ [])
     ∷ form (codes "insn") kind.Insn (field.Number ∷ field.Word ∷ field.Code ∷ [])

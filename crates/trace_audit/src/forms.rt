@@ -19,10 +19,14 @@ pub enum Field {
     Row,
     /// Four or eight of them.
     Code,
+    /// Two of them.
+    Byte,
     /// Four digits 0 or 1.
     Flags,
     /// What an interrupt did.
     Handled,
+    /// What came of a byte for a device.
+    Fed,
     /// Whose message a task listens for.
     Listened,
     /// Why a call was closed.
@@ -151,6 +155,16 @@ pub(crate) const TURN_FORMS: &[Form] = &[
         name: b"restart",
         kind: Kind::Plain,
         fields: &[Field::Number, Field::Number],
+    },
+    Form {
+        name: b"in",
+        kind: Kind::Plain,
+        fields: &[Field::Number, Field::Byte, Field::Fed],
+    },
+    Form {
+        name: b"out",
+        kind: Kind::Plain,
+        fields: &[Field::Number, Field::Byte],
     },
     Form {
         name: b"irqstat",

@@ -5,7 +5,7 @@ use Rattle.std.specs.Prelude.{decimal}
 use Rattle.std.specs.String.Boundary.{IsSplitPoint}
 use Rattle.kernel_abi.specs.declared.Note.{Note}
 use Rattle.kernel_abi.specs.declared.Note.TheVariants as note
-use Rattle.trace_text.specs.Text.{line_of, tick_line, irq_line, post_line, syscall_line, ret_line, close_line, fault_line, listen_line, take_line, offer_line, borrow_line, restart_line, irq_status_line, find_line, insn_line, idle_line, low_line, high_line}
+use Rattle.trace_text.specs.Text.{line_of, tick_line, irq_line, post_line, syscall_line, ret_line, close_line, fault_line, listen_line, take_line, offer_line, borrow_line, restart_line, in_line, out_line, irq_status_line, find_line, insn_line, idle_line, low_line, high_line}
 
 -- first these bytes, then a space
 abbrev pub Begins : List ℕ → List ℕ → Type 0
@@ -18,7 +18,7 @@ longer : (xs ys zs : List ℕ) → Begins xs ys → Begins xs (ys ++ zs)
 longer xs ys zs b = (b.0 ++ zs, ap (λ (w : List ℕ). w ++ zs) b.1 ∙ append_assoc xs (32 ∷ b.0) zs)
 
 pub line_begins : (turn : ℕ) (n : Note) → Begins (decimal turn) (line_of turn n)
-unfolding tick_line irq_line post_line syscall_line ret_line close_line fault_line listen_line take_line offer_line borrow_line restart_line irq_status_line find_line insn_line idle_line low_line high_line
+unfolding tick_line irq_line post_line syscall_line ret_line close_line fault_line listen_line take_line offer_line borrow_line restart_line in_line out_line irq_status_line find_line insn_line idle_line low_line high_line
 line_begins turn (note.Tick now) = longer _ _ _ (longer _ _ _ (first _ _))
 line_begins turn (note.Irq line handled) = longer _ _ _ (longer _ _ _ (longer _ _ _ (longer _ _ _ (first _ _))))
 line_begins turn (note.Post task bits posted) = longer _ _ _ (longer _ _ _ (longer _ _ _ (longer _ _ _ (first _ _))))
@@ -31,6 +31,8 @@ line_begins turn (note.Take call copied) = longer _ _ _ (longer _ _ _ (longer _ 
 line_begins turn (note.Offer call client server) = longer _ _ _ (longer _ _ _ (longer _ _ _ (longer _ _ _ (longer _ _ _ (longer _ _ _ (first _ _))))))
 line_begins turn (note.Borrow call borrow lease offset moved) = longer _ _ _ (longer _ _ _ (longer _ _ _ (longer _ _ _ (longer _ _ _ (longer _ _ _ (longer _ _ _ (longer _ _ _ (longer _ _ _ (longer _ _ _ (first _ _))))))))))
 line_begins turn (note.Restart task generation) = longer _ _ _ (longer _ _ _ (longer _ _ _ (longer _ _ _ (first _ _))))
+line_begins turn (note.In device byte fed) = longer _ _ _ (longer _ _ _ (longer _ _ _ (longer _ _ _ (longer _ _ _ (longer _ _ _ (first _ _))))))
+line_begins turn (note.Out device byte) = longer _ _ _ (longer _ _ _ (longer _ _ _ (longer _ _ _ (first _ _))))
 line_begins turn (note.IrqStatus task bits status) = longer _ _ _ (longer _ _ _ (longer _ _ _ (longer _ _ _ (longer _ _ _ (first _ _)))))
 line_begins turn (note.Find index found) = longer _ _ _ (longer _ _ _ (longer _ _ _ (longer _ _ _ (first _ _))))
 line_begins turn (note.Insn task at code) = longer _ _ _ (longer _ _ _ (longer _ _ _ (longer _ _ _ (longer _ _ _ (longer _ _ _ (longer _ _ _ (first _ _)))))))

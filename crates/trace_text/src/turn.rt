@@ -1,16 +1,16 @@
 //! The lines of one turn.
-ghost use Rattle.std.specs.Prelude.{◌≡◌, ◌≤◌, length, decimal, Option, Some};
+ghost use Rattle.std.specs.Prelude.{◌≡◌, ◌≤◌, ◌/◌, length, decimal, Option, Some};
 ghost use Rattle.trace_text.specs.Text.{line_of};
 ghost use Rattle.trace_text.specs.Digits.{IsBegun};
 ghost use Rattle.trace_text.specs.Fit.{IsFit, IsFitNote};
 
 use crate::lines::line;
-use crate::words::push_decimal;
+use crate::words::{push_decimal, push_two};
 use arrayvec::ArrayString;
 use kernel_abi::Note;
 
-/// The lines of one turn, one after the other in one buffer, which begins with the digits of the turn's number: these
-/// are made once, in the buffer itself, since to move a buffer costs as much as a line.
+/// The lines of a turn, one after the other in one buffer, which begins with the digits of the turn's number: these
+/// are made once, in the buffer itself, since to move a buffer costs as much as a line, and serve the next turn too.
 #[derive(Drop)]
 pub struct TurnLines {
     pub number: u32,
@@ -33,6 +33,46 @@ impl TurnLines {
             number,
             text: ArrayString::new(),
             begun: None,
+        }
+    }
+
+    /// Other last digits in the place of those that stand there.
+    #[inline(always)]
+    fn change_last_two(&mut self, begun: usize, number: u32)
+        requires begun { begun_in self.old ≡ Some begun }
+        requires hundreds { number / 100 ≡ self.old.number / 100 }
+        requires long { 100 ≤ number }
+        ensures digits { last_line self.new ≡ decimal number }
+        ensures number { self.new.number ≡ number }
+    {
+        self.text.truncate(begun - 2);
+        push_two(&mut self.text, number % 100);
+        self.number = number;
+    }
+
+    #[inline(always)]
+    fn begin_anew(&mut self, number: u32)
+        ensures number { self.new.number ≡ number }
+    {
+        self.text.clear();
+        self.begun = None;
+        self.number = number;
+    }
+
+    /// Goes on to a turn, before its first line. Mostly only the last two digits are others than those of the turn before.
+    #[inline(always)]
+    pub fn go_to(&mut self, number: u32)
+        ensures number { self.new.number ≡ number }
+    {
+        match self.begun {
+            Some(begun) => {
+                if number >= 100 && number / 100 == self.number / 100 {
+                    self.change_last_two(begun, number);
+                } else {
+                    self.begin_anew(number);
+                }
+            }
+            None => self.begin_anew(number),
         }
     }
 

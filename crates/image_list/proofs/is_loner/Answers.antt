@@ -1,4 +1,4 @@
-use Rattle.std.proofs.Common.{◌≡◌, ℕ, Bool, map, vec_items, sym, ◌∙◌, ap}
+use Rattle.std.proofs.Common.{ℕ, Bool, map, vec_items, sym, ◌∙◌, ap}
 use Rattle.std.proofs.lemmas.List.{length-map}
 use Rattle.std.specs.List.{list_all, range_with_len}
 use Rattle.region_check.specs.Rights.{is_alone}

@@ -1,3 +1,4 @@
+use Rattle.task_table.proofs.Equipped.{sane-fed}
 use Rattle.task_table.proofs.Timing.{sane-ticked, sane-interrupted}
 use Rattle.task_table.proofs.laws.events_keep_sane.Goals as goal
 
@@ -6,3 +7,6 @@ returns-clause-ticked c = λ g t h. sane-ticked t h
 
 pub returns-clause-interrupted : goal.returns-clause-interrupted
 returns-clause-interrupted c = λ g k t h. sane-interrupted k t h
+
+pub returns-clause-fed : goal.returns-clause-fed
+returns-clause-fed c = λ g device byte t small h. sane-fed device byte t small h

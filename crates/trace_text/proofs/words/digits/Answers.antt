@@ -1,13 +1,17 @@
-use Rattle.std.proofs.Common.{◌≡◌, ◌/◌, ◌%◌, ◌^◌, ◌∙◌, ap, arith}
+use Rattle.std.proofs.Common.{◌++◌, List, ℕ, refl, sym, subst}
+use Rattle.std.specs.List.{range_with_len}
+use Rattle.std.specs.Str.{IsAscii}
+use lib.Lanes.{pick_l}
 use Rattle.trace_text.specs.Text.{hex}
-use Rattle.thumb_insn.specs.Text.{hex_digit}
+use Rattle.trace_text.proofs.Lanes.{hex_ascii}
 use Rattle.trace_text.proofs.words.digits.Goals as goal
 
 pub returns-clause-bytes : goal.returns-clause-bytes
 unfolding hex
-returns-clause-bytes c =
-    let n = c.args.n in
-    let first : n / 16777216 / 16 % 16 ≡ n / 16 ^ 7 % 16 = omega arith in
-    let third : n / 65536 / 16 % 16 ≡ n / 16 ^ 5 % 16 = omega arith in
-    let fifth : n / 256 / 16 % 16 ≡ n / 16 ^ 3 % 16 = omega arith in
-    rw (c.pair-a.ensures.high ∙ ap hex_digit first, c.pair-a.ensures.low, c.pair-c.ensures.high ∙ ap hex_digit third, c.pair-c.ensures.low, c.pair-e.ensures.high ∙ ap hex_digit fifth, c.pair-e.ensures.low, c.pair-g.ensures.high, c.pair-g.ensures.low)
+returns-clause-bytes c = rw c.digits_of_four.ensures refl
+
+pub returns-clause-ascii : goal.returns-clause-ascii
+unfolding hex
+returns-clause-ascii c =
+    let P : List ℕ → Type 0 = λ d. IsAscii (pick_l 0 (d ++ d) (range_with_len 0 8)) in
+    subst P (sym c.digits_of_four.ensures) (hex_ascii c.args.n)

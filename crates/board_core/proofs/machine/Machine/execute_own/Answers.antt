@@ -1,6 +1,6 @@
 use Rattle.std.proofs.Common.{sym, ◌∙◌, arith}
 use Rattle.board_core.specs.Machine.{MachineHolds}
-use Rattle.board_core.proofs.Running.{stores_hold, stores_notes, was_next, was_syscall, was_trap}
+use Rattle.board_core.proofs.Running.{moves_hold, moves_notes, was_next, was_syscall, was_trap}
 use Rattle.board_model.proofs.Stepping.{trap_known}
 use Rattle.board_core.proofs.Loading.{effect_loaded, loaded_by, goes_on, next_loaded, acted_as, ready_same}
 use Rattle.board_core.proofs.machine.Machine.execute_own.Goals as goal
@@ -33,8 +33,8 @@ returns-in-Next-clause-holds c = λ g t r.
     let w = was_next _ _ _ _ _ _ c.exec.ensures c.in-Next.is in
     let here = effect_loaded g _ _ t c.args.insn.now r.holds r.sane.steady.current in
     loaded_by _ g _ _ _ r.loaded
-    (next_loaded g _ t t.state.current _ w.processor c.exec.new.cpu w.stores (sym here ∙ w.is) w.after
-    (goes_on g _ _ _ c.exec.new.cpu t w.stores r.holds r.sane.steady.current (λ u h. stores_hold w.stores _ _ w.bus g u h)))
+    (next_loaded g _ t t.state.current _ w.processor c.exec.new.cpu w.moves (sym here ∙ w.is) w.after
+    (goes_on g _ _ _ c.exec.new.cpu t w.moves r.holds r.sane.steady.current (λ u h. moves_hold w.moves _ _ w.bus g u h)))
 
 pub returns-in-Call-clause-holds : goal.returns-in-Call-clause-holds
 returns-in-Call-clause-holds c = λ g t r.
@@ -51,5 +51,5 @@ returns-in-Trap-clause-holds c = λ g t r.
 pub returns-in-Next-clause-count : goal.returns-in-Next-clause-count
 returns-in-Next-clause-count c =
     let w = was_next _ _ _ _ _ _ c.exec.ensures c.in-Next.is in
-    let same = stores_notes w.stores _ _ w.bus in
+    let same = moves_notes w.moves _ _ w.bus in
     omega (arith, same)

@@ -1,0 +1,73 @@
+-- What a board holds once a part of it is as it was told.
+use Rattle.std.proofs.Common.{◌≡◌, ◌≤◌, ◌∙◌, ℕ, false, List, refl, sym, ap, subst}
+use Rattle.mem_banks.specs.Memory.{Memory, with_bytes}
+use Rattle.mem_banks.proofs.Copies.{with_bytes_ram}
+use Rattle.task_table.specs.State.{Setup, State, Turn, Call, Listen}
+use Rattle.task_table.specs.Reading.{task_at, call_of, listen_of, is_ready, chosen}
+use Rattle.task_table.specs.Effects.{with_task, without_call, without_listen, with_listen}
+use Rattle.task_table.specs.Setting.{with_slot, with_wait, with_open_call, call_told, listen_told}
+use Rattle.task_table.specs.declared.Line.{Line}
+use Rattle.task_table.specs.declared.kernel.Kernel.{Kernel}
+use Rattle.task_table.specs.declared.slot.Slot.{Slot}
+use Rattle.task_table.specs.declared.slot.Wait.{Wait}
+use Rattle.task_table.specs.declared.slot.Wait.TheVariants as wait
+use Rattle.task_table.specs.Holds.{Holds as KernelHolds, memory_of}
+use Rattle.board_model.specs.Script.{Scenario}
+use Rattle.board_core.specs.declared.board.Board.{Board}
+use Rattle.board_core.specs.declared.choice.Choice.{Choice}
+use Rattle.board_core.specs.Kept.{IsChoice}
+use Rattle.board_core.specs.Setting.{with_flash}
+use Rattle.board_core.specs.Stands.{Holds}
+use Rattle.board_core.proofs.Loading.{unloaded_by}
+use Rattle.board_core.proofs.Turning.{rested, rested_as}
+
+-- its kernel holds the state, and has all contexts; the turn and what is known of the events are as they were
+pub holds_told : (x y : Scenario) (s u : State) (b b' : Board) → Holds x b s → y.script ≡ x.script → u.turn ≡ s.turn → KernelHolds y.setup b'.machine.reach.kernel (rested b.machine u) → b'.machine.loaded ≡ false → IsChoice y.setup u b'.choice → b'.turns ≡ b.turns → b'.script ≡ b.script → b'.due ≡ b.due → Holds y b' u
+holds_told x y s u b b' h same turn kernel unloaded choice turns script due = record {
+  machine = rested_as y.setup b.machine b'.machine u (unloaded_by b'.machine.loaded y.setup b'.machine.reach.kernel b'.machine.processor (rested b.machine u) unloaded kernel);
+  turns = turns ∙ h.turns ∙ sym turn;
+  choice = choice;
+  script = rw (script, same) h.script;
+  due = rw (due, same, turn) h.due;
+}
+
+-- who is chosen does not go by the memory, the time, the lines, the turn or the number of the next call
+pub choice_stays : (g : Setup) (s : State) (c : Choice) (flash : List ℕ) (memory : Memory) (turn time next_call : ℕ) (lines : List Line) → IsChoice g s c → IsChoice record g { flash = flash } record s { memory = memory; turn = turn; now = time; next_call = next_call; lines = lines } c
+unfolding chosen is_ready task_at call_of listen_of
+choice_stays g s c flash memory turn time next_call lines h = record {
+  next = h.next;
+  order = h.order;
+  ready = record { ordered = h.ready.ordered; each = h.ready.each };
+  down = h.down;
+}
+
+open_turn : (c : Call) (s : State) → (with_open_call c s).turn ≡ s.turn
+unfolding with_open_call
+open_turn c s = refl
+
+listen_turn : (l : Listen) (s : State) → (with_listen l s).turn ≡ s.turn
+unfolding with_listen
+listen_turn l s = refl
+
+-- a task that is told leaves the turn's number
+pub turn-with_slot : (i : ℕ) (slot : Slot) (s : State) → (with_slot i slot s).turn ≡ s.turn
+unfolding with_slot with_task without_call without_listen
+turn-with_slot i slot s = by_wait slot.wait _
+  where
+    by_wait : (w : Wait) (u : State) → (with_wait i w u).turn ≡ u.turn
+    by_wait (wait.Call c) u = open_turn (call_told c) u
+    by_wait (wait.Listen l) u = listen_turn (listen_told i l) u
+    by_wait wait.Nothing u = refl
+
+-- the flash with a byte set, and of a byte of the RAM it is the image's
+pub flash_set : (g : Setup) (k k' : Kernel) (t : Turn) (a : ℕ) (bytes : List ℕ) → KernelHolds g k t → memory_of k' ≡ with_bytes (memory_of k) a bytes → (memory_of k').flash ≡ (with_bytes t.state.memory a bytes).flash
+flash_set g k k' t a bytes h e = ap (λ (m : Memory). m.flash) e ∙ ap (λ (m : Memory). (with_bytes m a bytes).flash) h.memory
+
+pub flash_stays : (g : Setup) (k : Kernel) (t : Turn) (a : ℕ) (bytes : List ℕ) → KernelHolds g k t → 0x20000000 ≤ a → (with_bytes t.state.memory a bytes).flash ≡ g.flash
+flash_stays g k t a bytes h ram =
+    ap (λ (m : Memory). m.flash) (with_bytes_ram t.state.memory a bytes ram)
+    ∙ ap (λ (m : Memory). m.flash) (sym h.memory)
+    ∙ ap (λ (x : Setup). x.flash) h.setup
+
+pub same_flash : (x : Scenario) (b : Board) (u : State) (flash : List ℕ) → flash ≡ x.setup.flash → Holds (with_flash flash x) b u → Holds x b u
+same_flash x b u flash e h = subst (λ (bytes : List ℕ). Holds (with_flash bytes x) b u) e h

@@ -1,0 +1,119 @@
+//! Parts of a board that become as they are told, each for itself. The state in between need not be sane; where the last one
+//! is, and its counts are in order, the board stands for it.
+ghost use Rattle.std.specs.Prelude.{◌≡◌, ◌<◌, ◌≤◌, ◌∷◌, [], true, slice_set};
+ghost use Rattle.std.specs.Option.{option_map};
+ghost use Rattle.mem_banks.specs.Memory.{with_bytes, is_held};
+ghost use Rattle.task_table.specs.State.{State};
+ghost use Rattle.task_table.specs.Setting.{with_slot, IsTold};
+ghost use Rattle.board_model.specs.Script.{Scenario};
+ghost use Rattle.board_core.specs.Stands.{Holds, count_of};
+ghost use Rattle.board_core.specs.Setting.{timer_told, slot_told, with_flash};
+
+use crate::board::Board;
+use crate::choice::choice_of;
+use crate::views::TaskView;
+use kernel_abi::{Generation, Timer};
+use task_table::{Line, Slot};
+
+/// A timer by its deadline and its bits.
+fn timer(told: Option<(u64, u32)>) -> Option<Timer>
+    ensures { result ≡ option_map timer_told told }
+{
+    match told {
+        Some((deadline, bits)) => Some(Timer { deadline, bits }),
+        None => None,
+    }
+}
+
+/// What is kept of a task that is shown so.
+fn slot(view: &TaskView) -> Slot
+    ensures { result ≡ slot_told view.now }
+{
+    Slot {
+        generation: Generation {
+            number: view.generation,
+        },
+        registers: view.regs,
+        flags: view.flags,
+        health: view.health,
+        posted: view.posted,
+        timer: timer(view.timer),
+        wait: view.wait,
+    }
+}
+
+impl Board {
+    /// So many turns were made.
+    pub fn set_turns(&mut self, v: u32)
+        ensures holds { (x : Scenario) (s : State) → Holds x self.old s → Holds x self.new (record s { turn = v }) }
+        ensures count { count_of self.new ≡ count_of self.old }
+    {
+        self.turns = v;
+        self.due = self.script.next(v);
+    }
+
+    /// The time in ticks is so.
+    pub fn set_now(&mut self, v: u64)
+        ensures holds { (x : Scenario) (s : State) → Holds x self.old s → Holds x self.new (record s { now = v }) }
+        ensures count { count_of self.new ≡ count_of self.old }
+    {
+        self.machine.save_context();
+        self.machine.reach.kernel.set_now(v);
+    }
+
+    /// The task with this index ran last.
+    pub fn set_current(&mut self, v: usize)
+        requires { v < count_of self.old }
+        ensures holds { (x : Scenario) (s : State) → Holds x self.old s → Holds x self.new (record s { current = v }) }
+        ensures count { count_of self.new ≡ count_of self.old }
+    {
+        self.machine.save_context();
+        self.machine.reach.kernel.set_current(v);
+        self.choice = choice_of(&self.machine.reach.kernel);
+    }
+
+    /// The next call gets this number.
+    pub fn set_next_call(&mut self, v: u32)
+        ensures holds { (x : Scenario) (s : State) → Holds x self.old s → Holds x self.new (record s { next_call = v }) }
+        ensures count { count_of self.new ≡ count_of self.old }
+    {
+        self.machine.save_context();
+        self.machine.reach.kernel.set_next_call(v);
+    }
+
+    /// An interrupt line is so; where there is none with this number, nothing changes.
+    pub fn set_irq_line(&mut self, k: usize, enabled: bool, pending: bool)
+        ensures holds { (x : Scenario) (s : State) → Holds x self.old s → Holds x self.new (record s { lines = slice_set s.lines k (record { enabled = enabled; pending = pending }) }) }
+        ensures count { count_of self.new ≡ count_of self.old }
+    {
+        self.machine.save_context();
+        self.machine
+            .reach
+            .kernel
+            .set_line(k, Line { enabled, pending });
+    }
+
+    /// A task is so, and waits so and for nothing else: it was born as often as its generation says. The client of a call that it
+    /// waits for is that birth of it.
+    pub fn set_task(&mut self, i: usize, v: &TaskView)
+        requires there { i < count_of self.old }
+        requires told { IsTold i (slot_told v.now) }
+        ensures holds { (x : Scenario) (s : State) → Holds x self.old s → Holds x self.new (with_slot i (slot_told v.now) s) }
+        ensures count { count_of self.new ≡ count_of self.old }
+    {
+        self.machine.save_context();
+        self.machine.reach.kernel.set_task(i, slot(v));
+        self.choice = choice_of(&self.machine.reach.kernel);
+    }
+
+    /// The byte at an address of the flash or of the RAM is so. With another flash it is a board of an image that has that one.
+    pub fn set_byte(&mut self, addr: u32, v: u8)
+        requires { (x : Scenario) × (s : State) × Holds x self.old s × (is_held s.memory addr ≡ true) }
+        ensures holds { (x : Scenario) (s : State) → Holds x self.old s → Holds (with_flash (with_bytes s.memory addr (v ∷ [])).flash x) self.new (record s { memory = with_bytes s.memory addr (v ∷ []) }) }
+        ensures ram { 0x20000000 ≤ addr → (x : Scenario) (s : State) → Holds x self.old s → Holds x self.new (record s { memory = with_bytes s.memory addr (v ∷ []) }) }
+        ensures count { count_of self.new ≡ count_of self.old }
+    {
+        self.machine.save_context();
+        self.machine.reach.kernel.set_byte(addr, v);
+    }
+}
