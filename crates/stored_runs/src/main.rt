@@ -8,16 +8,18 @@
 //! `hex NAME`, a file as bytes, where `00*9` is nine of one; `room NAME`, a file with room for so many bytes, and those
 //! that it holds; `player NAME` and `server NAME`, the source of a task that makes the calls of a table, and the table;
 //! `repeated NAME`, a file in which the lines between a line `< N` and a line `>` stand N times, `@` being the number of the time;
-//! `left NAME`, the bytes that stand there in the end; and any other key is the name of a file that stands there as it is.
+//! `devices`, which devices are handed in; `left NAME`, the bytes that stand there in the end; and any other key is the name of a file that stands there as it is.
 //! Last comes `text`, the lines that are wanted, or `sum`, the checksum of the text.
 #![tactic(auto)]
 
+mod devices;
 mod halfwords;
 mod images;
 mod loners;
 mod players;
 mod repeated;
 
+use devices::{with_eight, with_two};
 use outside_io::{MemFiles, MemSink, read_all};
 use players::{END, FRONT, PLAYER, SERVER};
 use repeated::push_repeated;
@@ -147,12 +149,13 @@ enum Form {
 }
 
 /// The keys of parts that tell no file, besides `left NAME`.
-const NO_FILES: [&str; 7] = [
+const NO_FILES: [&str; 8] = [
     "words",
     "each word",
     "failing calls",
     "failing pushes",
     "turns",
+    "devices",
     "text",
     "sum",
 ];
@@ -273,7 +276,11 @@ fn answers(
     out: &mut MemSink,
 ) -> Result<bool, AllocError> {
     let words = words_of(alloc, parts)?;
-    let status = hubris_main(alloc, &words, files, out);
+    let status = match contents(parts, "devices") {
+        Some("two") => with_two(alloc, &words, files, out)?,
+        Some("eight") => with_eight(alloc, &words, files, out)?,
+        _ => hubris_main(alloc, &words, files, out),
+    };
     let (wanted, _) = head.split_once(' ').unwrap_or((head, ""));
     Ok(
         wanted.parse::<u8>() == Ok(status)
