@@ -23,16 +23,16 @@ use Rattle.snapshot.specs.Waits.{state_fault}
 use Rattle.snapshot.specs.Saved.{spelling, expected_of}
 
 plain : Setup → Scenario
-plain g = record { setup = g; script = record { every = None; events = [] } }
+plain g = record { setup = g; script = record { every = None; events = [] }; devices = [] }
 
 state : Setup → ℕ → State
 state g n = (run Calls (plain g) n (start g)).last
 
 -- the bytes but for the RAM, how many there are in all, and that no cause is found
 record IsSavedAs (g : Setup) (n : ℕ) (bytes : List ℕ) (long : ℕ) : Type 0 where
-  front : take (100 + 132 * length g.tasks) (spelling (state g n) []) ≡ bytes
-  all : length (spelling (state g n) []) ≡ long
-  none : state_fault (expected_of g []) (spelling (state g n) []) ≡ None
+  front : take (100 + 132 * length g.tasks) (spelling (state g n)) ≡ bytes
+  all : length (spelling (state g n)) ≡ long
+  none : state_fault (expected_of g (state g n).devices) (spelling (state g n)) ≡ None
 
 setup_a2 : Setup
 setup_a2 = record {

@@ -60,8 +60,8 @@ mapped_in [] r h = absurd (omega (arith, h.1))
 mapped_in (d ∷ ds) r (zero, lt, same) = let e : device_told d ≡ r = same in (d, (zero, omega arith, refl), sym e)
 mapped_in (d ∷ ds) r (suc k, lt, same) = let q = mapped_in ds r (k, omega arith, same) in (q.0, (suc q.1.0, omega (arith, q.1.1), q.1.2), q.2)
 
-pub are_parts : (s : State) (devices : List DeviceData) → ((i : ℕ) → i < length s.tasks → length (task_at s i).registers ≡ 16) → ((d : DeviceData) → Contains devices d → length d.queue ≤ 64) → AreParts (parts_of s devices)
-are_parts s devices sixteen few =
+pub are_parts : (s : State) → ((i : ℕ) → i < length s.tasks → length (task_at s i).registers ≡ 16) → ((d : DeviceData) → Contains s.devices d → length d.queue ≤ 64) → AreParts (parts_of s)
+are_parts s sixteen few =
     let n = length s.tasks in
     let count : length (map (record_of s) (range_with_len 0 n)) ≡ n = length-map-range_with_len (record_of s) 0 n in
     record {
@@ -73,8 +73,8 @@ are_parts s devices sixteen few =
           let same : 0 + e.0 ≡ e.0 = omega arith in
           let is : record_of s e.0 ≡ t = sym (get_or-map-range_with_len (record_of s) 0 n e.0 e.0 t lt same) ∙ e.2 in
           subst IsTaskRecord is (record { registers = sixteen e.0 lt; words = words_eight (call_of s e.0) (listen_of s e.0) });
-      device_count = length-map devices device_told;
-      devices = λ r here. let q = mapped_in devices r here in subst (λ (x : DeviceRecord). length x.queue ≡ 64) (sym q.2) (queue_long q.0 (few q.0 q.1));
+      device_count = length-map s.devices device_told;
+      devices = λ r here. let q = mapped_in s.devices r here in subst (λ (x : DeviceRecord). length x.queue ≡ 64) (sym q.2) (queue_long q.0 (few q.0 q.1));
       ram = refl;
     }
 
@@ -466,27 +466,27 @@ few_of g s i sane few = by (listen_of s i) refl
     by None e = tt
     by (Some l) e = by_from l l.from refl (the_listen s i l e).0
 
--- each device is one that may be set so
-abbrev pub AreSettable : List DeviceData → Type 0
-AreSettable devices = (d : DeviceData) → Contains devices d → IsSettable d.kind d.count d.queue
-
 has_at : {X : Type 0} (xs : List X) (k : ℕ) (d : X) → k < length xs → Contains xs (get_or xs k d)
 has_at [] k d lt = absurd (omega arith)
 has_at (x ∷ xs) zero d lt = (zero, omega arith, refl)
 has_at (x ∷ xs) (suc k) d lt = let r = has_at xs k d (omega arith) in (suc r.0, omega (arith, r.1), r.2)
 
 -- the spelling of a sane state, whose counts are in order, has no cause
-pub saved_is_accepted : (g : Setup) (s : State) (devices : List DeviceData) (bytes : List ℕ) → Sane g s → IsCounted s → s.turn ≤ 1000000000 → length g.tasks ≤ 1024 → AreSettable devices → SpellsState g s devices bytes → IsAccepted (expected_of g devices) bytes
-saved_is_accepted g s devices bytes sane counted turns few set spells = subst (IsAccepted (expected_of g devices)) (sym spells.is) accepted
+pub saved_is_accepted : (g : Setup) (s : State) (bytes : List ℕ) → Sane g s → IsCounted s → s.turn ≤ 1000000000 → length g.tasks ≤ 1024 → SpellsState g s bytes → IsAccepted (expected_of g s.devices) bytes
+saved_is_accepted g s bytes sane counted turns few spells = subst (IsAccepted (expected_of g s.devices)) (sym spells.is) accepted
   where
+    -- each device is one that may be set so
+    set : (d : DeviceData) → Contains s.devices d → IsSettable d.kind d.count d.queue
+    set d has = (sane.steady.devices.sane d has).settable
+
     p : Parts
-    p = parts_of s devices
+    p = parts_of s
 
     b : List ℕ
     b = bytes_of p
 
     parts : AreParts p
-    parts = are_parts s devices (λ i lt. (sane.steady.tasks i lt).sixteen) (λ d has. few_queued d.kind d.count d.queue (set d has))
+    parts = are_parts s (λ i lt. (sane.steady.tasks i lt).sixteen) (λ d has. few_queued d.kind d.count d.queue (set d has))
 
     whole : IsWhole b
     whole = whole_again p parts
@@ -503,8 +503,8 @@ saved_is_accepted g s devices bytes sane counted turns few set spells = subst (I
     ram : (header_at b).ram ≡ g.ram
     ram = ap (λ (h : Header). h.ram) head ∙ spells.ram
 
-    kinds : (header_at b).devices ≡ length (map (λ (d : DeviceData). d.kind) devices)
-    kinds = ap (λ (h : Header). h.devices) head ∙ sym (length-map devices (λ (d : DeviceData). d.kind))
+    kinds : (header_at b).devices ≡ length (map (λ (d : DeviceData). d.kind) s.devices)
+    kinds = ap (λ (h : Header). h.devices) head ∙ sym (length-map s.devices (λ (d : DeviceData). d.kind))
 
     told : (j : ℕ) → j < length s.tasks → task_in b j ≡ record_of s j
     told j lt =
@@ -516,10 +516,10 @@ saved_is_accepted g s devices bytes sane counted turns few set spells = subst (I
         let same : 0 + k ≡ k = omega arith in
         line_place p k parts lt ∙ get_or-map-range_with_len (λ j. line_number (line_at s j)) 0 64 k k 0 lt same
 
-    device_is : (k : ℕ) (d : DeviceData) → k < length devices → device_in b (length g.tasks) k ≡ device_told (get_or devices k d)
+    device_is : (k : ℕ) (d : DeviceData) → k < length s.devices → device_in b (length g.tasks) k ≡ device_told (get_or s.devices k d)
     device_is k d lt =
-        let long = length-map devices device_told in
-        ap (λ n. device_in b n k) (sym spells.tasks) ∙ device_place p k (device_told d) parts (omega (arith, lt, long)) ∙ get_or-map device_told devices k d
+        let long = length-map s.devices device_told in
+        ap (λ n. device_in b n k) (sym spells.tasks) ∙ device_place p k (device_told d) parts (omega (arith, lt, long)) ∙ get_or-map device_told s.devices k d
 
     no_device : DeviceData
     no_device = record { kind = Console; base = 0; count = 0; queue = [] }
@@ -527,14 +527,14 @@ saved_is_accepted g s devices bytes sane counted turns few set spells = subst (I
     tasks_count : length (map (λ (t : TaskSetup). t.regions) g.tasks) ≡ length g.tasks
     tasks_count = length-map g.tasks (λ (t : TaskSetup). t.regions)
 
-    accepted : IsAccepted (expected_of g devices) b
+    accepted : IsAccepted (expected_of g s.devices) b
     accepted = record {
       letters = whole.letters;
       turn = subst (λ (h : Header). h.turn ≤ 1000000000) (sym head) turns;
       tasks = tasks ∙ sym tasks_count;
       ram = ram;
       clock = subst (λ (h : Header). h.clock ≤ 9 * h.turn) (sym head) counted.now;
-      current = subst (λ (h : Header). h.current < length (expected_of g devices).regions) (sym head) (subst (λ n. s.current < n) (sane.steady.as_many ∙ sym tasks_count) sane.steady.current);
+      current = subst (λ (h : Header). h.current < length (expected_of g s.devices).regions) (sym head) (subst (λ n. s.current < n) (sane.steady.as_many ∙ sym tasks_count) sane.steady.current);
       some_call = subst (λ (h : Header). 1 ≤ h.next_call) (sym head) counted.some;
       few_calls = subst (λ (h : Header). h.next_call ≤ h.turn + 1) (sym head) counted.calls;
       devices = kinds;
@@ -547,12 +547,12 @@ saved_is_accepted g s devices bytes sane counted turns few set spells = subst (I
       waits = λ i lt.
           let here : i < length s.tasks = subst (λ n. i < n) (tasks_count ∙ sym sane.steady.as_many) lt in
           let own = regions_at (map (λ (t : TaskSetup). t.regions) g.tasks) i in
-          subst (λ (h : Header). is_good_wait own (task_in b) (length (expected_of g devices).regions) h.next_call i ≡ true) (sym head)
+          subst (λ (h : Header). is_good_wait own (task_in b) (length (expected_of g s.devices).regions) h.next_call i ≡ true) (sym head)
           (subst (λ n. is_good_wait own (task_in b) n s.next_call i ≡ true) (sym tasks_count) (good_wait g s sane few spells.small (task_in b) told i here));
       fit = λ k lt.
-          let here : k < length devices = omega (arith, lt, length-map devices (λ (d : DeviceData). d.kind)) in
-          let kind : kind_at (map (λ (d : DeviceData). d.kind) devices) k ≡ (get_or devices k no_device).kind = get_or-map (λ (d : DeviceData). d.kind) devices k no_device in
-          let is : device_in b (length (expected_of g devices).regions) k ≡ device_told (get_or devices k no_device) = ap (λ n. device_in b n k) tasks_count ∙ device_is k no_device here in
-          let good = device_fits (get_or devices k no_device) (set _ (has_at devices k no_device here)) in
-          subst (λ (x : Kind). IsGoodDevice x (device_in b (length (expected_of g devices).regions) k)) (sym kind) (subst (IsGoodDevice (get_or devices k no_device).kind) (sym is) good);
+          let here : k < length s.devices = omega (arith, lt, length-map s.devices (λ (d : DeviceData). d.kind)) in
+          let kind : kind_at (map (λ (d : DeviceData). d.kind) s.devices) k ≡ (get_or s.devices k no_device).kind = get_or-map (λ (d : DeviceData). d.kind) s.devices k no_device in
+          let is : device_in b (length (expected_of g s.devices).regions) k ≡ device_told (get_or s.devices k no_device) = ap (λ n. device_in b n k) tasks_count ∙ device_is k no_device here in
+          let good = device_fits (get_or s.devices k no_device) (set _ (has_at s.devices k no_device here)) in
+          subst (λ (x : Kind). IsGoodDevice x (device_in b (length (expected_of g s.devices).regions) k)) (sym kind) (subst (IsGoodDevice (get_or s.devices k no_device).kind) (sym is) good);
     }

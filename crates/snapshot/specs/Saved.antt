@@ -98,8 +98,8 @@ device_told d = record { count = d.count; queued = length d.queue; queue = d.que
 abbrev pub line_number : Line → ℕ
 line_number l = bit l.enabled 1 + bit l.pending 2
 
-abbrev pub parts_of : State → List DeviceData → Parts
-parts_of s devices =
+abbrev pub parts_of : State → Parts
+parts_of s =
     record {
       header = record {
         turn = s.turn;
@@ -108,27 +108,27 @@ parts_of s devices =
         clock = s.now;
         current = s.current;
         next_call = s.next_call;
-        devices = length devices;
+        devices = length s.devices;
       };
       lines = map (λ k. line_number (line_at s k)) (range_with_len 0 64);
       tasks = map (record_of s) (range_with_len 0 (length s.tasks));
-      devices = map device_told devices;
+      devices = map device_told s.devices;
       ram = s.memory.ram;
     }
 
-abbrev pub spelling : State → List DeviceData → List ℕ
-spelling s devices = bytes_of (parts_of s devices)
+abbrev pub spelling : State → List ℕ
+spelling s = bytes_of (parts_of s)
 
 -- the bytes spell a state of an image, whose births are below 64
-pub record SpellsState (g : Setup) (s : State) (devices : List DeviceData) (bytes : List ℕ) : Type 0 where
+pub record SpellsState (g : Setup) (s : State) (bytes : List ℕ) : Type 0 where
   pub tasks : length s.tasks ≡ length g.tasks
   pub lines : length s.lines ≡ g.line_count
   pub flash : s.memory.flash ≡ g.flash
   pub ram : length s.memory.ram ≡ g.ram
   pub small : reduced s ≡ s
-  pub is : bytes ≡ spelling s devices
+  pub is : bytes ≡ spelling s
 
--- ## what a saved state of an image must fit
+-- ## what a saved state of an image must fit, beside these devices
 
 abbrev pub expected_of : Setup → List DeviceData → Expected
 expected_of g devices =

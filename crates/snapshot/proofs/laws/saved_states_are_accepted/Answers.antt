@@ -4,4 +4,4 @@ use Rattle.snapshot.proofs.Saves.{saved_is_accepted}
 use Rattle.snapshot.proofs.laws.saved_states_are_accepted.Goals as goal
 
 pub returns : goal.returns
-returns c = λ g s devices bytes sane counted turns few set spells. none_of (expected_of g devices) bytes (saved_is_accepted g s devices bytes sane counted turns few (λ d has. (set.sane d has).settable) spells)
+returns c = λ g s bytes sane counted turns few spells. none_of (expected_of g s.devices) bytes (saved_is_accepted g s bytes sane counted turns few spells)
