@@ -373,6 +373,7 @@ impl Kernel {
         requires { note_count self.old < turn_notes }
         ensures holds { (g : Setup) (t : Turn) → Holds g self.old t → Holds g self.new (noted note t) }
         ensures entries { entries_of self.new ≡ entries_of self.old }
+        ensures current { current_of self.new ≡ current_of self.old }
         ensures frame { AddsNotes self.old 1 self.new }
     {
         self.notes.push_reserved(note);
