@@ -1,7 +1,8 @@
 //! Parts of a board that become as they are told, each for itself. The state in between need not be sane; where the last one
 //! is, and its counts are in order, the board stands for it.
-ghost use Rattle.std.specs.Prelude.{◌≡◌, ◌<◌, ◌≤◌, ◌∷◌, [], true, slice_set};
+ghost use Rattle.std.specs.Prelude.{◌≡◌, ◌<◌, ◌≤◌, ◌∷◌, [], length, true, slice_set};
 ghost use Rattle.std.specs.Option.{option_map};
+ghost use Rattle.kernel_abi.specs.Devices.{device_at, with_device, IsSettable};
 ghost use Rattle.mem_banks.specs.Memory.{with_bytes, is_held};
 ghost use Rattle.task_table.specs.State.{State};
 ghost use Rattle.task_table.specs.Setting.{with_slot, IsTold};
@@ -115,5 +116,15 @@ impl Board {
     {
         self.machine.save_context();
         self.machine.reach.kernel.set_byte(addr, v);
+    }
+
+    /// So many bytes were stored to the k-th device, modulo 2^32, and these wait in it, the first first.
+    pub fn set_device(&mut self, k: usize, count: u32, queue: &[u8])
+        requires { (x : Scenario) × (s : State) × Holds shown x self.old s × (k < length s.devices) × IsSettable (device_at s.devices k).kind count queue.now }
+        ensures holds { (x : Scenario) (s : State) → Holds shown x self.old s → Holds shown x self.new (record s { devices = with_device s.devices k (record (device_at s.devices k) { count = count; queue = queue.now }) }) }
+        ensures count { count_of self.new ≡ count_of self.old }
+    {
+        self.machine.save_context();
+        self.machine.reach.devices.set(k, count, queue);
     }
 }
