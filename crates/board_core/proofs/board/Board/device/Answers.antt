@@ -1,0 +1,7 @@
+use Rattle.std.proofs.Common.{sym, ◌∙◌, arith}
+use Rattle.board_core.proofs.Loading.{devices_held}
+use Rattle.board_core.proofs.Queues.{device_seen, no_device}
+use Rattle.board_core.proofs.board.Board.device.Goals as goal
+
+pub returns : goal.returns
+returns boxes c = λ x s st. device_seen _ _ c.args.k _ (devices_held _ _ x.setup _ _ _ st.holds.machine) st.sane.steady.devices ? c.view.ensures
