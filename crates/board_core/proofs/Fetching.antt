@@ -1,5 +1,5 @@
 -- The instruction that is fetched for the current task is the one of the turn.
-use Rattle.std.proofs.Common.{◌≡◌, ◌%◌, ℕ, List, [], sym, ◌∙◌, ap}
+use Rattle.std.proofs.Common.{◌≡◌, ◌%◌, ℕ, List, sym, ◌∙◌, ap}
 use Rattle.std.specs.Prelude.{Result}
 use Rattle.kernel_abi.specs.declared.Fault.{Fault}
 use Rattle.kernel_abi.specs.Devices.{DeviceData}
@@ -16,25 +16,26 @@ use Rattle.board_model.specs.Turn.{refusals, held, stepped_by, stepped}
 use Rattle.board_core.proofs.Gliding.{current_seen}
 use Rattle.board_core.proofs.Loading.{rest_of}
 use Rattle.board_core.proofs.Running.{held_in}
+use Rattle.board_core.specs.Data.{Shows, data_of}
 
-module _ (g : Setup) (m : Machine) (t : Turn) (r : IsReady g m t) where
+module _ {X : Type 0} {H : X → Type 0} (shown : Shows X H) (g : Setup) (m : Machine X H) (t : Turn) (r : IsReady shown g m t) where
   -- PC is even
   pub even_pc : (at : ℕ) → at ≡ register t.state t.state.current 15 → at % 2 ≡ 0
   unfolding register
   even_pc at is = rw is (r.sane.steady.tasks t.state.current r.sane.steady.current).even
 
-  fetched_here : (at : ℕ) → fetched (refusals (setup_of m.reach.kernel) (current_of m.reach.kernel)) (shown_by m.reach) at ≡ fetched (refusals g t.state.current) (held t.state) at
+  fetched_here : (at : ℕ) → fetched (refusals (setup_of m.reach.kernel) (current_of m.reach.kernel)) (shown_by shown m.reach) at ≡ fetched (refusals g t.state.current) (held t.state) at
   fetched_here at =
       let k = m.reach.kernel in
       let h = r.holds in
       let rest = rest_of h.saved t m.processor h.is in
-      ap (λ (x : Setup). fetched (refusals x (current_of k)) (shown_by m.reach) at) h.holds.kernel.setup
-      ∙ ap (λ (i : ℕ). fetched (refusals g i) (shown_by m.reach) at) (current_seen g m t r)
-      ∙ ap (λ (x : Memory). fetched (refusals g t.state.current) (held_in x []) at) (h.holds.kernel.memory ∙ sym rest.memory)
+      ap (λ (x : Setup). fetched (refusals x (current_of k)) (shown_by shown m.reach) at) h.holds.kernel.setup
+      ∙ ap (λ (i : ℕ). fetched (refusals g i) (shown_by shown m.reach) at) (current_seen shown g m t r)
+      ∙ ap (λ (x : Memory). fetched (refusals g t.state.current) (held_in x (data_of shown m.reach.devices)) at) (h.holds.kernel.memory ∙ sym rest.memory)
       ∙ ap (λ (ds : List DeviceData). fetched (refusals g t.state.current) (held_in t.state.memory ds) at) (h.holds.devices ∙ sym rest.devices)
 
   -- what the bus of the current task fetches, carried out, is the instruction of the turn
-  pub fetched_stepped : (level : Level) (at : ℕ) (x y : Result Fetched Fault) → at ≡ register t.state t.state.current 15 → x ≡ fetched (refusals (setup_of m.reach.kernel) (current_of m.reach.kernel)) (shown_by m.reach) at → x ≡ y →
+  pub fetched_stepped : (level : Level) (at : ℕ) (x y : Result Fetched Fault) → at ≡ register t.state t.state.current 15 → x ≡ fetched (refusals (setup_of m.reach.kernel) (current_of m.reach.kernel)) (shown_by shown m.reach) at → x ≡ y →
       stepped_by level g t.state.current at y t ≡ stepped level g t.state.current t
   unfolding stepped
   fetched_stepped level at x y is from same =

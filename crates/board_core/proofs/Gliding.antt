@@ -24,83 +24,84 @@ use Rattle.board_model.proofs.Counts.{counted_turn, turn_more}
 use Rattle.board_core.proofs.Loading.{rest_of}
 use Rattle.board_model.proofs.Outside.{nothing_due, due_later, no_event, begun_state}
 use Rattle.board_core.proofs.Turning.{HasTurned, rested, stands_after, choice_kept, few_events}
+use Rattle.board_core.specs.Data.{Shows}
 
-pub current_seen : (g : Setup) (m : Machine) (t : Turn) → IsReady g m t → current_of m.reach.kernel ≡ t.state.current
-current_seen g m t r = let rest = rest_of r.holds.saved t m.processor r.holds.is in r.holds.holds.kernel.current ∙ sym rest.current
+pub current_seen : {X : Type 0} {H : X → Type 0} (shown : Shows X H) (g : Setup) (m : Machine X H) (t : Turn) → IsReady shown g m t → current_of m.reach.kernel ≡ t.state.current
+current_seen shown g m t r = let rest = rest_of r.holds.saved t m.processor r.holds.is in r.holds.holds.kernel.current ∙ sym rest.current
 
 -- ## a turn in which nothing is due
 
-rested_begun : (x : Scenario) (s : State) (b : Board) → notes_of b ≡ [] → MachineHolds x.setup b.machine (rested b.machine s) → MachineHolds x.setup b.machine (begun s)
+rested_begun : {X : Type 0} {H : X → Type 0} (shown : Shows X H) (x : Scenario) (s : State) (b : Board X H) → notes_of b ≡ [] → MachineHolds shown x.setup b.machine (rested b.machine s) → MachineHolds shown x.setup b.machine (begun s)
 unfolding begun
-rested_begun x s b none h =
-    let P : List Note → Type 0 = λ ns. MachineHolds x.setup b.machine record { state = s; notes = ns; writes = []; reads = [] } in
+rested_begun shown x s b none h =
+    let P : List Note → Type 0 = λ ns. MachineHolds shown x.setup b.machine record { state = s; notes = ns; writes = []; reads = [] } in
     subst P none h
 
 -- a board whose last turn noted nothing, and that has no event now, has begun its turn
-pub midway_now : (x : Scenario) (s : State) (b : Board) → Stands x b s → notes_of b ≡ [] → b.due ≢ Some (turns_of b) → turns_of b < 1000000000 → IsMidway x b s
-midway_now x s b st none ne few =
+pub midway_now : {X : Type 0} {H : X → Type 0} (shown : Shows X H) (x : Scenario) (s : State) (b : Board X H) → Stands shown x b s → notes_of b ≡ [] → b.due ≢ Some (turns_of b) → turns_of b < 1000000000 → IsMidway shown x b s
+midway_now shown x s b st none ne few =
     let at = st.holds.turns in
     let later : b.due ≢ Some s.turn = λ e. ne (e ∙ ap Some (sym at)) in
     let small : s.turn < 1000000000 = rw at at few in
     let nothing : events_of x.script s.turn ≡ [] = nothing_due x.script s.turn b.due small st.holds.due later in
-    let A : Turn → Type 0 = λ t. MachineStands x.setup b.machine t in
+    let A : Turn → Type 0 = λ t. MachineStands shown x.setup b.machine t in
     let C : State → Type 0 = λ u. IsChoice x.setup u b.choice in
     let same = sym (begun_state s) ∙ ap (λ (t : Turn). t.state) (no_event x s nothing) in
     record {
-      machine = subst A (no_event x s nothing) record { holds = rested_begun x s b none st.holds.machine; sane = begun_sane x.setup s st.sane };
+      machine = subst A (no_event x s nothing) record { holds = rested_begun shown x s b none st.holds.machine; sane = begun_sane x.setup s st.sane };
       choice = subst C same st.holds.choice;
       script = st.holds.script;
       due = due_later x.script s.turn b.due st.holds.due later;
     }
 
 -- the board after a turn in which nothing was due and that noted nothing
-pub stands_so : (x : Scenario) (s : State) (b : Board) (m : Machine) (n : ℕ) → Stands x b s → IsMidway x b s → HasTurned Calls x s m → kernel_notes m.reach.kernel ≡ [] → n ≡ turns_of b + 1 →
-    Stands x record b { machine = m; turns = n } (turn Calls x s).state
-stands_so x s b m n st mid h none more =
-    let after = stands_after Calls x s m st.sane h in
+pub stands_so : {X : Type 0} {H : X → Type 0} (shown : Shows X H) (x : Scenario) (s : State) (b : Board X H) (m : Machine X H) (n : ℕ) → Stands shown x b s → IsMidway shown x b s → HasTurned shown Calls x s m → kernel_notes m.reach.kernel ≡ [] → n ≡ turns_of b + 1 →
+    Stands shown x record b { machine = m; turns = n } (turn Calls x s).state
+stands_so shown x s b m n st mid h none more =
+    let after = stands_after shown Calls x s m st.sane h in
     let next = turn_more Calls x s st.sane in
     let N : ℕ → Type 0 = λ from. IsNext x.script from b.due in
     record {
       holds = record {
         machine = after.holds;
         turns = let a = st.holds.turns in omega (arith, next, a, more);
-        choice = choice_kept Calls x s m b.choice st.sane h mid.choice none;
+        choice = choice_kept shown Calls x s m b.choice st.sane h mid.choice none;
         script = mid.script;
         due = subst N (sym next) mid.due;
       };
       sane = after.sane;
-      counted = counted_turn Calls x s st.sane (few_events x s b st) st.counted;
+      counted = counted_turn Calls x s st.sane (few_events shown x s b st) st.counted;
     }
 
 -- ## several turns
 
-pub first_turn : (level : Level) (x : Scenario) (s : State) (b : Board) → Stands x b (turn level x s).state → notes_of b ≡ (turn level x s).notes → IsAdvanced level x 0 s b
+pub first_turn : {X : Type 0} {H : X → Type 0} (shown : Shows X H) (level : Level) (x : Scenario) (s : State) (b : Board X H) → Stands shown x b (turn level x s).state → notes_of b ≡ (turn level x s).notes → IsAdvanced shown level x 0 s b
 unfolding turn_after
-first_turn level x s b st notes = record { nothing = λ k lt. absurd (omega arith); goes_on = λ k lt. absurd (omega arith); stands = st; notes = notes }
+first_turn shown level x s b st notes = record { nothing = λ k lt. absurd (omega arith); goes_on = λ k lt. absurd (omega arith); stands = st; notes = notes }
 
 -- no turn
-pub none_made : (x : Scenario) (s : State) (b : Board) → Stands x b s → HasGlidden x s (turns_of b - turns_of b) b
+pub none_made : {X : Type 0} {H : X → Type 0} (shown : Shows X H) (x : Scenario) (s : State) (b : Board X H) → Stands shown x b s → HasGlidden shown x s (turns_of b - turns_of b) b
 unfolding state_after
-none_made x s b st =
+none_made shown x s b st =
     let e : 0 ≡ turns_of b - turns_of b = omega arith in
-    subst (λ (n : ℕ). HasGlidden x s n b) e record { stands = st; nothing = λ k lt. absurd (omega arith); goes_on = λ k lt. absurd (omega arith); notes = λ lt. absurd (omega arith) }
+    subst (λ (n : ℕ). HasGlidden shown x s n b) e record { stands = st; nothing = λ k lt. absurd (omega arith); goes_on = λ k lt. absurd (omega arith); notes = λ lt. absurd (omega arith) }
 
 -- turns none of which noted anything, and one more
-pub one_more : (x : Scenario) (n : ℕ) (s : State) (b b' : Board) → HasGlidden x s n b → ((u : State) → Stands x b u → Stands x b' (turn Calls x u).state) → ((u : State) → Stands x b u → notes_of b' ≡ (turn Calls x u).notes) → IsAdvanced Calls x n s b'
-one_more x n s b b' h stands notes =
+pub one_more : {X : Type 0} {H : X → Type 0} (shown : Shows X H) (x : Scenario) (n : ℕ) (s : State) (b b' : Board X H) → HasGlidden shown x s n b → ((u : State) → Stands shown x b u → Stands shown x b' (turn Calls x u).state) → ((u : State) → Stands shown x b u → notes_of b' ≡ (turn Calls x u).notes) → IsAdvanced shown Calls x n s b'
+one_more shown x n s b b' h stands notes =
     let u : State = state_after Calls x n s in
     let last : turn Calls x u ≡ turn_after Calls x n s = sym (last_turn Calls x n s) in
     record {
       nothing = h.nothing;
       goes_on = h.goes_on;
-      stands = subst (λ (t : Turn). Stands x b' t.state) last (stands u h.stands);
+      stands = subst (λ (t : Turn). Stands shown x b' t.state) last (stands u h.stands);
       notes = notes u h.stands ∙ ap (λ (t : Turn). t.notes) last;
     }
 
 -- the last of them is the one more
-pub all_made : (x : Scenario) (n : ℕ) (s : State) (b : Board) → HasGlidden x s (suc n) b → IsAdvanced Calls x n s b
+pub all_made : {X : Type 0} {H : X → Type 0} (shown : Shows X H) (x : Scenario) (n : ℕ) (s : State) (b : Board X H) → HasGlidden shown x s (suc n) b → IsAdvanced shown Calls x n s b
 unfolding state_after
-all_made x n s b h =
+all_made shown x n s b h =
     record {
       nothing = λ k lt. h.nothing k (omega (arith, lt));
       goes_on = λ k lt. h.goes_on k (omega (arith, lt));
@@ -126,12 +127,12 @@ either (suc n) (suc j) = by (either n j)
     by (inr (i, e)) = inr (i, omega (arith, e))
 
 -- turns after turns, of which the last one of the first noted nothing and is no end
-pub joined : (x : Scenario) (n m : ℕ) (s : State) (b b' : Board) → IsAdvanced Calls x n s b → notes_of b ≡ [] → ending x 1 (turn_after Calls x n s).state ≡ None → IsAdvanced Calls x m (turn_after Calls x n s).state b' → IsAdvanced Calls x (n + suc m) s b'
-joined x n m s b b' a none goes more =
+pub joined : {X : Type 0} {H : X → Type 0} (shown : Shows X H) (x : Scenario) (n m : ℕ) (s : State) (b b' : Board X H) → IsAdvanced shown Calls x n s b → notes_of b ≡ [] → ending x 1 (turn_after Calls x n s).state ≡ None → IsAdvanced shown Calls x m (turn_after Calls x n s).state b' → IsAdvanced shown Calls x (n + suc m) s b'
+joined shown x n m s b b' a none goes more =
     record {
       nothing = λ j lt. nothing_at j lt (either (suc n) j);
       goes_on = λ j lt. goes_at j lt (either (suc n) j);
-      stands = subst (λ (t : Turn). Stands x b' t.state) (turn_further Calls x n m s) more.stands;
+      stands = subst (λ (t : Turn). Stands shown x b' t.state) (turn_further Calls x n m s) more.stands;
       notes = more.notes ∙ ap (λ (t : Turn). t.notes) (turn_further Calls x n m s);
     }
   where

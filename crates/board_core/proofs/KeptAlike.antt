@@ -26,6 +26,7 @@ use Rattle.board_core.specs.Machine.{with_cpu, IsLoaded, HoldsBy}
 use Rattle.board_core.specs.Stands.{Holds, Stands}
 use Rattle.board_core.proofs.Loading.{twice, with_own}
 use Rattle.board_core.proofs.Turning.{rested}
+use Rattle.board_core.specs.Data.{Shows}
 
 abbrev IsAlone : State → Type 0
 IsAlone s = (i : ℕ) → IfSome (call_of s i) (λ c. listen_of s i ≡ None)
@@ -106,8 +107,8 @@ lent_notes c w v = refl
 alone_lent : (c : ℕ) (w s : State) → IsAlone s → IsAlone (lent c w s)
 alone_lent c w s alone i = rw (call_of-with_task s c i _, listen_of-with_task s c i _) (alone i)
 
-loaded_alike : (g : Setup) (r : Reach) (cpu : Cpu) (t v : Turn) → IsLoaded g r cpu t → AreKeptAlike v.state t.state → v.notes ≡ t.notes → IsAlone v.state → IsLoaded g r cpu v
-loaded_alike g r cpu t v h alike notes alone =
+loaded_alike : {X : Type 0} {H : X → Type 0} (shown : Shows X H) (g : Setup) (r : Reach X H) (cpu : Cpu) (t v : Turn) → IsLoaded shown g r cpu t → AreKeptAlike v.state t.state → v.notes ≡ t.notes → IsAlone v.state → IsLoaded shown g r cpu v
+loaded_alike shown g r cpu t v h alike notes alone =
     let w = h.saved in
     let c = w.state.current in
     let is = given_back c cpu w t refl h.is in
@@ -140,9 +141,9 @@ loaded_alike g r cpu t v h alike notes alone =
 
 -- ## a board
 
-pub machine_alike : (loaded : Bool) (g : Setup) (r : Reach) (cpu : Cpu) (t v : Turn) → HoldsBy loaded g r cpu t → AreKeptAlike v.state t.state → v.notes ≡ t.notes → IsAlone v.state → HoldsBy loaded g r cpu v
-machine_alike true g r cpu t v h alike notes alone = loaded_alike g r cpu t v h alike notes alone
-machine_alike false g r cpu t v h alike notes alone = record { kernel = shows_alike g (kept_of r.kernel) t v h.kernel alike notes alone; devices = h.devices ∙ alike.devices }
+pub machine_alike : {X : Type 0} {H : X → Type 0} (shown : Shows X H) (loaded : Bool) (g : Setup) (r : Reach X H) (cpu : Cpu) (t v : Turn) → HoldsBy shown loaded g r cpu t → AreKeptAlike v.state t.state → v.notes ≡ t.notes → IsAlone v.state → HoldsBy shown loaded g r cpu v
+machine_alike shown true g r cpu t v h alike notes alone = loaded_alike shown g r cpu t v h alike notes alone
+machine_alike shown false g r cpu t v h alike notes alone = record { kernel = shows_alike g (kept_of r.kernel) t v h.kernel alike notes alone; devices = h.devices ∙ alike.devices }
 
 choice_alike : (g : Setup) (s u : State) (c : Choice) → 0 < length s.tasks → IsChoice g u c → AreKeptAlike s u → IsChoice g s c
 choice_alike g s u c some h alike = record {
@@ -153,10 +154,10 @@ choice_alike g s u c some h alike = record {
 }
 
 -- which state it stands for is not told by more than it keeps
-pub stands_alike : (x : Scenario) (b : Board) (s u : State) → Holds x b u → AreKeptAlike s u → Sane x.setup s → IsCounted s → Stands x b s
-stands_alike x b s u h alike sane counted = record {
+pub stands_alike : {X : Type 0} {H : X → Type 0} (shown : Shows X H) (x : Scenario) (b : Board X H) (s u : State) → Holds shown x b u → AreKeptAlike s u → Sane x.setup s → IsCounted s → Stands shown x b s
+stands_alike shown x b s u h alike sane counted = record {
   holds = record {
-    machine = machine_alike b.machine.loaded x.setup b.machine.reach b.machine.processor (rested b.machine u) (rested b.machine s) h.machine alike refl (λ i. alone_of x.setup s i sane);
+    machine = machine_alike shown b.machine.loaded x.setup b.machine.reach b.machine.processor (rested b.machine u) (rested b.machine s) h.machine alike refl (λ i. alone_of x.setup s i sane);
     turns = h.turns ∙ alike.turn;
     choice = choice_alike x.setup s u b.choice (let inside = sane.steady.current in omega (arith, inside)) h.choice alike;
     script = h.script;

@@ -1,3 +1,4 @@
+pub mod Members
 pub mod Choosing
 pub mod WindowCovers
 pub mod WindowTurns

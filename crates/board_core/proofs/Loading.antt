@@ -24,6 +24,7 @@ use Rattle.board_core.specs.declared.machine.Machine.{Machine}
 use Rattle.board_core.specs.declared.reach.Reach.{Reach}
 use Rattle.board_core.proofs.Running.{between, effect_here}
 use Rattle.board_model.proofs.Stepping.{moves_state}
+use Rattle.board_core.specs.Data.{Shows, data_of}
 
 -- ## what the kernel knows all the same
 
@@ -50,20 +51,20 @@ pub record HoldsRest (g : Setup) (k : Kernel) (t : Turn) : Type 0 where
   pub holds : Holds g k saved
   pub rest : IsSameRest saved t
 
-pub rest_held : (loaded : Bool) (g : Setup) (r : Reach) (cpu : Cpu) (t : Turn) → HoldsBy loaded g r cpu t → HoldsRest g r.kernel t
-rest_held true g r cpu t h = record { saved = h.saved; holds = h.holds.kernel; rest = rest_of h.saved t cpu h.is }
-rest_held false g r cpu t h = record { saved = t; holds = h.kernel; rest = record { count = refl; notes = refl; memory = refl; time = refl; lines = refl; current = refl; next_call = refl; devices = refl } }
+pub rest_held : {X : Type 0} {H : X → Type 0} (shown : Shows X H) (loaded : Bool) (g : Setup) (r : Reach X H) (cpu : Cpu) (t : Turn) → HoldsBy shown loaded g r cpu t → HoldsRest g r.kernel t
+rest_held shown true g r cpu t h = record { saved = h.saved; holds = h.holds.kernel; rest = rest_of h.saved t cpu h.is }
+rest_held shown false g r cpu t h = record { saved = t; holds = h.kernel; rest = record { count = refl; notes = refl; memory = refl; time = refl; lines = refl; current = refl; next_call = refl; devices = refl } }
 
 -- ## loaded or not
 
-pub loaded_by : (loaded : Bool) (g : Setup) (r : Reach) (cpu : Cpu) (t : Turn) → loaded ≡ true → IsLoaded g r cpu t → HoldsBy loaded g r cpu t
-loaded_by loaded g r cpu t e h = rw e h
+pub loaded_by : {X : Type 0} {H : X → Type 0} (shown : Shows X H) (loaded : Bool) (g : Setup) (r : Reach X H) (cpu : Cpu) (t : Turn) → loaded ≡ true → IsLoaded shown g r cpu t → HoldsBy shown loaded g r cpu t
+loaded_by shown loaded g r cpu t e h = rw e h
 
-pub is_loaded : (loaded : Bool) (g : Setup) (r : Reach) (cpu : Cpu) (t : Turn) → loaded ≡ true → HoldsBy loaded g r cpu t → IsLoaded g r cpu t
-is_loaded loaded g r cpu t e h = rw e at h
+pub is_loaded : {X : Type 0} {H : X → Type 0} (shown : Shows X H) (loaded : Bool) (g : Setup) (r : Reach X H) (cpu : Cpu) (t : Turn) → loaded ≡ true → HoldsBy shown loaded g r cpu t → IsLoaded shown g r cpu t
+is_loaded shown loaded g r cpu t e h = rw e at h
 
-pub unloaded_by : (loaded : Bool) (g : Setup) (r : Reach) (cpu : Cpu) (t : Turn) → loaded ≡ false → ReachHolds g r t → HoldsBy loaded g r cpu t
-unloaded_by loaded g r cpu t e h = rw e h
+pub unloaded_by : {X : Type 0} {H : X → Type 0} (shown : Shows X H) (loaded : Bool) (g : Setup) (r : Reach X H) (cpu : Cpu) (t : Turn) → loaded ≡ false → ReachHolds shown g r t → HoldsBy shown loaded g r cpu t
+unloaded_by shown loaded g r cpu t e h = rw e h
 
 -- ## a turn begins, and has ended
 
@@ -75,13 +76,13 @@ begun_ready : (s : Turn) → is_ready s.state s.state.current ≡ true → is_re
 unfolding begun
 begun_ready s h = h
 
-begun_reach : (g : Setup) (r r' : Reach) (t : Turn) → Holds g r'.kernel (begun t.state) → ReachHolds g r t → ReachHolds g r' (begun t.state)
+begun_reach : {X : Type 0} {H : X → Type 0} (shown : Shows X H) (g : Setup) (r r' : Reach X H) (t : Turn) → r'.devices ≡ r.devices → Holds g r'.kernel (begun t.state) → ReachHolds shown g r t → ReachHolds shown g r' (begun t.state)
 unfolding begun
-begun_reach g r r' t kernel h = record { kernel = kernel; devices = h.devices }
+begun_reach shown g r r' t same kernel h = record { kernel = kernel; devices = ap (data_of shown) same ∙ h.devices }
 
-pub begun_by : (loaded : Bool) (g : Setup) (r r' : Reach) (cpu : Cpu) (t : Turn) → ((u : Turn) → Holds g r.kernel u → Holds g r'.kernel (begun u.state)) → HoldsBy loaded g r cpu t → HoldsBy loaded g r' cpu (begun t.state)
-begun_by true g r r' cpu t f h = record { saved = begun h.saved.state; holds = begun_reach g r r' h.saved (f h.saved h.holds.kernel) h.holds; ready = begun_ready h.saved h.ready; is = ap (λ (u : Turn). begun u.state) h.is ∙ begun-with_cpu cpu h.saved }
-begun_by false g r r' cpu t f h = begun_reach g r r' t (f t h.kernel) h
+pub begun_by : {X : Type 0} {H : X → Type 0} (shown : Shows X H) (loaded : Bool) (g : Setup) (r r' : Reach X H) (cpu : Cpu) (t : Turn) → r'.devices ≡ r.devices → ((u : Turn) → Holds g r.kernel u → Holds g r'.kernel (begun u.state)) → HoldsBy shown loaded g r cpu t → HoldsBy shown loaded g r' cpu (begun t.state)
+begun_by shown true g r r' cpu t same f h = record { saved = begun h.saved.state; holds = begun_reach shown g r r' h.saved same (f h.saved h.holds.kernel) h.holds; ready = begun_ready h.saved h.ready; is = ap (λ (u : Turn). begun u.state) h.is ∙ begun-with_cpu cpu h.saved }
+begun_by shown false g r r' cpu t same f h = begun_reach shown g r r' t same (f t h.kernel) h
 
 -- the machine between turns: what the turn noted is still there
 abbrev pub after : Kernel → ℕ → Turn → Turn
@@ -95,12 +96,12 @@ turn_ready : (s : State) (n : ℕ) → is_ready s s.current ≡ true → is_read
 unfolding is_ready task_at call_of listen_of
 turn_ready s n h = h
 
-between_reach : (g : Setup) (r : Reach) (u : Turn) (n : ℕ) → ReachHolds g r u → ReachHolds g r (after r.kernel n u)
-between_reach g r u n h = record { kernel = between g r.kernel u n h.kernel; devices = h.devices }
+between_reach : {X : Type 0} {H : X → Type 0} (shown : Shows X H) (g : Setup) (r : Reach X H) (u : Turn) (n : ℕ) → ReachHolds shown g r u → ReachHolds shown g r (after r.kernel n u)
+between_reach shown g r u n h = record { kernel = between g r.kernel u n h.kernel; devices = h.devices }
 
-pub between_by : (loaded : Bool) (g : Setup) (r : Reach) (cpu : Cpu) (u : Turn) (n : ℕ) → HoldsBy loaded g r cpu u → HoldsBy loaded g r cpu (after r.kernel n u)
-between_by true g r cpu u n h = record { saved = after r.kernel n h.saved; holds = between_reach g r h.saved n h.holds; ready = turn_ready h.saved.state n h.ready; is = ap (after r.kernel n) h.is ∙ after-with_cpu r.kernel n cpu h.saved }
-between_by false g r cpu u n h = between_reach g r u n h
+pub between_by : {X : Type 0} {H : X → Type 0} (shown : Shows X H) (loaded : Bool) (g : Setup) (r : Reach X H) (cpu : Cpu) (u : Turn) (n : ℕ) → HoldsBy shown loaded g r cpu u → HoldsBy shown loaded g r cpu (after r.kernel n u)
+between_by shown true g r cpu u n h = record { saved = after r.kernel n h.saved; holds = between_reach shown g r h.saved n h.holds; ready = turn_ready h.saved.state n h.ready; is = ap (after r.kernel n) h.is ∙ after-with_cpu r.kernel n cpu h.saved }
+between_by shown false g r cpu u n h = between_reach shown g r u n h
 
 -- ## the processor is the task's
 
@@ -108,8 +109,8 @@ task-with_cpu : (cpu : Cpu) (s : Turn) → s.state.current < length s.state.task
 unfolding with_processor
 task-with_cpu cpu s inside = ap cpu_of (task_at-with_task s.state s.state.current _ inside)
 
-pub loaded_cpu : (g : Setup) (r : Reach) (cpu : Cpu) (t : Turn) → IsLoaded g r cpu t → t.state.current < length t.state.tasks → cpu ≡ cpu_of (task_at t.state t.state.current)
-loaded_cpu g r cpu t h inside =
+pub loaded_cpu : {X : Type 0} {H : X → Type 0} (shown : Shows X H) (g : Setup) (r : Reach X H) (cpu : Cpu) (t : Turn) → IsLoaded shown g r cpu t → t.state.current < length t.state.tasks → cpu ≡ cpu_of (task_at t.state t.state.current)
+loaded_cpu shown g r cpu t h inside =
     let rest = rest_of h.saved t cpu h.is in
     let there : h.saved.state.current < length h.saved.state.tasks = rw (rest.current, rest.count) at inside in
     sym (task-with_cpu cpu h.saved there) ∙ ap (λ (u : Turn). cpu_of (task_at u.state h.saved.state.current)) (sym h.is) ∙ ap (λ (i : ℕ). cpu_of (task_at t.state i)) (sym rest.current)
@@ -119,14 +120,14 @@ pub with_own : (c : ℕ) (s : State) (t : Turn) → s ≡ t.state → with_proce
 unfolding with_processor with_task task_at
 with_own c s t e = rw e (ap (λ (xs : List Task). record t { state = record t.state { tasks = xs } }) (set-get_or t.state.tasks c no_task))
 
-pub loaded_own : (g : Setup) (r : Reach) (cpu : Cpu) (t : Turn) → ReachHolds g r t → is_ready t.state t.state.current ≡ true → cpu ≡ cpu_of (task_at t.state t.state.current) → IsLoaded g r cpu t
-loaded_own g r cpu t h ready e = record { saved = t; holds = h; ready = ready; is = rw e (sym (with_own t.state.current t.state t refl)) }
+pub loaded_own : {X : Type 0} {H : X → Type 0} (shown : Shows X H) (g : Setup) (r : Reach X H) (cpu : Cpu) (t : Turn) → ReachHolds shown g r t → is_ready t.state t.state.current ≡ true → cpu ≡ cpu_of (task_at t.state t.state.current) → IsLoaded shown g r cpu t
+loaded_own shown g r cpu t h ready e = record { saved = t; holds = h; ready = ready; is = rw e (sym (with_own t.state.current t.state t refl)) }
 
-pub loaded_again : (g : Setup) (r : Reach) (cpu : Cpu) (t : Turn) (task : ℕ) → task ≡ t.state.current → IsLoaded g r cpu t → IsLoaded g r cpu (with_current task t)
-loaded_again g r cpu t task e h = rw e h
+pub loaded_again : {X : Type 0} {H : X → Type 0} (shown : Shows X H) (g : Setup) (r : Reach X H) (cpu : Cpu) (t : Turn) (task : ℕ) → task ≡ t.state.current → IsLoaded shown g r cpu t → IsLoaded shown g r cpu (with_current task t)
+loaded_again shown g r cpu t task e h = rw e h
 
-pub loaded_still : (g : Setup) (r : Reach) (cpu : Cpu) (t : Turn) (task : ℕ) → task ≡ t.state.current → IsLoaded g r cpu (with_current task t) → IsLoaded g r cpu t
-loaded_still g r cpu t task e h = rw e at h
+pub loaded_still : {X : Type 0} {H : X → Type 0} (shown : Shows X H) (g : Setup) (r : Reach X H) (cpu : Cpu) (t : Turn) (task : ℕ) → task ≡ t.state.current → IsLoaded shown g r cpu (with_current task t) → IsLoaded shown g r cpu t
+loaded_still shown g r cpu t task e h = rw e at h
 
 -- ## an instruction goes on
 
@@ -209,8 +210,8 @@ moves_ready ms t i h =
     subst (λ (s : State). is_ready s i ≡ true) (sym (moves_state ms t)) (memory_ready t.state u.memory u.devices i h)
 
 -- the processor goes on in place, and the stores are the kernel's
-pub goes_on : (g : Setup) (r r' : Reach) (cpu cpu' : Cpu) (t : Turn) (ms : List Move) → IsLoaded g r cpu t → t.state.current < length t.state.tasks → ((u : Turn) → ReachHolds g r u → ReachHolds g r' (fold moved u ms)) → IsLoaded g r' cpu' (with_processor t.state.current cpu'.regs.words cpu'.flags (fold moved t ms))
-goes_on g reach reach' cpu cpu' t ms h inside f =
+pub goes_on : {X : Type 0} {H : X → Type 0} (shown : Shows X H) (g : Setup) (r r' : Reach X H) (cpu cpu' : Cpu) (t : Turn) (ms : List Move) → IsLoaded shown g r cpu t → t.state.current < length t.state.tasks → ((u : Turn) → ReachHolds shown g r u → ReachHolds shown g r' (fold moved u ms)) → IsLoaded shown g r' cpu' (with_processor t.state.current cpu'.regs.words cpu'.flags (fold moved t ms))
+goes_on shown g reach reach' cpu cpu' t ms h inside f =
     let s = h.saved in
     let c = s.state.current in
     let rest = rest_of s t cpu h.is in
@@ -233,39 +234,39 @@ goes_on g reach reach' cpu cpu' t ms h inside f =
 
 -- ## as the machine's functions use it
 
-pub stands_of : (g : Setup) (m : Machine) (t : Turn) → IsReady g m t → MachineStands g m t
-stands_of g m t r = record { holds = loaded_by m.loaded g m.reach m.processor t r.loaded r.holds; sane = r.sane }
+pub stands_of : {X : Type 0} {H : X → Type 0} (shown : Shows X H) (g : Setup) (m : Machine X H) (t : Turn) → IsReady shown g m t → MachineStands shown g m t
+stands_of shown g m t r = record { holds = loaded_by shown m.loaded g m.reach m.processor t r.loaded r.holds; sane = r.sane }
 
-pub below : (loaded : Bool) (g : Setup) (r : Reach) (cpu : Cpu) (t : Turn) (i : ℕ) → HoldsBy loaded g r cpu t → i < length t.state.tasks → i < task_count r.kernel
-below loaded g r cpu t i h inside =
-    let w = rest_held loaded g r cpu t h in
+pub below : {X : Type 0} {H : X → Type 0} (shown : Shows X H) (loaded : Bool) (g : Setup) (r : Reach X H) (cpu : Cpu) (t : Turn) (i : ℕ) → HoldsBy shown loaded g r cpu t → i < length t.state.tasks → i < task_count r.kernel
+below shown loaded g r cpu t i h inside =
+    let w = rest_held shown loaded g r cpu t h in
     let b : task_count r.kernel ≡ length w.saved.state.tasks = w.holds.count in
     let n : length t.state.tasks ≡ length w.saved.state.tasks = w.rest.count in
     omega arith
 
-pub written_back : (g : Setup) (r r' : Reach) (cpu : Cpu) (saved t : Turn) (task : ℕ) (words : List ℕ) → task ≡ saved.state.current → words ≡ cpu.regs.words → t ≡ with_cpu cpu saved → ReachHolds g r saved → Holds g r'.kernel (with_processor task words cpu.flags saved) → ReachHolds g r' t
-written_back g r r' cpu saved t task words at w is before h =
+pub written_back : {X : Type 0} {H : X → Type 0} (shown : Shows X H) (g : Setup) (r r' : Reach X H) (cpu : Cpu) (saved t : Turn) (task : ℕ) (words : List ℕ) → task ≡ saved.state.current → words ≡ cpu.regs.words → t ≡ with_cpu cpu saved → r'.devices ≡ r.devices → ReachHolds shown g r saved → Holds g r'.kernel (with_processor task words cpu.flags saved) → ReachHolds shown g r' t
+written_back shown g r r' cpu saved t task words at w is same before h =
     let P : ℕ → Type 0 = λ i. Holds g r'.kernel (with_processor i words cpu.flags saved) in
     let Q : List ℕ → Type 0 = λ x. Holds g r'.kernel (with_processor saved.state.current x cpu.flags saved) in
     let R : Turn → Type 0 = λ u. Holds g r'.kernel u in
-    record { kernel = subst R (sym is) (subst Q w (subst P at h)); devices = before.devices ∙ sym (rest_of saved t cpu is).devices }
+    record { kernel = subst R (sym is) (subst Q w (subst P at h)); devices = ap (data_of shown) same ∙ before.devices ∙ sym (rest_of saved t cpu is).devices }
 
-pub loaded_register : (i : ℕ) (g : Setup) (r : Reach) (cpu : Cpu) (t : Turn) → IsLoaded g r cpu t → t.state.current < length t.state.tasks → slice_index cpu.regs.words i ≡ register t.state t.state.current i
+pub loaded_register : {X : Type 0} {H : X → Type 0} (shown : Shows X H) (i : ℕ) (g : Setup) (r : Reach X H) (cpu : Cpu) (t : Turn) → IsLoaded shown g r cpu t → t.state.current < length t.state.tasks → slice_index cpu.regs.words i ≡ register t.state t.state.current i
 unfolding register
-loaded_register i g r cpu t h inside = ap (λ (x : Cpu). slice_index x.regs.words i) (loaded_cpu g r cpu t h inside)
+loaded_register shown i g r cpu t h inside = ap (λ (x : Cpu). slice_index x.regs.words i) (loaded_cpu shown g r cpu t h inside)
 
 -- the effect by the bus and the loaded context is the effect by the turn
-pub effect_loaded : (g : Setup) (r : Reach) (cpu : Cpu) (t : Turn) (insn : Insn) → IsLoaded g r cpu t → t.state.current < length t.state.tasks →
-    effect (refusals (setup_of r.kernel) (current_of r.kernel)) (shown_by r) cpu insn ≡ effect (refusals g t.state.current) (held t.state) (cpu_of (task_at t.state t.state.current)) insn
-effect_loaded g r cpu t insn h inside =
+pub effect_loaded : {X : Type 0} {H : X → Type 0} (shown : Shows X H) (g : Setup) (r : Reach X H) (cpu : Cpu) (t : Turn) (insn : Insn) → IsLoaded shown g r cpu t → t.state.current < length t.state.tasks →
+    effect (refusals (setup_of r.kernel) (current_of r.kernel)) (shown_by shown r) cpu insn ≡ effect (refusals g t.state.current) (held t.state) (cpu_of (task_at t.state t.state.current)) insn
+effect_loaded shown g r cpu t insn h inside =
     let rest = rest_of h.saved t cpu h.is in
     let kernel = h.holds.kernel in
-    effect_here g t r cpu insn kernel.setup (kernel.current ∙ sym rest.current) (kernel.memory ∙ sym rest.memory) (h.holds.devices ∙ sym rest.devices) (loaded_cpu g r cpu t h inside)
+    effect_here shown g t r cpu insn kernel.setup (kernel.current ∙ sym rest.current) (kernel.memory ∙ sym rest.memory) (h.holds.devices ∙ sym rest.devices) (loaded_cpu shown g r cpu t h inside)
 
-pub next_loaded : (g : Setup) (r : Reach) (t : Turn) (c : ℕ) (e : Effect) (d cpu : Cpu) (ms : List Move) → e ≡ Next d ms → cpu ≡ d → IsLoaded g r cpu (with_processor c cpu.regs.words cpu.flags (fold moved t ms)) → IsLoaded g r cpu (acted g c e t)
-next_loaded g r t c e d cpu ms is same h =
-    let P : Cpu → Type 0 = λ x. IsLoaded g r cpu (with_processor c x.regs.words x.flags (fold moved t ms)) in
-    let S : Effect → Type 0 = λ x. IsLoaded g r cpu (acted g c x t) in
+pub next_loaded : {X : Type 0} {H : X → Type 0} (shown : Shows X H) (g : Setup) (r : Reach X H) (t : Turn) (c : ℕ) (e : Effect) (d cpu : Cpu) (ms : List Move) → e ≡ Next d ms → cpu ≡ d → IsLoaded shown g r cpu (with_processor c cpu.regs.words cpu.flags (fold moved t ms)) → IsLoaded shown g r cpu (acted g c e t)
+next_loaded shown g r t c e d cpu ms is same h =
+    let P : Cpu → Type 0 = λ x. IsLoaded shown g r cpu (with_processor c x.regs.words x.flags (fold moved t ms)) in
+    let S : Effect → Type 0 = λ x. IsLoaded shown g r cpu (acted g c x t) in
     subst S (sym is) (subst P same h)
 
 pub acted_as : (g : Setup) (P : Turn → Type 0) (c : ℕ) (t : Turn) (e d : Effect) → e ≡ d → P (acted g c d t) → P (acted g c e t)
@@ -273,10 +274,10 @@ acted_as g P c t e d is h =
     let S : Effect → Type 0 = λ x. P (acted g c x t) in
     subst S (sym is) h
 
-pub ready_same : (g : Setup) (m : Machine) (reach : Reach) (cpu : Cpu) (t : Turn) → reach ≡ m.reach → cpu ≡ m.processor → IsReady g m t → IsReady g record m { reach = reach; processor = cpu } t
-ready_same g m reach cpu t e f r =
-    let P : Reach → Type 0 = λ x. IsLoaded g x m.processor t in
-    let Q : Cpu → Type 0 = λ x. IsLoaded g reach x t in
+pub ready_same : {X : Type 0} {H : X → Type 0} (shown : Shows X H) (g : Setup) (m : Machine X H) (reach : Reach X H) (cpu : Cpu) (t : Turn) → reach ≡ m.reach → cpu ≡ m.processor → IsReady shown g m t → IsReady shown g record m { reach = reach; processor = cpu } t
+ready_same {X} {H} shown g m reach cpu t e f r =
+    let P : Reach X H → Type 0 = λ x. IsLoaded shown g x m.processor t in
+    let Q : Cpu → Type 0 = λ x. IsLoaded shown g reach x t in
     record { loaded = r.loaded; holds = subst Q (sym f) (subst P (sym e) r.holds); sane = r.sane }
 
 pub register_current : (t : Turn) (c : ℕ) → register (with_current c t).state c 15 ≡ register t.state c 15
@@ -293,22 +294,22 @@ noted_ready : (n : Note) (s : Turn) → is_ready s.state s.state.current ≡ tru
 unfolding noted
 noted_ready n s h = h
 
-noted_reach : (g : Setup) (r r' : Reach) (n : Note) (t : Turn) → Holds g r'.kernel (noted n t) → ReachHolds g r t → ReachHolds g r' (noted n t)
+noted_reach : {X : Type 0} {H : X → Type 0} (shown : Shows X H) (g : Setup) (r r' : Reach X H) (n : Note) (t : Turn) → r'.devices ≡ r.devices → Holds g r'.kernel (noted n t) → ReachHolds shown g r t → ReachHolds shown g r' (noted n t)
 unfolding noted
-noted_reach g r r' n t kernel h = record { kernel = kernel; devices = h.devices }
+noted_reach shown g r r' n t same kernel h = record { kernel = kernel; devices = ap (data_of shown) same ∙ h.devices }
 
-pub loaded_noted : (g : Setup) (r r' : Reach) (cpu : Cpu) (n : Note) (t : Turn) → ((u : Turn) → Holds g r.kernel u → Holds g r'.kernel (noted n u)) → IsLoaded g r cpu t → IsLoaded g r' cpu (noted n t)
-loaded_noted g r r' cpu n t f h = record { saved = noted n h.saved; holds = noted_reach g r r' n h.saved (f h.saved h.holds.kernel) h.holds; ready = noted_ready n h.saved h.ready; is = ap (noted n) h.is ∙ noted-with_cpu n cpu h.saved }
+pub loaded_noted : {X : Type 0} {H : X → Type 0} (shown : Shows X H) (g : Setup) (r r' : Reach X H) (cpu : Cpu) (n : Note) (t : Turn) → r'.devices ≡ r.devices → ((u : Turn) → Holds g r.kernel u → Holds g r'.kernel (noted n u)) → IsLoaded shown g r cpu t → IsLoaded shown g r' cpu (noted n t)
+loaded_noted shown g r r' cpu n t same f h = record { saved = noted n h.saved; holds = noted_reach shown g r r' n h.saved same (f h.saved h.holds.kernel) h.holds; ready = noted_ready n h.saved h.ready; is = ap (noted n) h.is ∙ noted-with_cpu n cpu h.saved }
 
-pub noted_by : (loaded : Bool) (g : Setup) (r r' : Reach) (cpu : Cpu) (n : Note) (t : Turn) → ((u : Turn) → Holds g r.kernel u → Holds g r'.kernel (noted n u)) → HoldsBy loaded g r cpu t → HoldsBy loaded g r' cpu (noted n t)
-noted_by true g r r' cpu n t f h = loaded_noted g r r' cpu n t f h
-noted_by false g r r' cpu n t f h = noted_reach g r r' n t (f t h.kernel) h
+pub noted_by : {X : Type 0} {H : X → Type 0} (shown : Shows X H) (loaded : Bool) (g : Setup) (r r' : Reach X H) (cpu : Cpu) (n : Note) (t : Turn) → r'.devices ≡ r.devices → ((u : Turn) → Holds g r.kernel u → Holds g r'.kernel (noted n u)) → HoldsBy shown loaded g r cpu t → HoldsBy shown loaded g r' cpu (noted n t)
+noted_by shown true g r r' cpu n t same f h = loaded_noted shown g r r' cpu n t same f h
+noted_by shown false g r r' cpu n t same f h = noted_reach shown g r r' n t same (f t h.kernel) h
 
-pub opened_as : (g : Setup) (k : Kernel) (m : Machine) (s : State) → m.reach.kernel ≡ k → m.loaded ≡ false → [] ≡ s.devices → Holds g k record { state = s; notes = notes_of k; writes = []; reads = [] } → HoldsBy m.loaded g m.reach m.processor record { state = s; notes = notes_of m.reach.kernel; writes = []; reads = [] }
-opened_as g k m s e loaded none h =
+pub opened_as : {X : Type 0} {H : X → Type 0} (shown : Shows X H) (g : Setup) (k : Kernel) (m : Machine X H) (s : State) → m.reach.kernel ≡ k → m.loaded ≡ false → data_of shown m.reach.devices ≡ s.devices → Holds g k record { state = s; notes = notes_of k; writes = []; reads = [] } → HoldsBy shown m.loaded g m.reach m.processor record { state = s; notes = notes_of m.reach.kernel; writes = []; reads = [] }
+opened_as shown g k m s e loaded none h =
     let P : Kernel → Type 0 = λ x. Holds g x record { state = s; notes = notes_of x; writes = []; reads = [] } in
-    unloaded_by m.loaded g m.reach m.processor _ loaded record { kernel = subst P (sym e) h; devices = none }
+    unloaded_by shown m.loaded g m.reach m.processor _ loaded record { kernel = subst P (sym e) h; devices = none }
 
 -- a kernel into which the context was saved stands for what its machine does
-pub unloaded_stands : (g : Setup) (m : Machine) (t : Turn) → m.loaded ≡ false → Stands g m.reach.kernel t → [] ≡ t.state.devices → MachineStands g m t
-unloaded_stands g m t loaded h none = record { holds = unloaded_by m.loaded g m.reach m.processor t loaded record { kernel = h.holds; devices = none }; sane = h.sane }
+pub unloaded_stands : {X : Type 0} {H : X → Type 0} (shown : Shows X H) (g : Setup) (m : Machine X H) (t : Turn) → m.loaded ≡ false → Stands g m.reach.kernel t → data_of shown m.reach.devices ≡ t.state.devices → MachineStands shown g m t
+unloaded_stands shown g m t loaded h none = record { holds = unloaded_by shown m.loaded g m.reach m.processor t loaded record { kernel = h.holds; devices = none }; sane = h.sane }

@@ -1,6 +1,7 @@
 -- The current task while its context is loaded, and what is noted of a turn.
 use Rattle.std.proofs.Common.{◌≡◌, ◌<◌, ◌≤◌, ℕ, zero, suc, true, List, [], ◌∷◌, length, get_or, drop, arith, refl, sym, ◌∙◌, ap}
 use Rattle.kernel_abi.specs.declared.Note.{Note}
+use Rattle.kernel_abi.specs.Devices.{DeviceData}
 use Rattle.thumb_exec.specs.declared.cpu.Cpu.{Cpu}
 use Rattle.task_table.specs.declared.kernel.Kernel.{Kernel}
 use Rattle.board_core.specs.declared.reach.Reach.{Reach}
@@ -21,29 +22,30 @@ use Rattle.board_model.specs.Turn.{noted_at, with_registers_noted, high_note, lo
 use Rattle.board_core.proofs.Loading.{rest_of, loaded_noted}
 use Rattle.board_model.proofs.Quiet.{ready-with_processor}
 use Rattle.board_model.proofs.TurnChains.{noted_state, ready-syscall_noted}
+use Rattle.board_core.specs.Data.{Shows, data_of}
 
-pub loaded_ready : (g : Setup) (r : Reach) (cpu : Cpu) (t : Turn) → IsLoaded g r cpu t → t.state.current < length t.state.tasks → is_ready t.state t.state.current ≡ true
-loaded_ready g r cpu t h inside =
+pub loaded_ready : {X : Type 0} {H : X → Type 0} (shown : Shows X H) (g : Setup) (r : Reach X H) (cpu : Cpu) (t : Turn) → IsLoaded shown g r cpu t → t.state.current < length t.state.tasks → is_ready t.state t.state.current ≡ true
+loaded_ready shown g r cpu t h inside =
     let s = h.saved in
     let rest = rest_of s t cpu h.is in
     let same : is_ready (with_cpu cpu s).state s.state.current ≡ true = ready-with_processor s.state.current cpu.regs.words cpu.flags s ∙ h.ready in
     ap (λ (i : ℕ). is_ready t.state i) rest.current ∙ ap (λ (u : Turn). is_ready u.state s.state.current) h.is ∙ same
 
--- the kernel as a task makes a system call: what it stands for, that the caller is ready, and that there is no device
-pub record IsCalling (g : Setup) (k : Kernel) (c : ℕ) (t : Turn) : Type 0 where
+-- the kernel as a task makes a system call: what it stands for, that the caller is ready, and what the devices are
+pub record IsCalling (g : Setup) (ds : List DeviceData) (k : Kernel) (c : ℕ) (t : Turn) : Type 0 where
   pub stands : Stands g k (syscall_noted c t)
   pub ready : is_ready (syscall_noted c t).state c ≡ true
   pub inside : c < length g.tasks
-  pub devices : [] ≡ (syscall_noted c t).state.devices
+  pub devices : ds ≡ (syscall_noted c t).state.devices
 
 devices-syscall_noted : (c : ℕ) (t : Turn) → (syscall_noted c t).state.devices ≡ t.state.devices
 unfolding syscall_noted noted
 devices-syscall_noted c t = refl
 
-pub calling : (g : Setup) (r : Reach) (k' : Kernel) (m : Machine) (c : ℕ) (t : Turn) → IsReady g m t → c ≡ t.state.current → ReachHolds g r t → (Holds g r.kernel t → Holds g k' (syscall_noted c t)) → IsCalling g k' c t
-calling g r k' m c t is at h f =
+pub calling : {X : Type 0} {H : X → Type 0} (shown : Shows X H) (g : Setup) (r : Reach X H) (k' : Kernel) (m : Machine X H) (c : ℕ) (t : Turn) → IsReady shown g m t → c ≡ t.state.current → ReachHolds shown g r t → (Holds g r.kernel t → Holds g k' (syscall_noted c t)) → IsCalling g (data_of shown r.devices) k' c t
+calling shown g r k' m c t is at h f =
     let inside : c < length t.state.tasks = rw at is.sane.steady.current in
-    let ready : is_ready t.state c ≡ true = ap (λ (i : ℕ). is_ready t.state i) at ∙ loaded_ready g m.reach m.processor t is.holds is.sane.steady.current in
+    let ready : is_ready t.state c ≡ true = ap (λ (i : ℕ). is_ready t.state i) at ∙ loaded_ready shown g m.reach m.processor t is.holds is.sane.steady.current in
     record {
       stands = record { holds = f h.kernel; sane = sane-syscall_noted c t is.sane inside };
       ready = ready-syscall_noted c t ready;
@@ -52,8 +54,8 @@ calling g r k' m c t is at h f =
     }
 
 -- the kernel has made the call, which changes no device
-pub called : (g : Setup) (r : Reach) (k : Kernel) (c : ℕ) (t : Turn) → IsCalling g k c t → Holds g r.kernel (syscall_made g c (syscall_noted c t)) → ReachHolds g r (syscall_made g c (syscall_noted c t))
-called g r k c t by kernel = record { kernel = kernel; devices = by.devices ∙ sym (stay-syscall_made g c (syscall_noted c t) by.stands.sane by.inside by.ready) }
+pub called : {X : Type 0} {H : X → Type 0} (shown : Shows X H) (g : Setup) (r : Reach X H) (k : Kernel) (c : ℕ) (t : Turn) → IsCalling g (data_of shown r.devices) k c t → Holds g r.kernel (syscall_made g c (syscall_noted c t)) → ReachHolds shown g r (syscall_made g c (syscall_noted c t))
+called shown g r k c t by kernel = record { kernel = kernel; devices = by.devices ∙ sym (stay-syscall_made g c (syscall_noted c t) by.stands.sane by.inside by.ready) }
 
 -- a system call that is noted has the number that it had
 pub number-syscall_noted : (c : ℕ) (t : Turn) → (syscall_noted c t).state.next_call ≡ t.state.next_call
@@ -88,8 +90,8 @@ last_eight xs n =
 pub noted_current : (level : Level) (n : Note) (t : Turn) → (noted_at level n t).state.current ≡ t.state.current
 noted_current level n t = ap (λ s. s.current) (noted_state level n t)
 
-pub ready_noted : (g : Setup) (m : Machine) (k : Kernel) (n : Note) (t : Turn) → ((u : Turn) → Holds g m.reach.kernel u → Holds g k (noted n u)) → IsReady g m t → IsReady g record m { reach = record m.reach { kernel = k } } (noted n t)
-ready_noted g m k n t f r = record { loaded = r.loaded; holds = loaded_noted g m.reach record m.reach { kernel = k } m.processor n t f r.holds; sane = sane-noted n t r.sane }
+pub ready_noted : {X : Type 0} {H : X → Type 0} (shown : Shows X H) (g : Setup) (m : Machine X H) (k : Kernel) (n : Note) (t : Turn) → ((u : Turn) → Holds g m.reach.kernel u → Holds g k (noted n u)) → IsReady shown g m t → IsReady shown g record m { reach = record m.reach { kernel = k } } (noted n t)
+ready_noted shown g m k n t f r = record { loaded = r.loaded; holds = loaded_noted shown g m.reach record m.reach { kernel = k } m.processor n t refl f r.holds; sane = sane-noted n t r.sane }
 
 -- both notes of the registers, one after the other
 pub registers_noted : (c : ℕ) (t : Turn) → noted (high_note (task_at t.state c)) (noted (low_note (task_at t.state c)) t) ≡ with_registers_noted All c t

@@ -23,6 +23,7 @@ use Rattle.board_core.specs.Advanced.{HasGlidden}
 use Rattle.board_core.specs.Skipped.{IsIdleUntil}
 use Rattle.board_core.proofs.Turning.{HasTurned, as_chosen, noted_in}
 use Rattle.board_core.proofs.Gliding.{midway_now, stands_so}
+use Rattle.board_core.specs.Data.{Shows}
 
 -- ## an idle turn
 
@@ -78,36 +79,36 @@ module _ (x : Scenario) (s : State) (to : ℕ) (idle : IsIdleUntil x s to) where
 -- ## the board over them
 
 -- a board that has no task to run, after one idle turn
-idle_board : (x : Scenario) (s : State) (b : Board) → Stands x b s → notes_of b ≡ [] → b.choice.next ≡ None → b.due ≢ Some (turns_of b) → turns_of b < 1000000000 → Stands x record b { turns = turns_of b + 1 } (turn Calls x s).state
-idle_board x s b st quiet none ne few =
-    let mid = midway_now x s b st quiet ne few in
-    let P : Option ℕ → Type 0 = λ o. MachineHolds x.setup b.machine (turn_of Calls x.setup o (after_events x s)) in
-    let h : HasTurned Calls x s b.machine = as_chosen Calls x s b.machine b.choice mid.choice (subst P (sym none) mid.machine.holds) in
-    stands_so x s b b.machine (turns_of b + 1) st mid h quiet refl
+idle_board : {X : Type 0} {H : X → Type 0} (shown : Shows X H) (x : Scenario) (s : State) (b : Board X H) → Stands shown x b s → notes_of b ≡ [] → b.choice.next ≡ None → b.due ≢ Some (turns_of b) → turns_of b < 1000000000 → Stands shown x record b { turns = turns_of b + 1 } (turn Calls x s).state
+idle_board shown x s b st quiet none ne few =
+    let mid = midway_now shown x s b st quiet ne few in
+    let P : Option ℕ → Type 0 = λ o. MachineHolds shown x.setup b.machine (turn_of Calls x.setup o (after_events x s)) in
+    let h : HasTurned shown Calls x s b.machine = as_chosen shown Calls x s b.machine b.choice mid.choice (subst P (sym none) mid.machine.holds) in
+    stands_so shown x s b b.machine (turns_of b + 1) st mid h quiet refl
 
-pub skipped : (x : Scenario) (s : State) (b : Board) (k : ℕ) → Stands x b s → notes_of b ≡ [] → b.choice.next ≡ None → ((turn : ℕ) → turn < turns_of b + k → b.due ≡ Some turn → ⊥) → turns_of b + k ≤ 1000000000 →
-    Stands x record b { turns = turns_of b + k } (state_after Calls x k s)
+pub skipped : {X : Type 0} {H : X → Type 0} (shown : Shows X H) (x : Scenario) (s : State) (b : Board X H) (k : ℕ) → Stands shown x b s → notes_of b ≡ [] → b.choice.next ≡ None → ((turn : ℕ) → turn < turns_of b + k → b.due ≡ Some turn → ⊥) → turns_of b + k ≤ 1000000000 →
+    Stands shown x record b { turns = turns_of b + k } (state_after Calls x k s)
 unfolding state_after
-skipped x s b zero st quiet none later few = let e : turns_of b ≡ turns_of b + 0 = omega arith in subst (λ (n : ℕ). Stands x record b { turns = n } s) e st
-skipped x s b (suc k) st quiet none later few =
+skipped shown x s b zero st quiet none later few = let e : turns_of b ≡ turns_of b + 0 = omega arith in subst (λ (n : ℕ). Stands shown x record b { turns = n } s) e st
+skipped shown x s b (suc k) st quiet none later few =
     let u : State = state_after Calls x k s in
-    let before = skipped x s b k st quiet none (λ n lt. later n (omega (arith, lt))) (omega (arith, few)) in
-    let one = idle_board x u record b { turns = turns_of b + k } before quiet none (later (turns_of b + k) (omega arith)) (omega (arith, few)) in
+    let before = skipped shown x s b k st quiet none (λ n lt. later n (omega (arith, lt))) (omega (arith, few)) in
+    let one = idle_board shown x u record b { turns = turns_of b + k } before quiet none (later (turns_of b + k) (omega arith)) (omega (arith, few)) in
     let e : turns_of b + k + 1 ≡ turns_of b + suc k = omega arith in
-    subst (λ (v : State). Stands x record b { turns = turns_of b + suc k } v) (sym (ap (λ (t : Turn). t.state) (last_turn Calls x k s))) (subst (λ (n : ℕ). Stands x record b { turns = n } (turn Calls x u).state) e one)
+    subst (λ (v : State). Stands shown x record b { turns = turns_of b + suc k } v) (sym (ap (λ (t : Turn). t.state) (last_turn Calls x k s))) (subst (λ (n : ℕ). Stands shown x record b { turns = n } (turn Calls x u).state) e one)
 
 -- a board whose turn has begun notes nothing, and stands for the same states
-pub quiet_begun : (x : Scenario) (s : State) (m : Machine) → MachineHolds x.setup m (begun s) → kernel_notes m.reach.kernel ≡ []
+pub quiet_begun : {X : Type 0} {H : X → Type 0} (shown : Shows X H) (x : Scenario) (s : State) (m : Machine X H) → MachineHolds shown x.setup m (begun s) → kernel_notes m.reach.kernel ≡ []
 unfolding begun
-quiet_begun x s m h = noted_in x.setup m (begun s) h
+quiet_begun shown x s m h = noted_in shown x.setup m (begun s) h
 
-pub begun_board : (x : Scenario) (s : State) (b : Board) (m : Machine) → Stands x b s → MachineHolds x.setup m (begun s) → Stands x record b { machine = m } s
+pub begun_board : {X : Type 0} {H : X → Type 0} (shown : Shows X H) (x : Scenario) (s : State) (b : Board X H) (m : Machine X H) → Stands shown x b s → MachineHolds shown x.setup m (begun s) → Stands shown x record b { machine = m } s
 unfolding begun
-begun_board x s b m st h =
-    let P : List Note → Type 0 = λ ns. MachineHolds x.setup m record { state = s; notes = ns; writes = []; reads = [] } in
+begun_board shown x s b m st h =
+    let P : List Note → Type 0 = λ ns. MachineHolds shown x.setup m record { state = s; notes = ns; writes = []; reads = [] } in
     record {
       holds = record {
-        machine = subst P (sym (quiet_begun x s m h)) h;
+        machine = subst P (sym (quiet_begun shown x s m h)) h;
         turns = st.holds.turns;
         choice = st.holds.choice;
         script = st.holds.script;
@@ -139,9 +140,9 @@ lasts_from script from to le more = by_every (is_some script.every) refl
     by_every true is = rw is refl
     by_every false is = rw is (any_from script.events from to le (rw is at more))
 
-pub idle_made : (x : Scenario) (s : State) (to : ℕ) (b : Board) → IsIdleUntil x s to → s.turn ≤ to → lasts x.script to ≡ true → Stands x b (state_after Calls x (to - s.turn) s) → notes_of b ≡ [] → HasGlidden x s (to - s.turn) b
+pub idle_made : {X : Type 0} {H : X → Type 0} (shown : Shows X H) (x : Scenario) (s : State) (to : ℕ) (b : Board X H) → IsIdleUntil x s to → s.turn ≤ to → lasts x.script to ≡ true → Stands shown x b (state_after Calls x (to - s.turn) s) → notes_of b ≡ [] → HasGlidden shown x s (to - s.turn) b
 unfolding state_after
-idle_made x s to b idle from more st none =
+idle_made shown x s to b idle from more st none =
     record {
       stands = st;
       nothing = λ k lt. silent_then x s to idle k (omega (arith, lt));
@@ -159,8 +160,8 @@ quiet_before script from to (Some n) next later few turn le lt = next.3 turn le 
     after : (n : ℕ) → (n < to → ⊥) → turn < n
     after n not-before = grind (arith, lt)
 
-pub idle_board_until : (x : Scenario) (s : State) (b : Board) (to : ℕ) → Stands x b s → b.choice.next ≡ None → b.choice.down ≡ false → ((turn : ℕ) → turn < to → b.due ≢ Some turn) → to ≤ 1000000000 → IsIdleUntil x s to
-idle_board_until x s b to st none up later few =
+pub idle_board_until : {X : Type 0} {H : X → Type 0} (shown : Shows X H) (x : Scenario) (s : State) (b : Board X H) (to : ℕ) → Stands shown x b s → b.choice.next ≡ None → b.choice.down ≡ false → ((turn : ℕ) → turn < to → b.due ≢ Some turn) → to ≤ 1000000000 → IsIdleUntil x s to
+idle_board_until shown x s b to st none up later few =
     record {
       none = sym st.holds.choice.next ∙ none;
       up = sym st.holds.choice.down ∙ up;

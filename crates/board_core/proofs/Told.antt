@@ -21,11 +21,12 @@ use Rattle.board_core.specs.Setting.{with_flash}
 use Rattle.board_core.specs.Stands.{Holds}
 use Rattle.board_core.proofs.Loading.{unloaded_by}
 use Rattle.board_core.proofs.Turning.{rested, rested_as}
+use Rattle.board_core.specs.Data.{Shows}
 
 -- its kernel holds the state, and has all contexts; the devices, the turn and what is known of the events are as they were
-pub holds_told : (x y : Scenario) (s u : State) (b b' : Board) → Holds x b s → y.script ≡ x.script → u.turn ≡ s.turn → ReachHolds y.setup b'.machine.reach (rested b.machine u) → b'.machine.loaded ≡ false → IsChoice y.setup u b'.choice → b'.turns ≡ b.turns → b'.script ≡ b.script → b'.due ≡ b.due → Holds y b' u
-holds_told x y s u b b' h same turn reach unloaded choice turns script due = record {
-  machine = rested_as y.setup b.machine b'.machine u (unloaded_by b'.machine.loaded y.setup b'.machine.reach b'.machine.processor (rested b.machine u) unloaded reach);
+pub holds_told : {X : Type 0} {H : X → Type 0} (shown : Shows X H) (x y : Scenario) (s u : State) (b b' : Board X H) → Holds shown x b s → y.script ≡ x.script → u.turn ≡ s.turn → ReachHolds shown y.setup b'.machine.reach (rested b.machine u) → b'.machine.loaded ≡ false → IsChoice y.setup u b'.choice → b'.turns ≡ b.turns → b'.script ≡ b.script → b'.due ≡ b.due → Holds shown y b' u
+holds_told shown x y s u b b' h same turn reach unloaded choice turns script due = record {
+  machine = rested_as shown y.setup b.machine b'.machine u (unloaded_by shown b'.machine.loaded y.setup b'.machine.reach b'.machine.processor (rested b.machine u) unloaded reach);
   turns = turns ∙ h.turns ∙ sym turn;
   choice = choice;
   script = rw (script, same) h.script;
@@ -81,5 +82,5 @@ flash_stays g k t a bytes h ram =
     ∙ ap (λ (m : Memory). m.flash) (sym h.memory)
     ∙ ap (λ (x : Setup). x.flash) h.setup
 
-pub same_flash : (x : Scenario) (b : Board) (u : State) (flash : List ℕ) → flash ≡ x.setup.flash → Holds (with_flash flash x) b u → Holds x b u
-same_flash x b u flash e h = subst (λ (bytes : List ℕ). Holds (with_flash bytes x) b u) e h
+pub same_flash : {X : Type 0} {H : X → Type 0} (shown : Shows X H) (x : Scenario) (b : Board X H) (u : State) (flash : List ℕ) → flash ≡ x.setup.flash → Holds shown (with_flash flash x) b u → Holds shown x b u
+same_flash shown x b u flash e h = subst (λ (bytes : List ℕ). Holds shown (with_flash bytes x) b u) e h

@@ -22,13 +22,14 @@ use Rattle.board_model.specs.Turn.{turn, ended, turn_of, after_events}
 use Rattle.board_core.proofs.Loading.{rest_held, between_by}
 use Rattle.board_model.proofs.TurnChains.{sane-after, sane-after_events}
 use Rattle.board_model.proofs.Quiet.{quiet-turn}
+use Rattle.board_core.specs.Data.{Shows}
 
 -- a machine between turns
-abbrev pub rested : Machine → State → Turn
+abbrev pub rested : {X : Type 0} {H : X → Type 0} → Machine X H → State → Turn
 rested m s = record { state = s; notes = notes_of m.reach.kernel; writes = []; reads = [] }
 
-pub noted_in : (g : Setup) (m : Machine) (t : Turn) → MachineHolds g m t → notes_of m.reach.kernel ≡ t.notes
-noted_in g m t h = let w = rest_held m.loaded g m.reach m.processor t h in w.holds.notes ∙ sym w.rest.notes
+pub noted_in : {X : Type 0} {H : X → Type 0} (shown : Shows X H) (g : Setup) (m : Machine X H) (t : Turn) → MachineHolds shown g m t → notes_of m.reach.kernel ≡ t.notes
+noted_in shown g m t h = let w = rest_held shown m.loaded g m.reach m.processor t h in w.holds.notes ∙ sym w.rest.notes
 
 some_left : (x : Note) (xs : List Note) → length (x ∷ xs) ≡ 0 → ⊥
 some_left x xs e = omega arith
@@ -37,31 +38,31 @@ pub empty_of : (xs : List Note) → eqb (length xs) 0 ≡ true → xs ≡ []
 empty_of [] h = refl
 empty_of (x ∷ xs) h = absurd (some_left x xs (eqb-true _ _ h))
 
-pub next_of : (x : Scenario) (s : State) (b : Board) → IsMidway x b s → IsNext x.setup b.machine (after_events x s) b.choice.next
-next_of x s b mid = record { stands = mid.machine; is = mid.choice.next }
+pub next_of : {X : Type 0} {H : X → Type 0} (shown : Shows X H) (x : Scenario) (s : State) (b : Board X H) → IsMidway shown x b s → IsNext shown x.setup b.machine (after_events x s) b.choice.next
+next_of shown x s b mid = record { stands = mid.machine; is = mid.choice.next }
 
-module _ (level : Level) (x : Scenario) (s : State) (m : Machine) where
+module _ {X : Type 0} {H : X → Type 0} (shown : Shows X H) (level : Level) (x : Scenario) (s : State) (m : Machine X H) where
   -- the chosen task's turn, as the machine has it
   abbrev pub HasTurned : Type 0
-  HasTurned = MachineHolds x.setup m (turn_of level x.setup (chosen x.setup (after_events x s).state) (after_events x s))
+  HasTurned = MachineHolds shown x.setup m (turn_of level x.setup (chosen x.setup (after_events x s).state) (after_events x s))
 
   -- the machine's turn of the kept choice is the turn of the chosen task
-  pub as_chosen : (kept : Choice) → IsChoice x.setup (after_events x s).state kept → MachineHolds x.setup m (turn_of level x.setup kept.next (after_events x s)) → HasTurned
+  pub as_chosen : (kept : Choice) → IsChoice x.setup (after_events x s).state kept → MachineHolds shown x.setup m (turn_of level x.setup kept.next (after_events x s)) → HasTurned
   as_chosen kept is h =
-      let P : Option ℕ → Type 0 = λ o. MachineHolds x.setup m (turn_of level x.setup o (after_events x s)) in
+      let P : Option ℕ → Type 0 = λ o. MachineHolds shown x.setup m (turn_of level x.setup o (after_events x s)) in
       subst P is.next h
 
   -- a machine that holds what a turn has come to stands for the state after it
-  pub stands_after : Sane x.setup s → HasTurned → MachineStands x.setup m (rested m (turn level x s).state)
+  pub stands_after : Sane x.setup s → HasTurned → MachineStands shown x.setup m (rested m (turn level x s).state)
   unfolding turn ended
   stands_after sane h =
       let t = after_events x s in
       let u : Turn = turn_of level x.setup (chosen x.setup t.state) t in
-      record { holds = between_by m.loaded x.setup m.reach m.processor u (u.state.turn + 1) h; sane = sane-after level x s sane }
+      record { holds = between_by shown m.loaded x.setup m.reach m.processor u (u.state.turn + 1) h; sane = sane-after level x s sane }
 
   pub turn_notes : HasTurned → notes_of m.reach.kernel ≡ (turn level x s).notes
   unfolding turn ended
-  turn_notes h = noted_in x.setup m (turn_of level x.setup (chosen x.setup (after_events x s).state) (after_events x s)) h
+  turn_notes h = noted_in shown x.setup m (turn_of level x.setup (chosen x.setup (after_events x s).state) (after_events x s)) h
 
   -- where it noted nothing, the choice after the events is the one after the turn
   pub choice_kept : (kept : Choice) → Sane x.setup s → HasTurned → IsChoice x.setup (after_events x s).state kept → notes_of m.reach.kernel ≡ [] → IsChoice x.setup (turn level x s).state kept
@@ -75,19 +76,19 @@ module _ (level : Level) (x : Scenario) (s : State) (m : Machine) where
       }
 
 -- the notes that another machine has of the same turn are the same
-pub rested_as : (g : Setup) (m m' : Machine) (s : State) → MachineHolds g m' (rested m s) → MachineHolds g m' (rested m' s)
-rested_as g m m' s h =
-    let P : List Note → Type 0 = λ n. MachineHolds g m' record { state = s; notes = n; writes = []; reads = [] } in
-    subst P (sym (noted_in g m' (rested m s) h)) h
+pub rested_as : {X : Type 0} {H : X → Type 0} (shown : Shows X H) (g : Setup) (m m' : Machine X H) (s : State) → MachineHolds shown g m' (rested m s) → MachineHolds shown g m' (rested m' s)
+rested_as shown g m m' s h =
+    let P : List Note → Type 0 = λ n. MachineHolds shown g m' record { state = s; notes = n; writes = []; reads = [] } in
+    subst P (sym (noted_in shown g m' (rested m s) h)) h
 
 -- a turn has nine events at most
-pub few_events : (x : Scenario) (s : State) (b : Board) → Stands x b s → length (events_of x.script s.turn) ≤ 9
-few_events x s b st =
+pub few_events : {X : Type 0} {H : X → Type 0} (shown : Shows X H) (x : Scenario) (s : State) (b : Board X H) → Stands shown x b s → length (events_of x.script s.turn) ≤ 9
+few_events shown x s b st =
     let P : ScriptData → Type 0 = λ script. length (events_of script s.turn) ≤ 9 in
     subst P st.holds.script (each_turn (script_data b.script) b.script.facts s.turn).few
 
 -- where as many notes are there as there were, and none were, none are
-pub none_of : (m m' : Machine) → notes_of m.reach.kernel ≡ [] → note_count m'.reach.kernel ≡ note_count m.reach.kernel → notes_of m'.reach.kernel ≡ []
+pub none_of : {X : Type 0} {H : X → Type 0} (m m' : Machine X H) → notes_of m.reach.kernel ≡ [] → note_count m'.reach.kernel ≡ note_count m.reach.kernel → notes_of m'.reach.kernel ≡ []
 none_of m m' none e = empty_by (notes_of m'.reach.kernel) (e ∙ ap (λ (xs : List Note). length xs) none)
   where
     empty_by : (xs : List Note) → length xs ≡ 0 → xs ≡ []

@@ -45,6 +45,7 @@ use Rattle.region_check.proofs.Spanning.{both}
 use Rattle.region_check.specs.Spans.{spans}
 use Rattle.board_core.proofs.Skipping.{quiet_before, quiet_begun, begun_board}
 use Rattle.board_core.proofs.Turning.{rested, rested_as, none_of}
+use Rattle.board_core.specs.Data.{Shows, data_of}
 
 -- ## a window
 
@@ -202,9 +203,9 @@ later_ready : (s : State) (m : Memory) (n : ℕ) → is_ready s s.current ≡ tr
 unfolding is_ready task_at call_of listen_of
 later_ready s m n h = h
 
-pub lent_loaded : (g : Setup) (r r' : Reach) (cpu cpu' : Cpu) (t : Turn) (at : ℕ) (bytes : List ℕ) (n : ℕ) → IsLoaded g r cpu t → t.state.current < length t.state.tasks → ((u : Turn) → Holds g r.kernel u → Holds g r'.kernel (overlaid at bytes u)) →
-    IsLoaded g r' cpu' record t { state = later t.state t.state.current cpu' (with_bytes t.state.memory at bytes) n }
-lent_loaded g r r' cpu cpu' t at bytes n h inside f =
+pub lent_loaded : {X : Type 0} {H : X → Type 0} (shown : Shows X H) (g : Setup) (r r' : Reach X H) (cpu cpu' : Cpu) (t : Turn) (at : ℕ) (bytes : List ℕ) (n : ℕ) → IsLoaded shown g r cpu t → t.state.current < length t.state.tasks → r'.devices ≡ r.devices → ((u : Turn) → Holds g r.kernel u → Holds g r'.kernel (overlaid at bytes u)) →
+    IsLoaded shown g r' cpu' record t { state = later t.state t.state.current cpu' (with_bytes t.state.memory at bytes) n }
+lent_loaded shown g r r' cpu cpu' t at bytes n h inside same f =
     let saved = h.saved in
     let rest = rest_of saved t cpu h.is in
     let m : Memory = with_bytes saved.state.memory at bytes in
@@ -216,7 +217,7 @@ lent_loaded g r r' cpu cpu' t at bytes n h inside f =
     ∙ later_loaded saved cpu cpu' m n there in
     record {
       saved = saved_later saved m n;
-      holds = record { kernel = held (holds_turn g (kept_of r'.kernel) (overlaid at bytes saved) (saved.state.turn + n) (f saved h.holds.kernel)); devices = h.holds.devices };
+      holds = record { kernel = held (holds_turn g (kept_of r'.kernel) (overlaid at bytes saved) (saved.state.turn + n) (f saved h.holds.kernel)); devices = ap (data_of shown) same ∙ h.holds.devices };
       ready = later_ready saved.state m (saved.state.turn + n) h.ready;
       is = now;
     }
@@ -237,12 +238,12 @@ due_later_on script turn (suc n) due next ne =
 -- ## turns on end of the task whose context is loaded
 
 -- a board after n turns within a window, and why there were no more
-pub record IsMade (x : Scenario) (u : State) (task until : ℕ) (b b' : Board) : Type 0 where
-  pub glidden : HasGlidden x u (turns_of b' - turns_of b) b'
+pub record IsMade {X : Type 0} {H : X → Type 0} (shown : Shows X H) (x : Scenario) (u : State) (task until : ℕ) (b b' : Board X H) : Type 0 where
+  pub glidden : HasGlidden shown x u (turns_of b' - turns_of b) b'
   pub far : turns_of b' < until → MustStop x.setup task (register u task program_counter) (register u task stack_pointer) (state_after Calls x (turns_of b' - turns_of b) u)
 
-module _ (x : Scenario) (u : State) (b : Board) (m : Machine) (task most n until : ℕ)
-    (st : Stands x b u) (next : b.choice.next ≡ Some task) (up : b.choice.down ≡ false)
+module _ {X : Type 0} {H : X → Type 0} (shown : Shows X H) (x : Scenario) (u : State) (b : Board X H) (m : Machine X H) (task most n until : ℕ)
+    (st : Stands shown x b u) (next : b.choice.next ≡ Some task) (up : b.choice.down ≡ false)
     (few : until ≤ 1000000000) (within : turns_of b + n ≤ until) (later_due : (turn : ℕ) → turn < until → b.due ≢ Some turn)
     (is_current : u.current ≡ task) (none : kernel_notes m.reach.kernel ≡ []) where
   nothing : (k : ℕ) → k < n → events_of x.script (u.turn + k) ≡ []
@@ -252,13 +253,13 @@ module _ (x : Scenario) (u : State) (b : Board) (m : Machine) (task most n until
   is_chosen = sym st.holds.choice.next ∙ next ∙ ap Some (sym is_current)
 
   -- none was made
-  stayed : n ≡ 0 → MachineHolds x.setup m (rested b.machine u) → HasGlidden x u n record b { machine = m; turns = turns_of b + n }
+  stayed : n ≡ 0 → MachineHolds shown x.setup m (rested b.machine u) → HasGlidden shown x u n record b { machine = m; turns = turns_of b + n }
   unfolding state_after
   stayed zero_is h =
       rw zero_is record {
         stands = record {
           holds = record {
-            machine = rested_as x.setup b.machine m u h;
+            machine = rested_as shown x.setup b.machine m u h;
             turns = let a = st.holds.turns in omega (arith, a);
             choice = st.holds.choice;
             script = st.holds.script;
@@ -272,21 +273,21 @@ module _ (x : Scenario) (u : State) (b : Board) (m : Machine) (task most n until
         notes = λ lt. none;
       }
 
-  turns_are : (h : IsGlided x.setup m (rested b.machine u) most n) → AreTurns x u u.current h.window n h.after m.processor
+  turns_are : (h : IsGlided shown x.setup m (rested b.machine u) most n) → AreTurns x u u.current h.window n h.after m.processor
   turns_are h = are_turns x u u.current h.window st.sane is_chosen refl h.whole.is n h.after m.processor nothing h.glides
 
-  made : IsGlided x.setup m (rested b.machine u) most n → HasGlidden x u n record b { machine = m; turns = turns_of b + n }
+  made : IsGlided shown x.setup m (rested b.machine u) most n → HasGlidden shown x u n record b { machine = m; turns = turns_of b + n }
   unfolding ending state_after
   made h =
       let are = turns_are h in
       let v : State = state_after Calls x n u in
-      let M : State → Type 0 = λ y. MachineHolds x.setup m (rested b.machine y) in
+      let M : State → Type 0 = λ y. MachineHolds shown x.setup m (rested b.machine y) in
       let turns : v.turn ≡ u.turn + n = ap (λ (y : State). y.turn) are.state in
       let a = st.holds.turns in
       record {
         stands = record {
           holds = record {
-            machine = rested_as x.setup b.machine m v (subst M (sym are.state) h.holds);
+            machine = rested_as shown x.setup b.machine m v (subst M (sym are.state) h.holds);
             turns = omega (arith, a, turns);
             choice = record {
               next = st.holds.choice.next ∙ is_chosen ∙ sym (are.chosen n (omega arith));
@@ -313,12 +314,12 @@ module _ (x : Scenario) (u : State) (b : Board) (m : Machine) (task most n until
           let down : is_down (state_after Calls x k u) ≡ false = same ∙ sym st.holds.choice.down ∙ up in
           rw (down, some) refl
 
-  has_glidden : HasGlided x.setup m (rested b.machine u) most n → HasGlidden x u n record b { machine = m; turns = turns_of b + n }
+  has_glidden : HasGlided shown x.setup m (rested b.machine u) most n → HasGlidden shown x u n record b { machine = m; turns = turns_of b + n }
   has_glidden (inl h) = made h
   has_glidden (inr h) = stayed h.none h.holds
 
   -- the window that is left is of the same regions
-  at_end : (h : IsGlided x.setup m (rested b.machine u) most n) → n < most → IsAtEnd x.setup u.current (register u u.current program_counter) (register u u.current stack_pointer) (state_after Calls x n u)
+  at_end : (h : IsGlided shown x.setup m (rested b.machine u) most n) → n < most → IsAtEnd x.setup u.current (register u u.current program_counter) (register u u.current stack_pointer) (state_after Calls x n u)
   at_end h lt =
       let left = window_then x u u.current h.window st.sane is_chosen refl h.whole.is n h.after m.processor nothing h.glides in
       let same = left.keeps in
@@ -336,32 +337,32 @@ module _ (x : Scenario) (u : State) (b : Board) (m : Machine) (task most n until
         halts = subst (λ (d : Cpu). Halts (step_effect (refused_by h.after) (held_by h.after) d)) (sym left.processor) (h.far lt);
       }
 
-  must_stop : HasGlided x.setup m (rested b.machine u) most n → n < most → MustStop x.setup u.current (register u u.current program_counter) (register u u.current stack_pointer) (state_after Calls x n u)
+  must_stop : HasGlided shown x.setup m (rested b.machine u) most n → n < most → MustStop x.setup u.current (register u u.current program_counter) (register u u.current stack_pointer) (state_after Calls x n u)
   unfolding state_after
   must_stop (inl h) lt = inl (at_end h lt)
   must_stop (inr h) lt = inr (rw h.none h.beyond)
 
 -- the same of a board whose machine has the context of the task that is chosen, once the machine's turn has begun
-pub made_by : (x : Scenario) (u : State) (b : Board) (m m' : Machine) (task n until : ℕ) → Stands x b u → MachineHolds x.setup m (begun u) → m.loaded ≡ true → u.current ≡ task → b.choice.next ≡ Some task → b.choice.down ≡ false → until ≤ 1000000000 →
+pub made_by : {X : Type 0} {H : X → Type 0} (shown : Shows X H) (x : Scenario) (u : State) (b : Board X H) (m m' : Machine X H) (task n until : ℕ) → Stands shown x b u → MachineHolds shown x.setup m (begun u) → m.loaded ≡ true → u.current ≡ task → b.choice.next ≡ Some task → b.choice.down ≡ false → until ≤ 1000000000 →
     turns_of b < until → n ≤ until - turns_of b → ((turn : ℕ) → turn < until → b.due ≢ Some turn) → note_count m'.reach.kernel ≡ note_count m.reach.kernel →
-    ((g : Setup) (t : Turn) → IsReady g m t → HasGlided g m' t (until - turns_of b) n) → IsMade x u task until b record b { machine = m'; turns = turns_of b + n }
-made_by x u b0 m m' task n until st0 holds loaded is_current next up few left within later_due count glided =
-    let b : Board = record b0 { machine = m } in
-    let b' : Board = record b0 { machine = m'; turns = turns_of b0 + n } in
-    let st : Stands x b u = begun_board x u b0 m st0 holds in
-    let none : kernel_notes m'.reach.kernel ≡ [] = none_of m m' (quiet_begun x u m holds) count in
-    let ready : IsReady x.setup m (rested m u) = record { loaded = loaded; holds = is_loaded _ x.setup _ _ (rested m u) loaded st.holds.machine; sane = st.sane } in
+    ((g : Setup) (t : Turn) → IsReady shown g m t → HasGlided shown g m' t (until - turns_of b) n) → IsMade shown x u task until b record b { machine = m'; turns = turns_of b + n }
+made_by {X} {H} shown x u b0 m m' task n until st0 holds loaded is_current next up few left within later_due count glided =
+    let b : Board X H = record b0 { machine = m } in
+    let b' : Board X H = record b0 { machine = m'; turns = turns_of b0 + n } in
+    let st : Stands shown x b u = begun_board shown x u b0 m st0 holds in
+    let none : kernel_notes m'.reach.kernel ≡ [] = none_of m m' (quiet_begun shown x u m holds) count in
+    let ready : IsReady shown x.setup m (rested m u) = record { loaded = loaded; holds = is_loaded shown _ x.setup _ _ (rested m u) loaded st.holds.machine; sane = st.sane } in
     let over : turns_of b0 + n ≤ until = omega (arith, left, within) in
     let most : ℕ = until - turns_of b0 in
     let h = glided x.setup (rested m u) ready in
     let e : n ≡ turns_of b0 + n - turns_of b0 = omega arith in
     record {
-      glidden = subst (λ (k : ℕ). HasGlidden x u k b') e (has_glidden x u b m' task most n until st next up few over later_due is_current none h);
+      glidden = subst (λ (k : ℕ). HasGlidden shown x u k b') e (has_glidden shown x u b m' task most n until st next up few over later_due is_current none h);
       far = λ lt.
-          let stop = must_stop x u b m' task most n until st next up few over later_due is_current none h (omega (arith, lt)) in
+          let stop = must_stop shown x u b m' task most n until st next up few over later_due is_current none h (omega (arith, lt)) in
           subst (λ (k : ℕ). MustStop x.setup task (register u task program_counter) (register u task stack_pointer) (state_after Calls x k u)) e (subst (λ (i : ℕ). MustStop x.setup i (register u i program_counter) (register u i stack_pointer) (state_after Calls x n u)) is_current stop);
     }
 
 -- the task that ran last is the kernel's
-pub current_now : (x : Scenario) (u : State) (b : Board) → Stands x b u → current_of b.machine.reach.kernel ≡ u.current
-current_now x u b st = let w = rest_held _ x.setup _ _ _ st.holds.machine in w.holds.current ∙ sym w.rest.current
+pub current_now : {X : Type 0} {H : X → Type 0} (shown : Shows X H) (x : Scenario) (u : State) (b : Board X H) → Stands shown x b u → current_of b.machine.reach.kernel ≡ u.current
+current_now shown x u b st = let w = rest_held shown _ x.setup _ _ _ st.holds.machine in w.holds.current ∙ sym w.rest.current

@@ -11,18 +11,19 @@ use Rattle.board_model.specs.Script.{Scenario}
 use Rattle.board_model.specs.Run.{ending, turn_after, state_after}
 use Rattle.board_core.specs.Windowed.{MustStop}
 use Rattle.board_core.specs.Stands.{Stands, notes_of, turns_of}
+use Rattle.board_core.specs.Data.{Shows}
 
 -- the board stands for the state after n turns and one more, and tells the notes of that one: the n
 -- turns noted nothing, and none of them ended the run
-pub record IsAdvanced (level : Level) (x : Scenario) (n : ℕ) (s : State) (b : Board) : Type 0 where
+pub record IsAdvanced {X : Type 0} {H : X → Type 0} (shown : Shows X H) (level : Level) (x : Scenario) (n : ℕ) (s : State) (b : Board X H) : Type 0 where
   pub nothing : (k : ℕ) → k < n → (turn_after level x k s).notes ≡ []
   pub goes_on : (k : ℕ) → k < n → ending x 1 (turn_after level x k s).state ≡ None
-  pub stands : Stands x b (turn_after level x n s).state
+  pub stands : Stands shown x b (turn_after level x n s).state
   pub notes : notes_of b ≡ (turn_after level x n s).notes
 
 -- the board stands for the state after n turns, none of which noted anything or ended the run
-pub record HasGlidden (x : Scenario) (s : State) (n : ℕ) (b : Board) : Type 0 where
-  pub stands : Stands x b (state_after Calls x n s)
+pub record HasGlidden {X : Type 0} {H : X → Type 0} (shown : Shows X H) (x : Scenario) (s : State) (n : ℕ) (b : Board X H) : Type 0 where
+  pub stands : Stands shown x b (state_after Calls x n s)
   pub nothing : (k : ℕ) → k < n → (turn_after Calls x k s).notes ≡ []
   pub goes_on : (k : ℕ) → k < n → ending x 1 (turn_after Calls x k s).state ≡ None
   pub notes : 0 < n → notes_of b ≡ []
@@ -36,10 +37,10 @@ abbrev pub IsFar : Scenario → ℕ → State → State → Type 0
 IsFar x c s u = MustStop x.setup c (register s c program_counter) (register s c stack_pointer) u
 
 -- the state that a board has come to from another one, and that before its last turn
-abbrev pub state_now : Scenario → Board → State → Board → State
+abbrev pub state_now : {X : Type 0} {H : X → Type 0} → Scenario → Board X H → State → Board X H → State
 state_now x old s new = state_after Calls x (turns_of new - turns_of old) s
 
-abbrev pub state_before : Scenario → Board → State → Board → State
+abbrev pub state_before : {X : Type 0} {H : X → Type 0} → Scenario → Board X H → State → Board X H → State
 state_before x old s new = state_after Calls x (turns_of new - turns_of old - 1) s
 
 -- the next turn of the task that ran from a state is a whole one: something happens in it, or the fast way ends
@@ -47,25 +48,25 @@ abbrev pub NeedsTurn : Scenario → State → State → Type 0
 NeedsTurn x s u = (events_of x.script u.turn ≢ []) ⊎ IsFar x s.current s u
 
 -- of the task that ran last, where it is chosen: it went on to turn `until`, or as far as the fast way goes
-abbrev pub WentFar : ℕ → Board → Board → Type 0
-WentFar until old new =
-    (x : Scenario) (s : State) → Stands x old s → chosen x.setup s ≡ Some s.current → old.choice.down ≡ false →
+abbrev pub WentFar : {X : Type 0} {H : X → Type 0} → Shows X H → ℕ → Board X H → Board X H → Type 0
+WentFar shown until old new =
+    (x : Scenario) (s : State) → Stands shown x old s → chosen x.setup s ≡ Some s.current → old.choice.down ≡ false →
     turns_of new < until → IsFar x s.current s (state_now x old s new)
 
 -- the same of a task that is known to be the one
-abbrev pub WentFarOn : ℕ → ℕ → Board → Board → Type 0
-WentFarOn task until old new =
-    (x : Scenario) (s : State) → Stands x old s → s.current ≡ task →
+abbrev pub WentFarOn : {X : Type 0} {H : X → Type 0} → Shows X H → ℕ → ℕ → Board X H → Board X H → Type 0
+WentFarOn shown task until old new =
+    (x : Scenario) (s : State) → Stands shown x old s → s.current ≡ task →
     turns_of new < until → IsFar x task s (state_now x old s new)
 
 -- the last turn had to be a whole one
-abbrev pub NeededTurn : ℕ → Board → Board → Type 0
-NeededTurn limit old new =
-    (x : Scenario) (s : State) → Stands x old s → chosen x.setup s ≡ Some s.current → old.choice.down ≡ false →
+abbrev pub NeededTurn : {X : Type 0} {H : X → Type 0} → Shows X H → ℕ → Board X H → Board X H → Type 0
+NeededTurn shown limit old new =
+    (x : Scenario) (s : State) → Stands shown x old s → chosen x.setup s ≡ Some s.current → old.choice.down ≡ false →
     turns_of new < limit → NeedsTurn x s (state_before x old s new)
 
 -- where no task is ready, the last turn is the one in which something happened
-abbrev pub WaitedFor : ℕ → Board → Board → Type 0
-WaitedFor limit old new =
-    (x : Scenario) (s : State) → Stands x old s → chosen x.setup s ≡ None → old.choice.down ≡ false →
+abbrev pub WaitedFor : {X : Type 0} {H : X → Type 0} → Shows X H → ℕ → Board X H → Board X H → Type 0
+WaitedFor shown limit old new =
+    (x : Scenario) (s : State) → Stands shown x old s → chosen x.setup s ≡ None → old.choice.down ≡ false →
     lasts x.script limit ≡ true → turns_of new < limit → events_of x.script (state_before x old s new).turn ≢ []

@@ -14,6 +14,7 @@ use Rattle.board_core.specs.Windowed.{IsWholeWindow, later}
 use Rattle.board_core.specs.declared.glider.Glider.{Glider}
 use Rattle.board_core.specs.declared.machine.Machine.{Machine}
 use Rattle.board_core.specs.Machine.{MachineHolds}
+use Rattle.board_core.specs.Data.{Shows}
 
 -- what the processor reaches while it has these bytes
 abbrev pub lent_view : Glider → List ℕ → List ℕ → View
@@ -34,19 +35,19 @@ pub record HasWorked (a : Glider) (flash ram : List ℕ) (b : Glider) (after : L
   pub far : a.runner.window.flash_base + length flash ≤ a.runner.window.ram_base → b.made < a.most → Halts (step_effect (refused_by (lent_view a flash after)) (held_by (lent_view a flash after)) b.runner.processor)
 
 -- n instructions on end of the current task within a window, of which as many go on as there may be
-pub record IsGlided (g : Setup) (m : Machine) (t : Turn) (most n : ℕ) : Type 0 where
+pub record IsGlided {X : Type 0} {H : X → Type 0} (shown : Shows X H) (g : Setup) (m : Machine X H) (t : Turn) (most n : ℕ) : Type 0 where
   pub window : View
   pub after : View
   pub whole : IsWholeWindow g t.state.current t.state.memory (register t.state t.state.current program_counter) (register t.state t.state.current stack_pointer) window
   pub glides : Glides window (cpu_of (task_at t.state t.state.current)) n after m.processor
   pub far : n < most → Halts (step_effect (refused_by after) (held_by after) m.processor)
-  pub holds : MachineHolds g m record t { state = later t.state t.state.current m.processor (with_bytes t.state.memory window.ram_base after.ram) n }
+  pub holds : MachineHolds shown g m record t { state = later t.state t.state.current m.processor (with_bytes t.state.memory window.ram_base after.ram) n }
 
 -- none, since the task fetches from no region of the flash
-pub record HasNoWindow (g : Setup) (m : Machine) (t : Turn) (n : ℕ) : Type 0 where
+pub record HasNoWindow {X : Type 0} {H : X → Type 0} (shown : Shows X H) (g : Setup) (m : Machine X H) (t : Turn) (n : ℕ) : Type 0 where
   pub none : n ≡ 0
   pub beyond : list_any (is_flash_at (register t.state t.state.current program_counter)) (setup_at g t.state.current).regions ≡ false
-  pub holds : MachineHolds g m t
+  pub holds : MachineHolds shown g m t
 
-abbrev pub HasGlided : Setup → Machine → Turn → ℕ → ℕ → Type 0
-HasGlided g m t most n = IsGlided g m t most n ⊎ HasNoWindow g m t n
+abbrev pub HasGlided : {X : Type 0} {H : X → Type 0} → Shows X H → Setup → Machine X H → Turn → ℕ → ℕ → Type 0
+HasGlided shown g m t most n = IsGlided shown g m t most n ⊎ HasNoWindow shown g m t n

@@ -1,3 +1,4 @@
+pub mod Data
 pub mod Reached
 pub mod Windowed
 pub mod Kept

@@ -1,5 +1,5 @@
 -- The kernel as the bus of its current task, and the processor that has that task's context.
-use Rattle.std.specs.Prelude.{ℕ, ◌≡◌, ◌+◌, ◌<◌, ◌^◌, Bool, true, false, List, [], Option, if◌then◌else◌}
+use Rattle.std.specs.Prelude.{ℕ, ◌≡◌, ◌+◌, ◌<◌, ◌≤◌, ◌^◌, Bool, true, false, List, Option, if◌then◌else◌}
 use Rattle.kernel_abi.specs.Devices.{DeviceData, device_number}
 use Rattle.mem_banks.specs.Memory.{number_at}
 use Rattle.region_check.specs.declared.Right.{Right}
@@ -7,38 +7,49 @@ use Rattle.thumb_exec.specs.declared.cpu.Cpu.{Cpu}
 use Rattle.task_table.specs.declared.kernel.Kernel.{Kernel}
 use Rattle.task_table.specs.State.{Setup, State, Turn}
 use Rattle.task_table.specs.Reading.{is_ready, chosen}
-use Rattle.task_table.specs.Effects.{with_processor}
+use Rattle.task_table.specs.Effects.{with_processor, device_stored}
 use Rattle.task_table.specs.Start.{start, begun}
 use Rattle.task_table.specs.Sane.{Sane}
 use Rattle.task_table.specs.Holds.{Holds, Stands, setup_of, current_of, task_count, note_count, memory_of}
+use Rattle.task_table.specs.Limits.{turn_notes}
 use Rattle.board_core.specs.declared.machine.Machine.{Machine}
 use Rattle.board_core.specs.declared.reach.Reach.{Reach}
 use Rattle.board_model.specs.Turn.{put, took, is_device, or_zero, refusals}
+use Rattle.board_core.specs.Data.{Shows, data_of}
 
--- what the kernel keeps is just what the turn has come to, and there is no device
-pub record ReachHolds (g : Setup) (r : Reach) (t : Turn) : Type 0 where
+-- what the kernel keeps and the devices show is just what the turn has come to
+pub record ReachHolds {X : Type 0} {H : X → Type 0} (shown : Shows X H) (g : Setup) (r : Reach X H) (t : Turn) : Type 0 where
   pub kernel : Holds g r.kernel t
-  pub devices : [] ≡ t.state.devices
+  pub devices : data_of shown r.devices ≡ t.state.devices
 
 -- what so many bytes from an address on hold, by the memory of the kernel and the devices
 abbrev pub shown_in : Kernel → List DeviceData → ℕ → ℕ → ℕ
 shown_in k ds a n = if is_device a then or_zero (device_number ds a n) else number_at (memory_of k) a n
 
-abbrev pub shown_by : Reach → ℕ → ℕ → ℕ
-shown_by r a n = shown_in r.kernel [] a n
+abbrev pub shown_by : {X : Type 0} {H : X → Type 0} → Shows X H → Reach X H → ℕ → ℕ → ℕ
+shown_by shown r a n = shown_in r.kernel (data_of shown r.devices) a n
 
--- what a store leaves: the turn that was held, with the store; all else is as it was
-pub record IsStored (r : Reach) (a n v : ℕ) (r' : Reach) : Type 0 where
-  pub holds : (g : Setup) (t : Turn) → ReachHolds g r t → ReachHolds g r' (put t record { addr = a; bytes = n; value = v })
+-- what a store leaves: the turn that was held, with the store, where there is room for the note of a byte that a device gives out;
+-- all else is as it was
+pub record IsStored {X : Type 0} {H : X → Type 0} (shown : Shows X H) (r : Reach X H) (a n v : ℕ) (r' : Reach X H) : Type 0 where
+  pub holds : (g : Setup) (t : Turn) → note_count r.kernel < turn_notes → ReachHolds shown g r t → ReachHolds shown g r' (put t record { addr = a; bytes = n; value = v })
   pub setup : setup_of r'.kernel ≡ setup_of r.kernel
   pub current : current_of r'.kernel ≡ current_of r.kernel
   pub tasks : task_count r'.kernel ≡ task_count r.kernel
-  pub notes : note_count r'.kernel ≡ note_count r.kernel
+  pub notes : note_count r'.kernel ≤ note_count r.kernel + 1
+
+-- the same of a store to the device behind an address
+pub record IsGiven {X : Type 0} {H : X → Type 0} (shown : Shows X H) (r : Reach X H) (a v : ℕ) (r' : Reach X H) : Type 0 where
+  pub holds : (g : Setup) (t : Turn) → note_count r.kernel < turn_notes → ReachHolds shown g r t → ReachHolds shown g r' (device_stored a v t)
+  pub setup : setup_of r'.kernel ≡ setup_of r.kernel
+  pub current : current_of r'.kernel ≡ current_of r.kernel
+  pub tasks : task_count r'.kernel ≡ task_count r.kernel
+  pub notes : note_count r'.kernel ≤ note_count r.kernel + 1
 
 -- what is left once an instruction that went on has loaded from an address: the turn that was held, in which a device there
 -- gave up what it gave
-pub record IsTaken (r : Reach) (a : ℕ) (r' : Reach) : Type 0 where
-  pub holds : (g : Setup) (t : Turn) → ReachHolds g r t → ReachHolds g r' (took t a)
+pub record IsTaken {X : Type 0} {H : X → Type 0} (shown : Shows X H) (r : Reach X H) (a : ℕ) (r' : Reach X H) : Type 0 where
+  pub holds : (g : Setup) (t : Turn) → ReachHolds shown g r t → ReachHolds shown g r' (took t a)
   pub kernel : r'.kernel ≡ r.kernel
 
 -- the registers and flags of the current task become the processor's
@@ -47,34 +58,34 @@ with_cpu cpu t = with_processor t.state.current cpu.regs.words cpu.flags t
 
 -- the context of the current task is loaded: what the kernel has of that task's registers and flags
 -- is of an earlier time
-pub record IsLoaded (g : Setup) (r : Reach) (cpu : Cpu) (t : Turn) : Type 0 where
+pub record IsLoaded {X : Type 0} {H : X → Type 0} (shown : Shows X H) (g : Setup) (r : Reach X H) (cpu : Cpu) (t : Turn) : Type 0 where
   pub saved : Turn
-  pub holds : ReachHolds g r saved
+  pub holds : ReachHolds shown g r saved
   pub ready : is_ready saved.state saved.state.current ≡ true
   pub is : t ≡ with_cpu cpu saved
 
-abbrev pub HoldsBy : Bool → Setup → Reach → Cpu → Turn → Type 0
-HoldsBy true g r cpu t = IsLoaded g r cpu t
-HoldsBy false g r cpu t = ReachHolds g r t
+abbrev pub HoldsBy : {X : Type 0} {H : X → Type 0} → Shows X H → Bool → Setup → Reach X H → Cpu → Turn → Type 0
+HoldsBy shown true g r cpu t = IsLoaded shown g r cpu t
+HoldsBy shown false g r cpu t = ReachHolds shown g r t
 
 -- the machine holds just what the turn has come to
-abbrev pub MachineHolds : Setup → Machine → Turn → Type 0
-MachineHolds g m t = HoldsBy m.loaded g m.reach m.processor t
+abbrev pub MachineHolds : {X : Type 0} {H : X → Type 0} → Shows X H → Setup → Machine X H → Turn → Type 0
+MachineHolds shown g m t = HoldsBy shown m.loaded g m.reach m.processor t
 
 -- and the state is sane
-pub record MachineStands (g : Setup) (m : Machine) (t : Turn) : Type 0 where
-  pub holds : MachineHolds g m t
+pub record MachineStands {X : Type 0} {H : X → Type 0} (shown : Shows X H) (g : Setup) (m : Machine X H) (t : Turn) : Type 0 where
+  pub holds : MachineHolds shown g m t
   pub sane : Sane g t.state
 
 -- the machine stands for the turn, and the context of the current task, which is ready, is loaded
-pub record IsReady (g : Setup) (m : Machine) (t : Turn) : Type 0 where
+pub record IsReady {X : Type 0} {H : X → Type 0} (shown : Shows X H) (g : Setup) (m : Machine X H) (t : Turn) : Type 0 where
   pub loaded : m.loaded ≡ true
-  pub holds : IsLoaded g m.reach m.processor t
+  pub holds : IsLoaded shown g m.reach m.processor t
   pub sane : Sane g t.state
 
 -- the machine stands for the turn, and this is the choice
-pub record IsNext (g : Setup) (m : Machine) (t : Turn) (next : Option ℕ) : Type 0 where
-  pub stands : MachineStands g m t
+pub record IsNext {X : Type 0} {H : X → Type 0} (shown : Shows X H) (g : Setup) (m : Machine X H) (t : Turn) (next : Option ℕ) : Type 0 where
+  pub stands : MachineStands shown g m t
   pub is : next ≡ chosen g t.state
 
 -- the first of n bytes that the current task may not use so

@@ -1,5 +1,6 @@
 -- What an image fixes for ever, and the run over it.
-use Rattle.std.specs.Prelude.{map, []}
+use Rattle.std.specs.Prelude.{List, map}
+use Rattle.kernel_abi.specs.Devices.{DeviceData}
 use Rattle.image_format.specs.Picture.{Picture, TaskPicture, LinePicture}
 use Rattle.task_table.specs.Limits.{board_lines}
 use Rattle.task_table.specs.State.{Setup, TaskSetup, LineSetup}
@@ -22,5 +23,5 @@ setup_of_image p = record {
   line_count = board_lines;
 }
 
-abbrev pub scenario_of : Picture → ScriptData → Scenario
-scenario_of p script = record { setup = setup_of_image p; script = script; devices = [] }
+abbrev pub scenario_of : Picture → ScriptData → List DeviceData → Scenario
+scenario_of p script devices = record { setup = setup_of_image p; script = script; devices = devices }

@@ -10,33 +10,34 @@ use Rattle.board_core.specs.declared.board.Board.{Board}
 use Rattle.board_model.specs.Script.{Scenario}
 use Rattle.board_core.specs.Kept.{IsChoice}
 use Rattle.board_core.specs.Machine.{MachineHolds}
+use Rattle.board_core.specs.Data.{Shows}
 
 -- what is shown of a board whatever it stands for: the notes of its last turn, how many turns it
 -- has made, how many tasks it has
-abbrev pub notes_of : Board → List Note
+abbrev pub notes_of : {X : Type 0} {H : X → Type 0} → Board X H → List Note
 notes_of b = kernel_notes b.machine.reach.kernel
 
-abbrev pub turns_of : Board → ℕ
+abbrev pub turns_of : {X : Type 0} {H : X → Type 0} → Board X H → ℕ
 turns_of b = b.turns
 
-abbrev pub count_of : Board → ℕ
+abbrev pub count_of : {X : Type 0} {H : X → Type 0} → Board X H → ℕ
 count_of b = task_count b.machine.reach.kernel
 
 -- its parts are those of the state: its machine's, its turn number and its choice; its script is the
 -- run's, and it knows when something happens next
-pub record Holds (x : Scenario) (b : Board) (s : State) : Type 0 where
-  pub machine : MachineHolds x.setup b.machine record { state = s; notes = notes_of b; writes = []; reads = [] }
+pub record Holds {X : Type 0} {H : X → Type 0} (shown : Shows X H) (x : Scenario) (b : Board X H) (s : State) : Type 0 where
+  pub machine : MachineHolds shown x.setup b.machine record { state = s; notes = notes_of b; writes = []; reads = [] }
   pub turns : b.turns ≡ s.turn
   pub choice : IsChoice x.setup s b.choice
   pub script : script_data b.script ≡ x.script
   pub due : IsNext x.script s.turn b.due
 
 -- and the state is sane, and its counts are those that a run can reach
-pub record Stands (x : Scenario) (b : Board) (s : State) : Type 0 where
-  pub holds : Holds x b s
+pub record Stands {X : Type 0} {H : X → Type 0} (shown : Shows X H) (x : Scenario) (b : Board X H) (s : State) : Type 0 where
+  pub holds : Holds shown x b s
   pub sane : Sane x.setup s
   pub counted : IsCounted s
 
 -- it stands for some state of some run
-abbrev pub Stood : Board → Type 0
-Stood b = (x : Scenario) × (s : State) × Stands x b s
+abbrev pub Stood : {X : Type 0} {H : X → Type 0} → Shows X H → Board X H → Type 0
+Stood shown b = (x : Scenario) × (s : State) × Stands shown x b s

@@ -1,6 +1,7 @@
 //! The board and one turn of it.
-ghost use Rattle.std.specs.Prelude.{ℕ, ◌≡◌, ◌≢◌, ◌<◌, ◌≤◌, ◌+◌, ◌-◌, ◌*◌, ◌&&◌, not, [], Option, Some, None, length, true, false, IfOk};
+ghost use Rattle.std.specs.Prelude.{ℕ, ◌≡◌, ◌≢◌, ◌<◌, ◌≤◌, ◌+◌, ◌-◌, ◌*◌, ◌&&◌, not, [], Option, Some, None, length, map, true, false, IfOk};
 ghost use Rattle.image_format.specs.Images.{picture};
+ghost use Rattle.kernel_abi.specs.Devices.{AreFresh};
 ghost use Rattle.task_table.specs.State.{Setup, State, Turn};
 ghost use Rattle.task_table.specs.Reading.{chosen};
 ghost use Rattle.task_table.specs.Limits.{syscall_notes, turn_notes};
@@ -24,9 +25,11 @@ ghost use Rattle.board_core.specs.Skipped.{IsIdleUntil};
 ghost use Rattle.board_core.specs.Midway.{IsDue, IsMidway};
 
 use crate::choice::{Choice, choice_of, renew_choice};
+use crate::list::Devices;
 use crate::machine::Machine;
 use crate::opening::kernel;
 use board_model::{Level, Turned};
+use devices::Device;
 use image_format::Image;
 use kernel_abi::Note;
 use run_script::Script;
@@ -44,21 +47,29 @@ pub struct Board {
 }
 
 impl Board {
-    /// The board at the start of a run of an image with a script, without a device.
+    /// The board at the start of a run of an image with a script and with devices, as they are handed in: at most eight, to which
+    /// nothing has come as yet, each at a place of its own.
     ///
     /// # Errors
     ///
     /// Only want of memory.
-    pub fn open(alloc: Global, image: &Image, script: &Script) -> Result<Board, AllocError>
-        ensures stands { let x = scenario_of (picture image.now) (script_data script.now) in IfOk result (λ b. Stands x b (start_of x)) }
+    pub fn open(
+        alloc: Global,
+        image: &Image,
+        script: &Script,
+        devices: Vec<Box<dyn Device>>,
+    ) -> Result<Board, AllocError>
+        requires { AreFresh (map shown devices.items) }
+        ensures stands { let x = scenario_of (picture image.now) (script_data script.now) (map shown devices.items) in IfOk result (λ b. Stands shown x b (start_of x)) }
         ensures turns { IfOk result (λ b. turns_of b ≡ 0) }
     {
+        let devices = Devices::of(devices);
         let kernel = kernel(alloc, image)?;
         let script = script.copy(alloc)?;
         let choice = choice_of(&kernel);
         let due = script.next(0);
         Ok(Board {
-            machine: Machine::of(alloc, kernel),
+            machine: Machine::of(alloc, kernel, devices),
             turns: 0,
             choice,
             script,
@@ -70,25 +81,25 @@ impl Board {
     /// is ready. What `Level::All` tells is among the notes.
     pub fn turn(&mut self) -> Turned
         requires few { turns_of self.old < 1000000000 }
-        requires stood { Stood self.old }
-        ensures model { (x : Scenario) (s : State) → Stands x self.old s → Stands x self.new (turn All x s).state }
-        ensures notes { (x : Scenario) (s : State) → Stands x self.old s → notes_of self.new ≡ (turn All x s).notes }
-        ensures turned { (x : Scenario) (s : State) → Stands x self.old s → result ≡ turned x s }
+        requires stood { Stood shown self.old }
+        ensures model { (x : Scenario) (s : State) → Stands shown x self.old s → Stands shown x self.new (turn All x s).state }
+        ensures notes { (x : Scenario) (s : State) → Stands shown x self.old s → notes_of self.new ≡ (turn All x s).notes }
+        ensures turned { (x : Scenario) (s : State) → Stands shown x self.old s → result ≡ turned x s }
         ensures few { length (notes_of self.new) ≤ turn_notes }
         ensures turns { turns_of self.new ≡ turns_of self.old + 1 }
 
         // Each byte is written on a ground where its writer may, no call is touched but an open one, and with any
         // memory that agrees on what the turn reads it would have done the same.
-        ensures grounds { (x : Scenario) (s : State) → Stands x self.old s → IsGroundedTurn All x s }
-        ensures reads { (x : Scenario) (s : State) → Stands x self.old s → DependsOnReads All x s }
+        ensures grounds { (x : Scenario) (s : State) → Stands shown x self.old s → IsGroundedTurn All x s }
+        ensures reads { (x : Scenario) (s : State) → Stands shown x self.old s → DependsOnReads All x s }
 
         // A task that faults changes nothing else, and one whose system call names an earlier birth of a task is answered, and
         // nothing else changes.
-        ensures faults { (x : Scenario) (s : State) → Stands x self.old s → (c : ℕ) → IsFaulting All x s c → ChangesNothingElse All x s c }
-        ensures dead_ids { (x : Scenario) (s : State) → Stands x self.old s → IsDeadTurn All x s }
+        ensures faults { (x : Scenario) (s : State) → Stands shown x self.old s → (c : ℕ) → IsFaulting All x s c → ChangesNothingElse All x s c }
+        ensures dead_ids { (x : Scenario) (s : State) → Stands shown x self.old s → IsDeadTurn All x s }
         // What others do leaves a loner alone, and its own turn goes by what it has for itself.
-        ensures loners { (x : Scenario) (s : State) → Stands x self.old s → LeavesLoners All x s }
-        ensures alone { (x : Scenario) (s : State) → Stands x self.old s → LonersDecide All x s }
+        ensures loners { (x : Scenario) (s : State) → Stands shown x self.old s → LeavesLoners All x s }
+        ensures alone { (x : Scenario) (s : State) → Stands shown x self.old s → LonersDecide All x s }
     {
         self.turn_at(Level::All)
     }
@@ -96,10 +107,10 @@ impl Board {
     /// One turn as `turn`, of which only so much is noted.
     pub fn turn_at(&mut self, level: Level) -> Turned
         requires few { turns_of self.old < 1000000000 }
-        requires stood { Stood self.old }
-        ensures model { (x : Scenario) (s : State) → Stands x self.old s → Stands x self.new (turn level x s).state }
-        ensures notes { (x : Scenario) (s : State) → Stands x self.old s → notes_of self.new ≡ (turn level x s).notes }
-        ensures turned { (x : Scenario) (s : State) → Stands x self.old s → result ≡ turned x s }
+        requires stood { Stood shown self.old }
+        ensures model { (x : Scenario) (s : State) → Stands shown x self.old s → Stands shown x self.new (turn level x s).state }
+        ensures notes { (x : Scenario) (s : State) → Stands shown x self.old s → notes_of self.new ≡ (turn level x s).notes }
+        ensures turned { (x : Scenario) (s : State) → Stands shown x self.old s → result ≡ turned x s }
         ensures few { length (notes_of self.new) ≤ turn_notes }
         ensures turns { turns_of self.new ≡ turns_of self.old + 1 }
 
@@ -118,12 +129,12 @@ impl Board {
     /// `limit` turns are made in all. With all instructions noted each turn notes something, so that it is
     /// one turn.
     pub fn advance(&mut self, level: Level, limit: u32)
-        requires stood { Stood self.old }
+        requires stood { Stood shown self.old }
         requires left { turns_of self.old < limit }
         requires few { limit ≤ 1000000000 }
-        ensures advanced { (x : Scenario) (s : State) → Stands x self.old s → IsAdvanced level x (turns_of self.new - turns_of self.old - 1) s self.new }
+        ensures advanced { (x : Scenario) (s : State) → Stands shown x self.old s → IsAdvanced shown level x (turns_of self.new - turns_of self.old - 1) s self.new }
         ensures more { turns_of self.old < turns_of self.new }
-        ensures far { level ≡ Calls → (x : Scenario) (s : State) → Stands x self.new s → notes_of self.new ≡ [] → turns_of self.new < limit → IsStopped x s }
+        ensures far { level ≡ Calls → (x : Scenario) (s : State) → Stands shown x self.new s → notes_of self.new ≡ [] → turns_of self.new < limit → IsStopped x s }
         ensures within { turns_of self.new ≤ limit }
         ensures noted { length (notes_of self.new) ≤ turn_notes }
     {
@@ -137,12 +148,12 @@ impl Board {
 
     /// The same, where instructions are not noted.
     fn go_on(&mut self, limit: u32)
-        requires stood { Stood self.old }
+        requires stood { Stood shown self.old }
         requires left { turns_of self.old < limit }
         requires few { limit ≤ 1000000000 }
-        ensures advanced { (x : Scenario) (s : State) → Stands x self.old s → IsAdvanced Calls x (turns_of self.new - turns_of self.old - 1) s self.new }
+        ensures advanced { (x : Scenario) (s : State) → Stands shown x self.old s → IsAdvanced shown Calls x (turns_of self.new - turns_of self.old - 1) s self.new }
         ensures more { turns_of self.old < turns_of self.new }
-        ensures far { (x : Scenario) (s : State) → Stands x self.new s → notes_of self.new ≡ [] → turns_of self.new < limit → IsStopped x s }
+        ensures far { (x : Scenario) (s : State) → Stands shown x self.new s → notes_of self.new ≡ [] → turns_of self.new < limit → IsStopped x s }
         ensures within { turns_of self.new ≤ limit }
         ensures noted { length (notes_of self.new) ≤ turn_notes }
     {
@@ -154,17 +165,17 @@ impl Board {
 
     /// As many turns as can be made the fast way, and then a whole one, where fewer than `limit` are made by then.
     fn glide_and_turn(&mut self, limit: u32)
-        requires stood { Stood self.old }
+        requires stood { Stood shown self.old }
         requires left { turns_of self.old < limit }
         requires few { limit ≤ 1000000000 }
-        ensures advanced { (x : Scenario) (s : State) → Stands x self.old s → IsAdvanced Calls x (turns_of self.new - turns_of self.old - 1) s self.new }
+        ensures advanced { (x : Scenario) (s : State) → Stands shown x self.old s → IsAdvanced shown Calls x (turns_of self.new - turns_of self.old - 1) s self.new }
         ensures more { turns_of self.old < turns_of self.new }
         ensures within { turns_of self.new ≤ limit }
         ensures noted { length (notes_of self.new) ≤ turn_notes }
 
         // The whole turn is one that the fast way does not make.
-        ensures needed { NeededTurn limit self.old self.new }
-        ensures idle { WaitedFor limit self.old self.new }
+        ensures needed { NeededTurn shown limit self.old self.new }
+        ensures idle { WaitedFor shown limit self.old self.new }
     {
         self.glide(quiet_until(self.due, limit));
         if self.turns < limit {
@@ -176,17 +187,17 @@ impl Board {
     /// of the task that is chosen, within a window of its memory, as far as it goes there, where it was the one that ran
     /// last; or all idle ones, where no task is ready.
     fn glide(&mut self, until: u32)
-        requires stood { Stood self.old }
+        requires stood { Stood shown self.old }
         requires few { until ≤ 1000000000 }
         requires later { (turn : ℕ) → turn < until → self.old.due ≢ Some turn }
-        ensures glided { (x : Scenario) (s : State) → Stands x self.old s → HasGlidden x s (turns_of self.new - turns_of self.old) self.new }
+        ensures glided { (x : Scenario) (s : State) → Stands shown x self.old s → HasGlidden shown x s (turns_of self.new - turns_of self.old) self.new }
         ensures more { turns_of self.old ≤ turns_of self.new }
         ensures within { turns_of self.old ≤ until → turns_of self.new ≤ until }
         ensures stays { until ≤ turns_of self.old → self.new ≡ self.old }
 
         // It stops before only where the next instruction is a system call, faults or reaches beyond the window, or where there is none.
-        ensures far { WentFar until self.old self.new }
-        ensures idle { (x : Scenario) (s : State) → Stands x self.old s → chosen x.setup s ≡ None → self.old.choice.down ≡ false → lasts x.script until ≡ true → until ≤ turns_of self.new }
+        ensures far { WentFar shown until self.old self.new }
+        ensures idle { (x : Scenario) (s : State) → Stands shown x self.old s → chosen x.setup s ≡ None → self.old.choice.down ≡ false → lasts x.script until ≡ true → until ≤ turns_of self.new }
     {
         if self.turns >= until || self.choice.down {
             return;
@@ -199,16 +210,16 @@ impl Board {
 
     /// The same, where this task is chosen and the supervisor has not faulted.
     fn glide_on(&mut self, task: usize, until: u32)
-        requires stood { Stood self.old }
+        requires stood { Stood shown self.old }
         requires next { self.old.choice.next ≡ Some task }
         requires up { self.old.choice.down ≡ false }
         requires left { turns_of self.old < until }
         requires few { until ≤ 1000000000 }
         requires later { (turn : ℕ) → turn < until → self.old.due ≢ Some turn }
-        ensures glided { (x : Scenario) (s : State) → Stands x self.old s → HasGlidden x s (turns_of self.new - turns_of self.old) self.new }
+        ensures glided { (x : Scenario) (s : State) → Stands shown x self.old s → HasGlidden shown x s (turns_of self.new - turns_of self.old) self.new }
         ensures more { turns_of self.old ≤ turns_of self.new }
         ensures within { turns_of self.new ≤ until }
-        ensures far { WentFarOn task until self.old self.new }
+        ensures far { WentFarOn shown task until self.old self.new }
     {
         if self.machine.reload_context(task) {
             self.machine.begin();
@@ -218,16 +229,16 @@ impl Board {
 
     /// The same, where no task is ready.
     fn idle_on(&mut self, until: u32)
-        requires stood { Stood self.old }
+        requires stood { Stood shown self.old }
         requires none { self.old.choice.next ≡ None }
         requires up { self.old.choice.down ≡ false }
         requires left { turns_of self.old < until }
         requires few { until ≤ 1000000000 }
         requires later { (turn : ℕ) → turn < until → self.old.due ≢ Some turn }
-        ensures glided { (x : Scenario) (s : State) → Stands x self.old s → HasGlidden x s (turns_of self.new - turns_of self.old) self.new }
+        ensures glided { (x : Scenario) (s : State) → Stands shown x self.old s → HasGlidden shown x s (turns_of self.new - turns_of self.old) self.new }
         ensures more { turns_of self.old ≤ turns_of self.new }
         ensures within { turns_of self.new ≤ until }
-        ensures idle { (x : Scenario) (s : State) → Stands x self.old s → lasts x.script until ≡ true → until ≤ turns_of self.new }
+        ensures idle { (x : Scenario) (s : State) → Stands shown x self.old s → lasts x.script until ≡ true → until ≤ turns_of self.new }
     {
         if self.script.lasts(until) {
             self.skip(until);
@@ -236,11 +247,11 @@ impl Board {
 
     /// All idle turns up to turn `to` at once, before which no task is ready and nothing happens.
     pub fn skip(&mut self, to: u32)
-        requires stood { Stood self.old }
+        requires stood { Stood shown self.old }
         requires from { turns_of self.old ≤ to }
         requires few { to ≤ 1000000000 }
-        requires idle { (x : Scenario) (s : State) → Stands x self.old s → IsIdleUntil x s to }
-        ensures model { (x : Scenario) (s : State) → Stands x self.old s → Stands x self.new (state_after Calls x (to - s.turn) s) }
+        requires idle { (x : Scenario) (s : State) → Stands shown x self.old s → IsIdleUntil x s to }
+        ensures model { (x : Scenario) (s : State) → Stands shown x self.old s → Stands shown x self.new (state_after Calls x (to - s.turn) s) }
         ensures nothing { notes_of self.new ≡ [] }
         ensures turns { turns_of self.new ≡ to }
     {
@@ -252,8 +263,8 @@ impl Board {
     #[inline(always)]
     fn begin(&mut self)
         requires few { turns_of self.old < 1000000000 }
-        requires stood { Stood self.old }
-        ensures midway { (x : Scenario) (s : State) → Stands x self.old s → IsMidway x self.new s }
+        requires stood { Stood shown self.old }
+        ensures midway { (x : Scenario) (s : State) → Stands shown x self.old s → IsMidway shown x self.new s }
         ensures few { length (notes_of self.new) ≤ 9 * syscall_notes }
         ensures turns { turns_of self.new ≡ turns_of self.old }
         ensures due { self.old.due ≢ Some (turns_of self.old) → self.new.due ≡ self.old.due }
@@ -269,8 +280,8 @@ impl Board {
     /// looked up.
     fn happen(&mut self)
         requires few { turns_of self.old < 1000000000 }
-        requires stands { (x : Scenario) × (s : State) × IsDue x self.old s }
-        ensures midway { (x : Scenario) (s : State) → IsDue x self.old s → IsMidway x self.new s }
+        requires stands { (x : Scenario) × (s : State) × IsDue shown x self.old s }
+        ensures midway { (x : Scenario) (s : State) → IsDue shown x self.old s → IsMidway shown x self.new s }
         ensures few { length (notes_of self.new) ≤ 9 * syscall_notes }
         ensures turns { turns_of self.new ≡ turns_of self.old }
     {
@@ -283,9 +294,9 @@ impl Board {
     /// What is known of the choice is brought up to date where the last turn noted something: a turn that
     /// notes nothing leaves each task as ready as it was.
     fn renew(&mut self)
-        requires { (g : Setup) × (t : Turn) × MachineStands g self.old.machine t }
-        ensures holds { (g : Setup) (t : Turn) → MachineHolds g self.old.machine t → MachineHolds g self.new.machine t }
-        ensures choice { (g : Setup) (t : Turn) → MachineStands g self.old.machine t → WasChoice g self.old.choice → (t.notes ≡ [] → IsChoice g t.state self.old.choice) → IsChoice g t.state self.new.choice }
+        requires { (g : Setup) × (t : Turn) × MachineStands shown g self.old.machine t }
+        ensures holds { (g : Setup) (t : Turn) → MachineHolds shown g self.old.machine t → MachineHolds shown g self.new.machine t }
+        ensures choice { (g : Setup) (t : Turn) → MachineStands shown g self.old.machine t → WasChoice g self.old.choice → (t.notes ≡ [] → IsChoice g t.state self.old.choice) → IsChoice g t.state self.new.choice }
         ensures count { length (notes_of self.new) ≡ length (notes_of self.old) }
         ensures turns { turns_of self.new ≡ turns_of self.old }
         ensures script { self.new.script ≡ self.old.script }

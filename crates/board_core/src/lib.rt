@@ -4,6 +4,7 @@
 mod board;
 mod choice;
 mod glider;
+mod list;
 mod loners;
 mod machine;
 mod opening;

@@ -17,6 +17,7 @@ ghost use Rattle.board_core.specs.Machine.{IsReady, IsNext, HasNumber, ReachHold
 ghost use Rattle.board_core.specs.Gliding.{HasGlided};
 
 use crate::glider::Glider;
+use crate::list::Devices;
 use crate::reach::Reach;
 use crate::syscalls::syscall;
 use board_model::{Level, Turned};
@@ -55,9 +56,10 @@ fn cpu(kernel: &Kernel, task: usize) -> Cpu
 }
 
 impl Machine {
-    /// A machine with this kernel, whose processor has no task's context.
-    pub fn of(alloc: Global, kernel: Kernel) -> Machine
+    /// A machine with this kernel and these devices, whose processor has no task's context.
+    pub fn of(alloc: Global, kernel: Kernel, devices: Devices) -> Machine
         ensures kernel { result.reach.kernel ≡ kernel }
+        ensures devices { result.reach.devices ≡ devices }
         ensures loaded { result.loaded ≡ false }
     {
         let flags = Flags {
@@ -67,7 +69,7 @@ impl Machine {
             v: false,
         };
         Machine {
-            reach: Reach { kernel },
+            reach: Reach { kernel, devices },
             processor: Cpu {
                 regs: Regs::of([0; 16]),
                 flags,
@@ -79,7 +81,7 @@ impl Machine {
 
     /// The kernel has the registers and flags of the current task again: before it acts.
     pub fn save_context(&mut self)
-        ensures holds { (g : Setup) (t : Turn) → MachineHolds g self.old t → ReachHolds g self.new.reach t }
+        ensures holds { (g : Setup) (t : Turn) → MachineHolds shown g self.old t → ReachHolds shown g self.new.reach t }
         ensures unloaded { self.new.loaded ≡ false }
         ensures frame { AddsNotes self.old.reach.kernel 0 self.new.reach.kernel }
     {
@@ -110,7 +112,7 @@ impl Machine {
     fn load_context(&mut self, task: usize)
         requires { task < task_count self.old.reach.kernel }
         ensures loaded { self.new.loaded ≡ true }
-        ensures holds { (g : Setup) (t : Turn) → MachineHolds g self.old t → is_ready t.state task ≡ true → IsLoaded g self.new.reach self.new.processor (with_current task t) }
+        ensures holds { (g : Setup) (t : Turn) → MachineHolds shown g self.old t → is_ready t.state task ≡ true → IsLoaded shown g self.new.reach self.new.processor (with_current task t) }
         ensures count { note_count self.new.reach.kernel ≡ note_count self.old.reach.kernel }
     {
         if self.is_loaded_for(task) {
@@ -128,7 +130,7 @@ impl Machine {
         requires { task < task_count self.old.reach.kernel }
         ensures loaded { result ≡ true → self.new.loaded ≡ true }
         ensures current { result ≡ true → current_of self.old.reach.kernel ≡ task }
-        ensures holds { (g : Setup) (t : Turn) → MachineHolds g self.old t → is_ready t.state task ≡ true → MachineHolds g self.new t }
+        ensures holds { (g : Setup) (t : Turn) → MachineHolds shown g self.old t → is_ready t.state task ≡ true → MachineHolds shown g self.new t }
         ensures other { result ≡ false → current_of self.old.reach.kernel ≢ task }
         ensures same { result ≡ false → self.new ≡ self.old }
         ensures count { note_count self.new.reach.kernel ≡ note_count self.old.reach.kernel }
@@ -145,7 +147,7 @@ impl Machine {
     /// A turn begins: what the last one noted is gone.
     #[inline(always)]
     pub fn begin(&mut self)
-        ensures holds { (g : Setup) (t : Turn) → MachineHolds g self.old t → MachineHolds g self.new (begun t.state) }
+        ensures holds { (g : Setup) (t : Turn) → MachineHolds shown g self.old t → MachineHolds shown g self.new (begun t.state) }
         ensures count { note_count self.new.reach.kernel ≡ 0 }
         ensures loaded { self.new.loaded ≡ self.old.loaded }
     {
@@ -154,29 +156,27 @@ impl Machine {
 
     /// Something happens from outside.
     fn happen(&mut self, event: Event)
-        requires stands { (g : Setup) × (t : Turn) × MachineStands g self.old t × (t.state.now + 1 < 2 ^ 64) }
+        requires stands { (g : Setup) × (t : Turn) × MachineStands shown g self.old t × (t.state.now + 1 < 2 ^ 64) }
         requires room { note_count self.old.reach.kernel + syscall_notes ≤ turn_notes }
-        ensures stands { (g : Setup) (t : Turn) → MachineStands g self.old t → MachineStands g self.new (happened g t event) }
+        ensures stands { (g : Setup) (t : Turn) → MachineStands shown g self.old t → MachineStands shown g self.new (happened g t event) }
         ensures count { note_count self.new.reach.kernel ≤ note_count self.old.reach.kernel + syscall_notes }
     {
         self.save_context();
         match event {
             Event::Tick => tick(&mut self.reach.kernel),
             Event::Irq { line } => interrupt(&mut self.reach.kernel, line),
-            // There is no device that could take it.
-            Event::Feed { device, byte } => self.reach.kernel.note(Note::In {
-                device,
-                byte,
-                fed: None,
-            }),
+            Event::Feed { device, byte } => {
+                let fed = self.reach.devices.feed(usize::from(device), byte);
+                self.reach.kernel.note(Note::In { device, byte, fed });
+            }
         }
     }
 
     /// The k-th event of a turn happens; where there is none, the answer is false.
     fn happen_at(&mut self, script: &Script, turn: u32, k: u32) -> bool
-        requires stands { (g : Setup) × (t : Turn) × MachineStands g self.old t × (t.state.now + 1 < 2 ^ 64) }
+        requires stands { (g : Setup) × (t : Turn) × MachineStands shown g self.old t × (t.state.now + 1 < 2 ^ 64) }
         requires room { note_count self.old.reach.kernel + syscall_notes ≤ turn_notes }
-        ensures stands { (g : Setup) (t : Turn) → MachineStands g self.old t → MachineStands g self.new (happened_next g (slice_get (events_of (script_data script.now) turn) k) t) }
+        ensures stands { (g : Setup) (t : Turn) → MachineStands shown g self.old t → MachineStands shown g self.new (happened_next g (slice_get (events_of (script_data script.now) turn) k) t) }
         ensures count { note_count self.new.reach.kernel ≤ note_count self.old.reach.kernel + syscall_notes }
         ensures over { result ≡ false → slice_get (events_of (script_data script.now) turn) k ≡ None }
     {
@@ -191,9 +191,9 @@ impl Machine {
 
     /// What happens from outside in a turn, in the order of the script.
     pub fn happen_all(&mut self, script: &Script, turn: u32)
-        requires stands { (g : Setup) × (t : Turn) × MachineStands g self.old t × (t.state.now + 9 < 2 ^ 64) }
+        requires stands { (g : Setup) × (t : Turn) × MachineStands shown g self.old t × (t.state.now + 9 < 2 ^ 64) }
         requires room { note_count self.old.reach.kernel ≡ 0 }
-        ensures stands { (g : Setup) (t : Turn) → MachineStands g self.old t → MachineStands g self.new (fold (happened g) t (events_of (script_data script.now) turn)) }
+        ensures stands { (g : Setup) (t : Turn) → MachineStands shown g self.old t → MachineStands shown g self.new (fold (happened g) t (events_of (script_data script.now) turn)) }
         ensures count { note_count self.new.reach.kernel ≤ 9 * syscall_notes }
     {
         script.facts();
@@ -234,7 +234,7 @@ impl Machine {
     #[inline(always)]
     fn note_insn(&mut self, level: Level, at: u32, code: u32)
         requires { note_count self.old.reach.kernel < turn_notes }
-        ensures ready { (g : Setup) (t : Turn) → IsReady g self.old t → IsReady g self.new (noted_at level (Note.Insn t.state.current at code) t) }
+        ensures ready { (g : Setup) (t : Turn) → IsReady shown g self.old t → IsReady shown g self.new (noted_at level (Note.Insn t.state.current at code) t) }
         ensures count { note_count self.new.reach.kernel ≤ note_count self.old.reach.kernel + 1 }
     {
         match level {
@@ -249,7 +249,7 @@ impl Machine {
     /// With all instructions, an idle turn is noted.
     fn note_idle(&mut self, level: Level)
         requires room { note_count self.old.reach.kernel < turn_notes }
-        ensures holds { (g : Setup) (t : Turn) → MachineHolds g self.old t → MachineHolds g self.new (noted_at level Note.Idle t) }
+        ensures holds { (g : Setup) (t : Turn) → MachineHolds shown g self.old t → MachineHolds shown g self.new (noted_at level Note.Idle t) }
         ensures count { note_count self.new.reach.kernel ≤ note_count self.old.reach.kernel + 1 }
     {
         match level {
@@ -262,7 +262,7 @@ impl Machine {
     fn note_registers(&mut self, task: usize)
         requires there { task < task_count self.old.reach.kernel }
         requires room { note_count self.old.reach.kernel + 2 ≤ turn_notes }
-        ensures holds { (g : Setup) (t : Turn) → MachineHolds g self.old t → MachineHolds g self.new (with_registers_noted Level.All task t) }
+        ensures holds { (g : Setup) (t : Turn) → MachineHolds shown g self.old t → MachineHolds shown g self.new (with_registers_noted Level.All task t) }
         ensures count { note_count self.new.reach.kernel ≤ note_count self.old.reach.kernel + 2 }
     {
         self.save_context();
@@ -277,7 +277,7 @@ impl Machine {
     fn note_task(&mut self, level: Level, task: usize)
         requires there { task < task_count self.old.reach.kernel }
         requires room { note_count self.old.reach.kernel + 2 ≤ turn_notes }
-        ensures holds { (g : Setup) (t : Turn) → MachineHolds g self.old t → MachineHolds g self.new (with_registers_noted level task t) }
+        ensures holds { (g : Setup) (t : Turn) → MachineHolds shown g self.old t → MachineHolds shown g self.new (with_registers_noted level task t) }
         ensures count { note_count self.new.reach.kernel ≤ note_count self.old.reach.kernel + 2 }
     {
         match level {
@@ -291,9 +291,9 @@ impl Machine {
     /// One instruction of the current task, with its effect on the task and on memory.
     fn execute(&mut self, insn: &Insn)
         requires coded { IsCoded insn.now }
-        requires ready { (g : Setup) × (t : Turn) × IsReady g self.old t × HasNumber t.state }
+        requires ready { (g : Setup) × (t : Turn) × IsReady shown g self.old t × HasNumber t.state }
         requires room { note_count self.old.reach.kernel + syscall_notes + 1 ≤ turn_notes }
-        ensures holds { (g : Setup) (t : Turn) → IsReady g self.old t → MachineHolds g self.new (executed g t.state.current insn.now t) }
+        ensures holds { (g : Setup) (t : Turn) → IsReady shown g self.old t → MachineHolds shown g self.new (executed g t.state.current insn.now t) }
         ensures count { note_count self.new.reach.kernel ≤ note_count self.old.reach.kernel + syscall_notes + 1 }
     {
         match insn {
@@ -305,9 +305,9 @@ impl Machine {
     /// The same of an instruction that is no call.
     fn execute_own(&mut self, insn: &Insn)
         requires coded { IsCoded insn.now }
-        requires ready { (g : Setup) × (t : Turn) × IsReady g self.old t × HasNumber t.state }
+        requires ready { (g : Setup) × (t : Turn) × IsReady shown g self.old t × HasNumber t.state }
         requires room { note_count self.old.reach.kernel + syscall_notes + 1 ≤ turn_notes }
-        ensures holds { (g : Setup) (t : Turn) → IsReady g self.old t → MachineHolds g self.new (executed g t.state.current insn.now t) }
+        ensures holds { (g : Setup) (t : Turn) → IsReady shown g self.old t → MachineHolds shown g self.new (executed g t.state.current insn.now t) }
         ensures count { note_count self.new.reach.kernel ≤ note_count self.old.reach.kernel + syscall_notes + 1 }
     {
         match exec(&mut self.processor, insn, &mut self.reach) {
@@ -319,9 +319,9 @@ impl Machine {
 
     /// The current task makes a system call.
     fn syscall(&mut self)
-        requires ready { (g : Setup) × (t : Turn) × IsReady g self.old t × HasNumber t.state }
+        requires ready { (g : Setup) × (t : Turn) × IsReady shown g self.old t × HasNumber t.state }
         requires room { note_count self.old.reach.kernel + syscall_notes + 1 ≤ turn_notes }
-        ensures holds { (g : Setup) (t : Turn) → IsReady g self.old t → MachineHolds g self.new (syscall_made g t.state.current (syscall_noted t.state.current t)) }
+        ensures holds { (g : Setup) (t : Turn) → IsReady shown g self.old t → MachineHolds shown g self.new (syscall_made g t.state.current (syscall_noted t.state.current t)) }
         ensures count { note_count self.new.reach.kernel ≤ note_count self.old.reach.kernel + syscall_notes + 1 }
     {
         self.save_context();
@@ -335,7 +335,7 @@ impl Machine {
         requires from_one { 1 ≤ fault.number }
         requires to_ten { fault.number ≤ 10 }
         requires room { note_count self.old.reach.kernel + 4 ≤ turn_notes }
-        ensures holds { (g : Setup) (t : Turn) → IsReady g self.old t → MachineHolds g self.new (faulted g t.state.current fault t) }
+        ensures holds { (g : Setup) (t : Turn) → IsReady shown g self.old t → MachineHolds shown g self.new (faulted g t.state.current fault t) }
         ensures count { note_count self.new.reach.kernel ≤ note_count self.old.reach.kernel + 4 }
     {
         self.save_context();
@@ -346,9 +346,9 @@ impl Machine {
     /// One instruction of the current task: fetched, decoded, carried out.
     #[inline(never)]
     pub fn step(&mut self, level: Level)
-        requires ready { (g : Setup) × (t : Turn) × IsReady g self.old t × HasNumber t.state }
+        requires ready { (g : Setup) × (t : Turn) × IsReady shown g self.old t × HasNumber t.state }
         requires room { note_count self.old.reach.kernel + syscall_notes + 2 ≤ turn_notes }
-        ensures holds { (g : Setup) (t : Turn) → IsReady g self.old t → MachineHolds g self.new (stepped level g t.state.current t) }
+        ensures holds { (g : Setup) (t : Turn) → IsReady shown g self.old t → MachineHolds shown g self.new (stepped level g t.state.current t) }
         ensures count { note_count self.new.reach.kernel ≤ note_count self.old.reach.kernel + syscall_notes + 2 }
     {
         let at = self.processor.regs.get(PROGRAM_COUNTER);
@@ -366,10 +366,10 @@ impl Machine {
     /// What the task that is chosen does, once the events of the turn have happened: one instruction; or
     /// nothing where none is chosen.
     pub fn turn(&mut self, level: Level, next: Option<usize>) -> Turned
-        requires next { (g : Setup) × (t : Turn) × IsNext g self.old t next × HasNumber t.state }
+        requires next { (g : Setup) × (t : Turn) × IsNext shown g self.old t next × HasNumber t.state }
         requires room { note_count self.old.reach.kernel + syscall_notes + 4 ≤ turn_notes }
-        ensures holds { (g : Setup) (t : Turn) → IsNext g self.old t next → MachineHolds g self.new (turn_of level g next t) }
-        ensures turned { (g : Setup) (t : Turn) → IsNext g self.old t next → result ≡ turned_of t.state next }
+        ensures holds { (g : Setup) (t : Turn) → IsNext shown g self.old t next → MachineHolds shown g self.new (turn_of level g next t) }
+        ensures turned { (g : Setup) (t : Turn) → IsNext shown g self.old t next → result ≡ turned_of t.state next }
         ensures count { note_count self.new.reach.kernel ≤ note_count self.old.reach.kernel + syscall_notes + 4 }
     {
         match next {
@@ -394,7 +394,7 @@ impl Machine {
 impl Machine {
     /// Instructions on end of the current task within a window of its memory, at most so many; how many there were.
     pub fn glide(&mut self, most: u32) -> u32
-        ensures glided { (g : Setup) (t : Turn) → IsReady g self.old t → HasGlided g self.new t most result }
+        ensures glided { (g : Setup) (t : Turn) → IsReady shown g self.old t → HasGlided shown g self.new t most result }
         ensures within { result ≤ most }
         ensures count { note_count self.new.reach.kernel ≡ note_count self.old.reach.kernel }
     {

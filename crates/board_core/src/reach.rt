@@ -4,20 +4,31 @@ ghost use Rattle.std.specs.List.{list_any};
 ghost use Rattle.region_check.specs.declared.Right.TheVariants.{Execute, Read};
 ghost use Rattle.board_core.specs.Reached.{is_flash_at, is_ram_at, IsStackRegion, AreReached};
 ghost use Rattle.task_table.specs.Reading.{setup_at};
-ghost use Rattle.task_table.specs.Holds.{setup_of, current_of};
+ghost use Rattle.kernel_abi.specs.Devices.{device_number};
+ghost use Rattle.kernel_abi.specs.declared.Note.TheVariants.{Out};
+ghost use Rattle.task_table.specs.State.{Setup, Turn};
+ghost use Rattle.task_table.specs.Effects.{noted};
+ghost use Rattle.task_table.specs.Holds.{Holds, setup_of, current_of, note_count};
+ghost use Rattle.task_table.specs.Limits.{turn_notes};
+ghost use Rattle.task_table.specs.Frames.{AddsAtMost};
 ghost use Rattle.thumb_exec.specs.Sizes.{IsSize};
-ghost use Rattle.board_model.specs.Turn.{is_device};
-ghost use Rattle.board_core.specs.Machine.{IsStored, IsTaken, shown_by, refused};
+ghost use Rattle.board_model.specs.Turn.{is_device, or_zero};
+ghost use Rattle.board_core.specs.Data.{data_of};
+ghost use Rattle.board_core.specs.Machine.{IsStored, IsGiven, IsTaken, shown_by, refused};
 
+use crate::list::Devices;
+use kernel_abi::{Given, Note};
 use mem_banks::RAM;
 use region_check::{Region, Right, Rights, first_lacking, one_gives};
 use task_table::Kernel;
+use task_table::limits::TURN_NOTES;
 use thumb_exec::bus::Bus;
 
-/// The kernel, of whose memory the current task reaches as much as its regions permit.
+/// The kernel and the devices, of which the current task reaches as much as its regions permit.
 #[derive(Drop)]
 pub struct Reach {
     pub kernel: Kernel,
+    pub devices: Devices,
 }
 
 /// Whether an address is one of those where devices lie, 0x40000000 to 0x5FFFFFFF.
@@ -29,14 +40,14 @@ fn is_device(addr: u32) -> bool
 }
 
 impl Reach {
-    /// What n bytes hold: those of the kernel's memory; 0 where devices lie, since there is none.
+    /// What n bytes hold: those of the kernel's memory; where devices lie, what the device behind them shows.
     #[inline(always)]
     fn number(&self, addr: u32, n: u32) -> u32
         requires { IsSize n }
-        ensures { result ≡ shown_by self.now addr n }
+        ensures { result ≡ shown_by shown self.now addr n }
     {
         if is_device(addr) {
-            0
+            self.device_number(addr, n)
         } else {
             self.kernel.number(addr, n)
         }
@@ -45,24 +56,63 @@ impl Reach {
     /// The same of a halfword.
     #[inline(always)]
     fn half(&self, addr: u32) -> u16
-        ensures { result ≡ shown_by self.now addr 2 }
+        ensures { result ≡ shown_by shown self.now addr 2 }
     {
         if is_device(addr) {
-            0
+            self.device_number(addr, 2) as u16
         } else {
             self.kernel.half(addr)
         }
     }
 
-    /// Writes the low n bytes of a value where they lie in the RAM; elsewhere a store changes nothing.
+    /// What the device behind an address shows by n bytes; 0 where there is none.
+    #[inline(never)]
+    fn device_number(&self, addr: u32, n: u32) -> u32
+        requires { IsSize n }
+        ensures { result ≡ or_zero (device_number (data_of shown self.now.devices) addr n) }
+    {
+        match self.devices.number(addr, n) {
+            Some(value) => value,
+            None => 0,
+        }
+    }
+
+    /// Writes the low n bytes of a value where they lie in the RAM; where devices lie, stores it to the one behind the
+    /// address; elsewhere a store changes nothing.
     #[inline(always)]
     fn write(&mut self, addr: u32, n: u32, value: u32)
         requires { IsSize n }
-        ensures { IsStored self.old addr n value self.new }
+        ensures { IsStored shown self.old addr n value self.new }
     {
         let bytes = value.to_le_bytes();
         if self.kernel.is_ram(addr, n) {
             self.kernel.store(addr, &bytes[..n as usize]);
+        } else if is_device(addr) {
+            self.give(addr, value);
+        }
+    }
+
+    /// Stores a value to the device behind an address. A byte that it gives out is noted, where there is room.
+    #[inline(never)]
+    fn give(&mut self, addr: u32, value: u32)
+        ensures { IsGiven shown self.old addr value self.new }
+    {
+        if let Some(given) = self.devices.store(addr, value) {
+            self.note_given(given);
+        }
+    }
+
+    /// A byte that a device gives out is noted, where there is room.
+    fn note_given(&mut self, given: Given)
+        ensures noted { note_count self.old.kernel < turn_notes → (g : Setup) (t : Turn) → Holds g self.old.kernel t → Holds g self.new.kernel (noted (Out given.device given.byte) t) }
+        ensures frame { AddsAtMost self.old.kernel 1 self.new.kernel }
+        ensures devices { self.new.devices ≡ self.old.devices }
+    {
+        if self.kernel.notes().len() < TURN_NOTES {
+            self.kernel.note(Note::Out {
+                device: given.device,
+                byte: given.byte,
+            });
         }
     }
 
@@ -143,11 +193,11 @@ impl Reach {
 impl Bus for Reach {
     ghost refuses = { λ m a n r. refused m.kernel a n r };
 
-    ghost holds = { λ m a n. shown_by m a n };
+    ghost holds = { λ m a n. shown_by (λ b. (Device-box b).shown b.value) m a n };
 
-    ghost stored = { λ m a n v m'. IsStored m a n v m' };
+    ghost stored = { λ m a n v m'. IsStored (λ b. (Device-box b).shown b.value) m a n v m' };
 
-    ghost took = { λ m a m'. IsTaken m a m' };
+    ghost took = { λ m a m'. IsTaken (λ b. (Device-box b).shown b.value) m a m' };
 
     #[inline(always)]
     fn allows(&self, addr: u32, n: u32, right: Right) -> Option<u32> {
@@ -180,13 +230,17 @@ impl Bus for Reach {
         }
     }
 
-    /// There is no device.
     #[inline(always)]
-    fn taken(&mut self, _addr: u32) {}
+    fn taken(&mut self, addr: u32) {
+        if is_device(addr) {
+            self.devices.taken(addr);
+        }
+    }
 
+    /// Whether there is a device.
     #[inline(always)]
     fn takes(&self) -> bool {
-        false
+        !self.devices.is_empty()
     }
 
     #[inline(always)]

@@ -45,7 +45,7 @@ fn slot(view: &TaskView) -> Slot
 impl Board {
     /// So many turns were made.
     pub fn set_turns(&mut self, v: u32)
-        ensures holds { (x : Scenario) (s : State) → Holds x self.old s → Holds x self.new (record s { turn = v }) }
+        ensures holds { (x : Scenario) (s : State) → Holds shown x self.old s → Holds shown x self.new (record s { turn = v }) }
         ensures count { count_of self.new ≡ count_of self.old }
     {
         self.turns = v;
@@ -54,7 +54,7 @@ impl Board {
 
     /// The time in ticks is so.
     pub fn set_now(&mut self, v: u64)
-        ensures holds { (x : Scenario) (s : State) → Holds x self.old s → Holds x self.new (record s { now = v }) }
+        ensures holds { (x : Scenario) (s : State) → Holds shown x self.old s → Holds shown x self.new (record s { now = v }) }
         ensures count { count_of self.new ≡ count_of self.old }
     {
         self.machine.save_context();
@@ -64,7 +64,7 @@ impl Board {
     /// The task with this index ran last.
     pub fn set_current(&mut self, v: usize)
         requires { v < count_of self.old }
-        ensures holds { (x : Scenario) (s : State) → Holds x self.old s → Holds x self.new (record s { current = v }) }
+        ensures holds { (x : Scenario) (s : State) → Holds shown x self.old s → Holds shown x self.new (record s { current = v }) }
         ensures count { count_of self.new ≡ count_of self.old }
     {
         self.machine.save_context();
@@ -74,7 +74,7 @@ impl Board {
 
     /// The next call gets this number.
     pub fn set_next_call(&mut self, v: u32)
-        ensures holds { (x : Scenario) (s : State) → Holds x self.old s → Holds x self.new (record s { next_call = v }) }
+        ensures holds { (x : Scenario) (s : State) → Holds shown x self.old s → Holds shown x self.new (record s { next_call = v }) }
         ensures count { count_of self.new ≡ count_of self.old }
     {
         self.machine.save_context();
@@ -83,7 +83,7 @@ impl Board {
 
     /// An interrupt line is so; where there is none with this number, nothing changes.
     pub fn set_irq_line(&mut self, k: usize, enabled: bool, pending: bool)
-        ensures holds { (x : Scenario) (s : State) → Holds x self.old s → Holds x self.new (record s { lines = slice_set s.lines k (record { enabled = enabled; pending = pending }) }) }
+        ensures holds { (x : Scenario) (s : State) → Holds shown x self.old s → Holds shown x self.new (record s { lines = slice_set s.lines k (record { enabled = enabled; pending = pending }) }) }
         ensures count { count_of self.new ≡ count_of self.old }
     {
         self.machine.save_context();
@@ -98,7 +98,7 @@ impl Board {
     pub fn set_task(&mut self, i: usize, v: &TaskView)
         requires there { i < count_of self.old }
         requires told { IsTold i (slot_told v.now) }
-        ensures holds { (x : Scenario) (s : State) → Holds x self.old s → Holds x self.new (with_slot i (slot_told v.now) s) }
+        ensures holds { (x : Scenario) (s : State) → Holds shown x self.old s → Holds shown x self.new (with_slot i (slot_told v.now) s) }
         ensures count { count_of self.new ≡ count_of self.old }
     {
         self.machine.save_context();
@@ -108,9 +108,9 @@ impl Board {
 
     /// The byte at an address of the flash or of the RAM is so. With another flash it is a board of an image that has that one.
     pub fn set_byte(&mut self, addr: u32, v: u8)
-        requires { (x : Scenario) × (s : State) × Holds x self.old s × (is_held s.memory addr ≡ true) }
-        ensures holds { (x : Scenario) (s : State) → Holds x self.old s → Holds (with_flash (with_bytes s.memory addr (v ∷ [])).flash x) self.new (record s { memory = with_bytes s.memory addr (v ∷ []) }) }
-        ensures ram { 0x20000000 ≤ addr → (x : Scenario) (s : State) → Holds x self.old s → Holds x self.new (record s { memory = with_bytes s.memory addr (v ∷ []) }) }
+        requires { (x : Scenario) × (s : State) × Holds shown x self.old s × (is_held s.memory addr ≡ true) }
+        ensures holds { (x : Scenario) (s : State) → Holds shown x self.old s → Holds shown (with_flash (with_bytes s.memory addr (v ∷ [])).flash x) self.new (record s { memory = with_bytes s.memory addr (v ∷ []) }) }
+        ensures ram { 0x20000000 ≤ addr → (x : Scenario) (s : State) → Holds shown x self.old s → Holds shown x self.new (record s { memory = with_bytes s.memory addr (v ∷ []) }) }
         ensures count { count_of self.new ≡ count_of self.old }
     {
         self.machine.save_context();

@@ -41,9 +41,9 @@ impl Board {
     /// Whether the run ends here, its bound aside: the supervisor has faulted, or no task is ready and
     /// nothing more comes from outside.
     pub fn ended(&self) -> Option<End>
-        requires { Stood self.now }
-        ensures end { (x : Scenario) (s : State) → Stands x self.now s → result ≡ end_at x s }
-        ensures before { (x : Scenario) (s : State) (left : ℕ) → Stands x self.now s → 0 < left → result ≡ ending x left s }
+        requires { Stood shown self.now }
+        ensures end { (x : Scenario) (s : State) → Stands shown x self.now s → result ≡ end_at x s }
+        ensures before { (x : Scenario) (s : State) (left : ℕ) → Stands shown x self.now s → 0 < left → result ≡ ending x left s }
     {
         end_by(self.choice.down, self.is_still())
     }
@@ -58,7 +58,7 @@ impl Board {
     /// The next turn, from turn `from` on, in which something happens; None where nothing does below turn
     /// 1,000,000,000.
     pub fn next(&self, from: u32) -> Option<u32>
-        ensures { (x : Scenario) (s : State) → Stands x self.now s → IsNext x.script from result }
+        ensures { (x : Scenario) (s : State) → Stands shown x self.now s → IsNext x.script from result }
     {
         self.script.next(from)
     }
@@ -72,21 +72,21 @@ impl Board {
 
     /// The time in ticks.
     pub fn now(&self) -> u64
-        ensures { (x : Scenario) (s : State) → Stands x self.now s → result ≡ s.now }
+        ensures { (x : Scenario) (s : State) → Stands shown x self.now s → result ≡ s.now }
     {
         self.machine.reach.kernel.now()
     }
 
     /// The index of the task that ran last; 0 at the start.
     pub fn current(&self) -> usize
-        ensures { (x : Scenario) (s : State) → Stands x self.now s → result ≡ s.current }
+        ensures { (x : Scenario) (s : State) → Stands shown x self.now s → result ≡ s.current }
     {
         self.machine.reach.kernel.current()
     }
 
     /// The number of the next call.
     pub fn next_call(&self) -> u32
-        ensures { (x : Scenario) (s : State) → Stands x self.now s → result ≡ s.next_call }
+        ensures { (x : Scenario) (s : State) → Stands shown x self.now s → result ≡ s.next_call }
     {
         self.machine.reach.kernel.next_call()
     }
@@ -94,7 +94,7 @@ impl Board {
     /// How many tasks there are.
     pub fn task_count(&self) -> usize
         ensures count { result ≡ count_of self.now }
-        ensures tasks { (x : Scenario) (s : State) → Stands x self.now s → result ≡ length s.tasks }
+        ensures tasks { (x : Scenario) (s : State) → Stands shown x self.now s → result ≡ length s.tasks }
     {
         self.machine.reach.kernel.task_count()
     }
@@ -102,7 +102,7 @@ impl Board {
     /// A task, or None past the last one.
     pub fn task(&self, i: usize) -> Option<TaskView>
         ensures there { IsSome result ↔ (i < count_of self.now) }
-        ensures view { (x : Scenario) (s : State) → Stands x self.now s → IsView s i result }
+        ensures view { (x : Scenario) (s : State) → Stands shown x self.now s → IsView s i result }
     {
         if i >= self.machine.reach.kernel.task_count() {
             return None;
@@ -112,14 +112,14 @@ impl Board {
 
     /// The byte at an address of the flash or of the RAM.
     pub fn byte(&self, addr: u32) -> Option<u8>
-        ensures { (x : Scenario) (s : State) → Stands x self.now s → result ≡ byte_at s.memory addr }
+        ensures { (x : Scenario) (s : State) → Stands shown x self.now s → result ≡ byte_at s.memory addr }
     {
         self.machine.reach.kernel.byte(addr)
     }
 
     /// How an interrupt line is: enabled, pending. None past the last one.
     pub fn irq_line(&self, k: usize) -> Option<(bool, bool)>
-        ensures { (x : Scenario) (s : State) → Stands x self.now s → result ≡ option_map (λ l. (l.enabled, l.pending)) (slice_get s.lines k) }
+        ensures { (x : Scenario) (s : State) → Stands shown x self.now s → result ≡ option_map (λ l. (l.enabled, l.pending)) (slice_get s.lines k) }
     {
         match self.machine.reach.kernel.line(k) {
             Some(line) => Some((line.enabled, line.pending)),
@@ -129,14 +129,14 @@ impl Board {
 
     /// The regions of a task; none where there is no such task.
     pub fn regions(&self, i: usize) -> &[Region]
-        ensures { (x : Scenario) (s : State) → Stands x self.now s → result.now ≡ (setup_at x.setup i).regions }
+        ensures { (x : Scenario) (s : State) → Stands shown x self.now s → result.now ≡ (setup_at x.setup i).regions }
     {
         self.machine.reach.kernel.regions(i)
     }
 
     /// Region k of a task.
     pub fn region(&self, i: usize, k: usize) -> Option<Region>
-        ensures { (x : Scenario) (s : State) → Stands x self.now s → result ≡ slice_get (setup_at x.setup i).regions k }
+        ensures { (x : Scenario) (s : State) → Stands shown x self.now s → result ≡ slice_get (setup_at x.setup i).regions k }
     {
         self.machine.reach.kernel.regions(i).get(k).copied()
     }
@@ -177,7 +177,7 @@ fn kept(kernel: &Kernel, i: usize) -> TaskView
 /// What a machine shows of a task: the registers and flags of the processor where it has its context.
 fn view(machine: &Machine, i: usize) -> TaskView
     requires { i < task_count machine.now.reach.kernel }
-    ensures { (g : Setup) (t : Turn) → MachineHolds g machine.now t → IsTask t.state i result }
+    ensures { (g : Setup) (t : Turn) → MachineHolds shown g machine.now t → IsTask t.state i result }
 {
     let kept = kept(&machine.reach.kernel, i);
     if machine.is_loaded_for(i) {

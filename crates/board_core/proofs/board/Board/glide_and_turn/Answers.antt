@@ -9,29 +9,34 @@ use Rattle.board_core.specs.Stands.{turns_of}
 use Rattle.board_core.specs.Advanced.{IsAdvanced, HasGlidden, IsFar, NeedsTurn}
 use Rattle.board_core.proofs.Gliding.{one_more, all_made}
 use Rattle.board_core.proofs.Skipping.{lasts_from, due_now}
+use Rattle.board_core.specs.Data.{boxed}
 use Rattle.board_core.proofs.board.Board.glide_and_turn.Goals as goal
 
 pub turn_at-requires-clause-stood : goal.turn_at-requires-clause-stood
-turn_at-requires-clause-stood c =
+turn_at-requires-clause-stood boxes c =
     let x = c.requires.stood.0 in
     let s = c.requires.stood.1 in
     (x, state_after Calls x (turns_of c.glide.new.self - turns_of c.args.self.now) s, (c.glide.ensures.glided x s c.requires.stood.2).stands)
 
 pub returns-then-self-limit-clause-advanced : goal.returns-then-self-limit-clause-advanced
-returns-then-self-limit-clause-advanced c = λ x s st.
+returns-then-self-limit-clause-advanced boxes c =
+    let shown = boxed (λ p. (goal.Device-dyn boxes p).shown p.1) in
+    λ x s st.
     let b = c.args.self.now in
     let b1 = c.glide.new.self in
     let b2 = c.turn_at.new.self in
     let e : turns_of b1 - turns_of b ≡ turns_of b2 - turns_of b - 1 = omega (arith, c.glide.ensures.more, c.turn_at.ensures.turns) in
-    subst (λ (n : ℕ). IsAdvanced Calls x n s b2) e (one_more x (turns_of b1 - turns_of b) s b1 b2 (c.glide.ensures.glided x s st) (λ u h. c.turn_at.ensures.model x u h) (λ u h. c.turn_at.ensures.notes x u h))
+    subst (λ (n : ℕ). IsAdvanced shown Calls x n s b2) e (one_more _ x (turns_of b1 - turns_of b) s b1 b2 (c.glide.ensures.glided x s st) (λ u h. c.turn_at.ensures.model x u h) (λ u h. c.turn_at.ensures.notes x u h))
 
 pub returns-else-self-limit-clause-advanced : goal.returns-else-self-limit-clause-advanced
-returns-else-self-limit-clause-advanced c = λ x s st.
+returns-else-self-limit-clause-advanced boxes c =
+    let shown = boxed (λ p. (goal.Device-dyn boxes p).shown p.1) in
+    λ x s st.
     let b = c.args.self.now in
     let b1 = c.glide.new.self in
     let n : ℕ = turns_of b1 - turns_of b - 1 in
     let e : turns_of b1 - turns_of b ≡ suc n = omega (arith, c.if-self-limit.false, c.requires.left) in
-    all_made x n s b1 (subst (λ (k : ℕ). HasGlidden x s k b1) e (c.glide.ensures.glided x s st))
+    all_made _ x n s b1 (subst (λ (k : ℕ). HasGlidden shown x s k b1) e (c.glide.ensures.glided x s st))
 
 -- turns that stop at a place below the limit, or stay past it
 below_limit : (until from to limit : ℕ) → (from ≤ until → to ≤ until) → (until ≤ from → to ≡ from) → until ≤ limit → from < limit → to ≤ limit
@@ -42,11 +47,11 @@ below_limit until from to limit within stays less left = by (leb from until) ref
     by false e = let h = stays (let gt = leb-false from until e in omega (arith, gt)) in omega (arith, h, left)
 
 pub returns-else-self-limit-clause-within : goal.returns-else-self-limit-clause-within
-returns-else-self-limit-clause-within c =
-    below_limit c.quiet_until.result (turns_of c.args.self.now) (turns_of c.glide.new.self) c.args.limit c.glide.ensures.within (λ h. ap (λ (b : Board). turns_of b) (c.glide.ensures.stays h)) (omega (arith, c.quiet_until.ensures.within, c.requires.left)) c.requires.left
+returns-else-self-limit-clause-within boxes c =
+    below_limit c.quiet_until.result (turns_of c.args.self.now) (turns_of c.glide.new.self) c.args.limit c.glide.ensures.within (λ h. ap (λ (b : Board _ _). turns_of b) (c.glide.ensures.stays h)) (omega (arith, c.quiet_until.ensures.within, c.requires.left)) c.requires.left
 
 pub returns-else-self-limit-clause-noted : goal.returns-else-self-limit-clause-noted
-returns-else-self-limit-clause-noted c =
+returns-else-self-limit-clause-noted boxes c =
     let made = c.glide.ensures.glided c.requires.stood.0 c.requires.stood.1 c.requires.stood.2 in
     rw (made.notes (omega (arith, c.if-self-limit.false, c.requires.left))) (omega arith)
 
@@ -59,7 +64,7 @@ either_way to until P Q before there = by (ltb to until) refl
     by false e = inl (there (ltb-false to until e))
 
 pub returns-then-self-limit-clause-needed : goal.returns-then-self-limit-clause-needed
-returns-then-self-limit-clause-needed c = λ x s st task up lt.
+returns-then-self-limit-clause-needed boxes c = λ x s st task up lt.
     let b = c.args.self.now in
     let b1 = c.glide.new.self in
     let b2 = c.turn_at.new.self in
@@ -73,7 +78,7 @@ returns-then-self-limit-clause-needed c = λ x s st task up lt.
     (λ over. due_now x s u b.due (turns_of b) (turns_of b1) until c.args.limit st.holds.due c.quiet_until.ensures.met st.holds.turns made.stands.holds.turns c.glide.ensures.within over (omega (arith, c.if-self-limit.true))))
 
 pub returns-then-self-limit-clause-idle : goal.returns-then-self-limit-clause-idle
-returns-then-self-limit-clause-idle c = λ x s st none up more lt.
+returns-then-self-limit-clause-idle boxes c = λ x s st none up more lt.
     let b = c.args.self.now in
     let b1 = c.glide.new.self in
     let b2 = c.turn_at.new.self in

@@ -10,6 +10,7 @@ use Rattle.board_core.specs.Stands.{notes_of, turns_of}
 use Rattle.board_core.specs.Advanced.{IsAdvanced}
 use Rattle.board_core.proofs.Turning.{empty_of}
 use Rattle.board_core.proofs.Gliding.{joined}
+use Rattle.board_core.specs.Data.{boxed}
 use Rattle.board_core.proofs.board.Board.go_on.Goals as goal
 
 goes_on : (x : Scenario) (s : State) (r : Option End) → r ≡ ending x 1 s → is_some r ≡ false → ending x 1 s ≡ None
@@ -17,19 +18,20 @@ goes_on x s None is none = sym is
 goes_on x s (Some end) is none = absurd (false≢true (sym none))
 
 pub ended-requires : goal.ended-requires
-ended-requires c =
+ended-requires boxes c =
     let x : Scenario = c.requires.stood.0 in
     let s : State = c.requires.stood.1 in
     (x, (turn_after Calls x (turns_of c.on.self - turns_of c.args.self.now - 1) s).state, (c.on.invariant.advanced x s c.requires.stood.2).stands)
 
 pub glide_and_turn-requires-in-on-clause-stood : goal.glide_and_turn-requires-in-on-clause-stood
-glide_and_turn-requires-in-on-clause-stood c =
+glide_and_turn-requires-in-on-clause-stood boxes c =
     let x : Scenario = c.requires.stood.0 in
     let s : State = c.requires.stood.1 in
     (x, (turn_after Calls x (turns_of c.on.self - turns_of c.args.self.now - 1) s).state, (c.on.invariant.advanced x s c.requires.stood.2).stands)
 
 pub on-preserved : goal.on-preserved
-on-preserved c =
+on-preserved boxes c =
+    let shown = boxed (λ p. (goal.Device-dyn boxes p).shown p.1) in
     let inv = c.on.invariant in
     let b = c.args.self.now in
     let b1 = c.on.self in
@@ -45,21 +47,21 @@ on-preserved c =
           let before = inv.advanced x s st in
           let u : State = (turn_after Calls x n s).state in
           let goes : ending x 1 u ≡ None = goes_on x u c.ended.result (c.ended.ensures.before x u 1 before.stands (omega arith)) (c.is_none.ensures ∙ ap not c.if-is_none.true) in
-          subst (λ (k : ℕ). IsAdvanced Calls x k s b2) e (joined x n m s b1 b2 before none goes (c.glide_and_turn-in-on.ensures.advanced x u before.stands));
+          subst (λ (k : ℕ). IsAdvanced shown Calls x k s b2) e (joined _ x n m s b1 b2 before none goes (c.glide_and_turn-in-on.ensures.advanced x u before.stands));
       more = omega (arith, from, more);
       within = c.glide_and_turn-in-on.ensures.within;
       noted = c.glide_and_turn-in-on.ensures.noted;
     }
 
 pub returns-else-is_none-clause-far : goal.returns-else-is_none-clause-far
-returns-else-is_none-clause-far c = λ x s st none few.
+returns-else-is_none-clause-far boxes c = λ x s st none few.
     let ends : c.ended.result ≡ ending x 1 s = c.ended.ensures.before x s 1 st (omega arith) in
     let some : is_some c.ended.result ≡ true = c.is_none.ensures ∙ ap not c.if-is_none.false in
     inr (λ goes. false≢true (sym (ap is_some (ends ∙ goes)) ∙ some))
 
 pub returns-else-is_empty-clause-far : goal.returns-else-is_empty-clause-far
-returns-else-is_empty-clause-far c = λ x s st none few.
+returns-else-is_empty-clause-far boxes c = λ x s st none few.
     absurd (false≢true (sym c.if-is_empty.false ∙ c.is_empty.ensures ∙ ap (λ notes. eqb (length notes) 0) (c.notes.ensures ∙ none)))
 
 pub returns-after-on-clause-far : goal.returns-after-on-clause-far
-returns-after-on-clause-far c = λ x s st none few. absurd (omega (arith, few, c.on-test.false))
+returns-after-on-clause-far boxes c = λ x s st none few. absurd (omega (arith, few, c.on-test.false))

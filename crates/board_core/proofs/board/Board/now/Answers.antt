@@ -3,6 +3,6 @@ use Rattle.board_core.proofs.Loading.{rest_held}
 use Rattle.board_core.proofs.board.Board.now.Goals as goal
 
 pub returns : goal.returns
-returns c = λ x s st.
-    let w = rest_held _ x.setup _ _ _ st.holds.machine in
+returns boxes c = λ x s st.
+    let w = rest_held _ _ x.setup _ _ _ st.holds.machine in
     c.now.ensures.holds x.setup w.saved w.holds ∙ sym w.rest.time

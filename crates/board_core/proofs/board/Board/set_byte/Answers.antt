@@ -9,14 +9,14 @@ use Rattle.board_core.proofs.Told.{holds_told, choice_stays, flash_set, flash_st
 use Rattle.board_core.proofs.board.Board.set_byte.Goals as goal
 
 pub set_byte-requires : goal.set_byte-requires
-set_byte-requires c =
+set_byte-requires boxes c =
     let x = c.requires.0 in
     let s = c.requires.1 in
     let saved = c.save_context.ensures.holds x.setup (rested c.args.self.now.machine s) c.requires.2.machine in
     rw saved.kernel.memory c.requires.3
 
 pub returns-clause-holds : goal.returns-clause-holds
-returns-clause-holds c = λ x s h.
+returns-clause-holds boxes c = λ x s h.
     let b = c.args.self.now in
     let bytes = c.args.v ∷ [] in
     let u : State = record s { memory = with_bytes s.memory c.args.addr bytes } in
@@ -25,13 +25,13 @@ returns-clause-holds c = λ x s h.
     let K : List ℕ → Type 0 = λ flash. KernelHolds (with_flash flash x).setup c.set_byte.new.self (rested b.machine u) in
     let flash = flash_set x.setup c.save_context.new.self.reach.kernel c.set_byte.new.self (rested b.machine s) c.args.addr bytes saved.kernel c.set_byte.ensures.memory in
     let kernel : KernelHolds y.setup c.set_byte.new.self (rested b.machine u) = subst K flash (c.set_byte.ensures.holds x.setup (rested b.machine s) saved.kernel) in
-    holds_told x y s u b _ h refl refl record { kernel = kernel; devices = saved.devices } c.save_context.ensures.unloaded (choice_stays x.setup s b.choice u.memory.flash u.memory u.turn u.now u.next_call u.lines h.choice) refl refl refl
+    holds_told _ x y s u b _ h refl refl record { kernel = kernel; devices = saved.devices } c.save_context.ensures.unloaded (choice_stays x.setup s b.choice u.memory.flash u.memory u.turn u.now u.next_call u.lines h.choice) refl refl refl
 
 pub returns-clause-ram : goal.returns-clause-ram
-returns-clause-ram c = λ high x s h.
+returns-clause-ram boxes c = λ high x s h.
     let b = c.args.self.now in
     let bytes = c.args.v ∷ [] in
     let u : State = record s { memory = with_bytes s.memory c.args.addr bytes } in
     let saved = c.save_context.ensures.holds x.setup (rested b.machine s) h.machine in
     let flash = flash_stays x.setup c.save_context.new.self.reach.kernel (rested b.machine s) c.args.addr bytes saved.kernel high in
-    same_flash x _ u u.memory.flash flash (returns-clause-holds c x s h)
+    same_flash _ x _ u u.memory.flash flash (returns-clause-holds _ c x s h)

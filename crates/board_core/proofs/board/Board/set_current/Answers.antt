@@ -5,9 +5,9 @@ use Rattle.board_core.proofs.Told.{holds_told}
 use Rattle.board_core.proofs.board.Board.set_current.Goals as goal
 
 pub returns-clause-holds : goal.returns-clause-holds
-returns-clause-holds c = λ x s h.
+returns-clause-holds boxes c = λ x s h.
     let b = c.args.self.now in
     let u : State = record s { current = c.args.v } in
     let saved = c.save_context.ensures.holds x.setup (rested b.machine s) h.machine in
     let kernel = c.set_current.ensures.holds x.setup (rested b.machine s) saved.kernel in
-    holds_told x x s u b _ h refl refl record { kernel = kernel; devices = saved.devices } c.save_context.ensures.unloaded (c.choice_of-self.ensures x.setup (rested b.machine u) kernel) refl refl refl
+    holds_told _ x x s u b _ h refl refl record { kernel = kernel; devices = saved.devices } c.save_context.ensures.unloaded (c.choice_of-self.ensures x.setup (rested b.machine u) kernel) refl refl refl

@@ -1,4 +1,4 @@
 use Rattle.board_core.proofs.board.Board.task.Goals as goal
 
 pub returns-clause-view : goal.returns-clause-view
-returns-clause-view c = λ x s st. c.view.ensures x.setup _ st.holds.machine
+returns-clause-view boxes c = λ x s st. c.view.ensures x.setup _ st.holds.machine

@@ -9,7 +9,7 @@ use Rattle.board_model.proofs.Counts.{counted_turn, turn_more, later-after_event
 use Rattle.board_core.proofs.board.Board.turn_at.Goals as goal
 
 pub turn-turned-requires-clause-next : goal.turn-turned-requires-clause-next
-turn-turned-requires-clause-next c =
+turn-turned-requires-clause-next boxes c =
     let x = c.requires.stood.0 in
     let s = c.requires.stood.1 in
     let st = c.requires.stood.2 in
@@ -18,67 +18,67 @@ turn-turned-requires-clause-next c =
     let turns = st.holds.turns in
     let counted = st.counted.calls in
     let few = c.requires.few in
-    (x.setup, after_events x s, next_of x s c.begin.new.self mid, omega (arith, later.next_call, turns, counted, few))
+    (x.setup, after_events x s, next_of _ x s c.begin.new.self mid, omega (arith, later.next_call, turns, counted, few))
 
 pub renew-requires : goal.renew-requires
-renew-requires c =
+renew-requires boxes c =
     let x = c.requires.stood.0 in
     let s = c.requires.stood.1 in
     let st = c.requires.stood.2 in
     let level = c.args.level in
     let m = c.turn-turned.new.self in
     let mid = c.begin.ensures.midway x s st in
-    let h = as_chosen level x s m _ mid.choice (c.turn-turned.ensures.holds x.setup _ (next_of x s c.begin.new.self mid)) in
-    (x.setup, rested m (turn level x s).state, stands_after level x s m st.sane h)
+    let h = as_chosen _ level x s m _ mid.choice (c.turn-turned.ensures.holds x.setup _ (next_of _ x s c.begin.new.self mid)) in
+    (x.setup, rested m (turn level x s).state, stands_after _ level x s m st.sane h)
 
 pub returns-clause-model : goal.returns-clause-model
-returns-clause-model c = λ x s st.
+returns-clause-model boxes c = λ x s st.
     let level = c.args.level in
     let m = c.turn-turned.new.self in
     let mid = c.begin.ensures.midway x s st in
-    let h = as_chosen level x s m _ mid.choice (c.turn-turned.ensures.holds x.setup _ (next_of x s c.begin.new.self mid)) in
-    let after = stands_after level x s m st.sane h in
+    let h = as_chosen _ level x s m _ mid.choice (c.turn-turned.ensures.holds x.setup _ (next_of _ x s c.begin.new.self mid)) in
+    let after = stands_after _ level x s m st.sane h in
     let more = turn_more level x s st.sane in
     let N : ℕ → Type 0 = λ from. IsNext x.script from c.begin.new.self.due in
     let D : Option ℕ → Type 0 = λ due. IsNext x.script (turn level x s).state.turn due in
     record {
       holds = record {
-        machine = rested_as x.setup m c.renew.new.self.machine (turn level x s).state (c.renew.ensures.holds x.setup _ after.holds);
+        machine = rested_as _ x.setup m c.renew.new.self.machine (turn level x s).state (c.renew.ensures.holds x.setup _ after.holds);
         turns = let a = st.holds.turns in let b = c.begin.ensures.turns in let r = c.renew.ensures.turns in omega (arith, more, a, b, r);
-        choice = c.renew.ensures.choice x.setup (rested m (turn level x s).state) after ((after_events x s).state, sane-after_events x s st.sane, mid.choice) (choice_kept level x s m _ st.sane h mid.choice);
+        choice = c.renew.ensures.choice x.setup (rested m (turn level x s).state) after ((after_events x s).state, sane-after_events x s st.sane, mid.choice) (choice_kept _ level x s m _ st.sane h mid.choice);
         script = ap (λ (script : Script). script_data script) c.renew.ensures.script ∙ mid.script;
         due = subst D (sym c.renew.ensures.due) (subst N (sym more) mid.due);
       };
       sane = after.sane;
-      counted = counted_turn level x s st.sane (few_events x s c.args.self.now st) st.counted;
+      counted = counted_turn level x s st.sane (few_events _ x s c.args.self.now st) st.counted;
     }
 
 pub returns-clause-notes : goal.returns-clause-notes
-returns-clause-notes c = λ x s st.
+returns-clause-notes boxes c = λ x s st.
     let level = c.args.level in
     let m = c.turn-turned.new.self in
     let mid = c.begin.ensures.midway x s st in
-    let h = as_chosen level x s m _ mid.choice (c.turn-turned.ensures.holds x.setup _ (next_of x s c.begin.new.self mid)) in
-    let after = stands_after level x s m st.sane h in
-    noted_in x.setup c.renew.new.self.machine _ (c.renew.ensures.holds x.setup _ after.holds) ∙ turn_notes level x s m h
+    let h = as_chosen _ level x s m _ mid.choice (c.turn-turned.ensures.holds x.setup _ (next_of _ x s c.begin.new.self mid)) in
+    let after = stands_after _ level x s m st.sane h in
+    noted_in _ x.setup c.renew.new.self.machine _ (c.renew.ensures.holds x.setup _ after.holds) ∙ turn_notes _ level x s m h
 
 pub returns-clause-turned : goal.returns-clause-turned
 unfolding turned
-returns-clause-turned c = λ x s st.
+returns-clause-turned boxes c = λ x s st.
     let mid = c.begin.ensures.midway x s st in
-    c.turn-turned.ensures.turned x.setup _ (next_of x s c.begin.new.self mid) ∙ ap (turned_of (after_events x s).state) mid.choice.next
+    c.turn-turned.ensures.turned x.setup _ (next_of _ x s c.begin.new.self mid) ∙ ap (turned_of (after_events x s).state) mid.choice.next
 
 pub turn-turned-requires-clause-room : goal.turn-turned-requires-clause-room
-turn-turned-requires-clause-room c = omega (arith, c.begin.ensures.few)
+turn-turned-requires-clause-room boxes c = omega (arith, c.begin.ensures.few)
 
 pub returns-clause-few : goal.returns-clause-few
-returns-clause-few c = omega (arith, c.renew.ensures.count, c.turn-turned.ensures.count, c.begin.ensures.few)
+returns-clause-few boxes c = omega (arith, c.renew.ensures.count, c.turn-turned.ensures.count, c.begin.ensures.few)
 
 pub returns-clause-turns : goal.returns-clause-turns
-returns-clause-turns c = omega (arith, c.renew.ensures.turns, c.begin.ensures.turns)
+returns-clause-turns boxes c = omega (arith, c.renew.ensures.turns, c.begin.ensures.turns)
 
 pub returns-clause-due : goal.returns-clause-due
-returns-clause-due c = λ not_due. c.renew.ensures.due ∙ c.begin.ensures.due not_due
+returns-clause-due boxes c = λ not_due. c.renew.ensures.due ∙ c.begin.ensures.due not_due
 
 pub returns-clause-kept : goal.returns-clause-kept
-returns-clause-kept c = λ not_due none. c.renew.ensures.kept none ∙ c.begin.ensures.kept not_due
+returns-clause-kept boxes c = λ not_due none. c.renew.ensures.kept none ∙ c.begin.ensures.kept not_due

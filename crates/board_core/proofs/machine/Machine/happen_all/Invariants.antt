@@ -7,11 +7,14 @@ use Rattle.task_table.specs.Holds.{note_count}
 use Rattle.task_table.specs.Limits.{syscall_notes}
 use Rattle.board_model.specs.Turn.{happened}
 use Rattle.board_core.specs.Machine.{MachineStands}
+use Rattle.board_core.specs.Data.{boxed}
 use Rattle.board_core.proofs.machine.Machine.happen_all.Given as goal
 
 -- so far the first events have happened
 abbrev pub invariant-loop-k : goal.invariant-loop-k
-invariant-loop-k l = record {
+invariant-loop-k boxes l =
+    let shown = boxed (λ p. (goal.Device-dyn boxes p).shown p.1) in
+    record {
   room : note_count l.self.reach.kernel ≤ syscall_notes * l.k;
-  stands : (g : Setup) (t : Turn) → MachineStands g l.initial.self t → MachineStands g l.self (fold (happened g) t (take l.k (events_of (script_data l.script) l.turn)));
+  stands : (g : Setup) (t : Turn) → MachineStands shown g l.initial.self t → MachineStands shown g l.self (fold (happened g) t (take l.k (events_of (script_data l.script) l.turn)));
 }

@@ -5,34 +5,37 @@ use Rattle.board_core.specs.Machine.{ReachHolds}
 use Rattle.board_core.specs.declared.reach.Reach.{Reach}
 use Rattle.board_core.proofs.Loading.{stands_of, unloaded_by}
 use Rattle.board_core.proofs.Noting.{calling, called, number-syscall_noted}
+use Rattle.board_core.specs.Data.{boxed}
 use Rattle.board_core.proofs.machine.Machine.syscall.Goals as goal
 
 pub syscall-requires-clause-ready : goal.syscall-requires-clause-ready
-syscall-requires-clause-ready c =
+syscall-requires-clause-ready boxes c =
     let g = c.requires.ready.0 in
     let t = c.requires.ready.1 in
     let r = c.requires.ready.2 in
-    let h = c.save_context.ensures.holds g t (stands_of _ _ _ r).holds in
-    let by = calling g c.save_context.new.self.reach c.note_syscall.new.self c.args.self.now c.current-task.result t r (c.current-task.ensures.holds g t h.kernel) h (c.note_syscall.ensures.holds g t) in
+    let h = c.save_context.ensures.holds g t (stands_of _ _ _ _ r).holds in
+    let by = calling _ g c.save_context.new.self.reach c.note_syscall.new.self c.args.self.now c.current-task.result t r (c.current-task.ensures.holds g t h.kernel) h (c.note_syscall.ensures.holds g t) in
     (g, syscall_noted c.current-task.result t, by.stands, by.ready)
 
 pub returns-clause-holds : goal.returns-clause-holds
-returns-clause-holds c = λ g t r.
-    let h = c.save_context.ensures.holds g t (stands_of _ _ _ r).holds in
+returns-clause-holds boxes c =
+    let shown = boxed (λ p. (goal.Device-dyn boxes p).shown p.1) in
+    λ g t r.
+    let h = c.save_context.ensures.holds g t (stands_of _ _ _ _ r).holds in
     let task = c.current-task.ensures.holds g t h.kernel in
-    let by = calling g c.save_context.new.self.reach c.note_syscall.new.self c.args.self.now c.current-task.result t r task h (c.note_syscall.ensures.holds g t) in
-    let after : Reach = record c.save_context.new.self.reach { kernel = c.syscall.new.k } in
-    let P : ℕ → Type 0 = λ i. ReachHolds g after (syscall_made g i (syscall_noted i t)) in
-    unloaded_by _ g _ _ _ c.save_context.ensures.unloaded (subst P task (called g after c.note_syscall.new.self c.current-task.result t by (c.syscall.ensures.stands g _ by.stands by.ready).holds))
+    let by = calling _ g c.save_context.new.self.reach c.note_syscall.new.self c.args.self.now c.current-task.result t r task h (c.note_syscall.ensures.holds g t) in
+    let after : Reach _ _ = record c.save_context.new.self.reach { kernel = c.syscall.new.k } in
+    let P : ℕ → Type 0 = λ i. ReachHolds shown g after (syscall_made g i (syscall_noted i t)) in
+    unloaded_by _ _ g _ _ _ c.save_context.ensures.unloaded (subst P task (called _ g after c.note_syscall.new.self c.current-task.result t by (c.syscall.ensures.stands g _ by.stands by.ready).holds))
 
 pub syscall-requires-clause-number : goal.syscall-requires-clause-number
-syscall-requires-clause-number c =
+syscall-requires-clause-number boxes c =
     let g = c.requires.ready.0 in
     let t = c.requires.ready.1 in
     let r = c.requires.ready.2 in
     let number = c.requires.ready.3 in
-    let h = c.save_context.ensures.holds g t (stands_of _ _ _ r).holds in
-    let by = calling g c.save_context.new.self.reach c.note_syscall.new.self c.args.self.now c.current-task.result t r (c.current-task.ensures.holds g t h.kernel) h (c.note_syscall.ensures.holds g t) in
+    let h = c.save_context.ensures.holds g t (stands_of _ _ _ _ r).holds in
+    let by = calling _ g c.save_context.new.self.reach c.note_syscall.new.self c.args.self.now c.current-task.result t r (c.current-task.ensures.holds g t h.kernel) h (c.note_syscall.ensures.holds g t) in
     let kept = by.stands.holds.next_call in
     let same = number-syscall_noted c.current-task.result t in
     omega (arith, kept, same, number)

@@ -8,7 +8,7 @@ use Rattle.region_check.proofs.Spanning.{given_none}
 use Rattle.board_core.proofs.reach.ReachBus.gives.Goals as goal
 
 pub returns : goal.returns
-returns c = λ yes k lt.
+returns boxes c = λ yes k lt.
     let a = c.args.addr in
     let near : (a + 4 * k) % 2 ^ 32 ≡ a + 4 * k = omega (arith, lt) in
     let P : ℕ → Type 0 = λ x. refusals (setup_of c.args.self.now.kernel) (current_of c.args.self.now.kernel) x 4 c.args.right ≡ None in

@@ -1,5 +1,6 @@
+use Rattle.std.proofs.Common.{true, false, refl}
 use Rattle.board_core.proofs.Reaching.{nothing_taken}
 use Rattle.board_core.proofs.reach.ReachBus.takes.Goals as goal
 
 pub returns : goal.returns
-returns c = λ no addr. nothing_taken c.args.self.now addr
+returns boxes c = λ no addr. nothing_taken _ c.args.self.now addr (c.is_empty.ensures ?)

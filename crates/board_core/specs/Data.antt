@@ -1,0 +1,25 @@
+-- What the boxes of devices show.
+use Rattle.std.specs.Prelude.{ℕ, ◌≡◌, ◌<◌, List, map, length, Some}
+use Rattle.std.proofs.Common.{Global}
+use Rattle.std.specs.declared.dyn_box.DynBox.{DynBox}
+use Rattle.kernel_abi.specs.Devices.{DeviceData, behind, offset_in}
+use Rattle.board_core.specs.declared.list.Devices.{Devices}
+
+-- how a box of a device shows it: `shown` of the trait
+abbrev pub Shows : (X : Type 0) → (X → Type 0) → Type 0
+Shows X H = DynBox X Global H → DeviceData
+
+-- the same from `shown` at a value behind its vtable, as a clause has it where no box stands in the signature
+abbrev pub boxed : {X : Type 0} {H : X → Type 0} → (((x : X) × H x) → DeviceData) → Shows X H
+boxed shown = λ b. shown (b.vtable, b.value)
+
+-- the devices of a list, as they stand
+abbrev pub data_of : {X : Type 0} {H : X → Type 0} → Shows X H → Devices X H → List DeviceData
+data_of shown d = map shown d.list.items
+
+-- the k-th device is behind the address, so far from its first
+pub record IsPlace (ds : List DeviceData) (addr k off : ℕ) : Type 0 where
+  pub is : behind addr ds ≡ Some k
+  pub inside : k < length ds
+  pub near : off < 256
+  pub at : off ≡ offset_in ds k addr
