@@ -9,6 +9,7 @@ use Rattle.kernel_abi.specs.declared.Note.{Note}
 use Rattle.task_table.specs.Sane.{Sane}
 use Rattle.task_table.specs.State.{State}
 use Rattle.board_core.specs.declared.board.Board.{Board}
+use Rattle.board_core.specs.Data.{Shows}
 use Rattle.board_model.specs.declared.outcomes.End.{End}
 use Rattle.board_model.specs.declared.outcomes.End.TheVariants.{Bound, Still, Supervisor}
 use Rattle.board_model.specs.declared.outcomes.Level.{Level}
@@ -84,10 +85,10 @@ module _ (level : Level) (x : Scenario) where
 
   -- ## what was told so far
 
-  module _ {T : Type 0} (heard : T → List (ℕ × Note) → T → Type 0) where
-    notes_so_far : (n : ℕ) (t t' : T) (s : State) (b : Board) (m : Midway heard level x t t' s b) → (run level x n m.here).notes ≡ [] → notes_in level x (turns_of b - s.turn + n) s ≡ m.front
+  module _ {T : Type 0} {X : Type 0} {H : X → Type 0} (shown : Shows X H) (heard : T → List (ℕ × Note) → T → Type 0) where
+    notes_so_far : (n : ℕ) (t t' : T) (s : State) (b : Board X H) (m : Midway shown heard level x t t' s b) → (run level x n m.here).notes ≡ [] → notes_in level x (turns_of b - s.turn + n) s ≡ m.front
     notes_so_far n t t' s b m none =
-        let at : m.here.turn ≡ turns_of b = turns_seen x b m.here m.stands in
+        let at : m.here.turn ≡ turns_of b = turns_seen shown x b m.here m.stands in
         let k : turns_of b - s.turn + n ≡ m.here.turn - s.turn + n = omega arith in
         ap (λ (i : ℕ). notes_in level x i s) k
         ∙ ap (λ (r : Run). r.notes) (m.rest n)
@@ -95,25 +96,25 @@ module _ (level : Level) (x : Scenario) where
         ∙ append-nil m.front
 
     -- where the run ends here, the turns so far have all its notes
-    pub whole_notes : (limit : ℕ) (t t' : T) (s : State) (b : Board) (e : End) → turns_of b ≤ limit →
-        ((u : State) → Stands x b u → ending x (limit - u.turn) u ≡ Some e) → Midway heard level x t t' s b →
+    pub whole_notes : (limit : ℕ) (t t' : T) (s : State) (b : Board X H) (e : End) → turns_of b ≤ limit →
+        ((u : State) → Stands shown x b u → ending x (limit - u.turn) u ≡ Some e) → Midway shown heard level x t t' s b →
         notes_in level x (turns_of b - s.turn) s ≡ notes_in level x (limit - s.turn) s
     whole_notes limit t t' s b e le ends m =
         let k : turns_of b - s.turn ≡ turns_of b - s.turn + 0 = omega arith in
-        ap (λ (i : ℕ). notes_in level x i s) k ∙ notes_so_far 0 t t' s b m (nothing_run m.here) ∙ sym (all_notes heard level x limit t t' s b e m le ends)
+        ap (λ (i : ℕ). notes_in level x i s) k ∙ notes_so_far 0 t t' s b m (nothing_run m.here) ∙ sym (all_notes shown heard level x limit t t' s b e m le ends)
 
     -- ## a failure as the notes of a turn are told
 
-    pub breaks_in_turn : (broke : T → List (ℕ × Note) → T → Type 0) (n at : ℕ) (t now after : T) (s : State) (b b' : Board) (notes : List Note) → IsTurned level x n b b' notes → at + 1 ≡ turns_of b' →
-        broke now (at_turn at notes) after → Midway heard level x t now s b → BreaksTelling heard broke level x t after s b'
+    pub breaks_in_turn : (broke : T → List (ℕ × Note) → T → Type 0) (n at : ℕ) (t now after : T) (s : State) (b b' : Board X H) (notes : List Note) → IsTurned shown level x n b b' notes → at + 1 ≡ turns_of b' →
+        broke now (at_turn at notes) after → Midway shown heard level x t now s b → BreaksTelling heard broke level x t after s b'
     breaks_in_turn broke n at t now after s b b' notes h last breaks m =
         let u : State = m.here in
         let advanced = h.advanced u m.stands in
         let next : State = (turn_after level x n u).state in
         let new : List (ℕ × Note) = at_turn (u.turn + n) (turn_after level x n u).notes in
-        let rest = turn_rest heard level x n t now s b b' notes h m in
-        let here : u.turn ≡ turns_of b = turns_seen x b u m.stands in
-        let there : next.turn ≡ turns_of b' = turns_seen x b' next advanced.stands in
+        let rest = turn_rest shown heard level x n t now s b b' notes h m in
+        let here : u.turn ≡ turns_of b = turns_seen shown x b u m.stands in
+        let there : next.turn ≡ turns_of b' = turns_seen shown x b' next advanced.stands in
         let from : s.turn ≤ u.turn = m.after in
         let less : turns_of b' - s.turn - 1 ≡ turns_of b - s.turn + n = omega (arith, h.turns) in
         let before : notes_in level x (turns_of b' - s.turn - 1) s ≡ m.front =
@@ -132,12 +133,12 @@ module _ (level : Level) (x : Scenario) where
           made = omega (arith, h.turns);
           is_last = all ∙ ap (λ (ns : List (ℕ × Note)). ns ++ new) (sym before);
           before = subst H (sym before) m.told;
-          broken = subst B (told_notes heard level x n at t now s b b' notes h last m) breaks;
+          broken = subst B (told_notes shown heard level x n at t now s b b' notes h last m) breaks;
         }
 
   -- ## a failure of a sink
 
-  module _ (w w' : Option (List ℕ)) (s : State) (b : Board) where
+  module _ {X : Type 0} {H : X → Type 0} (w w' : Option (List ℕ)) (s : State) (b : Board X H) where
     -- a sink that broke off has a front of the text
     pub broken_text : {R E : Type 0} (limit : ℕ) (now : Option (List ℕ)) (last : List (ℕ × Note)) (r : Result R E) (e : E) → r ≡ Err e → turns_of b ≤ limit →
         notes_in level x (turns_of b - s.turn) s ≡ notes_in level x (turns_of b - s.turn - 1) s ++ last →

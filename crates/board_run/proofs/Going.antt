@@ -6,6 +6,7 @@ use Rattle.kernel_abi.specs.declared.Note.{Note}
 use Rattle.task_table.specs.Limits.{turn_notes}
 use Rattle.task_table.specs.State.{State}
 use Rattle.board_core.specs.declared.board.Board.{Board}
+use Rattle.board_core.specs.Data.{Shows}
 use Rattle.board_model.specs.declared.outcomes.End.{End}
 use Rattle.board_model.specs.declared.outcomes.Level.{Level}
 use Rattle.board_model.specs.declared.outcomes.End.TheVariants.{Bound, Still, Supervisor}
@@ -21,8 +22,8 @@ use Rattle.board_run.specs.Midway.{Midway}
 use Rattle.board_run.specs.Running.{StandsMidway, end_within}
 
 -- the turn number of a board is that of the states for which it stands
-pub turns_seen : (x : Scenario) (b : Board) (s : State) → Stands x b s → s.turn ≡ turns_of b
-turns_seen x b s st = sym st.holds.turns
+pub turns_seen : {X : Type 0} {H : X → Type 0} (shown : Shows X H) (x : Scenario) (b : Board X H) (s : State) → Stands shown x b s → s.turn ≡ turns_of b
+turns_seen shown x b s st = sym st.holds.turns
 
 -- ## a run by its first turn
 
@@ -113,9 +114,9 @@ run_advances level x left (suc n) t h goes none on =
 
 -- what is known of further turns: they were to be made, the board stands for the state after them, and tells the
 -- notes of the last, before which n noted nothing
-pub record IsTurned (level : Level) (x : Scenario) (n : ℕ) (b b' : Board) (notes : List Note) : Type 0 where
-  pub goes : (t : State) → Stands x b t → ending x 1 t ≡ None
-  pub advanced : (t : State) → Stands x b t → IsAdvanced level x n t b'
+pub record IsTurned {X : Type 0} {H : X → Type 0} (shown : Shows X H) (level : Level) (x : Scenario) (n : ℕ) (b b' : Board X H) (notes : List Note) : Type 0 where
+  pub goes : (t : State) → Stands shown x b t → ending x 1 t ≡ None
+  pub advanced : (t : State) → Stands shown x b t → IsAdvanced shown level x n t b'
   pub tells : notes ≡ notes_of b'
   pub turns : turns_of b' ≡ turns_of b + n + 1
   pub few : length notes ≤ turn_notes
@@ -127,8 +128,8 @@ length_at n (x ∷ xs) = ap suc (length_at n xs)
 
 -- ## midway, as a teller has heard
 
-module _ {T : Type 0} (heard : T → List (ℕ × Note) → T → Type 0) (level : Level) (x : Scenario) where
-  pub midway_start : (t : T) (s : State) (b : Board) → heard t [] t → Stands x b s → Midway heard level x t t s b
+module _ {T : Type 0} {X : Type 0} {H : X → Type 0} (shown : Shows X H) (heard : T → List (ℕ × Note) → T → Type 0) (level : Level) (x : Scenario) where
+  pub midway_start : (t : T) (s : State) (b : Board X H) → heard t [] t → Stands shown x b s → Midway shown heard level x t t s b
   midway_start t s b none st =
       record {
         front = [];
@@ -141,7 +142,7 @@ module _ {T : Type 0} (heard : T → List (ℕ × Note) → T → Type 0) (level
       }
 
   -- the run by the notes so far, those of this turn, and the rest
-  pub turn_rest : (n : ℕ) (t t' : T) (s : State) (b b' : Board) (notes : List Note) → IsTurned level x n b b' notes → (m : Midway heard level x t t' s b) →
+  pub turn_rest : (n : ℕ) (t t' : T) (s : State) (b b' : Board X H) (notes : List Note) → IsTurned shown level x n b b' notes → (m : Midway shown heard level x t t' s b) →
       let u : State = m.here in
       let next : State = (turn_after level x n u).state in
       (s.turn ≤ next.turn) × ((left : ℕ) → run level x (next.turn - s.turn + left) s ≡ with_front (m.front ++ at_turn (u.turn + n) (turn_after level x n u).notes) (run level x left next))
@@ -149,8 +150,8 @@ module _ {T : Type 0} (heard : T → List (ℕ × Note) → T → Type 0) (level
       let u : State = m.here in
       let a = h.advanced u m.stands in
       let next : State = (turn_after level x n u).state in
-      let at : u.turn ≡ turns_of b = turns_seen x b u m.stands in
-      let at' : next.turn ≡ turns_of b' = turns_seen x b' next a.stands in
+      let at : u.turn ≡ turns_of b = turns_seen shown x b u m.stands in
+      let at' : next.turn ≡ turns_of b' = turns_seen shown x b' next a.stands in
       let more : next.turn ≡ u.turn + n + 1 = omega (arith, h.turns) in
       let le : s.turn ≤ u.turn = m.after in (
         omega arith,
@@ -162,23 +163,23 @@ module _ {T : Type 0} (heard : T → List (ℕ × Note) → T → Type 0) (level
       )
 
   -- the notes that a board tells are those of the turn
-  pub told_notes : (n at : ℕ) (t t' : T) (s : State) (b b' : Board) (notes : List Note) → IsTurned level x n b b' notes → at + 1 ≡ turns_of b' → (m : Midway heard level x t t' s b) →
+  pub told_notes : (n at : ℕ) (t t' : T) (s : State) (b b' : Board X H) (notes : List Note) → IsTurned shown level x n b b' notes → at + 1 ≡ turns_of b' → (m : Midway shown heard level x t t' s b) →
       at_turn at notes ≡ at_turn (m.here.turn + n) (turn_after level x n m.here).notes
   told_notes n at t t' s b b' notes h last m =
-      let here : m.here.turn ≡ turns_of b = turns_seen x b m.here m.stands in
+      let here : m.here.turn ≡ turns_of b = turns_seen shown x b m.here m.stands in
       let e : at ≡ m.here.turn + n = omega (arith, h.turns) in
       ap (λ (i : ℕ). at_turn i notes) e ∙ ap (at_turn (m.here.turn + n)) (h.tells ∙ (h.advanced m.here m.stands).notes)
 
-  pub midway_turn : (on : (t u v : T) (a b : List (ℕ × Note)) → heard t a u → heard u b v → heard t (a ++ b) v) (n at : ℕ) (t now after : T) (s : State) (b b' : Board) (notes : List Note) → IsTurned level x n b b' notes → at + 1 ≡ turns_of b' →
-      heard now (at_turn at notes) after → Midway heard level x t now s b → Midway heard level x t after s b'
+  pub midway_turn : (on : (t u v : T) (a b : List (ℕ × Note)) → heard t a u → heard u b v → heard t (a ++ b) v) (n at : ℕ) (t now after : T) (s : State) (b b' : Board X H) (notes : List Note) → IsTurned shown level x n b b' notes → at + 1 ≡ turns_of b' →
+      heard now (at_turn at notes) after → Midway shown heard level x t now s b → Midway shown heard level x t after s b'
   midway_turn on n at t now after s b b' notes h last hears m =
       let u : State = m.here in
       let a = h.advanced u m.stands in
       let next : State = (turn_after level x n u).state in
       let new : List (ℕ × Note) = at_turn (u.turn + n) (turn_after level x n u).notes in
       let rest = turn_rest n t now s b b' notes h m in
-      let here : u.turn ≡ turns_of b = turns_seen x b u m.stands in
-      let there : next.turn ≡ turns_of b' = turns_seen x b' next a.stands in
+      let here : u.turn ≡ turns_of b = turns_seen shown x b u m.stands in
+      let there : next.turn ≡ turns_of b' = turns_seen shown x b' next a.stands in
       let same = told_notes n at t now s b b' notes h last m in
       let long : length new ≡ length notes = sym (ap length same) ∙ length_at at notes in
       let both : length (m.front ++ new) ≡ length m.front + length new = length-append m.front new in
@@ -194,63 +195,63 @@ module _ {T : Type 0} (heard : T → List (ℕ × Note) → T → Type 0) (level
       }
 
   -- the state after a turn is that of the run, too, though its notes were not told
-  pub midway_board : (t t' : T) (s : State) (b : Board) → Midway heard level x t t' s b → StandsMidway level x b s
+  pub midway_board : (t t' : T) (s : State) (b : Board X H) → Midway shown heard level x t t' s b → StandsMidway shown level x b s
   midway_board t t' s b m =
-      let at : m.here.turn ≡ turns_of b = turns_seen x b m.here m.stands in
+      let at : m.here.turn ≡ turns_of b = turns_seen shown x b m.here m.stands in
       let k : turns_of b - s.turn ≡ m.here.turn - s.turn + 0 = omega arith in
       let is : (run level x (turns_of b - s.turn) s).last ≡ m.here = ap (λ (n : ℕ). (run level x n s).last) k ∙ ap (λ (r : Run). r.last) (m.rest 0) ∙ run_stays level x m.here in
-      let P : State → Type 0 = λ u. Stands x b u in
+      let P : State → Type 0 = λ u. Stands shown x b u in
       subst P (sym is) m.stands
 
-  pub turned_board : (n : ℕ) (t t' : T) (s : State) (b b' : Board) (notes : List Note) → IsTurned level x n b b' notes → Midway heard level x t t' s b → StandsMidway level x b' s
+  pub turned_board : (n : ℕ) (t t' : T) (s : State) (b b' : Board X H) (notes : List Note) → IsTurned shown level x n b b' notes → Midway shown heard level x t t' s b → StandsMidway shown level x b' s
   turned_board n t t' s b b' notes h m =
       let u : State = m.here in
       let stands = (h.advanced u m.stands).stands in
       let next : State = (turn_after level x n u).state in
       let rest = turn_rest n t t' s b b' notes h m in
-      let at : next.turn ≡ turns_of b' = turns_seen x b' next stands in
+      let at : next.turn ≡ turns_of b' = turns_seen shown x b' next stands in
       let k : turns_of b' - s.turn ≡ next.turn - s.turn + 0 = omega arith in
       let is : (run level x (turns_of b' - s.turn) s).last ≡ next = ap (λ (i : ℕ). (run level x i s).last) k ∙ ap (λ (r : Run). r.last) (rest.1 0) ∙ run_stays level x next in
-      let P : State → Type 0 = λ v. Stands x b' v in
+      let P : State → Type 0 = λ v. Stands shown x b' v in
       subst P (sym is) stands
 
   -- ## the end
 
   -- the whole run, where it ends here
-  ended_run : (limit : ℕ) (t t' : T) (s : State) (b : Board) (e : End) (m : Midway heard level x t t' s b) → turns_of b ≤ limit →
-      ((u : State) → Stands x b u → ending x (limit - u.turn) u ≡ Some e) →
+  ended_run : (limit : ℕ) (t t' : T) (s : State) (b : Board X H) (e : End) (m : Midway shown heard level x t t' s b) → turns_of b ≤ limit →
+      ((u : State) → Stands shown x b u → ending x (limit - u.turn) u ≡ Some e) →
       run level x (limit - s.turn) s ≡ with_front m.front (ended_at m.here e)
   ended_run limit t t' s b e m le ends =
-      let at : m.here.turn ≡ turns_of b = turns_seen x b m.here m.stands in
+      let at : m.here.turn ≡ turns_of b = turns_seen shown x b m.here m.stands in
       let from : s.turn ≤ m.here.turn = m.after in
       let k : limit - s.turn ≡ m.here.turn - s.turn + (limit - m.here.turn) = omega arith in
       ap (λ (n : ℕ). run level x n s) k ∙ m.rest (limit - m.here.turn) ∙ ap (with_front m.front) (run_ends level x (limit - m.here.turn) m.here e (ends m.here m.stands))
 
-  pub end_is : (limit : ℕ) (t t' : T) (s : State) (b : Board) (e : End) → turns_of b ≤ limit →
-      ((u : State) → Stands x b u → ending x (limit - u.turn) u ≡ Some e) → Midway heard level x t t' s b →
-      (e ≡ (run level x (limit - s.turn) s).end) × Stands x b (run level x (limit - s.turn) s).last
+  pub end_is : (limit : ℕ) (t t' : T) (s : State) (b : Board X H) (e : End) → turns_of b ≤ limit →
+      ((u : State) → Stands shown x b u → ending x (limit - u.turn) u ≡ Some e) → Midway shown heard level x t t' s b →
+      (e ≡ (run level x (limit - s.turn) s).end) × Stands shown x b (run level x (limit - s.turn) s).last
   end_is limit t t' s b e le ends m =
       let is = ended_run limit t t' s b e m le ends in
-      let P : State → Type 0 = λ u. Stands x b u in
+      let P : State → Type 0 = λ u. Stands shown x b u in
       (sym (ap (λ (r : Run). r.end) is), subst P (sym (ap (λ (r : Run). r.last) is)) m.stands)
 
   -- all notes of the run were told
-  pub all_notes : (limit : ℕ) (t t' : T) (s : State) (b : Board) (e : End) (m : Midway heard level x t t' s b) → turns_of b ≤ limit →
-      ((u : State) → Stands x b u → ending x (limit - u.turn) u ≡ Some e) →
+  pub all_notes : (limit : ℕ) (t t' : T) (s : State) (b : Board X H) (e : End) (m : Midway shown heard level x t t' s b) → turns_of b ≤ limit →
+      ((u : State) → Stands shown x b u → ending x (limit - u.turn) u ≡ Some e) →
       (run level x (limit - s.turn) s).notes ≡ m.front
   all_notes limit t t' s b e m le ends = ap (λ (r : Run). r.notes) (ended_run limit t t' s b e m le ends) ∙ append-nil m.front
 
-  pub all_told : (limit : ℕ) (t t' : T) (s : State) (b : Board) (e : End) → turns_of b ≤ limit →
-      ((u : State) → Stands x b u → ending x (limit - u.turn) u ≡ Some e) → Midway heard level x t t' s b →
+  pub all_told : (limit : ℕ) (t t' : T) (s : State) (b : Board X H) (e : End) → turns_of b ≤ limit →
+      ((u : State) → Stands shown x b u → ending x (limit - u.turn) u ≡ Some e) → Midway shown heard level x t t' s b →
       heard t (run level x (limit - s.turn) s).notes t'
   all_told limit t t' s b e le ends m =
       let P : List (ℕ × Note) → Type 0 = λ ns. heard t ns t' in
       subst P (sym (all_notes limit t t' s b e m le ends)) m.told
 
-  pub all_few : (limit : ℕ) (t t' : T) (s : State) (b : Board) (e : End) → turns_of b ≤ limit →
-      ((u : State) → Stands x b u → ending x (limit - u.turn) u ≡ Some e) → Midway heard level x t t' s b →
+  pub all_few : (limit : ℕ) (t t' : T) (s : State) (b : Board X H) (e : End) → turns_of b ≤ limit →
+      ((u : State) → Stands shown x b u → ending x (limit - u.turn) u ≡ Some e) → Midway shown heard level x t t' s b →
       length (run level x (limit - s.turn) s).notes ≤ turn_notes * limit
   all_few limit t t' s b e le ends m =
-      let at : m.here.turn ≡ turns_of b = turns_seen x b m.here m.stands in
+      let at : m.here.turn ≡ turns_of b = turns_seen shown x b m.here m.stands in
       let is : length (run level x (limit - s.turn) s).notes ≡ length m.front = ap length (all_notes limit t t' s b e m le ends) in
       omega (arith, m.few)

@@ -6,6 +6,7 @@ use Rattle.board_model.specs.declared.outcomes.End.{End}
 use Rattle.board_model.specs.declared.outcomes.End.TheVariants.{Bound, Still, Supervisor}
 use Rattle.task_table.specs.State.{State}
 use Rattle.board_core.specs.declared.board.Board.{Board}
+use Rattle.board_core.specs.Data.{Shows}
 use Rattle.board_model.specs.declared.outcomes.Level.{Level}
 use Rattle.board_model.specs.Script.{Scenario}
 use Rattle.board_core.specs.Stands.{Stands, turns_of}
@@ -20,8 +21,8 @@ end_within (Some Still) left = if left == 0 then Some Bound else Some Still
 end_within None left = if left == 0 then Some Bound else None
 
 -- the board stands for the state that the run from s has at the board's turn number
-abbrev pub StandsMidway : Level → Scenario → Board → State → Type 0
-StandsMidway level x b s = Stands x b (run level x (turns_of b - s.turn) s).last
+abbrev pub StandsMidway : {X : Type 0} {H : X → Type 0} → Shows X H → Level → Scenario → Board X H → State → Type 0
+StandsMidway shown level x b s = Stands shown x b (run level x (turns_of b - s.turn) s).last
 
 -- the lines of the first n turns
 abbrev pub turn_lines : Level → Scenario → ℕ → State → List ℕ
@@ -29,7 +30,7 @@ turn_lines level x n s = notes_text (run level x n s).notes
 
 -- a run of at most so many turns that is broken off: pushed are at least the lines of all turns that were made but the
 -- last one, and at most the lines of that one too, and those of the end after it
-pub record BreaksOff (level : Level) (x : Scenario) (limit : ℕ) (w w' : Option (List ℕ)) (s : State) (b : Board) : Type 0 where
+pub record BreaksOff {X : Type 0} {H : X → Type 0} (level : Level) (x : Scenario) (limit : ℕ) (w w' : Option (List ℕ)) (s : State) (b : Board X H) : Type 0 where
   pub front : List ℕ
   pub pushed : Appends w w' front
   pub least : IsFront (turn_lines level x (turns_of b - s.turn - 1) s) front

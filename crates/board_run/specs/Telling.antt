@@ -18,7 +18,7 @@ notes_in level x n s = (run level x n s).notes
 
 -- a run that is broken off as its last turn is told: all notes of the turns before were told, and the telling of that
 -- one's failed from there
-pub record BreaksTelling {T : Type 0} (heard broke : T → List (ℕ × Note) → T → Type 0) (level : Level) (x : Scenario) (t t' : T) (s : State) (b : Board) : Type 0 where
+pub record BreaksTelling {T : Type 0} {X : Type 0} {H : X → Type 0} (heard broke : T → List (ℕ × Note) → T → Type 0) (level : Level) (x : Scenario) (t t' : T) (s : State) (b : Board X H) : Type 0 where
   pub between : T  -- the teller after the turns before
   pub last : List (ℕ × Note)  -- the notes of the last turn
   pub made : s.turn < turns_of b

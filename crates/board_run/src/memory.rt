@@ -5,6 +5,7 @@ ghost use Rattle.outside_io.specs.Outside.{Pushes, HasCause};
 ghost use Rattle.task_table.specs.State.{State};
 ghost use Rattle.board_model.specs.Script.{Scenario};
 ghost use Rattle.board_core.specs.Stands.{Stands};
+ghost use Rattle.board_core.specs.Data.{boxed};
 ghost use Rattle.board_run.specs.MemoryText.{are_zeros, begins_at, byte_of, bytes_hex, memory_text, place_text, region_at, region_line, region_text, row_count, row_line, row_text, rows_text};
 
 use crate::line::{Line, push_byte, region_line as put_region_line};
@@ -30,7 +31,7 @@ fn region_in(regions: &[Region], base: u32) -> Option<Region>
 /// The region that begins at an address, of whatever task.
 fn region_at(board: &Board, base: u32) -> Option<Region>
     ensures base { IfSome result (λ r. r.base ≡ base) }
-    ensures found { (x : Scenario) (s : State) → Stands x board.now s → result ≡ region_at x.setup base }
+    ensures found { (x : Scenario) (s : State) → Stands (boxed shown) x board.now s → result ≡ region_at x.setup base }
 {
     for i in 0..board.task_count() {
         let found = region_in(board.regions(i), base);
@@ -43,14 +44,14 @@ fn region_at(board: &Board, base: u32) -> Option<Region>
 
 /// The byte at an address; 0 where there is none.
 fn byte_at(board: &Board, addr: u32) -> u8
-    ensures { (x : Scenario) (s : State) → Stands x board.now s → result ≡ byte_of s.memory addr }
+    ensures { (x : Scenario) (s : State) → Stands (boxed shown) x board.now s → result ≡ byte_of s.memory addr }
 {
     board.byte(addr).unwrap_or(0)
 }
 
 fn are_zeros(board: &Board, addr: u32) -> bool
     requires { addr + 16 ≤ 2 ^ 32 }
-    ensures { (x : Scenario) (s : State) → Stands x board.now s → result ≡ are_zeros s.memory addr 16 }
+    ensures { (x : Scenario) (s : State) → Stands (boxed shown) x board.now s → result ≡ are_zeros s.memory addr 16 }
 {
     for k in 0..16 {
         if byte_at(board, addr + k) != 0 {
@@ -64,7 +65,7 @@ fn are_zeros(board: &Board, addr: u32) -> bool
 fn push_bytes(board: &Board, addr: u32, line: &mut Line)
     requires inside { addr + 16 ≤ 2 ^ 32 }
     requires room { array_string_len line.old + 32 ≤ 160 }
-    ensures bytes { (x : Scenario) (s : State) → Stands x board.now s → line.new.bytes ≡ line.old.bytes ++ bytes_hex s.memory addr 16 }
+    ensures bytes { (x : Scenario) (s : State) → Stands (boxed shown) x board.now s → line.new.bytes ≡ line.old.bytes ++ bytes_hex s.memory addr 16 }
     ensures len { array_string_len line.new ≡ array_string_len line.old + 32 }
 {
     for k in 0..16 {
@@ -76,7 +77,7 @@ fn push_bytes(board: &Board, addr: u32, line: &mut Line)
 fn row_line(board: &Board, addr: u32, line: &mut Line)
     requires inside { addr + 16 ≤ 2 ^ 32 }
     requires empty { line.old.bytes ≡ [] }
-    ensures { (x : Scenario) (s : State) → Stands x board.now s → line.new.bytes ≡ row_line s.memory addr }
+    ensures { (x : Scenario) (s : State) → Stands (boxed shown) x board.now s → line.new.bytes ≡ row_line s.memory addr }
 {
     push_hex(line, addr);
     line.push_str(" ");
@@ -87,7 +88,7 @@ fn row_line(board: &Board, addr: u32, line: &mut Line)
 /// The line of sixteen bytes, where one of them is not zero.
 fn push_row<S: Sink>(board: &Board, addr: u32, out: &mut S) -> Result<(), Failed>
     requires inside { addr + 16 ≤ 2 ^ 32 }
-    ensures bytes { (x : Scenario) (s : State) → Stands x board.now s → Pushes (S.seen out.old).written (S.seen out.new).written (row_text s.memory addr) result }
+    ensures bytes { (x : Scenario) (s : State) → Stands (boxed shown) x board.now s → Pushes (S.seen out.old).written (S.seen out.new).written (row_text s.memory addr) result }
     ensures cause { HasCause (S.seen out.old).faults (S.seen out.new).faults result }
 {
     if are_zeros(board, addr) {
@@ -100,7 +101,7 @@ fn push_row<S: Sink>(board: &Board, addr: u32, out: &mut S) -> Result<(), Failed
 
 fn push_rows<S: Sink>(board: &Board, base: u32, count: u32, out: &mut S) -> Result<(), Failed>
     requires inside { base + 16 * count ≤ 2 ^ 32 }
-    ensures bytes { (x : Scenario) (s : State) → Stands x board.now s → Pushes (S.seen out.old).written (S.seen out.new).written (rows_text s.memory base count) result }
+    ensures bytes { (x : Scenario) (s : State) → Stands (boxed shown) x board.now s → Pushes (S.seen out.old).written (S.seen out.new).written (rows_text s.memory base count) result }
     ensures cause { HasCause (S.seen out.old).faults (S.seen out.new).faults result }
 {
     for k in 0..count {
@@ -128,7 +129,7 @@ fn row_count(region: &Region) -> u32
 /// The lines of a region.
 fn push_region<S: Sink>(board: &Board, region: &Region, out: &mut S) -> Result<(), Failed>
     requires inside { region.now.base + 262144 ≤ 2 ^ 32 }
-    ensures bytes { (x : Scenario) (s : State) → Stands x board.now s → Pushes (S.seen out.old).written (S.seen out.new).written (region_text s.memory region.now) result }
+    ensures bytes { (x : Scenario) (s : State) → Stands (boxed shown) x board.now s → Pushes (S.seen out.old).written (S.seen out.new).written (region_text s.memory region.now) result }
     ensures cause { HasCause (S.seen out.old).faults (S.seen out.new).faults result }
 {
     push_region_line(region, out)?;
@@ -138,7 +139,7 @@ fn push_region<S: Sink>(board: &Board, region: &Region, out: &mut S) -> Result<(
 /// The lines of the region that begins at the k-th place of RAM, if one does.
 fn push_place<S: Sink>(board: &Board, k: u32, out: &mut S) -> Result<(), Failed>
     requires inside { k < 1024 }
-    ensures bytes { (x : Scenario) (s : State) → Stands x board.now s → Pushes (S.seen out.old).written (S.seen out.new).written (place_text x.setup s.memory k) result }
+    ensures bytes { (x : Scenario) (s : State) → Stands (boxed shown) x board.now s → Pushes (S.seen out.old).written (S.seen out.new).written (place_text x.setup s.memory k) result }
     ensures cause { HasCause (S.seen out.old).faults (S.seen out.new).faults result }
 {
     match region_at(board, RAM + 256 * k) {
@@ -155,7 +156,7 @@ fn push_place<S: Sink>(board: &Board, k: u32, out: &mut S) -> Result<(), Failed>
 ///
 /// Only where a push failed.
 pub fn write_memory<S: Sink>(board: &Board, out: &mut S) -> Result<(), Failed>
-    ensures text { (x : Scenario) (s : State) → Stands x board.now s → Pushes (S.seen out.old).written (S.seen out.new).written (memory_text x.setup s) result }
+    ensures text { (x : Scenario) (s : State) → Stands (boxed shown) x board.now s → Pushes (S.seen out.old).written (S.seen out.new).written (memory_text x.setup s) result }
     ensures cause { HasCause (S.seen out.old).faults (S.seen out.new).faults result }
 {
     for k in 0..1024 {

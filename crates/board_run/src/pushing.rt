@@ -107,12 +107,13 @@ fn push_task<S: Sink>(i: u64, task: &TaskView, out: &mut S) -> Result<(), Failed
 ghost use Rattle.task_table.specs.State.{State};
 ghost use Rattle.board_model.specs.Script.{Scenario};
 ghost use Rattle.board_core.specs.Stands.{Stands};
+ghost use Rattle.board_core.specs.Data.{boxed};
 ghost use Rattle.board_run.specs.Text.{tasks_text, end_text};
 ghost use Rattle.board_run.specs.Timers.{HasFitTimers};
 
 fn push_tasks<S: Sink>(board: &Board, out: &mut S) -> Result<(), Failed>
-    ensures bytes { (x : Scenario) (s : State) → Stands x board.now s → Pushes (S.seen out.old).written (S.seen out.new).written (tasks_text s (length s.tasks)) result }
-    ensures timers { (x : Scenario) (s : State) → Stands x board.now s → IfOk result (λ _. HasFitTimers s) }
+    ensures bytes { (x : Scenario) (s : State) → Stands (boxed shown) x board.now s → Pushes (S.seen out.old).written (S.seen out.new).written (tasks_text s (length s.tasks)) result }
+    ensures timers { (x : Scenario) (s : State) → Stands (boxed shown) x board.now s → IfOk result (λ _. HasFitTimers s) }
     ensures cause { HasCause (S.seen out.old).faults (S.seen out.new).faults result }
 {
     for i in 0..board.task_count() {
@@ -126,8 +127,8 @@ fn push_tasks<S: Sink>(board: &Board, out: &mut S) -> Result<(), Failed>
 
 /// How a run ended, and each task.
 pub fn push_end<S: Sink>(end: End, board: &Board, out: &mut S) -> Result<(), Failed>
-    ensures bytes { (x : Scenario) (s : State) → Stands x board.now s → Pushes (S.seen out.old).written (S.seen out.new).written (end_text end s) result }
-    ensures timers { (x : Scenario) (s : State) → Stands x board.now s → IfOk result (λ _. HasFitTimers s) }
+    ensures bytes { (x : Scenario) (s : State) → Stands (boxed shown) x board.now s → Pushes (S.seen out.old).written (S.seen out.new).written (end_text end s) result }
+    ensures timers { (x : Scenario) (s : State) → Stands (boxed shown) x board.now s → IfOk result (λ _. HasFitTimers s) }
     ensures cause { HasCause (S.seen out.old).faults (S.seen out.new).faults result }
 {
     push_end_line(end, board.turns(), board.now(), out)?;

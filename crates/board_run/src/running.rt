@@ -4,6 +4,7 @@ ghost use Rattle.outside_io.specs.Outside.{Pushes, HasCause};
 ghost use Rattle.task_table.specs.State.{State};
 ghost use Rattle.board_model.specs.Script.{Scenario, start_of};
 ghost use Rattle.board_core.specs.Stands.{Stands, Stood, turns_of};
+ghost use Rattle.board_core.specs.Data.{boxed};
 ghost use Rattle.board_model.specs.Run.{run, ending};
 ghost use Rattle.board_model.specs.Lifetimes.{IsLedgerOfRun};
 ghost use Rattle.task_table.specs.Limits.{turn_notes};
@@ -40,10 +41,10 @@ fn end_within(ended: Option<End>, left: u32) -> Option<End>
 
 // Whether the run ends before the next turn.
 fn ending(board: &Board, limit: u32) -> Option<End>
-    requires stood { Stood board.now }
+    requires stood { Stood (boxed shown) board.now }
     requires within { turns_of board.now ≤ limit }
-    ensures end { (x : Scenario) (s : State) → Stands x board.now s → result ≡ ending x (limit - s.turn) s }
-    ensures goes { IsNone result → (x : Scenario) (s : State) → Stands x board.now s → ending x 1 s ≡ None }
+    ensures end { (x : Scenario) (s : State) → Stands (boxed shown) x board.now s → result ≡ ending x (limit - s.turn) s }
+    ensures goes { IsNone result → (x : Scenario) (s : State) → Stands (boxed shown) x board.now s → ending x 1 s ≡ None }
     ensures left { IsNone result → turns_of board.now < limit }
 {
     end_within(board.ended(), limit - board.turns())
@@ -60,27 +61,27 @@ pub fn play<T: Teller>(
     level: Level,
     teller: &mut T,
 ) -> Result<End, Failed>
-    requires stood { Stood board.old }
+    requires stood { Stood (boxed shown) board.old }
     requires from { turns_of board.old ≤ limit }
     requires few { limit ≤ 1000000000 }
 
-    ensures told { (x : Scenario) (s : State) → Stands x board.old s →
+    ensures told { (x : Scenario) (s : State) → Stands (boxed shown) x board.old s →
         OnOk result (T.heard teller.old (run level x (limit - s.turn) s).notes teller.new) }
-    ensures end { (x : Scenario) (s : State) → Stands x board.old s →
+    ensures end { (x : Scenario) (s : State) → Stands (boxed shown) x board.old s →
         IfOk result (λ e. e ≡ (run level x (limit - s.turn) s).end) }
-    ensures last { (x : Scenario) (s : State) → Stands x board.old s →
-        IfOk result (λ _. Stands x board.new (run level x (limit - s.turn) s).last) }
+    ensures last { (x : Scenario) (s : State) → Stands (boxed shown) x board.old s →
+        IfOk result (λ _. Stands (boxed shown) x board.new (run level x (limit - s.turn) s).last) }
 
     // The turns that were made have all the notes of the run, which are not more than the turns may note.
-    ensures whole { (x : Scenario) (s : State) → Stands x board.old s →
+    ensures whole { (x : Scenario) (s : State) → Stands (boxed shown) x board.old s →
         OnOk result (notes_in level x (turns_of board.new - s.turn) s ≡ notes_in level x (limit - s.turn) s) }
-    ensures noted { (x : Scenario) (s : State) → Stands x board.old s →
+    ensures noted { (x : Scenario) (s : State) → Stands (boxed shown) x board.old s →
         OnOk result (length (notes_in level x (limit - s.turn) s) ≤ turn_notes * limit) }
 
     // Where telling failed, the notes of the turns before the last one were told, and no further turn is made.
-    ensures broken { (x : Scenario) (s : State) → Stands x board.old s →
+    ensures broken { (x : Scenario) (s : State) → Stands (boxed shown) x board.old s →
         OnErr result (BreaksTelling T.heard T.broke level x teller.old teller.new s board.new) }
-    ensures midway { (x : Scenario) (s : State) → Stands x board.old s → StandsMidway level x board.new s }
+    ensures midway { (x : Scenario) (s : State) → Stands (boxed shown) x board.old s → StandsMidway (boxed shown) level x board.new s }
     ensures within { turns_of board.new ≤ limit }
 {
     T::hears_in_parts();
@@ -98,28 +99,28 @@ pub fn play<T: Teller>(
 /// Turns up to the end of the run, and its text, which tells each turn at a level. After a failing push
 /// nothing more is pushed, and no further turn is made.
 pub fn run<S: Sink>(board: &mut Board, limit: u32, level: Level, out: &mut S) -> Result<End, Failed>
-    requires stood { Stood board.old }
+    requires stood { Stood (boxed shown) board.old }
     requires from { turns_of board.old ≤ limit }
     requires few { limit ≤ 1000000000 }
 
-    ensures text { (x : Scenario) (s : State) → Stands x board.old s →
+    ensures text { (x : Scenario) (s : State) → Stands (boxed shown) x board.old s →
         Pushes (S.seen out.old).written (S.seen out.new).written (trace_text (run level x (limit - s.turn) s)) result }
-    ensures end { (x : Scenario) (s : State) → Stands x board.old s →
+    ensures end { (x : Scenario) (s : State) → Stands (boxed shown) x board.old s →
         IfOk result (λ e. e ≡ (run level x (limit - s.turn) s).end) }
-    ensures last { (x : Scenario) (s : State) → Stands x board.old s →
-        IfOk result (λ _. Stands x board.new (run level x (limit - s.turn) s).last) }
+    ensures last { (x : Scenario) (s : State) → Stands (boxed shown) x board.old s →
+        IfOk result (λ _. Stands (boxed shown) x board.new (run level x (limit - s.turn) s).last) }
 
     // The numbers of the notes are in range, and so are the deadlines at the end.
-    ensures fit { (x : Scenario) (s : State) → Stands x board.old s → IfOk result (λ _. AreFit (run level x (limit - s.turn) s).notes) }
-    ensures timers { (x : Scenario) (s : State) → Stands x board.old s → IfOk result (λ _. HasFitTimers (run level x (limit - s.turn) s).last) }
+    ensures fit { (x : Scenario) (s : State) → Stands (boxed shown) x board.old s → IfOk result (λ _. AreFit (run level x (limit - s.turn) s).notes) }
+    ensures timers { (x : Scenario) (s : State) → Stands (boxed shown) x board.old s → IfOk result (λ _. HasFitTimers (run level x (limit - s.turn) s).last) }
 
     // From the start, what the notes say of each call is so, and agrees with the calls that are open at the end.
-    ensures ledger { (x : Scenario) → Stands x board.old (start_of x) → IsLedgerOfRun level x limit }
+    ensures ledger { (x : Scenario) → Stands (boxed shown) x board.old (start_of x) → IsLedgerOfRun level x limit }
 
     // Where a push failed, the lines of the turns before the last one are whole, and no further turn is made.
-    ensures broken { (x : Scenario) (s : State) → Stands x board.old s →
+    ensures broken { (x : Scenario) (s : State) → Stands (boxed shown) x board.old s →
         OnErr result (BreaksOff level x (limit - s.turn) (S.seen out.old).written (S.seen out.new).written s board.new) }
-    ensures midway { (x : Scenario) (s : State) → Stands x board.old s → StandsMidway level x board.new s }
+    ensures midway { (x : Scenario) (s : State) → Stands (boxed shown) x board.old s → StandsMidway (boxed shown) level x board.new s }
     ensures within { turns_of board.new ≤ limit }
     ensures cause { HasCause (S.seen out.old).faults (S.seen out.new).faults result }
 {

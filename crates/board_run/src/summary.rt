@@ -6,6 +6,7 @@ ghost use Rattle.task_table.specs.State.{State};
 ghost use Rattle.board_model.specs.declared.outcomes.Level.TheVariants.{Calls};
 ghost use Rattle.board_model.specs.Script.{Scenario};
 ghost use Rattle.board_core.specs.Stands.{Stands, Stood, turns_of};
+ghost use Rattle.board_core.specs.Data.{boxed};
 ghost use Rattle.board_model.specs.Run.{run};
 ghost use Rattle.board_run.specs.Counts.{counts_text, summary_text};
 ghost use Rattle.board_run.specs.Counting.{count_at};
@@ -72,7 +73,7 @@ fn push_summary<S: Sink>(
     counts: &Counts,
     out: &mut S,
 ) -> Result<(), Failed>
-    ensures bytes { (x : Scenario) (s : State) → Stands x board.now s →
+    ensures bytes { (x : Scenario) (s : State) → Stands (boxed shown) x board.now s →
         Pushes (S.seen out.old).written (S.seen out.new).written (end_line end s.turn s.now ++ counts_text (count_at counts.now)) result }
     ensures cause { HasCause (S.seen out.old).faults (S.seen out.new).faults result }
 {
@@ -87,17 +88,17 @@ fn push_summary<S: Sink>(
 ///
 /// Only where a push failed.
 pub fn summarize<S: Sink>(board: &mut Board, limit: u32, out: &mut S) -> Result<End, Failed>
-    requires stood { Stood board.old }
+    requires stood { Stood (boxed shown) board.old }
     requires from { turns_of board.old ≤ limit }
     requires few { limit ≤ 1000000000 }
 
-    ensures text { (x : Scenario) (s : State) → Stands x board.old s →
+    ensures text { (x : Scenario) (s : State) → Stands (boxed shown) x board.old s →
         Pushes (S.seen out.old).written (S.seen out.new).written (summary_text (run Calls x (limit - s.turn) s)) result }
-    ensures end { (x : Scenario) (s : State) → Stands x board.old s →
+    ensures end { (x : Scenario) (s : State) → Stands (boxed shown) x board.old s →
         IfOk result (λ e. e ≡ (run Calls x (limit - s.turn) s).end) }
 
     // Where a push failed, too, the board stands at the end of the run.
-    ensures last { (x : Scenario) (s : State) → Stands x board.old s → Stands x board.new (run Calls x (limit - s.turn) s).last }
+    ensures last { (x : Scenario) (s : State) → Stands (boxed shown) x board.old s → Stands (boxed shown) x board.new (run Calls x (limit - s.turn) s).last }
     ensures within { turns_of board.new ≤ limit }
     ensures cause { HasCause (S.seen out.old).faults (S.seen out.new).faults result }
 {

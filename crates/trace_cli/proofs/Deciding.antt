@@ -2,6 +2,7 @@
 use Rattle.std.proofs.Common.{◌≡◌, ℕ, zero, suc, ◌<◌, ◌⊎◌, Bool, false, List, length, Option, Some, None, refl, sym, ap, subst, ◌∙◌, inl, inr, arith, cond}
 use Rattle.std.specs.Prelude.{slice_get}
 use Rattle.std.proofs.lemmas.Option.{same_Some}
+use Rattle.kernel_abi.specs.Devices.{DeviceData}
 use Rattle.outside_io.specs.Outside.{WhereSeen}
 use Rattle.image_format.specs.Picture.{Picture}
 use Rattle.app_toml.specs.Apps.{AppData}
@@ -30,7 +31,7 @@ use Rattle.trace_cli.proofs.Agreeing.{same_files, seen_further, may_further, sam
 same_image : (cs : List (List ℕ)) (a b : Picture) → IsBuilt cs a → IsBuilt cs b → a ≡ b
 same_image cs a b p q = one_picture (described cs) (sources_in cs) a b p.built q.built
 
-same_run : (job : Asked) (cs : List (List ℕ)) (n n' : ℕ) (m m' : Detail) (x y : Scenario) → IsRun job cs n m x → IsRun job cs n' m' y → ran n m x ≡ ran n' m' y
+same_run : {devices : List DeviceData} (job : Asked) (cs : List (List ℕ)) (n n' : ℕ) (m m' : Detail) (x y : Scenario) → IsRun devices job cs n m x → IsRun devices job cs n' m' y → ran n m x ≡ ran n' m' y
 same_run (run image script steps detail) cs n n' m m' x y p q =
     let bound : n ≡ n' = p.0 ∙ sym q.0 in
     let seen : m ≡ m' = p.1 ∙ sym q.1 in
@@ -40,7 +41,7 @@ same_run (go app script steps detail) cs n n' m m' x y p q =
     let bound : n ≡ n' = p.0 ∙ sym q.0 in
     let seen : m ≡ m' = p.1 ∙ sym q.1 in
     let image : p.2.0 ≡ q.2.0 = same_image cs p.2.0 q.2.0 p.2.1 q.2.1 in
-    let scenario : x ≡ y = p.2.2 ∙ ap (λ (i : Picture). scenario_of i (script_in cs)) image ∙ sym q.2.2 in
+    let scenario : x ≡ y = p.2.2 ∙ ap (λ (i : Picture). scenario_of i (script_in cs) _) image ∙ sym q.2.2 in
     ap (λ (k : ℕ). ran k m x) bound ∙ ap (λ (d : Detail). ran n' d x) seen ∙ ap (ran n' m') scenario
 same_run (build app out) cs n n' m m' x y p q = absurd p
 same_run (list image) cs n n' m m' x y p q = absurd p
@@ -91,7 +92,7 @@ same_sample job s s' n n' x y p q =
     bound_of : (a b c d : ℕ) → sample a c ≡ sample b d → c ≡ d
     bound_of a b c d e = cc
 
-run_or_listing : (job : Asked) (cs : List (List ℕ)) (n : ℕ) (m : Detail) (x : Scenario) (a : Picture) → IsRun job cs n m x → IsListing job cs a → ⊥
+run_or_listing : {devices : List DeviceData} (job : Asked) (cs : List (List ℕ)) (n : ℕ) (m : Detail) (x : Scenario) (a : Picture) → IsRun devices job cs n m x → IsListing job cs a → ⊥
 run_or_listing (run image script steps detail) cs n m x a p q = q
 run_or_listing (go app script steps detail) cs n m x a p q = q
 run_or_listing (build app out) cs n m x a p q = q
@@ -100,7 +101,7 @@ run_or_listing (sample seed steps) cs n m x a p q = p
 run_or_listing (migrate image out) cs n m x a p q = p
 run_or_listing (audit trace) cs n m x a p q = p
 
-run_or_build : (job : Asked) (cs : List (List ℕ)) (n : ℕ) (m : Detail) (x : Scenario) (o : List ℕ) (a : Picture) → IsRun job cs n m x → IsBuild job cs o a → ⊥
+run_or_build : {devices : List DeviceData} (job : Asked) (cs : List (List ℕ)) (n : ℕ) (m : Detail) (x : Scenario) (o : List ℕ) (a : Picture) → IsRun devices job cs n m x → IsBuild job cs o a → ⊥
 run_or_build (run image script steps detail) cs n m x o a p q = q
 run_or_build (go app script steps detail) cs n m x o a p q = q
 run_or_build (build app out) cs n m x o a p q = p
@@ -118,8 +119,8 @@ listing_or_build (sample seed steps) cs a o b p q = p
 listing_or_build (migrate image out) cs a o b p q = p
 listing_or_build (audit trace) cs a o b p q = p
 
-run_or_sample : (job : Asked) (cs : List (List ℕ)) (n : ℕ) (m : Detail) (x : Scenario) (s k : ℕ) (y : Scenario) → IsRun job cs n m x → IsSample job s k y → ⊥
-run_or_sample job cs n m x s k y p q = subst (λ (j : Asked). IsRun j cs n m x) q.is p
+run_or_sample : {devices : List DeviceData} (job : Asked) (cs : List (List ℕ)) (n : ℕ) (m : Detail) (x : Scenario) (s k : ℕ) (y : Scenario) → IsRun devices job cs n m x → IsSample job s k y → ⊥
+run_or_sample job cs n m x s k y p q = subst (λ (j : Asked). IsRun _ j cs n m x) q.is p
 
 listing_or_sample : (job : Asked) (cs : List (List ℕ)) (a : Picture) (s k : ℕ) (y : Scenario) → IsListing job cs a → IsSample job s k y → ⊥
 listing_or_sample job cs a s k y p q = subst (λ (j : Asked). IsListing j cs a) q.is p
@@ -142,8 +143,8 @@ same_audit job cs t s a b p q g h =
     let text : s ≡ t = (is_audit job cs s q).1 ∙ sym (is_audit job cs t p).1 in
     ap audited (one_verdict t a b g (subst (λ (u : List ℕ). trace_audit.IsVerdict u b) text h))
 
-run_or_audit : (job : Asked) (cs : List (List ℕ)) (n : ℕ) (m : Detail) (x : Scenario) (t : List ℕ) → IsRun job cs n m x → IsAudit job cs t → ⊥
-run_or_audit job cs n m x t p q = let j = (is_audit job cs t q).0 in subst (λ (j : Asked). IsRun j cs n m x) j.1 p
+run_or_audit : {devices : List DeviceData} (job : Asked) (cs : List (List ℕ)) (n : ℕ) (m : Detail) (x : Scenario) (t : List ℕ) → IsRun devices job cs n m x → IsAudit job cs t → ⊥
+run_or_audit job cs n m x t p q = let j = (is_audit job cs t q).0 in subst (λ (j : Asked). IsRun _ j cs n m x) j.1 p
 
 listing_or_audit : (job : Asked) (cs : List (List ℕ)) (a : Picture) (t : List ℕ) → IsListing job cs a → IsAudit job cs t → ⊥
 listing_or_audit job cs a t p q = let j = (is_audit job cs t q).0 in subst (λ (j : Asked). IsListing j cs a) j.1 p
@@ -154,7 +155,7 @@ build_or_audit job cs o a t p q = let j = (is_audit job cs t q).0 in subst (λ (
 sample_or_audit : (job : Asked) (cs : List (List ℕ)) (s n : ℕ) (x : Scenario) (t : List ℕ) → IsSample job s n x → IsAudit job cs t → ⊥
 sample_or_audit job cs s n x t p q = subst (λ (j : Asked). IsAudit j cs t) p.is q
 
-same_done : (job : Asked) (cs : List (List ℕ)) (u v : Verdict) → Does job cs u → Does job cs v → u ≡ v
+same_done : {devices : List DeviceData} (job : Asked) (cs : List (List ℕ)) (u v : Verdict) → Does devices job cs u → Does devices job cs v → u ≡ v
 same_done job cs u v (runs n m x p e) (runs n' m' y q d) = e ∙ same_run job cs n n' m m' x y p q ∙ sym d
 same_done job cs u v (runs n m x p e) (lists a q d) = absurd (run_or_listing job cs n m x a p q)
 same_done job cs u v (runs n m x p e) (builds o a q d) = absurd (run_or_build job cs n m x o a p q)
@@ -269,7 +270,7 @@ done_not_refused seen job ds cs g why c all r is refusal = by_length (meets (len
       let files = same_files seen job cs ds r.takes all.takes (length cs) (omega arith) (omega arith) in
       no_file (files_by job ds) (length cs) g (all.all ∙ sym e) (sym files ∙ r.next)
 
-all_same : (seen : List ℕ → Option (List ℕ)) (job : Asked) (cs ds : List (List ℕ)) (u v : Verdict) → TakesAll (Are seen) job cs → TakesAll (MayBe seen) job ds → Does job cs u → Does job ds v → v ≡ u
+all_same : {devices : List DeviceData} (seen : List ℕ → Option (List ℕ)) (job : Asked) (cs ds : List (List ℕ)) (u v : Verdict) → TakesAll (Are seen) job cs → TakesAll (MayBe seen) job ds → Does devices job cs u → Does devices job ds v → v ≡ u
 all_same seen job cs ds u v are may p q = by_length (meets (length cs) (length ds)) where
   by_length : Meets (length cs) (length ds) → v ≡ u
   by_length (less lt) =
@@ -280,21 +281,21 @@ all_same seen job cs ds u v are may p q = by_length (meets (length cs) (length d
       absurd (no_file (files_by job ds) (length ds) t.0 may.all t.1)
   by_length (same e) =
       let contents = same_contents seen job cs ds are.takes may.takes e in
-      same_done job ds v u q (subst (λ (xs : List (List ℕ)). Does job xs u) contents p)
+      same_done job ds v u q (subst (λ (xs : List (List ℕ)). Does _ job xs u) contents p)
 
 -- ## the verdict
 
 abbrev CannotRead : Asked → FilesSeen → FilesSeen → Verdict → Type 0
 CannotRead job before after v = (f : File) × IsUnread job before after f × (v ≡ unread f.name)
 
-on_refusal : (job : Asked) (before after : FilesSeen) (v u : Verdict) (cs : List (List ℕ)) (g : File) (c : List ℕ) (why : Why) → JobReason job before after v
+on_refusal : {devices : List DeviceData} (job : Asked) (before after : FilesSeen) (v u : Verdict) (cs : List (List ℕ)) (g : File) (c : List ℕ) (why : Why) → JobReason devices job before after v
     → Reaches (Are before.contents) job cs g → before.contents g.name ≡ Some c → g.refusal c ≡ Some why → u ≡ refused g.name why → (v ≡ u) ⊎ CannotRead job before after v
 on_refusal job before after v u cs g c why (cannot_read f h e) r is refusal d = inr (f, h, e)
 on_refusal job before after v u cs g c why (refuses f why' h e) r is refusal d = inl (e ∙ same_refusal before.contents job f g why' why cs c h r is refusal ∙ sym d)
 on_refusal job before after v u cs g c why (does ds all p) r is refusal d = absurd (done_not_refused before.contents job ds cs g why c all r is refusal)
 
-on_done : (job : Asked) (before after : FilesSeen) (v u : Verdict) (cs : List (List ℕ)) → JobReason job before after v
-    → TakesAll (Are before.contents) job cs → Does job cs u → (v ≡ u) ⊎ CannotRead job before after v
+on_done : {devices : List DeviceData} (job : Asked) (before after : FilesSeen) (v u : Verdict) (cs : List (List ℕ)) → JobReason devices job before after v
+    → TakesAll (Are before.contents) job cs → Does devices job cs u → (v ≡ u) ⊎ CannotRead job before after v
 on_done job before after v u cs (cannot_read f h e) all p = inr (f, h, e)
 on_done job before after v u cs (refuses f why h e) all p = absurd (refused_not_done before.contents job f why cs h all)
 on_done job before after v u cs (does ds may q) all p = inl (all_same before.contents job cs ds u v all may p q)
@@ -305,7 +306,7 @@ no_job_in words e = ap (λ (b : Bool). cond b (job_of words) None) e
 pub no_job_of : (words : List (List ℕ)) (job : Asked) → is_accepted words ≡ false → job_in words ≡ Some job → ⊥
 no_job_of words job e d = let none : None ≡ Some job = sym (no_job_in words e) ∙ d in absurd (cc)
 
-on_job : (words : List (List ℕ)) (job : Asked) (before after : FilesSeen) (v u : Verdict) → job_in words ≡ Some job → JobReason job before after v → IsVerdict words before.contents u
+on_job : {devices : List DeviceData} (words : List (List ℕ)) (job : Asked) (before after : FilesSeen) (v u : Verdict) → job_in words ≡ Some job → JobReason devices job before after v → IsVerdict devices words before.contents u
     → (v ≡ u) ⊎ CannotRead job before after v
 on_job words job before after v u is why (verdict.no_job none e) = absurd (no_job_of words job none is)
 on_job words job before after v u is why (verdict.refuses job' cs g c reason is' r held refusal e) =
@@ -313,9 +314,9 @@ on_job words job before after v u is why (verdict.refuses job' cs g c reason is'
     on_refusal job before after v u cs g c reason why (subst (λ (j : Asked). Reaches (Are before.contents) j cs g) alike r) held refusal e
 on_job words job before after v u is why (verdict.does job' cs is' all p) =
     let alike : job' ≡ job = same_Some job' job (sym is' ∙ is) in
-    on_done job before after v u cs why (subst (λ (j : Asked). TakesAll (Are before.contents) j cs) alike all) (subst (λ (j : Asked). Does j cs u) alike p)
+    on_done job before after v u cs why (subst (λ (j : Asked). TakesAll (Are before.contents) j cs) alike all) (subst (λ (j : Asked). Does _ j cs u) alike p)
 
-on_no_job : (words : List (List ℕ)) (seen : List ℕ → Option (List ℕ)) (v u : Verdict) → is_accepted words ≡ false → v ≡ usage → IsVerdict words seen u → v ≡ u
+on_no_job : {devices : List DeviceData} (words : List (List ℕ)) (seen : List ℕ → Option (List ℕ)) (v u : Verdict) → is_accepted words ≡ false → v ≡ usage → IsVerdict devices words seen u → v ≡ u
 on_no_job words seen v u none e (verdict.no_job none' d) = e ∙ sym d
 on_no_job words seen v u none e (verdict.refuses job cs g c reason is r held refusal d) = absurd (no_job_of words job none is)
 on_no_job words seen v u none e (verdict.does job cs is all p) = absurd (no_job_of words job none is)
@@ -329,6 +330,6 @@ by_reason : (words : List (List ℕ)) (job : Asked) (before after : FilesSeen) (
 by_reason words job before after v u is (inl e) = agreed e
 by_reason words job before after v u is (inr h) = not_read job h.0 is h.1 h.2
 
-pub decided : (words : List (List ℕ)) (before after : FilesSeen) (v u : Verdict) → Reason words before after v → IsVerdict words before.contents u → Decided words before after v u
+pub decided : {devices : List DeviceData} (words : List (List ℕ)) (before after : FilesSeen) (v u : Verdict) → Reason devices words before after v → IsVerdict devices words before.contents u → Decided words before after v u
 decided words before after v u (no_job none e) is = agreed (on_no_job words before.contents v u none e is)
 decided words before after v u (of_job job at why) is = by_reason words job before after v u at (on_job words job before after v u at why is)

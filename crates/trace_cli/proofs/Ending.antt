@@ -2,6 +2,7 @@
 use Rattle.std.proofs.Common.{◌≤◌, ℕ, Bool, true, false, [], length, arith}
 use Rattle.task_table.specs.State.{State}
 use Rattle.board_model.specs.Script.{Scenario}
+use Rattle.board_core.specs.Data.{Shows}
 use Rattle.board_core.specs.declared.board.Board.{Board}
 use Rattle.board_core.specs.Machine.{HoldsBy}
 use Rattle.board_core.specs.Stands.{Stands, notes_of, turns_of}
@@ -9,7 +10,7 @@ use Rattle.board_run.specs.Timers.{HasFitTimers}
 use Rattle.audit_runs.specs.Last.{IsFitLast}
 
 -- a kernel has as many tasks as the setup that it stands for, and not more than it may have
-few_tasks : (x : Scenario) (b : Board) (s : State) → Stands x b s → length s.tasks ≤ 512
+few_tasks : {X : Type 0} {H : X → Type 0} {shown : Shows X H} (x : Scenario) (b : Board X H) (s : State) → Stands shown x b s → length s.tasks ≤ 512
 few_tasks x b s st = by b.machine.loaded st.holds.machine
   where
     by : (loaded : Bool) → HoldsBy loaded x.setup b.machine.reach.kernel b.machine.processor record { state = s; notes = notes_of b; writes = []; reads = [] } → length s.tasks ≤ 512
@@ -17,7 +18,7 @@ few_tasks x b s st = by b.machine.loaded st.holds.machine
     by false h = let most = b.machine.reach.kernel.few in let count = h.count in omega arith
 
 -- the board stands for the last state
-pub last_fits : (x : Scenario) (b : Board) (s : State) (n : ℕ) → n ≤ 1000000000 → turns_of b ≤ n → Stands x b s → HasFitTimers s → IsFitLast s
+pub last_fits : {X : Type 0} {H : X → Type 0} {shown : Shows X H} (x : Scenario) (b : Board X H) (s : State) (n : ℕ) → n ≤ 1000000000 → turns_of b ≤ n → Stands shown x b s → HasFitTimers s → IsFitLast s
 last_fits x b s n few within st timers =
     let at = st.holds.turns in
     let tasks = few_tasks x b s st in

@@ -1,6 +1,7 @@
 -- There is at most one verdict.
 use Rattle.std.proofs.Common.{◌≡◌, ℕ, List, Option, None, sym, ◌∙◌, arith}
 use Rattle.std.proofs.lemmas.Option.{same_Some}
+use Rattle.kernel_abi.specs.Devices.{DeviceData}
 use Rattle.outside_io.specs.Outside.{Rose}
 use Rattle.outside_io.specs.Seen.{FilesSeen}
 use Rattle.trace_cli.specs.Sources.{File, MayBe, Are, Takes}
@@ -20,7 +21,7 @@ takes_may seen files cs takes = λ k bytes e. let t = takes k bytes e in (t.0, t
 abbrev unfailed : (List ℕ → Option (List ℕ)) → FilesSeen
 unfailed seen = record { contents = seen; read_faults = 0; put_faults = 0; given = 0; last_failing = None }
 
-grounded : (words : List (List ℕ)) (seen : List ℕ → Option (List ℕ)) (v : Verdict) → IsVerdict words seen v → Reason words (unfailed seen) (unfailed seen) v
+grounded : {devices : List DeviceData} (words : List (List ℕ)) (seen : List ℕ → Option (List ℕ)) (v : Verdict) → IsVerdict devices words seen v → Reason devices words (unfailed seen) (unfailed seen) v
 grounded words seen v (verdict.no_job none e) = no_job none e
 grounded words seen v (verdict.refuses job cs f c why at r held refusal e) = of_job job at (refuses f why (record {
   contents = cs;
@@ -36,5 +37,5 @@ when_decided : (words : List (List ℕ)) (seen : List ℕ → Option (List ℕ))
 when_decided words seen u v (agreed e) = e
 when_decided words seen u v (not_read job f at h e) = absurd (none_rose h.rose)
 
-pub one_verdict : (words : List (List ℕ)) (seen : List ℕ → Option (List ℕ)) (u v : Verdict) → IsVerdict words seen u → IsVerdict words seen v → u ≡ v
+pub one_verdict : {devices : List DeviceData} (words : List (List ℕ)) (seen : List ℕ → Option (List ℕ)) (u v : Verdict) → IsVerdict devices words seen u → IsVerdict devices words seen v → u ≡ v
 one_verdict words seen u v p q = when_decided words seen u v (decided words (unfailed seen) (unfailed seen) u v (grounded words seen u p) q)

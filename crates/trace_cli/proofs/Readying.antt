@@ -1,8 +1,10 @@
 -- From the files of a job to its answer.
 use Rattle.std.proofs.Common.{◌≡◌, ℕ, suc, ◌≤◌, List, [], ◌∷◌, ◌++◌, length, take, get_or, Option, Some, None, refl, sym, ap, subst, ◌∙◌, arith, inl, inr, string_bytes}
 use Rattle.std.specs.Prelude.{slice_get}
+use Rattle.kernel_abi.specs.Devices.{DeviceData}
 use Rattle.image_format.specs.Picture.{Picture}
 use Rattle.image_build.specs.Built.{Built}
+use Rattle.board_core.specs.Data.{Shows}
 use Rattle.board_core.specs.declared.board.Board.{Board}
 use Rattle.board_model.specs.Script.{Scenario, start_of}
 use Rattle.board_core.specs.Stands.{Stands, Stood, turns_of}
@@ -33,8 +35,8 @@ use Rattle.trace_cli.proofs.Taking.{as_many_sources}
 one_file : (seen : List ℕ → Option (List ℕ)) (name : List ℕ) (image : Picture) (more : List File) (h : IsImageFile seen name image) → Takes (MayBe seen) (image_file name ∷ more) (h.bytes ∷ [])
 one_file seen name image more h = takes_first (MayBe seen) (image_file name) more h.bytes [] h.held h.accepted (takes_none (MayBe seen) more)
 
-pub run_ready : (seen : List ℕ → Option (List ℕ)) (image script : List ℕ) (n : ℕ) (detail : Detail) (picture : Picture) (b : Board) → IsImageFile seen image picture → IsSet seen picture script b
-    → IsReady (run image script n detail) seen n detail b
+pub run_ready : {X : Type 0} {H : X → Type 0} {shown : Shows X H} {devices : List DeviceData} (seen : List ℕ → Option (List ℕ)) (image script : List ℕ) (n : ℕ) (detail : Detail) (picture : Picture) (b : Board X H) → IsImageFile seen image picture → IsSet shown devices seen picture script b
+    → IsReady shown devices (run image script n detail) seen n detail b
 run_ready seen image script n detail picture b i s = record {
   contents = i.bytes ∷ s.script ∷ [];
   accepted = record {
@@ -42,8 +44,8 @@ run_ready seen image script n detail picture b i s = record {
         (takes_first (MayBe seen) (script_file script) [] s.script [] s.held s.accepted (takes_none (MayBe seen) []));
     all = refl;
   };
-  scenario = scenario_of picture s.script;
-  is = (refl, refl, ap (λ (p : Picture). scenario_of p s.script) i.is);
+  scenario = scenario_of picture s.script _;
+  is = (refl, refl, ap (λ (p : Picture). scenario_of p s.script _) i.is);
   stands = s.stands;
   turns = s.turns;
 }
@@ -74,7 +76,7 @@ list_faults a c image h fault = record {
   at = record { takes = takes_none (MayBe a.contents) (image_file image ∷ []); file = image_file image; next = refl; fault = fault };
 }
 
-pub list_reason : (a b : FilesSeen) (image : List ℕ) (picture : Picture) → IsImageFile a.contents image picture → JobReason (list image) a b (listed picture)
+pub list_reason : {devices : List DeviceData} (a b : FilesSeen) (image : List ℕ) (picture : Picture) → IsImageFile a.contents image picture → JobReason devices (list image) a b (listed picture)
 list_reason a b image picture i = does (i.bytes ∷ []) (record { takes = one_file a.contents image picture [] i; all = refl }) (lists picture i.is refl)
 
 -- ## `migrate`
@@ -85,7 +87,7 @@ migrate_faults a c image out h fault = record {
   at = record { takes = takes_none (MayBe a.contents) (image_file image ∷ []); file = image_file image; next = refl; fault = fault };
 }
 
-migrate_reason : (a b : FilesSeen) (image out : List ℕ) (picture : Picture) → IsImageFile a.contents image picture → JobReason (migrate image out) a b (built out picture)
+migrate_reason : {devices : List DeviceData} (a b : FilesSeen) (image out : List ℕ) (picture : Picture) → IsImageFile a.contents image picture → JobReason devices (migrate image out) a b (built out picture)
 migrate_reason a b image out picture i =
     does (i.bytes ∷ []) (record { takes = one_file a.contents image picture [] i; all = refl }) (builds out picture (refl, i.is) refl)
 
@@ -97,7 +99,7 @@ audit_faults a c name h fault = record {
   at = record { takes = takes_none (MayBe a.contents) (trace_file name ∷ []); file = trace_file name; next = refl; fault = fault };
 }
 
-audit_reason : (a b : FilesSeen) (name : List ℕ) (found : trace.Verdict) → IsAuditOf a.contents name found → JobReason (audit name) a b (audited found)
+audit_reason : {devices : List DeviceData} (a b : FilesSeen) (name : List ℕ) (found : trace.Verdict) → IsAuditOf a.contents name found → JobReason devices (audit name) a b (audited found)
 audit_reason a b name found i =
     does (i.bytes ∷ []) (record { takes = takes_first (MayBe a.contents) (trace_file name) [] i.bytes [] i.held i.accepted (takes_none (MayBe a.contents) []); all = refl })
     (audits i.bytes found refl i.verdict refl)
@@ -108,7 +110,7 @@ audited_alone (No line) = refl
 
 -- ## `build`
 
-pub build_reason : (a b : FilesSeen) (app out : List ℕ) (picture : Picture) → IsImage a.contents app picture → JobReason (build app out) a b (built out picture)
+pub build_reason : {devices : List DeviceData} (a b : FilesSeen) (app out : List ℕ) (picture : Picture) → IsImage a.contents app picture → JobReason devices (build app out) a b (built out picture)
 build_reason a b app out picture i =
     does (i.bytes ∷ i.sources) (record { takes = i.each.takes; all = i.each.all }) (builds out picture (refl, i.is) refl)
 
@@ -135,8 +137,8 @@ go_image bytes sources script picture count h =
 pub go_script : (bytes : List ℕ) (sources : List (List ℕ)) (script : List ℕ) → length (application_of bytes).tasks ≡ length sources → script_in (bytes ∷ (sources ++ script ∷ [])) ≡ script
 go_script bytes sources script count = ap (λ n. get_or (sources ++ script ∷ []) n []) count ∙ at_end sources script []
 
-pub go_ready : (seen : List ℕ → Option (List ℕ)) (app script : List ℕ) (n : ℕ) (detail : Detail) (picture : Picture) (b : Board) → IsImage seen app picture → IsSet seen picture script b
-    → IsReady (go app script n detail) seen n detail b
+pub go_ready : {X : Type 0} {H : X → Type 0} {shown : Shows X H} {devices : List DeviceData} (seen : List ℕ → Option (List ℕ)) (app script : List ℕ) (n : ℕ) (detail : Detail) (picture : Picture) (b : Board X H) → IsImage seen app picture → IsSet shown devices seen picture script b
+    → IsReady shown devices (go app script n detail) seen n detail b
 go_ready seen app script n detail picture b i s =
     let files = files_to_build app i.bytes in
     let count : length (application_of i.bytes).tasks ≡ length i.sources = (let all = i.each.all in let many = as_many_sources (application_of i.bytes) in omega arith) in
@@ -148,8 +150,8 @@ go_ready seen app script n detail picture b i s =
             (files_then files (script_file script) (length (i.bytes ∷ i.sources)) i.each.all) s.held s.accepted;
         all = longer files (script_file script) ∙ ap suc i.each.all ∙ sym (longer (i.bytes ∷ i.sources) s.script);
       };
-      scenario = scenario_of picture s.script;
-      is = (refl, refl, (picture, go_image i.bytes i.sources s.script picture count i.is, ap (λ (t : List ℕ). scenario_of picture t) (sym (go_script i.bytes i.sources s.script count))));
+      scenario = scenario_of picture s.script _;
+      is = (refl, refl, (picture, go_image i.bytes i.sources s.script picture count i.is, ap (λ (t : List ℕ). scenario_of picture t _) (sym (go_script i.bytes i.sources s.script count))));
       stands = s.stands;
       turns = s.turns;
     }
@@ -214,14 +216,14 @@ pub tells_pushed : (a b : FilesSeen) (w w' : SinkSeen) (v : Verdict) (r : ℕ) �
 tells_pushed a b w w' v r put (whole is text) = answer.whole is put text
 tells_pushed a b w w' v r put (cut is rose front) = answer.cut is rose put front
 
-pub answers_pushed : (job : Asked) (a b : FilesSeen) (w w' : SinkSeen) (v : Verdict) (r : ℕ) → b.contents ≡ a.contents → v.put ≡ None → JobReason job a b v → TellsGood job v r → Pushed w w' v r → AnswersJob job a b w w' r
+pub answers_pushed : {devices : List DeviceData} (job : Asked) (a b : FilesSeen) (w w' : SinkSeen) (v : Verdict) (r : ℕ) → b.contents ≡ a.contents → v.put ≡ None → JobReason devices job a b v → TellsGood job v r → Pushed w w' v r → AnswersJob devices job a b w w' r
 answers_pushed job a b w w' v r same none why good p = inr (v, why, tells_pushed a b w w' v r (put_nothing a b v same none) p, good)
 
-pub answers_said : (job : Asked) (a b : FilesSeen) (w w' : SinkSeen) (v : Verdict) (r : ℕ) → b.contents ≡ a.contents → v.put ≡ None → JobReason job a b v → TellsGood job v r → Says w w' v r → AnswersJob job a b w w' r
+pub answers_said : {devices : List DeviceData} (job : Asked) (a b : FilesSeen) (w w' : SinkSeen) (v : Verdict) (r : ℕ) → b.contents ≡ a.contents → v.put ≡ None → JobReason devices job a b v → TellsGood job v r → Says w w' v r → AnswersJob devices job a b w w' r
 answers_said job a b w w' v r same none why good (pushed p) = answers_pushed job a b w w' v r same none why good p
 answers_said job a b w w' v r same none why good (silent s) = inl (silent_short a b w w' r same s)
 
-pub answers_named_fault : (job : Asked) (a b : FilesSeen) (w w' : SinkSeen) (h : NamedFault) (r : ℕ) → b.contents ≡ a.contents → IsNamedFaultIn job a b h → SaysNamedFault w w' h r → AnswersJob job a b w w' r
+pub answers_named_fault : {devices : List DeviceData} (job : Asked) (a b : FilesSeen) (w w' : SinkSeen) (h : NamedFault) (r : ℕ) → b.contents ≡ a.contents → IsNamedFaultIn job a b h → SaysNamedFault w w' h r → AnswersJob devices job a b w w' r
 answers_named_fault job a b w w' named_faults.Memory r same h s = inl (silent_short a b w w' r same s)
 answers_named_fault job a b w w' (named_faults.CannotRead name) r same h s =
     let at = h.at.fault in
@@ -235,14 +237,14 @@ answers_named_fault job a b w w' (named_faults.Refused name cause place) r same 
     let why = refuses file reason (record { contents = h.contents; reached = record { takes = h.at.takes; next = h.at.next }; refused = at.1 }) (ap (λ (n : List ℕ). refused n reason) at.0) in
     answers_said job a b w w' (refused (string_bytes name) reason) r same refl why (fault_good job w w' (refused (string_bytes name) reason) r (omega arith) (omega arith) s) s
 
-pub answers_run : (job : Asked) (a b : FilesSeen) (w w' : SinkSeen) (n : ℕ) (detail : Detail) (bd : Board) (r : ℕ) → b.contents ≡ a.contents → IsReady job a.contents n detail bd
-    → ((x : Scenario) → Stands x bd (start_of x) → Pushed w w' (ran n detail x) r) → ((x : Scenario) → Stands x bd (start_of x) → IsOfRun r → IsGoodText (ran n detail x).text)
-    → AnswersJob job a b w w' r
+pub answers_run : {X : Type 0} {H : X → Type 0} {shown : Shows X H} {devices : List DeviceData} (job : Asked) (a b : FilesSeen) (w w' : SinkSeen) (n : ℕ) (detail : Detail) (bd : Board X H) (r : ℕ) → b.contents ≡ a.contents → IsReady shown devices job a.contents n detail bd
+    → ((x : Scenario) → Stands shown x bd (start_of x) → Pushed w w' (ran n detail x) r) → ((x : Scenario) → Stands shown x bd (start_of x) → IsOfRun r → IsGoodText (ran n detail x).text)
+    → AnswersJob devices job a b w w' r
 answers_run job a b w w' n detail bd r same ready tells good =
     let x = ready.scenario in
     answers_pushed job a b w w' (ran n detail x) r same refl (does ready.contents ready.accepted (runs n detail x ready.is refl)) (tells_good job (ran n detail x) r (good x ready.stands)) (tells x ready.stands)
 
-pub ready_stood : (job : Asked) (seen : List ℕ → Option (List ℕ)) (n : ℕ) (detail : Detail) (bd : Board) → IsReady job seen n detail bd → Stood bd × (turns_of bd ≡ 0)
+pub ready_stood : {X : Type 0} {H : X → Type 0} {shown : Shows X H} {devices : List DeviceData} (job : Asked) (seen : List ℕ → Option (List ℕ)) (n : ℕ) (detail : Detail) (bd : Board X H) → IsReady shown devices job seen n detail bd → Stood shown bd × (turns_of bd ≡ 0)
 ready_stood job seen n detail bd h = ((h.scenario, start_of h.scenario, h.stands), h.turns)
 
 -- ## what an image is put under
@@ -258,18 +260,18 @@ tells_earlier a b c w w' v r same puts (answer.spoiled is rose left none) =
 tells_earlier a b c w w' v r same puts (answer.short s) =
     answer.short (record { status = s.status; written = s.written; faults = s.faults; files = s.files ∙ same })
 
-answers_put : (job : Asked) (a b c : FilesSeen) (w w' : SinkSeen) (out : List ℕ) (image : Picture) (r : ℕ) → b.contents ≡ a.contents → b.put_faults ≡ a.put_faults → JobReason job a c (built out image)
-    → TellsGood job (built out image) r → Tells b c w w' (built out image) r → AnswersJob job a c w w' r
+answers_put : {devices : List DeviceData} (job : Asked) (a b c : FilesSeen) (w w' : SinkSeen) (out : List ℕ) (image : Picture) (r : ℕ) → b.contents ≡ a.contents → b.put_faults ≡ a.put_faults → JobReason devices job a c (built out image)
+    → TellsGood job (built out image) r → Tells b c w w' (built out image) r → AnswersJob devices job a c w w' r
 answers_put job a b c w w' out image r same puts why good t = inr (built out image, why, tells_earlier a b c w w' (built out image) r same puts t, good)
 
-pub answers_built : (a b c : FilesSeen) (w w' : SinkSeen) (app out : List ℕ) (image : Picture) (r : ℕ) → b.contents ≡ a.contents → b.put_faults ≡ a.put_faults → IsImage a.contents app image
-    → Tells b c w w' (built out image) r → AnswersJob (build app out) a c w w' r
+pub answers_built : {devices : List DeviceData} (a b c : FilesSeen) (w w' : SinkSeen) (app out : List ℕ) (image : Picture) (r : ℕ) → b.contents ≡ a.contents → b.put_faults ≡ a.put_faults → IsImage a.contents app image
+    → Tells b c w w' (built out image) r → AnswersJob devices (build app out) a c w w' r
 answers_built a b c w w' app out image r same puts i t = answers_put (build app out) a b c w w' out image r same puts (build_reason a c app out image i) tt t
 
-pub answers_migrated : (a b c : FilesSeen) (w w' : SinkSeen) (file out : List ℕ) (image : Picture) (r : ℕ) → b.contents ≡ a.contents → b.put_faults ≡ a.put_faults → IsImageFile a.contents file image
-    → Tells b c w w' (built out image) r → AnswersJob (migrate file out) a c w w' r
+pub answers_migrated : {devices : List DeviceData} (a b c : FilesSeen) (w w' : SinkSeen) (file out : List ℕ) (image : Picture) (r : ℕ) → b.contents ≡ a.contents → b.put_faults ≡ a.put_faults → IsImageFile a.contents file image
+    → Tells b c w w' (built out image) r → AnswersJob devices (migrate file out) a c w w' r
 answers_migrated a b c w w' file out image r same puts i t = answers_put (migrate file out) a b c w w' out image r same puts (migrate_reason a c file out image i) tt t
 
-pub answers_audited : (a b : FilesSeen) (w w' : SinkSeen) (name : List ℕ) (found : trace.Verdict) (r : ℕ) → b.contents ≡ a.contents → IsAuditOf a.contents name found → Says w w' (audited found) r
-    → AnswersJob (audit name) a b w w' r
+pub answers_audited : {devices : List DeviceData} (a b : FilesSeen) (w w' : SinkSeen) (name : List ℕ) (found : trace.Verdict) (r : ℕ) → b.contents ≡ a.contents → IsAuditOf a.contents name found → Says w w' (audited found) r
+    → AnswersJob devices (audit name) a b w w' r
 answers_audited a b w w' name found r same i says = answers_said (audit name) a b w w' (audited found) r same (audited_alone found) (audit_reason a b name found i) tt says

@@ -2,6 +2,7 @@
 use Rattle.std.proofs.Common.{◌≡◌, ◌≢◌, ℕ, suc, List, [], ◌∷◌, ◌++◌, length, Option, Some, None, refl, sym, ap, subst, ◌∙◌, arith}
 use Rattle.std.specs.Prelude.{slice_get}
 use Rattle.std.proofs.lemmas.Option.{same_Some}
+use Rattle.kernel_abi.specs.Devices.{DeviceData}
 use Rattle.outside_io.specs.Outside.{WhereSeen}
 use Rattle.image_format.specs.Picture.{Picture, spelling}
 use Rattle.command_line.specs.CommandLine.{Asked, build, run, go, sample}
@@ -45,7 +46,7 @@ no_sample app out s n e = cc
 no_sample_run : (image script : List ℕ) (n : ℕ) (detail : Detail) (s k : ℕ) → run image script n detail ≡ sample s k → ⊥
 no_sample_run image script n detail s k e = cc
 
-made_by : (seen : List ℕ → Option (List ℕ)) (app out : List ℕ) (cs : List (List ℕ)) (b : Verdict) → TakesAll (Are seen) (build app out) cs → Does (build app out) cs b → IsMade seen app out b
+made_by : {devices : List DeviceData} (seen : List ℕ → Option (List ℕ)) (app out : List ℕ) (cs : List (List ℕ)) (b : Verdict) → TakesAll (Are seen) (build app out) cs → Does devices (build app out) cs b → IsMade seen app out b
 made_by seen app out cs b all (runs n m x is e) = absurd is
 made_by seen app out cs b all (lists i is e) = absurd is
 made_by seen app out cs b all (audits t found is v e) = absurd is
@@ -56,17 +57,17 @@ made_by seen app out cs b all (builds o i is e) = record {
   put = ap (λ (u : Verdict). u.put) e ∙ ap (λ (name : List ℕ). Some (name, spelling i)) is.0;
 }
 
-made : (words : List (List ℕ)) (seen : List ℕ → Option (List ℕ)) (app out : List ℕ) (b : Verdict) → job_in words ≡ Some (build app out) → IsVerdict words seen b → b.status ≡ 0 → IsMade seen app out b
+made : {devices : List DeviceData} (words : List (List ℕ)) (seen : List ℕ → Option (List ℕ)) (app out : List ℕ) (b : Verdict) → job_in words ≡ Some (build app out) → IsVerdict devices words seen b → b.status ≡ 0 → IsMade seen app out b
 made words seen app out b at (no_job none e) zero = absurd (no_job_of words (build app out) none at)
 made words seen app out b at (refuses job cs f c why is r held refusal e) zero = let one : b.status ≡ 1 = ap (λ (u : Verdict). u.status) e in absurd (omega arith)
 made words seen app out b at (does job cs is all p) zero =
     let alike : job ≡ build app out = same_Some job (build app out) (sym is ∙ at) in
-    made_by seen app out cs b (subst (λ (j : Asked). TakesAll (Are seen) j cs) alike all) (subst (λ (j : Asked). Does j cs b) alike p)
+    made_by seen app out cs b (subst (λ (j : Asked). TakesAll (Are seen) j cs) alike all) (subst (λ (j : Asked). Does _ j cs b) alike p)
 
 -- ## the verdicts of `go`
 
-go_refuses : (words : List (List ℕ)) (seen : List ℕ → Option (List ℕ)) (app script : List ℕ) (n : ℕ) (detail : Detail) (image : Picture) (bytes : List ℕ) (why : Why) (w : Verdict)
-    → job_in words ≡ Some (go app script n detail) → HasImage seen app image → seen script ≡ Some bytes → script_refusal bytes ≡ Some why → w ≡ refused script why → IsVerdict words seen w
+go_refuses : {devices : List DeviceData} (words : List (List ℕ)) (seen : List ℕ → Option (List ℕ)) (app script : List ℕ) (n : ℕ) (detail : Detail) (image : Picture) (bytes : List ℕ) (why : Why) (w : Verdict)
+    → job_in words ≡ Some (go app script n detail) → HasImage seen app image → seen script ≡ Some bytes → script_refusal bytes ≡ Some why → w ≡ refused script why → IsVerdict devices words seen w
 go_refuses words seen app script n detail image bytes why w at h held refusal e =
     let files = files_to_build app h.bytes in
     refuses (go app script n detail) (h.bytes ∷ h.sources) (script_file script) bytes why at (record {
@@ -74,19 +75,19 @@ go_refuses words seen app script n detail image bytes why w at h held refusal e 
       next = files_then files (script_file script) (length (h.bytes ∷ h.sources)) h.all;
     }) held refusal e
 
-go_runs : (words : List (List ℕ)) (seen : List ℕ → Option (List ℕ)) (app script : List ℕ) (n : ℕ) (detail : Detail) (image : Picture) (bytes : List ℕ) (w : Verdict)
-    → job_in words ≡ Some (go app script n detail) → HasImage seen app image → seen script ≡ Some bytes → script_refusal bytes ≡ None → w ≡ ran n detail (scenario_of image bytes) → IsVerdict words seen w
+go_runs : {devices : List DeviceData} (words : List (List ℕ)) (seen : List ℕ → Option (List ℕ)) (app script : List ℕ) (n : ℕ) (detail : Detail) (image : Picture) (bytes : List ℕ) (w : Verdict)
+    → job_in words ≡ Some (go app script n detail) → HasImage seen app image → seen script ≡ Some bytes → script_refusal bytes ≡ None → w ≡ ran n detail (scenario_of image bytes devices) → IsVerdict devices words seen w
 go_runs words seen app script n detail image bytes w at h held accepted e =
     let files = files_to_build app h.bytes in
     let count : length (application_of h.bytes).tasks ≡ length h.sources = (let all = h.all in let many = as_many_sources (application_of h.bytes) in omega arith) in
     let contents = h.bytes ∷ (h.sources ++ bytes ∷ []) in
-    let scenario : scenario_of image bytes ≡ scenario_of image (script_in contents) = ap (λ (t : List ℕ). scenario_of image t) (sym (go_script h.bytes h.sources bytes count)) in
+    let scenario : scenario_of image bytes _ ≡ scenario_of image (script_in contents) _ = ap (λ (t : List ℕ). scenario_of image t _) (sym (go_script h.bytes h.sources bytes count)) in
     does (go app script n detail) contents at (record {
       takes = takes_last (Are seen) (files ++ script_file script ∷ []) (h.bytes ∷ h.sources) (script_file script) bytes
           (takes_wider (Are seen) files (script_file script ∷ []) (h.bytes ∷ h.sources) h.takes)
           (files_then files (script_file script) (length (h.bytes ∷ h.sources)) h.all) held accepted;
       all = longer files (script_file script) ∙ ap suc h.all ∙ sym (longer (h.bytes ∷ h.sources) bytes);
-    }) (runs n detail (scenario_of image bytes) (refl, refl, (image, go_image h.bytes h.sources bytes image count h.is, scenario)) e)
+    }) (runs n detail (scenario_of image bytes _) (refl, refl, (image, go_image h.bytes h.sources bytes image count h.is, scenario)) e)
 
 -- ## from the verdict of `run` to that of `go`
 
@@ -113,9 +114,9 @@ not_the_image seen seen' app out script f c why r same held refusal =
     let accepted_sources = spelling_taken r.image r.has.is.sound in
     no_refusal (image_file out) c why mine (ap image_refusal bytes ∙ accepted_sources.0)
 
-after_refusal : (words : List (List ℕ)) (seen seen' : List ℕ → Option (List ℕ)) (app out script : List ℕ) (n : ℕ) (detail : Detail) (cs : List (List ℕ)) (f : File) (c : List ℕ) (why : Why) (w : Verdict)
+after_refusal : {devices : List DeviceData} (words : List (List ℕ)) (seen seen' : List ℕ → Option (List ℕ)) (app out script : List ℕ) (n : ℕ) (detail : Detail) (cs : List (List ℕ)) (f : File) (c : List ℕ) (why : Why) (w : Verdict)
     → job_in words ≡ Some (go app script n detail) → Rebuilt seen seen' app out script → slice_get (image_file out ∷ script_file script ∷ []) (length cs) ≡ Some f
-    → seen' f.name ≡ Some c → f.refusal c ≡ Some why → w ≡ refused f.name why → IsVerdict words seen w
+    → seen' f.name ≡ Some c → f.refusal c ≡ Some why → w ≡ refused f.name why → IsVerdict devices words seen w
 after_refusal words seen seen' app out script n detail [] f c why w at r next held refusal e =
     absurd (not_the_image seen seen' app out script f c why r (same_Some (image_file out) f next) held refusal)
 after_refusal words seen seen' app out script n detail (d ∷ []) f c why w at r next held refusal e =
@@ -133,17 +134,17 @@ held_of seen f g c e held = subst (λ (h : File). seen h.name ≡ Some c) (sym (
 accepted_of : (f g : File) (c : List ℕ) → Some f ≡ Some g → g.refusal c ≡ None → f.refusal c ≡ None
 accepted_of f g c e accepted = subst (λ (h : File). h.refusal c ≡ None) (sym (same_Some f g e)) accepted
 
-ran_of : (out script : List ℕ) (n : ℕ) (detail : Detail) (image : Picture) (c s : List ℕ) (w : Verdict) → picture_of c ≡ image → Does (run out script n detail) (c ∷ s ∷ []) w → w ≡ ran n detail (scenario_of image s)
+ran_of : {devices : List DeviceData} (out script : List ℕ) (n : ℕ) (detail : Detail) (image : Picture) (c s : List ℕ) (w : Verdict) → picture_of c ≡ image → Does devices (run out script n detail) (c ∷ s ∷ []) w → w ≡ ran n detail (scenario_of image s devices)
 ran_of out script n detail image c s w same (runs k m x is e) =
-    let scenario : x ≡ scenario_of image s = is.2 ∙ ap (λ (i : Picture). scenario_of i s) same in
+    let scenario : x ≡ scenario_of image s _ = is.2 ∙ ap (λ (i : Picture). scenario_of i s _) same in
     e ∙ ap (λ (i : ℕ). ran i m x) is.0 ∙ ap (λ (a : Detail). ran n a x) is.1 ∙ ap (ran n detail) scenario
 ran_of out script n detail image c s w same (lists i is e) = absurd is
 ran_of out script n detail image c s w same (builds o i is e) = absurd is
 ran_of out script n detail image c s w same (audits t found is v e) = absurd is
 ran_of out script n detail image c s w same (samples seed k x is e) = absurd (no_sample_run out script n detail seed k is.is)
 
-after_run : (words : List (List ℕ)) (seen seen' : List ℕ → Option (List ℕ)) (app out script : List ℕ) (n : ℕ) (detail : Detail) (cs : List (List ℕ)) (w : Verdict)
-    → job_in words ≡ Some (go app script n detail) → Rebuilt seen seen' app out script → TakesAll (Are seen') (run out script n detail) cs → Does (run out script n detail) cs w → IsVerdict words seen w
+after_run : {devices : List DeviceData} (words : List (List ℕ)) (seen seen' : List ℕ → Option (List ℕ)) (app out script : List ℕ) (n : ℕ) (detail : Detail) (cs : List (List ℕ)) (w : Verdict)
+    → job_in words ≡ Some (go app script n detail) → Rebuilt seen seen' app out script → TakesAll (Are seen') (run out script n detail) cs → Does devices (run out script n detail) cs w → IsVerdict devices words seen w
 after_run words seen seen' app out script n detail [] w at r all p = let two = all.all in absurd (omega arith)
 after_run words seen seen' app out script n detail (c ∷ []) w at r all p = let two = all.all in absurd (omega arith)
 after_run words seen seen' app out script n detail (c ∷ s ∷ []) w at r all p =
@@ -156,8 +157,8 @@ after_run words seen seen' app out script n detail (c ∷ s ∷ []) w at r all p
     go_runs words seen app script n detail r.image s w at r.has held (accepted_of (script_file script) second.0 s second.1 second.3) (ran_of out script n detail r.image c s w image p)
 after_run words seen seen' app out script n detail (c ∷ s ∷ t ∷ more) w at r all p = let two = all.all in absurd (omega arith)
 
-go_by_run : (go_words run_words : List (List ℕ)) (seen seen' : List ℕ → Option (List ℕ)) (app out script : List ℕ) (n : ℕ) (detail : Detail) (w : Verdict)
-    → job_in go_words ≡ Some (go app script n detail) → job_in run_words ≡ Some (run out script n detail) → Rebuilt seen seen' app out script → IsVerdict run_words seen' w → IsVerdict go_words seen w
+go_by_run : {devices : List DeviceData} (go_words run_words : List (List ℕ)) (seen seen' : List ℕ → Option (List ℕ)) (app out script : List ℕ) (n : ℕ) (detail : Detail) (w : Verdict)
+    → job_in go_words ≡ Some (go app script n detail) → job_in run_words ≡ Some (run out script n detail) → Rebuilt seen seen' app out script → IsVerdict devices run_words seen' w → IsVerdict devices go_words seen w
 go_by_run go_words run_words seen seen' app out script n detail w at too r (no_job none e) = absurd (no_job_of run_words (run out script n detail) none too)
 go_by_run go_words run_words seen seen' app out script n detail w at too r (refuses job cs f c why is reached held refusal e) =
     let alike : job ≡ run out script n detail = same_Some job (run out script n detail) (sym is ∙ too) in
@@ -165,12 +166,12 @@ go_by_run go_words run_words seen seen' app out script n detail w at too r (refu
     after_refusal go_words seen seen' app out script n detail cs f c why w at r mine.next held refusal e
 go_by_run go_words run_words seen seen' app out script n detail w at too r (does job cs is all p) =
     let alike : job ≡ run out script n detail = same_Some job (run out script n detail) (sym is ∙ too) in
-    after_run go_words seen seen' app out script n detail cs w at r (subst (λ (j : Asked). TakesAll (Are seen') j cs) alike all) (subst (λ (j : Asked). Does j cs w) alike p)
+    after_run go_words seen seen' app out script n detail cs w at r (subst (λ (j : Asked). TakesAll (Are seen') j cs) alike all) (subst (λ (j : Asked). Does _ j cs w) alike p)
 
-pub build_then_run : (build_words go_words run_words : List (List ℕ)) (seen seen' : List ℕ → Option (List ℕ)) (app out script : List ℕ) (n : ℕ) (detail : Detail) (b v w : Verdict)
+pub build_then_run : {devices : List DeviceData} (build_words go_words run_words : List (List ℕ)) (seen seen' : List ℕ → Option (List ℕ)) (app out script : List ℕ) (n : ℕ) (detail : Detail) (b v w : Verdict)
     → job_in build_words ≡ Some (build app out) → job_in go_words ≡ Some (go app script n detail) → job_in run_words ≡ Some (run out script n detail)
-    → script ≢ out → IsVerdict build_words seen b → b.status ≡ 0 → HasPut seen seen' b.put
-    → IsVerdict go_words seen v → IsVerdict run_words seen' w → v ≡ w
+    → script ≢ out → IsVerdict devices build_words seen b → b.status ≡ 0 → HasPut seen seen' b.put
+    → IsVerdict devices go_words seen v → IsVerdict devices run_words seen' w → v ≡ w
 build_then_run build_words go_words run_words seen seen' app out script n detail b v w first second third other built zero put going running =
     let r = rebuilt seen seen' app out script b (made build_words seen app out b first built zero) other put in
     one_verdict go_words seen v w going (go_by_run go_words run_words seen seen' app out script n detail w second third r running)

@@ -1,6 +1,7 @@
 -- From the sample of a seed to the answer.
 use Rattle.std.proofs.Common.{◌≡◌, ◌∙◌, ℕ, List, [], length, refl, sym, ap, subst}
 use Rattle.std.proofs.lemmas.List.FromFn.{length-map-range_with_len}
+use Rattle.kernel_abi.specs.Devices.{DeviceData}
 use Rattle.app_toml.specs.Apps.{AppData}
 use Rattle.image_format.specs.Picture.{Picture}
 use Rattle.image_build.specs.Built.{Built}
@@ -9,6 +10,7 @@ use Rattle.image_build.specs.declared.fault.BuildFault.{BuildFault}
 use Rattle.image_build.specs.declared.fault.BuildFault.TheVariants as fault
 use Rattle.run_script.specs.Scripts.{ScriptData}
 use Rattle.sample_gen.specs.Sample.{app_by, task_by, source_of, client_priority, sample_app, sample_sources, sample_script}
+use Rattle.board_core.specs.Data.{Shows}
 use Rattle.board_core.specs.declared.board.Board.{Board}
 use Rattle.board_core.specs.Opened as opened
 use Rattle.board_core.specs.Stands.{Stands, Stood, turns_of}
@@ -42,26 +44,26 @@ pub refused_as_sample : (seed : ℕ) (app : AppData) (sources : List (List ℕ))
 refused_as_sample seed app sources f is are law h =
     law seed f (subst (λ (ss : List (List ℕ)). Refuses (sample_app seed) ss f) are (subst (λ (a : AppData). Refuses a sources f) is h))
 
-pub sample_ready : (seed : ℕ) (app : AppData) (sources : List (List ℕ)) (script : ScriptData) (image : Picture) (b : Board) → app ≡ sample_app seed → sources ≡ sample_sources seed
-    → script ≡ sample_script seed → Built app sources image → Stands (opened.scenario_of image script) b (start_of (opened.scenario_of image script)) → turns_of b ≡ 0 → IsSampleReady seed b
+pub sample_ready : {X : Type 0} {H : X → Type 0} {shown : Shows X H} (seed : ℕ) (app : AppData) (sources : List (List ℕ)) (script : ScriptData) (image : Picture) (b : Board X H) → app ≡ sample_app seed → sources ≡ sample_sources seed
+    → script ≡ sample_script seed → Built app sources image → Stands shown (opened.scenario_of image script) b (start_of (opened.scenario_of image script)) → turns_of b ≡ 0 → IsSampleReady shown seed b
 sample_ready seed app sources script image b is are seen built stands turns = record {
   image = image;
   built = subst (λ (ss : List (List ℕ)). Built (sample_app seed) ss image) are (subst (λ (a : AppData). Built a sources image) is built);
-  stands = subst (λ (s : ScriptData). Stands (opened.scenario_of image s) b (start_of (opened.scenario_of image s))) seen stands;
+  stands = subst (λ (s : ScriptData). Stands _ (opened.scenario_of image s) b (start_of (opened.scenario_of image s))) seen stands;
   turns = turns;
 }
 
-pub sample_stood : (seed : ℕ) (b : Board) → IsSampleReady seed b → Stood b × (turns_of b ≡ 0)
+pub sample_stood : {X : Type 0} {H : X → Type 0} {shown : Shows X H} (seed : ℕ) (b : Board X H) → IsSampleReady shown seed b → Stood shown b × (turns_of b ≡ 0)
 sample_stood seed b h = ((sample_scenario seed h.image, start_of (sample_scenario seed h.image), h.stands), h.turns)
 
 -- ## the answer
 
-sample_reason : (a b : FilesSeen) (seed n : ℕ) (bd : Board) (r : IsSampleReady seed bd) → JobReason (sample seed n) a b (sampled n (sample_scenario seed r.image))
+sample_reason : {X : Type 0} {H : X → Type 0} {shown : Shows X H} {devices : List DeviceData} (a b : FilesSeen) (seed n : ℕ) (bd : Board X H) (r : IsSampleReady shown seed bd) → JobReason devices (sample seed n) a b (sampled n (sample_scenario seed r.image))
 sample_reason a b seed n bd r = does [] (record { takes = takes_none (MayBe a.contents) []; all = refl })
     (samples seed n (sample_scenario seed r.image) (record { is = refl; image = r.image; built = r.built; scenario = refl }) refl)
 
-pub answers_sample : (seed n : ℕ) (a b : FilesSeen) (w w' : SinkSeen) (bd : Board) (r : ℕ) → b.contents ≡ a.contents → IsSampleReady seed bd
-    → ((x : Scenario) → Stands x bd (start_of x) → Pushed w w' (sampled n x) r) → AnswersJob (sample seed n) a b w w' r
+pub answers_sample : {X : Type 0} {H : X → Type 0} {shown : Shows X H} {devices : List DeviceData} (seed n : ℕ) (a b : FilesSeen) (w w' : SinkSeen) (bd : Board X H) (r : ℕ) → b.contents ≡ a.contents → IsSampleReady shown seed bd
+    → ((x : Scenario) → Stands shown x bd (start_of x) → Pushed w w' (sampled n x) r) → AnswersJob devices (sample seed n) a b w w' r
 answers_sample seed n a b w w' bd r same ready tells =
     let x = sample_scenario seed ready.image in
     answers_pushed (sample seed n) a b w w' (sampled n x) r same refl (sample_reason a b seed n bd ready) tt (tells x ready.stands)

@@ -1,5 +1,6 @@
 -- The run from the start.
 use Rattle.std.proofs.Common.{◌≡◌, ℕ, ◌-◌, ap, arith}
+use Rattle.board_core.specs.Data.{Shows}
 use Rattle.board_core.specs.declared.board.Board.{Board}
 use Rattle.board_model.specs.declared.outcomes.Level.{Level}
 use Rattle.board_model.specs.Run as board
@@ -7,7 +8,7 @@ use Rattle.board_model.specs.Script.{Scenario, start_of}
 use Rattle.board_core.specs.Stands.{Stands, turns_of}
 use Rattle.trace_cli.specs.Verdict.{run_of}
 
-pub from_start : (level : Level) (x : Scenario) (b : Board) (n : ℕ) → Stands x b (start_of x) → turns_of b ≡ 0 → board.run level x (n - (start_of x).turn) (start_of x) ≡ run_of level n x
+pub from_start : {X : Type 0} {H : X → Type 0} {shown : Shows X H} (level : Level) (x : Scenario) (b : Board X H) (n : ℕ) → Stands shown x b (start_of x) → turns_of b ≡ 0 → board.run level x (n - (start_of x).turn) (start_of x) ≡ run_of level n x
 from_start level x b n st none =
     let at : turns_of b ≡ (start_of x).turn = st.holds.turns in
     let e : n - (start_of x).turn ≡ n = omega arith in

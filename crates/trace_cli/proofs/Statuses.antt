@@ -1,6 +1,7 @@
 -- What each status says.
 use Rattle.std.proofs.Common.{◌≡◌, ◌≢◌, ℕ, ◌≤◌, ◌⊎◌, Bool, true, false, List, Option, Some, None, refl, sym, ap, subst, ◌∙◌, inl, inr, arith, cond}
 use Rattle.std.specs.Io.KnownBytes.{Appends}
+use Rattle.kernel_abi.specs.Devices.{DeviceData}
 use Rattle.outside_io.specs.Outside.{Rose}
 use Rattle.image_format.specs.Picture.{Picture, spelling}
 use Rattle.board_model.specs.declared.outcomes.Level.TheVariants.{Calls}
@@ -32,7 +33,7 @@ by_decision : (words : List (List ℕ)) (a b : FilesSeen) (w w' : SinkSeen) (v u
 by_decision words a b w w' v u r (agreed e) t = inl (same_seen a b w w' v u r e t)
 by_decision words a b w w' v u r (not_read job f at is e) t = inr (record { job = job; command = at; file = f; is = is; tells = same_seen a b w w' v (unread f.name) r e t })
 
-pub answered : (words : List (List ℕ)) (a b : FilesSeen) (w w' : SinkSeen) (u : Verdict) (r : ℕ) → Answers words a b w w' r → IsVerdict words a.contents u → Answered words a b w w' u r
+pub answered : {devices : List DeviceData} (words : List (List ℕ)) (a b : FilesSeen) (w w' : SinkSeen) (u : Verdict) (r : ℕ) → Answers devices words a b w w' r → IsVerdict devices words a.contents u → Answered words a b w w' u r
 answered words a b w w' u r (inl s) is = inl (short s)
 answered words a b w w' u r (inr h) is = by_decision words a b w w' h.0 u r (decided words a b h.0 u h.1 is) h.2
 
@@ -49,8 +50,8 @@ completed words a b w w' u r no_read no_put no_push (inr h) = absurd (no_read h.
 
 -- ## the answer to words by the answer to their job
 
-pub by_job : (words : List (List ℕ)) (job : Asked) (a b : FilesSeen) (w w' : SinkSeen) (r : ℕ) →
-    is_accepted words ≡ true → job_of words ≡ Some job → AnswersJob job a b w w' r → Answers words a b w w' r
+pub by_job : {devices : List DeviceData} (words : List (List ℕ)) (job : Asked) (a b : FilesSeen) (w w' : SinkSeen) (r : ℕ) →
+    is_accepted words ≡ true → job_of words ≡ Some job → AnswersJob devices job a b w w' r → Answers devices words a b w w' r
 by_job words job a b w w' r accepted_sources is (inl s) = inl s
 by_job words job a b w w' r accepted_sources is (inr h) =
     let in_words : job_in words ≡ Some job = ap (λ (b : Bool). cond b (job_of words) None) accepted_sources ∙ is in
@@ -88,7 +89,7 @@ of_audit status status' same (inl z) = inl (same ∙ z)
 of_audit status status' same (inr s) = inr (inr (same ∙ s))
 
 -- of what is done with files
-done_status : (job : Asked) (cs : List (List ℕ)) (v : Verdict) → Does job cs v → IsOfDone v.status
+done_status : {devices : List DeviceData} (job : Asked) (cs : List (List ℕ)) (v : Verdict) → Does devices job cs v → IsOfDone v.status
 done_status job cs v (runs n m x p e) = of_run v.status (end_status (run_of (level_of m) n x).end v.status (ap (λ (u : Verdict). u.status) e))
 done_status job cs v (lists i p e) = inl (ap (λ (u : Verdict). u.status) e)
 done_status job cs v (builds o i p e) = inl (ap (λ (u : Verdict). u.status) e)
@@ -104,7 +105,7 @@ not_done v n (inr (inr s)) e not0 not6 = not6 (omega arith)
 abbrev IsOfJob : ℕ → Type 0
 IsOfJob status = (status ≤ 3) ⊎ ((6 ≤ status) × (status ≤ 7))
 
-job_status : (job : Asked) (a b : FilesSeen) (v : Verdict) → JobReason job a b v → IsOfJob v.status
+job_status : {devices : List DeviceData} (job : Asked) (a b : FilesSeen) (v : Verdict) → JobReason devices job a b v → IsOfJob v.status
 job_status job a b v (cannot_read f h is) = let s : v.status ≡ 3 = ap (λ (u : Verdict). u.status) is in inl (omega arith)
 job_status job a b v (refuses f why h is) = let s : v.status ≡ 1 = ap (λ (u : Verdict). u.status) is in inl (omega arith)
 job_status job a b v (does cs all p) = by (done_status job cs v p) where
@@ -113,7 +114,7 @@ job_status job a b v (does cs all p) = by (done_status job cs v p) where
   by (inr (inl s)) = inr (omega arith, omega arith)
   by (inr (inr s)) = inr (omega arith, omega arith)
 
-reason_status : (words : List (List ℕ)) (a b : FilesSeen) (v : Verdict) → Reason words a b v → IsOfJob v.status
+reason_status : {devices : List DeviceData} (words : List (List ℕ)) (a b : FilesSeen) (v : Verdict) → Reason devices words a b v → IsOfJob v.status
 reason_status words a b v (no_job none is) = let s : v.status ≡ 2 = ap (λ (u : Verdict). u.status) is in inl (omega arith)
 reason_status words a b v (of_job job at why) = job_status job a b v why
 
@@ -127,55 +128,55 @@ at_most_seven v (inr many) = many.1
 
 -- ## by status
 
-known_by : (words : List (List ℕ)) (a b : FilesSeen) (w w' : SinkSeen) (v : Verdict) (r : ℕ) → Reason words a b v → Tells a b w w' v r → r ≤ 7
+known_by : {devices : List DeviceData} (words : List (List ℕ)) (a b : FilesSeen) (w w' : SinkSeen) (v : Verdict) (r : ℕ) → Reason devices words a b v → Tells a b w w' v r → r ≤ 7
 known_by words a b w w' v r g (whole is put text) = let most = at_most_seven v (reason_status words a b v g) in omega arith
 known_by words a b w w' v r g (cut is rose put front) = omega arith
 known_by words a b w w' v r g (spoiled is rose left same) = omega arith
 known_by words a b w w' v r g (short s) = let is = s.status in omega arith
 
-pub known : (words : List (List ℕ)) (a b : FilesSeen) (w w' : SinkSeen) (r : ℕ) → Answers words a b w w' r → r ≤ 7
+pub known : {devices : List DeviceData} (words : List (List ℕ)) (a b : FilesSeen) (w w' : SinkSeen) (r : ℕ) → Answers devices words a b w w' r → r ≤ 7
 known words a b w w' r (inl s) = let is = s.status in omega arith
 known words a b w w' r (inr h) = known_by words a b w w' h.0 r h.1 h.2
 
-cut_by : (words : List (List ℕ)) (a b : FilesSeen) (w w' : SinkSeen) (v : Verdict) (r : ℕ) → r ≡ 4 → Reason words a b v → Tells a b w w' v r → HasFront words a b w w'
+cut_by : {devices : List DeviceData} (words : List (List ℕ)) (a b : FilesSeen) (w w' : SinkSeen) (v : Verdict) (r : ℕ) → r ≡ 4 → Reason devices words a b v → Tells a b w w' v r → HasFront devices words a b w w'
 cut_by words a b w w' v r e g (whole is put text) = absurd (not_four_or_five v (reason_status words a b v g) (omega arith) (omega arith))
 cut_by words a b w w' v r e g (cut is rose put front) = record { verdict = v; reason = g; front = inl (rose, put, front) }
 cut_by words a b w w' v r e g (spoiled is rose left same) = record { verdict = v; reason = g; front = inr (rose, left, same) }
 cut_by words a b w w' v r e g (short s) = let is = s.status in absurd (omega arith)
 
-pub was_cut : (words : List (List ℕ)) (a b : FilesSeen) (w w' : SinkSeen) (r : ℕ) → Answers words a b w w' r → r ≡ 4 → HasFront words a b w w'
+pub was_cut : {devices : List DeviceData} (words : List (List ℕ)) (a b : FilesSeen) (w w' : SinkSeen) (r : ℕ) → Answers devices words a b w w' r → r ≡ 4 → HasFront devices words a b w w'
 was_cut words a b w w' r (inl s) e = let is = s.status in absurd (omega arith)
 was_cut words a b w w' r (inr h) e = cut_by words a b w w' h.0 r e h.1 h.2
 
 abbrev Nothing : FilesSeen → FilesSeen → SinkSeen → SinkSeen → Type 0
 Nothing a b w w' = (w'.written ≡ w.written) × (w'.faults ≡ w.faults) × (b.contents ≡ a.contents)
 
-short_by : (words : List (List ℕ)) (a b : FilesSeen) (w w' : SinkSeen) (v : Verdict) (r : ℕ) → r ≡ 5 → Reason words a b v → Tells a b w w' v r → Nothing a b w w'
+short_by : {devices : List DeviceData} (words : List (List ℕ)) (a b : FilesSeen) (w w' : SinkSeen) (v : Verdict) (r : ℕ) → r ≡ 5 → Reason devices words a b v → Tells a b w w' v r → Nothing a b w w'
 short_by words a b w w' v r e g (whole is put text) = absurd (not_four_or_five v (reason_status words a b v g) (omega arith) (omega arith))
 short_by words a b w w' v r e g (cut is rose put front) = absurd (omega arith)
 short_by words a b w w' v r e g (spoiled is rose left same) = absurd (omega arith)
 short_by words a b w w' v r e g (short s) = (s.written, s.faults, s.files)
 
-pub was_short : (words : List (List ℕ)) (a b : FilesSeen) (w w' : SinkSeen) (r : ℕ) → Answers words a b w w' r → r ≡ 5 → Nothing a b w w'
+pub was_short : {devices : List DeviceData} (words : List (List ℕ)) (a b : FilesSeen) (w w' : SinkSeen) (r : ℕ) → Answers devices words a b w w' r → r ≡ 5 → Nothing a b w w'
 was_short words a b w w' r (inl s) e = (s.written, s.faults, s.files)
 was_short words a b w w' r (inr h) e = short_by words a b w w' h.0 r e h.1 h.2
 
 -- told whole, under another status than 4 and 5
-record IsWhole (words : List (List ℕ)) (a b : FilesSeen) (w w' : SinkSeen) (r : ℕ) : Type 0 where
+record IsWhole _ (words : List (List ℕ)) (a b : FilesSeen) (w w' : SinkSeen) (r : ℕ) : Type 0 where
   verdict : Verdict
-  reason : Reason words a b verdict
+  reason : Reason devices words a b verdict
   status : verdict.status ≡ r
   put : HasPut a.contents b.contents verdict.put
   text : Appends w.written w'.written verdict.text
   good : TellsGoodIn (job_in words) verdict r
 
-whole_by : (words : List (List ℕ)) (a b : FilesSeen) (w w' : SinkSeen) (v : Verdict) (r : ℕ) → (r ≡ 4 → ⊥) → (r ≡ 5 → ⊥) → Reason words a b v → TellsGoodIn (job_in words) v r → Tells a b w w' v r → IsWhole words a b w w' r
+whole_by : {devices : List DeviceData} (words : List (List ℕ)) (a b : FilesSeen) (w w' : SinkSeen) (v : Verdict) (r : ℕ) → (r ≡ 4 → ⊥) → (r ≡ 5 → ⊥) → Reason devices words a b v → TellsGoodIn (job_in words) v r → Tells a b w w' v r → IsWhole devices words a b w w' r
 whole_by words a b w w' v r not4 not5 g good (whole is put text) = record { verdict = v; reason = g; status = sym is; put = put; text = text; good = good }
 whole_by words a b w w' v r not4 not5 g good (cut is rose put front) = absurd (not4 is)
 whole_by words a b w w' v r not4 not5 g good (spoiled is rose left same) = absurd (not4 is)
 whole_by words a b w w' v r not4 not5 g good (short s) = absurd (not5 s.status)
 
-seen_whole : (words : List (List ℕ)) (a b : FilesSeen) (w w' : SinkSeen) (r : ℕ) → Answers words a b w w' r → (r ≡ 4 → ⊥) → (r ≡ 5 → ⊥) → IsWhole words a b w w' r
+seen_whole : {devices : List DeviceData} (words : List (List ℕ)) (a b : FilesSeen) (w w' : SinkSeen) (r : ℕ) → Answers devices words a b w w' r → (r ≡ 4 → ⊥) → (r ≡ 5 → ⊥) → IsWhole devices words a b w w' r
 seen_whole words a b w w' r (inl s) not4 not5 = absurd (not5 s.status)
 seen_whole words a b w w' r (inr h) not4 not5 = whole_by words a b w w' h.0 r not4 not5 h.1 h.3 h.2
 
@@ -185,43 +186,43 @@ same_text w w' v u e t = let P : Verdict → Type 0 = λ x. Appends w.written w'
 same_put : (a b : FilesSeen) (v u : Verdict) → v ≡ u → HasPut a.contents b.contents v.put → HasPut a.contents b.contents u.put
 same_put a b v u e p = let P : Verdict → Type 0 = λ x. HasPut a.contents b.contents x.put in subst P e p
 
-refused_by : (words : List (List ℕ)) (a b : FilesSeen) (w w' : SinkSeen) (v : Verdict) → v.status ≡ 1 → Appends w.written w'.written v.text → Reason words a b v → HasRefused words a.contents w w'
+refused_by : {devices : List DeviceData} (words : List (List ℕ)) (a b : FilesSeen) (w w' : SinkSeen) (v : Verdict) → v.status ≡ 1 → Appends w.written w'.written v.text → Reason devices words a b v → HasRefused words a.contents w w'
 refused_by words a b w w' v e t (no_job none is) = let s : v.status ≡ 2 = ap (λ (u : Verdict). u.status) is in absurd (omega arith)
 refused_by words a b w w' v e t (of_job job at (cannot_read f h is)) = let s : v.status ≡ 3 = ap (λ (u : Verdict). u.status) is in absurd (omega arith)
 refused_by words a b w w' v e t (of_job job at (refuses f why h is)) =
     record { job = job; command = at; file = f; why = why; is = h; line = same_text w w' v (refused f.name why) is t }
 refused_by words a b w w' v e t (of_job job at (does cs all p)) = absurd (not_done v 1 (done_status job cs v p) e (λ z. omega arith) (λ s. omega arith))
 
-pub was_refused : (words : List (List ℕ)) (a b : FilesSeen) (w w' : SinkSeen) (r : ℕ) → Answers words a b w w' r → r ≡ 1 → HasRefused words a.contents w w'
+pub was_refused : {devices : List DeviceData} (words : List (List ℕ)) (a b : FilesSeen) (w w' : SinkSeen) (r : ℕ) → Answers devices words a b w w' r → r ≡ 1 → HasRefused words a.contents w w'
 was_refused words a b w w' r h e =
     let t = seen_whole words a b w w' r h (λ is. omega arith) (λ is. omega arith) in
     refused_by words a b w w' t.verdict (t.status ∙ e) t.text t.reason
 
-no_command_by : (words : List (List ℕ)) (a b : FilesSeen) (w w' : SinkSeen) (v : Verdict) → v.status ≡ 2 → Appends w.written w'.written v.text → Reason words a b v
+no_command_by : {devices : List DeviceData} (words : List (List ℕ)) (a b : FilesSeen) (w w' : SinkSeen) (v : Verdict) → v.status ≡ 2 → Appends w.written w'.written v.text → Reason devices words a b v
     → (is_accepted words ≡ false) × Appends w.written w'.written usage_line
 no_command_by words a b w w' v e t (no_job none is) = (none, same_text w w' v usage is t)
 no_command_by words a b w w' v e t (of_job job at (cannot_read f h is)) = let s : v.status ≡ 3 = ap (λ (u : Verdict). u.status) is in absurd (omega arith)
 no_command_by words a b w w' v e t (of_job job at (refuses f why h is)) = let s : v.status ≡ 1 = ap (λ (u : Verdict). u.status) is in absurd (omega arith)
 no_command_by words a b w w' v e t (of_job job at (does cs all p)) = absurd (not_done v 2 (done_status job cs v p) e (λ z. omega arith) (λ s. omega arith))
 
-pub was_no_command : (words : List (List ℕ)) (a b : FilesSeen) (w w' : SinkSeen) (r : ℕ) → Answers words a b w w' r → r ≡ 2 → (is_accepted words ≡ false) × Appends w.written w'.written usage_line
+pub was_no_command : {devices : List DeviceData} (words : List (List ℕ)) (a b : FilesSeen) (w w' : SinkSeen) (r : ℕ) → Answers devices words a b w w' r → r ≡ 2 → (is_accepted words ≡ false) × Appends w.written w'.written usage_line
 was_no_command words a b w w' r h e =
     let t = seen_whole words a b w w' r h (λ is. omega arith) (λ is. omega arith) in
     no_command_by words a b w w' t.verdict (t.status ∙ e) t.text t.reason
 
-unread_by : (words : List (List ℕ)) (a b : FilesSeen) (w w' : SinkSeen) (v : Verdict) → v.status ≡ 3 → Appends w.written w'.written v.text → Reason words a b v → HasUnread words a b w w'
+unread_by : {devices : List DeviceData} (words : List (List ℕ)) (a b : FilesSeen) (w w' : SinkSeen) (v : Verdict) → v.status ≡ 3 → Appends w.written w'.written v.text → Reason devices words a b v → HasUnread words a b w w'
 unread_by words a b w w' v e t (no_job none is) = let s : v.status ≡ 2 = ap (λ (u : Verdict). u.status) is in absurd (omega arith)
 unread_by words a b w w' v e t (of_job job at (cannot_read f h is)) =
     record { job = job; command = at; file = f; is = h; line = same_text w w' v (unread f.name) is t }
 unread_by words a b w w' v e t (of_job job at (refuses f why h is)) = let s : v.status ≡ 1 = ap (λ (u : Verdict). u.status) is in absurd (omega arith)
 unread_by words a b w w' v e t (of_job job at (does cs all p)) = absurd (not_done v 3 (done_status job cs v p) e (λ z. omega arith) (λ s. omega arith))
 
-pub was_unread : (words : List (List ℕ)) (a b : FilesSeen) (w w' : SinkSeen) (r : ℕ) → Answers words a b w w' r → r ≡ 3 → HasUnread words a b w w'
+pub was_unread : {devices : List DeviceData} (words : List (List ℕ)) (a b : FilesSeen) (w w' : SinkSeen) (r : ℕ) → Answers devices words a b w w' r → r ≡ 3 → HasUnread words a b w w'
 was_unread words a b w w' r h e =
     let t = seen_whole words a b w w' r h (λ is. omega arith) (λ is. omega arith) in
     unread_by words a b w w' t.verdict (t.status ∙ e) t.text t.reason
 
-good_of_run : (job : Asked) (cs : List (List ℕ)) (n : ℕ) (m : Detail) (x : Scenario) (v : Verdict) (r : ℕ) → IsRun job cs n m x → IsOfRun r → TellsGood job v r → IsGoodText v.text
+good_of_run : {devices : List DeviceData} (job : Asked) (cs : List (List ℕ)) (n : ℕ) (m : Detail) (x : Scenario) (v : Verdict) (r : ℕ) → IsRun devices job cs n m x → IsOfRun r → TellsGood job v r → IsGoodText v.text
 good_of_run (build app out) cs n m x v r p told h = absurd p
 good_of_run (run image script steps detail) cs n m x v r p told h = h told
 good_of_run (go app script steps detail) cs n m x v r p told h = h told
@@ -230,9 +231,9 @@ good_of_run (sample seed steps) cs n m x v r p told h = absurd p
 good_of_run (migrate image out) cs n m x v r p told h = absurd p
 good_of_run (audit trace) cs n m x v r p told h = absurd p
 
-has_run : (words : List (List ℕ)) (a : FilesSeen) (w w' : SinkSeen) (job : Asked) (cs : List (List ℕ)) (n : ℕ) (m : Detail) (x : Scenario) (v : Verdict) (r : ℕ)
-    → job_in words ≡ Some job → IsAccepted job a.contents cs → IsRun job cs n m x → v ≡ ran n m x → v.status ≡ r → Appends w.written w'.written v.text
-    → IsOfRun r → TellsGoodIn (job_in words) v r → HasRun words a.contents w w' r
+has_run : {devices : List DeviceData} (words : List (List ℕ)) (a : FilesSeen) (w w' : SinkSeen) (job : Asked) (cs : List (List ℕ)) (n : ℕ) (m : Detail) (x : Scenario) (v : Verdict) (r : ℕ)
+    → job_in words ≡ Some job → IsAccepted job a.contents cs → IsRun devices job cs n m x → v ≡ ran n m x → v.status ≡ r → Appends w.written w'.written v.text
+    → IsOfRun r → TellsGoodIn (job_in words) v r → HasRun devices words a.contents w w' r
 has_run words a w w' job cs n m x v r at all h is e t told good = record {
   job = job;
   command = at;
@@ -276,7 +277,7 @@ has_audited words a w w' job cs t found v r at all h is e status text = record {
   text = same_text w w' v (audited found) e text;
 }
 
-done_by : (words : List (List ℕ)) (a b : FilesSeen) (w w' : SinkSeen) (v : Verdict) → v.status ≡ 0 → HasPut a.contents b.contents v.put → Appends w.written w'.written v.text → TellsGoodIn (job_in words) v 0 → Reason words a b v → HasDone words a b w w'
+done_by : {devices : List DeviceData} (words : List (List ℕ)) (a b : FilesSeen) (w w' : SinkSeen) (v : Verdict) → v.status ≡ 0 → HasPut a.contents b.contents v.put → Appends w.written w'.written v.text → TellsGoodIn (job_in words) v 0 → Reason devices words a b v → HasDone devices words a b w w'
 done_by words a b w w' v e p t good (no_job none is) = let s : v.status ≡ 2 = ap (λ (u : Verdict). u.status) is in absurd (omega arith)
 done_by words a b w w' v e p t good (of_job job at (cannot_read f h is)) = let s : v.status ≡ 3 = ap (λ (u : Verdict). u.status) is in absurd (omega arith)
 done_by words a b w w' v e p t good (of_job job at (refuses f why h is)) = let s : v.status ≡ 1 = ap (λ (u : Verdict). u.status) is in absurd (omega arith)
@@ -297,12 +298,12 @@ done_by words a b w w' v e p t good (of_job job at (does cs all (builds o i h is
 })))
 done_by words a b w w' v e p t good (of_job job at (does cs all (audits s found h is d))) = inr (inr (inr (has_audited words a w w' job cs s found v 0 at all h is d e t)))
 
-pub was_done : (words : List (List ℕ)) (a b : FilesSeen) (w w' : SinkSeen) (r : ℕ) → Answers words a b w w' r → r ≡ 0 → HasDone words a b w w'
+pub was_done : {devices : List DeviceData} (words : List (List ℕ)) (a b : FilesSeen) (w w' : SinkSeen) (r : ℕ) → Answers devices words a b w w' r → r ≡ 0 → HasDone devices words a b w w'
 was_done words a b w w' r h e =
     let t = seen_whole words a b w w' r h (λ is. omega arith) (λ is. omega arith) in
     done_by words a b w w' t.verdict (t.status ∙ e) t.put t.text (subst (λ (n : ℕ). TellsGoodIn (job_in words) t.verdict n) e t.good) t.reason
 
-ran_by : (words : List (List ℕ)) (a b : FilesSeen) (w w' : SinkSeen) (v : Verdict) → v.status ≡ 6 → Appends w.written w'.written v.text → TellsGoodIn (job_in words) v 6 → Reason words a b v → HasPlayed words a.contents w w' 6
+ran_by : {devices : List DeviceData} (words : List (List ℕ)) (a b : FilesSeen) (w w' : SinkSeen) (v : Verdict) → v.status ≡ 6 → Appends w.written w'.written v.text → TellsGoodIn (job_in words) v 6 → Reason devices words a b v → HasPlayed devices words a.contents w w' 6
 ran_by words a b w w' v e t good (no_job none is) = let s : v.status ≡ 2 = ap (λ (u : Verdict). u.status) is in absurd (omega arith)
 ran_by words a b w w' v e t good (of_job job at (cannot_read f h is)) = let s : v.status ≡ 3 = ap (λ (u : Verdict). u.status) is in absurd (omega arith)
 ran_by words a b w w' v e t good (of_job job at (refuses f why h is)) = let s : v.status ≡ 1 = ap (λ (u : Verdict). u.status) is in absurd (omega arith)
@@ -315,7 +316,7 @@ ran_by words a b w w' v e t good (of_job job at (does cs all (audits s found h i
   by (inl z) = let s : v.status ≡ 0 = ap (λ (u : Verdict). u.status) d ∙ z in omega arith
   by (inr n) = let s : v.status ≡ 7 = ap (λ (u : Verdict). u.status) d ∙ n in omega arith
 
-pub was_ran : (words : List (List ℕ)) (a b : FilesSeen) (w w' : SinkSeen) (r : ℕ) → Answers words a b w w' r → r ≡ 6 → HasPlayed words a.contents w w' 6
+pub was_ran : {devices : List DeviceData} (words : List (List ℕ)) (a b : FilesSeen) (w w' : SinkSeen) (r : ℕ) → Answers devices words a b w w' r → r ≡ 6 → HasPlayed devices words a.contents w w' 6
 was_ran words a b w w' r h e =
     let t = seen_whole words a b w w' r h (λ is. omega arith) (λ is. omega arith) in
     ran_by words a b w w' t.verdict (t.status ∙ e) t.text (subst (λ (n : ℕ). TellsGoodIn (job_in words) t.verdict n) e t.good) t.reason
@@ -327,7 +328,7 @@ not_seven e v is seven = by (end_zero_or_six e) where
   by (inl z) = omega arith
   by (inr s) = omega arith
 
-audited_by : (words : List (List ℕ)) (a b : FilesSeen) (w w' : SinkSeen) (v : Verdict) → v.status ≡ 7 → Appends w.written w'.written v.text → Reason words a b v → HasAudited words a.contents w w' 7
+audited_by : {devices : List DeviceData} (words : List (List ℕ)) (a b : FilesSeen) (w w' : SinkSeen) (v : Verdict) → v.status ≡ 7 → Appends w.written w'.written v.text → Reason devices words a b v → HasAudited words a.contents w w' 7
 audited_by words a b w w' v e t (no_job none is) = let s : v.status ≡ 2 = ap (λ (u : Verdict). u.status) is in absurd (omega arith)
 audited_by words a b w w' v e t (of_job job at (cannot_read f h is)) = let s : v.status ≡ 3 = ap (λ (u : Verdict). u.status) is in absurd (omega arith)
 audited_by words a b w w' v e t (of_job job at (refuses f why h is)) = let s : v.status ≡ 1 = ap (λ (u : Verdict). u.status) is in absurd (omega arith)
@@ -337,7 +338,7 @@ audited_by words a b w w' v e t (of_job job at (does cs all (lists i h is))) = l
 audited_by words a b w w' v e t (of_job job at (does cs all (builds o i h is))) = let s : v.status ≡ 0 = ap (λ (u : Verdict). u.status) is in absurd (omega arith)
 audited_by words a b w w' v e t (of_job job at (does cs all (audits s found h is d))) = has_audited words a w w' job cs s found v 7 at all h is d e t
 
-pub was_bad : (words : List (List ℕ)) (a b : FilesSeen) (w w' : SinkSeen) (r : ℕ) → Answers words a b w w' r → r ≡ 7 → HasAudited words a.contents w w' 7
+pub was_bad : {devices : List DeviceData} (words : List (List ℕ)) (a b : FilesSeen) (w w' : SinkSeen) (r : ℕ) → Answers devices words a b w w' r → r ≡ 7 → HasAudited words a.contents w w' 7
 was_bad words a b w w' r h e =
     let t = seen_whole words a b w w' r h (λ is. omega arith) (λ is. omega arith) in
     audited_by words a b w w' t.verdict (t.status ∙ e) t.text t.reason
@@ -358,7 +359,7 @@ built_out (sample seed steps) cs o i p = absurd p
 built_out (migrate image out) cs o i p = ap Some (sym p.0)
 built_out (audit trace) cs o i p = absurd p
 
-reason_puts : (words : List (List ℕ)) (a b : FilesSeen) (v : Verdict) → Reason words a b v → Puts words v
+reason_puts : {devices : List DeviceData} (words : List (List ℕ)) (a b : FilesSeen) (v : Verdict) → Reason devices words a b v → Puts words v
 reason_puts words a b v (no_job none is) = puts_none (ap (λ (u : Verdict). u.put) is)
 reason_puts words a b v (of_job job at (cannot_read f h is)) = puts_none (ap (λ (u : Verdict). u.put) is)
 reason_puts words a b v (of_job job at (refuses f why h is)) = puts_none (ap (λ (u : Verdict). u.put) is)
@@ -395,7 +396,7 @@ others_by words a b w w' v r name g (cut is rose put front) not = put_elsewhere 
 others_by words a b w w' v r name g (spoiled is rose left same) not = spoiled_elsewhere a.contents b.contents words v name g left not
 others_by words a b w w' v r name g (short s) not = ap (λ (t : List ℕ → Option (List ℕ)). t name) s.files
 
-pub others : (words : List (List ℕ)) (a b : FilesSeen) (w w' : SinkSeen) (r : ℕ) (name : List ℕ) → Answers words a b w w' r → out_of (job_in words) ≢ Some name → b.contents name ≡ a.contents name
+pub others : {devices : List DeviceData} (words : List (List ℕ)) (a b : FilesSeen) (w w' : SinkSeen) (r : ℕ) (name : List ℕ) → Answers devices words a b w w' r → out_of (job_in words) ≢ Some name → b.contents name ≡ a.contents name
 others words a b w w' r name (inl s) not = ap (λ (t : List ℕ → Option (List ℕ)). t name) s.files
 others words a b w w' r name (inr h) not = others_by words a b w w' h.0 r name (reason_puts words a b h.0 h.1) h.2 not
 
@@ -411,7 +412,7 @@ kept_by words a b w w' v r not0 not4 g (cut is rose put front) = absurd (not4 is
 kept_by words a b w w' v r not0 not4 g (spoiled is rose left same) = absurd (not4 is)
 kept_by words a b w w' v r not0 not4 g (short s) = s.files
 
-pub kept : (words : List (List ℕ)) (a b : FilesSeen) (w w' : SinkSeen) (r : ℕ) → Answers words a b w w' r → r ≢ 0 → r ≢ 4 → b.contents ≡ a.contents
+pub kept : {devices : List DeviceData} (words : List (List ℕ)) (a b : FilesSeen) (w w' : SinkSeen) (r : ℕ) → Answers devices words a b w w' r → r ≢ 0 → r ≢ 4 → b.contents ≡ a.contents
 kept words a b w w' r (inl s) not0 not4 = s.files
 kept words a b w w' r (inr h) not0 not4 = kept_by words a b w w' h.0 r not0 not4 (reason_puts words a b h.0 h.1) h.2
 
@@ -421,7 +422,7 @@ usage_said : (words : List (List ℕ)) (a : FilesSeen) (w w' : SinkSeen) (r : �
 usage_said words a w w' r none (seen.whole is text) = whole is refl text
 usage_said words a w w' r none (seen.cut is rose front) = cut is rose refl front
 
-pub answers_usage : (words : List (List ℕ)) (a : FilesSeen) (w w' : SinkSeen) (r : ℕ) → is_accepted words ≡ false → Says w w' usage r → Answers words a a w w' r
+pub answers_usage : {devices : List DeviceData} (words : List (List ℕ)) (a : FilesSeen) (w w' : SinkSeen) (r : ℕ) → is_accepted words ≡ false → Says w w' usage r → Answers devices words a a w w' r
 answers_usage words a w w' r none (pushed p) =
     let nothing : job_in words ≡ None = ap (λ (b : Bool). cond b (job_of words) None) none in
     inr (usage, no_job none refl, usage_said words a w w' r none p, subst (λ (o : Option Asked). TellsGoodIn o usage r) (sym nothing) tt)

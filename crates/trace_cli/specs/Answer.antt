@@ -1,6 +1,7 @@
 -- What an answer of the program says of the words, of the files and of the sink.
 use Rattle.std.specs.Prelude.{◌≡◌, ◌≢◌, ◌⊎◌, ℕ, false, List, Option, Some, None}
 use Rattle.std.specs.Io.KnownBytes.{Appends}
+use Rattle.kernel_abi.specs.Devices.{DeviceData}
 use Rattle.outside_io.specs.Outside.{WhereSeen, Rose, AppendsFront, IsFront, short_name}
 use Rattle.image_format.specs.Picture.{Picture, spelling}
 use Rattle.board_model.specs.Script.{Scenario}
@@ -34,16 +35,16 @@ pub record IsRefused (job : Asked) (seen : List ℕ → Option (List ℕ)) (f : 
 abbrev pub IsAccepted : Asked → (List ℕ → Option (List ℕ)) → List (List ℕ) → Type 0
 IsAccepted job seen contents = TakesAll (MayBe seen) job contents
 
-pub data JobReason (job : Asked) (before after : FilesSeen) (v : Verdict) : Type 0 where
-  cannot_read : (f : File) → IsUnread job before after f → v ≡ unread f.name → JobReason job before after v
-  refuses : (f : File) (why : Why) → IsRefused job before.contents f why → v ≡ refused f.name why → JobReason job before after v
-  does : (contents : List (List ℕ)) → IsAccepted job before.contents contents → Does job contents v → JobReason job before after v
+pub data JobReason (devices : List DeviceData) (job : Asked) (before after : FilesSeen) (v : Verdict) : Type 0 where
+  cannot_read : (f : File) → IsUnread job before after f → v ≡ unread f.name → JobReason devices job before after v
+  refuses : (f : File) (why : Why) → IsRefused job before.contents f why → v ≡ refused f.name why → JobReason devices job before after v
+  does : (contents : List (List ℕ)) → IsAccepted job before.contents contents → Does devices job contents v → JobReason devices job before after v
 
 -- ## and on words
 
-pub data Reason (words : List (List ℕ)) (before after : FilesSeen) (v : Verdict) : Type 0 where
-  no_job : is_accepted words ≡ false → v ≡ usage → Reason words before after v
-  of_job : (job : Asked) → job_in words ≡ Some job → JobReason job before after v → Reason words before after v
+pub data Reason (devices : List DeviceData) (words : List (List ℕ)) (before after : FilesSeen) (v : Verdict) : Type 0 where
+  no_job : is_accepted words ≡ false → v ≡ usage → Reason devices words before after v
+  of_job : (job : Asked) → job_in words ≡ Some job → JobReason devices job before after v → Reason devices words before after v
 
 -- ## what became of a verdict
 
@@ -99,16 +100,16 @@ TellsGoodIn (Some job) v r = TellsGood job v r
 
 -- ## the answer to a job, and to words: some verdict, for its reason, was told, or memory is short
 
-abbrev pub AnswersJob : Asked → FilesSeen → FilesSeen → SinkSeen → SinkSeen → ℕ → Type 0
-AnswersJob job before after w w' r = IsShort before after w w' r ⊎ ((v : Verdict) × JobReason job before after v × Tells before after w w' v r × TellsGood job v r)
+abbrev pub AnswersJob : List DeviceData → Asked → FilesSeen → FilesSeen → SinkSeen → SinkSeen → ℕ → Type 0
+AnswersJob devices job before after w w' r = IsShort before after w w' r ⊎ ((v : Verdict) × JobReason devices job before after v × Tells before after w w' v r × TellsGood job v r)
 
-abbrev pub Answers : List (List ℕ) → FilesSeen → FilesSeen → SinkSeen → SinkSeen → ℕ → Type 0
-Answers words before after w w' r = IsShort before after w w' r ⊎ ((v : Verdict) × Reason words before after v × Tells before after w w' v r × TellsGoodIn (job_in words) v r)
+abbrev pub Answers : List DeviceData → List (List ℕ) → FilesSeen → FilesSeen → SinkSeen → SinkSeen → ℕ → Type 0
+Answers devices words before after w w' r = IsShort before after w w' r ⊎ ((v : Verdict) × Reason devices words before after v × Tells before after w w' v r × TellsGoodIn (job_in words) v r)
 
 -- ## by status
 
 -- the whole text of a run that ended so, with its memory where it was asked for; an audit finds it good
-pub record HasRun (words : List (List ℕ)) (seen : List ℕ → Option (List ℕ)) (w w' : SinkSeen) (r : ℕ) : Type 0 where
+pub record HasRun (devices : List DeviceData) (words : List (List ℕ)) (seen : List ℕ → Option (List ℕ)) (w w' : SinkSeen) (r : ℕ) : Type 0 where
   pub job : Asked
   pub command : job_in words ≡ Some job
   pub contents : List (List ℕ)
@@ -116,7 +117,7 @@ pub record HasRun (words : List (List ℕ)) (seen : List ℕ → Option (List �
   pub bound : ℕ
   pub detail : Detail
   pub scenario : Scenario
-  pub is : IsRun job contents bound detail scenario
+  pub is : IsRun devices job contents bound detail scenario
   pub status : (ran bound detail scenario).status ≡ r
   pub text : Appends w.written w'.written (ran bound detail scenario).text
   pub good : IsGoodText (ran bound detail scenario).text
@@ -168,12 +169,12 @@ pub record HasAudited (words : List (List ℕ)) (seen : List ℕ → Option (Lis
   pub text : Appends w.written w'.written (audited found).text
 
 -- what is told of a run that ended so, of files or of a sample: 6 where the supervisor faulted
-abbrev pub HasPlayed : List (List ℕ) → (List ℕ → Option (List ℕ)) → SinkSeen → SinkSeen → ℕ → Type 0
-HasPlayed words seen w w' r = HasRun words seen w w' r ⊎ HasSampled words w w' r
+abbrev pub HasPlayed : List DeviceData → List (List ℕ) → (List ℕ → Option (List ℕ)) → SinkSeen → SinkSeen → ℕ → Type 0
+HasPlayed devices words seen w w' r = HasRun devices words seen w w' r ⊎ HasSampled words w w' r
 
 -- 0: the job was done
-abbrev pub HasDone : List (List ℕ) → FilesSeen → FilesSeen → SinkSeen → SinkSeen → Type 0
-HasDone words before after w w' = HasPlayed words before.contents w w' 0
+abbrev pub HasDone : List DeviceData → List (List ℕ) → FilesSeen → FilesSeen → SinkSeen → SinkSeen → Type 0
+HasDone devices words before after w w' = HasPlayed devices words before.contents w w' 0
     ⊎ (HasListed words before.contents w w'
     ⊎ (HasBuilt words before.contents after.contents w w'
     ⊎ HasAudited words before.contents w w' 0))
@@ -202,9 +203,9 @@ IsCut before after w w' v =
     (Rose w.faults w'.faults × HasPut before.contents after.contents v.put × AppendsFront w.written w'.written v.text)
     ⊎ (Rose before.put_faults after.put_faults × HasSpoiled before.contents after.contents v.put × (w'.written ≡ w.written))
 
-pub record HasFront (words : List (List ℕ)) (before after : FilesSeen) (w w' : SinkSeen) : Type 0 where
+pub record HasFront (devices : List DeviceData) (words : List (List ℕ)) (before after : FilesSeen) (w w' : SinkSeen) : Type 0 where
   pub verdict : Verdict
-  pub reason : Reason words before after verdict
+  pub reason : Reason devices words before after verdict
   pub front : IsCut before after w w' verdict
 
 -- ## where the contents are seen

@@ -1,5 +1,6 @@
 -- The contents of a file: why they are refused, and what they say.
 use Rattle.std.specs.Prelude.{ℕ, ◌^◌, ◌-◌, min, nat_lt, if◌then◌else◌, List, [], ◌++◌, length, codes, decimal, Option, Some, None, option_map, Result, Ok, Err}
+use Rattle.kernel_abi.specs.Devices.{DeviceData}
 use Rattle.app_toml.specs.Apps.{AppData}
 use Rattle.app_toml.specs.Reading.{read_app}
 use Rattle.text_lines.specs.Text.{lines_of}
@@ -139,9 +140,10 @@ trace_refusal bytes = unless_long trace_limit bytes (option_map at_number (first
 abbrev pub setup_of_image : Picture → Setup
 setup_of_image image = opened.setup_of_image image
 
-abbrev pub scenario_of : Picture → List ℕ → Scenario
-scenario_of image script = record { setup = setup_of_image image; script = script_of script; devices = [] }
+-- with these devices
+abbrev pub scenario_of : Picture → List ℕ → List DeviceData → Scenario
+scenario_of image script devices = record { setup = setup_of_image image; script = script_of script; devices = devices }
 
--- the run of the sample of a seed, of which this is the image
+-- the run of the sample of a seed, of which this is the image: it has no device
 abbrev pub sample_scenario : ℕ → Picture → Scenario
 sample_scenario seed image = record { setup = setup_of_image image; script = sample_script seed; devices = [] }

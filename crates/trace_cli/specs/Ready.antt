@@ -1,8 +1,10 @@
 -- A board at the start of a job's run, or the file that is not accepted.
 use Rattle.std.specs.Prelude.{◌≡◌, ℕ, List, Option, None}
+use Rattle.kernel_abi.specs.Devices.{DeviceData}
 use Rattle.image_format.specs.Picture.{Picture}
 use Rattle.image_build.specs.Built.{Built}
 use Rattle.sample_gen.specs.Sample.{sample_app, sample_sources}
+use Rattle.board_core.specs.Data.{Shows}
 use Rattle.board_core.specs.declared.board.Board.{Board}
 use Rattle.board_model.specs.Script.{Scenario, start_of}
 use Rattle.board_core.specs.Stands.{Stands, turns_of}
@@ -24,27 +26,27 @@ pub record IsImageFile (seen : List ℕ → Option (List ℕ)) (name : List ℕ)
   pub is : image ≡ picture_of bytes
 
 -- the board stands for the start of the image's run with the script of this name
-pub record IsSet (seen : List ℕ → Option (List ℕ)) (image : Picture) (name : List ℕ) (b : Board) : Type 0 where
+pub record IsSet {X : Type 0} {H : X → Type 0} (shown : Shows X H) (devices : List DeviceData) (seen : List ℕ → Option (List ℕ)) (image : Picture) (name : List ℕ) (b : Board X H) : Type 0 where
   pub script : List ℕ
   pub held : MayBe seen name script
   pub accepted : script_refusal script ≡ None
-  pub stands : Stands (scenario_of image script) b (start_of (scenario_of image script))
+  pub stands : Stands shown (scenario_of image script devices) b (start_of (scenario_of image script devices))
   pub turns : turns_of b ≡ 0
 
 -- each file of the job is accepted, and the board stands for the start of its run
-pub record IsReady (job : Asked) (seen : List ℕ → Option (List ℕ)) (n : ℕ) (detail : Detail) (b : Board) : Type 0 where
+pub record IsReady {X : Type 0} {H : X → Type 0} (shown : Shows X H) (devices : List DeviceData) (job : Asked) (seen : List ℕ → Option (List ℕ)) (n : ℕ) (detail : Detail) (b : Board X H) : Type 0 where
   pub contents : List (List ℕ)
   pub accepted : TakesAll (MayBe seen) job contents
   pub scenario : Scenario
-  pub is : IsRun job contents n detail scenario
-  pub stands : Stands scenario b (start_of scenario)
+  pub is : IsRun devices job contents n detail scenario
+  pub stands : Stands shown scenario b (start_of scenario)
   pub turns : turns_of b ≡ 0
 
 -- the board stands for the start of the run of the sample of a seed
-pub record IsSampleReady (seed : ℕ) (b : Board) : Type 0 where
+pub record IsSampleReady {X : Type 0} {H : X → Type 0} (shown : Shows X H) (seed : ℕ) (b : Board X H) : Type 0 where
   pub image : Picture
   pub built : Built (sample_app seed) (sample_sources seed) image
-  pub stands : Stands (sample_scenario seed image) b (start_of (sample_scenario seed image))
+  pub stands : Stands shown (sample_scenario seed image) b (start_of (sample_scenario seed image))
   pub turns : turns_of b ≡ 0
 
 -- the trace of this name was accepted, and this is the verdict on it

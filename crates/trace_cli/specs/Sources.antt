@@ -1,5 +1,6 @@
 -- The files of a job, in the order in which they are accepted.
 use Rattle.std.specs.Prelude.{◌≡◌, ℕ, ◌+◌, List, [], ◌∷◌, ◌++◌, length, drop, take, slice_get, slice_index_or, Option, Some, None}
+use Rattle.kernel_abi.specs.Devices.{DeviceData}
 use Rattle.outside_io.specs.Outside.{WhereSeen}
 use Rattle.app_toml.specs.Apps.{AppData, TaskData}
 use Rattle.image_format.specs.Picture.{Picture, Sound}
@@ -116,16 +117,16 @@ pub record IsBuilt (contents : List (List ℕ)) (image : Picture) : Type 0 where
   pub sound : Sound image
 
 -- the job is a run of this scenario up to this bound, told in this detail
-abbrev pub IsRun : Asked → List (List ℕ) → ℕ → Detail → Scenario → Type 0
-IsRun (run image script steps detail) contents n d x =
-    (n ≡ steps) × (d ≡ detail) × (x ≡ scenario_of (picture_of (first_of contents)) (slice_index_or contents 1 []))
-IsRun (go app script steps detail) contents n d x =
-    (n ≡ steps) × (d ≡ detail) × ((image : Picture) × IsBuilt contents image × (x ≡ scenario_of image (script_in contents)))
-IsRun (build app out) contents n d x = ⊥
-IsRun (list image) contents n d x = ⊥
-IsRun (sample seed steps) contents n d x = ⊥
-IsRun (migrate image out) contents n d x = ⊥
-IsRun (audit trace) contents n d x = ⊥
+abbrev pub IsRun : List DeviceData → Asked → List (List ℕ) → ℕ → Detail → Scenario → Type 0
+IsRun devices (run image script steps detail) contents n d x =
+    (n ≡ steps) × (d ≡ detail) × (x ≡ scenario_of (picture_of (first_of contents)) (slice_index_or contents 1 []) devices)
+IsRun devices (go app script steps detail) contents n d x =
+    (n ≡ steps) × (d ≡ detail) × ((image : Picture) × IsBuilt contents image × (x ≡ scenario_of image (script_in contents) devices))
+IsRun devices (build app out) contents n d x = ⊥
+IsRun devices (list image) contents n d x = ⊥
+IsRun devices (sample seed steps) contents n d x = ⊥
+IsRun devices (migrate image out) contents n d x = ⊥
+IsRun devices (audit trace) contents n d x = ⊥
 
 -- the job is a listing of this image
 abbrev pub IsListing : Asked → List (List ℕ) → Picture → Type 0

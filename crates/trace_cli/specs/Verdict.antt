@@ -1,5 +1,6 @@
 -- What the program answers: a status, its text, and the file that it puts.
 use Rattle.std.specs.Prelude.{◌≡◌, ℕ, Bool, false, if◌then◌else◌, List, [], ◌++◌, length, codes, decimal, Option, Some, None}
+use Rattle.kernel_abi.specs.Devices.{DeviceData}
 use Rattle.serde_json.specs.Written.{compact_text}
 use Rattle.image_format.specs.Picture.{Picture, spelling}
 use Rattle.image_list.specs.Listing.{image_data}
@@ -117,20 +118,20 @@ audited (No line) = line_alone 7 (no_line line)
 
 -- ## what comes of accepted files with these contents
 
-pub data Does (job : Asked) (contents : List (List ℕ)) (v : Verdict) : Type 0 where
-  runs : (n : ℕ) (detail : Detail) (x : Scenario) → IsRun job contents n detail x → v ≡ ran n detail x → Does job contents v
-  lists : (image : Picture) → IsListing job contents image → v ≡ listed image → Does job contents v
-  builds : (out : List ℕ) (image : Picture) → IsBuild job contents out image → v ≡ built out image → Does job contents v
-  samples : (seed n : ℕ) (x : Scenario) → IsSample job seed n x → v ≡ sampled n x → Does job contents v
-  audits : (text : List ℕ) (found : trace.Verdict) → IsAudit job contents text → trace_audit.IsVerdict text found → v ≡ audited found → Does job contents v
+pub data Does (devices : List DeviceData) (job : Asked) (contents : List (List ℕ)) (v : Verdict) : Type 0 where
+  runs : (n : ℕ) (detail : Detail) (x : Scenario) → IsRun devices job contents n detail x → v ≡ ran n detail x → Does devices job contents v
+  lists : (image : Picture) → IsListing job contents image → v ≡ listed image → Does devices job contents v
+  builds : (out : List ℕ) (image : Picture) → IsBuild job contents out image → v ≡ built out image → Does devices job contents v
+  samples : (seed n : ℕ) (x : Scenario) → IsSample job seed n x → v ≡ sampled n x → Does devices job contents v
+  audits : (text : List ℕ) (found : trace.Verdict) → IsAudit job contents text → trace_audit.IsVerdict text found → v ≡ audited found → Does devices job contents v
 
 -- ## the verdict on words and contents, where they are seen as far as they count
 
 -- Words that are not accepted are answered by the usage line, the first file that is refused by its line, and accepted files
 -- by what the job is. There is at most one verdict.
-pub data IsVerdict (words : List (List ℕ)) (seen : List ℕ → Option (List ℕ)) (v : Verdict) : Type 0 where
-  no_job : is_accepted words ≡ false → v ≡ usage → IsVerdict words seen v
+pub data IsVerdict (devices : List DeviceData) (words : List (List ℕ)) (seen : List ℕ → Option (List ℕ)) (v : Verdict) : Type 0 where
+  no_job : is_accepted words ≡ false → v ≡ usage → IsVerdict devices words seen v
   refuses : (job : Asked) (contents : List (List ℕ)) (f : File) (bytes : List ℕ) (why : Why) → job_in words ≡ Some job
-      → Reaches (Are seen) job contents f → Are seen f.name bytes → f.refusal bytes ≡ Some why → v ≡ refused f.name why → IsVerdict words seen v
+      → Reaches (Are seen) job contents f → Are seen f.name bytes → f.refusal bytes ≡ Some why → v ≡ refused f.name why → IsVerdict devices words seen v
   does : (job : Asked) (contents : List (List ℕ)) → job_in words ≡ Some job
-      → TakesAll (Are seen) job contents → Does job contents v → IsVerdict words seen v
+      → TakesAll (Are seen) job contents → Does devices job contents v → IsVerdict devices words seen v

@@ -7,11 +7,11 @@ use Rattle.board_run.proofs.memory.push_bytes.Goals as goal
 
 pub loop-k-init : goal.loop-k-init
 unfolding bytes_hex
-loop-k-init c = record { bytes = λ x s st. sym (append-nil c.args.line.now.bytes); len = omega arith }
+loop-k-init boxes c = record { bytes = λ x s st. sym (append-nil c.args.line.now.bytes); len = omega arith }
 
 pub loop-k-preserved : goal.loop-k-preserved
 unfolding bytes_hex
-loop-k-preserved c = record {
+loop-k-preserved boxes c = record {
   bytes = λ x s st.
       let k = c.loop-k.k in
       let f = hex_at s.memory c.args.addr in

@@ -22,10 +22,10 @@ here test f tasks i d (Some r) lt some is = sym (find_here test f tasks i d r lt
 
 pub loop-i-init : goal.loop-i-init
 unfolding region_at
-loop-i-init c = λ x s st. refl
+loop-i-init boxes c = λ x s st. refl
 
 pub returns-then-is_some-clause-found : goal.returns-then-is_some-clause-found
-returns-then-is_some-clause-found c = λ x s st.
+returns-then-is_some-clause-found boxes c = λ x s st.
     let f : TaskSetup → List Region = λ t. t.regions in
     let i = c.loop-i.i in
     let lt : i < length x.setup.tasks = omega (arith, c.task_count-i-end.ensures.tasks x s st, st.sane.steady.as_many, c.loop-i.auto.i-end, c.loop-i-test.true) in
@@ -33,7 +33,7 @@ returns-then-is_some-clause-found c = λ x s st.
     here (begins_at c.args.base) f x.setup.tasks i no_setup c.region_in-found.result lt (sym c.is_some.ensures ∙ c.if-is_some.true) is ∙ c.loop-i.invariant x s st
 
 pub loop-i-preserved : goal.loop-i-preserved
-loop-i-preserved c = λ x s st.
+loop-i-preserved boxes c = λ x s st.
     let f : TaskSetup → List Region = λ t. t.regions in
     let i = c.loop-i.i in
     let lt : i < length x.setup.tasks = omega (arith, c.task_count-i-end.ensures.tasks x s st, st.sane.steady.as_many, c.loop-i.auto.i-end, c.loop-i-test.true) in
@@ -42,7 +42,7 @@ loop-i-preserved c = λ x s st.
     sym (find_on (begins_at c.args.base) f x.setup.tasks i no_setup lt none) ∙ c.loop-i.invariant x s st
 
 pub returns-clause-found : goal.returns-clause-found
-returns-clause-found c = λ x s st.
+returns-clause-found boxes c = λ x s st.
     let f : TaskSetup → List Region = λ t. t.regions in
     let all : length x.setup.tasks ≡ c.loop-i.i = omega (arith, c.task_count-i-end.ensures.tasks x s st, st.sane.steady.as_many, c.loop-i.auto.i-end, c.loop-i-test.false) in
     sym (find_none (begins_at c.args.base) f x.setup.tasks c.loop-i.i all) ∙ c.loop-i.invariant x s st

@@ -3,10 +3,13 @@ use Rattle.std.specs.Prelude.{find}
 use Rattle.std.specs.List.{flat_map}
 use Rattle.task_table.specs.State.{State}
 use Rattle.board_model.specs.Script.{Scenario}
+use Rattle.board_core.specs.Data.{boxed}
 use Rattle.board_core.specs.Stands.{Stands}
 use Rattle.board_run.specs.MemoryText.{begins_at, region_at}
 use Rattle.board_run.proofs.memory.region_at.Given as goal
 
 -- it is to be found among the regions of the tasks that are left
 abbrev pub invariant-loop-i : goal.invariant-loop-i
-invariant-loop-i l = (x : Scenario) (s : State) → Stands x l.board s → find (begins_at l.base) (flat_map (λ t. t.regions) (drop l.i x.setup.tasks)) ≡ region_at x.setup l.base
+invariant-loop-i boxes l =
+    let shown = boxed (λ p. (goal.Device-dyn boxes p).shown p.1) in
+    (x : Scenario) (s : State) → Stands shown x l.board s → find (begins_at l.base) (flat_map (λ t. t.regions) (drop l.i x.setup.tasks)) ≡ region_at x.setup l.base

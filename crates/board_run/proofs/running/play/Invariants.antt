@@ -1,14 +1,17 @@
 use Rattle.std.proofs.Common.{◌-◌, ◌≤◌}
 use Rattle.task_table.specs.State.{State}
 use Rattle.board_model.specs.Script.{Scenario}
+use Rattle.board_core.specs.Data.{boxed}
 use Rattle.board_core.specs.Stands.{Stands, Stood, turns_of}
 use Rattle.board_run.specs.Midway.{Midway}
 use Rattle.board_run.proofs.running.play.Given as goal
 
 abbrev pub invariant-turns : goal.invariant-turns
-invariant-turns g l = record {
-  midway : (x : Scenario) (s : State) → Stands x l.fn.board s → Midway g.T.Teller.heard l.level x l.fn.teller l.teller s l.board;
-  stood : Stood l.board;
+invariant-turns g l =
+    let shown = boxed (λ p. (goal.Device-dyn g p).shown p.1) in
+    record {
+  midway : (x : Scenario) (s : State) → Stands shown x l.fn.board s → Midway shown g.T.Teller.heard l.level x l.fn.teller l.teller s l.board;
+  stood : Stood shown l.board;
   turns : turns_of l.board ≤ l.limit;
 }
 
