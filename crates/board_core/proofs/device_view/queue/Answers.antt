@@ -1,4 +1,4 @@
-use Rattle.std.proofs.Common.{◌≡◌, ◌∙◌, sym, arith}
+use Rattle.std.proofs.Common.{◌∙◌, sym, arith}
 use Rattle.board_core.proofs.Queues.{queue_more, queue_ended}
 use Rattle.board_core.proofs.device_view.queue.Goals as goal
 

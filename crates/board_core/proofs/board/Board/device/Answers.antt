@@ -1,4 +1,4 @@
-use Rattle.std.proofs.Common.{sym, ◌∙◌, arith}
+use Rattle.std.proofs.Common.{arith}
 use Rattle.board_core.proofs.Loading.{devices_held}
 use Rattle.board_core.proofs.Queues.{device_seen, no_device}
 use Rattle.board_core.proofs.board.Board.device.Goals as goal
