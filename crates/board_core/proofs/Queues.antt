@@ -1,5 +1,5 @@
 -- The bytes that wait in a device, taken one after the other.
-use Rattle.std.proofs.Common.{◌≡◌, ◌+◌, ◌<◌, ◌≤◌, ◌++◌, ℕ, zero, suc, List, [], ◌∷◌, Option, Some, None, length, take, get_or, slice_get, Contains, refl, sym, ◌∙◌, ap, subst, arith}
+use Rattle.std.proofs.Common.{◌≡◌, ◌+◌, ◌<◌, ◌≤◌, ◌++◌, ℕ, zero, suc, List, [], ◌∷◌, Some, None, length, take, slice_get, Contains, refl, sym, ◌∙◌, ap, subst, arith}
 use Rattle.std.proofs.lemmas.List.{take_more, take_all}
 use Rattle.std.proofs.lemmas.Option.{none-some, slice_get_within, slice_get_past, slice_get-get_or, get_or_from_slice_get}
 use Rattle.kernel_abi.specs.declared.Kind.{Kind}
@@ -13,15 +13,18 @@ queue_more q xs j byte before at =
     ap (λ (ys : List ℕ). ys ++ byte ∷ []) before
     ∙ ap (λ (b : ℕ). take j q ++ b ∷ []) (sym (get_or_from_slice_get q j byte 0 at))
     ∙ sym (take_more q j 0 within)
+
 -- there is none more
 pub queue_over : (q : List ℕ) (j : ℕ) → slice_get q j ≡ None → length q ≤ j
 queue_over [] j e = omega arith
 queue_over (x ∷ xs) zero e = absurd (none-some x (sym e))
 queue_over (x ∷ xs) (suc j) e = let rest = queue_over xs j e in omega (arith, rest)
+
 pub queue_ended : (q xs : List ℕ) (j : ℕ) → xs ≡ take j q → slice_get q j ≡ None → j ≤ 64 → xs ≡ take 64 q
 queue_ended q xs j all over few =
     let short = queue_over q j over in
     all ∙ take_all j q short ∙ sym (take_all 64 q (omega (arith, short, few)))
+
 -- what is shown of a device that has few bytes is all of it
 pub device_whole : (ds : List DeviceData) (k : ℕ) (d : DeviceData) → k < length ds → d ≡ record (device_at ds k) { queue = take 64 (device_at ds k).queue } → length (device_at ds k).queue ≤ 64 → Some d ≡ slice_get ds k
 device_whole ds k d inside is few =
