@@ -4,7 +4,8 @@ use Rattle.app_toml.specs.Held.{app_of}
 use Rattle.image_format.specs.Images.{picture}
 use Rattle.run_script.specs.Events.{script_data}
 use Rattle.sample_gen.specs.Sample.{sample_sources}
-use Rattle.trace_cli.proofs.Handed.{no_devices, none_fresh}
+use Rattle.devices.proofs.Fresh.{none_fresh}
+use Rattle.trace_cli.proofs.Handed.{no_devices}
 use Rattle.trace_cli.proofs.Seeding.{a_source_each, refused_as_sample, sample_ready}
 use Rattle.trace_cli.proofs.sampling.prepare_sample.Goals as goal
 
@@ -21,7 +22,7 @@ returns-in-Err-clause-memory boxes c =
 pub returns-in-Ok-open-clause-ready : goal.returns-in-Ok-open-clause-ready
 returns-in-Ok-open-clause-ready boxes c =
     let are : map string_bytes c.deref.result.now ≡ sample_sources c.args.seed = ap (map string_bytes) c.deref.ensures.value ∙ c.in_ok-app.ensures.sources in
-    sample_ready c.args.seed (app_of c.in_ok-app.app) (map string_bytes c.deref.result.now) (script_data c.in_ok-app.script) _ (picture c.in-Ok.image) c.in-Ok-open.board (no_devices _ _ c.new.ensures) c.in_ok-app.ensures.app are c.in_ok-app.ensures.script c.in-Ok.ensures.built c.in-Ok-open.ensures.stands c.in-Ok-open.ensures.turns
+    sample_ready c.args.seed (app_of c.in_ok-app.app) (map string_bytes c.deref.result.now) (script_data c.in_ok-app.script) _ (picture c.in-Ok.image) c.in-Ok-open.board (no_devices _ _ c.new.ensures.items) c.in_ok-app.ensures.app are c.in_ok-app.ensures.script c.in-Ok.ensures.built c.in-Ok-open.ensures.stands c.in-Ok-open.ensures.turns
 
 pub open-requires : goal.open-requires
-open-requires boxes c = none_fresh _ (no_devices _ _ c.new.ensures)
+open-requires boxes c = none_fresh _ (no_devices _ _ c.new.ensures.items)
