@@ -2,12 +2,13 @@
 //! answer is the exit status.
 #![tactic(auto)]
 
+use devices::{Console, Device, Port};
 use outside_io::{HostFiles, HostSink};
 use std::alloc::AllocError;
 use std::io::{BufWriter, ErrorKind};
 use std::process::ExitCode;
 use std::{env, io};
-use trace_cli::hubris_main;
+use trace_cli::hubris_main_with;
 
 // The words of the command line, the program's name first. Words that are no UTF-8 are no command:
 // they count as none at all.
@@ -38,7 +39,18 @@ fn main(rt: HostRuntime) -> ExitCode {
     };
     let mut out = HostSink::new(writer);
     let mut files = HostFiles::new(&rt);
-    let status = hubris_main(rt.alloc(), &words, &mut files, &mut out);
+    // A console and a port, behind the first addresses of devices.
+    let Ok(console) = Box::new(rt.alloc(), Console::new(0x4000_0000)) else {
+        return ExitCode::from(5);
+    };
+    let Ok(port) = Box::new(rt.alloc(), Port::new(0x4000_1000)) else {
+        return ExitCode::from(5);
+    };
+    let mut devices: Vec<Box<dyn Device>> = Vec::new(rt.alloc());
+    if devices.push(console).is_err() || devices.push(port).is_err() {
+        return ExitCode::from(5);
+    }
+    let status = hubris_main_with(rt.alloc(), &words, &mut files, &mut out, devices);
     if status != 4 && out.flush().is_ok() {
         return ExitCode::from(status);
     }

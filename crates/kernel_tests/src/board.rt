@@ -1,4 +1,5 @@
 ghost use Rattle.std.specs.Prelude.{◌≡◌, ◌+◌, ◌≤◌, ◌<◌, length, IfOk};
+ghost use Rattle.board_core.specs.Data.{boxed};
 ghost use Rattle.board_core.specs.Stands.{Stood, turns_of};
 
 use board_core::{Board, End, Level};
@@ -23,7 +24,7 @@ fn with_script(
     script: &[u8],
 ) -> Result<Board, AllocError>
     requires small { length script.now < 1000 }
-    ensures stood { IfOk result (λ b. Stood b) }
+    ensures stood { IfOk result (λ b. Stood (boxed shown) b) }
     ensures turns { IfOk result (λ b. turns_of b ≡ 0) }
 {
     let mut bytes = [0; 300];
@@ -34,14 +35,14 @@ fn with_script(
     bytes[47] = (second / 256) as u8;
     let image = Image::read(alloc, &bytes).expect(rt, "the image is sound");
     let script = Script::read(alloc, script).expect(rt, "the script is taken");
-    Board::open(alloc, &image, &script)
+    Board::open(alloc, &image, &script, Vec::new(alloc))
 }
 
 /// The turns and the time, whether the first note is of the first tick, how many notes there are, and whether the run ended.
 type Shown = (u32, u64, bool, usize, Option<End>);
 
 fn shown(board: &Board) -> Shown
-    requires { Stood board.now }
+    requires { Stood (boxed shown) board.now }
 {
     let notes = board.notes();
     let has_ticked = notes.get(0).copied() == Some(Note::Tick { now: 1 });
@@ -58,8 +59,8 @@ fn shown(board: &Board) -> Shown
 fn advance(board: &mut Board, level: Level, limit: u32)
     requires left { turns_of board.old < limit }
     requires few { limit < 1000 }
-    requires stood { Stood board.old }
-    ensures stood { Stood board.new }
+    requires stood { Stood (boxed shown) board.old }
+    ensures stood { Stood (boxed shown) board.new }
     ensures turns { turns_of board.new ≤ limit }
 {
     board.advance(level, limit);

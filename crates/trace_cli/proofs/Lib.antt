@@ -12,3 +12,4 @@ pub mod Ending
 pub mod Statuses
 pub mod Faulting
 pub mod Taking
+pub mod Handed

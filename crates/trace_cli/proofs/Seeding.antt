@@ -44,12 +44,13 @@ pub refused_as_sample : (seed : ℕ) (app : AppData) (sources : List (List ℕ))
 refused_as_sample seed app sources f is are law h =
     law seed f (subst (λ (ss : List (List ℕ)). Refuses (sample_app seed) ss f) are (subst (λ (a : AppData). Refuses a sources f) is h))
 
-pub sample_ready : {X : Type 0} {H : X → Type 0} {shown : Shows X H} (seed : ℕ) (app : AppData) (sources : List (List ℕ)) (script : ScriptData) (image : Picture) (b : Board X H) → app ≡ sample_app seed → sources ≡ sample_sources seed
-    → script ≡ sample_script seed → Built app sources image → Stands shown (opened.scenario_of image script) b (start_of (opened.scenario_of image script)) → turns_of b ≡ 0 → IsSampleReady shown seed b
-sample_ready seed app sources script image b is are seen built stands turns = record {
+pub sample_ready : {X : Type 0} {H : X → Type 0} {shown : Shows X H} (seed : ℕ) (app : AppData) (sources : List (List ℕ)) (script : ScriptData) (devices : List DeviceData) (image : Picture) (b : Board X H) → devices ≡ [] → app ≡ sample_app seed → sources ≡ sample_sources seed
+    → script ≡ sample_script seed → Built app sources image → Stands shown (opened.scenario_of image script devices) b (start_of (opened.scenario_of image script devices)) → turns_of b ≡ 0 → IsSampleReady shown seed b
+sample_ready {X} {H} {shown} seed app sources script devices image b none is are seen built stands turns = record {
   image = image;
   built = subst (λ (ss : List (List ℕ)). Built (sample_app seed) ss image) are (subst (λ (a : AppData). Built a sources image) is built);
-  stands = subst (λ (s : ScriptData). Stands _ (opened.scenario_of image s) b (start_of (opened.scenario_of image s))) seen stands;
+  stands = subst (λ (ds : List DeviceData). Stands shown (opened.scenario_of image (sample_script seed) ds) b (start_of (opened.scenario_of image (sample_script seed) ds))) none
+      (subst (λ (s : ScriptData). Stands shown (opened.scenario_of image s devices) b (start_of (opened.scenario_of image s devices))) seen stands);
   turns = turns;
 }
 

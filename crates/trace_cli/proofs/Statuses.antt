@@ -162,7 +162,7 @@ was_short words a b w w' r (inl s) e = (s.written, s.faults, s.files)
 was_short words a b w w' r (inr h) e = short_by words a b w w' h.0 r e h.1 h.2
 
 -- told whole, under another status than 4 and 5
-record IsWhole _ (words : List (List ℕ)) (a b : FilesSeen) (w w' : SinkSeen) (r : ℕ) : Type 0 where
+record IsWhole (devices : List DeviceData) (words : List (List ℕ)) (a b : FilesSeen) (w w' : SinkSeen) (r : ℕ) : Type 0 where
   verdict : Verdict
   reason : Reason devices words a b verdict
   status : verdict.status ≡ r

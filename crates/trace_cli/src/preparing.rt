@@ -1,5 +1,6 @@
 //! From the files of a job to the board of its run.
-ghost use Rattle.std.specs.Prelude.{◌≡◌, ◌≤◌, ℕ, IfOk, IfErr};
+ghost use Rattle.std.specs.Prelude.{◌≡◌, ◌≤◌, ℕ, map, IfOk, IfErr};
+ghost use Rattle.kernel_abi.specs.Devices.{AreFresh};
 ghost use Rattle.image_format.specs.Images.{picture};
 ghost use Rattle.command_line.specs.CommandLine.{run as run_job, go as go_job};
 ghost use Rattle.command_line.specs.declared.job.Detail.{Detail};
@@ -11,6 +12,7 @@ use crate::building::built_image;
 use crate::file_faults::{NamedFault, fault_named};
 use crate::sources::{FILE_LIMIT, image_in, read_contents, script_in};
 use board_core::Board;
+use devices::Device;
 use image_format::Image;
 use outside_io::Files;
 use std::alloc::Global;
@@ -33,14 +35,16 @@ pub fn read_image<F: Files>(alloc: Global, files: &mut F, name: &str) -> Result<
     }
 }
 
-// The board of an image with the script under a name.
+// The board of an image with the script under a name and with devices.
 fn set_up<F: Files>(
     alloc: Global,
     files: &mut F,
     image: &Image,
     script: &str,
+    devices: Vec<Box<dyn Device>>,
 ) -> Result<Board, NamedFault>
-    ensures set { IfOk result (IsSet (F.seen files.old).contents (picture image.now) script.now) }
+    requires fresh { AreFresh (map shown devices.items) }
+    ensures set { IfOk result (IsSet shown (map shown devices.items) (F.seen files.old).contents (picture image.now) script.now) }
     ensures named_fault { IfErr result (IsNamedFaultOf (F.seen files.old) (F.seen files.new) (script_file script.now)) }
     ensures later { (F.seen files.old).read_faults ≤ (F.seen files.new).read_faults }
     ensures contents { (F.seen files.new).contents ≡ (F.seen files.old).contents }
@@ -54,46 +58,50 @@ fn set_up<F: Files>(
         Ok(script) => script,
         Err(file_fault) => return Err(fault_named(alloc, script, file_fault)),
     };
-    match Board::open(alloc, image, &script) {
+    match Board::open(alloc, image, &script, devices) {
         Ok(board) => Ok(board),
         Err(_) => Err(NamedFault::Memory),
     }
 }
 
-/// The board at the start of the run of the image and the script under these names.
+/// The board at the start of the run of the image and the script under these names, with devices.
 pub fn prepare_run<F: Files>(
     alloc: Global,
     files: &mut F,
     image: &str,
     script: &str,
+    devices: Vec<Box<dyn Device>>,
 ) -> Result<Board, NamedFault>
-    ensures ready { (n : ℕ) (detail : Detail) → IfOk result (IsReady (run_job image.now script.now n detail) (F.seen files.old).contents n detail) }
+    requires fresh { AreFresh (map shown devices.items) }
+    ensures ready { (n : ℕ) (detail : Detail) → IfOk result (IsReady shown (map shown devices.items) (run_job image.now script.now n detail) (F.seen files.old).contents n detail) }
     ensures named_fault { (n : ℕ) (detail : Detail) → IfErr result (IsNamedFaultIn (run_job image.now script.now n detail) (F.seen files.old) (F.seen files.new)) }
     ensures later { (F.seen files.old).read_faults ≤ (F.seen files.new).read_faults }
     ensures contents { (F.seen files.new).contents ≡ (F.seen files.old).contents }
     ensures puts { (F.seen files.new).put_faults ≡ (F.seen files.old).put_faults }
 {
     match read_image(alloc, files, image) {
-        Ok(picture) => set_up(alloc, files, &picture, script),
+        Ok(picture) => set_up(alloc, files, &picture, script, devices),
         Err(named_fault) => Err(named_fault),
     }
 }
 
-/// The board at the start of the run of the application and the script under these names.
+/// The board at the start of the run of the application and the script under these names, with devices.
 pub fn prepare_go<F: Files>(
     alloc: Global,
     files: &mut F,
     app: &str,
     script: &str,
+    devices: Vec<Box<dyn Device>>,
 ) -> Result<Board, NamedFault>
-    ensures ready { (n : ℕ) (detail : Detail) → IfOk result (IsReady (go_job app.now script.now n detail) (F.seen files.old).contents n detail) }
+    requires fresh { AreFresh (map shown devices.items) }
+    ensures ready { (n : ℕ) (detail : Detail) → IfOk result (IsReady shown (map shown devices.items) (go_job app.now script.now n detail) (F.seen files.old).contents n detail) }
     ensures named_fault { (n : ℕ) (detail : Detail) → IfErr result (IsNamedFaultIn (go_job app.now script.now n detail) (F.seen files.old) (F.seen files.new)) }
     ensures later { (F.seen files.old).read_faults ≤ (F.seen files.new).read_faults }
     ensures contents { (F.seen files.new).contents ≡ (F.seen files.old).contents }
     ensures puts { (F.seen files.new).put_faults ≡ (F.seen files.old).put_faults }
 {
     match built_image(alloc, files, app) {
-        Ok(picture) => set_up(alloc, files, &picture, script),
+        Ok(picture) => set_up(alloc, files, &picture, script, devices),
         Err(named_fault) => Err(named_fault),
     }
 }

@@ -1,9 +1,11 @@
 //! The top call.
-ghost use Rattle.std.specs.Prelude.{◌≡◌, ◌≢◌, ◌≤◌, ◌⊎◌, ℕ, List, Option, Some, None, false, IfOk, IfErr};
+ghost use Rattle.std.specs.Prelude.{◌≡◌, ◌≢◌, ◌≤◌, ◌⊎◌, ℕ, List, [], map, Option, Some, None, false, IfOk, IfErr};
 ghost use Rattle.std.specs.Io.KnownBytes.{Appends};
 ghost use Rattle.outside_io.specs.Outside.{Pushes, Rose, HasCause};
+ghost use Rattle.kernel_abi.specs.Devices.{DeviceData, AreFresh};
 ghost use Rattle.image_format.specs.Images.{picture};
 ghost use Rattle.board_model.specs.Script.{Scenario, start_of};
+ghost use Rattle.board_core.specs.Data.{boxed};
 ghost use Rattle.board_core.specs.Stands.{Stands, Stood, turns_of};
 ghost use Rattle.command_line.specs.CommandLine.{Asked, is_accepted, build as build_job, run as run_job, go as go_job, list as list_job, migrate as migrate_job, audit as audit_job};
 ghost use Rattle.outside_io.specs.Seen.{FilesSeen};
@@ -24,6 +26,7 @@ use audit_runs::{memories_are_shown, texts_of_runs_are_good};
 use board_core::{Board, End, Level};
 use board_run::{run, write_memory};
 use command_line::{Detail, Job, Refusal, read_words};
+use devices::Device;
 use image_format::Image;
 use outside_io::{Failed, Files, Sink};
 use std::alloc::Global;
@@ -45,12 +48,12 @@ fn push_run<S: Sink>(
     detail: Detail,
     out: &mut S,
 ) -> Result<End, Failed>
-    requires stood { Stood board.old }
+    requires stood { Stood (boxed shown) board.old }
     requires fresh { turns_of board.old ≡ 0 }
     requires few { steps ≤ 1000000000 }
-    ensures text { (x : Scenario) → Stands x board.old (start_of x) → Pushes (S.seen out.old).written (S.seen out.new).written (ran steps detail x).text result }
-    ensures end { (x : Scenario) → Stands x board.old (start_of x) → IfOk result (λ e. e ≡ (run_of (level_of detail) steps x).end) }
-    ensures good { (x : Scenario) → Stands x board.old (start_of x) → IfOk result (λ _. IsGoodText (ran steps detail x).text) }
+    ensures text { (x : Scenario) → Stands (boxed shown) x board.old (start_of x) → Pushes (S.seen out.old).written (S.seen out.new).written (ran steps detail x).text result }
+    ensures end { (x : Scenario) → Stands (boxed shown) x board.old (start_of x) → IfOk result (λ e. e ≡ (run_of (level_of detail) steps x).end) }
+    ensures good { (x : Scenario) → Stands (boxed shown) x board.old (start_of x) → IfOk result (λ _. IsGoodText (ran steps detail x).text) }
     ensures cause { HasCause (S.seen out.old).faults (S.seen out.new).faults result }
 {
     texts_of_runs_are_good();
@@ -64,11 +67,11 @@ fn push_run<S: Sink>(
 
 // The run of a board from its start.
 fn tell_run<S: Sink>(board: &mut Board, steps: u32, detail: Detail, out: &mut S) -> u8
-    requires stood { Stood board.old }
+    requires stood { Stood (boxed shown) board.old }
     requires fresh { turns_of board.old ≡ 0 }
     requires few { steps ≤ 1000000000 }
-    ensures pushed { (x : Scenario) → Stands x board.old (start_of x) → Pushed (S.seen out.old) (S.seen out.new) (ran steps detail x) result }
-    ensures good { (x : Scenario) → Stands x board.old (start_of x) → IsOfRun result → IsGoodText (ran steps detail x).text }
+    ensures pushed { (x : Scenario) → Stands (boxed shown) x board.old (start_of x) → Pushed (S.seen out.old) (S.seen out.new) (ran steps detail x) result }
+    ensures good { (x : Scenario) → Stands (boxed shown) x board.old (start_of x) → IsOfRun result → IsGoodText (ran steps detail x).text }
 {
     match push_run(board, steps, detail, out) {
         Ok(end) => status_by(end),
@@ -85,10 +88,10 @@ fn play<S: Sink>(
     out: &mut S,
 ) -> u8
     requires few { steps ≤ 1000000000 }
-    requires ready { IfOk prepared (λ b. Stood b × (turns_of b ≡ 0)) }
-    ensures { (job : Asked) (before after : FilesSeen) → after.contents ≡ before.contents
-        → IfOk prepared (IsReady job before.contents steps detail) → IfErr prepared (IsNamedFaultIn job before after)
-        → AnswersJob job before after (S.seen out.old) (S.seen out.new) result }
+    requires ready { IfOk prepared (λ b. Stood (boxed shown) b × (turns_of b ≡ 0)) }
+    ensures { (devices : List DeviceData) (job : Asked) (before after : FilesSeen) → after.contents ≡ before.contents
+        → IfOk prepared (IsReady (boxed shown) devices job before.contents steps detail) → IfErr prepared (IsNamedFaultIn job before after)
+        → AnswersJob devices job before after (S.seen out.old) (S.seen out.new) result }
 {
     match prepared {
         Ok(board) => {
@@ -108,14 +111,16 @@ fn run_files<F: Files, S: Sink>(
     detail: Detail,
     files: &mut F,
     out: &mut S,
+    devices: Vec<Box<dyn Device>>,
 ) -> u8
+    requires fresh { AreFresh (map shown devices.items) }
     requires few { steps ≤ 1000000000 }
-    ensures answer { AnswersJob (run_job image.now script.now steps detail) (F.seen files.old) (F.seen files.new) (S.seen out.old) (S.seen out.new) result }
+    ensures answer { AnswersJob (map shown devices.items) (run_job image.now script.now steps detail) (F.seen files.old) (F.seen files.new) (S.seen out.old) (S.seen out.new) result }
     ensures later { (F.seen files.old).read_faults ≤ (F.seen files.new).read_faults }
     ensures contents { (F.seen files.new).contents ≡ (F.seen files.old).contents }
     ensures puts { (F.seen files.new).put_faults ≡ (F.seen files.old).put_faults }
 {
-    let prepared = prepare_run(alloc, files, image, script);
+    let prepared = prepare_run(alloc, files, image, script, devices);
     play(alloc, prepared, steps, detail, out)
 }
 
@@ -128,20 +133,22 @@ fn go_files<F: Files, S: Sink>(
     detail: Detail,
     files: &mut F,
     out: &mut S,
+    devices: Vec<Box<dyn Device>>,
 ) -> u8
+    requires fresh { AreFresh (map shown devices.items) }
     requires few { steps ≤ 1000000000 }
-    ensures answer { AnswersJob (go_job app.now script.now steps detail) (F.seen files.old) (F.seen files.new) (S.seen out.old) (S.seen out.new) result }
+    ensures answer { AnswersJob (map shown devices.items) (go_job app.now script.now steps detail) (F.seen files.old) (F.seen files.new) (S.seen out.old) (S.seen out.new) result }
     ensures later { (F.seen files.old).read_faults ≤ (F.seen files.new).read_faults }
     ensures contents { (F.seen files.new).contents ≡ (F.seen files.old).contents }
     ensures puts { (F.seen files.new).put_faults ≡ (F.seen files.old).put_faults }
 {
-    let prepared = prepare_go(alloc, files, app, script);
+    let prepared = prepare_go(alloc, files, app, script, devices);
     play(alloc, prepared, steps, detail, out)
 }
 
 // `list IMAGE`.
 fn list_file<F: Files, S: Sink>(alloc: Global, image: &str, files: &mut F, out: &mut S) -> u8
-    ensures answer { AnswersJob (list_job image.now) (F.seen files.old) (F.seen files.new) (S.seen out.old) (S.seen out.new) result }
+    ensures answer { (devices : List DeviceData) → AnswersJob devices (list_job image.now) (F.seen files.old) (F.seen files.new) (S.seen out.old) (S.seen out.new) result }
     ensures later { (F.seen files.old).read_faults ≤ (F.seen files.new).read_faults }
     ensures contents { (F.seen files.new).contents ≡ (F.seen files.old).contents }
     ensures puts { (F.seen files.new).put_faults ≡ (F.seen files.old).put_faults }
@@ -186,7 +193,7 @@ fn build_file<F: Files, S: Sink>(
     files: &mut F,
     out: &mut S,
 ) -> u8
-    ensures answer { AnswersJob (build_job app.now name.now) (F.seen files.old) (F.seen files.new) (S.seen out.old) (S.seen out.new) result }
+    ensures answer { (devices : List DeviceData) → AnswersJob devices (build_job app.now name.now) (F.seen files.old) (F.seen files.new) (S.seen out.old) (S.seen out.new) result }
     ensures later { (F.seen files.old).read_faults ≤ (F.seen files.new).read_faults }
     ensures puts { (F.seen files.old).put_faults ≤ (F.seen files.new).put_faults }
 {
@@ -204,7 +211,7 @@ fn migrate_file<F: Files, S: Sink>(
     files: &mut F,
     out: &mut S,
 ) -> u8
-    ensures answer { AnswersJob (migrate_job image.now name.now) (F.seen files.old) (F.seen files.new) (S.seen out.old) (S.seen out.new) result }
+    ensures answer { (devices : List DeviceData) → AnswersJob devices (migrate_job image.now name.now) (F.seen files.old) (F.seen files.new) (S.seen out.old) (S.seen out.new) result }
     ensures later { (F.seen files.old).read_faults ≤ (F.seen files.new).read_faults }
     ensures puts { (F.seen files.old).put_faults ≤ (F.seen files.new).put_faults }
 {
@@ -216,7 +223,7 @@ fn migrate_file<F: Files, S: Sink>(
 
 // `audit TRACE`.
 fn audit_file<F: Files, S: Sink>(alloc: Global, trace: &str, files: &mut F, out: &mut S) -> u8
-    ensures answer { AnswersJob (audit_job trace.now) (F.seen files.old) (F.seen files.new) (S.seen out.old) (S.seen out.new) result }
+    ensures answer { (devices : List DeviceData) → AnswersJob devices (audit_job trace.now) (F.seen files.old) (F.seen files.new) (S.seen out.old) (S.seen out.new) result }
     ensures later { (F.seen files.old).read_faults ≤ (F.seen files.new).read_faults }
     ensures contents { (F.seen files.new).contents ≡ (F.seen files.old).contents }
     ensures puts { (F.seen files.new).put_faults ≡ (F.seen files.old).put_faults }
@@ -227,8 +234,15 @@ fn audit_file<F: Files, S: Sink>(alloc: Global, trace: &str, files: &mut F, out:
     }
 }
 
-fn answer<F: Files, S: Sink>(alloc: Global, words: &[String], files: &mut F, out: &mut S) -> u8
-    ensures answer { Answers (texts_of words.now) (F.seen files.old) (F.seen files.new) (S.seen out.old) (S.seen out.new) result }
+fn answer<F: Files, S: Sink>(
+    alloc: Global,
+    words: &[String],
+    files: &mut F,
+    out: &mut S,
+    devices: Vec<Box<dyn Device>>,
+) -> u8
+    requires fresh { AreFresh (map shown devices.items) }
+    ensures answer { Answers (map shown devices.items) (texts_of words.now) (F.seen files.old) (F.seen files.new) (S.seen out.old) (S.seen out.new) result }
     ensures later { (F.seen files.old).read_faults ≤ (F.seen files.new).read_faults }
     ensures puts { (F.seen files.old).put_faults ≤ (F.seen files.new).put_faults }
     ensures no_put { out_of (job_in (texts_of words.now)) ≡ None → (F.seen files.new).put_faults ≡ (F.seen files.old).put_faults }
@@ -242,7 +256,7 @@ fn answer<F: Files, S: Sink>(alloc: Global, words: &[String], files: &mut F, out
                 steps,
                 detail,
             },
-        ) => run_files(alloc, image, script, steps, detail, files, out),
+        ) => run_files(alloc, image, script, steps, detail, files, out, devices),
         Ok(
             Job::Go {
                 app,
@@ -250,7 +264,7 @@ fn answer<F: Files, S: Sink>(alloc: Global, words: &[String], files: &mut F, out
                 steps,
                 detail,
             },
-        ) => go_files(alloc, app, script, steps, detail, files, out),
+        ) => go_files(alloc, app, script, steps, detail, files, out, devices),
         Ok(Job::List { image }) => list_file(alloc, image, files, out),
         Ok(Job::Sample { seed, steps }) => run_sample(alloc, seed, steps, out),
         Ok(Job::Migrate { image, out: name }) => migrate_file(alloc, image, name, files, out),
@@ -261,7 +275,9 @@ fn answer<F: Files, S: Sink>(alloc: Global, words: &[String], files: &mut F, out
 }
 
 /// All that the program does. The words, the program's name first, and the files are handed in, and
-/// the lines go to the sink, one push each; the answer is the program's exit status.
+/// the lines go to the sink, one push each; the answer is the program's exit status. The devices are those of a run of `run`
+/// or `go`, as they are handed in: at most eight, to which nothing has come as yet, each at a place of its own. `sample` runs
+/// without a device.
 ///
 /// - 0: the trace of the run (docs/FORMATS.md, Trace), with `--all` each of its instructions, with `--mem` its last
 ///   memory, or the listing of the image was written; or the image that was built, or migrated, is under OUT, and its line was written;
@@ -275,6 +291,46 @@ fn answer<F: Files, S: Sink>(alloc: Global, words: &[String], files: &mut F, out
 /// - 5: memory is short, and nothing was written or put.
 /// - 6: as 0, and the run ended because the supervisor faulted.
 /// - 7: a trace does not hold together, and `no <line>` was written: its first line, from 1 on, that does not follow.
+pub fn hubris_main_with<F: Files, S: Sink>(
+    alloc: Global,
+    words: &[String],
+    files: &mut F,
+    out: &mut S,
+    devices: Vec<Box<dyn Device>>,
+) -> u8
+    requires fresh { AreFresh (map shown devices.items) }
+
+    // Where the words and the seen contents give a verdict (of accepted words and files: the trace of
+    // their run, the listing, the image that is built or migrated, the two lines of a sample, or what an audit found), its file was put, its whole text was pushed
+    // under its status; or the sink's count of faults rose, the status is 4, and a front of the text was
+    // pushed; or the count of failed puts rose, the status is 4, and nothing was pushed; or memory is
+    // short, the status is 5, and nothing was pushed or put; or the count of failed reads rose, and the
+    // same holds of the line of a file that cannot be read.
+    ensures seen { (v : Verdict) → IsVerdict (map shown devices.items) (texts_of words.now) (F.seen files.old).contents v → Answered (texts_of words.now) (F.seen files.old) (F.seen files.new) (S.seen out.old) (S.seen out.new) v result }
+    ensures complete { ¬ Rose (F.seen files.old).read_faults (F.seen files.new).read_faults → ¬ Rose (F.seen files.old).put_faults (F.seen files.new).put_faults → ¬ Rose (S.seen out.old).faults (S.seen out.new).faults →
+        (v : Verdict) → IsVerdict (map shown devices.items) (texts_of words.now) (F.seen files.old).contents v → IsComplete (F.seen files.old) (F.seen files.new) (S.seen out.old) (S.seen out.new) v result }
+
+    // When each status comes, and what was pushed and put with it.
+    ensures done { result ≡ 0 → HasDone (map shown devices.items) (texts_of words.now) (F.seen files.old) (F.seen files.new) (S.seen out.old) (S.seen out.new) }
+    ensures refused { result ≡ 1 → HasRefused (texts_of words.now) (F.seen files.old).contents (S.seen out.old) (S.seen out.new) }
+    ensures no_command { result ≡ 2 → (is_accepted (texts_of words.now) ≡ false) × Appends (S.seen out.old).written (S.seen out.new).written usage_line }
+    ensures unread { result ≡ 3 → HasUnread (texts_of words.now) (F.seen files.old) (F.seen files.new) (S.seen out.old) (S.seen out.new) }
+    ensures cut { result ≡ 4 → HasFront (map shown devices.items) (texts_of words.now) (F.seen files.old) (F.seen files.new) (S.seen out.old) (S.seen out.new) }
+    ensures short { result ≡ 5 → ((S.seen out.new).written ≡ (S.seen out.old).written) × ((S.seen out.new).faults ≡ (S.seen out.old).faults) × ((F.seen files.new).contents ≡ (F.seen files.old).contents) }
+    ensures supervisor { result ≡ 6 → HasPlayed (map shown devices.items) (texts_of words.now) (F.seen files.old).contents (S.seen out.old) (S.seen out.new) 6 }
+    ensures bad { result ≡ 7 → HasAudited (texts_of words.now) (F.seen files.old).contents (S.seen out.old) (S.seen out.new) 7 }
+    ensures known { result ≤ 7 }
+
+    // Only the file under OUT is changed, and only under the statuses 0 and 4.
+    ensures others { (name : List ℕ) → out_of (job_in (texts_of words.now)) ≢ Some name → (F.seen files.new).contents name ≡ (F.seen files.old).contents name }
+    ensures kept { result ≢ 0 → result ≢ 4 → (F.seen files.new).contents ≡ (F.seen files.old).contents }
+    ensures no_put { out_of (job_in (texts_of words.now)) ≡ None → (F.seen files.new).put_faults ≡ (F.seen files.old).put_faults }
+    ensures later { ((F.seen files.old).read_faults ≤ (F.seen files.new).read_faults) × ((F.seen files.old).put_faults ≤ (F.seen files.new).put_faults) }
+{
+    answer(alloc, words, files, out, devices)
+}
+
+/// The same where no run has a device.
 pub fn hubris_main<F: Files, S: Sink>(
     alloc: Global,
     words: &[String],
@@ -287,18 +343,18 @@ pub fn hubris_main<F: Files, S: Sink>(
     // pushed; or the count of failed puts rose, the status is 4, and nothing was pushed; or memory is
     // short, the status is 5, and nothing was pushed or put; or the count of failed reads rose, and the
     // same holds of the line of a file that cannot be read.
-    ensures seen { (v : Verdict) → IsVerdict (texts_of words.now) (F.seen files.old).contents v → Answered (texts_of words.now) (F.seen files.old) (F.seen files.new) (S.seen out.old) (S.seen out.new) v result }
+    ensures seen { (v : Verdict) → IsVerdict [] (texts_of words.now) (F.seen files.old).contents v → Answered (texts_of words.now) (F.seen files.old) (F.seen files.new) (S.seen out.old) (S.seen out.new) v result }
     ensures complete { ¬ Rose (F.seen files.old).read_faults (F.seen files.new).read_faults → ¬ Rose (F.seen files.old).put_faults (F.seen files.new).put_faults → ¬ Rose (S.seen out.old).faults (S.seen out.new).faults →
-        (v : Verdict) → IsVerdict (texts_of words.now) (F.seen files.old).contents v → IsComplete (F.seen files.old) (F.seen files.new) (S.seen out.old) (S.seen out.new) v result }
+        (v : Verdict) → IsVerdict [] (texts_of words.now) (F.seen files.old).contents v → IsComplete (F.seen files.old) (F.seen files.new) (S.seen out.old) (S.seen out.new) v result }
 
     // When each status comes, and what was pushed and put with it.
-    ensures done { result ≡ 0 → HasDone (texts_of words.now) (F.seen files.old) (F.seen files.new) (S.seen out.old) (S.seen out.new) }
+    ensures done { result ≡ 0 → HasDone [] (texts_of words.now) (F.seen files.old) (F.seen files.new) (S.seen out.old) (S.seen out.new) }
     ensures refused { result ≡ 1 → HasRefused (texts_of words.now) (F.seen files.old).contents (S.seen out.old) (S.seen out.new) }
     ensures no_command { result ≡ 2 → (is_accepted (texts_of words.now) ≡ false) × Appends (S.seen out.old).written (S.seen out.new).written usage_line }
     ensures unread { result ≡ 3 → HasUnread (texts_of words.now) (F.seen files.old) (F.seen files.new) (S.seen out.old) (S.seen out.new) }
-    ensures cut { result ≡ 4 → HasFront (texts_of words.now) (F.seen files.old) (F.seen files.new) (S.seen out.old) (S.seen out.new) }
+    ensures cut { result ≡ 4 → HasFront [] (texts_of words.now) (F.seen files.old) (F.seen files.new) (S.seen out.old) (S.seen out.new) }
     ensures short { result ≡ 5 → ((S.seen out.new).written ≡ (S.seen out.old).written) × ((S.seen out.new).faults ≡ (S.seen out.old).faults) × ((F.seen files.new).contents ≡ (F.seen files.old).contents) }
-    ensures supervisor { result ≡ 6 → HasPlayed (texts_of words.now) (F.seen files.old).contents (S.seen out.old) (S.seen out.new) 6 }
+    ensures supervisor { result ≡ 6 → HasPlayed [] (texts_of words.now) (F.seen files.old).contents (S.seen out.old) (S.seen out.new) 6 }
     ensures bad { result ≡ 7 → HasAudited (texts_of words.now) (F.seen files.old).contents (S.seen out.old) (S.seen out.new) 7 }
     ensures known { result ≤ 7 }
 
@@ -308,5 +364,5 @@ pub fn hubris_main<F: Files, S: Sink>(
     ensures no_put { out_of (job_in (texts_of words.now)) ≡ None → (F.seen files.new).put_faults ≡ (F.seen files.old).put_faults }
     ensures later { ((F.seen files.old).read_faults ≤ (F.seen files.new).read_faults) × ((F.seen files.old).put_faults ≤ (F.seen files.new).put_faults) }
 {
-    answer(alloc, words, files, out)
+    hubris_main_with(alloc, words, files, out, Vec::new(alloc))
 }

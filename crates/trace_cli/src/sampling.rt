@@ -1,6 +1,8 @@
 //! The sample of a seed: from its making to what is told of its run.
-ghost use Rattle.std.specs.Prelude.{◌≡◌, ◌≤◌, IfOk, IfErr, length, map, string_bytes};
+ghost use Rattle.std.specs.Prelude.{◌≡◌, ◌≤◌, List, IfOk, IfErr, length, map, string_bytes};
+ghost use Rattle.kernel_abi.specs.Devices.{DeviceData};
 ghost use Rattle.app_toml.specs.Held.{app_of};
+ghost use Rattle.board_core.specs.Data.{boxed};
 ghost use Rattle.board_core.specs.Stands.{Stands, Stood, turns_of};
 ghost use Rattle.board_model.specs.Script.{Scenario, start_of};
 ghost use Rattle.command_line.specs.CommandLine.{sample as sample_job};
@@ -37,9 +39,9 @@ fn image_by(alloc: Global, app: &App, sources: &[String]) -> Result<Image, Build
     builder.finish()
 }
 
-// The board at the start of the run of the sample of a seed: only for want of memory there is none.
+// The board at the start of the run of the sample of a seed, which has no device: only for want of memory there is none.
 fn prepare_sample(alloc: Global, seed: u32) -> Result<Board, BuildFault>
-    ensures ready { IfOk result (IsSampleReady seed) }
+    ensures ready { IfOk result (IsSampleReady (boxed shown) seed) }
     ensures memory { IfErr result (λ e. e ≡ BuildFault.Memory) }
 {
     build_is_not_refused();
@@ -48,7 +50,7 @@ fn prepare_sample(alloc: Global, seed: u32) -> Result<Board, BuildFault>
         Ok(image) => image,
         Err(fault) => return Err(fault),
     };
-    match Board::open(alloc, &image, &script) {
+    match Board::open(alloc, &image, &script, Vec::new(alloc)) {
         Ok(board) => Ok(board),
         Err(_) => Err(BuildFault::Memory),
     }
@@ -56,10 +58,10 @@ fn prepare_sample(alloc: Global, seed: u32) -> Result<Board, BuildFault>
 
 // The run of a board from its start, by its end and the numbers of its notes.
 fn tell_sample<S: Sink>(board: &mut Board, steps: u32, out: &mut S) -> u8
-    requires stood { Stood board.old }
+    requires stood { Stood (boxed shown) board.old }
     requires fresh { turns_of board.old ≡ 0 }
     requires few { steps ≤ 1000000000 }
-    ensures { (x : Scenario) → Stands x board.old (start_of x) → Pushed (S.seen out.old) (S.seen out.new) (sampled steps x) result }
+    ensures { (x : Scenario) → Stands (boxed shown) x board.old (start_of x) → Pushed (S.seen out.old) (S.seen out.new) (sampled steps x) result }
 {
     match summarize(board, steps, out) {
         Ok(end) => status_by(end),
@@ -67,11 +69,11 @@ fn tell_sample<S: Sink>(board: &mut Board, steps: u32, out: &mut S) -> u8
     }
 }
 
-/// `sample SEED STEPS`.
+/// `sample SEED STEPS`. No device is handed in, whatever there is for another job.
 pub fn run_sample<S: Sink>(alloc: Global, seed: u32, steps: u32, out: &mut S) -> u8
     requires few { steps ≤ 1000000000 }
-    ensures { (before after : FilesSeen) → after.contents ≡ before.contents
-        → AnswersJob (sample_job seed steps) before after (S.seen out.old) (S.seen out.new) result }
+    ensures { (devices : List DeviceData) (before after : FilesSeen) → after.contents ≡ before.contents
+        → AnswersJob devices (sample_job seed steps) before after (S.seen out.old) (S.seen out.new) result }
 {
     match prepare_sample(alloc, seed) {
         Ok(board) => {

@@ -4,7 +4,7 @@ use Rattle.board_model.specs.Run.{turn_after}
 use Rattle.kernel_tests.proofs.board.advance.Goals as goal
 
 pub returns-clause-stood : goal.returns-clause-stood
-returns-clause-stood c =
+returns-clause-stood boxes c =
     let x = c.requires.stood.0 in
     let s = c.requires.stood.1 in
     let n = turns_of c.advance.new.self - turns_of c.args.board.now - 1 in

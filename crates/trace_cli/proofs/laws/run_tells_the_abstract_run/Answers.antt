@@ -1,5 +1,6 @@
 use Rattle.std.proofs.Common.{◌≡◌, ℕ, zero, suc, List, [], ◌∷◌, Option, Some, None, refl}
 use Rattle.std.proofs.lemmas.Option.{same_Some}
+use Rattle.kernel_abi.specs.Devices.{DeviceData}
 use Rattle.command_line.specs.CommandLine.{run}
 use Rattle.command_line.specs.declared.job.Detail.{Detail}
 use Rattle.trace_cli.specs.Contents.{image_refusal, script_refusal, picture_of, scenario_of}
@@ -9,7 +10,7 @@ use Rattle.trace_cli.specs.Verdict.{Verdict, IsVerdict, does, runs, ran}
 use Rattle.trace_cli.proofs.OneVerdict.{one_verdict}
 use Rattle.trace_cli.proofs.laws.run_tells_the_abstract_run.Goals as goal
 
-module _ (seen : List ℕ → Option (List ℕ)) (image_name script_name image script : List ℕ) (image_seen : seen image_name ≡ Some image) (script_seen : seen script_name ≡ Some script)
+module _ (devices : List DeviceData) (seen : List ℕ → Option (List ℕ)) (image_name script_name image script : List ℕ) (image_seen : seen image_name ≡ Some image) (script_seen : seen script_name ≡ Some script)
     (image_taken : image_refusal image ≡ None) (script_taken : script_refusal script ≡ None) where
   -- the image, and then the script
   takes_both : Takes (Are seen) (image_file image_name ∷ script_file script_name ∷ []) (image ∷ script ∷ [])
@@ -17,11 +18,11 @@ module _ (seen : List ℕ → Option (List ℕ)) (image_name script_name image s
   takes_both (suc zero) bytes e = let same = same_Some script bytes e in (script_file script_name, refl, rw (← same) script_seen, rw (← same) script_taken)
   takes_both (suc (suc k)) bytes e = absurd (cc)
 
-  verdict : (words : List (List ℕ)) (n : ℕ) (detail : Detail) (v : Verdict) → job_in words ≡ Some (run image_name script_name n detail) → v ≡ ran n detail (scenario_of (picture_of image) script) → IsVerdict words seen v
-  verdict words n detail v at e = does (run image_name script_name n detail) (image ∷ script ∷ []) at (record { takes = takes_both; all = refl }) (runs n detail (scenario_of (picture_of image) script) (refl, refl, refl) e)
+  verdict : (words : List (List ℕ)) (n : ℕ) (detail : Detail) (v : Verdict) → job_in words ≡ Some (run image_name script_name n detail) → v ≡ ran n detail (scenario_of (picture_of image) script devices) → IsVerdict devices words seen v
+  verdict words n detail v at e = does (run image_name script_name n detail) (image ∷ script ∷ []) at (record { takes = takes_both; all = refl }) (runs n detail (scenario_of (picture_of image) script devices) (refl, refl, refl) e)
 
 pub returns : goal.returns
-returns c = λ words seen image_name script_name image script n detail v at image_seen script_seen image_taken script_taken.
-    let done : Verdict = ran n detail (scenario_of (picture_of image) script) in
-    let is = verdict seen image_name script_name image script image_seen script_seen image_taken script_taken words n detail in
+returns c = λ devices words seen image_name script_name image script n detail v at image_seen script_seen image_taken script_taken.
+    let done : Verdict = ran n detail (scenario_of (picture_of image) script devices) in
+    let is = verdict devices seen image_name script_name image script image_seen script_seen image_taken script_taken words n detail in
     (λ h. one_verdict words seen v done h (is done at refl), is v at)

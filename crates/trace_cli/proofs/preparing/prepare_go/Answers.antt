@@ -8,7 +8,7 @@ use Rattle.trace_cli.proofs.preparing.prepare_go.Goals as goal
 pub returns-in-Ok-clause-ready : goal.returns-in-Ok-clause-ready
 returns-in-Ok-clause-ready g c = λ n detail.
     IfOk-weaker c.set_up.result _ _ (λ b h. go_ready (g.F.Files.seen c.args.files.now).contents c.args.app.now c.args.script.now n detail (picture c.in-Ok.picture) b c.in-Ok.ensures.image
-    (subst (λ t. IsSet t (picture c.in-Ok.picture) c.args.script.now b) c.in-Ok.ensures.contents h)) c.set_up.ensures.set
+    (subst (λ t. IsSet _ _ t (picture c.in-Ok.picture) c.args.script.now b) c.in-Ok.ensures.contents h)) c.set_up.ensures.set
 
 pub returns-in-Ok-clause-named_fault : goal.returns-in-Ok-clause-named_fault
 returns-in-Ok-clause-named_fault g c = λ n detail.

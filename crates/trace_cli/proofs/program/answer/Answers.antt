@@ -5,7 +5,7 @@ use Rattle.trace_cli.proofs.program.answer.Goals as goal
 pub returns-in-Ok-Build-clause-answer : goal.returns-in-Ok-Build-clause-answer
 returns-in-Ok-Build-clause-answer g c =
     let job = rw c.in-Ok-Build.field-0-is at c.in-Ok-Build.ensures.job in
-    by_job _ _ _ _ _ _ _ c.in-Ok-Build.ensures.accepted job c.build_file.ensures.answer
+    by_job _ _ _ _ _ _ _ c.in-Ok-Build.ensures.accepted job (c.build_file.ensures.answer _)
 
 pub returns-in-Ok-Run-clause-answer : goal.returns-in-Ok-Run-clause-answer
 returns-in-Ok-Run-clause-answer g c =
@@ -20,31 +20,31 @@ returns-in-Ok-Go-clause-answer g c =
 pub returns-in-Ok-List-clause-answer : goal.returns-in-Ok-List-clause-answer
 returns-in-Ok-List-clause-answer g c =
     let job = rw c.in-Ok-List.field-0-is at c.in-Ok-List.ensures.job in
-    by_job _ _ _ _ _ _ _ c.in-Ok-List.ensures.accepted job c.list_file.ensures.answer
+    by_job _ _ _ _ _ _ _ c.in-Ok-List.ensures.accepted job (c.list_file.ensures.answer _)
 
 pub returns-in-Ok-Sample-clause-answer : goal.returns-in-Ok-Sample-clause-answer
 returns-in-Ok-Sample-clause-answer g c =
     let job = rw c.in-Ok-Sample.field-0-is at c.in-Ok-Sample.ensures.job in
-    by_job _ _ _ _ _ _ _ c.in-Ok-Sample.ensures.accepted job (c.run_sample.ensures _ _ refl)
+    by_job _ _ _ _ _ _ _ c.in-Ok-Sample.ensures.accepted job (c.run_sample.ensures _ _ _ refl)
 
 pub returns-in-Ok-Migrate-clause-answer : goal.returns-in-Ok-Migrate-clause-answer
 returns-in-Ok-Migrate-clause-answer g c =
     let job = rw c.in-Ok-Migrate.field-0-is at c.in-Ok-Migrate.ensures.job in
-    by_job _ _ _ _ _ _ _ c.in-Ok-Migrate.ensures.accepted job c.migrate_file.ensures.answer
+    by_job _ _ _ _ _ _ _ c.in-Ok-Migrate.ensures.accepted job (c.migrate_file.ensures.answer _)
 
 pub returns-in-Ok-Audit-clause-answer : goal.returns-in-Ok-Audit-clause-answer
 returns-in-Ok-Audit-clause-answer g c =
     let job = rw c.in-Ok-Audit.field-0-is at c.in-Ok-Audit.ensures.job in
-    by_job _ _ _ _ _ _ _ c.in-Ok-Audit.ensures.accepted job c.audit_file.ensures.answer
+    by_job _ _ _ _ _ _ _ c.in-Ok-Audit.ensures.accepted job (c.audit_file.ensures.answer _)
 
 pub run_sample-requires : goal.run_sample-requires
 run_sample-requires g c = record { few = rw c.in-Ok-Sample.field-0-is at c.in-Ok-Sample.ensures.few }
 
 pub run_files-requires : goal.run_files-requires
-run_files-requires g c = record { few = rw c.in-Ok-Run.field-0-is at c.in-Ok-Run.ensures.few }
+run_files-requires g c = record { fresh = c.requires; few = rw c.in-Ok-Run.field-0-is at c.in-Ok-Run.ensures.few }
 
 pub go_files-requires : goal.go_files-requires
-go_files-requires g c = record { few = rw c.in-Ok-Go.field-0-is at c.in-Ok-Go.ensures.few }
+go_files-requires g c = record { fresh = c.requires; few = rw c.in-Ok-Go.field-0-is at c.in-Ok-Go.ensures.few }
 
 pub returns-in-Err-NotAccepted-clause-answer : goal.returns-in-Err-NotAccepted-clause-answer
 returns-in-Err-NotAccepted-clause-answer g c = answers_usage _ _ _ _ _ (c.in-Err-NotAccepted.ensures.refused c.in-Err-NotAccepted.field-0-is) c.tell_usage.ensures

@@ -3,7 +3,7 @@ use Rattle.trace_cli.proofs.Readying.{answers_named_fault, answers_audited, audi
 use Rattle.trace_cli.proofs.program.audit_file.Goals as goal
 
 pub returns-in-Ok-clause-answer : goal.returns-in-Ok-clause-answer
-returns-in-Ok-clause-answer g c =
+returns-in-Ok-clause-answer g c = λ devices.
     let a = g.F.Files.seen c.args.files.now in
     let b = g.F.Files.seen c.audit_under.new.files in
     let w = g.S.Sink.seen c.args.out.now in
@@ -11,7 +11,7 @@ returns-in-Ok-clause-answer g c =
     answers_audited a b w w' c.args.trace.now c.in-Ok.verdict c.tell_audit.result c.in-Ok.ensures.contents c.in-Ok.ensures.audit c.tell_audit.ensures
 
 pub returns-in-Err-clause-answer : goal.returns-in-Err-clause-answer
-returns-in-Err-clause-answer g c =
+returns-in-Err-clause-answer g c = λ devices.
     let a = g.F.Files.seen c.args.files.now in
     let b = g.F.Files.seen c.audit_under.new.files in
     let w = g.S.Sink.seen c.args.out.now in

@@ -4,7 +4,7 @@ use Rattle.trace_cli.proofs.Readying.{answers_named_fault, answers_built, build_
 use Rattle.trace_cli.proofs.program.build_file.Goals as goal
 
 pub returns-in-Ok-clause-answer : goal.returns-in-Ok-clause-answer
-returns-in-Ok-clause-answer g c =
+returns-in-Ok-clause-answer g c = λ devices.
     let a = g.F.Files.seen c.args.files.now in
     let b = g.F.Files.seen c.built_image.new.files in
     let e = g.F.Files.seen c.put_image.new.files in
@@ -13,7 +13,7 @@ returns-in-Ok-clause-answer g c =
     answers_built a b e w w' c.args.app.now c.args.name.now (picture c.in-Ok.image) c.put_image.result c.in-Ok.ensures.contents c.in-Ok.ensures.puts c.in-Ok.ensures.image c.put_image.ensures.tells
 
 pub returns-in-Err-clause-answer : goal.returns-in-Err-clause-answer
-returns-in-Err-clause-answer g c =
+returns-in-Err-clause-answer g c = λ devices.
     let a = g.F.Files.seen c.args.files.now in
     let b = g.F.Files.seen c.built_image.new.files in
     let w = g.S.Sink.seen c.args.out.now in

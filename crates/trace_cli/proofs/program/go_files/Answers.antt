@@ -11,4 +11,4 @@ pub returns-clause-answer : goal.returns-clause-answer
 returns-clause-answer g c =
     let a = g.F.Files.seen c.args.files.now in
     let b = g.F.Files.seen c.prepare_go-prepared.new.files in
-    c.play.ensures (go c.args.app.now c.args.script.now c.args.steps c.args.detail) a b c.prepare_go-prepared.ensures.contents (c.prepare_go-prepared.ensures.ready c.args.steps c.args.detail) (c.prepare_go-prepared.ensures.named_fault c.args.steps c.args.detail)
+    c.play.ensures _ (go c.args.app.now c.args.script.now c.args.steps c.args.detail) a b c.prepare_go-prepared.ensures.contents (c.prepare_go-prepared.ensures.ready c.args.steps c.args.detail) (c.prepare_go-prepared.ensures.named_fault c.args.steps c.args.detail)

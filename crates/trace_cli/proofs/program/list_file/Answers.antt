@@ -6,7 +6,7 @@ use Rattle.trace_cli.proofs.Readying.{answers_said, answers_named_fault, list_re
 use Rattle.trace_cli.proofs.program.list_file.Goals as goal
 
 pub returns-in-Ok-clause-answer : goal.returns-in-Ok-clause-answer
-returns-in-Ok-clause-answer g c =
+returns-in-Ok-clause-answer g c = λ devices.
     let a = g.F.Files.seen c.args.files.now in
     let b = g.F.Files.seen c.read_image.new.files in
     let w = g.S.Sink.seen c.args.out.now in
@@ -15,7 +15,7 @@ returns-in-Ok-clause-answer g c =
     answers_said (list c.args.image.now) a b w w' (listed image) c.tell_listing.result c.in-Ok.ensures.contents refl (list_reason a b c.args.image.now image c.in-Ok.ensures.image) tt c.tell_listing.ensures
 
 pub returns-in-Err-clause-answer : goal.returns-in-Err-clause-answer
-returns-in-Err-clause-answer g c =
+returns-in-Err-clause-answer g c = λ devices.
     let a = g.F.Files.seen c.args.files.now in
     let b = g.F.Files.seen c.read_image.new.files in
     let w = g.S.Sink.seen c.args.out.now in

@@ -6,6 +6,7 @@ use Rattle.outside_io.specs.Outside.{AppendsFront}
 use Rattle.board_model.specs.Run.{Run, run}
 use Rattle.board_model.specs.Script.{start_of}
 use Rattle.board_model.specs.declared.outcomes.Level.{Level}
+use Rattle.board_core.specs.Data.{boxed}
 use Rattle.board_core.specs.Stands.{Stands}
 use Rattle.board_run.specs.Text.{trace_text}
 use Rattle.board_run.specs.MemoryText.{memory_text}
@@ -30,7 +31,8 @@ returns-in_err-write_memory-clause-text g c = λ x st.
     let same = from_start c.level_of.result x c.args.board.now c.args.steps st c.requires.fresh ∙ ap (λ (l : Level). run_of l c.args.steps x) c.level_of.ensures in
     let whole = run_of (level_of c.args.detail) c.args.steps x in
     let P : Run → Type 0 = λ r. Appends (g.S.Sink.seen c.args.out.now).written (g.S.Sink.seen c.run.new.out).written (trace_text r) in
-    let L : Run → Type 0 = λ r. Stands x c.run.new.board r.last in
+    let shown = boxed (λ p. (goal.Device-dyn g p).shown p.1) in
+    let L : Run → Type 0 = λ r. Stands shown x c.run.new.board r.last in
     let last = subst L same (c.in_ok-end.ensures.last x (start_of x) st) in
     rw (p.1, c.if-detail.true) (front_more _ _ _ (trace_text whole) (memory_text x.setup whole.last) (subst P same (c.in_ok-end.ensures.text x (start_of x) st)) (c.in_err-write_memory.ensures.text x whole.last last))
 
@@ -39,7 +41,8 @@ returns-in_ok-write_memory-clause-text g c = λ x st.
     let same = from_start c.level_of.result x c.args.board.now c.args.steps st c.requires.fresh ∙ ap (λ (l : Level). run_of l c.args.steps x) c.level_of.ensures in
     let whole = run_of (level_of c.args.detail) c.args.steps x in
     let P : Run → Type 0 = λ r. Appends (g.S.Sink.seen c.args.out.now).written (g.S.Sink.seen c.run.new.out).written (trace_text r) in
-    let L : Run → Type 0 = λ r. Stands x c.run.new.board r.last in
+    let shown = boxed (λ p. (goal.Device-dyn g p).shown p.1) in
+    let L : Run → Type 0 = λ r. Stands shown x c.run.new.board r.last in
     let last = subst L same (c.in_ok-end.ensures.last x (start_of x) st) in
     rw c.if-detail.true (appends_more _ _ _ (trace_text whole) (memory_text x.setup whole.last) (subst P same (c.in_ok-end.ensures.text x (start_of x) st)) (c.in_ok-write_memory.ensures.text x whole.last last))
 
@@ -65,9 +68,9 @@ returns-in_ok-write_memory-clause-good g c = λ x st.
     let last = c.in_ok-end.ensures.last x (start_of x) st in
     let fits = last_fits x c.run.new.board whole.last n c.requires.few c.in_ok-end.ensures.within last (c.in_ok-end.ensures.timers x (start_of x) st) in
     let good = c.texts_of_runs_are_good.ensures.runs c.level_of.result x (n - (start_of x).turn) st.sane in
-    let shown = c.memories_are_shown.ensures.memories x.setup whole.last last.sane in
+    let lines = c.memories_are_shown.ensures.memories x.setup whole.last last.sane in
     let P : Run → Type 0 = λ r. IsGoodText (trace_text r ++ memory_text x.setup r.last) in
-    rw c.if-detail.true (subst P same (good (memory_text x.setup whole.last) fits (c.in_ok-end.ensures.fit x (start_of x) st) shown))
+    rw c.if-detail.true (subst P same (good (memory_text x.setup whole.last) fits (c.in_ok-end.ensures.fit x (start_of x) st) lines))
 
 pub returns-else-detail-clause-good : goal.returns-else-detail-clause-good
 returns-else-detail-clause-good g c = λ x st.

@@ -8,10 +8,10 @@ tell_sample-requires g c =
     record { stood = stood.0; fresh = stood.1; few = c.requires.few }
 
 pub returns-in-Ok : goal.returns-in-Ok
-returns-in-Ok g c = λ a b same.
+returns-in-Ok g c = λ devices a b same.
     let w = g.S.Sink.seen c.args.out.now in
     let w' = g.S.Sink.seen c.tell_sample.new.out in
     answers_sample c.args.seed c.args.steps a b w w' c.in-Ok.board c.tell_sample.result same c.in-Ok.ensures.ready c.tell_sample.ensures
 
 pub returns-in-Err : goal.returns-in-Err
-returns-in-Err g c = λ a b same. inl (record { status = refl; written = refl; faults = refl; files = same })
+returns-in-Err g c = λ devices a b same. inl (record { status = refl; written = refl; faults = refl; files = same })
