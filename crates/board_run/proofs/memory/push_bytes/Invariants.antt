@@ -11,6 +11,6 @@ abbrev pub invariant-loop-k : goal.invariant-loop-k
 invariant-loop-k boxes l =
     let shown = boxed (λ p. (goal.Device-dyn boxes p).shown p.1) in
     record {
-  bytes : (x : Scenario) (s : State) → Stands shown x l.board s → l.line.bytes ≡ l.fn.line.bytes ++ bytes_hex s.memory l.addr l.k;
-  len : array_string_len l.line ≡ array_string_len l.fn.line + 2 * l.k;
-}
+      bytes : (x : Scenario) (s : State) → Stands shown x l.board s → l.line.bytes ≡ l.fn.line.bytes ++ bytes_hex s.memory l.addr l.k;
+      len : array_string_len l.line ≡ array_string_len l.fn.line + 2 * l.k;
+    }

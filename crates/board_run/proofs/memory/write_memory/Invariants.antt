@@ -11,6 +11,6 @@ abbrev pub invariant-loop-k : goal.invariant-loop-k
 invariant-loop-k g l =
     let shown = boxed (λ p. (goal.Device-dyn g p).shown p.1) in
     record {
-  pushed : (x : Scenario) (s : State) → Stands shown x l.board s → Appends (g.S.Sink.seen l.fn.out).written (g.S.Sink.seen l.out).written (places_text x.setup s.memory l.k);
-  later : (g.S.Sink.seen l.fn.out).faults ≤ (g.S.Sink.seen l.out).faults;
-}
+      pushed : (x : Scenario) (s : State) → Stands shown x l.board s → Appends (g.S.Sink.seen l.fn.out).written (g.S.Sink.seen l.out).written (places_text x.setup s.memory l.k);
+      later : (g.S.Sink.seen l.fn.out).faults ≤ (g.S.Sink.seen l.out).faults;
+    }

@@ -12,7 +12,7 @@ abbrev pub invariant-loop-i : goal.invariant-loop-i
 invariant-loop-i g l =
     let shown = boxed (λ p. (goal.Device-dyn g p).shown p.1) in
     record {
-  pushed : (x : Scenario) (s : State) → Stands shown x l.board s → Appends (g.S.Sink.seen l.fn.out).written (g.S.Sink.seen l.out).written (tasks_text s l.i);
-  timers : (x : Scenario) (s : State) → Stands shown x l.board s → AreFitTimers s l.i;
-  later : (g.S.Sink.seen l.fn.out).faults ≤ (g.S.Sink.seen l.out).faults;
-}
+      pushed : (x : Scenario) (s : State) → Stands shown x l.board s → Appends (g.S.Sink.seen l.fn.out).written (g.S.Sink.seen l.out).written (tasks_text s l.i);
+      timers : (x : Scenario) (s : State) → Stands shown x l.board s → AreFitTimers s l.i;
+      later : (g.S.Sink.seen l.fn.out).faults ≤ (g.S.Sink.seen l.out).faults;
+    }

@@ -10,10 +10,10 @@ abbrev pub invariant-turns : goal.invariant-turns
 invariant-turns g l =
     let shown = boxed (λ p. (goal.Device-dyn g p).shown p.1) in
     record {
-  midway : (x : Scenario) (s : State) → Stands shown x l.fn.board s → Midway shown g.T.Teller.heard l.level x l.fn.teller l.teller s l.board;
-  stood : Stood shown l.board;
-  turns : turns_of l.board ≤ l.limit;
-}
+      midway : (x : Scenario) (s : State) → Stands shown x l.fn.board s → Midway shown g.T.Teller.heard l.level x l.fn.teller l.teller s l.board;
+      stood : Stood shown l.board;
+      turns : turns_of l.board ≤ l.limit;
+    }
 
 abbrev pub decreases-turns : goal.decreases-turns
 decreases-turns g l = l.limit - turns_of l.board
