@@ -1,4 +1,5 @@
 pub mod Members
+pub mod Queues
 pub mod Choosing
 pub mod WindowCovers
 pub mod WindowTurns

@@ -55,6 +55,10 @@ pub rest_held : {X : Type 0} {H : X → Type 0} (shown : Shows X H) (loaded : Bo
 rest_held shown true g r cpu t h = record { saved = h.saved; holds = h.holds.kernel; rest = rest_of h.saved t cpu h.is }
 rest_held shown false g r cpu t h = record { saved = t; holds = h.kernel; rest = record { count = refl; notes = refl; memory = refl; time = refl; lines = refl; current = refl; next_call = refl; devices = refl } }
 
+pub devices_held : {X : Type 0} {H : X → Type 0} (shown : Shows X H) (loaded : Bool) (g : Setup) (r : Reach X H) (cpu : Cpu) (t : Turn) → HoldsBy shown loaded g r cpu t → data_of shown r.devices ≡ t.state.devices
+devices_held shown true g r cpu t h = h.holds.devices ∙ sym (rest_of h.saved t cpu h.is).devices
+devices_held shown false g r cpu t h = h.devices
+
 -- ## loaded or not
 
 pub loaded_by : {X : Type 0} {H : X → Type 0} (shown : Shows X H) (loaded : Bool) (g : Setup) (r : Reach X H) (cpu : Cpu) (t : Turn) → loaded ≡ true → IsLoaded shown g r cpu t → HoldsBy shown loaded g r cpu t

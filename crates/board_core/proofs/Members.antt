@@ -1,5 +1,5 @@
 -- Lists of boxes, and what all of them show.
-use Rattle.std.proofs.Common.{ℕ, ◌≡◌, ◌<◌, ◌≤◌, ◌∙◌, sym, ap, subst, arith, refl, List, length, map, slice_set, slice_index_or, Option, Some, None, Bool, true, false, position, cond}
+use Rattle.std.proofs.Common.{ℕ, ◌≡◌, ◌<◌, ◌≤◌, ◌∙◌, sym, ap, subst, arith, List, length, map, slice_set, slice_index_or, Some, None, Bool, true, false, cond}
 use Rattle.std.specs.Prelude.{ltb}
 use Rattle.std.proofs.lemmas.List.{get_or-map, map-set, length-map}
 use Rattle.std.proofs.Common.{inl, inr, ◌+◌, ◌-◌}

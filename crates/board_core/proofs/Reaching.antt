@@ -1,5 +1,5 @@
 -- What a load, a store and a byte from outside leave of the kernel and the devices.
-use Rattle.std.proofs.Common.{◌≡◌, ◌+◌, ◌%◌, ◌<◌, ◌≤◌, ℕ, Bool, true, false, cond, List, [], Option, Some, None, refl, sym, ◌∙◌, ap, subst, arith}
+use Rattle.std.proofs.Common.{◌≡◌, ◌%◌, ◌<◌, ℕ, Bool, true, false, cond, List, [], Option, Some, None, refl, sym, ◌∙◌, ap, subst, arith}
 use Rattle.kernel_abi.specs.declared.Given.{Given}
 use Rattle.kernel_abi.specs.declared.Note.{Note}
 use Rattle.kernel_abi.specs.declared.Note.TheVariants as note
@@ -12,8 +12,7 @@ use Rattle.task_table.specs.State.{Setup, Own, Turn}
 use Rattle.task_table.specs.Reading.{task_at, call_of, listen_of}
 use Rattle.task_table.specs.Effects.{noted, stored, with_devices, given_out, device_stored, device_taken}
 use Rattle.task_table.specs.Events.{fed}
-use Rattle.task_table.specs.Holds.{Holds, Kept, Shows as ShowsTurn, kept_of, memory_of, note_count, setup_of, current_of, task_count}
-use Rattle.task_table.specs.Limits.{turn_notes}
+use Rattle.task_table.specs.Holds.{Holds, Kept, Shows as ShowsTurn, kept_of, memory_of}
 use Rattle.task_table.proofs.Steps.{kept_same}
 use Rattle.board_model.specs.Turn.{put, took, is_device, or_zero}
 use Rattle.board_core.specs.declared.reach.Reach.{Reach}

@@ -126,9 +126,10 @@ started g ds = record (start g) { devices = ds }
 -- a kernel at the start of a run stands for the start, between turns
 pub opened : (g : Setup) (ds : List DeviceData) (k : Kernel) → AreFresh ds → Stands g k (begun (start g)) → Holds g k record { state = started g ds; notes = notes_of k; writes = []; reads = [] } × Sane g (started g ds)
 unfolding begun start with_devices
-opened g ds k fresh h =
-    (holds_devices g (kept_of k) record { state = start g; notes = notes_of k; writes = []; reads = [] } ds (between g k (begun (start g)) 0 h.holds),
-        sane-devices ds (begun (start g)) h.sane (fresh_sane ds fresh))
+opened g ds k fresh h = (
+  holds_devices g (kept_of k) record { state = start g; notes = notes_of k; writes = []; reads = [] } ds (between g k (begun (start g)) 0 h.holds),
+  sane-devices ds (begun (start g)) h.sane (fresh_sane ds fresh),
+)
 
 -- what is kept of the choice is no device's
 pub choice_started : (g : Setup) (ds : List DeviceData) (c : Choice) → IsChoice g (begun (start g)).state c → IsChoice g (started g ds) c

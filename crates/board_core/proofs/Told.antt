@@ -1,5 +1,6 @@
 -- What a board holds once a part of it is as it was told.
 use Rattle.std.proofs.Common.{◌≡◌, ◌≤◌, ◌∙◌, ℕ, false, List, refl, sym, ap, subst}
+use Rattle.kernel_abi.specs.Devices.{DeviceData}
 use Rattle.mem_banks.specs.Memory.{Memory, with_bytes}
 use Rattle.mem_banks.proofs.Copies.{with_bytes_ram}
 use Rattle.task_table.specs.State.{Setup, State, Turn, Call, Listen}
@@ -42,6 +43,11 @@ choice_stays g s c flash memory turn time next_call lines h = record {
   ready = record { ordered = h.ready.ordered; each = h.ready.each };
   down = h.down;
 }
+
+-- nor by the devices
+pub choice_of_devices : (g : Setup) (s : State) (c : Choice) (ds : List DeviceData) → IsChoice g s c → IsChoice g record s { devices = ds } c
+unfolding chosen is_ready task_at call_of listen_of
+choice_of_devices g s c ds h = record { next = h.next; order = h.order; ready = record { ordered = h.ready.ordered; each = h.ready.each }; down = h.down }
 
 -- the turn's number and the devices are as they were
 record IsSameRound (s u : State) : Type 0 where

@@ -1,4 +1,5 @@
 pub mod Data
+pub mod DeviceViews
 pub mod Reached
 pub mod Windowed
 pub mod Kept

@@ -3,6 +3,7 @@
 
 mod board;
 mod choice;
+mod device_view;
 mod glider;
 mod list;
 mod loners;
@@ -17,6 +18,7 @@ mod window_laws;
 
 pub use board::Board;
 pub use board_model::{End, Level, Turned};
+pub use device_view::DeviceView;
 pub use loners::listed_loners_share_nothing;
 pub use setting_laws::a_board_stands_for_each_state_that_is_kept_alike;
 pub use views::TaskView;

@@ -97,8 +97,9 @@ impl Reach {
     fn give(&mut self, addr: u32, value: u32)
         ensures { IsGiven shown self.old addr value self.new }
     {
-        if let Some(given) = self.devices.store(addr, value) {
-            self.note_given(given);
+        match self.devices.store(addr, value) {
+            Some(given) => self.note_given(given),
+            None => {}
         }
     }
 
@@ -106,6 +107,7 @@ impl Reach {
     fn note_given(&mut self, given: Given)
         ensures noted { note_count self.old.kernel < turn_notes → (g : Setup) (t : Turn) → Holds g self.old.kernel t → Holds g self.new.kernel (noted (Out given.device given.byte) t) }
         ensures frame { AddsAtMost self.old.kernel 1 self.new.kernel }
+        ensures current { current_of self.new.kernel ≡ current_of self.old.kernel }
         ensures devices { self.new.devices ≡ self.old.devices }
     {
         if self.kernel.notes().len() < TURN_NOTES {

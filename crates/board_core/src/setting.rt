@@ -1,7 +1,11 @@
 //! Parts of a board that become as they are told, each for itself. The state in between need not be sane; where the last one
 //! is, and its counts are in order, the board stands for it.
-ghost use Rattle.std.specs.Prelude.{◌≡◌, ◌<◌, ◌≤◌, ◌∷◌, [], true, slice_set};
+//!
+//! A board holds boxes of devices: a call that changes one is proved across crates only where it requires something, so each
+//! does, if only the range of a number.
+ghost use Rattle.std.specs.Prelude.{◌≡◌, ◌<◌, ◌≤◌, ◌^◌, ◌∷◌, [], length, true, slice_set};
 ghost use Rattle.std.specs.Option.{option_map};
+ghost use Rattle.kernel_abi.specs.Devices.{device_at, with_device, IsSettable};
 ghost use Rattle.mem_banks.specs.Memory.{with_bytes, is_held};
 ghost use Rattle.task_table.specs.State.{State};
 ghost use Rattle.task_table.specs.Setting.{with_slot, IsTold};
@@ -45,6 +49,7 @@ fn slot(view: &TaskView) -> Slot
 impl Board {
     /// So many turns were made.
     pub fn set_turns(&mut self, v: u32)
+        requires { v < 2 ^ 32 }
         ensures holds { (x : Scenario) (s : State) → Holds shown x self.old s → Holds shown x self.new (record s { turn = v }) }
         ensures count { count_of self.new ≡ count_of self.old }
     {
@@ -54,6 +59,7 @@ impl Board {
 
     /// The time in ticks is so.
     pub fn set_now(&mut self, v: u64)
+        requires { v < 2 ^ 64 }
         ensures holds { (x : Scenario) (s : State) → Holds shown x self.old s → Holds shown x self.new (record s { now = v }) }
         ensures count { count_of self.new ≡ count_of self.old }
     {
@@ -74,6 +80,7 @@ impl Board {
 
     /// The next call gets this number.
     pub fn set_next_call(&mut self, v: u32)
+        requires { v < 2 ^ 32 }
         ensures holds { (x : Scenario) (s : State) → Holds shown x self.old s → Holds shown x self.new (record s { next_call = v }) }
         ensures count { count_of self.new ≡ count_of self.old }
     {
@@ -83,6 +90,7 @@ impl Board {
 
     /// An interrupt line is so; where there is none with this number, nothing changes.
     pub fn set_irq_line(&mut self, k: usize, enabled: bool, pending: bool)
+        requires { k < 2 ^ 64 }
         ensures holds { (x : Scenario) (s : State) → Holds shown x self.old s → Holds shown x self.new (record s { lines = slice_set s.lines k (record { enabled = enabled; pending = pending }) }) }
         ensures count { count_of self.new ≡ count_of self.old }
     {
@@ -115,5 +123,15 @@ impl Board {
     {
         self.machine.save_context();
         self.machine.reach.kernel.set_byte(addr, v);
+    }
+
+    /// So many bytes were stored to the k-th device, modulo 2^32, and these wait in it, the first first.
+    pub fn set_device(&mut self, k: usize, count: u32, queue: &[u8])
+        requires { (x : Scenario) × (s : State) × Holds shown x self.old s × (k < length s.devices) × IsSettable (device_at s.devices k).kind count queue.now }
+        ensures holds { (x : Scenario) (s : State) → Holds shown x self.old s → Holds shown x self.new (record s { devices = with_device s.devices k (record (device_at s.devices k) { count = count; queue = queue.now }) }) }
+        ensures count { count_of self.new ≡ count_of self.old }
+    {
+        self.machine.save_context();
+        self.machine.reach.devices.set(k, count, queue);
     }
 }

@@ -12,11 +12,11 @@ abbrev pub invariant-on : goal.invariant-on
 invariant-on boxes l =
     let shown = boxed (λ p. (goal.Device-dyn boxes p).shown p.1) in
     record {
-  advanced : (x : Scenario) (s : State) → Stands shown x l.fn.self s → IsAdvanced shown Calls x (turns_of l.self - turns_of l.fn.self - 1) s l.self;
-  more : turns_of l.fn.self < turns_of l.self;
-  within : turns_of l.self ≤ l.limit;
-  noted : length (notes_of l.self) ≤ turn_notes;
-}
+      advanced : (x : Scenario) (s : State) → Stands shown x l.fn.self s → IsAdvanced shown Calls x (turns_of l.self - turns_of l.fn.self - 1) s l.self;
+      more : turns_of l.fn.self < turns_of l.self;
+      within : turns_of l.self ≤ l.limit;
+      noted : length (notes_of l.self) ≤ turn_notes;
+    }
 
 abbrev pub decreases-on : goal.decreases-on
 decreases-on boxes l = l.limit - turns_of l.self

@@ -1,6 +1,7 @@
 use Rattle.std.proofs.Common.{◌≡◌, [], sym, ◌∙◌}
 use Rattle.task_table.specs.Holds.{notes_of}
 use Rattle.board_core.proofs.Turning.{noted_in, empty_of}
+use Rattle.board_core.proofs.Loading.{unloaded_by}
 use Rattle.board_core.proofs.board.Board.renew.Goals as goal
 
 pub returns-else-not-is_empty-clause-choice : goal.returns-else-not-is_empty-clause-choice
@@ -10,3 +11,6 @@ returns-else-not-is_empty-clause-choice boxes c = λ g t st was f.
 
 pub returns-then-not-is_empty-clause-choice : goal.returns-then-not-is_empty-clause-choice
 returns-then-not-is_empty-clause-choice boxes c = λ g t st was f. c.renew_choice.ensures g t (c.save_context.ensures.holds g t st.holds).kernel was
+
+pub returns-then-not-is_empty-clause-holds : goal.returns-then-not-is_empty-clause-holds
+returns-then-not-is_empty-clause-holds boxes c = λ g t h. unloaded_by _ _ g _ _ t c.save_context.ensures.unloaded (c.save_context.ensures.holds g t h)

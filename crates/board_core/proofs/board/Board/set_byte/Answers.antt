@@ -34,4 +34,4 @@ returns-clause-ram boxes c = λ high x s h.
     let u : State = record s { memory = with_bytes s.memory c.args.addr bytes } in
     let saved = c.save_context.ensures.holds x.setup (rested b.machine s) h.machine in
     let flash = flash_stays x.setup c.save_context.new.self.reach.kernel (rested b.machine s) c.args.addr bytes saved.kernel high in
-    same_flash _ x _ u u.memory.flash flash (returns-clause-holds _ c x s h)
+    same_flash _ x _ u u.memory.flash flash (returns-clause-holds boxes c x s h)

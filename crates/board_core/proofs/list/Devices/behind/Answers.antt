@@ -1,6 +1,5 @@
-use Rattle.std.proofs.Common.{arith, sym, ◌∙◌, ◌≡◌, ◌<◌, ◌≤◌, ◌+◌, ℕ, length, Bool, true, false}
-use Rattle.kernel_abi.specs.Devices.{is_behind, behind, device_at}
-use Rattle.board_core.specs.Data.{data_of}
+use Rattle.std.proofs.Common.{arith, sym, ◌∙◌}
+use Rattle.kernel_abi.specs.Devices.{is_behind, device_at}
 use Rattle.board_core.proofs.Members.{first_behind, none_behind, one_more}
 use Rattle.board_core.proofs.list.Devices.behind.Goals as goal
 

@@ -1,4 +1,4 @@
-use Rattle.std.proofs.Common.{arith, sym, ◌∙◌, ◌≡◌, ◌<◌, ◌≤◌, ◌+◌, ◌-◌, ℕ, Some}
+use Rattle.std.proofs.Common.{arith, sym, ◌∙◌}
 use Rattle.board_core.proofs.Members.{is_near, place}
 use Rattle.board_core.proofs.list.Devices.place.Goals as goal
 

@@ -1,5 +1,5 @@
-use Rattle.std.proofs.Common.{sym, ◌∙◌, ap, subst}
-use Rattle.kernel_abi.specs.Devices.{DeviceData, device_at, IsSettable}
+use Rattle.std.proofs.Common.{subst}
+use Rattle.kernel_abi.specs.Devices.{DeviceData, IsSettable}
 use Rattle.board_core.proofs.Members.{member_shows, changed_shows}
 use Rattle.board_core.proofs.list.Devices.set.Goals as goal
 

@@ -25,11 +25,11 @@ pub loop-k-preserved : goal.loop-k-preserved
 loop-k-preserved boxes c =
     let shown = boxed (λ p. (goal.Device-dyn boxes p).shown p.1) in
     record {
-  room = omega (arith, c.happen_at.ensures.count, c.loop-k.invariant.room);
-  stands = λ g t st.
-      let P : Turn → Type 0 = λ u. MachineStands shown g c.happen_at.new.self u in
-      subst P (one_more g t (events_of (script_data c.args.script.now) c.args.turn) c.loop-k.k) (c.happen_at.ensures.stands g _ (c.loop-k.invariant.stands g t st));
-}
+      room = omega (arith, c.happen_at.ensures.count, c.loop-k.invariant.room);
+      stands = λ g t st.
+          let P : Turn → Type 0 = λ u. MachineStands shown g c.happen_at.new.self u in
+          subst P (one_more g t (events_of (script_data c.args.script.now) c.args.turn) c.loop-k.k) (c.happen_at.ensures.stands g _ (c.loop-k.invariant.stands g t st));
+    }
 
 pub returns-clause-stands : goal.returns-clause-stands
 returns-clause-stands boxes c =

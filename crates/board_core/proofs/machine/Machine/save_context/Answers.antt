@@ -1,3 +1,4 @@
+use Rattle.std.proofs.Common.{refl}
 use Rattle.board_core.proofs.Loading.{is_loaded, written_back}
 use Rattle.board_core.proofs.machine.Machine.save_context.Goals as goal
 
