@@ -12,20 +12,20 @@
 //! Last comes `text`, the lines that are wanted, or `sum`, the checksum of the text.
 #![tactic(auto)]
 
-mod devices;
 mod halfwords;
 mod images;
 mod loners;
 mod players;
 mod repeated;
+mod with_devices;
 
-use devices::{with_eight, with_two};
 use outside_io::{MemFiles, MemSink, read_all};
 use players::{END, FRONT, PLAYER, SERVER};
 use repeated::push_repeated;
 use std::alloc::{AllocError, Global};
 use std::{env, fs, io};
 use trace_cli::hubris_main;
+use with_devices::{with_eight, with_two};
 
 /// The checksum of a text: FNV-1a of 64 bits.
 fn sum(text: &[u8]) -> u64 {
