@@ -3,7 +3,7 @@
 use Rattle.std.proofs.Common.{◌≡◌, ℕ, zero, suc, ◌+◌, ◌*◌, ◌/◌, ◌%◌, ◌^◌, List, [], ◌∷◌, map, refl, ap, ◌∙◌, sym, arith, true, codes, Some}
 use Rattle.std.specs.Fmt.{digits}
 use Rattle.std.specs.List.{range_with_len}
-use Rattle.run_script.specs.declared.events.Event.TheVariants.{Irq, Tick}
+use Rattle.run_script.specs.declared.events.Event.TheVariants.{Feed, Irq, Tick}
 use Rattle.run_script.specs.Scripts.{Listed}
 use Rattle.sample_gen.specs.Sources.{supervisor_lines, server_lines, client_lines}
 use Rattle.sample_gen.specs.Draws.{next, number, draw}
@@ -16,10 +16,11 @@ hash_from x (b ∷ bs) = hash_from ((x * 31 + b + 1) % 2 ^ 32) bs
 hash : List ℕ → ℕ
 hash bs = hash_from 0 bs
 
--- a tick counts as line 32
+-- a tick counts as line 32, and so would a byte for a device, of which a sample has none
 code_of : Listed → ℕ
 code_of (turn, Irq line) = turn * 64 + line
 code_of (turn, Tick) = turn * 64 + 32
+code_of (turn, Feed device byte) = turn * 64 + 32
 
 hash_events : ℕ → List Listed → ℕ
 hash_events x [] = x
