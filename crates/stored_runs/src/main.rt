@@ -25,7 +25,7 @@ use repeated::push_repeated;
 use std::alloc::{AllocError, Global};
 use std::{env, fs, io};
 use trace_cli::hubris_main;
-use with_devices::{with_eight, with_two};
+use with_devices::with_two;
 
 /// The checksum of a text: FNV-1a of 64 bits.
 fn sum(text: &[u8]) -> u64 {
@@ -278,7 +278,6 @@ fn answers(
     let words = words_of(alloc, parts)?;
     let status = match contents(parts, "devices") {
         Some("two") => with_two(alloc, &words, files, out)?,
-        Some("eight") => with_eight(alloc, &words, files, out)?,
         _ => hubris_main(alloc, &words, files, out),
     };
     let (wanted, _) = head.split_once(' ').unwrap_or((head, ""));

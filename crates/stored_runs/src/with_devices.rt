@@ -1,4 +1,4 @@
-//! The program with devices: each function makes its own, since a list of them is handed in whole.
+//! The program with devices.
 use devices::{Console, Device, Port};
 use outside_io::{MemFiles, MemSink};
 use std::alloc::{AllocError, Global};
@@ -14,24 +14,5 @@ pub fn with_two(
     let mut devices: Vec<Box<dyn Device>> = Vec::new(alloc);
     devices.push(Box::new(alloc, Console::new(0x4000_0000))?)?;
     devices.push(Box::new(alloc, Port::new(0x4000_1000))?)?;
-    Ok(hubris_main_with(alloc, words, files, out, devices))
-}
-
-/// With consoles and ports in turn, side by side.
-pub fn with_eight(
-    alloc: Global,
-    words: &[String],
-    files: &mut MemFiles,
-    out: &mut MemSink,
-) -> Result<u8, AllocError> {
-    let mut devices: Vec<Box<dyn Device>> = Vec::new(alloc);
-    devices.push(Box::new(alloc, Console::new(0x4000_0000))?)?;
-    devices.push(Box::new(alloc, Port::new(0x4000_0100))?)?;
-    devices.push(Box::new(alloc, Console::new(0x4000_0200))?)?;
-    devices.push(Box::new(alloc, Port::new(0x4000_0300))?)?;
-    devices.push(Box::new(alloc, Console::new(0x4000_0400))?)?;
-    devices.push(Box::new(alloc, Port::new(0x4000_0500))?)?;
-    devices.push(Box::new(alloc, Console::new(0x4000_0600))?)?;
-    devices.push(Box::new(alloc, Port::new(0x4000_0700))?)?;
     Ok(hubris_main_with(alloc, words, files, out, devices))
 }
