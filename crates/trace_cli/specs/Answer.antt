@@ -16,7 +16,7 @@ use Rattle.trace_cli.specs.Words.{job_in}
 use Rattle.trace_cli.specs.Sources.{File, MayBe, MayBeRefused, Reaches, TakesAll, IsRun, IsListing, IsBuild, IsSample, IsAudit}
 use Rattle.trace_cli.specs.Verdict.{Verdict, usage, refused, refused_line, unread, unread_line, ran, listed, built, sampled, audited, Does}
 
--- ## why a verdict was given on a job (the files: before and after the call)
+-- ## why a verdict was given on a job (the files: before and after the call; the devices: those of a run)
 
 -- each file before is accepted, and a read of this one failed, by the count and the name of the last failing call
 pub record IsUnread (job : Asked) (before after : FilesSeen) (f : File) : Type 0 where

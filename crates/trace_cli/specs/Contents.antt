@@ -140,7 +140,7 @@ trace_refusal bytes = unless_long trace_limit bytes (option_map at_number (first
 abbrev pub setup_of_image : Picture → Setup
 setup_of_image image = opened.setup_of_image image
 
--- with these devices
+-- the run of an image with a script and devices
 abbrev pub scenario_of : Picture → List ℕ → List DeviceData → Scenario
 scenario_of image script devices = record { setup = setup_of_image image; script = script_of script; devices = devices }
 

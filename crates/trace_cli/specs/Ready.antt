@@ -25,7 +25,7 @@ pub record IsImageFile (seen : List ℕ → Option (List ℕ)) (name : List ℕ)
   pub accepted : image_refusal bytes ≡ None
   pub is : image ≡ picture_of bytes
 
--- the board stands for the start of the image's run with the script of this name
+-- the board stands for the start of the image's run with the script of this name and these devices
 pub record IsSet {X : Type 0} {H : X → Type 0} (shown : Shows X H) (devices : List DeviceData) (seen : List ℕ → Option (List ℕ)) (image : Picture) (name : List ℕ) (b : Board X H) : Type 0 where
   pub script : List ℕ
   pub held : MayBe seen name script

@@ -116,7 +116,7 @@ pub record IsBuilt (contents : List (List ℕ)) (image : Picture) : Type 0 where
   pub built : Built (described contents) (sources_in contents) image
   pub sound : Sound image
 
--- the job is a run of this scenario up to this bound, told in this detail
+-- the job is a run of this scenario with these devices up to this bound, told in this detail
 abbrev pub IsRun : List DeviceData → Asked → List (List ℕ) → ℕ → Detail → Scenario → Type 0
 IsRun devices (run image script steps detail) contents n d x =
     (n ≡ steps) × (d ≡ detail) × (x ≡ scenario_of (picture_of (first_of contents)) (slice_index_or contents 1 []) devices)

@@ -116,7 +116,7 @@ abbrev pub audited : trace.Verdict → Verdict
 audited (Yes calls left) = line_alone 0 (yes_line calls left)
 audited (No line) = line_alone 7 (no_line line)
 
--- ## what comes of accepted files with these contents
+-- ## what comes of accepted files with these contents, where a run has these devices
 
 pub data Does (devices : List DeviceData) (job : Asked) (contents : List (List ℕ)) (v : Verdict) : Type 0 where
   runs : (n : ℕ) (detail : Detail) (x : Scenario) → IsRun devices job contents n detail x → v ≡ ran n detail x → Does devices job contents v
@@ -125,7 +125,7 @@ pub data Does (devices : List DeviceData) (job : Asked) (contents : List (List �
   samples : (seed n : ℕ) (x : Scenario) → IsSample job seed n x → v ≡ sampled n x → Does devices job contents v
   audits : (text : List ℕ) (found : trace.Verdict) → IsAudit job contents text → trace_audit.IsVerdict text found → v ≡ audited found → Does devices job contents v
 
--- ## the verdict on words and contents, where they are seen as far as they count
+-- ## the verdict on words and contents, where they are seen as far as they count and a run has these devices
 
 -- Words that are not accepted are answered by the usage line, the first file that is refused by its line, and accepted files
 -- by what the job is. There is at most one verdict.
