@@ -65,7 +65,7 @@ named tasks n i id e =
     let q = and_parts (ltb (id % 1024) n) _ p.0 in
     record { inside = ltb-true _ _ q.0; other = apart _ _ q.1; birth = sym (eqb-true _ _ p.1) }
 
-no_setup : TaskSetup
+abbrev no_setup : TaskSetup
 no_setup = record { priority = 0; entry = 0; stack = 0; regions = []; start = false }
 
 -- the regions of a task

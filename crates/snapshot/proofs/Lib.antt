@@ -11,3 +11,4 @@ mod Saves
 mod Single
 mod Splits
 mod Told
+mod WaitsRestored
