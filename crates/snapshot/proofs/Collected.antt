@@ -74,3 +74,9 @@ module _ {X : Type 0} (key : X → ℕ) (of : ℕ → Option X) (keyed : (i : �
 pub map_same : {X : Type 0} (f : X → X) (xs : List X) → ((x : X) → Contains xs x → f x ≡ x) → map f xs ≡ xs
 map_same f [] h = refl
 map_same f (x ∷ xs) h = ap₂ (λ y ys. y ∷ ys) (h x (zero, omega arith, refl)) (map_same f xs (λ y c. h y (suc c.0, omega (arith, c.1), c.2)))
+
+-- what is made of the indices in their order
+pub made_of : {X : Type 0} (f : ℕ → X) (a n : ℕ) (x : X) → Contains (map f (range_with_len a n)) x → (i : ℕ) × (i < a + n) × (f i ≡ x)
+made_of f a zero x h = absurd (omega (arith, h.1))
+made_of f a (suc n) x (zero, lt, same) = let e : f a ≡ x = same in (a, omega arith, e)
+made_of f a (suc n) x (suc k, lt, same) = let r = made_of f (a + 1) n x (k, omega (arith, lt), same) in (r.0, omega (arith, r.1), r.2)

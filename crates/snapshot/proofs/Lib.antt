@@ -4,6 +4,7 @@ mod Agreed
 mod Collected
 mod First
 mod Grow
+mod Pieces
 mod Places
 mod Restores
 mod Rows
