@@ -5,7 +5,7 @@ use Rattle.std.specs.List.{range_with_len}
 use Rattle.std.proofs.Math.ListN.{get_or-map}
 use Rattle.std.proofs.lemmas.List.{length-map, length-replicate, drop-drop, get_or-drop, get_or-take, get_or_past, ext_get_or}
 use Rattle.std.proofs.lemmas.List.FromFn.{length-map-range_with_len, get_or-map-range_with_len}
-use Rattle.std.proofs.lemmas.Bool.{false≢true}
+use Rattle.std.proofs.lemmas.Bool.{false≢true, ltb-true, ltb-false}
 use Rattle.kernel_abi.specs.declared.Kind.{Kind}
 use Rattle.kernel_abi.specs.declared.Kind.TheVariants.{Console}
 use Rattle.kernel_abi.specs.Devices as device
@@ -89,9 +89,6 @@ module _ (g : Setup) (devices : List device.DeviceData) (bytes : List ℕ) (a : 
   unfolding state_in line_at
   line_is k lt = get_or-map-range_with_len (λ j. line_from (get_or bytes (36 + j) 0)) 0 64 k k no_line lt (zero_plus k)
 
-  calls_are : s.calls ≡ s.calls
-  calls_are = refl
-
   long_devices : length s.devices ≡ length devices
   unfolding state_in
   long_devices = length-map-range_with_len (λ k. device_from (device.device_at devices k) (device_in bytes n k)) 0 (length devices)
@@ -117,3 +114,181 @@ module _ (g : Setup) (devices : List device.DeviceData) (bytes : List ℕ) (a : 
   pub counted : IsCounted s × (s.turn ≤ 1000000000)
   unfolding state_in
   counted = (record { some = a.some_call; calls = a.few_calls; now = a.clock }, a.turn)
+
+  -- ## what is found of a task
+
+  call_is : (i : ℕ) → i < n → call_of s i ≡ call_in i (task_in bytes i)
+  unfolding state_in
+  call_is = call_found g s (task_in bytes) good waits task_is refl refl
+
+  listen_is : (i : ℕ) → i < n → listen_of s i ≡ listen_in i (task_in bytes i)
+  unfolding state_in
+  listen_is = listen_found g s (task_in bytes) good waits task_is refl refl
+
+  told : (i : ℕ) → i < n → record_of s i ≡ task_in bytes i
+  told i lt = (λ j. record_told (task_is i lt j) (call_is i lt j) (listen_is i lt j)) ∙ told_again s.now i (task_in bytes i) _ _ _ _ _ _ _ _ refl (good i lt)
+
+  -- ## it is spelled
+
+  header_is : header_at bytes ≡ (parts_of s).header
+  unfolding state_in
+  header_is =
+      let tasks = a.tasks ∙ count_tasks ∙ sym many in
+      let ram = a.ram ∙ sym as_much in
+      let beside = a.devices ∙ count_devices ∙ sym long_devices in
+      λ i. record {
+        turn = (header_at bytes).turn;
+        tasks = tasks i;
+        ram = ram i;
+        clock = (header_at bytes).clock;
+        current = (header_at bytes).current;
+        next_call = (header_at bytes).next_call;
+        devices = beside i;
+      }
+
+  lines_are : take 64 (drop 36 bytes) ≡ (parts_of s).lines
+  lines_are =
+      let rest = length-drop 36 bytes in
+      let front = length-take 64 (drop 36 bytes) in
+      let there : length (take 64 (drop 36 bytes)) ≡ 64 = omega (arith, rest, front, long) in
+      let told : length (map (λ k. line_number (line_at s k)) (range_with_len 0 64)) ≡ 64 = length-map-range_with_len (λ k. line_number (line_at s k)) 0 64 in
+      ext_get_or 0 (take 64 (drop 36 bytes)) (map (λ k. line_number (line_at s k)) (range_with_len 0 64)) (there ∙ sym told) (λ k lt.
+      let below : k < 64 = omega (arith, lt, there) in
+      get_or-take 64 (drop 36 bytes) k 0 below ∙ get_or-drop 36 bytes k 0 ∙ sym (line_again _ k (get_or bytes (36 + k) 0) (a.lines k below)) ∙ ap line_number (sym (line_is k below))
+      ∙ sym (get_or-map-range_with_len (λ j. line_number (line_at s j)) 0 64 k k 0 below (zero_plus k)))
+
+  tasks_are : tasks_at n (drop 100 bytes) ≡ map (record_of s) (range_with_len 0 n)
+  tasks_are =
+      let there = tasks_length n (drop 100 bytes) in
+      let told_all : length (map (record_of s) (range_with_len 0 n)) ≡ n = length-map-range_with_len (record_of s) 0 n in
+      ext_get_or (task_in bytes 0) (tasks_at n (drop 100 bytes)) (map (record_of s) (range_with_len 0 n)) (there ∙ sym told_all) (λ i lt.
+      let below : i < n = omega (arith, lt, there) in
+      tasks_index n i (drop 100 bytes) (task_in bytes 0) below ∙ ap file.task_at (drop-drop (132 * i) 100 bytes) ∙ sym (told i below)
+      ∙ sym (get_or-map-range_with_len (record_of s) 0 n i i (task_in bytes 0) below (zero_plus i)))
+
+  queue_long : (k : ℕ) → k < length devices → length (device_in bytes n k).queue ≡ 64
+  queue_long k lt =
+      let place = devices_place n + 72 * k in
+      let rest = length-drop place bytes in
+      let behind = length-drop 8 (drop place bytes) in
+      let queue = length-take 64 (drop 8 (drop place bytes)) in
+      omega (arith, rest, behind, queue, long, lt)
+
+  devices_are : devices_at (length devices) (drop (devices_place n) bytes) ≡ map device_told s.devices
+  devices_are =
+      let there = devices_length (length devices) (drop (devices_place n) bytes) in
+      let told_all : length (map device_told s.devices) ≡ length devices = length-map s.devices device_told ∙ long_devices in
+      ext_get_or (device_told no_device) (devices_at (length devices) (drop (devices_place n) bytes)) (map device_told s.devices) (there ∙ sym told_all) (λ k lt.
+      let below : k < length devices = omega (arith, lt, there) in
+      devices_index (length devices) k (drop (devices_place n) bytes) (device_told no_device) below ∙ ap file.device_at (drop-drop (72 * k) (devices_place n) bytes)
+      ∙ sym (device_again (device.device_at devices k) (device_in bytes n k) (queue_long k below) (fits k below)) ∙ ap device_told (sym (device_is k no_device below))
+      ∙ sym (get_or-map device_told s.devices k no_device))
+
+  parts_are : parts_at (header_at bytes) bytes ≡ parts_of s
+  unfolding state_in
+  parts_are =
+      let tasks : (header_at bytes).tasks ≡ n = a.tasks ∙ count_tasks in
+      let beside : (header_at bytes).devices ≡ length devices = a.devices ∙ count_devices in
+      (λ i. record {
+        header = header_at bytes;
+        lines = take 64 (drop 36 bytes);
+        tasks = tasks_at (tasks i) (drop 100 bytes);
+        devices = devices_at (beside i) (drop (devices_place (tasks i)) bytes);
+        ram = drop (ram_place (tasks i) (beside i)) bytes;
+      })
+      ∙ (λ i. record {
+        header = header_is i;
+        lines = lines_are i;
+        tasks = tasks_are i;
+        devices = devices_are i;
+        ram = drop (ram_place n (length devices)) bytes;
+      })
+      ∙ (λ i. record {
+        header = (parts_of s).header;
+        lines = (parts_of s).lines;
+        tasks = map (record_of s) (range_with_len 0 (sym many i));
+        devices = (parts_of s).devices;
+        ram = s.memory.ram;
+      })
+
+  spelling_is : AreBytes bytes → bytes ≡ spelling s
+  spelling_is are =
+      let whole : length bytes ≡ total (header_at bytes).tasks (header_at bytes).devices (header_at bytes).ram = a.long ∙ (λ i. total (sym a.tasks i) (sym a.devices i) (sym a.ram i)) in
+      spelled bytes are a.letters whole ∙ ap bytes_of parts_are
+
+  -- ## it is sane
+
+  are_ahead : AreAhead Every s
+  are_ahead i lt any =
+      let below : i < n = subst (λ m. i < m) many lt in
+      let r = task_in bytes i in
+      subst (λ (t : Task). IfSome t.timer (λ x. s.now < x.deadline)) (sym (task_is i below)) (timer_ahead s.now r.timer record { deadline = r.deadline; bits = r.bits } (good i below).timer)
+
+  are_tasks : (i : ℕ) → i < length s.tasks → IsSaneTask (task_at s i)
+  are_tasks i lt =
+      let below : i < n = subst (λ m. i < m) many lt in
+      subst IsSaneTask (sym (task_is i below)) (task_sane s.now (task_in bytes i) refl (good i below))
+
+  no_more : (k : ℕ) → 64 ≤ k → line_at s k ≡ no_line
+  unfolding state_in line_at
+  no_more k past =
+      let told : length (map (λ j. line_from (get_or bytes (36 + j) 0)) (range_with_len 0 64)) ≡ 64 = length-map-range_with_len (λ j. line_from (get_or bytes (36 + j) 0)) 0 64 in
+      get_or_past (map (λ j. line_from (get_or bytes (36 + j) 0)) (range_with_len 0 64)) k no_line (omega (arith, told, past))
+
+  are_lines : AreLines g s
+  are_lines k pending = by (ltb k 64) refl
+    where
+      by : (b : Bool) → ltb k 64 ≡ b → ((line_at s k).enabled ≡ false) × IsOwned g k
+      by true is =
+          let below : k < 64 = ltb-true k 64 is in
+          let line = line_is k below in
+          let p = pending_owned g k (get_or bytes (36 + k) 0) (a.lines k below) (ap (λ (l : Line). l.pending) (sym line) ∙ pending) in
+          (ap (λ (l : Line). l.enabled) line ∙ p.0, p.1)
+      by false is = absurd (false≢true (ap (λ (l : Line). l.pending) (sym (no_more k (ltb-false k 64 is))) ∙ pending))
+
+  device_of : (d : device.DeviceData) → Contains s.devices d → (k : ℕ) × (k < 0 + length devices) × (device_from (device.device_at devices k) (device_in bytes n k) ≡ d)
+  unfolding state_in
+  device_of d here = made_of (λ k. device_from (device.device_at devices k) (device_in bytes n k)) 0 (length devices) d here
+
+  are_devices : device.AreSaneDevices devices → AreBytes bytes → device.AreSaneDevices s.devices
+  are_devices sane are = record {
+    few = subst (λ m. m ≤ 8) (sym long_devices) sane.few;
+    sane = λ d here. one d (device_of d here);
+    apart = λ j k before lt.
+        let below : k < length devices = subst (λ m. k < m) long_devices lt in
+        let first : j < length devices = omega (arith, before, below) in
+        λ same. sane.apart j k before below (ap (λ (d : device.DeviceData). d.base) (sym (device_is j no_device first)) ∙ same ∙ ap (λ (d : device.DeviceData). d.base) (device_is k no_device below));
+  }
+    where
+      one : (d : device.DeviceData) → ((k : ℕ) × (k < 0 + length devices) × (device_from (device.device_at devices k) (device_in bytes n k) ≡ d)) → device.IsSaneDevice d
+      one d (k, lt, is) =
+          let below : k < length devices = omega (arith, lt) in
+          let place = devices_place n + 72 * k in
+          let rest = rest_bytes place bytes are in
+          subst device.IsSaneDevice is (device_sane (device.device_at devices k) (device_in bytes n k) (sane.sane _ (has_at devices k no_device below)) (num_small (drop place bytes) 0 rest) (small_take 64 (drop 8 (drop place bytes)) (rest_bytes 8 (drop place bytes) rest)) (fits k below))
+
+  ram_bytes : AreBytes bytes → (i : ℕ) → get_or (drop (ram_place n (length devices)) bytes) i 0 < 256
+  ram_bytes are = rest_bytes (ram_place n (length devices)) bytes are
+
+  pub sane : IsSound g → device.AreSaneDevices devices → AreBytes bytes → Sane g s
+  unfolding state_in start
+  sane sound beside are = record {
+    steady = record {
+      calls = are_calls g s (task_in bytes) good waits task_is refl refl;
+      listens = are_listens g s (task_in bytes) good waits task_is refl refl;
+      tasks = are_tasks;
+      lines = are_lines;
+      as_many = many;
+      current = subst (λ m. (header_at bytes).current < m) (count_tasks ∙ sym many) a.current;
+      flash = refl;
+      flash_bytes = sound.flash_bytes;
+      bytes = all_small (drop (ram_place n (length devices)) bytes) (ram_bytes are);
+      placed = placed_alike g g.flash (replicate g.ram 0) (drop (ram_place n (length devices)) bytes) (length-replicate {A = ℕ} g.ram 0 ∙ sym as_much) sound.placed;
+      devices = are_devices beside are;
+    };
+    well = are_well g s (task_in bytes) good waits task_is refl refl;
+    present = are_present g s (task_in bytes) good waits task_is refl refl;
+    unmet = are_unmet g s (task_in bytes) good waits task_is refl refl;
+    unfit = are_unfit g s (task_in bytes) good waits task_is refl refl;
+    ahead = are_ahead;
+  }
