@@ -292,3 +292,75 @@ module _ (g : Setup) (devices : List device.DeviceData) (bytes : List ℕ) (a : 
     unfit = are_unfit g s (task_in bytes) good waits task_is refl refl;
     ahead = are_ahead;
   }
+
+  -- ## its births are below 64
+
+  abbrev low : ℕ → ℕ
+  low b = b % 64
+
+  low_same : (b : ℕ) → b < 64 → low b ≡ b
+  low_same b few = omega (arith, few)
+
+  born_low : (i : ℕ) → i < n → (task_at s i).births < 64
+  born_low i lt = let few = (good i lt).generation in let is = ap (λ (t : Task). t.births) (task_is i lt) in omega (arith, few, is)
+
+  task_of : (t : Task) → Contains s.tasks t → (i : ℕ) × (i < 0 + n) × (task_from (task_in bytes i) ≡ t)
+  unfolding state_in
+  task_of t here = made_of (λ k. task_from (task_in bytes k)) 0 n t here
+
+  same_task : (t : Task) → Contains s.tasks t → seen_task low t ≡ t
+  same_task t here =
+      let o = task_of t here in
+      let below : o.0 < n = omega (arith, o.1) in
+      let few = (good o.0 below).generation in
+      let is : (task_in bytes o.0).generation ≡ t.births = ap (λ (x : Task). x.births) o.2 in
+      let same = low_same t.births (omega (arith, few, is)) in
+      λ i. record t { births = same i }
+
+  same_call : (c : Call) → Contains s.calls c → seen_call low c ≡ c
+  unfolding state_in
+  same_call c here =
+      let fit = (are_calls g s (task_in bytes) good waits task_is refl refl).fit c here in
+      let present = are_present g s (task_in bytes) good waits task_is refl refl in
+      let client = low_same c.client.birth (subst (λ b. b < 64) (present.client c here) (born_low c.client.index fit.client)) in
+      let server = low_same c.server.birth (subst (λ b. b < 64) (present.server c here tt) (born_low c.server.index fit.server)) in
+      λ i. record c { client = record { index = c.client.index; birth = client i }; server = record { index = c.server.index; birth = server i } }
+
+  same_from : (f : From) → ((b : Birth) → f ≡ One b → b.birth < 64) → seen_from low f ≡ f
+  same_from Any few = refl
+  same_from (One b) few = let same = low_same b.birth (few b refl) in λ i. One record { index = b.index; birth = same i }
+  same_from KernelOnly few = refl
+
+  same_listen : (l : Listen) → Contains s.listens l → seen_listen low l ≡ l
+  unfolding state_in
+  same_listen l here =
+      let fit = (are_listens g s (task_in bytes) good waits task_is refl refl).fit l here in
+      let present = are_present g s (task_in bytes) good waits task_is refl refl in
+      let from = same_from l.from (λ b e. subst (λ m. m < 64) (present.named l b here e tt) (born_low b.index (fit.names b e).0)) in
+      λ i. record l { from = from i }
+
+  small : reduced s ≡ s
+  unfolding seen
+  small =
+      let tasks = map_same (seen_task low) s.tasks same_task in
+      let calls = map_same (seen_call low) s.calls same_call in
+      let listens = map_same (seen_listen low) s.listens same_listen in
+      λ i. record s { tasks = tasks i; calls = calls i; listens = listens i }
+
+  many_lines : length s.lines ≡ 64
+  unfolding state_in
+  many_lines = length-map-range_with_len (λ k. line_from (get_or bytes (36 + k) 0)) 0 64
+
+  flash_is : s.memory.flash ≡ g.flash
+  unfolding state_in
+  flash_is = refl
+
+  pub spells : g.line_count ≡ 64 → AreBytes bytes → SpellsState g s bytes
+  spells lines are = record {
+    tasks = many;
+    lines = many_lines ∙ sym lines;
+    flash = flash_is;
+    ram = as_much;
+    small = small;
+    is = spelling_is are;
+  }
