@@ -2,7 +2,7 @@
 use Rattle.std.proofs.Common.{◌≡◌, ◌≢◌, ◌∙◌, ◌+◌, ◌*◌, ◌/◌, ◌%◌, ◌<◌, ◌≤◌, inl, inr, ℕ, zero, suc, Bool, true, false, not, ◌&&◌, ◌||◌, cond, eqb, ltb, leb, List, [], get_or, map, Option, Some, None, is_none, arith, ap, sym, refl}
 use Rattle.std.specs.Prelude.{bit_and}
 use Rattle.std.proofs.Math.ListN.{get_or-map}
-use Rattle.std.proofs.lemmas.Bool.{eqb-true, eq-eqb, ltb-true, leb-true, ne_eqb, false≢true}
+use Rattle.std.proofs.lemmas.Bool.{and_parts, or_parts, eqb-true, eq-eqb, ltb-true, leb-true, ne_eqb, false≢true}
 use Rattle.std.proofs.lemmas.Bool.Decides.{eqb_tells}
 use Rattle.region_check.specs.declared.Region.{Region}
 use Rattle.region_check.specs.declared.Right.{Right}
@@ -19,10 +19,6 @@ use Rattle.snapshot.specs.Waits.{regions_at, is_call, is_listen, server_id, name
 use Rattle.snapshot.specs.Restored.{birth_from, phase_from, senders_from, call_from, listen_from, call_in, listen_in}
 
 -- ## tests
-
-and_parts : (a b : Bool) → (a && b) ≡ true → (a ≡ true) × (b ≡ true)
-and_parts true b e = (refl, e)
-and_parts false b e = cc
 
 not_true : (b : Bool) → not b ≡ true → b ≡ false
 not_true true e = cc
@@ -42,10 +38,6 @@ none_at test (suc n) j none lt = elim (eqb_tells j n) [
   | inl same ↦ ap test same.1 ∙ (or_parts (any_below test n) (test n) none).1
   | inr other ↦ let ne : j ≢ n = other.1 in none_at test n j (or_parts (any_below test n) (test n) none).0 (omega arith)
 ]
-  where
-    or_parts : (a b : Bool) → (a || b) ≡ false → (a ≡ false) × (b ≡ false)
-    or_parts true b e = cc
-    or_parts false b e = (refl, e)
 
 none_of : {X : Type 0} (o : Option X) → is_none o ≡ true → o ≡ None
 none_of None e = refl

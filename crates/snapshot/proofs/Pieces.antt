@@ -3,7 +3,7 @@ use Rattle.std.proofs.Common.{◌≡◌, ◌≢◌, ◌∙◌, ◌+◌, ◌-◌,
 use Rattle.std.specs.Prelude.{Contains, replicate}
 use Rattle.std.specs.List.{list_any}
 use Rattle.std.proofs.lemmas.List.{take-append-drop}
-use Rattle.std.proofs.lemmas.Bool.{eqb-true, ltb-false}
+use Rattle.std.proofs.lemmas.Bool.{or_parts, eqb-true, ltb-false}
 use Rattle.mem_banks.specs.Memory.{Memory, AreAllBytes}
 use Rattle.kernel_abi.specs.Devices.{DeviceData, IsSaneDevice}
 use Rattle.task_table.specs.Placed.{ArePlaced}
@@ -14,14 +14,7 @@ use Rattle.snapshot.specs.Causes.{are_zeros, is_bad_line}
 use Rattle.snapshot.specs.Accepted.{IsGoodDevice, waiting}
 use Rattle.snapshot.specs.Saved.{line_number, device_told}
 use Rattle.snapshot.specs.Restored.{line_from, device_from}
-
-and_parts : (a b : Bool) → (a && b) ≡ true → (a ≡ true) × (b ≡ true)
-and_parts true b e = (refl, e)
-and_parts false b e = cc
-
-or_parts : (a b : Bool) → (a || b) ≡ false → (a ≡ false) × (b ≡ false)
-or_parts true b e = cc
-or_parts false b e = (refl, e)
+use Rattle.snapshot.proofs.Told.{zeros_are}
 
 -- ## bytes
 
@@ -76,10 +69,6 @@ pending_owned g k byte fine pending =
     has_owner false b e h = cc
 
 -- ## a device
-
-zeros_are : (xs : List ℕ) → are_zeros xs ≡ true → xs ≡ replicate (length xs) 0
-zeros_are [] e = refl
-zeros_are (x ∷ xs) e = let p = and_parts (eqb x 0) (are_zeros xs) e in let is = eqb-true x 0 p.0 in λ i. is i ∷ zeros_are xs p.1 i
 
 pub device_again : (d : DeviceData) (r : DeviceRecord) → length r.queue ≡ 64 → IsGoodDevice d.kind r → device_told (device_from d r) ≡ r
 device_again d r long good =

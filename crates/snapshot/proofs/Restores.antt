@@ -29,6 +29,7 @@ use Rattle.snapshot.specs.Saved.{record_told, record_of, device_told, line_numbe
 use Rattle.snapshot.specs.Restored.{state_in, task_from, call_in, listen_in, line_from, device_from}
 use Rattle.snapshot.proofs.Splits.{spelled, num_small, rest_bytes}
 use Rattle.snapshot.proofs.Places.{tasks_index, devices_index}
+use Rattle.snapshot.proofs.Saves.{has_at}
 use Rattle.snapshot.proofs.Told.{told_again, task_sane, timer_ahead}
 use Rattle.snapshot.proofs.Collected.{made_of, map_same}
 use Rattle.snapshot.proofs.Agreed.{own}
@@ -45,11 +46,6 @@ tasks_length (suc n) xs = ap suc (tasks_length n (drop 132 xs))
 devices_length : (n : ℕ) (xs : List ℕ) → length (devices_at n xs) ≡ n
 devices_length zero xs = refl
 devices_length (suc n) xs = ap suc (devices_length n (drop 72 xs))
-
-has_at : {X : Type 0} (xs : List X) (k : ℕ) (d : X) → k < length xs → Contains xs (get_or xs k d)
-has_at [] k d lt = absurd (omega arith)
-has_at (x ∷ xs) zero d lt = (zero, omega arith, refl)
-has_at (x ∷ xs) (suc k) d lt = let r = has_at xs k d (omega arith) in (suc r.0, omega (arith, r.1), r.2)
 
 abbrev no_device : device.DeviceData
 no_device = record { kind = Console; base = 0; count = 0; queue = [] }

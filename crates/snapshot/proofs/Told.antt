@@ -1,6 +1,6 @@
 -- The record of a task that is right for itself is told again of the task, the call and the listen that it gives.
 use Rattle.std.proofs.Common.{◌≡◌, ◌≢◌, ◌∙◌, ◌+◌, ◌*◌, ◌/◌, ◌%◌, ◌<◌, ◌≤◌, ℕ, zero, suc, Bool, true, false, ◌&&◌, eqb, leb, ltb, cond, List, [], ◌∷◌, length, replicate, get_or, Option, Some, None, IfSome, arith, ap, refl, sym}
-use Rattle.std.proofs.lemmas.Bool.{eqb-true, ltb-true, leb-true}
+use Rattle.std.proofs.lemmas.Bool.{and_parts, eqb-true, ltb-true, leb-true}
 use Rattle.kernel_abi.specs.Ids.{id_of}
 use Rattle.kernel_abi.specs.declared.Fault.{Fault}
 use Rattle.kernel_abi.specs.declared.Timer.{Timer}
@@ -11,10 +11,6 @@ use Rattle.snapshot.specs.Causes.{are_zeros, has_words, has_timer, has_fault}
 use Rattle.snapshot.specs.Accepted.{IsGoodRecord}
 use Rattle.snapshot.specs.Saved.{bit, health_number, fault_of, flags_number, timer_flag, timer_of, wait_number, wait_words, record_told}
 use Rattle.snapshot.specs.Restored.{health_from, flags_from, timer_from, task_from, call_in, listen_in}
-
-both : (a b : Bool) → (a && b) ≡ true → (a ≡ true) × (b ≡ true)
-both true b e = (refl, e)
-both false b e = cc
 
 -- ## its health
 
@@ -33,7 +29,7 @@ fault_again (suc (suc (suc h))) f e quiet few = absurd (omega (arith, few))
 fault_known : (h : ℕ) (f : Fault) → cond (eqb h 2) (leb 1 f.number && leb f.number 10) (eqb f.number 0) ≡ true → h ≤ 2 → IsFaultKnown (health_from h f)
 fault_known zero f e few = tt
 fault_known (suc zero) f e few = tt
-fault_known (suc (suc zero)) f e few = let p = both _ _ e in (leb-true _ _ p.0, leb-true _ _ p.1)
+fault_known (suc (suc zero)) f e few = let p = and_parts _ _ e in (leb-true _ _ p.0, leb-true _ _ p.1)
 fault_known (suc (suc (suc h))) f e few = absurd (omega (arith, few))
 
 -- ## its flags and its timer
@@ -60,14 +56,14 @@ abbrev pub timer_told : ℕ → ℕ → Timer → Type 0
 timer_told clock f t = (leb f 1 && cond (eqb f 0) (eqb t.deadline 0 && eqb t.bits 0) (ltb clock t.deadline)) ≡ true
 
 timer_again : (clock f : ℕ) (t : Timer) → timer_told clock f t → (timer_flag (timer_from f t) ≡ f) × (timer_of (timer_from f t) ≡ t)
-timer_again clock zero t e = let p = both _ _ e in let d = eqb-true t.deadline 0 p.0 in let b = eqb-true t.bits 0 p.1 in (refl, λ i. record { deadline = sym d i; bits = sym b i })
+timer_again clock zero t e = let p = and_parts _ _ e in let d = eqb-true t.deadline 0 p.0 in let b = eqb-true t.bits 0 p.1 in (refl, λ i. record { deadline = sym d i; bits = sym b i })
 timer_again clock (suc zero) t e = (refl, refl)
-timer_again clock (suc (suc f)) t e = let few = leb-true (suc (suc f)) 1 (both _ _ e).0 in absurd (omega (arith, few))
+timer_again clock (suc (suc f)) t e = let few = leb-true (suc (suc f)) 1 (and_parts _ _ e).0 in absurd (omega (arith, few))
 
 pub timer_ahead : (clock f : ℕ) (t : Timer) → timer_told clock f t → IfSome (timer_from f t) (λ x. clock < x.deadline)
 timer_ahead clock zero t e = tt
 timer_ahead clock (suc zero) t e = ltb-true _ _ e
-timer_ahead clock (suc (suc f)) t e = let few = leb-true (suc (suc f)) 1 (both _ _ e).0 in absurd (omega (arith, few))
+timer_ahead clock (suc (suc f)) t e = let few = leb-true (suc (suc f)) 1 (and_parts _ _ e).0 in absurd (omega (arith, few))
 
 -- ## what it waits for
 
@@ -80,9 +76,9 @@ wait_again i (suc (suc (suc (suc zero)))) r few = refl
 wait_again i (suc (suc (suc (suc (suc zero))))) r few = refl
 wait_again i (suc (suc (suc (suc (suc (suc w)))))) r few = absurd (omega (arith, few))
 
-zeros_are : (xs : List ℕ) → are_zeros xs ≡ true → xs ≡ replicate (length xs) 0
+pub zeros_are : (xs : List ℕ) → are_zeros xs ≡ true → xs ≡ replicate (length xs) 0
 zeros_are [] e = refl
-zeros_are (x ∷ xs) e = let p = both (eqb x 0) (are_zeros xs) e in let is = eqb-true x 0 p.0 in λ i. is i ∷ zeros_are xs p.1 i
+zeros_are (x ∷ xs) e = let p = and_parts (eqb x 0) (are_zeros xs) e in let is = eqb-true x 0 p.0 in λ i. is i ∷ zeros_are xs p.1 i
 
 id_again : (b : ℕ) → id_of (b % 65536 % 1024) (b % 65536 / 1024) + 65536 * (b / 65536) ≡ b
 id_again b = omega arith
@@ -96,17 +92,17 @@ words_again i zero a b c d e f g h r few ok = sym (zeros_are (a ∷ b ∷ c ∷ 
 words_again i (suc zero) a b c d e f g h r few ok = λ j. a ∷ id_again b j ∷ c ∷ d ∷ e ∷ f ∷ g ∷ h ∷ []
 words_again i (suc (suc zero)) a b c d e f g h r few ok = λ j. a ∷ id_again b j ∷ c ∷ d ∷ e ∷ f ∷ g ∷ h ∷ []
 words_again i (suc (suc (suc zero))) a b c d e f g h r few ok =
-    let p = both (are_zeros (e ∷ f ∷ g ∷ h ∷ [])) (eqb b 0) ok in
+    let p = and_parts (are_zeros (e ∷ f ∷ g ∷ h ∷ [])) (eqb b 0) ok in
     let rest = zeros_are (e ∷ f ∷ g ∷ h ∷ []) p.0 in
     let none = eqb-true b 0 p.1 in
     λ j. a ∷ sym none j ∷ c ∷ d ∷ sym rest j
 words_again i (suc (suc (suc (suc zero)))) a b c d e f g h r few ok =
-    let p = both (are_zeros (e ∷ f ∷ g ∷ h ∷ [])) (eqb b 0) ok in
+    let p = and_parts (are_zeros (e ∷ f ∷ g ∷ h ∷ [])) (eqb b 0) ok in
     let rest = zeros_are (e ∷ f ∷ g ∷ h ∷ []) p.0 in
     let none = eqb-true b 0 p.1 in
     λ j. a ∷ sym none j ∷ c ∷ d ∷ sym rest j
 words_again i (suc (suc (suc (suc (suc zero))))) a b c d e f g h r few ok =
-    let p = both (are_zeros (e ∷ f ∷ g ∷ h ∷ [])) (leb b 65535) ok in
+    let p = and_parts (are_zeros (e ∷ f ∷ g ∷ h ∷ [])) (leb b 65535) ok in
     let rest = zeros_are (e ∷ f ∷ g ∷ h ∷ []) p.0 in
     let name = name_again b (leb-true _ _ p.1) in
     λ j. a ∷ name j ∷ c ∷ d ∷ sym rest j

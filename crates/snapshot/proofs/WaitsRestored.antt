@@ -2,7 +2,7 @@
 use Rattle.std.proofs.Common.{◌≡◌, ◌≢◌, ◌∙◌, ◌+◌, ◌*◌, ◌/◌, ◌%◌, ◌<◌, ◌≤◌, inl, inr, ℕ, Bool, true, false, ◌&&◌, ◌||◌, eqb, leb, List, length, Option, Some, None, arith, ap, sym, subst, refl}
 use Rattle.std.specs.Prelude.{Contains, filter_map, bit_and}
 use Rattle.std.specs.List.{range_with_len}
-use Rattle.std.proofs.lemmas.Bool.{eqb-true, eq-eqb, false≢true}
+use Rattle.std.proofs.lemmas.Bool.{and_from, eqb-true, eq-eqb, false≢true}
 use Rattle.std.proofs.lemmas.Bool.Decides.{eqb_tells}
 use Rattle.kernel_abi.specs.declared.Health.{Health}
 use Rattle.kernel_abi.specs.declared.Health.TheVariants.{Well}
@@ -19,10 +19,6 @@ use Rattle.snapshot.specs.Accepted.{IsGoodRecord}
 use Rattle.snapshot.specs.Restored.{health_from, task_from, birth_from, slice_from, call_from, listen_from, call_in, listen_in}
 use Rattle.snapshot.proofs.Collected.{found, collected, once}
 use Rattle.snapshot.proofs.Agreed.{own, granted, IsName, IsCallAt, IsListenAt, call_at, listen_at, no_call, the_call, the_listen, sender_is, heard, offered_is}
-
-true_and : (a b : Bool) → a ≡ true → b ≡ true → (a && b) ≡ true
-true_and true b e f = f
-true_and false b e f = cc
 
 refuted : (b : Bool) → (b ≡ true → ⊥) → b ≡ false
 refuted true h = absurd (h refl)
@@ -111,7 +107,7 @@ module _ (g : Setup) (s : State) (tasks : ℕ → TaskRecord) (good : (i : ℕ) 
   no_twin c d o p same before =
       let mine : word (tasks o.at) 0 ≡ c.number = ap (λ (x : Call). x.number) o.is in
       let its : word (tasks p.at) 0 ≡ d.number = ap (λ (x : Call). x.number) p.is in
-      let has : has_number (word (tasks p.at) 0) (tasks o.at) ≡ true = true_and _ _ o.calling (eq-eqb _ _ (mine ∙ same ∙ sym its)) in
+      let has : has_number (word (tasks p.at) 0) (tasks o.at) ≡ true = and_from _ _ o.calling (eq-eqb _ _ (mine ∙ same ∙ sym its)) in
       false≢true (sym (p.agrees.alone o.at before) ∙ has)
 
   pub are_calls : AreCalls g s.next_call s.calls
@@ -205,10 +201,10 @@ module _ (g : Setup) (s : State) (tasks : ℕ → TaskRecord) (good : (i : ℕ) 
       let place : server_id t % 1024 ≡ p.at = ap (λ (x : Call). x.server.index) o.is ∙ to ∙ ap (λ (x : Listen). x.task) (sym p.is) in
       let birth : (tasks p.at).generation ≡ server_id t / 1024 = ap (λ k. (tasks k).generation) (sym place) ∙ o.agrees.server.birth in
       let whole : server_id t ≡ id_in tasks p.at = omega (arith, place, birth) in
-      let offers : offers_to (id_in tasks p.at) t ≡ true = true_and _ _ offered (eq-eqb _ _ whole) in
+      let offers : offers_to (id_in tasks p.at) t ≡ true = and_from _ _ offered (eq-eqb _ _ whole) in
       let listens_to : admits (listen_from p.at u).from (call_from o.at t).client ≡ true = (λ i. admits (p.is i).from (o.is i).client) ∙ admitted in
       let hear : hears u (id_in tasks o.at) ≡ true = heard u.wait (word u 1) (id_in tasks o.at) (call_from o.at t).client p.listening (few p.at p.inside) refl listens_to in
-      false≢true (sym (p.agrees.unfit o.at o.inside) ∙ true_and _ _ offers hear)
+      false≢true (sym (p.agrees.unfit o.at o.inside) ∙ and_from _ _ offers hear)
 
   pub are_unfit : AreUnfit Every s
   are_unfit c l here there phase to any = refuted _ (unheard c l (of_call c here) (of_listen l there) phase to)

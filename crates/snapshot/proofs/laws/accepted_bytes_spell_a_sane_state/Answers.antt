@@ -5,7 +5,7 @@ use Rattle.snapshot.proofs.laws.accepted_bytes_spell_a_sane_state.Goals as goal
 
 pub returns : goal.returns
 returns c = record {
-  spelled = λ g devices bytes sound lines beside are none. spells g devices bytes (accepted (expected_of g devices) bytes none) lines are;
-  sane = λ g devices bytes sound lines beside are none. sane g devices bytes (accepted (expected_of g devices) bytes none) sound beside are;
+  spelled = λ g devices bytes lines are none. spells g devices bytes (accepted (expected_of g devices) bytes none) lines are;
+  sane = λ g devices bytes sound beside are none. sane g devices bytes (accepted (expected_of g devices) bytes none) sound beside are;
   counted = λ g devices bytes none. counted g devices bytes (accepted (expected_of g devices) bytes none);
 }
