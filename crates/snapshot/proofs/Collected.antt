@@ -1,5 +1,5 @@
 -- What is collected of the indices in their order, at most one thing of each, by which its index is known.
-use Rattle.std.proofs.Common.{◌≡◌, ◌≢◌, ◌∙◌, ◌+◌, ◌<◌, ◌≤◌, inl, inr, ℕ, zero, suc, Bool, true, false, cond, eqb, List, [], ◌∷◌, length, map, get_or, Option, Some, None, arith, ap, ap₂, refl, sym}
+use Rattle.std.proofs.Common.{◌≡◌, ◌≢◌, ◌∙◌, ◌+◌, ◌<◌, ◌≤◌, inl, inr, ℕ, zero, suc, Bool, true, false, cond, eqb, List, [], ◌∷◌, map, Option, Some, None, arith, ap, ap₂, refl, sym}
 use Rattle.std.specs.Prelude.{Contains, find, filter_map, count_by}
 use Rattle.std.specs.List.{range_with_len, cons_option}
 use Rattle.std.proofs.lemmas.Bool.Decides.{eqb_tells}

@@ -1,17 +1,17 @@
 -- A line, a device and the memory of the state that bytes spell.
-use Rattle.std.proofs.Common.{◌≡◌, ◌≢◌, ◌∙◌, ◌+◌, ◌-◌, ◌<◌, ◌≤◌, ◌⊎◌, ℕ, zero, suc, Bool, true, false, not, ◌&&◌, ◌||◌, eqb, ltb, List, [], ◌∷◌, ◌++◌, length, length-drop, length-take, map, take, drop, get_or, arith, ap, sym, subst, refl}
+use Rattle.std.proofs.Common.{◌≡◌, ◌∙◌, ◌+◌, ◌-◌, ◌<◌, ◌≤◌, ◌⊎◌, ℕ, zero, suc, Bool, true, false, not, ◌&&◌, ◌||◌, eqb, ltb, List, [], ◌∷◌, ◌++◌, length, length-drop, length-take, map, take, drop, get_or, arith, ap, sym, subst, refl}
 use Rattle.std.specs.Prelude.{Contains, replicate}
 use Rattle.std.specs.List.{list_any}
 use Rattle.std.proofs.lemmas.List.{take-append-drop}
 use Rattle.std.proofs.lemmas.Bool.{or_parts, eqb-true, ltb-false}
-use Rattle.mem_banks.specs.Memory.{Memory, AreAllBytes}
+use Rattle.mem_banks.specs.Memory.{AreAllBytes}
 use Rattle.kernel_abi.specs.Devices.{DeviceData, IsSaneDevice}
 use Rattle.task_table.specs.Placed.{ArePlaced}
 use Rattle.task_table.specs.State.{Setup, LineSetup}
 use Rattle.task_table.specs.Sane.{IsOwned}
 use Rattle.snapshot.specs.declared.records.DeviceRecord.{DeviceRecord}
-use Rattle.snapshot.specs.Causes.{are_zeros, is_bad_line}
-use Rattle.snapshot.specs.Accepted.{IsGoodDevice, waiting}
+use Rattle.snapshot.specs.Causes.{is_bad_line}
+use Rattle.snapshot.specs.Accepted.{IsGoodDevice}
 use Rattle.snapshot.specs.Saved.{line_number, device_told}
 use Rattle.snapshot.specs.Restored.{line_from, device_from}
 use Rattle.snapshot.proofs.Told.{zeros_are}

@@ -1,5 +1,5 @@
 -- Bytes that no cause refuses spell a sane state.
-use Rattle.std.proofs.Common.{◌≡◌, ◌≢◌, ◌∙◌, ◌+◌, ◌*◌, ◌/◌, ◌%◌, ◌<◌, ◌≤◌, inl, inr, ℕ, zero, suc, Bool, true, false, cond, ltb, List, [], ◌∷◌, length, length-drop, length-take, map, take, drop, get_or, Option, Some, None, IfSome, arith, ap, ap₂, sym, subst, refl}
+use Rattle.std.proofs.Common.{◌≡◌, ◌∙◌, ◌+◌, ◌*◌, ◌%◌, ◌<◌, ◌≤◌, ℕ, zero, suc, Bool, true, false, ltb, List, [], length, length-drop, length-take, map, take, drop, get_or, IfSome, arith, ap, sym, subst, refl}
 use Rattle.std.specs.Prelude.{Contains, replicate}
 use Rattle.std.specs.List.{range_with_len}
 use Rattle.std.proofs.Math.ListN.{get_or-map}
@@ -12,17 +12,14 @@ use Rattle.kernel_abi.specs.Devices as device
 use Rattle.task_table.specs.declared.Line.{Line}
 use Rattle.task_table.specs.Start.{start}
 use Rattle.task_table.specs.Parts.{IsSound}
-use Rattle.task_table.specs.State.{Setup, TaskSetup, LineSetup, Birth, Call, Listen, From, Any, One, KernelOnly, State, Task}
+use Rattle.task_table.specs.State.{Setup, TaskSetup, Birth, Call, Listen, From, Any, One, KernelOnly, State, Task}
 use Rattle.task_table.specs.Reading.{task_at, line_at, call_of, listen_of, no_task, no_line}
-use Rattle.task_table.specs.Sane.{Sane, IsSteady, IsSaneTask, AreLines, AreAhead, Every, IsCounted, IsOwned}
-use Rattle.board_model.specs.Alike.{reduced, seen, seen_task, seen_call, seen_listen, seen_from, seen_birth}
-use Rattle.snapshot.specs.declared.records.Header.{Header}
-use Rattle.snapshot.specs.declared.records.TaskRecord.{TaskRecord}
-use Rattle.snapshot.specs.declared.records.DeviceRecord.{DeviceRecord}
+use Rattle.task_table.specs.Sane.{Sane, IsSaneTask, AreLines, AreAhead, Every, IsCounted, IsOwned}
+use Rattle.board_model.specs.Alike.{reduced, seen, seen_task, seen_call, seen_listen, seen_from}
 use Rattle.snapshot.specs.Spelling.{AreBytes}
 use Rattle.snapshot.specs.Records as file
 use Rattle.snapshot.specs.Records.{Parts, num, header_at, task_in, device_in, tasks_at, devices_at, parts_at, bytes_of, total, devices_place, ram_place}
-use Rattle.snapshot.specs.Causes.{tasks_of, devices_of, kind_at}
+use Rattle.snapshot.specs.Causes.{kind_at}
 use Rattle.snapshot.specs.Waits.{is_good_wait}
 use Rattle.snapshot.specs.Accepted.{IsGoodRecord, IsGoodDevice, IsAccepted}
 use Rattle.snapshot.specs.Saved.{record_told, record_of, device_told, line_number, parts_of, spelling, expected_of, SpellsState}

@@ -1,13 +1,12 @@
 -- The record of a task that is right for itself is told again of the task, the call and the listen that it gives.
-use Rattle.std.proofs.Common.{◌≡◌, ◌≢◌, ◌∙◌, ◌+◌, ◌*◌, ◌/◌, ◌%◌, ◌<◌, ◌≤◌, ℕ, zero, suc, Bool, true, false, ◌&&◌, eqb, leb, ltb, cond, List, [], ◌∷◌, length, replicate, get_or, Option, Some, None, IfSome, arith, ap, refl, sym}
+use Rattle.std.proofs.Common.{◌≡◌, ◌≢◌, ◌∙◌, ◌+◌, ◌*◌, ◌/◌, ◌%◌, ◌<◌, ◌≤◌, ℕ, zero, suc, true, ◌&&◌, eqb, leb, ltb, cond, List, [], ◌∷◌, length, replicate, IfSome, arith, ap, refl, sym}
 use Rattle.std.proofs.lemmas.Bool.{and_parts, eqb-true, ltb-true, leb-true}
 use Rattle.kernel_abi.specs.Ids.{id_of}
 use Rattle.kernel_abi.specs.declared.Fault.{Fault}
 use Rattle.kernel_abi.specs.declared.Timer.{Timer}
-use Rattle.task_table.specs.State.{Task, Call, Listen}
 use Rattle.task_table.specs.Sane.{IsSaneTask, IsFaultKnown}
 use Rattle.snapshot.specs.declared.records.TaskRecord.{TaskRecord}
-use Rattle.snapshot.specs.Causes.{are_zeros, has_words, has_timer, has_fault}
+use Rattle.snapshot.specs.Causes.{are_zeros, has_words}
 use Rattle.snapshot.specs.Accepted.{IsGoodRecord}
 use Rattle.snapshot.specs.Saved.{bit, health_number, fault_of, flags_number, timer_flag, timer_of, wait_number, wait_words, record_told}
 use Rattle.snapshot.specs.Restored.{health_from, flags_from, timer_from, task_from, call_in, listen_in}

@@ -1,14 +1,13 @@
 -- The calls and listens that agreeing records give are as those of a sane state are.
-use Rattle.std.proofs.Common.{◌≡◌, ◌≢◌, ◌∙◌, ◌+◌, ◌*◌, ◌/◌, ◌%◌, ◌<◌, ◌≤◌, inl, inr, ℕ, Bool, true, false, ◌&&◌, ◌||◌, eqb, leb, List, length, Option, Some, None, arith, ap, sym, subst, refl}
+use Rattle.std.proofs.Common.{◌≡◌, ◌≢◌, ◌∙◌, ◌/◌, ◌%◌, ◌<◌, ◌≤◌, inl, inr, ℕ, Bool, true, false, List, length, Some, arith, ap, sym, subst, refl}
 use Rattle.std.specs.Prelude.{Contains, filter_map, bit_and}
 use Rattle.std.specs.List.{range_with_len}
-use Rattle.std.proofs.lemmas.Bool.{and_from, eqb-true, eq-eqb, false≢true}
+use Rattle.std.proofs.lemmas.Bool.{and_from, eq-eqb, false≢true}
 use Rattle.std.proofs.lemmas.Bool.Decides.{eqb_tells}
-use Rattle.kernel_abi.specs.declared.Health.{Health}
 use Rattle.kernel_abi.specs.declared.Health.TheVariants.{Well}
 use Rattle.kernel_abi.specs.declared.Fault.{Fault}
 use Rattle.region_check.specs.declared.Right.TheVariants.{Read, Write}
-use Rattle.task_table.specs.State.{Setup, Birth, Call, Listen, One, State, Task}
+use Rattle.task_table.specs.State.{Setup, Birth, Call, Listen, State, Task}
 use Rattle.task_table.specs.declared.slot.Phase.TheVariants.{Offered}
 use Rattle.task_table.specs.Reading.{task_at, call_of, listen_of, admits}
 use Rattle.task_table.specs.Sane.{IsFitCall, AreCalls, IsFitListen, AreListens, AreWell, ArePresent, AreUnmet, AreUnfit, Every, Both}
@@ -16,9 +15,9 @@ use Rattle.snapshot.specs.declared.records.TaskRecord.{TaskRecord}
 use Rattle.snapshot.specs.Causes.{word}
 use Rattle.snapshot.specs.Waits.{is_call, is_listen, server_id, has_number, id_in, offers_to, hears, is_good_wait}
 use Rattle.snapshot.specs.Accepted.{IsGoodRecord}
-use Rattle.snapshot.specs.Restored.{health_from, task_from, birth_from, slice_from, call_from, listen_from, call_in, listen_in}
+use Rattle.snapshot.specs.Restored.{health_from, task_from, slice_from, call_from, listen_from, call_in, listen_in}
 use Rattle.snapshot.proofs.Collected.{found, collected, once}
-use Rattle.snapshot.proofs.Agreed.{own, granted, IsName, IsCallAt, IsListenAt, call_at, listen_at, no_call, the_call, the_listen, sender_is, heard, offered_is}
+use Rattle.snapshot.proofs.Agreed.{own, granted, IsCallAt, IsListenAt, call_at, listen_at, no_call, the_call, the_listen, sender_is, heard, offered_is}
 
 refuted : (b : Bool) → (b ≡ true → ⊥) → b ≡ false
 refuted true h = absurd (h refl)
