@@ -1,9 +1,15 @@
 mod Accepts
 mod Again
+mod Agreed
+mod Collected
 mod First
 mod Grow
+mod Pieces
 mod Places
+mod Restores
 mod Rows
 mod Saves
 mod Single
 mod Splits
+mod Told
+mod WaitsRestored

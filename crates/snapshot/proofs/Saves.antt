@@ -466,7 +466,7 @@ few_of g s i sane few = by (listen_of s i) refl
     by None e = tt
     by (Some l) e = by_from l l.from refl (the_listen s i l e).0
 
-has_at : {X : Type 0} (xs : List X) (k : ℕ) (d : X) → k < length xs → Contains xs (get_or xs k d)
+pub has_at : {X : Type 0} (xs : List X) (k : ℕ) (d : X) → k < length xs → Contains xs (get_or xs k d)
 has_at [] k d lt = absurd (omega arith)
 has_at (x ∷ xs) zero d lt = (zero, omega arith, refl)
 has_at (x ∷ xs) (suc k) d lt = let r = has_at xs k d (omega arith) in (suc r.0, omega (arith, r.1), r.2)
