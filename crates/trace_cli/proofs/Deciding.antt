@@ -31,23 +31,23 @@ use Rattle.trace_cli.proofs.Agreeing.{same_files, seen_further, may_further, sam
 same_image : (cs : List (List ℕ)) (a b : Picture) → IsBuilt cs a → IsBuilt cs b → a ≡ b
 same_image cs a b p q = one_picture (described cs) (sources_in cs) a b p.built q.built
 
-same_run : {devices : List DeviceData} (job : Asked) (cs : List (List ℕ)) (n n' : ℕ) (m m' : Detail) (x y : Scenario) → IsRun devices job cs n m x → IsRun devices job cs n' m' y → ran n m x ≡ ran n' m' y
-same_run (run image script steps detail) cs n n' m m' x y p q =
+same_run : (devices : List DeviceData) (job : Asked) (cs : List (List ℕ)) (n n' : ℕ) (m m' : Detail) (x y : Scenario) → IsRun devices job cs n m x → IsRun devices job cs n' m' y → ran n m x ≡ ran n' m' y
+same_run devices (run image script steps detail) cs n n' m m' x y p q =
     let bound : n ≡ n' = p.0 ∙ sym q.0 in
     let seen : m ≡ m' = p.1 ∙ sym q.1 in
     let scenario : x ≡ y = p.2 ∙ sym q.2 in
     ap (λ (k : ℕ). ran k m x) bound ∙ ap (λ (d : Detail). ran n' d x) seen ∙ ap (ran n' m') scenario
-same_run (go app script steps detail) cs n n' m m' x y p q =
+same_run devices (go app script steps detail) cs n n' m m' x y p q =
     let bound : n ≡ n' = p.0 ∙ sym q.0 in
     let seen : m ≡ m' = p.1 ∙ sym q.1 in
     let image : p.2.0 ≡ q.2.0 = same_image cs p.2.0 q.2.0 p.2.1 q.2.1 in
-    let scenario : x ≡ y = p.2.2 ∙ ap (λ (i : Picture). scenario_of i (script_in cs) _) image ∙ sym q.2.2 in
+    let scenario : x ≡ y = p.2.2 ∙ ap (λ (i : Picture). scenario_of i (script_in cs) devices) image ∙ sym q.2.2 in
     ap (λ (k : ℕ). ran k m x) bound ∙ ap (λ (d : Detail). ran n' d x) seen ∙ ap (ran n' m') scenario
-same_run (build app out) cs n n' m m' x y p q = absurd p
-same_run (list image) cs n n' m m' x y p q = absurd p
-same_run (sample seed steps) cs n n' m m' x y p q = absurd p
-same_run (migrate image out) cs n n' m m' x y p q = absurd p
-same_run (audit trace) cs n n' m m' x y p q = absurd p
+same_run devices (build app out) cs n n' m m' x y p q = absurd p
+same_run devices (list image) cs n n' m m' x y p q = absurd p
+same_run devices (sample seed steps) cs n n' m m' x y p q = absurd p
+same_run devices (migrate image out) cs n n' m m' x y p q = absurd p
+same_run devices (audit trace) cs n n' m m' x y p q = absurd p
 
 same_listing : (job : Asked) (cs : List (List ℕ)) (a b : Picture) → IsListing job cs a → IsListing job cs b → listed a ≡ listed b
 same_listing (list image) cs a b p q = ap listed (p ∙ sym q)
@@ -92,23 +92,23 @@ same_sample job s s' n n' x y p q =
     bound_of : (a b c d : ℕ) → sample a c ≡ sample b d → c ≡ d
     bound_of a b c d e = cc
 
-run_or_listing : {devices : List DeviceData} (job : Asked) (cs : List (List ℕ)) (n : ℕ) (m : Detail) (x : Scenario) (a : Picture) → IsRun devices job cs n m x → IsListing job cs a → ⊥
-run_or_listing (run image script steps detail) cs n m x a p q = q
-run_or_listing (go app script steps detail) cs n m x a p q = q
-run_or_listing (build app out) cs n m x a p q = q
-run_or_listing (list image) cs n m x a p q = p
-run_or_listing (sample seed steps) cs n m x a p q = p
-run_or_listing (migrate image out) cs n m x a p q = p
-run_or_listing (audit trace) cs n m x a p q = p
+run_or_listing : (devices : List DeviceData) (job : Asked) (cs : List (List ℕ)) (n : ℕ) (m : Detail) (x : Scenario) (a : Picture) → IsRun devices job cs n m x → IsListing job cs a → ⊥
+run_or_listing devices (run image script steps detail) cs n m x a p q = q
+run_or_listing devices (go app script steps detail) cs n m x a p q = q
+run_or_listing devices (build app out) cs n m x a p q = q
+run_or_listing devices (list image) cs n m x a p q = p
+run_or_listing devices (sample seed steps) cs n m x a p q = p
+run_or_listing devices (migrate image out) cs n m x a p q = p
+run_or_listing devices (audit trace) cs n m x a p q = p
 
-run_or_build : {devices : List DeviceData} (job : Asked) (cs : List (List ℕ)) (n : ℕ) (m : Detail) (x : Scenario) (o : List ℕ) (a : Picture) → IsRun devices job cs n m x → IsBuild job cs o a → ⊥
-run_or_build (run image script steps detail) cs n m x o a p q = q
-run_or_build (go app script steps detail) cs n m x o a p q = q
-run_or_build (build app out) cs n m x o a p q = p
-run_or_build (list image) cs n m x o a p q = p
-run_or_build (sample seed steps) cs n m x o a p q = p
-run_or_build (migrate image out) cs n m x o a p q = p
-run_or_build (audit trace) cs n m x o a p q = p
+run_or_build : (devices : List DeviceData) (job : Asked) (cs : List (List ℕ)) (n : ℕ) (m : Detail) (x : Scenario) (o : List ℕ) (a : Picture) → IsRun devices job cs n m x → IsBuild job cs o a → ⊥
+run_or_build devices (run image script steps detail) cs n m x o a p q = q
+run_or_build devices (go app script steps detail) cs n m x o a p q = q
+run_or_build devices (build app out) cs n m x o a p q = p
+run_or_build devices (list image) cs n m x o a p q = p
+run_or_build devices (sample seed steps) cs n m x o a p q = p
+run_or_build devices (migrate image out) cs n m x o a p q = p
+run_or_build devices (audit trace) cs n m x o a p q = p
 
 listing_or_build : (job : Asked) (cs : List (List ℕ)) (a : Picture) (o : List ℕ) (b : Picture) → IsListing job cs a → IsBuild job cs o b → ⊥
 listing_or_build (run image script steps detail) cs a o b p q = q
@@ -119,8 +119,8 @@ listing_or_build (sample seed steps) cs a o b p q = p
 listing_or_build (migrate image out) cs a o b p q = p
 listing_or_build (audit trace) cs a o b p q = p
 
-run_or_sample : {devices : List DeviceData} (job : Asked) (cs : List (List ℕ)) (n : ℕ) (m : Detail) (x : Scenario) (s k : ℕ) (y : Scenario) → IsRun devices job cs n m x → IsSample job s k y → ⊥
-run_or_sample job cs n m x s k y p q = subst (λ (j : Asked). IsRun _ j cs n m x) q.is p
+run_or_sample : (devices : List DeviceData) (job : Asked) (cs : List (List ℕ)) (n : ℕ) (m : Detail) (x : Scenario) (s k : ℕ) (y : Scenario) → IsRun devices job cs n m x → IsSample job s k y → ⊥
+run_or_sample devices job cs n m x s k y p q = subst (λ (j : Asked). IsRun devices j cs n m x) q.is p
 
 listing_or_sample : (job : Asked) (cs : List (List ℕ)) (a : Picture) (s k : ℕ) (y : Scenario) → IsListing job cs a → IsSample job s k y → ⊥
 listing_or_sample job cs a s k y p q = subst (λ (j : Asked). IsListing j cs a) q.is p
@@ -143,8 +143,8 @@ same_audit job cs t s a b p q g h =
     let text : s ≡ t = (is_audit job cs s q).1 ∙ sym (is_audit job cs t p).1 in
     ap audited (one_verdict t a b g (subst (λ (u : List ℕ). trace_audit.IsVerdict u b) text h))
 
-run_or_audit : {devices : List DeviceData} (job : Asked) (cs : List (List ℕ)) (n : ℕ) (m : Detail) (x : Scenario) (t : List ℕ) → IsRun devices job cs n m x → IsAudit job cs t → ⊥
-run_or_audit job cs n m x t p q = let j = (is_audit job cs t q).0 in subst (λ (j : Asked). IsRun _ j cs n m x) j.1 p
+run_or_audit : (devices : List DeviceData) (job : Asked) (cs : List (List ℕ)) (n : ℕ) (m : Detail) (x : Scenario) (t : List ℕ) → IsRun devices job cs n m x → IsAudit job cs t → ⊥
+run_or_audit devices job cs n m x t p q = let j = (is_audit job cs t q).0 in subst (λ (j : Asked). IsRun devices j cs n m x) j.1 p
 
 listing_or_audit : (job : Asked) (cs : List (List ℕ)) (a : Picture) (t : List ℕ) → IsListing job cs a → IsAudit job cs t → ⊥
 listing_or_audit job cs a t p q = let j = (is_audit job cs t q).0 in subst (λ (j : Asked). IsListing j cs a) j.1 p
@@ -156,31 +156,31 @@ sample_or_audit : (job : Asked) (cs : List (List ℕ)) (s n : ℕ) (x : Scenario
 sample_or_audit job cs s n x t p q = subst (λ (j : Asked). IsAudit j cs t) p.is q
 
 same_done : {devices : List DeviceData} (job : Asked) (cs : List (List ℕ)) (u v : Verdict) → Does devices job cs u → Does devices job cs v → u ≡ v
-same_done job cs u v (runs n m x p e) (runs n' m' y q d) = e ∙ same_run job cs n n' m m' x y p q ∙ sym d
-same_done job cs u v (runs n m x p e) (lists a q d) = absurd (run_or_listing job cs n m x a p q)
-same_done job cs u v (runs n m x p e) (builds o a q d) = absurd (run_or_build job cs n m x o a p q)
-same_done job cs u v (lists a p e) (runs n m x q d) = absurd (run_or_listing job cs n m x a q p)
-same_done job cs u v (lists a p e) (lists b q d) = e ∙ same_listing job cs a b p q ∙ sym d
-same_done job cs u v (lists a p e) (builds o b q d) = absurd (listing_or_build job cs a o b p q)
-same_done job cs u v (builds o a p e) (runs n m x q d) = absurd (run_or_build job cs n m x o a q p)
-same_done job cs u v (builds o a p e) (lists b q d) = absurd (listing_or_build job cs b o a q p)
-same_done job cs u v (builds o a p e) (builds o' b q d) = e ∙ same_build job cs o o' a b p q ∙ sym d
-same_done job cs u v (runs n m x p e) (samples s k y q d) = absurd (run_or_sample job cs n m x s k y p q)
-same_done job cs u v (lists a p e) (samples s k y q d) = absurd (listing_or_sample job cs a s k y p q)
-same_done job cs u v (builds o a p e) (samples s k y q d) = absurd (build_or_sample job cs o a s k y p q)
-same_done job cs u v (samples s k y p e) (runs n m x q d) = absurd (run_or_sample job cs n m x s k y q p)
-same_done job cs u v (samples s k y p e) (lists a q d) = absurd (listing_or_sample job cs a s k y q p)
-same_done job cs u v (samples s k y p e) (builds o a q d) = absurd (build_or_sample job cs o a s k y q p)
-same_done job cs u v (samples s n x p e) (samples s' n' y q d) = e ∙ same_sample job s s' n n' x y p q ∙ sym d
-same_done job cs u v (runs n m x p e) (audits t b q h d) = absurd (run_or_audit job cs n m x t p q)
-same_done job cs u v (lists a p e) (audits t b q h d) = absurd (listing_or_audit job cs a t p q)
-same_done job cs u v (builds o a p e) (audits t b q h d) = absurd (build_or_audit job cs o a t p q)
-same_done job cs u v (samples s n x p e) (audits t b q h d) = absurd (sample_or_audit job cs s n x t p q)
-same_done job cs u v (audits t a p g e) (runs n m x q d) = absurd (run_or_audit job cs n m x t q p)
-same_done job cs u v (audits t a p g e) (lists b q d) = absurd (listing_or_audit job cs b t q p)
-same_done job cs u v (audits t a p g e) (builds o b q d) = absurd (build_or_audit job cs o b t q p)
-same_done job cs u v (audits t a p g e) (samples s n x q d) = absurd (sample_or_audit job cs s n x t q p)
-same_done job cs u v (audits t a p g e) (audits s b q h d) = e ∙ same_audit job cs t s a b p q g h ∙ sym d
+same_done {devices} job cs u v (runs n m x p e) (runs n' m' y q d) = e ∙ same_run devices job cs n n' m m' x y p q ∙ sym d
+same_done {devices} job cs u v (runs n m x p e) (lists a q d) = absurd (run_or_listing devices job cs n m x a p q)
+same_done {devices} job cs u v (runs n m x p e) (builds o a q d) = absurd (run_or_build devices job cs n m x o a p q)
+same_done {devices} job cs u v (lists a p e) (runs n m x q d) = absurd (run_or_listing devices job cs n m x a q p)
+same_done {devices} job cs u v (lists a p e) (lists b q d) = e ∙ same_listing job cs a b p q ∙ sym d
+same_done {devices} job cs u v (lists a p e) (builds o b q d) = absurd (listing_or_build job cs a o b p q)
+same_done {devices} job cs u v (builds o a p e) (runs n m x q d) = absurd (run_or_build devices job cs n m x o a q p)
+same_done {devices} job cs u v (builds o a p e) (lists b q d) = absurd (listing_or_build job cs b o a q p)
+same_done {devices} job cs u v (builds o a p e) (builds o' b q d) = e ∙ same_build job cs o o' a b p q ∙ sym d
+same_done {devices} job cs u v (runs n m x p e) (samples s k y q d) = absurd (run_or_sample devices job cs n m x s k y p q)
+same_done {devices} job cs u v (lists a p e) (samples s k y q d) = absurd (listing_or_sample job cs a s k y p q)
+same_done {devices} job cs u v (builds o a p e) (samples s k y q d) = absurd (build_or_sample job cs o a s k y p q)
+same_done {devices} job cs u v (samples s k y p e) (runs n m x q d) = absurd (run_or_sample devices job cs n m x s k y q p)
+same_done {devices} job cs u v (samples s k y p e) (lists a q d) = absurd (listing_or_sample job cs a s k y q p)
+same_done {devices} job cs u v (samples s k y p e) (builds o a q d) = absurd (build_or_sample job cs o a s k y q p)
+same_done {devices} job cs u v (samples s n x p e) (samples s' n' y q d) = e ∙ same_sample job s s' n n' x y p q ∙ sym d
+same_done {devices} job cs u v (runs n m x p e) (audits t b q h d) = absurd (run_or_audit devices job cs n m x t p q)
+same_done {devices} job cs u v (lists a p e) (audits t b q h d) = absurd (listing_or_audit job cs a t p q)
+same_done {devices} job cs u v (builds o a p e) (audits t b q h d) = absurd (build_or_audit job cs o a t p q)
+same_done {devices} job cs u v (samples s n x p e) (audits t b q h d) = absurd (sample_or_audit job cs s n x t p q)
+same_done {devices} job cs u v (audits t a p g e) (runs n m x q d) = absurd (run_or_audit devices job cs n m x t q p)
+same_done {devices} job cs u v (audits t a p g e) (lists b q d) = absurd (listing_or_audit job cs b t q p)
+same_done {devices} job cs u v (audits t a p g e) (builds o b q d) = absurd (build_or_audit job cs o b t q p)
+same_done {devices} job cs u v (audits t a p g e) (samples s n x q d) = absurd (sample_or_audit job cs s n x t q p)
+same_done {devices} job cs u v (audits t a p g e) (audits s b q h d) = e ∙ same_audit job cs t s a b p q g h ∙ sym d
 
 -- ## three ways in which lengths meet
 
@@ -271,7 +271,7 @@ done_not_refused seen job ds cs g why c all r is refusal = by_length (meets (len
       no_file (files_by job ds) (length cs) g (all.all ∙ sym e) (sym files ∙ r.next)
 
 all_same : {devices : List DeviceData} (seen : List ℕ → Option (List ℕ)) (job : Asked) (cs ds : List (List ℕ)) (u v : Verdict) → TakesAll (Are seen) job cs → TakesAll (MayBe seen) job ds → Does devices job cs u → Does devices job ds v → v ≡ u
-all_same seen job cs ds u v are may p q = by_length (meets (length cs) (length ds)) where
+all_same {devices} seen job cs ds u v are may p q = by_length (meets (length cs) (length ds)) where
   by_length : Meets (length cs) (length ds) → v ≡ u
   by_length (less lt) =
       let t = may_further seen job cs ds are.takes may.takes lt in
@@ -281,7 +281,7 @@ all_same seen job cs ds u v are may p q = by_length (meets (length cs) (length d
       absurd (no_file (files_by job ds) (length ds) t.0 may.all t.1)
   by_length (same e) =
       let contents = same_contents seen job cs ds are.takes may.takes e in
-      same_done job ds v u q (subst (λ (xs : List (List ℕ)). Does _ job xs u) contents p)
+      same_done job ds v u q (subst (λ (xs : List (List ℕ)). Does devices job xs u) contents p)
 
 -- ## the verdict
 
@@ -308,13 +308,13 @@ no_job_of words job e d = let none : None ≡ Some job = sym (no_job_in words e)
 
 on_job : {devices : List DeviceData} (words : List (List ℕ)) (job : Asked) (before after : FilesSeen) (v u : Verdict) → job_in words ≡ Some job → JobReason devices job before after v → IsVerdict devices words before.contents u
     → (v ≡ u) ⊎ CannotRead job before after v
-on_job words job before after v u is why (verdict.no_job none e) = absurd (no_job_of words job none is)
-on_job words job before after v u is why (verdict.refuses job' cs g c reason is' r held refusal e) =
+on_job {devices} words job before after v u is why (verdict.no_job none e) = absurd (no_job_of words job none is)
+on_job {devices} words job before after v u is why (verdict.refuses job' cs g c reason is' r held refusal e) =
     let alike : job' ≡ job = same_Some job' job (sym is' ∙ is) in
     on_refusal job before after v u cs g c reason why (subst (λ (j : Asked). Reaches (Are before.contents) j cs g) alike r) held refusal e
-on_job words job before after v u is why (verdict.does job' cs is' all p) =
+on_job {devices} words job before after v u is why (verdict.does job' cs is' all p) =
     let alike : job' ≡ job = same_Some job' job (sym is' ∙ is) in
-    on_done job before after v u cs why (subst (λ (j : Asked). TakesAll (Are before.contents) j cs) alike all) (subst (λ (j : Asked). Does _ j cs u) alike p)
+    on_done job before after v u cs why (subst (λ (j : Asked). TakesAll (Are before.contents) j cs) alike all) (subst (λ (j : Asked). Does devices j cs u) alike p)
 
 on_no_job : {devices : List DeviceData} (words : List (List ℕ)) (seen : List ℕ → Option (List ℕ)) (v u : Verdict) → is_accepted words ≡ false → v ≡ usage → IsVerdict devices words seen u → v ≡ u
 on_no_job words seen v u none e (verdict.no_job none' d) = e ∙ sym d

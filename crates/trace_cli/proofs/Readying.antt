@@ -1,5 +1,5 @@
 -- From the files of a job to its answer.
-use Rattle.std.proofs.Common.{◌≡◌, ℕ, suc, ◌≤◌, List, [], ◌∷◌, ◌++◌, length, take, get_or, Option, Some, None, refl, sym, ap, subst, ◌∙◌, arith, inl, inr, string_bytes}
+use Rattle.std.proofs.Common.{◌≡◌, ℕ, suc, ◌≤◌, Result, Ok, IfOk, List, [], ◌∷◌, ◌++◌, length, take, get_or, Option, Some, None, refl, sym, ap, subst, ◌∙◌, arith, inl, inr, string_bytes}
 use Rattle.std.specs.Prelude.{slice_get}
 use Rattle.kernel_abi.specs.Devices.{DeviceData}
 use Rattle.image_format.specs.Picture.{Picture}
@@ -30,6 +30,14 @@ use Rattle.trace_cli.proofs.Lists.{at_end, longer, takes_none, takes_first, take
 use Rattle.trace_cli.proofs.Faulting.{faults_earlier}
 use Rattle.trace_cli.proofs.Taking.{as_many_sources}
 
+-- a board that is ready, where there is one
+pub ready_there : {X : Type 0} {H : X → Type 0} {shown : Shows X H} {devices : List DeviceData} {job : Asked} {seen : List ℕ → Option (List ℕ)} {n : ℕ} {detail : Detail} {r : Result (Board X H) NamedFault} {b : Board X H} → r ≡ Ok b → IfOk r (IsReady shown devices job seen n detail) → IsReady shown devices job seen n detail b
+ready_there {X} {H} {shown} {devices} {job} {seen} {n} {detail} {r} {b} is h = subst (λ (p : Result (Board X H) NamedFault). IfOk p (IsReady shown devices job seen n detail)) is h
+
+-- what is set up by the same contents elsewhere
+pub set_there : {X : Type 0} {H : X → Type 0} {shown : Shows X H} {devices : List DeviceData} {seen seen' : List ℕ → Option (List ℕ)} {picture : Picture} {script : List ℕ} {b : Board X H} → seen ≡ seen' → IsSet shown devices seen picture script b → IsSet shown devices seen' picture script b
+set_there {X} {H} {shown} {devices} {seen} {seen'} {picture} {script} {b} same h = subst (λ (t : List ℕ → Option (List ℕ)). IsSet shown devices t picture script b) same h
+
 -- ## `run`
 
 one_file : (seen : List ℕ → Option (List ℕ)) (name : List ℕ) (image : Picture) (more : List File) (h : IsImageFile seen name image) → Takes (MayBe seen) (image_file name ∷ more) (h.bytes ∷ [])
@@ -37,15 +45,15 @@ one_file seen name image more h = takes_first (MayBe seen) (image_file name) mor
 
 pub run_ready : {X : Type 0} {H : X → Type 0} {shown : Shows X H} {devices : List DeviceData} (seen : List ℕ → Option (List ℕ)) (image script : List ℕ) (n : ℕ) (detail : Detail) (picture : Picture) (b : Board X H) → IsImageFile seen image picture → IsSet shown devices seen picture script b
     → IsReady shown devices (run image script n detail) seen n detail b
-run_ready seen image script n detail picture b i s = record {
+run_ready {X} {H} {shown} {devices} seen image script n detail picture b i s = record {
   contents = i.bytes ∷ s.script ∷ [];
   accepted = record {
     takes = takes_first (MayBe seen) (image_file image) (script_file script ∷ []) i.bytes (s.script ∷ []) i.held i.accepted
         (takes_first (MayBe seen) (script_file script) [] s.script [] s.held s.accepted (takes_none (MayBe seen) []));
     all = refl;
   };
-  scenario = scenario_of picture s.script _;
-  is = (refl, refl, ap (λ (p : Picture). scenario_of p s.script _) i.is);
+  scenario = scenario_of picture s.script devices;
+  is = (refl, refl, ap (λ (p : Picture). scenario_of p s.script devices) i.is);
   stands = s.stands;
   turns = s.turns;
 }
@@ -139,7 +147,7 @@ go_script bytes sources script count = ap (λ n. get_or (sources ++ script ∷ [
 
 pub go_ready : {X : Type 0} {H : X → Type 0} {shown : Shows X H} {devices : List DeviceData} (seen : List ℕ → Option (List ℕ)) (app script : List ℕ) (n : ℕ) (detail : Detail) (picture : Picture) (b : Board X H) → IsImage seen app picture → IsSet shown devices seen picture script b
     → IsReady shown devices (go app script n detail) seen n detail b
-go_ready seen app script n detail picture b i s =
+go_ready {X} {H} {shown} {devices} seen app script n detail picture b i s =
     let files = files_to_build app i.bytes in
     let count : length (application_of i.bytes).tasks ≡ length i.sources = (let all = i.each.all in let many = as_many_sources (application_of i.bytes) in omega arith) in
     record {
@@ -150,8 +158,8 @@ go_ready seen app script n detail picture b i s =
             (files_then files (script_file script) (length (i.bytes ∷ i.sources)) i.each.all) s.held s.accepted;
         all = longer files (script_file script) ∙ ap suc i.each.all ∙ sym (longer (i.bytes ∷ i.sources) s.script);
       };
-      scenario = scenario_of picture s.script _;
-      is = (refl, refl, (picture, go_image i.bytes i.sources s.script picture count i.is, ap (λ (t : List ℕ). scenario_of picture t _) (sym (go_script i.bytes i.sources s.script count))));
+      scenario = scenario_of picture s.script devices;
+      is = (refl, refl, (picture, go_image i.bytes i.sources s.script picture count i.is, ap (λ (t : List ℕ). scenario_of picture t devices) (sym (go_script i.bytes i.sources s.script count))));
       stands = s.stands;
       turns = s.turns;
     }

@@ -58,11 +58,11 @@ made_by seen app out cs b all (builds o i is e) = record {
 }
 
 made : {devices : List DeviceData} (words : List (List ℕ)) (seen : List ℕ → Option (List ℕ)) (app out : List ℕ) (b : Verdict) → job_in words ≡ Some (build app out) → IsVerdict devices words seen b → b.status ≡ 0 → IsMade seen app out b
-made words seen app out b at (no_job none e) zero = absurd (no_job_of words (build app out) none at)
-made words seen app out b at (refuses job cs f c why is r held refusal e) zero = let one : b.status ≡ 1 = ap (λ (u : Verdict). u.status) e in absurd (omega arith)
-made words seen app out b at (does job cs is all p) zero =
+made {devices} words seen app out b at (no_job none e) zero = absurd (no_job_of words (build app out) none at)
+made {devices} words seen app out b at (refuses job cs f c why is r held refusal e) zero = let one : b.status ≡ 1 = ap (λ (u : Verdict). u.status) e in absurd (omega arith)
+made {devices} words seen app out b at (does job cs is all p) zero =
     let alike : job ≡ build app out = same_Some job (build app out) (sym is ∙ at) in
-    made_by seen app out cs b (subst (λ (j : Asked). TakesAll (Are seen) j cs) alike all) (subst (λ (j : Asked). Does _ j cs b) alike p)
+    made_by seen app out cs b (subst (λ (j : Asked). TakesAll (Are seen) j cs) alike all) (subst (λ (j : Asked). Does devices j cs b) alike p)
 
 -- ## the verdicts of `go`
 
@@ -77,17 +77,17 @@ go_refuses words seen app script n detail image bytes why w at h held refusal e 
 
 go_runs : {devices : List DeviceData} (words : List (List ℕ)) (seen : List ℕ → Option (List ℕ)) (app script : List ℕ) (n : ℕ) (detail : Detail) (image : Picture) (bytes : List ℕ) (w : Verdict)
     → job_in words ≡ Some (go app script n detail) → HasImage seen app image → seen script ≡ Some bytes → script_refusal bytes ≡ None → w ≡ ran n detail (scenario_of image bytes devices) → IsVerdict devices words seen w
-go_runs words seen app script n detail image bytes w at h held accepted e =
+go_runs {devices} words seen app script n detail image bytes w at h held accepted e =
     let files = files_to_build app h.bytes in
     let count : length (application_of h.bytes).tasks ≡ length h.sources = (let all = h.all in let many = as_many_sources (application_of h.bytes) in omega arith) in
     let contents = h.bytes ∷ (h.sources ++ bytes ∷ []) in
-    let scenario : scenario_of image bytes _ ≡ scenario_of image (script_in contents) _ = ap (λ (t : List ℕ). scenario_of image t _) (sym (go_script h.bytes h.sources bytes count)) in
+    let scenario : scenario_of image bytes devices ≡ scenario_of image (script_in contents) devices = ap (λ (t : List ℕ). scenario_of image t devices) (sym (go_script h.bytes h.sources bytes count)) in
     does (go app script n detail) contents at (record {
       takes = takes_last (Are seen) (files ++ script_file script ∷ []) (h.bytes ∷ h.sources) (script_file script) bytes
           (takes_wider (Are seen) files (script_file script ∷ []) (h.bytes ∷ h.sources) h.takes)
           (files_then files (script_file script) (length (h.bytes ∷ h.sources)) h.all) held accepted;
       all = longer files (script_file script) ∙ ap suc h.all ∙ sym (longer (h.bytes ∷ h.sources) bytes);
-    }) (runs n detail (scenario_of image bytes _) (refl, refl, (image, go_image h.bytes h.sources bytes image count h.is, scenario)) e)
+    }) (runs n detail (scenario_of image bytes devices) (refl, refl, (image, go_image h.bytes h.sources bytes image count h.is, scenario)) e)
 
 -- ## from the verdict of `run` to that of `go`
 
@@ -135,13 +135,13 @@ accepted_of : (f g : File) (c : List ℕ) → Some f ≡ Some g → g.refusal c 
 accepted_of f g c e accepted = subst (λ (h : File). h.refusal c ≡ None) (sym (same_Some f g e)) accepted
 
 ran_of : {devices : List DeviceData} (out script : List ℕ) (n : ℕ) (detail : Detail) (image : Picture) (c s : List ℕ) (w : Verdict) → picture_of c ≡ image → Does devices (run out script n detail) (c ∷ s ∷ []) w → w ≡ ran n detail (scenario_of image s devices)
-ran_of out script n detail image c s w same (runs k m x is e) =
-    let scenario : x ≡ scenario_of image s _ = is.2 ∙ ap (λ (i : Picture). scenario_of i s _) same in
+ran_of {devices} out script n detail image c s w same (runs k m x is e) =
+    let scenario : x ≡ scenario_of image s devices = is.2 ∙ ap (λ (i : Picture). scenario_of i s devices) same in
     e ∙ ap (λ (i : ℕ). ran i m x) is.0 ∙ ap (λ (a : Detail). ran n a x) is.1 ∙ ap (ran n detail) scenario
-ran_of out script n detail image c s w same (lists i is e) = absurd is
-ran_of out script n detail image c s w same (builds o i is e) = absurd is
-ran_of out script n detail image c s w same (audits t found is v e) = absurd is
-ran_of out script n detail image c s w same (samples seed k x is e) = absurd (no_sample_run out script n detail seed k is.is)
+ran_of {devices} out script n detail image c s w same (lists i is e) = absurd is
+ran_of {devices} out script n detail image c s w same (builds o i is e) = absurd is
+ran_of {devices} out script n detail image c s w same (audits t found is v e) = absurd is
+ran_of {devices} out script n detail image c s w same (samples seed k x is e) = absurd (no_sample_run out script n detail seed k is.is)
 
 after_run : {devices : List DeviceData} (words : List (List ℕ)) (seen seen' : List ℕ → Option (List ℕ)) (app out script : List ℕ) (n : ℕ) (detail : Detail) (cs : List (List ℕ)) (w : Verdict)
     → job_in words ≡ Some (go app script n detail) → Rebuilt seen seen' app out script → TakesAll (Are seen') (run out script n detail) cs → Does devices (run out script n detail) cs w → IsVerdict devices words seen w
@@ -159,14 +159,14 @@ after_run words seen seen' app out script n detail (c ∷ s ∷ t ∷ more) w at
 
 go_by_run : {devices : List DeviceData} (go_words run_words : List (List ℕ)) (seen seen' : List ℕ → Option (List ℕ)) (app out script : List ℕ) (n : ℕ) (detail : Detail) (w : Verdict)
     → job_in go_words ≡ Some (go app script n detail) → job_in run_words ≡ Some (run out script n detail) → Rebuilt seen seen' app out script → IsVerdict devices run_words seen' w → IsVerdict devices go_words seen w
-go_by_run go_words run_words seen seen' app out script n detail w at too r (no_job none e) = absurd (no_job_of run_words (run out script n detail) none too)
-go_by_run go_words run_words seen seen' app out script n detail w at too r (refuses job cs f c why is reached held refusal e) =
+go_by_run {devices} go_words run_words seen seen' app out script n detail w at too r (no_job none e) = absurd (no_job_of run_words (run out script n detail) none too)
+go_by_run {devices} go_words run_words seen seen' app out script n detail w at too r (refuses job cs f c why is reached held refusal e) =
     let alike : job ≡ run out script n detail = same_Some job (run out script n detail) (sym is ∙ too) in
     let mine : Reaches (Are seen') (run out script n detail) cs f = subst (λ (j : Asked). Reaches (Are seen') j cs f) alike reached in
     after_refusal go_words seen seen' app out script n detail cs f c why w at r mine.next held refusal e
-go_by_run go_words run_words seen seen' app out script n detail w at too r (does job cs is all p) =
+go_by_run {devices} go_words run_words seen seen' app out script n detail w at too r (does job cs is all p) =
     let alike : job ≡ run out script n detail = same_Some job (run out script n detail) (sym is ∙ too) in
-    after_run go_words seen seen' app out script n detail cs w at r (subst (λ (j : Asked). TakesAll (Are seen') j cs) alike all) (subst (λ (j : Asked). Does _ j cs w) alike p)
+    after_run go_words seen seen' app out script n detail cs w at r (subst (λ (j : Asked). TakesAll (Are seen') j cs) alike all) (subst (λ (j : Asked). Does devices j cs w) alike p)
 
 pub build_then_run : {devices : List DeviceData} (build_words go_words run_words : List (List ℕ)) (seen seen' : List ℕ → Option (List ℕ)) (app out script : List ℕ) (n : ℕ) (detail : Detail) (b v w : Verdict)
     → job_in build_words ≡ Some (build app out) → job_in go_words ≡ Some (go app script n detail) → job_in run_words ≡ Some (run out script n detail)

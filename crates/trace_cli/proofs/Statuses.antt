@@ -222,19 +222,19 @@ was_unread words a b w w' r h e =
     let t = seen_whole words a b w w' r h (λ is. omega arith) (λ is. omega arith) in
     unread_by words a b w w' t.verdict (t.status ∙ e) t.text t.reason
 
-good_of_run : {devices : List DeviceData} (job : Asked) (cs : List (List ℕ)) (n : ℕ) (m : Detail) (x : Scenario) (v : Verdict) (r : ℕ) → IsRun devices job cs n m x → IsOfRun r → TellsGood job v r → IsGoodText v.text
-good_of_run (build app out) cs n m x v r p told h = absurd p
-good_of_run (run image script steps detail) cs n m x v r p told h = h told
-good_of_run (go app script steps detail) cs n m x v r p told h = h told
-good_of_run (list image) cs n m x v r p told h = absurd p
-good_of_run (sample seed steps) cs n m x v r p told h = absurd p
-good_of_run (migrate image out) cs n m x v r p told h = absurd p
-good_of_run (audit trace) cs n m x v r p told h = absurd p
+good_of_run : (devices : List DeviceData) (job : Asked) (cs : List (List ℕ)) (n : ℕ) (m : Detail) (x : Scenario) (v : Verdict) (r : ℕ) → IsRun devices job cs n m x → IsOfRun r → TellsGood job v r → IsGoodText v.text
+good_of_run devices (build app out) cs n m x v r p told h = absurd p
+good_of_run devices (run image script steps detail) cs n m x v r p told h = h told
+good_of_run devices (go app script steps detail) cs n m x v r p told h = h told
+good_of_run devices (list image) cs n m x v r p told h = absurd p
+good_of_run devices (sample seed steps) cs n m x v r p told h = absurd p
+good_of_run devices (migrate image out) cs n m x v r p told h = absurd p
+good_of_run devices (audit trace) cs n m x v r p told h = absurd p
 
 has_run : {devices : List DeviceData} (words : List (List ℕ)) (a : FilesSeen) (w w' : SinkSeen) (job : Asked) (cs : List (List ℕ)) (n : ℕ) (m : Detail) (x : Scenario) (v : Verdict) (r : ℕ)
     → job_in words ≡ Some job → IsAccepted job a.contents cs → IsRun devices job cs n m x → v ≡ ran n m x → v.status ≡ r → Appends w.written w'.written v.text
     → IsOfRun r → TellsGoodIn (job_in words) v r → HasRun devices words a.contents w w' r
-has_run words a w w' job cs n m x v r at all h is e t told good = record {
+has_run {devices} words a w w' job cs n m x v r at all h is e t told good = record {
   job = job;
   command = at;
   contents = cs;
@@ -245,7 +245,7 @@ has_run words a w w' job cs n m x v r at all h is e t told good = record {
   is = h;
   status = sym (ap (λ (u : Verdict). u.status) is) ∙ e;
   text = same_text w w' v (ran n m x) is t;
-  good = subst (λ (u : Verdict). IsGoodText u.text) is (good_of_run job cs n m x v r h told (subst (λ (o : Option Asked). TellsGoodIn o v r) at good));
+  good = subst (λ (u : Verdict). IsGoodText u.text) is (good_of_run devices job cs n m x v r h told (subst (λ (o : Option Asked). TellsGoodIn o v r) at good));
 }
 
 has_sampled : (words : List (List ℕ)) (w w' : SinkSeen) (job : Asked) (s n : ℕ) (x : Scenario) (v : Verdict) (r : ℕ) → job_in words ≡ Some job → IsSample job s n x → v ≡ sampled n x

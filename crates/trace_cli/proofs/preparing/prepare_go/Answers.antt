@@ -1,14 +1,12 @@
-use Rattle.std.proofs.Common.{subst}
 use Rattle.std.proofs.lemmas.Result.{IfOk-weaker, IfErr-weaker}
 use Rattle.image_format.specs.Images.{picture}
-use Rattle.trace_cli.specs.Ready.{IsSet}
-use Rattle.trace_cli.proofs.Readying.{go_ready, go_script_faults, go_app_faults}
+use Rattle.trace_cli.proofs.Readying.{go_ready, set_there, go_script_faults, go_app_faults}
 use Rattle.trace_cli.proofs.preparing.prepare_go.Goals as goal
 
 pub returns-in-Ok-clause-ready : goal.returns-in-Ok-clause-ready
 returns-in-Ok-clause-ready g c = λ n detail.
     IfOk-weaker c.set_up.result _ _ (λ b h. go_ready (g.F.Files.seen c.args.files.now).contents c.args.app.now c.args.script.now n detail (picture c.in-Ok.picture) b c.in-Ok.ensures.image
-    (subst (λ t. IsSet _ _ t (picture c.in-Ok.picture) c.args.script.now b) c.in-Ok.ensures.contents h)) c.set_up.ensures.set
+    (set_there c.in-Ok.ensures.contents h)) c.set_up.ensures.set
 
 pub returns-in-Ok-clause-named_fault : goal.returns-in-Ok-clause-named_fault
 returns-in-Ok-clause-named_fault g c = λ n detail.

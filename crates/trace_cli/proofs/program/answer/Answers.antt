@@ -41,10 +41,10 @@ pub run_sample-requires : goal.run_sample-requires
 run_sample-requires g c = record { few = rw c.in-Ok-Sample.field-0-is at c.in-Ok-Sample.ensures.few }
 
 pub run_files-requires : goal.run_files-requires
-run_files-requires g c = record { fresh = c.requires; few = rw c.in-Ok-Run.field-0-is at c.in-Ok-Run.ensures.few }
+run_files-requires g c = record { fresh = c.requires.fresh; few = rw c.in-Ok-Run.field-0-is at c.in-Ok-Run.ensures.few }
 
 pub go_files-requires : goal.go_files-requires
-go_files-requires g c = record { fresh = c.requires; few = rw c.in-Ok-Go.field-0-is at c.in-Ok-Go.ensures.few }
+go_files-requires g c = record { fresh = c.requires.fresh; few = rw c.in-Ok-Go.field-0-is at c.in-Ok-Go.ensures.few }
 
 pub returns-in-Err-NotAccepted-clause-answer : goal.returns-in-Err-NotAccepted-clause-answer
 returns-in-Err-NotAccepted-clause-answer g c = answers_usage _ _ _ _ _ (c.in-Err-NotAccepted.ensures.refused c.in-Err-NotAccepted.field-0-is) c.tell_usage.ensures
