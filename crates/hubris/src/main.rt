@@ -3,8 +3,8 @@
 #![tactic(auto)]
 
 use devices::{Console, Device, Port};
-use outside_io::{HostFiles, HostSink};
-use std::alloc::AllocError;
+use outside_io::{Files, HostFiles, HostSink, Sink};
+use std::alloc::{AllocError, Global};
 use std::io::{BufWriter, ErrorKind};
 use std::process::ExitCode;
 use std::{env, io};
@@ -29,6 +29,19 @@ fn words(rt: &HostRuntime) -> Result<Vec<String>, AllocError> {
     Ok(words)
 }
 
+/// The answer to the words, where a console and a port are behind the first addresses of devices.
+fn status<F: Files, S: Sink>(
+    alloc: Global,
+    words: &[String],
+    files: &mut F,
+    out: &mut S,
+) -> Result<u8, AllocError> {
+    let mut devices: Vec<Box<dyn Device>> = Vec::new(alloc);
+    devices.push(Box::new(alloc, Console::new(0x4000_0000))?)?;
+    devices.push(Box::new(alloc, Port::new(0x4000_1000))?)?;
+    Ok(hubris_main_with(alloc, words, files, out, devices))
+}
+
 fn main(rt: HostRuntime) -> ExitCode {
     let Ok(words) = words(&rt) else {
         return ExitCode::from(5);
@@ -39,18 +52,9 @@ fn main(rt: HostRuntime) -> ExitCode {
     };
     let mut out = HostSink::new(writer);
     let mut files = HostFiles::new(&rt);
-    // A console and a port, behind the first addresses of devices.
-    let Ok(console) = Box::new(rt.alloc(), Console::new(0x4000_0000)) else {
+    let Ok(status) = status(rt.alloc(), &words, &mut files, &mut out) else {
         return ExitCode::from(5);
     };
-    let Ok(port) = Box::new(rt.alloc(), Port::new(0x4000_1000)) else {
-        return ExitCode::from(5);
-    };
-    let mut devices: Vec<Box<dyn Device>> = Vec::new(rt.alloc());
-    if devices.push(console).is_err() || devices.push(port).is_err() {
-        return ExitCode::from(5);
-    }
-    let status = hubris_main_with(rt.alloc(), &words, &mut files, &mut out, devices);
     if status != 4 && out.flush().is_ok() {
         return ExitCode::from(status);
     }
