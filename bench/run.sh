@@ -124,10 +124,10 @@ instructions() {
 }
 for image in $compiled; do instructions "$image" 66 "out/$image.img" out/empty.txt; done
 instructions "two instructions" 26 "$data/a.img" out/empty.txt
-instructions "32 tasks with timers" 400 out/timers.img timers/script.txt
-instructions "16 clients, 4 servers" 290 out/messages.img out/empty.txt
-instructions "8 lenders, 1 server" 280 out/leases.img out/empty.txt
-instructions "large sample" 180 sample/sample.img sample/script.txt
-instructions "512 tasks with timers" 440 out/timers512.img timers/script.txt
-instructions "507 clients, 4 servers" 377 out/messages512.img out/empty.txt
+instructions "32 tasks with timers" 365 out/timers.img timers/script.txt
+instructions "16 clients, 4 servers" 275 out/messages.img out/empty.txt
+instructions "8 lenders, 1 server" 260 out/leases.img out/empty.txt
+instructions "large sample" 162 sample/sample.img sample/script.txt
+instructions "512 tasks with timers" 400 out/timers512.img timers/script.txt
+instructions "507 clients, 4 servers" 290 out/messages512.img out/empty.txt
 exit $short
