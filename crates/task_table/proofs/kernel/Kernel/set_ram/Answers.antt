@@ -1,0 +1,1 @@
+use Rattle.task_table.proofs.kernel.Kernel.set_ram.Goals as goal
