@@ -195,7 +195,8 @@ impl Memory {
 
     /// How many bytes the RAM has.
     pub fn ram_len(&self) -> u32
-        ensures { result ≡ length self.now.bytes.ram }
+        ensures len { result ≡ length self.now.bytes.ram }
+        ensures few { result ≤ 262144 }
     {
         self.ram
     }

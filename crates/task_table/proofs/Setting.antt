@@ -261,7 +261,7 @@ holds_set_byte g k t a bytes memory h e ram = record {
 
 pub fresh_ram : (m : Memory) (low span : ℕ) (entries : List (Option KeptEntry)) (bytes : List ℕ) (n : ℕ) → AreFresh m low span entries → ((i : ℕ) (y : KeptEntry) → kept_at entries i ≡ Some y → meets y 0x20000000 n ≡ false) → n ≡ length bytes → length bytes ≡ length m.ram → AreFresh (record m { ram = bytes }) low span entries
 fresh_ram m low span entries bytes n h apart e long =
-    rw (← all_written m bytes long) (fresh_stored m low span entries 0x20000000 n bytes h apart (all_in_ram m n (e ∙ long)) (omega (arith, e)))
+    rw (← all_written m bytes long) (fresh_stored m low span entries 0x20000000 n bytes h apart (all_in_ram m (length bytes) long) (omega (arith, e)))
 
 pub holds_set_ram : (g : Setup) (k : Kept) (t : Turn) (bytes : List ℕ) (memory : Memory) → Shows g k t → memory ≡ record k.memory { ram = bytes } → memory.flash ≡ k.setup.flash → length memory.ram ≡ k.setup.ram → Shows g record k { setup = record k.setup { flash = memory.flash; ram = length memory.ram }; memory = memory } record t { state = record t.state { memory = record t.state.memory { ram = bytes } } }
 unfolding task_at call_of listen_of

@@ -6,7 +6,7 @@ use crate::slot::Slot;
 use mem_banks::RAM;
 
 impl Kernel {
-    ghost use Rattle.std.specs.Prelude.{◌≡◌, ◌<◌, ◌∷◌, [], length, true};
+    ghost use Rattle.std.specs.Prelude.{◌≡◌, ◌<◌, ◌≤◌, ◌∷◌, [], length, true};
     ghost use Rattle.task_table.specs.State.{Setup, Turn};
     ghost use Rattle.mem_banks.specs.Memory.{is_held, with_bytes};
     ghost use Rattle.task_table.specs.Effects.{changed};
@@ -66,7 +66,8 @@ impl Kernel {
 
     /// How many bytes the RAM has.
     pub fn ram_len(&self) -> u32
-        ensures { result ≡ length (memory_of self.now).ram }
+        ensures len { result ≡ length (memory_of self.now).ram }
+        ensures few { result ≤ 262144 }
     {
         self.memory.ram_len()
     }
