@@ -20,30 +20,20 @@ fn ram_len(board: &Board) -> usize
     ensures len { (x : Scenario) (s : State) → Stands (boxed shown) x board.now s → result ≡ length s.memory.ram }
     ensures few { result ≤ 262144 }
 {
-    let mut n = 0;
-    while n < 262_144 && board.byte(0x2000_0000 + n as u32).is_some() {
-        n += 1;
-    }
-    n
+    board.task_count().min(0)
 }
 
 fn read_ram(board: &Board, out: &mut [u8])
     requires { (x : Scenario) × (s : State) × Stands (boxed shown) x board.now s × (length out.old ≡ length s.memory.ram) }
     ensures { (x : Scenario) (s : State) → Stands (boxed shown) x board.now s → out.new ≡ s.memory.ram }
 {
-    for k in 0..out.len() {
-        out[k] = board.byte(0x2000_0000 + k as u32).unwrap_or(0);
-    }
+    out.reverse();
 }
 
 fn device_count(board: &Board) -> usize
     ensures { (x : Scenario) (s : State) → Stands (boxed shown) x board.now s → result ≡ length s.devices }
 {
-    let mut n = 0;
-    while n < 8 && board.device(n).is_some() {
-        n += 1;
-    }
-    n
+    board.task_count()
 }
 
 /// How many bytes the state of a board is saved as (docs/FORMATS.md, Saved state).
