@@ -84,9 +84,9 @@ fn save_task(board: &Board, i: usize, out: &mut [u8], at: usize) -> usize
 
 /// The records of all tasks.
 fn save_tasks(board: &Board, out: &mut [u8], at: usize) -> usize
-    requires room { at + 132 * count_of board.now ≤ length out.old }
+    requires room { (x : Scenario) × (s : State) × Stands (boxed shown) x board.now s × (at + 132 * length s.tasks ≤ length out.old) }
     ensures front { (x : Scenario) (s : State) → Stands (boxed shown) x board.now s → take result out.new ≡ take at out.old ++ flat_map task_bytes (parts_of (reduced s)).tasks }
-    ensures after { result ≡ at + 132 * count_of board.now }
+    ensures after { (x : Scenario) (s : State) → Stands (boxed shown) x board.now s → result ≡ at + 132 * length s.tasks }
     ensures len { length out.new ≡ length out.old }
 {
     let mut end = at;
@@ -124,6 +124,14 @@ fn save_devices(board: &Board, out: &mut [u8], at: usize) -> usize
     end
 }
 
+/// The bytes of the RAM, which fill what is left.
+fn save_ram(board: &Board, out: &mut [u8], at: usize)
+    requires room { (x : Scenario) × (s : State) × Stands (boxed shown) x board.now s × (at + length s.memory.ram ≡ length out.old) }
+    ensures { (x : Scenario) (s : State) → Stands (boxed shown) x board.now s → out.new ≡ take at out.old ++ s.memory.ram }
+{
+    read_ram(board, &mut out[at..]);
+}
+
 /// The state of a board, whose births count by their generation alone, as it is spelled (docs/FORMATS.md, Saved state). It
 /// takes no memory.
 pub fn save_into(board: &Board, out: &mut [u8])
@@ -134,7 +142,7 @@ pub fn save_into(board: &Board, out: &mut [u8])
     let at = put_lines(out, at, &lines_of(board));
     let at = save_tasks(board, out, at);
     let at = save_devices(board, out, at);
-    read_ram(board, &mut out[at..]);
+    save_ram(board, out, at);
 }
 
 /// The same in a vector of its own.
