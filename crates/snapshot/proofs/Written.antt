@@ -1,5 +1,5 @@
 -- Pieces written one after the other.
-use Rattle.std.proofs.Common.{◌≡◌, ◌∙◌, ◌+◌, ℕ, List, [], ◌∷◌, ◌++◌, length, take, map, get_or, refl, sym, ap, arith, append_assoc}
+use Rattle.std.proofs.Common.{◌≡◌, ◌∙◌, ◌+◌, ℕ, List, [], ◌∷◌, ◌++◌, length, take, map, get_or, refl, sym, ap, arith}
 use Rattle.std.specs.List.{flat_map, range_with_len}
 use Rattle.std.proofs.lemmas.List.{flat_map_more, length-map}
 use Rattle.std.proofs.Math.ListN.{get_or-map}
@@ -16,8 +16,8 @@ written_more bytes f i front old new e g =
     ∙ ap (λ xs. front ++ flat_map bytes xs) (sym (map-range_with_len_more f 0 i i place))
 
 -- five pieces from the start
-pub five_written : (a b c d last a' b' c' d' e' : List ℕ) → a ≡ [] ++ a' → b ≡ a ++ b' → c ≡ b ++ c' → d ≡ c ++ d' → last ≡ d ++ e' → last ≡ a' ++ (b' ++ (c' ++ (d' ++ e')))
-five_written a b c d last a' b' c' d' e' ea eb ec ed el = simp (el, ed, ec, eb, ea, append_assoc)
+pub five_written : (a b c d last a' b' c' d' e' : List ℕ) → a ≡ a' → b ≡ a ++ b' → c ≡ b ++ c' → d ≡ c ++ d' → last ≡ d ++ e' → last ≡ a' ++ b' ++ c' ++ d' ++ e'
+five_written a b c d last a' b' c' d' e' ea eb ec ed el = simp (el, ed, ec, eb, ea)
 
 -- each element by its index
 pub each_by_index : {X Y : Type 0} (f : X → Y) (xs : List X) (d : X) → map (λ k. f (get_or xs k d)) (range_with_len 0 (length xs)) ≡ map f xs
