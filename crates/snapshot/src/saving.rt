@@ -16,31 +16,11 @@ use crate::writing::{put_device, put_header, put_lines, put_task};
 use board_core::Board;
 use std::alloc::{AllocError, Global};
 
-fn ram_len(board: &Board) -> usize
-    ensures len { (x : Scenario) (s : State) → Stands (boxed shown) x board.now s → result ≡ length s.memory.ram }
-    ensures few { result ≤ 262144 }
-{
-    board.task_count().min(0)
-}
-
-fn read_ram(board: &Board, out: &mut [u8])
-    requires { (x : Scenario) × (s : State) × Stands (boxed shown) x board.now s × (length out.old ≡ length s.memory.ram) }
-    ensures { (x : Scenario) (s : State) → Stands (boxed shown) x board.now s → out.new ≡ s.memory.ram }
-{
-    out.reverse();
-}
-
-fn device_count(board: &Board) -> usize
-    ensures { (x : Scenario) (s : State) → Stands (boxed shown) x board.now s → result ≡ length s.devices }
-{
-    board.task_count()
-}
-
 /// How many bytes the state of a board is saved as (docs/FORMATS.md, Saved state).
 pub fn saved_len(board: &Board) -> usize
     ensures { (x : Scenario) (s : State) → Stands (boxed shown) x board.now s → result ≡ length (spelling (reduced s)) }
 {
-    100 + 132 * board.task_count() + 72 * device_count(board).min(8) + ram_len(board)
+    100 + 132 * board.task_count() + 72 * board.device_count().min(8) + board.ram_len()
 }
 
 fn header_of(board: &Board) -> Header
@@ -50,11 +30,11 @@ fn header_of(board: &Board) -> Header
     Header {
         turn: board.turns(),
         tasks: board.task_count() as u32,
-        ram: ram_len(board) as u32,
+        ram: board.ram_len() as u32,
         clock: board.now(),
         current: board.current() as u32,
         next_call: board.next_call(),
-        devices: device_count(board) as u32,
+        devices: board.device_count() as u32,
     }
 }
 
@@ -118,7 +98,7 @@ fn save_devices(board: &Board, out: &mut [u8], at: usize) -> usize
     ensures len { length out.new ≡ length out.old }
 {
     let mut end = at;
-    for k in 0..device_count(board) {
+    for k in 0..board.device_count() {
         end = save_device(board, k, out, end);
     }
     end
@@ -129,7 +109,7 @@ fn save_ram(board: &Board, out: &mut [u8], at: usize)
     requires room { (x : Scenario) × (s : State) × Stands (boxed shown) x board.now s × (at + length s.memory.ram ≡ length out.old) }
     ensures { (x : Scenario) (s : State) → Stands (boxed shown) x board.now s → out.new ≡ take at out.old ++ s.memory.ram }
 {
-    read_ram(board, &mut out[at..]);
+    board.read_ram(&mut out[at..]);
 }
 
 /// The state of a board, whose births count by their generation alone, as it is spelled (docs/FORMATS.md, Saved state). It
