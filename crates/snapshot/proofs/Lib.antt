@@ -11,5 +11,8 @@ mod Rows
 mod Saves
 mod Single
 mod Splits
+mod Stood
 mod Told
+mod Viewed
 mod WaitsRestored
+mod Written

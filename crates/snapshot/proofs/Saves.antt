@@ -189,7 +189,7 @@ line_fits g k false true h =
 
 -- ## births
 
-reduced_task : (s : State) (i : ℕ) → task_at (reduced s) i ≡ seen_task (λ b. b % 64) (task_at s i)
+pub reduced_task : (s : State) (i : ℕ) → task_at (reduced s) i ≡ seen_task (λ b. b % 64) (task_at s i)
 unfolding seen task_at
 reduced_task s i = get_or-map (seen_task (λ b. b % 64)) s.tasks i no_task
 
@@ -438,7 +438,7 @@ zeros_all : (n : ℕ) → are_zeros (replicate n 0) ≡ true
 zeros_all zero = refl
 zeros_all (suc n) = zeros_all n
 
-few_queued : (kind : Kind) (count : ℕ) (queue : List ℕ) → IsSettable kind count queue → length queue ≤ 64
+pub few_queued : (kind : Kind) (count : ℕ) (queue : List ℕ) → IsSettable kind count queue → length queue ≤ 64
 few_queued Console count queue h = let none : length queue ≡ 0 = ap length h in omega (arith, none)
 few_queued Port count queue h = h.1
 
