@@ -39,7 +39,7 @@ use Rattle.snapshot.proofs.Saves.{the_call, births_small}
 pub id_small : (r : TaskRecord) → has_words r ≡ true → 3 ≤ r.wait → word r 1 < 65536
 id_small r ok from =
     let not_none = ne_eqb r.wait 0 (λ e. omega (arith, e, from)) in
-    let no_call = lt-leb 2 r.wait (omega (arith, from)) in
+    let no_call = lt-leb r.wait 2 (omega (arith, from)) in
     let rest = and_parts _ _ (rw (not_none, no_call) at ok) in
     by (eqb r.wait 5) (word r 1) rest.1
   where

@@ -21,7 +21,6 @@ use crate::checks::check;
 use crate::reading::{device_record, header, task_record};
 use crate::records::{DeviceRecord, Header};
 use crate::views::view_of;
-use arrayvec::ArrayVec;
 use board_core::Board;
 use devices::Device;
 use image_format::Image;
@@ -168,31 +167,32 @@ fn kind_of(device: &Box<dyn Device>) -> Kind
 }
 
 /// The kinds of devices, in order.
-fn kinds(devices: &Vec<Box<dyn Device>>) -> ArrayVec<Kind, 8>
+fn kinds(alloc: Global, devices: &Vec<Box<dyn Device>>) -> Result<Vec<Kind>, AllocError>
     requires { length devices.now.items ≤ 8 }
-    ensures { result.items ≡ map (λ d. d.kind) (map shown devices.now.items) }
+    ensures { IfOk result (λ v. v.items ≡ map (λ d. d.kind) (map shown devices.now.items)) }
 {
-    let mut kinds = ArrayVec::new();
+    let mut kinds = Vec::new(alloc);
     for k in 0..devices.len() {
-        kinds.push(kind_of(&devices[k]));
+        kinds.push(kind_of(&devices[k]))?;
     }
-    kinds
+    Ok(kinds)
 }
 
-/// The first cause by which the bytes are refused beside devices of these kinds, if any.
+/// The first cause by which the bytes are refused beside the devices, if any.
 fn refusal(
     alloc: Global,
     image: &Image,
-    kinds: &[Kind],
+    devices: &Vec<Box<dyn Device>>,
     bytes: &[u8],
 ) -> Result<Option<(u8, u32)>, AllocError>
-    requires { length kinds.now ≤ 8 }
-    ensures { IfOk result (λ found. found ≡ state_fault (record (expected_of (setup_of_image (picture image.now)) []) { kinds = kinds.now }) bytes.now) }
+    requires { length devices.now.items ≤ 8 }
+    ensures { IfOk result (λ found. found ≡ state_fault (expected_of (setup_of_image (picture image.now)) (map shown devices.now.items)) bytes.now) }
 {
     image.facts();
     let regions = regions(alloc, image)?;
     let owned = owned(alloc, image)?;
-    Ok(check(&regions, image.ram(), &owned, kinds, bytes))
+    let kinds = kinds(alloc, devices)?;
+    Ok(check(&regions, image.ram(), &owned, &kinds, bytes))
 }
 
 /// A board of an image with a script and with devices, as they are handed in, in the state that the bytes spell. Where none is
@@ -215,7 +215,7 @@ pub fn load(
     ensures turns { IfOk result (λ b. turns_of b ≡ (header_at bytes.now).turn) }
     ensures refused { let x = scenario_of (picture image.now) (script_data script.now) (map shown devices.items) in IfErr result (IsStateFault (state_fault (expected_of x.setup x.devices) bytes.now)) }
 {
-    let found = match refusal(alloc, image, &kinds(&devices), bytes) {
+    let found = match refusal(alloc, image, &devices, bytes) {
         Ok(found) => found,
         Err(_) => return Err(StateFault::Memory),
     };
