@@ -59,7 +59,7 @@ lines_set bytes (suc n) k lines d lt few =
 
 -- ## devices
 
-devices_length : (bytes : List ℕ) (tasks n : ℕ) (ds : List DeviceData) → length (with_devices bytes tasks n ds) ≡ length ds
+pub devices_length : (bytes : List ℕ) (tasks n : ℕ) (ds : List DeviceData) → length (with_devices bytes tasks n ds) ≡ length ds
 unfolding with_devices
 devices_length bytes tasks zero ds = refl
 devices_length bytes tasks (suc n) ds = length-set (with_devices bytes tasks n ds) n _ ∙ devices_length bytes tasks n ds
