@@ -1,5 +1,5 @@
 -- A board that has all parts of bytes stands for the state that they spell.
-use Rattle.std.proofs.Common.{◌≡◌, ◌∙◌, ◌+◌, ◌<◌, ◌≤◌, ℕ, List, [], length, map, get_or, arith, ap, subst, sym, refl}
+use Rattle.std.proofs.Common.{◌≡◌, ◌∙◌, ◌+◌, ◌*◌, ◌<◌, ◌≤◌, ℕ, List, [], length, map, get_or, arith, ap, subst, sym, refl}
 use Rattle.std.specs.Prelude.{None, replicate}
 use Rattle.std.specs.List.{range_with_len}
 use Rattle.std.proofs.Math.ListN.{get_or-map}
@@ -113,6 +113,36 @@ accepted_by shown x y b u v bytes h k none =
 -- the records are right for themselves
 pub good_records : (g : Setup) (devices : List DeviceData) (bytes : List ℕ) → IsAccepted (expected_of g devices) bytes → (i : ℕ) → i < length g.tasks → IsGoodRecord (header_at bytes).clock (task_in bytes i)
 good_records g devices bytes a i lt = a.records i (let long = length-map g.tasks (λ (t : TaskSetup). t.regions) in omega (arith, long, lt))
+
+-- what is asked of bytes whose parts a board is told, behind so many tasks and devices
+pub record HasParts {X : Type 0} {H : X → Type 0} (b : Board X H) (u : State) (tasks devices : ℕ) (bytes : List ℕ) : Type 0 where
+  pub as_many : tasks ≡ count_of b
+  pub few : tasks ≤ 1024
+  pub current : (header_at bytes).current < tasks
+  pub long : length bytes ≡ 100 + 132 * tasks + 72 * devices + length u.memory.ram
+  pub good : (i : ℕ) → i < tasks → IsGoodRecord (header_at bytes).clock (task_in bytes i)
+  pub fit : (k : ℕ) → k < devices → IsGoodDevice (device_at u.devices k).kind (device_in bytes tasks k)
+
+pub has_parts : {X : Type 0} {H : X → Type 0} (shown : Shows X H) (x : Scenario) (b : Board X H) (u : State) (tasks devices : ℕ) (bytes : List ℕ) → Stands shown x b u → tasks ≡ length u.tasks → devices ≡ length u.devices → state_fault (expected_of x.setup u.devices) bytes ≡ None → HasParts b u tasks devices bytes
+has_parts shown x b u tasks devices bytes st many beside none =
+    let g = x.setup in
+    let a = accepted (expected_of g u.devices) bytes none in
+    let count = length-map g.tasks (λ (t : TaskSetup). t.regions) in
+    let kinds = length-map u.devices (λ (d : DeviceData). d.kind) in
+    let mine = st.sane.steady.as_many in
+    let few = few_tasks shown x b u st.holds in
+    let ram = as_much shown x b u st.holds in
+    let long = a.long in
+    let current = a.current in
+    let same : length g.tasks ≡ tasks = sym (many ∙ mine) in
+    record {
+      as_many = many ∙ sym (as_many shown x b u st.holds);
+      few = omega (arith, few, same);
+      current = omega (arith, current, count, same);
+      long = omega (arith, long, count, kinds, same, beside, ram);
+      good = λ i lt. good_records g u.devices bytes a i (omega (arith, lt, same));
+      fit = λ k lt. subst (λ n. IsGoodDevice (device_at u.devices k).kind (device_in bytes n k)) same (restores.fits g u.devices bytes a k (omega (arith, lt, beside)));
+    }
 
 module _ {X : Type 0} {H : X → Type 0} (shown : Shows X H) (bytes : List ℕ) (b b' : Board X H) (x : Scenario) (u : State) (st : Stands shown x b u) (a : IsAccepted (expected_of x.setup u.devices) bytes) (holds : Holds shown x b' (loaded bytes u)) where
   pub stands_each : (s : State) → SpellsState x.setup s bytes → Sane x.setup s → IsCounted s → sites s.devices ≡ sites u.devices → Stands shown x b' s

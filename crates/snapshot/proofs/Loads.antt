@@ -88,23 +88,23 @@ devices_set bytes tasks (suc n) k ds d lt few =
 -- ## tasks
 
 -- of the first n tasks is kept what the records tell; all else is as it was
-record AreTold (bytes : List ℕ) (n : ℕ) (s u : State) : Type 0 where
-  count : length u.tasks ≡ length s.tasks
-  tasks : (i : ℕ) → i < n → packed u i ≡ slot_told (view_of (task_in bytes i) i)
-  memory : u.memory ≡ s.memory
-  clock : u.now ≡ s.now
-  lines : u.lines ≡ s.lines
-  current : u.current ≡ s.current
-  next_call : u.next_call ≡ s.next_call
-  turn : u.turn ≡ s.turn
-  devices : u.devices ≡ s.devices
+pub record AreTold (bytes : List ℕ) (n : ℕ) (s u : State) : Type 0 where
+  pub count : length u.tasks ≡ length s.tasks
+  pub tasks : (i : ℕ) → i < n → packed u i ≡ slot_told (view_of (task_in bytes i) i)
+  pub memory : u.memory ≡ s.memory
+  pub clock : u.now ≡ s.now
+  pub lines : u.lines ≡ s.lines
+  pub current : u.current ≡ s.current
+  pub next_call : u.next_call ≡ s.next_call
+  pub turn : u.turn ≡ s.turn
+  pub devices : u.devices ≡ s.devices
 
 -- another task is told
 packed_past : (s : State) (i j : ℕ) (slot : Slot) → IsSameBut i (with_task i (task_at s i) s) (with_slot i slot s) → j ≢ i → packed (with_slot i slot s) j ≡ packed s j
 packed_past s i j slot h ne =
     (λ k. packed_task (h.task j ne k) (wait_of (h.call j ne k) (h.listen j ne k))) ∙ packed_other s i j (task_at s i) ne
 
-tasks_told : (bytes : List ℕ) (clock n : ℕ) (s : State) → n ≤ length s.tasks → n ≤ 1024 → ((i : ℕ) → i < n → IsGoodRecord clock (task_in bytes i)) → AreTold bytes n s (with_tasks bytes n s)
+pub tasks_told : (bytes : List ℕ) (clock n : ℕ) (s : State) → n ≤ length s.tasks → n ≤ 1024 → ((i : ℕ) → i < n → IsGoodRecord clock (task_in bytes i)) → AreTold bytes n s (with_tasks bytes n s)
 unfolding with_tasks with_task
 tasks_told bytes clock zero s few small good = record {
   count = refl;
@@ -140,6 +140,27 @@ tasks_told bytes clock (suc n) s few small good =
       turn = same.turn ∙ h.turn;
       devices = devices-with_slot n slot u ∙ h.devices;
     }
+
+-- ## all parts
+
+-- the numbers and the lines, then the tasks, then all else
+abbrev pub told_front : List ℕ → Header → State → State
+told_front bytes h u = record (with_numbers h u) { lines = with_lines bytes 64 u.lines }
+
+abbrev pub told_from : List ℕ → ℕ → Header → State → State
+told_from bytes tasks h u = with_tasks bytes tasks (told_front bytes h u)
+
+abbrev pub told_ram : List ℕ → State → State
+told_ram ram s = record s { memory = record s.memory { ram = ram } }
+
+abbrev pub told_devices : List ℕ → ℕ → ℕ → State → State
+told_devices bytes tasks devices s = record s { devices = with_devices bytes tasks devices s.devices }
+
+pub loaded_by : (bytes ram : List ℕ) (tasks devices : ℕ) (h : Header) (u : State) → tasks ≡ length u.tasks → devices ≡ length u.devices → h ≡ header_at bytes → ram ≡ drop (ram_place tasks devices) bytes → told_devices bytes tasks devices (told_ram ram (told_from bytes tasks h u)) ≡ loaded bytes u
+unfolding loaded
+loaded_by bytes ram tasks devices h u e f g r =
+    (λ j. told_devices bytes tasks devices (told_ram (r j) (told_from bytes tasks (g j) u)))
+    ∙ (λ j. told_devices bytes (e j) (f j) (told_ram (drop (ram_place (e j) (f j)) bytes) (told_from bytes (e j) (header_at bytes) u)))
 
 -- ## what is spelled comes back
 
@@ -180,7 +201,7 @@ module _ (g : Setup) (u s : State) (bytes : List ℕ) (clock : ℕ) (fit : IsFit
   p = parts_of s
 
   abbrev told_all : State
-  told_all = with_tasks bytes (length u.tasks) record u { turn = (header_at bytes).turn; now = (header_at bytes).clock; current = (header_at bytes).current; next_call = (header_at bytes).next_call; lines = with_lines bytes 64 u.lines }
+  told_all = told_from bytes (length u.tasks) (header_at bytes) u
 
   parts : AreParts p
   parts = are_parts s (λ i lt. (sane.steady.tasks i lt).sixteen) (λ d has. few_queued d.kind d.count d.queue (sane.steady.devices.sane d has).settable)
@@ -211,7 +232,7 @@ module _ (g : Setup) (u s : State) (bytes : List ℕ) (clock : ℕ) (fit : IsFit
       ap (λ n. device_in bytes n k) as_many ∙ ap (λ b. device_in b (length s.tasks) k) spells.is
       ∙ device_place p k (device_told no_device) parts (omega (arith, lt, long)) ∙ get_or-map device_told s.devices k no_device
 
-  told : AreTold bytes (length u.tasks) record u { turn = (header_at bytes).turn; now = (header_at bytes).clock; current = (header_at bytes).current; next_call = (header_at bytes).next_call; lines = with_lines bytes 64 u.lines } told_all
+  told : AreTold bytes (length u.tasks) (told_front bytes (header_at bytes) u) told_all
   told =
       let n = fit.tasks in
       let few = fit.few in

@@ -114,6 +114,14 @@ fn set_devices(board: &mut Board, tasks: usize, devices: usize, bytes: &[u8])
     }
 }
 
+/// The bytes from a place on.
+fn rest(bytes: &[u8], at: usize) -> &[u8]
+    requires { at ≤ length bytes.now }
+    ensures { result.now ≡ drop at bytes.now }
+{
+    &bytes[at..]
+}
+
 /// All parts, of which the bytes have those of a saved state that fits the board.
 fn set_parts(board: &mut Board, tasks: usize, devices: usize, bytes: &[u8])
     requires { (x : Scenario) × (u : State) × Stands (boxed shown) x board.old u × (tasks ≡ length u.tasks) × (devices ≡ length u.devices) × (state_fault (expected_of x.setup u.devices) bytes.now ≡ None) }
@@ -122,7 +130,7 @@ fn set_parts(board: &mut Board, tasks: usize, devices: usize, bytes: &[u8])
     set_numbers(board, &header(bytes));
     set_lines(board, bytes);
     set_tasks(board, tasks, bytes);
-    set_ram(board, &bytes[100 + 132 * tasks + 72 * devices..]);
+    set_ram(board, rest(bytes, 100 + 132 * tasks + 72 * devices));
     set_devices(board, tasks, devices, bytes);
 }
 
