@@ -227,8 +227,9 @@ pub fn load(
         Ok(found) => found,
         Err(_) => return Err(StateFault::Memory),
     };
-    if let Some((cause, place)) = found {
-        return Err(StateFault::Refused { cause, place });
+    match found {
+        Some((cause, place)) => return Err(StateFault::Refused { cause, place }),
+        None => {}
     }
     let mut board = match Board::open(alloc, image, script, devices) {
         Ok(board) => board,
