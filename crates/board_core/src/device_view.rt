@@ -52,6 +52,13 @@ fn view(devices: &Devices, k: usize) -> DeviceView
 }
 
 impl Board {
+    /// How many devices there are.
+    pub fn device_count(&self) -> usize
+        ensures { (x : Scenario) (s : State) → Stands shown x self.now s → result ≡ length s.devices }
+    {
+        self.machine.reach.devices.len()
+    }
+
     /// The k-th device, or None past the last one.
     pub fn device(&self, k: usize) -> Option<DeviceView>
         ensures { (x : Scenario) (s : State) → Stands shown x self.now s → option_map device_told result ≡ slice_get s.devices k }

@@ -125,6 +125,16 @@ impl Board {
         self.machine.reach.kernel.set_byte(addr, v);
     }
 
+    /// All bytes of the RAM are so.
+    pub fn set_ram(&mut self, bytes: &[u8])
+        requires { (x : Scenario) × (s : State) × Holds shown x self.old s × (length bytes.now ≡ length s.memory.ram) }
+        ensures holds { (x : Scenario) (s : State) → Holds shown x self.old s → Holds shown x self.new (record s { memory = record s.memory { ram = bytes.now } }) }
+        ensures count { count_of self.new ≡ count_of self.old }
+    {
+        self.machine.save_context();
+        self.machine.reach.kernel.set_ram(bytes);
+    }
+
     /// So many bytes were stored to the k-th device, modulo 2^32, and these wait in it, the first first.
     pub fn set_device(&mut self, k: usize, count: u32, queue: &[u8])
         requires { (x : Scenario) × (s : State) × Holds shown x self.old s × (k < length s.devices) × IsSettable (device_at s.devices k).kind count queue.now }

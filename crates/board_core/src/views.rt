@@ -1,5 +1,5 @@
 //! What a board shows of itself between turns.
-ghost use Rattle.std.specs.Prelude.{ℕ, ◌≡◌, ◌<◌, ◌-◌, ◌&&◌, ◌↔◌, not, Option, Some, None, is_none, length, IsSome, slice_get};
+ghost use Rattle.std.specs.Prelude.{ℕ, ◌≡◌, ◌<◌, ◌≤◌, ◌-◌, ◌&&◌, ◌↔◌, not, Option, Some, None, is_none, length, IsSome, slice_get};
 ghost use Rattle.std.specs.Option.{option_map};
 ghost use Rattle.task_table.specs.State.{Setup, State, Turn};
 ghost use Rattle.mem_banks.specs.Memory.{byte_at};
@@ -115,6 +115,22 @@ impl Board {
         ensures { (x : Scenario) (s : State) → Stands shown x self.now s → result ≡ byte_at s.memory addr }
     {
         self.machine.reach.kernel.byte(addr)
+    }
+
+    /// How many bytes of RAM there are.
+    pub fn ram_len(&self) -> usize
+        ensures len { (x : Scenario) (s : State) → Stands shown x self.now s → result ≡ length s.memory.ram }
+        ensures few { result ≤ 262144 }
+    {
+        self.machine.reach.kernel.ram_len() as usize
+    }
+
+    /// All bytes of the RAM.
+    pub fn read_ram(&self, out: &mut [u8])
+        requires { (x : Scenario) × (s : State) × Stands shown x self.now s × (length out.old ≡ length s.memory.ram) }
+        ensures { (x : Scenario) (s : State) → Stands shown x self.now s → out.new ≡ s.memory.ram }
+    {
+        self.machine.reach.kernel.read_ram(out);
     }
 
     /// How an interrupt line is: enabled, pending. None past the last one.

@@ -7,6 +7,7 @@ mod line;
 mod memory;
 mod pushing;
 mod running;
+mod silence;
 mod summary;
 mod telling;
 
@@ -14,5 +15,6 @@ pub use counts::Counts;
 pub use laws::{generations_decide_what_is_told, memories_have_each_region_once};
 pub use memory::write_memory;
 pub use running::{play, run};
+pub use silence::Nobody;
 pub use summary::summarize;
 pub use telling::Teller;

@@ -130,7 +130,7 @@ pub length_part : (xs : List ℕ) (i n : ℕ) → i + n ≤ length xs → length
 length_part xs i n h = simp (length-take, length-drop) (omega arith)
 
 -- of no bytes nothing
-take_none : (xs : List ℕ) → take 0 xs ≡ []
+pub take_none : (xs : List ℕ) → take 0 xs ≡ []
 take_none [] = refl
 take_none (x ∷ xs) = refl
 

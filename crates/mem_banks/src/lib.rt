@@ -5,6 +5,7 @@
 mod bank;
 mod moving;
 mod opening;
+mod reading;
 mod window;
 
 ghost use Rattle.std.specs.Prelude.{◌≡◌, ◌≤◌, ◌⊎◌, length, IfOk, replicate};
@@ -13,6 +14,7 @@ ghost use Rattle.mem_banks.specs.Memory.{is_held, is_ram, number_at, with_bytes,
 use bank::{Bank, find, page, search, whole_half, whole_word};
 use moving::{copy_from_end, copy_from_start, store_at};
 use opening::{all_banks, table_of};
+use reading::read_pieces;
 use std::alloc::{AllocError, Global};
 use std::marker::Model;
 pub use window::WindowUser;
@@ -189,6 +191,30 @@ impl Memory {
         ensures { result ≡ is_ram self.now.bytes addr count }
     {
         addr >= RAM && u64::from(addr - RAM) + u64::from(count) <= u64::from(self.ram)
+    }
+
+    /// How many bytes the RAM has.
+    pub fn ram_len(&self) -> u32
+        ensures len { result ≡ length self.now.bytes.ram }
+        ensures few { result ≤ 262144 }
+    {
+        self.ram
+    }
+
+    /// Reads all bytes of the RAM.
+    pub fn read_ram(&self, out: &mut [u8])
+        requires { length out.old ≡ length self.now.bytes.ram }
+        ensures { out.new ≡ self.now.bytes.ram }
+    {
+        read_pieces(&self.banks, &self.table, RAM, out);
+    }
+
+    /// Writes all bytes of the RAM.
+    pub fn set_ram(&mut self, bytes: &[u8])
+        requires { length bytes.now ≡ length self.old.bytes.ram }
+        ensures { self.new ≡ record self.old { bytes = record self.old.bytes { ram = bytes.now } } }
+    {
+        store_at(&mut self.banks, &self.table, RAM, bytes);
     }
 
     /// Copies so many bytes, as if all were read before the first is written.

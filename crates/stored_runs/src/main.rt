@@ -1,5 +1,5 @@
 //! Hands the program stored files, malformed and hostile ones among them, and counts the cases in which it answers what a
-//! second reading of the rules, in a language of its own, answers; then runs a task that shares nothing beside others, two
+//! second reading of the rules, in a language of its own, answers; then runs a task that shares nothing beside others, cuts runs in two, and runs two
 //! images compiled by gcc, and each halfword.
 //!
 //! A case begins with a line `= STATUS NAME`. Each of its parts begins with a line `+ KEY`: `words`, the command line after
@@ -12,6 +12,7 @@
 //! Last comes `text`, the lines that are wanted, or `sum`, the checksum of the text.
 #![tactic(auto)]
 
+mod cuts;
 mod halfwords;
 mod images;
 mod loners;
@@ -325,6 +326,7 @@ fn main(rt: HostRuntime) -> io::Result<()> {
         play_file(&rt, path.as_str())?;
     }
     loners::compare_all(&rt)?;
+    cuts::compare_all(&rt)?;
     images::run_both(&rt)?;
     halfwords::run_all(&rt)
 }

@@ -5,6 +5,7 @@ use Rattle.kernel_abi.specs.declared.TaskId.{TaskId}
 use Rattle.mem_banks.specs.Memory.{Memory, bytes_at, number_at, number_of, with_bytes, pasted, is_held, IsWithin}
 use Rattle.mem_banks.proofs.Copies.{with_bytes_flash, bytes_flash, bytes_ram, bytes_none}
 use Rattle.mem_banks.proofs.Lists.{part_below}
+use Rattle.mem_banks.proofs.ReadPieces.{all_written, all_in_ram}
 use Rattle.task_table.specs.State.{Setup, Task, Call, Listen, State, Turn}
 use Rattle.task_table.specs.Reading.{task_at, call_of, listen_of, IsSameBut, TimersAlike}
 use Rattle.task_table.specs.Effects.{with_task, without_call, without_listen}
@@ -254,4 +255,25 @@ holds_set_byte g k t a bytes memory h e ram = record {
   next_call = h.next_call;
   tasks = λ j below d. kept_same t.state _ j _ refl refl refl (h.tasks j below d);
   memory = e ∙ ap (λ m. with_bytes m a bytes) h.memory;
+}
+
+-- ## all bytes of the RAM
+
+pub fresh_ram : (m : Memory) (low span : ℕ) (entries : List (Option KeptEntry)) (bytes : List ℕ) (n : ℕ) → AreFresh m low span entries → ((i : ℕ) (y : KeptEntry) → kept_at entries i ≡ Some y → meets y 0x20000000 n ≡ false) → n ≡ length bytes → length bytes ≡ length m.ram → AreFresh (record m { ram = bytes }) low span entries
+fresh_ram m low span entries bytes n h apart e long =
+    rw (← all_written m bytes long) (fresh_stored m low span entries 0x20000000 n bytes h apart (all_in_ram m (length bytes) long) (omega (arith, e)))
+
+pub holds_set_ram : (g : Setup) (k : Kept) (t : Turn) (bytes : List ℕ) (memory : Memory) → Shows g k t → memory ≡ record k.memory { ram = bytes } → memory.flash ≡ k.setup.flash → length memory.ram ≡ k.setup.ram → Shows g record k { setup = record k.setup { flash = memory.flash; ram = length memory.ram }; memory = memory } record t { state = record t.state { memory = record t.state.memory { ram = bytes } } }
+unfolding task_at call_of listen_of
+holds_set_ram g k t bytes memory h e flash ram = record {
+  setup = (λ i. record k.setup { flash = flash i; ram = ram i }) ∙ h.setup;
+  count = h.count;
+  many = h.many;
+  notes = h.notes;
+  now = h.now;
+  lines = h.lines;
+  current = h.current;
+  next_call = h.next_call;
+  tasks = λ j below d. kept_same t.state _ j _ refl refl refl (h.tasks j below d);
+  memory = e ∙ ap (λ (m : Memory). record m { ram = bytes }) h.memory;
 }

@@ -3,9 +3,10 @@
 
 use super::Kernel;
 use crate::slot::Slot;
+use mem_banks::RAM;
 
 impl Kernel {
-    ghost use Rattle.std.specs.Prelude.{◌≡◌, ◌<◌, ◌∷◌, [], true};
+    ghost use Rattle.std.specs.Prelude.{◌≡◌, ◌<◌, ◌≤◌, ◌∷◌, [], length, true};
     ghost use Rattle.task_table.specs.State.{Setup, Turn};
     ghost use Rattle.mem_banks.specs.Memory.{is_held, with_bytes};
     ghost use Rattle.task_table.specs.Effects.{changed};
@@ -51,5 +52,31 @@ impl Kernel {
     {
         self.touched(addr, 1);
         self.memory.store(addr, &[byte]);
+    }
+
+    /// All bytes of the RAM are so from now on.
+    pub fn set_ram(&mut self, bytes: &[u8])
+        requires { length bytes.now ≡ length (memory_of self.old).ram }
+        ensures holds { (g : Setup) (t : Turn) → Holds g self.old t → Holds g self.new (changed (λ s. record s { memory = record s.memory { ram = bytes.now } }) t) }
+        ensures frame { AddsNotes self.old 0 self.new }
+    {
+        self.touched(RAM, bytes.len());
+        self.memory.set_ram(bytes);
+    }
+
+    /// How many bytes the RAM has.
+    pub fn ram_len(&self) -> u32
+        ensures len { result ≡ length (memory_of self.now).ram }
+        ensures few { result ≤ 262144 }
+    {
+        self.memory.ram_len()
+    }
+
+    /// All bytes of the RAM.
+    pub fn read_ram(&self, out: &mut [u8])
+        requires { length out.old ≡ length (memory_of self.now).ram }
+        ensures { out.new ≡ (memory_of self.now).ram }
+    {
+        self.memory.read_ram(out);
     }
 }

@@ -1,0 +1,24 @@
+//! A listener that hears nothing: a run is made, and nobody is told.
+ghost use Rattle.std.specs.Prelude.{◌≡◌};
+
+use crate::telling::Teller;
+use kernel_abi::Note;
+use outside_io::Failed;
+use trace_text::TurnLines;
+
+/// Nobody listens.
+#[derive(Clone, Copy)]
+pub struct Nobody;
+
+/// Telling nobody never fails.
+impl Teller for Nobody {
+    ghost heard = { λ t notes u. u ≡ t };
+
+    ghost broke = { λ _ _ _. ⊥ };
+
+    fn tell(&mut self, _turn: u32, _notes: &[Note], _lines: &mut TurnLines) -> Result<(), Failed> {
+        Ok(())
+    }
+
+    fn hears_in_parts() {}
+}
