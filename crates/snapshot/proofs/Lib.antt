@@ -16,3 +16,6 @@ mod Told
 mod Viewed
 mod WaitsRestored
 mod Written
+mod Telling
+mod Loads
+mod Boards

@@ -97,7 +97,7 @@ module _ (g : Setup) (devices : List device.DeviceData) (bytes : List ℕ) (a : 
   unfolding state_in
   as_much = let rest = length-drop (ram_place n (length devices)) bytes in omega (arith, rest, long)
 
-  fits : (k : ℕ) → k < length devices → IsGoodDevice (device.device_at devices k).kind (device_in bytes n k)
+  pub fits : (k : ℕ) → k < length devices → IsGoodDevice (device.device_at devices k).kind (device_in bytes n k)
   fits k lt =
       let kind : kind_at (map (λ (d : device.DeviceData). d.kind) devices) k ≡ (device.device_at devices k).kind = get_or-map (λ (d : device.DeviceData). d.kind) devices k no_device in
       subst (λ (x : Kind). IsGoodDevice x (device_in bytes n k)) kind (subst (λ m. IsGoodDevice (kind_at (map (λ (d : device.DeviceData). d.kind) devices) k) (device_in bytes m k)) count_tasks (a.fit k (subst (λ m. k < m) (sym count_devices) lt)))

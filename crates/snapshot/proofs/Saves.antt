@@ -218,7 +218,7 @@ found_in p (y ∷ ys) x h = elim (bool_cases (p y)) [
     same : Some y ≡ Some x → y ≡ x
     same e = cc
 
-the_call : (s : State) (i : ℕ) (c : Call) → call_of s i ≡ Some c → Contains s.calls c × (c.client.index ≡ i)
+pub the_call : (s : State) (i : ℕ) (c : Call) → call_of s i ≡ Some c → Contains s.calls c × (c.client.index ≡ i)
 unfolding call_of
 the_call s i c e = let r = found_in (λ (k : Call). eqb k.client.index i) s.calls c e in (r.0, eqb-true _ _ r.1)
 
