@@ -40,22 +40,6 @@ pub enum StateFault {
     Memory,
 }
 
-// Stand-ins for what the board itself will have.
-#[tactic(none)]
-fn set_ram(board: &mut Board, bytes: &[u8])
-    requires { (x : Scenario) × (s : State) × Holds (boxed shown) x board.old s × (length bytes.now ≡ length s.memory.ram) }
-    ensures holds { (x : Scenario) (s : State) → Holds (boxed shown) x board.old s → Holds (boxed shown) x board.new (record s { memory = record s.memory { ram = bytes.now } }) }
-    ensures count { count_of board.new ≡ count_of board.old }
-{
-}
-
-#[tactic(none)]
-fn device_count(board: &Board) -> usize
-    ensures { (x : Scenario) (s : State) → Stands (boxed shown) x board.now s → result ≡ length s.devices }
-{
-    0
-}
-
 /// The turn, the time, who ran last and the next call.
 fn set_numbers(board: &mut Board, h: &Header)
     requires { h.now.current < count_of board.old }
@@ -130,7 +114,7 @@ fn set_parts(board: &mut Board, tasks: usize, devices: usize, bytes: &[u8])
     set_numbers(board, &header(bytes));
     set_lines(board, bytes);
     set_tasks(board, tasks, bytes);
-    set_ram(board, rest(bytes, 100 + 132 * tasks + 72 * devices));
+    board.set_ram(rest(bytes, 100 + 132 * tasks + 72 * devices));
     set_devices(board, tasks, devices, bytes);
 }
 
@@ -142,7 +126,7 @@ pub fn load_into(board: &mut Board, bytes: &[u8])
     ensures each { (x : Scenario) (u s : State) → Stands (boxed shown) x board.old u → SpellsState x.setup s bytes.now → Sane x.setup s → IsCounted s → sites s.devices ≡ sites u.devices → Stands (boxed shown) x board.new s }
 {
     let tasks = board.task_count();
-    let devices = device_count(board);
+    let devices = board.device_count();
     set_parts(board, tasks, devices, bytes);
 }
 
