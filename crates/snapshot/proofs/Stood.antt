@@ -1,5 +1,5 @@
 -- What a board that stands has of its state, and what bytes must be to spell it.
-use Rattle.std.proofs.Common.{◌≡◌, ◌∙◌, ◌+◌, ◌*◌, ◌%◌, ◌<◌, ◌≤◌, ℕ, Bool, true, false, List, [], ◌∷◌, length, map, refl, sym, ap, subst, arith}
+use Rattle.std.proofs.Common.{◌≡◌, ◌∙◌, ◌%◌, ◌≤◌, ℕ, Bool, true, false, List, [], ◌∷◌, length, map, refl, sym, ap, subst}
 use Rattle.std.specs.Prelude.{Contains}
 use Rattle.std.proofs.Math.Nat.{mod-mod}
 use Rattle.std.proofs.lemmas.List.{length-map}
@@ -19,9 +19,9 @@ use Rattle.board_core.specs.declared.board.Board.{Board}
 use Rattle.board_core.specs.declared.reach.Reach.{Reach}
 use Rattle.board_core.specs.Data.{Shows}
 use Rattle.board_core.specs.Machine.{with_cpu, HoldsBy}
-use Rattle.board_core.specs.Stands.{Stands, count_of}
+use Rattle.board_core.specs.Stands.{Stands}
 use Rattle.snapshot.specs.declared.records.Header.{Header}
-use Rattle.snapshot.specs.Records.{Parts, bytes_of, total}
+use Rattle.snapshot.specs.Records.{total}
 use Rattle.snapshot.specs.Spelling.{AreParts}
 use Rattle.snapshot.specs.Saved.{SpellsState, parts_of, spelling}
 use Rattle.snapshot.proofs.Again.{whole_again}
@@ -52,10 +52,6 @@ large_by shown true g r cpu t h =
 
 pub large_stood : {X : Type 0} {H : X → Type 0} (shown : Shows X H) (x : Scenario) (b : Board X H) (s : State) → Stands shown x b s → IsAsLarge x.setup s
 large_stood shown x b s st = large_by shown b.machine.loaded x.setup b.machine.reach b.machine.processor _ st.holds.machine
-
--- no board has more tasks
-pub few_tasks : {X : Type 0} {H : X → Type 0} (b : Board X H) → count_of b ≤ 512
-few_tasks b = b.machine.reach.kernel.few
 
 -- ## births taken modulo 64 once more
 

@@ -1,5 +1,5 @@
 -- A board's view of a task is saved as the task is whose births are their generations.
-use Rattle.std.proofs.Common.{◌≡◌, ◌∙◌, ◌+◌, ◌*◌, ◌%◌, ℕ, Bool, List, ◌∷◌, [], Option, Some, None, refl, sym, ap, get_or}
+use Rattle.std.proofs.Common.{◌≡◌, ◌∙◌, ◌+◌, ◌*◌, ◌%◌, ℕ, List, ◌∷◌, [], Option, Some, None, refl, sym, ap, get_or}
 use Rattle.std.specs.Prelude.{option_map, slice_get, unwrap_or}
 use Rattle.std.proofs.Math.Nat.{mod-mod}
 use Rattle.std.proofs.lemmas.Option.{unwrap_or-slice_get}
@@ -8,14 +8,13 @@ use Rattle.kernel_abi.specs.declared.Timer.{Timer}
 use Rattle.task_table.specs.declared.Line.{Line}
 use Rattle.task_table.specs.State.{State, Task, Call, Listen, From, Any, One, KernelOnly}
 use Rattle.task_table.specs.Holds.{wait_of, from_id_of}
-use Rattle.task_table.specs.Reading.{task_at, line_at, call_of, listen_of, no_line, is_offered}
-use Rattle.board_model.specs.Alike.{reduced, seen_task, seen_call, seen_from, seen_listen}
+use Rattle.task_table.specs.Reading.{task_at, line_at, call_of, listen_of, no_line}
+use Rattle.board_model.specs.Alike.{reduced, seen_call, seen_from, seen_listen}
 use Rattle.board_model.proofs.Alike.{call_alike, listen_alike, line_alike}
 use Rattle.board_model.proofs.GenerationsSeen.{shown_reduced}
 use Rattle.board_core.specs.declared.views.TaskView.{TaskView}
 use Rattle.board_core.specs.Views.{IsTask}
-use Rattle.snapshot.specs.declared.records.TaskRecord.{TaskRecord}
-use Rattle.snapshot.specs.Saved.{bit, health_number, fault_of, flags_number, timer_flag, timer_of, from_number, from_id, wait_number, wait_words, record_of, line_number}
+use Rattle.snapshot.specs.Saved.{health_number, fault_of, flags_number, timer_flag, timer_of, from_number, from_id, wait_number, wait_words, record_of, line_number}
 use Rattle.snapshot.specs.Shown.{sender_number, sender_id, shown_number, shown_words, timer_shown, record_shown, line_shown}
 use Rattle.snapshot.proofs.Saves.{reduced_task}
 

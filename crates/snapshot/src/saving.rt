@@ -20,6 +20,7 @@ use std::alloc::{AllocError, Global};
 pub fn saved_len(board: &Board) -> usize
     ensures { (x : Scenario) (s : State) → Stands (boxed shown) x board.now s → result ≡ length (spelling (reduced s)) }
 {
+    // No board that stands has more than eight devices.
     100 + 132 * board.task_count() + 72 * board.device_count().min(8) + board.ram_len()
 }
 

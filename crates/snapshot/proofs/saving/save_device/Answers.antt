@@ -1,4 +1,4 @@
-use Rattle.std.proofs.Common.{◌≡◌, ◌∙◌, ◌++◌, Option, Some, None, [], ap, sym, take}
+use Rattle.std.proofs.Common.{◌≡◌, ◌∙◌, ◌++◌, Some, None, [], ap, sym, take}
 use Rattle.std.proofs.lemmas.Option.{get_or_from_slice_get, slice_get-get_or}
 use Rattle.kernel_abi.specs.Devices.{DeviceData, device_at}
 use Rattle.board_core.specs.DeviceViews.{device_told as data_of_view}
@@ -14,8 +14,8 @@ no_device = device_at [] 0
 none_there : (d : DeviceData) → None ≡ Some d → ⊥
 none_there d e = cc
 
-pub unreachable-unreachable : goal.unreachable-unreachable
-unreachable-unreachable g c =
+pub unreachable-requires : goal.unreachable-requires
+unreachable-requires g c =
     let r = c.requires.there in
     none_there _ (c.in-None.ensures r.0 r.1 r.2 ∙ slice_get-get_or r.1.devices c.args.k no_device r.3)
 

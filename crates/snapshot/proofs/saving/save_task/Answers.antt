@@ -1,4 +1,4 @@
-use Rattle.std.proofs.Common.{◌≡◌, ◌∙◌, ◌++◌, List, ℕ, ap, take}
+use Rattle.std.proofs.Common.{◌∙◌, ◌++◌, ap, take}
 use Rattle.snapshot.specs.declared.records.TaskRecord.{TaskRecord}
 use Rattle.snapshot.specs.Records.{task_bytes}
 use Rattle.snapshot.proofs.Viewed.{record_viewed}

@@ -1,4 +1,4 @@
-use Rattle.std.proofs.Common.{◌≡◌, ◌∙◌, ◌++◌, ℕ, ap, arith, take, map, length}
+use Rattle.std.proofs.Common.{◌≡◌, ◌∙◌, ◌++◌, ap, arith, take, map, length}
 use Rattle.std.specs.List.{flat_map, range_with_len}
 use Rattle.board_model.specs.Alike.{reduced}
 use Rattle.snapshot.specs.Records.{task_bytes}
