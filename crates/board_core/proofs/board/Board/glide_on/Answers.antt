@@ -17,10 +17,16 @@ pub returns-clause-glided : goal.returns-clause-glided
 returns-clause-glided boxes c = λ x s st.
     let b = c.args.self.now in
     let r = c.requires in
-    (made_by _ x s b c.begin.new.self c.glide.new.self c.args.task c.glide.result c.args.until st (c.begin.ensures.holds x.setup (rested b.machine s) st.holds.machine) r.next r.up r.few r.left c.glide.ensures.within r.later c.glide.ensures.count c.glide.ensures.glided).glidden
+    (made_by _ x s b c.begin.new.self c.glide.new.self c.args.task c.glide.result.made c.args.until c.glide.result.at_syscall st (c.begin.ensures.holds x.setup (rested b.machine s) st.holds.machine) r.next r.up r.few r.left c.glide.ensures.within r.later c.glide.ensures.count c.glide.ensures.glided).glidden
 
 pub returns-clause-far : goal.returns-clause-far
 returns-clause-far boxes c = λ x s st lt.
     let b = c.args.self.now in
     let r = c.requires in
-    (made_by _ x s b c.begin.new.self c.glide.new.self c.args.task c.glide.result c.args.until st (c.begin.ensures.holds x.setup (rested b.machine s) st.holds.machine) r.next r.up r.few r.left c.glide.ensures.within r.later c.glide.ensures.count c.glide.ensures.glided).far lt
+    (made_by _ x s b c.begin.new.self c.glide.new.self c.args.task c.glide.result.made c.args.until c.glide.result.at_syscall st (c.begin.ensures.holds x.setup (rested b.machine s) st.holds.machine) r.next r.up r.few r.left c.glide.ensures.within r.later c.glide.ensures.count c.glide.ensures.glided).far lt
+
+pub returns-clause-calls : goal.returns-clause-calls
+returns-clause-calls boxes c = λ yes x s st.
+    let b = c.args.self.now in
+    let r = c.requires in
+    (made_by _ x s b c.begin.new.self c.glide.new.self c.args.task c.glide.result.made c.args.until c.glide.result.at_syscall st (c.begin.ensures.holds x.setup (rested b.machine s) st.holds.machine) r.next r.up r.few r.left c.glide.ensures.within r.later c.glide.ensures.count c.glide.ensures.glided).call yes
