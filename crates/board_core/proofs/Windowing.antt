@@ -270,6 +270,13 @@ module _ {X : Type 0} {H : X → Type 0} (shown : Shows X H) (g : Setup) (m : Ma
   far_here : b.made < most → Halts (step_effect (refused_by left) (held_by left) b.runner.processor)
   far_here lt = opened.window.work.far (flash_below g task (memory_of m.reach.kernel) pc sp flash ram before are flash_is readable_is ram_is opened.window.flash_there opened.window.ram_there refl refl) (omega (arith, lt, most_is))
 
+  calls_here : (b.at_syscall ≡ true → b.made < most) × (b.at_syscall ≡ true → IsAtSyscall left b.runner.processor) × (b.made < most → b.at_syscall ≡ is_at_syscall left b.runner.processor)
+  calls_here = (
+    λ e. let lt = opened.window.work.short e in omega (arith, lt, most_is),
+    opened.window.work.calls,
+    λ lt. opened.window.work.told (flash_below g task (memory_of m.reach.kernel) pc sp flash ram before are flash_is readable_is ram_is opened.window.flash_there opened.window.ram_there refl refl) (omega (arith, lt, most_is)),
+  )
+
   -- instructions were made: the task is the current one from now on
   pub has_run : (m' : Machine X H) → 0 < b.made → m'.loaded ≡ true → m'.processor ≡ b.runner.processor → m'.reach.devices ≡ m.reach.devices → ((u : Turn) → Holds g k' u → Holds g m'.reach.kernel (with_current task u)) → IsGlided shown g m' task t most b.made b.at_syscall
   has_run m' some loaded processor same f =
@@ -283,18 +290,11 @@ module _ {X : Type 0} {H : X → Type 0} (shown : Shows X H) (g : Setup) (m : Ma
         glides = subst G (sym processor) glides_here;
         far = subst F (sym processor) far_here;
         short = calls_here.0;
-        calls = λ e. subst (λ (y : Cpu). IsAtSyscall left y) (sym processor) (calls_here.1 e);
+        calling = λ e. subst (λ (y : Cpu). IsAtSyscall left y) (sym processor) (calls_here.1 e);
         told = λ lt. calls_here.2 lt ∙ ap (is_at_syscall left) (sym processor);
         stays = λ none. absurd (omega (arith, some, none));
         goes = λ lt. loaded_by shown m'.loaded g m'.reach m'.processor _ loaded (subst L (sym ram_is) (lent_loaded shown g m m'.reach m'.processor task t ram.base opened.window.after b.made h inside same (λ u held. f (overlaid ram.base opened.window.after u) (opened.holds g u held))));
       }
-
-  calls_here : (b.at_syscall ≡ true → b.made < most) × (b.at_syscall ≡ true → IsAtSyscall left b.runner.processor) × (b.made < most → b.at_syscall ≡ is_at_syscall left b.runner.processor)
-  calls_here = (
-    λ e. let lt = opened.window.work.short e in omega (arith, lt, most_is),
-    opened.window.work.calls,
-    λ lt. opened.window.work.told (flash_below g task (memory_of m.reach.kernel) pc sp flash ram before are flash_is readable_is ram_is opened.window.flash_there opened.window.ram_there refl refl) (omega (arith, lt, most_is)),
-  )
 
   none_here : Glides before (cpu_of (task_at t.state task)) 0 left b.runner.processor → (opened.window.after ≡ bytes_at (memory_of m.reach.kernel) ram.base ram.size) × (b.runner.processor ≡ m.processor)
   none_here e = (ap (λ (v : View). v.ram) e.0, e.1 ∙ sym (context_cpu shown g m task t h inside))
@@ -315,7 +315,7 @@ module _ {X : Type 0} {H : X → Type 0} (shown : Shows X H) (g : Setup) (m : Ma
         glides = subst G own glides_here;
         far = subst F own far_here;
         short = calls_here.0;
-        calls = λ e. subst (λ (y : Cpu). IsAtSyscall left y) own (calls_here.1 e);
+        calling = λ e. subst (λ (y : Cpu). IsAtSyscall left y) own (calls_here.1 e);
         told = λ lt. calls_here.2 lt ∙ ap (is_at_syscall left) own;
         stays = λ e. rw (loaded, processor, reach) (same_held shown m.loaded g m.reach record m.reach { kernel = k' } m.processor t refl f holds);
         goes = λ lt. absurd (omega (arith, lt, none));
@@ -456,7 +456,7 @@ module _ {X : Type 0} {H : X → Type 0} (shown : Shows X H) (x : Scenario) (u :
       let are = turns_are h in
       let v : State = state_after Calls x n u in
       let left = window_then x u task h.window st.sane is_chosen h.whole.is n h.after m.processor nothing h.glides in
-      let call = h.calls e in
+      let call = h.calling e in
       let turns : v.turn ≡ u.turn + n = ap (λ (y : State). y.turn) are.state in
       let wide = fetched_wider (refused_by h.after) (refusals x.setup task) (held_by h.after) (held v) (widens x.setup task v h.after left.window are.sane.steady.placed) (reg_at m.processor.regs 15) _ call.is in
       record {

@@ -47,7 +47,7 @@ pub record IsGlided {X : Type 0} {H : X → Type 0} (shown : Shows X H) (g : Set
   pub glides : Glides window (cpu_of (task_at t.state c)) n after m.processor
   pub far : n < most → Halts (step_effect (refused_by after) (held_by after) m.processor)
   pub short : calls ≡ true → n < most
-  pub calls : calls ≡ true → IsAtSyscall after m.processor
+  pub calling : calls ≡ true → IsAtSyscall after m.processor
   pub told : n < most → calls ≡ is_at_syscall after m.processor
   pub stays : n ≡ 0 → MachineHolds shown g m t
   pub goes : 0 < n → MachineHolds shown g m record t { state = later record t.state { current = c } c m.processor (with_bytes t.state.memory window.ram_base after.ram) n }

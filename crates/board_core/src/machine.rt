@@ -46,6 +46,7 @@ pub struct Machine {
 }
 
 /// How many instructions a task made on end, and whether the next one is known to be a system call.
+#[derive(Clone, Copy)]
 pub struct Glided {
     pub made: u32,
     pub at_syscall: bool,
@@ -421,15 +422,17 @@ impl Machine {
             return none;
         }
         let made = self.glider.made;
-        if made > 0 {
-            self.processor = self.glider.runner.processor;
-            self.reach.kernel.set_current(task);
-            self.loaded = true;
-        }
-        Glided {
+        let glided = Glided {
             made,
             at_syscall: self.glider.at_syscall,
+        };
+        if made == 0 {
+            return glided;
         }
+        self.processor = self.glider.runner.processor;
+        self.reach.kernel.set_current(task);
+        self.loaded = true;
+        glided
     }
 
     /// A turn of a task whose instruction is known to be a system call: it is not fetched and decoded again.
