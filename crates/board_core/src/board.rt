@@ -213,7 +213,13 @@ impl Board {
                 self.idle_on(until);
                 None
             }
-            Some(task) => { if self.glide_on(task, until) { Some(task) } else { None } }
+            Some(task) => {
+                if self.glide_on(task, until) {
+                    Some(task)
+                } else {
+                    None
+                }
+            }
         }
     }
 

@@ -293,7 +293,10 @@ impl Runner {
         ensures is { result ≡ is_at_syscall (view_of self.now.window) self.now.processor }
         ensures fetched { result ≡ true → IsAtSyscall (view_of self.now.window) self.now.processor }
     {
-        match self.window.flash_half(self.processor.regs.get(PROGRAM_COUNTER)) {
+        match self
+            .window
+            .flash_half(self.processor.regs.get(PROGRAM_COUNTER))
+        {
             None => false,
             Some(half) => half / 256 == 0xDF,
         }
