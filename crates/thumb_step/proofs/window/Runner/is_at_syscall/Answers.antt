@@ -1,4 +1,4 @@
-use Rattle.std.proofs.Common.{◌≡◌, ◌/◌, eqb, arith}
+use Rattle.std.proofs.Common.{◌/◌, arith}
 use Rattle.std.proofs.lemmas.Bool.{eqb-true}
 use Rattle.thumb_step.specs.Windows.{view_of}
 use Rattle.thumb_step.proofs.Gliding.{syscall_here}
