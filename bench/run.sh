@@ -1,7 +1,7 @@
 #!/usr/bin/env bash
 # Speed of `hubris run` against plain C in the same run: turns per second on the two-instruction image at 10^6, 10^7 and
 # 10^8 steps with peak memory, against loop.c; and against interpreter.c, which writes the same lines: turns per second of
-# images compiled by gcc, of the 32 and the 512 tasks of timers/, of the clients and servers of messages/, 21 and 512 tasks, and leases/ and of the large
+# images compiled by gcc, of the 32 and the 512 tasks of timers/, of the clients and servers of messages/, 21 and 512 tasks, and leases/, of shared/, a task a third of whose accesses lie in a region that it uses, and of the large
 # sample of seed 1 (sample/: its image and its script; idle.img is a task that waits), and bytes per
 # second of two of those images and of messages/ with --all. crc32 and
 # bytecode end in `b .` after their work; here they begin it anew instead. The others (programs/) work for ever.
@@ -25,13 +25,14 @@ images=../crates/stored_runs/data
 # each client of messages/ has a server of its own number
 for k in 1 2 3 4; do sed "s/task_server/&$k/" messages/client.s > "out/client$k.s"; done
 made=
+cp shared/app.toml out/shared.toml
 for application in timers messages leases; do
     awk -f "$application/application.awk" > "out/$application.toml"
     made="$made $application"
 done
 awk -v tasks=512 -f timers/application.awk > out/timers512.toml
 awk -v clients=507 -f messages/application.awk > out/messages512.toml
-for application in $made timers512 messages512; do
+for application in $made shared timers512 messages512; do
     said=$(cd .. && "$program" build "bench/out/$application.toml" "bench/out/$application.img") || { echo "$application not built: $said"; exit 1; }
 done
 # an image compiled by gcc whose last instruction, `b .`, is a branch to its second one; its start and its end no
@@ -76,6 +77,8 @@ same out/messages.img out/empty.txt 100000
 same out/messages.img out/empty.txt 20000 --all
 same out/leases.img out/empty.txt 100000
 same out/leases.img out/empty.txt 20000 --all
+same out/shared.img out/empty.txt 100000
+same out/shared.img out/empty.txt 20000 --all
 same out/timers512.img timers/script.txt 100000
 same out/messages512.img out/empty.txt 100000
 same sample/sample.img sample/script.txt 200000
@@ -96,6 +99,7 @@ for steps in 1000000 10000000; do play "32 tasks with timers" out/timers.img tim
 for steps in 1000000 10000000; do play "16 clients, 4 servers" out/messages.img out/empty.txt "$steps"; done
 play "16 clients, 4 servers, --all" out/messages.img out/empty.txt 1000000 --all
 for steps in 1000000 10000000; do play "8 lenders, 1 server" out/leases.img out/empty.txt "$steps"; done
+for steps in 10000000 100000000; do play "shared memory" out/shared.img out/empty.txt "$steps"; done
 play "512 tasks with timers" out/timers512.img timers/script.txt 10000000
 play "507 clients, 4 servers" out/messages512.img out/empty.txt 10000000
 for steps in 1000000 10000000; do play "large sample" sample/sample.img sample/script.txt "$steps"; done
@@ -124,8 +128,9 @@ instructions() {
 }
 for image in $compiled; do instructions "$image" 66 "out/$image.img" out/empty.txt; done
 instructions "two instructions" 26 "$data/a.img" out/empty.txt
+instructions "shared memory" 70 out/shared.img out/empty.txt
 instructions "32 tasks with timers" 365 out/timers.img timers/script.txt
-instructions "16 clients, 4 servers" 275 out/messages.img out/empty.txt
+instructions "16 clients, 4 servers" 250 out/messages.img out/empty.txt
 instructions "8 lenders, 1 server" 260 out/leases.img out/empty.txt
 instructions "large sample" 162 sample/sample.img sample/script.txt
 instructions "512 tasks with timers" 400 out/timers512.img timers/script.txt
