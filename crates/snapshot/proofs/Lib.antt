@@ -13,6 +13,6 @@ mod Single
 mod Splits
 mod Told
 mod WaitsRestored
-mod Viewed
+mod TaskViews
 mod Loads
 mod Boards
