@@ -11,8 +11,11 @@ mod Rows
 mod Saves
 mod Single
 mod Splits
+mod Stood
 mod Told
+mod Viewed
 mod WaitsRestored
 mod TaskViews
 mod Loads
 mod Boards
+mod Written

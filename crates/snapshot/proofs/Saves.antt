@@ -189,7 +189,7 @@ line_fits g k false true h =
 
 -- ## births
 
-reduced_task : (s : State) (i : ℕ) → task_at (reduced s) i ≡ seen_task (λ b. b % 64) (task_at s i)
+pub reduced_task : (s : State) (i : ℕ) → task_at (reduced s) i ≡ seen_task (λ b. b % 64) (task_at s i)
 unfolding seen task_at
 reduced_task s i = get_or-map (seen_task (λ b. b % 64)) s.tasks i no_task
 
