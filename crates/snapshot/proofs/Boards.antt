@@ -1,15 +1,13 @@
 -- A board that has all parts of bytes stands for the state that they spell.
-use Rattle.std.proofs.Common.{◌≡◌, ◌∙◌, ◌+◌, ◌*◌, ◌<◌, ◌≤◌, ℕ, List, [], length, map, get_or, arith, ap, subst, sym, refl}
+use Rattle.std.proofs.Common.{◌≡◌, ◌∙◌, ◌+◌, ◌*◌, ◌<◌, ◌≤◌, ℕ, List, length, map, arith, ap, subst, sym}
 use Rattle.std.specs.Prelude.{None, replicate}
 use Rattle.std.specs.List.{range_with_len}
 use Rattle.std.proofs.Math.ListN.{get_or-map}
 use Rattle.std.proofs.lemmas.List.{length-map, length-replicate, ext_get_or}
 use Rattle.std.proofs.lemmas.List.FromFn.{length-map-range_with_len, get_or-map-range_with_len}
-use Rattle.kernel_abi.specs.declared.Kind.{Kind}
 use Rattle.kernel_abi.specs.declared.Kind.TheVariants.{Console}
 use Rattle.kernel_abi.specs.Devices.{DeviceData, device_at}
 use Rattle.mem_banks.specs.Memory.{Memory, AreAllBytes}
-use Rattle.task_table.specs.declared.Line.{Line}
 use Rattle.task_table.specs.Parts.{IsSound}
 use Rattle.task_table.specs.Placed.{ArePlaced}
 use Rattle.task_table.specs.Start.{start}
@@ -22,7 +20,7 @@ use Rattle.board_core.specs.Stands.{Holds, Stands, count_of}
 use Rattle.board_core.proofs.Loading.{HoldsRest, rest_held, devices_held}
 use Rattle.board_core.proofs.Turning.{rested}
 use Rattle.board_core.proofs.KeptAlike.{stands_alike}
-use Rattle.snapshot.specs.Records.{header_at, task_in, device_in, total}
+use Rattle.snapshot.specs.Records.{header_at, task_in, device_in}
 use Rattle.snapshot.specs.Spelling.{AreBytes}
 use Rattle.snapshot.specs.Accepted.{IsAccepted, IsGoodRecord, IsGoodDevice}
 use Rattle.snapshot.specs.Waits.{state_fault}
@@ -30,7 +28,7 @@ use Rattle.snapshot.specs.Saved.{SpellsState, expected_of}
 use Rattle.snapshot.specs.Restored.{state_in, device_from}
 use Rattle.snapshot.specs.Loaded.{sites, loaded}
 use Rattle.snapshot.proofs.Accepts.{accepted}
-use Rattle.snapshot.proofs.Loads.{IsFit, loaded_alike}
+use Rattle.snapshot.proofs.Loads.{IsFit, no_device, site, loaded_alike}
 use Rattle.snapshot.proofs.Pieces.{placed_alike}
 use Rattle.snapshot.proofs.Restores as restores
 
@@ -81,12 +79,6 @@ module _ {X : Type 0} {H : X → Type 0} (shown : Shows X H) (x : Scenario) (b :
       }
 
 -- ## the devices keep their kinds and their places
-
-abbrev no_device : DeviceData
-no_device = record { kind = Console; base = 0; count = 0; queue = [] }
-
-abbrev site : DeviceData → Kind × ℕ
-site d = (d.kind, d.base)
 
 same_sites : (g : Setup) (devices : List DeviceData) (bytes : List ℕ) → sites (state_in g devices bytes).devices ≡ sites devices
 unfolding state_in

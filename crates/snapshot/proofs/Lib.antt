@@ -15,7 +15,7 @@ mod Stood
 mod Told
 mod Viewed
 mod WaitsRestored
-mod Written
-mod Telling
+mod TaskViews
 mod Loads
 mod Boards
+mod Written

@@ -1,7 +1,6 @@
 -- A state with all parts of bytes is kept as each sane one that the bytes spell.
-use Rattle.std.proofs.Common.{◌≡◌, ◌≢◌, ◌∙◌, ◌+◌, ◌-◌, ◌*◌, ◌<◌, ◌≤◌, ◌++◌, inl, inr, ℕ, zero, suc, Bool, true, false, List, [], length, map, take, drop, get_or, arith, ap, subst, sym, refl}
-use Rattle.std.specs.Prelude.{Contains, replicate}
-use Rattle.std.specs.List.{range_with_len}
+use Rattle.std.proofs.Common.{◌≡◌, ◌≢◌, ◌∙◌, ◌+◌, ◌-◌, ◌<◌, ◌≤◌, inl, inr, ℕ, zero, suc, Bool, true, false, List, [], length, drop, get_or, arith, ap, sym, refl}
+use Rattle.std.specs.Prelude.{replicate}
 use Rattle.std.proofs.Math.ListN.{get_or-map}
 use Rattle.std.proofs.Math.Seq.{take-append_seam}
 use Rattle.std.proofs.lemmas.Bool.Decides.{eqb_tells}
@@ -11,10 +10,9 @@ use Rattle.std.proofs.lemmas.List.FromFn.{length-map-range_with_len, get_or-map-
 use Rattle.kernel_abi.specs.declared.Kind.{Kind}
 use Rattle.kernel_abi.specs.declared.Kind.TheVariants.{Console}
 use Rattle.kernel_abi.specs.Devices.{DeviceData, device_at}
-use Rattle.mem_banks.specs.Memory.{Memory}
 use Rattle.task_table.specs.declared.Line.{Line}
 use Rattle.task_table.specs.declared.slot.Slot.{Slot}
-use Rattle.task_table.specs.State.{Setup, State, Task, Call, Listen}
+use Rattle.task_table.specs.State.{Setup, State}
 use Rattle.task_table.specs.Reading.{task_at, line_at, call_of, listen_of, no_line, IsSameBut}
 use Rattle.task_table.specs.Effects.{with_task}
 use Rattle.task_table.specs.Holds.{packed, packed_task, wait_of}
@@ -25,10 +23,9 @@ use Rattle.task_table.proofs.KeptAlike.{packed_other}
 use Rattle.task_table.proofs.Setting.{same_but-with_slot, kept-with_slot}
 use Rattle.board_core.specs.Setting.{slot_told}
 use Rattle.board_core.proofs.Told.{devices-with_slot}
-use Rattle.snapshot.specs.declared.records.DeviceRecord.{DeviceRecord}
 use Rattle.snapshot.specs.declared.records.Header.{Header}
 use Rattle.snapshot.specs.declared.records.TaskRecord.{TaskRecord}
-use Rattle.snapshot.specs.Records.{Parts, header_at, task_in, device_in, bytes_of, ram_place}
+use Rattle.snapshot.specs.Records.{Parts, header_at, task_in, device_in, ram_place}
 use Rattle.snapshot.specs.Spelling.{AreParts}
 use Rattle.snapshot.specs.Accepted.{IsGoodRecord}
 use Rattle.snapshot.specs.Saved.{record_of, device_told, line_number, parts_of, SpellsState}
@@ -38,7 +35,7 @@ use Rattle.snapshot.specs.Loaded.{sites, with_numbers, with_lines, with_tasks, w
 use Rattle.snapshot.proofs.Again.{parts_again}
 use Rattle.snapshot.proofs.Places.{header_place, line_place, task_place, device_place}
 use Rattle.snapshot.proofs.Saves.{are_parts, few_queued}
-use Rattle.snapshot.proofs.Telling.{is_told, viewed_again}
+use Rattle.snapshot.proofs.TaskViews.{is_told, viewed_again}
 
 -- ## lines
 
@@ -178,10 +175,10 @@ device_again d e kind base =
     let queue = take-append_seam e.queue (replicate (64 - length e.queue) 0) in
     λ j. record { kind = sym kind j; base = sym base j; count = e.count; queue = queue j }
 
-abbrev no_device : DeviceData
+abbrev pub no_device : DeviceData
 no_device = record { kind = Console; base = 0; count = 0; queue = [] }
 
-abbrev site : DeviceData → Kind × ℕ
+abbrev pub site : DeviceData → Kind × ℕ
 site d = (d.kind, d.base)
 
 site_at : (ds es : List DeviceData) (k : ℕ) → sites ds ≡ sites es → site (device_at ds k) ≡ site (device_at es k)

@@ -1,6 +1,5 @@
 -- A task as a board is told it, by its record.
 use Rattle.std.specs.Prelude.{ℕ, Bool, ◌+◌, ◌*◌, ◌/◌, ◌==◌, Option, Some, None, if◌then◌else◌}
-use Rattle.kernel_abi.specs.declared.Fault.{Fault}
 use Rattle.task_table.specs.declared.slot.FromId.{FromId}
 use Rattle.task_table.specs.declared.slot.FromId.TheVariants as from_id
 use Rattle.task_table.specs.declared.slot.Listening.{Listening}

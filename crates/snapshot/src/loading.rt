@@ -1,8 +1,7 @@
 //! A board goes on from a state that bytes spell.
-ghost use Rattle.std.specs.Prelude.{◌≡◌, ◌<◌, ◌≤◌, ◌+◌, ◌*◌, ℕ, [], None, length, map, drop, vec_items, IfOk, IfErr};
+ghost use Rattle.std.specs.Prelude.{◌≡◌, ◌<◌, ◌≤◌, ◌+◌, ◌*◌, ℕ, None, length, map, drop, vec_items, IfOk, IfErr};
 ghost use Rattle.kernel_abi.specs.Devices.{AreFresh, device_at, with_device};
 ghost use Rattle.image_format.specs.Images.{picture};
-ghost use Rattle.image_format.specs.Facts.{Facts};
 ghost use Rattle.run_script.specs.Events.{script_data};
 ghost use Rattle.task_table.specs.State.{State};
 ghost use Rattle.task_table.specs.Sane.{Sane, IsCounted};
@@ -10,7 +9,7 @@ ghost use Rattle.board_model.specs.Script.{Scenario};
 ghost use Rattle.board_core.specs.Data.{boxed};
 ghost use Rattle.board_core.specs.Opened.{setup_of_image, scenario_of};
 ghost use Rattle.board_core.specs.Stands.{Holds, Stands, count_of, turns_of};
-ghost use Rattle.snapshot.specs.Records.{header_at, task_in, device_in, ram_place};
+ghost use Rattle.snapshot.specs.Records.{header_at, task_in, device_in};
 ghost use Rattle.snapshot.specs.Waits.{state_fault};
 ghost use Rattle.snapshot.specs.Accepted.{IsGoodRecord, IsGoodDevice};
 ghost use Rattle.snapshot.specs.Saved.{SpellsState, expected_of};

@@ -1,4 +1,4 @@
-use Rattle.std.proofs.Common.{◌<◌, ℕ, get_or, arith}
+use Rattle.std.proofs.Common.{arith}
 use Rattle.snapshot.proofs.Boards.{accepted_by, stands_each, stands_in}
 use Rattle.snapshot.proofs.loading.load_into.Goals as goal
 

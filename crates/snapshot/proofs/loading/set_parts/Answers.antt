@@ -1,4 +1,4 @@
-use Rattle.std.proofs.Common.{◌≡◌, ◌∙◌, ◌+◌, ◌-◌, ◌*◌, ◌≤◌, List, ℕ, length, length-drop, drop, sym, ap, subst, arith}
+use Rattle.std.proofs.Common.{◌≡◌, ◌∙◌, ◌+◌, ◌*◌, List, length, length-drop, drop, sym, ap, subst, arith}
 use Rattle.kernel_abi.specs.Devices.{DeviceData, device_at}
 use Rattle.mem_banks.specs.Memory.{Memory}
 use Rattle.task_table.specs.State.{State}
@@ -8,7 +8,7 @@ use Rattle.snapshot.specs.Records.{device_in, header_at}
 use Rattle.snapshot.specs.declared.records.Header.{Header}
 use Rattle.snapshot.specs.Accepted.{IsGoodDevice}
 use Rattle.snapshot.proofs.Boards.{has_parts}
-use Rattle.snapshot.proofs.Loads.{tasks_told, told_front, told_from, told_ram, told_devices, loaded_by}
+use Rattle.snapshot.proofs.Loads.{tasks_told, told_front, told_from, told_ram, loaded_by}
 use Rattle.snapshot.proofs.loading.set_parts.Goals as goal
 
 pub set_numbers-requires : goal.set_numbers-requires

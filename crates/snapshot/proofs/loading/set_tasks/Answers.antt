@@ -1,11 +1,9 @@
 use Rattle.std.proofs.Common.{◌≡◌, ◌∙◌, ℕ, refl, subst, add-one, arith}
-use Rattle.task_table.specs.Setting.{IsTold}
 use Rattle.board_core.specs.Data.{boxed}
-use Rattle.board_core.specs.Setting.{slot_told}
 use Rattle.board_core.specs.Stands.{Holds}
 use Rattle.snapshot.specs.Records.{header_at, task_in}
 use Rattle.snapshot.specs.Loaded.{with_tasks}
-use Rattle.snapshot.proofs.Telling.{id_small, is_told}
+use Rattle.snapshot.proofs.TaskViews.{id_small, is_told}
 use Rattle.snapshot.proofs.loading.set_tasks.Goals as goal
 
 pub loop-i-init : goal.loop-i-init

@@ -1,5 +1,5 @@
 -- A task as a board is told it by its record: it may be told so, and of a saved state it is what is kept of the task.
-use Rattle.std.proofs.Common.{◌≡◌, ◌∙◌, ◌+◌, ◌*◌, ◌/◌, ◌%◌, ◌<◌, ◌≤◌, ℕ, Bool, true, false, ◌&&◌, ◌||◌, cond, eqb, leb, length, Option, Some, None, arith, ap, sym, refl}
+use Rattle.std.proofs.Common.{◌≡◌, ◌∙◌, ◌+◌, ◌*◌, ◌/◌, ◌%◌, ◌<◌, ◌≤◌, ℕ, Bool, true, false, ◌||◌, cond, eqb, leb, length, Option, Some, None, arith, ap, sym, refl}
 use Rattle.std.specs.Option.{option_map}
 use Rattle.std.proofs.lemmas.Bool.{and_parts, eqb-true, leb-true, lt-leb, ne_eqb}
 use Rattle.kernel_abi.specs.Ids.{id_of}
@@ -7,16 +7,13 @@ use Rattle.kernel_abi.specs.declared.Health.{Health}
 use Rattle.kernel_abi.specs.declared.Health.TheVariants.{Well, Stopped, Faulted}
 use Rattle.kernel_abi.specs.declared.TaskId.{TaskId}
 use Rattle.kernel_abi.specs.declared.Timer.{Timer}
-use Rattle.words_core.specs.declared.Flags.{Flags}
 use Rattle.task_table.specs.State.{Setup, Task, Call, Listen, From, Any, One, KernelOnly, State}
-use Rattle.task_table.specs.declared.slot.FromId.{FromId}
 use Rattle.task_table.specs.declared.slot.FromId.TheVariants as from_id
 use Rattle.task_table.specs.declared.slot.Listening.{Listening}
 use Rattle.task_table.specs.declared.slot.OpenCall.{OpenCall}
 use Rattle.task_table.specs.declared.slot.Phase.{Phase}
 use Rattle.task_table.specs.declared.slot.Phase.TheVariants.{Offered, Taken}
 use Rattle.task_table.specs.declared.slot.Slice.{Slice}
-use Rattle.task_table.specs.declared.slot.Wait.{Wait}
 use Rattle.task_table.specs.declared.slot.Wait.TheVariants as wait
 use Rattle.task_table.specs.Reading.{task_at, call_of, listen_of, is_offered}
 use Rattle.task_table.specs.Holds.{kept_call, from_id_of, wait_of, packed, packed_task}
@@ -25,8 +22,8 @@ use Rattle.task_table.specs.Setting.{IsTold}
 use Rattle.board_model.specs.Alike.{reduced}
 use Rattle.board_core.specs.Setting.{timer_told, slot_told}
 use Rattle.snapshot.specs.declared.records.TaskRecord.{TaskRecord}
-use Rattle.snapshot.specs.Causes.{word, are_zeros, has_words}
-use Rattle.snapshot.specs.Waits.{is_call, is_listen, server_id}
+use Rattle.snapshot.specs.Causes.{word, has_words}
+use Rattle.snapshot.specs.Waits.{is_call, is_listen}
 use Rattle.snapshot.specs.Accepted.{IsGoodRecord}
 use Rattle.snapshot.specs.Saved.{health_number, fault_of, flags_number, timer_flag, timer_of, from_number, from_id as sender_id, record_told, record_of}
 use Rattle.snapshot.specs.Restored.{health_from, flags_from, phase_from}
