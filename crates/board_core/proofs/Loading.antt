@@ -14,12 +14,12 @@ use Rattle.mem_banks.specs.Memory.{Memory, is_ram}
 use Rattle.task_table.specs.State.{Setup, State, Task, Own, Turn}
 use Rattle.task_table.specs.Reading.{register, task_at, call_of, listen_of, is_ready, no_task}
 use Rattle.task_table.specs.Effects.{with_task, noted, stored, with_processor, with_devices, given_out, device_stored, device_taken}
-use Rattle.task_table.specs.Holds.{Holds, Stands, notes_of, setup_of, current_of, task_count}
+use Rattle.task_table.specs.Holds.{Holds, Stands, notes_of, setup_of, current_of, task_count, memory_of}
 use Rattle.task_table.specs.Start.{begun}
 use Rattle.task_table.proofs.Changes.{task_at-with_task}
 use Rattle.thumb_exec.specs.Bytes.{bytes_of}
 use Rattle.board_model.specs.Turn.{refusals, is_device, held, cpu_of, put, took, moved, acted, with_current}
-use Rattle.board_core.specs.Machine.{with_cpu, ReachHolds, shown_by, IsLoaded, HoldsBy, IsReady, MachineStands}
+use Rattle.board_core.specs.Machine.{with_cpu, ReachHolds, shown_by, IsLoaded, HoldsBy, IsReady, MachineStands, HasContext}
 use Rattle.board_core.specs.declared.machine.Machine.{Machine}
 use Rattle.board_core.specs.declared.reach.Reach.{Reach}
 use Rattle.board_core.proofs.Running.{between, effect_here}
@@ -130,8 +130,46 @@ loaded_own shown g r cpu t h ready e = record { saved = t; holds = h; ready = re
 pub loaded_again : {X : Type 0} {H : X → Type 0} (shown : Shows X H) (g : Setup) (r : Reach X H) (cpu : Cpu) (t : Turn) (task : ℕ) → task ≡ t.state.current → IsLoaded shown g r cpu t → IsLoaded shown g r cpu (with_current task t)
 loaded_again shown g r cpu t task e h = rw e h
 
-pub loaded_still : {X : Type 0} {H : X → Type 0} (shown : Shows X H) (g : Setup) (r : Reach X H) (cpu : Cpu) (t : Turn) (task : ℕ) → task ≡ t.state.current → IsLoaded shown g r cpu (with_current task t) → IsLoaded shown g r cpu t
-loaded_still shown g r cpu t task e h = rw e at h
+-- ## the context of a task that is not the current one yet
+
+-- it is that of the task
+pub context_cpu : {X : Type 0} {H : X → Type 0} (shown : Shows X H) (g : Setup) (m : Machine X H) (c : ℕ) (t : Turn) → HasContext shown g m c t → c < length t.state.tasks → m.processor ≡ cpu_of (task_at t.state c)
+unfolding task_at
+context_cpu shown g m c t h inside =
+    let saved : Turn = with_current c h.saved in
+    let rest = rest_of saved (with_current c t) m.processor h.is in
+    let there : c < length saved.state.tasks = rw rest.count at inside in
+    sym (task-with_cpu m.processor saved there) ∙ ap (λ (u : Turn). cpu_of (task_at u.state c)) (sym h.is)
+
+pub context_register : {X : Type 0} {H : X → Type 0} (shown : Shows X H) (i : ℕ) (g : Setup) (m : Machine X H) (c : ℕ) (t : Turn) → HasContext shown g m c t → c < length t.state.tasks → slice_index m.processor.regs.words i ≡ register t.state c i
+unfolding register
+context_register shown i g m c t h inside = ap (λ (x : Cpu). slice_index x.regs.words i) (context_cpu shown g m c t h inside)
+
+pub context_memory : {X : Type 0} {H : X → Type 0} (shown : Shows X H) (g : Setup) (m : Machine X H) (c : ℕ) (t : Turn) → HasContext shown g m c t → memory_of m.reach.kernel ≡ t.state.memory
+context_memory shown g m c t h = h.holds.kernel.memory ∙ sym (rest_of (with_current c h.saved) (with_current c t) m.processor h.is).memory
+
+-- that of the current one
+pub context_loaded : {X : Type 0} {H : X → Type 0} (shown : Shows X H) (g : Setup) (m : Machine X H) (c : ℕ) (t : Turn) → IsLoaded shown g m.reach m.processor t → current_of m.reach.kernel ≡ c → HasContext shown g m c t
+context_loaded shown g m c t h e =
+    let saved = h.saved in
+    let rest = rest_of saved t m.processor h.is in
+    let here : saved.state.current ≡ c = sym h.holds.kernel.current ∙ e in
+    record {
+      saved = saved;
+      holds = h.holds;
+      ready = subst (λ (i : ℕ). is_ready saved.state i ≡ true) here h.ready;
+      is = ap (λ (i : ℕ). with_current i t) (sym (rest.current ∙ here)) ∙ h.is ∙ ap (λ (i : ℕ). with_cpu m.processor (with_current i saved)) here;
+    }
+
+-- that of the kernel
+pub context_own : {X : Type 0} {H : X → Type 0} (shown : Shows X H) (g : Setup) (m : Machine X H) (c : ℕ) (t : Turn) → ReachHolds shown g m.reach t → is_ready t.state c ≡ true → m.processor ≡ cpu_of (task_at t.state c) → HasContext shown g m c t
+unfolding task_at
+context_own shown g m c t h ready e = record { saved = t; holds = h; ready = ready; is = rw e (sym (with_own c (with_current c t).state (with_current c t) refl)) }
+
+-- a machine with another kernel that holds all the same
+pub same_held : {X : Type 0} {H : X → Type 0} (shown : Shows X H) (loaded : Bool) (g : Setup) (r r' : Reach X H) (cpu : Cpu) (t : Turn) → r'.devices ≡ r.devices → ((u : Turn) → Holds g r.kernel u → Holds g r'.kernel u) → HoldsBy shown loaded g r cpu t → HoldsBy shown loaded g r' cpu t
+same_held shown true g r r' cpu t same f h = record { saved = h.saved; holds = record { kernel = f h.saved h.holds.kernel; devices = ap (data_of shown) same ∙ h.holds.devices }; ready = h.ready; is = h.is }
+same_held shown false g r r' cpu t same f h = record { kernel = f t h.kernel; devices = ap (data_of shown) same ∙ h.devices }
 
 -- ## an instruction goes on
 

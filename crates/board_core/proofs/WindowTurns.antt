@@ -37,7 +37,7 @@ use Rattle.board_model.proofs.Outside.{no_event, begun_state}
 use Rattle.board_model.proofs.Quiet.{quiet-turn}
 use Rattle.board_model.proofs.Counts.{counted_turn}
 use Rattle.board_model.proofs.Further.{last_turn}
-use Rattle.board_core.specs.Windowed.{IsWindow, later, AreTurns}
+use Rattle.board_core.specs.Windowed.{IsWindow, runner, later, AreTurns}
 use Rattle.mem_banks.specs.Windows.{IsInRam}
 use Rattle.mem_banks.proofs.Windows.{written_inside, written_same, region_written, same_ram_length, same_flash_length, bytes_below}
 use Rattle.board_core.proofs.WindowCovers.{inside, widens, loads_below}
@@ -199,18 +199,17 @@ window_again g c m v w h same =
 
 -- the turn of a task that goes on within its window
 pub record IsGone (x : Scenario) (s : State) (c : ℕ) (v w : View) (d : Cpu) : Type 0 where
-  pub state : (turn Calls x s).state ≡ later s c d (with_bytes s.memory v.ram_base w.ram) 1
+  pub state : (turn Calls x s).state ≡ later record s { current = c } c d (with_bytes s.memory v.ram_base w.ram) 1
   pub notes : (turn Calls x s).notes ≡ []
   pub same : Keeps v w
 
-plain_turn : (x : Scenario) (s : State) (c : ℕ) → chosen x.setup s ≡ Some c → s.current ≡ c → events_of x.script s.turn ≡ [] → turn Calls x s ≡ ended (stepped Calls x.setup c (begun s))
+plain_turn : (x : Scenario) (s : State) (c : ℕ) → chosen x.setup s ≡ Some c → events_of x.script s.turn ≡ [] → turn Calls x s ≡ ended (stepped Calls x.setup c (begun record s { current = c }))
 unfolding turn begun with_registers_noted
-plain_turn x s c is current nothing =
+plain_turn x s c is nothing =
     let e : after_events x s ≡ begun s = sym (no_event x s nothing) in
     let P : Turn → Turn = λ t. ended (turn_of Calls x.setup (chosen x.setup t.state) t) in
     let Q : Option ℕ → Turn = λ o. ended (turn_of Calls x.setup o (begun s)) in
-    let R : ℕ → Turn = λ i. ended (stepped Calls x.setup c record (begun s) { state = record s { current = i } }) in
-    ap P e ∙ ap Q is ∙ ap R (sym current)
+    ap P e ∙ ap Q is
 
 acted_state : (g : Setup) (c : ℕ) (s : State) (d : Cpu) (ms : List Move) (m : Memory) → (fold moved (begun s) ms).state.memory ≡ m → (fold moved (begun s) ms).state.devices ≡ s.devices → (ended (acted g c (Next d ms) (begun s))).state ≡ later s c d m 1
 unfolding ended begun with_processor with_task task_at
@@ -227,16 +226,17 @@ begun_same : (s : State) → ((begun s).state ≡ s) × ((begun s).notes ≡ [])
 unfolding begun
 begun_same s = (refl, refl)
 
-pub one_turn : (x : Scenario) (s : State) (c : ℕ) (v w : View) (d : Cpu) → chosen x.setup s ≡ Some c → s.current ≡ c → events_of x.script s.turn ≡ [] → IsWindow x.setup c s.memory v → ArePlaced x.setup s.memory → GoesOn v (cpu_of (task_at s c)) w d → IsGone x s c v w d
-unfolding begun
-one_turn x s c v w d is current nothing window placed on =
+pub one_turn : (x : Scenario) (s : State) (c : ℕ) (v w : View) (d : Cpu) → chosen x.setup s ≡ Some c → events_of x.script s.turn ≡ [] → IsWindow x.setup c s.memory v → ArePlaced x.setup s.memory → GoesOn v (cpu_of (task_at s c)) w d → IsGone x s c v w d
+unfolding begun task_at
+one_turn x s c v w d is nothing window placed on =
     let g : Setup = x.setup in
-    let whole : turn Calls x s ≡ ended (acted g c (Next d on.moves) (begun s)) = plain_turn x s c is current nothing ∙ ap ended (stepped_next g c (begun s) v w d window placed on) in
+    let y : State = record s { current = c } in
+    let whole : turn Calls x s ≡ ended (acted g c (Next d on.moves) (begun y)) = plain_turn x s c is nothing ∙ ap ended (stepped_next g c (begun y) v w d window placed on) in
     let own : s.memory ≡ with_bytes s.memory v.ram_base v.ram = sym (ap (with_bytes s.memory v.ram_base) (sym window.ram) ∙ written_same s.memory v.ram_base (length v.ram) window.in_ram) in
-    let put = moves_land s.memory on.moves v (begun s) window.in_ram.0 window.in_ram.1 own on.inside (no_device g c (begun s) v w d window placed on) in
+    let put = moves_land s.memory on.moves v (begun y) window.in_ram.0 window.in_ram.1 own on.inside (no_device g c (begun y) v w d window placed on) in
     record {
-      state = ap (λ (t : Turn). t.state) whole ∙ acted_state g c s d on.moves _ (put.memory ∙ ap (λ (y : View). with_bytes s.memory v.ram_base y.ram) (sym on.after)) put.devices;
-      notes = ap (λ (t : Turn). t.notes) whole ∙ acted_notes g c s d on.moves put.notes;
+      state = ap (λ (t : Turn). t.state) whole ∙ acted_state g c y d on.moves _ (put.memory ∙ ap (λ (y : View). with_bytes s.memory v.ram_base y.ram) (sym on.after)) put.devices;
+      notes = ap (λ (t : Turn). t.notes) whole ∙ acted_notes g c y d on.moves put.notes;
       same = rw on.after (moves_keep on.moves v on.inside);
     }
 
@@ -251,9 +251,10 @@ cpu_after : (s : State) (c : ℕ) (cpu : Cpu) (m : Memory) (n : ℕ) → c < len
 unfolding task_at with_task
 cpu_after s c cpu m n there = ap cpu_of (task_at-with_task s c record (task_at s c) { registers = cpu.regs.words; flags = cpu.flags } there)
 
-again : (s : State) (c : ℕ) (cpu d : Cpu) (m u : Memory) (n : ℕ) → c < length s.tasks → later (later s c cpu m n) c d u 1 ≡ later s c d u (suc n)
+again : (s : State) (c : ℕ) (cpu d : Cpu) (m u : Memory) (n before : ℕ) → c < length s.tasks → later record (later record s { current = before } c cpu m n) { current = c } c d u 1 ≡ later record s { current = c } c d u (suc n)
 unfolding with_task task_at
-again s c cpu d m u n there =
+again s0 c cpu d m u n before there =
+    let s : State = record s0 { current = c } in
     let x : Task = record (task_at s c) { registers = cpu.regs.words; flags = cpu.flags } in
     let y : Task → Task = λ z. record z { registers = d.regs.words; flags = d.flags } in
     let at : task_at (with_task c x s) c ≡ x = task_at-with_task s c x there in
@@ -268,7 +269,7 @@ unmoved s c = ap (λ (xs : List Task). record s { tasks = xs }) (sym (set-get_or
 
 -- the state after n of them
 pub record HasGone (x : Scenario) (s : State) (c : ℕ) (v : View) (n : ℕ) (w : View) (d : Cpu) : Type 0 where
-  pub state : state_after Calls x n s ≡ later s c d (with_bytes s.memory v.ram_base w.ram) n
+  pub state : state_after Calls x n s ≡ later record s { current = runner n c s.current } c d (with_bytes s.memory v.ram_base w.ram) n
   pub keeps : Keeps v w
   pub sane : Sane x.setup (state_after Calls x n s)
   pub chosen : chosen x.setup (state_after Calls x n s) ≡ Some c
@@ -282,7 +283,7 @@ pub record IsLeft (x : Scenario) (s : State) (c : ℕ) (v : View) (n : ℕ) (w :
   pub window : IsWindow x.setup c (state_after Calls x n s).memory w
   pub processor : cpu_of (task_at (state_after Calls x n s) c) ≡ d
 
-module _ (x : Scenario) (s : State) (c : ℕ) (v : View) (sane : Sane x.setup s) (is : chosen x.setup s ≡ Some c) (current : s.current ≡ c) (window : IsWindow x.setup c s.memory v) where
+module _ (x : Scenario) (s : State) (c : ℕ) (v : View) (sane : Sane x.setup s) (is : chosen x.setup s ≡ Some c) (window : IsWindow x.setup c s.memory v) where
   there : c < length s.tasks
   there = (chosen_is s c sane is).inside
 
@@ -294,8 +295,9 @@ module _ (x : Scenario) (s : State) (c : ℕ) (v : View) (sane : Sane x.setup s)
       let P : State → Type 0 = λ y. IsGone x y c w u e in
       let C : State → Type 0 = λ y. chosen x.setup y ≡ Some c in
       let over : IsWindow x.setup c m w = window_again x.setup c s.memory v w window h.keeps in
-      let own = cpu_after s c d m n there in
-      subst P (sym h.state) (one_turn x (later s c d m n) c w u e (subst C h.state h.chosen) current nothing over (subst (λ (y : State). ArePlaced x.setup y.memory) h.state h.sane.steady.placed) (subst (λ (k : Cpu). GoesOn w k u e) (sym own) on))
+      let from : State = record s { current = runner n c s.current } in
+      let own = cpu_after from c d m n there in
+      subst P (sym h.state) (one_turn x (later from c d m n) c w u e (subst C h.state h.chosen) nothing over (subst (λ (y : State). ArePlaced x.setup y.memory) h.state h.sane.steady.placed) (subst (λ (k : Cpu). GoesOn w k u e) (sym own) on))
 
   -- a turn that notes nothing leaves the choice
   chosen_next : (y : State) → Sane x.setup y → chosen x.setup y ≡ Some c → events_of x.script y.turn ≡ [] → (turn Calls x y).notes ≡ [] → (chosen x.setup (turn Calls x y).state ≡ Some c) × (is_down (turn Calls x y).state ≡ is_down y) × ((i : ℕ) → is_ready (turn Calls x y).state i ≡ is_ready y i)
@@ -319,7 +321,7 @@ module _ (x : Scenario) (s : State) (c : ℕ) (v : View) (sane : Sane x.setup s)
       ∙ ap (λ (b : ℕ). with_bytes m b u.ram) h.keeps.ram_base
       ∙ written_again s.memory v.ram_base w.ram u.ram (rw h.keeps.size window.in_ram) g.same.size in
       record {
-        state = same ∙ g.state ∙ ap (λ (z : State). later z c e (with_bytes y.memory w.ram_base u.ram) 1) h.state ∙ again s c d e m (with_bytes y.memory w.ram_base u.ram) n there ∙ ap (λ (z : Memory). later s c e z (suc n)) memory;
+        state = same ∙ g.state ∙ ap (λ (z : State). later record z { current = c } c e (with_bytes y.memory w.ram_base u.ram) 1) h.state ∙ again s c d e m (with_bytes y.memory w.ram_base u.ram) n (runner n c s.current) there ∙ ap (λ (z : Memory). later record s { current = c } c e z (suc n)) memory;
         keeps = kept_on v w u h.keeps g.same;
         sane = subst (λ (z : State). Sane x.setup z) (sym same) (sane-after Calls x y h.sane);
         chosen = ap (chosen x.setup) same ∙ ch.0;
@@ -380,5 +382,5 @@ module _ (x : Scenario) (s : State) (c : ℕ) (v : View) (sane : Sane x.setup s)
       record {
         keeps = h.keeps;
         window = subst (λ (y : State). IsWindow x.setup c y.memory w) (sym h.state) (window_again x.setup c s.memory v w window h.keeps);
-        processor = ap (λ (y : State). cpu_of (task_at y c)) h.state ∙ cpu_after s c d (with_bytes s.memory v.ram_base w.ram) n there;
+        processor = ap (λ (y : State). cpu_of (task_at y c)) h.state ∙ cpu_after record s { current = runner n c s.current } c d (with_bytes s.memory v.ram_base w.ram) n there;
       }

@@ -1,4 +1,4 @@
--- Instructions on end within a window of the current task's memory are its turns.
+-- Instructions on end within a window of a task's memory are its turns.
 use Rattle.words_core.specs.Regs.{stack_pointer, program_counter}
 use Rattle.std.proofs.Common.{◌≡◌, ◌≢◌, inl, inr, ◌+◌, ◌-◌, ◌≤◌, ◌<◌, ℕ, zero, suc, Bool, true, false, not, ◌||◌, List, [], ◌∷◌, length, Option, Some, None, refl, sym, ◌∙◌, ap, subst, arith, leb}
 use Rattle.std.specs.Prelude.{Contains}
@@ -11,36 +11,39 @@ use Rattle.region_check.specs.Rights.{gives, has_right, may_use}
 use Rattle.run_script.specs.Scripts.{ScriptData, IsNext, events_of}
 use Rattle.mem_banks.specs.Memory.{Memory, bytes_at, with_bytes}
 use Rattle.mem_banks.specs.Windows.{IsInMemory, IsInRam, IsInFlash}
-use Rattle.mem_banks.proofs.Windows.{region_length}
+use Rattle.mem_banks.proofs.Windows.{region_length, written_same}
 use Rattle.thumb_exec.specs.declared.cpu.Cpu.{Cpu}
 use Rattle.thumb_exec.specs.Effect.{Halts}
 use Rattle.thumb_exec.specs.Fetch.{step_effect}
-use Rattle.thumb_step.specs.Windows.{View, refused_by, held_by}
+use Rattle.thumb_step.specs.Windows.{View, Glides, refused_by, held_by}
 use Rattle.task_table.specs.State.{Setup, State, Task, Turn}
 use Rattle.task_table.specs.Start.{begun}
 use Rattle.task_table.specs.Reading.{setup_at, task_at, call_of, listen_of, is_ready, chosen, register}
 use Rattle.task_table.specs.Effects.{with_task, with_processor}
-use Rattle.task_table.specs.Holds.{Holds, current_of, kept_of, note_count, notes_of as kernel_notes}
+use Rattle.task_table.specs.declared.kernel.Kernel.{Kernel}
+use Rattle.task_table.specs.Holds.{Holds, setup_of, memory_of, kept_of, note_count, notes_of as kernel_notes}
 use Rattle.task_table.specs.Openable.{AreUsable}
-use Rattle.task_table.specs.Window.{overlaid}
+use Rattle.task_table.specs.Window.{overlaid, IsWindowOpened}
 use Rattle.task_table.proofs.Changes.{task_at-with_task}
 use Rattle.task_table.proofs.Steps.{holds_turn}
 use Rattle.board_model.specs.declared.outcomes.Level.TheVariants.{Calls}
 use Rattle.board_model.specs.Script.{Scenario}
-use Rattle.board_model.specs.Turn.{may}
+use Rattle.board_model.specs.Turn.{may, cpu_of, with_current}
 use Rattle.board_model.specs.Run.{ending, is_down, state_after}
 use Rattle.board_model.proofs.Outside.{due_later}
+use Rattle.board_model.proofs.TurnChains.{chosen_is}
 use Rattle.board_core.specs.Reached.{is_flash_at, is_ram_at, IsStackRegion, AreReached}
-use Rattle.board_core.specs.Windowed.{IsWindow, IsWholeWindow, IsAtEnd, MustStop, AreTurns, later}
+use Rattle.board_core.specs.Windowed.{IsWindow, IsWholeWindow, IsAtEnd, MustStop, AreTurns, runner, later}
 use Rattle.board_core.proofs.WindowTurns.{are_turns, window_then}
 use Rattle.board_core.specs.declared.machine.Machine.{Machine}
 use Rattle.board_core.specs.declared.reach.Reach.{Reach}
-use Rattle.board_core.specs.Machine.{IsReady, IsLoaded, MachineHolds, with_cpu}
-use Rattle.board_core.specs.Gliding.{IsGlided, HasGlided}
+use Rattle.board_core.specs.Machine.{IsLoaded, HasContext, MachineHolds, MachineStands, with_cpu}
+use Rattle.board_core.specs.declared.glider.Glider.{Glider}
+use Rattle.board_core.specs.Gliding.{lent_view, HasWorked, IsGlided, HasGlided}
 use Rattle.board_core.specs.declared.board.Board.{Board}
 use Rattle.board_core.specs.Stands.{Stands, turns_of}
 use Rattle.board_core.specs.Advanced.{HasGlidden}
-use Rattle.board_core.proofs.Loading.{rest_of, is_loaded, rest_held}
+use Rattle.board_core.proofs.Loading.{rest_of, context_cpu, context_memory, loaded_by, same_held}
 use Rattle.region_check.proofs.Spanning.{both}
 use Rattle.region_check.specs.Spans.{spans}
 use Rattle.board_core.proofs.Skipping.{quiet_before, quiet_begun, begun_board}
@@ -199,31 +202,108 @@ later_loaded saved cpu cpu' m n inside =
     ap (λ (z : Task). record saved { state = record (with_task c (y z) (with_task c x s)) { memory = m; turn = s.turn + n } }) (task_at-with_task s c x inside)
     ∙ ap (λ (z : State). record saved { state = record z { memory = m; turn = s.turn + n } }) (set_twice s c x (y x))
 
-later_ready : (s : State) (m : Memory) (n : ℕ) → is_ready s s.current ≡ true → is_ready record s { memory = m; turn = n } s.current ≡ true
+later_ready : (s : State) (m : Memory) (n c : ℕ) → is_ready s c ≡ true → is_ready record s { memory = m; turn = n; current = c } c ≡ true
 unfolding is_ready task_at call_of listen_of
-later_ready s m n h = h
+later_ready s m n c h = h
 
-pub lent_loaded : {X : Type 0} {H : X → Type 0} (shown : Shows X H) (g : Setup) (r r' : Reach X H) (cpu cpu' : Cpu) (t : Turn) (at : ℕ) (bytes : List ℕ) (n : ℕ) → IsLoaded shown g r cpu t → t.state.current < length t.state.tasks → r'.devices ≡ r.devices → ((u : Turn) → Holds g r.kernel u → Holds g r'.kernel (overlaid at bytes u)) →
-    IsLoaded shown g r' cpu' record t { state = later t.state t.state.current cpu' (with_bytes t.state.memory at bytes) n }
-lent_loaded shown g r r' cpu cpu' t at bytes n h inside same f =
-    let saved = h.saved in
-    let rest = rest_of saved t cpu h.is in
-    let m : Memory = with_bytes saved.state.memory at bytes in
-    let there : saved.state.current < length saved.state.tasks = rw (rest.current, rest.count) at inside in
-    let now : record t { state = later t.state t.state.current cpu' (with_bytes t.state.memory at bytes) n } ≡ with_cpu cpu' (saved_later saved m n) =
-    ap (λ (u : Turn). record u { state = later u.state t.state.current cpu' (with_bytes t.state.memory at bytes) n }) h.is
-    ∙ ap (λ (i : ℕ). record (with_cpu cpu saved) { state = later (with_cpu cpu saved).state i cpu' (with_bytes t.state.memory at bytes) n }) rest.current
-    ∙ ap (λ (y : Memory). record (with_cpu cpu saved) { state = later (with_cpu cpu saved).state saved.state.current cpu' (with_bytes y at bytes) n }) rest.memory
-    ∙ later_loaded saved cpu cpu' m n there in
+pub lent_loaded : {X : Type 0} {H : X → Type 0} (shown : Shows X H) (g : Setup) (m : Machine X H) (r' : Reach X H) (cpu' : Cpu) (c : ℕ) (t : Turn) (at : ℕ) (bytes : List ℕ) (n : ℕ) → HasContext shown g m c t → c < length t.state.tasks → r'.devices ≡ m.reach.devices →
+    ((u : Turn) → Holds g m.reach.kernel u → Holds g r'.kernel (with_current c (overlaid at bytes u))) → IsLoaded shown g r' cpu' record t { state = later record t.state { current = c } c cpu' (with_bytes t.state.memory at bytes) n }
+lent_loaded shown g m r' cpu' c t at bytes n h inside same f =
+    let cpu : Cpu = m.processor in
+    let saved : Turn = with_current c h.saved in
+    let now : Turn = with_current c t in
+    let rest = rest_of saved now cpu h.is in
+    let y : Memory = with_bytes saved.state.memory at bytes in
+    let there : c < length saved.state.tasks = rw rest.count at inside in
+    let same_turn : record t { state = later now.state c cpu' (with_bytes t.state.memory at bytes) n } ≡ with_cpu cpu' (saved_later saved y n) =
+    ap (λ (u : Turn). record u { state = later u.state c cpu' (with_bytes t.state.memory at bytes) n }) h.is
+    ∙ ap (λ (z : Memory). record (with_cpu cpu saved) { state = later (with_cpu cpu saved).state c cpu' (with_bytes z at bytes) n }) rest.memory
+    ∙ later_loaded saved cpu cpu' y n there in
     record {
-      saved = saved_later saved m n;
-      holds = record { kernel = held (holds_turn g (kept_of r'.kernel) (overlaid at bytes saved) (saved.state.turn + n) (f saved h.holds.kernel)); devices = ap (data_of shown) same ∙ h.holds.devices };
-      ready = later_ready saved.state m (saved.state.turn + n) h.ready;
-      is = now;
+      saved = saved_later saved y n;
+      holds = record { kernel = held (holds_turn g (kept_of r'.kernel) (with_current c (overlaid at bytes h.saved)) (saved.state.turn + n) (f h.saved h.holds.kernel)); devices = ap (data_of shown) same ∙ h.holds.devices };
+      ready = later_ready h.saved.state y (saved.state.turn + n) c h.ready;
+      is = same_turn;
     }
   where
     held : {u : Turn} → Holds g r'.kernel u → Holds g r'.kernel u
     held x = x
+
+-- a window whose bytes are as they were
+pub lent_none : (g : Setup) (k k' : Kernel) (at size : ℕ) (bytes : List ℕ) → IsInRam (memory_of k) (at, size) → bytes ≡ bytes_at (memory_of k) at size → ((u : Turn) → Holds g k u → Holds g k' (overlaid at bytes u)) → (u : Turn) → Holds g k u → Holds g k' u
+lent_none g k k' at size bytes there is f u h =
+    let whole : with_bytes u.state.memory at bytes ≡ u.state.memory =
+    ap (λ (xs : List ℕ). with_bytes u.state.memory at xs) is
+    ∙ ap (λ (m : Memory). with_bytes m at (bytes_at (memory_of k) at size)) (sym h.memory)
+    ∙ written_same (memory_of k) at size there
+    ∙ h.memory in
+    subst (λ (m : Memory). Holds g k' record u { state = record u.state { memory = m } }) whole (f u h)
+
+-- a window of a task was opened for its processor, which is still in the machine
+module _ {X : Type 0} {H : X → Type 0} (shown : Shows X H) (g : Setup) (m : Machine X H) (task most : ℕ) (t : Turn) (flash ram : Region) (pc sp : ℕ) (a b : Glider) (k' : Kernel)
+    (h : HasContext shown g m task t) (inside : task < length t.state.tasks) (reached : AreReached (setup_at (setup_of m.reach.kernel) task).regions pc sp flash ram)
+    (pc_is : pc ≡ register t.state task program_counter) (sp_is : sp ≡ register t.state task stack_pointer)
+    (processor_is : a.runner.processor ≡ m.processor) (flash_is : a.runner.window.flash_base ≡ flash.base) (readable_is : a.runner.window.readable ≡ flash.rights.read) (ram_is : a.runner.window.ram_base ≡ ram.base) (most_is : a.most ≡ most)
+    (opened : IsWindowOpened HasWorked m.reach.kernel flash ram a b k') where
+  before : View
+  before = lent_view a (bytes_at (memory_of m.reach.kernel) flash.base flash.size) (bytes_at (memory_of m.reach.kernel) ram.base ram.size)
+
+  left : View
+  left = lent_view a (bytes_at (memory_of m.reach.kernel) flash.base flash.size) opened.window.after
+
+  are : AreReached (setup_at g task).regions pc sp flash ram
+  are = let P : Setup → Type 0 = λ x. AreReached (setup_at x task).regions pc sp flash ram in subst P h.holds.kernel.setup reached
+
+  whole_here : IsWholeWindow g task t.state.memory (register t.state task program_counter) (register t.state task stack_pointer) before
+  whole_here =
+      let W : Memory → Type 0 = λ y. IsWholeWindow g task y pc sp before in
+      let P : ℕ → Type 0 = λ at. IsWholeWindow g task t.state.memory at sp before in
+      let S : ℕ → Type 0 = λ at. IsWholeWindow g task t.state.memory (register t.state task program_counter) at before in
+      subst S sp_is (subst P pc_is (subst W (context_memory shown g m task t h) (whole_window g task (memory_of m.reach.kernel) pc sp flash ram before are flash_is readable_is ram_is opened.window.flash_there opened.window.ram_there refl refl)))
+
+  glides_here : Glides before (cpu_of (task_at t.state task)) b.made left b.runner.processor
+  glides_here = let G : Cpu → Type 0 = λ y. Glides before y b.made left b.runner.processor in subst G (processor_is ∙ context_cpu shown g m task t h inside) opened.window.work.glides
+
+  far_here : b.made < most → Halts (step_effect (refused_by left) (held_by left) b.runner.processor)
+  far_here lt = opened.window.work.far (flash_below g task (memory_of m.reach.kernel) pc sp flash ram before are flash_is readable_is ram_is opened.window.flash_there opened.window.ram_there refl refl) (omega (arith, lt, most_is))
+
+  -- instructions were made: the task is the current one from now on
+  pub has_run : (m' : Machine X H) → 0 < b.made → m'.loaded ≡ true → m'.processor ≡ b.runner.processor → m'.reach.devices ≡ m.reach.devices → ((u : Turn) → Holds g k' u → Holds g m'.reach.kernel (with_current task u)) → IsGlided shown g m' task t most b.made
+  has_run m' some loaded processor same f =
+      let G : Cpu → Type 0 = λ y. Glides before (cpu_of (task_at t.state task)) b.made left y in
+      let F : Cpu → Type 0 = λ y. b.made < most → Halts (step_effect (refused_by left) (held_by left) y) in
+      let L : ℕ → Type 0 = λ at. IsLoaded shown g m'.reach m'.processor record t { state = later record t.state { current = task } task m'.processor (with_bytes t.state.memory at opened.window.after) b.made } in
+      record {
+        window = before;
+        after = left;
+        whole = whole_here;
+        glides = subst G (sym processor) glides_here;
+        far = subst F (sym processor) far_here;
+        stays = λ none. absurd (omega (arith, some, none));
+        goes = λ lt. loaded_by shown m'.loaded g m'.reach m'.processor _ loaded (subst L (sym ram_is) (lent_loaded shown g m m'.reach m'.processor task t ram.base opened.window.after b.made h inside same (λ u held. f (overlaid ram.base opened.window.after u) (opened.holds g u held))));
+      }
+
+  none_here : Glides before (cpu_of (task_at t.state task)) 0 left b.runner.processor → (opened.window.after ≡ bytes_at (memory_of m.reach.kernel) ram.base ram.size) × (b.runner.processor ≡ m.processor)
+  none_here e = (ap (λ (v : View). v.ram) e.0, e.1 ∙ sym (context_cpu shown g m task t h inside))
+
+  -- none was made: all is as it was
+  pub has_stayed : (m' : Machine X H) → b.made ≡ 0 → m'.loaded ≡ m.loaded → m'.processor ≡ m.processor → m'.reach ≡ record m.reach { kernel = k' } → MachineHolds shown g m t → IsGlided shown g m' task t most b.made
+  has_stayed m' none loaded processor reach holds =
+      let N : ℕ → Type 0 = λ n. Glides before (cpu_of (task_at t.state task)) n left b.runner.processor in
+      let same = none_here (subst N none glides_here) in
+      let own : b.runner.processor ≡ m'.processor = same.1 ∙ sym processor in
+      let G : Cpu → Type 0 = λ y. Glides before (cpu_of (task_at t.state task)) b.made left y in
+      let F : Cpu → Type 0 = λ y. b.made < most → Halts (step_effect (refused_by left) (held_by left) y) in
+      let f = lent_none g m.reach.kernel k' ram.base ram.size opened.window.after opened.window.ram_there same.0 (opened.holds g) in
+      record {
+        window = before;
+        after = left;
+        whole = whole_here;
+        glides = subst G own glides_here;
+        far = subst F own far_here;
+        stays = λ e. rw (loaded, processor, reach) (same_held shown m.loaded g m.reach record m.reach { kernel = k' } m.processor t refl f holds);
+        goes = λ lt. absurd (omega (arith, lt, none));
+      }
 
 -- ## the board
 
@@ -235,7 +315,7 @@ due_later_on script turn (suc n) due next ne =
     let e : turn + n + 1 ≡ turn + suc n = omega arith in
     subst (λ (k : ℕ). IsNext script k due) e (due_later script (turn + n) due before (ne n (omega arith)))
 
--- ## turns on end of the task whose context is loaded
+-- ## turns on end of the task that is chosen
 
 -- a board after n turns within a window, and why there were no more
 pub record IsMade {X : Type 0} {H : X → Type 0} (shown : Shows X H) (x : Scenario) (u : State) (task until : ℕ) (b b' : Board X H) : Type 0 where
@@ -245,12 +325,12 @@ pub record IsMade {X : Type 0} {H : X → Type 0} (shown : Shows X H) (x : Scena
 module _ {X : Type 0} {H : X → Type 0} (shown : Shows X H) (x : Scenario) (u : State) (b : Board X H) (m : Machine X H) (task most n until : ℕ)
     (st : Stands shown x b u) (next : b.choice.next ≡ Some task) (up : b.choice.down ≡ false)
     (few : until ≤ 1000000000) (within : turns_of b + n ≤ until) (later_due : (turn : ℕ) → turn < until → b.due ≢ Some turn)
-    (is_current : u.current ≡ task) (none : kernel_notes m.reach.kernel ≡ []) where
+    (none : kernel_notes m.reach.kernel ≡ []) where
   nothing : (k : ℕ) → k < n → events_of x.script (u.turn + k) ≡ []
   nothing k lt = let e = st.holds.turns in quiet_before x.script u.turn until b.due st.holds.due later_due few (u.turn + k) (omega arith) (omega (arith, e, lt, within))
 
-  is_chosen : chosen x.setup u ≡ Some u.current
-  is_chosen = sym st.holds.choice.next ∙ next ∙ ap Some (sym is_current)
+  is_chosen : chosen x.setup u ≡ Some task
+  is_chosen = sym st.holds.choice.next ∙ next
 
   -- none was made
   stayed : n ≡ 0 → MachineHolds shown x.setup m (rested b.machine u) → HasGlidden shown x u n record b { machine = m; turns = turns_of b + n }
@@ -273,21 +353,30 @@ module _ {X : Type 0} {H : X → Type 0} (shown : Shows X H) (x : Scenario) (u :
         notes = λ lt. none;
       }
 
-  turns_are : (h : IsGlided shown x.setup m (rested b.machine u) most n) → AreTurns x u u.current h.window n h.after m.processor
-  turns_are h = are_turns x u u.current h.window st.sane is_chosen refl h.whole.is n h.after m.processor nothing h.glides
+  turns_are : (h : IsGlided shown x.setup m task (rested b.machine u) most n) → AreTurns x u task h.window n h.after m.processor
+  turns_are h = are_turns x u task h.window st.sane is_chosen h.whole.is n h.after m.processor nothing h.glides
 
-  made : IsGlided shown x.setup m (rested b.machine u) most n → HasGlidden shown x u n record b { machine = m; turns = turns_of b + n }
+  -- what the machine holds then
+  held_after : (h : IsGlided shown x.setup m task (rested b.machine u) most n) → MachineHolds shown x.setup m (rested b.machine (state_after Calls x n u))
+  unfolding state_after
+  held_after h = by n refl h.stays h.goes (turns_are h).state
+    where
+      by : (k : ℕ) → k ≡ n → (k ≡ 0 → MachineHolds shown x.setup m (rested b.machine u)) → (0 < k → MachineHolds shown x.setup m (rested b.machine (later record u { current = task } task m.processor (with_bytes u.memory h.window.ram_base h.after.ram) k))) → state_after Calls x k u ≡ later record u { current = runner k task u.current } task m.processor (with_bytes u.memory h.window.ram_base h.after.ram) k →
+          MachineHolds shown x.setup m (rested b.machine (state_after Calls x k u))
+      by zero e stays goes is = stays refl
+      by (suc k) e stays goes is = subst (λ (y : State). MachineHolds shown x.setup m (rested b.machine y)) (sym is) (goes (omega arith))
+
+  made : IsGlided shown x.setup m task (rested b.machine u) most n → HasGlidden shown x u n record b { machine = m; turns = turns_of b + n }
   unfolding ending state_after
   made h =
       let are = turns_are h in
       let v : State = state_after Calls x n u in
-      let M : State → Type 0 = λ y. MachineHolds shown x.setup m (rested b.machine y) in
       let turns : v.turn ≡ u.turn + n = ap (λ (y : State). y.turn) are.state in
       let a = st.holds.turns in
       record {
         stands = record {
           holds = record {
-            machine = rested_as shown x.setup b.machine m v (subst M (sym are.state) h.holds);
+            machine = rested_as shown x.setup b.machine m v (held_after h);
             turns = omega (arith, a, turns);
             choice = record {
               next = st.holds.choice.next ∙ is_chosen ∙ sym (are.chosen n (omega arith));
@@ -309,19 +398,19 @@ module _ {X : Type 0} {H : X → Type 0} (shown : Shows X H) (x : Scenario) (u :
         notes = λ lt. none;
       }
     where
-      goes_at : (k : ℕ) → chosen x.setup (state_after Calls x k u) ≡ Some u.current → is_down (state_after Calls x k u) ≡ is_down u → ending x 1 (state_after Calls x k u) ≡ None
+      goes_at : (k : ℕ) → chosen x.setup (state_after Calls x k u) ≡ Some task → is_down (state_after Calls x k u) ≡ is_down u → ending x 1 (state_after Calls x k u) ≡ None
       goes_at k some same =
           let down : is_down (state_after Calls x k u) ≡ false = same ∙ sym st.holds.choice.down ∙ up in
           rw (down, some) refl
 
-  has_glidden : HasGlided shown x.setup m (rested b.machine u) most n → HasGlidden shown x u n record b { machine = m; turns = turns_of b + n }
+  has_glidden : HasGlided shown x.setup m task (rested b.machine u) most n → HasGlidden shown x u n record b { machine = m; turns = turns_of b + n }
   has_glidden (inl h) = made h
   has_glidden (inr h) = stayed h.none h.holds
 
   -- the window that is left is of the same regions
-  at_end : (h : IsGlided shown x.setup m (rested b.machine u) most n) → n < most → IsAtEnd x.setup u.current (register u u.current program_counter) (register u u.current stack_pointer) (state_after Calls x n u)
+  at_end : (h : IsGlided shown x.setup m task (rested b.machine u) most n) → n < most → IsAtEnd x.setup task (register u task program_counter) (register u task stack_pointer) (state_after Calls x n u)
   at_end h lt =
-      let left = window_then x u u.current h.window st.sane is_chosen refl h.whole.is n h.after m.processor nothing h.glides in
+      let left = window_then x u task h.window st.sane is_chosen h.whole.is n h.after m.processor nothing h.glides in
       let same = left.keeps in
       record {
         window = h.after;
@@ -337,32 +426,28 @@ module _ {X : Type 0} {H : X → Type 0} (shown : Shows X H) (x : Scenario) (u :
         halts = subst (λ (d : Cpu). Halts (step_effect (refused_by h.after) (held_by h.after) d)) (sym left.processor) (h.far lt);
       }
 
-  must_stop : HasGlided shown x.setup m (rested b.machine u) most n → n < most → MustStop x.setup u.current (register u u.current program_counter) (register u u.current stack_pointer) (state_after Calls x n u)
+  must_stop : HasGlided shown x.setup m task (rested b.machine u) most n → n < most → MustStop x.setup task (register u task program_counter) (register u task stack_pointer) (state_after Calls x n u)
   unfolding state_after
   must_stop (inl h) lt = inl (at_end h lt)
   must_stop (inr h) lt = inr (rw h.none h.beyond)
 
--- the same of a board whose machine has the context of the task that is chosen, once the machine's turn has begun
-pub made_by : {X : Type 0} {H : X → Type 0} (shown : Shows X H) (x : Scenario) (u : State) (b : Board X H) (m m' : Machine X H) (task n until : ℕ) → Stands shown x b u → MachineHolds shown x.setup m (begun u) → m.loaded ≡ true → u.current ≡ task → b.choice.next ≡ Some task → b.choice.down ≡ false → until ≤ 1000000000 →
+-- the same of a board once its machine's turn has begun
+pub made_by : {X : Type 0} {H : X → Type 0} (shown : Shows X H) (x : Scenario) (u : State) (b : Board X H) (m m' : Machine X H) (task n until : ℕ) → Stands shown x b u → MachineHolds shown x.setup m (begun u) → b.choice.next ≡ Some task → b.choice.down ≡ false → until ≤ 1000000000 →
     turns_of b < until → n ≤ until - turns_of b → ((turn : ℕ) → turn < until → b.due ≢ Some turn) → note_count m'.reach.kernel ≡ note_count m.reach.kernel →
-    ((g : Setup) (t : Turn) → IsReady shown g m t → HasGlided shown g m' t (until - turns_of b) n) → IsMade shown x u task until b record b { machine = m'; turns = turns_of b + n }
-made_by {X} {H} shown x u b0 m m' task n until st0 holds loaded is_current next up few left within later_due count glided =
+    ((g : Setup) (t : Turn) → MachineStands shown g m t → task < length t.state.tasks → is_ready t.state task ≡ true → HasGlided shown g m' task t (until - turns_of b) n) → IsMade shown x u task until b record b { machine = m'; turns = turns_of b + n }
+made_by {X} {H} shown x u b0 m m' task n until st0 holds next up few left within later_due count glided =
     let b : Board X H = record b0 { machine = m } in
     let b' : Board X H = record b0 { machine = m'; turns = turns_of b0 + n } in
     let st : Stands shown x b u = begun_board shown x u b0 m st0 holds in
     let none : kernel_notes m'.reach.kernel ≡ [] = none_of m m' (quiet_begun shown x u m holds) count in
-    let ready : IsReady shown x.setup m (rested m u) = record { loaded = loaded; holds = is_loaded shown _ x.setup _ _ (rested m u) loaded st.holds.machine; sane = st.sane } in
     let over : turns_of b0 + n ≤ until = omega (arith, left, within) in
     let most : ℕ = until - turns_of b0 in
-    let h = glided x.setup (rested m u) ready in
+    let is = chosen_is u task st.sane (sym st.holds.choice.next ∙ next) in
+    let h = glided x.setup (rested m u) record { holds = st.holds.machine; sane = st.sane } is.inside is.ready in
     let e : n ≡ turns_of b0 + n - turns_of b0 = omega arith in
     record {
-      glidden = subst (λ (k : ℕ). HasGlidden shown x u k b') e (has_glidden shown x u b m' task most n until st next up few over later_due is_current none h);
+      glidden = subst (λ (k : ℕ). HasGlidden shown x u k b') e (has_glidden shown x u b m' task most n until st next up few over later_due none h);
       far = λ lt.
-          let stop = must_stop shown x u b m' task most n until st next up few over later_due is_current none h (omega (arith, lt)) in
-          subst (λ (k : ℕ). MustStop x.setup task (register u task program_counter) (register u task stack_pointer) (state_after Calls x k u)) e (subst (λ (i : ℕ). MustStop x.setup i (register u i program_counter) (register u i stack_pointer) (state_after Calls x n u)) is_current stop);
+          let stop = must_stop shown x u b m' task most n until st next up few over later_due none h (omega (arith, lt)) in
+          subst (λ (k : ℕ). MustStop x.setup task (register u task program_counter) (register u task stack_pointer) (state_after Calls x k u)) e stop;
     }
-
--- the task that ran last is the kernel's
-pub current_now : {X : Type 0} {H : X → Type 0} (shown : Shows X H) (x : Scenario) (u : State) (b : Board X H) → Stands shown x b u → current_of b.machine.reach.kernel ≡ u.current
-current_now shown x u b st = let w = rest_held shown _ x.setup _ _ _ st.holds.machine in w.holds.current ∙ sym w.rest.current

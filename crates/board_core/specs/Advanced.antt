@@ -43,27 +43,27 @@ state_now x old s new = state_after Calls x (turns_of new - turns_of old) s
 abbrev pub state_before : {X : Type 0} {H : X → Type 0} → Scenario → Board X H → State → Board X H → State
 state_before x old s new = state_after Calls x (turns_of new - turns_of old - 1) s
 
--- the next turn of the task that ran from a state is a whole one: something happens in it, or the fast way ends
-abbrev pub NeedsTurn : Scenario → State → State → Type 0
-NeedsTurn x s u = (events_of x.script u.turn ≢ []) ⊎ IsFar x s.current s u
+-- the next turn of the task that is chosen from a state on is a whole one: something happens in it, or the fast way ends
+abbrev pub NeedsTurn : Scenario → ℕ → State → State → Type 0
+NeedsTurn x c s u = (events_of x.script u.turn ≢ []) ⊎ IsFar x c s u
 
--- of the task that ran last, where it is chosen: it went on to turn `until`, or as far as the fast way goes
+-- the task that is chosen went on to turn `until`, or as far as the fast way goes
 abbrev pub WentFar : {X : Type 0} {H : X → Type 0} → Shows X H → ℕ → Board X H → Board X H → Type 0
 WentFar shown until old new =
-    (x : Scenario) (s : State) → Stands shown x old s → chosen x.setup s ≡ Some s.current → old.choice.down ≡ false →
-    turns_of new < until → IsFar x s.current s (state_now x old s new)
+    (x : Scenario) (s : State) (c : ℕ) → Stands shown x old s → chosen x.setup s ≡ Some c → old.choice.down ≡ false →
+    turns_of new < until → IsFar x c s (state_now x old s new)
 
 -- the same of a task that is known to be the one
 abbrev pub WentFarOn : {X : Type 0} {H : X → Type 0} → Shows X H → ℕ → ℕ → Board X H → Board X H → Type 0
 WentFarOn shown task until old new =
-    (x : Scenario) (s : State) → Stands shown x old s → s.current ≡ task →
+    (x : Scenario) (s : State) → Stands shown x old s →
     turns_of new < until → IsFar x task s (state_now x old s new)
 
 -- the last turn had to be a whole one
 abbrev pub NeededTurn : {X : Type 0} {H : X → Type 0} → Shows X H → ℕ → Board X H → Board X H → Type 0
 NeededTurn shown limit old new =
-    (x : Scenario) (s : State) → Stands shown x old s → chosen x.setup s ≡ Some s.current → old.choice.down ≡ false →
-    turns_of new < limit → NeedsTurn x s (state_before x old s new)
+    (x : Scenario) (s : State) (c : ℕ) → Stands shown x old s → chosen x.setup s ≡ Some c → old.choice.down ≡ false →
+    turns_of new < limit → NeedsTurn x c s (state_before x old s new)
 
 -- where no task is ready, the last turn is the one in which something happened
 abbrev pub WaitedFor : {X : Type 0} {H : X → Type 0} → Shows X H → ℕ → Board X H → Board X H → Type 0

@@ -1,4 +1,4 @@
--- Instructions on end within a window of the current task's memory.
+-- Instructions on end within a window of a task's memory.
 use Rattle.words_core.specs.Regs.{stack_pointer, program_counter}
 use Rattle.std.specs.Prelude.{ℕ, ◌≡◌, ◌⊎◌, ◌+◌, ◌≤◌, ◌<◌, List, length, false}
 use Rattle.std.specs.List.{list_any}
@@ -34,20 +34,22 @@ pub record HasWorked (a : Glider) (flash ram : List ℕ) (b : Glider) (after : L
   -- it stopped before that many only where the next one is a system call, faults or reaches elsewhere
   pub far : a.runner.window.flash_base + length flash ≤ a.runner.window.ram_base → b.made < a.most → Halts (step_effect (refused_by (lent_view a flash after)) (held_by (lent_view a flash after)) b.runner.processor)
 
--- n instructions on end of the current task within a window, of which as many go on as there may be
-pub record IsGlided {X : Type 0} {H : X → Type 0} (shown : Shows X H) (g : Setup) (m : Machine X H) (t : Turn) (most n : ℕ) : Type 0 where
+-- n instructions on end of a task within a window, of which as many go on as there may be. Where there were some, the task
+-- is the current one.
+pub record IsGlided {X : Type 0} {H : X → Type 0} (shown : Shows X H) (g : Setup) (m : Machine X H) (c : ℕ) (t : Turn) (most n : ℕ) : Type 0 where
   pub window : View
   pub after : View
-  pub whole : IsWholeWindow g t.state.current t.state.memory (register t.state t.state.current program_counter) (register t.state t.state.current stack_pointer) window
-  pub glides : Glides window (cpu_of (task_at t.state t.state.current)) n after m.processor
+  pub whole : IsWholeWindow g c t.state.memory (register t.state c program_counter) (register t.state c stack_pointer) window
+  pub glides : Glides window (cpu_of (task_at t.state c)) n after m.processor
   pub far : n < most → Halts (step_effect (refused_by after) (held_by after) m.processor)
-  pub holds : MachineHolds shown g m record t { state = later t.state t.state.current m.processor (with_bytes t.state.memory window.ram_base after.ram) n }
+  pub stays : n ≡ 0 → MachineHolds shown g m t
+  pub goes : 0 < n → MachineHolds shown g m record t { state = later record t.state { current = c } c m.processor (with_bytes t.state.memory window.ram_base after.ram) n }
 
 -- none, since the task fetches from no region of the flash
-pub record HasNoWindow {X : Type 0} {H : X → Type 0} (shown : Shows X H) (g : Setup) (m : Machine X H) (t : Turn) (n : ℕ) : Type 0 where
+pub record HasNoWindow {X : Type 0} {H : X → Type 0} (shown : Shows X H) (g : Setup) (m : Machine X H) (c : ℕ) (t : Turn) (n : ℕ) : Type 0 where
   pub none : n ≡ 0
-  pub beyond : list_any (is_flash_at (register t.state t.state.current program_counter)) (setup_at g t.state.current).regions ≡ false
+  pub beyond : list_any (is_flash_at (register t.state c program_counter)) (setup_at g c).regions ≡ false
   pub holds : MachineHolds shown g m t
 
-abbrev pub HasGlided : {X : Type 0} {H : X → Type 0} → Shows X H → Setup → Machine X H → Turn → ℕ → ℕ → Type 0
-HasGlided shown g m t most n = IsGlided shown g m t most n ⊎ HasNoWindow shown g m t n
+abbrev pub HasGlided : {X : Type 0} {H : X → Type 0} → Shows X H → Setup → Machine X H → ℕ → Turn → ℕ → ℕ → Type 0
+HasGlided shown g m c t most n = IsGlided shown g m c t most n ⊎ HasNoWindow shown g m c t n

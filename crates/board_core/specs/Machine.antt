@@ -14,7 +14,7 @@ use Rattle.task_table.specs.Holds.{Holds, Stands, setup_of, current_of, task_cou
 use Rattle.task_table.specs.Limits.{turn_notes}
 use Rattle.board_core.specs.declared.machine.Machine.{Machine}
 use Rattle.board_core.specs.declared.reach.Reach.{Reach}
-use Rattle.board_model.specs.Turn.{put, took, is_device, or_zero, refusals}
+use Rattle.board_model.specs.Turn.{put, took, is_device, or_zero, refusals, with_current}
 use Rattle.board_core.specs.Data.{Shows, data_of}
 
 -- what the kernel keeps and the devices show is just what the turn has come to
@@ -87,6 +87,14 @@ pub record IsReady {X : Type 0} {H : X → Type 0} (shown : Shows X H) (g : Setu
 pub record IsNext {X : Type 0} {H : X → Type 0} (shown : Shows X H) (g : Setup) (m : Machine X H) (t : Turn) (next : Option ℕ) : Type 0 where
   pub stands : MachineStands shown g m t
   pub is : next ≡ chosen g t.state
+
+-- the processor has the context of a task, which is ready, though it need not be the current one yet: what the kernel has
+-- of that task's registers and flags may be of an earlier time
+pub record HasContext {X : Type 0} {H : X → Type 0} (shown : Shows X H) (g : Setup) (m : Machine X H) (c : ℕ) (t : Turn) : Type 0 where
+  pub saved : Turn
+  pub holds : ReachHolds shown g m.reach saved
+  pub ready : is_ready saved.state c ≡ true
+  pub is : with_current c t ≡ with_cpu m.processor (with_current c saved)
 
 -- the first of n bytes that the current task may not use so
 abbrev pub refused : Kernel → ℕ → ℕ → Right → Option ℕ

@@ -1,6 +1,6 @@
 -- Turns of a task whose instructions stay within a window of its flash and its data.
 use Rattle.words_core.specs.Regs.{program_counter}
-use Rattle.std.specs.Prelude.{ℕ, ◌≡◌, ◌⊎◌, false, ◌+◌, ◌<◌, ◌≤◌, true, length, [], Some}
+use Rattle.std.specs.Prelude.{ℕ, zero, suc, ◌≡◌, ◌⊎◌, false, ◌+◌, ◌<◌, ◌≤◌, true, length, [], Some}
 use Rattle.region_check.specs.declared.Region.{Region}
 use Rattle.region_check.specs.declared.Right.TheVariants.{Read, Write, Execute}
 use Rattle.mem_banks.specs.Memory.{Memory, bytes_at, with_bytes}
@@ -53,19 +53,24 @@ pub record IsAtEnd (g : Setup) (c pc sp : ℕ) (s : State) : Type 0 where
 abbrev pub MustStop : Setup → ℕ → ℕ → ℕ → State → Type 0
 MustStop g c pc sp s = IsAtEnd g c pc sp s ⊎ (list_any (is_flash_at (register s c program_counter)) (setup_at g c).regions ≡ false)
 
--- a task that is chosen and the current one is within a window of its memory, and nothing happens in n turns from now on
+-- the task that is chosen is within a window of its memory, and nothing happens in n turns from now on
 abbrev pub IsUndisturbed : Scenario → State → ℕ → View → ℕ → Type 0
 IsUndisturbed x s c v n =
-    (chosen x.setup s ≡ Some c) × (s.current ≡ c) × IsWindow x.setup c s.memory v × ((k : ℕ) → k < n → events_of x.script (s.turn + k) ≡ [])
+    (chosen x.setup s ≡ Some c) × IsWindow x.setup c s.memory v × ((k : ℕ) → k < n → events_of x.script (s.turn + k) ≡ [])
 
 -- n turns later, in which a task's processor and the memory alone changed
 abbrev pub later : State → ℕ → Cpu → Memory → ℕ → State
 later s c cpu m n =
     record (with_task c record (task_at s c) { registers = cpu.regs.words; flags = cpu.flags } s) { memory = m; turn = s.turn + n }
 
+-- who ran last, after n turns of a task
+abbrev pub runner : ℕ → ℕ → ℕ → ℕ
+runner zero c before = before
+runner (suc n) c before = c
+
 -- n turns on end of a task are its instructions within a window, of which none is noted
 pub record AreTurns (x : Scenario) (s : State) (c : ℕ) (v : View) (n : ℕ) (v' : View) (cpu : Cpu) : Type 0 where
-  pub state : state_after Calls x n s ≡ later s c cpu (with_bytes s.memory v.ram_base v'.ram) n
+  pub state : state_after Calls x n s ≡ later record s { current = runner n c s.current } c cpu (with_bytes s.memory v.ram_base v'.ram) n
   pub silent : (k : ℕ) → k < n → (turn_after Calls x k s).notes ≡ []
   pub chosen : (k : ℕ) → k ≤ n → chosen x.setup (state_after Calls x k s) ≡ Some c
   pub down : (k : ℕ) → k ≤ n → is_down (state_after Calls x k s) ≡ is_down s

@@ -184,8 +184,8 @@ impl Board {
     }
 
     /// The fast way: turns before turn `until`, before which nothing is due, none of which notes anything. They are those
-    /// of the task that is chosen, within a window of its memory, as far as it goes there, where it was the one that ran
-    /// last; or all idle ones, where no task is ready.
+    /// of the task that is chosen, within a window of its memory, as far as it goes there; or all idle ones, where no task is
+    /// ready.
     fn glide(&mut self, until: u32)
         requires stood { Stood shown self.old }
         requires few { until ≤ 1000000000 }
@@ -221,10 +221,8 @@ impl Board {
         ensures within { turns_of self.new ≤ until }
         ensures far { WentFarOn shown task until self.old self.new }
     {
-        if self.machine.reload_context(task) {
-            self.machine.begin();
-            self.turns += self.machine.glide(until - self.turns);
-        }
+        self.machine.begin();
+        self.turns += self.machine.glide(task, until - self.turns);
     }
 
     /// The same, where no task is ready.

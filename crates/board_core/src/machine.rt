@@ -13,7 +13,7 @@ ghost use Rattle.task_table.specs.Limits.{syscall_notes, turn_notes};
 ghost use Rattle.task_table.specs.Frames.{AddsNotes};
 ghost use Rattle.thumb_insn.specs.Range.{IsCoded};
 ghost use Rattle.board_model.specs.Turn.{with_current, noted_at, happened, stepped, executed, cpu_of, with_registers_noted, turn_of, turned_of, happened_next};
-ghost use Rattle.board_core.specs.Machine.{IsReady, IsNext, HasNumber, ReachHolds, MachineHolds, MachineStands, IsLoaded};
+ghost use Rattle.board_core.specs.Machine.{IsReady, IsNext, HasNumber, ReachHolds, MachineHolds, MachineStands, IsLoaded, HasContext};
 ghost use Rattle.board_core.specs.Gliding.{HasGlided};
 
 use crate::glider::Glider;
@@ -122,24 +122,6 @@ impl Machine {
         self.reach.kernel.set_current(task);
         self.processor = cpu(&self.reach.kernel, task);
         self.loaded = true;
-    }
-
-    /// The processor has the context of a task from now on, where it is the current one; else nothing changes, and the
-    /// answer is false.
-    pub fn reload_context(&mut self, task: usize) -> bool
-        requires { task < task_count self.old.reach.kernel }
-        ensures loaded { result ≡ true → self.new.loaded ≡ true }
-        ensures current { result ≡ true → current_of self.old.reach.kernel ≡ task }
-        ensures holds { (g : Setup) (t : Turn) → MachineHolds shown g self.old t → is_ready t.state task ≡ true → MachineHolds shown g self.new t }
-        ensures other { result ≡ false → current_of self.old.reach.kernel ≢ task }
-        ensures same { result ≡ false → self.new ≡ self.old }
-        ensures count { note_count self.new.reach.kernel ≡ note_count self.old.reach.kernel }
-    {
-        if self.reach.kernel.current() != task {
-            return false;
-        }
-        self.load_context(task);
-        true
     }
 }
 
@@ -392,15 +374,32 @@ impl Machine {
 }
 
 impl Machine {
-    /// Instructions on end of the current task within a window of its memory, at most so many; how many there were.
-    pub fn glide(&mut self, most: u32) -> u32
-        ensures glided { (g : Setup) (t : Turn) → IsReady shown g self.old t → HasGlided shown g self.new t most result }
+    /// The processor has a task's context from now on. The task is not the current one yet: that it is once it ran.
+    fn take_context(&mut self, task: usize)
+        requires { task < task_count self.old.reach.kernel }
+        ensures holds { (g : Setup) (t : Turn) → MachineHolds shown g self.old t → MachineHolds shown g self.new t }
+        ensures taken { (g : Setup) (t : Turn) → MachineHolds shown g self.old t → task < length t.state.tasks → is_ready t.state task ≡ true → HasContext shown g self.new task t }
+        ensures tasks { task_count self.new.reach.kernel ≡ task_count self.old.reach.kernel }
+        ensures count { note_count self.new.reach.kernel ≡ note_count self.old.reach.kernel }
+    {
+        if !self.is_loaded_for(task) {
+            self.save_context();
+            self.processor = cpu(&self.reach.kernel, task);
+        }
+    }
+
+    /// Instructions on end of a task within a window of its memory, at most so many; how many there were. Where there were
+    /// some, it is the current one.
+    pub fn glide(&mut self, task: usize, most: u32) -> u32
+        requires { task < task_count self.old.reach.kernel }
+        ensures glided { (g : Setup) (t : Turn) → MachineStands shown g self.old t → task < length t.state.tasks → is_ready t.state task ≡ true → HasGlided shown g self.new task t most result }
         ensures within { result ≤ most }
         ensures count { note_count self.new.reach.kernel ≡ note_count self.old.reach.kernel }
     {
+        self.take_context(task);
         let pc = self.processor.regs.get(PROGRAM_COUNTER);
         let sp = self.processor.regs.get(STACK_POINTER);
-        let Some((flash, ram)) = self.reach.window(pc, sp) else {
+        let Some((flash, ram)) = self.reach.window(task, pc, sp) else {
             return 0;
         };
         self.glider.aim(self.processor, &flash, &ram, most);
@@ -411,7 +410,12 @@ impl Machine {
         {
             return 0;
         }
-        self.processor = self.glider.runner.processor;
-        self.glider.made
+        let made = self.glider.made;
+        if made > 0 {
+            self.processor = self.glider.runner.processor;
+            self.reach.kernel.set_current(task);
+            self.loaded = true;
+        }
+        made
     }
 }

@@ -181,12 +181,12 @@ fn ram_at(regions: &[Region], at: u32) -> Region
 }
 
 impl Reach {
-    /// The two regions in which the current task may make many instructions on end: that of the flash that has its PC, and that of
-    /// the RAM that has its stack, or an empty one.
-    pub fn window(&self, pc: u32, sp: u32) -> Option<(Region, Region)>
-        ensures { let regions = (setup_at (setup_of self.now.kernel) (current_of self.now.kernel)).regions in MatchOption result (list_any (is_flash_at pc) regions ≡ false) (λ w. AreReached regions pc sp w.0 w.1) }
+    /// The two regions in which a task may make many instructions on end: that of the flash that has its PC, and that of the RAM
+    /// that has its stack, or an empty one.
+    pub fn window(&self, task: usize, pc: u32, sp: u32) -> Option<(Region, Region)>
+        ensures { let regions = (setup_at (setup_of self.now.kernel) task).regions in MatchOption result (list_any (is_flash_at pc) regions ≡ false) (λ w. AreReached regions pc sp w.0 w.1) }
     {
-        let regions = self.kernel.regions(self.kernel.current());
+        let regions = self.kernel.regions(task);
         let flash = flash_at(regions, pc)?;
         Some((flash, ram_at(regions, sp)))
     }

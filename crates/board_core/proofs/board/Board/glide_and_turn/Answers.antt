@@ -64,7 +64,7 @@ either_way to until P Q before there = by (ltb to until) refl
     by false e = inl (there (ltb-false to until e))
 
 pub returns-then-self-limit-clause-needed : goal.returns-then-self-limit-clause-needed
-returns-then-self-limit-clause-needed boxes c = λ x s st task up lt.
+returns-then-self-limit-clause-needed boxes c = λ x s task st is up lt.
     let b = c.args.self.now in
     let b1 = c.glide.new.self in
     let b2 = c.turn_at.new.self in
@@ -73,8 +73,8 @@ returns-then-self-limit-clause-needed boxes c = λ x s st task up lt.
     let u : State = state_after Calls x n s in
     let e : n ≡ turns_of b2 - turns_of b - 1 = omega (arith, c.glide.ensures.more, c.turn_at.ensures.turns) in
     let made = c.glide.ensures.glided x s st in
-    subst (λ (k : ℕ). NeedsTurn x s (state_after Calls x k s)) e
-    (either_way (turns_of b1) until (IsFar x s.current s u) (events_of x.script u.turn ≢ []) (λ less. c.glide.ensures.far x s st task up less)
+    subst (λ (k : ℕ). NeedsTurn x task s (state_after Calls x k s)) e
+    (either_way (turns_of b1) until (IsFar x task s u) (events_of x.script u.turn ≢ []) (λ less. c.glide.ensures.far x s task st is up less)
     (λ over. due_now x s u b.due (turns_of b) (turns_of b1) until c.args.limit st.holds.due c.quiet_until.ensures.met st.holds.turns made.stands.holds.turns c.glide.ensures.within over (omega (arith, c.if-self-limit.true))))
 
 pub returns-then-self-limit-clause-idle : goal.returns-then-self-limit-clause-idle
