@@ -245,10 +245,10 @@ module _ {X : Type 0} {H : X → Type 0} (shown : Shows X H) (g : Setup) (m : Ma
     (pc_is : pc ≡ register t.state task program_counter) (sp_is : sp ≡ register t.state task stack_pointer)
     (processor_is : a.runner.processor ≡ m.processor) (flash_is : a.runner.window.flash_base ≡ flash.base) (readable_is : a.runner.window.readable ≡ flash.rights.read) (ram_is : a.runner.window.ram_base ≡ ram.base) (most_is : a.most ≡ most)
     (opened : IsWindowOpened HasWorked m.reach.kernel flash ram a b k') where
-  before : View
+  abbrev before : View
   before = lent_view a (bytes_at (memory_of m.reach.kernel) flash.base flash.size) (bytes_at (memory_of m.reach.kernel) ram.base ram.size)
 
-  left : View
+  abbrev left : View
   left = lent_view a (bytes_at (memory_of m.reach.kernel) flash.base flash.size) opened.window.after
 
   are : AreReached (setup_at g task).regions pc sp flash ram

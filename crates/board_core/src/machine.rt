@@ -1,5 +1,5 @@
 //! The kernel as the bus of its current task, and one instruction of that task.
-ghost use Rattle.std.specs.Prelude.{◌≡◌, ◌≢◌, ◌⊎◌, ◌&&◌, ◌+◌, ◌*◌, ◌≤◌, ◌<◌, ◌^◌, ◌/◌, [], Option, Some, true, false, fold, take, drop, slice_get, None};
+ghost use Rattle.std.specs.Prelude.{◌≡◌, ◌≢◌, ◌⊎◌, ◌&&◌, ◌+◌, ◌*◌, ◌≤◌, ◌<◌, ◌^◌, ◌/◌, [], length, Option, Some, true, false, fold, take, drop, slice_get, None};
 ghost use Rattle.run_script.specs.Events.{script_data};
 ghost use Rattle.run_script.specs.Scripts.{events_of};
 ghost use Rattle.task_table.specs.State.{Setup, Turn};

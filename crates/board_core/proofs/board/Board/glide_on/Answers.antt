@@ -1,4 +1,5 @@
 use Rattle.std.proofs.Common.{sym, ◌∙◌}
+use Rattle.task_table.specs.Start.{begun}
 use Rattle.board_model.proofs.TurnChains.{chosen_is}
 use Rattle.board_core.proofs.Loading.{below}
 use Rattle.board_core.proofs.Turning.{rested}
@@ -6,6 +7,7 @@ use Rattle.board_core.proofs.Windowing.{made_by}
 use Rattle.board_core.proofs.board.Board.glide_on.Goals as goal
 
 pub glide-requires : goal.glide-requires
+unfolding begun
 glide-requires boxes c =
     let b = c.args.self.now in
     let x = c.requires.stood.0 in

@@ -29,8 +29,8 @@ returns-then-not-open_window-clause-glided boxes c = λ g t r inside ready.
     let opened : c.open_window.result ≡ true = c.open_window.ensures.given c.args.task (are_usable _ _ _ _ _ c.in-Some.ensures) in
     absurd (false≢true (sym c.if-not-open_window.true ∙ opened))
 
-pub returns-then-made-clause-glided : goal.returns-then-made-clause-glided
-returns-then-made-clause-glided boxes c = λ g t r inside ready.
+pub returns-then-made-gt0-clause-glided : goal.returns-then-made-gt0-clause-glided
+returns-then-made-gt0-clause-glided boxes c = λ g t r inside ready.
     let m = c.take_context.new.self in
     let task = c.args.task in
     let h = c.take_context.ensures.taken g t r.holds inside ready in
@@ -38,10 +38,10 @@ returns-then-made-clause-glided boxes c = λ g t r inside ready.
     let sp = c.get-sp.ensures ∙ context_register _ stack_pointer g m task t h inside in
     let aim = c.aim.ensures in
     inl (has_run _ g m task c.args.most t _ _ _ _ c.aim.new.self c.open_window.new.user c.open_window.new.self h inside c.in-Some.ensures pc sp aim.processor aim.flash aim.readable aim.ram aim.most (c.open_window.ensures.opened c.if-not-open_window.false)
-    _ (omega (arith, c.if-made.true)) refl refl refl (λ u held. c.set_current.ensures.holds g u held))
+    _ (omega (arith, c.if-made-gt0.true)) refl refl refl (λ u held. c.set_current.ensures.holds g u held))
 
-pub returns-else-made-clause-glided : goal.returns-else-made-clause-glided
-returns-else-made-clause-glided boxes c = λ g t r inside ready.
+pub returns-else-made-gt0-clause-glided : goal.returns-else-made-gt0-clause-glided
+returns-else-made-gt0-clause-glided boxes c = λ g t r inside ready.
     let m = c.take_context.new.self in
     let task = c.args.task in
     let h = c.take_context.ensures.taken g t r.holds inside ready in
@@ -49,4 +49,4 @@ returns-else-made-clause-glided boxes c = λ g t r inside ready.
     let sp = c.get-sp.ensures ∙ context_register _ stack_pointer g m task t h inside in
     let aim = c.aim.ensures in
     inl (has_stayed _ g m task c.args.most t _ _ _ _ c.aim.new.self c.open_window.new.user c.open_window.new.self h inside c.in-Some.ensures pc sp aim.processor aim.flash aim.readable aim.ram aim.most (c.open_window.ensures.opened c.if-not-open_window.false)
-    _ (omega (arith, c.if-made.false)) refl refl refl (c.take_context.ensures.holds g t r.holds))
+    _ (omega (arith, c.if-made-gt0.false)) refl refl refl (c.take_context.ensures.holds g t r.holds))
