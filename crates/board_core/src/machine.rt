@@ -399,14 +399,14 @@ impl Machine {
         self.take_context(task);
         let pc = self.processor.regs.get(PROGRAM_COUNTER);
         let sp = self.processor.regs.get(STACK_POINTER);
-        let Some((flash, ram)) = self.reach.window(task, pc, sp) else {
+        let Some((flash, ram, area)) = self.reach.window(task, pc, sp) else {
             return 0;
         };
-        self.glider.aim(self.processor, &flash, &ram, most);
+        self.glider.aim(self.processor, &flash, &ram, &area, most);
         if !self
             .reach
             .kernel
-            .open_window(&flash, &ram, &mut self.glider)
+            .open_window(&flash, &ram, &area, &mut self.glider)
         {
             return 0;
         }
