@@ -1,6 +1,6 @@
 -- Instructions on end within a window of a task's memory are its turns.
 use Rattle.words_core.specs.Regs.{stack_pointer, program_counter}
-use Rattle.std.proofs.Common.{◌≡◌, ◌≢◌, inl, inr, ◌+◌, ◌-◌, ◌≤◌, ◌<◌, ℕ, zero, suc, Bool, true, false, not, cond, eqb, ◌||◌, ◌&&◌, List, [], ◌∷◌, length, Option, Some, None, refl, sym, ◌∙◌, ap, subst, arith, leb}
+use Rattle.std.proofs.Common.{◌≡◌, ◌≢◌, ◌⊎◌, inl, inr, ◌+◌, ◌-◌, ◌≤◌, ◌<◌, ℕ, zero, suc, Bool, true, false, not, cond, eqb, ◌||◌, ◌&&◌, List, [], ◌∷◌, length, Option, Some, None, refl, sym, ◌∙◌, ap, subst, arith, leb}
 use Rattle.std.specs.Prelude.{Contains, find}
 use Rattle.std.proofs.lemmas.Bool.{le-leb, leb-true, ltb-true, eq-eqb, false≢true}
 use Rattle.std.proofs.lemmas.List.{set-set}
@@ -161,11 +161,11 @@ some_same y z e = cc
 -- the first one that passes a test is one of them, and passes it
 found_first : (p : Region → Bool) (xs : List Region) (r : Region) → find p xs ≡ Some r → Contains xs r × (p r ≡ true)
 found_first p [] r e = absurd cc
-found_first p (x ∷ xs) r e = by (p x) refl e
+found_first p (x ∷ xs) r e = by (p x) refl (λ more. found_first p xs r more) e
   where
-    by : (b : Bool) → p x ≡ b → cond b (Some x) (find p xs) ≡ Some r → Contains (x ∷ xs) r × (p r ≡ true)
-    by true h same = let is : x ≡ r = some_same x r same in ((zero, omega arith, is), ap p (sym is) ∙ h)
-    by false h same = let rest = found_first p xs r same in ((suc rest.0.0, omega (arith, rest.0.1), rest.0.2), rest.1)
+    by : (b : Bool) → p x ≡ b → (find p xs ≡ Some r → Contains xs r × (p r ≡ true)) → cond b (Some x) (find p xs) ≡ Some r → Contains (x ∷ xs) r × (p r ≡ true)
+    by true h further same = let is : x ≡ r = some_same x r same in ((zero, omega arith, is), ap p (sym is) ∙ h)
+    by false h further same = let rest = further same in ((suc rest.0.0, omega (arith, rest.0.1), rest.0.2), rest.1)
 
 -- an area has rights of its own, and lies in the RAM
 further_at : (regions : List Region) (stack r : Region) → IsAreaRegion regions stack r → IsNoRegion (span_of r) ⊎ (Contains regions r × IsArea stack r)

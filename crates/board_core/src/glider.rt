@@ -96,9 +96,15 @@ impl WindowUser for Glider {
     fn work(&mut self, flash: &mut Vec<u8>, ram: &mut Vec<u8>, area: &mut Vec<u8>) {
         swap(&mut self.runner.window.flash, flash);
         swap(&mut self.runner.window.ram, ram);
-        swap(&mut self.runner.window.area, area);
-        self.made = self.glide();
-        swap(&mut self.runner.window.area, area);
+        if area.is_empty() {
+            // Most tasks have no area: then this is one store, where two swaps would be twelve.
+            self.runner.window.area.clear();
+            self.made = self.glide();
+        } else {
+            swap(&mut self.runner.window.area, area);
+            self.made = self.glide();
+            swap(&mut self.runner.window.area, area);
+        }
         swap(&mut self.runner.window.ram, ram);
         swap(&mut self.runner.window.flash, flash);
     }
