@@ -1,12 +1,12 @@
 -- What a window gives, the task's regions give too, and where it may be read it holds what memory holds.
-use Rattle.std.proofs.Common.{◌≡◌, ◌+◌, ◌-◌, ◌≤◌, ◌<◌, ℕ, zero, suc, Bool, true, false, not, cond, if◌then◌else◌, ◌&&◌, ◌||◌, List, length, take, drop, Some, None, refl, sym, ◌∙◌, ap, arith, leb, inl, inr, ◌⊎◌}
+use Rattle.std.proofs.Common.{◌≡◌, ◌+◌, ◌-◌, ◌≤◌, ◌<◌, ℕ, zero, suc, Bool, true, false, not, if◌then◌else◌, ◌&&◌, ◌||◌, List, length, take, drop, Some, None, refl, sym, ◌∙◌, ap, arith, leb, inl, inr, ◌⊎◌}
 use Rattle.std.proofs.lemmas.Bool.{leb-true, false≢true}
 use Rattle.region_check.specs.declared.Right.{Right}
 use Rattle.region_check.specs.declared.Right.TheVariants.{Read, Write, Execute}
 use Rattle.region_check.proofs.FirstBad.{find_range_none}
 use Rattle.mem_banks.specs.Memory.{Memory, number_of, number_at}
 use Rattle.thumb_exec.specs.Fetch.{WidensFetch}
-use Rattle.thumb_step.specs.Windows.{View, has, given, number_in, may_read, may_write, refused_by, held_by}
+use Rattle.thumb_step.specs.Windows.{View, has, given, number_in, refused_by, held_by}
 use Rattle.task_table.specs.Placed.{ArePlaced}
 use Rattle.task_table.specs.State.{Setup, State}
 use Rattle.board_model.specs.Turn.{may, refusals, is_device, held}

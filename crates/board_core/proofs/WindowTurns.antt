@@ -6,7 +6,7 @@ use Rattle.std.proofs.lemmas.List.{set-set, set-get_or, length-append, same_list
 use Rattle.kernel_abi.specs.declared.Fault.{Fault}
 use Rattle.kernel_abi.specs.Devices.{DeviceData}
 use Rattle.run_script.specs.Scripts.{events_of}
-use Rattle.mem_banks.specs.Memory.{Memory, bytes_at, with_bytes, pasted, is_ram}
+use Rattle.mem_banks.specs.Memory.{Memory, with_bytes, pasted, is_ram}
 use Rattle.mem_banks.proofs.Copies.{length-pasted, with_bytes_ram}
 use Rattle.words_core.specs.Regs.{reg_at}
 use Rattle.thumb_exec.specs.declared.cpu.Cpu.{Cpu}

@@ -11,7 +11,7 @@ use Rattle.region_check.specs.Rights.{gives, has_right, may_use}
 use Rattle.run_script.specs.Scripts.{ScriptData, IsNext, events_of}
 use Rattle.mem_banks.specs.Memory.{Memory, bytes_at, with_bytes}
 use Rattle.mem_banks.specs.Windows.{IsInMemory, IsInRam, IsInFlash, IsNoRegion, AreApart}
-use Rattle.mem_banks.proofs.Windows.{region_length, written_same, bytes_beside}
+use Rattle.mem_banks.proofs.Windows.{region_length, written_same}
 use Rattle.thumb_exec.specs.declared.cpu.Cpu.{Cpu}
 use Rattle.thumb_exec.specs.Effect.{Halts}
 use Rattle.thumb_exec.specs.Fetch.{step_effect}
@@ -22,7 +22,7 @@ use Rattle.task_table.specs.Reading.{setup_at, task_at, call_of, listen_of, is_r
 use Rattle.task_table.specs.Effects.{with_task, with_processor}
 use Rattle.task_table.specs.declared.kernel.Kernel.{Kernel}
 use Rattle.task_table.specs.Holds.{Holds, setup_of, memory_of, kept_of, note_count, notes_of as kernel_notes}
-use Rattle.task_table.specs.Openable.{AreUsable, IsUsableOrNone, span_of}
+use Rattle.task_table.specs.Openable.{AreUsable, span_of}
 use Rattle.task_table.specs.Window.{overlaid, IsWindowOpened}
 use Rattle.task_table.proofs.Changes.{task_at-with_task}
 use Rattle.task_table.proofs.Steps.{holds_turn}

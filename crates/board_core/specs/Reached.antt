@@ -1,5 +1,5 @@
 -- Which regions of a task make the window in which it goes on.
-use Rattle.std.specs.Prelude.{ℕ, ◌≡◌, ◌⊎◌, Bool, ◌&&◌, not, true, false, List, Contains, Option, Some, None, find, nat_le, nat_lt, nat_eq}
+use Rattle.std.specs.Prelude.{ℕ, ◌≡◌, ◌⊎◌, Bool, ◌&&◌, not, true, false, List, Contains, Some, None, find, nat_le, nat_lt, nat_eq}
 use Rattle.std.specs.List.{list_any}
 use Rattle.region_check.specs.declared.Region.{Region}
 use Rattle.region_check.specs.Spans.{spans}
