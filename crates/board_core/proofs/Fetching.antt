@@ -1,18 +1,23 @@
 -- The instruction that is fetched for the current task is the one of the turn.
 use Rattle.std.proofs.Common.{◌≡◌, ◌%◌, ℕ, List, sym, ◌∙◌, ap}
-use Rattle.std.specs.Prelude.{Result}
+use Rattle.std.specs.Prelude.{Result, Some}
 use Rattle.kernel_abi.specs.declared.Fault.{Fault}
 use Rattle.kernel_abi.specs.Devices.{DeviceData}
 use Rattle.thumb_exec.specs.declared.fetch.Fetched.{Fetched}
+use Rattle.thumb_exec.specs.Effect.{effect}
 use Rattle.thumb_exec.specs.Fetch.{fetched}
+use Rattle.task_table.specs.Rows.{syscall_noted}
+use Rattle.task_table.specs.Syscalls.{syscall_made}
 use Rattle.task_table.specs.Holds.{setup_of, current_of}
 use Rattle.mem_banks.specs.Memory.{Memory}
-use Rattle.task_table.specs.Reading.{register}
+use Rattle.task_table.specs.Reading.{register, task_at}
 use Rattle.task_table.specs.State.{Setup, Turn}
 use Rattle.board_core.specs.declared.machine.Machine.{Machine}
 use Rattle.board_model.specs.declared.outcomes.Level.{Level}
+use Rattle.board_model.specs.declared.outcomes.Level.TheVariants.{Calls}
+use Rattle.board_core.specs.Windowed.{IsCalling}
 use Rattle.board_core.specs.Machine.{IsReady, shown_by}
-use Rattle.board_model.specs.Turn.{refusals, held, stepped_by, stepped}
+use Rattle.board_model.specs.Turn.{refusals, held, stepped_by, stepped, with_current, with_registers_noted, turn_of}
 use Rattle.board_core.proofs.Gliding.{current_seen}
 use Rattle.board_core.proofs.Loading.{rest_of}
 use Rattle.board_core.proofs.Running.{held_in}
@@ -41,3 +46,10 @@ module _ {X : Type 0} {H : X → Type 0} (shown : Shows X H) (g : Setup) (m : Ma
   fetched_stepped level at x y is from same =
       ap (λ (z : Result Fetched Fault). stepped_by level g t.state.current at z t) (sym same ∙ from ∙ fetched_here at)
       ∙ ap (λ (a : ℕ). stepped_by level g t.state.current a (fetched (refusals g t.state.current) (held t.state) a) t) is
+
+-- the turn of a task that fetches a system call is that call
+pub call_turned : (g : Setup) (c : ℕ) (t : Turn) → IsCalling g c t.state → turn_of Calls g (Some c) t ≡ syscall_made g c (syscall_noted c (with_current c t))
+unfolding stepped with_registers_noted register task_at effect
+call_turned g c t h =
+    let at : ℕ = register t.state c 15 in
+    ap (λ (r : Result Fetched Fault). stepped_by Calls g c at r (with_current c t)) h.is

@@ -87,15 +87,14 @@ none_made shown x s b st =
     subst (λ (n : ℕ). HasGlidden shown x s n b) e record { stands = st; nothing = λ k lt. absurd (omega arith); goes_on = λ k lt. absurd (omega arith); notes = λ lt. absurd (omega arith) }
 
 -- turns none of which noted anything, and one more
-pub one_more : {X : Type 0} {H : X → Type 0} (shown : Shows X H) (x : Scenario) (n : ℕ) (s : State) (b b' : Board X H) → HasGlidden shown x s n b → ((u : State) → Stands shown x b u → Stands shown x b' (turn Calls x u).state) → ((u : State) → Stands shown x b u → notes_of b' ≡ (turn Calls x u).notes) → IsAdvanced shown Calls x n s b'
+pub one_more : {X : Type 0} {H : X → Type 0} (shown : Shows X H) (x : Scenario) (n : ℕ) (s : State) (b b' : Board X H) → HasGlidden shown x s n b → Stands shown x b' (turn Calls x (state_after Calls x n s)).state → notes_of b' ≡ (turn Calls x (state_after Calls x n s)).notes → IsAdvanced shown Calls x n s b'
 one_more shown x n s b b' h stands notes =
-    let u : State = state_after Calls x n s in
-    let last : turn Calls x u ≡ turn_after Calls x n s = sym (last_turn Calls x n s) in
+    let last : turn Calls x (state_after Calls x n s) ≡ turn_after Calls x n s = sym (last_turn Calls x n s) in
     record {
       nothing = h.nothing;
       goes_on = h.goes_on;
-      stands = subst (λ (t : Turn). Stands shown x b' t.state) last (stands u h.stands);
-      notes = notes u h.stands ∙ ap (λ (t : Turn). t.notes) last;
+      stands = subst (λ (t : Turn). Stands shown x b' t.state) last stands;
+      notes = notes ∙ ap (λ (t : Turn). t.notes) last;
     }
 
 -- the last of them is the one more

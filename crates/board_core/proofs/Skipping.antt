@@ -15,11 +15,13 @@ use Rattle.board_model.specs.declared.outcomes.Level.TheVariants.{Calls}
 use Rattle.board_model.specs.Script.{Scenario}
 use Rattle.board_model.specs.Turn.{turn, turn_of, ended, after_events}
 use Rattle.board_model.specs.Run.{ending, is_down, turn_after, state_after}
-use Rattle.board_model.proofs.Outside.{no_event}
+use Rattle.board_model.proofs.Outside.{no_event, begun_state}
 use Rattle.board_model.proofs.Further.{last_turn}
-use Rattle.board_core.specs.Machine.{MachineHolds}
+use Rattle.board_core.specs.Machine.{MachineHolds, IsNext as IsNext-machine}
 use Rattle.board_core.specs.Stands.{Stands, notes_of, turns_of}
-use Rattle.board_core.specs.Advanced.{HasGlidden}
+use Rattle.board_core.specs.Advanced.{HasGlidden, IsCall}
+use Rattle.board_core.specs.Windowed.{IsCalling}
+use Rattle.board_core.specs.Midway.{IsMidway}
 use Rattle.board_core.specs.Skipped.{IsIdleUntil}
 use Rattle.board_core.proofs.Turning.{HasTurned, as_chosen, noted_in}
 use Rattle.board_core.proofs.Gliding.{midway_now, stands_so}
@@ -179,3 +181,26 @@ due_now x s u due from to until limit next met began is within over less =
     let now : IsNext x.script s.turn (Some until) = subst (λ (d : Option ℕ). IsNext x.script s.turn d) (met (omega (arith, over, less))) next in
     let e : until ≡ u.turn = let below = within (omega (arith, began, now.0)) in omega (arith, below, over, is) in
     subst (λ (n : ℕ). events_of x.script n ≢ []) e now.2
+
+-- ## a system call that is made without a second fetch
+
+-- a board whose turn has begun, in which a task makes a call
+pub record IsCallNow {X : Type 0} {H : X → Type 0} (shown : Shows X H) (x : Scenario) (s : State) (b : Board X H) (task : ℕ) : Type 0 where
+  pub midway : IsMidway shown x b s
+  pub next : IsNext-machine shown x.setup b.machine (after_events x s) (Some task)
+  pub calling : IsCalling x.setup task (after_events x s).state
+
+pub call_now : {X : Type 0} {H : X → Type 0} (shown : Shows X H) (x : Scenario) (s : State) (b : Board X H) (m : Machine X H) (task : ℕ) → Stands shown x b s → IsCall x s task → turns_of b < 1000000000 → MachineHolds shown x.setup m (begun s) → IsCallNow shown x s record b { machine = m } task
+call_now {X} {H} shown x s b0 m task st0 call few holds =
+    let b : Board X H = record b0 { machine = m } in
+    let st : Stands shown x b s = begun_board shown x s b0 m st0 holds in
+    let at = st0.holds.turns in
+    let same : (after_events x s).state ≡ s = ap (λ (t : Turn). t.state) (sym (no_event x s call.nothing)) ∙ begun_state s in
+    let quiet : (turn : ℕ) → s.turn ≤ turn → turn < s.turn + 1 → events_of x.script turn ≡ [] = λ turn from below. let is : s.turn ≡ turn = omega (arith, from, below) in subst (λ (n : ℕ). events_of x.script n ≡ []) is call.nothing in
+    let later : b.due ≢ Some (turns_of b) = not_due x.script s.turn (s.turn + 1) b.due st.holds.due quiet (turns_of b) (omega (arith, at)) in
+    let mid = midway_now shown x s b st (quiet_begun shown x s m holds) later few in
+    record {
+      midway = mid;
+      next = record { stands = mid.machine; is = sym call.chosen ∙ ap (chosen x.setup) (sym same) };
+      calling = subst (λ (u : State). IsCalling x.setup task u) (sym same) call.calling;
+    }

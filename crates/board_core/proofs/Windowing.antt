@@ -1,7 +1,7 @@
 -- Instructions on end within a window of a task's memory are its turns.
-use Rattle.words_core.specs.Regs.{stack_pointer, program_counter}
+use Rattle.words_core.specs.Regs.{reg_at, stack_pointer, program_counter}
 use Rattle.std.proofs.Common.{◌≡◌, ◌≢◌, ◌⊎◌, inl, inr, ◌+◌, ◌-◌, ◌≤◌, ◌<◌, ℕ, zero, suc, Bool, true, false, not, cond, eqb, ◌||◌, ◌&&◌, List, [], ◌∷◌, length, Option, Some, None, refl, sym, ◌∙◌, ap, subst, arith, leb}
-use Rattle.std.specs.Prelude.{Contains, find}
+use Rattle.std.specs.Prelude.{Contains, Ok, find}
 use Rattle.std.proofs.lemmas.Bool.{le-leb, leb-true, ltb-true, eq-eqb, false≢true}
 use Rattle.std.proofs.lemmas.List.{set-set}
 use Rattle.region_check.specs.declared.Region.{Region}
@@ -14,8 +14,10 @@ use Rattle.mem_banks.specs.Windows.{IsInMemory, IsInRam, IsInFlash, IsNoRegion, 
 use Rattle.mem_banks.proofs.Windows.{region_length, written_same}
 use Rattle.thumb_exec.specs.declared.cpu.Cpu.{Cpu}
 use Rattle.thumb_exec.specs.Effect.{Halts}
-use Rattle.thumb_exec.specs.Fetch.{step_effect}
-use Rattle.thumb_step.specs.Windows.{View, Glides, refused_by, held_by}
+use Rattle.thumb_exec.specs.Fetch.{fetched, step_effect}
+use Rattle.thumb_insn.specs.declared.Insn.TheVariants.{Svc}
+use Rattle.thumb_step.specs.Windows.{View, Glides, IsAtSyscall, is_at_syscall, refused_by, held_by}
+use Rattle.thumb_step.proofs.Widening.{fetched_wider}
 use Rattle.task_table.specs.State.{Setup, State, Task, Turn}
 use Rattle.task_table.specs.Start.{begun}
 use Rattle.task_table.specs.Reading.{setup_at, task_at, call_of, listen_of, is_ready, chosen, register}
@@ -28,13 +30,14 @@ use Rattle.task_table.proofs.Changes.{task_at-with_task}
 use Rattle.task_table.proofs.Steps.{holds_turn}
 use Rattle.board_model.specs.declared.outcomes.Level.TheVariants.{Calls}
 use Rattle.board_model.specs.Script.{Scenario}
-use Rattle.board_model.specs.Turn.{may, cpu_of, with_current}
+use Rattle.board_model.specs.Turn.{may, refusals, held, cpu_of, with_current}
 use Rattle.board_model.specs.Run.{ending, is_down, state_after}
 use Rattle.board_model.proofs.Outside.{due_later}
 use Rattle.board_model.proofs.TurnChains.{chosen_is}
 use Rattle.board_core.specs.Reached.{is_flash_at, is_ram_at, is_area, IsStackRegion, IsAreaRegion, AreReached}
 use Rattle.board_core.specs.Windowed.{IsWindow, IsWholeWindow, IsAtEnd, MustStop, AreTurns, runner, later, with_window}
 use Rattle.board_core.proofs.WindowTurns.{are_turns, window_then}
+use Rattle.board_core.proofs.WindowCovers.{widens}
 use Rattle.board_core.specs.declared.machine.Machine.{Machine}
 use Rattle.board_core.specs.declared.reach.Reach.{Reach}
 use Rattle.board_core.specs.Machine.{IsLoaded, HasContext, MachineHolds, MachineStands, with_cpu}
@@ -42,7 +45,7 @@ use Rattle.board_core.specs.declared.glider.Glider.{Glider}
 use Rattle.board_core.specs.Gliding.{lent_view, HasWorked, IsGlided, HasGlided}
 use Rattle.board_core.specs.declared.board.Board.{Board}
 use Rattle.board_core.specs.Stands.{Stands, turns_of}
-use Rattle.board_core.specs.Advanced.{HasGlidden}
+use Rattle.board_core.specs.Advanced.{HasGlidden, IsCall}
 use Rattle.board_core.proofs.Loading.{rest_of, context_cpu, context_memory, loaded_by, same_held}
 use Rattle.region_check.proofs.Spanning.{both}
 use Rattle.region_check.specs.Spans.{spans}
@@ -351,8 +354,15 @@ module _ {X : Type 0} {H : X → Type 0} (shown : Shows X H) (g : Setup) (m : Ma
   far_here : b.made < most → Halts (step_effect (refused_by left) (held_by left) b.runner.processor)
   far_here lt = opened.window.work.far (flash_below g task (memory_of m.reach.kernel) pc sp flash ram area before are flash_is readable_is ram_is area_is writable_is opened.window.flash_there opened.window.ram_there opened.window.area_there opened.window.area_apart.1 refl refl refl) (omega (arith, lt, most_is))
 
+  calls_here : (b.at_syscall ≡ true → b.made < most) × (b.at_syscall ≡ true → IsAtSyscall left b.runner.processor) × (b.made < most → b.at_syscall ≡ is_at_syscall left b.runner.processor)
+  calls_here = (
+    λ e. let lt = opened.window.work.short e in omega (arith, lt, most_is),
+    opened.window.work.calls,
+    λ lt. opened.window.work.told (flash_below g task (memory_of m.reach.kernel) pc sp flash ram area before are flash_is readable_is ram_is area_is writable_is opened.window.flash_there opened.window.ram_there opened.window.area_there opened.window.area_apart.1 refl refl refl) (omega (arith, lt, most_is)),
+  )
+
   -- instructions were made: the task is the current one from now on
-  pub has_run : (m' : Machine X H) → 0 < b.made → m'.loaded ≡ true → m'.processor ≡ b.runner.processor → m'.reach.devices ≡ m.reach.devices → ((u : Turn) → Holds g k' u → Holds g m'.reach.kernel (with_current task u)) → IsGlided shown g m' task t most b.made
+  pub has_run : (m' : Machine X H) → 0 < b.made → m'.loaded ≡ true → m'.processor ≡ b.runner.processor → m'.reach.devices ≡ m.reach.devices → ((u : Turn) → Holds g k' u → Holds g m'.reach.kernel (with_current task u)) → IsGlided shown g m' task t most b.made b.at_syscall
   has_run m' some loaded processor same f =
       let G : Cpu → Type 0 = λ y. Glides before (cpu_of (task_at t.state task)) b.made left y in
       let F : Cpu → Type 0 = λ y. b.made < most → Halts (step_effect (refused_by left) (held_by left) y) in
@@ -363,6 +373,9 @@ module _ {X : Type 0} {H : X → Type 0} (shown : Shows X H) (g : Setup) (m : Ma
         whole = whole_here;
         glides = subst G (sym processor) glides_here;
         far = subst F (sym processor) far_here;
+        short = calls_here.0;
+        calling = λ e. subst (λ (y : Cpu). IsAtSyscall left y) (sym processor) (calls_here.1 e);
+        told = λ lt. calls_here.2 lt ∙ ap (is_at_syscall left) (sym processor);
         stays = λ none. absurd (omega (arith, some, none));
         goes = λ lt. loaded_by shown m'.loaded g m'.reach m'.processor _ loaded (subst (λ (at : ℕ). L at before.area_base) (sym ram_is) (subst (λ (by : ℕ). L ram.base by) (sym area_is) (lent_loaded shown g m m'.reach m'.processor task t ram.base area.base opened.window.after opened.window.area_after b.made h inside same (λ u held. f (overlaid area.base opened.window.area_after (overlaid ram.base opened.window.after u)) (opened.holds g u held)))));
       }
@@ -371,7 +384,7 @@ module _ {X : Type 0} {H : X → Type 0} (shown : Shows X H) (g : Setup) (m : Ma
   none_here e = (ap (λ (v : View). v.ram) e.0, ap (λ (v : View). v.area) e.0, e.1 ∙ sym (context_cpu shown g m task t h inside))
 
   -- none was made: all is as it was
-  pub has_stayed : (m' : Machine X H) → b.made ≡ 0 → m'.loaded ≡ m.loaded → m'.processor ≡ m.processor → m'.reach ≡ record m.reach { kernel = k' } → MachineHolds shown g m t → IsGlided shown g m' task t most b.made
+  pub has_stayed : (m' : Machine X H) → b.made ≡ 0 → m'.loaded ≡ m.loaded → m'.processor ≡ m.processor → m'.reach ≡ record m.reach { kernel = k' } → MachineHolds shown g m t → IsGlided shown g m' task t most b.made b.at_syscall
   has_stayed m' none loaded processor reach holds =
       let N : ℕ → Type 0 = λ n. Glides before (cpu_of (task_at t.state task)) n left b.runner.processor in
       let same = none_here (subst N none glides_here) in
@@ -385,6 +398,9 @@ module _ {X : Type 0} {H : X → Type 0} (shown : Shows X H) (g : Setup) (m : Ma
         whole = whole_here;
         glides = subst G own glides_here;
         far = subst F own far_here;
+        short = calls_here.0;
+        calling = λ e. subst (λ (y : Cpu). IsAtSyscall left y) own (calls_here.1 e);
+        told = λ lt. calls_here.2 lt ∙ ap (is_at_syscall left) own;
         stays = λ e. rw (loaded, processor, reach) (same_held shown m.loaded g m.reach record m.reach { kernel = k' } m.processor t refl f holds);
         goes = λ lt. absurd (omega (arith, lt, none));
       }
@@ -402,11 +418,12 @@ due_later_on script turn (suc n) due next ne =
 -- ## turns on end of the task that is chosen
 
 -- a board after n turns within a window, and why there were no more
-pub record IsMade {X : Type 0} {H : X → Type 0} (shown : Shows X H) (x : Scenario) (u : State) (task until : ℕ) (b b' : Board X H) : Type 0 where
+pub record IsMade {X : Type 0} {H : X → Type 0} (shown : Shows X H) (x : Scenario) (u : State) (task until : ℕ) (b b' : Board X H) (calls : Bool) : Type 0 where
   pub glidden : HasGlidden shown x u (turns_of b' - turns_of b) b'
-  pub far : turns_of b' < until → MustStop x.setup task (register u task program_counter) (register u task stack_pointer) (state_after Calls x (turns_of b' - turns_of b) u)
+  pub far : turns_of b' < until → MustStop x.setup task (register u task program_counter) (register u task stack_pointer) (state_after Calls x (turns_of b' - turns_of b) u) calls
+  pub call : calls ≡ true → IsCall x (state_after Calls x (turns_of b' - turns_of b) u) task
 
-module _ {X : Type 0} {H : X → Type 0} (shown : Shows X H) (x : Scenario) (u : State) (b : Board X H) (m : Machine X H) (task most n until : ℕ)
+module _ {X : Type 0} {H : X → Type 0} (shown : Shows X H) (x : Scenario) (u : State) (b : Board X H) (m : Machine X H) (task most n until : ℕ) (calls : Bool)
     (st : Stands shown x b u) (next : b.choice.next ≡ Some task) (up : b.choice.down ≡ false)
     (few : until ≤ 1000000000) (within : turns_of b + n ≤ until) (later_due : (turn : ℕ) → turn < until → b.due ≢ Some turn)
     (none : kernel_notes m.reach.kernel ≡ []) where
@@ -437,11 +454,11 @@ module _ {X : Type 0} {H : X → Type 0} (shown : Shows X H) (x : Scenario) (u :
         notes = λ lt. none;
       }
 
-  turns_are : (h : IsGlided shown x.setup m task (rested b.machine u) most n) → AreTurns x u task h.window n h.after m.processor
+  turns_are : (h : IsGlided shown x.setup m task (rested b.machine u) most n calls) → AreTurns x u task h.window n h.after m.processor
   turns_are h = are_turns x u task h.window st.sane is_chosen h.whole.is n h.after m.processor nothing h.glides
 
   -- what the machine holds then
-  held_after : (h : IsGlided shown x.setup m task (rested b.machine u) most n) → MachineHolds shown x.setup m (rested b.machine (state_after Calls x n u))
+  held_after : (h : IsGlided shown x.setup m task (rested b.machine u) most n calls) → MachineHolds shown x.setup m (rested b.machine (state_after Calls x n u))
   unfolding state_after
   held_after h = by n refl h.stays h.goes (turns_are h).state
     where
@@ -450,7 +467,7 @@ module _ {X : Type 0} {H : X → Type 0} (shown : Shows X H) (x : Scenario) (u :
       by zero e stays goes is = stays refl
       by (suc k) e stays goes is = subst (λ (y : State). MachineHolds shown x.setup m (rested b.machine y)) (sym is) (goes (omega arith))
 
-  made : IsGlided shown x.setup m task (rested b.machine u) most n → HasGlidden shown x u n record b { machine = m; turns = turns_of b + n }
+  made : IsGlided shown x.setup m task (rested b.machine u) most n calls → HasGlidden shown x u n record b { machine = m; turns = turns_of b + n }
   unfolding ending state_after
   made h =
       let are = turns_are h in
@@ -487,12 +504,12 @@ module _ {X : Type 0} {H : X → Type 0} (shown : Shows X H) (x : Scenario) (u :
           let down : is_down (state_after Calls x k u) ≡ false = same ∙ sym st.holds.choice.down ∙ up in
           rw (down, some) refl
 
-  has_glidden : HasGlided shown x.setup m task (rested b.machine u) most n → HasGlidden shown x u n record b { machine = m; turns = turns_of b + n }
+  has_glidden : HasGlided shown x.setup m task (rested b.machine u) most n calls → HasGlidden shown x u n record b { machine = m; turns = turns_of b + n }
   has_glidden (inl h) = made h
   has_glidden (inr h) = stayed h.none h.holds
 
   -- the window that is left is of the same regions
-  at_end : (h : IsGlided shown x.setup m task (rested b.machine u) most n) → n < most → IsAtEnd x.setup task (register u task program_counter) (register u task stack_pointer) (state_after Calls x n u)
+  at_end : (h : IsGlided shown x.setup m task (rested b.machine u) most n calls) → n < most → IsAtEnd x.setup task (register u task program_counter) (register u task stack_pointer) (state_after Calls x n u) calls
   at_end h lt =
       let left = window_then x u task h.window st.sane is_chosen h.whole.is n h.after m.processor nothing h.glides in
       let same = left.keeps in
@@ -511,18 +528,40 @@ module _ {X : Type 0} {H : X → Type 0} (shown : Shows X H) (x : Scenario) (u :
           writable = same.area_writable ∙ h.whole.writable;
         };
         halts = subst (λ (d : Cpu). Halts (step_effect (refused_by h.after) (held_by h.after) d)) (sym left.processor) (h.far lt);
+        told = h.told lt ∙ ap (is_at_syscall h.after) (sym left.processor);
       }
 
-  must_stop : HasGlided shown x.setup m task (rested b.machine u) most n → n < most → MustStop x.setup task (register u task program_counter) (register u task stack_pointer) (state_after Calls x n u)
+  must_stop : HasGlided shown x.setup m task (rested b.machine u) most n calls → n < most → MustStop x.setup task (register u task program_counter) (register u task stack_pointer) (state_after Calls x n u) calls
   unfolding state_after
   must_stop (inl h) lt = inl (at_end h lt)
-  must_stop (inr h) lt = inr (rw h.none h.beyond)
+  must_stop (inr h) lt = inr (rw h.none h.beyond, h.no_call)
+
+  -- at a system call the next turn is that call
+  is_call : HasGlided shown x.setup m task (rested b.machine u) most n calls → turns_of b + most ≡ until → calls ≡ true → IsCall x (state_after Calls x n u) task
+  unfolding register
+  is_call (inl h) all e =
+      let are = turns_are h in
+      let v : State = state_after Calls x n u in
+      let left = window_then x u task h.window st.sane is_chosen h.whole.is n h.after m.processor nothing h.glides in
+      let call = h.calling e in
+      let turns : v.turn ≡ u.turn + n = ap (λ (y : State). y.turn) are.state in
+      let wide = fetched_wider (refused_by h.after) (refusals x.setup task) (held_by h.after) (held v) (widens x.setup task v h.after left.window are.sane.steady.placed) (reg_at m.processor.regs 15) _ call.is in
+      record {
+        chosen = are.chosen n (omega arith);
+        nothing = ap (events_of x.script) turns ∙ (let at = st.holds.turns in let lt = h.short e in quiet_before x.script u.turn until b.due st.holds.due later_due few (u.turn + n) (omega arith) (omega (arith, at, lt, all)));
+        calling = record {
+          value = call.value;
+          code = call.code;
+          is = subst (λ (d : Cpu). fetched (refusals x.setup task) (held v) (reg_at d.regs 15) ≡ Ok record { insn = Svc call.value; code = call.code }) (sym left.processor) wide;
+        };
+      }
+  is_call (inr h) all e = absurd (false≢true (sym h.no_call ∙ e))
 
 -- the same of a board once its machine's turn has begun
-pub made_by : {X : Type 0} {H : X → Type 0} (shown : Shows X H) (x : Scenario) (u : State) (b : Board X H) (m m' : Machine X H) (task n until : ℕ) → Stands shown x b u → MachineHolds shown x.setup m (begun u) → b.choice.next ≡ Some task → b.choice.down ≡ false → until ≤ 1000000000 →
+pub made_by : {X : Type 0} {H : X → Type 0} (shown : Shows X H) (x : Scenario) (u : State) (b : Board X H) (m m' : Machine X H) (task n until : ℕ) (calls : Bool) → Stands shown x b u → MachineHolds shown x.setup m (begun u) → b.choice.next ≡ Some task → b.choice.down ≡ false → until ≤ 1000000000 →
     turns_of b < until → n ≤ until - turns_of b → ((turn : ℕ) → turn < until → b.due ≢ Some turn) → note_count m'.reach.kernel ≡ note_count m.reach.kernel →
-    ((g : Setup) (t : Turn) → MachineStands shown g m t → task < length t.state.tasks → is_ready t.state task ≡ true → HasGlided shown g m' task t (until - turns_of b) n) → IsMade shown x u task until b record b { machine = m'; turns = turns_of b + n }
-made_by {X} {H} shown x u b0 m m' task n until st0 holds next up few left within later_due count glided =
+    ((g : Setup) (t : Turn) → MachineStands shown g m t → task < length t.state.tasks → is_ready t.state task ≡ true → HasGlided shown g m' task t (until - turns_of b) n calls) → IsMade shown x u task until b record b { machine = m'; turns = turns_of b + n } calls
+made_by {X} {H} shown x u b0 m m' task n until calls st0 holds next up few left within later_due count glided =
     let b : Board X H = record b0 { machine = m } in
     let b' : Board X H = record b0 { machine = m'; turns = turns_of b0 + n } in
     let st : Stands shown x b u = begun_board shown x u b0 m st0 holds in
@@ -533,8 +572,9 @@ made_by {X} {H} shown x u b0 m m' task n until st0 holds next up few left within
     let h = glided x.setup (rested m u) record { holds = st.holds.machine; sane = st.sane } is.inside is.ready in
     let e : n ≡ turns_of b0 + n - turns_of b0 = omega arith in
     record {
-      glidden = subst (λ (k : ℕ). HasGlidden shown x u k b') e (has_glidden shown x u b m' task most n until st next up few over later_due none h);
+      glidden = subst (λ (k : ℕ). HasGlidden shown x u k b') e (has_glidden shown x u b m' task most n until calls st next up few over later_due none h);
       far = λ lt.
-          let stop = must_stop shown x u b m' task most n until st next up few over later_due none h (omega (arith, lt)) in
-          subst (λ (k : ℕ). MustStop x.setup task (register u task program_counter) (register u task stack_pointer) (state_after Calls x k u)) e stop;
+          let stop = must_stop shown x u b m' task most n until calls st next up few over later_due none h (omega (arith, lt)) in
+          subst (λ (k : ℕ). MustStop x.setup task (register u task program_counter) (register u task stack_pointer) (state_after Calls x k u) calls) e stop;
+      call = λ yes. subst (λ (k : ℕ). IsCall x (state_after Calls x k u) task) e (is_call shown x u b m' task most n until calls st next up few over later_due none h (omega (arith, left)) yes);
     }

@@ -1,6 +1,6 @@
 -- Several turns on end, of which only the last may note anything.
 use Rattle.words_core.specs.Regs.{stack_pointer, program_counter}
-use Rattle.std.specs.Prelude.{ℕ, ◌≡◌, ◌≢◌, ◌⊎◌, ◌<◌, ◌-◌, [], None, Some, true, false}
+use Rattle.std.specs.Prelude.{ℕ, Bool, ◌≡◌, ◌≢◌, ◌⊎◌, ◌<◌, ◌-◌, [], None, Some, true, false}
 use Rattle.task_table.specs.State.{State}
 use Rattle.task_table.specs.Reading.{register, chosen}
 use Rattle.run_script.specs.Scripts.{events_of, lasts}
@@ -9,7 +9,7 @@ use Rattle.board_model.specs.declared.outcomes.Level.{Level}
 use Rattle.board_model.specs.declared.outcomes.Level.TheVariants.{Calls}
 use Rattle.board_model.specs.Script.{Scenario}
 use Rattle.board_model.specs.Run.{ending, turn_after, state_after}
-use Rattle.board_core.specs.Windowed.{MustStop}
+use Rattle.board_core.specs.Windowed.{MustStop, IsCalling}
 use Rattle.board_core.specs.Stands.{Stands, notes_of, turns_of}
 use Rattle.board_core.specs.Data.{Shows}
 
@@ -32,9 +32,15 @@ pub record HasGlidden {X : Type 0} {H : X → Type 0} (shown : Shows X H) (x : S
 abbrev pub IsStopped : Scenario → State → Type 0
 IsStopped x s = (events_of x.script s.turn ≢ []) ⊎ (ending x 1 s ≢ None)
 
--- a task that runs from a state goes no further the fast way than to another one
-abbrev pub IsFar : Scenario → ℕ → State → State → Type 0
-IsFar x c s u = MustStop x.setup c (register s c program_counter) (register s c stack_pointer) u
+-- a task that runs from a state goes no further the fast way than to another one, where it is known or not to make a system call
+abbrev pub IsFar : Scenario → ℕ → State → State → Bool → Type 0
+IsFar x c s u calls = MustStop x.setup c (register s c program_counter) (register s c stack_pointer) u calls
+
+-- the task that is chosen makes a system call, and nothing happens from outside
+pub record IsCall (x : Scenario) (s : State) (c : ℕ) : Type 0 where
+  pub chosen : chosen x.setup s ≡ Some c
+  pub nothing : events_of x.script s.turn ≡ []
+  pub calling : IsCalling x.setup c s
 
 -- the state that a board has come to from another one, and that before its last turn
 abbrev pub state_now : {X : Type 0} {H : X → Type 0} → Scenario → Board X H → State → Board X H → State
@@ -45,19 +51,23 @@ state_before x old s new = state_after Calls x (turns_of new - turns_of old - 1)
 
 -- the next turn of the task that is chosen from a state on is a whole one: something happens in it, or the fast way ends
 abbrev pub NeedsTurn : Scenario → ℕ → State → State → Type 0
-NeedsTurn x c s u = (events_of x.script u.turn ≢ []) ⊎ IsFar x c s u
+NeedsTurn x c s u = (events_of x.script u.turn ≢ []) ⊎ ((calls : Bool) × IsFar x c s u calls)
 
 -- the task that is chosen went on to turn `until`, or as far as the fast way goes
-abbrev pub WentFar : {X : Type 0} {H : X → Type 0} → Shows X H → ℕ → Board X H → Board X H → Type 0
-WentFar shown until old new =
+abbrev pub WentFar : {X : Type 0} {H : X → Type 0} → Shows X H → ℕ → Board X H → Board X H → Bool → Type 0
+WentFar shown until old new calls =
     (x : Scenario) (s : State) (c : ℕ) → Stands shown x old s → chosen x.setup s ≡ Some c → old.choice.down ≡ false →
-    turns_of new < until → IsFar x c s (state_now x old s new)
+    turns_of new < until → IsFar x c s (state_now x old s new) calls
 
 -- the same of a task that is known to be the one
-abbrev pub WentFarOn : {X : Type 0} {H : X → Type 0} → Shows X H → ℕ → ℕ → Board X H → Board X H → Type 0
-WentFarOn shown task until old new =
+abbrev pub WentFarOn : {X : Type 0} {H : X → Type 0} → Shows X H → ℕ → ℕ → Board X H → Board X H → Bool → Type 0
+WentFarOn shown task until old new calls =
     (x : Scenario) (s : State) → Stands shown x old s →
-    turns_of new < until → IsFar x task s (state_now x old s new)
+    turns_of new < until → IsFar x task s (state_now x old s new) calls
+
+-- then it makes a system call
+abbrev pub IsToCall : {X : Type 0} {H : X → Type 0} → Shows X H → ℕ → Board X H → Board X H → Type 0
+IsToCall shown task old new = (x : Scenario) (s : State) → Stands shown x old s → IsCall x (state_now x old s new) task
 
 -- the last turn had to be a whole one
 abbrev pub NeededTurn : {X : Type 0} {H : X → Type 0} → Shows X H → ℕ → Board X H → Board X H → Type 0

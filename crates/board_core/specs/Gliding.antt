@@ -1,10 +1,10 @@
 -- Instructions on end within a window of a task's memory.
 use Rattle.words_core.specs.Regs.{stack_pointer, program_counter}
-use Rattle.std.specs.Prelude.{ℕ, ◌≡◌, ◌⊎◌, ◌+◌, ◌≤◌, ◌<◌, List, length, false}
+use Rattle.std.specs.Prelude.{ℕ, ◌≡◌, ◌⊎◌, ◌+◌, ◌≤◌, ◌<◌, Bool, List, length, true, false}
 use Rattle.std.specs.List.{list_any}
 use Rattle.thumb_exec.specs.Effect.{Halts}
 use Rattle.thumb_exec.specs.Fetch.{step_effect}
-use Rattle.thumb_step.specs.Windows.{View, Glides, refused_by, held_by}
+use Rattle.thumb_step.specs.Windows.{View, Glides, IsAtSyscall, is_at_syscall, refused_by, held_by}
 use Rattle.task_table.specs.State.{Setup, Turn}
 use Rattle.task_table.specs.Reading.{task_at, setup_at, register}
 use Rattle.board_model.specs.Turn.{cpu_of}
@@ -35,23 +35,31 @@ pub record HasWorked (a : Glider) (flash ram area : List ℕ) (b : Glider) (afte
   pub within : b.made ≤ a.most
   -- it stopped before that many only where the next one is a system call, faults or reaches elsewhere
   pub far : a.runner.window.flash_base + length flash ≤ a.runner.window.ram_base → b.made < a.most → Halts (step_effect (refused_by (lent_view a flash after area_after)) (held_by (lent_view a flash after area_after)) b.runner.processor)
+  -- at a system call where it says so, and it says so where it did
+  pub short : b.at_syscall ≡ true → b.made < a.most
+  pub calls : b.at_syscall ≡ true → IsAtSyscall (lent_view a flash after area_after) b.runner.processor
+  pub told : a.runner.window.flash_base + length flash ≤ a.runner.window.ram_base → b.made < a.most → b.at_syscall ≡ is_at_syscall (lent_view a flash after area_after) b.runner.processor
 
--- n instructions on end of a task within a window, of which as many go on as there may be. Where there were some, the task
--- is the current one.
-pub record IsGlided {X : Type 0} {H : X → Type 0} (shown : Shows X H) (g : Setup) (m : Machine X H) (c : ℕ) (t : Turn) (most n : ℕ) : Type 0 where
+-- n instructions on end of a task within a window, of which as many go on as there may be, and whether the next one is known to
+-- be a system call. Where there were some, the task is the current one.
+pub record IsGlided {X : Type 0} {H : X → Type 0} (shown : Shows X H) (g : Setup) (m : Machine X H) (c : ℕ) (t : Turn) (most n : ℕ) (calls : Bool) : Type 0 where
   pub window : View
   pub after : View
   pub whole : IsWholeWindow g c t.state.memory (register t.state c program_counter) (register t.state c stack_pointer) window
   pub glides : Glides window (cpu_of (task_at t.state c)) n after m.processor
   pub far : n < most → Halts (step_effect (refused_by after) (held_by after) m.processor)
+  pub short : calls ≡ true → n < most
+  pub calling : calls ≡ true → IsAtSyscall after m.processor
+  pub told : n < most → calls ≡ is_at_syscall after m.processor
   pub stays : n ≡ 0 → MachineHolds shown g m t
   pub goes : 0 < n → MachineHolds shown g m record t { state = later record t.state { current = c } c m.processor (with_window t.state.memory window after) n }
 
 -- none, since the task fetches from no region of the flash
-pub record HasNoWindow {X : Type 0} {H : X → Type 0} (shown : Shows X H) (g : Setup) (m : Machine X H) (c : ℕ) (t : Turn) (n : ℕ) : Type 0 where
+pub record HasNoWindow {X : Type 0} {H : X → Type 0} (shown : Shows X H) (g : Setup) (m : Machine X H) (c : ℕ) (t : Turn) (n : ℕ) (calls : Bool) : Type 0 where
   pub none : n ≡ 0
+  pub no_call : calls ≡ false
   pub beyond : list_any (is_flash_at (register t.state c program_counter)) (setup_at g c).regions ≡ false
   pub holds : MachineHolds shown g m t
 
-abbrev pub HasGlided : {X : Type 0} {H : X → Type 0} → Shows X H → Setup → Machine X H → ℕ → Turn → ℕ → ℕ → Type 0
-HasGlided shown g m c t most n = IsGlided shown g m c t most n ⊎ HasNoWindow shown g m c t n
+abbrev pub HasGlided : {X : Type 0} {H : X → Type 0} → Shows X H → Setup → Machine X H → ℕ → Turn → ℕ → ℕ → Bool → Type 0
+HasGlided shown g m c t most n calls = IsGlided shown g m c t most n calls ⊎ HasNoWindow shown g m c t n calls

@@ -1,6 +1,6 @@
 -- Turns of a task whose instructions stay within a window of its flash and its data.
 use Rattle.words_core.specs.Regs.{program_counter}
-use Rattle.std.specs.Prelude.{ℕ, zero, suc, ◌≡◌, ◌⊎◌, false, ◌+◌, ◌<◌, ◌≤◌, true, length, [], Some}
+use Rattle.std.specs.Prelude.{ℕ, zero, suc, ◌≡◌, ◌⊎◌, Bool, false, ◌+◌, ◌<◌, ◌≤◌, true, length, [], Some, Ok}
 use Rattle.region_check.specs.declared.Region.{Region}
 use Rattle.region_check.specs.declared.Right.TheVariants.{Read, Write, Execute}
 use Rattle.mem_banks.specs.Memory.{Memory, bytes_at, with_bytes}
@@ -9,8 +9,9 @@ use Rattle.run_script.specs.Scripts.{events_of}
 use Rattle.thumb_exec.specs.declared.cpu.Cpu.{Cpu}
 use Rattle.std.specs.List.{list_any}
 use Rattle.thumb_exec.specs.Effect.{Halts}
-use Rattle.thumb_exec.specs.Fetch.{step_effect}
-use Rattle.thumb_step.specs.Windows.{View, refused_by, held_by}
+use Rattle.thumb_exec.specs.Fetch.{fetched, step_effect}
+use Rattle.thumb_insn.specs.declared.Insn.TheVariants.{Svc}
+use Rattle.thumb_step.specs.Windows.{View, is_at_syscall, refused_by, held_by}
 use Rattle.board_core.specs.Reached.{is_flash_at, AreReached}
 use Rattle.task_table.specs.State.{Setup, State}
 use Rattle.task_table.specs.Reading.{task_at, setup_at, register, chosen, is_ready}
@@ -18,7 +19,7 @@ use Rattle.task_table.specs.Sane.{Sane, IsCounted}
 use Rattle.task_table.specs.Effects.{with_task}
 use Rattle.board_model.specs.declared.outcomes.Level.TheVariants.{Calls}
 use Rattle.board_model.specs.Script.{Scenario}
-use Rattle.board_model.specs.Turn.{may, cpu_of}
+use Rattle.board_model.specs.Turn.{may, refusals, held, cpu_of}
 use Rattle.board_model.specs.Run.{is_down, turn_after, state_after}
 
 -- a window of a task: its flash stands in the flash, its data and, beside them, its area in the RAM, as memory has them, and the
@@ -52,15 +53,23 @@ pub record IsWholeWindow (g : Setup) (c : ℕ) (m : Memory) (pc sp : ℕ) (v : V
   pub area : (v.area_base ≡ further.base) × (length v.area ≡ further.size)
   pub writable : v.area_writable ≡ further.rights.write
 
--- the next instruction of a task is a system call, faults or reaches beyond a window, of which PC and SP were these when it was opened
-pub record IsAtEnd (g : Setup) (c pc sp : ℕ) (s : State) : Type 0 where
+-- the next instruction of a task is a system call, faults or reaches beyond a window, of which PC and SP were these when it was opened;
+-- and whether it is a call is known
+pub record IsAtEnd (g : Setup) (c pc sp : ℕ) (s : State) (calls : Bool) : Type 0 where
   pub window : View
   pub whole : IsWholeWindow g c s.memory pc sp window
   pub halts : Halts (step_effect (refused_by window) (held_by window) (cpu_of (task_at s c)))
+  pub told : calls ≡ is_at_syscall window (cpu_of (task_at s c))
 
 -- that, or the task fetches from no region of the flash
-abbrev pub MustStop : Setup → ℕ → ℕ → ℕ → State → Type 0
-MustStop g c pc sp s = IsAtEnd g c pc sp s ⊎ (list_any (is_flash_at (register s c program_counter)) (setup_at g c).regions ≡ false)
+abbrev pub MustStop : Setup → ℕ → ℕ → ℕ → State → Bool → Type 0
+MustStop g c pc sp s calls = IsAtEnd g c pc sp s calls ⊎ ((list_any (is_flash_at (register s c program_counter)) (setup_at g c).regions ≡ false) × (calls ≡ false))
+
+-- what a task fetches is a system call
+pub record IsCalling (g : Setup) (c : ℕ) (s : State) : Type 0 where
+  pub value : ℕ
+  pub code : ℕ
+  pub is : fetched (refusals g c) (held s) (register s c program_counter) ≡ Ok record { insn = Svc value; code = code }
 
 -- the task that is chosen is within a window of its memory, and nothing happens in n turns from now on
 abbrev pub IsUndisturbed : Scenario → State → ℕ → View → ℕ → Type 0

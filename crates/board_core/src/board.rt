@@ -1,5 +1,5 @@
 //! The board and one turn of it.
-ghost use Rattle.std.specs.Prelude.{ℕ, ◌≡◌, ◌≢◌, ◌<◌, ◌≤◌, ◌+◌, ◌-◌, ◌*◌, ◌&&◌, not, [], Option, Some, None, length, map, true, false, IfOk};
+ghost use Rattle.std.specs.Prelude.{ℕ, ◌≡◌, ◌≢◌, ◌<◌, ◌≤◌, ◌+◌, ◌-◌, ◌*◌, ◌&&◌, not, [], Option, Some, None, is_some, length, map, true, false, IfOk};
 ghost use Rattle.image_format.specs.Images.{picture};
 ghost use Rattle.kernel_abi.specs.Devices.{AreFresh};
 ghost use Rattle.task_table.specs.State.{Setup, State, Turn};
@@ -20,7 +20,7 @@ ghost use Rattle.board_core.specs.Opened.{scenario_of};
 ghost use Rattle.board_core.specs.Stands.{Stands, Stood, notes_of, turns_of};
 ghost use Rattle.board_core.specs.Machine.{MachineHolds, MachineStands};
 ghost use Rattle.board_core.specs.Kept.{IsChoice, WasChoice};
-ghost use Rattle.board_core.specs.Advanced.{IsAdvanced, IsStopped, HasGlidden, WentFar, WentFarOn, NeededTurn, WaitedFor};
+ghost use Rattle.board_core.specs.Advanced.{IsAdvanced, IsStopped, HasGlidden, WentFar, WentFarOn, IsCall, IsToCall, NeededTurn, WaitedFor};
 ghost use Rattle.board_core.specs.Skipped.{IsIdleUntil};
 ghost use Rattle.board_core.specs.Midway.{IsDue, IsMidway};
 
@@ -177,16 +177,21 @@ impl Board {
         ensures needed { NeededTurn shown limit self.old self.new }
         ensures idle { WaitedFor shown limit self.old self.new }
     {
-        self.glide(quiet_until(self.due, limit));
+        let calling = self.glide(quiet_until(self.due, limit));
         if self.turns < limit {
-            self.turn_at(Level::Calls);
+            match calling {
+                None => {
+                    self.turn_at(Level::Calls);
+                }
+                Some(task) => self.call(task),
+            }
         }
     }
 
     /// The fast way: turns before turn `until`, before which nothing is due, none of which notes anything. They are those
     /// of the task that is chosen, within a window of its memory, as far as it goes there; or all idle ones, where no task is
     /// ready.
-    fn glide(&mut self, until: u32)
+    fn glide(&mut self, until: u32) -> Option<usize>
         requires stood { Stood shown self.old }
         requires few { until ≤ 1000000000 }
         requires later { (turn : ℕ) → turn < until → self.old.due ≢ Some turn }
@@ -196,20 +201,30 @@ impl Board {
         ensures stays { until ≤ turns_of self.old → self.new ≡ self.old }
 
         // It stops before only where the next instruction is a system call, faults or reaches beyond the window, or where there is none.
-        ensures far { WentFar shown until self.old self.new }
+        ensures far { WentFar shown until self.old self.new (is_some result) }
+        ensures calls { (task : ℕ) → result ≡ Some task → IsToCall shown task self.old self.new }
         ensures idle { (x : Scenario) (s : State) → Stands shown x self.old s → chosen x.setup s ≡ None → self.old.choice.down ≡ false → lasts x.script until ≡ true → until ≤ turns_of self.new }
     {
         if self.turns >= until || self.choice.down {
-            return;
+            return None;
         }
         match self.choice.next {
-            Some(task) => self.glide_on(task, until),
-            None => self.idle_on(until),
+            None => {
+                self.idle_on(until);
+                None
+            }
+            Some(task) => {
+                if self.glide_on(task, until) {
+                    Some(task)
+                } else {
+                    None
+                }
+            }
         }
     }
 
     /// The same, where this task is chosen and the supervisor has not faulted.
-    fn glide_on(&mut self, task: usize, until: u32)
+    fn glide_on(&mut self, task: usize, until: u32) -> bool
         requires stood { Stood shown self.old }
         requires next { self.old.choice.next ≡ Some task }
         requires up { self.old.choice.down ≡ false }
@@ -219,10 +234,28 @@ impl Board {
         ensures glided { (x : Scenario) (s : State) → Stands shown x self.old s → HasGlidden shown x s (turns_of self.new - turns_of self.old) self.new }
         ensures more { turns_of self.old ≤ turns_of self.new }
         ensures within { turns_of self.new ≤ until }
-        ensures far { WentFarOn shown task until self.old self.new }
+        ensures far { WentFarOn shown task until self.old self.new result }
+        ensures calls { result ≡ true → IsToCall shown task self.old self.new }
     {
         self.machine.begin();
-        self.turns += self.machine.glide(task, until - self.turns);
+        let glided = self.machine.glide(task, until - self.turns);
+        self.turns += glided.made;
+        glided.at_syscall
+    }
+
+    /// One turn of a task that makes a system call in it, and in which nothing is due: what `turn_at` makes of it.
+    fn call(&mut self, task: usize)
+        requires few { turns_of self.old < 1000000000 }
+        requires stood { (x : Scenario) × (s : State) × Stands shown x self.old s × IsCall x s task }
+        ensures model { (x : Scenario) (s : State) → Stands shown x self.old s → IsCall x s task → Stands shown x self.new (turn Calls x s).state }
+        ensures notes { (x : Scenario) (s : State) → Stands shown x self.old s → IsCall x s task → notes_of self.new ≡ (turn Calls x s).notes }
+        ensures few { length (notes_of self.new) ≤ turn_notes }
+        ensures turns { turns_of self.new ≡ turns_of self.old + 1 }
+    {
+        self.machine.begin();
+        self.turns += 1;
+        self.machine.call(task);
+        self.renew();
     }
 
     /// The same, where no task is ready.

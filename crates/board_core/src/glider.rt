@@ -1,8 +1,8 @@
 //! The processor of the current task while it has a window, the bytes of three of the task's regions.
-ghost use Rattle.std.specs.Prelude.{◌≡◌, ◌≤◌, ◌<◌};
+ghost use Rattle.std.specs.Prelude.{◌≡◌, ◌≤◌, ◌<◌, true};
 ghost use Rattle.thumb_exec.specs.Effect.{Halts};
 ghost use Rattle.thumb_exec.specs.Fetch.{step_effect};
-ghost use Rattle.thumb_step.specs.Windows.{Glides, IsApart, Keeps, view_of, refused_by, held_by};
+ghost use Rattle.thumb_step.specs.Windows.{Glides, IsApart, Keeps, IsAtSyscall, is_at_syscall, view_of, refused_by, held_by};
 ghost use Rattle.board_core.specs.Gliding.{HasWorked};
 
 use mem_banks::WindowUser;
@@ -22,6 +22,9 @@ pub struct Glider {
     /// How many instructions there may be at most, and how many there were.
     pub most: u32,
     pub made: u32,
+
+    /// Whether the next one, where there were fewer, is a system call.
+    pub at_syscall: bool,
 }
 
 impl Glider {
@@ -52,6 +55,7 @@ impl Glider {
             },
             most: 0,
             made: 0,
+            at_syscall: false,
         }
     }
 
@@ -81,12 +85,20 @@ impl Glider {
         ensures far { IsApart self.old.runner.window → result < self.old.most → Halts (step_effect (refused_by (view_of self.new.runner.window)) (held_by (view_of self.new.runner.window)) self.new.runner.processor) }
         ensures fixed { Keeps (view_of self.old.runner.window) (view_of self.new.runner.window) }
         ensures most { self.new.most ≡ self.old.most }
+
+        // It stopped at a system call where it says so, and says so where it did.
+        ensures short { self.new.at_syscall ≡ true → result < self.old.most }
+        ensures calls { self.new.at_syscall ≡ true → IsAtSyscall (view_of self.new.runner.window) self.new.runner.processor }
+        ensures told { IsApart self.old.runner.window → result < self.old.most → self.new.at_syscall ≡ is_at_syscall (view_of self.new.runner.window) self.new.runner.processor }
     {
         let window = &self.runner.window;
         if window.flash_base as usize + window.flash.len() > window.ram_base as usize {
+            self.at_syscall = false;
             return 0;
         }
-        self.runner.glide(self.most)
+        let made = self.runner.glide(self.most);
+        self.at_syscall = made < self.most && self.runner.is_at_syscall();
+        made
     }
 }
 

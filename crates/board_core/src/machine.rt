@@ -15,6 +15,7 @@ ghost use Rattle.thumb_insn.specs.Range.{IsCoded};
 ghost use Rattle.board_model.specs.Turn.{with_current, noted_at, happened, stepped, executed, cpu_of, with_registers_noted, turn_of, turned_of, happened_next};
 ghost use Rattle.board_core.specs.Machine.{IsReady, IsNext, HasNumber, ReachHolds, MachineHolds, MachineStands, IsLoaded, HasContext};
 ghost use Rattle.board_core.specs.Gliding.{HasGlided};
+ghost use Rattle.board_core.specs.Windowed.{IsCalling};
 
 use crate::glider::Glider;
 use crate::list::Devices;
@@ -42,6 +43,13 @@ pub struct Machine {
 
     /// Who makes instructions on end, within a window of the task's memory.
     pub glider: Glider,
+}
+
+/// How many instructions a task made on end, and whether the next one is known to be a system call.
+#[derive(Clone, Copy)]
+pub struct Glided {
+    pub made: u32,
+    pub at_syscall: bool,
 }
 
 /// The processor of a task.
@@ -388,19 +396,22 @@ impl Machine {
         }
     }
 
-    /// Instructions on end of a task within a window of its memory, at most so many; how many there were. Where there were
-    /// some, it is the current one.
-    pub fn glide(&mut self, task: usize, most: u32) -> u32
+    /// Instructions on end of a task within a window of its memory, at most so many. Where there were some, it is the current one.
+    pub fn glide(&mut self, task: usize, most: u32) -> Glided
         requires { task < task_count self.old.reach.kernel }
-        ensures glided { (g : Setup) (t : Turn) → MachineStands shown g self.old t → task < length t.state.tasks → is_ready t.state task ≡ true → HasGlided shown g self.new task t most result }
-        ensures within { result ≤ most }
+        ensures glided { (g : Setup) (t : Turn) → MachineStands shown g self.old t → task < length t.state.tasks → is_ready t.state task ≡ true → HasGlided shown g self.new task t most result.made result.at_syscall }
+        ensures within { result.made ≤ most }
         ensures count { note_count self.new.reach.kernel ≡ note_count self.old.reach.kernel }
     {
         self.take_context(task);
         let pc = self.processor.regs.get(PROGRAM_COUNTER);
         let sp = self.processor.regs.get(STACK_POINTER);
+        let none = Glided {
+            made: 0,
+            at_syscall: false,
+        };
         let Some((flash, ram, area)) = self.reach.window(task, pc, sp) else {
-            return 0;
+            return none;
         };
         self.glider.aim(self.processor, &flash, &ram, &area, most);
         if !self
@@ -408,14 +419,30 @@ impl Machine {
             .kernel
             .open_window(&flash, &ram, &area, &mut self.glider)
         {
-            return 0;
+            return none;
         }
         let made = self.glider.made;
-        if made > 0 {
-            self.processor = self.glider.runner.processor;
-            self.reach.kernel.set_current(task);
-            self.loaded = true;
+        let glided = Glided {
+            made,
+            at_syscall: self.glider.at_syscall,
+        };
+        if made == 0 {
+            return glided;
         }
-        made
+        self.processor = self.glider.runner.processor;
+        self.reach.kernel.set_current(task);
+        self.loaded = true;
+        glided
+    }
+
+    /// A turn of a task whose instruction is known to be a system call: it is not fetched and decoded again.
+    pub fn call(&mut self, task: usize)
+        requires next { (g : Setup) × (t : Turn) × IsNext shown g self.old t (Some task) × HasNumber t.state }
+        requires room { note_count self.old.reach.kernel + syscall_notes + 4 ≤ turn_notes }
+        ensures holds { (g : Setup) (t : Turn) → IsNext shown g self.old t (Some task) → IsCalling g task t.state → MachineHolds shown g self.new (turn_of Level.Calls g (Some task) t) }
+        ensures count { note_count self.new.reach.kernel ≤ note_count self.old.reach.kernel + syscall_notes + 4 }
+    {
+        self.load_context(task);
+        self.syscall();
     }
 }

@@ -1,10 +1,12 @@
 -- An instruction of the flash, and what comes of it.
-use Rattle.std.proofs.Common.{◌≡◌, ◌≤◌, ◌+◌, ◌*◌, ◌^◌, ℕ, zero, suc, Bool, true, false, ◌&&◌, List, [], ◌∷◌, length, Some, None, fold, refl, sym, ◌∙◌, ap, arith}
+use Rattle.std.proofs.Common.{◌≡◌, ◌≤◌, ◌<◌, ◌+◌, ◌*◌, ◌/◌, ◌^◌, ℕ, zero, suc, Bool, true, false, ◌&&◌, List, [], ◌∷◌, length, Some, None, fold, refl, sym, ◌∙◌, ap, arith}
 use Rattle.std.specs.Prelude.{nat_le}
-use Rattle.std.proofs.lemmas.Bool.{leb-true, false≢true}
+use Rattle.std.proofs.lemmas.Bool.{leb-true, lt-leb, false≢true}
 use Rattle.region_check.specs.declared.Right.TheVariants.{Execute}
 use Rattle.thumb_insn.specs.declared.Decoded.{Decoded}
 use Rattle.thumb_insn.specs.declared.Decoded.TheVariants.{Narrow, Wide, Illegal, NeedsSecond}
+use Rattle.thumb_insn.specs.Fields.{field}
+use Rattle.thumb_insn.proofs.Rows.{row_df00}
 use Rattle.thumb_insn.specs.Table.{narrow_of, narrow_result, decoded_of, is_wide}
 use Rattle.thumb_exec.specs.declared.cpu.Cpu.{Cpu}
 use Rattle.thumb_exec.specs.declared.cpu.Outcome.TheVariants as outcome
@@ -13,7 +15,7 @@ use Rattle.thumb_exec.specs.Fetch.{instruction, after, executed, step_effect}
 use Rattle.words_core.specs.Regs.{reg_at}
 use Rattle.thumb_step.specs.declared.window.Window.{Window}
 use Rattle.thumb_step.specs.declared.window.Runner.{Runner}
-use Rattle.thumb_step.specs.Windows.{View, AreInside, has, number_in, given, refused_by, held_by, put, IsInside, IsFetched, view_of, GoesOn, Keeps}
+use Rattle.thumb_step.specs.Windows.{View, AreInside, has, number_in, given, refused_by, held_by, put, IsInside, IsFetched, view_of, GoesOn, Keeps, IsAtSyscall}
 use Rattle.thumb_step.specs.Did.{IsStored, IsTaken, Did}
 
 -- ## Moves
@@ -120,6 +122,12 @@ module _ (v : View) (c : Cpu) (at first : ℕ) (apart : v.flash_base + length v.
 
   pub wide_here : (second : ℕ) → is_wide first ≡ true → IsFetched v (after at) second → step_effect (refused_by v) (held_by v) c ≡ executed (refused_by v) (held_by v) c (instruction at (first * 2 ^ 16 + second) (decoded_of first (Some second)))
   wide_here second wide g = wide_effect (refused_by v) (held_by v) c at first here (fetched_may v at first f) (fetched_is v at first apart f) second wide (fetched_may v (after at) second g) (fetched_is v (after at) second apart g)
+
+  -- a halfword whose high byte is that of a system call
+  pub syscall_here : first < 65536 → first / 256 ≡ 0xDF → IsAtSyscall v c
+  syscall_here small high =
+      let narrow : is_wide first ≡ false = lt-leb _ _ (omega (arith, high)) in
+      record { value = field first 0 8; code = first; is = rw (← here, fetched_may v at first f, ← fetched_is v at first apart f, narrow, row_df00 first small high) refl }
 
 -- ## What a runner did with a narrow instruction
 

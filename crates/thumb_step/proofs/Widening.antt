@@ -1,4 +1,4 @@
--- A step that goes on does the same with more rights.
+-- A step that goes on does the same with more rights, and fetches the same.
 use Rattle.std.proofs.Common.{◌≡◌, ℕ, ◌+◌, ◌*◌, ◌^◌, Bool, true, false, cond, List, Option, Some, None, Result, Ok, Err, refl, sym, ap, ◌∙◌}
 use Rattle.kernel_abi.specs.declared.Fault.{Fault}
 use Rattle.region_check.specs.declared.Right.TheVariants.{Execute}
@@ -31,7 +31,8 @@ wide_wider R R' H H' w at first = granted (R (after at) 2 Execute) (R' (after at
 by_wider : (R R' : Refusals) (H H' : Contents) → WidensFetch R R' H H' → (at first : ℕ) → Gives (fetched_by R H at first) (fetched_by R' H' at first)
 by_wider R R' H H' w at first = either (is_wide first) _ _ _ (wide_wider R R' H H' w at first)
 
-fetched_wider : (R R' : Refusals) (H H' : Contents) → WidensFetch R R' H H' → (at : ℕ) → Gives (fetched R H at) (fetched R' H' at)
+-- what is fetched is fetched with more rights
+pub fetched_wider : (R R' : Refusals) (H H' : Contents) → WidensFetch R R' H H' → (at : ℕ) → Gives (fetched R H at) (fetched R' H' at)
 fetched_wider R R' H H' w at = granted (R at 2 Execute) (R' at 2 Execute) at _ _ (w.widens.granted at 2 Execute) (λ e. rw (sym (w.fetches at e)) (by_wider R R' H H' w at (H at 2)))
 
 executed_wider : (R R' : Refusals) (H H' : Contents) → WidensFetch R R' H H' → (c : Cpu) (a b : Result Fetched Fault) → Gives a b → (d : Cpu) (ss : List Move) → executed R H c a ≡ Next d ss → executed R' H' c b ≡ Next d ss

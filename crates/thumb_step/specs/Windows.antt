@@ -1,12 +1,14 @@
 -- Instructions on end of a processor that reaches three runs of bytes, and no others.
-use Rattle.std.specs.Prelude.{◌≡◌, ◌≤◌, ℕ, zero, suc, ◌+◌, ◌-◌, Bool, true, false, ◌&&◌, ◌||◌, if◌then◌else◌, nat_le, List, length, take, drop, fold, Option, Some, None, Contains}
+use Rattle.std.specs.Prelude.{◌≡◌, ◌≤◌, ℕ, zero, suc, ◌+◌, ◌-◌, ◌/◌, Bool, true, false, ◌&&◌, ◌||◌, if◌then◌else◌, nat_eq, nat_le, Ok, List, length, take, drop, fold, Option, Some, None, Contains}
 use Rattle.mem_banks.specs.Memory.{number_of, pasted}
 use Rattle.region_check.specs.declared.Right.TheVariants.{Read, Write, Execute}
 use Rattle.thumb_exec.specs.declared.cpu.Cpu.{Cpu}
 use Rattle.thumb_exec.specs.Bytes.{bytes_of}
 use Rattle.thumb_exec.specs.Effect.{Next, Store, Move, Puts, Takes, Refusals, Contents}
 use Rattle.thumb_exec.specs.Sizes.{IsSize}
-use Rattle.thumb_exec.specs.Fetch.{step_effect}
+use Rattle.thumb_exec.specs.Fetch.{fetched, step_effect}
+use Rattle.thumb_insn.specs.declared.Insn.TheVariants.{Svc}
+use Rattle.words_core.specs.Regs.{reg_at, program_counter}
 use Rattle.thumb_step.specs.declared.window.Window.{Window}
 
 -- what a processor reaches: bytes from an address on that it may execute, and perhaps read, bytes that it may read and write, and
@@ -91,6 +93,16 @@ pub record GoesOn (v : View) (c : Cpu) (v' : View) (c' : Cpu) : Type 0 where
 abbrev pub Glides : View → Cpu → ℕ → View → Cpu → Type 0
 Glides v c zero v' c' = (v' ≡ v) × (c' ≡ c)
 Glides v c (suc n) v' c' = (w : View) × (d : Cpu) × Glides v c n w d × GoesOn w d v' c'
+
+-- the instruction at PC lies in the flash, and its high byte is that of a system call
+abbrev pub is_at_syscall : View → Cpu → Bool
+is_at_syscall v c = let at = reg_at c.regs program_counter in has v.flash_base v.flash at 2 && nat_eq (number_in v.flash_base v.flash at 2 / 256) 0xDF
+
+-- the instruction at PC is fetched, and is a system call
+pub record IsAtSyscall (v : View) (c : Cpu) : Type 0 where
+  pub value : ℕ
+  pub code : ℕ
+  pub is : fetched (refused_by v) (held_by v) (reg_at c.regs program_counter) ≡ Ok record { insn = Svc value; code = code }
 
 -- what no instruction changes
 pub record Keeps (v v' : View) : Type 0 where

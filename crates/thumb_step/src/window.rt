@@ -7,7 +7,7 @@ ghost use Rattle.thumb_exec.specs.Effect.{Halts};
 ghost use Rattle.thumb_exec.specs.Sizes.{IsSize};
 ghost use Rattle.thumb_exec.specs.Fetch.{step_effect};
 ghost use Rattle.words_core.specs.Regs.{reg_at, program_counter};
-ghost use Rattle.thumb_step.specs.Windows.{has, IsFetched, refused_by, held_by, view_of, Glides, GoesOn, Keeps, IsApart};
+ghost use Rattle.thumb_step.specs.Windows.{has, IsFetched, refused_by, held_by, view_of, Glides, GoesOn, Keeps, IsApart, is_at_syscall, IsAtSyscall};
 ghost use Rattle.thumb_step.specs.Did.{Did, IsStored, IsTaken};
 
 use region_check::Right;
@@ -333,5 +333,21 @@ impl Runner {
             }
         }
         most
+    }
+
+    /// Whether the instruction at PC is a system call in the flash, by one look at its halfword.
+    #[inline(always)]
+    pub fn is_at_syscall(&self) -> bool
+        requires apart { IsApart self.now.window }
+        ensures is { result ≡ is_at_syscall (view_of self.now.window) self.now.processor }
+        ensures fetched { result ≡ true → IsAtSyscall (view_of self.now.window) self.now.processor }
+    {
+        match self
+            .window
+            .flash_half(self.processor.regs.get(PROGRAM_COUNTER))
+        {
+            None => false,
+            Some(half) => half / 256 == 0xDF,
+        }
     }
 }

@@ -1,3 +1,4 @@
+use Rattle.std.specs.Prelude.{is_some}
 use Rattle.std.proofs.Common.{◌≡◌, ◌≢◌, ◌⊎◌, inl, inr, ◌-◌, ◌≤◌, ◌<◌, ℕ, Bool, true, false, refl, leb, ltb, [], suc, arith, ap, subst}
 use Rattle.std.proofs.lemmas.Bool.{leb-true, leb-false, ltb-true, ltb-false}
 use Rattle.run_script.specs.Scripts.{events_of}
@@ -16,27 +17,50 @@ pub turn_at-requires-clause-stood : goal.turn_at-requires-clause-stood
 turn_at-requires-clause-stood boxes c =
     let x = c.requires.stood.0 in
     let s = c.requires.stood.1 in
-    (x, state_after Calls x (turns_of c.glide.new.self - turns_of c.args.self.now) s, (c.glide.ensures.glided x s c.requires.stood.2).stands)
+    (x, state_after Calls x (turns_of c.glide-calling.new.self - turns_of c.args.self.now) s, (c.glide-calling.ensures.glided x s c.requires.stood.2).stands)
 
-pub returns-then-self-limit-clause-advanced : goal.returns-then-self-limit-clause-advanced
-returns-then-self-limit-clause-advanced boxes c =
+pub call-requires-clause-stood : goal.call-requires-clause-stood
+call-requires-clause-stood boxes c =
+    let x = c.requires.stood.0 in
+    let s = c.requires.stood.1 in
+    let st = c.requires.stood.2 in
+    (x, state_after Calls x (turns_of c.glide-calling.new.self - turns_of c.args.self.now) s, (c.glide-calling.ensures.glided x s st).stands, c.glide-calling.ensures.calls c.in-Some.task c.in-Some.is x s st)
+
+pub returns-in-None-clause-advanced : goal.returns-in-None-clause-advanced
+returns-in-None-clause-advanced boxes c =
     let shown = boxed (λ p. (goal.Device-dyn boxes p).shown p.1) in
     λ x s st.
     let b = c.args.self.now in
-    let b1 = c.glide.new.self in
+    let b1 = c.glide-calling.new.self in
     let b2 = c.turn_at.new.self in
-    let e : turns_of b1 - turns_of b ≡ turns_of b2 - turns_of b - 1 = omega (arith, c.glide.ensures.more, c.turn_at.ensures.turns) in
-    subst (λ (n : ℕ). IsAdvanced shown Calls x n s b2) e (one_more _ x (turns_of b1 - turns_of b) s b1 b2 (c.glide.ensures.glided x s st) (λ u h. c.turn_at.ensures.model x u h) (λ u h. c.turn_at.ensures.notes x u h))
+    let n : ℕ = turns_of b1 - turns_of b in
+    let u : State = state_after Calls x n s in
+    let made = c.glide-calling.ensures.glided x s st in
+    let e : n ≡ turns_of b2 - turns_of b - 1 = omega (arith, c.glide-calling.ensures.more, c.turn_at.ensures.turns) in
+    subst (λ (k : ℕ). IsAdvanced shown Calls x k s b2) e (one_more shown x n s b1 b2 made (c.turn_at.ensures.model x u made.stands) (c.turn_at.ensures.notes x u made.stands))
+
+pub returns-in-Some-clause-advanced : goal.returns-in-Some-clause-advanced
+returns-in-Some-clause-advanced boxes c =
+    let shown = boxed (λ p. (goal.Device-dyn boxes p).shown p.1) in
+    λ x s st.
+    let b = c.args.self.now in
+    let b1 = c.glide-calling.new.self in
+    let b2 = c.call.new.self in
+    let n : ℕ = turns_of b1 - turns_of b in
+    let u : State = state_after Calls x n s in
+    let made = c.glide-calling.ensures.glided x s st in
+    let e : n ≡ turns_of b2 - turns_of b - 1 = omega (arith, c.glide-calling.ensures.more, c.call.ensures.turns) in
+    subst (λ (k : ℕ). IsAdvanced shown Calls x k s b2) e (one_more shown x n s b1 b2 made (c.call.ensures.model x u made.stands (c.glide-calling.ensures.calls c.in-Some.task c.in-Some.is x s st)) (c.call.ensures.notes x u made.stands (c.glide-calling.ensures.calls c.in-Some.task c.in-Some.is x s st)))
 
 pub returns-else-self-limit-clause-advanced : goal.returns-else-self-limit-clause-advanced
 returns-else-self-limit-clause-advanced boxes c =
     let shown = boxed (λ p. (goal.Device-dyn boxes p).shown p.1) in
     λ x s st.
     let b = c.args.self.now in
-    let b1 = c.glide.new.self in
+    let b1 = c.glide-calling.new.self in
     let n : ℕ = turns_of b1 - turns_of b - 1 in
     let e : turns_of b1 - turns_of b ≡ suc n = omega (arith, c.if-self-limit.false, c.requires.left) in
-    all_made _ x n s b1 (subst (λ (k : ℕ). HasGlidden shown x s k b1) e (c.glide.ensures.glided x s st))
+    all_made _ x n s b1 (subst (λ (k : ℕ). HasGlidden shown x s k b1) e (c.glide-calling.ensures.glided x s st))
 
 -- turns that stop at a place below the limit, or stay past it
 below_limit : (until from to limit : ℕ) → (from ≤ until → to ≤ until) → (until ≤ from → to ≡ from) → until ≤ limit → from < limit → to ≤ limit
@@ -48,11 +72,11 @@ below_limit until from to limit within stays less left = by (leb from until) ref
 
 pub returns-else-self-limit-clause-within : goal.returns-else-self-limit-clause-within
 returns-else-self-limit-clause-within boxes c =
-    below_limit c.quiet_until.result (turns_of c.args.self.now) (turns_of c.glide.new.self) c.args.limit c.glide.ensures.within (λ h. ap (λ (b : Board _ _). turns_of b) (c.glide.ensures.stays h)) (omega (arith, c.quiet_until.ensures.within, c.requires.left)) c.requires.left
+    below_limit c.quiet_until.result (turns_of c.args.self.now) (turns_of c.glide-calling.new.self) c.args.limit c.glide-calling.ensures.within (λ h. ap (λ (b : Board _ _). turns_of b) (c.glide-calling.ensures.stays h)) (omega (arith, c.quiet_until.ensures.within, c.requires.left)) c.requires.left
 
 pub returns-else-self-limit-clause-noted : goal.returns-else-self-limit-clause-noted
 returns-else-self-limit-clause-noted boxes c =
-    let made = c.glide.ensures.glided c.requires.stood.0 c.requires.stood.1 c.requires.stood.2 in
+    let made = c.glide-calling.ensures.glided c.requires.stood.0 c.requires.stood.1 c.requires.stood.2 in
     rw (made.notes (omega (arith, c.if-self-limit.false, c.requires.left))) (omega arith)
 
 -- the fast way stops before a turn, or has come to it
@@ -63,30 +87,58 @@ either_way to until P Q before there = by (ltb to until) refl
     by true e = inr (before (ltb-true to until e))
     by false e = inl (there (ltb-false to until e))
 
-pub returns-then-self-limit-clause-needed : goal.returns-then-self-limit-clause-needed
-returns-then-self-limit-clause-needed boxes c = λ x s task st is up lt.
+pub returns-in-None-clause-needed : goal.returns-in-None-clause-needed
+returns-in-None-clause-needed boxes c = λ x s task st is up lt.
     let b = c.args.self.now in
-    let b1 = c.glide.new.self in
+    let b1 = c.glide-calling.new.self in
     let b2 = c.turn_at.new.self in
     let until : ℕ = c.quiet_until.result in
     let n : ℕ = turns_of b1 - turns_of b in
     let u : State = state_after Calls x n s in
-    let e : n ≡ turns_of b2 - turns_of b - 1 = omega (arith, c.glide.ensures.more, c.turn_at.ensures.turns) in
-    let made = c.glide.ensures.glided x s st in
+    let e : n ≡ turns_of b2 - turns_of b - 1 = omega (arith, c.glide-calling.ensures.more, c.turn_at.ensures.turns) in
+    let made = c.glide-calling.ensures.glided x s st in
     subst (λ (k : ℕ). NeedsTurn x task s (state_after Calls x k s)) e
-    (either_way (turns_of b1) until (IsFar x task s u) (events_of x.script u.turn ≢ []) (λ less. c.glide.ensures.far x s task st is up less)
-    (λ over. due_now x s u b.due (turns_of b) (turns_of b1) until c.args.limit st.holds.due c.quiet_until.ensures.met st.holds.turns made.stands.holds.turns c.glide.ensures.within over (omega (arith, c.if-self-limit.true))))
+    (either_way (turns_of b1) until ((calls : Bool) × IsFar x task s u calls) (events_of x.script u.turn ≢ []) (λ less. (is_some c.glide-calling.result, c.glide-calling.ensures.far x s task st is up less))
+    (λ over. due_now x s u b.due (turns_of b) (turns_of b1) until c.args.limit st.holds.due c.quiet_until.ensures.met st.holds.turns made.stands.holds.turns c.glide-calling.ensures.within over (omega (arith, c.if-self-limit.true))))
 
-pub returns-then-self-limit-clause-idle : goal.returns-then-self-limit-clause-idle
-returns-then-self-limit-clause-idle boxes c = λ x s st none up more lt.
+pub returns-in-Some-clause-needed : goal.returns-in-Some-clause-needed
+returns-in-Some-clause-needed boxes c = λ x s task st is up lt.
     let b = c.args.self.now in
-    let b1 = c.glide.new.self in
+    let b1 = c.glide-calling.new.self in
+    let b2 = c.call.new.self in
+    let until : ℕ = c.quiet_until.result in
+    let n : ℕ = turns_of b1 - turns_of b in
+    let u : State = state_after Calls x n s in
+    let e : n ≡ turns_of b2 - turns_of b - 1 = omega (arith, c.glide-calling.ensures.more, c.call.ensures.turns) in
+    let made = c.glide-calling.ensures.glided x s st in
+    subst (λ (k : ℕ). NeedsTurn x task s (state_after Calls x k s)) e
+    (either_way (turns_of b1) until ((calls : Bool) × IsFar x task s u calls) (events_of x.script u.turn ≢ []) (λ less. (is_some c.glide-calling.result, c.glide-calling.ensures.far x s task st is up less))
+    (λ over. due_now x s u b.due (turns_of b) (turns_of b1) until c.args.limit st.holds.due c.quiet_until.ensures.met st.holds.turns made.stands.holds.turns c.glide-calling.ensures.within over (omega (arith, c.if-self-limit.true))))
+
+pub returns-in-None-clause-idle : goal.returns-in-None-clause-idle
+returns-in-None-clause-idle boxes c = λ x s st none up more lt.
+    let b = c.args.self.now in
+    let b1 = c.glide-calling.new.self in
     let b2 = c.turn_at.new.self in
     let until : ℕ = c.quiet_until.result in
     let n : ℕ = turns_of b1 - turns_of b in
     let u : State = state_after Calls x n s in
-    let e : n ≡ turns_of b2 - turns_of b - 1 = omega (arith, c.glide.ensures.more, c.turn_at.ensures.turns) in
-    let made = c.glide.ensures.glided x s st in
-    let over = c.glide.ensures.idle x s st none up (lasts_from x.script until c.args.limit (omega (arith, c.quiet_until.ensures.within, c.requires.left)) more) in
+    let e : n ≡ turns_of b2 - turns_of b - 1 = omega (arith, c.glide-calling.ensures.more, c.turn_at.ensures.turns) in
+    let made = c.glide-calling.ensures.glided x s st in
+    let over = c.glide-calling.ensures.idle x s st none up (lasts_from x.script until c.args.limit (omega (arith, c.quiet_until.ensures.within, c.requires.left)) more) in
     subst (λ (k : ℕ). events_of x.script (state_after Calls x k s).turn ≢ []) e
-    (due_now x s u b.due (turns_of b) (turns_of b1) until c.args.limit st.holds.due c.quiet_until.ensures.met st.holds.turns made.stands.holds.turns c.glide.ensures.within over (omega (arith, c.if-self-limit.true)))
+    (due_now x s u b.due (turns_of b) (turns_of b1) until c.args.limit st.holds.due c.quiet_until.ensures.met st.holds.turns made.stands.holds.turns c.glide-calling.ensures.within over (omega (arith, c.if-self-limit.true)))
+
+pub returns-in-Some-clause-idle : goal.returns-in-Some-clause-idle
+returns-in-Some-clause-idle boxes c = λ x s st none up more lt.
+    let b = c.args.self.now in
+    let b1 = c.glide-calling.new.self in
+    let b2 = c.call.new.self in
+    let until : ℕ = c.quiet_until.result in
+    let n : ℕ = turns_of b1 - turns_of b in
+    let u : State = state_after Calls x n s in
+    let e : n ≡ turns_of b2 - turns_of b - 1 = omega (arith, c.glide-calling.ensures.more, c.call.ensures.turns) in
+    let made = c.glide-calling.ensures.glided x s st in
+    let over = c.glide-calling.ensures.idle x s st none up (lasts_from x.script until c.args.limit (omega (arith, c.quiet_until.ensures.within, c.requires.left)) more) in
+    subst (λ (k : ℕ). events_of x.script (state_after Calls x k s).turn ≢ []) e
+    (due_now x s u b.due (turns_of b) (turns_of b1) until c.args.limit st.holds.due c.quiet_until.ensures.met st.holds.turns made.stands.holds.turns c.glide-calling.ensures.within over (omega (arith, c.if-self-limit.true)))

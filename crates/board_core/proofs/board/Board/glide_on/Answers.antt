@@ -6,9 +6,9 @@ use Rattle.board_core.proofs.Turning.{rested}
 use Rattle.board_core.proofs.Windowing.{made_by}
 use Rattle.board_core.proofs.board.Board.glide_on.Goals as goal
 
-pub glide-requires : goal.glide-requires
+pub glide-glided-requires : goal.glide-glided-requires
 unfolding begun
-glide-requires boxes c =
+glide-glided-requires boxes c =
     let b = c.args.self.now in
     let x = c.requires.stood.0 in
     let s = c.requires.stood.1 in
@@ -19,10 +19,16 @@ pub returns-clause-glided : goal.returns-clause-glided
 returns-clause-glided boxes c = λ x s st.
     let b = c.args.self.now in
     let r = c.requires in
-    (made_by _ x s b c.begin.new.self c.glide.new.self c.args.task c.glide.result c.args.until st (c.begin.ensures.holds x.setup (rested b.machine s) st.holds.machine) r.next r.up r.few r.left c.glide.ensures.within r.later c.glide.ensures.count c.glide.ensures.glided).glidden
+    (made_by _ x s b c.begin.new.self c.glide-glided.new.self c.args.task c.glide-glided.result.made c.args.until c.glide-glided.result.at_syscall st (c.begin.ensures.holds x.setup (rested b.machine s) st.holds.machine) r.next r.up r.few r.left c.glide-glided.ensures.within r.later c.glide-glided.ensures.count c.glide-glided.ensures.glided).glidden
 
 pub returns-clause-far : goal.returns-clause-far
 returns-clause-far boxes c = λ x s st lt.
     let b = c.args.self.now in
     let r = c.requires in
-    (made_by _ x s b c.begin.new.self c.glide.new.self c.args.task c.glide.result c.args.until st (c.begin.ensures.holds x.setup (rested b.machine s) st.holds.machine) r.next r.up r.few r.left c.glide.ensures.within r.later c.glide.ensures.count c.glide.ensures.glided).far lt
+    (made_by _ x s b c.begin.new.self c.glide-glided.new.self c.args.task c.glide-glided.result.made c.args.until c.glide-glided.result.at_syscall st (c.begin.ensures.holds x.setup (rested b.machine s) st.holds.machine) r.next r.up r.few r.left c.glide-glided.ensures.within r.later c.glide-glided.ensures.count c.glide-glided.ensures.glided).far lt
+
+pub returns-clause-calls : goal.returns-clause-calls
+returns-clause-calls boxes c = λ yes x s st.
+    let b = c.args.self.now in
+    let r = c.requires in
+    (made_by _ x s b c.begin.new.self c.glide-glided.new.self c.args.task c.glide-glided.result.made c.args.until c.glide-glided.result.at_syscall st (c.begin.ensures.holds x.setup (rested b.machine s) st.holds.machine) r.next r.up r.few r.left c.glide-glided.ensures.within r.later c.glide-glided.ensures.count c.glide-glided.ensures.glided).call yes

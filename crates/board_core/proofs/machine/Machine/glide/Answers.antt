@@ -17,6 +17,7 @@ returns-in_default-clause-glided boxes c = λ g t r inside ready.
     let pc : c.get-pc.result ≡ register t.state task program_counter = c.get-pc.ensures ∙ context_register _ program_counter g m task t h inside in
     inr record {
       none = refl;
+      no_call = refl;
       beyond =
           ap (λ (at : ℕ). list_any (is_flash_at at) (setup_at g task).regions) (sym pc)
           ∙ ap (λ (x : Setup). list_any (is_flash_at c.get-pc.result) (setup_at x task).regions) (sym h.holds.kernel.setup)
@@ -29,8 +30,8 @@ returns-then-not-open_window-clause-glided boxes c = λ g t r inside ready.
     let opened : c.open_window.result ≡ true = c.open_window.ensures.given c.args.task (are_usable _ _ _ _ _ _ c.in-Some.ensures) in
     absurd (false≢true (sym c.if-not-open_window.true ∙ opened))
 
-pub returns-then-made-gt0-clause-glided : goal.returns-then-made-gt0-clause-glided
-returns-then-made-gt0-clause-glided boxes c = λ g t r inside ready.
+pub returns-clause-glided : goal.returns-clause-glided
+returns-clause-glided boxes c = λ g t r inside ready.
     let m = c.take_context.new.self in
     let task = c.args.task in
     let h = c.take_context.ensures.taken g t r.holds inside ready in
@@ -38,10 +39,10 @@ returns-then-made-gt0-clause-glided boxes c = λ g t r inside ready.
     let sp = c.get-sp.ensures ∙ context_register _ stack_pointer g m task t h inside in
     let aim = c.aim.ensures in
     inl (has_run _ g m task c.args.most t _ _ _ _ _ c.aim.new.self c.open_window.new.user c.open_window.new.self h inside c.in-Some.ensures pc sp aim.processor aim.flash aim.readable aim.ram aim.area aim.writable aim.most (c.open_window.ensures.opened c.if-not-open_window.false)
-    _ (omega (arith, c.if-made-gt0.true)) refl refl refl (λ u held. c.set_current.ensures.holds g u held))
+    _ (omega (arith, c.if-made-eq0.false)) refl refl refl (λ u held. c.set_current.ensures.holds g u held))
 
-pub returns-else-made-gt0-clause-glided : goal.returns-else-made-gt0-clause-glided
-returns-else-made-gt0-clause-glided boxes c = λ g t r inside ready.
+pub returns-then-made-eq0-clause-glided : goal.returns-then-made-eq0-clause-glided
+returns-then-made-eq0-clause-glided boxes c = λ g t r inside ready.
     let m = c.take_context.new.self in
     let task = c.args.task in
     let h = c.take_context.ensures.taken g t r.holds inside ready in
@@ -49,4 +50,4 @@ returns-else-made-gt0-clause-glided boxes c = λ g t r inside ready.
     let sp = c.get-sp.ensures ∙ context_register _ stack_pointer g m task t h inside in
     let aim = c.aim.ensures in
     inl (has_stayed _ g m task c.args.most t _ _ _ _ _ c.aim.new.self c.open_window.new.user c.open_window.new.self h inside c.in-Some.ensures pc sp aim.processor aim.flash aim.readable aim.ram aim.area aim.writable aim.most (c.open_window.ensures.opened c.if-not-open_window.false)
-    _ (omega (arith, c.if-made-gt0.false)) refl refl refl (c.take_context.ensures.holds g t r.holds))
+    _ (omega (arith, c.if-made-eq0.true)) refl refl refl (c.take_context.ensures.holds g t r.holds))
