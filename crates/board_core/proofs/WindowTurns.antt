@@ -7,7 +7,7 @@ use Rattle.kernel_abi.specs.declared.Fault.{Fault}
 use Rattle.kernel_abi.specs.Devices.{DeviceData}
 use Rattle.run_script.specs.Scripts.{events_of}
 use Rattle.mem_banks.specs.Memory.{Memory, with_bytes, pasted, is_ram}
-use Rattle.mem_banks.proofs.Copies.{length-pasted}
+use Rattle.mem_banks.proofs.Copies.{length-pasted, with_bytes_ram}
 use Rattle.words_core.specs.Regs.{reg_at}
 use Rattle.thumb_exec.specs.declared.cpu.Cpu.{Cpu}
 use Rattle.thumb_exec.specs.Effect.{Effect, Next, Store, Move, Puts, Takes}
@@ -18,7 +18,7 @@ use Rattle.thumb_exec.specs.declared.fetch.Fetched.{Fetched}
 use Rattle.thumb_exec.specs.Fetch.{fetched, executed as executed_by, step_effect}
 use Rattle.thumb_step.proofs.Widening.{step_wider}
 use Rattle.thumb_exec.specs.Bytes.{bytes_of}
-use Rattle.thumb_step.specs.Windows.{View, has, refused_by, held_by, write, put as lands, GoesOn, Glides, Keeps, IsInside, AreInside}
+use Rattle.thumb_step.specs.Windows.{View, has, may_write, refused_by, held_by, write, put as lands, GoesOn, Glides, Keeps, IsInside, AreInside}
 use Rattle.thumb_step.proofs.Gliding.{kept, kept_on}
 use Rattle.task_table.specs.Placed.{ArePlaced}
 use Rattle.task_table.specs.State.{Setup, State, Task, Turn}
@@ -37,10 +37,10 @@ use Rattle.board_model.proofs.Outside.{no_event, begun_state}
 use Rattle.board_model.proofs.Quiet.{quiet-turn}
 use Rattle.board_model.proofs.Counts.{counted_turn}
 use Rattle.board_model.proofs.Further.{last_turn}
-use Rattle.board_core.specs.Windowed.{IsWindow, runner, later, AreTurns}
-use Rattle.mem_banks.specs.Windows.{IsInRam}
-use Rattle.mem_banks.proofs.Windows.{written_inside, written_same, region_written, same_ram_length, same_flash_length, bytes_below}
-use Rattle.board_core.proofs.WindowCovers.{inside, widens, loads_below}
+use Rattle.board_core.specs.Windowed.{IsWindow, runner, later, with_window, AreTurns}
+use Rattle.mem_banks.specs.Windows.{IsInRam, AreApart}
+use Rattle.mem_banks.proofs.Windows.{written_inside, written_same, region_written, same_ram_length, same_flash_length, bytes_below, bytes_beside}
+use Rattle.board_core.proofs.WindowCovers.{either, both, inside, widens, loads_below}
 
 -- ## the instruction of the turn
 
@@ -91,25 +91,58 @@ same_size v n (inl e) = rw e refl
 same_size v n (inr (inl e)) = rw e refl
 same_size v n (inr (inr e)) = rw e refl
 
--- bytes written over those of the RAM leave the rest
-put_keeps : (v : View) (x : Store) → IsSize x.bytes → has v.ram_base v.ram x.addr x.bytes ≡ true → Keeps v (write v x)
-put_keeps v x small here =
+-- which bytes of a window a store is to
+data IsLanding (v : View) (x : Store) : Type 0 where
+  in_data : has v.ram_base v.ram x.addr x.bytes ≡ true → IsLanding v x
+  in_further : has v.ram_base v.ram x.addr x.bytes ≡ false → has v.area_base v.area x.addr x.bytes ≡ true → IsLanding v x
+
+landing : (v : View) (x : Store) → may_write v x.addr x.bytes ≡ true → IsLanding v x
+landing v x h = elim (either (has v.ram_base v.ram x.addr x.bytes) _ h) [
+  | inl here ↦ in_data here
+  | inr rest ↦ in_further rest.0 (both v.area_writable _ rest.1).1
+]
+
+-- bytes written over those of the RAM, or of the area, leave the rest
+put_keeps : (v : View) (x : Store) → IsSize x.bytes → IsLanding v x → Keeps v (write v x)
+put_keeps v x small (in_data here) =
     let i = inside v.ram_base v.ram x.addr x.bytes here in
     let size = same_size x.value x.bytes small in
-    record { flash_base = refl; flash = refl; readable = refl; ram_base = refl; size = length-pasted v.ram (x.addr - v.ram_base) (bytes_of x.value x.bytes) (omega (arith, size, i.0, i.1)) }
+    rw here record {
+      flash_base = refl;
+      flash = refl;
+      readable = refl;
+      ram_base = refl;
+      size = length-pasted v.ram (x.addr - v.ram_base) (bytes_of x.value x.bytes) (omega (arith, size, i.0, i.1));
+      area_base = refl;
+      area_writable = refl;
+      area_size = refl;
+    }
+put_keeps v x small (in_further beside here) =
+    let i = inside v.area_base v.area x.addr x.bytes here in
+    let size = same_size x.value x.bytes small in
+    rw beside record {
+      flash_base = refl;
+      flash = refl;
+      readable = refl;
+      ram_base = refl;
+      size = refl;
+      area_base = refl;
+      area_writable = refl;
+      area_size = length-pasted v.area (x.addr - v.area_base) (bytes_of x.value x.bytes) (omega (arith, size, i.0, i.1));
+    }
 
 first_inside : (v : View) (x : Move) (xs : List Move) → AreInside v (x ∷ xs) → IsInside v x
 first_inside v x xs h = h x (zero, omega arith, refl)
 
 inside_still : (v w : View) (x : Move) → Keeps v w → IsInside v x → IsInside w x
-inside_still v w (Puts x) k h = (h.0, rw (k.ram_base, k.size) h.1)
+inside_still v w (Puts x) k h = (h.0, rw (k.ram_base, k.size, k.area_base, k.area_size, k.area_writable) h.1)
 inside_still v w (Takes a n) k h = tt
 
 rest_inside : (v w : View) (x : Move) (xs : List Move) → Keeps v w → AreInside v (x ∷ xs) → AreInside w xs
 rest_inside v w x xs k h y (i, lt, same) = inside_still v w y k (h y (suc i, omega arith, same))
 
 move_keeps : (v : View) (x : Move) → IsInside v x → Keeps v (lands v x)
-move_keeps v (Puts x) h = put_keeps v x h.0 h.1
+move_keeps v (Puts x) h = put_keeps v x h.0 (landing v x h.1)
 move_keeps v (Takes a n) h = kept v v refl
 
 moves_keep : (ms : List Move) (v : View) → AreInside v ms → Keeps v (fold lands v ms)
@@ -133,40 +166,20 @@ put_there : (t : Turn) (x : Store) → is_ram t.state.memory x.addr x.bytes ≡ 
 unfolding stored
 put_there t x e = rw e record { memory = refl; notes = refl; devices = refl }
 
-module _ (m : Memory) where
-  in_ram : (u : Memory) (a n : ℕ) → 0x20000000 ≤ a → a + n ≤ 0x20000000 + length u.ram → is_ram u a n ≡ true
-  in_ram u a n low high = let p : leb 0x20000000 a ≡ true = le-leb _ _ low in let q : leb (a + n) (0x20000000 + length u.ram) ≡ true = le-leb _ _ high in rw (p, q) refl
+-- ## memory with a window's bytes
 
-  one_put : (x : Store) (v : View) (t : Turn) → 0x20000000 ≤ v.ram_base → v.ram_base + length v.ram ≤ 0x20000000 + length m.ram → t.state.memory ≡ with_bytes m v.ram_base v.ram → IsInside v (Puts x) →
-      HasMoved (with_bytes m v.ram_base (write v x).ram) t (put t x)
-  one_put x v t low high is one =
-      let at : ℕ = x.addr in
-      let bytes : List ℕ = bytes_of x.value x.bytes in
-      let i = inside v.ram_base v.ram at x.bytes one.1 in
-      let size = same_size x.value x.bytes one.0 in
-      let long : length t.state.memory.ram ≡ length m.ram = ap (λ (y : Memory). length y.ram) is ∙ same_ram_length m v.ram_base v.ram (low, high) in
-      let here = put_there t x (in_ram t.state.memory at x.bytes (omega (arith, low, i.0)) (omega (arith, long, high, i.1))) in
-      let again : with_bytes t.state.memory at bytes ≡ with_bytes m v.ram_base (pasted v.ram (at - v.ram_base) bytes) =
-      ap (λ (y : Memory). with_bytes y at bytes) is ∙ written_inside m v.ram_base at v.ram bytes (low, high) i.0 (omega (arith, size, i.1)) in
-      record { memory = here.memory ∙ again; notes = here.notes; devices = here.devices }
+paste_before : (xs ys zs : List ℕ) (p q : ℕ) → p + length ys ≤ q → q + length zs ≤ length xs → pasted (pasted xs p ys) q zs ≡ pasted (pasted xs q zs) p ys
+paste_before xs ys zs p q le fits = same_lists _ _ (simp (length-append, length-take, length-drop) (omega arith)) (λ i d u. grind (arith, places))
 
-  one_move : (x : Move) (v : View) (t : Turn) → 0x20000000 ≤ v.ram_base → v.ram_base + length v.ram ≤ 0x20000000 + length m.ram → t.state.memory ≡ with_bytes m v.ram_base v.ram → IsInside v x → IsBelow x →
-      HasMoved (with_bytes m v.ram_base (lands v x).ram) t (moved t x)
-  one_move (Puts x) v t low high is one none = one_put x v t low high is one
-  one_move (Takes a n) v t low high is one none = subst (λ (u : Turn). HasMoved (with_bytes m v.ram_base v.ram) t u) (sym (took_none t a none)) record { memory = is; notes = refl; devices = refl }
+write_before : (m : Memory) (a b : ℕ) (ys zs : List ℕ) → IsInRam m (a, length ys) → IsInRam m (b, length zs) → a + length ys ≤ b → with_bytes (with_bytes m a ys) b zs ≡ with_bytes (with_bytes m b zs) a ys
+write_before m a b ys zs x y le =
+    rw (with_bytes_ram m a ys x.0, with_bytes_ram m b zs y.0, with_bytes_ram record { flash = m.flash; ram = pasted m.ram (a - 0x20000000) ys } b zs y.0, with_bytes_ram record { flash = m.flash; ram = pasted m.ram (b - 0x20000000) zs } a ys x.0)
+    (ap (λ q. record { flash = m.flash; ram = q }) (paste_before m.ram ys zs (a - 0x20000000) (b - 0x20000000) (omega (arith, le, x.0)) (omega (arith, y.0, y.1))))
 
-  -- moves within the window change what it says they change
-  moves_land : (ms : List Move) (v : View) (t : Turn) → 0x20000000 ≤ v.ram_base → v.ram_base + length v.ram ≤ 0x20000000 + length m.ram → t.state.memory ≡ with_bytes m v.ram_base v.ram → AreInside v ms → ((x : Move) → Contains ms x → IsBelow x) →
-      HasMoved (with_bytes m v.ram_base (fold lands v ms).ram) t (fold moved t ms)
-  moves_land [] v t low high is h none = record { memory = is; notes = refl; devices = refl }
-  moves_land (x ∷ xs) v t low high is h none =
-      let one = first_inside v x xs h in
-      let k = move_keeps v x one in
-      let same : (lands v x).ram_base ≡ v.ram_base = k.ram_base in
-      let here = one_move x v t low high is one (none x (zero, omega arith, refl)) in
-      let own : (moved t x).state.memory ≡ with_bytes m (lands v x).ram_base (lands v x).ram = here.memory ∙ ap (λ (b : ℕ). with_bytes m b (lands v x).ram) (sym same) in
-      let rest = moves_land xs (lands v x) (moved t x) (rw same low) (rw (same, k.size) high) own (rest_inside v (lands v x) x xs k h) (λ y there. none y (suc there.0, omega (arith, there.1), there.2)) in
-      record { memory = rest.memory ∙ ap (λ (b : ℕ). with_bytes m b (fold lands (lands v x) xs).ram) same; notes = rest.notes ∙ here.notes; devices = rest.devices ∙ here.devices }
+-- bytes that are apart can be written in any order
+pub write_order : (m : Memory) (a b : ℕ) (ys zs : List ℕ) → IsInRam m (a, length ys) → IsInRam m (b, length zs) → AreApart (a, length ys) (b, length zs) → with_bytes (with_bytes m a ys) b zs ≡ with_bytes (with_bytes m b zs) a ys
+write_order m a b ys zs x y (inl le) = write_before m a b ys zs x y le
+write_order m a b ys zs x y (inr le) = sym (write_before m b a zs ys y x le)
 
 -- other bytes over all of a region
 pasted_whole : (xs ys : List ℕ) → length ys ≡ length xs → pasted xs 0 ys ≡ ys
@@ -177,29 +190,144 @@ written_again m base xs ys h e =
     let at : base - base ≡ 0 = omega arith in
     written_inside m base base xs ys h (omega arith) (omega (arith, e)) ∙ ap (λ (k : ℕ). with_bytes m base (pasted xs k ys)) at ∙ ap (with_bytes m base) (pasted_whole xs ys e)
 
+-- the RAM and the area of a view have their places in memory
+record HasPlaces (m : Memory) (v : View) : Type 0 where
+  in_ram : IsInRam m (v.ram_base, length v.ram)
+  in_area : IsInRam m (v.area_base, length v.area)
+  apart : AreApart (v.ram_base, length v.ram) (v.area_base, length v.area)
+
+places_of : (g : Setup) (c : ℕ) (m : Memory) (v : View) → IsWindow g c m v → HasPlaces m v
+places_of g c m v w = record { in_ram = w.in_ram; in_area = w.in_area; apart = w.apart }
+
+places_on : (m : Memory) (v w : View) → Keeps v w → HasPlaces m v → HasPlaces m w
+places_on m v w k h = record {
+  in_ram = rw (k.ram_base, k.size) h.in_ram;
+  in_area = rw (k.area_base, k.area_size) h.in_area;
+  apart = rw (k.ram_base, k.size, k.area_base, k.area_size) h.apart;
+}
+
+-- a region of the RAM once another one is written
+in_ram_still : (m : Memory) (a : ℕ) (xs : List ℕ) (r : ℕ × ℕ) → IsInRam m (a, length xs) → IsInRam m r → IsInRam (with_bytes m a xs) r
+in_ram_still m a xs r x h = (h.0, rw (same_ram_length m a xs x) h.1)
+
+-- the bytes of a view, where they stand in memory
+abbrev own_memory : Memory → View → Memory
+own_memory m v = with_window m v v
+
+own_size : (m : Memory) (v : View) → HasPlaces m v → length (own_memory m v).ram ≡ length m.ram
+own_size m v h =
+    same_ram_length (with_bytes m v.ram_base v.ram) v.area_base v.area (in_ram_still m v.ram_base v.ram _ h.in_ram h.in_area)
+    ∙ same_ram_length m v.ram_base v.ram h.in_ram
+
+own_order : (m : Memory) (v : View) → HasPlaces m v → own_memory m v ≡ with_bytes (with_bytes m v.area_base v.area) v.ram_base v.ram
+own_order m v h = write_order m v.ram_base v.area_base v.ram v.area h.in_ram h.in_area h.apart
+
+-- one writes over the other
+own_again : (m : Memory) (v w : View) → HasPlaces m v → Keeps v w → own_memory (own_memory m v) w ≡ own_memory m w
+own_again m v w h k =
+    let r : ℕ = v.ram_base in
+    let a : ℕ = v.area_base in
+    let here = in_ram_still m a v.area (r, length v.ram) h.in_area h.in_ram in
+    let there = in_ram_still m r w.ram (a, length v.area) (rw k.size h.in_ram) h.in_area in
+    let one : with_bytes (own_memory m v) r w.ram ≡ with_bytes (with_bytes m a v.area) r w.ram = ap (λ (y : Memory). with_bytes y r w.ram) (own_order m v h) ∙ written_again (with_bytes m a v.area) r v.ram w.ram here k.size in
+    let two : with_bytes (with_bytes m a v.area) r w.ram ≡ with_bytes (with_bytes m r w.ram) a v.area = write_order m a r v.area w.ram h.in_area (rw k.size h.in_ram) (turned (r, length w.ram) (a, length v.area) (rw k.size h.apart)) in
+    let three : with_bytes (with_bytes (with_bytes m r w.ram) a v.area) a w.area ≡ with_bytes (with_bytes m r w.ram) a w.area = written_again (with_bytes m r w.ram) a v.area w.area there k.area_size in
+    rw (k.ram_base, k.area_base) (ap (λ (y : Memory). with_bytes y a w.area) (one ∙ two) ∙ three)
+  where
+    turned : (p q : ℕ × ℕ) → AreApart p q → AreApart q p
+    turned p q (inl x) = inr x
+    turned p q (inr x) = inl x
+
+-- a memory has the bytes of its own window
+own_same : (g : Setup) (c : ℕ) (m : Memory) (v : View) → IsWindow g c m v → m ≡ own_memory m v
+own_same g c m v w =
+    let one : with_bytes m v.ram_base v.ram ≡ m = ap (with_bytes m v.ram_base) (sym w.ram) ∙ written_same m v.ram_base (length v.ram) w.in_ram in
+    let two : with_bytes m v.area_base v.area ≡ m = ap (with_bytes m v.area_base) (sym w.area) ∙ written_same m v.area_base (length v.area) w.in_area in
+    sym (ap (λ (y : Memory). with_bytes y v.area_base v.area) one ∙ two)
+
+module _ (m : Memory) where
+  is_there : (u : Memory) (a n : ℕ) → 0x20000000 ≤ a → a + n ≤ 0x20000000 + length u.ram → is_ram u a n ≡ true
+  is_there u a n low high = let p : leb 0x20000000 a ≡ true = le-leb _ _ low in let q : leb (a + n) (0x20000000 + length u.ram) ≡ true = le-leb _ _ high in rw (p, q) refl
+
+  -- a store in the RAM or in the area is one in memory
+  put_data : (x : Store) (v : View) (bytes : List ℕ) → HasPlaces m v → length bytes ≡ x.bytes → has v.ram_base v.ram x.addr x.bytes ≡ true → with_bytes (own_memory m v) x.addr bytes ≡ own_memory m record v { ram = pasted v.ram (x.addr - v.ram_base) bytes }
+  put_data x v bytes h size here =
+      let r : ℕ = v.ram_base in
+      let a : ℕ = v.area_base in
+      let i = inside r v.ram x.addr x.bytes here in
+      let new : List ℕ = pasted v.ram (x.addr - r) bytes in
+      let long : length new ≡ length v.ram = length-pasted v.ram (x.addr - r) bytes (omega (arith, size, i.0, i.1)) in
+      ap (λ (y : Memory). with_bytes y x.addr bytes) (own_order m v h)
+      ∙ written_inside (with_bytes m a v.area) r x.addr v.ram bytes (in_ram_still m a v.area _ h.in_area h.in_ram) i.0 (omega (arith, size, i.1))
+      ∙ sym (write_order m r a new v.area (rw long h.in_ram) h.in_area (rw long h.apart))
+
+  put_further : (x : Store) (v : View) (bytes : List ℕ) → HasPlaces m v → length bytes ≡ x.bytes → has v.area_base v.area x.addr x.bytes ≡ true → with_bytes (own_memory m v) x.addr bytes ≡ own_memory m record v { area = pasted v.area (x.addr - v.area_base) bytes }
+  put_further x v bytes h size here =
+      let i = inside v.area_base v.area x.addr x.bytes here in
+      written_inside (with_bytes m v.ram_base v.ram) v.area_base x.addr v.area bytes (in_ram_still m v.ram_base v.ram _ h.in_ram h.in_area) i.0 (omega (arith, size, i.1))
+
+  put_lands : (x : Store) (v : View) → HasPlaces m v → IsSize x.bytes → IsLanding v x → with_bytes (own_memory m v) x.addr (bytes_of x.value x.bytes) ≡ own_memory m (write v x)
+  put_lands x v h small (in_data here) = rw here (put_data x v (bytes_of x.value x.bytes) h (same_size x.value x.bytes small) here)
+  put_lands x v h small (in_further beside here) = rw beside (put_further x v (bytes_of x.value x.bytes) h (same_size x.value x.bytes small) here)
+
+  -- in the RAM
+  is_in_ram : (x : Store) (v : View) → HasPlaces m v → IsLanding v x → (0x20000000 ≤ x.addr) × (x.addr + x.bytes ≤ 0x20000000 + length m.ram)
+  is_in_ram x v h (in_data here) = let i = inside v.ram_base v.ram x.addr x.bytes here in (omega (arith, h.in_ram.0, i.0), omega (arith, h.in_ram.1, i.1))
+  is_in_ram x v h (in_further beside here) = let i = inside v.area_base v.area x.addr x.bytes here in (omega (arith, h.in_area.0, i.0), omega (arith, h.in_area.1, i.1))
+
+  one_put : (x : Store) (v : View) (t : Turn) → HasPlaces m v → t.state.memory ≡ own_memory m v → IsInside v (Puts x) → HasMoved (own_memory m (write v x)) t (put t x)
+  one_put x v t h is one =
+      let bytes : List ℕ = bytes_of x.value x.bytes in
+      let to = landing v x one.1 in
+      let at = is_in_ram x v h to in
+      let long : length t.state.memory.ram ≡ length m.ram = ap (λ (y : Memory). length y.ram) is ∙ own_size m v h in
+      let here = put_there t x (is_there t.state.memory x.addr x.bytes at.0 (omega (arith, long, at.1))) in
+      record { memory = here.memory ∙ ap (λ (y : Memory). with_bytes y x.addr bytes) is ∙ put_lands x v h one.0 to; notes = here.notes; devices = here.devices }
+
+  one_move : (x : Move) (v : View) (t : Turn) → HasPlaces m v → t.state.memory ≡ own_memory m v → IsInside v x → IsBelow x → HasMoved (own_memory m (lands v x)) t (moved t x)
+  one_move (Puts x) v t h is one none = one_put x v t h is one
+  one_move (Takes a n) v t h is one none = subst (λ (u : Turn). HasMoved (own_memory m v) t u) (sym (took_none t a none)) record { memory = is; notes = refl; devices = refl }
+
+  -- moves within the window change what it says they change
+  moves_land : (ms : List Move) (v : View) (t : Turn) → HasPlaces m v → t.state.memory ≡ own_memory m v → AreInside v ms → ((x : Move) → Contains ms x → IsBelow x) → HasMoved (own_memory m (fold lands v ms)) t (fold moved t ms)
+  moves_land [] v t h is all none = record { memory = is; notes = refl; devices = refl }
+  moves_land (x ∷ xs) v t h is all none =
+      let one = first_inside v x xs all in
+      let k = move_keeps v x one in
+      let here = one_move x v t h is one (none x (zero, omega arith, refl)) in
+      let rest = moves_land xs (lands v x) (moved t x) (places_on m v (lands v x) k h) here.memory (rest_inside v (lands v x) x xs k all) (λ y there. none y (suc there.0, omega (arith, there.1), there.2)) in
+      record { memory = rest.memory; notes = rest.notes ∙ here.notes; devices = rest.devices ∙ here.devices }
+
 -- ## the turn
 
 -- it leaves a window over the memory that it leaves
-window_again : (g : Setup) (c : ℕ) (m : Memory) (v w : View) → IsWindow g c m v → Keeps v w → IsWindow g c (with_bytes m v.ram_base w.ram) w
+window_again : (g : Setup) (c : ℕ) (m : Memory) (v w : View) → IsWindow g c m v → Keeps v w → IsWindow g c (own_memory m w) w
 window_again g c m v w h same =
-    let fits : v.ram_base + length w.ram ≤ 0x20000000 + length m.ram = rw same.size h.in_ram.1 in
-    let u : Memory = with_bytes m v.ram_base w.ram in
-    let flash : length u.flash ≡ length m.flash = same_flash_length m v.ram_base w.ram h.in_ram.0 in
-    let ram : length u.ram ≡ length m.ram = same_ram_length m v.ram_base w.ram (h.in_ram.0, fits) in
+    let p = places_on m v w same (places_of g c m v h) in
+    let n : Memory = with_bytes m w.ram_base w.ram in
+    let between = in_ram_still m w.ram_base w.ram _ p.in_ram p.in_area in
+    let flash : length (own_memory m w).flash ≡ length m.flash = same_flash_length n w.area_base w.area p.in_area.0 ∙ same_flash_length m w.ram_base w.ram p.in_ram.0 in
+    let ram = own_size m w p in
+    let below : v.flash_base < 0x20000000 = omega (arith, h.in_flash.2) in
     record {
       executed = rw (same.flash_base, same.flash) h.executed;
       legible = rw (same.flash_base, same.flash, same.readable) h.legible;
       read = rw (same.ram_base, same.size) h.read;
       written = rw (same.ram_base, same.size) h.written;
+      area_read = rw (same.area_base, same.area_size) h.area_read;
+      area_written = rw (same.area_base, same.area_size, same.area_writable) h.area_written;
       in_flash = rw (same.flash_base, same.flash, flash) h.in_flash;
-      in_ram = rw (same.ram_base, same.size, ram) h.in_ram;
-      flash = rw (same.flash_base, same.flash) (bytes_below m v.ram_base v.flash_base (length v.flash) w.ram h.in_ram.0 (omega (arith, h.in_flash.2)) ∙ h.flash);
-      ram = rw same.ram_base (region_written m v.ram_base w.ram (h.in_ram.0, fits));
+      in_ram = rw ram p.in_ram;
+      in_area = rw ram p.in_area;
+      apart = p.apart;
+      flash = rw (same.flash_base, same.flash) (bytes_below n w.area_base v.flash_base (length v.flash) w.area p.in_area.0 below ∙ bytes_below m w.ram_base v.flash_base (length v.flash) w.ram p.in_ram.0 below ∙ h.flash);
+      ram = bytes_beside n w.area_base w.ram_base (length w.ram) w.area between (inl (in_ram_still m w.ram_base w.ram _ p.in_ram p.in_ram)) p.apart ∙ region_written m w.ram_base w.ram p.in_ram;
+      area = region_written n w.area_base w.area between;
     }
 
 -- the turn of a task that goes on within its window
 pub record IsGone (x : Scenario) (s : State) (c : ℕ) (v w : View) (d : Cpu) : Type 0 where
-  pub state : (turn Calls x s).state ≡ later record s { current = c } c d (with_bytes s.memory v.ram_base w.ram) 1
+  pub state : (turn Calls x s).state ≡ later record s { current = c } c d (own_memory s.memory w) 1
   pub notes : (turn Calls x s).notes ≡ []
   pub same : Keeps v w
 
@@ -232,10 +360,9 @@ one_turn x s c v w d is nothing window placed on =
     let g : Setup = x.setup in
     let y : State = record s { current = c } in
     let whole : turn Calls x s ≡ ended (acted g c (Next d on.moves) (begun y)) = plain_turn x s c is nothing ∙ ap ended (stepped_next g c (begun y) v w d window placed on) in
-    let own : s.memory ≡ with_bytes s.memory v.ram_base v.ram = sym (ap (with_bytes s.memory v.ram_base) (sym window.ram) ∙ written_same s.memory v.ram_base (length v.ram) window.in_ram) in
-    let put = moves_land s.memory on.moves v (begun y) window.in_ram.0 window.in_ram.1 own on.inside (no_device g c (begun y) v w d window placed on) in
+    let put = moves_land s.memory on.moves v (begun y) (places_of g c s.memory v window) (own_same g c s.memory v window) on.inside (no_device g c (begun y) v w d window placed on) in
     record {
-      state = ap (λ (t : Turn). t.state) whole ∙ acted_state g c y d on.moves _ (put.memory ∙ ap (λ (y : View). with_bytes s.memory v.ram_base y.ram) (sym on.after)) put.devices;
+      state = ap (λ (t : Turn). t.state) whole ∙ acted_state g c y d on.moves _ (put.memory ∙ ap (own_memory s.memory) (sym on.after)) put.devices;
       notes = ap (λ (t : Turn). t.notes) whole ∙ acted_notes g c y d on.moves put.notes;
       same = rw on.after (moves_keep on.moves v on.inside);
     }
@@ -267,9 +394,13 @@ unmoved : (s : State) (c : ℕ) → s ≡ later s c (cpu_of (task_at s c)) s.mem
 unfolding with_task task_at
 unmoved s c = ap (λ (xs : List Task). record s { tasks = xs }) (sym (set-get_or s.tasks c no_task)) ∙ ap (λ (k : ℕ). record s { turn = k; tasks = set s.tasks c (get_or s.tasks c no_task) }) (omega arith)
 
+-- a view that is left has the bases of the first one
+at_bases : (m : Memory) (v w : View) → Keeps v w → own_memory m w ≡ with_window m v w
+at_bases m v w k = rw (k.ram_base, k.area_base) refl
+
 -- the state after n of them
 pub record HasGone (x : Scenario) (s : State) (c : ℕ) (v : View) (n : ℕ) (w : View) (d : Cpu) : Type 0 where
-  pub state : state_after Calls x n s ≡ later record s { current = runner n c s.current } c d (with_bytes s.memory v.ram_base w.ram) n
+  pub state : state_after Calls x n s ≡ later record s { current = runner n c s.current } c d (own_memory s.memory w) n
   pub keeps : Keeps v w
   pub sane : Sane x.setup (state_after Calls x n s)
   pub chosen : chosen x.setup (state_after Calls x n s) ≡ Some c
@@ -291,7 +422,7 @@ module _ (x : Scenario) (s : State) (c : ℕ) (v : View) (sane : Sane x.setup s)
   next_gone : (n : ℕ) (w u : View) (d e : Cpu) → HasGone x s c v n w d → events_of x.script (s.turn + n) ≡ [] → GoesOn w d u e → IsGone x (state_after Calls x n s) c w u e
   unfolding with_task
   next_gone n w u d e h nothing on =
-      let m : Memory = with_bytes s.memory v.ram_base w.ram in
+      let m : Memory = own_memory s.memory w in
       let P : State → Type 0 = λ y. IsGone x y c w u e in
       let C : State → Type 0 = λ y. chosen x.setup y ≡ Some c in
       let over : IsWindow x.setup c m w = window_again x.setup c s.memory v w window h.keeps in
@@ -310,18 +441,17 @@ module _ (x : Scenario) (s : State) (c : ℕ) (v : View) (sane : Sane x.setup s)
   one_further : (n : ℕ) (w u : View) (d e : Cpu) → HasGone x s c v n w d → events_of x.script (s.turn + n) ≡ [] → GoesOn w d u e → HasGone x s c v (suc n) u e
   unfolding state_after
   one_further n w u d e h nothing on =
-      let m : Memory = with_bytes s.memory v.ram_base w.ram in
+      let m : Memory = own_memory s.memory w in
       let y : State = state_after Calls x n s in
       let g = next_gone n w u d e h nothing on in
       let same : (turn_after Calls x n s).state ≡ (turn Calls x y).state = ap (λ (t : Turn). t.state) (last_turn Calls x n s) in
       let at : y.turn ≡ s.turn + n = ap (λ (z : State). z.turn) h.state in
       let ch = chosen_next y h.sane h.chosen (ap (events_of x.script) at ∙ nothing) g.notes in
-      let memory : with_bytes y.memory w.ram_base u.ram ≡ with_bytes s.memory v.ram_base u.ram =
-      ap (λ (z : State). with_bytes z.memory w.ram_base u.ram) h.state
-      ∙ ap (λ (b : ℕ). with_bytes m b u.ram) h.keeps.ram_base
-      ∙ written_again s.memory v.ram_base w.ram u.ram (rw h.keeps.size window.in_ram) g.same.size in
+      let memory : own_memory y.memory u ≡ own_memory s.memory u =
+      ap (λ (z : State). own_memory z.memory u) h.state
+      ∙ own_again s.memory w u (places_on s.memory v w h.keeps (places_of x.setup c s.memory v window)) g.same in
       record {
-        state = same ∙ g.state ∙ ap (λ (z : State). later record z { current = c } c e (with_bytes y.memory w.ram_base u.ram) 1) h.state ∙ again s c d e m (with_bytes y.memory w.ram_base u.ram) n (runner n c s.current) there ∙ ap (λ (z : Memory). later record s { current = c } c e z (suc n)) memory;
+        state = same ∙ g.state ∙ ap (λ (z : State). later record z { current = c } c e (own_memory y.memory u) 1) h.state ∙ again s c d e m (own_memory y.memory u) n (runner n c s.current) there ∙ ap (λ (z : Memory). later record s { current = c } c e z (suc n)) memory;
         keeps = kept_on v w u h.keeps g.same;
         sane = subst (λ (z : State). Sane x.setup z) (sym same) (sane-after Calls x y h.sane);
         chosen = ap (chosen x.setup) same ∙ ch.0;
@@ -333,9 +463,8 @@ module _ (x : Scenario) (s : State) (c : ℕ) (v : View) (sane : Sane x.setup s)
   gone : (n : ℕ) (w : View) (d : Cpu) → ((k : ℕ) → k < n → events_of x.script (s.turn + k) ≡ []) → Glides v (cpu_of (task_at s c)) n w d → HasGone x s c v n w d
   unfolding state_after
   gone zero w d nothing on =
-      let own : s.memory ≡ with_bytes s.memory v.ram_base v.ram = sym (ap (with_bytes s.memory v.ram_base) (sym window.ram) ∙ written_same s.memory v.ram_base (length v.ram) window.in_ram) in
       rw (on.0, on.1) record {
-        state = unmoved s c ∙ ap (λ (z : Memory). later s c (cpu_of (task_at s c)) z 0) own;
+        state = unmoved s c ∙ ap (λ (z : Memory). later s c (cpu_of (task_at s c)) z 0) (own_same x.setup c s.memory v window);
         keeps = kept v v refl;
         sane = sane;
         chosen = is;
@@ -360,7 +489,7 @@ module _ (x : Scenario) (s : State) (c : ℕ) (v : View) (sane : Sane x.setup s)
   pub are_turns : (n : ℕ) (w : View) (d : Cpu) → ((k : ℕ) → k < n → events_of x.script (s.turn + k) ≡ []) → Glides v (cpu_of (task_at s c)) n w d → AreTurns x s c v n w d
   are_turns n w d nothing on =
       record {
-        state = (gone n w d nothing on).state;
+        state = let h = gone n w d nothing on in h.state ∙ ap (λ (z : Memory). later record s { current = runner n c s.current } c d z n) (at_bases s.memory v w h.keeps);
         silent = λ k lt. silent_at k lt (front n (suc k) w d (omega (arith, lt)) on);
         chosen = λ k le. let f = front n k w d le on in (gone k f.0 f.1 (λ j lt. nothing j (omega (arith, lt, le))) f.2).chosen;
         down = λ k le. let f = front n k w d le on in (gone k f.0 f.1 (λ j lt. nothing j (omega (arith, lt, le))) f.2).down;
@@ -382,5 +511,5 @@ module _ (x : Scenario) (s : State) (c : ℕ) (v : View) (sane : Sane x.setup s)
       record {
         keeps = h.keeps;
         window = subst (λ (y : State). IsWindow x.setup c y.memory w) (sym h.state) (window_again x.setup c s.memory v w window h.keeps);
-        processor = ap (λ (y : State). cpu_of (task_at y c)) h.state ∙ cpu_after record s { current = runner n c s.current } c d (with_bytes s.memory v.ram_base w.ram) n there;
+        processor = ap (λ (y : State). cpu_of (task_at y c)) h.state ∙ cpu_after record s { current = runner n c s.current } c d (own_memory s.memory w) n there;
       }

@@ -1,8 +1,8 @@
 -- Instructions on end within a window of a task's memory are its turns.
 use Rattle.words_core.specs.Regs.{reg_at, stack_pointer, program_counter}
-use Rattle.std.proofs.Common.{◌≡◌, ◌≢◌, inl, inr, ◌+◌, ◌-◌, ◌≤◌, ◌<◌, ℕ, zero, suc, Bool, true, false, not, ◌||◌, List, [], ◌∷◌, length, Option, Some, None, refl, sym, ◌∙◌, ap, subst, arith, leb}
-use Rattle.std.specs.Prelude.{Contains, Ok}
-use Rattle.std.proofs.lemmas.Bool.{le-leb, leb-true, ltb-true, false≢true}
+use Rattle.std.proofs.Common.{◌≡◌, ◌≢◌, ◌⊎◌, inl, inr, ◌+◌, ◌-◌, ◌≤◌, ◌<◌, ℕ, zero, suc, Bool, true, false, not, cond, eqb, ◌||◌, ◌&&◌, List, [], ◌∷◌, length, Option, Some, None, refl, sym, ◌∙◌, ap, subst, arith, leb}
+use Rattle.std.specs.Prelude.{Contains, Ok, find}
+use Rattle.std.proofs.lemmas.Bool.{le-leb, leb-true, ltb-true, eq-eqb, false≢true}
 use Rattle.std.proofs.lemmas.List.{set-set}
 use Rattle.region_check.specs.declared.Region.{Region}
 use Rattle.region_check.specs.declared.Right.{Right}
@@ -10,7 +10,7 @@ use Rattle.region_check.specs.declared.Right.TheVariants.{Read, Write, Execute}
 use Rattle.region_check.specs.Rights.{gives, has_right, may_use}
 use Rattle.run_script.specs.Scripts.{ScriptData, IsNext, events_of}
 use Rattle.mem_banks.specs.Memory.{Memory, bytes_at, with_bytes}
-use Rattle.mem_banks.specs.Windows.{IsInMemory, IsInRam, IsInFlash}
+use Rattle.mem_banks.specs.Windows.{IsInMemory, IsInRam, IsInFlash, IsNoRegion, AreApart}
 use Rattle.mem_banks.proofs.Windows.{region_length, written_same}
 use Rattle.thumb_exec.specs.declared.cpu.Cpu.{Cpu}
 use Rattle.thumb_exec.specs.Effect.{Halts}
@@ -24,7 +24,7 @@ use Rattle.task_table.specs.Reading.{setup_at, task_at, call_of, listen_of, is_r
 use Rattle.task_table.specs.Effects.{with_task, with_processor}
 use Rattle.task_table.specs.declared.kernel.Kernel.{Kernel}
 use Rattle.task_table.specs.Holds.{Holds, setup_of, memory_of, kept_of, note_count, notes_of as kernel_notes}
-use Rattle.task_table.specs.Openable.{AreUsable}
+use Rattle.task_table.specs.Openable.{AreUsable, span_of}
 use Rattle.task_table.specs.Window.{overlaid, IsWindowOpened}
 use Rattle.task_table.proofs.Changes.{task_at-with_task}
 use Rattle.task_table.proofs.Steps.{holds_turn}
@@ -34,8 +34,8 @@ use Rattle.board_model.specs.Turn.{may, refusals, held, cpu_of, with_current}
 use Rattle.board_model.specs.Run.{ending, is_down, state_after}
 use Rattle.board_model.proofs.Outside.{due_later}
 use Rattle.board_model.proofs.TurnChains.{chosen_is}
-use Rattle.board_core.specs.Reached.{is_flash_at, is_ram_at, IsStackRegion, AreReached}
-use Rattle.board_core.specs.Windowed.{IsWindow, IsWholeWindow, IsAtEnd, MustStop, AreTurns, runner, later}
+use Rattle.board_core.specs.Reached.{is_flash_at, is_ram_at, is_area, IsStackRegion, IsAreaRegion, AreReached}
+use Rattle.board_core.specs.Windowed.{IsWindow, IsWholeWindow, IsAtEnd, MustStop, AreTurns, runner, later, with_window}
 use Rattle.board_core.proofs.WindowTurns.{are_turns, window_then}
 use Rattle.board_core.proofs.WindowCovers.{widens}
 use Rattle.board_core.specs.declared.machine.Machine.{Machine}
@@ -97,6 +97,13 @@ record IsRamAt (at : ℕ) (r : Region) : Type 0 where
   no_device : r.rights.device ≡ false
   above : 0x20000000 ≤ r.base
 
+record IsArea (stack r : Region) : Type 0 where
+  some : 0 < r.size
+  read : r.rights.read ≡ true
+  no_device : r.rights.device ≡ false
+  above : 0x20000000 ≤ r.base
+  other : r.base ≡ stack.base → r.size ≡ stack.size → ⊥
+
 is_false : (b : Bool) → not b ≡ true → b ≡ false
 is_false true e = absurd (false≢true e)
 is_false false e = refl
@@ -130,9 +137,47 @@ ram_at at r h =
       above = leb-true _ _ five.1;
     }
 
+same_spans : (a b c d : ℕ) → not (eqb a b && eqb c d) ≡ true → a ≡ b → c ≡ d → ⊥
+same_spans a b c d h e f =
+    let p : eqb a b ≡ true = eq-eqb a b e in
+    let q : eqb c d ≡ true = eq-eqb c d f in
+    let both_same : (eqb a b && eqb c d) ≡ true = rw (p, q) refl in
+    false≢true (ap (λ (x : Bool). not x) (sym both_same) ∙ h)
+
+area_at : (stack r : Region) → is_area stack r ≡ true → IsArea stack r
+area_at stack r h =
+    let four = both _ _ h in
+    let three = both _ _ four.0 in
+    let two = both _ _ three.0 in
+    let one = both _ _ two.0 in
+    record {
+      some = ltb-true _ _ one.1;
+      read = two.1;
+      no_device = is_false _ three.1;
+      above = leb-true _ _ one.0;
+      other = same_spans r.base stack.base r.size stack.size four.1;
+    }
+
+some_same : (y z : Region) → Some y ≡ Some z → y ≡ z
+some_same y z e = cc
+
+-- the first one that passes a test is one of them, and passes it
+found_first : (p : Region → Bool) (xs : List Region) (r : Region) → find p xs ≡ Some r → Contains xs r × (p r ≡ true)
+found_first p [] r e = absurd cc
+found_first p (x ∷ xs) r e = by (p x) refl (λ more. found_first p xs r more) e
+  where
+    by : (b : Bool) → p x ≡ b → (find p xs ≡ Some r → Contains xs r × (p r ≡ true)) → cond b (Some x) (find p xs) ≡ Some r → Contains (x ∷ xs) r × (p r ≡ true)
+    by true h further same = let is : x ≡ r = some_same x r same in ((zero, omega arith, is), ap p (sym is) ∙ h)
+    by false h further same = let rest = further same in ((suc rest.0.0, omega (arith, rest.0.1), rest.0.2), rest.1)
+
+-- an area has rights of its own, and lies in the RAM
+further_at : (regions : List Region) (stack r : Region) → IsAreaRegion regions stack r → IsNoRegion (span_of r) ⊎ (Contains regions r × IsArea stack r)
+further_at regions stack r (inl e) = let f = found_first (is_area stack) regions r e in inr (f.0, area_at stack r f.1)
+further_at regions stack r (inr x) = inl x.0
+
 -- the regions of a window can be opened
-pub are_usable : (regions : List Region) (pc sp : ℕ) (flash ram : Region) → AreReached regions pc sp flash ram → AreUsable regions flash ram
-are_usable regions pc sp flash ram are =
+pub are_usable : (regions : List Region) (pc sp : ℕ) (flash ram area : Region) → AreReached regions pc sp flash ram area → AreUsable regions flash ram area
+are_usable regions pc sp flash ram area are =
     let f = flash_at pc flash are.flash in
     record {
       flash_usable = record { here = are.here; no_device = f.no_device; some = omega (arith, f.from, f.to) };
@@ -141,17 +186,29 @@ are_usable regions pc sp flash ram are =
         | inl x ↦ let h = ram_at sp ram x.1 in inr (record { here = x.0; no_device = h.no_device; some = h.some }, h.above)
         | inr x ↦ inl x.0
       ];
+      area_usable = elim (further_at regions ram area are.area) [
+        | inl x ↦ inl x
+        | inr x ↦ let h = x.1 in inr (record { here = x.0; no_device = h.no_device; some = h.some }, h.above)
+      ];
+      other = elim (further_at regions ram area are.area) [
+        | inl x ↦ inl x
+        | inr x ↦ let h = x.1 in inr (λ e. h.other (ap (λ (p : ℕ × ℕ). p.0) (sym e)) (ap (λ (p : ℕ × ℕ). p.1) (sym e)))
+      ];
     }
 
-module _ (g : Setup) (c : ℕ) (m : Memory) (pc sp : ℕ) (flash ram : Region) (v : View)
-    (are : AreReached (setup_at g c).regions pc sp flash ram) (flash_base : v.flash_base ≡ flash.base) (readable : v.readable ≡ flash.rights.read) (ram_base : v.ram_base ≡ ram.base)
-    (flash_there : IsInMemory m (flash.base, flash.size)) (ram_there : IsInRam m (ram.base, ram.size))
-    (flash_bytes : v.flash ≡ bytes_at m flash.base flash.size) (ram_bytes : v.ram ≡ bytes_at m ram.base ram.size) where
+module _ (g : Setup) (c : ℕ) (m : Memory) (pc sp : ℕ) (flash ram area : Region) (v : View)
+    (are : AreReached (setup_at g c).regions pc sp flash ram area) (flash_base : v.flash_base ≡ flash.base) (readable : v.readable ≡ flash.rights.read) (ram_base : v.ram_base ≡ ram.base)
+    (area_base : v.area_base ≡ area.base) (writable : v.area_writable ≡ area.rights.write)
+    (flash_there : IsInMemory m (flash.base, flash.size)) (ram_there : IsInRam m (ram.base, ram.size)) (area_there : IsInRam m (area.base, area.size)) (apart : AreApart (ram.base, ram.size) (area.base, area.size))
+    (flash_bytes : v.flash ≡ bytes_at m flash.base flash.size) (ram_bytes : v.ram ≡ bytes_at m ram.base ram.size) (area_bytes : v.area ≡ bytes_at m area.base area.size) where
   flash_long : length v.flash ≡ flash.size
   flash_long = ap (λ (xs : List ℕ). length xs) flash_bytes ∙ region_length m flash.base flash.size flash_there
 
   ram_long : length v.ram ≡ ram.size
   ram_long = ap (λ (xs : List ℕ). length xs) ram_bytes ∙ region_length m ram.base ram.size (inl ram_there)
+
+  area_long : length v.area ≡ area.size
+  area_long = ap (λ (xs : List ℕ). length xs) area_bytes ∙ region_length m area.base area.size (inl area_there)
 
   of_flash : (right : Right) → has_right flash.rights right ≡ true → (a : ℕ) → v.flash_base ≤ a → a < v.flash_base + length v.flash → may g c right a ≡ true
   of_flash right has a low high = each_byte (setup_at g c).regions right flash a are.here has (omega (arith, low, flash_base)) (omega (arith, high, flash_base, flash_long))
@@ -162,6 +219,13 @@ module _ (g : Setup) (c : ℕ) (m : Memory) (pc sp : ℕ) (flash ram : Region) (
       by : IsStackRegion (setup_at g c).regions sp ram → may g c right a ≡ true
       by (inl x) = each_byte (setup_at g c).regions right ram a x.0 (has (ram_at sp ram x.1)) (omega (arith, low, ram_base)) (omega (arith, high, ram_base, ram_long))
       by (inr x) = let none : ram.size ≡ 0 = x.0.1 in absurd (omega (arith, low, high, ram_long, none))
+
+  of_area : (right : Right) → (IsArea ram area → has_right area.rights right ≡ true) → (a : ℕ) → v.area_base ≤ a → a < v.area_base + length v.area → may g c right a ≡ true
+  of_area right has a low high = by (further_at (setup_at g c).regions ram area are.area)
+    where
+      by : IsNoRegion (span_of area) ⊎ (Contains (setup_at g c).regions area × IsArea ram area) → may g c right a ≡ true
+      by (inl x) = let none : area.size ≡ 0 = x.1 in absurd (omega (arith, low, high, area_long, none))
+      by (inr x) = each_byte (setup_at g c).regions right area a x.0 (has x.1) (omega (arith, low, area_base)) (omega (arith, high, area_base, area_long))
 
   -- the flash ends below the RAM
   pub flash_below : v.flash_base + length v.flash ≤ v.ram_base
@@ -175,14 +239,30 @@ module _ (g : Setup) (c : ℕ) (m : Memory) (pc sp : ℕ) (flash ram : Region) (
         legible = λ e. of_flash Read (sym readable ∙ e);
         read = of_ram Read (λ h. h.read);
         written = of_ram Write (λ h. h.write);
+        area_read = of_area Read (λ h. h.read);
+        area_written = λ e. of_area Write (λ h. sym writable ∙ e);
         in_flash = rw (flash_base, flash_long) (in_flash m (flash.base, flash.size) f.below flash_there);
         in_ram = rw (ram_base, ram_long) ram_there;
+        in_area = rw (area_base, area_long) area_there;
+        apart = rw (ram_base, ram_long, area_base, area_long) apart;
         flash = rw (flash_base, flash_long) (sym flash_bytes);
         ram = rw (ram_base, ram_long) (sym ram_bytes);
+        area = rw (area_base, area_long) (sym area_bytes);
       }
 
   pub whole_window : IsWholeWindow g c m pc sp v
-  whole_window = record { is = window_of; code = flash; stack = ram; reached = are; flash = (flash_base, flash_long); readable = readable; ram = (ram_base, ram_long) }
+  whole_window = record {
+    is = window_of;
+    code = flash;
+    stack = ram;
+    further = area;
+    reached = are;
+    flash = (flash_base, flash_long);
+    readable = readable;
+    ram = (ram_base, ram_long);
+    area = (area_base, area_long);
+    writable = writable;
+  }
 
 -- ## the kernel whose window was opened
 
@@ -209,22 +289,22 @@ later_ready : (s : State) (m : Memory) (n c : ℕ) → is_ready s c ≡ true →
 unfolding is_ready task_at call_of listen_of
 later_ready s m n c h = h
 
-pub lent_loaded : {X : Type 0} {H : X → Type 0} (shown : Shows X H) (g : Setup) (m : Machine X H) (r' : Reach X H) (cpu' : Cpu) (c : ℕ) (t : Turn) (at : ℕ) (bytes : List ℕ) (n : ℕ) → HasContext shown g m c t → c < length t.state.tasks → r'.devices ≡ m.reach.devices →
-    ((u : Turn) → Holds g m.reach.kernel u → Holds g r'.kernel (with_current c (overlaid at bytes u))) → IsLoaded shown g r' cpu' record t { state = later record t.state { current = c } c cpu' (with_bytes t.state.memory at bytes) n }
-lent_loaded shown g m r' cpu' c t at bytes n h inside same f =
+pub lent_loaded : {X : Type 0} {H : X → Type 0} (shown : Shows X H) (g : Setup) (m : Machine X H) (r' : Reach X H) (cpu' : Cpu) (c : ℕ) (t : Turn) (at by : ℕ) (bytes more : List ℕ) (n : ℕ) → HasContext shown g m c t → c < length t.state.tasks → r'.devices ≡ m.reach.devices →
+    ((u : Turn) → Holds g m.reach.kernel u → Holds g r'.kernel (with_current c (overlaid by more (overlaid at bytes u)))) → IsLoaded shown g r' cpu' record t { state = later record t.state { current = c } c cpu' (with_bytes (with_bytes t.state.memory at bytes) by more) n }
+lent_loaded shown g m r' cpu' c t at by bytes more n h inside same f =
     let cpu : Cpu = m.processor in
     let saved : Turn = with_current c h.saved in
     let now : Turn = with_current c t in
     let rest = rest_of saved now cpu h.is in
-    let y : Memory = with_bytes saved.state.memory at bytes in
+    let y : Memory = with_bytes (with_bytes saved.state.memory at bytes) by more in
     let there : c < length saved.state.tasks = rw rest.count at inside in
-    let same_turn : record t { state = later now.state c cpu' (with_bytes t.state.memory at bytes) n } ≡ with_cpu cpu' (saved_later saved y n) =
-    ap (λ (u : Turn). record u { state = later u.state c cpu' (with_bytes t.state.memory at bytes) n }) h.is
-    ∙ ap (λ (z : Memory). record (with_cpu cpu saved) { state = later (with_cpu cpu saved).state c cpu' (with_bytes z at bytes) n }) rest.memory
+    let same_turn : record t { state = later now.state c cpu' (with_bytes (with_bytes t.state.memory at bytes) by more) n } ≡ with_cpu cpu' (saved_later saved y n) =
+    ap (λ (u : Turn). record u { state = later u.state c cpu' (with_bytes (with_bytes t.state.memory at bytes) by more) n }) h.is
+    ∙ ap (λ (z : Memory). record (with_cpu cpu saved) { state = later (with_cpu cpu saved).state c cpu' (with_bytes (with_bytes z at bytes) by more) n }) rest.memory
     ∙ later_loaded saved cpu cpu' y n there in
     record {
       saved = saved_later saved y n;
-      holds = record { kernel = held (holds_turn g (kept_of r'.kernel) (with_current c (overlaid at bytes h.saved)) (saved.state.turn + n) (f h.saved h.holds.kernel)); devices = ap (data_of shown) same ∙ h.holds.devices };
+      holds = record { kernel = held (holds_turn g (kept_of r'.kernel) (with_current c (overlaid by more (overlaid at bytes h.saved))) (saved.state.turn + n) (f h.saved h.holds.kernel)); devices = ap (data_of shown) same ∙ h.holds.devices };
       ready = later_ready h.saved.state y (saved.state.turn + n) c h.ready;
       is = same_turn;
     }
@@ -232,49 +312,53 @@ lent_loaded shown g m r' cpu' c t at bytes n h inside same f =
     held : {u : Turn} → Holds g r'.kernel u → Holds g r'.kernel u
     held x = x
 
--- a window whose bytes are as they were
-pub lent_none : (g : Setup) (k k' : Kernel) (at size : ℕ) (bytes : List ℕ) → IsInRam (memory_of k) (at, size) → bytes ≡ bytes_at (memory_of k) at size → ((u : Turn) → Holds g k u → Holds g k' (overlaid at bytes u)) → (u : Turn) → Holds g k u → Holds g k' u
-lent_none g k k' at size bytes there is f u h =
-    let whole : with_bytes u.state.memory at bytes ≡ u.state.memory =
-    ap (λ (xs : List ℕ). with_bytes u.state.memory at xs) is
-    ∙ ap (λ (m : Memory). with_bytes m at (bytes_at (memory_of k) at size)) (sym h.memory)
-    ∙ written_same (memory_of k) at size there
+-- regions whose bytes are as they were
+bytes_same : (m : Memory) (at size : ℕ) (bytes : List ℕ) → IsInRam m (at, size) → bytes ≡ bytes_at m at size → with_bytes m at bytes ≡ m
+bytes_same m at size bytes there is = ap (with_bytes m at) is ∙ written_same m at size there
+
+pub lent_none : (g : Setup) (k k' : Kernel) (at size by extent : ℕ) (bytes more : List ℕ) → IsInRam (memory_of k) (at, size) → IsInRam (memory_of k) (by, extent) → bytes ≡ bytes_at (memory_of k) at size → more ≡ bytes_at (memory_of k) by extent →
+    ((u : Turn) → Holds g k u → Holds g k' (overlaid by more (overlaid at bytes u))) → (u : Turn) → Holds g k u → Holds g k' u
+lent_none g k k' at size by extent bytes more there beside is also f u h =
+    let whole : with_bytes (with_bytes u.state.memory at bytes) by more ≡ u.state.memory =
+    ap (λ (m : Memory). with_bytes (with_bytes m at bytes) by more) (sym h.memory)
+    ∙ ap (λ (m : Memory). with_bytes m by more) (bytes_same (memory_of k) at size bytes there is)
+    ∙ bytes_same (memory_of k) by extent more beside also
     ∙ h.memory in
     subst (λ (m : Memory). Holds g k' record u { state = record u.state { memory = m } }) whole (f u h)
 
 -- a window of a task was opened for its processor, which is still in the machine
-module _ {X : Type 0} {H : X → Type 0} (shown : Shows X H) (g : Setup) (m : Machine X H) (task most : ℕ) (t : Turn) (flash ram : Region) (pc sp : ℕ) (a b : Glider) (k' : Kernel)
-    (h : HasContext shown g m task t) (inside : task < length t.state.tasks) (reached : AreReached (setup_at (setup_of m.reach.kernel) task).regions pc sp flash ram)
+module _ {X : Type 0} {H : X → Type 0} (shown : Shows X H) (g : Setup) (m : Machine X H) (task most : ℕ) (t : Turn) (flash ram area : Region) (pc sp : ℕ) (a b : Glider) (k' : Kernel)
+    (h : HasContext shown g m task t) (inside : task < length t.state.tasks) (reached : AreReached (setup_at (setup_of m.reach.kernel) task).regions pc sp flash ram area)
     (pc_is : pc ≡ register t.state task program_counter) (sp_is : sp ≡ register t.state task stack_pointer)
-    (processor_is : a.runner.processor ≡ m.processor) (flash_is : a.runner.window.flash_base ≡ flash.base) (readable_is : a.runner.window.readable ≡ flash.rights.read) (ram_is : a.runner.window.ram_base ≡ ram.base) (most_is : a.most ≡ most)
-    (opened : IsWindowOpened HasWorked m.reach.kernel flash ram a b k') where
+    (processor_is : a.runner.processor ≡ m.processor) (flash_is : a.runner.window.flash_base ≡ flash.base) (readable_is : a.runner.window.readable ≡ flash.rights.read) (ram_is : a.runner.window.ram_base ≡ ram.base) (area_is : a.runner.window.area_base ≡ area.base) (writable_is : a.runner.window.area_writable ≡ area.rights.write) (most_is : a.most ≡ most)
+    (opened : IsWindowOpened HasWorked m.reach.kernel flash ram area a b k') where
   abbrev before : View
-  before = lent_view a (bytes_at (memory_of m.reach.kernel) flash.base flash.size) (bytes_at (memory_of m.reach.kernel) ram.base ram.size)
+  before = lent_view a (bytes_at (memory_of m.reach.kernel) flash.base flash.size) (bytes_at (memory_of m.reach.kernel) ram.base ram.size) (bytes_at (memory_of m.reach.kernel) area.base area.size)
 
   abbrev left : View
-  left = lent_view a (bytes_at (memory_of m.reach.kernel) flash.base flash.size) opened.window.after
+  left = lent_view a (bytes_at (memory_of m.reach.kernel) flash.base flash.size) opened.window.after opened.window.area_after
 
-  are : AreReached (setup_at g task).regions pc sp flash ram
-  are = let P : Setup → Type 0 = λ x. AreReached (setup_at x task).regions pc sp flash ram in subst P h.holds.kernel.setup reached
+  are : AreReached (setup_at g task).regions pc sp flash ram area
+  are = let P : Setup → Type 0 = λ x. AreReached (setup_at x task).regions pc sp flash ram area in subst P h.holds.kernel.setup reached
 
   whole_here : IsWholeWindow g task t.state.memory (register t.state task program_counter) (register t.state task stack_pointer) before
   whole_here =
       let W : Memory → Type 0 = λ y. IsWholeWindow g task y pc sp before in
       let P : ℕ → Type 0 = λ at. IsWholeWindow g task t.state.memory at sp before in
       let S : ℕ → Type 0 = λ at. IsWholeWindow g task t.state.memory (register t.state task program_counter) at before in
-      subst S sp_is (subst P pc_is (subst W (context_memory shown g m task t h) (whole_window g task (memory_of m.reach.kernel) pc sp flash ram before are flash_is readable_is ram_is opened.window.flash_there opened.window.ram_there refl refl)))
+      subst S sp_is (subst P pc_is (subst W (context_memory shown g m task t h) (whole_window g task (memory_of m.reach.kernel) pc sp flash ram area before are flash_is readable_is ram_is area_is writable_is opened.window.flash_there opened.window.ram_there opened.window.area_there opened.window.area_apart.1 refl refl refl)))
 
   glides_here : Glides before (cpu_of (task_at t.state task)) b.made left b.runner.processor
   glides_here = let G : Cpu → Type 0 = λ y. Glides before y b.made left b.runner.processor in subst G (processor_is ∙ context_cpu shown g m task t h inside) opened.window.work.glides
 
   far_here : b.made < most → Halts (step_effect (refused_by left) (held_by left) b.runner.processor)
-  far_here lt = opened.window.work.far (flash_below g task (memory_of m.reach.kernel) pc sp flash ram before are flash_is readable_is ram_is opened.window.flash_there opened.window.ram_there refl refl) (omega (arith, lt, most_is))
+  far_here lt = opened.window.work.far (flash_below g task (memory_of m.reach.kernel) pc sp flash ram area before are flash_is readable_is ram_is area_is writable_is opened.window.flash_there opened.window.ram_there opened.window.area_there opened.window.area_apart.1 refl refl refl) (omega (arith, lt, most_is))
 
   calls_here : (b.at_syscall ≡ true → b.made < most) × (b.at_syscall ≡ true → IsAtSyscall left b.runner.processor) × (b.made < most → b.at_syscall ≡ is_at_syscall left b.runner.processor)
   calls_here = (
     λ e. let lt = opened.window.work.short e in omega (arith, lt, most_is),
     opened.window.work.calls,
-    λ lt. opened.window.work.told (flash_below g task (memory_of m.reach.kernel) pc sp flash ram before are flash_is readable_is ram_is opened.window.flash_there opened.window.ram_there refl refl) (omega (arith, lt, most_is)),
+    λ lt. opened.window.work.told (flash_below g task (memory_of m.reach.kernel) pc sp flash ram area before are flash_is readable_is ram_is area_is writable_is opened.window.flash_there opened.window.ram_there opened.window.area_there opened.window.area_apart.1 refl refl refl) (omega (arith, lt, most_is)),
   )
 
   -- instructions were made: the task is the current one from now on
@@ -282,7 +366,7 @@ module _ {X : Type 0} {H : X → Type 0} (shown : Shows X H) (g : Setup) (m : Ma
   has_run m' some loaded processor same f =
       let G : Cpu → Type 0 = λ y. Glides before (cpu_of (task_at t.state task)) b.made left y in
       let F : Cpu → Type 0 = λ y. b.made < most → Halts (step_effect (refused_by left) (held_by left) y) in
-      let L : ℕ → Type 0 = λ at. IsLoaded shown g m'.reach m'.processor record t { state = later record t.state { current = task } task m'.processor (with_bytes t.state.memory at opened.window.after) b.made } in
+      let L : ℕ → ℕ → Type 0 = λ at by. IsLoaded shown g m'.reach m'.processor record t { state = later record t.state { current = task } task m'.processor (with_bytes (with_bytes t.state.memory at opened.window.after) by opened.window.area_after) b.made } in
       record {
         window = before;
         after = left;
@@ -293,21 +377,21 @@ module _ {X : Type 0} {H : X → Type 0} (shown : Shows X H) (g : Setup) (m : Ma
         calling = λ e. subst (λ (y : Cpu). IsAtSyscall left y) (sym processor) (calls_here.1 e);
         told = λ lt. calls_here.2 lt ∙ ap (is_at_syscall left) (sym processor);
         stays = λ none. absurd (omega (arith, some, none));
-        goes = λ lt. loaded_by shown m'.loaded g m'.reach m'.processor _ loaded (subst L (sym ram_is) (lent_loaded shown g m m'.reach m'.processor task t ram.base opened.window.after b.made h inside same (λ u held. f (overlaid ram.base opened.window.after u) (opened.holds g u held))));
+        goes = λ lt. loaded_by shown m'.loaded g m'.reach m'.processor _ loaded (subst (λ (at : ℕ). L at before.area_base) (sym ram_is) (subst (λ (by : ℕ). L ram.base by) (sym area_is) (lent_loaded shown g m m'.reach m'.processor task t ram.base area.base opened.window.after opened.window.area_after b.made h inside same (λ u held. f (overlaid area.base opened.window.area_after (overlaid ram.base opened.window.after u)) (opened.holds g u held)))));
       }
 
-  none_here : Glides before (cpu_of (task_at t.state task)) 0 left b.runner.processor → (opened.window.after ≡ bytes_at (memory_of m.reach.kernel) ram.base ram.size) × (b.runner.processor ≡ m.processor)
-  none_here e = (ap (λ (v : View). v.ram) e.0, e.1 ∙ sym (context_cpu shown g m task t h inside))
+  none_here : Glides before (cpu_of (task_at t.state task)) 0 left b.runner.processor → (opened.window.after ≡ bytes_at (memory_of m.reach.kernel) ram.base ram.size) × (opened.window.area_after ≡ bytes_at (memory_of m.reach.kernel) area.base area.size) × (b.runner.processor ≡ m.processor)
+  none_here e = (ap (λ (v : View). v.ram) e.0, ap (λ (v : View). v.area) e.0, e.1 ∙ sym (context_cpu shown g m task t h inside))
 
   -- none was made: all is as it was
   pub has_stayed : (m' : Machine X H) → b.made ≡ 0 → m'.loaded ≡ m.loaded → m'.processor ≡ m.processor → m'.reach ≡ record m.reach { kernel = k' } → MachineHolds shown g m t → IsGlided shown g m' task t most b.made b.at_syscall
   has_stayed m' none loaded processor reach holds =
       let N : ℕ → Type 0 = λ n. Glides before (cpu_of (task_at t.state task)) n left b.runner.processor in
       let same = none_here (subst N none glides_here) in
-      let own : b.runner.processor ≡ m'.processor = same.1 ∙ sym processor in
+      let own : b.runner.processor ≡ m'.processor = same.2 ∙ sym processor in
       let G : Cpu → Type 0 = λ y. Glides before (cpu_of (task_at t.state task)) b.made left y in
       let F : Cpu → Type 0 = λ y. b.made < most → Halts (step_effect (refused_by left) (held_by left) y) in
-      let f = lent_none g m.reach.kernel k' ram.base ram.size opened.window.after opened.window.ram_there same.0 (opened.holds g) in
+      let f = lent_none g m.reach.kernel k' ram.base ram.size area.base area.size opened.window.after opened.window.area_after opened.window.ram_there opened.window.area_there same.0 same.1 (opened.holds g) in
       record {
         window = before;
         after = left;
@@ -378,7 +462,7 @@ module _ {X : Type 0} {H : X → Type 0} (shown : Shows X H) (x : Scenario) (u :
   unfolding state_after
   held_after h = by n refl h.stays h.goes (turns_are h).state
     where
-      by : (k : ℕ) → k ≡ n → (k ≡ 0 → MachineHolds shown x.setup m (rested b.machine u)) → (0 < k → MachineHolds shown x.setup m (rested b.machine (later record u { current = task } task m.processor (with_bytes u.memory h.window.ram_base h.after.ram) k))) → state_after Calls x k u ≡ later record u { current = runner k task u.current } task m.processor (with_bytes u.memory h.window.ram_base h.after.ram) k →
+      by : (k : ℕ) → k ≡ n → (k ≡ 0 → MachineHolds shown x.setup m (rested b.machine u)) → (0 < k → MachineHolds shown x.setup m (rested b.machine (later record u { current = task } task m.processor (with_window u.memory h.window h.after) k))) → state_after Calls x k u ≡ later record u { current = runner k task u.current } task m.processor (with_window u.memory h.window h.after) k →
           MachineHolds shown x.setup m (rested b.machine (state_after Calls x k u))
       by zero e stays goes is = stays refl
       by (suc k) e stays goes is = subst (λ (y : State). MachineHolds shown x.setup m (rested b.machine y)) (sym is) (goes (omega arith))
@@ -435,10 +519,13 @@ module _ {X : Type 0} {H : X → Type 0} (shown : Shows X H) (x : Scenario) (u :
           is = left.window;
           code = h.whole.code;
           stack = h.whole.stack;
+          further = h.whole.further;
           reached = h.whole.reached;
           flash = (same.flash_base ∙ h.whole.flash.0, ap (λ (xs : List ℕ). length xs) same.flash ∙ h.whole.flash.1);
           readable = same.readable ∙ h.whole.readable;
           ram = (same.ram_base ∙ h.whole.ram.0, same.size ∙ h.whole.ram.1);
+          area = (same.area_base ∙ h.whole.area.0, same.area_size ∙ h.whole.area.1);
+          writable = same.area_writable ∙ h.whole.writable;
         };
         halts = subst (λ (d : Cpu). Halts (step_effect (refused_by h.after) (held_by h.after) d)) (sym left.processor) (h.far lt);
         told = h.told lt ∙ ap (is_at_syscall h.after) (sym left.processor);

@@ -2,7 +2,6 @@
 use Rattle.words_core.specs.Regs.{stack_pointer, program_counter}
 use Rattle.std.specs.Prelude.{ℕ, ◌≡◌, ◌⊎◌, ◌+◌, ◌≤◌, ◌<◌, Bool, List, length, true, false}
 use Rattle.std.specs.List.{list_any}
-use Rattle.mem_banks.specs.Memory.{with_bytes}
 use Rattle.thumb_exec.specs.Effect.{Halts}
 use Rattle.thumb_exec.specs.Fetch.{step_effect}
 use Rattle.thumb_step.specs.Windows.{View, Glides, IsAtSyscall, is_at_syscall, refused_by, held_by}
@@ -10,33 +9,36 @@ use Rattle.task_table.specs.State.{Setup, Turn}
 use Rattle.task_table.specs.Reading.{task_at, setup_at, register}
 use Rattle.board_model.specs.Turn.{cpu_of}
 use Rattle.board_core.specs.Reached.{is_flash_at}
-use Rattle.board_core.specs.Windowed.{IsWholeWindow, later}
+use Rattle.board_core.specs.Windowed.{IsWholeWindow, later, with_window}
 use Rattle.board_core.specs.declared.glider.Glider.{Glider}
 use Rattle.board_core.specs.declared.machine.Machine.{Machine}
 use Rattle.board_core.specs.Machine.{MachineHolds}
 use Rattle.board_core.specs.Data.{Shows}
 
 -- what the processor reaches while it has these bytes
-abbrev pub lent_view : Glider → List ℕ → List ℕ → View
-lent_view a flash ram =
+abbrev pub lent_view : Glider → List ℕ → List ℕ → List ℕ → View
+lent_view a flash ram area =
     record {
       flash_base = a.runner.window.flash_base;
       flash = flash;
       readable = a.runner.window.readable;
       ram_base = a.runner.window.ram_base;
       ram = ram;
+      area_base = a.runner.window.area_base;
+      area = area;
+      area_writable = a.runner.window.area_writable;
     }
 
 -- it made instructions on end within its window
-pub record HasWorked (a : Glider) (flash ram : List ℕ) (b : Glider) (after : List ℕ) : Type 0 where
-  pub glides : Glides (lent_view a flash ram) a.runner.processor b.made (lent_view a flash after) b.runner.processor
+pub record HasWorked (a : Glider) (flash ram area : List ℕ) (b : Glider) (after area_after : List ℕ) : Type 0 where
+  pub glides : Glides (lent_view a flash ram area) a.runner.processor b.made (lent_view a flash after area_after) b.runner.processor
   pub within : b.made ≤ a.most
   -- it stopped before that many only where the next one is a system call, faults or reaches elsewhere
-  pub far : a.runner.window.flash_base + length flash ≤ a.runner.window.ram_base → b.made < a.most → Halts (step_effect (refused_by (lent_view a flash after)) (held_by (lent_view a flash after)) b.runner.processor)
+  pub far : a.runner.window.flash_base + length flash ≤ a.runner.window.ram_base → b.made < a.most → Halts (step_effect (refused_by (lent_view a flash after area_after)) (held_by (lent_view a flash after area_after)) b.runner.processor)
   -- at a system call where it says so, and it says so where it did
   pub short : b.at_syscall ≡ true → b.made < a.most
-  pub calls : b.at_syscall ≡ true → IsAtSyscall (lent_view a flash after) b.runner.processor
-  pub told : a.runner.window.flash_base + length flash ≤ a.runner.window.ram_base → b.made < a.most → b.at_syscall ≡ is_at_syscall (lent_view a flash after) b.runner.processor
+  pub calls : b.at_syscall ≡ true → IsAtSyscall (lent_view a flash after area_after) b.runner.processor
+  pub told : a.runner.window.flash_base + length flash ≤ a.runner.window.ram_base → b.made < a.most → b.at_syscall ≡ is_at_syscall (lent_view a flash after area_after) b.runner.processor
 
 -- n instructions on end of a task within a window, of which as many go on as there may be, and whether the next one is known to
 -- be a system call. Where there were some, the task is the current one.
@@ -50,7 +52,7 @@ pub record IsGlided {X : Type 0} {H : X → Type 0} (shown : Shows X H) (g : Set
   pub calling : calls ≡ true → IsAtSyscall after m.processor
   pub told : n < most → calls ≡ is_at_syscall after m.processor
   pub stays : n ≡ 0 → MachineHolds shown g m t
-  pub goes : 0 < n → MachineHolds shown g m record t { state = later record t.state { current = c } c m.processor (with_bytes t.state.memory window.ram_base after.ram) n }
+  pub goes : 0 < n → MachineHolds shown g m record t { state = later record t.state { current = c } c m.processor (with_window t.state.memory window after) n }
 
 -- none, since the task fetches from no region of the flash
 pub record HasNoWindow {X : Type 0} {H : X → Type 0} (shown : Shows X H) (g : Setup) (m : Machine X H) (c : ℕ) (t : Turn) (n : ℕ) (calls : Bool) : Type 0 where

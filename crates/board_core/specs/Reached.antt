@@ -1,5 +1,5 @@
 -- Which regions of a task make the window in which it goes on.
-use Rattle.std.specs.Prelude.{ℕ, ◌≡◌, ◌⊎◌, Bool, ◌&&◌, not, true, false, List, Contains, nat_le, nat_lt}
+use Rattle.std.specs.Prelude.{ℕ, ◌≡◌, ◌⊎◌, Bool, ◌&&◌, not, true, false, List, Contains, Some, None, find, nat_le, nat_lt, nat_eq}
 use Rattle.std.specs.List.{list_any}
 use Rattle.region_check.specs.declared.Region.{Region}
 use Rattle.region_check.specs.Spans.{spans}
@@ -18,8 +18,17 @@ is_ram_at at r = spans r at 0 && nat_lt 0 r.size && r.rights.read && r.rights.wr
 abbrev pub IsStackRegion : List Region → ℕ → Region → Type 0
 IsStackRegion regions sp r = (Contains regions r × (is_ram_at sp r ≡ true)) ⊎ (IsNoRegion (span_of r) × (list_any (is_ram_at sp) regions ≡ false))
 
--- the region that has the instruction at PC, and that of the stack
-pub record AreReached (regions : List Region) (pc sp : ℕ) (code stack : Region) : Type 0 where
+-- a region of the RAM that may be read, has bytes and is not that of the stack
+abbrev pub is_area : Region → Region → Bool
+is_area stack r = nat_le 0x20000000 r.base && nat_lt 0 r.size && r.rights.read && not r.rights.device && not (nat_eq r.base stack.base && nat_eq r.size stack.size)
+
+-- the first of some regions that is one, or none where none is
+abbrev pub IsAreaRegion : List Region → Region → Region → Type 0
+IsAreaRegion regions stack r = (find (is_area stack) regions ≡ Some r) ⊎ (IsNoRegion (span_of r) × (find (is_area stack) regions ≡ None))
+
+-- the region that has the instruction at PC, that of the stack, and the first further one of the RAM
+pub record AreReached (regions : List Region) (pc sp : ℕ) (code stack further : Region) : Type 0 where
   pub here : Contains regions code
   pub flash : is_flash_at pc code ≡ true
   pub ram : IsStackRegion regions sp stack
+  pub area : IsAreaRegion regions stack further

@@ -4,7 +4,7 @@ use Rattle.std.specs.Prelude.{ℕ, zero, suc, ◌≡◌, ◌⊎◌, Bool, false,
 use Rattle.region_check.specs.declared.Region.{Region}
 use Rattle.region_check.specs.declared.Right.TheVariants.{Read, Write, Execute}
 use Rattle.mem_banks.specs.Memory.{Memory, bytes_at, with_bytes}
-use Rattle.mem_banks.specs.Windows.{IsInFlash, IsInRam}
+use Rattle.mem_banks.specs.Windows.{IsInFlash, IsInRam, AreApart}
 use Rattle.run_script.specs.Scripts.{events_of}
 use Rattle.thumb_exec.specs.declared.cpu.Cpu.{Cpu}
 use Rattle.std.specs.List.{list_any}
@@ -22,27 +22,36 @@ use Rattle.board_model.specs.Script.{Scenario}
 use Rattle.board_model.specs.Turn.{may, refusals, held, cpu_of}
 use Rattle.board_model.specs.Run.{is_down, turn_after, state_after}
 
--- a window of a task: its flash stands in the flash and its data in the RAM, as memory has them, and the task may use
--- each byte so
+-- a window of a task: its flash stands in the flash, its data and, beside them, its area in the RAM, as memory has them, and the
+-- task may use each byte so
 pub record IsWindow (g : Setup) (c : ℕ) (m : Memory) (v : View) : Type 0 where
   pub executed : (a : ℕ) → v.flash_base ≤ a → a < v.flash_base + length v.flash → may g c Execute a ≡ true
   pub legible : v.readable ≡ true → (a : ℕ) → v.flash_base ≤ a → a < v.flash_base + length v.flash → may g c Read a ≡ true
   pub read : (a : ℕ) → v.ram_base ≤ a → a < v.ram_base + length v.ram → may g c Read a ≡ true
   pub written : (a : ℕ) → v.ram_base ≤ a → a < v.ram_base + length v.ram → may g c Write a ≡ true
+  pub area_read : (a : ℕ) → v.area_base ≤ a → a < v.area_base + length v.area → may g c Read a ≡ true
+  pub area_written : v.area_writable ≡ true → (a : ℕ) → v.area_base ≤ a → a < v.area_base + length v.area → may g c Write a ≡ true
   pub in_flash : IsInFlash m (v.flash_base, length v.flash)
   pub in_ram : IsInRam m (v.ram_base, length v.ram)
+  pub in_area : IsInRam m (v.area_base, length v.area)
+  pub apart : AreApart (v.ram_base, length v.ram) (v.area_base, length v.area)
   pub flash : bytes_at m v.flash_base (length v.flash) ≡ v.flash
   pub ram : bytes_at m v.ram_base (length v.ram) ≡ v.ram
+  pub area : bytes_at m v.area_base (length v.area) ≡ v.area
 
--- a window of a task that has all of the region of the flash that has PC, and of that of the RAM that has SP
+-- a window of a task that has all of the region of the flash that has PC, of that of the RAM that has SP, and of the first further
+-- one of the RAM that may be read
 pub record IsWholeWindow (g : Setup) (c : ℕ) (m : Memory) (pc sp : ℕ) (v : View) : Type 0 where
   pub is : IsWindow g c m v
   pub code : Region
   pub stack : Region
-  pub reached : AreReached (setup_at g c).regions pc sp code stack
+  pub further : Region
+  pub reached : AreReached (setup_at g c).regions pc sp code stack further
   pub flash : (v.flash_base ≡ code.base) × (length v.flash ≡ code.size)
   pub readable : v.readable ≡ code.rights.read
   pub ram : (v.ram_base ≡ stack.base) × (length v.ram ≡ stack.size)
+  pub area : (v.area_base ≡ further.base) × (length v.area ≡ further.size)
+  pub writable : v.area_writable ≡ further.rights.write
 
 -- the next instruction of a task is a system call, faults or reaches beyond a window, of which PC and SP were these when it was opened;
 -- and whether it is a call is known
@@ -72,6 +81,10 @@ abbrev pub later : State → ℕ → Cpu → Memory → ℕ → State
 later s c cpu m n =
     record (with_task c record (task_at s c) { registers = cpu.regs.words; flags = cpu.flags } s) { memory = m; turn = s.turn + n }
 
+-- a memory where the RAM and the area of a window have the bytes of another one
+abbrev pub with_window : Memory → View → View → Memory
+with_window m v w = with_bytes (with_bytes m v.ram_base w.ram) v.area_base w.area
+
 -- who ran last, after n turns of a task
 abbrev pub runner : ℕ → ℕ → ℕ → ℕ
 runner zero c before = before
@@ -79,7 +92,7 @@ runner (suc n) c before = c
 
 -- n turns on end of a task are its instructions within a window, of which none is noted
 pub record AreTurns (x : Scenario) (s : State) (c : ℕ) (v : View) (n : ℕ) (v' : View) (cpu : Cpu) : Type 0 where
-  pub state : state_after Calls x n s ≡ later record s { current = runner n c s.current } c cpu (with_bytes s.memory v.ram_base v'.ram) n
+  pub state : state_after Calls x n s ≡ later record s { current = runner n c s.current } c cpu (with_window s.memory v v') n
   pub silent : (k : ℕ) → k < n → (turn_after Calls x k s).notes ≡ []
   pub chosen : (k : ℕ) → k ≤ n → chosen x.setup (state_after Calls x k s) ≡ Some c
   pub down : (k : ℕ) → k ≤ n → is_down (state_after Calls x k s) ≡ is_down s

@@ -1,4 +1,4 @@
-//! The processor of the current task while it has a window, the bytes of two of the task's regions.
+//! The processor of the current task while it has a window, the bytes of three of the task's regions.
 ghost use Rattle.std.specs.Prelude.{◌≡◌, ◌≤◌, ◌<◌, true};
 ghost use Rattle.thumb_exec.specs.Effect.{Halts};
 ghost use Rattle.thumb_exec.specs.Fetch.{step_effect};
@@ -13,7 +13,7 @@ use thumb_exec::cpu::Cpu;
 use thumb_step::{Runner, Window};
 use words_core::{Flags, Regs};
 
-/// A processor that makes instructions on end while it has a window, the bytes of a region of flash and of one of RAM. Between
+/// A processor that makes instructions on end while it has a window, the bytes of a region of flash and of two of RAM. Between
 /// two uses its window has no bytes.
 #[derive(Drop)]
 pub struct Glider {
@@ -48,6 +48,9 @@ impl Glider {
                     readable: false,
                     ram: Vec::new(alloc),
                     ram_base: 0,
+                    area: Vec::new(alloc),
+                    area_base: 0,
+                    area_writable: false,
                 },
             },
             most: 0,
@@ -56,18 +59,22 @@ impl Glider {
         }
     }
 
-    /// It is to make so many instructions at most, of this processor, within these two regions.
-    pub fn aim(&mut self, processor: Cpu, flash: &Region, ram: &Region, most: u32)
+    /// It is to make so many instructions at most, of this processor, within these three regions.
+    pub fn aim(&mut self, processor: Cpu, flash: &Region, ram: &Region, area: &Region, most: u32)
         ensures processor { self.new.runner.processor ≡ processor }
         ensures flash { self.new.runner.window.flash_base ≡ flash.now.base }
         ensures readable { self.new.runner.window.readable ≡ flash.now.rights.read }
         ensures ram { self.new.runner.window.ram_base ≡ ram.now.base }
+        ensures area { self.new.runner.window.area_base ≡ area.now.base }
+        ensures writable { self.new.runner.window.area_writable ≡ area.now.rights.write }
         ensures most { self.new.most ≡ most }
     {
         self.runner.processor = processor;
         self.runner.window.flash_base = flash.base;
         self.runner.window.readable = flash.rights.read;
         self.runner.window.ram_base = ram.base;
+        self.runner.window.area_base = area.base;
+        self.runner.window.area_writable = area.rights.write;
         self.most = most;
     }
 
@@ -96,12 +103,20 @@ impl Glider {
 }
 
 impl WindowUser for Glider {
-    ghost did = { λ a flash ram b after. HasWorked a flash ram b after };
+    ghost did = { λ a flash ram area b after area_after. HasWorked a flash ram area b after area_after };
 
-    fn work(&mut self, flash: &mut Vec<u8>, ram: &mut Vec<u8>) {
+    fn work(&mut self, flash: &mut Vec<u8>, ram: &mut Vec<u8>, area: &mut Vec<u8>) {
         swap(&mut self.runner.window.flash, flash);
         swap(&mut self.runner.window.ram, ram);
-        self.made = self.glide();
+        if area.is_empty() {
+            // Most tasks have no area: then this is one store, where two swaps would be twelve.
+            self.runner.window.area.clear();
+            self.made = self.glide();
+        } else {
+            swap(&mut self.runner.window.area, area);
+            self.made = self.glide();
+            swap(&mut self.runner.window.area, area);
+        }
         swap(&mut self.runner.window.ram, ram);
         swap(&mut self.runner.window.flash, flash);
     }

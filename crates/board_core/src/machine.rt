@@ -410,14 +410,14 @@ impl Machine {
             made: 0,
             at_syscall: false,
         };
-        let Some((flash, ram)) = self.reach.window(task, pc, sp) else {
+        let Some((flash, ram, area)) = self.reach.window(task, pc, sp) else {
             return none;
         };
-        self.glider.aim(self.processor, &flash, &ram, most);
+        self.glider.aim(self.processor, &flash, &ram, &area, most);
         if !self
             .reach
             .kernel
-            .open_window(&flash, &ram, &mut self.glider)
+            .open_window(&flash, &ram, &area, &mut self.glider)
         {
             return none;
         }

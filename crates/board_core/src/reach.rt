@@ -2,8 +2,10 @@
 ghost use Rattle.std.specs.Prelude.{◌≡◌, ◌&&◌, ◌+◌, ◌*◌, ◌≤◌, ◌<◌, ◌%◌, ◌^◌, Option, Some, true, false, None, MatchOption, MatchResult, Contains};
 ghost use Rattle.std.specs.List.{list_any};
 ghost use Rattle.region_check.specs.declared.Right.TheVariants.{Execute, Read};
-ghost use Rattle.board_core.specs.Reached.{is_flash_at, is_ram_at, IsStackRegion, AreReached};
+ghost use Rattle.board_core.specs.Reached.{is_flash_at, is_ram_at, is_area, IsStackRegion, IsAreaRegion, AreReached};
 ghost use Rattle.task_table.specs.Reading.{setup_at};
+ghost use Rattle.mem_banks.specs.Windows.{IsNoRegion};
+ghost use Rattle.task_table.specs.Openable.{span_of};
 ghost use Rattle.kernel_abi.specs.Devices.{device_number};
 ghost use Rattle.kernel_abi.specs.declared.Note.TheVariants.{Out};
 ghost use Rattle.task_table.specs.State.{Setup, Turn};
@@ -147,6 +149,33 @@ fn is_ram_at(region: &Region, at: u32) -> bool
         && region.base >= RAM
 }
 
+/// Whether a region of the RAM may be read, has bytes and is not that of the stack.
+fn is_area(region: &Region, stack: &Region) -> bool
+    ensures { result ≡ is_area stack.now region.now }
+{
+    region.base >= RAM
+        && region.size > 0
+        && region.rights.read
+        && !region.rights.device
+        && !(region.base == stack.base && region.size == stack.size)
+}
+
+/// No region: it has no bytes, and begins where the RAM does.
+fn no_region() -> Region
+    ensures { IsNoRegion (span_of result) }
+{
+    Region {
+        base: RAM,
+        size: 0,
+        rights: Rights {
+            read: false,
+            write: false,
+            execute: false,
+            device: false,
+        },
+    }
+}
+
 /// One of some regions that is of the flash and has the instruction at an address.
 fn flash_at(regions: &[Region], at: u32) -> Option<Region>
     ensures { MatchOption result (list_any (is_flash_at at) regions.now ≡ false) (λ r. Contains regions.now r × (is_flash_at at r ≡ true)) }
@@ -168,27 +197,32 @@ fn ram_at(regions: &[Region], at: u32) -> Region
             return *region;
         }
     }
-    Region {
-        base: RAM,
-        size: 0,
-        rights: Rights {
-            read: false,
-            write: false,
-            execute: false,
-            device: false,
-        },
+    no_region()
+}
+
+/// The first of some regions that is of the RAM, may be read and is not that of the stack; an empty one where none is.
+fn area_of(regions: &[Region], stack: &Region) -> Region
+    ensures { IsAreaRegion regions.now stack.now result }
+{
+    for region in regions {
+        if is_area(region, stack) {
+            return *region;
+        }
     }
+    no_region()
 }
 
 impl Reach {
-    /// The two regions in which a task may make many instructions on end: that of the flash that has its PC, and that of the RAM
-    /// that has its stack, or an empty one.
-    pub fn window(&self, task: usize, pc: u32, sp: u32) -> Option<(Region, Region)>
-        ensures { let regions = (setup_at (setup_of self.now.kernel) task).regions in MatchOption result (list_any (is_flash_at pc) regions ≡ false) (λ w. AreReached regions pc sp w.0 w.1) }
+    /// The three regions in which a task may make many instructions on end: that of the flash that has its PC, that of the RAM
+    /// that has its stack, and the first further one of the RAM that it may read. Each of these two may be an empty one.
+    pub fn window(&self, task: usize, pc: u32, sp: u32) -> Option<(Region, Region, Region)>
+        ensures { let regions = (setup_at (setup_of self.now.kernel) task).regions in MatchOption result (list_any (is_flash_at pc) regions ≡ false) (λ w. AreReached regions pc sp w.0 w.1 w.2) }
     {
         let regions = self.kernel.regions(task);
         let flash = flash_at(regions, pc)?;
-        Some((flash, ram_at(regions, sp)))
+        let ram = ram_at(regions, sp);
+        let area = area_of(regions, &ram);
+        Some((flash, ram, area))
     }
 }
 

@@ -180,16 +180,23 @@ fn a_kernel_stores_and_lends_its_memory(rt: HostRuntime) -> Result<(), Fail> {
         size: 8,
         rights,
     };
+    let none = Region {
+        base: RAM,
+        size: 0,
+        rights,
+    };
     let mut stamp = Stamp {
         seen: 0,
         byte: 0x5A,
     };
     let opened = [
-        kernel.open_window(&ram, &flash, &mut stamp),
-        kernel.open_window(&flash, &ram, &mut stamp),
+        kernel.open_window(&ram, &flash, &none, &mut stamp),
+        kernel.open_window(&flash, &ram, &none, &mut stamp),
+        kernel.open_window(&flash, &ram, &ram, &mut stamp),
+        kernel.open_window(&flash, &none, &ram, &mut stamp),
     ];
     let left = kernel.number(RAM, 2);
     assert!(rt; stored == (0x0201, Some(0x21)));
-    assert!(rt; (opened, stamp.seen, left) == ([false, true], 0x20, 0x025A));
+    assert!(rt; (opened, stamp.seen, left) == ([false, true, false, true], 0x20, 0x025A));
     Ok(())
 }

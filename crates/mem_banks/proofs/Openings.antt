@@ -1,18 +1,18 @@
--- What a window of two banks makes of the memory.
-use Rattle.std.proofs.Common.{ℕ, zero, suc, ◌≡◌, ◌≢◌, ◌<◌, ◌≤◌, ◌+◌, inl, inr, Bool, true, false, ◌&&◌, eqb, rules, leb, List, [], ◌∷◌, length, take, drop, get_or, Contains, refl, ap, sym, ◌∙◌, arith, length-take, length-drop}
+-- What a window of three banks makes of the memory.
+use Rattle.std.proofs.Common.{ℕ, zero, suc, ◌≡◌, ◌≢◌, ◌<◌, ◌≤◌, ◌+◌, ◌⊎◌, inl, inr, Bool, true, false, ◌&&◌, eqb, rules, leb, List, [], ◌∷◌, Option, Some, None, length, take, drop, get_or, Contains, refl, ap, sym, ◌∙◌, subst, arith, length-take, length-drop}
 use Rattle.std.proofs.lemmas.Bool.{le-leb, lt-leb, cases_lt}
 use Rattle.std.proofs.lemmas.List.{get_or-set_other, length-append, length-set, same_lists, places, nil_from_length}
 use Rattle.mem_banks.specs.declared.bank.Bank.{Bank}
-use Rattle.mem_banks.specs.Banks.{flash_of, AreLaid, IsAt}
+use Rattle.mem_banks.specs.Banks.{flash_of, AreLaid, IsAt, IsPut}
 use Rattle.mem_banks.specs.Kept.{AreKept, IsDone, seen, spans_of}
 use Rattle.mem_banks.specs.Parts.{AreParts}
-use Rattle.mem_banks.specs.Windows.{AreOpened, IsOpenedAlone, AreApart, bytes_of, IsBankOf, HasNoBank, IsInMemory, IsInRam, IsOpened, IsNoRegion, AreGiven}
+use Rattle.mem_banks.specs.Windows.{Doing, AreAllOpened, AreTwo, AreApart, bytes_of, bytes_in, IsBankOf, HasNoBank, IsPlaceOf, HasNoPlace, IsPutIn, IsInMemory, IsInRam, IsOpened, IsNoRegion, IsGivenOrNone, AreGiven}
 use Rattle.mem_banks.specs.Memory.{Memory, with_bytes}
 use Rattle.mem_banks.proofs.Copies.{with_bytes_none}
-use Rattle.mem_banks.proofs.Pieces.{Side, ram_side, flash_side, side_in, put_done}
+use Rattle.mem_banks.proofs.Pieces.{Side, ram_side, flash_side, side_in, put_done, nothing_done}
 use Rattle.mem_banks.proofs.Splits.{ram_split, flash_split}
 use Rattle.mem_banks.proofs.Windows.{region_length}
-use Rattle.mem_banks.proofs.Within.{first_of, bytes_in}
+use Rattle.mem_banks.proofs.Within.{first_of, bytes_in as bytes_within}
 
 -- ## no two banks have a byte in common
 abbrev span : Bank → ℕ × ℕ
@@ -78,19 +78,6 @@ region_high : (m : Memory) (base len : ℕ) → 0x20000000 ≤ base → Side m b
 region_high m base len high (ram_side x y) = (x, y)
 region_high m base len high (flash_side x y z) = absurd (omega arith)
 
--- the banks after it
-pub two_opened : {B : Type 0} (did : B → List ℕ → List ℕ → B → List ℕ → Type 0) (table : List ℕ) (banks after : List Bank) (i j : ℕ) (flash ram : ℕ × ℕ) (s s' : B) → AreKept table banks → IsBankOf banks i flash → IsBankOf banks j ram → i ≢ j → (opened : AreOpened did banks i j s s' after) → IsDone table banks after ram.0 opened.after
-two_opened did table banks after i j flash ram s s' kept of_i of_j other opened =
-    let d : Bank = first_of banks i of_i.0 in
-    let first = put_done table banks opened.between i 0 flash.0 [] d kept of_i.0 (omega (arith, (of_i.1 d).0)) (omega arith) opened.first in
-    let count : length opened.between ≡ length banks = rw opened.first.1 (length-set banks i opened.first.0) in
-    let stays : get_or opened.between j d ≡ get_or banks j d = rw opened.first.1 (get_or-set_other banks i j opened.first.0 d (λ e. other (sym e))) in
-    let begins : (get_or opened.between j d).base + 0 ≡ ram.0 = rw stays (omega (arith, (of_j.1 d).0)) in
-    let fits : 0 + length opened.after ≤ length (get_or opened.between j d).bytes.items = rw stays (omega (arith, opened.size d)) in
-    let second = put_done table opened.between after j 0 ram.0 opened.after d first.kept (omega (arith, count, of_j.0)) begins fits opened.second in
-    let same : seen opened.between ≡ seen banks = first.value ∙ sym (with_bytes_none (seen banks) flash.0 [] refl) in
-    record { kept = second.kept; spans = second.spans ∙ first.spans; value = second.value ∙ ap (λ m. with_bytes m ram.0 opened.after) same }
-
 take_all : (xs : List ℕ) (n : ℕ) → length xs ≡ n → take n (drop 0 xs) ≡ xs
 take_all xs n e = same_lists _ _ (simp (length-take, length-drop) (omega arith)) (λ i d u. grind (arith, places))
 
@@ -98,52 +85,122 @@ take_all xs n e = same_lists _ _ (simp (length-take, length-drop) (omega arith))
 bank_bytes : (table : List ℕ) (banks : List Bank) (k : ℕ) (r : ℕ × ℕ) (d : Bank) → AreKept table banks → IsBankOf banks k r → bytes_of (seen banks) r ≡ (get_or banks k d).bytes.items
 bank_bytes table banks k r d kept there =
     let len = (there.1 d).1 in
-    let all = bytes_in banks k 0 r.0 r.1 d kept.laid kept.flash there.0 (omega (arith, (there.1 d).0)) (omega (arith, len)) in
+    let all = bytes_within banks k 0 r.0 r.1 d kept.laid kept.flash there.0 (omega (arith, (there.1 d).0)) (omega (arith, len)) in
     all ∙ take_all (get_or banks k d).bytes.items r.1 len
 
-pub two_window : {B : Type 0} (did : B → List ℕ → List ℕ → B → List ℕ → Type 0) (table : List ℕ) (banks after : List Bank) (i j : ℕ) (flash ram : ℕ × ℕ) (s s' : B) → AreKept table banks → IsBankOf banks i flash → IsBankOf banks j ram → i ≢ j → 0x20000000 ≤ ram.0 → AreOpened did banks i j s s' after → IsOpened did (seen banks) flash ram s s' (seen after)
-two_window did table banks after i j flash ram s s' kept of_i of_j other high opened =
-    let d : Bank = first_of banks i of_i.0 in
-    let side_i = side_in table banks i 0 flash.0 flash.1 d kept of_i.0 (omega (arith, (of_i.1 d).0)) (omega (arith, (of_i.1 d).1)) in
-    let side_j = side_in table banks j 0 ram.0 ram.1 d kept of_j.0 (omega (arith, (of_j.1 d).0)) (omega (arith, (of_j.1 d).1)) in
-    let apart = banks_apart 0x08000000 0x20000000 banks i j d kept.laid (omega (arith, kept.flash)) of_i.0 of_j.0 other in
-    record {
-      flash_there = region_there (seen banks) flash.0 flash.1 kept.flash side_i;
-      ram_there = region_high (seen banks) ram.0 ram.1 high side_j;
-      apart = rw ((of_i.1 d).0, (of_i.1 d).1, (of_j.1 d).0, (of_j.1 d).1) at apart;
-      after = opened.after;
-      work = rw (bank_bytes table banks i flash d kept of_i, bank_bytes table banks j ram d kept of_j) (opened.work d);
-      size = omega (arith, opened.size d, (of_j.1 d).1);
-      left = (two_opened did table banks after i j flash ram s s' kept of_i of_j other opened).value;
-    }
+span_length : (banks : List Bank) → length (spans_of banks) ≡ length banks
+span_length [] = refl
+span_length (b ∷ bs) = ap suc (span_length bs)
 
--- ## the window of one bank
-pub one_opened : {B : Type 0} (did : B → List ℕ → List ℕ → B → List ℕ → Type 0) (table : List ℕ) (banks after : List Bank) (i : ℕ) (flash : ℕ × ℕ) (s s' : B) → AreKept table banks → IsBankOf banks i flash → IsOpenedAlone did banks i s s' after → IsDone table banks after flash.0 []
-one_opened did table banks after i flash s s' kept of_i opened =
-    let d : Bank = first_of banks i of_i.0 in
-    put_done table banks after i 0 flash.0 [] d kept of_i.0 (omega (arith, (of_i.1 d).0)) (omega arith) opened.put
+span_at : (banks : List Bank) (k : ℕ) (d : Bank) (z : ℕ × ℕ) → k < length banks → get_or (spans_of banks) k z ≡ span (get_or banks k d)
+span_at [] k d z h = absurd (omega arith)
+span_at (b ∷ bs) zero d z h = refl
+span_at (b ∷ bs) (suc k) d z h = span_at bs k d z (omega arith)
 
 below_or_in : (m : Memory) (flash ram : ℕ × ℕ) → IsInMemory m flash → ram.0 ≡ 0x20000000 → ram.1 ≡ 0 → AreApart flash ram
 below_or_in m flash ram (inl x) e n = inr (omega (arith, x.0))
 below_or_in m flash ram (inr x) e n = inl (omega (arith, x.2))
 
-pub one_window : {B : Type 0} (did : B → List ℕ → List ℕ → B → List ℕ → Type 0) (table : List ℕ) (banks after : List Bank) (i : ℕ) (flash ram : ℕ × ℕ) (s s' : B) → AreKept table banks → IsBankOf banks i flash → ram.0 ≡ 0x20000000 → ram.1 ≡ 0 → IsOpenedAlone did banks i s s' after → IsOpened did (seen banks) flash ram s s' (seen after)
-one_window did table banks after i flash ram s s' kept of_i begins none opened =
-    let d : Bank = first_of banks i of_i.0 in
-    let side = side_in table banks i 0 flash.0 flash.1 d kept of_i.0 (omega (arith, (of_i.1 d).0)) (omega (arith, (of_i.1 d).1)) in
-    let there = region_there (seen banks) flash.0 flash.1 kept.flash side in
-    let at_ram : IsInRam (seen banks) ram = (omega arith, omega arith) in
-    let empty : bytes_of (seen banks) ram ≡ [] = nil_from_length _ (region_length (seen banks) ram.0 ram.1 (inl at_ram) ∙ none) in
-    let same : seen after ≡ seen banks = (one_opened did table banks after i flash s s' kept of_i opened).value ∙ sym (with_bytes_none (seen banks) flash.0 [] refl) in
-    record {
-      flash_there = there;
-      ram_there = at_ram;
-      apart = below_or_in (seen banks) flash ram there begins none;
-      after = [];
-      work = rw (bank_bytes table banks i flash d kept of_i, empty) (opened.work d);
-      size = sym none;
-      left = same ∙ with_bytes_none (seen banks) ram.0 [] refl;
-    }
+-- a bank keeps its place while the spans stay
+bank_still : (banks after : List Bank) (k : ℕ) (r : ℕ × ℕ) → spans_of after ≡ spans_of banks → IsBankOf banks k r → IsBankOf after k r
+bank_still banks after k r same of_k =
+    let count : length after ≡ length banks = sym (span_length after) ∙ (ap length same ∙ span_length banks) in
+    let there : k < length after = omega (arith, count, of_k.0) in (
+      there,
+      λ d.
+          let e = sym (span_at after k d r there) ∙ (ap (λ (xs : List (ℕ × ℕ)). get_or xs k r) same ∙ span_at banks k d r of_k.0) in
+          (ap (λ (q : ℕ × ℕ). q.0) e ∙ (of_k.1 d).0, ap (λ (q : ℕ × ℕ). q.1) e ∙ (of_k.1 d).1),
+    )
+
+place_still : (banks after : List Bank) (o : Option ℕ) (r : ℕ × ℕ) → spans_of after ≡ spans_of banks → IsPlaceOf banks o r → IsPlaceOf after o r
+place_still banks after None r same none = none
+place_still banks after (Some k) r same p = (bank_still banks after k r same p.0, p.1, p.2)
+
+module _ (table : List ℕ) (banks : List Bank) (kept : AreKept table banks) where
+  bank_there : (k : ℕ) (r : ℕ × ℕ) → IsBankOf banks k r → Side (seen banks) r.0 r.1
+  bank_there k r of_k =
+      let d : Bank = first_of banks k of_k.0 in
+      side_in table banks k 0 r.0 r.1 d kept of_k.0 (omega (arith, (of_k.1 d).0)) (omega (arith, (of_k.1 d).1))
+
+  in_memory : (k : ℕ) (r : ℕ × ℕ) → IsBankOf banks k r → IsInMemory (seen banks) r
+  in_memory k r of_k = region_there (seen banks) r.0 r.1 kept.flash (bank_there k r of_k)
+
+  place_there : (o : Option ℕ) (r : ℕ × ℕ) → IsPlaceOf banks o r → IsInRam (seen banks) r
+  place_there None r none = (omega (arith, none.0), omega (arith, none.0, none.1))
+  place_there (Some k) r p = region_high (seen banks) r.0 r.1 p.1 (bank_there k r p.0)
+
+  place_bytes : (o : Option ℕ) (r : ℕ × ℕ) (d : Bank) → IsPlaceOf banks o r → bytes_of (seen banks) r ≡ bytes_in banks o d
+  place_bytes None r d none = nil_from_length _ (region_length (seen banks) r.0 r.1 (inl (place_there None r none)) ∙ none.1)
+  place_bytes (Some k) r d p = bank_bytes table banks k r d kept p.0
+
+  place_size : (o : Option ℕ) (r : ℕ × ℕ) (d : Bank) → IsPlaceOf banks o r → length (bytes_in banks o d) ≡ r.1
+  place_size None r d none = sym none.1
+  place_size (Some k) r d p = (p.0.1 d).1
+
+  two_apart : (i j : ℕ) (r s : ℕ × ℕ) → IsBankOf banks i r → IsBankOf banks j s → i ≢ j → AreApart r s
+  two_apart i j r s of_i of_j other =
+      let d : Bank = first_of banks i of_i.0 in
+      let apart = banks_apart 0x08000000 0x20000000 banks i j d kept.laid (omega (arith, kept.flash)) of_i.0 of_j.0 other in
+      rw ((of_i.1 d).0, (of_i.1 d).1, (of_j.1 d).0, (of_j.1 d).1) at apart
+
+  bank_apart : (i : ℕ) (o : Option ℕ) (r s : ℕ × ℕ) → IsBankOf banks i r → IsPlaceOf banks o s → AreTwo (Some i) o → AreApart r s
+  bank_apart i None r s of_i none other = below_or_in (seen banks) r s (in_memory i r of_i) none.0 none.1
+  bank_apart i (Some j) r s of_i p other = two_apart i j r s of_i p.0 other
+
+  places_apart : (o q : Option ℕ) (r s : ℕ × ℕ) → IsPlaceOf banks o r → IsPlaceOf banks q s → AreTwo o q → AreApart r s
+  places_apart (Some i) q r s p there other = bank_apart i q r s p.0 there other
+  places_apart None None r s none there other = inl (omega (arith, none.0, none.1, there.0))
+  places_apart None (Some j) r s none p other = turned s r (below_or_in (seen banks) s r (in_memory j s p.0) none.0 none.1)
+
+  bank_done : (after : List Bank) (k : ℕ) (r : ℕ × ℕ) (new : List ℕ) → IsBankOf banks k r → length new ≤ r.1 → IsPut banks k 0 new after → IsDone table banks after r.0 new
+  bank_done after k r new of_k fits put =
+      let d : Bank = first_of banks k of_k.0 in
+      put_done table banks after k 0 r.0 new d kept of_k.0 (omega (arith, (of_k.1 d).0)) (omega (arith, fits, (of_k.1 d).1)) put
+
+  place_done : (after : List Bank) (o : Option ℕ) (r : ℕ × ℕ) (new : List ℕ) → IsPlaceOf banks o r → length new ≡ r.1 → IsPutIn banks o new after → IsDone table banks after r.0 new
+  place_done after None r new none size same = let D : List Bank → Type 0 = λ xs. IsDone table banks xs r.0 new in subst D (sym same) (nothing_done table banks r.0 new kept (nil_from_length _ (size ∙ none.1)))
+  place_done after (Some k) r new p size put = bank_done after k r new p.0 (omega (arith, size)) put
+
+module _ {B : Type 0} (did : Doing B) (table : List ℕ) (banks after : List Bank) (i : ℕ) (j k : Option ℕ) (flash ram area : ℕ × ℕ) (s s' : B) (kept : AreKept table banks) (of_i : IsBankOf banks i flash) (of_j : IsPlaceOf banks j ram) (of_k : IsPlaceOf banks k area) (opened : AreAllOpened did banks i j k s s' after) where
+  size : length opened.after ≡ ram.1
+  size = let d : Bank = first_of banks i of_i.0 in opened.size d ∙ place_size table banks kept j ram d of_j
+
+  area_size : length opened.area_after ≡ area.1
+  area_size = let d : Bank = first_of banks i of_i.0 in opened.area_size d ∙ place_size table banks kept k area d of_k
+
+  one_done : IsDone table banks opened.one flash.0 []
+  one_done = bank_done table banks kept opened.one i flash [] of_i (omega arith) opened.first
+
+  two_done : IsDone table opened.one opened.two ram.0 opened.after
+  two_done = place_done table opened.one one_done.kept opened.two j ram opened.after (place_still banks opened.one j ram one_done.spans of_j) size opened.second
+
+  all_done : IsDone table opened.two after area.0 opened.area_after
+  all_done = place_done table opened.two two_done.kept after k area opened.area_after (place_still banks opened.two k area (two_done.spans ∙ one_done.spans) of_k) area_size opened.third
+
+  -- the banks after it
+  pub all_kept : AreKept table after
+  all_kept = all_done.kept
+
+  pub all_spans : spans_of after ≡ spans_of banks
+  all_spans = all_done.spans ∙ (two_done.spans ∙ one_done.spans)
+
+  pub all_window : AreTwo (Some i) j → AreTwo (Some i) k → AreTwo j k → IsOpened did (seen banks) flash ram area s s' (seen after)
+  all_window apart beside two =
+      let d : Bank = first_of banks i of_i.0 in
+      let same : seen opened.one ≡ seen banks = one_done.value ∙ sym (with_bytes_none (seen banks) flash.0 [] refl) in
+      record {
+        flash_there = in_memory table banks kept i flash of_i;
+        ram_there = place_there table banks kept j ram of_j;
+        area_there = place_there table banks kept k area of_k;
+        apart = bank_apart table banks kept i j flash ram of_i of_j apart;
+        area_apart = (bank_apart table banks kept i k flash area of_i of_k beside, places_apart table banks kept j k ram area of_j of_k two);
+        after = opened.after;
+        area_after = opened.area_after;
+        work = rw (bank_bytes table banks i flash d kept of_i, place_bytes table banks kept j ram d of_j, place_bytes table banks kept k area d of_k) (opened.work d);
+        size = size;
+        area_size = area_size;
+        left = all_done.value ∙ ap (λ m. with_bytes m area.0 opened.area_after) (two_done.value ∙ ap (λ m. with_bytes m ram.0 opened.after) same);
+      }
 
 -- ## the banks of regions that were given
 -- the bank that has the first byte of a region's bank is that one
@@ -164,15 +221,6 @@ no_bank_nowhere banks r nowhere k some of_k = nowhere k 0 (of_k.0, λ d. let the
 pub no_bank_other : (table : List ℕ) (banks : List Bank) (j o : ℕ) (r : ℕ × ℕ) → AreKept table banks → IsAt banks j o r.0 → (IsBankOf banks j r → ⊥) → HasNoBank banks r
 no_bank_other table banks j o r kept at not_j k some of_k = same_bank table banks j o k r kept at some of_k (λ e. not_j (rw e of_k))
 
-span_length : (banks : List Bank) → length (spans_of banks) ≡ length banks
-span_length [] = refl
-span_length (b ∷ bs) = ap suc (span_length bs)
-
-span_at : (banks : List Bank) (k : ℕ) (d : Bank) (z : ℕ × ℕ) → k < length banks → get_or (spans_of banks) k z ≡ span (get_or banks k d)
-span_at [] k d z h = absurd (omega arith)
-span_at (b ∷ bs) zero d z h = refl
-span_at (b ∷ bs) (suc k) d z h = span_at bs k d z (omega arith)
-
 pub given_bank : (regions : List (ℕ × ℕ)) (banks : List Bank) (r : ℕ × ℕ) → AreParts regions (spans_of banks) → Contains regions r → (k : ℕ) × IsBankOf banks k r
 given_bank regions banks r parts given =
     let c = parts.given r given in
@@ -189,29 +237,36 @@ given_bank regions banks r parts given =
 given_found : (regions : List (ℕ × ℕ)) (banks : List Bank) (r : ℕ × ℕ) → AreParts regions (spans_of banks) → Contains regions r → 0 < r.1 → HasNoBank banks r → ⊥
 given_found regions banks r parts given some none = let b = given_bank regions banks r parts given in none b.0 some b.1
 
-pub text_found : (regions : List (ℕ × ℕ)) (banks : List Bank) (flash ram : ℕ × ℕ) → AreParts regions (spans_of banks) → AreGiven regions flash ram → HasNoBank banks flash → ⊥
-text_found regions banks flash ram parts given none = given_found regions banks flash parts given.flash_given given.flash_some none
+pub text_found : (regions : List (ℕ × ℕ)) (banks : List Bank) (flash ram area : ℕ × ℕ) → AreParts regions (spans_of banks) → AreGiven regions flash ram area → HasNoBank banks flash → ⊥
+text_found regions banks flash ram area parts given none = given_found regions banks flash parts given.flash_given given.flash_some none
 
-pub ram_found : (regions : List (ℕ × ℕ)) (banks : List Bank) (flash ram : ℕ × ℕ) → AreParts regions (spans_of banks) → AreGiven regions flash ram → (IsNoRegion ram → ⊥) → HasNoBank banks ram → ⊥
-ram_found regions banks flash ram parts given some none = elim given.ram_given [
-  | inl x ↦ some x
-  | inr x ↦ given_found regions banks ram parts x.0 x.1 none
-]
+pub place_found : (regions : List (ℕ × ℕ)) (banks : List Bank) (r : ℕ × ℕ) → AreParts regions (spans_of banks) → IsGivenOrNone regions r → HasNoPlace banks r → ⊥
+place_found regions banks r parts (inl none) nowhere = nowhere.0 none
+place_found regions banks r parts (inr given) nowhere = given_found regions banks r parts given.0 given.1 (nowhere.1 given.2)
 
-pub ram_in : (regions : List (ℕ × ℕ)) (flash ram : ℕ × ℕ) → AreGiven regions flash ram → ram.0 < 0x20000000 → ⊥
-ram_in regions flash ram given low = elim given.ram_given [ inl x ↦ omega arith | inr x ↦ omega arith ]
+-- those that were given have banks of their own
+pub code_apart : (banks : List Bank) (i : ℕ) (o : Option ℕ) (flash r : ℕ × ℕ) → flash.0 < 0x20000000 → IsBankOf banks i flash → IsPlaceOf banks o r → AreTwo (Some i) o
+code_apart banks i None flash r below of_i p = tt
+code_apart banks i (Some j) flash r below of_i p = λ same.
+    let d : Bank = first_of banks i of_i.0 in
+    let here = (of_i.1 d).0 in
+    let there = rw (← same) at ((p.0.1 d).0) in
+    omega (arith, here, there, below, p.1)
 
-pub two_banks : (regions : List (ℕ × ℕ)) (banks : List Bank) (i j : ℕ) (flash ram : ℕ × ℕ) → AreGiven regions flash ram → (IsNoRegion ram → ⊥) → IsBankOf banks i flash → IsBankOf banks j ram → i ≡ j → ⊥
-two_banks regions banks i j flash ram given some of_i of_j same = elim given.ram_given [
-  | inl x ↦ some x
-  | inr x ↦
-      let d : Bank = first_of banks i of_i.0 in
-      let here = (of_i.1 d).0 in
-      let there = rw (← same) at ((of_j.1 d).0) in
-      omega (arith, given.below, x.2)
-]
+pub data_apart : (banks : List Bank) (o q : Option ℕ) (r s : ℕ × ℕ) → IsNoRegion s ⊎ (r ≢ s) → IsPlaceOf banks o r → IsPlaceOf banks q s → AreTwo o q
+data_apart banks None q r s other p p' = tt
+data_apart banks (Some i) None r s other p p' = tt
+data_apart banks (Some i) (Some j) r s (inl none) p p' = absurd (p'.2 none)
+data_apart banks (Some i) (Some j) r s (inr other) p p' = λ same.
+    let d : Bank = first_of banks i p.0.0 in
+    let here = p.0.1 d in
+    let there = rw (← same) at (p'.0.1 d) in
+    other (pair (sym here.0 ∙ there.0) (sym here.1 ∙ there.1))
+  where
+    pair : r.0 ≡ s.0 → r.1 ≡ s.1 → r ≡ s
+    pair e f = rw (e, f) refl
 
--- what the code's test of the second region says
+-- what the code's test of a region says
 pub no_region : (ram : ℕ × ℕ) (r : Bool) → r ≡ (eqb ram.0 0x20000000 && eqb ram.1 0) → r ≡ true → IsNoRegion ram
 no_region ram r e is = search rules
 

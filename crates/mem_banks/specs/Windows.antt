@@ -1,5 +1,5 @@
--- The bytes of two regions, handed to somebody for the time of one call. A region is its base and its size.
-use Rattle.std.specs.Prelude.{ℕ, ◌+◌, ◌<◌, ◌≤◌, ◌⊎◌, ◌≡◌, List, [], length, slice_index_or, Contains}
+-- The bytes of three regions, handed to somebody for the time of one call. A region is its base and its size.
+use Rattle.std.specs.Prelude.{ℕ, ◌+◌, ◌<◌, ◌≤◌, ◌⊎◌, ◌≡◌, ◌≢◌, List, [], length, slice_index_or, Contains, Option, Some, None}
 use Rattle.mem_banks.specs.declared.bank.Bank.{Bank}
 use Rattle.mem_banks.specs.Memory.{Memory, bytes_at, with_bytes}
 use Rattle.mem_banks.specs.Banks.{IsPut}
@@ -22,27 +22,41 @@ AreApart r s = (r.0 + r.1 ≤ s.0) ⊎ (s.0 + s.1 ≤ r.0)
 abbrev pub bytes_of : Memory → ℕ × ℕ → List ℕ
 bytes_of m r = bytes_at m r.0 r.1
 
--- a user b did its work with the bytes of two regions of a memory; then it is b', and the bytes
--- that it left of the second region stand there
-pub record IsOpened {B : Type 0} (did : B → List ℕ → List ℕ → B → List ℕ → Type 0) (m : Memory) (flash ram : ℕ × ℕ) (b b' : B) (m' : Memory) : Type 0 where
+-- what a user does with bytes of flash, RAM and a further area: those of the flash stay, and it leaves others of both in the RAM
+abbrev pub Doing : Type 0 → Type 1
+Doing B = B → List ℕ → List ℕ → List ℕ → B → List ℕ → List ℕ → Type 0
+
+-- a user b did its work with the bytes of three regions of a memory; then it is b', and the bytes that it left of the
+-- second and the third region stand there
+pub record IsOpened {B : Type 0} (did : Doing B) (m : Memory) (flash ram area : ℕ × ℕ) (b b' : B) (m' : Memory) : Type 0 where
   pub flash_there : IsInMemory m flash
   pub ram_there : IsInRam m ram
+  pub area_there : IsInRam m area
   pub apart : AreApart flash ram
+  pub area_apart : AreApart flash area × AreApart ram area
   pub after : List ℕ
-  pub work : did b (bytes_of m flash) (bytes_of m ram) b' after
+  pub area_after : List ℕ
+  pub work : did b (bytes_of m flash) (bytes_of m ram) (bytes_of m area) b' after area_after
   pub size : length after ≡ ram.1
-  pub left : m' ≡ with_bytes m ram.0 after
+  pub area_size : length area_after ≡ area.1
+  pub left : m' ≡ with_bytes (with_bytes m ram.0 after) area.0 area_after
 
--- the second one is no region: it has no bytes, and begins where the RAM does
+-- it is no region: it has no bytes, and begins where the RAM does
 abbrev pub IsNoRegion : ℕ × ℕ → Type 0
 IsNoRegion r = (r.0 ≡ 0x20000000) × (r.1 ≡ 0)
 
--- two of some regions: one in the flash, and one in the RAM, or none
-pub record AreGiven (regions : List (ℕ × ℕ)) (flash ram : ℕ × ℕ) : Type 0 where
+-- one of some regions, in the RAM, or none
+abbrev pub IsGivenOrNone : List (ℕ × ℕ) → ℕ × ℕ → Type 0
+IsGivenOrNone regions r = IsNoRegion r ⊎ (Contains regions r × (0 < r.1) × (0x20000000 ≤ r.0))
+
+-- three of some regions: one in the flash, and two in the RAM, of which each may be none
+pub record AreGiven (regions : List (ℕ × ℕ)) (flash ram area : ℕ × ℕ) : Type 0 where
   pub flash_given : Contains regions flash
   pub flash_some : 0 < flash.1
   pub below : flash.0 < 0x20000000
-  pub ram_given : IsNoRegion ram ⊎ (Contains regions ram × (0 < ram.1) × (0x20000000 ≤ ram.0))
+  pub ram_given : IsGivenOrNone regions ram
+  pub area_given : IsGivenOrNone regions area
+  pub other : IsNoRegion area ⊎ (ram ≢ area)
 
 -- a bank has the bytes of a region and no others
 abbrev pub IsBankOf : List Bank → ℕ → ℕ × ℕ → Type 0
@@ -52,16 +66,54 @@ IsBankOf banks k r = (k < length banks) × ((d : Bank) → ((slice_index_or bank
 abbrev pub HasNoBank : List Bank → ℕ × ℕ → Type 0
 HasNoBank banks r = (k : ℕ) → 0 < r.1 → IsBankOf banks k r → ⊥
 
--- a user did its work with the bytes of two banks, and those of the first one are as before
-pub record AreOpened {B : Type 0} (did : B → List ℕ → List ℕ → B → List ℕ → Type 0) (old : List Bank) (i j : ℕ) (b b' : B) (banks : List Bank) : Type 0 where
+-- ## banks of the RAM, or none
+
+-- a region of the RAM has this bank, or is none and has no bank
+abbrev pub IsPlaceOf : List Bank → Option ℕ → ℕ × ℕ → Type 0
+IsPlaceOf banks None r = IsNoRegion r
+IsPlaceOf banks (Some k) r = IsBankOf banks k r × (0x20000000 ≤ r.0) × (IsNoRegion r → ⊥)
+
+abbrev pub HasNoPlace : List Bank → ℕ × ℕ → Type 0
+HasNoPlace banks r = (IsNoRegion r → ⊥) × (0x20000000 ≤ r.0 → HasNoBank banks r)
+
+-- two banks, or fewer
+abbrev pub AreTwo : Option ℕ → Option ℕ → Type 0
+AreTwo (Some i) (Some j) = i ≢ j
+AreTwo (Some i) None = Unit {0}
+AreTwo None j = Unit {0}
+
+abbrev pub IsOne : List Bank → Option ℕ → Type 0
+IsOne banks (Some k) = k < length banks
+IsOne banks None = Unit {0}
+
+-- the bytes of a bank, and what writes over all of them
+abbrev pub bytes_in : List Bank → Option ℕ → Bank → List ℕ
+bytes_in banks (Some k) d = (slice_index_or banks k d).bytes.items
+bytes_in banks None d = []
+
+abbrev pub IsPutIn : List Bank → Option ℕ → List ℕ → List Bank → Type 0
+IsPutIn old (Some k) new banks = IsPut old k 0 new banks
+IsPutIn old None new banks = banks ≡ old
+
+-- a user did its work with the bytes of two banks and those of an area, and those of the first one are as before
+pub record AreOpened {B : Type 0} (did : Doing B) (old : List Bank) (i : ℕ) (j : Option ℕ) (area : List ℕ) (b b' : B) (banks : List Bank) (left : List ℕ) : Type 0 where
   pub after : List ℕ
-  pub work : (d : Bank) → did b (slice_index_or old i d).bytes.items (slice_index_or old j d).bytes.items b' after
-  pub size : (d : Bank) → length after ≡ length (slice_index_or old j d).bytes.items
+  pub work : (d : Bank) → did b (slice_index_or old i d).bytes.items (bytes_in old j d) area b' after left
+  pub size : (d : Bank) → length after ≡ length (bytes_in old j d)
+  pub area_size : length left ≡ length area
   pub between : List Bank
   pub first : IsPut old i 0 [] between
-  pub second : IsPut between j 0 after banks
+  pub second : IsPutIn between j after banks
 
--- the same with the bytes of one bank, and with no others
-pub record IsOpenedAlone {B : Type 0} (did : B → List ℕ → List ℕ → B → List ℕ → Type 0) (old : List Bank) (i : ℕ) (b b' : B) (banks : List Bank) : Type 0 where
-  pub work : (d : Bank) → did b (slice_index_or old i d).bytes.items [] b' []
-  pub put : IsPut old i 0 [] banks
+-- the same where those of the area are of a bank too
+pub record AreAllOpened {B : Type 0} (did : Doing B) (old : List Bank) (i : ℕ) (j k : Option ℕ) (b b' : B) (banks : List Bank) : Type 0 where
+  pub after : List ℕ
+  pub area_after : List ℕ
+  pub work : (d : Bank) → did b (slice_index_or old i d).bytes.items (bytes_in old j d) (bytes_in old k d) b' after area_after
+  pub size : (d : Bank) → length after ≡ length (bytes_in old j d)
+  pub area_size : (d : Bank) → length area_after ≡ length (bytes_in old k d)
+  pub one : List Bank
+  pub two : List Bank
+  pub first : IsPut old i 0 [] one
+  pub second : IsPutIn one j after two
+  pub third : IsPutIn two k area_after banks

@@ -1,24 +1,26 @@
-//! The bytes of two banks, handed to somebody for the time of one call.
+//! The bytes of three banks, handed to somebody for the time of one call.
 
-ghost use Rattle.std.specs.Prelude.{◌≡◌, ◌<◌, ℕ, List, IfSome, IfNone, length};
+ghost use Rattle.std.specs.Prelude.{◌≡◌, ◌<◌, ℕ, List, IfSome, IfNone, length, Some, None, true, false};
 ghost use Rattle.mem_banks.specs.Kept.{AreKept};
-ghost use Rattle.mem_banks.specs.Windows.{AreOpened, IsOpenedAlone, IsBankOf, HasNoBank};
+ghost use Rattle.mem_banks.specs.Windows.{AreOpened, AreAllOpened, IsBankOf, HasNoBank, IsPlaceOf, HasNoPlace, AreTwo, IsOne};
 
 use crate::bank::{Bank, find, page};
 use crate::{Memory, RAM};
 use std::alloc::Global;
+use std::mem::swap;
 
-/// Who works with the bytes of two regions while a window on them is open: code, which stays as it is, and data in
-/// the RAM.
+/// Who works with the bytes of three regions while a window on them is open: code, which stays as it is, data in
+/// the RAM, and a further area of the RAM.
 pub trait WindowUser {
-    /// Before, the bytes of both regions, after, and the bytes of the second one after.
-    ghost did: { Self → List ℕ → List ℕ → Self → List ℕ → Type 0 };
+    /// Before, the bytes of the three regions, after, and the bytes of the second and of the third one after.
+    ghost did: { Self → List ℕ → List ℕ → List ℕ → Self → List ℕ → List ℕ → Type 0 };
 
     /// Does its work. No region gets longer or shorter.
-    fn work(&mut self, flash: &mut Vec<u8>, ram: &mut Vec<u8>)
-        ensures did { did self.old flash.old.items ram.old.items self.new ram.new.items }
+    fn work(&mut self, flash: &mut Vec<u8>, ram: &mut Vec<u8>, area: &mut Vec<u8>)
+        ensures did { did self.old flash.old.items ram.old.items area.old.items self.new ram.new.items area.new.items }
         ensures flash { flash.new.items ≡ flash.old.items }
-        ensures length { length ram.new.items ≡ length ram.old.items };
+        ensures length { length ram.new.items ≡ length ram.old.items }
+        ensures area { length area.new.items ≡ length area.old.items };
 }
 
 /// The bank that has the bytes of a region and no others. Most often the table names it.
@@ -51,47 +53,160 @@ fn bank_beyond(banks: &[Bank], table: &[u16], region: (u32, u32)) -> Option<usiz
     None
 }
 
-/// Opens the bytes of two banks.
-fn open_two<B: WindowUser>(banks: &mut [Bank], flash: usize, ram: usize, user: &mut B)
-    requires flash { flash < length banks.old }
-    requires ram { ram < length banks.old }
-    requires apart { flash ≡ ram → ⊥ }
-    ensures { AreOpened B.did banks.old flash ram user.old user.new banks.new }
+/// The bank of a region of the RAM, where it has one; none where it is no region.
+#[inline(always)]
+fn ram_bank(banks: &[Bank], table: &[u16], region: (u32, u32)) -> Option<Option<usize>>
+    requires { AreKept table.now banks.now }
+    ensures found { IfSome result (λ k. IsPlaceOf banks.now k region) }
+    ensures none { IfNone result (HasNoPlace banks.now region) }
 {
-    if flash < ram {
-        let (front, back) = banks.split_at_mut(ram);
-        user.work(&mut front[flash].bytes, &mut back[0].bytes);
-    } else {
-        let (front, back) = banks.split_at_mut(flash);
-        user.work(&mut back[0].bytes, &mut front[ram].bytes);
+    if region == (RAM, 0) {
+        return Some(None);
+    }
+    if region.0 < RAM {
+        return None;
+    }
+    let k = bank_of(banks, table, region)?;
+    Some(Some(k))
+}
+
+/// Whether they are no one bank.
+#[inline(always)]
+fn are_two(first: Option<usize>, second: Option<usize>) -> bool
+    ensures two { result ≡ true → AreTwo first second }
+    ensures one { result ≡ false → AreTwo first second → ⊥ }
+{
+    match (first, second) {
+        (Some(i), Some(j)) => i != j,
+        _ => true,
     }
 }
 
-/// Opens the bytes of one bank, and no bytes beside them.
-fn open_one<B: WindowUser>(banks: &mut [Bank], flash: usize, alloc: Global, user: &mut B)
+/// Opens the bytes of two banks, beside those of an area.
+fn open_two<B: WindowUser>(
+    banks: &mut [Bank],
+    flash: usize,
+    ram: usize,
+    area: &mut Vec<u8>,
+    user: &mut B,
+)
+    requires flash { flash < length banks.old }
+    requires ram { ram < length banks.old }
+    requires apart { flash ≡ ram → ⊥ }
+    ensures { AreOpened B.did banks.old flash (Some ram) area.old.items user.old user.new banks.new area.new.items }
+{
+    if flash < ram {
+        let (front, back) = banks.split_at_mut(ram);
+        user.work(&mut front[flash].bytes, &mut back[0].bytes, area);
+    } else {
+        let (front, back) = banks.split_at_mut(flash);
+        user.work(&mut back[0].bytes, &mut front[ram].bytes, area);
+    }
+}
+
+/// Opens the bytes of one bank, beside those of an area.
+fn open_one<B: WindowUser>(
+    banks: &mut [Bank],
+    flash: usize,
+    area: &mut Vec<u8>,
+    alloc: Global,
+    user: &mut B,
+)
     requires { flash < length banks.old }
-    ensures { IsOpenedAlone B.did banks.old flash user.old user.new banks.new }
+    ensures { AreOpened B.did banks.old flash None area.old.items user.old user.new banks.new area.new.items }
 {
     let mut none = Vec::new(alloc);
-    user.work(&mut banks[flash].bytes, &mut none);
+    user.work(&mut banks[flash].bytes, &mut none, area);
+}
+
+/// Opens the bytes of one bank or two, beside those of an area.
+#[inline(always)]
+fn open_beside<B: WindowUser>(
+    banks: &mut [Bank],
+    flash: usize,
+    ram: Option<usize>,
+    area: &mut Vec<u8>,
+    alloc: Global,
+    user: &mut B,
+)
+    requires flash { flash < length banks.old }
+    requires ram { IsOne banks.old ram }
+    requires apart { AreTwo (Some flash) ram }
+    ensures { AreOpened B.did banks.old flash ram area.old.items user.old user.new banks.new area.new.items }
+{
+    match ram {
+        Some(k) => open_two(banks, flash, k, area, user),
+        None => open_one(banks, flash, area, alloc, user),
+    }
+}
+
+/// Opens the bytes of one bank or two and of that of an area. Its bytes are taken out of it meanwhile. Most tasks have
+/// no area, so this is a function of its own.
+#[inline(never)]
+fn open_area<B: WindowUser>(
+    banks: &mut [Bank],
+    flash: usize,
+    ram: Option<usize>,
+    area: usize,
+    alloc: Global,
+    user: &mut B,
+)
+    requires flash { flash < length banks.old }
+    requires ram { IsOne banks.old ram }
+    requires area { area < length banks.old }
+    requires apart { AreTwo (Some flash) ram }
+    requires beside { AreTwo (Some flash) (Some area) }
+    requires two { AreTwo ram (Some area) }
+    ensures { AreAllOpened B.did banks.old flash ram (Some area) user.old user.new banks.new }
+{
+    let mut bytes = Vec::new(alloc);
+    swap(&mut banks[area].bytes, &mut bytes);
+    open_beside(banks, flash, ram, &mut bytes, alloc, user);
+    swap(&mut banks[area].bytes, &mut bytes);
+}
+
+/// Opens the bytes of one bank or two, and of that of an area, where there is one.
+#[inline(always)]
+fn open_all<B: WindowUser>(
+    banks: &mut [Bank],
+    flash: usize,
+    ram: Option<usize>,
+    area: Option<usize>,
+    alloc: Global,
+    user: &mut B,
+)
+    requires flash { flash < length banks.old }
+    requires ram { IsOne banks.old ram }
+    requires area { IsOne banks.old area }
+    requires apart { AreTwo (Some flash) ram }
+    requires beside { AreTwo (Some flash) area }
+    requires two { AreTwo ram area }
+    ensures { AreAllOpened B.did banks.old flash ram area user.old user.new banks.new }
+{
+    match area {
+        Some(k) => open_area(banks, flash, ram, k, alloc, user),
+        None => {
+            let mut none = Vec::new(alloc);
+            open_beside(banks, flash, ram, &mut none, alloc, user);
+        }
+    }
 }
 
 impl Memory {
-    ghost use Rattle.std.specs.Prelude.{◌≡◌, true, false};
     ghost use Rattle.mem_banks.specs.Windows.{IsOpened, AreGiven};
 
-    /// Opens the bytes of two regions, by base and size, where each has a bank of its own and the
-    /// second one lies in the RAM; or those of one region and no bytes, where the second one is empty
-    /// and begins where the RAM does. Else nothing changes, and the answer is false. Regions that were
-    /// given to `open` are opened.
+    /// Opens the bytes of three regions, by base and size, where each has a bank of its own and the
+    /// second and the third one lie in the RAM, or have no bytes and begin where the RAM does. Else nothing
+    /// changes, and the answer is false. Regions that were given to `open` are opened.
     pub fn open_window<B: WindowUser>(
         &mut self,
         flash: (u32, u32),
         ram: (u32, u32),
+        area: (u32, u32),
         user: &mut B,
     ) -> bool
-        ensures opened { result ≡ true → IsOpened B.did self.old.bytes flash ram user.old user.new self.new.bytes }
-        ensures given { AreGiven self.old.regions flash ram → result ≡ true }
+        ensures opened { result ≡ true → IsOpened B.did self.old.bytes flash ram area user.old user.new self.new.bytes }
+        ensures given { AreGiven self.old.regions flash ram area → result ≡ true }
         ensures regions { self.new.regions ≡ self.old.regions }
         ensures kept { result ≡ false → self.new ≡ self.old }
         ensures left { result ≡ false → user.new ≡ user.old }
@@ -99,20 +214,16 @@ impl Memory {
         let Some(code) = bank_of(&self.banks, &self.table, flash) else {
             return false;
         };
-        if ram == (RAM, 0) {
-            open_one(&mut self.banks, code, self.alloc, user);
-            return true;
-        }
-        if ram.0 < RAM {
-            return false;
-        }
-        let Some(bank) = bank_of(&self.banks, &self.table, ram) else {
+        let Some(data) = ram_bank(&self.banks, &self.table, ram) else {
             return false;
         };
-        if code == bank {
+        let Some(more) = ram_bank(&self.banks, &self.table, area) else {
+            return false;
+        };
+        if !are_two(Some(code), data) || !are_two(Some(code), more) || !are_two(data, more) {
             return false;
         }
-        open_two(&mut self.banks, code, bank, user);
+        open_all(&mut self.banks, code, data, more, self.alloc, user);
         true
     }
 }

@@ -1,5 +1,5 @@
 -- Which regions of a task a window may have.
-use Rattle.std.specs.Prelude.{ℕ, ◌<◌, ◌≤◌, ◌≡◌, ◌⊎◌, false, List, Contains}
+use Rattle.std.specs.Prelude.{ℕ, ◌<◌, ◌≤◌, ◌≡◌, ◌≢◌, ◌⊎◌, false, List, Contains}
 use Rattle.region_check.specs.declared.Region.{Region}
 use Rattle.mem_banks.specs.Windows.{IsNoRegion}
 use Rattle.task_table.specs.State.{TaskSetup}
@@ -18,8 +18,14 @@ pub record IsUsable (regions : List Region) (r : Region) : Type 0 where
   pub no_device : r.rights.device ≡ false
   pub some : 0 < r.size
 
--- two of some regions: one in the flash, and one in the RAM, or none
-pub record AreUsable (regions : List Region) (flash ram : Region) : Type 0 where
+-- such a one in the RAM, or none
+abbrev pub IsUsableOrNone : List Region → Region → Type 0
+IsUsableOrNone regions r = IsNoRegion (span_of r) ⊎ (IsUsable regions r × (0x20000000 ≤ r.base))
+
+-- three of some regions: one in the flash, and two in the RAM, of which each may be none
+pub record AreUsable (regions : List Region) (flash ram area : Region) : Type 0 where
   pub flash_usable : IsUsable regions flash
   pub below : flash.base < 0x20000000
-  pub ram_usable : IsNoRegion (span_of ram) ⊎ (IsUsable regions ram × (0x20000000 ≤ ram.base))
+  pub ram_usable : IsUsableOrNone regions ram
+  pub area_usable : IsUsableOrNone regions area
+  pub other : IsNoRegion (span_of area) ⊎ (span_of ram ≢ span_of area)

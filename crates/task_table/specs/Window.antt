@@ -1,7 +1,7 @@
--- The bytes of two regions of the kernel's memory, handed to somebody for the time of one call.
+-- The bytes of three regions of the kernel's memory, handed to somebody for the time of one call.
 use Rattle.std.specs.Prelude.{ℕ, List}
 use Rattle.mem_banks.specs.Memory.{with_bytes}
-use Rattle.mem_banks.specs.Windows.{IsOpened}
+use Rattle.mem_banks.specs.Windows.{Doing, IsOpened}
 use Rattle.region_check.specs.declared.Region.{Region}
 use Rattle.task_table.specs.declared.kernel.Kernel.{Kernel}
 use Rattle.task_table.specs.State.{Setup, Turn}
@@ -13,8 +13,8 @@ use Rattle.task_table.specs.Openable.{span_of}
 abbrev pub overlaid : ℕ → List ℕ → Turn → Turn
 overlaid at bytes t = changed (λ s. record s { memory = with_bytes s.memory at bytes }) t
 
--- a user b did its work with the bytes of two regions; then it is b', and the kernel stands for
--- what it stood for, but for the bytes that it left of the second region
-pub record IsWindowOpened {B : Type 0} (did : B → List ℕ → List ℕ → B → List ℕ → Type 0) (k : Kernel) (flash ram : Region) (b b' : B) (k' : Kernel) : Type 0 where
-  pub window : IsOpened did (memory_of k) (span_of flash) (span_of ram) b b' (memory_of k')
-  pub holds : (g : Setup) (t : Turn) → Holds g k t → Holds g k' (overlaid ram.base window.after t)
+-- a user b did its work with the bytes of three regions; then it is b', and the kernel stands for what it stood for,
+-- but for the bytes that it left of the second and the third region
+pub record IsWindowOpened {B : Type 0} (did : Doing B) (k : Kernel) (flash ram area : Region) (b b' : B) (k' : Kernel) : Type 0 where
+  pub window : IsOpened did (memory_of k) (span_of flash) (span_of ram) (span_of area) b b' (memory_of k')
+  pub holds : (g : Setup) (t : Turn) → Holds g k t → Holds g k' (overlaid area.base window.area_after (overlaid ram.base window.after t))

@@ -21,7 +21,7 @@ use Rattle.thumb_step.specs.Did.{IsStored, IsTaken, Did}
 -- ## Moves
 
 pub kept : (v v' : View) → v' ≡ v → Keeps v v'
-kept v v' e = rw e record { flash_base = refl; flash = refl; readable = refl; ram_base = refl; size = refl }
+kept v v' e = rw e record { flash_base = refl; flash = refl; readable = refl; ram_base = refl; size = refl; area_base = refl; area_writable = refl; area_size = refl }
 
 pub kept_on : (u v w : View) → Keeps u v → Keeps v w → Keeps u w
 kept_on u v w a b = record {
@@ -30,6 +30,9 @@ kept_on u v w a b = record {
   readable = b.readable ∙ a.readable;
   ram_base = b.ram_base ∙ a.ram_base;
   size = b.size ∙ a.size;
+  area_base = b.area_base ∙ a.area_base;
+  area_writable = b.area_writable ∙ a.area_writable;
+  area_size = b.area_size ∙ a.area_size;
 }
 
 moves_put : (ms : List Move) (w w' : Window) → Moves IsStored IsTaken w ms w' → view_of w' ≡ fold put (view_of w) ms
@@ -43,7 +46,7 @@ moves_keep (Puts x ∷ ms) w w' e = kept_on (view_of w) (view_of e.0) (view_of w
 moves_keep (Takes a n ∷ ms) w w' e = kept_on (view_of w) (view_of e.0) (view_of w') (kept (view_of w) (view_of e.0) (ap view_of e.1)) (moves_keep ms e.0 w' e.2)
 
 inside_again : (v w : View) (x : Move) → Keeps v w → IsInside w x → IsInside v x
-inside_again v w (Puts x) k h = (h.0, rw (← k.ram_base, ← k.size) h.1)
+inside_again v w (Puts x) k h = (h.0, rw (← k.ram_base, ← k.size, ← k.area_base, ← k.area_size, ← k.area_writable) h.1)
 inside_again v w (Takes a n) k h = tt
 
 moves_inside : (ms : List Move) (w w' : Window) → Moves IsStored IsTaken w ms w' → AreInside (view_of w) ms
@@ -95,7 +98,7 @@ pub held_flash : (v : View) (a : ℕ) → v.flash_base + length v.flash ≤ v.ra
 held_flash v a apart h =
     let two = within v.flash_base v.flash a 2 h in
     let low : a + 2 ≤ v.flash_base + length v.flash = two.1 in
-    rw (has_not v.ram_base v.ram a 2 (λ from to. omega (arith, from, low, apart))) refl
+    rw (has_not v.ram_base v.ram a 2 (λ from to. omega (arith, from, low, apart)), h) refl
 
 -- ## The instruction at PC
 

@@ -8,12 +8,12 @@ use Rattle.thumb_exec.specs.declared.cpu.Outcome.TheVariants as outcome
 use Rattle.thumb_exec.specs.Sizes.{IsSize}
 use Rattle.thumb_step.specs.declared.window.Runner.{Runner}
 use Rattle.thumb_step.specs.declared.window.Window.{Window}
-use Rattle.thumb_step.specs.Windows.{has, Keeps, refused_by, held_by, write, view_of}
+use Rattle.thumb_step.specs.Windows.{may_write, Keeps, refused_by, held_by, write, view_of}
 
 -- a window after a store of so many bytes
 pub record IsStored (w : Window) (a n x : ℕ) (w' : Window) : Type 0 where
   pub size : IsSize n
-  pub inside : has w.ram_base w.ram.items a n ≡ true
+  pub inside : may_write (view_of w) a n ≡ true
   pub after : view_of w' ≡ write (view_of w) record { addr = a; bytes = n; value = x }
   pub keeps : Keeps (view_of w) (view_of w')
 

@@ -1,4 +1,4 @@
--- Instructions on end of a processor that reaches two runs of bytes, and no others.
+-- Instructions on end of a processor that reaches three runs of bytes, and no others.
 use Rattle.std.specs.Prelude.{◌≡◌, ◌≤◌, ℕ, zero, suc, ◌+◌, ◌-◌, ◌/◌, Bool, true, false, ◌&&◌, ◌||◌, if◌then◌else◌, nat_eq, nat_le, Ok, List, length, take, drop, fold, Option, Some, None, Contains}
 use Rattle.mem_banks.specs.Memory.{number_of, pasted}
 use Rattle.region_check.specs.declared.Right.TheVariants.{Read, Write, Execute}
@@ -11,13 +11,17 @@ use Rattle.thumb_insn.specs.declared.Insn.TheVariants.{Svc}
 use Rattle.words_core.specs.Regs.{reg_at, program_counter}
 use Rattle.thumb_step.specs.declared.window.Window.{Window}
 
--- what a processor reaches: bytes from an address on that it may execute, and perhaps read, and bytes that it may read and write
+-- what a processor reaches: bytes from an address on that it may execute, and perhaps read, bytes that it may read and write, and
+-- an area that it may read, and perhaps write
 pub record View : Type 0 where
   pub flash_base : ℕ
   pub flash : List ℕ
   pub readable : Bool
   pub ram_base : ℕ
   pub ram : List ℕ
+  pub area_base : ℕ
+  pub area : List ℕ
+  pub area_writable : Bool
 
 -- ## What it may do with which bytes
 
@@ -34,13 +38,22 @@ abbrev pub given : Bool → ℕ → Option ℕ
 given true a = None
 given false a = Some a
 
+-- the first of RAM, flash and area that has all of n bytes says whether they may be read, and what they hold
+abbrev pub may_read : View → ℕ → ℕ → Bool
+may_read v a n = has v.ram_base v.ram a n || (if has v.flash_base v.flash a n then v.readable else has v.area_base v.area a n)
+
+abbrev pub may_write : View → ℕ → ℕ → Bool
+may_write v a n = has v.ram_base v.ram a n || (v.area_writable && has v.area_base v.area a n)
+
 abbrev pub refused_by : View → Refusals
 refused_by v a n Execute = given (has v.flash_base v.flash a n) a
-refused_by v a n Read = given (has v.ram_base v.ram a n || (v.readable && has v.flash_base v.flash a n)) a
-refused_by v a n Write = given (has v.ram_base v.ram a n) a
+refused_by v a n Read = given (may_read v a n) a
+refused_by v a n Write = given (may_write v a n) a
 
 abbrev pub held_by : View → Contents
-held_by v a n = if has v.ram_base v.ram a n then number_in v.ram_base v.ram a n else number_in v.flash_base v.flash a n
+held_by v a n =
+    if has v.ram_base v.ram a n then number_in v.ram_base v.ram a n
+    else (if has v.flash_base v.flash a n then number_in v.flash_base v.flash a n else number_in v.area_base v.area a n)
 
 -- a halfword that the flash has
 pub record IsFetched (v : View) (a half : ℕ) : Type 0 where
@@ -49,17 +62,19 @@ pub record IsFetched (v : View) (a half : ℕ) : Type 0 where
 
 -- ## Moves
 
--- what it reaches after a store in the RAM; a load takes nothing there
+-- what it reaches after a store in the RAM, or else in the area; a load takes nothing there
 abbrev pub write : View → Store → View
-write v x = record v { ram = pasted v.ram (x.addr - v.ram_base) (bytes_of x.value x.bytes) }
+write v x =
+    if has v.ram_base v.ram x.addr x.bytes then record v { ram = pasted v.ram (x.addr - v.ram_base) (bytes_of x.value x.bytes) }
+    else record v { area = pasted v.area (x.addr - v.area_base) (bytes_of x.value x.bytes) }
 
 abbrev pub put : View → Move → View
 put v (Puts x) = write v x
 put v (Takes a n) = v
 
--- each store is one of 1, 2 or 4 bytes of the RAM
+-- each store is one of 1, 2 or 4 bytes that it may write
 abbrev pub IsInside : View → Move → Type 0
-IsInside v (Puts x) = IsSize x.bytes × (has v.ram_base v.ram x.addr x.bytes ≡ true)
+IsInside v (Puts x) = IsSize x.bytes × (may_write v x.addr x.bytes ≡ true)
 IsInside v (Takes a n) = Unit {0}
 
 abbrev pub AreInside : View → List Move → Type 0
@@ -96,11 +111,24 @@ pub record Keeps (v v' : View) : Type 0 where
   pub readable : v'.readable ≡ v.readable
   pub ram_base : v'.ram_base ≡ v.ram_base
   pub size : length v'.ram ≡ length v.ram
+  pub area_base : v'.area_base ≡ v.area_base
+  pub area_writable : v'.area_writable ≡ v.area_writable
+  pub area_size : length v'.area ≡ length v.area
 
 -- ## The code's window
 
 abbrev pub view_of : Window → View
-view_of w = record { flash_base = w.flash_base; flash = w.flash.items; readable = w.readable; ram_base = w.ram_base; ram = w.ram.items }
+view_of w =
+    record {
+      flash_base = w.flash_base;
+      flash = w.flash.items;
+      readable = w.readable;
+      ram_base = w.ram_base;
+      ram = w.ram.items;
+      area_base = w.area_base;
+      area = w.area.items;
+      area_writable = w.area_writable;
+    }
 
 -- the flash ends below the RAM
 abbrev pub IsApart : Window → Type 0

@@ -1,8 +1,8 @@
-//! Instructions on end of a processor whose flash and RAM lie in two vectors of bytes. An access is one
-//! test of its place, and no look-up.
-ghost use Rattle.std.specs.Prelude.{◌≡◌, ◌⊎◌, ℕ, ◌+◌, ◌*◌, ◌/◌, ◌%◌, ◌^◌, ◌≤◌, ◌<◌, None, Some, true, false, MatchOption, MatchResult, length, take, drop, vec_len};
+//! Instructions on end of a processor whose flash, RAM and further area lie in three vectors of bytes. An access is
+//! one test of its place, and no look-up.
+ghost use Rattle.std.specs.Prelude.{◌≡◌, ◌⊎◌, ℕ, ◌+◌, ◌*◌, ◌/◌, ◌%◌, ◌^◌, ◌≤◌, ◌<◌, None, Some, true, false, if◌then◌else◌, MatchOption, MatchResult, IfOk, IfErr, length, take, drop, vec_len};
 ghost use Rattle.mem_banks.specs.Memory.{number_of, pasted};
-ghost use Rattle.region_check.specs.declared.Right.TheVariants.{Read};
+ghost use Rattle.region_check.specs.declared.Right.TheVariants.{Read, Write};
 ghost use Rattle.thumb_exec.specs.Effect.{Halts};
 ghost use Rattle.thumb_exec.specs.Sizes.{IsSize};
 ghost use Rattle.thumb_exec.specs.Fetch.{step_effect};
@@ -18,8 +18,9 @@ use thumb_exec::step::proceed;
 use thumb_insn::{Decoded, Insn};
 use words_core::PROGRAM_COUNTER;
 
-/// What a processor reaches: the flash, which it may execute, and perhaps read, and the RAM, which it may
-/// read and write, each from an address on.
+/// What a processor reaches: the flash, which it may execute, and perhaps read, the RAM, which it may read and
+/// write, and an area, which it may read, and perhaps write, each from an address on. Only accesses beyond flash and
+/// RAM look at the area, so that the others have no test more.
 #[derive(Drop)]
 pub struct Window {
     pub flash: Vec<u8>,
@@ -29,6 +30,11 @@ pub struct Window {
     pub readable: bool,
     pub ram: Vec<u8>,
     pub ram_base: u32,
+    pub area: Vec<u8>,
+    pub area_base: u32,
+
+    /// Whether the area may be written.
+    pub area_writable: bool,
 }
 
 /// A processor and what it reaches.
@@ -108,6 +114,14 @@ impl Window {
         has(self.flash_base, &self.flash, addr, n)
     }
 
+    /// Whether the area has all of n bytes.
+    #[inline(always)]
+    fn has_area(&self, addr: u32, n: u32) -> bool
+        ensures { result ≡ has self.now.area_base self.now.area.items addr n }
+    {
+        has(self.area_base, &self.area, addr, n)
+    }
+
     /// The halfword at an address, where the flash has it. The flash ends within the address space, since it
     /// ends below the RAM: so one comparison tells.
     #[inline(always)]
@@ -125,18 +139,53 @@ impl Window {
         }
     }
 
-    /// A load of bytes that the RAM does not have.
+    /// Whether bytes that the RAM does not have may be read.
+    #[inline(never)]
+    fn reads_beyond(&self, addr: u32, n: u32) -> bool
+        ensures { result ≡ (if has self.now.flash_base self.now.flash.items addr n then self.now.readable else has self.now.area_base self.now.area.items addr n) }
+    {
+        if self.has_flash(addr, n) {
+            self.readable
+        } else {
+            self.has_area(addr, n)
+        }
+    }
+
+    /// A load of bytes that the RAM does not have: of the flash, or else of the area.
     #[inline(never)]
     fn load_flash(&self, addr: u32, n: u32) -> Result<u32, u32>
         requires size { IsSize n }
         requires beyond { has self.now.ram_base self.now.ram.items addr n ≡ false }
         ensures { MatchResult result (λ value. (refused_by (view_of self.now) addr n Read ≡ None) × (value ≡ held_by (view_of self.now) addr n)) (λ at. refused_by (view_of self.now) addr n Read ≡ Some at) }
     {
-        if self.readable && self.has_flash(addr, n) {
+        if self.has_flash(addr, n) {
+            if !self.readable {
+                return Err(addr);
+            }
             Ok(number(&self.flash, (addr - self.flash_base) as usize, n))
+        } else if self.has_area(addr, n) {
+            Ok(number(&self.area, (addr - self.area_base) as usize, n))
         } else {
             Err(addr)
         }
+    }
+
+    /// A store of bytes that the RAM does not have.
+    #[inline(never)]
+    fn store_area(&mut self, addr: u32, n: u32, value: u32) -> Result<(), u32>
+        requires size { IsSize n }
+        requires beyond { has self.old.ram_base self.old.ram.items addr n ≡ false }
+        ensures done { IfOk result (λ done. (refused_by (view_of self.old) addr n Write ≡ None) × IsStored self.old addr n value self.new) }
+        ensures refused { IfErr result (λ at. (refused_by (view_of self.old) addr n Write ≡ Some at) × (self.new ≡ self.old)) }
+        ensures fixed { Keeps (view_of self.old) (view_of self.new) }
+    {
+        if !self.area_writable || !self.has_area(addr, n) {
+            return Err(addr);
+        }
+        let at = (addr - self.area_base) as usize;
+        let bytes = value.to_le_bytes();
+        put(&mut self.area, at, &bytes[..n as usize]);
+        Ok(())
     }
 }
 
@@ -152,8 +201,8 @@ impl Bus for Window {
     #[inline(always)]
     fn allows(&self, addr: u32, n: u32, right: Right) -> Option<u32> {
         let is_given = match right {
-            Right::Read => self.has_ram(addr, n) || (self.readable && self.has_flash(addr, n)),
-            Right::Write => self.has_ram(addr, n),
+            Right::Read => self.has_ram(addr, n) || self.reads_beyond(addr, n),
+            Right::Write => self.has_ram(addr, n) || (self.area_writable && self.has_area(addr, n)),
             Right::Execute => self.has_flash(addr, n),
         };
         if is_given { None } else { Some(addr) }
@@ -182,7 +231,7 @@ impl Bus for Window {
     #[inline(always)]
     fn store(&mut self, addr: u32, n: u32, value: u32) -> Result<(), u32> {
         if !self.has_ram(addr, n) {
-            return Err(addr);
+            return self.store_area(addr, n, value);
         }
         let at = (addr - self.ram_base) as usize;
         let bytes = value.to_le_bytes();
@@ -190,7 +239,7 @@ impl Bus for Window {
         Ok(())
     }
 
-    /// There is no device in the flash and the RAM.
+    /// There is no device in them.
     #[inline(always)]
     fn taken(&mut self, _addr: u32) {}
 

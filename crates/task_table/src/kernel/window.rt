@@ -1,25 +1,49 @@
-//! The bytes of two regions, handed to somebody for the time of one call.
+//! The bytes of three regions, handed to somebody for the time of one call.
 
 use super::Kernel;
 use mem_banks::WindowUser;
 use region_check::Region;
 
 impl Kernel {
-    ghost use Rattle.std.specs.Prelude.{◌≡◌, ℕ, true, false};
+    ghost use Rattle.std.specs.Prelude.{◌≡◌, ◌<◌, ℕ, Some, true, false};
     ghost use Rattle.task_table.specs.State.{Setup, Turn};
     ghost use Rattle.task_table.specs.Reading.{setup_at};
-    ghost use Rattle.task_table.specs.Holds.{Holds, memory_of, current_of, setup_of};
+    ghost use Rattle.task_table.specs.Holds.{Holds, memory_of, current_of, setup_of, entries_of};
+    ghost use Rattle.task_table.specs.Entries.{kept_at, meets};
+    ghost use Rattle.task_table.specs.declared.entry.KeptEntry.{KeptEntry};
     ghost use Rattle.task_table.specs.Frames.{AddsNotes};
     ghost use Rattle.task_table.specs.Openable.{AreUsable};
     ghost use Rattle.task_table.specs.Window.{IsWindowOpened};
 
-    /// Opens the bytes of a region of code and of one of the RAM, where each has a bank of its own, or of
-    /// one of code alone, where the other is empty and begins where the RAM does; else the answer is false.
-    /// Those of a task that lie so are opened. An entry of a lease table that has one of the bytes in the
-    /// RAM is kept no more, since the user may write over it.
-    pub fn open_window<B: WindowUser>(&mut self, flash: &Region, ram: &Region, user: &mut B) -> bool
-        ensures opened { result ≡ true → IsWindowOpened B.did self.old flash.now ram.now user.old user.new self.new }
-        ensures given { (task : ℕ) → AreUsable (setup_at (setup_of self.old) task).regions flash.now ram.now → result ≡ true }
+    /// As `touched`, of bytes of which there may be none. Most tasks have no area, and an entry may be kept where its empty
+    /// region begins.
+    #[inline(always)]
+    fn area_touched(&mut self, base: u32, len: usize)
+        ensures holds { (g : Setup) (t : Turn) → Holds g self.old t → Holds g self.new t }
+        ensures memory { memory_of self.new ≡ memory_of self.old }
+        ensures current { current_of self.new ≡ current_of self.old }
+        ensures there { (i : ℕ) (x : KeptEntry) → kept_at (entries_of self.new) i ≡ Some x → kept_at (entries_of self.old) i ≡ Some x }
+        ensures apart { 0 < len → (i : ℕ) (x : KeptEntry) → kept_at (entries_of self.new) i ≡ Some x → meets x base len ≡ false }
+        ensures frame { AddsNotes self.old 0 self.new }
+    {
+        if len > 0 {
+            self.touched(base, len);
+        }
+    }
+
+    /// Opens the bytes of a region of code and of two of the RAM, where each has a bank of its own; one of
+    /// those may be empty, and begin where the RAM does. Else the answer is false. Those of a task that lie
+    /// so are opened. An entry of a lease table that has one of the bytes in the RAM is kept no more, since
+    /// the user may write over it.
+    pub fn open_window<B: WindowUser>(
+        &mut self,
+        flash: &Region,
+        ram: &Region,
+        area: &Region,
+        user: &mut B,
+    ) -> bool
+        ensures opened { result ≡ true → IsWindowOpened B.did self.old flash.now ram.now area.now user.old user.new self.new }
+        ensures given { (task : ℕ) → AreUsable (setup_at (setup_of self.old) task).regions flash.now ram.now area.now → result ≡ true }
         ensures memory { result ≡ false → memory_of self.new ≡ memory_of self.old }
         ensures holds { result ≡ false → (g : Setup) (t : Turn) → Holds g self.old t → Holds g self.new t }
         ensures left { result ≡ false → user.new ≡ user.old }
@@ -27,7 +51,12 @@ impl Kernel {
         ensures frame { AddsNotes self.old 0 self.new }
     {
         self.touched(ram.base, ram.size as usize);
-        self.memory
-            .open_window((flash.base, flash.size), (ram.base, ram.size), user)
+        self.area_touched(area.base, area.size as usize);
+        self.memory.open_window(
+            (flash.base, flash.size),
+            (ram.base, ram.size),
+            (area.base, area.size),
+            user,
+        )
     }
 }

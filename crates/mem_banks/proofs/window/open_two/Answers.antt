@@ -23,7 +23,7 @@ returns-then-flash-ram g c =
     let between = set front a.flash x ++ back in
     let count : length (set front a.flash x) ≡ a.ram = length-set front a.flash x ∙ len in
     let stays : q ≡ get_or between a.ram q = get_or_default back 0 c.index-back-0.result q some ∙ sym (get_back between (set front a.flash x) back a.ram q refl count) in
-    two_by g.B.WindowUser.did old between _ a.flash a.ram a.user.now c.work.new.self x y p q c.requires.flash c.requires.ram is_p is_q stays (set_front old front back a.flash x split there) (set_back between (set front a.flash x) back a.ram y refl count) refl refl c.work.ensures.flash c.work.ensures.length c.work.ensures.did
+    two_by g.B.WindowUser.did old between _ a.flash a.ram a.user.now c.work.new.self x y p q a.area.now.items c.work.new.area.items c.requires.flash c.requires.ram is_p is_q stays (set_front old front back a.flash x split there) (set_back between (set front a.flash x) back a.ram y refl count) refl refl c.work.ensures.flash c.work.ensures.length c.work.ensures.area c.work.ensures.did
 
 pub returns-else-flash-ram : goal.returns-else-flash-ram
 returns-else-flash-ram g c =
@@ -43,4 +43,4 @@ returns-else-flash-ram g c =
     let is_q : q ≡ get_or old a.ram q = get_or_default front a.ram c.index-front-ram.result q there ∙ sym (get_front old front back a.ram q split there) in
     let between = front ++ set back 0 x in
     let stays : q ≡ get_or between a.ram q = get_or_default front a.ram c.index-front-ram.result q there ∙ sym (get_front between front (set back 0 x) a.ram q refl there) in
-    two_by g.B.WindowUser.did old between _ a.flash a.ram a.user.now c.work-else-flash-ram.new.self x y p q c.requires.flash c.requires.ram is_p is_q stays (set_back old front back a.flash x split len) (set_front between front (set back 0 x) a.ram y refl there) refl refl c.work-else-flash-ram.ensures.flash c.work-else-flash-ram.ensures.length c.work-else-flash-ram.ensures.did
+    two_by g.B.WindowUser.did old between _ a.flash a.ram a.user.now c.work-else-flash-ram.new.self x y p q a.area.now.items c.work-else-flash-ram.new.area.items c.requires.flash c.requires.ram is_p is_q stays (set_back old front back a.flash x split len) (set_front between front (set back 0 x) a.ram y refl there) refl refl c.work-else-flash-ram.ensures.flash c.work-else-flash-ram.ensures.length c.work-else-flash-ram.ensures.area c.work-else-flash-ram.ensures.did

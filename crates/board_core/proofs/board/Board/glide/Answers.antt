@@ -1,4 +1,4 @@
-use Rattle.std.proofs.Common.{◌≡◌, ℕ, Bool, true, Some, sym, ◌∙◌, subst}
+use Rattle.std.proofs.Common.{◌≡◌, ℕ, Bool, true, false, Some, sym, ◌∙◌, subst}
 use Rattle.board_core.specs.Advanced.{IsFar, state_now}
 use Rattle.board_core.proofs.Gliding.{none_made}
 use Rattle.board_core.proofs.board.Board.glide.Goals as goal
@@ -13,3 +13,11 @@ returns-then-glide_on-clause-far boxes c = λ x s i st is up lt.
     let both : Some task ≡ Some i = sym c.in-Some.is ∙ st.holds.choice.next ∙ is in
     let same : task ≡ i = cc in
     subst (λ (k : ℕ). IsFar x k s u true) same (subst (λ (calls : Bool). IsFar x task s u calls) c.if-glide_on.true (c.glide_on.ensures.far x s st lt))
+
+pub returns-else-glide_on-clause-far : goal.returns-else-glide_on-clause-far
+returns-else-glide_on-clause-far boxes c = λ x s i st is up lt.
+    let task = c.in-Some.task in
+    let u = state_now x c.args.self.now s c.glide_on.new.self in
+    let both : Some task ≡ Some i = sym c.in-Some.is ∙ st.holds.choice.next ∙ is in
+    let same : task ≡ i = cc in
+    subst (λ (k : ℕ). IsFar x k s u false) same (subst (λ (calls : Bool). IsFar x task s u calls) c.if-glide_on.false (c.glide_on.ensures.far x s st lt))

@@ -27,7 +27,7 @@ returns-in_default-clause-glided boxes c = λ g t r inside ready.
 
 pub returns-then-not-open_window-clause-glided : goal.returns-then-not-open_window-clause-glided
 returns-then-not-open_window-clause-glided boxes c = λ g t r inside ready.
-    let opened : c.open_window.result ≡ true = c.open_window.ensures.given c.args.task (are_usable _ _ _ _ _ c.in-Some.ensures) in
+    let opened : c.open_window.result ≡ true = c.open_window.ensures.given c.args.task (are_usable _ _ _ _ _ _ c.in-Some.ensures) in
     absurd (false≢true (sym c.if-not-open_window.true ∙ opened))
 
 pub returns-clause-glided : goal.returns-clause-glided
@@ -38,7 +38,7 @@ returns-clause-glided boxes c = λ g t r inside ready.
     let pc = c.get-pc.ensures ∙ context_register _ program_counter g m task t h inside in
     let sp = c.get-sp.ensures ∙ context_register _ stack_pointer g m task t h inside in
     let aim = c.aim.ensures in
-    inl (has_run _ g m task c.args.most t _ _ _ _ c.aim.new.self c.open_window.new.user c.open_window.new.self h inside c.in-Some.ensures pc sp aim.processor aim.flash aim.readable aim.ram aim.most (c.open_window.ensures.opened c.if-not-open_window.false)
+    inl (has_run _ g m task c.args.most t _ _ _ _ _ c.aim.new.self c.open_window.new.user c.open_window.new.self h inside c.in-Some.ensures pc sp aim.processor aim.flash aim.readable aim.ram aim.area aim.writable aim.most (c.open_window.ensures.opened c.if-not-open_window.false)
     _ (omega (arith, c.if-made-eq0.false)) refl refl refl (λ u held. c.set_current.ensures.holds g u held))
 
 pub returns-then-made-eq0-clause-glided : goal.returns-then-made-eq0-clause-glided
@@ -49,5 +49,5 @@ returns-then-made-eq0-clause-glided boxes c = λ g t r inside ready.
     let pc = c.get-pc.ensures ∙ context_register _ program_counter g m task t h inside in
     let sp = c.get-sp.ensures ∙ context_register _ stack_pointer g m task t h inside in
     let aim = c.aim.ensures in
-    inl (has_stayed _ g m task c.args.most t _ _ _ _ c.aim.new.self c.open_window.new.user c.open_window.new.self h inside c.in-Some.ensures pc sp aim.processor aim.flash aim.readable aim.ram aim.most (c.open_window.ensures.opened c.if-not-open_window.false)
+    inl (has_stayed _ g m task c.args.most t _ _ _ _ _ c.aim.new.self c.open_window.new.user c.open_window.new.self h inside c.in-Some.ensures pc sp aim.processor aim.flash aim.readable aim.ram aim.area aim.writable aim.most (c.open_window.ensures.opened c.if-not-open_window.false)
     _ (omega (arith, c.if-made-eq0.true)) refl refl refl (c.take_context.ensures.holds g t r.holds))

@@ -7,8 +7,8 @@ use Rattle.board_core.proofs.reach.Reach.window.Goals as goal
 pub returns : goal.returns
 returns boxes c =
     let same = c.regions-regions.ensures.value in
-    let P : List Region → Type 0 = λ regions. AreReached regions c.args.pc c.args.sp c.in_ok-flash.flash c.ram_at.result in
-    subst P same record { here = c.in_ok-flash.ensures.0; flash = c.in_ok-flash.ensures.1; ram = c.ram_at.ensures }
+    let P : List Region → Type 0 = λ regions. AreReached regions c.args.pc c.args.sp c.in_ok-flash.flash c.ram_at-ram.result c.area_of-area.result in
+    subst P same record { here = c.in_ok-flash.ensures.0; flash = c.in_ok-flash.ensures.1; ram = c.ram_at-ram.ensures; area = c.area_of-area.ensures }
 
 pub returns-in_err-flash : goal.returns-in_err-flash
 returns-in_err-flash boxes c =
