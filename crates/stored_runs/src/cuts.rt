@@ -22,6 +22,7 @@ const CUT: [&str; 6] = [
 const ROOM: usize = 1_000_000;
 
 /// A stored run: its files, an image of its own among them, its script, and what its words say behind these two.
+#[derive(Clone, Copy)]
 struct Stored<'a> {
     parts: &'a [Part<'a>],
     image: &'a str,
