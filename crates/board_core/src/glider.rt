@@ -1,5 +1,5 @@
 //! The processor of the current task while it has a window, the bytes of three of the task's regions.
-ghost use Rattle.std.specs.Prelude.{◌≡◌, ◌≤◌, ◌<◌, true};
+ghost use Rattle.std.specs.Prelude.{◌≡◌, ◌≤◌, ◌<◌, true, length};
 ghost use Rattle.thumb_exec.specs.Effect.{Halts};
 ghost use Rattle.thumb_exec.specs.Fetch.{step_effect};
 ghost use Rattle.thumb_step.specs.Windows.{Glides, IsApart, Keeps, IsAtSyscall, is_at_syscall, view_of, refused_by, held_by};
@@ -100,6 +100,24 @@ impl Glider {
         self.at_syscall = made < self.most && self.runner.is_at_syscall();
         made
     }
+
+    /// The instructions, where the window has flash and RAM, and this is its area. Most tasks have none: then the window's own is
+    /// emptied, which is one store, where two swaps are twelve.
+    fn work_beside(&mut self, area: &mut Vec<u8>)
+        ensures did { HasWorked self.old self.old.runner.window.flash.items self.old.runner.window.ram.items area.old.items self.new self.new.runner.window.ram.items area.new.items }
+        ensures flash { self.new.runner.window.flash.items ≡ self.old.runner.window.flash.items }
+        ensures length { length self.new.runner.window.ram.items ≡ length self.old.runner.window.ram.items }
+        ensures area { length area.new.items ≡ length area.old.items }
+    {
+        if area.is_empty() {
+            self.runner.window.area.clear();
+            self.made = self.glide();
+            return;
+        }
+        swap(&mut self.runner.window.area, area);
+        self.made = self.glide();
+        swap(&mut self.runner.window.area, area);
+    }
 }
 
 impl WindowUser for Glider {
@@ -108,15 +126,7 @@ impl WindowUser for Glider {
     fn work(&mut self, flash: &mut Vec<u8>, ram: &mut Vec<u8>, area: &mut Vec<u8>) {
         swap(&mut self.runner.window.flash, flash);
         swap(&mut self.runner.window.ram, ram);
-        if area.is_empty() {
-            // Most tasks have no area: then this is one store, where two swaps would be twelve.
-            self.runner.window.area.clear();
-            self.made = self.glide();
-        } else {
-            swap(&mut self.runner.window.area, area);
-            self.made = self.glide();
-            swap(&mut self.runner.window.area, area);
-        }
+        self.work_beside(area);
         swap(&mut self.runner.window.ram, ram);
         swap(&mut self.runner.window.flash, flash);
     }
