@@ -55,6 +55,21 @@ pub enum Job<'a> {
     Audit {
         trace: &'a str,
     },
+    /// The state of the run of IMAGE with SCRIPT after at most `steps` turns, put under OUT.
+    Save {
+        image: &'a str,
+        script: &'a str,
+        out: &'a str,
+        steps: u32,
+    },
+    /// Go on from the state in STATE, with IMAGE and SCRIPT, up to turn `steps`.
+    Resume {
+        image: &'a str,
+        script: &'a str,
+        state: &'a str,
+        steps: u32,
+        detail: Detail,
+    },
 }
 
 fn text_of<'a>(matches: &ArgMatches<'a>, id: &str) -> &'a str

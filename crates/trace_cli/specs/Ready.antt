@@ -1,5 +1,5 @@
 -- A board at the start of a job's run, or the file that is not accepted.
-use Rattle.std.specs.Prelude.{◌≡◌, ℕ, List, Option, None}
+use Rattle.std.specs.Prelude.{◌≡◌, ◌≤◌, ℕ, List, [], Option, None, slice_index_or}
 use Rattle.kernel_abi.specs.Devices.{DeviceData}
 use Rattle.image_format.specs.Picture.{Picture}
 use Rattle.image_build.specs.Built.{Built}
@@ -8,6 +8,10 @@ use Rattle.board_core.specs.Data.{Shows}
 use Rattle.board_core.specs.declared.board.Board.{Board}
 use Rattle.board_model.specs.Script.{Scenario, start_of}
 use Rattle.board_core.specs.Stands.{Stands, turns_of}
+use Rattle.task_table.specs.State.{State}
+use Rattle.task_table.specs.Sane.{Sane, IsCounted}
+use Rattle.snapshot.specs.Saved.{SpellsState}
+use Rattle.snapshot.specs.Loaded.{sites}
 use Rattle.trace_audit.specs.declared.verdict.Verdict as trace
 use Rattle.trace_audit.specs.Verdicts as trace_audit
 use Rattle.command_line.specs.CommandLine.{Asked}
@@ -15,7 +19,7 @@ use Rattle.command_line.specs.declared.job.Detail.{Detail}
 use Rattle.trace_cli.specs.declared.file_faults.NamedFault.{NamedFault}
 use Rattle.trace_cli.specs.Contents.{image_refusal, script_refusal, trace_refusal, picture_of, scenario_of, sample_scenario}
 use Rattle.outside_io.specs.Seen.{FilesSeen}
-use Rattle.trace_cli.specs.Sources.{MayBe, TakesAll, files_by, IsRun}
+use Rattle.trace_cli.specs.Sources.{MayBe, TakesAll, files_by, IsRun, IsResume}
 use Rattle.trace_cli.specs.Building.{IsNamedFaultAfter}
 
 -- an image is that which the file of this name spells
@@ -36,11 +40,29 @@ pub record IsSet {X : Type 0} {H : X → Type 0} (shown : Shows X H) (devices : 
 -- each file of the job is accepted, and the board stands for the start of its run
 pub record IsReady {X : Type 0} {H : X → Type 0} (shown : Shows X H) (devices : List DeviceData) (job : Asked) (seen : List ℕ → Option (List ℕ)) (n : ℕ) (detail : Detail) (b : Board X H) : Type 0 where
   pub contents : List (List ℕ)
-  pub accepted : TakesAll (MayBe seen) job contents
+  pub accepted : TakesAll (MayBe seen) devices job contents
   pub scenario : Scenario
   pub is : IsRun devices job contents n detail scenario
   pub stands : Stands shown scenario b (start_of scenario)
   pub turns : turns_of b ≡ 0
+
+-- a sane state of a run of this scenario that these bytes spell
+pub record IsSpelled (x : Scenario) (bytes : List ℕ) (s : State) : Type 0 where
+  pub spells : SpellsState x.setup s bytes
+  pub sane : Sane x.setup s
+  pub counted : IsCounted s
+  pub sites : sites s.devices ≡ sites x.devices
+
+-- each file of the job is accepted, and the board stands for the state from which its run goes on, and for each that the bytes spell
+pub record IsResumable {X : Type 0} {H : X → Type 0} (shown : Shows X H) (devices : List DeviceData) (job : Asked) (seen : List ℕ → Option (List ℕ)) (n : ℕ) (detail : Detail) (b : Board X H) : Type 0 where
+  pub contents : List (List ℕ)
+  pub accepted : TakesAll (MayBe seen) devices job contents
+  pub scenario : Scenario
+  pub state : State
+  pub is : IsResume devices job contents n detail scenario state
+  pub stands : Stands shown scenario b state
+  pub each : (s : State) → IsSpelled scenario (slice_index_or contents 2 []) s → Stands shown scenario b s
+  pub turns : turns_of b ≤ n
 
 -- the board stands for the start of the run of the sample of a seed
 pub record IsSampleReady {X : Type 0} {H : X → Type 0} (shown : Shows X H) (seed : ℕ) (b : Board X H) : Type 0 where
@@ -57,6 +79,6 @@ pub record IsAuditOf (seen : List ℕ → Option (List ℕ)) (name : List ℕ) (
   pub verdict : trace_audit.IsVerdict bytes found
 
 -- a file of the job is not accepted
-pub record IsNamedFaultIn (job : Asked) (before after : FilesSeen) (named_fault : NamedFault) : Type 0 where
+pub record IsNamedFaultIn (devices : List DeviceData) (job : Asked) (before after : FilesSeen) (named_fault : NamedFault) : Type 0 where
   pub contents : List (List ℕ)
-  pub at : IsNamedFaultAfter before after (files_by job contents) contents named_fault
+  pub at : IsNamedFaultAfter before after (files_by devices job contents) contents named_fault
