@@ -12,7 +12,7 @@ use Rattle.outside_io.specs.Outside.{Rose}
 use Rattle.audit_runs.specs.Last.{IsGoodText}
 use Rattle.trace_audit.specs.declared.verdict.Verdict as trace
 use Rattle.trace_audit.specs.declared.verdict.Verdict.TheVariants.{Yes, No}
-use Rattle.command_line.specs.CommandLine.{Asked, build, run, go, list, sample, migrate, audit}
+use Rattle.command_line.specs.CommandLine.{Asked, build, run, go, list, sample, migrate, audit, save, resume}
 use Rattle.command_line.specs.declared.job.Detail.{Detail}
 use Rattle.trace_cli.specs.declared.file_faults.NamedFault.{NamedFault}
 use Rattle.trace_cli.specs.declared.file_faults.NamedFault.TheVariants as named_faults
@@ -58,14 +58,14 @@ run_ready {X} {H} {shown} {devices} seen image script n detail picture b i s = r
   turns = s.turns;
 }
 
-pub run_image_faults : (a c : FilesSeen) (image script : List ℕ) (n : ℕ) (detail : Detail) (h : NamedFault) → IsNamedFaultOf a c (image_file image) h → IsNamedFaultIn (run image script n detail) a c h
+pub run_image_faults : {devices : List DeviceData} (a c : FilesSeen) (image script : List ℕ) (n : ℕ) (detail : Detail) (h : NamedFault) → IsNamedFaultOf a c (image_file image) h → IsNamedFaultIn devices (run image script n detail) a c h
 run_image_faults a c image script n detail h fault = record {
   contents = [];
   at = record { takes = takes_none (MayBe a.contents) (image_file image ∷ script_file script ∷ []); file = image_file image; next = refl; fault = fault };
 }
 
-pub run_script_faults : (a b c : FilesSeen) (image script : List ℕ) (n : ℕ) (detail : Detail) (picture : Picture) (h : NamedFault) → IsImageFile a.contents image picture → b.contents ≡ a.contents
-    → a.read_faults ≤ b.read_faults → IsNamedFaultOf b c (script_file script) h → IsNamedFaultIn (run image script n detail) a c h
+pub run_script_faults : {devices : List DeviceData} (a b c : FilesSeen) (image script : List ℕ) (n : ℕ) (detail : Detail) (picture : Picture) (h : NamedFault) → IsImageFile a.contents image picture → b.contents ≡ a.contents
+    → a.read_faults ≤ b.read_faults → IsNamedFaultOf b c (script_file script) h → IsNamedFaultIn devices (run image script n detail) a c h
 run_script_faults a b c image script n detail picture h i seen later fault = record {
   contents = i.bytes ∷ [];
   at = record {
@@ -78,7 +78,7 @@ run_script_faults a b c image script n detail picture h i seen later fault = rec
 
 -- ## `list`
 
-pub list_faults : (a c : FilesSeen) (image : List ℕ) (h : NamedFault) → IsNamedFaultOf a c (image_file image) h → IsNamedFaultIn (list image) a c h
+pub list_faults : {devices : List DeviceData} (a c : FilesSeen) (image : List ℕ) (h : NamedFault) → IsNamedFaultOf a c (image_file image) h → IsNamedFaultIn devices (list image) a c h
 list_faults a c image h fault = record {
   contents = [];
   at = record { takes = takes_none (MayBe a.contents) (image_file image ∷ []); file = image_file image; next = refl; fault = fault };
@@ -89,7 +89,7 @@ list_reason a b image picture i = does (i.bytes ∷ []) (record { takes = one_fi
 
 -- ## `migrate`
 
-pub migrate_faults : (a c : FilesSeen) (image out : List ℕ) (h : NamedFault) → IsNamedFaultOf a c (image_file image) h → IsNamedFaultIn (migrate image out) a c h
+pub migrate_faults : {devices : List DeviceData} (a c : FilesSeen) (image out : List ℕ) (h : NamedFault) → IsNamedFaultOf a c (image_file image) h → IsNamedFaultIn devices (migrate image out) a c h
 migrate_faults a c image out h fault = record {
   contents = [];
   at = record { takes = takes_none (MayBe a.contents) (image_file image ∷ []); file = image_file image; next = refl; fault = fault };
@@ -101,7 +101,7 @@ migrate_reason a b image out picture i =
 
 -- ## `audit`
 
-pub audit_faults : (a c : FilesSeen) (name : List ℕ) (h : NamedFault) → IsNamedFaultOf a c (trace_file name) h → IsNamedFaultIn (audit name) a c h
+pub audit_faults : {devices : List DeviceData} (a c : FilesSeen) (name : List ℕ) (h : NamedFault) → IsNamedFaultOf a c (trace_file name) h → IsNamedFaultIn devices (audit name) a c h
 audit_faults a c name h fault = record {
   contents = [];
   at = record { takes = takes_none (MayBe a.contents) (trace_file name ∷ []); file = trace_file name; next = refl; fault = fault };
@@ -122,7 +122,7 @@ pub build_reason : {devices : List DeviceData} (a b : FilesSeen) (app out : List
 build_reason a b app out picture i =
     does (i.bytes ∷ i.sources) (record { takes = i.each.takes; all = i.each.all }) (builds out picture (refl, i.is) refl)
 
-pub build_faults : (a c : FilesSeen) (app out : List ℕ) (h : NamedFault) → IsNamedFaultInApp a c app h → IsNamedFaultIn (build app out) a c h
+pub build_faults : {devices : List DeviceData} (a c : FilesSeen) (app out : List ℕ) (h : NamedFault) → IsNamedFaultInApp a c app h → IsNamedFaultIn devices (build app out) a c h
 build_faults a c app out h i = record { contents = i.contents; at = i.at }
 
 -- ## `go`
@@ -164,7 +164,7 @@ go_ready {X} {H} {shown} {devices} seen app script n detail picture b i s =
       turns = s.turns;
     }
 
-pub go_app_faults : (a c : FilesSeen) (app script : List ℕ) (n : ℕ) (detail : Detail) (h : NamedFault) → IsNamedFaultInApp a c app h → IsNamedFaultIn (go app script n detail) a c h
+pub go_app_faults : {devices : List DeviceData} (a c : FilesSeen) (app script : List ℕ) (n : ℕ) (detail : Detail) (h : NamedFault) → IsNamedFaultInApp a c app h → IsNamedFaultIn devices (go app script n detail) a c h
 go_app_faults a c app script n detail h i =
     let files = files_to_build app (first_of i.contents) in
     record {
@@ -177,8 +177,8 @@ go_app_faults a c app script n detail h i =
       };
     }
 
-pub go_script_faults : (a b c : FilesSeen) (app script : List ℕ) (n : ℕ) (detail : Detail) (picture : Picture) (h : NamedFault) → IsImage a.contents app picture → b.contents ≡ a.contents
-    → a.read_faults ≤ b.read_faults → IsNamedFaultOf b c (script_file script) h → IsNamedFaultIn (go app script n detail) a c h
+pub go_script_faults : {devices : List DeviceData} (a b c : FilesSeen) (app script : List ℕ) (n : ℕ) (detail : Detail) (picture : Picture) (h : NamedFault) → IsImage a.contents app picture → b.contents ≡ a.contents
+    → a.read_faults ≤ b.read_faults → IsNamedFaultOf b c (script_file script) h → IsNamedFaultIn devices (go app script n detail) a c h
 go_script_faults a b c app script n detail picture h i seen later fault =
     let files = files_to_build app i.bytes in
     record {
@@ -201,6 +201,8 @@ tells_good (list image) v r h = tt
 tells_good (sample seed steps) v r h = tt
 tells_good (migrate image out) v r h = tt
 tells_good (audit trace) v r h = tt
+tells_good (save image script out steps) v r h = tt
+tells_good (resume image script state steps detail) v r h = tt
 
 no_run : (r : ℕ) → 1 ≤ r → r ≤ 5 → IsOfRun r → ⊥
 no_run r low high (inl z) = omega arith
@@ -231,7 +233,7 @@ pub answers_said : {devices : List DeviceData} (job : Asked) (a b : FilesSeen) (
 answers_said job a b w w' v r same none why good (pushed p) = answers_pushed job a b w w' v r same none why good p
 answers_said job a b w w' v r same none why good (silent s) = inl (silent_short a b w w' r same s)
 
-pub answers_named_fault : {devices : List DeviceData} (job : Asked) (a b : FilesSeen) (w w' : SinkSeen) (h : NamedFault) (r : ℕ) → b.contents ≡ a.contents → IsNamedFaultIn job a b h → SaysNamedFault w w' h r → AnswersJob devices job a b w w' r
+pub answers_named_fault : {devices : List DeviceData} (job : Asked) (a b : FilesSeen) (w w' : SinkSeen) (h : NamedFault) (r : ℕ) → b.contents ≡ a.contents → IsNamedFaultIn devices job a b h → SaysNamedFault w w' h r → AnswersJob devices job a b w w' r
 answers_named_fault job a b w w' named_faults.Memory r same h s = inl (silent_short a b w w' r same s)
 answers_named_fault job a b w w' (named_faults.CannotRead name) r same h s =
     let at = h.at.fault in

@@ -74,7 +74,7 @@ pub fn prepare_run<F: Files>(
 ) -> Result<Board, NamedFault>
     requires fresh { AreFresh (map shown devices.items) }
     ensures ready { (n : ℕ) (detail : Detail) → IfOk result (IsReady shown (map shown devices.items) (run_job image.now script.now n detail) (F.seen files.old).contents n detail) }
-    ensures named_fault { (n : ℕ) (detail : Detail) → IfErr result (IsNamedFaultIn (run_job image.now script.now n detail) (F.seen files.old) (F.seen files.new)) }
+    ensures named_fault { (n : ℕ) (detail : Detail) → IfErr result (IsNamedFaultIn (map shown devices.items) (run_job image.now script.now n detail) (F.seen files.old) (F.seen files.new)) }
     ensures later { (F.seen files.old).read_faults ≤ (F.seen files.new).read_faults }
     ensures contents { (F.seen files.new).contents ≡ (F.seen files.old).contents }
     ensures puts { (F.seen files.new).put_faults ≡ (F.seen files.old).put_faults }
@@ -95,7 +95,7 @@ pub fn prepare_go<F: Files>(
 ) -> Result<Board, NamedFault>
     requires fresh { AreFresh (map shown devices.items) }
     ensures ready { (n : ℕ) (detail : Detail) → IfOk result (IsReady shown (map shown devices.items) (go_job app.now script.now n detail) (F.seen files.old).contents n detail) }
-    ensures named_fault { (n : ℕ) (detail : Detail) → IfErr result (IsNamedFaultIn (go_job app.now script.now n detail) (F.seen files.old) (F.seen files.new)) }
+    ensures named_fault { (n : ℕ) (detail : Detail) → IfErr result (IsNamedFaultIn (map shown devices.items) (go_job app.now script.now n detail) (F.seen files.old) (F.seen files.new)) }
     ensures later { (F.seen files.old).read_faults ≤ (F.seen files.new).read_faults }
     ensures contents { (F.seen files.new).contents ≡ (F.seen files.old).contents }
     ensures puts { (F.seen files.new).put_faults ≡ (F.seen files.old).put_faults }

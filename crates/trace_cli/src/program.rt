@@ -90,7 +90,7 @@ fn play<S: Sink>(
     requires few { steps ≤ 1000000000 }
     requires ready { IfOk prepared (λ b. Stood (boxed shown) b × (turns_of b ≡ 0)) }
     ensures { (devices : List DeviceData) (job : Asked) (before after : FilesSeen) → after.contents ≡ before.contents
-        → IfOk prepared (IsReady (boxed shown) devices job before.contents steps detail) → IfErr prepared (IsNamedFaultIn job before after)
+        → IfOk prepared (IsReady (boxed shown) devices job before.contents steps detail) → IfErr prepared (IsNamedFaultIn devices job before after)
         → AnswersJob devices job before after (S.seen out.old) (S.seen out.new) result }
 {
     match prepared {
@@ -306,19 +306,19 @@ pub fn hubris_main_with<F: Files, S: Sink>(
     // pushed; or the count of failed puts rose, the status is 4, and nothing was pushed; or memory is
     // short, the status is 5, and nothing was pushed or put; or the count of failed reads rose, and the
     // same holds of the line of a file that cannot be read.
-    ensures seen { (v : Verdict) → IsVerdict (map shown devices.items) (texts_of words.now) (F.seen files.old).contents v → Answered (texts_of words.now) (F.seen files.old) (F.seen files.new) (S.seen out.old) (S.seen out.new) v result }
+    ensures seen { (v : Verdict) → IsVerdict (map shown devices.items) (texts_of words.now) (F.seen files.old).contents v → Answered (map shown devices.items) (texts_of words.now) (F.seen files.old) (F.seen files.new) (S.seen out.old) (S.seen out.new) v result }
     ensures complete { ¬ Rose (F.seen files.old).read_faults (F.seen files.new).read_faults → ¬ Rose (F.seen files.old).put_faults (F.seen files.new).put_faults → ¬ Rose (S.seen out.old).faults (S.seen out.new).faults →
         (v : Verdict) → IsVerdict (map shown devices.items) (texts_of words.now) (F.seen files.old).contents v → IsComplete (F.seen files.old) (F.seen files.new) (S.seen out.old) (S.seen out.new) v result }
 
     // When each status comes, and what was pushed and put with it.
     ensures done { result ≡ 0 → HasDone (map shown devices.items) (texts_of words.now) (F.seen files.old) (F.seen files.new) (S.seen out.old) (S.seen out.new) }
-    ensures refused { result ≡ 1 → HasRefused (texts_of words.now) (F.seen files.old).contents (S.seen out.old) (S.seen out.new) }
+    ensures refused { result ≡ 1 → HasRefused (map shown devices.items) (texts_of words.now) (F.seen files.old).contents (S.seen out.old) (S.seen out.new) }
     ensures no_command { result ≡ 2 → (is_accepted (texts_of words.now) ≡ false) × Appends (S.seen out.old).written (S.seen out.new).written usage_line }
-    ensures unread { result ≡ 3 → HasUnread (texts_of words.now) (F.seen files.old) (F.seen files.new) (S.seen out.old) (S.seen out.new) }
+    ensures unread { result ≡ 3 → HasUnread (map shown devices.items) (texts_of words.now) (F.seen files.old) (F.seen files.new) (S.seen out.old) (S.seen out.new) }
     ensures cut { result ≡ 4 → HasFront (map shown devices.items) (texts_of words.now) (F.seen files.old) (F.seen files.new) (S.seen out.old) (S.seen out.new) }
     ensures short { result ≡ 5 → ((S.seen out.new).written ≡ (S.seen out.old).written) × ((S.seen out.new).faults ≡ (S.seen out.old).faults) × ((F.seen files.new).contents ≡ (F.seen files.old).contents) }
     ensures supervisor { result ≡ 6 → HasPlayed (map shown devices.items) (texts_of words.now) (F.seen files.old).contents (S.seen out.old) (S.seen out.new) 6 }
-    ensures bad { result ≡ 7 → HasAudited (texts_of words.now) (F.seen files.old).contents (S.seen out.old) (S.seen out.new) 7 }
+    ensures bad { result ≡ 7 → HasAudited (map shown devices.items) (texts_of words.now) (F.seen files.old).contents (S.seen out.old) (S.seen out.new) 7 }
     ensures known { result ≤ 7 }
 
     // Only the file under OUT is changed, and only under the statuses 0 and 4.
@@ -343,19 +343,19 @@ pub fn hubris_main<F: Files, S: Sink>(
     // pushed; or the count of failed puts rose, the status is 4, and nothing was pushed; or memory is
     // short, the status is 5, and nothing was pushed or put; or the count of failed reads rose, and the
     // same holds of the line of a file that cannot be read.
-    ensures seen { (v : Verdict) → IsVerdict [] (texts_of words.now) (F.seen files.old).contents v → Answered (texts_of words.now) (F.seen files.old) (F.seen files.new) (S.seen out.old) (S.seen out.new) v result }
+    ensures seen { (v : Verdict) → IsVerdict [] (texts_of words.now) (F.seen files.old).contents v → Answered [] (texts_of words.now) (F.seen files.old) (F.seen files.new) (S.seen out.old) (S.seen out.new) v result }
     ensures complete { ¬ Rose (F.seen files.old).read_faults (F.seen files.new).read_faults → ¬ Rose (F.seen files.old).put_faults (F.seen files.new).put_faults → ¬ Rose (S.seen out.old).faults (S.seen out.new).faults →
         (v : Verdict) → IsVerdict [] (texts_of words.now) (F.seen files.old).contents v → IsComplete (F.seen files.old) (F.seen files.new) (S.seen out.old) (S.seen out.new) v result }
 
     // When each status comes, and what was pushed and put with it.
     ensures done { result ≡ 0 → HasDone [] (texts_of words.now) (F.seen files.old) (F.seen files.new) (S.seen out.old) (S.seen out.new) }
-    ensures refused { result ≡ 1 → HasRefused (texts_of words.now) (F.seen files.old).contents (S.seen out.old) (S.seen out.new) }
+    ensures refused { result ≡ 1 → HasRefused [] (texts_of words.now) (F.seen files.old).contents (S.seen out.old) (S.seen out.new) }
     ensures no_command { result ≡ 2 → (is_accepted (texts_of words.now) ≡ false) × Appends (S.seen out.old).written (S.seen out.new).written usage_line }
-    ensures unread { result ≡ 3 → HasUnread (texts_of words.now) (F.seen files.old) (F.seen files.new) (S.seen out.old) (S.seen out.new) }
+    ensures unread { result ≡ 3 → HasUnread [] (texts_of words.now) (F.seen files.old) (F.seen files.new) (S.seen out.old) (S.seen out.new) }
     ensures cut { result ≡ 4 → HasFront [] (texts_of words.now) (F.seen files.old) (F.seen files.new) (S.seen out.old) (S.seen out.new) }
     ensures short { result ≡ 5 → ((S.seen out.new).written ≡ (S.seen out.old).written) × ((S.seen out.new).faults ≡ (S.seen out.old).faults) × ((F.seen files.new).contents ≡ (F.seen files.old).contents) }
     ensures supervisor { result ≡ 6 → HasPlayed [] (texts_of words.now) (F.seen files.old).contents (S.seen out.old) (S.seen out.new) 6 }
-    ensures bad { result ≡ 7 → HasAudited (texts_of words.now) (F.seen files.old).contents (S.seen out.old) (S.seen out.new) 7 }
+    ensures bad { result ≡ 7 → HasAudited [] (texts_of words.now) (F.seen files.old).contents (S.seen out.old) (S.seen out.new) 7 }
     ensures known { result ≤ 7 }
 
     // Only the file under OUT is changed, and only under the statuses 0 and 4.
