@@ -13,3 +13,6 @@ mod Single
 mod Splits
 mod Told
 mod WaitsRestored
+mod Viewed
+mod Loads
+mod Boards

@@ -218,7 +218,7 @@ found_in p (y ∷ ys) x h = elim (bool_cases (p y)) [
     same : Some y ≡ Some x → y ≡ x
     same e = cc
 
-the_call : (s : State) (i : ℕ) (c : Call) → call_of s i ≡ Some c → Contains s.calls c × (c.client.index ≡ i)
+pub the_call : (s : State) (i : ℕ) (c : Call) → call_of s i ≡ Some c → Contains s.calls c × (c.client.index ≡ i)
 unfolding call_of
 the_call s i c e = let r = found_in (λ (k : Call). eqb k.client.index i) s.calls c e in (r.0, eqb-true _ _ r.1)
 
@@ -438,7 +438,7 @@ zeros_all : (n : ℕ) → are_zeros (replicate n 0) ≡ true
 zeros_all zero = refl
 zeros_all (suc n) = zeros_all n
 
-few_queued : (kind : Kind) (count : ℕ) (queue : List ℕ) → IsSettable kind count queue → length queue ≤ 64
+pub few_queued : (kind : Kind) (count : ℕ) (queue : List ℕ) → IsSettable kind count queue → length queue ≤ 64
 few_queued Console count queue h = let none : length queue ≡ 0 = ap length h in omega (arith, none)
 few_queued Port count queue h = h.1
 

@@ -1,0 +1,54 @@
+-- What a board is told of bytes part by part, and why bytes are refused.
+use Rattle.std.specs.Prelude.{ℕ, zero, suc, ◌+◌, ◌≡◌, ⊤, List, length, map, drop, slice_index, slice_set, Option, Some}
+use Rattle.kernel_abi.specs.declared.Kind.{Kind}
+use Rattle.kernel_abi.specs.Devices.{DeviceData, device_at, with_device}
+use Rattle.task_table.specs.declared.Line.{Line}
+use Rattle.task_table.specs.State.{State}
+use Rattle.task_table.specs.Setting.{with_slot}
+use Rattle.board_core.specs.Setting.{slot_told}
+use Rattle.snapshot.specs.declared.loading.StateFault.{StateFault}
+use Rattle.snapshot.specs.declared.loading.StateFault.TheVariants as state_fault
+use Rattle.snapshot.specs.declared.records.Header.{Header}
+use Rattle.snapshot.specs.Records.{header_at, task_in, device_in, ram_place}
+use Rattle.snapshot.specs.Restored.{line_from, device_from}
+use Rattle.snapshot.specs.Views.{view_of}
+
+-- the kinds and the bases of devices, in order
+abbrev pub sites : List DeviceData → List (Kind × ℕ)
+sites devices = map (λ d. (d.kind, d.base)) devices
+
+-- why bytes are refused as a state of an image beside these devices; or memory is short
+abbrev pub IsStateFault : Option (ℕ × ℕ) → StateFault → Type 0
+IsStateFault refusal state_fault.Memory = ⊤
+IsStateFault refusal (state_fault.Refused cause place) = refusal ≡ Some (cause, place)
+
+-- ## a state with parts of the bytes
+
+abbrev pub with_numbers : Header → State → State
+with_numbers h s = record s { turn = h.turn; now = h.clock; current = h.current; next_call = h.next_call }
+
+-- with so many of the lines, of the tasks, of the devices
+unfoldable pub with_lines : List ℕ → ℕ → List Line → List Line
+with_lines bytes zero lines = lines
+with_lines bytes (suc n) lines = slice_set (with_lines bytes n lines) n (line_from (slice_index bytes (36 + n)))
+
+unfoldable pub with_tasks : List ℕ → ℕ → State → State
+with_tasks bytes zero s = s
+with_tasks bytes (suc n) s = with_slot n (slot_told (view_of (task_in bytes n) n)) (with_tasks bytes n s)
+
+-- behind so many tasks
+unfoldable pub with_devices : List ℕ → ℕ → ℕ → List DeviceData → List DeviceData
+with_devices bytes tasks zero devices = devices
+with_devices bytes tasks (suc k) devices =
+    let set = with_devices bytes tasks k devices in
+    with_device set k (device_from (device_at set k) (device_in bytes tasks k))
+
+-- with all of them, in the order in which a board is told them
+unfoldable pub loaded : List ℕ → State → State
+loaded bytes u =
+    let tasks = length u.tasks in
+    let devices = length u.devices in
+    let numbers = with_numbers (header_at bytes) u in
+    let told = with_tasks bytes tasks (record numbers { lines = with_lines bytes 64 u.lines }) in
+    let full = record told { memory = record told.memory { ram = drop (ram_place tasks devices) bytes } } in
+    record full { devices = with_devices bytes tasks devices full.devices }
