@@ -1,0 +1,162 @@
+//! The state of a board in bytes.
+ghost use Rattle.std.specs.Prelude.{◌≡◌, ◌≤◌, ◌<◌, ◌+◌, ◌*◌, ◌++◌, length, take, map, IfOk};
+ghost use Rattle.std.specs.List.{flat_map};
+ghost use Rattle.kernel_abi.specs.Devices.{device_at};
+ghost use Rattle.task_table.specs.State.{State};
+ghost use Rattle.board_model.specs.Alike.{reduced};
+ghost use Rattle.board_model.specs.Script.{Scenario};
+ghost use Rattle.board_core.specs.Data.{boxed};
+ghost use Rattle.board_core.specs.Stands.{Stands, Stood, count_of};
+ghost use Rattle.snapshot.specs.Records.{task_bytes, device_bytes};
+ghost use Rattle.snapshot.specs.Saved.{SpellsState, device_told, parts_of, record_of, spelling};
+
+use crate::records::Header;
+use crate::shown::{device_record_of, line_number, record_of};
+use crate::writing::{put_device, put_header, put_lines, put_task};
+use board_core::Board;
+use std::alloc::{AllocError, Global};
+
+fn ram_len(board: &Board) -> usize
+    ensures len { (x : Scenario) (s : State) → Stands (boxed shown) x board.now s → result ≡ length s.memory.ram }
+    ensures few { result ≤ 262144 }
+{
+    let mut n = 0;
+    while n < 262_144 && board.byte(0x2000_0000 + n as u32).is_some() {
+        n += 1;
+    }
+    n
+}
+
+fn read_ram(board: &Board, out: &mut [u8])
+    requires { (x : Scenario) × (s : State) × Stands (boxed shown) x board.now s × (length out.old ≡ length s.memory.ram) }
+    ensures { (x : Scenario) (s : State) → Stands (boxed shown) x board.now s → out.new ≡ s.memory.ram }
+{
+    for k in 0..out.len() {
+        out[k] = board.byte(0x2000_0000 + k as u32).unwrap_or(0);
+    }
+}
+
+fn device_count(board: &Board) -> usize
+    ensures { (x : Scenario) (s : State) → Stands (boxed shown) x board.now s → result ≡ length s.devices }
+{
+    let mut n = 0;
+    while n < 8 && board.device(n).is_some() {
+        n += 1;
+    }
+    n
+}
+
+/// How many bytes the state of a board is saved as (docs/FORMATS.md, Saved state).
+pub fn saved_len(board: &Board) -> usize
+    ensures { (x : Scenario) (s : State) → Stands (boxed shown) x board.now s → result ≡ length (spelling (reduced s)) }
+{
+    100 + 132 * board.task_count() + 72 * device_count(board).min(8) + ram_len(board)
+}
+
+fn header_of(board: &Board) -> Header
+    requires { Stood (boxed shown) board.now }
+    ensures { (x : Scenario) (s : State) → Stands (boxed shown) x board.now s → result ≡ (parts_of (reduced s)).header }
+{
+    Header {
+        turn: board.turns(),
+        tasks: board.task_count() as u32,
+        ram: ram_len(board) as u32,
+        clock: board.now(),
+        current: board.current() as u32,
+        next_call: board.next_call(),
+        devices: device_count(board) as u32,
+    }
+}
+
+fn lines_of(board: &Board) -> [u8; 64]
+    ensures { (x : Scenario) (s : State) → Stands (boxed shown) x board.now s → result ≡ (parts_of (reduced s)).lines }
+{
+    let mut lines = [0; 64];
+    for k in 0..64 {
+        lines[k] = line_number(board.irq_line(k));
+    }
+    lines
+}
+
+/// The record of task i.
+fn save_task(board: &Board, i: usize, out: &mut [u8], at: usize) -> usize
+    requires there { i < count_of board.now }
+    requires room { at + 132 ≤ length out.old }
+    ensures front { (x : Scenario) (s : State) → Stands (boxed shown) x board.now s → take result out.new ≡ take at out.old ++ task_bytes (record_of (reduced s) i) }
+    ensures after { result ≡ at + 132 }
+    ensures len { length out.new ≡ length out.old }
+{
+    match board.task(i) {
+        Some(view) => put_task(out, at, &record_of(&view)),
+        None => unreachable!(),
+    }
+}
+
+/// The records of all tasks.
+fn save_tasks(board: &Board, out: &mut [u8], at: usize) -> usize
+    requires room { at + 132 * count_of board.now ≤ length out.old }
+    ensures front { (x : Scenario) (s : State) → Stands (boxed shown) x board.now s → take result out.new ≡ take at out.old ++ flat_map task_bytes (parts_of (reduced s)).tasks }
+    ensures after { result ≡ at + 132 * count_of board.now }
+    ensures len { length out.new ≡ length out.old }
+{
+    let mut end = at;
+    for i in 0..board.task_count() {
+        end = save_task(board, i, out, end);
+    }
+    end
+}
+
+/// The record of device k.
+fn save_device(board: &Board, k: usize, out: &mut [u8], at: usize) -> usize
+    requires there { (x : Scenario) × (s : State) × Stands (boxed shown) x board.now s × (k < length s.devices) }
+    requires room { at + 72 ≤ length out.old }
+    ensures front { (x : Scenario) (s : State) → Stands (boxed shown) x board.now s → take result out.new ≡ take at out.old ++ device_bytes (device_told (device_at s.devices k)) }
+    ensures after { result ≡ at + 72 }
+    ensures len { length out.new ≡ length out.old }
+{
+    match board.device(k) {
+        Some(view) => put_device(out, at, &device_record_of(&view)),
+        None => unreachable!(),
+    }
+}
+
+/// The records of all devices.
+fn save_devices(board: &Board, out: &mut [u8], at: usize) -> usize
+    requires room { (x : Scenario) × (s : State) × Stands (boxed shown) x board.now s × (at + 72 * length s.devices ≤ length out.old) }
+    ensures front { (x : Scenario) (s : State) → Stands (boxed shown) x board.now s → take result out.new ≡ take at out.old ++ flat_map device_bytes (parts_of (reduced s)).devices }
+    ensures after { (x : Scenario) (s : State) → Stands (boxed shown) x board.now s → result ≡ at + 72 * length s.devices }
+    ensures len { length out.new ≡ length out.old }
+{
+    let mut end = at;
+    for k in 0..device_count(board) {
+        end = save_device(board, k, out, end);
+    }
+    end
+}
+
+/// The state of a board, whose births count by their generation alone, as it is spelled (docs/FORMATS.md, Saved state). It
+/// takes no memory.
+pub fn save_into(board: &Board, out: &mut [u8])
+    requires room { (x : Scenario) × (s : State) × Stands (boxed shown) x board.now s × (length out.old ≡ length (spelling (reduced s))) }
+    ensures { (x : Scenario) (s : State) → Stands (boxed shown) x board.now s → SpellsState x.setup (reduced s) out.new }
+{
+    let at = put_header(out, 0, &header_of(board));
+    let at = put_lines(out, at, &lines_of(board));
+    let at = save_tasks(board, out, at);
+    let at = save_devices(board, out, at);
+    read_ram(board, &mut out[at..]);
+}
+
+/// The same in a vector of its own.
+///
+/// # Errors
+///
+/// Only want of memory.
+pub fn save(alloc: Global, board: &Board) -> Result<Vec<u8>, AllocError>
+    requires stood { Stood (boxed shown) board.now }
+    ensures { (x : Scenario) (s : State) → Stands (boxed shown) x board.now s → IfOk result (λ v. SpellsState x.setup (reduced s) v.items) }
+{
+    let mut bytes = vec![in alloc; 0; saved_len(board)]?;
+    save_into(board, &mut bytes);
+    Ok(bytes)
+}
