@@ -237,7 +237,7 @@ same_refusal {devices} seen job f g why why' cs c h r is refusal = by_length (me
       ap (λ (i : File). refused i.name why) (sym file) ∙ ap (refused g.name) reason
 
 -- where a file is refused, not all are accepted
-refused_not_done : {devices : List DeviceData} (seen : List ℕ → Option (List ℕ)) (job : Asked) (f : File) (why : Why) (cs : List (List ℕ)) → IsRefused devices job seen f why → TakesAll (Are seen) devices job cs → ⊥
+pub refused_not_done : {devices : List DeviceData} (seen : List ℕ → Option (List ℕ)) (job : Asked) (f : File) (why : Why) (cs : List (List ℕ)) → IsRefused devices job seen f why → TakesAll (Are seen) devices job cs → ⊥
 refused_not_done {devices} seen job f why cs h all = by_length (meets (length cs) (length h.contents)) where
   by_length : Meets (length cs) (length h.contents) → ⊥
   by_length (less lt) =

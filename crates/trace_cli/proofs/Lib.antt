@@ -5,6 +5,7 @@ pub mod OneVerdict
 pub mod Readying
 pub mod Refusals
 pub mod Rerunning
+pub mod Resuming
 pub mod Seeding
 pub mod Spelling
 pub mod Starting

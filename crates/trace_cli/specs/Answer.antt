@@ -1,9 +1,10 @@
 -- What an answer of the program says of the words, of the files and of the sink.
-use Rattle.std.specs.Prelude.{◌≡◌, ◌≢◌, ◌⊎◌, ℕ, false, List, Option, Some, None}
+use Rattle.std.specs.Prelude.{◌≡◌, ◌≢◌, ◌≤◌, ◌⊎◌, ℕ, false, List, [], slice_index_or, Option, Some, None}
 use Rattle.std.specs.Io.KnownBytes.{Appends}
 use Rattle.kernel_abi.specs.Devices.{DeviceData}
 use Rattle.outside_io.specs.Outside.{WhereSeen, Rose, AppendsFront, IsFront, short_name}
 use Rattle.image_format.specs.Picture.{Picture, spelling}
+use Rattle.board_model.specs.declared.outcomes.Level.TheVariants.{Calls}
 use Rattle.board_model.specs.Script.{Scenario}
 use Rattle.task_table.specs.State.{State}
 use Rattle.trace_audit.specs.declared.verdict.Verdict as trace
@@ -11,11 +12,12 @@ use Rattle.trace_audit.specs.Verdicts as trace_audit
 use Rattle.audit_runs.specs.Last.{IsGoodText}
 use Rattle.command_line.specs.CommandLine.{Asked, build, run, go, list, sample, migrate, audit, save, resume, is_accepted}
 use Rattle.command_line.specs.declared.job.Detail.{Detail}
-use Rattle.trace_cli.specs.Contents.{Why}
+use Rattle.trace_cli.specs.Contents.{Why, image_refusal, script_refusal, picture_of, scenario_of}
 use Rattle.outside_io.specs.Seen.{FilesSeen, SinkSeen}
 use Rattle.trace_cli.specs.Words.{job_in}
-use Rattle.trace_cli.specs.Sources.{File, MayBe, MayBeRefused, Reaches, TakesAll, IsRun, IsListing, IsBuild, IsSample, IsAudit, IsSave, IsResume}
-use Rattle.trace_cli.specs.Verdict.{Verdict, usage, refused, refused_line, unread, unread_line, ran, listed, built, sampled, audited, saved, resumed, saved_bytes, Does}
+use Rattle.trace_cli.specs.Sources.{File, MayBe, Are, MayBeRefused, Reaches, TakesAll, IsRun, IsListing, IsBuild, IsSample, IsAudit, IsSave, IsResume}
+use Rattle.trace_cli.specs.Verdict.{Verdict, usage, refused, refused_line, unread, unread_line, ran, listed, built, sampled, audited, saved, resumed, saved_bytes, run_of, rest_of_run, Does}
+use Rattle.trace_cli.specs.Ready.{IsSpelled}
 
 -- ## why a verdict was given on a job (the files: before and after the call; the devices: those of a run)
 
@@ -256,3 +258,29 @@ Answered devices words before after w w' v r = Tells before after w w' v r ⊎ H
 abbrev pub IsComplete : FilesSeen → FilesSeen → SinkSeen → SinkSeen → Verdict → ℕ → Type 0
 IsComplete before after w w' v r =
     ((r ≡ v.status) × HasPut before.contents after.contents v.put × Appends w.written w'.written v.text) ⊎ IsShort before after w w' r
+
+-- ## runs that are saved and gone on with
+
+-- that a file cannot be read was told of this job
+pub record TellsUnread (devices : List DeviceData) (job : Asked) (before after : FilesSeen) (w w' : SinkSeen) (r : ℕ) : Type 0 where
+  pub file : File
+  pub is : IsUnread devices job before after file
+  pub tells : Tells before after w w' (unread file.name) r
+
+-- where the files of `resume` are seen and accepted: what is told is the run from each state that the last of them spells
+abbrev pub TellsEach : List DeviceData → Asked → FilesSeen → FilesSeen → SinkSeen → SinkSeen → ℕ → Type 0
+TellsEach devices job before after w w' r =
+    (contents : List (List ℕ)) (m : ℕ) (detail : Detail) (x : Scenario) (s t : State) → TakesAll (Are before.contents) devices job contents → IsResume devices job contents m detail x t
+    → IsSpelled x (slice_index_or contents 2 []) s → Tells before after w w' (resumed m detail x s) r ⊎ TellsUnread devices job before after w w' r
+
+-- Where `resume` is asked for with the image and the script of a run, up to turn m, from the state that `save` puts of that run
+-- up to turn n: what is told is the text of `run` up to turn m without the lines of turns before the saved one.
+abbrev pub GoesOn : List DeviceData → List (List ℕ) → FilesSeen → FilesSeen → SinkSeen → SinkSeen → ℕ → Type 0
+GoesOn devices words before after w w' r =
+    (image_name script_name state_name image script : List ℕ) (m n : ℕ) (detail : Detail)
+    → let x = scenario_of (picture_of image) script devices in
+    let k = (run_of Calls n x).last.turn in
+    job_in words ≡ Some (resume image_name script_name state_name m detail)
+    → before.contents image_name ≡ Some image → before.contents script_name ≡ Some script → before.contents state_name ≡ Some (saved_bytes n x)
+    → image_refusal image ≡ None → script_refusal script ≡ None → k ≤ m
+    → Answered devices words before after w w' (rest_of_run k m detail x) r

@@ -1,0 +1,14 @@
+use Rattle.std.proofs.Common.{◌∙◌, ap}
+use Rattle.std.proofs.lemmas.Result.{IfOk-weaker}
+use Rattle.board_model.specs.Alike.{reduced}
+use Rattle.board_model.specs.Run.{Run}
+use Rattle.board_model.specs.Script.{start_of}
+use Rattle.board_model.specs.declared.outcomes.Level.TheVariants.{Calls}
+use Rattle.snapshot.specs.Saved.{spelling}
+use Rattle.trace_cli.proofs.Starting.{from_start}
+use Rattle.trace_cli.proofs.saving.last_bytes.Goals as goal
+
+pub returns-in-Ok : goal.returns-in-Ok
+returns-in-Ok boxes c = λ x st.
+    let same = from_start Calls x c.args.board.now c.args.steps st c.requires.fresh in
+    IfOk-weaker c.save.result _ _ (λ v h. h.is ∙ ap (λ (r : Run). spelling (reduced r.last)) same) (c.save.ensures x _ (c.in-Ok.ensures.last x (start_of x) st))
