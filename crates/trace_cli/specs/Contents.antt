@@ -153,7 +153,6 @@ unfoldable pub state_refusal : List DeviceData → Picture → ℕ → List ℕ 
 state_refusal devices image bound bytes =
     unless_long file_limit bytes (or_later (option_map at_number (state_fault (expected_of (setup_of_image image) devices) bytes)) (turn_refusal bound bytes))
 
-
 -- the run of an image with a script and devices
 abbrev pub scenario_of : Picture → List ℕ → List DeviceData → Scenario
 scenario_of image script devices = record { setup = setup_of_image image; script = script_of script; devices = devices }

@@ -38,11 +38,7 @@ pub fn read_image<F: Files>(alloc: Global, files: &mut F, name: &str) -> Result<
 }
 
 /// The script under a name.
-pub fn read_script<F: Files>(
-    alloc: Global,
-    files: &mut F,
-    name: &str,
-) -> Result<Script, NamedFault>
+pub fn read_script<F: Files>(alloc: Global, files: &mut F, name: &str) -> Result<Script, NamedFault>
     ensures script { IfOk result (λ s. IsScriptFile (F.seen files.old).contents name.now (script_data s)) }
     ensures named_fault { IfErr result (IsNamedFaultOf (F.seen files.old) (F.seen files.new) (script_file name.now)) }
     ensures later { (F.seen files.old).read_faults ≤ (F.seen files.new).read_faults }

@@ -236,7 +236,9 @@ fn answer<F: Files, S: Sink>(
                 steps,
                 detail,
             },
-        ) => resume_files(alloc, image, script, state, steps, detail, files, out, devices),
+        ) => resume_files(
+            alloc, image, script, state, steps, detail, files, out, devices,
+        ),
         Err(Refusal::NotAccepted) => tell_usage(out),
         Err(Refusal::Memory) => 5,
     }
