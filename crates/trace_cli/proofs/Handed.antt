@@ -1,9 +1,10 @@
 -- A list that holds no device.
 use Rattle.std.proofs.Common.{◌≡◌, ℕ, List, [], map, Option, sym, ap, subst}
 use Rattle.kernel_abi.specs.Devices.{DeviceData}
+use Rattle.command_line.specs.CommandLine.{Asked}
 use Rattle.outside_io.specs.Seen.{FilesSeen, SinkSeen}
 use Rattle.trace_cli.specs.Verdict.{Verdict, IsVerdict}
-use Rattle.trace_cli.specs.Answer.{Answered, HasFront, HasPlayed, HasDone, HasRefused, HasUnread, HasAudited}
+use Rattle.trace_cli.specs.Answer.{Answered, TellsEach, HasFront, HasPlayed, HasDone, HasRefused, HasUnread, HasAudited}
 
 pub no_devices : {A : Type 0} (shown : A → DeviceData) (xs : List A) → xs ≡ [] → map shown xs ≡ []
 no_devices shown xs none = ap (map shown) none
@@ -33,3 +34,6 @@ module _ (devices : List DeviceData) (none : devices ≡ []) where
 
   pub done_without : (words : List (List ℕ)) (a b : FilesSeen) (w w' : SinkSeen) → HasDone devices words a b w w' → HasDone [] words a b w w'
   done_without words a b w w' h = subst (λ (ds : List DeviceData). HasDone ds words a b w w') none h
+
+  pub each_without : (job : Asked) (a b : FilesSeen) (w w' : SinkSeen) (r : ℕ) → TellsEach devices job a b w w' r → TellsEach [] job a b w w' r
+  each_without job a b w w' r h = subst (λ (ds : List DeviceData). TellsEach ds job a b w w' r) none h

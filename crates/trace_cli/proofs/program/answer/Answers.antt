@@ -1,7 +1,7 @@
 use Rattle.std.proofs.Common.{inl, refl}
 use Rattle.trace_cli.specs.Answer.{short}
 use Rattle.trace_cli.proofs.Deciding.{no_job_of}
-use Rattle.trace_cli.proofs.Resuming.{each_of_words, none_each}
+use Rattle.trace_cli.proofs.EachState.{each_of_words, none_each}
 use Rattle.trace_cli.proofs.Statuses.{answers_usage, by_job}
 use Rattle.trace_cli.proofs.program.answer.Goals as goal
 

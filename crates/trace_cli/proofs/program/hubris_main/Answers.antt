@@ -1,5 +1,5 @@
 use Rattle.devices.proofs.Fresh.{none_fresh}
-use Rattle.trace_cli.proofs.Handed.{no_devices, verdict_of_none, answered_without, front_without, refused_without, unread_without, audited_without, played_without, done_without}
+use Rattle.trace_cli.proofs.Handed.{no_devices, verdict_of_none, answered_without, each_without, front_without, refused_without, unread_without, audited_without, played_without, done_without}
 use Rattle.trace_cli.proofs.program.hubris_main.Goals as goal
 
 pub hubris_main_with-requires : goal.hubris_main_with-requires
@@ -30,3 +30,6 @@ returns-clause-supervisor g c = λ status. played_without _ (no_devices _ _ c.ne
 
 pub returns-clause-bad : goal.returns-clause-bad
 returns-clause-bad g c = λ status. audited_without _ (no_devices _ _ c.new.ensures.items) _ _ _ _ _ (c.hubris_main_with.ensures.bad status)
+
+pub returns-clause-each : goal.returns-clause-each
+returns-clause-each g c = λ job at. each_without _ (no_devices _ _ c.new.ensures.items) job _ _ _ _ _ (c.hubris_main_with.ensures.each job at)

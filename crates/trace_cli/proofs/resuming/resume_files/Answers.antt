@@ -1,6 +1,6 @@
 use Rattle.command_line.specs.CommandLine.{resume}
 use Rattle.trace_cli.proofs.Readying.{answers_named_fault, answers_resumed, resumable_stood}
-use Rattle.trace_cli.proofs.Resuming.{told_each, fault_each}
+use Rattle.trace_cli.proofs.EachState.{told_each, fault_each}
 use Rattle.trace_cli.proofs.resuming.resume_files.Goals as goal
 
 pub tell_run-requires : goal.tell_run-requires
