@@ -4,7 +4,7 @@ use Rattle.kernel_abi.specs.Devices.{DeviceData}
 use Rattle.command_line.specs.CommandLine.{Asked}
 use Rattle.outside_io.specs.Seen.{FilesSeen, SinkSeen}
 use Rattle.trace_cli.specs.Verdict.{Verdict, IsVerdict}
-use Rattle.trace_cli.specs.Answer.{Answered, TellsEach, HasFront, HasPlayed, HasDone, HasRefused, HasUnread, HasAudited}
+use Rattle.trace_cli.specs.Answer.{Answered, TellsEach, GoesOn, HasFront, HasPlayed, HasDone, HasRefused, HasUnread, HasAudited}
 
 pub no_devices : {A : Type 0} (shown : A → DeviceData) (xs : List A) → xs ≡ [] → map shown xs ≡ []
 no_devices shown xs none = ap (map shown) none
@@ -37,3 +37,6 @@ module _ (devices : List DeviceData) (none : devices ≡ []) where
 
   pub each_without : (job : Asked) (a b : FilesSeen) (w w' : SinkSeen) (r : ℕ) → TellsEach devices job a b w w' r → TellsEach [] job a b w w' r
   each_without job a b w w' r h = subst (λ (ds : List DeviceData). TellsEach ds job a b w w' r) none h
+
+  pub on_without : (words : List (List ℕ)) (a b : FilesSeen) (w w' : SinkSeen) (r : ℕ) → GoesOn devices words a b w w' r → GoesOn [] words a b w w' r
+  on_without words a b w w' r h = subst (λ (ds : List DeviceData). GoesOn ds words a b w w' r) none h

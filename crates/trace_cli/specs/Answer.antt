@@ -5,6 +5,7 @@ use Rattle.kernel_abi.specs.Devices.{DeviceData}
 use Rattle.outside_io.specs.Outside.{WhereSeen, Rose, AppendsFront, IsFront, short_name}
 use Rattle.image_format.specs.Picture.{Picture, spelling}
 use Rattle.board_model.specs.declared.outcomes.Level.TheVariants.{Calls}
+use Rattle.board_model.specs.Alike.{reduced}
 use Rattle.board_model.specs.Script.{Scenario}
 use Rattle.task_table.specs.State.{State}
 use Rattle.trace_audit.specs.declared.verdict.Verdict as trace
@@ -12,7 +13,7 @@ use Rattle.trace_audit.specs.Verdicts as trace_audit
 use Rattle.audit_runs.specs.Last.{IsGoodText}
 use Rattle.command_line.specs.CommandLine.{Asked, build, run, go, list, sample, migrate, audit, save, resume, is_accepted}
 use Rattle.command_line.specs.declared.job.Detail.{Detail}
-use Rattle.trace_cli.specs.Contents.{Why, image_refusal, script_refusal, picture_of, scenario_of}
+use Rattle.trace_cli.specs.Contents.{Why, image_refusal, script_refusal, state_refusal, picture_of, scenario_of}
 use Rattle.outside_io.specs.Seen.{FilesSeen, SinkSeen}
 use Rattle.trace_cli.specs.Words.{job_in}
 use Rattle.trace_cli.specs.Sources.{File, MayBe, Are, MayBeRefused, Reaches, TakesAll, IsRun, IsListing, IsBuild, IsSample, IsAudit, IsSave, IsResume}
@@ -274,13 +275,15 @@ TellsEach devices job before after w w' r =
     → IsSpelled x (slice_index_or contents 2 []) s → Tells before after w w' (resumed m detail x s) r ⊎ TellsUnread devices job before after w w' r
 
 -- Where `resume` is asked for with the image and the script of a run, up to turn m, from the state that `save` puts of that run
--- up to turn n: what is told is the text of `run` up to turn m without the lines of turns before the saved one.
+-- up to turn n, and that state is accepted: what is told is the text of `run` up to turn m without the lines of turns before the
+-- saved one.
 abbrev pub GoesOn : List DeviceData → List (List ℕ) → FilesSeen → FilesSeen → SinkSeen → SinkSeen → ℕ → Type 0
 GoesOn devices words before after w w' r =
     (image_name script_name state_name image script : List ℕ) (m n : ℕ) (detail : Detail)
     → let x = scenario_of (picture_of image) script devices in
-    let k = (run_of Calls n x).last.turn in
+    let last = (run_of Calls n x).last in
     job_in words ≡ Some (resume image_name script_name state_name m detail)
     → before.contents image_name ≡ Some image → before.contents script_name ≡ Some script → before.contents state_name ≡ Some (saved_bytes n x)
-    → image_refusal image ≡ None → script_refusal script ≡ None → k ≤ m
-    → Answered devices words before after w w' (rest_of_run k m detail x) r
+    → image_refusal image ≡ None → script_refusal script ≡ None → state_refusal devices (picture_of image) m (saved_bytes n x) ≡ None
+    → IsSpelled x (saved_bytes n x) (reduced last) → last.turn ≤ m
+    → Answered devices words before after w w' (rest_of_run last.turn m detail x) r

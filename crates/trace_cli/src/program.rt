@@ -11,7 +11,7 @@ ghost use Rattle.outside_io.specs.Seen.{FilesSeen};
 ghost use Rattle.trace_cli.specs.Words.{texts_of, job_in, out_of};
 ghost use Rattle.trace_cli.specs.Verdict.{Verdict, IsVerdict, usage_line, built};
 ghost use Rattle.trace_cli.specs.Ready.{IsReady, IsNamedFaultIn};
-ghost use Rattle.trace_cli.specs.Answer.{Tells, AnswersJob, Answers, Answered, IsComplete, TellsEach, HasPlayed, HasDone, HasAudited, HasRefused, HasUnread, HasFront};
+ghost use Rattle.trace_cli.specs.Answer.{Tells, AnswersJob, Answers, Answered, IsComplete, TellsEach, GoesOn, HasPlayed, HasDone, HasAudited, HasRefused, HasUnread, HasFront};
 
 use crate::auditing::{audit_under, tell_audit};
 use crate::building::built_image;
@@ -281,8 +281,9 @@ pub fn hubris_main_with<F: Files, S: Sink>(
     ensures complete { ¬ Rose (F.seen files.old).read_faults (F.seen files.new).read_faults → ¬ Rose (F.seen files.old).put_faults (F.seen files.new).put_faults → ¬ Rose (S.seen out.old).faults (S.seen out.new).faults →
         (v : Verdict) → IsVerdict (map shown devices.items) (texts_of words.now) (F.seen files.old).contents v → IsComplete (F.seen files.old) (F.seen files.new) (S.seen out.old) (S.seen out.new) v result }
 
-    // Where the files of `resume` are seen and accepted, what is told is the run from each state that the last of them spells.
+    // What `resume` tells: the run from each state that its file spells, and so from what `save` puts what is left of the same run.
     ensures each { (job : Asked) → job_in (texts_of words.now) ≡ Some job → TellsEach (map shown devices.items) job (F.seen files.old) (F.seen files.new) (S.seen out.old) (S.seen out.new) result }
+    ensures goes_on { GoesOn (map shown devices.items) (texts_of words.now) (F.seen files.old) (F.seen files.new) (S.seen out.old) (S.seen out.new) result }
 
     // When each status comes, and what was pushed and put with it.
     ensures done { result ≡ 0 → HasDone (map shown devices.items) (texts_of words.now) (F.seen files.old) (F.seen files.new) (S.seen out.old) (S.seen out.new) }
@@ -321,8 +322,9 @@ pub fn hubris_main<F: Files, S: Sink>(
     ensures complete { ¬ Rose (F.seen files.old).read_faults (F.seen files.new).read_faults → ¬ Rose (F.seen files.old).put_faults (F.seen files.new).put_faults → ¬ Rose (S.seen out.old).faults (S.seen out.new).faults →
         (v : Verdict) → IsVerdict [] (texts_of words.now) (F.seen files.old).contents v → IsComplete (F.seen files.old) (F.seen files.new) (S.seen out.old) (S.seen out.new) v result }
 
-    // Where the files of `resume` are seen and accepted, what is told is the run from each state that the last of them spells.
+    // What `resume` tells: the run from each state that its file spells, and so from what `save` puts what is left of the same run.
     ensures each { (job : Asked) → job_in (texts_of words.now) ≡ Some job → TellsEach [] job (F.seen files.old) (F.seen files.new) (S.seen out.old) (S.seen out.new) result }
+    ensures goes_on { GoesOn [] (texts_of words.now) (F.seen files.old) (F.seen files.new) (S.seen out.old) (S.seen out.new) result }
 
     // When each status comes, and what was pushed and put with it.
     ensures done { result ≡ 0 → HasDone [] (texts_of words.now) (F.seen files.old) (F.seen files.new) (S.seen out.old) (S.seen out.new) }

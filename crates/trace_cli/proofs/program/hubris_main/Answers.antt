@@ -1,5 +1,5 @@
 use Rattle.devices.proofs.Fresh.{none_fresh}
-use Rattle.trace_cli.proofs.Handed.{no_devices, verdict_of_none, answered_without, each_without, front_without, refused_without, unread_without, audited_without, played_without, done_without}
+use Rattle.trace_cli.proofs.Handed.{no_devices, verdict_of_none, answered_without, each_without, on_without, front_without, refused_without, unread_without, audited_without, played_without, done_without}
 use Rattle.trace_cli.proofs.program.hubris_main.Goals as goal
 
 pub hubris_main_with-requires : goal.hubris_main_with-requires
@@ -33,3 +33,6 @@ returns-clause-bad g c = λ status. audited_without _ (no_devices _ _ c.new.ensu
 
 pub returns-clause-each : goal.returns-clause-each
 returns-clause-each g c = λ job at. each_without _ (no_devices _ _ c.new.ensures.items) job _ _ _ _ _ (c.hubris_main_with.ensures.each job at)
+
+pub returns-clause-goes_on : goal.returns-clause-goes_on
+returns-clause-goes_on g c = on_without _ (no_devices _ _ c.new.ensures.items) _ _ _ _ _ _ c.hubris_main_with.ensures.goes_on

@@ -12,5 +12,5 @@ returns-in-Ok-put-clause-tells g c = λ n x is.
     let w' = g.S.Sink.seen c.tell.new.out in
     let v = saved c.args.name.now n x in
     let put = subst (λ (bs : List ℕ). WhereSeen ((g.F.Files.seen c.put.new.self).contents c.args.name.now) (λ all. all ≡ bs)) is c.in-Ok-put.ensures.bytes in
-    let line = c.as_bytes.ensures.value ∙ c.in-Ok.ensures ∙ ap saved_line (c.len.ensures ∙ ap (λ (bs : List ℕ). length bs) is) in
+    let line = c.as_bytes.ensures.value ∙ c.in-Ok.ensures ∙ ap (λ (bs : List ℕ). saved_line (length bs)) is in
     tells_pushed a b w w' v c.tell.result (put, c.put.ensures.others) (c.tell.ensures v refl (sym line))
