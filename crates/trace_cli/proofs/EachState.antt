@@ -32,7 +32,7 @@ abbrev pub IsNoResume : Asked → Type 0
 IsNoResume job = (devices : List DeviceData) (cs : List (List ℕ)) (n : ℕ) (d : Detail) (x : Scenario) (s : State) → IsResume devices job cs n d x s → ⊥
 
 pub none_each : {devices : List DeviceData} (job : Asked) (a b : FilesSeen) (w w' : SinkSeen) (r : ℕ) → IsNoResume job → TellsEach devices job a b w w' r
-none_each {devices} job a b w w' r no = λ cs m d x s t all is spelled. absurd (no devices cs m d x t is)
+none_each {devices} job a b w w' r never = λ cs m d x s t all is spelled. absurd (never devices cs m d x t is)
 
 -- where the words ask for the job
 pub each_of_words : {devices : List DeviceData} (words : List (List ℕ)) (job : Asked) (a b : FilesSeen) (w w' : SinkSeen) (r : ℕ) → is_accepted words ≡ true → job_of words ≡ Some job → TellsEach devices job a b w w' r

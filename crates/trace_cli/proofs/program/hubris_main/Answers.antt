@@ -14,7 +14,7 @@ pub returns-clause-complete : goal.returns-clause-complete
 returns-clause-complete g c = λ reads puts pushes v h. c.hubris_main_with.ensures.complete reads puts pushes v (verdict_of_none _ (no_devices _ _ c.new.ensures.items) _ _ v h)
 
 pub returns-clause-done : goal.returns-clause-done
-returns-clause-done g c = λ status. done_without _ (no_devices _ _ c.new.ensures.items) _ _ _ _ _ (c.hubris_main_with.ensures.done status)
+returns-clause-done g c = λ status. done_without _ (no_devices _ _ c.new.ensures.items) _ (g.F.Files.seen c.args.files.now) (g.F.Files.seen c.hubris_main_with.new.files) _ _ (c.hubris_main_with.ensures.done status)
 
 pub returns-clause-refused : goal.returns-clause-refused
 returns-clause-refused g c = λ status. refused_without _ (no_devices _ _ c.new.ensures.items) _ _ _ _ (c.hubris_main_with.ensures.refused status)

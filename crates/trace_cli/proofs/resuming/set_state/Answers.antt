@@ -11,8 +11,8 @@ returns-in-Err-clause-named_fault g c =
     c.fault_named.ensures a b (state_file _ (picture c.args.image.now) c.args.bound c.args.state.now) refl
     (cannot_take a b (state_file _ (picture c.args.image.now) c.args.bound c.args.state.now) c.in-Err.file_fault (long_state _ (picture c.args.image.now) c.args.bound) c.in-Err.ensures.file_fault)
 
-pub returns-in-Err-board_in-clause-named_fault : goal.returns-in-Err-board_in-clause-named_fault
-returns-in-Err-board_in-clause-named_fault g c =
+pub returns-clause-named_fault : goal.returns-clause-named_fault
+returns-clause-named_fault g c =
     let a = g.F.Files.seen c.args.files.now in
     let b = g.F.Files.seen c.read_contents.new.files in
     let held = subst (λ (x : List ℕ). MayBe (g.F.Files.seen c.args.files.now).contents c.args.state.now x) (sym c.deref.ensures.value) c.in-Ok.ensures.held in

@@ -8,7 +8,10 @@ use Rattle.snapshot.specs.Saved.{spelling}
 use Rattle.trace_cli.proofs.Starting.{from_start}
 use Rattle.trace_cli.proofs.saving.last_bytes.Goals as goal
 
-pub returns-in-Ok : goal.returns-in-Ok
-returns-in-Ok boxes c = λ x st.
+pub returns : goal.returns
+returns boxes c = λ x st.
     let same = from_start Calls x c.args.board.now c.args.steps st c.requires.fresh in
     IfOk-weaker c.save.result _ _ (λ v h. h.is ∙ ap (λ (r : Run). spelling (reduced r.last)) same) (c.save.ensures x _ (c.in-Ok.ensures.last x (start_of x) st))
+
+pub save-requires : goal.save-requires
+save-requires boxes c = let stood = c.requires.stood in (stood.0, _, c.in-Ok.ensures.last stood.0 stood.1 stood.2)
