@@ -14,4 +14,4 @@ returns boxes c = λ x st.
     IfOk-weaker c.save.result _ _ (λ v h. h.is ∙ ap (λ (r : Run). spelling (reduced r.last)) same) (c.save.ensures x _ (c.in-Ok.ensures.last x (start_of x) st))
 
 pub save-requires : goal.save-requires
-save-requires boxes c = let stood = c.requires.stood in (stood.0, _, c.in-Ok.ensures.last stood.0 stood.1 stood.2)
+save-requires boxes c = let stood = c.requires.stood in record { stood = (stood.0, _, c.in-Ok.ensures.last stood.0 stood.1 stood.2) }
