@@ -200,19 +200,57 @@ audit_whole words e =
     let s = shape_at 6 in
     let rows = rows_after s.rules [] words in
     let d = leaf s words audit_sure refl e in
-    inr (inr (inr (inr (inr (inr (refl, record { trace = text (rule_at s 0) rows (has_given s.rules (rule_at s 0) rows d.good refl (d.given.0 refl)) }))))))
+    inr (inr (inr (inr (inr (inr (inl (refl, record { trace = text (rule_at s 0) rows (has_given s.rules (rule_at s 0) rows d.good refl (d.given.0 refl)) })))))))
+
+save_sure : Each (Sure (shape_at 7).rules) (shape_at 7).rules
+save_sure = (record { known = refl; sure = refl }, (record { known = refl; sure = refl }, (record { known = refl; sure = refl }, (record { known = refl; sure = refl }, (record { known = refl; sure = refl }, tt)))))
+
+save_whole : (words : List Text) → entered_fault app (Some (codes "save", words)) ≡ [] → IsWhole (entered app (Some (codes "save", words)))
+save_whole words e =
+    let s = shape_at 7 in
+    let rows = rows_after s.rules [] words in
+    let d = leaf s words save_sure refl e in
+    inr (inr (inr (inr (inr (inr (inr (inl (
+      refl,
+      record {
+        image = text (rule_at s 0) rows (has_given s.rules (rule_at s 0) rows d.good refl (d.given.0 refl));
+        script = text (rule_at s 1) rows (has_given s.rules (rule_at s 1) rows d.good refl (d.given.1.0 refl));
+        out = text (rule_at s 2) rows (has_given s.rules (rule_at s 2) rows d.good refl (d.given.1.1.0 refl));
+        steps = number most_steps (rule_at s 3) rows (omega arith) refl (has_given s.rules (rule_at s 3) rows d.good refl (d.given.1.1.1.0 refl));
+      },
+    ))))))))
+
+resume_sure : Each (Sure (shape_at 8).rules) (shape_at 8).rules
+resume_sure = (record { known = refl; sure = refl }, (record { known = refl; sure = refl }, (record { known = refl; sure = refl }, (record { known = refl; sure = refl }, (record { known = refl; sure = refl }, (record { known = refl; sure = refl }, (record { known = refl; sure = refl }, tt)))))))
+
+resume_whole : (words : List Text) → entered_fault app (Some (codes "resume", words)) ≡ [] → IsWhole (entered app (Some (codes "resume", words)))
+resume_whole words e =
+    let s = shape_at 8 in
+    let rows = rows_after s.rules [] words in
+    let d = leaf s words resume_sure refl e in
+    inr (inr (inr (inr (inr (inr (inr (inr (
+      refl,
+      record {
+        image = text (rule_at s 0) rows (has_given s.rules (rule_at s 0) rows d.good refl (d.given.0 refl));
+        script = text (rule_at s 1) rows (has_given s.rules (rule_at s 1) rows d.good refl (d.given.1.0 refl));
+        state = text (rule_at s 2) rows (has_given s.rules (rule_at s 2) rows d.good refl (d.given.1.1.0 refl));
+        steps = number most_steps (rule_at s 3) rows (omega arith) refl (has_given s.rules (rule_at s 3) rows d.good refl (d.given.1.1.1.0 refl));
+        all = switch (rule_at s 4) rows refl (has_default s.rules (rule_at s 4) rows d.good refl (d.filled.1.1.1.1.0 (omega arith)));
+        mem = switch (rule_at s 5) rows refl (has_default s.rules (rule_at s 5) rows d.good refl (d.filled.1.1.1.1.1.0 (omega arith)));
+      },
+    ))))))))
 
 -- ---- the program
 
 -- the name of one of its commands
 abbrev IsCommand : Text → Type 0
-IsCommand name = (name ≡ codes "build") ⊎ ((name ≡ codes "run") ⊎ ((name ≡ codes "go") ⊎ ((name ≡ codes "list") ⊎ ((name ≡ codes "sample") ⊎ ((name ≡ codes "migrate") ⊎ (name ≡ codes "audit"))))))
+IsCommand name = (name ≡ codes "build") ⊎ ((name ≡ codes "run") ⊎ ((name ≡ codes "go") ⊎ ((name ≡ codes "list") ⊎ ((name ≡ codes "sample") ⊎ ((name ≡ codes "migrate") ⊎ ((name ≡ codes "audit") ⊎ ((name ≡ codes "save") ⊎ (name ≡ codes "resume"))))))))
 
 top_sure : Each (Sure app.top.rules) app.top.rules
 top_sure = (record { known = refl; sure = refl }, tt)
 
 own : Each (λ n. asks_for_help app.top n.0 ≡ false → IsCommand n.0) (names_of app)
-own = ((λ _. inl refl), ((λ _. inr (inl refl)), ((λ _. inr (inr (inl refl))), ((λ _. inr (inr (inr (inl refl)))), ((λ _. inr (inr (inr (inr (inl refl))))), ((λ _. inr (inr (inr (inr (inr (inl refl)))))), ((λ _. inr (inr (inr (inr (inr (inr refl)))))), ((λ e. cc), tt))))))))
+own = ((λ _. inl refl), ((λ _. inr (inl refl)), ((λ _. inr (inr (inl refl))), ((λ _. inr (inr (inr (inl refl)))), ((λ _. inr (inr (inr (inr (inl refl))))), ((λ _. inr (inr (inr (inr (inr (inl refl)))))), ((λ _. inr (inr (inr (inr (inr (inr (inl refl))))))), ((λ _. inr (inr (inr (inr (inr (inr (inr (inl refl)))))))), ((λ _. inr (inr (inr (inr (inr (inr (inr (inr refl)))))))), ((λ e. cc), tt))))))))))
 
 command_whole : (name : Text) (words : List Text) → IsCommand name → entered_fault app (Some (name, words)) ≡ [] → IsWhole (entered app (Some (name, words)))
 command_whole name words (inl is) = subst (λ n. entered_fault app (Some (n, words)) ≡ [] → IsWhole (entered app (Some (n, words)))) (sym is) (build_whole words)
@@ -221,7 +259,9 @@ command_whole name words (inr (inr (inl is))) = subst (λ n. entered_fault app (
 command_whole name words (inr (inr (inr (inl is)))) = subst (λ n. entered_fault app (Some (n, words)) ≡ [] → IsWhole (entered app (Some (n, words)))) (sym is) (list_whole words)
 command_whole name words (inr (inr (inr (inr (inl is))))) = subst (λ n. entered_fault app (Some (n, words)) ≡ [] → IsWhole (entered app (Some (n, words)))) (sym is) (sample_whole words)
 command_whole name words (inr (inr (inr (inr (inr (inl is)))))) = subst (λ n. entered_fault app (Some (n, words)) ≡ [] → IsWhole (entered app (Some (n, words)))) (sym is) (migrate_whole words)
-command_whole name words (inr (inr (inr (inr (inr (inr is)))))) = subst (λ n. entered_fault app (Some (n, words)) ≡ [] → IsWhole (entered app (Some (n, words)))) (sym is) (audit_whole words)
+command_whole name words (inr (inr (inr (inr (inr (inr (inl is))))))) = subst (λ n. entered_fault app (Some (n, words)) ≡ [] → IsWhole (entered app (Some (n, words)))) (sym is) (audit_whole words)
+command_whole name words (inr (inr (inr (inr (inr (inr (inr (inl is)))))))) = subst (λ n. entered_fault app (Some (n, words)) ≡ [] → IsWhole (entered app (Some (n, words)))) (sym is) (save_whole words)
+command_whole name words (inr (inr (inr (inr (inr (inr (inr (inr is)))))))) = subst (λ n. entered_fault app (Some (n, words)) ≡ [] → IsWhole (entered app (Some (n, words)))) (sym is) (resume_whole words)
 
 stopped : (stop : Option (Text × List Text)) → IfSome stop (λ p. IsCommand p.0) → entered_fault app stop ≡ [] → is_some (entered app stop) ≡ true
     → IsWhole (entered app stop)

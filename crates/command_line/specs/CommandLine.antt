@@ -69,7 +69,9 @@ number_in id rows = number_of (unwrap_or (one_of id rows) [])
 -- image with a script, for so many turns at most, and in which detail it is told; the same of an
 -- application; a list of an image; a run of the sample of a seed for so many turns at most, of which the
 -- notes are counted; to write an image in the form of today, and the name of that file; whether a trace
--- holds together.
+-- holds together; the state of a run of an image with a script after so many turns at most, and the name of that
+-- file; the run of an image with a script from the state in a file, up to so many turns, and in which detail it is
+-- told.
 pub data Asked : Type 0 where
   build : Text → Text → Asked
   run : Text → Text → ℕ → Detail → Asked
@@ -78,6 +80,8 @@ pub data Asked : Type 0 where
   sample : ℕ → ℕ → Asked
   migrate : Text → Text → Asked
   audit : Text → Asked
+  save : Text → Text → Text → ℕ → Asked
+  resume : Text → Text → Text → ℕ → Detail → Asked
 
 -- `--all` and `--mem`
 abbrev pub detail_in : List Row → Detail
@@ -150,8 +154,24 @@ audit_form = record {
   asks = λ rows. audit (text_in (codes "trace") rows);
 }
 
+-- `save IMAGE SCRIPT OUT --steps N`
+abbrev pub save_form : Form
+save_form = record {
+  name = codes "save";
+  rules = positional_rule (codes "image") ∷ positional_rule (codes "script") ∷ positional_rule (codes "out") ∷ steps_rule ∷ [];
+  asks = λ rows. save (text_in (codes "image") rows) (text_in (codes "script") rows) (text_in (codes "out") rows) (number_in (codes "steps") rows);
+}
+
+-- `resume IMAGE SCRIPT STATE --steps N [--all] [--mem]`
+abbrev pub resume_form : Form
+resume_form = record {
+  name = codes "resume";
+  rules = positional_rule (codes "image") ∷ positional_rule (codes "script") ∷ positional_rule (codes "state") ∷ steps_rule ∷ flag_rule (codes "all") ∷ flag_rule (codes "mem") ∷ [];
+  asks = λ rows. resume (text_in (codes "image") rows) (text_in (codes "script") rows) (text_in (codes "state") rows) (number_in (codes "steps") rows) (detail_in rows);
+}
+
 abbrev pub forms : List Form
-forms = build_form ∷ run_form ∷ go_form ∷ list_form ∷ sample_form ∷ migrate_form ∷ audit_form ∷ []
+forms = build_form ∷ run_form ∷ go_form ∷ list_form ∷ sample_form ∷ migrate_form ∷ audit_form ∷ save_form ∷ resume_form ∷ []
 
 -- ---- the program
 

@@ -62,6 +62,20 @@ pub record IsWholeMigrate (rows : List Row) : Type 0 where
 pub record IsWholeAudit (rows : List Row) : Type 0 where
   pub trace : HasText (codes "trace") rows
 
+pub record IsWholeSave (rows : List Row) : Type 0 where
+  pub image : HasText (codes "image") rows
+  pub script : HasText (codes "script") rows
+  pub out : HasText (codes "out") rows
+  pub steps : IsSteps (one_of (codes "steps") rows)
+
+pub record IsWholeResume (rows : List Row) : Type 0 where
+  pub image : HasText (codes "image") rows
+  pub script : HasText (codes "script") rows
+  pub state : HasText (codes "state") rows
+  pub steps : IsSteps (one_of (codes "steps") rows)
+  pub all : IsSwitch (first_of (codes "all") rows)
+  pub mem : IsSwitch (first_of (codes "mem") rows)
+
 -- a command of the program, with all that it wants
 abbrev pub IsWhole : Option (Text × List Row) → Type 0
 IsWhole None = ⊥
@@ -71,4 +85,6 @@ IsWhole (Some p) = ((p.0 ≡ codes "build") × IsWholeBuild p.1)
     ⊎ (((p.0 ≡ codes "list") × IsWholeList p.1)
     ⊎ (((p.0 ≡ codes "sample") × IsWholeSample p.1)
     ⊎ (((p.0 ≡ codes "migrate") × IsWholeMigrate p.1)
-    ⊎ ((p.0 ≡ codes "audit") × IsWholeAudit p.1))))))
+    ⊎ (((p.0 ≡ codes "audit") × IsWholeAudit p.1)
+    ⊎ (((p.0 ≡ codes "save") × IsWholeSave p.1)
+    ⊎ ((p.0 ≡ codes "resume") × IsWholeResume p.1))))))))

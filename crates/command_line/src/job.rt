@@ -1,7 +1,7 @@
 //! What the matches of a command ask for.
 ghost use Rattle.std.specs.Prelude.{◌≡◌, ◌≤◌, ◌<◌, ◌^◌, ℕ, Some, codes};
 ghost use Rattle.clap.specs.Words.{rows_of, found_of, one_of};
-ghost use Rattle.command_line.specs.CommandLine.{asked_by, build_form, run_form, go_form, list_form, sample_form, migrate_form, audit_form, text_in, is_set, detail_in, number_in, most_steps};
+ghost use Rattle.command_line.specs.CommandLine.{asked_by, build_form, run_form, go_form, list_form, sample_form, migrate_form, audit_form, save_form, resume_form, text_in, is_set, detail_in, number_in, most_steps};
 ghost use Rattle.command_line.specs.Required.{IsNumber, IsSeed, IsSteps, IsWhole};
 ghost use Rattle.command_line.specs.Asking.{asked, steps_of};
 
@@ -54,6 +54,21 @@ pub enum Job<'a> {
     /// Whether TRACE is a trace that holds together.
     Audit {
         trace: &'a str,
+    },
+    /// The state of the run of IMAGE with SCRIPT after at most `steps` turns, put under OUT.
+    Save {
+        image: &'a str,
+        script: &'a str,
+        out: &'a str,
+        steps: u32,
+    },
+    /// Go on from the state in STATE, with IMAGE and SCRIPT, up to turn `steps`.
+    Resume {
+        image: &'a str,
+        script: &'a str,
+        state: &'a str,
+        steps: u32,
+        detail: Detail,
     },
 }
 
@@ -177,6 +192,31 @@ fn audit_by<'a>(matches: &ArgMatches<'a>) -> Job<'a>
     }
 }
 
+fn save_by<'a>(matches: &ArgMatches<'a>) -> Job<'a>
+    ensures job { IsSteps (one_of (codes "steps") (rows_of (found_of matches.now))) → asked result ≡ save_form.asks (rows_of (found_of matches.now)) }
+    ensures few { IsSteps (one_of (codes "steps") (rows_of (found_of matches.now))) → steps_of result ≤ most_steps }
+{
+    Job::Save {
+        image: text_of(matches, "image"),
+        script: text_of(matches, "script"),
+        out: text_of(matches, "out"),
+        steps: steps_in(matches),
+    }
+}
+
+fn resume_by<'a>(matches: &ArgMatches<'a>) -> Job<'a>
+    ensures job { IsSteps (one_of (codes "steps") (rows_of (found_of matches.now))) → asked result ≡ resume_form.asks (rows_of (found_of matches.now)) }
+    ensures few { IsSteps (one_of (codes "steps") (rows_of (found_of matches.now))) → steps_of result ≤ most_steps }
+{
+    Job::Resume {
+        image: text_of(matches, "image"),
+        script: text_of(matches, "script"),
+        state: text_of(matches, "state"),
+        steps: steps_in(matches),
+        detail: detail_of(matches),
+    }
+}
+
 /// The job that a command's name and matches ask for.
 pub fn job_by<'a>(name: &str, matches: &ArgMatches<'a>) -> Job<'a>
     ensures job { IsWhole (Some (name.now, rows_of (found_of matches.now))) → asked_by name.now (rows_of (found_of matches.now)) ≡ Some (asked result) }
@@ -194,7 +234,11 @@ pub fn job_by<'a>(name: &str, matches: &ArgMatches<'a>) -> Job<'a>
         sample_by(matches)
     } else if name == "migrate" {
         migrate_by(matches)
-    } else {
+    } else if name == "audit" {
         audit_by(matches)
+    } else if name == "save" {
+        save_by(matches)
+    } else {
+        resume_by(matches)
     }
 }

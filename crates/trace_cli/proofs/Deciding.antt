@@ -1,6 +1,6 @@
 -- Where the contents are seen: a reason gives the one verdict, but that a file cannot be read.
-use Rattle.std.proofs.Common.{◌≡◌, ℕ, zero, suc, ◌<◌, ◌⊎◌, Bool, false, List, length, Option, Some, None, refl, sym, ap, subst, ◌∙◌, inl, inr, arith, cond}
-use Rattle.std.specs.Prelude.{slice_get}
+use Rattle.std.proofs.Common.{◌≡◌, ℕ, zero, suc, ◌<◌, ◌⊎◌, Bool, false, List, length, Option, Some, None, [], refl, sym, ap, subst, ◌∙◌, inl, inr, arith, cond}
+use Rattle.std.specs.Prelude.{slice_get, slice_index_or}
 use Rattle.std.proofs.lemmas.Option.{same_Some}
 use Rattle.kernel_abi.specs.Devices.{DeviceData}
 use Rattle.outside_io.specs.Outside.{WhereSeen}
@@ -9,7 +9,9 @@ use Rattle.app_toml.specs.Apps.{AppData}
 use Rattle.image_build.specs.Built.{Built}
 use Rattle.sample_gen.specs.Sample.{sample_app, sample_sources}
 use Rattle.board_model.specs.Script.{Scenario}
-use Rattle.command_line.specs.CommandLine.{Asked, build, run, go, list, sample, migrate, audit, is_accepted, job_of}
+use Rattle.task_table.specs.State.{State}
+use Rattle.snapshot.specs.Restored.{state_in}
+use Rattle.command_line.specs.CommandLine.{Asked, build, run, go, list, sample, migrate, audit, save, resume, is_accepted, job_of}
 use Rattle.command_line.specs.declared.job.Detail.{Detail}
 use Rattle.build_laws.proofs.OnePicture.{one_picture}
 use Rattle.trace_audit.specs.declared.verdict.Verdict as trace
@@ -18,9 +20,9 @@ use Rattle.trace_audit.proofs.Deciding.{one_verdict}
 use Rattle.trace_cli.specs.Contents.{Why, scenario_of, sample_scenario}
 use Rattle.outside_io.specs.Seen.{FilesSeen}
 use Rattle.trace_cli.specs.Words.{job_in}
-use Rattle.trace_cli.specs.Sources.{File, files_by, MayBe, Are, Reaches, TakesAll, IsBuilt, IsRun, IsListing, IsBuild, IsSample, IsAudit, first_of, described, sources_in, script_in}
+use Rattle.trace_cli.specs.Sources.{File, files_by, MayBe, Are, Reaches, TakesAll, IsBuilt, IsRun, IsListing, IsBuild, IsSample, IsAudit, IsSave, IsResume, first_of, described, sources_in, script_in}
 use Rattle.trace_cli.specs.Verdict as verdict
-use Rattle.trace_cli.specs.Verdict.{Verdict, IsVerdict, Does, runs, lists, builds, samples, audits, usage, refused, unread, ran, listed, built, sampled, audited}
+use Rattle.trace_cli.specs.Verdict.{Verdict, IsVerdict, Does, runs, lists, builds, samples, saves, resumes, audits, usage, refused, unread, ran, listed, built, sampled, saved, resumed, audited}
 use Rattle.trace_cli.specs.Answer.{JobReason, cannot_read, refuses, does, IsUnread, IsRefused, Reason, no_job, of_job}
 use Rattle.trace_cli.proofs.Lists.{is_below}
 use Rattle.trace_cli.proofs.Faulting.{where_seen}
@@ -43,35 +45,22 @@ same_run devices (go app script steps detail) cs n n' m m' x y p q =
     let image : p.2.0 ≡ q.2.0 = same_image cs p.2.0 q.2.0 p.2.1 q.2.1 in
     let scenario : x ≡ y = p.2.2 ∙ ap (λ (i : Picture). scenario_of i (script_in cs) devices) image ∙ sym q.2.2 in
     ap (λ (k : ℕ). ran k m x) bound ∙ ap (λ (d : Detail). ran n' d x) seen ∙ ap (ran n' m') scenario
-same_run devices (build app out) cs n n' m m' x y p q = absurd p
-same_run devices (list image) cs n n' m m' x y p q = absurd p
-same_run devices (sample seed steps) cs n n' m m' x y p q = absurd p
-same_run devices (migrate image out) cs n n' m m' x y p q = absurd p
-same_run devices (audit trace) cs n n' m m' x y p q = absurd p
+same_run devices job cs n n' m m' x y p q = absurd p
 
 same_listing : (job : Asked) (cs : List (List ℕ)) (a b : Picture) → IsListing job cs a → IsListing job cs b → listed a ≡ listed b
 same_listing (list image) cs a b p q = ap listed (p ∙ sym q)
-same_listing (build app out) cs a b p q = absurd p
-same_listing (run image script steps detail) cs a b p q = absurd p
-same_listing (go app script steps detail) cs a b p q = absurd p
-same_listing (sample seed steps) cs a b p q = absurd p
-same_listing (migrate image out) cs a b p q = absurd p
-same_listing (audit trace) cs a b p q = absurd p
+same_listing job cs a b p q = absurd p
 
 same_build : (job : Asked) (cs : List (List ℕ)) (o o' : List ℕ) (a b : Picture) → IsBuild job cs o a → IsBuild job cs o' b → built o a ≡ built o' b
 same_build (build app out) cs o o' a b p q =
     let name : o ≡ o' = p.0 ∙ sym q.0 in
     let image : a ≡ b = same_image cs a b p.1 q.1 in
     ap (λ (n : List ℕ). built n a) name ∙ ap (built o') image
-same_build (run image script steps detail) cs o o' a b p q = absurd p
-same_build (go app script steps detail) cs o o' a b p q = absurd p
-same_build (list image) cs o o' a b p q = absurd p
-same_build (sample seed steps) cs o o' a b p q = absurd p
 same_build (migrate file out) cs o o' a b p q =
     let name : o ≡ o' = p.0 ∙ sym q.0 in
     let image : a ≡ b = p.1 ∙ sym q.1 in
     ap (λ (n : List ℕ). built n a) name ∙ ap (built o') image
-same_build (audit trace) cs o o' a b p q = absurd p
+same_build job cs o o' a b p q = absurd p
 
 -- of applications and sources by number
 same_image_at : (app : ℕ → AppData) (sources : ℕ → List (List ℕ)) (s s' : ℕ) (a b : Picture) → s' ≡ s → Built (app s) (sources s) a → Built (app s') (sources s') b → a ≡ b
@@ -92,95 +81,101 @@ same_sample job s s' n n' x y p q =
     bound_of : (a b c d : ℕ) → sample a c ≡ sample b d → c ≡ d
     bound_of a b c d e = cc
 
-run_or_listing : (devices : List DeviceData) (job : Asked) (cs : List (List ℕ)) (n : ℕ) (m : Detail) (x : Scenario) (a : Picture) → IsRun devices job cs n m x → IsListing job cs a → ⊥
-run_or_listing devices (run image script steps detail) cs n m x a p q = q
-run_or_listing devices (go app script steps detail) cs n m x a p q = q
-run_or_listing devices (build app out) cs n m x a p q = q
-run_or_listing devices (list image) cs n m x a p q = p
-run_or_listing devices (sample seed steps) cs n m x a p q = p
-run_or_listing devices (migrate image out) cs n m x a p q = p
-run_or_listing devices (audit trace) cs n m x a p q = p
+same_saved : (devices : List DeviceData) (job : Asked) (cs : List (List ℕ)) (o o' : List ℕ) (n n' : ℕ) (x y : Scenario) → IsSave devices job cs o n x → IsSave devices job cs o' n' y → saved o n x ≡ saved o' n' y
+same_saved devices (save image script out steps) cs o o' n n' x y p q =
+    let name : o ≡ o' = p.0 ∙ sym q.0 in
+    let bound : n ≡ n' = p.1 ∙ sym q.1 in
+    let scenario : x ≡ y = p.2 ∙ sym q.2 in
+    ap (λ (k : List ℕ). saved k n x) name ∙ ap (λ (k : ℕ). saved o' k x) bound ∙ ap (saved o' n') scenario
+same_saved devices job cs o o' n n' x y p q = absurd p
 
-run_or_build : (devices : List DeviceData) (job : Asked) (cs : List (List ℕ)) (n : ℕ) (m : Detail) (x : Scenario) (o : List ℕ) (a : Picture) → IsRun devices job cs n m x → IsBuild job cs o a → ⊥
-run_or_build devices (run image script steps detail) cs n m x o a p q = q
-run_or_build devices (go app script steps detail) cs n m x o a p q = q
-run_or_build devices (build app out) cs n m x o a p q = p
-run_or_build devices (list image) cs n m x o a p q = p
-run_or_build devices (sample seed steps) cs n m x o a p q = p
-run_or_build devices (migrate image out) cs n m x o a p q = p
-run_or_build devices (audit trace) cs n m x o a p q = p
-
-listing_or_build : (job : Asked) (cs : List (List ℕ)) (a : Picture) (o : List ℕ) (b : Picture) → IsListing job cs a → IsBuild job cs o b → ⊥
-listing_or_build (run image script steps detail) cs a o b p q = q
-listing_or_build (go app script steps detail) cs a o b p q = q
-listing_or_build (build app out) cs a o b p q = p
-listing_or_build (list image) cs a o b p q = q
-listing_or_build (sample seed steps) cs a o b p q = p
-listing_or_build (migrate image out) cs a o b p q = p
-listing_or_build (audit trace) cs a o b p q = p
-
-run_or_sample : (devices : List DeviceData) (job : Asked) (cs : List (List ℕ)) (n : ℕ) (m : Detail) (x : Scenario) (s k : ℕ) (y : Scenario) → IsRun devices job cs n m x → IsSample job s k y → ⊥
-run_or_sample devices job cs n m x s k y p q = subst (λ (j : Asked). IsRun devices j cs n m x) q.is p
-
-listing_or_sample : (job : Asked) (cs : List (List ℕ)) (a : Picture) (s k : ℕ) (y : Scenario) → IsListing job cs a → IsSample job s k y → ⊥
-listing_or_sample job cs a s k y p q = subst (λ (j : Asked). IsListing j cs a) q.is p
-
-build_or_sample : (job : Asked) (cs : List (List ℕ)) (o : List ℕ) (a : Picture) (s k : ℕ) (y : Scenario) → IsBuild job cs o a → IsSample job s k y → ⊥
-build_or_sample job cs o a s k y p q = subst (λ (j : Asked). IsBuild j cs o a) q.is p
+same_resumed : (devices : List DeviceData) (job : Asked) (cs : List (List ℕ)) (n n' : ℕ) (m m' : Detail) (x y : Scenario) (s t : State) → IsResume devices job cs n m x s → IsResume devices job cs n' m' y t
+    → resumed n m x s ≡ resumed n' m' y t
+same_resumed devices (resume image script file steps detail) cs n n' m m' x y s t p q =
+    let bound : n ≡ n' = p.0 ∙ sym q.0 in
+    let seen : m ≡ m' = p.1 ∙ sym q.1 in
+    let scenario : x ≡ y = p.2 ∙ sym q.2 in
+    let state : s ≡ t = p.3 ∙ ap (λ (z : Scenario). state_in z.setup devices (slice_index_or cs 2 [])) scenario ∙ sym q.3 in
+    ap (λ (k : ℕ). resumed k m x s) bound ∙ ap (λ (d : Detail). resumed n' d x s) seen ∙ ap (λ (z : Scenario). resumed n' m' z s) scenario ∙ ap (resumed n' m' y) state
+same_resumed devices job cs n n' m m' x y s t p q = absurd p
 
 -- an audit is of the first of the files
-is_audit : (job : Asked) (cs : List (List ℕ)) (t : List ℕ) → IsAudit job cs t → ((name : List ℕ) × (job ≡ audit name)) × (t ≡ first_of cs)
-is_audit (audit name) cs t p = ((name, refl), p)
-is_audit (build app out) cs t p = absurd p
-is_audit (run image script steps detail) cs t p = absurd p
-is_audit (go app script steps detail) cs t p = absurd p
-is_audit (list image) cs t p = absurd p
-is_audit (sample seed steps) cs t p = absurd p
-is_audit (migrate image out) cs t p = absurd p
+audit_first : (job : Asked) (cs : List (List ℕ)) (t : List ℕ) → IsAudit job cs t → t ≡ first_of cs
+audit_first (audit name) cs t p = p
+audit_first job cs t p = absurd p
 
 same_audit : (job : Asked) (cs : List (List ℕ)) (t s : List ℕ) (a b : trace.Verdict) → IsAudit job cs t → IsAudit job cs s → trace_audit.IsVerdict t a → trace_audit.IsVerdict s b → audited a ≡ audited b
 same_audit job cs t s a b p q g h =
-    let text : s ≡ t = (is_audit job cs s q).1 ∙ sym (is_audit job cs t p).1 in
+    let text : s ≡ t = audit_first job cs s q ∙ sym (audit_first job cs t p) in
     ap audited (one_verdict t a b g (subst (λ (u : List ℕ). trace_audit.IsVerdict u b) text h))
 
-run_or_audit : (devices : List DeviceData) (job : Asked) (cs : List (List ℕ)) (n : ℕ) (m : Detail) (x : Scenario) (t : List ℕ) → IsRun devices job cs n m x → IsAudit job cs t → ⊥
-run_or_audit devices job cs n m x t p q = let j = (is_audit job cs t q).0 in subst (λ (j : Asked). IsRun devices j cs n m x) j.1 p
+-- ## and a job is of one kind
 
-listing_or_audit : (job : Asked) (cs : List (List ℕ)) (a : Picture) (t : List ℕ) → IsListing job cs a → IsAudit job cs t → ⊥
-listing_or_audit job cs a t p q = let j = (is_audit job cs t q).0 in subst (λ (j : Asked). IsListing j cs a) j.1 p
+-- a run, a listing, an image that is put, a sample, an audit, a state that is put, a run from a state
+abbrev job_kind : Asked → ℕ
+job_kind (run image script steps detail) = 0
+job_kind (go app script steps detail) = 0
+job_kind (list image) = 1
+job_kind (build app out) = 2
+job_kind (migrate image out) = 2
+job_kind (sample seed steps) = 3
+job_kind (audit trace) = 4
+job_kind (save image script out steps) = 5
+job_kind (resume image script state steps detail) = 6
 
-build_or_audit : (job : Asked) (cs : List (List ℕ)) (o : List ℕ) (a : Picture) (t : List ℕ) → IsBuild job cs o a → IsAudit job cs t → ⊥
-build_or_audit job cs o a t p q = let j = (is_audit job cs t q).0 in subst (λ (j : Asked). IsBuild j cs o a) j.1 p
+run_kind : (devices : List DeviceData) (job : Asked) (cs : List (List ℕ)) (n : ℕ) (m : Detail) (x : Scenario) → IsRun devices job cs n m x → 0 ≡ job_kind job
+run_kind devices (run image script steps detail) cs n m x p = refl
+run_kind devices (go app script steps detail) cs n m x p = refl
+run_kind devices job cs n m x p = absurd p
 
-sample_or_audit : (job : Asked) (cs : List (List ℕ)) (s n : ℕ) (x : Scenario) (t : List ℕ) → IsSample job s n x → IsAudit job cs t → ⊥
-sample_or_audit job cs s n x t p q = subst (λ (j : Asked). IsAudit j cs t) p.is q
+listing_kind : (job : Asked) (cs : List (List ℕ)) (a : Picture) → IsListing job cs a → 1 ≡ job_kind job
+listing_kind (list image) cs a p = refl
+listing_kind job cs a p = absurd p
+
+build_kind : (job : Asked) (cs : List (List ℕ)) (o : List ℕ) (a : Picture) → IsBuild job cs o a → 2 ≡ job_kind job
+build_kind (build app out) cs o a p = refl
+build_kind (migrate file out) cs o a p = refl
+build_kind job cs o a p = absurd p
+
+audit_kind : (job : Asked) (cs : List (List ℕ)) (t : List ℕ) → IsAudit job cs t → 4 ≡ job_kind job
+audit_kind (audit name) cs t p = refl
+audit_kind job cs t p = absurd p
+
+save_kind : (devices : List DeviceData) (job : Asked) (cs : List (List ℕ)) (o : List ℕ) (n : ℕ) (x : Scenario) → IsSave devices job cs o n x → 5 ≡ job_kind job
+save_kind devices (save image script out steps) cs o n x p = refl
+save_kind devices job cs o n x p = absurd p
+
+resume_kind : (devices : List DeviceData) (job : Asked) (cs : List (List ℕ)) (n : ℕ) (m : Detail) (x : Scenario) (s : State) → IsResume devices job cs n m x s → 6 ≡ job_kind job
+resume_kind devices (resume image script state steps detail) cs n m x s p = refl
+resume_kind devices job cs n m x s p = absurd p
+
+abbrev done_kind : {devices : List DeviceData} {job : Asked} {cs : List (List ℕ)} {v : Verdict} → Does devices job cs v → ℕ
+done_kind (runs n m x p e) = 0
+done_kind (lists a p e) = 1
+done_kind (builds o a p e) = 2
+done_kind (samples s n x p e) = 3
+done_kind (audits t a p g e) = 4
+done_kind (saves o n x p e) = 5
+done_kind (resumes n m x s p e) = 6
+
+kind_of_job : {devices : List DeviceData} {job : Asked} {cs : List (List ℕ)} {v : Verdict} (p : Does devices job cs v) → done_kind p ≡ job_kind job
+kind_of_job {devices} {job} {cs} {v} (runs n m x p e) = run_kind devices job cs n m x p
+kind_of_job {devices} {job} {cs} {v} (lists a p e) = listing_kind job cs a p
+kind_of_job {devices} {job} {cs} {v} (builds o a p e) = build_kind job cs o a p
+kind_of_job {devices} {job} {cs} {v} (samples s n x p e) = sym (ap job_kind p.is)
+kind_of_job {devices} {job} {cs} {v} (audits t a p g e) = audit_kind job cs t p
+kind_of_job {devices} {job} {cs} {v} (saves o n x p e) = save_kind devices job cs o n x p
+kind_of_job {devices} {job} {cs} {v} (resumes n m x s p e) = resume_kind devices job cs n m x s p
 
 same_done : {devices : List DeviceData} (job : Asked) (cs : List (List ℕ)) (u v : Verdict) → Does devices job cs u → Does devices job cs v → u ≡ v
 same_done {devices} job cs u v (runs n m x p e) (runs n' m' y q d) = e ∙ same_run devices job cs n n' m m' x y p q ∙ sym d
-same_done {devices} job cs u v (runs n m x p e) (lists a q d) = absurd (run_or_listing devices job cs n m x a p q)
-same_done {devices} job cs u v (runs n m x p e) (builds o a q d) = absurd (run_or_build devices job cs n m x o a p q)
-same_done {devices} job cs u v (lists a p e) (runs n m x q d) = absurd (run_or_listing devices job cs n m x a q p)
 same_done {devices} job cs u v (lists a p e) (lists b q d) = e ∙ same_listing job cs a b p q ∙ sym d
-same_done {devices} job cs u v (lists a p e) (builds o b q d) = absurd (listing_or_build job cs a o b p q)
-same_done {devices} job cs u v (builds o a p e) (runs n m x q d) = absurd (run_or_build devices job cs n m x o a q p)
-same_done {devices} job cs u v (builds o a p e) (lists b q d) = absurd (listing_or_build job cs b o a q p)
 same_done {devices} job cs u v (builds o a p e) (builds o' b q d) = e ∙ same_build job cs o o' a b p q ∙ sym d
-same_done {devices} job cs u v (runs n m x p e) (samples s k y q d) = absurd (run_or_sample devices job cs n m x s k y p q)
-same_done {devices} job cs u v (lists a p e) (samples s k y q d) = absurd (listing_or_sample job cs a s k y p q)
-same_done {devices} job cs u v (builds o a p e) (samples s k y q d) = absurd (build_or_sample job cs o a s k y p q)
-same_done {devices} job cs u v (samples s k y p e) (runs n m x q d) = absurd (run_or_sample devices job cs n m x s k y q p)
-same_done {devices} job cs u v (samples s k y p e) (lists a q d) = absurd (listing_or_sample job cs a s k y q p)
-same_done {devices} job cs u v (samples s k y p e) (builds o a q d) = absurd (build_or_sample job cs o a s k y q p)
 same_done {devices} job cs u v (samples s n x p e) (samples s' n' y q d) = e ∙ same_sample job s s' n n' x y p q ∙ sym d
-same_done {devices} job cs u v (runs n m x p e) (audits t b q h d) = absurd (run_or_audit devices job cs n m x t p q)
-same_done {devices} job cs u v (lists a p e) (audits t b q h d) = absurd (listing_or_audit job cs a t p q)
-same_done {devices} job cs u v (builds o a p e) (audits t b q h d) = absurd (build_or_audit job cs o a t p q)
-same_done {devices} job cs u v (samples s n x p e) (audits t b q h d) = absurd (sample_or_audit job cs s n x t p q)
-same_done {devices} job cs u v (audits t a p g e) (runs n m x q d) = absurd (run_or_audit devices job cs n m x t q p)
-same_done {devices} job cs u v (audits t a p g e) (lists b q d) = absurd (listing_or_audit job cs b t q p)
-same_done {devices} job cs u v (audits t a p g e) (builds o b q d) = absurd (build_or_audit job cs o b t q p)
-same_done {devices} job cs u v (audits t a p g e) (samples s n x q d) = absurd (sample_or_audit job cs s n x t q p)
 same_done {devices} job cs u v (audits t a p g e) (audits s b q h d) = e ∙ same_audit job cs t s a b p q g h ∙ sym d
+same_done {devices} job cs u v (saves o n x p e) (saves o' n' y q d) = e ∙ same_saved devices job cs o o' n n' x y p q ∙ sym d
+same_done {devices} job cs u v (resumes n m x s p e) (resumes n' m' y t q d) = e ∙ same_resumed devices job cs n n' m m' x y s t p q ∙ sym d
+same_done {devices} job cs u v p q = let one : done_kind p ≡ done_kind q = kind_of_job p ∙ sym (kind_of_job q) in absurd (omega arith)
 
 -- ## three ways in which lengths meet
 
@@ -223,79 +218,79 @@ no_file : (files : List File) (k : ℕ) (f : File) → length files ≡ k → sl
 no_file files k f e at = let below = is_below files k f at in absurd (omega arith)
 
 -- two refusals are one
-same_refusal : (seen : List ℕ → Option (List ℕ)) (job : Asked) (f g : File) (why why' : Why) (cs : List (List ℕ)) (c : List ℕ) → IsRefused job seen f why
-    → Reaches (Are seen) job cs g → seen g.name ≡ Some c → g.refusal c ≡ Some why' → refused f.name why ≡ refused g.name why'
-same_refusal seen job f g why why' cs c h r is refusal = by_length (meets (length cs) (length h.contents)) where
+same_refusal : {devices : List DeviceData} (seen : List ℕ → Option (List ℕ)) (job : Asked) (f g : File) (why why' : Why) (cs : List (List ℕ)) (c : List ℕ) → IsRefused devices job seen f why
+    → Reaches (Are seen) devices job cs g → seen g.name ≡ Some c → g.refusal c ≡ Some why' → refused f.name why ≡ refused g.name why'
+same_refusal {devices} seen job f g why why' cs c h r is refusal = by_length (meets (length cs) (length h.contents)) where
   by_length : Meets (length cs) (length h.contents) → refused f.name why ≡ refused g.name why'
   by_length (less lt) =
-      let t = may_further seen job cs h.contents r.takes h.reached.takes lt in
+      let t = may_further seen devices job cs h.contents r.takes h.reached.takes lt in
       absurd (not_refused seen g t.0 why' c t.2.0 (same_Some g t.0 (sym r.next ∙ t.1)) is refusal t.2.1 t.2.2)
   by_length (more lt) =
-      let t = seen_further seen job cs h.contents r.takes h.reached.takes lt in
+      let t = seen_further seen devices job cs h.contents r.takes h.reached.takes lt in
       absurd (not_accepted seen f t.0 why t.2.0 (same_Some f t.0 (sym h.reached.next ∙ t.1)) (where_seen seen f why h.refused) t.2.1 t.2.2)
   by_length (same e) =
-      let files = same_files seen job cs h.contents r.takes h.reached.takes (length cs) (omega arith) (omega arith) in
-      let there : slice_get (files_by job h.contents) (length cs) ≡ Some f = ap (λ (k : ℕ). slice_get (files_by job h.contents) k) e ∙ h.reached.next in
+      let files = same_files seen devices job cs h.contents r.takes h.reached.takes (length cs) (omega arith) (omega arith) in
+      let there : slice_get (files_by devices job h.contents) (length cs) ≡ Some f = ap (λ (k : ℕ). slice_get (files_by devices job h.contents) k) e ∙ h.reached.next in
       let file : g ≡ f = same_Some g f (sym r.next ∙ files ∙ there) in
       let mine : g.refusal c ≡ Some why = subst (λ (i : File). WhereSeen (seen i.name) (λ all. i.refusal all ≡ Some why)) (sym file) (where_seen seen f why h.refused) c is in
       let reason : why ≡ why' = same_Some why why' (sym mine ∙ refusal) in
       ap (λ (i : File). refused i.name why) (sym file) ∙ ap (refused g.name) reason
 
 -- where a file is refused, not all are accepted
-refused_not_done : (seen : List ℕ → Option (List ℕ)) (job : Asked) (f : File) (why : Why) (cs : List (List ℕ)) → IsRefused job seen f why → TakesAll (Are seen) job cs → ⊥
-refused_not_done seen job f why cs h all = by_length (meets (length cs) (length h.contents)) where
+pub refused_not_done : {devices : List DeviceData} (seen : List ℕ → Option (List ℕ)) (job : Asked) (f : File) (why : Why) (cs : List (List ℕ)) → IsRefused devices job seen f why → TakesAll (Are seen) devices job cs → ⊥
+refused_not_done {devices} seen job f why cs h all = by_length (meets (length cs) (length h.contents)) where
   by_length : Meets (length cs) (length h.contents) → ⊥
   by_length (less lt) =
-      let t = may_further seen job cs h.contents all.takes h.reached.takes lt in
-      no_file (files_by job cs) (length cs) t.0 all.all t.1
+      let t = may_further seen devices job cs h.contents all.takes h.reached.takes lt in
+      no_file (files_by devices job cs) (length cs) t.0 all.all t.1
   by_length (more lt) =
-      let t = seen_further seen job cs h.contents all.takes h.reached.takes lt in
+      let t = seen_further seen devices job cs h.contents all.takes h.reached.takes lt in
       not_accepted seen f t.0 why t.2.0 (same_Some f t.0 (sym h.reached.next ∙ t.1)) (where_seen seen f why h.refused) t.2.1 t.2.2
   by_length (same e) =
-      let files = same_files seen job cs h.contents all.takes h.reached.takes (length cs) (omega arith) (omega arith) in
-      let there : slice_get (files_by job h.contents) (length cs) ≡ Some f = ap (λ (k : ℕ). slice_get (files_by job h.contents) k) e ∙ h.reached.next in
-      no_file (files_by job cs) (length cs) f all.all (files ∙ there)
+      let files = same_files seen devices job cs h.contents all.takes h.reached.takes (length cs) (omega arith) (omega arith) in
+      let there : slice_get (files_by devices job h.contents) (length cs) ≡ Some f = ap (λ (k : ℕ). slice_get (files_by devices job h.contents) k) e ∙ h.reached.next in
+      no_file (files_by devices job cs) (length cs) f all.all (files ∙ there)
 
-done_not_refused : (seen : List ℕ → Option (List ℕ)) (job : Asked) (ds cs : List (List ℕ)) (g : File) (why : Why) (c : List ℕ) → TakesAll (MayBe seen) job ds
-    → Reaches (Are seen) job cs g → seen g.name ≡ Some c → g.refusal c ≡ Some why → ⊥
-done_not_refused seen job ds cs g why c all r is refusal = by_length (meets (length cs) (length ds)) where
+done_not_refused : {devices : List DeviceData} (seen : List ℕ → Option (List ℕ)) (job : Asked) (ds cs : List (List ℕ)) (g : File) (why : Why) (c : List ℕ) → TakesAll (MayBe seen) devices job ds
+    → Reaches (Are seen) devices job cs g → seen g.name ≡ Some c → g.refusal c ≡ Some why → ⊥
+done_not_refused {devices} seen job ds cs g why c all r is refusal = by_length (meets (length cs) (length ds)) where
   by_length : Meets (length cs) (length ds) → ⊥
   by_length (less lt) =
-      let t = may_further seen job cs ds r.takes all.takes lt in
+      let t = may_further seen devices job cs ds r.takes all.takes lt in
       not_refused seen g t.0 why c t.2.0 (same_Some g t.0 (sym r.next ∙ t.1)) is refusal t.2.1 t.2.2
   by_length (more lt) =
-      let t = seen_further seen job cs ds r.takes all.takes lt in
-      no_file (files_by job ds) (length ds) t.0 all.all t.1
+      let t = seen_further seen devices job cs ds r.takes all.takes lt in
+      no_file (files_by devices job ds) (length ds) t.0 all.all t.1
   by_length (same e) =
-      let files = same_files seen job cs ds r.takes all.takes (length cs) (omega arith) (omega arith) in
-      no_file (files_by job ds) (length cs) g (all.all ∙ sym e) (sym files ∙ r.next)
+      let files = same_files seen devices job cs ds r.takes all.takes (length cs) (omega arith) (omega arith) in
+      no_file (files_by devices job ds) (length cs) g (all.all ∙ sym e) (sym files ∙ r.next)
 
-all_same : {devices : List DeviceData} (seen : List ℕ → Option (List ℕ)) (job : Asked) (cs ds : List (List ℕ)) (u v : Verdict) → TakesAll (Are seen) job cs → TakesAll (MayBe seen) job ds → Does devices job cs u → Does devices job ds v → v ≡ u
+all_same : {devices : List DeviceData} (seen : List ℕ → Option (List ℕ)) (job : Asked) (cs ds : List (List ℕ)) (u v : Verdict) → TakesAll (Are seen) devices job cs → TakesAll (MayBe seen) devices job ds → Does devices job cs u → Does devices job ds v → v ≡ u
 all_same {devices} seen job cs ds u v are may p q = by_length (meets (length cs) (length ds)) where
   by_length : Meets (length cs) (length ds) → v ≡ u
   by_length (less lt) =
-      let t = may_further seen job cs ds are.takes may.takes lt in
-      absurd (no_file (files_by job cs) (length cs) t.0 are.all t.1)
+      let t = may_further seen devices job cs ds are.takes may.takes lt in
+      absurd (no_file (files_by devices job cs) (length cs) t.0 are.all t.1)
   by_length (more lt) =
-      let t = seen_further seen job cs ds are.takes may.takes lt in
-      absurd (no_file (files_by job ds) (length ds) t.0 may.all t.1)
+      let t = seen_further seen devices job cs ds are.takes may.takes lt in
+      absurd (no_file (files_by devices job ds) (length ds) t.0 may.all t.1)
   by_length (same e) =
-      let contents = same_contents seen job cs ds are.takes may.takes e in
+      let contents = same_contents seen devices job cs ds are.takes may.takes e in
       same_done job ds v u q (subst (λ (xs : List (List ℕ)). Does devices job xs u) contents p)
 
 -- ## the verdict
 
-abbrev CannotRead : Asked → FilesSeen → FilesSeen → Verdict → Type 0
-CannotRead job before after v = (f : File) × IsUnread job before after f × (v ≡ unread f.name)
+abbrev CannotRead : List DeviceData → Asked → FilesSeen → FilesSeen → Verdict → Type 0
+CannotRead devices job before after v = (f : File) × IsUnread devices job before after f × (v ≡ unread f.name)
 
 on_refusal : {devices : List DeviceData} (job : Asked) (before after : FilesSeen) (v u : Verdict) (cs : List (List ℕ)) (g : File) (c : List ℕ) (why : Why) → JobReason devices job before after v
-    → Reaches (Are before.contents) job cs g → before.contents g.name ≡ Some c → g.refusal c ≡ Some why → u ≡ refused g.name why → (v ≡ u) ⊎ CannotRead job before after v
+    → Reaches (Are before.contents) devices job cs g → before.contents g.name ≡ Some c → g.refusal c ≡ Some why → u ≡ refused g.name why → (v ≡ u) ⊎ CannotRead devices job before after v
 on_refusal job before after v u cs g c why (cannot_read f h e) r is refusal d = inr (f, h, e)
 on_refusal job before after v u cs g c why (refuses f why' h e) r is refusal d = inl (e ∙ same_refusal before.contents job f g why' why cs c h r is refusal ∙ sym d)
 on_refusal job before after v u cs g c why (does ds all p) r is refusal d = absurd (done_not_refused before.contents job ds cs g why c all r is refusal)
 
 on_done : {devices : List DeviceData} (job : Asked) (before after : FilesSeen) (v u : Verdict) (cs : List (List ℕ)) → JobReason devices job before after v
-    → TakesAll (Are before.contents) job cs → Does devices job cs u → (v ≡ u) ⊎ CannotRead job before after v
+    → TakesAll (Are before.contents) devices job cs → Does devices job cs u → (v ≡ u) ⊎ CannotRead devices job before after v
 on_done job before after v u cs (cannot_read f h e) all p = inr (f, h, e)
 on_done job before after v u cs (refuses f why h e) all p = absurd (refused_not_done before.contents job f why cs h all)
 on_done job before after v u cs (does ds may q) all p = inl (all_same before.contents job cs ds u v all may p q)
@@ -307,14 +302,14 @@ pub no_job_of : (words : List (List ℕ)) (job : Asked) → is_accepted words �
 no_job_of words job e d = let none : None ≡ Some job = sym (no_job_in words e) ∙ d in absurd (cc)
 
 on_job : {devices : List DeviceData} (words : List (List ℕ)) (job : Asked) (before after : FilesSeen) (v u : Verdict) → job_in words ≡ Some job → JobReason devices job before after v → IsVerdict devices words before.contents u
-    → (v ≡ u) ⊎ CannotRead job before after v
+    → (v ≡ u) ⊎ CannotRead devices job before after v
 on_job {devices} words job before after v u is why (verdict.no_job none e) = absurd (no_job_of words job none is)
 on_job {devices} words job before after v u is why (verdict.refuses job' cs g c reason is' r held refusal e) =
     let alike : job' ≡ job = same_Some job' job (sym is' ∙ is) in
-    on_refusal job before after v u cs g c reason why (subst (λ (j : Asked). Reaches (Are before.contents) j cs g) alike r) held refusal e
+    on_refusal job before after v u cs g c reason why (subst (λ (j : Asked). Reaches (Are before.contents) devices j cs g) alike r) held refusal e
 on_job {devices} words job before after v u is why (verdict.does job' cs is' all p) =
     let alike : job' ≡ job = same_Some job' job (sym is' ∙ is) in
-    on_done job before after v u cs why (subst (λ (j : Asked). TakesAll (Are before.contents) j cs) alike all) (subst (λ (j : Asked). Does devices j cs u) alike p)
+    on_done job before after v u cs why (subst (λ (j : Asked). TakesAll (Are before.contents) devices j cs) alike all) (subst (λ (j : Asked). Does devices j cs u) alike p)
 
 on_no_job : {devices : List DeviceData} (words : List (List ℕ)) (seen : List ℕ → Option (List ℕ)) (v u : Verdict) → is_accepted words ≡ false → v ≡ usage → IsVerdict devices words seen u → v ≡ u
 on_no_job words seen v u none e (verdict.no_job none' d) = e ∙ sym d
@@ -322,14 +317,14 @@ on_no_job words seen v u none e (verdict.refuses job cs g c reason is r held ref
 on_no_job words seen v u none e (verdict.does job cs is all p) = absurd (no_job_of words job none is)
 
 -- a verdict that was told is the one verdict, or that a file cannot be read
-pub data Decided (words : List (List ℕ)) (before after : FilesSeen) (v u : Verdict) : Type 0 where
-  agreed : v ≡ u → Decided words before after v u
-  not_read : (job : Asked) (f : File) → job_in words ≡ Some job → IsUnread job before after f → v ≡ unread f.name → Decided words before after v u
+pub data Decided (devices : List DeviceData) (words : List (List ℕ)) (before after : FilesSeen) (v u : Verdict) : Type 0 where
+  agreed : v ≡ u → Decided devices words before after v u
+  not_read : (job : Asked) (f : File) → job_in words ≡ Some job → IsUnread devices job before after f → v ≡ unread f.name → Decided devices words before after v u
 
-by_reason : (words : List (List ℕ)) (job : Asked) (before after : FilesSeen) (v u : Verdict) → job_in words ≡ Some job → (v ≡ u) ⊎ CannotRead job before after v → Decided words before after v u
+by_reason : {devices : List DeviceData} (words : List (List ℕ)) (job : Asked) (before after : FilesSeen) (v u : Verdict) → job_in words ≡ Some job → (v ≡ u) ⊎ CannotRead devices job before after v → Decided devices words before after v u
 by_reason words job before after v u is (inl e) = agreed e
 by_reason words job before after v u is (inr h) = not_read job h.0 is h.1 h.2
 
-pub decided : {devices : List DeviceData} (words : List (List ℕ)) (before after : FilesSeen) (v u : Verdict) → Reason devices words before after v → IsVerdict devices words before.contents u → Decided words before after v u
+pub decided : {devices : List DeviceData} (words : List (List ℕ)) (before after : FilesSeen) (v u : Verdict) → Reason devices words before after v → IsVerdict devices words before.contents u → Decided devices words before after v u
 decided words before after v u (no_job none e) is = agreed (on_no_job words before.contents v u none e is)
 decided words before after v u (of_job job at why) is = by_reason words job before after v u at (on_job words job before after v u at why is)

@@ -1,28 +1,42 @@
 -- A list that holds no device.
-use Rattle.std.proofs.Common.{◌≡◌, ◌⊎◌, inl, inr, ℕ, List, [], map, Option, sym, ap, subst}
+use Rattle.std.proofs.Common.{◌≡◌, ℕ, List, [], map, Option, sym, ap, subst}
 use Rattle.kernel_abi.specs.Devices.{DeviceData}
+use Rattle.command_line.specs.CommandLine.{Asked}
 use Rattle.outside_io.specs.Seen.{FilesSeen, SinkSeen}
 use Rattle.trace_cli.specs.Verdict.{Verdict, IsVerdict}
-use Rattle.trace_cli.specs.Answer.{HasRun, HasFront}
+use Rattle.trace_cli.specs.Answer.{Answered, TellsEach, GoesOn, HasFront, HasPlayed, HasDone, HasRefused, HasUnread, HasAudited}
 
 pub no_devices : {A : Type 0} (shown : A → DeviceData) (xs : List A) → xs ≡ [] → map shown xs ≡ []
 no_devices shown xs none = ap (map shown) none
 
--- what is said of runs with these devices is said of runs without one
+-- what is said of these devices is said of none
 module _ (devices : List DeviceData) (none : devices ≡ []) where
   pub verdict_of_none : (words : List (List ℕ)) (seen : List ℕ → Option (List ℕ)) (v : Verdict) → IsVerdict [] words seen v → IsVerdict devices words seen v
   verdict_of_none words seen v h = subst (λ (ds : List DeviceData). IsVerdict ds words seen v) (sym none) h
 
-  pub run_without : (words : List (List ℕ)) (seen : List ℕ → Option (List ℕ)) (w w' : SinkSeen) (r : ℕ) → HasRun devices words seen w w' r → HasRun [] words seen w w' r
-  run_without words seen w w' r h = subst (λ (ds : List DeviceData). HasRun ds words seen w w' r) none h
+  pub answered_without : (words : List (List ℕ)) (a b : FilesSeen) (w w' : SinkSeen) (v : Verdict) (r : ℕ) → Answered devices words a b w w' v r → Answered [] words a b w w' v r
+  answered_without words a b w w' v r h = subst (λ (ds : List DeviceData). Answered ds words a b w w' v r) none h
 
   pub front_without : (words : List (List ℕ)) (a b : FilesSeen) (w w' : SinkSeen) → HasFront devices words a b w w' → HasFront [] words a b w w'
   front_without words a b w w' h = subst (λ (ds : List DeviceData). HasFront ds words a b w w') none h
 
-  pub played_without : {B : Type 0} (words : List (List ℕ)) (seen : List ℕ → Option (List ℕ)) (w w' : SinkSeen) (r : ℕ) → HasRun devices words seen w w' r ⊎ B → HasRun [] words seen w w' r ⊎ B
-  played_without words seen w w' r (inl h) = inl (run_without words seen w w' r h)
-  played_without words seen w w' r (inr b) = inr b
+  pub refused_without : (words : List (List ℕ)) (seen : List ℕ → Option (List ℕ)) (w w' : SinkSeen) → HasRefused devices words seen w w' → HasRefused [] words seen w w'
+  refused_without words seen w w' h = subst (λ (ds : List DeviceData). HasRefused ds words seen w w') none h
 
-  pub done_without : {B C : Type 0} (words : List (List ℕ)) (seen : List ℕ → Option (List ℕ)) (w w' : SinkSeen) (r : ℕ) → (HasRun devices words seen w w' r ⊎ B) ⊎ C → (HasRun [] words seen w w' r ⊎ B) ⊎ C
-  done_without words seen w w' r (inl h) = inl (played_without words seen w w' r h)
-  done_without words seen w w' r (inr c) = inr c
+  pub unread_without : (words : List (List ℕ)) (a b : FilesSeen) (w w' : SinkSeen) → HasUnread devices words a b w w' → HasUnread [] words a b w w'
+  unread_without words a b w w' h = subst (λ (ds : List DeviceData). HasUnread ds words a b w w') none h
+
+  pub audited_without : (words : List (List ℕ)) (seen : List ℕ → Option (List ℕ)) (w w' : SinkSeen) (r : ℕ) → HasAudited devices words seen w w' r → HasAudited [] words seen w w' r
+  audited_without words seen w w' r h = subst (λ (ds : List DeviceData). HasAudited ds words seen w w' r) none h
+
+  pub played_without : (words : List (List ℕ)) (seen : List ℕ → Option (List ℕ)) (w w' : SinkSeen) (r : ℕ) → HasPlayed devices words seen w w' r → HasPlayed [] words seen w w' r
+  played_without words seen w w' r h = subst (λ (ds : List DeviceData). HasPlayed ds words seen w w' r) none h
+
+  pub done_without : (words : List (List ℕ)) (a b : FilesSeen) (w w' : SinkSeen) → HasDone devices words a b w w' → HasDone [] words a b w w'
+  done_without words a b w w' h = subst (λ (ds : List DeviceData). HasDone ds words a b w w') none h
+
+  pub each_without : (job : Asked) (a b : FilesSeen) (w w' : SinkSeen) (r : ℕ) → TellsEach devices job a b w w' r → TellsEach [] job a b w w' r
+  each_without job a b w w' r h = subst (λ (ds : List DeviceData). TellsEach ds job a b w w' r) none h
+
+  pub on_without : (words : List (List ℕ)) (a b : FilesSeen) (w w' : SinkSeen) (r : ℕ) → GoesOn devices words a b w w' r → GoesOn [] words a b w w' r
+  on_without words a b w w' r h = subst (λ (ds : List DeviceData). GoesOn ds words a b w w' r) none h

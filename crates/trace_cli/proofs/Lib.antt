@@ -5,6 +5,7 @@ pub mod OneVerdict
 pub mod Readying
 pub mod Refusals
 pub mod Rerunning
+pub mod EachState
 pub mod Seeding
 pub mod Spelling
 pub mod Starting
@@ -13,3 +14,4 @@ pub mod Statuses
 pub mod Faulting
 pub mod Taking
 pub mod Handed
+pub mod GoingOn

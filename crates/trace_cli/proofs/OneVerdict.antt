@@ -33,7 +33,7 @@ grounded words seen v (verdict.does job cs at all p) = of_job job at (does cs (r
 none_rose : Rose 0 0 → ⊥
 none_rose rose = absurd (omega arith)
 
-when_decided : (words : List (List ℕ)) (seen : List ℕ → Option (List ℕ)) (u v : Verdict) → Decided words (unfailed seen) (unfailed seen) u v → u ≡ v
+when_decided : {devices : List DeviceData} (words : List (List ℕ)) (seen : List ℕ → Option (List ℕ)) (u v : Verdict) → Decided devices words (unfailed seen) (unfailed seen) u v → u ≡ v
 when_decided words seen u v (agreed e) = e
 when_decided words seen u v (not_read job f at h e) = absurd (none_rose h.rose)
 

@@ -7,27 +7,32 @@ use Rattle.image_build.specs.Built.{Built}
 use Rattle.board_core.specs.Data.{Shows}
 use Rattle.board_core.specs.declared.board.Board.{Board}
 use Rattle.board_model.specs.Script.{Scenario, start_of}
+use Rattle.board_core.specs.Opened as opened
+use Rattle.run_script.specs.Scripts.{ScriptData}
+use Rattle.task_table.specs.State.{State}
+use Rattle.snapshot.specs.Restored.{state_in}
 use Rattle.board_core.specs.Stands.{Stands, Stood, turns_of}
 use Rattle.outside_io.specs.Outside.{Rose}
 use Rattle.audit_runs.specs.Last.{IsGoodText}
 use Rattle.trace_audit.specs.declared.verdict.Verdict as trace
 use Rattle.trace_audit.specs.declared.verdict.Verdict.TheVariants.{Yes, No}
-use Rattle.command_line.specs.CommandLine.{Asked, build, run, go, list, sample, migrate, audit}
+use Rattle.command_line.specs.CommandLine.{Asked, build, run, go, list, sample, migrate, audit, save, resume}
 use Rattle.command_line.specs.declared.job.Detail.{Detail}
 use Rattle.trace_cli.specs.declared.file_faults.NamedFault.{NamedFault}
 use Rattle.trace_cli.specs.declared.file_faults.NamedFault.TheVariants as named_faults
-use Rattle.trace_cli.specs.Contents.{Why, scenario_of, application_of}
+use Rattle.trace_cli.specs.Contents.{Why, picture_of, scenario_of, script_of, state_refusal, application_of}
 use Rattle.outside_io.specs.Seen.{FilesSeen, SinkSeen}
-use Rattle.trace_cli.specs.Sources.{File, image_file, script_file, trace_file, files_to_build, first_of, MayBe, Takes, IsBuilt, script_in}
+use Rattle.trace_cli.specs.Sources.{File, image_file, script_file, state_file, trace_file, files_of, files_to_build, first_of, MayBe, Takes, IsBuilt, script_in}
 use Rattle.trace_cli.specs.FileFaults.{IsNamedFaultOf}
 use Rattle.trace_cli.specs.Building.{IsImage, IsNamedFaultInApp}
-use Rattle.trace_cli.specs.Ready.{IsImageFile, IsSet, IsReady, IsAuditOf, IsNamedFaultIn}
+use Rattle.trace_cli.specs.Ready.{IsImageFile, IsScriptFile, IsSet, IsReady, IsSaveReady, IsLoaded, IsStateSet, IsResumable, IsAuditOf, IsNamedFaultIn}
 use Rattle.trace_cli.specs.Pushed.{Pushed, whole, cut, Says, pushed, silent, IsSilent, SaysNamedFault}
-use Rattle.trace_cli.specs.Verdict.{Verdict, runs, lists, builds, audits, refused, unread, ran, listed, built, audited}
+use Rattle.trace_cli.specs.Verdict.{Verdict, runs, lists, builds, saves, resumes, audits, refused, unread, ran, listed, built, saved, resumed, audited}
 use Rattle.trace_cli.specs.Answer as answer
 use Rattle.trace_cli.specs.Answer.{JobReason, cannot_read, refuses, does, IsShort, HasPut, HasSpoiled, Tells, IsOfRun, TellsGood, AnswersJob}
 use Rattle.trace_cli.proofs.Lists.{at_end, longer, takes_none, takes_first, takes_wider, takes_last, get_more, get_last}
 use Rattle.trace_cli.proofs.Faulting.{faults_earlier}
+use Rattle.trace_cli.proofs.Starting.{told_from_start}
 use Rattle.trace_cli.proofs.Taking.{as_many_sources}
 
 -- a board that is ready, where there is one
@@ -58,14 +63,14 @@ run_ready {X} {H} {shown} {devices} seen image script n detail picture b i s = r
   turns = s.turns;
 }
 
-pub run_image_faults : (a c : FilesSeen) (image script : List ℕ) (n : ℕ) (detail : Detail) (h : NamedFault) → IsNamedFaultOf a c (image_file image) h → IsNamedFaultIn (run image script n detail) a c h
+pub run_image_faults : {devices : List DeviceData} (a c : FilesSeen) (image script : List ℕ) (n : ℕ) (detail : Detail) (h : NamedFault) → IsNamedFaultOf a c (image_file image) h → IsNamedFaultIn devices (run image script n detail) a c h
 run_image_faults a c image script n detail h fault = record {
   contents = [];
   at = record { takes = takes_none (MayBe a.contents) (image_file image ∷ script_file script ∷ []); file = image_file image; next = refl; fault = fault };
 }
 
-pub run_script_faults : (a b c : FilesSeen) (image script : List ℕ) (n : ℕ) (detail : Detail) (picture : Picture) (h : NamedFault) → IsImageFile a.contents image picture → b.contents ≡ a.contents
-    → a.read_faults ≤ b.read_faults → IsNamedFaultOf b c (script_file script) h → IsNamedFaultIn (run image script n detail) a c h
+pub run_script_faults : {devices : List DeviceData} (a b c : FilesSeen) (image script : List ℕ) (n : ℕ) (detail : Detail) (picture : Picture) (h : NamedFault) → IsImageFile a.contents image picture → b.contents ≡ a.contents
+    → a.read_faults ≤ b.read_faults → IsNamedFaultOf b c (script_file script) h → IsNamedFaultIn devices (run image script n detail) a c h
 run_script_faults a b c image script n detail picture h i seen later fault = record {
   contents = i.bytes ∷ [];
   at = record {
@@ -76,9 +81,127 @@ run_script_faults a b c image script n detail picture h i seen later fault = rec
   };
 }
 
+-- ## `save`
+
+pub set_by_script : {X : Type 0} {H : X → Type 0} {shown : Shows X H} {devices : List DeviceData} (seen : List ℕ → Option (List ℕ)) (image : Picture) (name : List ℕ) (script : ScriptData) (b : Board X H) → IsScriptFile seen name script
+    → Stands shown (opened.scenario_of image script devices) b (start_of (opened.scenario_of image script devices)) → turns_of b ≡ 0 → IsSet shown devices seen image name b
+set_by_script {X} {H} {shown} {devices} seen image name script b i stands turns = record {
+  script = i.bytes;
+  held = i.held;
+  accepted = i.accepted;
+  stands = subst (λ (d : ScriptData). Stands shown (opened.scenario_of image d devices) b (start_of (opened.scenario_of image d devices))) i.is stands;
+  turns = turns;
+}
+
+pub save_ready : {X : Type 0} {H : X → Type 0} {shown : Shows X H} {devices : List DeviceData} (seen : List ℕ → Option (List ℕ)) (image script out : List ℕ) (n : ℕ) (picture : Picture) (b : Board X H) → IsImageFile seen image picture → IsSet shown devices seen picture script b
+    → IsSaveReady shown devices (save image script out n) seen out n b
+save_ready {X} {H} {shown} {devices} seen image script out n picture b i s = record {
+  contents = i.bytes ∷ s.script ∷ [];
+  accepted = record {
+    takes = takes_first (MayBe seen) (image_file image) (script_file script ∷ []) i.bytes (s.script ∷ []) i.held i.accepted
+        (takes_first (MayBe seen) (script_file script) [] s.script [] s.held s.accepted (takes_none (MayBe seen) []));
+    all = refl;
+  };
+  scenario = scenario_of picture s.script devices;
+  is = (refl, refl, ap (λ (p : Picture). scenario_of p s.script devices) i.is);
+  stands = s.stands;
+  turns = s.turns;
+}
+
+pub save_image_faults : {devices : List DeviceData} (a c : FilesSeen) (image script out : List ℕ) (n : ℕ) (h : NamedFault) → IsNamedFaultOf a c (image_file image) h → IsNamedFaultIn devices (save image script out n) a c h
+save_image_faults a c image script out n h fault = record {
+  contents = [];
+  at = record { takes = takes_none (MayBe a.contents) (image_file image ∷ script_file script ∷ []); file = image_file image; next = refl; fault = fault };
+}
+
+pub save_script_faults : {devices : List DeviceData} (a b c : FilesSeen) (image script out : List ℕ) (n : ℕ) (picture : Picture) (h : NamedFault) → IsImageFile a.contents image picture → b.contents ≡ a.contents
+    → a.read_faults ≤ b.read_faults → IsNamedFaultOf b c (script_file script) h → IsNamedFaultIn devices (save image script out n) a c h
+save_script_faults a b c image script out n picture h i seen later fault = record {
+  contents = i.bytes ∷ [];
+  at = record {
+    takes = one_file a.contents image picture (script_file script ∷ []) i;
+    file = script_file script;
+    next = refl;
+    fault = faults_earlier a b c (script_file script) h seen later fault;
+  };
+}
+
+-- ## `resume`
+
+-- the files before the state
+two_files : (seen : List ℕ → Option (List ℕ)) (image script : List ℕ) (picture : Picture) (events : ScriptData) (more : List File) (i : IsImageFile seen image picture) (s : IsScriptFile seen script events)
+    → Takes (MayBe seen) (image_file image ∷ script_file script ∷ more) (i.bytes ∷ s.bytes ∷ [])
+two_files seen image script picture events more i s =
+    takes_first (MayBe seen) (image_file image) (script_file script ∷ more) i.bytes (s.bytes ∷ []) i.held i.accepted
+    (takes_first (MayBe seen) (script_file script) more s.bytes [] s.held s.accepted (takes_none (MayBe seen) more))
+
+pub resume_ready : {X : Type 0} {H : X → Type 0} {shown : Shows X H} {devices : List DeviceData} (seen : List ℕ → Option (List ℕ)) (image script state : List ℕ) (m : ℕ) (detail : Detail) (picture : Picture) (events : ScriptData) (b : Board X H) → IsImageFile seen image picture
+    → IsScriptFile seen script events → IsStateSet shown devices seen picture events state m b → IsResumable shown devices (resume image script state m detail) seen m detail b
+resume_ready {X} {H} {shown} {devices} seen image script state m detail picture events b i s t =
+    let file = state_file devices (picture_of i.bytes) m state in
+    let accepted : state_refusal devices (picture_of i.bytes) m t.bytes ≡ None = subst (λ (p : Picture). state_refusal devices p m t.bytes ≡ None) i.is t.accepted in
+    let of_image : IsLoaded shown (opened.scenario_of (picture_of i.bytes) events devices) t.bytes b = subst (λ (p : Picture). IsLoaded shown (opened.scenario_of p events devices) t.bytes b) i.is t.loaded in
+    let loaded : IsLoaded shown (opened.scenario_of (picture_of i.bytes) (script_of s.bytes) devices) t.bytes b = subst (λ (d : ScriptData). IsLoaded shown (opened.scenario_of (picture_of i.bytes) d devices) t.bytes b) s.is of_image in
+    let x : Scenario = scenario_of (picture_of i.bytes) s.bytes devices in
+    record {
+      contents = i.bytes ∷ s.bytes ∷ t.bytes ∷ [];
+      accepted = record {
+        takes = takes_first (MayBe seen) (image_file image) (script_file script ∷ file ∷ []) i.bytes (s.bytes ∷ t.bytes ∷ []) i.held i.accepted
+            (takes_first (MayBe seen) (script_file script) (file ∷ []) s.bytes (t.bytes ∷ []) s.held s.accepted
+            (takes_first (MayBe seen) file [] t.bytes [] t.held accepted (takes_none (MayBe seen) [])));
+        all = refl;
+      };
+      scenario = x;
+      state = state_in x.setup devices t.bytes;
+      is = (refl, refl, refl, refl);
+      stands = loaded.stands;
+      each = loaded.each;
+      turns = t.turns;
+    }
+
+pub resume_image_faults : {devices : List DeviceData} (a c : FilesSeen) (image script state : List ℕ) (m : ℕ) (detail : Detail) (h : NamedFault) → IsNamedFaultOf a c (image_file image) h → IsNamedFaultIn devices (resume image script state m detail) a c h
+resume_image_faults {devices} a c image script state m detail h fault = record {
+  contents = [];
+  at = record { takes = takes_none (MayBe a.contents) (files_of devices (resume image script state m detail) []); file = image_file image; next = refl; fault = fault };
+}
+
+pub resume_script_faults : {devices : List DeviceData} (a b c : FilesSeen) (image script state : List ℕ) (m : ℕ) (detail : Detail) (picture : Picture) (h : NamedFault) → IsImageFile a.contents image picture → b.contents ≡ a.contents
+    → a.read_faults ≤ b.read_faults → IsNamedFaultOf b c (script_file script) h → IsNamedFaultIn devices (resume image script state m detail) a c h
+resume_script_faults {devices} a b c image script state m detail picture h i seen later fault = record {
+  contents = i.bytes ∷ [];
+  at = record {
+    takes = one_file a.contents image picture (script_file script ∷ state_file devices (picture_of i.bytes) m state ∷ []) i;
+    file = script_file script;
+    next = refl;
+    fault = faults_earlier a b c (script_file script) h seen later fault;
+  };
+}
+
+pub resume_state_faults : {devices : List DeviceData} (a b c : FilesSeen) (image script state : List ℕ) (m : ℕ) (detail : Detail) (picture : Picture) (events : ScriptData) (h : NamedFault) → IsImageFile a.contents image picture → IsScriptFile a.contents script events
+    → b.contents ≡ a.contents → a.read_faults ≤ b.read_faults → IsNamedFaultOf b c (state_file devices picture m state) h → IsNamedFaultIn devices (resume image script state m detail) a c h
+resume_state_faults {devices} a b c image script state m detail picture events h i s seen later fault =
+    let file : ℕ → Picture → File = λ n p. state_file devices p n state in
+    record {
+      contents = i.bytes ∷ s.bytes ∷ [];
+      at = record {
+        takes = two_files a.contents image script picture events (file m (picture_of i.bytes) ∷ []) i s;
+        file = file m (picture_of i.bytes);
+        next = refl;
+        fault = faults_earlier a b c (file m (picture_of i.bytes)) h seen later (subst (λ (p : Picture). IsNamedFaultOf b c (file m p) h) i.is fault);
+      };
+    }
+
+-- a file of the same contents elsewhere
+pub script_there : {seen seen' : List ℕ → Option (List ℕ)} {name : List ℕ} {script : ScriptData} → seen ≡ seen' → IsScriptFile seen name script → IsScriptFile seen' name script
+script_there {seen} {seen'} {name} {script} same h = subst (λ (t : List ℕ → Option (List ℕ)). IsScriptFile t name script) same h
+
+pub state_there : {X : Type 0} {H : X → Type 0} {shown : Shows X H} {devices : List DeviceData} {seen seen' : List ℕ → Option (List ℕ)} {picture : Picture} {script : ScriptData} {name : List ℕ} {bound : ℕ} {b : Board X H} → seen ≡ seen'
+    → IsStateSet shown devices seen picture script name bound b → IsStateSet shown devices seen' picture script name bound b
+state_there {X} {H} {shown} {devices} {seen} {seen'} {picture} {script} {name} {bound} {b} same h = subst (λ (t : List ℕ → Option (List ℕ)). IsStateSet shown devices t picture script name bound b) same h
+
 -- ## `list`
 
-pub list_faults : (a c : FilesSeen) (image : List ℕ) (h : NamedFault) → IsNamedFaultOf a c (image_file image) h → IsNamedFaultIn (list image) a c h
+pub list_faults : {devices : List DeviceData} (a c : FilesSeen) (image : List ℕ) (h : NamedFault) → IsNamedFaultOf a c (image_file image) h → IsNamedFaultIn devices (list image) a c h
 list_faults a c image h fault = record {
   contents = [];
   at = record { takes = takes_none (MayBe a.contents) (image_file image ∷ []); file = image_file image; next = refl; fault = fault };
@@ -89,7 +212,7 @@ list_reason a b image picture i = does (i.bytes ∷ []) (record { takes = one_fi
 
 -- ## `migrate`
 
-pub migrate_faults : (a c : FilesSeen) (image out : List ℕ) (h : NamedFault) → IsNamedFaultOf a c (image_file image) h → IsNamedFaultIn (migrate image out) a c h
+pub migrate_faults : {devices : List DeviceData} (a c : FilesSeen) (image out : List ℕ) (h : NamedFault) → IsNamedFaultOf a c (image_file image) h → IsNamedFaultIn devices (migrate image out) a c h
 migrate_faults a c image out h fault = record {
   contents = [];
   at = record { takes = takes_none (MayBe a.contents) (image_file image ∷ []); file = image_file image; next = refl; fault = fault };
@@ -101,7 +224,7 @@ migrate_reason a b image out picture i =
 
 -- ## `audit`
 
-pub audit_faults : (a c : FilesSeen) (name : List ℕ) (h : NamedFault) → IsNamedFaultOf a c (trace_file name) h → IsNamedFaultIn (audit name) a c h
+pub audit_faults : {devices : List DeviceData} (a c : FilesSeen) (name : List ℕ) (h : NamedFault) → IsNamedFaultOf a c (trace_file name) h → IsNamedFaultIn devices (audit name) a c h
 audit_faults a c name h fault = record {
   contents = [];
   at = record { takes = takes_none (MayBe a.contents) (trace_file name ∷ []); file = trace_file name; next = refl; fault = fault };
@@ -122,7 +245,7 @@ pub build_reason : {devices : List DeviceData} (a b : FilesSeen) (app out : List
 build_reason a b app out picture i =
     does (i.bytes ∷ i.sources) (record { takes = i.each.takes; all = i.each.all }) (builds out picture (refl, i.is) refl)
 
-pub build_faults : (a c : FilesSeen) (app out : List ℕ) (h : NamedFault) → IsNamedFaultInApp a c app h → IsNamedFaultIn (build app out) a c h
+pub build_faults : {devices : List DeviceData} (a c : FilesSeen) (app out : List ℕ) (h : NamedFault) → IsNamedFaultInApp a c app h → IsNamedFaultIn devices (build app out) a c h
 build_faults a c app out h i = record { contents = i.contents; at = i.at }
 
 -- ## `go`
@@ -164,7 +287,7 @@ go_ready {X} {H} {shown} {devices} seen app script n detail picture b i s =
       turns = s.turns;
     }
 
-pub go_app_faults : (a c : FilesSeen) (app script : List ℕ) (n : ℕ) (detail : Detail) (h : NamedFault) → IsNamedFaultInApp a c app h → IsNamedFaultIn (go app script n detail) a c h
+pub go_app_faults : {devices : List DeviceData} (a c : FilesSeen) (app script : List ℕ) (n : ℕ) (detail : Detail) (h : NamedFault) → IsNamedFaultInApp a c app h → IsNamedFaultIn devices (go app script n detail) a c h
 go_app_faults a c app script n detail h i =
     let files = files_to_build app (first_of i.contents) in
     record {
@@ -177,8 +300,8 @@ go_app_faults a c app script n detail h i =
       };
     }
 
-pub go_script_faults : (a b c : FilesSeen) (app script : List ℕ) (n : ℕ) (detail : Detail) (picture : Picture) (h : NamedFault) → IsImage a.contents app picture → b.contents ≡ a.contents
-    → a.read_faults ≤ b.read_faults → IsNamedFaultOf b c (script_file script) h → IsNamedFaultIn (go app script n detail) a c h
+pub go_script_faults : {devices : List DeviceData} (a b c : FilesSeen) (app script : List ℕ) (n : ℕ) (detail : Detail) (picture : Picture) (h : NamedFault) → IsImage a.contents app picture → b.contents ≡ a.contents
+    → a.read_faults ≤ b.read_faults → IsNamedFaultOf b c (script_file script) h → IsNamedFaultIn devices (go app script n detail) a c h
 go_script_faults a b c app script n detail picture h i seen later fault =
     let files = files_to_build app i.bytes in
     record {
@@ -201,6 +324,8 @@ tells_good (list image) v r h = tt
 tells_good (sample seed steps) v r h = tt
 tells_good (migrate image out) v r h = tt
 tells_good (audit trace) v r h = tt
+tells_good (save image script out steps) v r h = tt
+tells_good (resume image script state steps detail) v r h = tt
 
 no_run : (r : ℕ) → 1 ≤ r → r ≤ 5 → IsOfRun r → ⊥
 no_run r low high (inl z) = omega arith
@@ -214,10 +339,10 @@ fault_good job w w' v r low high (silent s) = let is = s.status in tells_good jo
 
 -- ## the answer
 
-silent_short : (a b : FilesSeen) (w w' : SinkSeen) (r : ℕ) → b.contents ≡ a.contents → IsSilent w w' r → IsShort a b w w' r
+pub silent_short : (a b : FilesSeen) (w w' : SinkSeen) (r : ℕ) → b.contents ≡ a.contents → IsSilent w w' r → IsShort a b w w' r
 silent_short a b w w' r same s = record { status = s.status; written = s.written; faults = s.faults; files = same }
 
-put_nothing : (a b : FilesSeen) (v : Verdict) → b.contents ≡ a.contents → v.put ≡ None → HasPut a.contents b.contents v.put
+pub put_nothing : (a b : FilesSeen) (v : Verdict) → b.contents ≡ a.contents → v.put ≡ None → HasPut a.contents b.contents v.put
 put_nothing a b v same none = let P : Option (List ℕ × List ℕ) → Type 0 = HasPut a.contents b.contents in subst P (sym none) same
 
 pub tells_pushed : (a b : FilesSeen) (w w' : SinkSeen) (v : Verdict) (r : ℕ) → HasPut a.contents b.contents v.put → Pushed w w' v r → Tells a b w w' v r
@@ -231,7 +356,7 @@ pub answers_said : {devices : List DeviceData} (job : Asked) (a b : FilesSeen) (
 answers_said job a b w w' v r same none why good (pushed p) = answers_pushed job a b w w' v r same none why good p
 answers_said job a b w w' v r same none why good (silent s) = inl (silent_short a b w w' r same s)
 
-pub answers_named_fault : {devices : List DeviceData} (job : Asked) (a b : FilesSeen) (w w' : SinkSeen) (h : NamedFault) (r : ℕ) → b.contents ≡ a.contents → IsNamedFaultIn job a b h → SaysNamedFault w w' h r → AnswersJob devices job a b w w' r
+pub answers_named_fault : {devices : List DeviceData} (job : Asked) (a b : FilesSeen) (w w' : SinkSeen) (h : NamedFault) (r : ℕ) → b.contents ≡ a.contents → IsNamedFaultIn devices job a b h → SaysNamedFault w w' h r → AnswersJob devices job a b w w' r
 answers_named_fault job a b w w' named_faults.Memory r same h s = inl (silent_short a b w w' r same s)
 answers_named_fault job a b w w' (named_faults.CannotRead name) r same h s =
     let at = h.at.fault in
@@ -246,11 +371,26 @@ answers_named_fault job a b w w' (named_faults.Refused name cause place) r same 
     answers_said job a b w w' (refused (string_bytes name) reason) r same refl why (fault_good job w w' (refused (string_bytes name) reason) r (omega arith) (omega arith) s) s
 
 pub answers_run : {X : Type 0} {H : X → Type 0} {shown : Shows X H} {devices : List DeviceData} (job : Asked) (a b : FilesSeen) (w w' : SinkSeen) (n : ℕ) (detail : Detail) (bd : Board X H) (r : ℕ) → b.contents ≡ a.contents → IsReady shown devices job a.contents n detail bd
-    → ((x : Scenario) → Stands shown x bd (start_of x) → Pushed w w' (ran n detail x) r) → ((x : Scenario) → Stands shown x bd (start_of x) → IsOfRun r → IsGoodText (ran n detail x).text)
+    → ((x : Scenario) (s : State) → Stands shown x bd s → Pushed w w' (resumed n detail x s) r) → ((x : Scenario) → Stands shown x bd (start_of x) → IsOfRun r → IsGoodText (resumed n detail x (start_of x)).text)
     → AnswersJob devices job a b w w' r
 answers_run job a b w w' n detail bd r same ready tells good =
     let x = ready.scenario in
-    answers_pushed job a b w w' (ran n detail x) r same refl (does ready.contents ready.accepted (runs n detail x ready.is refl)) (tells_good job (ran n detail x) r (good x ready.stands)) (tells x ready.stands)
+    let told : resumed n detail x (start_of x) ≡ ran n detail x = told_from_start n detail x bd ready.stands ready.turns in
+    answers_pushed job a b w w' (ran n detail x) r same refl (does ready.contents ready.accepted (runs n detail x ready.is refl))
+    (tells_good job (ran n detail x) r (λ of_run. subst (λ (v : Verdict). IsGoodText v.text) told (good x ready.stands of_run)))
+    (subst (λ (v : Verdict). Pushed w w' v r) told (tells x (start_of x) ready.stands))
+
+pub answers_resumed : {X : Type 0} {H : X → Type 0} {shown : Shows X H} {devices : List DeviceData} (image script state : List ℕ) (a b : FilesSeen) (w w' : SinkSeen) (m : ℕ) (detail : Detail) (bd : Board X H) (r : ℕ) → b.contents ≡ a.contents
+    → IsResumable shown devices (resume image script state m detail) a.contents m detail bd → ((x : Scenario) (s : State) → Stands shown x bd s → Pushed w w' (resumed m detail x s) r) → AnswersJob devices (resume image script state m detail) a b w w' r
+answers_resumed image script state a b w w' m detail bd r same h tells =
+    answers_pushed (resume image script state m detail) a b w w' (resumed m detail h.scenario h.state) r same refl
+    (does h.contents h.accepted (resumes m detail h.scenario h.state h.is refl)) tt (tells h.scenario h.state h.stands)
+
+pub resumable_stood : {X : Type 0} {H : X → Type 0} {shown : Shows X H} {devices : List DeviceData} (job : Asked) (seen : List ℕ → Option (List ℕ)) (m : ℕ) (detail : Detail) (bd : Board X H) → IsResumable shown devices job seen m detail bd → Stood shown bd × (turns_of bd ≤ m)
+resumable_stood job seen m detail bd h = ((h.scenario, h.state, h.stands), h.turns)
+
+pub save_stood : {X : Type 0} {H : X → Type 0} {shown : Shows X H} {devices : List DeviceData} (job : Asked) (seen : List ℕ → Option (List ℕ)) (out : List ℕ) (n : ℕ) (bd : Board X H) → IsSaveReady shown devices job seen out n bd → Stood shown bd × (turns_of bd ≡ 0)
+save_stood job seen out n bd h = ((h.scenario, start_of h.scenario, h.stands), h.turns)
 
 pub ready_stood : {X : Type 0} {H : X → Type 0} {shown : Shows X H} {devices : List DeviceData} (job : Asked) (seen : List ℕ → Option (List ℕ)) (n : ℕ) (detail : Detail) (bd : Board X H) → IsReady shown devices job seen n detail bd → Stood shown bd × (turns_of bd ≡ 0)
 ready_stood job seen n detail bd h = ((h.scenario, start_of h.scenario, h.stands), h.turns)
@@ -279,6 +419,12 @@ answers_built a b c w w' app out image r same puts i t = answers_put (build app 
 pub answers_migrated : {devices : List DeviceData} (a b c : FilesSeen) (w w' : SinkSeen) (file out : List ℕ) (image : Picture) (r : ℕ) → b.contents ≡ a.contents → b.put_faults ≡ a.put_faults → IsImageFile a.contents file image
     → Tells b c w w' (built out image) r → AnswersJob devices (migrate file out) a c w w' r
 answers_migrated a b c w w' file out image r same puts i t = answers_put (migrate file out) a b c w w' out image r same puts (migrate_reason a c file out image i) tt t
+
+pub answers_saved : {X : Type 0} {H : X → Type 0} {shown : Shows X H} {devices : List DeviceData} (image script out : List ℕ) (a b c : FilesSeen) (w w' : SinkSeen) (n : ℕ) (bd : Board X H) (r : ℕ) → b.contents ≡ a.contents → b.put_faults ≡ a.put_faults
+    → IsSaveReady shown devices (save image script out n) a.contents out n bd → ((x : Scenario) → Stands shown x bd (start_of x) → Tells b c w w' (saved out n x) r) → AnswersJob devices (save image script out n) a c w w' r
+answers_saved image script out a b c w w' n bd r same puts h tells =
+    let x = h.scenario in
+    inr (saved out n x, does h.contents h.accepted (saves out n x h.is refl), tells_earlier a b c w w' (saved out n x) r same puts (tells x h.stands), tt)
 
 pub answers_audited : {devices : List DeviceData} (a b : FilesSeen) (w w' : SinkSeen) (name : List ℕ) (found : trace.Verdict) (r : ℕ) → b.contents ≡ a.contents → IsAuditOf a.contents name found → Says w w' (audited found) r
     → AnswersJob devices (audit name) a b w w' r

@@ -10,7 +10,7 @@ use Rattle.command_line.specs.declared.job.Detail.{Detail}
 use Rattle.trace_cli.specs.Contents.{Why, image_refusal, script_refusal, picture_of, application_of, scenario_of}
 use Rattle.trace_cli.specs.Words.{job_in}
 use Rattle.trace_cli.specs.Sources.{File, image_file, script_file, files_to_build, Are, Takes, Reaches, TakesAll, IsBuilt, script_in}
-use Rattle.trace_cli.specs.Verdict.{Verdict, IsVerdict, no_job, refuses, does, Does, runs, lists, builds, samples, audits, refused, ran}
+use Rattle.trace_cli.specs.Verdict.{Verdict, IsVerdict, no_job, refuses, does, Does, runs, lists, builds, samples, saves, resumes, audits, refused, ran}
 use Rattle.trace_cli.specs.Answer.{HasPut}
 use Rattle.trace_cli.proofs.Lists.{longer, is_below, takes_wider, takes_last}
 use Rattle.trace_cli.proofs.Taking.{as_many_sources}
@@ -35,7 +35,7 @@ record IsMade (seen : List ℕ → Option (List ℕ)) (app out : List ℕ) (b : 
   has : HasImage seen app image
   put : b.put ≡ Some (out, spelling image)
 
-has_image : (seen : List ℕ → Option (List ℕ)) (app out : List ℕ) (cs : List (List ℕ)) (image : Picture) → TakesAll (Are seen) (build app out) cs → IsBuilt cs image → HasImage seen app image
+has_image : {devices : List DeviceData} (seen : List ℕ → Option (List ℕ)) (app out : List ℕ) (cs : List (List ℕ)) (image : Picture) → TakesAll (Are seen) devices (build app out) cs → IsBuilt cs image → HasImage seen app image
 has_image seen app out [] image all is = let none = all.all in absurd (omega arith)
 has_image seen app out (c ∷ cs) image all is = record { bytes = c; sources = cs; takes = all.takes; all = all.all; is = is }
 
@@ -46,10 +46,12 @@ no_sample app out s n e = cc
 no_sample_run : (image script : List ℕ) (n : ℕ) (detail : Detail) (s k : ℕ) → run image script n detail ≡ sample s k → ⊥
 no_sample_run image script n detail s k e = cc
 
-made_by : {devices : List DeviceData} (seen : List ℕ → Option (List ℕ)) (app out : List ℕ) (cs : List (List ℕ)) (b : Verdict) → TakesAll (Are seen) (build app out) cs → Does devices (build app out) cs b → IsMade seen app out b
+made_by : {devices : List DeviceData} (seen : List ℕ → Option (List ℕ)) (app out : List ℕ) (cs : List (List ℕ)) (b : Verdict) → TakesAll (Are seen) devices (build app out) cs → Does devices (build app out) cs b → IsMade seen app out b
 made_by seen app out cs b all (runs n m x is e) = absurd is
 made_by seen app out cs b all (lists i is e) = absurd is
 made_by seen app out cs b all (audits t found is v e) = absurd is
+made_by seen app out cs b all (saves o n x is e) = absurd is
+made_by seen app out cs b all (resumes n m x s is e) = absurd is
 made_by seen app out cs b all (samples s n x is e) = absurd (no_sample app out s n is.is)
 made_by seen app out cs b all (builds o i is e) = record {
   image = i;
@@ -62,7 +64,7 @@ made {devices} words seen app out b at (no_job none e) zero = absurd (no_job_of 
 made {devices} words seen app out b at (refuses job cs f c why is r held refusal e) zero = let one : b.status ≡ 1 = ap (λ (u : Verdict). u.status) e in absurd (omega arith)
 made {devices} words seen app out b at (does job cs is all p) zero =
     let alike : job ≡ build app out = same_Some job (build app out) (sym is ∙ at) in
-    made_by seen app out cs b (subst (λ (j : Asked). TakesAll (Are seen) j cs) alike all) (subst (λ (j : Asked). Does devices j cs b) alike p)
+    made_by seen app out cs b (subst (λ (j : Asked). TakesAll (Are seen) devices j cs) alike all) (subst (λ (j : Asked). Does devices j cs b) alike p)
 
 -- ## the verdicts of `go`
 
@@ -141,10 +143,12 @@ ran_of {devices} out script n detail image c s w same (runs k m x is e) =
 ran_of {devices} out script n detail image c s w same (lists i is e) = absurd is
 ran_of {devices} out script n detail image c s w same (builds o i is e) = absurd is
 ran_of {devices} out script n detail image c s w same (audits t found is v e) = absurd is
+ran_of {devices} out script n detail image c s w same (saves o k x is e) = absurd is
+ran_of {devices} out script n detail image c s w same (resumes k m x t is e) = absurd is
 ran_of {devices} out script n detail image c s w same (samples seed k x is e) = absurd (no_sample_run out script n detail seed k is.is)
 
 after_run : {devices : List DeviceData} (words : List (List ℕ)) (seen seen' : List ℕ → Option (List ℕ)) (app out script : List ℕ) (n : ℕ) (detail : Detail) (cs : List (List ℕ)) (w : Verdict)
-    → job_in words ≡ Some (go app script n detail) → Rebuilt seen seen' app out script → TakesAll (Are seen') (run out script n detail) cs → Does devices (run out script n detail) cs w → IsVerdict devices words seen w
+    → job_in words ≡ Some (go app script n detail) → Rebuilt seen seen' app out script → TakesAll (Are seen') devices (run out script n detail) cs → Does devices (run out script n detail) cs w → IsVerdict devices words seen w
 after_run words seen seen' app out script n detail [] w at r all p = let two = all.all in absurd (omega arith)
 after_run words seen seen' app out script n detail (c ∷ []) w at r all p = let two = all.all in absurd (omega arith)
 after_run words seen seen' app out script n detail (c ∷ s ∷ []) w at r all p =
@@ -162,11 +166,11 @@ go_by_run : {devices : List DeviceData} (go_words run_words : List (List ℕ)) (
 go_by_run {devices} go_words run_words seen seen' app out script n detail w at too r (no_job none e) = absurd (no_job_of run_words (run out script n detail) none too)
 go_by_run {devices} go_words run_words seen seen' app out script n detail w at too r (refuses job cs f c why is reached held refusal e) =
     let alike : job ≡ run out script n detail = same_Some job (run out script n detail) (sym is ∙ too) in
-    let mine : Reaches (Are seen') (run out script n detail) cs f = subst (λ (j : Asked). Reaches (Are seen') j cs f) alike reached in
+    let mine : Reaches (Are seen') devices (run out script n detail) cs f = subst (λ (j : Asked). Reaches (Are seen') devices j cs f) alike reached in
     after_refusal go_words seen seen' app out script n detail cs f c why w at r mine.next held refusal e
 go_by_run {devices} go_words run_words seen seen' app out script n detail w at too r (does job cs is all p) =
     let alike : job ≡ run out script n detail = same_Some job (run out script n detail) (sym is ∙ too) in
-    after_run go_words seen seen' app out script n detail cs w at r (subst (λ (j : Asked). TakesAll (Are seen') j cs) alike all) (subst (λ (j : Asked). Does devices j cs w) alike p)
+    after_run go_words seen seen' app out script n detail cs w at r (subst (λ (j : Asked). TakesAll (Are seen') devices j cs) alike all) (subst (λ (j : Asked). Does devices j cs w) alike p)
 
 pub build_then_run : {devices : List DeviceData} (build_words go_words run_words : List (List ℕ)) (seen seen' : List ℕ → Option (List ℕ)) (app out script : List ℕ) (n : ℕ) (detail : Detail) (b v w : Verdict)
     → job_in build_words ≡ Some (build app out) → job_in go_words ≡ Some (go app script n detail) → job_in run_words ≡ Some (run out script n detail)

@@ -6,9 +6,10 @@ use Rattle.outside_io.specs.Outside.{Rose}
 use Rattle.image_format.specs.Picture.{Picture, spelling}
 use Rattle.board_model.specs.declared.outcomes.Level.TheVariants.{Calls}
 use Rattle.board_model.specs.Script.{Scenario}
+use Rattle.task_table.specs.State.{State}
 use Rattle.board_model.specs.declared.outcomes.End.{End}
 use Rattle.board_model.specs.declared.outcomes.End.TheVariants.{Bound, Still, Supervisor}
-use Rattle.command_line.specs.CommandLine.{Asked, build, run, go, list, sample, migrate, audit, is_accepted, job_of}
+use Rattle.command_line.specs.CommandLine.{Asked, build, run, go, list, sample, migrate, audit, save, resume, is_accepted, job_of}
 use Rattle.command_line.specs.declared.job.Detail.{Detail}
 use Rattle.trace_audit.specs.declared.verdict.Verdict as trace
 use Rattle.trace_audit.specs.declared.verdict.Verdict.TheVariants.{Yes, No}
@@ -16,9 +17,9 @@ use Rattle.trace_audit.specs.Verdicts as trace_audit
 use Rattle.audit_runs.specs.Last.{IsGoodText}
 use Rattle.outside_io.specs.Seen.{FilesSeen, SinkSeen}
 use Rattle.trace_cli.specs.Words.{job_in, out_of}
-use Rattle.trace_cli.specs.Sources.{IsRun, IsBuild, IsSample, IsAudit}
-use Rattle.trace_cli.specs.Verdict.{Verdict, IsVerdict, Does, runs, lists, builds, samples, audits, usage, usage_line, refused, unread, ran, listed, built, sampled, audited, run_of, level_of, status_of}
-use Rattle.trace_cli.specs.Answer.{JobReason, cannot_read, refuses, does, IsAccepted, Reason, no_job, of_job, HasPut, HasSpoiled, Tells, whole, cut, spoiled, short, IsOfRun, TellsGood, TellsGoodIn, AnswersJob, Answers, HasRun, HasSampled, HasAudited, HasPlayed, HasDone, HasRefused, HasUnread, HasFront, Answered, IsComplete}
+use Rattle.trace_cli.specs.Sources.{IsRun, IsBuild, IsSample, IsAudit, IsSave, IsResume}
+use Rattle.trace_cli.specs.Verdict.{Verdict, IsVerdict, Does, runs, lists, builds, samples, saves, resumes, audits, usage, usage_line, refused, unread, ran, listed, built, sampled, saved, saved_bytes, resumed, audited, run_of, run_from, level_of, status_of}
+use Rattle.trace_cli.specs.Answer.{JobReason, cannot_read, refuses, does, IsAccepted, Reason, no_job, of_job, HasPut, HasSpoiled, Tells, whole, cut, spoiled, short, IsOfRun, TellsGood, TellsGoodIn, AnswersJob, Answers, HasRun, HasResumed, HasSampled, HasSaved, HasAudited, HasPlayed, HasDone, HasRefused, HasUnread, HasFront, Answered, IsComplete}
 use Rattle.trace_cli.specs.Pushed as seen
 use Rattle.trace_cli.specs.Pushed.{Pushed, Says, pushed, silent}
 use Rattle.trace_cli.proofs.Readying.{audited_alone}
@@ -29,11 +30,11 @@ use Rattle.trace_cli.proofs.Deciding.{Decided, agreed, not_read, decided}
 same_seen : (a b : FilesSeen) (w w' : SinkSeen) (v u : Verdict) (r : ℕ) → v ≡ u → Tells a b w w' v r → Tells a b w w' u r
 same_seen a b w w' v u r e t = let P : Verdict → Type 0 = λ x. Tells a b w w' x r in subst P e t
 
-by_decision : (words : List (List ℕ)) (a b : FilesSeen) (w w' : SinkSeen) (v u : Verdict) (r : ℕ) → Decided words a b v u → Tells a b w w' v r → Answered words a b w w' u r
+by_decision : {devices : List DeviceData} (words : List (List ℕ)) (a b : FilesSeen) (w w' : SinkSeen) (v u : Verdict) (r : ℕ) → Decided devices words a b v u → Tells a b w w' v r → Answered devices words a b w w' u r
 by_decision words a b w w' v u r (agreed e) t = inl (same_seen a b w w' v u r e t)
 by_decision words a b w w' v u r (not_read job f at is e) t = inr (record { job = job; command = at; file = f; is = is; tells = same_seen a b w w' v (unread f.name) r e t })
 
-pub answered : {devices : List DeviceData} (words : List (List ℕ)) (a b : FilesSeen) (w w' : SinkSeen) (u : Verdict) (r : ℕ) → Answers devices words a b w w' r → IsVerdict devices words a.contents u → Answered words a b w w' u r
+pub answered : {devices : List DeviceData} (words : List (List ℕ)) (a b : FilesSeen) (w w' : SinkSeen) (u : Verdict) (r : ℕ) → Answers devices words a b w w' r → IsVerdict devices words a.contents u → Answered devices words a b w w' u r
 answered words a b w w' u r (inl s) is = inl (short s)
 answered words a b w w' u r (inr h) is = by_decision words a b w w' h.0 u r (decided words a b h.0 u h.1 is) h.2
 
@@ -43,8 +44,8 @@ without_fault a b w w' u r no_put no_push (cut is rose put front) = absurd (no_p
 without_fault a b w w' u r no_put no_push (spoiled is rose left same) = absurd (no_put rose)
 without_fault a b w w' u r no_put no_push (short s) = inr s
 
-pub completed : (words : List (List ℕ)) (a b : FilesSeen) (w w' : SinkSeen) (u : Verdict) (r : ℕ) →
-    ¬ Rose a.read_faults b.read_faults → ¬ Rose a.put_faults b.put_faults → ¬ Rose w.faults w'.faults → Answered words a b w w' u r → IsComplete a b w w' u r
+pub completed : {devices : List DeviceData} (words : List (List ℕ)) (a b : FilesSeen) (w w' : SinkSeen) (u : Verdict) (r : ℕ) →
+    ¬ Rose a.read_faults b.read_faults → ¬ Rose a.put_faults b.put_faults → ¬ Rose w.faults w'.faults → Answered devices words a b w w' u r → IsComplete a b w w' u r
 completed words a b w w' u r no_read no_put no_push (inl t) = without_fault a b w w' u r no_put no_push t
 completed words a b w w' u r no_read no_put no_push (inr h) = absurd (no_read h.is.rose)
 
@@ -94,6 +95,8 @@ done_status job cs v (runs n m x p e) = of_run v.status (end_status (run_of (lev
 done_status job cs v (lists i p e) = inl (ap (λ (u : Verdict). u.status) e)
 done_status job cs v (builds o i p e) = inl (ap (λ (u : Verdict). u.status) e)
 done_status job cs v (samples s n x p e) = of_run v.status (end_status (run_of Calls n x).end v.status (ap (λ (u : Verdict). u.status) e))
+done_status job cs v (saves o n x p e) = inl (ap (λ (u : Verdict). u.status) e)
+done_status job cs v (resumes n m x s p e) = of_run v.status (end_status (run_from (level_of m) n x s).end v.status (ap (λ (u : Verdict). u.status) e))
 done_status job cs v (audits t a p g e) = of_audit v.status (audited a).status (ap (λ (u : Verdict). u.status) e) (audit_zero_or_seven a)
 
 not_done : (v : Verdict) (n : ℕ) → IsOfDone v.status → v.status ≡ n → (n ≡ 0 → ⊥) → (6 ≤ n → ⊥) → ⊥
@@ -186,14 +189,14 @@ same_text w w' v u e t = let P : Verdict → Type 0 = λ x. Appends w.written w'
 same_put : (a b : FilesSeen) (v u : Verdict) → v ≡ u → HasPut a.contents b.contents v.put → HasPut a.contents b.contents u.put
 same_put a b v u e p = let P : Verdict → Type 0 = λ x. HasPut a.contents b.contents x.put in subst P e p
 
-refused_by : {devices : List DeviceData} (words : List (List ℕ)) (a b : FilesSeen) (w w' : SinkSeen) (v : Verdict) → v.status ≡ 1 → Appends w.written w'.written v.text → Reason devices words a b v → HasRefused words a.contents w w'
+refused_by : {devices : List DeviceData} (words : List (List ℕ)) (a b : FilesSeen) (w w' : SinkSeen) (v : Verdict) → v.status ≡ 1 → Appends w.written w'.written v.text → Reason devices words a b v → HasRefused devices words a.contents w w'
 refused_by words a b w w' v e t (no_job none is) = let s : v.status ≡ 2 = ap (λ (u : Verdict). u.status) is in absurd (omega arith)
 refused_by words a b w w' v e t (of_job job at (cannot_read f h is)) = let s : v.status ≡ 3 = ap (λ (u : Verdict). u.status) is in absurd (omega arith)
 refused_by words a b w w' v e t (of_job job at (refuses f why h is)) =
     record { job = job; command = at; file = f; why = why; is = h; line = same_text w w' v (refused f.name why) is t }
 refused_by words a b w w' v e t (of_job job at (does cs all p)) = absurd (not_done v 1 (done_status job cs v p) e (λ z. omega arith) (λ s. omega arith))
 
-pub was_refused : {devices : List DeviceData} (words : List (List ℕ)) (a b : FilesSeen) (w w' : SinkSeen) (r : ℕ) → Answers devices words a b w w' r → r ≡ 1 → HasRefused words a.contents w w'
+pub was_refused : {devices : List DeviceData} (words : List (List ℕ)) (a b : FilesSeen) (w w' : SinkSeen) (r : ℕ) → Answers devices words a b w w' r → r ≡ 1 → HasRefused devices words a.contents w w'
 was_refused words a b w w' r h e =
     let t = seen_whole words a b w w' r h (λ is. omega arith) (λ is. omega arith) in
     refused_by words a b w w' t.verdict (t.status ∙ e) t.text t.reason
@@ -210,29 +213,25 @@ was_no_command words a b w w' r h e =
     let t = seen_whole words a b w w' r h (λ is. omega arith) (λ is. omega arith) in
     no_command_by words a b w w' t.verdict (t.status ∙ e) t.text t.reason
 
-unread_by : {devices : List DeviceData} (words : List (List ℕ)) (a b : FilesSeen) (w w' : SinkSeen) (v : Verdict) → v.status ≡ 3 → Appends w.written w'.written v.text → Reason devices words a b v → HasUnread words a b w w'
+unread_by : {devices : List DeviceData} (words : List (List ℕ)) (a b : FilesSeen) (w w' : SinkSeen) (v : Verdict) → v.status ≡ 3 → Appends w.written w'.written v.text → Reason devices words a b v → HasUnread devices words a b w w'
 unread_by words a b w w' v e t (no_job none is) = let s : v.status ≡ 2 = ap (λ (u : Verdict). u.status) is in absurd (omega arith)
 unread_by words a b w w' v e t (of_job job at (cannot_read f h is)) =
     record { job = job; command = at; file = f; is = h; line = same_text w w' v (unread f.name) is t }
 unread_by words a b w w' v e t (of_job job at (refuses f why h is)) = let s : v.status ≡ 1 = ap (λ (u : Verdict). u.status) is in absurd (omega arith)
 unread_by words a b w w' v e t (of_job job at (does cs all p)) = absurd (not_done v 3 (done_status job cs v p) e (λ z. omega arith) (λ s. omega arith))
 
-pub was_unread : {devices : List DeviceData} (words : List (List ℕ)) (a b : FilesSeen) (w w' : SinkSeen) (r : ℕ) → Answers devices words a b w w' r → r ≡ 3 → HasUnread words a b w w'
+pub was_unread : {devices : List DeviceData} (words : List (List ℕ)) (a b : FilesSeen) (w w' : SinkSeen) (r : ℕ) → Answers devices words a b w w' r → r ≡ 3 → HasUnread devices words a b w w'
 was_unread words a b w w' r h e =
     let t = seen_whole words a b w w' r h (λ is. omega arith) (λ is. omega arith) in
     unread_by words a b w w' t.verdict (t.status ∙ e) t.text t.reason
 
 good_of_run : (devices : List DeviceData) (job : Asked) (cs : List (List ℕ)) (n : ℕ) (m : Detail) (x : Scenario) (v : Verdict) (r : ℕ) → IsRun devices job cs n m x → IsOfRun r → TellsGood job v r → IsGoodText v.text
-good_of_run devices (build app out) cs n m x v r p told h = absurd p
 good_of_run devices (run image script steps detail) cs n m x v r p told h = h told
 good_of_run devices (go app script steps detail) cs n m x v r p told h = h told
-good_of_run devices (list image) cs n m x v r p told h = absurd p
-good_of_run devices (sample seed steps) cs n m x v r p told h = absurd p
-good_of_run devices (migrate image out) cs n m x v r p told h = absurd p
-good_of_run devices (audit trace) cs n m x v r p told h = absurd p
+good_of_run devices job cs n m x v r p told h = absurd p
 
 has_run : {devices : List DeviceData} (words : List (List ℕ)) (a : FilesSeen) (w w' : SinkSeen) (job : Asked) (cs : List (List ℕ)) (n : ℕ) (m : Detail) (x : Scenario) (v : Verdict) (r : ℕ)
-    → job_in words ≡ Some job → IsAccepted job a.contents cs → IsRun devices job cs n m x → v ≡ ran n m x → v.status ≡ r → Appends w.written w'.written v.text
+    → job_in words ≡ Some job → IsAccepted devices job a.contents cs → IsRun devices job cs n m x → v ≡ ran n m x → v.status ≡ r → Appends w.written w'.written v.text
     → IsOfRun r → TellsGoodIn (job_in words) v r → HasRun devices words a.contents w w' r
 has_run {devices} words a w w' job cs n m x v r at all h is e t told good = record {
   job = job;
@@ -261,9 +260,26 @@ has_sampled words w w' job s n x v r at h is e t = record {
   text = same_text w w' v (sampled n x) is t;
 }
 
-has_audited : (words : List (List ℕ)) (a : FilesSeen) (w w' : SinkSeen) (job : Asked) (cs : List (List ℕ)) (t : List ℕ) (found : trace.Verdict) (v : Verdict) (r : ℕ)
-    → job_in words ≡ Some job → IsAccepted job a.contents cs → IsAudit job cs t → trace_audit.IsVerdict t found → v ≡ audited found
-    → v.status ≡ r → Appends w.written w'.written v.text → HasAudited words a.contents w w' r
+has_resumed : {devices : List DeviceData} (words : List (List ℕ)) (a : FilesSeen) (w w' : SinkSeen) (job : Asked) (cs : List (List ℕ)) (n : ℕ) (m : Detail) (x : Scenario) (s : State) (v : Verdict) (r : ℕ)
+    → job_in words ≡ Some job → IsAccepted devices job a.contents cs → IsResume devices job cs n m x s → v ≡ resumed n m x s → v.status ≡ r → Appends w.written w'.written v.text
+    → HasResumed devices words a.contents w w' r
+has_resumed words a w w' job cs n m x s v r at all h is e t = record {
+  job = job;
+  command = at;
+  contents = cs;
+  accepted = all;
+  bound = n;
+  detail = m;
+  scenario = x;
+  state = s;
+  is = h;
+  status = sym (ap (λ (u : Verdict). u.status) is) ∙ e;
+  text = same_text w w' v (resumed n m x s) is t;
+}
+
+has_audited : {devices : List DeviceData} (words : List (List ℕ)) (a : FilesSeen) (w w' : SinkSeen) (job : Asked) (cs : List (List ℕ)) (t : List ℕ) (found : trace.Verdict) (v : Verdict) (r : ℕ)
+    → job_in words ≡ Some job → IsAccepted devices job a.contents cs → IsAudit job cs t → trace_audit.IsVerdict t found → v ≡ audited found
+    → v.status ≡ r → Appends w.written w'.written v.text → HasAudited devices words a.contents w w' r
 has_audited words a w w' job cs t found v r at all h is e status text = record {
   job = job;
   command = at;
@@ -281,7 +297,8 @@ done_by : {devices : List DeviceData} (words : List (List ℕ)) (a b : FilesSeen
 done_by words a b w w' v e p t good (no_job none is) = let s : v.status ≡ 2 = ap (λ (u : Verdict). u.status) is in absurd (omega arith)
 done_by words a b w w' v e p t good (of_job job at (cannot_read f h is)) = let s : v.status ≡ 3 = ap (λ (u : Verdict). u.status) is in absurd (omega arith)
 done_by words a b w w' v e p t good (of_job job at (refuses f why h is)) = let s : v.status ≡ 1 = ap (λ (u : Verdict). u.status) is in absurd (omega arith)
-done_by words a b w w' v e p t good (of_job job at (does cs all (samples s n x h is))) = inl (inr (has_sampled words w w' job s n x v 0 at h is e t))
+done_by words a b w w' v e p t good (of_job job at (does cs all (samples s n x h is))) = inl (inr (inr (has_sampled words w w' job s n x v 0 at h is e t)))
+done_by words a b w w' v e p t good (of_job job at (does cs all (resumes n m x s h is))) = inl (inr (inl (has_resumed words a w w' job cs n m x s v 0 at all h is e t)))
 done_by words a b w w' v e p t good (of_job job at (does cs all (runs n m x h is))) = inl (inl (has_run words a w w' job cs n m x v 0 at all h is e t (inl refl) good))
 done_by words a b w w' v e p t good (of_job job at (does cs all (lists i h is))) =
     inr (inl (record { job = job; command = at; contents = cs; accepted = all; image = i; is = h; text = same_text w w' v (listed i) is t }))
@@ -296,7 +313,19 @@ done_by words a b w w' v e p t good (of_job job at (does cs all (builds o i h is
   file = (same_put a b v (built o i) is p).0;
   text = same_text w w' v (built o i) is t;
 })))
-done_by words a b w w' v e p t good (of_job job at (does cs all (audits s found h is d))) = inr (inr (inr (has_audited words a w w' job cs s found v 0 at all h is d e t)))
+done_by words a b w w' v e p t good (of_job job at (does cs all (saves o n x h is))) = inr (inr (inr (inl (record {
+  job = job;
+  command = at;
+  contents = cs;
+  accepted = all;
+  out = o;
+  bound = n;
+  scenario = x;
+  is = h;
+  file = (same_put a b v (saved o n x) is p).0;
+  text = same_text w w' v (saved o n x) is t;
+}))))
+done_by words a b w w' v e p t good (of_job job at (does cs all (audits s found h is d))) = inr (inr (inr (inr (has_audited words a w w' job cs s found v 0 at all h is d e t))))
 
 pub was_done : {devices : List DeviceData} (words : List (List ℕ)) (a b : FilesSeen) (w w' : SinkSeen) (r : ℕ) → Answers devices words a b w w' r → r ≡ 0 → HasDone devices words a b w w'
 was_done words a b w w' r h e =
@@ -307,7 +336,9 @@ ran_by : {devices : List DeviceData} (words : List (List ℕ)) (a b : FilesSeen)
 ran_by words a b w w' v e t good (no_job none is) = let s : v.status ≡ 2 = ap (λ (u : Verdict). u.status) is in absurd (omega arith)
 ran_by words a b w w' v e t good (of_job job at (cannot_read f h is)) = let s : v.status ≡ 3 = ap (λ (u : Verdict). u.status) is in absurd (omega arith)
 ran_by words a b w w' v e t good (of_job job at (refuses f why h is)) = let s : v.status ≡ 1 = ap (λ (u : Verdict). u.status) is in absurd (omega arith)
-ran_by words a b w w' v e t good (of_job job at (does cs all (samples s n x h is))) = inr (has_sampled words w w' job s n x v 6 at h is e t)
+ran_by words a b w w' v e t good (of_job job at (does cs all (samples s n x h is))) = inr (inr (has_sampled words w w' job s n x v 6 at h is e t))
+ran_by words a b w w' v e t good (of_job job at (does cs all (resumes n m x s h is))) = inr (inl (has_resumed words a w w' job cs n m x s v 6 at all h is e t))
+ran_by words a b w w' v e t good (of_job job at (does cs all (saves o n x h is))) = let s : v.status ≡ 0 = ap (λ (u : Verdict). u.status) is in absurd (omega arith)
 ran_by words a b w w' v e t good (of_job job at (does cs all (runs n m x h is))) = inl (has_run words a w w' job cs n m x v 6 at all h is e t (inr refl) good)
 ran_by words a b w w' v e t good (of_job job at (does cs all (lists i h is))) = let s : v.status ≡ 0 = ap (λ (u : Verdict). u.status) is in absurd (omega arith)
 ran_by words a b w w' v e t good (of_job job at (does cs all (builds o i h is))) = let s : v.status ≡ 0 = ap (λ (u : Verdict). u.status) is in absurd (omega arith)
@@ -328,17 +359,19 @@ not_seven e v is seven = by (end_zero_or_six e) where
   by (inl z) = omega arith
   by (inr s) = omega arith
 
-audited_by : {devices : List DeviceData} (words : List (List ℕ)) (a b : FilesSeen) (w w' : SinkSeen) (v : Verdict) → v.status ≡ 7 → Appends w.written w'.written v.text → Reason devices words a b v → HasAudited words a.contents w w' 7
+audited_by : {devices : List DeviceData} (words : List (List ℕ)) (a b : FilesSeen) (w w' : SinkSeen) (v : Verdict) → v.status ≡ 7 → Appends w.written w'.written v.text → Reason devices words a b v → HasAudited devices words a.contents w w' 7
 audited_by words a b w w' v e t (no_job none is) = let s : v.status ≡ 2 = ap (λ (u : Verdict). u.status) is in absurd (omega arith)
 audited_by words a b w w' v e t (of_job job at (cannot_read f h is)) = let s : v.status ≡ 3 = ap (λ (u : Verdict). u.status) is in absurd (omega arith)
 audited_by words a b w w' v e t (of_job job at (refuses f why h is)) = let s : v.status ≡ 1 = ap (λ (u : Verdict). u.status) is in absurd (omega arith)
 audited_by words a b w w' v e t (of_job job at (does cs all (samples s n x h is))) = absurd (not_seven (run_of Calls n x).end v (ap (λ (u : Verdict). u.status) is) e)
 audited_by words a b w w' v e t (of_job job at (does cs all (runs n m x h is))) = absurd (not_seven (run_of (level_of m) n x).end v (ap (λ (u : Verdict). u.status) is) e)
+audited_by words a b w w' v e t (of_job job at (does cs all (resumes n m x s h is))) = absurd (not_seven (run_from (level_of m) n x s).end v (ap (λ (u : Verdict). u.status) is) e)
+audited_by words a b w w' v e t (of_job job at (does cs all (saves o n x h is))) = let s : v.status ≡ 0 = ap (λ (u : Verdict). u.status) is in absurd (omega arith)
 audited_by words a b w w' v e t (of_job job at (does cs all (lists i h is))) = let s : v.status ≡ 0 = ap (λ (u : Verdict). u.status) is in absurd (omega arith)
 audited_by words a b w w' v e t (of_job job at (does cs all (builds o i h is))) = let s : v.status ≡ 0 = ap (λ (u : Verdict). u.status) is in absurd (omega arith)
 audited_by words a b w w' v e t (of_job job at (does cs all (audits s found h is d))) = has_audited words a w w' job cs s found v 7 at all h is d e t
 
-pub was_bad : {devices : List DeviceData} (words : List (List ℕ)) (a b : FilesSeen) (w w' : SinkSeen) (r : ℕ) → Answers devices words a b w w' r → r ≡ 7 → HasAudited words a.contents w w' 7
+pub was_bad : {devices : List DeviceData} (words : List (List ℕ)) (a b : FilesSeen) (w w' : SinkSeen) (r : ℕ) → Answers devices words a b w w' r → r ≡ 7 → HasAudited devices words a.contents w w' 7
 was_bad words a b w w' r h e =
     let t = seen_whole words a b w w' r h (λ is. omega arith) (λ is. omega arith) in
     audited_by words a b w w' t.verdict (t.status ∙ e) t.text t.reason
@@ -352,12 +385,12 @@ data Puts (words : List (List ℕ)) (v : Verdict) : Type 0 where
 
 built_out : (job : Asked) (cs : List (List ℕ)) (o : List ℕ) (i : Picture) → IsBuild job cs o i → out_of (Some job) ≡ Some o
 built_out (build app out) cs o i p = ap Some (sym p.0)
-built_out (run image script steps detail) cs o i p = absurd p
-built_out (go app script steps detail) cs o i p = absurd p
-built_out (list image) cs o i p = absurd p
-built_out (sample seed steps) cs o i p = absurd p
 built_out (migrate image out) cs o i p = ap Some (sym p.0)
-built_out (audit trace) cs o i p = absurd p
+built_out job cs o i p = absurd p
+
+saved_out : (devices : List DeviceData) (job : Asked) (cs : List (List ℕ)) (o : List ℕ) (n : ℕ) (x : Scenario) → IsSave devices job cs o n x → out_of (Some job) ≡ Some o
+saved_out devices (save image script out steps) cs o n x p = ap Some (sym p.0)
+saved_out devices job cs o n x p = absurd p
 
 reason_puts : {devices : List DeviceData} (words : List (List ℕ)) (a b : FilesSeen) (v : Verdict) → Reason devices words a b v → Puts words v
 reason_puts words a b v (no_job none is) = puts_none (ap (λ (u : Verdict). u.put) is)
@@ -366,6 +399,9 @@ reason_puts words a b v (of_job job at (refuses f why h is)) = puts_none (ap (λ
 reason_puts words a b v (of_job job at (does cs all (runs n m x h is))) = puts_none (ap (λ (u : Verdict). u.put) is)
 reason_puts words a b v (of_job job at (does cs all (lists i h is))) = puts_none (ap (λ (u : Verdict). u.put) is)
 reason_puts words a b v (of_job job at (does cs all (samples s n x h is))) = puts_none (ap (λ (u : Verdict). u.put) is)
+reason_puts words a b v (of_job job at (does cs all (resumes n m x s h is))) = puts_none (ap (λ (u : Verdict). u.put) is)
+reason_puts words a b v (of_job job at (does cs all (saves o n x h is))) =
+    puts_out o (saved_bytes n x) (ap (λ (u : Verdict). u.put) is) (ap out_of at ∙ saved_out _ job cs o n x h) (ap (λ (u : Verdict). u.status) is)
 reason_puts words a b v (of_job job at (does cs all (audits s found h is d))) = puts_none (ap (λ (u : Verdict). u.put) d ∙ audited_alone found)
 reason_puts words a b v (of_job job at (does cs all (builds o i h is))) =
     puts_out o (spelling i) (ap (λ (u : Verdict). u.put) is) (ap out_of at ∙ built_out job cs o i h) (ap (λ (u : Verdict). u.status) is)

@@ -15,6 +15,9 @@ use Rattle.board_core.specs.Opened as opened
 use Rattle.run_script.specs.Scripts.{ScriptData, script_or_fault}
 use Rattle.board_model.specs.Script.{Scenario}
 use Rattle.sample_gen.specs.Sample.{sample_script}
+use Rattle.snapshot.specs.Records.{header_at}
+use Rattle.snapshot.specs.Saved.{expected_of}
+use Rattle.snapshot.specs.Waits.{state_fault}
 use Rattle.trace_audit.specs.Texts as trace
 use Rattle.trace_audit.specs.Verdicts.{first_cause}
 
@@ -63,6 +66,10 @@ image_refusal bytes = unless_long file_limit bytes (option_map at_number (fault_
 -- the image that accepted bytes spell
 unfoldable pub picture_of : List ℕ → Picture
 picture_of bytes = image_in (image_or_fault bytes)
+
+-- what an image fixes for ever
+abbrev pub setup_of_image : Picture → Setup
+setup_of_image image = opened.setup_of_image image
 
 -- ## a script
 
@@ -134,11 +141,17 @@ source_refusal app i source = unless_long file_limit source (or_later (option_ma
 unfoldable pub trace_refusal : List ℕ → Option Why
 trace_refusal bytes = unless_long trace_limit bytes (option_map at_number (first_cause 1 (trace.lines_of bytes)))
 
--- ## a run
+-- ## a saved state
 
--- what an image fixes for ever
-abbrev pub setup_of_image : Picture → Setup
-setup_of_image image = opened.setup_of_image image
+-- it is of a turn behind the bound
+abbrev pub turn_refusal : ℕ → List ℕ → Option Why
+turn_refusal bound bytes = if nat_lt bound (header_at bytes).turn then Some (at_number (8, 4)) else None
+
+-- why a saved state is refused as one of a run of this image beside these devices, from which it is to go on up to a bound, if it is
+-- (docs/FORMATS.md, Saved state)
+unfoldable pub state_refusal : List DeviceData → Picture → ℕ → List ℕ → Option Why
+state_refusal devices image bound bytes =
+    unless_long file_limit bytes (or_later (option_map at_number (state_fault (expected_of (setup_of_image image) devices) bytes)) (turn_refusal bound bytes))
 
 -- the run of an image with a script and devices
 abbrev pub scenario_of : Picture → List ℕ → List DeviceData → Scenario

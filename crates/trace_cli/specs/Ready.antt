@@ -1,5 +1,5 @@
 -- A board at the start of a job's run, or the file that is not accepted.
-use Rattle.std.specs.Prelude.{◌≡◌, ℕ, List, Option, None}
+use Rattle.std.specs.Prelude.{◌≡◌, ◌≤◌, ℕ, List, [], Option, None, slice_index_or}
 use Rattle.kernel_abi.specs.Devices.{DeviceData}
 use Rattle.image_format.specs.Picture.{Picture}
 use Rattle.image_build.specs.Built.{Built}
@@ -8,14 +8,21 @@ use Rattle.board_core.specs.Data.{Shows}
 use Rattle.board_core.specs.declared.board.Board.{Board}
 use Rattle.board_model.specs.Script.{Scenario, start_of}
 use Rattle.board_core.specs.Stands.{Stands, turns_of}
+use Rattle.board_core.specs.Opened as opened
+use Rattle.run_script.specs.Scripts.{ScriptData}
+use Rattle.task_table.specs.State.{State}
+use Rattle.task_table.specs.Sane.{Sane, IsCounted}
+use Rattle.snapshot.specs.Saved.{SpellsState}
+use Rattle.snapshot.specs.Loaded.{sites}
+use Rattle.snapshot.specs.Restored.{state_in}
 use Rattle.trace_audit.specs.declared.verdict.Verdict as trace
 use Rattle.trace_audit.specs.Verdicts as trace_audit
 use Rattle.command_line.specs.CommandLine.{Asked}
 use Rattle.command_line.specs.declared.job.Detail.{Detail}
 use Rattle.trace_cli.specs.declared.file_faults.NamedFault.{NamedFault}
-use Rattle.trace_cli.specs.Contents.{image_refusal, script_refusal, trace_refusal, picture_of, scenario_of, sample_scenario}
+use Rattle.trace_cli.specs.Contents.{image_refusal, script_refusal, state_refusal, trace_refusal, picture_of, script_of, scenario_of, sample_scenario}
 use Rattle.outside_io.specs.Seen.{FilesSeen}
-use Rattle.trace_cli.specs.Sources.{MayBe, TakesAll, files_by, IsRun}
+use Rattle.trace_cli.specs.Sources.{MayBe, TakesAll, files_by, IsRun, IsSave, IsResume}
 use Rattle.trace_cli.specs.Building.{IsNamedFaultAfter}
 
 -- an image is that which the file of this name spells
@@ -24,6 +31,13 @@ pub record IsImageFile (seen : List ℕ → Option (List ℕ)) (name : List ℕ)
   pub held : MayBe seen name bytes
   pub accepted : image_refusal bytes ≡ None
   pub is : image ≡ picture_of bytes
+
+-- a script is that which the file of this name holds
+pub record IsScriptFile (seen : List ℕ → Option (List ℕ)) (name : List ℕ) (script : ScriptData) : Type 0 where
+  pub bytes : List ℕ
+  pub held : MayBe seen name bytes
+  pub accepted : script_refusal bytes ≡ None
+  pub is : script ≡ script_of bytes
 
 -- the board stands for the start of the image's run with the script of this name and these devices
 pub record IsSet {X : Type 0} {H : X → Type 0} (shown : Shows X H) (devices : List DeviceData) (seen : List ℕ → Option (List ℕ)) (image : Picture) (name : List ℕ) (b : Board X H) : Type 0 where
@@ -36,11 +50,51 @@ pub record IsSet {X : Type 0} {H : X → Type 0} (shown : Shows X H) (devices : 
 -- each file of the job is accepted, and the board stands for the start of its run
 pub record IsReady {X : Type 0} {H : X → Type 0} (shown : Shows X H) (devices : List DeviceData) (job : Asked) (seen : List ℕ → Option (List ℕ)) (n : ℕ) (detail : Detail) (b : Board X H) : Type 0 where
   pub contents : List (List ℕ)
-  pub accepted : TakesAll (MayBe seen) job contents
+  pub accepted : TakesAll (MayBe seen) devices job contents
   pub scenario : Scenario
   pub is : IsRun devices job contents n detail scenario
   pub stands : Stands shown scenario b (start_of scenario)
   pub turns : turns_of b ≡ 0
+
+-- each file of the job is accepted, and the board stands for the start of the run of which the last state is to be put under a name
+pub record IsSaveReady {X : Type 0} {H : X → Type 0} (shown : Shows X H) (devices : List DeviceData) (job : Asked) (seen : List ℕ → Option (List ℕ)) (name : List ℕ) (n : ℕ) (b : Board X H) : Type 0 where
+  pub contents : List (List ℕ)
+  pub accepted : TakesAll (MayBe seen) devices job contents
+  pub scenario : Scenario
+  pub is : IsSave devices job contents name n scenario
+  pub stands : Stands shown scenario b (start_of scenario)
+  pub turns : turns_of b ≡ 0
+
+-- a sane state of a run of this scenario that these bytes spell
+pub record IsSpelled (x : Scenario) (bytes : List ℕ) (s : State) : Type 0 where
+  pub spells : SpellsState x.setup s bytes
+  pub sane : Sane x.setup s
+  pub counted : IsCounted s
+  pub sites : sites s.devices ≡ sites x.devices
+
+-- the board stands for the state that these bytes are read as, and for each that they spell
+pub record IsLoaded {X : Type 0} {H : X → Type 0} (shown : Shows X H) (x : Scenario) (bytes : List ℕ) (b : Board X H) : Type 0 where
+  pub stands : Stands shown x b (state_in x.setup x.devices bytes)
+  pub each : (s : State) → IsSpelled x bytes s → Stands shown x b s
+
+-- so of the bytes of the file of this name, which are accepted as a state from which this run is to go on up to a bound
+pub record IsStateSet {X : Type 0} {H : X → Type 0} (shown : Shows X H) (devices : List DeviceData) (seen : List ℕ → Option (List ℕ)) (image : Picture) (script : ScriptData) (name : List ℕ) (bound : ℕ) (b : Board X H) : Type 0 where
+  pub bytes : List ℕ
+  pub held : MayBe seen name bytes
+  pub accepted : state_refusal devices image bound bytes ≡ None
+  pub loaded : IsLoaded shown (opened.scenario_of image script devices) bytes b
+  pub turns : turns_of b ≤ bound
+
+-- each file of the job is accepted, and the board stands for the state from which its run goes on, and for each that the bytes spell
+pub record IsResumable {X : Type 0} {H : X → Type 0} (shown : Shows X H) (devices : List DeviceData) (job : Asked) (seen : List ℕ → Option (List ℕ)) (n : ℕ) (detail : Detail) (b : Board X H) : Type 0 where
+  pub contents : List (List ℕ)
+  pub accepted : TakesAll (MayBe seen) devices job contents
+  pub scenario : Scenario
+  pub state : State
+  pub is : IsResume devices job contents n detail scenario state
+  pub stands : Stands shown scenario b state
+  pub each : (s : State) → IsSpelled scenario (slice_index_or contents 2 []) s → Stands shown scenario b s
+  pub turns : turns_of b ≤ n
 
 -- the board stands for the start of the run of the sample of a seed
 pub record IsSampleReady {X : Type 0} {H : X → Type 0} (shown : Shows X H) (seed : ℕ) (b : Board X H) : Type 0 where
@@ -57,6 +111,6 @@ pub record IsAuditOf (seen : List ℕ → Option (List ℕ)) (name : List ℕ) (
   pub verdict : trace_audit.IsVerdict bytes found
 
 -- a file of the job is not accepted
-pub record IsNamedFaultIn (job : Asked) (before after : FilesSeen) (named_fault : NamedFault) : Type 0 where
+pub record IsNamedFaultIn (devices : List DeviceData) (job : Asked) (before after : FilesSeen) (named_fault : NamedFault) : Type 0 where
   pub contents : List (List ℕ)
-  pub at : IsNamedFaultAfter before after (files_by job contents) contents named_fault
+  pub at : IsNamedFaultAfter before after (files_by devices job contents) contents named_fault

@@ -6,10 +6,12 @@ use Rattle.app_toml.specs.Apps.{AppData, TaskData}
 use Rattle.image_format.specs.Picture.{Picture, Sound}
 use Rattle.image_build.specs.Built.{Built}
 use Rattle.board_model.specs.Script.{Scenario}
-use Rattle.command_line.specs.CommandLine.{Asked, build, run, go, list, sample, migrate, audit}
+use Rattle.task_table.specs.State.{State}
+use Rattle.snapshot.specs.Restored.{state_in}
+use Rattle.command_line.specs.CommandLine.{Asked, build, run, go, list, sample, migrate, audit, save, resume}
 use Rattle.command_line.specs.declared.job.Detail.{Detail}
 use Rattle.sample_gen.specs.Sample.{sample_app, sample_sources}
-use Rattle.trace_cli.specs.Contents.{Why, file_limit, trace_limit, image_refusal, script_refusal, app_refusal, source_refusal, trace_refusal, picture_of, application_of, scenario_of, sample_scenario}
+use Rattle.trace_cli.specs.Contents.{Why, file_limit, trace_limit, image_refusal, script_refusal, app_refusal, source_refusal, trace_refusal, state_refusal, picture_of, application_of, scenario_of, sample_scenario}
 
 -- a file, the most bytes that it may have, and why contents of it are refused
 pub record File : Type 0 where
@@ -33,6 +35,10 @@ source_file app i t = record { name = t.source; limit = file_limit; refusal = so
 abbrev pub trace_file : List ℕ → File
 trace_file name = record { name = name; limit = trace_limit; refusal = trace_refusal }
 
+-- a state from which a run of this image beside these devices is to go on up to a bound
+abbrev pub state_file : List DeviceData → Picture → ℕ → List ℕ → File
+state_file devices image bound name = record { name = name; limit = file_limit; refusal = state_refusal devices image bound }
+
 -- the sources of these tasks in their order, of which the first is the i-th
 abbrev pub sources_from : AppData → ℕ → List TaskData → List File
 sources_from app i [] = []
@@ -46,23 +52,25 @@ abbrev pub files_to_build : List ℕ → List ℕ → List File
 files_to_build app first = app_file app ∷ source_files (application_of first)
 
 -- The files of a job of which the first file holds these bytes: `build` takes those of its application, `go` too and then
--- its script; `run` takes its image and then its script, `list` and `migrate` their image, `sample` none,
--- `audit` its trace.
-abbrev pub files_of : Asked → List ℕ → List File
-files_of (build app out) first = files_to_build app first
-files_of (run image script steps detail) first = image_file image ∷ script_file script ∷ []
-files_of (go app script steps detail) first = files_to_build app first ++ script_file script ∷ []
-files_of (list image) first = image_file image ∷ []
-files_of (sample seed steps) first = []
-files_of (migrate image out) first = image_file image ∷ []
-files_of (audit trace) first = trace_file trace ∷ []
+-- its script; `run` and `save` take their image and then their script, `resume` too and then its state, `list` and `migrate` their
+-- image, `sample` none, `audit` its trace. The devices are those of a run.
+abbrev pub files_of : List DeviceData → Asked → List ℕ → List File
+files_of devices (build app out) first = files_to_build app first
+files_of devices (run image script steps detail) first = image_file image ∷ script_file script ∷ []
+files_of devices (go app script steps detail) first = files_to_build app first ++ script_file script ∷ []
+files_of devices (list image) first = image_file image ∷ []
+files_of devices (sample seed steps) first = []
+files_of devices (migrate image out) first = image_file image ∷ []
+files_of devices (audit trace) first = trace_file trace ∷ []
+files_of devices (save image script out steps) first = image_file image ∷ script_file script ∷ []
+files_of devices (resume image script state steps detail) first = image_file image ∷ script_file script ∷ state_file devices (picture_of first) steps state ∷ []
 
 abbrev pub first_of : List (List ℕ) → List ℕ
 first_of contents = slice_index_or contents 0 []
 
 -- the files of a job whose first files have these contents
-abbrev pub files_by : Asked → List (List ℕ) → List File
-files_by job contents = files_of job (first_of contents)
+abbrev pub files_by : List DeviceData → Asked → List (List ℕ) → List File
+files_by devices job contents = files_of devices job (first_of contents)
 
 -- ## contents, by what is seen of them
 
@@ -86,14 +94,14 @@ Takes Held files contents = (k : ℕ) (bytes : List ℕ) → slice_get contents 
     → (f : File) × (slice_get files k ≡ Some f) × Held f.name bytes × (f.refusal bytes ≡ None)
 
 -- the job takes first files with these contents, and then this file
-pub record Reaches (Held : List ℕ → List ℕ → Type 0) (job : Asked) (contents : List (List ℕ)) (f : File) : Type 0 where
-  pub takes : Takes Held (files_by job contents) contents
-  pub next : slice_get (files_by job contents) (length contents) ≡ Some f
+pub record Reaches (Held : List ℕ → List ℕ → Type 0) (devices : List DeviceData) (job : Asked) (contents : List (List ℕ)) (f : File) : Type 0 where
+  pub takes : Takes Held (files_by devices job contents) contents
+  pub next : slice_get (files_by devices job contents) (length contents) ≡ Some f
 
 -- and then no more
-pub record TakesAll (Held : List ℕ → List ℕ → Type 0) (job : Asked) (contents : List (List ℕ)) : Type 0 where
-  pub takes : Takes Held (files_by job contents) contents
-  pub all : length (files_by job contents) ≡ length contents
+pub record TakesAll (Held : List ℕ → List ℕ → Type 0) (devices : List DeviceData) (job : Asked) (contents : List (List ℕ)) : Type 0 where
+  pub takes : Takes Held (files_by devices job contents) contents
+  pub all : length (files_by devices job contents) ≡ length contents
 
 -- ## what a job is done over, where the contents of its files are these
 
@@ -127,6 +135,8 @@ IsRun devices (list image) contents n d x = ⊥
 IsRun devices (sample seed steps) contents n d x = ⊥
 IsRun devices (migrate image out) contents n d x = ⊥
 IsRun devices (audit trace) contents n d x = ⊥
+IsRun devices (save image script out steps) contents n d x = ⊥
+IsRun devices (resume image script state steps detail) contents n d x = ⊥
 
 -- the job is a listing of this image
 abbrev pub IsListing : Asked → List (List ℕ) → Picture → Type 0
@@ -137,6 +147,8 @@ IsListing (go app script steps detail) contents image = ⊥
 IsListing (sample seed steps) contents image = ⊥
 IsListing (migrate file out) contents image = ⊥
 IsListing (audit trace) contents image = ⊥
+IsListing (save file script out steps) contents image = ⊥
+IsListing (resume file script state steps detail) contents image = ⊥
 
 -- the job is to build this image, or it is the one that the file spells, and to put it under this name
 abbrev pub IsBuild : Asked → List (List ℕ) → List ℕ → Picture → Type 0
@@ -147,6 +159,8 @@ IsBuild (list file) contents name image = ⊥
 IsBuild (sample seed steps) contents name image = ⊥
 IsBuild (migrate file out) contents name image = (name ≡ out) × (image ≡ picture_of (first_of contents))
 IsBuild (audit trace) contents name image = ⊥
+IsBuild (save file script out steps) contents name image = ⊥
+IsBuild (resume file script state steps detail) contents name image = ⊥
 
 -- the job is the audit of this text
 abbrev pub IsAudit : Asked → List (List ℕ) → List ℕ → Type 0
@@ -157,6 +171,8 @@ IsAudit (go app script steps detail) contents text = ⊥
 IsAudit (list image) contents text = ⊥
 IsAudit (sample seed steps) contents text = ⊥
 IsAudit (migrate image out) contents text = ⊥
+IsAudit (save image script out steps) contents text = ⊥
+IsAudit (resume image script state steps detail) contents text = ⊥
 
 -- the job is a run of this scenario up to this bound, of which the notes are counted: the sample of this seed, as it is built
 pub record IsSample (job : Asked) (seed n : ℕ) (x : Scenario) : Type 0 where
@@ -164,3 +180,32 @@ pub record IsSample (job : Asked) (seed n : ℕ) (x : Scenario) : Type 0 where
   pub image : Picture
   pub built : Built (sample_app seed) (sample_sources seed) image
   pub scenario : x ≡ sample_scenario seed image
+
+-- the run of the image in the first of these contents with the script in the second one
+abbrev pub scenario_in : List DeviceData → List (List ℕ) → Scenario
+scenario_in devices contents = scenario_of (picture_of (first_of contents)) (slice_index_or contents 1 []) devices
+
+-- the job is to put the last state of a run of this scenario up to this bound under this name
+abbrev pub IsSave : List DeviceData → Asked → List (List ℕ) → List ℕ → ℕ → Scenario → Type 0
+IsSave devices (save image script out steps) contents name n x = (name ≡ out) × (n ≡ steps) × (x ≡ scenario_in devices contents)
+IsSave devices (build app out) contents name n x = ⊥
+IsSave devices (run image script steps detail) contents name n x = ⊥
+IsSave devices (go app script steps detail) contents name n x = ⊥
+IsSave devices (list image) contents name n x = ⊥
+IsSave devices (sample seed steps) contents name n x = ⊥
+IsSave devices (migrate image out) contents name n x = ⊥
+IsSave devices (audit trace) contents name n x = ⊥
+IsSave devices (resume image script state steps detail) contents name n x = ⊥
+
+-- the job is the run of this scenario up to this bound, told in this detail, from the state that the third of these contents spells
+abbrev pub IsResume : List DeviceData → Asked → List (List ℕ) → ℕ → Detail → Scenario → State → Type 0
+IsResume devices (resume image script state steps detail) contents n d x s =
+    (n ≡ steps) × (d ≡ detail) × (x ≡ scenario_in devices contents) × (s ≡ state_in x.setup devices (slice_index_or contents 2 []))
+IsResume devices (build app out) contents n d x s = ⊥
+IsResume devices (run image script steps detail) contents n d x s = ⊥
+IsResume devices (go app script steps detail) contents n d x s = ⊥
+IsResume devices (list image) contents n d x s = ⊥
+IsResume devices (sample seed steps) contents n d x s = ⊥
+IsResume devices (migrate image out) contents n d x s = ⊥
+IsResume devices (audit trace) contents n d x s = ⊥
+IsResume devices (save image script out steps) contents n d x s = ⊥

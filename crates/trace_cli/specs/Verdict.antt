@@ -1,5 +1,5 @@
 -- What the program answers: a status, its text, and the file that it puts.
-use Rattle.std.specs.Prelude.{◌≡◌, ℕ, Bool, false, if◌then◌else◌, List, [], ◌++◌, length, codes, decimal, Option, Some, None}
+use Rattle.std.specs.Prelude.{◌≡◌, ℕ, ◌-◌, Bool, false, if◌then◌else◌, List, [], ◌++◌, length, codes, decimal, Option, Some, None}
 use Rattle.kernel_abi.specs.Devices.{DeviceData}
 use Rattle.serde_json.specs.Written.{compact_text}
 use Rattle.image_format.specs.Picture.{Picture, spelling}
@@ -11,6 +11,9 @@ use Rattle.board_model.specs.declared.outcomes.Level.{Level}
 use Rattle.board_model.specs.declared.outcomes.Level.TheVariants.{Calls, All}
 use Rattle.board_model.specs.Script.{Scenario, start_of}
 use Rattle.board_model.specs.Run as board
+use Rattle.board_model.specs.Cut.{from_turn}
+use Rattle.board_model.specs.Alike.{reduced}
+use Rattle.snapshot.specs.Saved.{spelling as spelling_of_state}
 use Rattle.board_run.specs.Text.{trace_text}
 use Rattle.board_run.specs.Counts.{summary_text}
 use Rattle.board_run.specs.MemoryText.{memory_text}
@@ -21,7 +24,7 @@ use Rattle.command_line.specs.CommandLine.{Asked, is_accepted}
 use Rattle.command_line.specs.declared.job.Detail.{Detail}
 use Rattle.trace_cli.specs.Contents.{Why}
 use Rattle.trace_cli.specs.Words.{job_in}
-use Rattle.trace_cli.specs.Sources.{File, Are, Reaches, TakesAll, IsRun, IsListing, IsBuild, IsSample, IsAudit}
+use Rattle.trace_cli.specs.Sources.{File, Are, Reaches, TakesAll, IsRun, IsListing, IsBuild, IsSample, IsAudit, IsSave, IsResume}
 
 pub record Verdict : Type 0 where
   pub status : ℕ
@@ -34,7 +37,7 @@ abbrev pub line_alone : ℕ → List ℕ → Verdict
 line_alone status line = record { status = status; text = line; put = None }
 
 abbrev pub usage_line : List ℕ
-usage_line = codes "usage: hubris build, run, go, list, sample, migrate or audit\n"
+usage_line = codes "usage: hubris build, run, go, list, sample, migrate, audit, save or resume\n"
 
 -- `refused <name> <cause> <place>`
 unfoldable pub refused_front : List ℕ → ℕ → List ℕ
@@ -50,6 +53,10 @@ unread_line name = codes "cannot read " ++ name ++ codes "\n"
 -- `built <length> bytes`
 unfoldable pub built_line : ℕ → List ℕ
 built_line bytes = codes "built " ++ decimal bytes ++ codes " bytes\n"
+
+-- `saved <length> bytes`
+unfoldable pub saved_line : ℕ → List ℕ
+saved_line bytes = codes "saved " ++ decimal bytes ++ codes " bytes\n"
 
 -- `yes <calls> <left>`
 unfoldable pub yes_line : ℕ → ℕ → List ℕ
@@ -94,6 +101,30 @@ ran n detail x =
     let r = run_of (level_of detail) n x in
     line_alone (status_of r.end) (trace_text r ++ memory_if detail.memory x.setup r.last)
 
+-- the run of a scenario from a state of it up to turn n
+abbrev pub run_from : Level → ℕ → Scenario → State → board.Run
+run_from level n x s = board.run level x (n - s.turn) s
+
+-- a run was gone on with from a state of it
+abbrev pub resumed : ℕ → Detail → Scenario → State → Verdict
+resumed n detail x s =
+    let r = run_from (level_of detail) n x s in
+    line_alone (status_of r.end) (trace_text r ++ memory_if detail.memory x.setup r.last)
+
+-- what is left of a run, without the lines of turns before turn k
+abbrev pub rest_of_run : ℕ → ℕ → Detail → Scenario → Verdict
+rest_of_run k n detail x =
+    let r = from_turn k (run_of (level_of detail) n x) in
+    line_alone (status_of r.end) (trace_text r ++ memory_if detail.memory x.setup r.last)
+
+-- the state that a run of at most n turns ends in, as it is spelled
+abbrev pub saved_bytes : ℕ → Scenario → List ℕ
+saved_bytes n x = spelling_of_state (reduced (run_of Calls n x).last)
+
+-- it was put under a name
+abbrev pub saved : List ℕ → ℕ → Scenario → Verdict
+saved out n x = record { status = 0; text = saved_line (length (saved_bytes n x)); put = Some (out, saved_bytes n x) }
+
 -- an image was listed
 abbrev pub listing_line : Picture → List ℕ
 listing_line image = compact_text (image_data image) ++ codes "\n"
@@ -123,6 +154,8 @@ pub data Does (devices : List DeviceData) (job : Asked) (contents : List (List �
   lists : (image : Picture) → IsListing job contents image → v ≡ listed image → Does devices job contents v
   builds : (out : List ℕ) (image : Picture) → IsBuild job contents out image → v ≡ built out image → Does devices job contents v
   samples : (seed n : ℕ) (x : Scenario) → IsSample job seed n x → v ≡ sampled n x → Does devices job contents v
+  saves : (out : List ℕ) (n : ℕ) (x : Scenario) → IsSave devices job contents out n x → v ≡ saved out n x → Does devices job contents v
+  resumes : (n : ℕ) (detail : Detail) (x : Scenario) (s : State) → IsResume devices job contents n detail x s → v ≡ resumed n detail x s → Does devices job contents v
   audits : (text : List ℕ) (found : trace.Verdict) → IsAudit job contents text → trace_audit.IsVerdict text found → v ≡ audited found → Does devices job contents v
 
 -- ## the verdict on words and contents, where they are seen as far as they count and a run has these devices
@@ -132,6 +165,6 @@ pub data Does (devices : List DeviceData) (job : Asked) (contents : List (List �
 pub data IsVerdict (devices : List DeviceData) (words : List (List ℕ)) (seen : List ℕ → Option (List ℕ)) (v : Verdict) : Type 0 where
   no_job : is_accepted words ≡ false → v ≡ usage → IsVerdict devices words seen v
   refuses : (job : Asked) (contents : List (List ℕ)) (f : File) (bytes : List ℕ) (why : Why) → job_in words ≡ Some job
-      → Reaches (Are seen) job contents f → Are seen f.name bytes → f.refusal bytes ≡ Some why → v ≡ refused f.name why → IsVerdict devices words seen v
+      → Reaches (Are seen) devices job contents f → Are seen f.name bytes → f.refusal bytes ≡ Some why → v ≡ refused f.name why → IsVerdict devices words seen v
   does : (job : Asked) (contents : List (List ℕ)) → job_in words ≡ Some job
-      → TakesAll (Are seen) job contents → Does devices job contents v → IsVerdict devices words seen v
+      → TakesAll (Are seen) devices job contents → Does devices job contents v → IsVerdict devices words seen v

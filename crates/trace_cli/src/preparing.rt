@@ -1,12 +1,13 @@
 //! From the files of a job to the board of its run.
-ghost use Rattle.std.specs.Prelude.{◌≡◌, ◌≤◌, ℕ, map, IfOk, IfErr};
+ghost use Rattle.std.specs.Prelude.{◌≡◌, ◌≤◌, ℕ, List, map, IfOk, IfErr};
 ghost use Rattle.kernel_abi.specs.Devices.{AreFresh};
 ghost use Rattle.image_format.specs.Images.{picture};
-ghost use Rattle.command_line.specs.CommandLine.{run as run_job, go as go_job};
+ghost use Rattle.run_script.specs.Events.{script_data};
+ghost use Rattle.command_line.specs.CommandLine.{run as run_job, go as go_job, save as save_job};
 ghost use Rattle.command_line.specs.declared.job.Detail.{Detail};
 ghost use Rattle.trace_cli.specs.Sources.{image_file, script_file};
 ghost use Rattle.trace_cli.specs.FileFaults.{IsNamedFaultOf};
-ghost use Rattle.trace_cli.specs.Ready.{IsImageFile, IsSet, IsReady, IsNamedFaultIn};
+ghost use Rattle.trace_cli.specs.Ready.{IsImageFile, IsScriptFile, IsSet, IsReady, IsSaveReady, IsNamedFaultIn};
 
 use crate::building::built_image;
 use crate::file_faults::{NamedFault, fault_named};
@@ -15,6 +16,7 @@ use board_core::Board;
 use devices::Device;
 use image_format::Image;
 use outside_io::Files;
+use run_script::Script;
 use std::alloc::Global;
 
 /// The image under a name.
@@ -35,6 +37,24 @@ pub fn read_image<F: Files>(alloc: Global, files: &mut F, name: &str) -> Result<
     }
 }
 
+/// The script under a name.
+pub fn read_script<F: Files>(alloc: Global, files: &mut F, name: &str) -> Result<Script, NamedFault>
+    ensures script { IfOk result (λ s. IsScriptFile (F.seen files.old).contents name.now (script_data s)) }
+    ensures named_fault { IfErr result (IsNamedFaultOf (F.seen files.old) (F.seen files.new) (script_file name.now)) }
+    ensures later { (F.seen files.old).read_faults ≤ (F.seen files.new).read_faults }
+    ensures contents { (F.seen files.new).contents ≡ (F.seen files.old).contents }
+    ensures puts { (F.seen files.new).put_faults ≡ (F.seen files.old).put_faults }
+{
+    let bytes = match read_contents(alloc, files, name, FILE_LIMIT) {
+        Ok(bytes) => bytes,
+        Err(file_fault) => return Err(fault_named(alloc, name, file_fault)),
+    };
+    match script_in(alloc, &bytes) {
+        Ok(script) => Ok(script),
+        Err(file_fault) => Err(fault_named(alloc, name, file_fault)),
+    }
+}
+
 // The board of an image with the script under a name and with devices.
 fn set_up<F: Files>(
     alloc: Global,
@@ -50,13 +70,9 @@ fn set_up<F: Files>(
     ensures contents { (F.seen files.new).contents ≡ (F.seen files.old).contents }
     ensures puts { (F.seen files.new).put_faults ≡ (F.seen files.old).put_faults }
 {
-    let bytes = match read_contents(alloc, files, script, FILE_LIMIT) {
-        Ok(bytes) => bytes,
-        Err(file_fault) => return Err(fault_named(alloc, script, file_fault)),
-    };
-    let script = match script_in(alloc, &bytes) {
+    let script = match read_script(alloc, files, script) {
         Ok(script) => script,
-        Err(file_fault) => return Err(fault_named(alloc, script, file_fault)),
+        Err(named_fault) => return Err(named_fault),
     };
     match Board::open(alloc, image, &script, devices) {
         Ok(board) => Ok(board),
@@ -64,7 +80,8 @@ fn set_up<F: Files>(
     }
 }
 
-/// The board at the start of the run of the image and the script under these names, with devices.
+/// The board at the start of the run of the image and the script under these names, with devices. It is the run of `run`, and that
+/// of `save`.
 pub fn prepare_run<F: Files>(
     alloc: Global,
     files: &mut F,
@@ -74,7 +91,9 @@ pub fn prepare_run<F: Files>(
 ) -> Result<Board, NamedFault>
     requires fresh { AreFresh (map shown devices.items) }
     ensures ready { (n : ℕ) (detail : Detail) → IfOk result (IsReady shown (map shown devices.items) (run_job image.now script.now n detail) (F.seen files.old).contents n detail) }
-    ensures named_fault { (n : ℕ) (detail : Detail) → IfErr result (IsNamedFaultIn (run_job image.now script.now n detail) (F.seen files.old) (F.seen files.new)) }
+    ensures named_fault { (n : ℕ) (detail : Detail) → IfErr result (IsNamedFaultIn (map shown devices.items) (run_job image.now script.now n detail) (F.seen files.old) (F.seen files.new)) }
+    ensures ready_to_save { (out : List ℕ) (n : ℕ) → IfOk result (IsSaveReady shown (map shown devices.items) (save_job image.now script.now out n) (F.seen files.old).contents out n) }
+    ensures save_fault { (out : List ℕ) (n : ℕ) → IfErr result (IsNamedFaultIn (map shown devices.items) (save_job image.now script.now out n) (F.seen files.old) (F.seen files.new)) }
     ensures later { (F.seen files.old).read_faults ≤ (F.seen files.new).read_faults }
     ensures contents { (F.seen files.new).contents ≡ (F.seen files.old).contents }
     ensures puts { (F.seen files.new).put_faults ≡ (F.seen files.old).put_faults }
@@ -95,7 +114,7 @@ pub fn prepare_go<F: Files>(
 ) -> Result<Board, NamedFault>
     requires fresh { AreFresh (map shown devices.items) }
     ensures ready { (n : ℕ) (detail : Detail) → IfOk result (IsReady shown (map shown devices.items) (go_job app.now script.now n detail) (F.seen files.old).contents n detail) }
-    ensures named_fault { (n : ℕ) (detail : Detail) → IfErr result (IsNamedFaultIn (go_job app.now script.now n detail) (F.seen files.old) (F.seen files.new)) }
+    ensures named_fault { (n : ℕ) (detail : Detail) → IfErr result (IsNamedFaultIn (map shown devices.items) (go_job app.now script.now n detail) (F.seen files.old) (F.seen files.new)) }
     ensures later { (F.seen files.old).read_faults ≤ (F.seen files.new).read_faults }
     ensures contents { (F.seen files.new).contents ≡ (F.seen files.old).contents }
     ensures puts { (F.seen files.new).put_faults ≡ (F.seen files.old).put_faults }

@@ -1,83 +1,33 @@
 //! The top call.
 ghost use Rattle.std.specs.Prelude.{◌≡◌, ◌≢◌, ◌≤◌, ◌⊎◌, ℕ, List, [], map, Option, Some, None, false, IfOk, IfErr};
 ghost use Rattle.std.specs.Io.KnownBytes.{Appends};
-ghost use Rattle.outside_io.specs.Outside.{Pushes, Rose, HasCause};
+ghost use Rattle.outside_io.specs.Outside.{Rose};
 ghost use Rattle.kernel_abi.specs.Devices.{DeviceData, AreFresh};
 ghost use Rattle.image_format.specs.Images.{picture};
-ghost use Rattle.board_model.specs.Script.{Scenario, start_of};
 ghost use Rattle.board_core.specs.Data.{boxed};
-ghost use Rattle.board_core.specs.Stands.{Stands, Stood, turns_of};
+ghost use Rattle.board_core.specs.Stands.{Stood, turns_of};
 ghost use Rattle.command_line.specs.CommandLine.{Asked, is_accepted, build as build_job, run as run_job, go as go_job, list as list_job, migrate as migrate_job, audit as audit_job};
 ghost use Rattle.outside_io.specs.Seen.{FilesSeen};
-ghost use Rattle.audit_runs.specs.Last.{IsGoodText};
 ghost use Rattle.trace_cli.specs.Words.{texts_of, job_in, out_of};
-ghost use Rattle.trace_cli.specs.Verdict.{Verdict, IsVerdict, usage_line, ran, built, level_of, run_of, status_of};
-ghost use Rattle.trace_cli.specs.Pushed.{Pushed, Says, SaysNamedFault};
+ghost use Rattle.trace_cli.specs.Verdict.{Verdict, IsVerdict, usage_line, built};
 ghost use Rattle.trace_cli.specs.Ready.{IsReady, IsNamedFaultIn};
-ghost use Rattle.trace_cli.specs.Answer.{Tells, IsOfRun, AnswersJob, Answers, Answered, IsComplete, HasPlayed, HasDone, HasAudited, HasRefused, HasUnread, HasFront};
+ghost use Rattle.trace_cli.specs.Answer.{Tells, AnswersJob, Answers, Answered, IsComplete, TellsEach, GoesOn, HasPlayed, HasDone, HasAudited, HasRefused, HasUnread, HasFront};
 
 use crate::auditing::{audit_under, tell_audit};
 use crate::building::built_image;
 use crate::file_faults::NamedFault;
 use crate::preparing::{prepare_go, prepare_run, read_image};
+use crate::resuming::resume_files;
+use crate::running::tell_run;
 use crate::sampling::run_sample;
-use crate::telling::{line_of_built, status_by, tell, tell_listing, tell_named_fault, tell_usage};
-use audit_runs::{memories_are_shown, texts_of_runs_are_good};
-use board_core::{Board, End, Level};
-use board_run::{run, write_memory};
+use crate::saving::save_file;
+use crate::telling::{line_of_built, tell, tell_listing, tell_named_fault, tell_usage};
+use board_core::Board;
 use command_line::{Detail, Job, Refusal, read_words};
 use devices::Device;
 use image_format::Image;
-use outside_io::{Failed, Files, Sink};
+use outside_io::{Files, Sink};
 use std::alloc::Global;
-
-fn level_of(detail: Detail) -> Level
-    ensures { result ≡ level_of detail }
-{
-    if detail.instructions {
-        Level::All
-    } else {
-        Level::Calls
-    }
-}
-
-// A run's trace, and then maybe its memory. An audit finds the whole text good.
-fn push_run<S: Sink>(
-    board: &mut Board,
-    steps: u32,
-    detail: Detail,
-    out: &mut S,
-) -> Result<End, Failed>
-    requires stood { Stood (boxed shown) board.old }
-    requires fresh { turns_of board.old ≡ 0 }
-    requires few { steps ≤ 1000000000 }
-    ensures text { (x : Scenario) → Stands (boxed shown) x board.old (start_of x) → Pushes (S.seen out.old).written (S.seen out.new).written (ran steps detail x).text result }
-    ensures end { (x : Scenario) → Stands (boxed shown) x board.old (start_of x) → IfOk result (λ e. e ≡ (run_of (level_of detail) steps x).end) }
-    ensures good { (x : Scenario) → Stands (boxed shown) x board.old (start_of x) → IfOk result (λ _. IsGoodText (ran steps detail x).text) }
-    ensures cause { HasCause (S.seen out.old).faults (S.seen out.new).faults result }
-{
-    texts_of_runs_are_good();
-    memories_are_shown();
-    let end = run(board, steps, level_of(detail), out)?;
-    if detail.memory {
-        write_memory(board, out)?;
-    }
-    Ok(end)
-}
-
-// The run of a board from its start.
-fn tell_run<S: Sink>(board: &mut Board, steps: u32, detail: Detail, out: &mut S) -> u8
-    requires stood { Stood (boxed shown) board.old }
-    requires fresh { turns_of board.old ≡ 0 }
-    requires few { steps ≤ 1000000000 }
-    ensures pushed { (x : Scenario) → Stands (boxed shown) x board.old (start_of x) → Pushed (S.seen out.old) (S.seen out.new) (ran steps detail x) result }
-    ensures good { (x : Scenario) → Stands (boxed shown) x board.old (start_of x) → IsOfRun result → IsGoodText (ran steps detail x).text }
-{
-    match push_run(board, steps, detail, out) {
-        Ok(end) => status_by(end),
-        Err(_) => 4,
-    }
-}
 
 // The run of the board that a job came to, or why there is none.
 fn play<S: Sink>(
@@ -90,7 +40,7 @@ fn play<S: Sink>(
     requires few { steps ≤ 1000000000 }
     requires ready { IfOk prepared (λ b. Stood (boxed shown) b × (turns_of b ≡ 0)) }
     ensures { (devices : List DeviceData) (job : Asked) (before after : FilesSeen) → after.contents ≡ before.contents
-        → IfOk prepared (IsReady (boxed shown) devices job before.contents steps detail) → IfErr prepared (IsNamedFaultIn job before after)
+        → IfOk prepared (IsReady (boxed shown) devices job before.contents steps detail) → IfErr prepared (IsNamedFaultIn devices job before after)
         → AnswersJob devices job before after (S.seen out.old) (S.seen out.new) result }
 {
     match prepared {
@@ -246,6 +196,7 @@ fn answer<F: Files, S: Sink>(
     ensures later { (F.seen files.old).read_faults ≤ (F.seen files.new).read_faults }
     ensures puts { (F.seen files.old).put_faults ≤ (F.seen files.new).put_faults }
     ensures no_put { out_of (job_in (texts_of words.now)) ≡ None → (F.seen files.new).put_faults ≡ (F.seen files.old).put_faults }
+    ensures each { (job : Asked) → job_in (texts_of words.now) ≡ Some job → TellsEach (map shown devices.items) job (F.seen files.old) (F.seen files.new) (S.seen out.old) (S.seen out.new) result }
 {
     match read_words(alloc, words) {
         Ok(Job::Build { app, out: name }) => build_file(alloc, app, name, files, out),
@@ -269,27 +220,47 @@ fn answer<F: Files, S: Sink>(
         Ok(Job::Sample { seed, steps }) => run_sample(alloc, seed, steps, out),
         Ok(Job::Migrate { image, out: name }) => migrate_file(alloc, image, name, files, out),
         Ok(Job::Audit { trace }) => audit_file(alloc, trace, files, out),
+        Ok(
+            Job::Save {
+                image,
+                script,
+                out: name,
+                steps,
+            },
+        ) => save_file(alloc, image, script, name, steps, files, out, devices),
+        Ok(
+            Job::Resume {
+                image,
+                script,
+                state,
+                steps,
+                detail,
+            },
+        ) => resume_files(
+            alloc, image, script, state, steps, detail, files, out, devices,
+        ),
         Err(Refusal::NotAccepted) => tell_usage(out),
         Err(Refusal::Memory) => 5,
     }
 }
 
 /// All that the program does. The words, the program's name first, and the files are handed in, and
-/// the lines go to the sink, one push each; the answer is the program's exit status. The devices are those of a run of `run`
-/// or `go`, as they are handed in: at most eight, to which nothing has come as yet, each at a place of its own. `sample` runs
-/// without a device.
+/// the lines go to the sink, one push each; the answer is the program's exit status. The devices are those of a run of `run`,
+/// `go`, `save` or `resume`, as they are handed in: at most eight, to which nothing has come as yet, each at a place of its own.
+/// `sample` runs without a device.
 ///
 /// - 0: the trace of the run (docs/FORMATS.md, Trace), with `--all` each of its instructions, with `--mem` its last
 ///   memory, or the listing of the image was written; or the image that was built, or migrated, is under OUT, and its line was written;
-///   or the sample was run, and its end and the numbers of its notes were written; or the trace holds together (docs/FORMATS.md,
-///   Audit), and `yes <calls> <left>` was written: so many calls were offered in it, and so many of them no line closes.
+///   or the last state of the run (docs/FORMATS.md, Saved state) is under OUT, and its line was written; or the sample was run, and its
+///   end and the numbers of its notes were written; or the trace holds together (docs/FORMATS.md, Audit), and `yes <calls> <left>`
+///   was written: so many calls were offered in it, and so many of them no line closes.
 /// - 1: a file is refused, and `refused <name> <cause> <place>` was written.
 /// - 2: the words are not accepted (docs/FORMATS.md, Command line), and the usage line was written.
 /// - 3: a file cannot be read, and `cannot read <name>` was written.
-/// - 4: the output failed. What was written is the beginning of the same text, and under OUT is the image; or the put
-///   failed, nothing was written, and under OUT are the old contents or the beginning of the image.
+/// - 4: the output failed. What was written is the beginning of the same text, and under OUT is the image, or the state; or the
+///   put failed, nothing was written, and under OUT are the old contents or the beginning of the image, or of the state.
 /// - 5: memory is short, and nothing was written or put.
-/// - 6: as 0, and the run ended because the supervisor faulted.
+/// - 6: as 0, and the run ended because the supervisor faulted; a run that is only saved has 0 then too.
 /// - 7: a trace does not hold together, and `no <line>` was written: its first line, from 1 on, that does not follow.
 pub fn hubris_main_with<F: Files, S: Sink>(
     alloc: Global,
@@ -301,24 +272,28 @@ pub fn hubris_main_with<F: Files, S: Sink>(
     requires fresh { AreFresh (map shown devices.items) }
 
     // Where the words and the seen contents give a verdict (of accepted words and files: the trace of
-    // their run, the listing, the image that is built or migrated, the two lines of a sample, or what an audit found), its file was put, its whole text was pushed
-    // under its status; or the sink's count of faults rose, the status is 4, and a front of the text was
+    // their run, the listing, the image that is built or migrated, the state that is saved, the trace from a saved state, the two lines of
+    // a sample, or what an audit found), its file was put, its whole text was pushed under its status; or the sink's count of faults rose, the status is 4, and a front of the text was
     // pushed; or the count of failed puts rose, the status is 4, and nothing was pushed; or memory is
     // short, the status is 5, and nothing was pushed or put; or the count of failed reads rose, and the
     // same holds of the line of a file that cannot be read.
-    ensures seen { (v : Verdict) → IsVerdict (map shown devices.items) (texts_of words.now) (F.seen files.old).contents v → Answered (texts_of words.now) (F.seen files.old) (F.seen files.new) (S.seen out.old) (S.seen out.new) v result }
+    ensures seen { (v : Verdict) → IsVerdict (map shown devices.items) (texts_of words.now) (F.seen files.old).contents v → Answered (map shown devices.items) (texts_of words.now) (F.seen files.old) (F.seen files.new) (S.seen out.old) (S.seen out.new) v result }
     ensures complete { ¬ Rose (F.seen files.old).read_faults (F.seen files.new).read_faults → ¬ Rose (F.seen files.old).put_faults (F.seen files.new).put_faults → ¬ Rose (S.seen out.old).faults (S.seen out.new).faults →
         (v : Verdict) → IsVerdict (map shown devices.items) (texts_of words.now) (F.seen files.old).contents v → IsComplete (F.seen files.old) (F.seen files.new) (S.seen out.old) (S.seen out.new) v result }
 
+    // What `resume` tells: the run from each state that its file spells, and so from what `save` puts what is left of the same run.
+    ensures each { (job : Asked) → job_in (texts_of words.now) ≡ Some job → TellsEach (map shown devices.items) job (F.seen files.old) (F.seen files.new) (S.seen out.old) (S.seen out.new) result }
+    ensures goes_on { GoesOn (map shown devices.items) (texts_of words.now) (F.seen files.old) (F.seen files.new) (S.seen out.old) (S.seen out.new) result }
+
     // When each status comes, and what was pushed and put with it.
     ensures done { result ≡ 0 → HasDone (map shown devices.items) (texts_of words.now) (F.seen files.old) (F.seen files.new) (S.seen out.old) (S.seen out.new) }
-    ensures refused { result ≡ 1 → HasRefused (texts_of words.now) (F.seen files.old).contents (S.seen out.old) (S.seen out.new) }
+    ensures refused { result ≡ 1 → HasRefused (map shown devices.items) (texts_of words.now) (F.seen files.old).contents (S.seen out.old) (S.seen out.new) }
     ensures no_command { result ≡ 2 → (is_accepted (texts_of words.now) ≡ false) × Appends (S.seen out.old).written (S.seen out.new).written usage_line }
-    ensures unread { result ≡ 3 → HasUnread (texts_of words.now) (F.seen files.old) (F.seen files.new) (S.seen out.old) (S.seen out.new) }
+    ensures unread { result ≡ 3 → HasUnread (map shown devices.items) (texts_of words.now) (F.seen files.old) (F.seen files.new) (S.seen out.old) (S.seen out.new) }
     ensures cut { result ≡ 4 → HasFront (map shown devices.items) (texts_of words.now) (F.seen files.old) (F.seen files.new) (S.seen out.old) (S.seen out.new) }
     ensures short { result ≡ 5 → ((S.seen out.new).written ≡ (S.seen out.old).written) × ((S.seen out.new).faults ≡ (S.seen out.old).faults) × ((F.seen files.new).contents ≡ (F.seen files.old).contents) }
     ensures supervisor { result ≡ 6 → HasPlayed (map shown devices.items) (texts_of words.now) (F.seen files.old).contents (S.seen out.old) (S.seen out.new) 6 }
-    ensures bad { result ≡ 7 → HasAudited (texts_of words.now) (F.seen files.old).contents (S.seen out.old) (S.seen out.new) 7 }
+    ensures bad { result ≡ 7 → HasAudited (map shown devices.items) (texts_of words.now) (F.seen files.old).contents (S.seen out.old) (S.seen out.new) 7 }
     ensures known { result ≤ 7 }
 
     // Only the file under OUT is changed, and only under the statuses 0 and 4.
@@ -338,24 +313,28 @@ pub fn hubris_main<F: Files, S: Sink>(
     out: &mut S,
 ) -> u8
     // Where the words and the seen contents give a verdict (of accepted words and files: the trace of
-    // their run, the listing, the image that is built or migrated, the two lines of a sample, or what an audit found), its file was put, its whole text was pushed
-    // under its status; or the sink's count of faults rose, the status is 4, and a front of the text was
+    // their run, the listing, the image that is built or migrated, the state that is saved, the trace from a saved state, the two lines of
+    // a sample, or what an audit found), its file was put, its whole text was pushed under its status; or the sink's count of faults rose, the status is 4, and a front of the text was
     // pushed; or the count of failed puts rose, the status is 4, and nothing was pushed; or memory is
     // short, the status is 5, and nothing was pushed or put; or the count of failed reads rose, and the
     // same holds of the line of a file that cannot be read.
-    ensures seen { (v : Verdict) → IsVerdict [] (texts_of words.now) (F.seen files.old).contents v → Answered (texts_of words.now) (F.seen files.old) (F.seen files.new) (S.seen out.old) (S.seen out.new) v result }
+    ensures seen { (v : Verdict) → IsVerdict [] (texts_of words.now) (F.seen files.old).contents v → Answered [] (texts_of words.now) (F.seen files.old) (F.seen files.new) (S.seen out.old) (S.seen out.new) v result }
     ensures complete { ¬ Rose (F.seen files.old).read_faults (F.seen files.new).read_faults → ¬ Rose (F.seen files.old).put_faults (F.seen files.new).put_faults → ¬ Rose (S.seen out.old).faults (S.seen out.new).faults →
         (v : Verdict) → IsVerdict [] (texts_of words.now) (F.seen files.old).contents v → IsComplete (F.seen files.old) (F.seen files.new) (S.seen out.old) (S.seen out.new) v result }
 
+    // What `resume` tells: the run from each state that its file spells, and so from what `save` puts what is left of the same run.
+    ensures each { (job : Asked) → job_in (texts_of words.now) ≡ Some job → TellsEach [] job (F.seen files.old) (F.seen files.new) (S.seen out.old) (S.seen out.new) result }
+    ensures goes_on { GoesOn [] (texts_of words.now) (F.seen files.old) (F.seen files.new) (S.seen out.old) (S.seen out.new) result }
+
     // When each status comes, and what was pushed and put with it.
     ensures done { result ≡ 0 → HasDone [] (texts_of words.now) (F.seen files.old) (F.seen files.new) (S.seen out.old) (S.seen out.new) }
-    ensures refused { result ≡ 1 → HasRefused (texts_of words.now) (F.seen files.old).contents (S.seen out.old) (S.seen out.new) }
+    ensures refused { result ≡ 1 → HasRefused [] (texts_of words.now) (F.seen files.old).contents (S.seen out.old) (S.seen out.new) }
     ensures no_command { result ≡ 2 → (is_accepted (texts_of words.now) ≡ false) × Appends (S.seen out.old).written (S.seen out.new).written usage_line }
-    ensures unread { result ≡ 3 → HasUnread (texts_of words.now) (F.seen files.old) (F.seen files.new) (S.seen out.old) (S.seen out.new) }
+    ensures unread { result ≡ 3 → HasUnread [] (texts_of words.now) (F.seen files.old) (F.seen files.new) (S.seen out.old) (S.seen out.new) }
     ensures cut { result ≡ 4 → HasFront [] (texts_of words.now) (F.seen files.old) (F.seen files.new) (S.seen out.old) (S.seen out.new) }
     ensures short { result ≡ 5 → ((S.seen out.new).written ≡ (S.seen out.old).written) × ((S.seen out.new).faults ≡ (S.seen out.old).faults) × ((F.seen files.new).contents ≡ (F.seen files.old).contents) }
     ensures supervisor { result ≡ 6 → HasPlayed [] (texts_of words.now) (F.seen files.old).contents (S.seen out.old) (S.seen out.new) 6 }
-    ensures bad { result ≡ 7 → HasAudited (texts_of words.now) (F.seen files.old).contents (S.seen out.old) (S.seen out.new) 7 }
+    ensures bad { result ≡ 7 → HasAudited [] (texts_of words.now) (F.seen files.old).contents (S.seen out.old) (S.seen out.new) 7 }
     ensures known { result ≤ 7 }
 
     // Only the file under OUT is changed, and only under the statuses 0 and 4.

@@ -1,7 +1,7 @@
 use Rattle.std.proofs.Common.{◌≡◌, ◌∙◌, ap, subst}
 use Rattle.std.specs.Prelude.{IfOk}
 use Rattle.clap.specs.Simple.{App, app_of, with_subcommand}
-use Rattle.command_line.specs.CommandLine.{Form, build_form, run_form, go_form, list_form, sample_form, migrate_form, audit_form, shape_of_form}
+use Rattle.command_line.specs.CommandLine.{Form, build_form, run_form, go_form, list_form, sample_form, migrate_form, audit_form, save_form, resume_form, shape_of_form}
 use Rattle.command_line.proofs.definition.hubris_command.Goals as goal
 
 abbrev with_form : Form → App → App
@@ -15,5 +15,7 @@ returns c =
     let list = c.in_ok-hubris-4.ensures list_form c.list_command.ensures.shape c.list_command.ensures.local ∙ ap (with_form list_form) go in
     let sample = c.in_ok-hubris-5.ensures sample_form c.sample_command.ensures.shape c.sample_command.ensures.local ∙ ap (with_form sample_form) list in
     let migrate = c.in_ok-hubris-6.ensures migrate_form c.migrate_command.ensures.shape c.migrate_command.ensures.local ∙ ap (with_form migrate_form) sample in
-    let audit = c.with_command-7.ensures audit_form c.audit_command.ensures.shape c.audit_command.ensures.local in
-    record { shape = subst (λ app. IfOk c.with_command-7.result (λ p. app_of p ≡ with_form audit_form app)) migrate audit }
+    let audit = c.in_ok-hubris-7.ensures audit_form c.audit_command.ensures.shape c.audit_command.ensures.local ∙ ap (with_form audit_form) migrate in
+    let save = c.in_ok-hubris-8.ensures save_form c.save_command.ensures.shape c.save_command.ensures.local ∙ ap (with_form save_form) audit in
+    let resume = c.with_command-9.ensures resume_form c.resume_command.ensures.shape c.resume_command.ensures.local in
+    record { shape = subst (λ app. IfOk c.with_command-9.result (λ p. app_of p ≡ with_form resume_form app)) save resume }

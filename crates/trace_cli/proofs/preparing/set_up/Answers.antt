@@ -1,19 +1,8 @@
-use Rattle.std.proofs.Common.{ℕ, List, refl, sym, subst}
-use Rattle.trace_cli.specs.Sources.{script_file, MayBe}
-use Rattle.trace_cli.proofs.Faulting.{cannot_take, refused_in, long_script}
+use Rattle.image_format.specs.Images.{picture}
+use Rattle.run_script.specs.Events.{script_data}
+use Rattle.trace_cli.proofs.Readying.{set_by_script}
 use Rattle.trace_cli.proofs.preparing.set_up.Goals as goal
 
-pub returns-in-Err-clause-named_fault : goal.returns-in-Err-clause-named_fault
-returns-in-Err-clause-named_fault g c =
-    let a = g.F.Files.seen c.args.files.now in
-    let b = g.F.Files.seen c.read_contents.new.files in
-    let f = script_file c.args.script.now in
-    c.fault_named.ensures a b f refl (cannot_take a b f c.in-Err.file_fault long_script c.in-Err.ensures.file_fault)
-
-pub returns-in-Err-script_in-clause-named_fault : goal.returns-in-Err-script_in-clause-named_fault
-returns-in-Err-script_in-clause-named_fault g c =
-    let a = g.F.Files.seen c.args.files.now in
-    let b = g.F.Files.seen c.read_contents.new.files in
-    let f = script_file c.args.script.now in
-    let held = subst (λ (x : List ℕ). MayBe (g.F.Files.seen c.args.files.now).contents c.args.script.now x) (sym c.deref.ensures.value) c.in-Ok.ensures.held in
-    c.fault_named-in-Err-script_in.ensures a b f refl (refused_in a b f c.deref.result.now c.in-Err-script_in.file_fault held c.in-Err-script_in.ensures.file_fault)
+pub returns-in-Ok-open-clause-set : goal.returns-in-Ok-open-clause-set
+returns-in-Ok-open-clause-set g c =
+    set_by_script (g.F.Files.seen c.args.files.now).contents (picture c.args.image.now) c.args.script.now (script_data c.in-Ok.script) c.in-Ok-open.board c.in-Ok.ensures.script c.in-Ok-open.ensures.stands c.in-Ok-open.ensures.turns

@@ -1,4 +1,7 @@
 use Rattle.std.proofs.Common.{refl}
+use Rattle.trace_cli.specs.Words.{texts_of}
+use Rattle.trace_cli.proofs.Deciding.{no_job_of}
+use Rattle.trace_cli.proofs.EachState.{each_of_words, none_each}
 use Rattle.trace_cli.proofs.Statuses.{answers_usage, by_job}
 use Rattle.trace_cli.proofs.program.answer.Goals as goal
 
@@ -36,6 +39,70 @@ pub returns-in-Ok-Audit-clause-answer : goal.returns-in-Ok-Audit-clause-answer
 returns-in-Ok-Audit-clause-answer g c =
     let job = rw c.in-Ok-Audit.field-0-is at c.in-Ok-Audit.ensures.job in
     by_job _ _ _ _ _ _ _ c.in-Ok-Audit.ensures.accepted job (c.audit_file.ensures.answer _)
+
+pub returns-in-Ok-Save-clause-answer : goal.returns-in-Ok-Save-clause-answer
+returns-in-Ok-Save-clause-answer g c =
+    let job = rw c.in-Ok-Save.field-0-is at c.in-Ok-Save.ensures.job in
+    by_job _ _ _ _ _ _ _ c.in-Ok-Save.ensures.accepted job c.save_file.ensures.answer
+
+pub returns-in-Ok-Resume-clause-answer : goal.returns-in-Ok-Resume-clause-answer
+returns-in-Ok-Resume-clause-answer g c =
+    let job = rw c.in-Ok-Resume.field-0-is at c.in-Ok-Resume.ensures.job in
+    by_job _ _ _ _ _ _ _ c.in-Ok-Resume.ensures.accepted job c.resume_files.ensures.answer
+
+pub returns-in-Ok-Resume-clause-each : goal.returns-in-Ok-Resume-clause-each
+returns-in-Ok-Resume-clause-each g c =
+    let job = rw c.in-Ok-Resume.field-0-is at c.in-Ok-Resume.ensures.job in
+    each_of_words (texts_of c.args.words.now) _ _ _ _ _ _ c.in-Ok-Resume.ensures.accepted job c.resume_files.ensures.each
+
+pub returns-in-Ok-Build-clause-each : goal.returns-in-Ok-Build-clause-each
+returns-in-Ok-Build-clause-each g c =
+    let job = rw c.in-Ok-Build.field-0-is at c.in-Ok-Build.ensures.job in
+    each_of_words (texts_of c.args.words.now) _ _ _ _ _ _ c.in-Ok-Build.ensures.accepted job (none_each _ _ _ _ _ _ (λ devices cs n d x s is. is))
+
+pub returns-in-Ok-Run-clause-each : goal.returns-in-Ok-Run-clause-each
+returns-in-Ok-Run-clause-each g c =
+    let job = rw c.in-Ok-Run.field-0-is at c.in-Ok-Run.ensures.job in
+    each_of_words (texts_of c.args.words.now) _ _ _ _ _ _ c.in-Ok-Run.ensures.accepted job (none_each _ _ _ _ _ _ (λ devices cs n d x s is. is))
+
+pub returns-in-Ok-Go-clause-each : goal.returns-in-Ok-Go-clause-each
+returns-in-Ok-Go-clause-each g c =
+    let job = rw c.in-Ok-Go.field-0-is at c.in-Ok-Go.ensures.job in
+    each_of_words (texts_of c.args.words.now) _ _ _ _ _ _ c.in-Ok-Go.ensures.accepted job (none_each _ _ _ _ _ _ (λ devices cs n d x s is. is))
+
+pub returns-in-Ok-List-clause-each : goal.returns-in-Ok-List-clause-each
+returns-in-Ok-List-clause-each g c =
+    let job = rw c.in-Ok-List.field-0-is at c.in-Ok-List.ensures.job in
+    each_of_words (texts_of c.args.words.now) _ _ _ _ _ _ c.in-Ok-List.ensures.accepted job (none_each _ _ _ _ _ _ (λ devices cs n d x s is. is))
+
+pub returns-in-Ok-Sample-clause-each : goal.returns-in-Ok-Sample-clause-each
+returns-in-Ok-Sample-clause-each g c =
+    let job = rw c.in-Ok-Sample.field-0-is at c.in-Ok-Sample.ensures.job in
+    each_of_words (texts_of c.args.words.now) _ _ _ _ _ _ c.in-Ok-Sample.ensures.accepted job (none_each _ _ _ _ _ _ (λ devices cs n d x s is. is))
+
+pub returns-in-Ok-Migrate-clause-each : goal.returns-in-Ok-Migrate-clause-each
+returns-in-Ok-Migrate-clause-each g c =
+    let job = rw c.in-Ok-Migrate.field-0-is at c.in-Ok-Migrate.ensures.job in
+    each_of_words (texts_of c.args.words.now) _ _ _ _ _ _ c.in-Ok-Migrate.ensures.accepted job (none_each _ _ _ _ _ _ (λ devices cs n d x s is. is))
+
+pub returns-in-Ok-Audit-clause-each : goal.returns-in-Ok-Audit-clause-each
+returns-in-Ok-Audit-clause-each g c =
+    let job = rw c.in-Ok-Audit.field-0-is at c.in-Ok-Audit.ensures.job in
+    each_of_words (texts_of c.args.words.now) _ _ _ _ _ _ c.in-Ok-Audit.ensures.accepted job (none_each _ _ _ _ _ _ (λ devices cs n d x s is. is))
+
+pub returns-in-Ok-Save-clause-each : goal.returns-in-Ok-Save-clause-each
+returns-in-Ok-Save-clause-each g c =
+    let job = rw c.in-Ok-Save.field-0-is at c.in-Ok-Save.ensures.job in
+    each_of_words (texts_of c.args.words.now) _ _ _ _ _ _ c.in-Ok-Save.ensures.accepted job (none_each _ _ _ _ _ _ (λ devices cs n d x s is. is))
+
+pub returns-in-Err-NotAccepted-clause-each : goal.returns-in-Err-NotAccepted-clause-each
+returns-in-Err-NotAccepted-clause-each g c = λ job at. absurd (no_job_of (texts_of c.args.words.now) job (c.in-Err-NotAccepted.ensures.refused c.in-Err-NotAccepted.field-0-is) at)
+
+pub save_file-requires : goal.save_file-requires
+save_file-requires g c = record { fresh = c.requires.fresh; few = rw c.in-Ok-Save.field-0-is at c.in-Ok-Save.ensures.few }
+
+pub resume_files-requires : goal.resume_files-requires
+resume_files-requires g c = record { fresh = c.requires.fresh; few = rw c.in-Ok-Resume.field-0-is at c.in-Ok-Resume.ensures.few }
 
 pub run_sample-requires : goal.run_sample-requires
 run_sample-requires g c = record { few = rw c.in-Ok-Sample.field-0-is at c.in-Ok-Sample.ensures.few }

@@ -14,4 +14,4 @@ pub returns-in-Err : goal.returns-in-Err
 returns-in-Err g c = λ devices job a b same ready named_fault.
     let w = g.S.Sink.seen c.args.out.now in
     let w' = g.S.Sink.seen c.tell_named_fault.new.out in
-    answers_named_fault job a b w w' c.in-Err.named_fault c.tell_named_fault.result same (subst (λ p. IfErr p (IsNamedFaultIn job a b)) c.in-Err.is named_fault) c.tell_named_fault.ensures
+    answers_named_fault job a b w w' c.in-Err.named_fault c.tell_named_fault.result same (subst (λ p. IfErr p (IsNamedFaultIn devices job a b)) c.in-Err.is named_fault) c.tell_named_fault.ensures

@@ -12,58 +12,57 @@ use Rattle.board_run.specs.Text.{trace_text}
 use Rattle.board_run.specs.MemoryText.{memory_text}
 use Rattle.audit_runs.specs.Last.{IsGoodText}
 use Rattle.board_run.proofs.Appending.{appends_more, front_more, front_wider}
-use Rattle.trace_cli.specs.Verdict.{memory_if, run_of, level_of}
-use Rattle.trace_cli.proofs.Starting.{from_start}
+use Rattle.trace_cli.specs.Verdict.{memory_if, run_from, level_of}
 use Rattle.trace_cli.proofs.Ending.{last_fits}
-use Rattle.trace_cli.proofs.program.push_run.Goals as goal
+use Rattle.trace_cli.proofs.running.push_run.Goals as goal
 
 pub returns-in_err-end-clause-text : goal.returns-in_err-end-clause-text
-returns-in_err-end-clause-text g c = λ x st.
+returns-in_err-end-clause-text g c = λ x s st.
     let p = err_from_is_err_and c.from_residual.result c.from_residual.ensures.1 in
-    let same = from_start c.level_of.result x c.args.board.now c.args.steps st c.requires.fresh ∙ ap (λ (l : Level). run_of l c.args.steps x) c.level_of.ensures in
-    let whole = run_of (level_of c.args.detail) c.args.steps x in
+    let same = ap (λ (l : Level). run_from l c.args.steps x s) c.level_of.ensures in
+    let whole = run_from (level_of c.args.detail) c.args.steps x s in
     let P : Run → Type 0 = λ r. AppendsFront (g.S.Sink.seen c.args.out.now).written (g.S.Sink.seen c.run.new.out).written (trace_text r) in
-    rw (p.1) (front_wider _ _ (trace_text whole) (memory_if c.args.detail.memory x.setup whole.last) (subst P same (c.in_err-end.ensures.text x (start_of x) st)))
+    rw (p.1) (front_wider _ _ (trace_text whole) (memory_if c.args.detail.memory x.setup whole.last) (subst P same (c.in_err-end.ensures.text x s st)))
 
 pub returns-in_err-write_memory-clause-text : goal.returns-in_err-write_memory-clause-text
-returns-in_err-write_memory-clause-text g c = λ x st.
+returns-in_err-write_memory-clause-text g c = λ x s st.
     let p = err_from_is_err_and c.from_residual-in_err-write_memory.result c.from_residual-in_err-write_memory.ensures.1 in
-    let same = from_start c.level_of.result x c.args.board.now c.args.steps st c.requires.fresh ∙ ap (λ (l : Level). run_of l c.args.steps x) c.level_of.ensures in
-    let whole = run_of (level_of c.args.detail) c.args.steps x in
+    let same = ap (λ (l : Level). run_from l c.args.steps x s) c.level_of.ensures in
+    let whole = run_from (level_of c.args.detail) c.args.steps x s in
     let P : Run → Type 0 = λ r. Appends (g.S.Sink.seen c.args.out.now).written (g.S.Sink.seen c.run.new.out).written (trace_text r) in
     let shown = boxed (λ p. (goal.Device-dyn g p).shown p.1) in
     let L : Run → Type 0 = λ r. Stands shown x c.run.new.board r.last in
-    let last = subst L same (c.in_ok-end.ensures.last x (start_of x) st) in
-    rw (p.1, c.if-detail.true) (front_more _ _ _ (trace_text whole) (memory_text x.setup whole.last) (subst P same (c.in_ok-end.ensures.text x (start_of x) st)) (c.in_err-write_memory.ensures.text x whole.last last))
+    let last = subst L same (c.in_ok-end.ensures.last x s st) in
+    rw (p.1, c.if-detail.true) (front_more _ _ _ (trace_text whole) (memory_text x.setup whole.last) (subst P same (c.in_ok-end.ensures.text x s st)) (c.in_err-write_memory.ensures.text x whole.last last))
 
 pub returns-in_ok-write_memory-clause-text : goal.returns-in_ok-write_memory-clause-text
-returns-in_ok-write_memory-clause-text g c = λ x st.
-    let same = from_start c.level_of.result x c.args.board.now c.args.steps st c.requires.fresh ∙ ap (λ (l : Level). run_of l c.args.steps x) c.level_of.ensures in
-    let whole = run_of (level_of c.args.detail) c.args.steps x in
+returns-in_ok-write_memory-clause-text g c = λ x s st.
+    let same = ap (λ (l : Level). run_from l c.args.steps x s) c.level_of.ensures in
+    let whole = run_from (level_of c.args.detail) c.args.steps x s in
     let P : Run → Type 0 = λ r. Appends (g.S.Sink.seen c.args.out.now).written (g.S.Sink.seen c.run.new.out).written (trace_text r) in
     let shown = boxed (λ p. (goal.Device-dyn g p).shown p.1) in
     let L : Run → Type 0 = λ r. Stands shown x c.run.new.board r.last in
-    let last = subst L same (c.in_ok-end.ensures.last x (start_of x) st) in
-    rw c.if-detail.true (appends_more _ _ _ (trace_text whole) (memory_text x.setup whole.last) (subst P same (c.in_ok-end.ensures.text x (start_of x) st)) (c.in_ok-write_memory.ensures.text x whole.last last))
+    let last = subst L same (c.in_ok-end.ensures.last x s st) in
+    rw c.if-detail.true (appends_more _ _ _ (trace_text whole) (memory_text x.setup whole.last) (subst P same (c.in_ok-end.ensures.text x s st)) (c.in_ok-write_memory.ensures.text x whole.last last))
 
 pub returns-in_ok-write_memory-clause-end : goal.returns-in_ok-write_memory-clause-end
-returns-in_ok-write_memory-clause-end g c = λ x st.
-    c.in_ok-end.ensures.end x (start_of x) st ∙ ap (λ (r : Run). r.end) (from_start c.level_of.result x c.args.board.now c.args.steps st c.requires.fresh ∙ ap (λ (l : Level). run_of l c.args.steps x) c.level_of.ensures)
+returns-in_ok-write_memory-clause-end g c = λ x s st.
+    c.in_ok-end.ensures.end x s st ∙ ap (λ (l : Level). (run_from l c.args.steps x s).end) c.level_of.ensures
 
 pub returns-else-detail-clause-end : goal.returns-else-detail-clause-end
-returns-else-detail-clause-end g c = λ x st.
-    c.in_ok-end.ensures.end x (start_of x) st ∙ ap (λ (r : Run). r.end) (from_start c.level_of.result x c.args.board.now c.args.steps st c.requires.fresh ∙ ap (λ (l : Level). run_of l c.args.steps x) c.level_of.ensures)
+returns-else-detail-clause-end g c = λ x s st.
+    c.in_ok-end.ensures.end x s st ∙ ap (λ (l : Level). (run_from l c.args.steps x s).end) c.level_of.ensures
 
 pub returns-else-detail-clause-text : goal.returns-else-detail-clause-text
-returns-else-detail-clause-text g c = λ x st.
-    let same = from_start c.level_of.result x c.args.board.now c.args.steps st c.requires.fresh ∙ ap (λ (l : Level). run_of l c.args.steps x) c.level_of.ensures in
+returns-else-detail-clause-text g c = λ x s st.
+    let same = ap (λ (l : Level). run_from l c.args.steps x s) c.level_of.ensures in
     let P : Run → Type 0 = λ r. Appends (g.S.Sink.seen c.args.out.now).written (g.S.Sink.seen c.run.new.out).written (trace_text r) in
-    rw (c.if-detail.false, append-nil (trace_text (run_of (level_of c.args.detail) c.args.steps x))) (subst P same (c.in_ok-end.ensures.text x (start_of x) st))
+    rw (c.if-detail.false, append-nil (trace_text (run_from (level_of c.args.detail) c.args.steps x s))) (subst P same (c.in_ok-end.ensures.text x s st))
 
 pub returns-in_ok-write_memory-clause-good : goal.returns-in_ok-write_memory-clause-good
 returns-in_ok-write_memory-clause-good g c = λ x st.
     let n = c.args.steps in
-    let same = from_start c.level_of.result x c.args.board.now n st c.requires.fresh ∙ ap (λ (l : Level). run_of l n x) c.level_of.ensures in
+    let same = ap (λ (l : Level). run_from l n x (start_of x)) c.level_of.ensures in
     let whole = run c.level_of.result x (n - (start_of x).turn) (start_of x) in
     let last = c.in_ok-end.ensures.last x (start_of x) st in
     let fits = last_fits x c.run.new.board whole.last n c.requires.few c.in_ok-end.ensures.within last (c.in_ok-end.ensures.timers x (start_of x) st) in
@@ -75,7 +74,7 @@ returns-in_ok-write_memory-clause-good g c = λ x st.
 pub returns-else-detail-clause-good : goal.returns-else-detail-clause-good
 returns-else-detail-clause-good g c = λ x st.
     let n = c.args.steps in
-    let same = from_start c.level_of.result x c.args.board.now n st c.requires.fresh ∙ ap (λ (l : Level). run_of l n x) c.level_of.ensures in
+    let same = ap (λ (l : Level). run_from l n x (start_of x)) c.level_of.ensures in
     let whole = run c.level_of.result x (n - (start_of x).turn) (start_of x) in
     let last = c.in_ok-end.ensures.last x (start_of x) st in
     let fits = last_fits x c.run.new.board whole.last n c.requires.few c.in_ok-end.ensures.within last (c.in_ok-end.ensures.timers x (start_of x) st) in

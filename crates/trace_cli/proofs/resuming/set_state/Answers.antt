@@ -1,0 +1,20 @@
+use Rattle.std.proofs.Common.{ℕ, List, map, refl, sym, subst}
+use Rattle.image_format.specs.Images.{picture}
+use Rattle.trace_cli.specs.Sources.{state_file, MayBe}
+use Rattle.trace_cli.proofs.Faulting.{cannot_take, refused_in, long_state}
+use Rattle.trace_cli.proofs.resuming.set_state.Goals as goal
+
+pub returns-in-Err-clause-named_fault : goal.returns-in-Err-clause-named_fault
+returns-in-Err-clause-named_fault g c =
+    let a = g.F.Files.seen c.args.files.now in
+    let b = g.F.Files.seen c.read_contents.new.files in
+    c.fault_named.ensures a b (state_file _ (picture c.args.image.now) c.args.bound c.args.state.now) refl
+    (cannot_take a b (state_file _ (picture c.args.image.now) c.args.bound c.args.state.now) c.in-Err.file_fault (long_state _ (picture c.args.image.now) c.args.bound) c.in-Err.ensures.file_fault)
+
+pub returns-clause-named_fault : goal.returns-clause-named_fault
+returns-clause-named_fault g c =
+    let a = g.F.Files.seen c.args.files.now in
+    let b = g.F.Files.seen c.read_contents.new.files in
+    let held = subst (λ (x : List ℕ). MayBe (g.F.Files.seen c.args.files.now).contents c.args.state.now x) (sym c.deref.ensures.value) c.in-Ok.ensures.held in
+    c.fault_named-in-Err-board_in.ensures a b (state_file _ (picture c.args.image.now) c.args.bound c.args.state.now) refl
+    (refused_in a b (state_file _ (picture c.args.image.now) c.args.bound c.args.state.now) c.deref.result.now c.in-Err-board_in.file_fault held c.in-Err-board_in.ensures.file_fault)

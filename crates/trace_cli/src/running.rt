@@ -1,0 +1,66 @@
+//! The run of a board from the state that it stands for, told.
+ghost use Rattle.std.specs.Prelude.{◌≡◌, ◌≤◌, IfOk};
+ghost use Rattle.outside_io.specs.Outside.{Pushes, HasCause};
+ghost use Rattle.task_table.specs.State.{State};
+ghost use Rattle.board_model.specs.Script.{Scenario, start_of};
+ghost use Rattle.board_core.specs.Data.{boxed};
+ghost use Rattle.board_core.specs.Stands.{Stands, Stood, turns_of};
+ghost use Rattle.audit_runs.specs.Last.{IsGoodText};
+ghost use Rattle.trace_cli.specs.Verdict.{level_of, resumed, run_from};
+ghost use Rattle.trace_cli.specs.Pushed.{Pushed};
+ghost use Rattle.trace_cli.specs.Answer.{IsOfRun};
+
+use crate::telling::status_by;
+use audit_runs::{memories_are_shown, texts_of_runs_are_good};
+use board_core::{Board, End, Level};
+use board_run::{run, write_memory};
+use command_line::Detail;
+use outside_io::{Failed, Sink};
+
+fn level_of(detail: Detail) -> Level
+    ensures { result ≡ level_of detail }
+{
+    if detail.instructions {
+        Level::All
+    } else {
+        Level::Calls
+    }
+}
+
+// A run's trace, and then maybe its memory. From the start of a run an audit finds the whole text good.
+fn push_run<S: Sink>(
+    board: &mut Board,
+    steps: u32,
+    detail: Detail,
+    out: &mut S,
+) -> Result<End, Failed>
+    requires stood { Stood (boxed shown) board.old }
+    requires from { turns_of board.old ≤ steps }
+    requires few { steps ≤ 1000000000 }
+    ensures text { (x : Scenario) (s : State) → Stands (boxed shown) x board.old s → Pushes (S.seen out.old).written (S.seen out.new).written (resumed steps detail x s).text result }
+    ensures end { (x : Scenario) (s : State) → Stands (boxed shown) x board.old s → IfOk result (λ e. e ≡ (run_from (level_of detail) steps x s).end) }
+    ensures good { (x : Scenario) → Stands (boxed shown) x board.old (start_of x) → IfOk result (λ _. IsGoodText (resumed steps detail x (start_of x)).text) }
+    ensures cause { HasCause (S.seen out.old).faults (S.seen out.new).faults result }
+{
+    texts_of_runs_are_good();
+    memories_are_shown();
+    let end = run(board, steps, level_of(detail), out)?;
+    if detail.memory {
+        write_memory(board, out)?;
+    }
+    Ok(end)
+}
+
+/// The run of a board up to a turn.
+pub fn tell_run<S: Sink>(board: &mut Board, steps: u32, detail: Detail, out: &mut S) -> u8
+    requires stood { Stood (boxed shown) board.old }
+    requires from { turns_of board.old ≤ steps }
+    requires few { steps ≤ 1000000000 }
+    ensures pushed { (x : Scenario) (s : State) → Stands (boxed shown) x board.old s → Pushed (S.seen out.old) (S.seen out.new) (resumed steps detail x s) result }
+    ensures good { (x : Scenario) → Stands (boxed shown) x board.old (start_of x) → IsOfRun result → IsGoodText (resumed steps detail x (start_of x)).text }
+{
+    match push_run(board, steps, detail, out) {
+        Ok(end) => status_by(end),
+        Err(_) => 4,
+    }
+}
