@@ -102,20 +102,28 @@ fn goes_on(
     files: &mut MemFiles,
 ) -> Result<bool, AllocError> {
     let after = format!(in alloc; "--steps {turns}")?;
-    let saved = ["save", stored.image, stored.script, "cut.state", after.as_str()];
+    let saved = [
+        "save",
+        stored.image,
+        stored.script,
+        "cut.state",
+        after.as_str(),
+    ];
     text_of(alloc, stored, &saved, files)?;
     let turn = turn_of(alloc, files);
-    let resumed = ["resume", stored.image, stored.script, "cut.state", stored.rest];
+    let resumed = [
+        "resume",
+        stored.image,
+        stored.script,
+        "cut.state",
+        stored.rest,
+    ];
     let rest = text_of(alloc, stored, &resumed, files)?;
     Ok(is_rest(whole, turn, rest.as_str()))
 }
 
 /// How many of five cuts of a run go on as the whole one.
-fn count_cuts(
-    alloc: Global,
-    stored: &Stored<'_>,
-    files: &mut MemFiles,
-) -> Result<u64, AllocError> {
+fn count_cuts(alloc: Global, stored: &Stored<'_>, files: &mut MemFiles) -> Result<u64, AllocError> {
     let run = ["run", stored.image, stored.script, stored.rest];
     let whole = text_of(alloc, stored, &run, files)?;
     let mut agreed = 0_u64;
