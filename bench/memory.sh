@@ -13,6 +13,7 @@ program=${program:-$(realpath crates/hubris/out/hubris)}
 out=bench/out/memory
 mkdir -p $out
 gcc -O2 -Wall -shared -fPIC -o $out/refuse.so bench/refuse.c
+"$program" save crates/hubris/data/a.img crates/hubris/data/e.txt $out/state --steps 2 >$out/text
 bad=0
 while read -r words; do
     rm -f $out/app.img
@@ -25,7 +26,7 @@ while read -r words; do
     cmp $out/text $out/again || bad=1
     awk -v words="$words" -v status=$status '
         $2 == 5 && $3 == 0 && $5 == "none" && $6 == "kept" { refused++; next }
-        $2 == status && $5 == "same" && ($6 == "put") == (words ~ /^(build|migrate)/) { whole++; next }
+        $2 == status && $5 == "same" && ($6 == "put") == (words ~ /^(build|migrate|save)/) { whole++; next }
         { print "  allocation " $1 ": status " $2 ", " $3 " bytes before and " $4 " behind (" $5 "), file " $6; wrong++ }
         END {
             printf "%s: %d allocations, %d with status 5 and nothing told, %d with the whole text, %d otherwise\n", words, NR, refused, whole, wrong
@@ -41,6 +42,8 @@ run crates/hubris/data/a.img crates/hubris/data/e.txt --steps 3
 sample 1 64
 migrate crates/hubris/data/a.img $out/app.img
 audit examples/client-server/expected-mem.txt
+save crates/hubris/data/a.img crates/hubris/data/e.txt $out/app.img --steps 3
+resume crates/hubris/data/a.img crates/hubris/data/e.txt $out/state --steps 3
 WORDS
 rm -rf $out
 [ $bad = 0 ]
