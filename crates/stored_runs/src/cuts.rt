@@ -34,7 +34,7 @@ struct Stored<'a> {
 /// What the program answers to a line of words.
 fn text_of(
     alloc: Global,
-    stored: &Stored<'_>,
+    parts: &[Part<'_>],
     line: &[&str],
     files: &mut MemFiles,
 ) -> Result<String, AllocError> {
@@ -46,7 +46,7 @@ fn text_of(
         }
     }
     let mut out = MemSink::open(alloc, 4_000_000, &[])?;
-    match contents(stored.parts, "devices") {
+    match contents(parts, "devices") {
         Some(_) => with_two(alloc, &words, files, &mut out)?,
         None => hubris_main(alloc, &words, files, &mut out),
     };
@@ -109,7 +109,7 @@ fn goes_on(
         "cut.state",
         after.as_str(),
     ];
-    text_of(alloc, stored, &saved, files)?;
+    text_of(alloc, stored.parts, &saved, files)?;
     let turn = turn_of(alloc, files);
     let resumed = [
         "resume",
@@ -118,14 +118,14 @@ fn goes_on(
         "cut.state",
         stored.rest,
     ];
-    let rest = text_of(alloc, stored, &resumed, files)?;
+    let rest = text_of(alloc, stored.parts, &resumed, files)?;
     Ok(is_rest(whole, turn, rest.as_str()))
 }
 
 /// How many of five cuts of a run go on as the whole one.
 fn count_cuts(alloc: Global, stored: &Stored<'_>, files: &mut MemFiles) -> Result<u64, AllocError> {
     let run = ["run", stored.image, stored.script, stored.rest];
-    let whole = text_of(alloc, stored, &run, files)?;
+    let whole = text_of(alloc, stored.parts, &run, files)?;
     let mut agreed = 0_u64;
     for k in 1..6_u64 {
         let turns = (stored.steps / 6).saturating_mul(k);
@@ -163,19 +163,21 @@ fn count_case(alloc: Global, case: &str) -> Result<u64, AllocError> {
     let mut files = files_of(alloc, &parts)?;
     hold(&mut files, "cut.image", &[], ROOM)?;
     hold(&mut files, "cut.state", &[], ROOM)?;
-    let mut stored = Stored {
+    let image = match command {
+        "go" => "cut.image",
+        "run" => subject,
+        _ => return Ok(0),
+    };
+    if command == "go" {
+        text_of(alloc, &parts, &["build", subject, image], &mut files)?;
+    }
+    let stored = Stored {
         parts: &parts,
-        image: subject,
+        image,
         script,
         rest,
         steps: steps_in(rest),
     };
-    if command == "go" {
-        text_of(alloc, &stored, &["build", subject, "cut.image"], &mut files)?;
-        stored.image = "cut.image";
-    } else if command != "run" {
-        return Ok(0);
-    }
     count_cuts(alloc, &stored, &mut files)
 }
 
