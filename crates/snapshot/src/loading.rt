@@ -5,7 +5,7 @@ ghost use Rattle.image_format.specs.Images.{picture};
 ghost use Rattle.run_script.specs.Events.{script_data};
 ghost use Rattle.task_table.specs.State.{State};
 ghost use Rattle.task_table.specs.Sane.{Sane, IsCounted};
-ghost use Rattle.board_model.specs.Script.{Scenario};
+ghost use Rattle.board_model.specs.Script.{Scenario, start_of};
 ghost use Rattle.board_core.specs.Data.{boxed};
 ghost use Rattle.board_core.specs.Opened.{setup_of_image, scenario_of};
 ghost use Rattle.board_core.specs.Stands.{Holds, Stands, count_of, turns_of};
@@ -187,7 +187,7 @@ fn refusal(
 }
 
 /// A board of an image with a script and with devices, as they are handed in, in the state that the bytes spell. Where none is
-/// made, the devices are dropped.
+/// made, the devices are dropped. Where one is made, its run starts sane.
 ///
 /// # Errors
 ///
@@ -201,6 +201,7 @@ pub fn load(
 ) -> Result<Board, StateFault>
     requires fresh { AreFresh (map shown devices.items) }
     ensures accepted { let x = scenario_of (picture image.now) (script_data script.now) (map shown devices.items) in IfOk result (λ b. state_fault (expected_of x.setup x.devices) bytes.now ≡ None) }
+    ensures start { let x = scenario_of (picture image.now) (script_data script.now) (map shown devices.items) in IfOk result (λ b. Sane x.setup (start_of x)) }
     ensures stands { let x = scenario_of (picture image.now) (script_data script.now) (map shown devices.items) in IfOk result (λ b. Stands shown x b (state_in x.setup x.devices bytes.now)) }
     ensures each { let x = scenario_of (picture image.now) (script_data script.now) (map shown devices.items) in IfOk result (λ b. (s : State) → SpellsState x.setup s bytes.now → Sane x.setup s → IsCounted s → sites s.devices ≡ sites x.devices → Stands shown x b s) }
     ensures turns { IfOk result (λ b. turns_of b ≡ (header_at bytes.now).turn) }

@@ -5,6 +5,9 @@ use Rattle.snapshot.proofs.loading.load.Goals as goal
 pub load_into-requires : goal.load_into-requires
 load_into-requires g c = (_, _, c.in-Ok-open.ensures.stands, sym c.in-Ok.ensures ∙ c.in-None.is)
 
+pub returns-clause-start : goal.returns-clause-start
+returns-clause-start g c = c.in-Ok-open.ensures.stands.sane
+
 pub returns-clause-stands : goal.returns-clause-stands
 returns-clause-stands g c = c.load_into.ensures.stands _ _ c.in-Ok-open.ensures.stands
 
