@@ -19,3 +19,4 @@ mod TaskViews
 mod Loads
 mod Boards
 mod Written
+mod Fixed
