@@ -1,17 +1,17 @@
-mod Accepts
+pub mod Accepts
 mod Again
 mod Agreed
 mod Collected
 mod First
 mod Grow
 mod Pieces
-mod Places
+pub mod Places
 mod Restores
 mod Rows
 mod Saves
 mod Single
 mod Splits
-mod Stood
+pub mod Stood
 mod Told
 mod Viewed
 mod WaitsRestored
@@ -19,4 +19,4 @@ mod TaskViews
 mod Loads
 mod Boards
 mod Written
-mod Fixed
+pub mod Fixed

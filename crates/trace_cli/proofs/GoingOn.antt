@@ -1,20 +1,14 @@
 -- What is told from the state that is saved of a run: what is left of that run.
-use Rattle.std.proofs.Common.{◌≡◌, ℕ, ◌+◌, ◌-◌, ◌≤◌, ◌⊎◌, Bool, true, false, List, [], ◌∷◌, ◌++◌, length, Option, Some, refl, sym, ap, subst, ◌∙◌, inl, inr, arith}
-use Rattle.std.specs.Prelude.{replicate}
+use Rattle.std.proofs.Common.{◌≡◌, ℕ, ◌+◌, ◌*◌, ◌-◌, ◌≤◌, ◌⊎◌, Bool, true, false, List, [], ◌∷◌, ◌++◌, length, Option, Some, None, refl, sym, ap, subst, ◌∙◌, inl, inr, arith}
 use Rattle.std.proofs.lemmas.List.{length-replicate}
 use Rattle.kernel_abi.specs.declared.Note.{Note}
-use Rattle.kernel_abi.specs.Devices.{DeviceData, AreFresh}
-use Rattle.kernel_abi.proofs.Devices.{fresh_sane}
-use Rattle.mem_banks.specs.Memory.{Memory, IsWithinRam, AreAllBytes}
+use Rattle.kernel_abi.specs.Devices.{DeviceData}
+use Rattle.mem_banks.specs.Memory.{Memory}
 use Rattle.outside_io.specs.Seen.{FilesSeen, SinkSeen}
-use Rattle.task_table.specs.Effects.{with_devices}
-use Rattle.task_table.specs.Parts.{IsSound}
-use Rattle.task_table.specs.Placed.{ArePlaced}
-use Rattle.task_table.specs.Start.{start, begun}
-use Rattle.task_table.proofs.Equipped.{sane-devices}
-use Rattle.task_table.proofs.Starts.{sane-start}
+use Rattle.task_table.specs.Reading.{no_line}
+use Rattle.task_table.specs.Start.{start}
 use Rattle.task_table.specs.State.{Setup, State}
-use Rattle.task_table.specs.Sane.{Sane}
+use Rattle.task_table.specs.Sane.{Sane, IsCounted}
 use Rattle.board_model.specs.declared.outcomes.End.{End}
 use Rattle.board_model.specs.declared.outcomes.Level.TheVariants.{Calls}
 use Rattle.board_model.specs.Alike.{reduced, seen}
@@ -23,19 +17,30 @@ use Rattle.board_model.specs.Run.{Run, run}
 use Rattle.board_model.specs.Script.{Scenario, start_of}
 use Rattle.board_model.proofs.AlikeRuns.{reduced-run}
 use Rattle.board_model.proofs.RunCuts.{rest_of_run as rest_at_cut, sane-cut}
+use Rattle.board_model.proofs.SaneReduced.{sane-reduced}
 use Rattle.board_core.proofs.Running.{turn_started}
 use Rattle.board_run.specs.Text.{end_text, notes_text, trace_text}
 use Rattle.board_run.proofs.GenerationsTold.{end_reduced, memory_reduced}
 use Rattle.command_line.specs.CommandLine.{Asked, resume}
 use Rattle.command_line.specs.declared.job.Detail.{Detail}
+use Rattle.snapshot.specs.declared.records.Header.{Header}
+use Rattle.snapshot.specs.Loaded.{sites}
+use Rattle.snapshot.specs.Records.{header_at}
 use Rattle.snapshot.specs.Restored.{state_in}
+use Rattle.snapshot.specs.Saved.{expected_of, parts_of}
+use Rattle.snapshot.specs.Waits.{state_fault}
+use Rattle.snapshot.proofs.Accepts.{accepted}
+use Rattle.snapshot.proofs.Fixed.{fixed_run}
+use Rattle.snapshot.proofs.Places.{header_place}
+use Rattle.snapshot.proofs.Stood.{as_long, parts_stood, spells}
 use Rattle.trace_cli.specs.Contents.{picture_of, scenario_of}
 use Rattle.trace_cli.specs.Words.{job_in}
 use Rattle.trace_cli.specs.Sources.{File, image_file, script_file, state_file, Are, TakesAll}
 use Rattle.trace_cli.specs.Ready.{IsSpelled}
 use Rattle.trace_cli.specs.Verdict.{Verdict, level_of, line_alone, memory_if, rest_of_run, resumed, run_of, saved_bytes, status_of}
-use Rattle.trace_cli.specs.Answer.{Answered, GoesOn, Tells, TellsEach, TellsUnread}
+use Rattle.trace_cli.specs.Answer.{Answered, GoesOn, IsFromSpelled, Tells, TellsEach, TellsUnread}
 use Rattle.trace_cli.proofs.Lists.{takes_first, takes_none}
+use Rattle.trace_cli.proofs.Refusals.{state_accepted}
 
 memory_if_reduced : (mem : Bool) (g : Setup) (s : State) → memory_if mem g (reduced s) ≡ memory_if mem g s
 memory_if_reduced true g s = memory_reduced g s
@@ -77,50 +82,50 @@ told_rest n m detail x sane le =
     ap (λ (k : ℕ). told detail x.setup (run level x k (reduced u))) count
     ∙ told_alike detail x.setup (run level x (left_of m s u) (reduced u)) (from_turn u.turn (run level x m s)) (alike.notes ∙ ap (λ (r : Run). r.notes) rest) (alike.end ∙ ap (λ (r : Run). r.end) rest) (alike.last ∙ ap (λ (r : Run). reduced r.last) rest)
 
--- ## where the run starts
+-- ## the state that is saved
 
--- what is placed by one memory is placed by another of as many bytes
-placed_alike : (g : Setup) (m k : Memory) → length k.flash ≡ length m.flash → length k.ram ≡ length m.ram → ArePlaced g m → ArePlaced g k
-placed_alike g m k flash ram h = record {
-  within = λ i r here none. elim (h.within i r here none) [ inl w ↦ inl (in_ram r.base r.size w) | inr w ↦ inr (w.0, omega (arith, w.1)) ];
-  writable = λ i r here none may. in_ram r.base r.size (h.writable i r here none may);
-  flash = (let few = h.flash in omega arith);
-  devices = h.devices;
-  below = (let few = h.below in omega arith);
-  owners = h.owners;
-  stack = h.stack;
-}
-  where
-    in_ram : (a n : ℕ) → IsWithinRam m a n → IsWithinRam k a n
-    in_ram a n (inl none) = inl none
-    in_ram a n (inr w) = inr (w.0, omega (arith, w.1))
-
--- a state that is spelled tells of the image that it is sound
-sound_by : (x : Scenario) (bytes : List ℕ) (s : State) → IsSpelled x bytes s → IsSound x.setup
+lines_started : (x : Scenario) → length (start_of x).lines ≡ x.setup.line_count
 unfolding start
-sound_by x bytes s h =
-    let steady = h.sane.steady in
-    let zeros : List ℕ = replicate x.setup.ram 0 in
-    let many : length zeros ≡ x.setup.ram = length-replicate x.setup.ram 0 in
-    let ram : length zeros ≡ length s.memory.ram = many ∙ sym h.spells.ram in
-    let flash : length x.setup.flash ≡ length s.memory.flash = ap (λ (bs : List ℕ). length bs) (sym steady.flash) in
-    let first = steady.current in
-    let count = steady.as_many in
+lines_started x = length-replicate x.setup.line_count no_line
+
+counted_by : (h : Header) (s : State) → h.turn ≡ s.turn → h.clock ≡ s.now → h.next_call ≡ s.next_call → 1 ≤ h.next_call → h.next_call ≤ h.turn + 1 → h.clock ≤ 9 * h.turn → IsCounted s
+counted_by h s turn clock next some few now = record { some = omega (arith, next, some); calls = omega (arith, turn, next, few); now = omega (arith, turn, clock, now) }
+
+-- where the run starts sane: the bytes that `save` puts, if they are accepted, spell the state that they are of
+pub saved_spelled : (n : ℕ) (x : Scenario) → Sane x.setup (start_of x) → state_fault (expected_of x.setup x.devices) (saved_bytes n x) ≡ None → IsSpelled x (saved_bytes n x) (reduced (run_of Calls n x).last)
+saved_spelled n x started none =
+    let s = start_of x in
+    let u = (run_of Calls n x).last in
+    let bytes : List ℕ = saved_bytes n x in
+    let sane = sane-cut Calls x n s started in
+    let ok = accepted (expected_of x.setup x.devices) bytes none in
+    let head : header_at bytes ≡ (parts_of (reduced u)).header = header_place (parts_of (reduced u)) (parts_stood x.setup u sane) in
+    let keeps = as_long u in
+    let fixed = fixed_run Calls x n s started in
+    let ram : length u.memory.ram ≡ x.setup.ram = ap (λ (m : Memory). length m.ram) (sym keeps.ram) ∙ ap (λ (h : Header). h.ram) (sym head) ∙ ok.ram in
     record {
-      some = omega arith;
-      placed = placed_alike x.setup s.memory record { flash = x.setup.flash; ram = zeros } flash ram steady.placed;
-      flash_bytes = subst AreAllBytes steady.flash steady.flash_bytes;
+      spells = spells x.setup u bytes sane record { lines = fixed.lines ∙ lines_started x; ram = ram } refl;
+      sane = sane-reduced x.setup u sane;
+      counted = counted_by (header_at bytes) (reduced u) (ap (λ (h : Header). h.turn) head) (ap (λ (h : Header). h.clock) head) (ap (λ (h : Header). h.next_call) head) ok.some_call ok.few_calls ok.clock;
+      sites = ap sites keeps.devices ∙ fixed.sites;
     }
 
--- the start of its run is sane
-start_sane : (g : Setup) (devices : List DeviceData) → IsSound g → AreFresh devices → Sane g (record (start g) { devices = devices })
-unfolding begun with_devices
-start_sane g devices sound fresh = sane-devices devices (begun (start g)) (sane-start g sound) (fresh_sane devices fresh)
+-- and it is of the turn at their head
+saved_turn : (n : ℕ) (x : Scenario) → Sane x.setup (start_of x) → (header_at (saved_bytes n x)).turn ≡ (run_of Calls n x).last.turn
+saved_turn n x started =
+    let u = (run_of Calls n x).last in
+    ap (λ (h : Header). h.turn) (header_place (parts_of (reduced u)) (parts_stood x.setup u (sane-cut Calls x n (start_of x) started))) ∙ turn_reduced u
+
+-- so what is told from there is the rest of the run
+rest_spelled : (n m : ℕ) (detail : Detail) (x : Scenario) → state_fault (expected_of x.setup x.devices) (saved_bytes n x) ≡ None → (header_at (saved_bytes n x)).turn ≤ m → Sane x.setup (start_of x)
+    → IsFromSpelled m detail x (saved_bytes n x) (rest_of_run (run_of Calls n x).last.turn m detail x)
+rest_spelled n m detail x none few started =
+    record { state = reduced (run_of Calls n x).last; spelled = saved_spelled n x started none; is = sym (told_rest n m detail x started (subst (λ (k : ℕ). k ≤ m) (saved_turn n x started) few)) }
 
 -- ## the answer
 
-pub goes_on : {devices : List DeviceData} (words : List (List ℕ)) (a b : FilesSeen) (w w' : SinkSeen) (r : ℕ) → AreFresh devices → ((job : Asked) → job_in words ≡ Some job → TellsEach devices job a b w w' r) → GoesOn devices words a b w w' r
-goes_on {devices} words a b w w' r fresh each = λ image_name script_name state_name image script m n detail at has_image has_script has_state image_ok script_ok state_ok spelled le.
+pub goes_on : {devices : List DeviceData} (words : List (List ℕ)) (a b : FilesSeen) (w w' : SinkSeen) (r : ℕ) → ((job : Asked) → job_in words ≡ Some job → TellsEach devices job a b w w' r) → GoesOn devices words a b w w' r
+goes_on {devices} words a b w w' r each = λ image_name script_name state_name image script m n detail at has_image has_script has_state image_ok script_ok state_ok.
     let x : Scenario = scenario_of (picture_of image) script devices in
     let bytes : List ℕ = saved_bytes n x in
     let job : Asked = resume image_name script_name state_name m detail in
@@ -132,10 +137,10 @@ goes_on {devices} words a b w w' r fresh each = λ image_name script_name state_
           (takes_first (Are a.contents) file [] bytes [] has_state state_ok (takes_none (Are a.contents) [])));
       all = refl;
     } in
-    let sane : Sane x.setup (start_of x) = start_sane x.setup devices (sound_by x bytes _ spelled) fresh in
-    by job (rest_of_run (run_of Calls n x).last.turn m detail x) (resumed m detail x (reduced (run_of Calls n x).last)) at (told_rest n m detail x sane le)
-    (each job at contents m detail x (reduced (run_of Calls n x).last) (state_in x.setup devices bytes) all (refl, refl, refl, refl) spelled)
+    let rest : Verdict = rest_of_run (run_of Calls n x).last.turn m detail x in
+    let ok = state_accepted devices (picture_of image) m bytes state_ok in
+    by job rest at (each job at contents m detail x (state_in x.setup devices bytes) rest all (refl, refl, refl, refl) (rest_spelled n m detail x ok.0 ok.1))
   where
-    by : (job : Asked) (v u : Verdict) → job_in words ≡ Some job → u ≡ v → Tells a b w w' u r ⊎ TellsUnread devices job a b w w' r → Answered devices words a b w w' v r
-    by job v u at same (inl t) = inl (subst (λ (z : Verdict). Tells a b w w' z r) same t)
-    by job v u at same (inr t) = inr (record { job = job; command = at; file = t.file; is = t.is; tells = t.tells })
+    by : (job : Asked) (v : Verdict) → job_in words ≡ Some job → Tells a b w w' v r ⊎ TellsUnread devices job a b w w' r → Answered devices words a b w w' v r
+    by job v at (inl t) = inl t
+    by job v at (inr t) = inr (record { job = job; command = at; file = t.file; is = t.is; tells = t.tells })

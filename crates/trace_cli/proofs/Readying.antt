@@ -154,6 +154,7 @@ resume_ready {X} {H} {shown} {devices} seen image script state m detail picture 
       scenario = x;
       state = state_in x.setup devices t.bytes;
       is = (refl, refl, refl, refl);
+      start = loaded.start;
       stands = loaded.stands;
       each = loaded.each;
       turns = t.turns;

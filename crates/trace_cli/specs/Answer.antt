@@ -5,9 +5,9 @@ use Rattle.kernel_abi.specs.Devices.{DeviceData}
 use Rattle.outside_io.specs.Outside.{WhereSeen, Rose, AppendsFront, IsFront, short_name}
 use Rattle.image_format.specs.Picture.{Picture, spelling}
 use Rattle.board_model.specs.declared.outcomes.Level.TheVariants.{Calls}
-use Rattle.board_model.specs.Alike.{reduced}
-use Rattle.board_model.specs.Script.{Scenario}
+use Rattle.board_model.specs.Script.{Scenario, start_of}
 use Rattle.task_table.specs.State.{State}
+use Rattle.task_table.specs.Sane.{Sane}
 use Rattle.trace_audit.specs.declared.verdict.Verdict as trace
 use Rattle.trace_audit.specs.Verdicts as trace_audit
 use Rattle.audit_runs.specs.Last.{IsGoodText}
@@ -268,11 +268,18 @@ pub record TellsUnread (devices : List DeviceData) (job : Asked) (before after :
   pub is : IsUnread devices job before after file
   pub tells : Tells before after w w' (unread file.name) r
 
--- where the files of `resume` are seen and accepted: what is told is the run from each state that the last of them spells
+-- it is the run from a state that these bytes spell
+pub record IsFromSpelled (m : ℕ) (detail : Detail) (x : Scenario) (bytes : List ℕ) (v : Verdict) : Type 0 where
+  pub state : State
+  pub spelled : IsSpelled x bytes state
+  pub is : v ≡ resumed m detail x state
+
+-- Where the files of `resume` are seen and accepted: what is told is the run from each state that the last of them spells. That a
+-- state is spelled there may rest on the start of the run, which is sane.
 abbrev pub TellsEach : List DeviceData → Asked → FilesSeen → FilesSeen → SinkSeen → SinkSeen → ℕ → Type 0
 TellsEach devices job before after w w' r =
-    (contents : List (List ℕ)) (m : ℕ) (detail : Detail) (x : Scenario) (s t : State) → TakesAll (Are before.contents) devices job contents → IsResume devices job contents m detail x t
-    → IsSpelled x (slice_index_or contents 2 []) s → Tells before after w w' (resumed m detail x s) r ⊎ TellsUnread devices job before after w w' r
+    (contents : List (List ℕ)) (m : ℕ) (detail : Detail) (x : Scenario) (t : State) (v : Verdict) → TakesAll (Are before.contents) devices job contents → IsResume devices job contents m detail x t
+    → (Sane x.setup (start_of x) → IsFromSpelled m detail x (slice_index_or contents 2 []) v) → Tells before after w w' v r ⊎ TellsUnread devices job before after w w' r
 
 -- Where `resume` is asked for with the image and the script of a run, up to turn m, from the state that `save` puts of that run
 -- up to turn n, and that state is accepted: what is told is the text of `run` up to turn m without the lines of turns before the
@@ -285,5 +292,4 @@ GoesOn devices words before after w w' r =
     job_in words ≡ Some (resume image_name script_name state_name m detail)
     → before.contents image_name ≡ Some image → before.contents script_name ≡ Some script → before.contents state_name ≡ Some (saved_bytes n x)
     → image_refusal image ≡ None → script_refusal script ≡ None → state_refusal devices (picture_of image) m (saved_bytes n x) ≡ None
-    → IsSpelled x (saved_bytes n x) (reduced last) → last.turn ≤ m
     → Answered devices words before after w w' (rest_of_run last.turn m detail x) r

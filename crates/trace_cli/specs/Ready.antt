@@ -72,8 +72,9 @@ pub record IsSpelled (x : Scenario) (bytes : List ℕ) (s : State) : Type 0 wher
   pub counted : IsCounted s
   pub sites : sites s.devices ≡ sites x.devices
 
--- the board stands for the state that these bytes are read as, and for each that they spell
+-- the run starts sane, and the board stands for the state that these bytes are read as, and for each that they spell
 pub record IsLoaded {X : Type 0} {H : X → Type 0} (shown : Shows X H) (x : Scenario) (bytes : List ℕ) (b : Board X H) : Type 0 where
+  pub start : Sane x.setup (start_of x)
   pub stands : Stands shown x b (state_in x.setup x.devices bytes)
   pub each : (s : State) → IsSpelled x bytes s → Stands shown x b s
 
@@ -85,13 +86,15 @@ pub record IsStateSet {X : Type 0} {H : X → Type 0} (shown : Shows X H) (devic
   pub loaded : IsLoaded shown (opened.scenario_of image script devices) bytes b
   pub turns : turns_of b ≤ bound
 
--- each file of the job is accepted, and the board stands for the state from which its run goes on, and for each that the bytes spell
+-- each file of the job is accepted, its run starts sane, and the board stands for the state from which it goes on, and for each that
+-- the bytes spell
 pub record IsResumable {X : Type 0} {H : X → Type 0} (shown : Shows X H) (devices : List DeviceData) (job : Asked) (seen : List ℕ → Option (List ℕ)) (n : ℕ) (detail : Detail) (b : Board X H) : Type 0 where
   pub contents : List (List ℕ)
   pub accepted : TakesAll (MayBe seen) devices job contents
   pub scenario : Scenario
   pub state : State
   pub is : IsResume devices job contents n detail scenario state
+  pub start : Sane scenario.setup (start_of scenario)
   pub stands : Stands shown scenario b state
   pub each : (s : State) → IsSpelled scenario (slice_index_or contents 2 []) s → Stands shown scenario b s
   pub turns : turns_of b ≤ n

@@ -42,4 +42,4 @@ pub returns-clause-bad : goal.returns-clause-bad
 returns-clause-bad g c = λ e. was_bad _ _ _ _ _ _ c.answer.ensures.answer e
 
 pub returns-clause-goes_on : goal.returns-clause-goes_on
-returns-clause-goes_on g c = goes_on _ _ _ _ _ _ c.requires.fresh c.answer.ensures.each
+returns-clause-goes_on g c = goes_on _ _ _ _ _ _ c.answer.ensures.each
