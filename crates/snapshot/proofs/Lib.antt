@@ -19,4 +19,4 @@ mod TaskViews
 mod Loads
 mod Boards
 mod Written
-mod Fixed
+pub mod Fixed

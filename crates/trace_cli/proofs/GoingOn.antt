@@ -1,5 +1,5 @@
 -- What is told from the state that is saved of a run: what is left of that run.
-use Rattle.std.proofs.Common.{◌≡◌, ℕ, ◌+◌, ◌-◌, ◌≤◌, ◌⊎◌, Bool, true, false, List, [], ◌∷◌, ◌++◌, length, Option, Some, None, refl, sym, ap, ◌∙◌, inl, inr, arith}
+use Rattle.std.proofs.Common.{◌≡◌, ℕ, ◌+◌, ◌*◌, ◌-◌, ◌≤◌, ◌⊎◌, Bool, true, false, List, [], ◌∷◌, ◌++◌, length, Option, Some, None, refl, sym, ap, subst, ◌∙◌, inl, inr, arith}
 use Rattle.std.proofs.lemmas.List.{length-replicate}
 use Rattle.kernel_abi.specs.declared.Note.{Note}
 use Rattle.kernel_abi.specs.Devices.{DeviceData}
@@ -8,7 +8,7 @@ use Rattle.outside_io.specs.Seen.{FilesSeen, SinkSeen}
 use Rattle.task_table.specs.Reading.{no_line}
 use Rattle.task_table.specs.Start.{start}
 use Rattle.task_table.specs.State.{Setup, State}
-use Rattle.task_table.specs.Sane.{Sane}
+use Rattle.task_table.specs.Sane.{Sane, IsCounted}
 use Rattle.board_model.specs.declared.outcomes.End.{End}
 use Rattle.board_model.specs.declared.outcomes.Level.TheVariants.{Calls}
 use Rattle.board_model.specs.Alike.{reduced, seen}
@@ -30,6 +30,7 @@ use Rattle.snapshot.specs.Restored.{state_in}
 use Rattle.snapshot.specs.Saved.{expected_of, parts_of}
 use Rattle.snapshot.specs.Waits.{state_fault}
 use Rattle.snapshot.proofs.Accepts.{accepted}
+use Rattle.snapshot.proofs.Fixed.{fixed_run}
 use Rattle.snapshot.proofs.Places.{header_place}
 use Rattle.snapshot.proofs.Stood.{as_long, parts_stood, spells}
 use Rattle.trace_cli.specs.Contents.{picture_of, scenario_of}
@@ -38,7 +39,6 @@ use Rattle.trace_cli.specs.Sources.{File, image_file, script_file, state_file, A
 use Rattle.trace_cli.specs.Ready.{IsSpelled}
 use Rattle.trace_cli.specs.Verdict.{Verdict, level_of, line_alone, memory_if, rest_of_run, resumed, run_of, saved_bytes, status_of}
 use Rattle.trace_cli.specs.Answer.{Answered, GoesOn, IsFromSpelled, Tells, TellsEach, TellsUnread}
-use Rattle.trace_cli.proofs.Lasting.{lines_last, sites_last}
 use Rattle.trace_cli.proofs.Lists.{takes_first, takes_none}
 use Rattle.trace_cli.proofs.Refusals.{state_accepted}
 
@@ -88,6 +88,9 @@ lines_started : (x : Scenario) → length (start_of x).lines ≡ x.setup.line_co
 unfolding start
 lines_started x = length-replicate x.setup.line_count no_line
 
+counted_by : (h : Header) (s : State) → h.turn ≡ s.turn → h.clock ≡ s.now → h.next_call ≡ s.next_call → 1 ≤ h.next_call → h.next_call ≤ h.turn + 1 → h.clock ≤ 9 * h.turn → IsCounted s
+counted_by h s turn clock next some few now = record { some = omega (arith, next, some); calls = omega (arith, turn, next, few); now = omega (arith, turn, clock, now) }
+
 -- where the run starts sane: the bytes that `save` puts, if they are accepted, spell the state that they are of
 pub saved_spelled : (n : ℕ) (x : Scenario) → Sane x.setup (start_of x) → state_fault (expected_of x.setup x.devices) (saved_bytes n x) ≡ None → IsSpelled x (saved_bytes n x) (reduced (run_of Calls n x).last)
 saved_spelled n x started none =
@@ -98,15 +101,13 @@ saved_spelled n x started none =
     let ok = accepted (expected_of x.setup x.devices) bytes none in
     let head : header_at bytes ≡ (parts_of (reduced u)).header = header_place (parts_of (reduced u)) (parts_stood x.setup u sane) in
     let keeps = as_long u in
-    let turn : (header_at bytes).turn ≡ (reduced u).turn = ap (λ (h : Header). h.turn) head in
-    let clock : (header_at bytes).clock ≡ (reduced u).now = ap (λ (h : Header). h.clock) head in
-    let next : (header_at bytes).next_call ≡ (reduced u).next_call = ap (λ (h : Header). h.next_call) head in
+    let fixed = fixed_run Calls x n s started in
     let ram : length u.memory.ram ≡ x.setup.ram = ap (λ (m : Memory). length m.ram) (sym keeps.ram) ∙ ap (λ (h : Header). h.ram) (sym head) ∙ ok.ram in
     record {
-      spells = spells x.setup u bytes sane record { lines = lines_last Calls x n s started ∙ lines_started x; ram = ram } refl;
+      spells = spells x.setup u bytes sane record { lines = fixed.lines ∙ lines_started x; ram = ram } refl;
       sane = sane-reduced x.setup u sane;
-      counted = record { some = omega (arith, next, ok.some_call); calls = omega (arith, turn, next, ok.few_calls); now = omega (arith, turn, clock, ok.clock) };
-      sites = ap sites keeps.devices ∙ sites_last Calls x n s started;
+      counted = counted_by (header_at bytes) (reduced u) (ap (λ (h : Header). h.turn) head) (ap (λ (h : Header). h.clock) head) (ap (λ (h : Header). h.next_call) head) ok.some_call ok.few_calls ok.clock;
+      sites = ap sites keeps.devices ∙ fixed.sites;
     }
 
 -- and it is of the turn at their head
@@ -119,8 +120,7 @@ saved_turn n x started =
 rest_spelled : (n m : ℕ) (detail : Detail) (x : Scenario) → state_fault (expected_of x.setup x.devices) (saved_bytes n x) ≡ None → (header_at (saved_bytes n x)).turn ≤ m → Sane x.setup (start_of x)
     → IsFromSpelled m detail x (saved_bytes n x) (rest_of_run (run_of Calls n x).last.turn m detail x)
 rest_spelled n m detail x none few started =
-    let at = saved_turn n x started in
-    record { state = reduced (run_of Calls n x).last; spelled = saved_spelled n x started none; is = sym (told_rest n m detail x started (omega (arith, few, at))) }
+    record { state = reduced (run_of Calls n x).last; spelled = saved_spelled n x started none; is = sym (told_rest n m detail x started (subst (λ (k : ℕ). k ≤ m) (saved_turn n x started) few)) }
 
 -- ## the answer
 

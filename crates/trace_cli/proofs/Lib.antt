@@ -15,4 +15,3 @@ pub mod Faulting
 pub mod Taking
 pub mod Handed
 pub mod GoingOn
-pub mod Lasting
