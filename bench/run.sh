@@ -134,5 +134,5 @@ instructions "16 clients, 4 servers" 250 out/messages.img out/empty.txt
 instructions "8 lenders, 1 server" 260 out/leases.img out/empty.txt
 instructions "large sample" 162 sample/sample.img sample/script.txt
 instructions "512 tasks with timers" 400 out/timers512.img timers/script.txt
-instructions "507 clients, 4 servers" 290 out/messages512.img out/empty.txt
+instructions "507 clients, 4 servers" 270 out/messages512.img out/empty.txt
 exit $short
