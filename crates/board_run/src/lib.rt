@@ -13,8 +13,10 @@ mod telling;
 
 pub use counts::Counts;
 pub use laws::{generations_decide_what_is_told, memories_have_each_region_once};
+pub use line::end_name;
 pub use memory::write_memory;
-pub use running::{play, run};
+pub use pushing::{push_high, push_low};
+pub use running::{ending, play, run};
 pub use silence::Nobody;
 pub use summary::summarize;
 pub use telling::Teller;

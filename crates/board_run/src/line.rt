@@ -123,7 +123,8 @@ pub fn task_line(
     out.push_str("\n");
 }
 
-fn end_name(end: End) -> &'static str
+/// The word for an end.
+pub fn end_name(end: End) -> &'static str
     ensures name { result.now ≡ end_name end }
     ensures short { length result.now ≤ 10 }
 {

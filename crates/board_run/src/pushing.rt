@@ -66,7 +66,8 @@ fn push_task_line<S: Sink>(i: u64, task: &TaskView, out: &mut S) -> Result<(), F
     out.push(line.as_str().as_bytes())
 }
 
-fn push_low<S: Sink>(registers: &[u32; 16], out: &mut S) -> Result<(), Failed>
+/// The line of the registers r0 to r7, in one push.
+pub fn push_low<S: Sink>(registers: &[u32; 16], out: &mut S) -> Result<(), Failed>
     ensures bytes { Pushes (S.seen out.old).written (S.seen out.new).written (low_text registers.now) result }
     ensures cause { HasCause (S.seen out.old).faults (S.seen out.new).faults result }
 {
@@ -75,7 +76,8 @@ fn push_low<S: Sink>(registers: &[u32; 16], out: &mut S) -> Result<(), Failed>
     out.push(line.as_str().as_bytes())
 }
 
-fn push_high<S: Sink>(registers: &[u32; 16], flags: Flags, out: &mut S) -> Result<(), Failed>
+/// The line of the registers r8 to r15 and the flags, in one push.
+pub fn push_high<S: Sink>(registers: &[u32; 16], flags: Flags, out: &mut S) -> Result<(), Failed>
     ensures bytes { Pushes (S.seen out.old).written (S.seen out.new).written (high_text registers.now flags) result }
     ensures cause { HasCause (S.seen out.old).faults (S.seen out.new).faults result }
 {

@@ -39,8 +39,8 @@ fn end_within(ended: Option<End>, left: u32) -> Option<End>
     }
 }
 
-// Whether the run ends before the next turn.
-fn ending(board: &Board, limit: u32) -> Option<End>
+/// Whether a run that makes turns below `limit` ends before the next one, and why.
+pub fn ending(board: &Board, limit: u32) -> Option<End>
     requires stood { Stood (boxed shown) board.now }
     requires within { turns_of board.now ≤ limit }
     ensures end { (x : Scenario) (s : State) → Stands (boxed shown) x board.now s → result ≡ ending x (limit - s.turn) s }

@@ -13,4 +13,5 @@ mod words;
 
 pub use events::{Event, ScriptFault};
 pub use script::Script;
-pub use words::words_end_at_blanks;
+pub use statement::{number_within, starts_by_hash};
+pub use words::{are_allowed, first_word, words_end_at_blanks};

@@ -21,9 +21,9 @@ pub(crate) enum Statement {
     Refused { cause: u8 },
 }
 
-/// A decimal number of one to ten digits, from `low` to `top`.
+/// A decimal number of one to ten digits, from `low` to `top`; `None` where the word is none.
 #[tactic(auto, using(crate::proofs::Numbers::number_below))]
-fn number_within(word: &[u8], low: u32, top: u32) -> Option<u32>
+pub fn number_within(word: &[u8], low: u32, top: u32) -> Option<u32>
     ensures value { result ≡ number_within low top word.now }
     ensures bound { IfSome result (λ n. n ≤ top) }
 {
@@ -216,7 +216,8 @@ fn turn_and_byte(turn: &[u8], kind: &[u8], device: &[u8], byte: &[u8]) -> Statem
     }
 }
 
-fn starts_by_hash(word: &[u8]) -> bool
+/// Whether a word begins with `#`: where it is the first of a line, the line is a comment.
+pub fn starts_by_hash(word: &[u8]) -> bool
     ensures { result ≡ starts_by_hash word.now }
 {
     match word {

@@ -23,7 +23,8 @@ fn is_allowed(c: u8) -> bool
     c == b'\t' || (b' ' <= c && c <= b'~')
 }
 
-pub(crate) fn are_allowed(line: &[u8]) -> bool
+/// Whether a line has no byte that none may have: all are a tab or 32 to 126.
+pub fn are_allowed(line: &[u8]) -> bool
     ensures { result ≡ list_all is_allowed line.now }
 {
     line.iter().all(|c| is_allowed(*c))
@@ -63,7 +64,7 @@ fn word_end(text: &[u8]) -> usize
 }
 
 /// The first word of a text, and what stands behind it; the word is empty where there is none.
-pub(crate) fn first_word(text: &[u8]) -> (&[u8], &[u8])
+pub fn first_word(text: &[u8]) -> (&[u8], &[u8])
     ensures word { words text.now ≡ word_then result.0.now (words result.1.now) }
     ensures none { result.0.now ≡ [] → words result.1.now ≡ [] }
 {
