@@ -33,7 +33,7 @@ module _ {X : Type 0} {H : X → Type 0} (shown : Shows X H) (g : Setup) (m : Ma
   fetched_here at =
       let k = m.reach.kernel in
       let h = r.holds in
-      let rest = rest_of h.saved t m.processor h.is in
+      let rest = rest_of h.saved t m.glider.runner.processor h.is in
       ap (λ (x : Setup). fetched (refusals x (current_of k)) (shown_by shown m.reach) at) h.holds.kernel.setup
       ∙ ap (λ (i : ℕ). fetched (refusals g i) (shown_by shown m.reach) at) (current_seen shown g m t r)
       ∙ ap (λ (x : Memory). fetched (refusals g t.state.current) (held_in x (data_of shown m.reach.devices)) at) (h.holds.kernel.memory ∙ sym rest.memory)

@@ -27,7 +27,7 @@ use Rattle.board_core.proofs.Turning.{HasTurned, rested, stands_after, choice_ke
 use Rattle.board_core.specs.Data.{Shows}
 
 pub current_seen : {X : Type 0} {H : X → Type 0} (shown : Shows X H) (g : Setup) (m : Machine X H) (t : Turn) → IsReady shown g m t → current_of m.reach.kernel ≡ t.state.current
-current_seen shown g m t r = let rest = rest_of r.holds.saved t m.processor r.holds.is in r.holds.holds.kernel.current ∙ sym rest.current
+current_seen shown g m t r = let rest = rest_of r.holds.saved t m.glider.runner.processor r.holds.is in r.holds.holds.kernel.current ∙ sym rest.current
 
 -- ## a turn in which nothing is due
 
@@ -51,6 +51,7 @@ midway_now shown x s b st none ne few =
       machine = subst A (no_event x s nothing) record { holds = rested_begun shown x s b none st.holds.machine; sane = begun_sane x.setup s st.sane };
       choice = subst C same st.holds.choice;
       script = st.holds.script;
+      ports = st.holds.ports;
       due = due_later x.script s.turn b.due st.holds.due later;
     }
 
@@ -67,6 +68,7 @@ stands_so shown x s b m n st mid h none more =
         turns = let a = st.holds.turns in omega (arith, next, a, more);
         choice = choice_kept shown Calls x s m b.choice st.sane h mid.choice none;
         script = mid.script;
+        ports = mid.ports;
         due = subst N (sym next) mid.due;
       };
       sane = after.sane;
@@ -80,15 +82,15 @@ unfolding turn_after
 first_turn shown level x s b st notes = record { nothing = λ k lt. absurd (omega arith); goes_on = λ k lt. absurd (omega arith); stands = st; notes = notes }
 
 -- no turn
-pub none_made : {X : Type 0} {H : X → Type 0} (shown : Shows X H) (x : Scenario) (s : State) (b : Board X H) → Stands shown x b s → HasGlidden shown x s (turns_of b - turns_of b) b
+pub none_made : {X : Type 0} {H : X → Type 0} (shown : Shows X H) (breakpoints : List ℕ) (x : Scenario) (s : State) (b : Board X H) → Stands shown x b s → HasGlidden shown breakpoints x s (turns_of b - turns_of b) b
 unfolding state_after
-none_made shown x s b st =
+none_made shown breakpoints x s b st =
     let e : 0 ≡ turns_of b - turns_of b = omega arith in
-    subst (λ (n : ℕ). HasGlidden shown x s n b) e record { stands = st; nothing = λ k lt. absurd (omega arith); goes_on = λ k lt. absurd (omega arith); notes = λ lt. absurd (omega arith) }
+    subst (λ (n : ℕ). HasGlidden shown breakpoints x s n b) e record { stands = st; nothing = λ k lt. absurd (omega arith); goes_on = λ k lt. absurd (omega arith); past = λ k lt. absurd (omega arith); notes = λ lt. absurd (omega arith) }
 
 -- turns none of which noted anything, and one more
-pub one_more : {X : Type 0} {H : X → Type 0} (shown : Shows X H) (x : Scenario) (n : ℕ) (s : State) (b b' : Board X H) → HasGlidden shown x s n b → Stands shown x b' (turn Calls x (state_after Calls x n s)).state → notes_of b' ≡ (turn Calls x (state_after Calls x n s)).notes → IsAdvanced shown Calls x n s b'
-one_more shown x n s b b' h stands notes =
+pub one_more : {X : Type 0} {H : X → Type 0} (shown : Shows X H) (breakpoints : List ℕ) (x : Scenario) (n : ℕ) (s : State) (b b' : Board X H) → HasGlidden shown breakpoints x s n b → Stands shown x b' (turn Calls x (state_after Calls x n s)).state → notes_of b' ≡ (turn Calls x (state_after Calls x n s)).notes → IsAdvanced shown Calls x n s b'
+one_more shown breakpoints x n s b b' h stands notes =
     let last : turn Calls x (state_after Calls x n s) ≡ turn_after Calls x n s = sym (last_turn Calls x n s) in
     record {
       nothing = h.nothing;
@@ -98,9 +100,9 @@ one_more shown x n s b b' h stands notes =
     }
 
 -- the last of them is the one more
-pub all_made : {X : Type 0} {H : X → Type 0} (shown : Shows X H) (x : Scenario) (n : ℕ) (s : State) (b : Board X H) → HasGlidden shown x s (suc n) b → IsAdvanced shown Calls x n s b
+pub all_made : {X : Type 0} {H : X → Type 0} (shown : Shows X H) (breakpoints : List ℕ) (x : Scenario) (n : ℕ) (s : State) (b : Board X H) → HasGlidden shown breakpoints x s (suc n) b → IsAdvanced shown Calls x n s b
 unfolding state_after
-all_made shown x n s b h =
+all_made shown breakpoints x n s b h =
     record {
       nothing = λ k lt. h.nothing k (omega (arith, lt));
       goes_on = λ k lt. h.goes_on k (omega (arith, lt));

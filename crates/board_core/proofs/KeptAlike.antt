@@ -155,10 +155,11 @@ choice_alike g s u c some h alike = record {
 pub stands_alike : {X : Type 0} {H : X → Type 0} (shown : Shows X H) (x : Scenario) (b : Board X H) (s u : State) → Holds shown x b u → AreKeptAlike s u → Sane x.setup s → IsCounted s → Stands shown x b s
 stands_alike shown x b s u h alike sane counted = record {
   holds = record {
-    machine = machine_alike shown b.machine.loaded x.setup b.machine.reach b.machine.processor (rested b.machine u) (rested b.machine s) h.machine alike refl (λ i. alone_of x.setup s i sane);
+    machine = machine_alike shown b.machine.loaded x.setup b.machine.reach b.machine.glider.runner.processor (rested b.machine u) (rested b.machine s) h.machine alike refl (λ i. alone_of x.setup s i sane);
     turns = h.turns ∙ alike.turn;
     choice = choice_alike x.setup s u b.choice (let inside = sane.steady.current in omega (arith, inside)) h.choice alike;
     script = h.script;
+    ports = h.ports;
     due = let N : ℕ → Type 0 = λ n. IsNext x.script n b.due in subst N alike.turn h.due;
   };
   sane = sane;

@@ -3,6 +3,10 @@ pub mod Queues
 pub mod Choosing
 pub mod WindowCovers
 pub mod WindowTurns
+pub mod Ports
+pub mod SightTurns
+pub mod Polled
+pub mod Calling
 pub mod Running
 pub mod Reaching
 pub mod Opens
@@ -18,3 +22,4 @@ pub mod Windowing
 pub mod ListedLoners
 pub mod Told
 pub mod KeptAlike
+pub mod Stretches

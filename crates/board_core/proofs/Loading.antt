@@ -133,36 +133,36 @@ loaded_again shown g r cpu t task e h = rw e h
 -- ## the context of a task that is not the current one yet
 
 -- it is that of the task
-pub context_cpu : {X : Type 0} {H : X → Type 0} (shown : Shows X H) (g : Setup) (m : Machine X H) (c : ℕ) (t : Turn) → HasContext shown g m c t → c < length t.state.tasks → m.processor ≡ cpu_of (task_at t.state c)
+pub context_cpu : {X : Type 0} {H : X → Type 0} (shown : Shows X H) (g : Setup) (m : Machine X H) (c : ℕ) (t : Turn) → HasContext shown g m c t → c < length t.state.tasks → m.glider.runner.processor ≡ cpu_of (task_at t.state c)
 unfolding task_at
 context_cpu shown g m c t h inside =
     let saved : Turn = with_current c h.saved in
-    let rest = rest_of saved (with_current c t) m.processor h.is in
+    let rest = rest_of saved (with_current c t) m.glider.runner.processor h.is in
     let there : c < length saved.state.tasks = rw rest.count at inside in
-    sym (task-with_cpu m.processor saved there) ∙ ap (λ (u : Turn). cpu_of (task_at u.state c)) (sym h.is)
+    sym (task-with_cpu m.glider.runner.processor saved there) ∙ ap (λ (u : Turn). cpu_of (task_at u.state c)) (sym h.is)
 
-pub context_register : {X : Type 0} {H : X → Type 0} (shown : Shows X H) (i : ℕ) (g : Setup) (m : Machine X H) (c : ℕ) (t : Turn) → HasContext shown g m c t → c < length t.state.tasks → slice_index m.processor.regs.words i ≡ register t.state c i
+pub context_register : {X : Type 0} {H : X → Type 0} (shown : Shows X H) (i : ℕ) (g : Setup) (m : Machine X H) (c : ℕ) (t : Turn) → HasContext shown g m c t → c < length t.state.tasks → slice_index m.glider.runner.processor.regs.words i ≡ register t.state c i
 unfolding register
 context_register shown i g m c t h inside = ap (λ (x : Cpu). slice_index x.regs.words i) (context_cpu shown g m c t h inside)
 
 pub context_memory : {X : Type 0} {H : X → Type 0} (shown : Shows X H) (g : Setup) (m : Machine X H) (c : ℕ) (t : Turn) → HasContext shown g m c t → memory_of m.reach.kernel ≡ t.state.memory
-context_memory shown g m c t h = h.holds.kernel.memory ∙ sym (rest_of (with_current c h.saved) (with_current c t) m.processor h.is).memory
+context_memory shown g m c t h = h.holds.kernel.memory ∙ sym (rest_of (with_current c h.saved) (with_current c t) m.glider.runner.processor h.is).memory
 
 -- that of the current one
-pub context_loaded : {X : Type 0} {H : X → Type 0} (shown : Shows X H) (g : Setup) (m : Machine X H) (c : ℕ) (t : Turn) → IsLoaded shown g m.reach m.processor t → current_of m.reach.kernel ≡ c → HasContext shown g m c t
+pub context_loaded : {X : Type 0} {H : X → Type 0} (shown : Shows X H) (g : Setup) (m : Machine X H) (c : ℕ) (t : Turn) → IsLoaded shown g m.reach m.glider.runner.processor t → current_of m.reach.kernel ≡ c → HasContext shown g m c t
 context_loaded shown g m c t h e =
     let saved = h.saved in
-    let rest = rest_of saved t m.processor h.is in
+    let rest = rest_of saved t m.glider.runner.processor h.is in
     let here : saved.state.current ≡ c = sym h.holds.kernel.current ∙ e in
     record {
       saved = saved;
       holds = h.holds;
       ready = subst (λ (i : ℕ). is_ready saved.state i ≡ true) here h.ready;
-      is = ap (λ (i : ℕ). with_current i t) (sym (rest.current ∙ here)) ∙ h.is ∙ ap (λ (i : ℕ). with_cpu m.processor (with_current i saved)) here;
+      is = ap (λ (i : ℕ). with_current i t) (sym (rest.current ∙ here)) ∙ h.is ∙ ap (λ (i : ℕ). with_cpu m.glider.runner.processor (with_current i saved)) here;
     }
 
 -- that of the kernel
-pub context_own : {X : Type 0} {H : X → Type 0} (shown : Shows X H) (g : Setup) (m : Machine X H) (c : ℕ) (t : Turn) → ReachHolds shown g m.reach t → is_ready t.state c ≡ true → m.processor ≡ cpu_of (task_at t.state c) → HasContext shown g m c t
+pub context_own : {X : Type 0} {H : X → Type 0} (shown : Shows X H) (g : Setup) (m : Machine X H) (c : ℕ) (t : Turn) → ReachHolds shown g m.reach t → is_ready t.state c ≡ true → m.glider.runner.processor ≡ cpu_of (task_at t.state c) → HasContext shown g m c t
 unfolding task_at
 context_own shown g m c t h ready e = record { saved = t; holds = h; ready = ready; is = rw e (sym (with_own c (with_current c t).state (with_current c t) refl)) }
 
@@ -277,7 +277,7 @@ goes_on shown g reach reach' cpu cpu' t ms h inside f =
 -- ## as the machine's functions use it
 
 pub stands_of : {X : Type 0} {H : X → Type 0} (shown : Shows X H) (g : Setup) (m : Machine X H) (t : Turn) → IsReady shown g m t → MachineStands shown g m t
-stands_of shown g m t r = record { holds = loaded_by shown m.loaded g m.reach m.processor t r.loaded r.holds; sane = r.sane }
+stands_of shown g m t r = record { holds = loaded_by shown m.loaded g m.reach m.glider.runner.processor t r.loaded r.holds; sane = r.sane }
 
 pub below : {X : Type 0} {H : X → Type 0} (shown : Shows X H) (loaded : Bool) (g : Setup) (r : Reach X H) (cpu : Cpu) (t : Turn) (i : ℕ) → HoldsBy shown loaded g r cpu t → i < length t.state.tasks → i < task_count r.kernel
 below shown loaded g r cpu t i h inside =
@@ -316,9 +316,9 @@ acted_as g P c t e d is h =
     let S : Effect → Type 0 = λ x. P (acted g c x t) in
     subst S (sym is) h
 
-pub ready_same : {X : Type 0} {H : X → Type 0} (shown : Shows X H) (g : Setup) (m : Machine X H) (reach : Reach X H) (cpu : Cpu) (t : Turn) → reach ≡ m.reach → cpu ≡ m.processor → IsReady shown g m t → IsReady shown g record m { reach = reach; processor = cpu } t
+pub ready_same : {X : Type 0} {H : X → Type 0} (shown : Shows X H) (g : Setup) (m : Machine X H) (reach : Reach X H) (cpu : Cpu) (t : Turn) → reach ≡ m.reach → cpu ≡ m.glider.runner.processor → IsReady shown g m t → IsReady shown g record m { reach = reach; glider = record m.glider { runner = record m.glider.runner { processor = cpu } } } t
 ready_same {X} {H} shown g m reach cpu t e f r =
-    let P : Reach X H → Type 0 = λ x. IsLoaded shown g x m.processor t in
+    let P : Reach X H → Type 0 = λ x. IsLoaded shown g x m.glider.runner.processor t in
     let Q : Cpu → Type 0 = λ x. IsLoaded shown g reach x t in
     record { loaded = r.loaded; holds = subst Q (sym f) (subst P (sym e) r.holds); sane = r.sane }
 
@@ -347,11 +347,11 @@ pub noted_by : {X : Type 0} {H : X → Type 0} (shown : Shows X H) (loaded : Boo
 noted_by shown true g r r' cpu n t same f h = loaded_noted shown g r r' cpu n t same f h
 noted_by shown false g r r' cpu n t same f h = noted_reach shown g r r' n t same (f t h.kernel) h
 
-pub opened_as : {X : Type 0} {H : X → Type 0} (shown : Shows X H) (g : Setup) (k : Kernel) (m : Machine X H) (s : State) → m.reach.kernel ≡ k → m.loaded ≡ false → data_of shown m.reach.devices ≡ s.devices → Holds g k record { state = s; notes = notes_of k; writes = []; reads = [] } → HoldsBy shown m.loaded g m.reach m.processor record { state = s; notes = notes_of m.reach.kernel; writes = []; reads = [] }
+pub opened_as : {X : Type 0} {H : X → Type 0} (shown : Shows X H) (g : Setup) (k : Kernel) (m : Machine X H) (s : State) → m.reach.kernel ≡ k → m.loaded ≡ false → data_of shown m.reach.devices ≡ s.devices → Holds g k record { state = s; notes = notes_of k; writes = []; reads = [] } → HoldsBy shown m.loaded g m.reach m.glider.runner.processor record { state = s; notes = notes_of m.reach.kernel; writes = []; reads = [] }
 opened_as shown g k m s e loaded none h =
     let P : Kernel → Type 0 = λ x. Holds g x record { state = s; notes = notes_of x; writes = []; reads = [] } in
-    unloaded_by shown m.loaded g m.reach m.processor _ loaded record { kernel = subst P (sym e) h; devices = none }
+    unloaded_by shown m.loaded g m.reach m.glider.runner.processor _ loaded record { kernel = subst P (sym e) h; devices = none }
 
 -- a kernel into which the context was saved stands for what its machine does
 pub unloaded_stands : {X : Type 0} {H : X → Type 0} (shown : Shows X H) (g : Setup) (m : Machine X H) (t : Turn) → m.loaded ≡ false → Stands g m.reach.kernel t → data_of shown m.reach.devices ≡ t.state.devices → MachineStands shown g m t
-unloaded_stands shown g m t loaded h none = record { holds = unloaded_by shown m.loaded g m.reach m.processor t loaded record { kernel = h.holds; devices = none }; sane = h.sane }
+unloaded_stands shown g m t loaded h none = record { holds = unloaded_by shown m.loaded g m.reach m.glider.runner.processor t loaded record { kernel = h.holds; devices = none }; sane = h.sane }

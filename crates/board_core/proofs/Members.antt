@@ -1,10 +1,10 @@
 -- Lists of boxes, and what all of them show.
-use Rattle.std.proofs.Common.{ℕ, ◌≡◌, ◌<◌, ◌≤◌, ◌∙◌, sym, ap, subst, arith, List, length, map, slice_set, slice_index_or, Some, None, Bool, true, false, cond}
+use Rattle.std.proofs.Common.{ℕ, ◌≡◌, ◌<◌, ◌≤◌, ◌∙◌, sym, ap, subst, arith, List, length, map, slice_set, slice_index_or, Some, None, Bool, true, false, cond, refl}
 use Rattle.std.specs.Prelude.{ltb}
 use Rattle.std.proofs.lemmas.List.{get_or-map, map-set, length-map}
 use Rattle.std.proofs.Common.{inl, inr, ◌+◌, ◌-◌}
 use Rattle.std.proofs.lemmas.Bool.{lt-ltb, le-ltb, cases_lt, and_parts, leb-true, ltb-true}
-use Rattle.board_core.specs.Data.{IsPlace}
+use Rattle.board_core.specs.Data.{IsPlace, IsOffset}
 use Rattle.std.proofs.lemmas.List.Quantifiers.{position-Some}
 use Rattle.std.proofs.lemmas.List.Sums.{position_or_len_is}
 use Rattle.std.specs.List.{position_or_len}
@@ -51,3 +51,8 @@ pub place : (addr : ℕ) (ds : List DeviceData) (k base : ℕ) → behind addr d
 place addr ds k base e is =
     let near = is_near addr ds k e in
     record { is = e; inside = near.0; near = omega (arith, near.1, near.2, is); at = ap (λ n. addr - n) is }
+
+-- the first of which an address is one
+pub placed : (addr : ℕ) (ds : List DeviceData) (k off : ℕ) → k < length ds → ((j : ℕ) → j < k → is_behind addr (device_at ds j) ≡ false) → IsOffset (device_at ds k) addr off → IsPlace ds addr k off
+placed addr ds k off inside before there =
+    subst (λ n. IsPlace ds addr k n) (sym there.at) (place addr ds k (device_at ds k).base (sym (first_behind addr ds k inside before there.is)) refl)

@@ -45,7 +45,7 @@ devices-syscall_noted c t = refl
 pub calling : {X : Type 0} {H : X → Type 0} (shown : Shows X H) (g : Setup) (r : Reach X H) (k' : Kernel) (m : Machine X H) (c : ℕ) (t : Turn) → IsReady shown g m t → c ≡ t.state.current → ReachHolds shown g r t → (Holds g r.kernel t → Holds g k' (syscall_noted c t)) → IsCalling g (data_of shown r.devices) k' c t
 calling shown g r k' m c t is at h f =
     let inside : c < length t.state.tasks = rw at is.sane.steady.current in
-    let ready : is_ready t.state c ≡ true = ap (λ (i : ℕ). is_ready t.state i) at ∙ loaded_ready shown g m.reach m.processor t is.holds is.sane.steady.current in
+    let ready : is_ready t.state c ≡ true = ap (λ (i : ℕ). is_ready t.state i) at ∙ loaded_ready shown g m.reach m.glider.runner.processor t is.holds is.sane.steady.current in
     record {
       stands = record { holds = f h.kernel; sane = sane-syscall_noted c t is.sane inside };
       ready = ready-syscall_noted c t ready;
@@ -91,7 +91,7 @@ pub noted_current : (level : Level) (n : Note) (t : Turn) → (noted_at level n 
 noted_current level n t = ap (λ s. s.current) (noted_state level n t)
 
 pub ready_noted : {X : Type 0} {H : X → Type 0} (shown : Shows X H) (g : Setup) (m : Machine X H) (k : Kernel) (n : Note) (t : Turn) → ((u : Turn) → Holds g m.reach.kernel u → Holds g k (noted n u)) → IsReady shown g m t → IsReady shown g record m { reach = record m.reach { kernel = k } } (noted n t)
-ready_noted shown g m k n t f r = record { loaded = r.loaded; holds = loaded_noted shown g m.reach record m.reach { kernel = k } m.processor n t refl f r.holds; sane = sane-noted n t r.sane }
+ready_noted shown g m k n t f r = record { loaded = r.loaded; holds = loaded_noted shown g m.reach record m.reach { kernel = k } m.glider.runner.processor n t refl f r.holds; sane = sane-noted n t r.sane }
 
 -- both notes of the registers, one after the other
 pub registers_noted : (c : ℕ) (t : Turn) → noted (high_note (task_at t.state c)) (noted (low_note (task_at t.state c)) t) ≡ with_registers_noted All c t

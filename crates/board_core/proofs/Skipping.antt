@@ -13,16 +13,19 @@ use Rattle.board_core.specs.declared.board.Board.{Board}
 use Rattle.board_core.specs.declared.machine.Machine.{Machine}
 use Rattle.board_model.specs.declared.outcomes.Level.TheVariants.{Calls}
 use Rattle.board_model.specs.Script.{Scenario}
-use Rattle.board_model.specs.Turn.{turn, turn_of, ended, after_events}
+use Rattle.board_model.specs.declared.outcomes.Turned.TheVariants.{Idle}
+use Rattle.board_model.specs.Turn.{turn, turn_of, ended, after_events, turned}
 use Rattle.board_model.specs.Run.{ending, is_down, turn_after, state_after}
 use Rattle.board_model.proofs.Outside.{no_event, begun_state}
 use Rattle.board_model.proofs.Further.{last_turn}
 use Rattle.board_core.specs.Machine.{MachineHolds, IsNext as IsNext-machine}
 use Rattle.board_core.specs.Stands.{Stands, notes_of, turns_of}
 use Rattle.board_core.specs.Advanced.{HasGlidden, IsCall}
+use Rattle.board_core.specs.Breakpoints.{is_hit}
 use Rattle.board_core.specs.Windowed.{IsCalling}
 use Rattle.board_core.specs.Midway.{IsMidway}
 use Rattle.board_core.specs.Skipped.{IsIdleUntil}
+use Rattle.board_core.proofs.WindowTurns.{turned_there}
 use Rattle.board_core.proofs.Turning.{HasTurned, as_chosen, noted_in}
 use Rattle.board_core.proofs.Gliding.{midway_now, stands_so}
 use Rattle.board_core.specs.Data.{Shows}
@@ -71,6 +74,12 @@ module _ (x : Scenario) (s : State) (to : ℕ) (idle : IsIdleUntil x s to) where
       let one = idle_turn x (at s (s.turn + k)) (chosen_at x s (s.turn + k) ∙ idle.none) (idle.nothing (s.turn + k) (omega arith) lt) in
       ap (λ (t : Turn). t.notes) (last_turn Calls x k s) ∙ ap (λ (u : State). (turn Calls x u).notes) (states k (omega (arith, lt))) ∙ one.1
 
+  -- none runs a task
+  pub idle_then : (k : ℕ) → s.turn + k < to → turned x (state_after Calls x k s) ≡ Idle
+  idle_then k lt =
+      let at = turn_then k (omega (arith, lt)) in
+      turned_there x (state_after Calls x k s) None (none_then k (omega (arith, lt))) (ap (events_of x.script) at ∙ idle.nothing (s.turn + k) (omega arith) lt)
+
   pub goes_then : (k : ℕ) → s.turn + k ≤ to → lasts x.script (s.turn + k) ≡ true → ending x 1 (state_after Calls x k s) ≡ None
   unfolding ending
   goes_then k le more =
@@ -115,6 +124,7 @@ begun_board shown x s b m st h =
         choice = st.holds.choice;
         script = st.holds.script;
         due = st.holds.due;
+        ports = st.holds.ports;
       };
       sane = st.sane;
       counted = st.counted;
@@ -142,13 +152,14 @@ lasts_from script from to le more = by_every (is_some script.every) refl
     by_every true is = rw is refl
     by_every false is = rw is (any_from script.events from to le (rw is at more))
 
-pub idle_made : {X : Type 0} {H : X → Type 0} (shown : Shows X H) (x : Scenario) (s : State) (to : ℕ) (b : Board X H) → IsIdleUntil x s to → s.turn ≤ to → lasts x.script to ≡ true → Stands shown x b (state_after Calls x (to - s.turn) s) → notes_of b ≡ [] → HasGlidden shown x s (to - s.turn) b
+pub idle_made : {X : Type 0} {H : X → Type 0} (shown : Shows X H) (breakpoints : List ℕ) (x : Scenario) (s : State) (to : ℕ) (b : Board X H) → IsIdleUntil x s to → s.turn ≤ to → lasts x.script to ≡ true → Stands shown x b (state_after Calls x (to - s.turn) s) → notes_of b ≡ [] → HasGlidden shown breakpoints x s (to - s.turn) b
 unfolding state_after
-idle_made shown x s to b idle from more st none =
+idle_made shown breakpoints x s to b idle from more st none =
     record {
       stands = st;
       nothing = λ k lt. silent_then x s to idle k (omega (arith, lt));
       goes_on = λ k lt. goes_then x s to idle (suc k) (omega (arith, lt, from)) (lasts_from x.script (s.turn + suc k) to (omega (arith, lt, from)) more);
+      past = λ k lt. ap (is_hit breakpoints) (idle_then x s to idle k (omega (arith, lt)));
       notes = λ lt. none;
     }
 

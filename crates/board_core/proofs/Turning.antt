@@ -29,7 +29,7 @@ abbrev pub rested : {X : Type 0} {H : X → Type 0} → Machine X H → State �
 rested m s = record { state = s; notes = notes_of m.reach.kernel; writes = []; reads = [] }
 
 pub noted_in : {X : Type 0} {H : X → Type 0} (shown : Shows X H) (g : Setup) (m : Machine X H) (t : Turn) → MachineHolds shown g m t → notes_of m.reach.kernel ≡ t.notes
-noted_in shown g m t h = let w = rest_held shown m.loaded g m.reach m.processor t h in w.holds.notes ∙ sym w.rest.notes
+noted_in shown g m t h = let w = rest_held shown m.loaded g m.reach m.glider.runner.processor t h in w.holds.notes ∙ sym w.rest.notes
 
 some_left : (x : Note) (xs : List Note) → length (x ∷ xs) ≡ 0 → ⊥
 some_left x xs e = omega arith
@@ -58,7 +58,7 @@ module _ {X : Type 0} {H : X → Type 0} (shown : Shows X H) (level : Level) (x 
   stands_after sane h =
       let t = after_events x s in
       let u : Turn = turn_of level x.setup (chosen x.setup t.state) t in
-      record { holds = between_by shown m.loaded x.setup m.reach m.processor u (u.state.turn + 1) h; sane = sane-after level x s sane }
+      record { holds = between_by shown m.loaded x.setup m.reach m.glider.runner.processor u (u.state.turn + 1) h; sane = sane-after level x s sane }
 
   pub turn_notes : HasTurned → notes_of m.reach.kernel ≡ (turn level x s).notes
   unfolding turn ended

@@ -7,6 +7,7 @@ use Rattle.region_check.proofs.FirstBad.{find_range_none}
 use Rattle.mem_banks.specs.Memory.{Memory, number_of, number_at}
 use Rattle.thumb_exec.specs.Fetch.{WidensFetch}
 use Rattle.thumb_step.specs.Windows.{View, has, given, number_in, refused_by, held_by}
+use Rattle.thumb_step.proofs.Gliding.{in_flash}
 use Rattle.task_table.specs.Placed.{ArePlaced}
 use Rattle.task_table.specs.State.{Setup, State}
 use Rattle.board_model.specs.Turn.{may, refusals, is_device, held}
@@ -55,8 +56,8 @@ module _ (g : Setup) (c : ℕ) (m : Memory) (v : View) (w : IsWindow g c m v) wh
       let i = inside base bytes a n h in
       find_range_none (λ b. not (may g c r b)) a n (λ b from below. ap not (f b (omega (arith, i.0, from)) (omega (arith, i.1, below))))
 
-  granted : (a n : ℕ) (r : Right) → refused_by v a n r ≡ None → refusals g c a n r ≡ None
-  granted a n Execute e = each Execute v.flash_base v.flash a n w.executed (all_there _ a e)
+  pub granted : (a n : ℕ) (r : Right) → refused_by v a n r ≡ None → refusals g c a n r ≡ None
+  granted a n Execute e = each Execute v.flash_base v.flash a n w.executed (in_flash v a n (all_there _ a e))
   granted a n Write e = by (either (has v.ram_base v.ram a n) (v.area_writable && has v.area_base v.area a n) (all_there _ a e))
     where
       by : (has v.ram_base v.ram a n ≡ true) ⊎ ((has v.ram_base v.ram a n ≡ false) × ((v.area_writable && has v.area_base v.area a n) ≡ true)) → refusals g c a n Write ≡ None
@@ -96,7 +97,7 @@ module _ (g : Setup) (c : ℕ) (m : Memory) (v : View) (w : IsWindow g c m v) wh
       by (in_further beside text h) = rw (beside, text) (area_here a n h)
 
   flash_same : (a : ℕ) → refused_by v a 2 Execute ≡ None → held_by v a 2 ≡ number_at m a 2
-  flash_same a e = by (has v.ram_base v.ram a 2) refl (all_there _ a e)
+  flash_same a e = by (has v.ram_base v.ram a 2) refl (in_flash v a 2 (all_there _ a e))
     where
       by : (b : Bool) → has v.ram_base v.ram a 2 ≡ b → has v.flash_base v.flash a 2 ≡ true → held_by v a 2 ≡ number_at m a 2
       by true h there = rw h (ram_here a 2 h)
@@ -134,12 +135,12 @@ module _ (g : Setup) (c : ℕ) (s : State) (v : View) (w : IsWindow g c s.memory
   pub loads_below : (a n : ℕ) → 0 < n → refused_by v a n Read ≡ None → is_device a ≡ false
   loads_below a n some e = let end = ends_below a n e in no_device_below a (omega (arith, some, end))
 
-  held_same : (a n : ℕ) → refused_by v a n Read ≡ None → held_by v a n ≡ held s a n
+  pub held_same : (a n : ℕ) → refused_by v a n Read ≡ None → held_by v a n ≡ held s a n
   held_same a zero e = no_bytes v a ∙ sym (held_nothing s a)
   held_same a (suc n) e = same g c s.memory v w a (suc n) e ∙ sym (held_in_memory s a (suc n) (loads_below a (suc n) (omega arith) e))
 
-  fetched_same : (a : ℕ) → refused_by v a 2 Execute ≡ None → held_by v a 2 ≡ held s a 2
-  fetched_same a e = let end = flash_below a 2 (all_there _ a e) in flash_same g c s.memory v w a e ∙ sym (held_in_memory s a 2 (no_device_below a (omega (arith, end))))
+  pub fetched_same : (a : ℕ) → refused_by v a 2 Execute ≡ None → held_by v a 2 ≡ held s a 2
+  fetched_same a e = let end = flash_below a 2 (in_flash v a 2 (all_there _ a e)) in flash_same g c s.memory v w a e ∙ sym (held_in_memory s a 2 (no_device_below a (omega (arith, end))))
 
   pub widens : WidensFetch (refused_by v) (refusals g c) (held_by v) (held s)
   widens = record { widens = record { granted = granted g c s.memory v w; same = held_same }; fetches = fetched_same }

@@ -1,8 +1,8 @@
 -- Instructions on end within a window are turns.
-use Rattle.std.proofs.Common.{◌≡◌, ◌+◌, ◌-◌, ◌≤◌, ◌<◌, ℕ, zero, suc, Bool, true, false, List, [], ◌∷◌, length, Option, Some, refl, sym, ◌∙◌, ap, subst, arith, leb, ltb, inl, inr, set, get_or, length-take, length-drop}
+use Rattle.std.proofs.Common.{◌≡◌, ◌+◌, ◌-◌, ◌≤◌, ◌<◌, ℕ, zero, suc, true, false, List, [], ◌∷◌, length, Option, Some, refl, sym, ◌∙◌, ap, subst, arith, leb, inl, inr, length-take, length-drop}
 use Rattle.std.specs.Prelude.{fold, Result, Ok, Err, Contains}
-use Rattle.std.proofs.lemmas.Bool.{le-leb, ltb-true, ltb-false}
-use Rattle.std.proofs.lemmas.List.{set-set, set-get_or, length-append, same_lists, places}
+use Rattle.std.proofs.lemmas.Bool.{le-leb}
+use Rattle.std.proofs.lemmas.List.{length-append, same_lists, places}
 use Rattle.kernel_abi.specs.declared.Fault.{Fault}
 use Rattle.kernel_abi.specs.Devices.{DeviceData}
 use Rattle.run_script.specs.Scripts.{events_of}
@@ -18,26 +18,20 @@ use Rattle.thumb_exec.specs.declared.fetch.Fetched.{Fetched}
 use Rattle.thumb_exec.specs.Fetch.{fetched, executed as executed_by, step_effect}
 use Rattle.thumb_step.proofs.Widening.{step_wider}
 use Rattle.thumb_exec.specs.Bytes.{bytes_of}
-use Rattle.thumb_step.specs.Windows.{View, has, may_write, refused_by, held_by, write, put as lands, GoesOn, Glides, Keeps, IsInside, AreInside}
+use Rattle.thumb_step.specs.Windows.{View, has, has_code, may_write, refused_by, held_by, write, put as lands, GoesOn, Keeps, IsInside, AreInside}
 use Rattle.thumb_step.proofs.Gliding.{kept, kept_on}
 use Rattle.task_table.specs.Placed.{ArePlaced}
-use Rattle.task_table.specs.State.{Setup, State, Task, Turn}
-use Rattle.task_table.specs.Reading.{task_at, register, chosen, is_ready, no_task}
+use Rattle.task_table.specs.State.{Setup, State, Turn}
+use Rattle.task_table.specs.Reading.{task_at, register, chosen}
 use Rattle.task_table.specs.Effects.{with_task, with_processor, stored}
 use Rattle.task_table.specs.Start.{begun}
-use Rattle.task_table.specs.Sane.{Sane, IsCounted}
-use Rattle.task_table.proofs.Changes.{task_at-with_task}
 use Rattle.board_model.specs.declared.outcomes.Level.TheVariants.{Calls}
+use Rattle.board_model.specs.declared.outcomes.Turned.{Turned}
 use Rattle.board_model.specs.Script.{Scenario}
-use Rattle.board_model.specs.Turn.{refusals, is_device, held, cpu_of, put, took, moved, acted, stepped_by, stepped, after_events, with_registers_noted, turn_of, ended, turn}
-use Rattle.board_model.specs.Run.{is_down, turn_after, state_after}
-use Rattle.board_model.proofs.TurnChains.{chosen_is, sane-after}
+use Rattle.board_model.specs.Turn.{refusals, is_device, held, cpu_of, put, took, moved, acted, stepped_by, stepped, after_events, with_registers_noted, turn_of, ended, turn, turned_of, turned}
 use Rattle.board_model.proofs.Stepping.{moves_state}
-use Rattle.board_model.proofs.Outside.{no_event, begun_state}
-use Rattle.board_model.proofs.Quiet.{quiet-turn}
-use Rattle.board_model.proofs.Counts.{counted_turn}
-use Rattle.board_model.proofs.Further.{last_turn}
-use Rattle.board_core.specs.Windowed.{IsWindow, runner, later, with_window, AreTurns}
+use Rattle.board_model.proofs.Outside.{no_event}
+use Rattle.board_core.specs.Windowed.{IsWindow, later, with_window, IsFetchedIn}
 use Rattle.mem_banks.specs.Windows.{IsInRam, AreApart}
 use Rattle.mem_banks.proofs.Windows.{written_inside, written_same, region_written, same_ram_length, same_flash_length, bytes_below, bytes_beside}
 use Rattle.board_core.proofs.WindowCovers.{either, both, inside, widens, loads_below}
@@ -45,7 +39,7 @@ use Rattle.board_core.proofs.WindowCovers.{either, both, inside, widens, loads_b
 -- ## the instruction of the turn
 
 -- carried out, what was fetched is its effect
-carried_next : (g : Setup) (c : ℕ) (t : Turn) (at : ℕ) (d : Cpu) (ms : List Move) (r : Result Fetched Fault) → executed_by (refusals g c) (held t.state) (cpu_of (task_at t.state c)) r ≡ Next d ms → stepped_by Calls g c at r t ≡ acted g c (Next d ms) t
+pub carried_next : (g : Setup) (c : ℕ) (t : Turn) (at : ℕ) (d : Cpu) (ms : List Move) (r : Result Fetched Fault) → executed_by (refusals g c) (held t.state) (cpu_of (task_at t.state c)) r ≡ Next d ms → stepped_by Calls g c at r t ≡ acted g c (Next d ms) t
 carried_next g c t at d ms (Ok f) e = ap (λ (x : Effect). acted g c x t) e
 carried_next g c t at d ms (Err fault) e = absurd cc
 
@@ -111,6 +105,8 @@ put_keeps v x small (in_data here) =
       flash_base = refl;
       flash = refl;
       readable = refl;
+      code_base = refl;
+      code_size = refl;
       ram_base = refl;
       size = length-pasted v.ram (x.addr - v.ram_base) (bytes_of x.value x.bytes) (omega (arith, size, i.0, i.1));
       area_base = refl;
@@ -124,6 +120,8 @@ put_keeps v x small (in_further beside here) =
       flash_base = refl;
       flash = refl;
       readable = refl;
+      code_base = refl;
+      code_size = refl;
       ram_base = refl;
       size = refl;
       area_base = refl;
@@ -131,31 +129,31 @@ put_keeps v x small (in_further beside here) =
       area_size = length-pasted v.area (x.addr - v.area_base) (bytes_of x.value x.bytes) (omega (arith, size, i.0, i.1));
     }
 
-first_inside : (v : View) (x : Move) (xs : List Move) → AreInside v (x ∷ xs) → IsInside v x
+pub first_inside : (v : View) (x : Move) (xs : List Move) → AreInside v (x ∷ xs) → IsInside v x
 first_inside v x xs h = h x (zero, omega arith, refl)
 
 inside_still : (v w : View) (x : Move) → Keeps v w → IsInside v x → IsInside w x
 inside_still v w (Puts x) k h = (h.0, rw (k.ram_base, k.size, k.area_base, k.area_size, k.area_writable) h.1)
 inside_still v w (Takes a n) k h = tt
 
-rest_inside : (v w : View) (x : Move) (xs : List Move) → Keeps v w → AreInside v (x ∷ xs) → AreInside w xs
+pub rest_inside : (v w : View) (x : Move) (xs : List Move) → Keeps v w → AreInside v (x ∷ xs) → AreInside w xs
 rest_inside v w x xs k h y (i, lt, same) = inside_still v w y k (h y (suc i, omega arith, same))
 
-move_keeps : (v : View) (x : Move) → IsInside v x → Keeps v (lands v x)
+pub move_keeps : (v : View) (x : Move) → IsInside v x → Keeps v (lands v x)
 move_keeps v (Puts x) h = put_keeps v x h.0 (landing v x h.1)
 move_keeps v (Takes a n) h = kept v v refl
 
-moves_keep : (ms : List Move) (v : View) → AreInside v ms → Keeps v (fold lands v ms)
+pub moves_keep : (ms : List Move) (v : View) → AreInside v ms → Keeps v (fold lands v ms)
 moves_keep [] v h = kept v v refl
 moves_keep (x ∷ xs) v h =
     let k = move_keeps v x (first_inside v x xs h) in
     kept_on v (lands v x) _ k (moves_keep xs (lands v x) (rest_inside v (lands v x) x xs k h))
 
 -- what moves within the window come to: such a memory, the notes and the devices that there were
-record HasMoved (m : Memory) (t u : Turn) : Type 0 where
-  memory : u.state.memory ≡ m
-  notes : u.notes ≡ t.notes
-  devices : u.state.devices ≡ t.state.devices
+pub record HasMoved (m : Memory) (t u : Turn) : Type 0 where
+  pub memory : u.state.memory ≡ m
+  pub notes : u.notes ≡ t.notes
+  pub devices : u.state.devices ≡ t.state.devices
 
 -- a load that is of no device changes nothing
 took_none : (t : Turn) (a : ℕ) → is_device a ≡ false → took t a ≡ t
@@ -191,15 +189,15 @@ written_again m base xs ys h e =
     written_inside m base base xs ys h (omega arith) (omega (arith, e)) ∙ ap (λ (k : ℕ). with_bytes m base (pasted xs k ys)) at ∙ ap (with_bytes m base) (pasted_whole xs ys e)
 
 -- the RAM and the area of a view have their places in memory
-record HasPlaces (m : Memory) (v : View) : Type 0 where
-  in_ram : IsInRam m (v.ram_base, length v.ram)
-  in_area : IsInRam m (v.area_base, length v.area)
-  apart : AreApart (v.ram_base, length v.ram) (v.area_base, length v.area)
+pub record HasPlaces (m : Memory) (v : View) : Type 0 where
+  pub in_ram : IsInRam m (v.ram_base, length v.ram)
+  pub in_area : IsInRam m (v.area_base, length v.area)
+  pub apart : AreApart (v.ram_base, length v.ram) (v.area_base, length v.area)
 
-places_of : (g : Setup) (c : ℕ) (m : Memory) (v : View) → IsWindow g c m v → HasPlaces m v
+pub places_of : (g : Setup) (c : ℕ) (m : Memory) (v : View) → IsWindow g c m v → HasPlaces m v
 places_of g c m v w = record { in_ram = w.in_ram; in_area = w.in_area; apart = w.apart }
 
-places_on : (m : Memory) (v w : View) → Keeps v w → HasPlaces m v → HasPlaces m w
+pub places_on : (m : Memory) (v w : View) → Keeps v w → HasPlaces m v → HasPlaces m w
 places_on m v w k h = record {
   in_ram = rw (k.ram_base, k.size) h.in_ram;
   in_area = rw (k.area_base, k.area_size) h.in_area;
@@ -211,19 +209,19 @@ in_ram_still : (m : Memory) (a : ℕ) (xs : List ℕ) (r : ℕ × ℕ) → IsInR
 in_ram_still m a xs r x h = (h.0, rw (same_ram_length m a xs x) h.1)
 
 -- the bytes of a view, where they stand in memory
-abbrev own_memory : Memory → View → Memory
+abbrev pub own_memory : Memory → View → Memory
 own_memory m v = with_window m v v
 
-own_size : (m : Memory) (v : View) → HasPlaces m v → length (own_memory m v).ram ≡ length m.ram
+pub own_size : (m : Memory) (v : View) → HasPlaces m v → length (own_memory m v).ram ≡ length m.ram
 own_size m v h =
     same_ram_length (with_bytes m v.ram_base v.ram) v.area_base v.area (in_ram_still m v.ram_base v.ram _ h.in_ram h.in_area)
     ∙ same_ram_length m v.ram_base v.ram h.in_ram
 
-own_order : (m : Memory) (v : View) → HasPlaces m v → own_memory m v ≡ with_bytes (with_bytes m v.area_base v.area) v.ram_base v.ram
+pub own_order : (m : Memory) (v : View) → HasPlaces m v → own_memory m v ≡ with_bytes (with_bytes m v.area_base v.area) v.ram_base v.ram
 own_order m v h = write_order m v.ram_base v.area_base v.ram v.area h.in_ram h.in_area h.apart
 
 -- one writes over the other
-own_again : (m : Memory) (v w : View) → HasPlaces m v → Keeps v w → own_memory (own_memory m v) w ≡ own_memory m w
+pub own_again : (m : Memory) (v w : View) → HasPlaces m v → Keeps v w → own_memory (own_memory m v) w ≡ own_memory m w
 own_again m v w h k =
     let r : ℕ = v.ram_base in
     let a : ℕ = v.area_base in
@@ -239,7 +237,7 @@ own_again m v w h k =
     turned p q (inr x) = inl x
 
 -- a memory has the bytes of its own window
-own_same : (g : Setup) (c : ℕ) (m : Memory) (v : View) → IsWindow g c m v → m ≡ own_memory m v
+pub own_same : (g : Setup) (c : ℕ) (m : Memory) (v : View) → IsWindow g c m v → m ≡ own_memory m v
 own_same g c m v w =
     let one : with_bytes m v.ram_base v.ram ≡ m = ap (with_bytes m v.ram_base) (sym w.ram) ∙ written_same m v.ram_base (length v.ram) w.in_ram in
     let two : with_bytes m v.area_base v.area ≡ m = ap (with_bytes m v.area_base) (sym w.area) ∙ written_same m v.area_base (length v.area) w.in_area in
@@ -275,7 +273,7 @@ module _ (m : Memory) where
   is_in_ram x v h (in_data here) = let i = inside v.ram_base v.ram x.addr x.bytes here in (omega (arith, h.in_ram.0, i.0), omega (arith, h.in_ram.1, i.1))
   is_in_ram x v h (in_further beside here) = let i = inside v.area_base v.area x.addr x.bytes here in (omega (arith, h.in_area.0, i.0), omega (arith, h.in_area.1, i.1))
 
-  one_put : (x : Store) (v : View) (t : Turn) → HasPlaces m v → t.state.memory ≡ own_memory m v → IsInside v (Puts x) → HasMoved (own_memory m (write v x)) t (put t x)
+  pub one_put : (x : Store) (v : View) (t : Turn) → HasPlaces m v → t.state.memory ≡ own_memory m v → IsInside v (Puts x) → HasMoved (own_memory m (write v x)) t (put t x)
   one_put x v t h is one =
       let bytes : List ℕ = bytes_of x.value x.bytes in
       let to = landing v x one.1 in
@@ -301,7 +299,7 @@ module _ (m : Memory) where
 -- ## the turn
 
 -- it leaves a window over the memory that it leaves
-window_again : (g : Setup) (c : ℕ) (m : Memory) (v w : View) → IsWindow g c m v → Keeps v w → IsWindow g c (own_memory m w) w
+pub window_again : (g : Setup) (c : ℕ) (m : Memory) (v w : View) → IsWindow g c m v → Keeps v w → IsWindow g c (own_memory m w) w
 window_again g c m v w h same =
     let p = places_on m v w same (places_of g c m v h) in
     let n : Memory = with_bytes m w.ram_base w.ram in
@@ -331,7 +329,7 @@ pub record IsGone (x : Scenario) (s : State) (c : ℕ) (v w : View) (d : Cpu) : 
   pub notes : (turn Calls x s).notes ≡ []
   pub same : Keeps v w
 
-plain_turn : (x : Scenario) (s : State) (c : ℕ) → chosen x.setup s ≡ Some c → events_of x.script s.turn ≡ [] → turn Calls x s ≡ ended (stepped Calls x.setup c (begun record s { current = c }))
+pub plain_turn : (x : Scenario) (s : State) (c : ℕ) → chosen x.setup s ≡ Some c → events_of x.script s.turn ≡ [] → turn Calls x s ≡ ended (stepped Calls x.setup c (begun record s { current = c }))
 unfolding turn begun with_registers_noted
 plain_turn x s c is nothing =
     let e : after_events x s ≡ begun s = sym (no_event x s nothing) in
@@ -346,7 +344,7 @@ acted_state g c s d ms m e f =
     let same : u ≡ record s { memory = m } = moves_state ms (begun s) ∙ ap (λ (y : Memory). record s { memory = y; devices = u.devices }) e ∙ ap (λ (ds : List DeviceData). record s { memory = m; devices = ds }) f in
     ap (λ (y : State). record (with_task c record (task_at y c) { registers = d.regs.words; flags = d.flags } y) { turn = y.turn + 1 }) same
 
-acted_notes : (g : Setup) (c : ℕ) (s : State) (d : Cpu) (ms : List Move) → (fold moved (begun s) ms).notes ≡ [] → (ended (acted g c (Next d ms) (begun s))).notes ≡ []
+pub acted_notes : (g : Setup) (c : ℕ) (s : State) (d : Cpu) (ms : List Move) → (fold moved (begun s) ms).notes ≡ [] → (ended (acted g c (Next d ms) (begun s))).notes ≡ []
 unfolding ended with_processor
 acted_notes g c s d ms e = e
 
@@ -367,149 +365,22 @@ one_turn x s c v w d is nothing window placed on =
       same = rw on.after (moves_keep on.moves v on.inside);
     }
 
--- ## turns on end
+-- ## where its instruction was
 
--- of two writes of a processor the later stays
-set_twice : (s : State) (i : ℕ) (x y : Task) → with_task i y (with_task i x s) ≡ with_task i y s
-unfolding with_task
-set_twice s i x y = ap (λ (xs : List Task). record s { tasks = xs }) (set-set s.tasks i x y)
+-- nothing happens in the turn, so that it runs the task that is chosen before it
+pub turned_there : (x : Scenario) (s : State) (o : Option ℕ) → chosen x.setup s ≡ o → events_of x.script s.turn ≡ [] → turned x s ≡ turned_of s o
+unfolding turned begun
+turned_there x s o is nothing =
+    let e : after_events x s ≡ begun s = sym (no_event x s nothing) in
+    let P : Turn → Turned = λ t. turned_of t.state (chosen x.setup t.state) in
+    ap P e ∙ ap (turned_of s) is
 
-cpu_after : (s : State) (c : ℕ) (cpu : Cpu) (m : Memory) (n : ℕ) → c < length s.tasks → cpu_of (task_at (later s c cpu m n) c) ≡ cpu
-unfolding task_at with_task
-cpu_after s c cpu m n there = ap cpu_of (task_at-with_task s c record (task_at s c) { registers = cpu.regs.words; flags = cpu.flags } there)
+pub fetched_there : (x : Scenario) (s : State) (c : ℕ) (v : View) (d : Cpu) → chosen x.setup s ≡ Some c → events_of x.script s.turn ≡ [] → cpu_of (task_at s c) ≡ d → has_code v (reg_at d.regs 15) 2 ≡ true → IsFetchedIn v c (turned x s)
+unfolding register
+fetched_there x s c v d is nothing own there =
+    let at : has_code v (register s c 15) 2 ≡ true = ap (λ (p : Cpu). has_code v (reg_at p.regs 15) 2) own ∙ there in
+    subst (λ (t : Turned). IsFetchedIn v c t) (sym (turned_there x s (Some c) is nothing)) (refl, at)
 
-again : (s : State) (c : ℕ) (cpu d : Cpu) (m u : Memory) (n before : ℕ) → c < length s.tasks → later record (later record s { current = before } c cpu m n) { current = c } c d u 1 ≡ later record s { current = c } c d u (suc n)
-unfolding with_task task_at
-again s0 c cpu d m u n before there =
-    let s : State = record s0 { current = c } in
-    let x : Task = record (task_at s c) { registers = cpu.regs.words; flags = cpu.flags } in
-    let y : Task → Task = λ z. record z { registers = d.regs.words; flags = d.flags } in
-    let at : task_at (with_task c x s) c ≡ x = task_at-with_task s c x there in
-    let e : s.turn + n + 1 ≡ s.turn + suc n = omega arith in
-    ap (λ (z : Task). record (with_task c (y z) (with_task c x s)) { memory = u; turn = s.turn + n + 1 }) at
-    ∙ ap (λ (z : State). record z { memory = u; turn = s.turn + n + 1 }) (set_twice s c x (y x))
-    ∙ ap (λ (k : ℕ). record (with_task c (y x) s) { memory = u; turn = k }) e
-
-unmoved : (s : State) (c : ℕ) → s ≡ later s c (cpu_of (task_at s c)) s.memory 0
-unfolding with_task task_at
-unmoved s c = ap (λ (xs : List Task). record s { tasks = xs }) (sym (set-get_or s.tasks c no_task)) ∙ ap (λ (k : ℕ). record s { turn = k; tasks = set s.tasks c (get_or s.tasks c no_task) }) (omega arith)
-
--- a view that is left has the bases of the first one
-at_bases : (m : Memory) (v w : View) → Keeps v w → own_memory m w ≡ with_window m v w
-at_bases m v w k = rw (k.ram_base, k.area_base) refl
-
--- the state after n of them
-pub record HasGone (x : Scenario) (s : State) (c : ℕ) (v : View) (n : ℕ) (w : View) (d : Cpu) : Type 0 where
-  pub state : state_after Calls x n s ≡ later record s { current = runner n c s.current } c d (own_memory s.memory w) n
-  pub keeps : Keeps v w
-  pub sane : Sane x.setup (state_after Calls x n s)
-  pub chosen : chosen x.setup (state_after Calls x n s) ≡ Some c
-  pub down : is_down (state_after Calls x n s) ≡ is_down s
-  pub ready : (i : ℕ) → is_ready (state_after Calls x n s) i ≡ is_ready s i
-  pub counted : IsCounted s → IsCounted (state_after Calls x n s)
-
--- the window that n turns leave, and the processor after them
-pub record IsLeft (x : Scenario) (s : State) (c : ℕ) (v : View) (n : ℕ) (w : View) (d : Cpu) : Type 0 where
-  pub keeps : Keeps v w
-  pub window : IsWindow x.setup c (state_after Calls x n s).memory w
-  pub processor : cpu_of (task_at (state_after Calls x n s) c) ≡ d
-
-module _ (x : Scenario) (s : State) (c : ℕ) (v : View) (sane : Sane x.setup s) (is : chosen x.setup s ≡ Some c) (window : IsWindow x.setup c s.memory v) where
-  there : c < length s.tasks
-  there = (chosen_is s c sane is).inside
-
-  -- one more from where they have come to
-  next_gone : (n : ℕ) (w u : View) (d e : Cpu) → HasGone x s c v n w d → events_of x.script (s.turn + n) ≡ [] → GoesOn w d u e → IsGone x (state_after Calls x n s) c w u e
-  unfolding with_task
-  next_gone n w u d e h nothing on =
-      let m : Memory = own_memory s.memory w in
-      let P : State → Type 0 = λ y. IsGone x y c w u e in
-      let C : State → Type 0 = λ y. chosen x.setup y ≡ Some c in
-      let over : IsWindow x.setup c m w = window_again x.setup c s.memory v w window h.keeps in
-      let from : State = record s { current = runner n c s.current } in
-      let own = cpu_after from c d m n there in
-      subst P (sym h.state) (one_turn x (later from c d m n) c w u e (subst C h.state h.chosen) nothing over (subst (λ (y : State). ArePlaced x.setup y.memory) h.state h.sane.steady.placed) (subst (λ (k : Cpu). GoesOn w k u e) (sym own) on))
-
-  -- a turn that notes nothing leaves the choice
-  chosen_next : (y : State) → Sane x.setup y → chosen x.setup y ≡ Some c → events_of x.script y.turn ≡ [] → (turn Calls x y).notes ≡ [] → (chosen x.setup (turn Calls x y).state ≡ Some c) × (is_down (turn Calls x y).state ≡ is_down y) × ((i : ℕ) → is_ready (turn Calls x y).state i ≡ is_ready y i)
-  chosen_next y sane-y is-y nothing none =
-      let e : begun y ≡ after_events x y = no_event x y nothing in
-      let st : (after_events x y).state ≡ y = ap (λ (t : Turn). t.state) (sym e) ∙ begun_state y in
-      let alike = quiet-turn Calls x y (subst (λ (z : State). Sane x.setup z) (sym st) sane-y) none in
-      (alike.next ∙ ap (chosen x.setup) st ∙ is-y, alike.down ∙ ap is_down st, λ i. alike.ready i ∙ ap (λ (z : State). is_ready z i) st)
-
-  one_further : (n : ℕ) (w u : View) (d e : Cpu) → HasGone x s c v n w d → events_of x.script (s.turn + n) ≡ [] → GoesOn w d u e → HasGone x s c v (suc n) u e
-  unfolding state_after
-  one_further n w u d e h nothing on =
-      let m : Memory = own_memory s.memory w in
-      let y : State = state_after Calls x n s in
-      let g = next_gone n w u d e h nothing on in
-      let same : (turn_after Calls x n s).state ≡ (turn Calls x y).state = ap (λ (t : Turn). t.state) (last_turn Calls x n s) in
-      let at : y.turn ≡ s.turn + n = ap (λ (z : State). z.turn) h.state in
-      let ch = chosen_next y h.sane h.chosen (ap (events_of x.script) at ∙ nothing) g.notes in
-      let memory : own_memory y.memory u ≡ own_memory s.memory u =
-      ap (λ (z : State). own_memory z.memory u) h.state
-      ∙ own_again s.memory w u (places_on s.memory v w h.keeps (places_of x.setup c s.memory v window)) g.same in
-      record {
-        state = same ∙ g.state ∙ ap (λ (z : State). later record z { current = c } c e (own_memory y.memory u) 1) h.state ∙ again s c d e m (own_memory y.memory u) n (runner n c s.current) there ∙ ap (λ (z : Memory). later record s { current = c } c e z (suc n)) memory;
-        keeps = kept_on v w u h.keeps g.same;
-        sane = subst (λ (z : State). Sane x.setup z) (sym same) (sane-after Calls x y h.sane);
-        chosen = ap (chosen x.setup) same ∙ ch.0;
-        down = ap is_down same ∙ ch.1 ∙ h.down;
-        ready = λ i. ap (λ (z : State). is_ready z i) same ∙ ch.2 i ∙ h.ready i;
-        counted = λ before. subst (λ (z : State). IsCounted z) (sym same) (counted_turn Calls x y h.sane (rw (ap (events_of x.script) at ∙ nothing) (omega arith)) (h.counted before));
-      }
-
-  gone : (n : ℕ) (w : View) (d : Cpu) → ((k : ℕ) → k < n → events_of x.script (s.turn + k) ≡ []) → Glides v (cpu_of (task_at s c)) n w d → HasGone x s c v n w d
-  unfolding state_after
-  gone zero w d nothing on =
-      rw (on.0, on.1) record {
-        state = unmoved s c ∙ ap (λ (z : Memory). later s c (cpu_of (task_at s c)) z 0) (own_same x.setup c s.memory v window);
-        keeps = kept v v refl;
-        sane = sane;
-        chosen = is;
-        down = refl;
-        ready = λ i. refl;
-        counted = λ before. before;
-      }
-  gone (suc n) w d nothing on =
-      let before = gone n on.0 on.1 (λ k lt. nothing k (omega (arith, lt))) on.2 in
-      one_further n on.0 w on.1 d before (nothing n (omega arith)) on.3
-
-  -- the front of them
-  front : (n k : ℕ) (w : View) (d : Cpu) → k ≤ n → Glides v (cpu_of (task_at s c)) n w d → (u : View) × (e : Cpu) × Glides v (cpu_of (task_at s c)) k u e
-  front zero zero w d le on = (w, d, on)
-  front zero (suc k) w d le on = absurd (omega (arith, le))
-  front (suc n) k w d le on = by (ltb k (suc n)) refl (λ lt. front n k on.0 on.1 (omega (arith, lt)) on.2)
-    where
-      by : (b : Bool) → ltb k (suc n) ≡ b → (k < suc n → (u : View) × (e : Cpu) × Glides v (cpu_of (task_at s c)) k u e) → (u : View) × (e : Cpu) × Glides v (cpu_of (task_at s c)) k u e
-      by true e before = before (ltb-true k (suc n) e)
-      by false e before = let same : suc n ≡ k = let ge = ltb-false k (suc n) e in omega (arith, ge, le) in subst (λ (j : ℕ). (u : View) × (e : Cpu) × Glides v (cpu_of (task_at s c)) j u e) same (w, d, on)
-
-  pub are_turns : (n : ℕ) (w : View) (d : Cpu) → ((k : ℕ) → k < n → events_of x.script (s.turn + k) ≡ []) → Glides v (cpu_of (task_at s c)) n w d → AreTurns x s c v n w d
-  are_turns n w d nothing on =
-      record {
-        state = let h = gone n w d nothing on in h.state ∙ ap (λ (z : Memory). later record s { current = runner n c s.current } c d z n) (at_bases s.memory v w h.keeps);
-        silent = λ k lt. silent_at k lt (front n (suc k) w d (omega (arith, lt)) on);
-        chosen = λ k le. let f = front n k w d le on in (gone k f.0 f.1 (λ j lt. nothing j (omega (arith, lt, le))) f.2).chosen;
-        down = λ k le. let f = front n k w d le on in (gone k f.0 f.1 (λ j lt. nothing j (omega (arith, lt, le))) f.2).down;
-        ready = (gone n w d nothing on).ready;
-        sane = (gone n w d nothing on).sane;
-        counted = (gone n w d nothing on).counted;
-      }
-    where
-      silent_at : (k : ℕ) → k < n → (u : View) × (e : Cpu) × Glides v (cpu_of (task_at s c)) (suc k) u e → (turn_after Calls x k s).notes ≡ []
-      silent_at k lt (u, e, g) =
-          let before = gone k g.0 g.1 (λ j less. nothing j (omega (arith, lt, less))) g.2 in
-          ap (λ (t : Turn). t.notes) (last_turn Calls x k s) ∙ (next_gone k g.0 u g.1 e before (nothing k lt) g.3).notes
-
-  -- the window that they leave, and the processor
-  pub window_then : (n : ℕ) (w : View) (d : Cpu) → ((k : ℕ) → k < n → events_of x.script (s.turn + k) ≡ []) → Glides v (cpu_of (task_at s c)) n w d → IsLeft x s c v n w d
-  unfolding with_task
-  window_then n w d nothing on =
-      let h = gone n w d nothing on in
-      record {
-        keeps = h.keeps;
-        window = subst (λ (y : State). IsWindow x.setup c y.memory w) (sym h.state) (window_again x.setup c s.memory v w window h.keeps);
-        processor = ap (λ (y : State). cpu_of (task_at y c)) h.state ∙ cpu_after record s { current = runner n c s.current } c d (own_memory s.memory w) n there;
-      }
+-- a view that is left fetches from the same stretch
+pub code_still : (v w : View) (at : ℕ) → Keeps v w → has_code w at 2 ≡ true → has_code v at 2 ≡ true
+code_still v w at k h = rw (← k.flash_base, ← k.flash, ← k.code_base, ← k.code_size) h

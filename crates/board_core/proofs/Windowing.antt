@@ -1,27 +1,29 @@
 -- Instructions on end within a window of a task's memory are its turns.
 use Rattle.words_core.specs.Regs.{reg_at, stack_pointer, program_counter}
-use Rattle.std.proofs.Common.{◌≡◌, ◌≢◌, ◌⊎◌, inl, inr, ◌+◌, ◌-◌, ◌≤◌, ◌<◌, ℕ, zero, suc, Bool, true, false, not, cond, eqb, ◌||◌, ◌&&◌, List, [], ◌∷◌, length, Option, Some, None, refl, sym, ◌∙◌, ap, subst, arith, leb}
-use Rattle.std.specs.Prelude.{Contains, Ok, find}
-use Rattle.std.proofs.lemmas.Bool.{le-leb, leb-true, ltb-true, eq-eqb, false≢true}
-use Rattle.std.proofs.lemmas.List.{set-set}
+use Rattle.std.proofs.Common.{◌≡◌, ◌≢◌, ◌⊎◌, inl, inr, ◌+◌, ◌-◌, ◌%◌, ◌≤◌, ◌<◌, ℕ, zero, suc, Bool, true, false, not, cond, eqb, ◌&&◌, List, [], ◌∷◌, length, Option, Some, None, refl, sym, ◌∙◌, ap, subst, arith, get_or, Vec, Global}
+use Rattle.std.specs.Prelude.{Contains, Ok, find, map, vec_items, vec_len}
+use Rattle.std.proofs.lemmas.Bool.{leb-true, ltb-true, eq-eqb, eqb-true, false≢true}
+use Rattle.std.proofs.lemmas.List.{set-set, length-map, get_or-map}
 use Rattle.region_check.specs.declared.Region.{Region}
 use Rattle.region_check.specs.declared.Right.{Right}
 use Rattle.region_check.specs.declared.Right.TheVariants.{Read, Write, Execute}
-use Rattle.region_check.specs.Rights.{gives, has_right, may_use}
+use Rattle.region_check.specs.Rights.{has_right}
 use Rattle.run_script.specs.Scripts.{ScriptData, IsNext, events_of}
 use Rattle.mem_banks.specs.Memory.{Memory, bytes_at, with_bytes}
-use Rattle.mem_banks.specs.Windows.{IsInMemory, IsInRam, IsInFlash, IsNoRegion, AreApart}
+use Rattle.mem_banks.specs.Windows.{Doing, IsInMemory, IsInRam, IsInFlash, IsNoRegion, AreApart}
 use Rattle.mem_banks.proofs.Windows.{region_length, written_same}
 use Rattle.thumb_exec.specs.declared.cpu.Cpu.{Cpu}
-use Rattle.thumb_exec.specs.Effect.{Halts}
-use Rattle.thumb_exec.specs.Fetch.{fetched, step_effect}
+use Rattle.kernel_abi.specs.Devices.{DeviceData}
+use Rattle.thumb_exec.specs.Effect.{Effect, Next, Syscall, Trap, Halts}
+use Rattle.thumb_exec.specs.Fetch.{WidensFetch, fetched, step_effect}
 use Rattle.thumb_insn.specs.declared.Insn.TheVariants.{Svc}
-use Rattle.thumb_step.specs.Windows.{View, Glides, IsAtSyscall, is_at_syscall, refused_by, held_by}
-use Rattle.thumb_step.proofs.Widening.{fetched_wider}
+use Rattle.thumb_step.specs.Windows.{View, given, Keeps, IsApart, IsAtSyscall, is_at_syscall, refused_by, held_by}
+use Rattle.thumb_step.proofs.Widening.{fetched_wider, step_wider}
+use Rattle.thumb_step.proofs.Gliding.{fetched_from, in_stretch}
 use Rattle.task_table.specs.State.{Setup, State, Task, Turn}
 use Rattle.task_table.specs.Start.{begun}
 use Rattle.task_table.specs.Reading.{setup_at, task_at, call_of, listen_of, is_ready, chosen, register}
-use Rattle.task_table.specs.Effects.{with_task, with_processor}
+use Rattle.task_table.specs.Effects.{with_task, with_processor, with_devices}
 use Rattle.task_table.specs.declared.kernel.Kernel.{Kernel}
 use Rattle.task_table.specs.Holds.{Holds, setup_of, memory_of, kept_of, note_count, notes_of as kernel_notes}
 use Rattle.task_table.specs.Openable.{AreUsable, span_of}
@@ -29,24 +31,36 @@ use Rattle.task_table.specs.Window.{overlaid, IsWindowOpened}
 use Rattle.task_table.proofs.Changes.{task_at-with_task}
 use Rattle.task_table.proofs.Steps.{holds_turn}
 use Rattle.board_model.specs.declared.outcomes.Level.TheVariants.{Calls}
+use Rattle.board_model.specs.declared.outcomes.Turned.{Turned}
+use Rattle.board_model.specs.declared.outcomes.Turned.TheVariants.{Idle, Ran}
 use Rattle.board_model.specs.Script.{Scenario}
-use Rattle.board_model.specs.Turn.{may, refusals, held, cpu_of, with_current}
+use Rattle.board_model.specs.Turn.{may, refusals, is_device, held, cpu_of, with_current, turned}
 use Rattle.board_model.specs.Run.{ending, is_down, state_after}
 use Rattle.board_model.proofs.Outside.{due_later}
-use Rattle.board_model.proofs.TurnChains.{chosen_is}
+use Rattle.board_model.proofs.TurnChains.{chosen_is, whole_cpu}
+use Rattle.task_table.specs.Sane.{Sane}
 use Rattle.board_core.specs.Reached.{is_flash_at, is_ram_at, is_area, IsStackRegion, IsAreaRegion, AreReached}
-use Rattle.board_core.specs.Windowed.{IsWindow, IsWholeWindow, IsAtEnd, MustStop, AreTurns, runner, later, with_window}
-use Rattle.board_core.proofs.WindowTurns.{are_turns, window_then}
+use Rattle.board_core.specs.Breakpoints.{IsStretch, is_hit}
+use Rattle.board_core.specs.Windowed.{IsWindow, IsWholeWindow, IsSight, IsAtEnd, MustStop, IsFetchedIn, AreTurns, runner, later, with_window}
+use Rattle.board_core.proofs.WindowTurns.{fetched_there}
+use Rattle.board_core.proofs.SightTurns.{IsLeft, are_turns, seen_then}
 use Rattle.board_core.proofs.WindowCovers.{widens}
+use Rattle.board_core.proofs.Ports.{each_byte, own_ports}
+use Rattle.board_core.proofs.Polled.{glides_polls}
+use Rattle.board_core.proofs.Reaching.{holds_devices}
+use Rattle.board_core.specs.Sights.{Sight, is_read, ports_of, sight_by, refused_at, held_at, Polls, IsAtLimit}
+use Rattle.board_core.specs.declared.poller.Poller.{Poller}
+use Rattle.board_core.specs.Polling.{HasPolled}
 use Rattle.board_core.specs.declared.machine.Machine.{Machine}
 use Rattle.board_core.specs.declared.reach.Reach.{Reach}
-use Rattle.board_core.specs.Machine.{IsLoaded, HasContext, MachineHolds, MachineStands, with_cpu}
+use Rattle.board_core.specs.Machine.{IsLoaded, HoldsBy, HasContext, MachineHolds, MachineStands, with_cpu}
 use Rattle.board_core.specs.declared.glider.Glider.{Glider}
 use Rattle.board_core.specs.Gliding.{lent_view, HasWorked, IsGlided, HasGlided}
 use Rattle.board_core.specs.declared.board.Board.{Board}
+use Rattle.board_core.specs.Ports.{AllPorts}
 use Rattle.board_core.specs.Stands.{Stands, turns_of}
-use Rattle.board_core.specs.Advanced.{HasGlidden, IsCall}
-use Rattle.board_core.proofs.Loading.{rest_of, context_cpu, context_memory, loaded_by, same_held}
+use Rattle.board_core.specs.Advanced.{HasGlidden, IsCallPast}
+use Rattle.board_core.proofs.Loading.{rest_of, context_cpu, context_memory, loaded_by}
 use Rattle.region_check.proofs.Spanning.{both}
 use Rattle.region_check.specs.Spans.{spans}
 use Rattle.board_core.proofs.Skipping.{quiet_before, quiet_begun, begun_board}
@@ -54,27 +68,6 @@ use Rattle.board_core.proofs.Turning.{rested, rested_as, none_of}
 use Rattle.board_core.specs.Data.{Shows, data_of}
 
 -- ## a window
-
-first_or : (p q : Bool) → p ≡ true → (p || q) ≡ true
-first_or p q e = rw e refl
-
-second_or : (p q : Bool) → q ≡ true → (p || q) ≡ true
-second_or true q e = refl
-second_or false q e = e
-
-given_by : (right : Right) (r : Region) (a : ℕ) → has_right r.rights right ≡ true → r.base ≤ a → a < r.base + r.size → gives right a r ≡ true
-given_by right r a has low high =
-    let p : leb r.base a ≡ true = le-leb _ _ low in
-    let q : leb (suc a) (r.base + r.size) ≡ true = le-leb _ _ (omega (arith, high)) in
-    rw (p, q, has) refl
-
--- what a region of a list gives
-pub each_byte : (regions : List Region) (right : Right) (r : Region) (a : ℕ) → Contains regions r → has_right r.rights right ≡ true → r.base ≤ a → a < r.base + r.size → may_use regions right a ≡ true
-each_byte [] right r a (i, lt, same) has low high = absurd (omega (arith, lt))
-each_byte (x ∷ xs) right r a (zero, lt, same) has low high =
-    let is : x ≡ r = same in
-    first_or (gives right a x) (may_use xs right a) (ap (gives right a) is ∙ given_by right r a has low high)
-each_byte (x ∷ xs) right r a (suc i, lt, same) has low high = second_or (gives right a x) (may_use xs right a) (each_byte xs right r a (i, omega arith, same) has low high)
 
 in_flash : (m : Memory) (r : ℕ × ℕ) → r.0 < 0x20000000 → IsInMemory m r → IsInFlash m r
 in_flash m r low (inl x) = absurd (omega (arith, low, x.0))
@@ -118,6 +111,10 @@ flash_at at r h =
     let one = both _ _ two.0 in
     let range = spanned r at 2 one.0 in
     record { to = range.1; from = range.0; execute = one.1; no_device = is_false _ two.1; below = ltb-true _ _ three.1 }
+
+-- PC lies within its region
+pub pc_inside : (at : ℕ) (r : Region) → is_flash_at at r ≡ true → (r.base ≤ at) × (at ≤ r.base + r.size)
+pc_inside at r h = let f = flash_at at r h in (f.from, omega (arith, f.to))
 
 ram_at : (at : ℕ) (r : Region) → is_ram_at at r ≡ true → IsRamAt at r
 ram_at at r h =
@@ -196,8 +193,8 @@ are_usable regions pc sp flash ram area are =
       ];
     }
 
-module _ (g : Setup) (c : ℕ) (m : Memory) (pc sp : ℕ) (flash ram area : Region) (v : View)
-    (are : AreReached (setup_at g c).regions pc sp flash ram area) (flash_base : v.flash_base ≡ flash.base) (readable : v.readable ≡ flash.rights.read) (ram_base : v.ram_base ≡ ram.base)
+module _ (breakpoints : List ℕ) (g : Setup) (c : ℕ) (m : Memory) (pc sp : ℕ) (flash ram area : Region) (v : View)
+    (are : AreReached (setup_at g c).regions pc sp flash ram area) (flash_base : v.flash_base ≡ flash.base) (stretch : IsStretch breakpoints flash.base flash.size pc v.code_base v.code_size) (readable : v.readable ≡ flash.rights.read) (ram_base : v.ram_base ≡ ram.base)
     (area_base : v.area_base ≡ area.base) (writable : v.area_writable ≡ area.rights.write)
     (flash_there : IsInMemory m (flash.base, flash.size)) (ram_there : IsInRam m (ram.base, ram.size)) (area_there : IsInRam m (area.base, area.size)) (apart : AreApart (ram.base, ram.size) (area.base, area.size))
     (flash_bytes : v.flash ≡ bytes_at m flash.base flash.size) (ram_bytes : v.ram ≡ bytes_at m ram.base ram.size) (area_bytes : v.area ≡ bytes_at m area.base area.size) where
@@ -227,9 +224,13 @@ module _ (g : Setup) (c : ℕ) (m : Memory) (pc sp : ℕ) (flash ram area : Regi
       by (inl x) = let none : area.size ≡ 0 = x.1 in absurd (omega (arith, low, high, area_long, none))
       by (inr x) = each_byte (setup_at g c).regions right area a x.0 (has x.1) (omega (arith, low, area_base)) (omega (arith, high, area_base, area_long))
 
-  -- the flash ends below the RAM
-  pub flash_below : v.flash_base + length v.flash ≤ v.ram_base
-  flash_below = let inside = in_flash m (flash.base, flash.size) (flash_at pc flash are.flash).below flash_there in omega (arith, flash_base, flash_long, ram_base, inside.2, ram_there.0)
+  -- the stretch lies within the flash, which ends below the RAM
+  pub is_apart : IsApart v
+  is_apart = record {
+    from = omega (arith, flash_base, stretch.inside.0);
+    to = omega (arith, flash_base, flash_long, stretch.inside.1);
+    below = let inside = in_flash m (flash.base, flash.size) (flash_at pc flash are.flash).below flash_there in omega (arith, flash_base, flash_long, ram_base, inside.2, ram_there.0);
+  }
 
   window_of : IsWindow g c m v
   window_of =
@@ -250,7 +251,7 @@ module _ (g : Setup) (c : ℕ) (m : Memory) (pc sp : ℕ) (flash ram area : Regi
         area = rw (area_base, area_long) (sym area_bytes);
       }
 
-  pub whole_window : IsWholeWindow g c m pc sp v
+  pub whole_window : IsWholeWindow breakpoints g c m pc sp v
   whole_window = record {
     is = window_of;
     code = flash;
@@ -258,6 +259,7 @@ module _ (g : Setup) (c : ℕ) (m : Memory) (pc sp : ℕ) (flash ram area : Regi
     further = area;
     reached = are;
     flash = (flash_base, flash_long);
+    stretch = stretch;
     readable = readable;
     ram = (ram_base, ram_long);
     area = (area_base, area_long);
@@ -270,42 +272,47 @@ set_twice : (s : State) (i : ℕ) (x y : Task) → with_task i y (with_task i x 
 unfolding with_task
 set_twice s i x y = ap (λ (xs : List Task). record s { tasks = xs }) (set-set s.tasks i x y)
 
--- the turn that the kernel holds, n turns later with another memory
-abbrev saved_later : Turn → Memory → ℕ → Turn
-saved_later saved m n = record saved { state = record saved.state { memory = m; turn = saved.state.turn + n } }
+-- the turn that the kernel holds, n turns later with another memory and other devices
+abbrev saved_later : Turn → Memory → List DeviceData → ℕ → Turn
+saved_later saved m ds n = record saved { state = record saved.state { memory = m; devices = ds; turn = saved.state.turn + n } }
 
-later_loaded : (saved : Turn) (cpu cpu' : Cpu) (m : Memory) (n : ℕ) → saved.state.current < length saved.state.tasks →
-    record (with_cpu cpu saved) { state = later (with_cpu cpu saved).state saved.state.current cpu' m n } ≡ with_cpu cpu' (saved_later saved m n)
+later_loaded : (saved : Turn) (cpu cpu' : Cpu) (m : Memory) (ds : List DeviceData) (n : ℕ) → saved.state.current < length saved.state.tasks →
+    record (with_cpu cpu saved) { state = later record (with_cpu cpu saved).state { devices = ds } saved.state.current cpu' m n } ≡ with_cpu cpu' (saved_later saved m ds n)
 unfolding with_processor with_task task_at
-later_loaded saved cpu cpu' m n inside =
+later_loaded saved cpu cpu' m ds n inside =
     let s = saved.state in
     let c = s.current in
     let x : Task = record (task_at s c) { registers = cpu.regs.words; flags = cpu.flags } in
     let y : Task → Task = λ z. record z { registers = cpu'.regs.words; flags = cpu'.flags } in
-    ap (λ (z : Task). record saved { state = record (with_task c (y z) (with_task c x s)) { memory = m; turn = s.turn + n } }) (task_at-with_task s c x inside)
-    ∙ ap (λ (z : State). record saved { state = record z { memory = m; turn = s.turn + n } }) (set_twice s c x (y x))
+    ap (λ (z : Task). record saved { state = record (with_task c (y z) (with_task c x s)) { memory = m; devices = ds; turn = s.turn + n } }) (task_at-with_task s c x inside)
+    ∙ ap (λ (z : State). record saved { state = record z { memory = m; devices = ds; turn = s.turn + n } }) (set_twice s c x (y x))
 
-later_ready : (s : State) (m : Memory) (n c : ℕ) → is_ready s c ≡ true → is_ready record s { memory = m; turn = n; current = c } c ≡ true
+later_ready : (s : State) (m : Memory) (ds : List DeviceData) (n c : ℕ) → is_ready s c ≡ true → is_ready record s { memory = m; devices = ds; turn = n; current = c } c ≡ true
 unfolding is_ready task_at call_of listen_of
-later_ready s m n c h = h
+later_ready s m ds n c h = h
 
-pub lent_loaded : {X : Type 0} {H : X → Type 0} (shown : Shows X H) (g : Setup) (m : Machine X H) (r' : Reach X H) (cpu' : Cpu) (c : ℕ) (t : Turn) (at by : ℕ) (bytes more : List ℕ) (n : ℕ) → HasContext shown g m c t → c < length t.state.tasks → r'.devices ≡ m.reach.devices →
-    ((u : Turn) → Holds g m.reach.kernel u → Holds g r'.kernel (with_current c (overlaid by more (overlaid at bytes u)))) → IsLoaded shown g r' cpu' record t { state = later record t.state { current = c } c cpu' (with_bytes (with_bytes t.state.memory at bytes) by more) n }
-lent_loaded shown g m r' cpu' c t at by bytes more n h inside same f =
-    let cpu : Cpu = m.processor in
+-- no kernel keeps a device
+holds_beside : (g : Setup) (k : Kernel) (t : Turn) (ds : List DeviceData) → Holds g k t → Holds g k record t { state = record t.state { devices = ds } }
+unfolding with_devices
+holds_beside g k t ds h = holds_devices g (kept_of k) t ds h
+
+pub lent_loaded : {X : Type 0} {H : X → Type 0} (shown : Shows X H) (g : Setup) (m : Machine X H) (r' : Reach X H) (cpu' : Cpu) (c : ℕ) (t : Turn) (at by : ℕ) (bytes more : List ℕ) (ds : List DeviceData) (n : ℕ) → HasContext shown g m c t → c < length t.state.tasks → data_of shown r'.devices ≡ ds →
+    ((u : Turn) → Holds g m.reach.kernel u → Holds g r'.kernel (with_current c (overlaid by more (overlaid at bytes u)))) → IsLoaded shown g r' cpu' record t { state = later record t.state { current = c; devices = ds } c cpu' (with_bytes (with_bytes t.state.memory at bytes) by more) n }
+lent_loaded shown g m r' cpu' c t at by bytes more ds n h inside same f =
+    let cpu : Cpu = m.glider.runner.processor in
     let saved : Turn = with_current c h.saved in
     let now : Turn = with_current c t in
     let rest = rest_of saved now cpu h.is in
     let y : Memory = with_bytes (with_bytes saved.state.memory at bytes) by more in
     let there : c < length saved.state.tasks = rw rest.count at inside in
-    let same_turn : record t { state = later now.state c cpu' (with_bytes (with_bytes t.state.memory at bytes) by more) n } ≡ with_cpu cpu' (saved_later saved y n) =
-    ap (λ (u : Turn). record u { state = later u.state c cpu' (with_bytes (with_bytes t.state.memory at bytes) by more) n }) h.is
-    ∙ ap (λ (z : Memory). record (with_cpu cpu saved) { state = later (with_cpu cpu saved).state c cpu' (with_bytes (with_bytes z at bytes) by more) n }) rest.memory
-    ∙ later_loaded saved cpu cpu' y n there in
+    let same_turn : record t { state = later record now.state { devices = ds } c cpu' (with_bytes (with_bytes t.state.memory at bytes) by more) n } ≡ with_cpu cpu' (saved_later saved y ds n) =
+    ap (λ (u : Turn). record u { state = later record u.state { devices = ds } c cpu' (with_bytes (with_bytes t.state.memory at bytes) by more) n }) h.is
+    ∙ ap (λ (z : Memory). record (with_cpu cpu saved) { state = later record (with_cpu cpu saved).state { devices = ds } c cpu' (with_bytes (with_bytes z at bytes) by more) n }) rest.memory
+    ∙ later_loaded saved cpu cpu' y ds n there in
     record {
-      saved = saved_later saved y n;
-      holds = record { kernel = held (holds_turn g (kept_of r'.kernel) (with_current c (overlaid by more (overlaid at bytes h.saved))) (saved.state.turn + n) (f h.saved h.holds.kernel)); devices = ap (data_of shown) same ∙ h.holds.devices };
-      ready = later_ready h.saved.state y (saved.state.turn + n) c h.ready;
+      saved = saved_later saved y ds n;
+      holds = record { kernel = holds_beside g r'.kernel record saved { state = record saved.state { memory = y; turn = saved.state.turn + n } } ds (held (holds_turn g (kept_of r'.kernel) (with_current c (overlaid by more (overlaid at bytes h.saved))) (saved.state.turn + n) (f h.saved h.holds.kernel))); devices = same };
+      ready = later_ready h.saved.state y ds (saved.state.turn + n) c h.ready;
       is = same_turn;
     }
   where
@@ -326,82 +333,153 @@ lent_none g k k' at size by extent bytes more there beside is also f u h =
     ∙ h.memory in
     subst (λ (m : Memory). Holds g k' record u { state = record u.state { memory = m } }) whole (f u h)
 
--- a window of a task was opened for its processor, which is still in the machine
-module _ {X : Type 0} {H : X → Type 0} (shown : Shows X H) (g : Setup) (m : Machine X H) (task most : ℕ) (t : Turn) (flash ram area : Region) (pc sp : ℕ) (a b : Glider) (k' : Kernel)
+-- ## what was done with a window
+
+pub stretch_as : (breakpoints : List ℕ) (base size pc from len at count : ℕ) → at ≡ from → count ≡ len → IsStretch breakpoints base size pc from len → IsStretch breakpoints base size pc at count
+stretch_as breakpoints base size pc from len at count e f h = rw (e, f) h
+
+pub context_devices : {X : Type 0} {H : X → Type 0} (shown : Shows X H) (g : Setup) (m : Machine X H) (c : ℕ) (t : Turn) → HasContext shown g m c t → data_of shown m.reach.devices ≡ t.state.devices
+context_devices shown g m c t h = h.holds.devices ∙ sym (rest_of (with_current c h.saved) (with_current c t) m.glider.runner.processor h.is).devices
+
+-- instructions on end over what a task sees, at most so many
+pub record IsWork (g : Setup) (c : ℕ) (before left : View) (devices ds : List DeviceData) (from to : Cpu) (most made : ℕ) (calls : Bool) : Type 0 where
+  pub polls : Polls (sight_by g c before devices) from made (sight_by g c left ds) to
+  pub far : made < most → IsAtLimit (sight_by g c left ds) to
+  pub short : calls ≡ true → made < most
+  pub calling : calls ≡ true → IsAtSyscall left to
+  pub told : IsApart before → made < most → calls ≡ is_at_syscall left to
+
+-- where a task may read no device it sees its window alone
+module _ (v : View) (ds : List DeviceData) where
+  abbrev alone : Sight
+  alone = record { view = v; devices = ds; ports = [] }
+
+  beyond_alone : (a n : ℕ) (r : Right) → refused_at alone a n r ≡ None → (is_device a ≡ false) × (refused_by v a n r ≡ None)
+  beyond_alone a n r = by (is_device a) (is_read r)
+    where
+      by : (b read : Bool) → cond b (given (read && false) a) (refused_by v a n r) ≡ None → (b ≡ false) × (refused_by v a n r ≡ None)
+      by true true e = absurd cc
+      by true false e = absurd cc
+      by false read e = (refl, e)
+
+  same_alone : (a n : ℕ) → is_device a ≡ false → held_at alone a n ≡ held_by v a n
+  same_alone a n e = rw e refl
+
+  wider_alone : WidensFetch (refused_at alone) (refused_by v) (held_at alone) (held_by v)
+  wider_alone = record {
+    widens = record { granted = λ a n r e. (beyond_alone a n r e).1; same = λ a n e. same_alone a n (beyond_alone a n Read e).0 };
+    fetches = λ a e. same_alone a 2 (beyond_alone a 2 Execute e).0;
+  }
+
+  limit_alone : (c : Cpu) → Halts (step_effect (refused_by v) (held_by v) c) → Halts (step_effect (refused_at alone) (held_at alone) c)
+  limit_alone c halts = by (step_effect (refused_at alone) (held_at alone) c) refl
+    where
+      by : (e : Effect) → step_effect (refused_at alone) (held_at alone) c ≡ e → Halts e
+      by (Next d ms) is = absurd (subst (λ (x : Effect). Halts x) (step_wider (refused_at alone) (refused_by v) (held_at alone) (held_by v) wider_alone c d ms is) halts)
+      by Syscall is = tt
+      by (Trap f) is = tt
+
+-- what the glider did
+pub glider_work : (g : Setup) (c : ℕ) (a b : Glider) (flash ram area after area_after : List ℕ) (devices : List DeviceData) (from : Cpu) (most : ℕ) → ports_of g c ≡ [] → a.runner.processor ≡ from → a.most ≡ most → IsApart (lent_view a flash ram area) → HasWorked a flash ram area b after area_after →
+    IsWork g c (lent_view a flash ram area) (lent_view a flash after area_after) devices devices from b.runner.processor most b.made b.at_syscall
+glider_work g c a b flash ram area after area_after devices from most none own limit apart work = subst (λ (k : ℕ). IsWork g c (lent_view a flash ram area) (lent_view a flash after area_after) devices devices from b.runner.processor k b.made b.at_syscall) limit record {
+  polls = subst (λ (x : Cpu). Polls (sight_by g c (lent_view a flash ram area) devices) x b.made (sight_by g c (lent_view a flash after area_after) devices) b.runner.processor) own (glides_polls b.made _ _ _ _ devices (ports_of g c) work.glides);
+  far = λ lt even. subst (λ (ports : List Region). Halts (step_effect (refused_at record { view = lent_view a flash after area_after; devices = devices; ports = ports }) (held_at record { view = lent_view a flash after area_after; devices = devices; ports = ports }) b.runner.processor)) (sym none) (limit_alone (lent_view a flash after area_after) devices b.runner.processor (work.far apart lt));
+  short = work.short;
+  calling = work.calls;
+  told = work.told;
+}
+
+-- what the poller did
+pub poller_work : {X : Type 0} {H : X → Type 0} (shown : Shows X H) (g : Setup) (c : ℕ) (a b : Poller X H) (flash ram area after area_after : List ℕ) (devices : List DeviceData) (from : Cpu) (most : ℕ) → a.ports.items ≡ ports_of g c → a.glider.runner.processor ≡ from → a.glider.most ≡ most → data_of shown a.devices ≡ devices → IsApart (lent_view a.glider flash ram area) → HasPolled shown a flash ram area b after area_after →
+    IsWork g c (lent_view a.glider flash ram area) (lent_view a.glider flash after area_after) devices (data_of shown b.devices) from b.glider.runner.processor most b.made b.glider.at_syscall
+poller_work shown g c a b flash ram area after area_after devices from most ports own limit same apart work =
+    let v : View = lent_view a.glider flash ram area in
+    let w : View = lent_view a.glider flash after area_after in
+    let e : List DeviceData = data_of shown b.devices in
+    subst (λ (k : ℕ). IsWork g c v w devices e from b.glider.runner.processor k b.made b.glider.at_syscall) limit record {
+      polls =
+          subst (λ (x : Cpu). Polls (sight_by g c v devices) x b.made (sight_by g c w e) b.glider.runner.processor) own
+          (subst (λ (ds : List DeviceData). Polls (sight_by g c v ds) a.glider.runner.processor b.made (sight_by g c w e) b.glider.runner.processor) same
+          (subst (λ (rs : List Region). Polls record { view = v; devices = data_of shown a.devices; ports = rs } a.glider.runner.processor b.made record { view = w; devices = e; ports = rs } b.glider.runner.processor) ports work.polls));
+      far = λ lt. subst (λ (rs : List Region). IsAtLimit record { view = w; devices = e; ports = rs } b.glider.runner.processor) ports (work.far apart lt);
+      short = work.short;
+      calling = work.calls;
+      told = work.told;
+    }
+
+-- the devices show what they showed, and the kernel stands for what it stood for
+same_shown : {X : Type 0} {H : X → Type 0} (shown : Shows X H) (loaded : Bool) (g : Setup) (r r' : Reach X H) (cpu : Cpu) (t : Turn) → data_of shown r'.devices ≡ data_of shown r.devices → ((u : Turn) → Holds g r.kernel u → Holds g r'.kernel u) → HoldsBy shown loaded g r cpu t → HoldsBy shown loaded g r' cpu t
+same_shown shown true g r r' cpu t same f h = record { saved = h.saved; holds = record { kernel = f h.saved h.holds.kernel; devices = same ∙ h.holds.devices }; ready = h.ready; is = h.is }
+same_shown shown false g r r' cpu t same f h = record { kernel = f t h.kernel; devices = same ∙ h.devices }
+
+-- a window of a task was opened for somebody who has the task's processor, and did such work in it
+module _ {X : Type 0} {H : X → Type 0} (shown : Shows X H) (breakpoints : List ℕ) (g : Setup) (m : Machine X H) (task most : ℕ) (t : Turn) (flash ram area : Region) (pc sp : ℕ) {B : Type 0} (did : Doing B) (user user' : B) (a : Glider) (k' : Kernel)
     (h : HasContext shown g m task t) (inside : task < length t.state.tasks) (reached : AreReached (setup_at (setup_of m.reach.kernel) task).regions pc sp flash ram area)
     (pc_is : pc ≡ register t.state task program_counter) (sp_is : sp ≡ register t.state task stack_pointer)
-    (processor_is : a.runner.processor ≡ m.processor) (flash_is : a.runner.window.flash_base ≡ flash.base) (readable_is : a.runner.window.readable ≡ flash.rights.read) (ram_is : a.runner.window.ram_base ≡ ram.base) (area_is : a.runner.window.area_base ≡ area.base) (writable_is : a.runner.window.area_writable ≡ area.rights.write) (most_is : a.most ≡ most)
-    (opened : IsWindowOpened HasWorked m.reach.kernel flash ram area a b k') where
-  abbrev before : View
+    (flash_is : a.runner.window.flash_base ≡ flash.base) (stretch_is : IsStretch breakpoints flash.base flash.size pc a.runner.window.code_base a.runner.window.code_size) (readable_is : a.runner.window.readable ≡ flash.rights.read) (ram_is : a.runner.window.ram_base ≡ ram.base) (area_is : a.runner.window.area_base ≡ area.base) (writable_is : a.runner.window.area_writable ≡ area.rights.write)
+    (opened : IsWindowOpened did m.reach.kernel flash ram area user user' k') where
+  abbrev pub before : View
   before = lent_view a (bytes_at (memory_of m.reach.kernel) flash.base flash.size) (bytes_at (memory_of m.reach.kernel) ram.base ram.size) (bytes_at (memory_of m.reach.kernel) area.base area.size)
 
-  abbrev left : View
+  abbrev pub left : View
   left = lent_view a (bytes_at (memory_of m.reach.kernel) flash.base flash.size) opened.window.after opened.window.area_after
 
   are : AreReached (setup_at g task).regions pc sp flash ram area
   are = let P : Setup → Type 0 = λ x. AreReached (setup_at x task).regions pc sp flash ram area in subst P h.holds.kernel.setup reached
 
-  whole_here : IsWholeWindow g task t.state.memory (register t.state task program_counter) (register t.state task stack_pointer) before
+  whole_here : IsWholeWindow breakpoints g task t.state.memory (register t.state task program_counter) (register t.state task stack_pointer) before
   whole_here =
-      let W : Memory → Type 0 = λ y. IsWholeWindow g task y pc sp before in
-      let P : ℕ → Type 0 = λ at. IsWholeWindow g task t.state.memory at sp before in
-      let S : ℕ → Type 0 = λ at. IsWholeWindow g task t.state.memory (register t.state task program_counter) at before in
-      subst S sp_is (subst P pc_is (subst W (context_memory shown g m task t h) (whole_window g task (memory_of m.reach.kernel) pc sp flash ram area before are flash_is readable_is ram_is area_is writable_is opened.window.flash_there opened.window.ram_there opened.window.area_there opened.window.area_apart.1 refl refl refl)))
+      let W : Memory → Type 0 = λ y. IsWholeWindow breakpoints g task y pc sp before in
+      let P : ℕ → Type 0 = λ at. IsWholeWindow breakpoints g task t.state.memory at sp before in
+      let S : ℕ → Type 0 = λ at. IsWholeWindow breakpoints g task t.state.memory (register t.state task program_counter) at before in
+      subst S sp_is (subst P pc_is (subst W (context_memory shown g m task t h) (whole_window breakpoints g task (memory_of m.reach.kernel) pc sp flash ram area before are flash_is stretch_is readable_is ram_is area_is writable_is opened.window.flash_there opened.window.ram_there opened.window.area_there opened.window.area_apart.1 refl refl refl)))
 
-  glides_here : Glides before (cpu_of (task_at t.state task)) b.made left b.runner.processor
-  glides_here = let G : Cpu → Type 0 = λ y. Glides before y b.made left b.runner.processor in subst G (processor_is ∙ context_cpu shown g m task t h inside) opened.window.work.glides
-
-  far_here : b.made < most → Halts (step_effect (refused_by left) (held_by left) b.runner.processor)
-  far_here lt = opened.window.work.far (flash_below g task (memory_of m.reach.kernel) pc sp flash ram area before are flash_is readable_is ram_is area_is writable_is opened.window.flash_there opened.window.ram_there opened.window.area_there opened.window.area_apart.1 refl refl refl) (omega (arith, lt, most_is))
-
-  calls_here : (b.at_syscall ≡ true → b.made < most) × (b.at_syscall ≡ true → IsAtSyscall left b.runner.processor) × (b.made < most → b.at_syscall ≡ is_at_syscall left b.runner.processor)
-  calls_here = (
-    λ e. let lt = opened.window.work.short e in omega (arith, lt, most_is),
-    opened.window.work.calls,
-    λ lt. opened.window.work.told (flash_below g task (memory_of m.reach.kernel) pc sp flash ram area before are flash_is readable_is ram_is area_is writable_is opened.window.flash_there opened.window.ram_there opened.window.area_there opened.window.area_apart.1 refl refl refl) (omega (arith, lt, most_is)),
-  )
+  pub apart_here : IsApart before
+  apart_here = is_apart breakpoints g task (memory_of m.reach.kernel) pc sp flash ram area before are flash_is stretch_is readable_is ram_is area_is writable_is opened.window.flash_there opened.window.ram_there opened.window.area_there opened.window.area_apart.1 refl refl refl
 
   -- instructions were made: the task is the current one from now on
-  pub has_run : (m' : Machine X H) → 0 < b.made → m'.loaded ≡ true → m'.processor ≡ b.runner.processor → m'.reach.devices ≡ m.reach.devices → ((u : Turn) → Holds g k' u → Holds g m'.reach.kernel (with_current task u)) → IsGlided shown g m' task t most b.made b.at_syscall
-  has_run m' some loaded processor same f =
-      let G : Cpu → Type 0 = λ y. Glides before (cpu_of (task_at t.state task)) b.made left y in
-      let F : Cpu → Type 0 = λ y. b.made < most → Halts (step_effect (refused_by left) (held_by left) y) in
-      let L : ℕ → ℕ → Type 0 = λ at by. IsLoaded shown g m'.reach m'.processor record t { state = later record t.state { current = task } task m'.processor (with_bytes (with_bytes t.state.memory at opened.window.after) by opened.window.area_after) b.made } in
+  pub has_run : (ds : List DeviceData) (cpu : Cpu) (made : ℕ) (calls : Bool) → IsWork g task before left t.state.devices ds (cpu_of (task_at t.state task)) cpu most made calls →
+      (m' : Machine X H) → 0 < made → m'.loaded ≡ true → m'.glider.runner.processor ≡ cpu → data_of shown m'.reach.devices ≡ ds → ((u : Turn) → Holds g k' u → Holds g m'.reach.kernel (with_current task u)) → IsGlided shown breakpoints g m' task t most made calls
+  has_run ds cpu made calls work m' some loaded processor same f =
+      let L : ℕ → ℕ → Type 0 = λ at by. IsLoaded shown g m'.reach m'.glider.runner.processor record t { state = later record t.state { current = task; devices = ds } task m'.glider.runner.processor (with_bytes (with_bytes t.state.memory at opened.window.after) by opened.window.area_after) made } in
       record {
         window = before;
         after = left;
+        devices = ds;
         whole = whole_here;
-        glides = subst G (sym processor) glides_here;
-        far = subst F (sym processor) far_here;
-        short = calls_here.0;
-        calling = λ e. subst (λ (y : Cpu). IsAtSyscall left y) (sym processor) (calls_here.1 e);
-        told = λ lt. calls_here.2 lt ∙ ap (is_at_syscall left) (sym processor);
+        polls = subst (λ (y : Cpu). Polls (sight_by g task before t.state.devices) (cpu_of (task_at t.state task)) made (sight_by g task left ds) y) (sym processor) work.polls;
+        far = λ lt. subst (λ (y : Cpu). IsAtLimit (sight_by g task left ds) y) (sym processor) (work.far lt);
+        short = work.short;
+        calling = λ e. subst (λ (y : Cpu). IsAtSyscall left y) (sym processor) (work.calling e);
+        told = λ lt. work.told apart_here lt ∙ ap (is_at_syscall left) (sym processor);
         stays = λ none. absurd (omega (arith, some, none));
-        goes = λ lt. loaded_by shown m'.loaded g m'.reach m'.processor _ loaded (subst (λ (at : ℕ). L at before.area_base) (sym ram_is) (subst (λ (by : ℕ). L ram.base by) (sym area_is) (lent_loaded shown g m m'.reach m'.processor task t ram.base area.base opened.window.after opened.window.area_after b.made h inside same (λ u held. f (overlaid area.base opened.window.area_after (overlaid ram.base opened.window.after u)) (opened.holds g u held)))));
+        goes = λ lt. loaded_by shown m'.loaded g m'.reach m'.glider.runner.processor _ loaded (subst (λ (at : ℕ). L at before.area_base) (sym ram_is) (subst (λ (by : ℕ). L ram.base by) (sym area_is) (lent_loaded shown g m m'.reach m'.glider.runner.processor task t ram.base area.base opened.window.after opened.window.area_after ds made h inside same (λ u held. f (overlaid area.base opened.window.area_after (overlaid ram.base opened.window.after u)) (opened.holds g u held)))));
       }
 
-  none_here : Glides before (cpu_of (task_at t.state task)) 0 left b.runner.processor → (opened.window.after ≡ bytes_at (memory_of m.reach.kernel) ram.base ram.size) × (opened.window.area_after ≡ bytes_at (memory_of m.reach.kernel) area.base area.size) × (b.runner.processor ≡ m.processor)
-  none_here e = (ap (λ (v : View). v.ram) e.0, ap (λ (v : View). v.area) e.0, e.1 ∙ sym (context_cpu shown g m task t h inside))
+  none_here : (ds : List DeviceData) (cpu : Cpu) → Polls (sight_by g task before t.state.devices) (cpu_of (task_at t.state task)) 0 (sight_by g task left ds) cpu → (opened.window.after ≡ bytes_at (memory_of m.reach.kernel) ram.base ram.size) × (opened.window.area_after ≡ bytes_at (memory_of m.reach.kernel) area.base area.size) × (cpu ≡ m.glider.runner.processor) × (ds ≡ data_of shown m.reach.devices)
+  none_here ds cpu e = (ap (λ (o : Sight). o.view.ram) e.0, ap (λ (o : Sight). o.view.area) e.0, e.1 ∙ sym (context_cpu shown g m task t h inside), ap (λ (o : Sight). o.devices) e.0 ∙ sym (context_devices shown g m task t h))
 
   -- none was made: all is as it was
-  pub has_stayed : (m' : Machine X H) → b.made ≡ 0 → m'.loaded ≡ m.loaded → m'.processor ≡ m.processor → m'.reach ≡ record m.reach { kernel = k' } → MachineHolds shown g m t → IsGlided shown g m' task t most b.made b.at_syscall
-  has_stayed m' none loaded processor reach holds =
-      let N : ℕ → Type 0 = λ n. Glides before (cpu_of (task_at t.state task)) n left b.runner.processor in
-      let same = none_here (subst N none glides_here) in
-      let own : b.runner.processor ≡ m'.processor = same.2 ∙ sym processor in
-      let G : Cpu → Type 0 = λ y. Glides before (cpu_of (task_at t.state task)) b.made left y in
-      let F : Cpu → Type 0 = λ y. b.made < most → Halts (step_effect (refused_by left) (held_by left) y) in
+  pub has_stayed : (ds : List DeviceData) (cpu : Cpu) (made : ℕ) (calls : Bool) → IsWork g task before left t.state.devices ds (cpu_of (task_at t.state task)) cpu most made calls →
+      (m' : Machine X H) → made ≡ 0 → m'.loaded ≡ m.loaded → m'.glider.runner.processor ≡ cpu → m'.reach.kernel ≡ k' → data_of shown m'.reach.devices ≡ ds → MachineHolds shown g m t → IsGlided shown breakpoints g m' task t most made calls
+  has_stayed ds cpu made calls work m' none loaded processor kernel devices holds =
+      let N : ℕ → Type 0 = λ n. Polls (sight_by g task before t.state.devices) (cpu_of (task_at t.state task)) n (sight_by g task left ds) cpu in
+      let same = none_here ds cpu (subst N none work.polls) in
+      let kept : m'.glider.runner.processor ≡ m.glider.runner.processor = processor ∙ same.2 in
       let f = lent_none g m.reach.kernel k' ram.base ram.size area.base area.size opened.window.after opened.window.area_after opened.window.ram_there opened.window.area_there same.0 same.1 (opened.holds g) in
+      let K : (u : Turn) → Holds g m.reach.kernel u → Holds g m'.reach.kernel u = λ u held. subst (λ (k : Kernel). Holds g k u) (sym kernel) (f u held) in
       record {
         window = before;
         after = left;
+        devices = ds;
         whole = whole_here;
-        glides = subst G own glides_here;
-        far = subst F own far_here;
-        short = calls_here.0;
-        calling = λ e. subst (λ (y : Cpu). IsAtSyscall left y) own (calls_here.1 e);
-        told = λ lt. calls_here.2 lt ∙ ap (is_at_syscall left) own;
-        stays = λ e. rw (loaded, processor, reach) (same_held shown m.loaded g m.reach record m.reach { kernel = k' } m.processor t refl f holds);
+        polls = subst (λ (y : Cpu). Polls (sight_by g task before t.state.devices) (cpu_of (task_at t.state task)) made (sight_by g task left ds) y) (sym processor) work.polls;
+        far = λ lt. subst (λ (y : Cpu). IsAtLimit (sight_by g task left ds) y) (sym processor) (work.far lt);
+        short = work.short;
+        calling = λ e. subst (λ (y : Cpu). IsAtSyscall left y) (sym processor) (work.calling e);
+        told = λ lt. work.told apart_here lt ∙ ap (is_at_syscall left) (sym processor);
+        stays = λ e. rw (loaded, kept) (same_shown shown m.loaded g m.reach m'.reach m.glider.runner.processor t (devices ∙ same.3) K holds);
         goes = λ lt. absurd (omega (arith, lt, none));
       }
 
@@ -418,12 +496,21 @@ due_later_on script turn (suc n) due next ne =
 -- ## turns on end of the task that is chosen
 
 -- a board after n turns within a window, and why there were no more
-pub record IsMade {X : Type 0} {H : X → Type 0} (shown : Shows X H) (x : Scenario) (u : State) (task until : ℕ) (b b' : Board X H) (calls : Bool) : Type 0 where
-  pub glidden : HasGlidden shown x u (turns_of b' - turns_of b) b'
-  pub far : turns_of b' < until → MustStop x.setup task (register u task program_counter) (register u task stack_pointer) (state_after Calls x (turns_of b' - turns_of b) u) calls
-  pub call : calls ≡ true → IsCall x (state_after Calls x (turns_of b' - turns_of b) u) task
+pub record IsMade {X : Type 0} {H : X → Type 0} (shown : Shows X H) (breakpoints : List ℕ) (x : Scenario) (u : State) (task until : ℕ) (b b' : Board X H) (calls : Bool) : Type 0 where
+  pub glidden : HasGlidden shown breakpoints x u (turns_of b' - turns_of b) b'
+  pub far : turns_of b' < until → MustStop breakpoints x.setup task (register u task program_counter) (register u task stack_pointer) (state_after Calls x (turns_of b' - turns_of b) u) calls
+  pub call : calls ≡ true → IsCallPast breakpoints x (state_after Calls x (turns_of b' - turns_of b) u) task
 
-module _ {X : Type 0} {H : X → Type 0} (shown : Shows X H) (x : Scenario) (u : State) (b : Board X H) (m : Machine X H) (task most n until : ℕ) (calls : Bool)
+-- PC is even
+even_there : (g : Setup) (c : ℕ) (s : State) → Sane g s → c < length s.tasks → reg_at (cpu_of (task_at s c)).regs program_counter % 2 ≡ 0
+even_there g c s sane inside = (whole_cpu {g = g} c record { state = s; notes = []; writes = []; reads = [] } sane inside).even
+
+-- where a window fetches there is no breakpoint
+not_hit : (breakpoints : List ℕ) (base size pc c : ℕ) (v : View) (t : Turned) → IsStretch breakpoints base size pc v.code_base v.code_size → IsFetchedIn v c t → is_hit breakpoints t ≡ false
+not_hit breakpoints base size pc c v Idle s h = absurd h
+not_hit breakpoints base size pc c v (Ran task at) s h = let i = in_stretch v at 2 h.1 in s.free at i.0 (omega (arith, i.1))
+
+module _ {X : Type 0} {H : X → Type 0} (shown : Shows X H) (breakpoints : List ℕ) (x : Scenario) (u : State) (b : Board X H) (m : Machine X H) (task most n until : ℕ) (calls : Bool)
     (st : Stands shown x b u) (next : b.choice.next ≡ Some task) (up : b.choice.down ≡ false)
     (few : until ≤ 1000000000) (within : turns_of b + n ≤ until) (later_due : (turn : ℕ) → turn < until → b.due ≢ Some turn)
     (none : kernel_notes m.reach.kernel ≡ []) where
@@ -434,7 +521,7 @@ module _ {X : Type 0} {H : X → Type 0} (shown : Shows X H) (x : Scenario) (u :
   is_chosen = sym st.holds.choice.next ∙ next
 
   -- none was made
-  stayed : n ≡ 0 → MachineHolds shown x.setup m (rested b.machine u) → HasGlidden shown x u n record b { machine = m; turns = turns_of b + n }
+  stayed : n ≡ 0 → MachineHolds shown x.setup m (rested b.machine u) → HasGlidden shown breakpoints x u n record b { machine = m; turns = turns_of b + n }
   unfolding state_after
   stayed zero_is h =
       rw zero_is record {
@@ -445,29 +532,38 @@ module _ {X : Type 0} {H : X → Type 0} (shown : Shows X H) (x : Scenario) (u :
             choice = st.holds.choice;
             script = st.holds.script;
             due = st.holds.due;
+            ports = st.holds.ports;
           };
           sane = st.sane;
           counted = st.counted;
         };
         nothing = λ k lt. absurd (omega (arith, lt));
         goes_on = λ k lt. absurd (omega (arith, lt));
+        past = λ k lt. absurd (omega (arith, lt));
         notes = λ lt. none;
       }
 
-  turns_are : (h : IsGlided shown x.setup m task (rested b.machine u) most n calls) → AreTurns x u task h.window n h.after m.processor
-  turns_are h = are_turns x u task h.window st.sane is_chosen h.whole.is n h.after m.processor nothing h.glides
+  -- what the task sees
+  seen : (h : IsGlided shown breakpoints x.setup m task (rested b.machine u) most n calls) → IsSight x.setup task u (sight_by x.setup task h.window u.devices)
+  seen h = record { window = h.whole.is; devices = refl; ports = own_ports x.setup task }
+
+  turns_are : (h : IsGlided shown breakpoints x.setup m task (rested b.machine u) most n calls) → AreTurns x u task (sight_by x.setup task h.window u.devices) n (sight_by x.setup task h.after h.devices) m.glider.runner.processor
+  turns_are h = are_turns x u task (sight_by x.setup task h.window u.devices) st.sane is_chosen (seen h) n (sight_by x.setup task h.after h.devices) m.glider.runner.processor nothing h.polls
+
+  left_is : (h : IsGlided shown breakpoints x.setup m task (rested b.machine u) most n calls) → IsLeft x u task (sight_by x.setup task h.window u.devices) n (sight_by x.setup task h.after h.devices) m.glider.runner.processor
+  left_is h = seen_then x u task (sight_by x.setup task h.window u.devices) st.sane is_chosen (seen h) n (sight_by x.setup task h.after h.devices) m.glider.runner.processor nothing h.polls
 
   -- what the machine holds then
-  held_after : (h : IsGlided shown x.setup m task (rested b.machine u) most n calls) → MachineHolds shown x.setup m (rested b.machine (state_after Calls x n u))
+  held_after : (h : IsGlided shown breakpoints x.setup m task (rested b.machine u) most n calls) → MachineHolds shown x.setup m (rested b.machine (state_after Calls x n u))
   unfolding state_after
   held_after h = by n refl h.stays h.goes (turns_are h).state
     where
-      by : (k : ℕ) → k ≡ n → (k ≡ 0 → MachineHolds shown x.setup m (rested b.machine u)) → (0 < k → MachineHolds shown x.setup m (rested b.machine (later record u { current = task } task m.processor (with_window u.memory h.window h.after) k))) → state_after Calls x k u ≡ later record u { current = runner k task u.current } task m.processor (with_window u.memory h.window h.after) k →
+      by : (k : ℕ) → k ≡ n → (k ≡ 0 → MachineHolds shown x.setup m (rested b.machine u)) → (0 < k → MachineHolds shown x.setup m (rested b.machine (later record u { current = task; devices = h.devices } task m.glider.runner.processor (with_window u.memory h.window h.after) k))) → state_after Calls x k u ≡ later record u { current = runner k task u.current; devices = h.devices } task m.glider.runner.processor (with_window u.memory h.window h.after) k →
           MachineHolds shown x.setup m (rested b.machine (state_after Calls x k u))
       by zero e stays goes is = stays refl
       by (suc k) e stays goes is = subst (λ (y : State). MachineHolds shown x.setup m (rested b.machine y)) (sym is) (goes (omega arith))
 
-  made : IsGlided shown x.setup m task (rested b.machine u) most n calls → HasGlidden shown x u n record b { machine = m; turns = turns_of b + n }
+  made : IsGlided shown breakpoints x.setup m task (rested b.machine u) most n calls → HasGlidden shown breakpoints x u n record b { machine = m; turns = turns_of b + n }
   unfolding ending state_after
   made h =
       let are = turns_are h in
@@ -490,11 +586,13 @@ module _ {X : Type 0} {H : X → Type 0} (shown : Shows X H) (x : Scenario) (u :
             };
             script = st.holds.script;
             due = subst (λ (k : ℕ). IsNext x.script k b.due) (sym turns) (due_later_on x.script u.turn n b.due st.holds.due (λ k lt. later_due (u.turn + k) (omega (arith, a, lt, within))));
+            ports = st.holds.ports;
           };
           sane = are.sane;
           counted = are.counted st.counted;
         };
         nothing = are.silent;
+        past = λ k lt. not_hit breakpoints h.whole.code.base h.whole.code.size (register u task program_counter) task h.window (turned x (state_after Calls x k u)) h.whole.stretch (are.ran k lt);
         goes_on = λ k lt. goes_at (suc k) (are.chosen (suc k) (omega (arith, lt))) (are.down (suc k) (omega (arith, lt)));
         notes = λ lt. none;
       }
@@ -504,64 +602,77 @@ module _ {X : Type 0} {H : X → Type 0} (shown : Shows X H) (x : Scenario) (u :
           let down : is_down (state_after Calls x k u) ≡ false = same ∙ sym st.holds.choice.down ∙ up in
           rw (down, some) refl
 
-  has_glidden : HasGlided shown x.setup m task (rested b.machine u) most n calls → HasGlidden shown x u n record b { machine = m; turns = turns_of b + n }
+  has_glidden : HasGlided shown breakpoints x.setup m task (rested b.machine u) most n calls → HasGlidden shown breakpoints x u n record b { machine = m; turns = turns_of b + n }
   has_glidden (inl h) = made h
   has_glidden (inr h) = stayed h.none h.holds
 
+  stretch_still : (w : View) (h : IsGlided shown breakpoints x.setup m task (rested b.machine u) most n calls) → Keeps h.window w → IsStretch breakpoints h.whole.code.base h.whole.code.size (register u task program_counter) w.code_base w.code_size
+  stretch_still w h same = rw (same.code_base, same.code_size) h.whole.stretch
+
   -- the window that is left is of the same regions
-  at_end : (h : IsGlided shown x.setup m task (rested b.machine u) most n calls) → n < most → IsAtEnd x.setup task (register u task program_counter) (register u task stack_pointer) (state_after Calls x n u) calls
+  at_end : (h : IsGlided shown breakpoints x.setup m task (rested b.machine u) most n calls) → n < most → IsAtEnd breakpoints x.setup task (register u task program_counter) (register u task stack_pointer) (state_after Calls x n u) calls
   at_end h lt =
-      let left = window_then x u task h.window st.sane is_chosen h.whole.is n h.after m.processor nothing h.glides in
+      let left = left_is h in
       let same = left.keeps in
+      let v : State = state_after Calls x n u in
+      let p : Sight = sight_by x.setup task h.after h.devices in
+      let even = even_there x.setup task v (turns_are h).sane (chosen_is v task (turns_are h).sane ((turns_are h).chosen n (omega arith))).inside in
+      let halts : Halts (step_effect (refused_at p) (held_at p) (cpu_of (task_at v task))) = subst (λ (d : Cpu). IsAtLimit p d) (sym left.processor) (h.far lt) even in
       record {
         window = h.after;
         whole = record {
-          is = left.window;
+          is = left.sight.window;
           code = h.whole.code;
           stack = h.whole.stack;
           further = h.whole.further;
           reached = h.whole.reached;
           flash = (same.flash_base ∙ h.whole.flash.0, ap (λ (xs : List ℕ). length xs) same.flash ∙ h.whole.flash.1);
+          stretch = stretch_still h.after h same;
           readable = same.readable ∙ h.whole.readable;
           ram = (same.ram_base ∙ h.whole.ram.0, same.size ∙ h.whole.ram.1);
           area = (same.area_base ∙ h.whole.area.0, same.area_size ∙ h.whole.area.1);
           writable = same.area_writable ∙ h.whole.writable;
         };
-        halts = subst (λ (d : Cpu). Halts (step_effect (refused_by h.after) (held_by h.after) d)) (sym left.processor) (h.far lt);
+        halts = subst (λ (ds : List DeviceData). Halts (step_effect (refused_at (sight_by x.setup task h.after ds)) (held_at (sight_by x.setup task h.after ds)) (cpu_of (task_at v task)))) left.sight.devices halts;
         told = h.told lt ∙ ap (is_at_syscall h.after) (sym left.processor);
       }
 
-  must_stop : HasGlided shown x.setup m task (rested b.machine u) most n calls → n < most → MustStop x.setup task (register u task program_counter) (register u task stack_pointer) (state_after Calls x n u) calls
+  must_stop : HasGlided shown breakpoints x.setup m task (rested b.machine u) most n calls → n < most → MustStop breakpoints x.setup task (register u task program_counter) (register u task stack_pointer) (state_after Calls x n u) calls
   unfolding state_after
   must_stop (inl h) lt = inl (at_end h lt)
   must_stop (inr h) lt = inr (rw h.none h.beyond, h.no_call)
 
   -- at a system call the next turn is that call
-  is_call : HasGlided shown x.setup m task (rested b.machine u) most n calls → turns_of b + most ≡ until → calls ≡ true → IsCall x (state_after Calls x n u) task
+  is_call : HasGlided shown breakpoints x.setup m task (rested b.machine u) most n calls → turns_of b + most ≡ until → calls ≡ true → IsCallPast breakpoints x (state_after Calls x n u) task
   unfolding register
   is_call (inl h) all e =
       let are = turns_are h in
       let v : State = state_after Calls x n u in
-      let left = window_then x u task h.window st.sane is_chosen h.whole.is n h.after m.processor nothing h.glides in
+      let left = left_is h in
       let call = h.calling e in
       let turns : v.turn ≡ u.turn + n = ap (λ (y : State). y.turn) are.state in
-      let wide = fetched_wider (refused_by h.after) (refusals x.setup task) (held_by h.after) (held v) (widens x.setup task v h.after left.window are.sane.steady.placed) (reg_at m.processor.regs 15) _ call.is in
+      let wide = fetched_wider (refused_by h.after) (refusals x.setup task) (held_by h.after) (held v) (widens x.setup task v h.after left.sight.window are.sane.steady.placed) (reg_at m.glider.runner.processor.regs 15) _ call.is in
+      let quiet : events_of x.script v.turn ≡ [] = ap (events_of x.script) turns ∙ (let at = st.holds.turns in let lt = h.short e in quiet_before x.script u.turn until b.due st.holds.due later_due few (u.turn + n) (omega arith) (omega (arith, at, lt, all))) in
+      let there : IsFetchedIn h.after task (turned x v) = fetched_there x v task h.after m.glider.runner.processor (are.chosen n (omega arith)) quiet left.processor (fetched_from h.after (reg_at m.glider.runner.processor.regs 15) _ call.is) in
       record {
-        chosen = are.chosen n (omega arith);
-        nothing = ap (events_of x.script) turns ∙ (let at = st.holds.turns in let lt = h.short e in quiet_before x.script u.turn until b.due st.holds.due later_due few (u.turn + n) (omega arith) (omega (arith, at, lt, all)));
-        calling = record {
-          value = call.value;
-          code = call.code;
-          is = subst (λ (d : Cpu). fetched (refusals x.setup task) (held v) (reg_at d.regs 15) ≡ Ok record { insn = Svc call.value; code = call.code }) (sym left.processor) wide;
+        call = record {
+          chosen = are.chosen n (omega arith);
+          nothing = quiet;
+          calling = record {
+            value = call.value;
+            code = call.code;
+            is = subst (λ (d : Cpu). fetched (refusals x.setup task) (held v) (reg_at d.regs 15) ≡ Ok record { insn = Svc call.value; code = call.code }) (sym left.processor) wide;
+          };
         };
+        past = not_hit breakpoints h.whole.code.base h.whole.code.size (register u task program_counter) task h.after (turned x v) (stretch_still h.after h left.keeps) there;
       }
   is_call (inr h) all e = absurd (false≢true (sym h.no_call ∙ e))
 
 -- the same of a board once its machine's turn has begun
-pub made_by : {X : Type 0} {H : X → Type 0} (shown : Shows X H) (x : Scenario) (u : State) (b : Board X H) (m m' : Machine X H) (task n until : ℕ) (calls : Bool) → Stands shown x b u → MachineHolds shown x.setup m (begun u) → b.choice.next ≡ Some task → b.choice.down ≡ false → until ≤ 1000000000 →
+pub made_by : {X : Type 0} {H : X → Type 0} (shown : Shows X H) (breakpoints : List ℕ) (x : Scenario) (u : State) (b : Board X H) (m m' : Machine X H) (task n until : ℕ) (calls : Bool) → Stands shown x b u → MachineHolds shown x.setup m (begun u) → b.choice.next ≡ Some task → b.choice.down ≡ false → until ≤ 1000000000 →
     turns_of b < until → n ≤ until - turns_of b → ((turn : ℕ) → turn < until → b.due ≢ Some turn) → note_count m'.reach.kernel ≡ note_count m.reach.kernel →
-    ((g : Setup) (t : Turn) → MachineStands shown g m t → task < length t.state.tasks → is_ready t.state task ≡ true → HasGlided shown g m' task t (until - turns_of b) n calls) → IsMade shown x u task until b record b { machine = m'; turns = turns_of b + n } calls
-made_by {X} {H} shown x u b0 m m' task n until calls st0 holds next up few left within later_due count glided =
+    ((t : Turn) → MachineStands shown x.setup m t → task < length t.state.tasks → is_ready t.state task ≡ true → HasGlided shown breakpoints x.setup m' task t (until - turns_of b) n calls) → IsMade shown breakpoints x u task until b record b { machine = m'; turns = turns_of b + n } calls
+made_by {X} {H} shown breakpoints x u b0 m m' task n until calls st0 holds next up few left within later_due count glided =
     let b : Board X H = record b0 { machine = m } in
     let b' : Board X H = record b0 { machine = m'; turns = turns_of b0 + n } in
     let st : Stands shown x b u = begun_board shown x u b0 m st0 holds in
@@ -569,12 +680,49 @@ made_by {X} {H} shown x u b0 m m' task n until calls st0 holds next up few left 
     let over : turns_of b0 + n ≤ until = omega (arith, left, within) in
     let most : ℕ = until - turns_of b0 in
     let is = chosen_is u task st.sane (sym st.holds.choice.next ∙ next) in
-    let h = glided x.setup (rested m u) record { holds = st.holds.machine; sane = st.sane } is.inside is.ready in
+    let h = glided (rested m u) record { holds = st.holds.machine; sane = st.sane } is.inside is.ready in
     let e : n ≡ turns_of b0 + n - turns_of b0 = omega arith in
     record {
-      glidden = subst (λ (k : ℕ). HasGlidden shown x u k b') e (has_glidden shown x u b m' task most n until calls st next up few over later_due none h);
+      glidden = subst (λ (k : ℕ). HasGlidden shown breakpoints x u k b') e (has_glidden shown breakpoints x u b m' task most n until calls st next up few over later_due none h);
       far = λ lt.
-          let stop = must_stop shown x u b m' task most n until calls st next up few over later_due none h (omega (arith, lt)) in
-          subst (λ (k : ℕ). MustStop x.setup task (register u task program_counter) (register u task stack_pointer) (state_after Calls x k u) calls) e stop;
-      call = λ yes. subst (λ (k : ℕ). IsCall x (state_after Calls x k u) task) e (is_call shown x u b m' task most n until calls st next up few over later_due none h (omega (arith, left)) yes);
+          let stop = must_stop shown breakpoints x u b m' task most n until calls st next up few over later_due none h (omega (arith, lt)) in
+          subst (λ (k : ℕ). MustStop breakpoints x.setup task (register u task program_counter) (register u task stack_pointer) (state_after Calls x k u) calls) e stop;
+      call = λ yes. subst (λ (k : ℕ). IsCallPast breakpoints x (state_after Calls x k u) task) e (is_call shown breakpoints x u b m' task most n until calls st next up few over later_due none h (omega (arith, left)) yes);
     }
+
+-- ## the ports of a board
+
+none_in : {A : Type 0} (xs : List A) → length xs ≡ 0 → xs ≡ []
+none_in [] e = refl
+none_in (x ∷ xs) e = absurd (omega (arith, e))
+
+pub no_list : (v : Vec Region Global) → true ≡ eqb (vec_len v) 0 → v.items ≡ []
+no_list v e = none_in v.items (sym v.ok.0 ∙ eqb-true (vec_len v) 0 (sym e))
+
+module _ {X : Type 0} {H : X → Type 0} (shown : Shows X H) (x : Scenario) (s : State) (b : Board X H) (st : Stands shown x b s) where
+  -- there is a list for each task
+  pub ports_inside : (c : ℕ) → c < length s.tasks → c < vec_len b.ports
+  ports_inside c inside = let long = b.ports.ok.0 in let all = st.holds.ports.count in let same = length-map b.ports.items vec_items in let many = st.sane.steady.as_many in omega (arith, long, all, same, many, inside)
+
+  pub own_list : (c : ℕ) (v d : Vec Region Global) → c < length s.tasks → v ≡ get_or b.ports.items c d → v.items ≡ ports_of x.setup c
+  own_list c v d inside is = let long = b.ports.ok.0 in let in_len = ports_inside c inside in let lt : c < length b.ports.items = omega (arith, in_len, long) in let many = st.sane.steady.as_many in ap vec_items is ∙ sym (get_or-map vec_items b.ports.items c d [] lt) ∙ st.holds.ports.each c (omega (arith, many, inside))
+
+pub glidden_ports : {X : Type 0} {H : X → Type 0} (shown : Shows X H) (breakpoints : List ℕ) (x : Scenario) (s : State) (n : ℕ) (b : Board X H) (p : Vec (Vec Region Global) Global) → HasGlidden shown breakpoints x s n b → AllPorts x.setup (map vec_items p.items) → HasGlidden shown breakpoints x s n record b { ports = p }
+glidden_ports shown breakpoints x s n b p h ports = record {
+  stands = record {
+    holds = record {
+      machine = h.stands.holds.machine;
+      turns = h.stands.holds.turns;
+      choice = h.stands.holds.choice;
+      script = h.stands.holds.script;
+      due = h.stands.holds.due;
+      ports = ports;
+    };
+    sane = h.stands.sane;
+    counted = h.stands.counted;
+  };
+  nothing = h.nothing;
+  goes_on = h.goes_on;
+  past = h.past;
+  notes = h.notes;
+}

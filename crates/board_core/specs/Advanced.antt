@@ -1,6 +1,6 @@
 -- Several turns on end, of which only the last may note anything.
 use Rattle.words_core.specs.Regs.{stack_pointer, program_counter}
-use Rattle.std.specs.Prelude.{ℕ, Bool, ◌≡◌, ◌≢◌, ◌⊎◌, ◌<◌, ◌-◌, [], None, Some, true, false}
+use Rattle.std.specs.Prelude.{ℕ, Bool, List, ◌≡◌, ◌≢◌, ◌⊎◌, ◌<◌, ◌-◌, [], None, Some, true, false}
 use Rattle.task_table.specs.State.{State}
 use Rattle.task_table.specs.Reading.{register, chosen}
 use Rattle.run_script.specs.Scripts.{events_of, lasts}
@@ -8,7 +8,9 @@ use Rattle.board_core.specs.declared.board.Board.{Board}
 use Rattle.board_model.specs.declared.outcomes.Level.{Level}
 use Rattle.board_model.specs.declared.outcomes.Level.TheVariants.{Calls}
 use Rattle.board_model.specs.Script.{Scenario}
+use Rattle.board_model.specs.Turn.{turned}
 use Rattle.board_model.specs.Run.{ending, turn_after, state_after}
+use Rattle.board_core.specs.Breakpoints.{is_hit}
 use Rattle.board_core.specs.Windowed.{MustStop, IsCalling}
 use Rattle.board_core.specs.Stands.{Stands, notes_of, turns_of}
 use Rattle.board_core.specs.Data.{Shows}
@@ -21,11 +23,12 @@ pub record IsAdvanced {X : Type 0} {H : X → Type 0} (shown : Shows X H) (level
   pub stands : Stands shown x b (turn_after level x n s).state
   pub notes : notes_of b ≡ (turn_after level x n s).notes
 
--- the board stands for the state after n turns, none of which noted anything or ended the run
-pub record HasGlidden {X : Type 0} {H : X → Type 0} (shown : Shows X H) (x : Scenario) (s : State) (n : ℕ) (b : Board X H) : Type 0 where
+-- the board stands for the state after n turns, none of which noted anything, ended the run or was at a breakpoint
+pub record HasGlidden {X : Type 0} {H : X → Type 0} (shown : Shows X H) (breakpoints : List ℕ) (x : Scenario) (s : State) (n : ℕ) (b : Board X H) : Type 0 where
   pub stands : Stands shown x b (state_after Calls x n s)
   pub nothing : (k : ℕ) → k < n → (turn_after Calls x k s).notes ≡ []
   pub goes_on : (k : ℕ) → k < n → ending x 1 (turn_after Calls x k s).state ≡ None
+  pub past : (k : ℕ) → k < n → is_hit breakpoints (turned x (state_after Calls x k s)) ≡ false
   pub notes : 0 < n → notes_of b ≡ []
 
 -- a turn in which something happens from outside, or before which the run ends
@@ -33,8 +36,8 @@ abbrev pub IsStopped : Scenario → State → Type 0
 IsStopped x s = (events_of x.script s.turn ≢ []) ⊎ (ending x 1 s ≢ None)
 
 -- a task that runs from a state goes no further the fast way than to another one, where it is known or not to make a system call
-abbrev pub IsFar : Scenario → ℕ → State → State → Bool → Type 0
-IsFar x c s u calls = MustStop x.setup c (register s c program_counter) (register s c stack_pointer) u calls
+abbrev pub IsFar : List ℕ → Scenario → ℕ → State → State → Bool → Type 0
+IsFar breakpoints x c s u calls = MustStop breakpoints x.setup c (register s c program_counter) (register s c stack_pointer) u calls
 
 -- the task that is chosen makes a system call, and nothing happens from outside
 pub record IsCall (x : Scenario) (s : State) (c : ℕ) : Type 0 where
@@ -50,30 +53,35 @@ abbrev pub state_before : {X : Type 0} {H : X → Type 0} → Scenario → Board
 state_before x old s new = state_after Calls x (turns_of new - turns_of old - 1) s
 
 -- the next turn of the task that is chosen from a state on is a whole one: something happens in it, or the fast way ends
-abbrev pub NeedsTurn : Scenario → ℕ → State → State → Type 0
-NeedsTurn x c s u = (events_of x.script u.turn ≢ []) ⊎ ((calls : Bool) × IsFar x c s u calls)
+abbrev pub NeedsTurn : List ℕ → Scenario → ℕ → State → State → Type 0
+NeedsTurn breakpoints x c s u = (events_of x.script u.turn ≢ []) ⊎ ((calls : Bool) × IsFar breakpoints x c s u calls)
 
 -- the task that is chosen went on to turn `until`, or as far as the fast way goes
-abbrev pub WentFar : {X : Type 0} {H : X → Type 0} → Shows X H → ℕ → Board X H → Board X H → Bool → Type 0
-WentFar shown until old new calls =
+abbrev pub WentFar : {X : Type 0} {H : X → Type 0} → Shows X H → List ℕ → ℕ → Board X H → Board X H → Bool → Type 0
+WentFar shown breakpoints until old new calls =
     (x : Scenario) (s : State) (c : ℕ) → Stands shown x old s → chosen x.setup s ≡ Some c → old.choice.down ≡ false →
-    turns_of new < until → IsFar x c s (state_now x old s new) calls
+    turns_of new < until → IsFar breakpoints x c s (state_now x old s new) calls
 
 -- the same of a task that is known to be the one
-abbrev pub WentFarOn : {X : Type 0} {H : X → Type 0} → Shows X H → ℕ → ℕ → Board X H → Board X H → Bool → Type 0
-WentFarOn shown task until old new calls =
+abbrev pub WentFarOn : {X : Type 0} {H : X → Type 0} → Shows X H → List ℕ → ℕ → ℕ → Board X H → Board X H → Bool → Type 0
+WentFarOn shown breakpoints task until old new calls =
     (x : Scenario) (s : State) → Stands shown x old s →
-    turns_of new < until → IsFar x task s (state_now x old s new) calls
+    turns_of new < until → IsFar breakpoints x task s (state_now x old s new) calls
 
--- then it makes a system call
-abbrev pub IsToCall : {X : Type 0} {H : X → Type 0} → Shows X H → ℕ → Board X H → Board X H → Type 0
-IsToCall shown task old new = (x : Scenario) (s : State) → Stands shown x old s → IsCall x (state_now x old s new) task
+-- the task that is chosen makes a system call, which is at no breakpoint
+pub record IsCallPast (breakpoints : List ℕ) (x : Scenario) (s : State) (c : ℕ) : Type 0 where
+  pub call : IsCall x s c
+  pub past : is_hit breakpoints (turned x s) ≡ false
+
+-- that is what it does then
+abbrev pub IsToCall : {X : Type 0} {H : X → Type 0} → Shows X H → List ℕ → ℕ → Board X H → Board X H → Type 0
+IsToCall shown breakpoints task old new = (x : Scenario) (s : State) → Stands shown x old s → IsCallPast breakpoints x (state_now x old s new) task
 
 -- the last turn had to be a whole one
-abbrev pub NeededTurn : {X : Type 0} {H : X → Type 0} → Shows X H → ℕ → Board X H → Board X H → Type 0
-NeededTurn shown limit old new =
+abbrev pub NeededTurn : {X : Type 0} {H : X → Type 0} → Shows X H → List ℕ → ℕ → Board X H → Board X H → Type 0
+NeededTurn shown breakpoints limit old new =
     (x : Scenario) (s : State) (c : ℕ) → Stands shown x old s → chosen x.setup s ≡ Some c → old.choice.down ≡ false →
-    turns_of new < limit → NeedsTurn x c s (state_before x old s new)
+    turns_of new < limit → NeedsTurn breakpoints x c s (state_before x old s new)
 
 -- where no task is ready, the last turn is the one in which something happened
 abbrev pub WaitedFor : {X : Type 0} {H : X → Type 0} → Shows X H → ℕ → Board X H → Board X H → Type 0

@@ -1,8 +1,8 @@
 -- What the boxes of devices show.
-use Rattle.std.specs.Prelude.{ℕ, ◌≡◌, ◌<◌, List, map, length, Some}
+use Rattle.std.specs.Prelude.{ℕ, ◌≡◌, ◌-◌, ◌<◌, true, List, map, length, Some}
 use Rattle.std.proofs.Common.{Global}
 use Rattle.std.specs.declared.dyn_box.DynBox.{DynBox}
-use Rattle.kernel_abi.specs.Devices.{DeviceData, behind, offset_in}
+use Rattle.kernel_abi.specs.Devices.{DeviceData, is_behind, behind, offset_in}
 use Rattle.board_core.specs.declared.list.Devices.{Devices}
 
 -- how a box of a device shows it: `shown` of the trait
@@ -16,6 +16,11 @@ boxed shown = λ b. shown (b.vtable, b.value)
 -- the devices of a list, as they stand
 abbrev pub data_of : {X : Type 0} {H : X → Type 0} → Shows X H → Devices X H → List DeviceData
 data_of shown d = map shown d.list.items
+
+-- an address is one of a device's, so far from its first
+pub record IsOffset (d : DeviceData) (addr off : ℕ) : Type 0 where
+  pub is : is_behind addr d ≡ true
+  pub at : off ≡ addr - d.base
 
 -- the k-th device is behind the address, so far from its first
 pub record IsPlace (ds : List DeviceData) (addr k off : ℕ) : Type 0 where

@@ -1,14 +1,16 @@
 -- Instructions on end within a window of a task's memory.
 use Rattle.words_core.specs.Regs.{stack_pointer, program_counter}
-use Rattle.std.specs.Prelude.{ℕ, ◌≡◌, ◌⊎◌, ◌+◌, ◌≤◌, ◌<◌, Bool, List, length, true, false}
+use Rattle.std.specs.Prelude.{ℕ, ◌≡◌, ◌⊎◌, ◌≤◌, ◌<◌, Bool, List, true, false}
 use Rattle.std.specs.List.{list_any}
+use Rattle.kernel_abi.specs.Devices.{DeviceData}
 use Rattle.thumb_exec.specs.Effect.{Halts}
 use Rattle.thumb_exec.specs.Fetch.{step_effect}
-use Rattle.thumb_step.specs.Windows.{View, Glides, IsAtSyscall, is_at_syscall, refused_by, held_by}
+use Rattle.thumb_step.specs.Windows.{View, Glides, IsApart, IsAtSyscall, is_at_syscall, refused_by, held_by}
 use Rattle.task_table.specs.State.{Setup, Turn}
 use Rattle.task_table.specs.Reading.{task_at, setup_at, register}
 use Rattle.board_model.specs.Turn.{cpu_of}
 use Rattle.board_core.specs.Reached.{is_flash_at}
+use Rattle.board_core.specs.Sights.{sight_by, Polls, IsAtLimit}
 use Rattle.board_core.specs.Windowed.{IsWholeWindow, later, with_window}
 use Rattle.board_core.specs.declared.glider.Glider.{Glider}
 use Rattle.board_core.specs.declared.machine.Machine.{Machine}
@@ -22,6 +24,8 @@ lent_view a flash ram area =
       flash_base = a.runner.window.flash_base;
       flash = flash;
       readable = a.runner.window.readable;
+      code_base = a.runner.window.code_base;
+      code_size = a.runner.window.code_size;
       ram_base = a.runner.window.ram_base;
       ram = ram;
       area_base = a.runner.window.area_base;
@@ -34,25 +38,26 @@ pub record HasWorked (a : Glider) (flash ram area : List ℕ) (b : Glider) (afte
   pub glides : Glides (lent_view a flash ram area) a.runner.processor b.made (lent_view a flash after area_after) b.runner.processor
   pub within : b.made ≤ a.most
   -- it stopped before that many only where the next one is a system call, faults or reaches elsewhere
-  pub far : a.runner.window.flash_base + length flash ≤ a.runner.window.ram_base → b.made < a.most → Halts (step_effect (refused_by (lent_view a flash after area_after)) (held_by (lent_view a flash after area_after)) b.runner.processor)
+  pub far : IsApart (lent_view a flash ram area) → b.made < a.most → Halts (step_effect (refused_by (lent_view a flash after area_after)) (held_by (lent_view a flash after area_after)) b.runner.processor)
   -- at a system call where it says so, and it says so where it did
   pub short : b.at_syscall ≡ true → b.made < a.most
   pub calls : b.at_syscall ≡ true → IsAtSyscall (lent_view a flash after area_after) b.runner.processor
-  pub told : a.runner.window.flash_base + length flash ≤ a.runner.window.ram_base → b.made < a.most → b.at_syscall ≡ is_at_syscall (lent_view a flash after area_after) b.runner.processor
+  pub told : IsApart (lent_view a flash ram area) → b.made < a.most → b.at_syscall ≡ is_at_syscall (lent_view a flash after area_after) b.runner.processor
 
--- n instructions on end of a task within a window, of which as many go on as there may be, and whether the next one is known to
--- be a system call. Where there were some, the task is the current one.
-pub record IsGlided {X : Type 0} {H : X → Type 0} (shown : Shows X H) (g : Setup) (m : Machine X H) (c : ℕ) (t : Turn) (most n : ℕ) (calls : Bool) : Type 0 where
+-- n instructions on end of a task within a window that fetches from no breakpoint, and over it and the devices that it may read, of which as many go on as there may
+-- be, and whether the next one is known to be a system call. Where there were some, the task is the current one.
+pub record IsGlided {X : Type 0} {H : X → Type 0} (shown : Shows X H) (breakpoints : List ℕ) (g : Setup) (m : Machine X H) (c : ℕ) (t : Turn) (most n : ℕ) (calls : Bool) : Type 0 where
   pub window : View
   pub after : View
-  pub whole : IsWholeWindow g c t.state.memory (register t.state c program_counter) (register t.state c stack_pointer) window
-  pub glides : Glides window (cpu_of (task_at t.state c)) n after m.processor
-  pub far : n < most → Halts (step_effect (refused_by after) (held_by after) m.processor)
+  pub devices : List DeviceData
+  pub whole : IsWholeWindow breakpoints g c t.state.memory (register t.state c program_counter) (register t.state c stack_pointer) window
+  pub polls : Polls (sight_by g c window t.state.devices) (cpu_of (task_at t.state c)) n (sight_by g c after devices) m.glider.runner.processor
+  pub far : n < most → IsAtLimit (sight_by g c after devices) m.glider.runner.processor
   pub short : calls ≡ true → n < most
-  pub calling : calls ≡ true → IsAtSyscall after m.processor
-  pub told : n < most → calls ≡ is_at_syscall after m.processor
+  pub calling : calls ≡ true → IsAtSyscall after m.glider.runner.processor
+  pub told : n < most → calls ≡ is_at_syscall after m.glider.runner.processor
   pub stays : n ≡ 0 → MachineHolds shown g m t
-  pub goes : 0 < n → MachineHolds shown g m record t { state = later record t.state { current = c } c m.processor (with_window t.state.memory window after) n }
+  pub goes : 0 < n → MachineHolds shown g m record t { state = later record t.state { current = c; devices = devices } c m.glider.runner.processor (with_window t.state.memory window after) n }
 
 -- none, since the task fetches from no region of the flash
 pub record HasNoWindow {X : Type 0} {H : X → Type 0} (shown : Shows X H) (g : Setup) (m : Machine X H) (c : ℕ) (t : Turn) (n : ℕ) (calls : Bool) : Type 0 where
@@ -61,5 +66,5 @@ pub record HasNoWindow {X : Type 0} {H : X → Type 0} (shown : Shows X H) (g : 
   pub beyond : list_any (is_flash_at (register t.state c program_counter)) (setup_at g c).regions ≡ false
   pub holds : MachineHolds shown g m t
 
-abbrev pub HasGlided : {X : Type 0} {H : X → Type 0} → Shows X H → Setup → Machine X H → ℕ → Turn → ℕ → ℕ → Bool → Type 0
-HasGlided shown g m c t most n calls = IsGlided shown g m c t most n calls ⊎ HasNoWindow shown g m c t n calls
+abbrev pub HasGlided : {X : Type 0} {H : X → Type 0} → Shows X H → List ℕ → Setup → Machine X H → ℕ → Turn → ℕ → ℕ → Bool → Type 0
+HasGlided shown breakpoints g m c t most n calls = IsGlided shown breakpoints g m c t most n calls ⊎ HasNoWindow shown g m c t n calls

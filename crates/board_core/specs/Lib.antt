@@ -1,6 +1,7 @@
 pub mod Data
 pub mod DeviceViews
 pub mod Reached
+pub mod Breakpoints
 pub mod Windowed
 pub mod Kept
 pub mod Machine
@@ -13,3 +14,6 @@ pub mod Views
 pub mod Regions
 pub mod Gliding
 pub mod Setting
+pub mod Sights
+pub mod Polling
+pub mod Ports

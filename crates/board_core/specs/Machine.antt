@@ -70,7 +70,7 @@ HoldsBy shown false g r cpu t = ReachHolds shown g r t
 
 -- the machine holds just what the turn has come to
 abbrev pub MachineHolds : {X : Type 0} {H : X → Type 0} → Shows X H → Setup → Machine X H → Turn → Type 0
-MachineHolds shown g m t = HoldsBy shown m.loaded g m.reach m.processor t
+MachineHolds shown g m t = HoldsBy shown m.loaded g m.reach m.glider.runner.processor t
 
 -- and the state is sane
 pub record MachineStands {X : Type 0} {H : X → Type 0} (shown : Shows X H) (g : Setup) (m : Machine X H) (t : Turn) : Type 0 where
@@ -80,7 +80,7 @@ pub record MachineStands {X : Type 0} {H : X → Type 0} (shown : Shows X H) (g 
 -- the machine stands for the turn, and the context of the current task, which is ready, is loaded
 pub record IsReady {X : Type 0} {H : X → Type 0} (shown : Shows X H) (g : Setup) (m : Machine X H) (t : Turn) : Type 0 where
   pub loaded : m.loaded ≡ true
-  pub holds : IsLoaded shown g m.reach m.processor t
+  pub holds : IsLoaded shown g m.reach m.glider.runner.processor t
   pub sane : Sane g t.state
 
 -- the machine stands for the turn, and this is the choice
@@ -94,7 +94,7 @@ pub record HasContext {X : Type 0} {H : X → Type 0} (shown : Shows X H) (g : S
   pub saved : Turn
   pub holds : ReachHolds shown g m.reach saved
   pub ready : is_ready saved.state c ≡ true
-  pub is : with_current c t ≡ with_cpu m.processor (with_current c saved)
+  pub is : with_current c t ≡ with_cpu m.glider.runner.processor (with_current c saved)
 
 -- the first of n bytes that the current task may not use so
 abbrev pub refused : Kernel → ℕ → ℕ → Right → Option ℕ

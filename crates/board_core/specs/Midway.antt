@@ -1,5 +1,5 @@
 -- A turn between its events and what the chosen task does.
-use Rattle.std.specs.Prelude.{◌+◌, ◌≡◌}
+use Rattle.std.specs.Prelude.{◌+◌, ◌≡◌, map, vec_items}
 use Rattle.task_table.specs.State.{State}
 use Rattle.task_table.specs.Start.{begun}
 use Rattle.task_table.specs.Sane.{IsCounted}
@@ -11,6 +11,7 @@ use Rattle.board_model.specs.Script.{Scenario}
 use Rattle.board_model.specs.Turn.{after_events}
 use Rattle.board_core.specs.Kept.{IsChoice, WasChoice}
 use Rattle.board_core.specs.Machine.{MachineStands}
+use Rattle.board_core.specs.Ports.{AllPorts}
 use Rattle.board_core.specs.Data.{Shows}
 
 -- the board before the events of the turn: nothing is noted as yet
@@ -19,6 +20,7 @@ pub record IsDue {X : Type 0} {H : X → Type 0} (shown : Shows X H) (x : Scenar
   pub turns : b.turns ≡ s.turn
   pub choice : WasChoice x.setup b.choice
   pub script : script_data b.script ≡ x.script
+  pub ports : AllPorts x.setup (map vec_items b.ports.items)
   pub counted : IsCounted s
   pub nothing : note_count b.machine.reach.kernel ≡ 0
 
@@ -27,4 +29,5 @@ pub record IsMidway {X : Type 0} {H : X → Type 0} (shown : Shows X H) (x : Sce
   pub machine : MachineStands shown x.setup b.machine (after_events x s)
   pub choice : IsChoice x.setup (after_events x s).state b.choice
   pub script : script_data b.script ≡ x.script
+  pub ports : AllPorts x.setup (map vec_items b.ports.items)
   pub due : IsNext x.script (s.turn + 1) b.due

@@ -1,5 +1,5 @@
 -- Which states a board stands for, in which run.
-use Rattle.std.specs.Prelude.{ℕ, ◌≡◌, List, []}
+use Rattle.std.specs.Prelude.{ℕ, ◌≡◌, List, [], map, vec_items}
 use Rattle.kernel_abi.specs.declared.Note.{Note}
 use Rattle.task_table.specs.State.{State}
 use Rattle.task_table.specs.Sane.{Sane, IsCounted}
@@ -10,6 +10,7 @@ use Rattle.board_core.specs.declared.board.Board.{Board}
 use Rattle.board_model.specs.Script.{Scenario}
 use Rattle.board_core.specs.Kept.{IsChoice}
 use Rattle.board_core.specs.Machine.{MachineHolds}
+use Rattle.board_core.specs.Ports.{AllPorts}
 use Rattle.board_core.specs.Data.{Shows}
 
 -- what is shown of a board whatever it stands for: the notes of its last turn, how many turns it
@@ -24,13 +25,14 @@ abbrev pub count_of : {X : Type 0} {H : X → Type 0} → Board X H → ℕ
 count_of b = task_count b.machine.reach.kernel
 
 -- its parts are those of the state: its machine's, its turn number and its choice; its script is the
--- run's, and it knows when something happens next
+-- run's, it knows when something happens next, and which devices each task may read
 pub record Holds {X : Type 0} {H : X → Type 0} (shown : Shows X H) (x : Scenario) (b : Board X H) (s : State) : Type 0 where
   pub machine : MachineHolds shown x.setup b.machine record { state = s; notes = notes_of b; writes = []; reads = [] }
   pub turns : b.turns ≡ s.turn
   pub choice : IsChoice x.setup s b.choice
   pub script : script_data b.script ≡ x.script
   pub due : IsNext x.script s.turn b.due
+  pub ports : AllPorts x.setup (map vec_items b.ports.items)
 
 -- and the state is sane, and its counts are those that a run can reach
 pub record Stands {X : Type 0} {H : X → Type 0} (shown : Shows X H) (x : Scenario) (b : Board X H) (s : State) : Type 0 where

@@ -1,6 +1,6 @@
 -- Turns of a task whose instructions stay within a window of its flash and its data.
 use Rattle.words_core.specs.Regs.{program_counter}
-use Rattle.std.specs.Prelude.{ℕ, zero, suc, ◌≡◌, ◌⊎◌, Bool, false, ◌+◌, ◌<◌, ◌≤◌, true, length, [], Some, Ok}
+use Rattle.std.specs.Prelude.{ℕ, zero, suc, ◌≡◌, ◌⊎◌, Bool, false, ◌+◌, ◌<◌, ◌≤◌, true, List, length, [], Some, Ok, Contains}
 use Rattle.region_check.specs.declared.Region.{Region}
 use Rattle.region_check.specs.declared.Right.TheVariants.{Read, Write, Execute}
 use Rattle.mem_banks.specs.Memory.{Memory, bytes_at, with_bytes}
@@ -11,15 +11,19 @@ use Rattle.std.specs.List.{list_any}
 use Rattle.thumb_exec.specs.Effect.{Halts}
 use Rattle.thumb_exec.specs.Fetch.{fetched, step_effect}
 use Rattle.thumb_insn.specs.declared.Insn.TheVariants.{Svc}
-use Rattle.thumb_step.specs.Windows.{View, is_at_syscall, refused_by, held_by}
+use Rattle.thumb_step.specs.Windows.{View, has_code, is_at_syscall}
 use Rattle.board_core.specs.Reached.{is_flash_at, AreReached}
+use Rattle.board_core.specs.Sights.{Sight, is_port, sight_by, refused_at, held_at}
+use Rattle.board_core.specs.Breakpoints.{IsStretch}
 use Rattle.task_table.specs.State.{Setup, State}
 use Rattle.task_table.specs.Reading.{task_at, setup_at, register, chosen, is_ready}
 use Rattle.task_table.specs.Sane.{Sane, IsCounted}
 use Rattle.task_table.specs.Effects.{with_task}
 use Rattle.board_model.specs.declared.outcomes.Level.TheVariants.{Calls}
+use Rattle.board_model.specs.declared.outcomes.Turned.{Turned}
+use Rattle.board_model.specs.declared.outcomes.Turned.TheVariants.{Idle, Ran}
 use Rattle.board_model.specs.Script.{Scenario}
-use Rattle.board_model.specs.Turn.{may, refusals, held, cpu_of}
+use Rattle.board_model.specs.Turn.{may, refusals, held, cpu_of, turned}
 use Rattle.board_model.specs.Run.{is_down, turn_after, state_after}
 
 -- a window of a task: its flash stands in the flash, its data and, beside them, its area in the RAM, as memory has them, and the
@@ -40,30 +44,31 @@ pub record IsWindow (g : Setup) (c : ℕ) (m : Memory) (v : View) : Type 0 where
   pub area : bytes_at m v.area_base (length v.area) ≡ v.area
 
 -- a window of a task that has all of the region of the flash that has PC, of that of the RAM that has SP, and of the first further
--- one of the RAM that may be read
-pub record IsWholeWindow (g : Setup) (c : ℕ) (m : Memory) (pc sp : ℕ) (v : View) : Type 0 where
+-- one of the RAM that may be read; it fetches from all around PC up to the breakpoints
+pub record IsWholeWindow (breakpoints : List ℕ) (g : Setup) (c : ℕ) (m : Memory) (pc sp : ℕ) (v : View) : Type 0 where
   pub is : IsWindow g c m v
   pub code : Region
   pub stack : Region
   pub further : Region
   pub reached : AreReached (setup_at g c).regions pc sp code stack further
   pub flash : (v.flash_base ≡ code.base) × (length v.flash ≡ code.size)
+  pub stretch : IsStretch breakpoints code.base code.size pc v.code_base v.code_size
   pub readable : v.readable ≡ code.rights.read
   pub ram : (v.ram_base ≡ stack.base) × (length v.ram ≡ stack.size)
   pub area : (v.area_base ≡ further.base) × (length v.area ≡ further.size)
   pub writable : v.area_writable ≡ further.rights.write
 
--- the next instruction of a task is a system call, faults or reaches beyond a window, of which PC and SP were these when it was opened;
--- and whether it is a call is known
-pub record IsAtEnd (g : Setup) (c pc sp : ℕ) (s : State) (calls : Bool) : Type 0 where
+-- the next instruction of a task is a system call, faults, is at a breakpoint or reaches beyond a window, of which PC and SP were these
+-- when it was opened, and the devices that it may read; and whether it is a call is known
+pub record IsAtEnd (breakpoints : List ℕ) (g : Setup) (c pc sp : ℕ) (s : State) (calls : Bool) : Type 0 where
   pub window : View
-  pub whole : IsWholeWindow g c s.memory pc sp window
-  pub halts : Halts (step_effect (refused_by window) (held_by window) (cpu_of (task_at s c)))
+  pub whole : IsWholeWindow breakpoints g c s.memory pc sp window
+  pub halts : Halts (step_effect (refused_at (sight_by g c window s.devices)) (held_at (sight_by g c window s.devices)) (cpu_of (task_at s c)))
   pub told : calls ≡ is_at_syscall window (cpu_of (task_at s c))
 
 -- that, or the task fetches from no region of the flash
-abbrev pub MustStop : Setup → ℕ → ℕ → ℕ → State → Bool → Type 0
-MustStop g c pc sp s calls = IsAtEnd g c pc sp s calls ⊎ ((list_any (is_flash_at (register s c program_counter)) (setup_at g c).regions ≡ false) × (calls ≡ false))
+abbrev pub MustStop : List ℕ → Setup → ℕ → ℕ → ℕ → State → Bool → Type 0
+MustStop breakpoints g c pc sp s calls = IsAtEnd breakpoints g c pc sp s calls ⊎ ((list_any (is_flash_at (register s c program_counter)) (setup_at g c).regions ≡ false) × (calls ≡ false))
 
 -- what a task fetches is a system call
 pub record IsCalling (g : Setup) (c : ℕ) (s : State) : Type 0 where
@@ -71,10 +76,16 @@ pub record IsCalling (g : Setup) (c : ℕ) (s : State) : Type 0 where
   pub code : ℕ
   pub is : fetched (refusals g c) (held s) (register s c program_counter) ≡ Ok record { insn = Svc value; code = code }
 
--- the task that is chosen is within a window of its memory, and nothing happens in n turns from now on
-abbrev pub IsUndisturbed : Scenario → State → ℕ → View → ℕ → Type 0
-IsUndisturbed x s c v n =
-    (chosen x.setup s ≡ Some c) × IsWindow x.setup c s.memory v × ((k : ℕ) → k < n → events_of x.script (s.turn + k) ≡ [])
+-- what a task sees is a window of its memory, the devices as they stand, and regions of devices that it may read
+pub record IsSight (g : Setup) (c : ℕ) (s : State) (o : Sight) : Type 0 where
+  pub window : IsWindow g c s.memory o.view
+  pub devices : o.devices ≡ s.devices
+  pub ports : (r : Region) → Contains o.ports r → Contains (setup_at g c).regions r × (is_port r ≡ true)
+
+-- the task that is chosen sees so much, and nothing happens in n turns from now on
+abbrev pub IsUndisturbed : Scenario → State → ℕ → Sight → ℕ → Type 0
+IsUndisturbed x s c o n =
+    (chosen x.setup s ≡ Some c) × IsSight x.setup c s o × ((k : ℕ) → k < n → events_of x.script (s.turn + k) ≡ [])
 
 -- n turns later, in which a task's processor and the memory alone changed
 abbrev pub later : State → ℕ → Cpu → Memory → ℕ → State
@@ -90,10 +101,16 @@ abbrev pub runner : ℕ → ℕ → ℕ → ℕ
 runner zero c before = before
 runner (suc n) c before = c
 
--- n turns on end of a task are its instructions within a window, of which none is noted
-pub record AreTurns (x : Scenario) (s : State) (c : ℕ) (v : View) (n : ℕ) (v' : View) (cpu : Cpu) : Type 0 where
-  pub state : state_after Calls x n s ≡ later record s { current = runner n c s.current } c cpu (with_window s.memory v v') n
+-- the turn ran the task, whose PC was where a window fetches
+abbrev pub IsFetchedIn : View → ℕ → Turned → Type 0
+IsFetchedIn v c Idle = ⊥
+IsFetchedIn v c (Ran task at) = (task ≡ c) × (has_code v at 2 ≡ true)
+
+-- n turns on end of a task are its instructions over what it sees, of which none is noted
+pub record AreTurns (x : Scenario) (s : State) (c : ℕ) (o : Sight) (n : ℕ) (o' : Sight) (cpu : Cpu) : Type 0 where
+  pub state : state_after Calls x n s ≡ later record s { current = runner n c s.current; devices = o'.devices } c cpu (with_window s.memory o.view o'.view) n
   pub silent : (k : ℕ) → k < n → (turn_after Calls x k s).notes ≡ []
+  pub ran : (k : ℕ) → k < n → IsFetchedIn o.view c (turned x (state_after Calls x k s))
   pub chosen : (k : ℕ) → k ≤ n → chosen x.setup (state_after Calls x k s) ≡ Some c
   pub down : (k : ℕ) → k ≤ n → is_down (state_after Calls x k s) ≡ is_down s
   pub ready : (i : ℕ) → is_ready (state_after Calls x n s) i ≡ is_ready s i

@@ -1,5 +1,5 @@
 //! The board and one turn of it.
-ghost use Rattle.std.specs.Prelude.{ℕ, ◌≡◌, ◌≢◌, ◌<◌, ◌≤◌, ◌+◌, ◌-◌, ◌*◌, ◌&&◌, not, [], Option, Some, None, is_some, length, map, true, false, IfOk};
+ghost use Rattle.std.specs.Prelude.{ℕ, ◌≡◌, ◌≢◌, ◌<◌, ◌≤◌, ◌+◌, ◌-◌, ◌*◌, ◌&&◌, not, [], List, Option, Some, None, is_some, length, map, true, false, IfOk};
 ghost use Rattle.image_format.specs.Images.{picture};
 ghost use Rattle.kernel_abi.specs.Devices.{AreFresh};
 ghost use Rattle.task_table.specs.State.{Setup, State, Turn};
@@ -21,17 +21,20 @@ ghost use Rattle.board_core.specs.Stands.{Stands, Stood, notes_of, turns_of};
 ghost use Rattle.board_core.specs.Machine.{MachineHolds, MachineStands};
 ghost use Rattle.board_core.specs.Kept.{IsChoice, WasChoice};
 ghost use Rattle.board_core.specs.Advanced.{IsAdvanced, IsStopped, HasGlidden, WentFar, WentFarOn, IsCall, IsToCall, NeededTurn, WaitedFor};
+ghost use Rattle.board_core.specs.Breakpoints.{is_hit, hit_of};
 ghost use Rattle.board_core.specs.Skipped.{IsIdleUntil};
 ghost use Rattle.board_core.specs.Midway.{IsDue, IsMidway};
 
+use crate::breakpoints::hit_of;
 use crate::choice::{Choice, choice_of, renew_choice};
 use crate::list::Devices;
 use crate::machine::Machine;
-use crate::opening::kernel;
+use crate::opening::{kernel, ports};
 use board_model::{Level, Turned};
 use devices::Device;
 use image_format::Image;
 use kernel_abi::Note;
+use region_check::Region;
 use run_script::Script;
 use std::alloc::{AllocError, Global};
 
@@ -44,6 +47,9 @@ pub struct Board {
     pub(crate) choice: Choice,
     pub(crate) script: Script,
     pub(crate) due: Option<u32>,
+
+    /// The regions of devices that each task may read.
+    pub(crate) ports: Vec<Vec<Region>>,
 }
 
 impl Board {
@@ -68,12 +74,14 @@ impl Board {
         let script = script.copy(alloc)?;
         let choice = choice_of(&kernel);
         let due = script.next(0);
+        let ports = ports(alloc, &kernel)?;
         Ok(Board {
             machine: Machine::of(alloc, kernel, devices),
             turns: 0,
             choice,
             script,
             due,
+            ports,
         })
     }
 
@@ -157,14 +165,15 @@ impl Board {
         ensures within { turns_of self.new ≤ limit }
         ensures noted { length (notes_of self.new) ≤ turn_notes }
     {
-        self.glide_and_turn(limit);
+        self.advance_past(&[], limit);
         'on: while self.turns < limit && self.notes().is_empty() && self.ended().is_none() {
-            self.glide_and_turn(limit);
+            self.advance_past(&[], limit);
         }
     }
 
-    /// As many turns as can be made the fast way, and then a whole one, where fewer than `limit` are made by then.
-    fn glide_and_turn(&mut self, limit: u32)
+    /// As many turns as can be made the fast way, and then a whole one, where fewer than `limit` are made by then: which task that
+    /// one ran and where its PC was, where that is a breakpoint. No turn before it was at one.
+    pub fn advance_past(&mut self, breakpoints: &[u32], limit: u32) -> Option<(u16, u32)>
         requires stood { Stood shown self.old }
         requires left { turns_of self.old < limit }
         requires few { limit ≤ 1000000000 }
@@ -172,37 +181,42 @@ impl Board {
         ensures more { turns_of self.old < turns_of self.new }
         ensures within { turns_of self.new ≤ limit }
         ensures noted { length (notes_of self.new) ≤ turn_notes }
+        ensures passed { (x : Scenario) (s : State) → Stands shown x self.old s → (k : ℕ) → k < turns_of self.new - turns_of self.old - 1 → is_hit breakpoints.now (turned x (state_after Calls x k s)) ≡ false }
+        ensures hit { (x : Scenario) (s : State) → Stands shown x self.old s → result ≡ hit_of breakpoints.now (turned x (state_after Calls x (turns_of self.new - turns_of self.old - 1) s)) }
 
-        // The whole turn is one that the fast way does not make.
-        ensures needed { NeededTurn shown limit self.old self.new }
+        // The whole turn is one that the fast way does not make past these breakpoints.
+        ensures needed { NeededTurn shown breakpoints.now limit self.old self.new }
         ensures idle { WaitedFor shown limit self.old self.new }
     {
-        let calling = self.glide(quiet_until(self.due, limit));
-        if self.turns < limit {
-            match calling {
-                None => {
-                    self.turn_at(Level::Calls);
-                }
-                Some(task) => self.call(task),
+        let calling = self.glide(breakpoints, quiet_until(self.due, limit));
+        if self.turns >= limit {
+            return None;
+        }
+        match calling {
+            None => hit_of(breakpoints, self.turn_at(Level::Calls)),
+            Some(task) => {
+                self.call(task);
+                None
             }
         }
     }
 
-    /// The fast way: turns before turn `until`, before which nothing is due, none of which notes anything. They are those
-    /// of the task that is chosen, within a window of its memory, as far as it goes there; or all idle ones, where no task is
+    /// The fast way: turns before turn `until`, before which nothing is due, none of which notes anything or is at a breakpoint. They
+    /// are those of the task that is chosen, within a window of its memory, as far as it goes there; or all idle ones, where no task is
     /// ready.
-    fn glide(&mut self, until: u32) -> Option<usize>
+    fn glide(&mut self, breakpoints: &[u32], until: u32) -> Option<usize>
         requires stood { Stood shown self.old }
         requires few { until ≤ 1000000000 }
         requires later { (turn : ℕ) → turn < until → self.old.due ≢ Some turn }
-        ensures glided { (x : Scenario) (s : State) → Stands shown x self.old s → HasGlidden shown x s (turns_of self.new - turns_of self.old) self.new }
+        ensures glided { (x : Scenario) (s : State) → Stands shown x self.old s → HasGlidden shown breakpoints.now x s (turns_of self.new - turns_of self.old) self.new }
         ensures more { turns_of self.old ≤ turns_of self.new }
         ensures within { turns_of self.old ≤ until → turns_of self.new ≤ until }
         ensures stays { until ≤ turns_of self.old → self.new ≡ self.old }
 
-        // It stops before only where the next instruction is a system call, faults or reaches beyond the window, or where there is none.
-        ensures far { WentFar shown until self.old self.new (is_some result) }
-        ensures calls { (task : ℕ) → result ≡ Some task → IsToCall shown task self.old self.new }
+        // It stops before only where the next instruction is a system call, faults, is at a breakpoint or reaches beyond the window, or
+        // where there is none.
+        ensures far { WentFar shown breakpoints.now until self.old self.new (is_some result) }
+        ensures calls { (task : ℕ) → result ≡ Some task → IsToCall shown breakpoints.now task self.old self.new }
         ensures idle { (x : Scenario) (s : State) → Stands shown x self.old s → chosen x.setup s ≡ None → self.old.choice.down ≡ false → lasts x.script until ≡ true → until ≤ turns_of self.new }
     {
         if self.turns >= until || self.choice.down {
@@ -214,7 +228,7 @@ impl Board {
                 None
             }
             Some(task) => {
-                if self.glide_on(task, until) {
+                if self.glide_on(breakpoints, task, until) {
                     Some(task)
                 } else {
                     None
@@ -224,21 +238,49 @@ impl Board {
     }
 
     /// The same, where this task is chosen and the supervisor has not faulted.
-    fn glide_on(&mut self, task: usize, until: u32) -> bool
+    fn glide_on(&mut self, breakpoints: &[u32], task: usize, until: u32) -> bool
         requires stood { Stood shown self.old }
         requires next { self.old.choice.next ≡ Some task }
         requires up { self.old.choice.down ≡ false }
         requires left { turns_of self.old < until }
         requires few { until ≤ 1000000000 }
         requires later { (turn : ℕ) → turn < until → self.old.due ≢ Some turn }
-        ensures glided { (x : Scenario) (s : State) → Stands shown x self.old s → HasGlidden shown x s (turns_of self.new - turns_of self.old) self.new }
+        ensures glided { (x : Scenario) (s : State) → Stands shown x self.old s → HasGlidden shown breakpoints.now x s (turns_of self.new - turns_of self.old) self.new }
         ensures more { turns_of self.old ≤ turns_of self.new }
         ensures within { turns_of self.new ≤ until }
-        ensures far { WentFarOn shown task until self.old self.new result }
-        ensures calls { result ≡ true → IsToCall shown task self.old self.new }
+        ensures far { WentFarOn shown breakpoints.now task until self.old self.new result }
+        ensures calls { result ≡ true → IsToCall shown breakpoints.now task self.old self.new }
+    {
+        if !self.ports[task].is_empty() {
+            return self.poll_on(breakpoints, task, until);
+        }
+        self.machine.begin();
+        let glided = self.machine.glide(breakpoints, task, until - self.turns);
+        self.turns += glided.made;
+        glided.at_syscall
+    }
+
+    /// The same, where the task may read devices.
+    #[cold]
+    #[inline(never)]
+    fn poll_on(&mut self, breakpoints: &[u32], task: usize, until: u32) -> bool
+        requires stood { Stood shown self.old }
+        requires next { self.old.choice.next ≡ Some task }
+        requires up { self.old.choice.down ≡ false }
+        requires left { turns_of self.old < until }
+        requires few { until ≤ 1000000000 }
+        requires later { (turn : ℕ) → turn < until → self.old.due ≢ Some turn }
+        ensures glided { (x : Scenario) (s : State) → Stands shown x self.old s → HasGlidden shown breakpoints.now x s (turns_of self.new - turns_of self.old) self.new }
+        ensures more { turns_of self.old ≤ turns_of self.new }
+        ensures within { turns_of self.new ≤ until }
+        ensures far { WentFarOn shown breakpoints.now task until self.old self.new result }
+        ensures calls { result ≡ true → IsToCall shown breakpoints.now task self.old self.new }
     {
         self.machine.begin();
-        let glided = self.machine.glide(task, until - self.turns);
+        let ports = &mut self.ports[task];
+        let glided = self
+            .machine
+            .poll(breakpoints, task, until - self.turns, ports);
         self.turns += glided.made;
         glided.at_syscall
     }
@@ -266,7 +308,7 @@ impl Board {
         requires left { turns_of self.old < until }
         requires few { until ≤ 1000000000 }
         requires later { (turn : ℕ) → turn < until → self.old.due ≢ Some turn }
-        ensures glided { (x : Scenario) (s : State) → Stands shown x self.old s → HasGlidden shown x s (turns_of self.new - turns_of self.old) self.new }
+        ensures glided { (breakpoints : List ℕ) (x : Scenario) (s : State) → Stands shown x self.old s → HasGlidden shown breakpoints x s (turns_of self.new - turns_of self.old) self.new }
         ensures more { turns_of self.old ≤ turns_of self.new }
         ensures within { turns_of self.new ≤ until }
         ensures idle { (x : Scenario) (s : State) → Stands shown x self.old s → lasts x.script until ≡ true → until ≤ turns_of self.new }
@@ -331,6 +373,7 @@ impl Board {
         ensures count { length (notes_of self.new) ≡ length (notes_of self.old) }
         ensures turns { turns_of self.new ≡ turns_of self.old }
         ensures script { self.new.script ≡ self.old.script }
+        ensures ports { self.new.ports ≡ self.old.ports }
         ensures due { self.new.due ≡ self.old.due }
         ensures kept { notes_of self.new ≡ [] → self.new.choice ≡ self.old.choice }
     {

@@ -1,10 +1,11 @@
-//! The processor of the current task while it has a window, the bytes of three of the task's regions.
-ghost use Rattle.std.specs.Prelude.{◌≡◌, ◌≤◌, ◌<◌, true, length};
+//! The processor of the current task, which can have a window, the bytes of three of the task's regions.
+ghost use Rattle.std.specs.Prelude.{◌≡◌, ◌≤◌, ◌<◌, true, false, length};
 ghost use Rattle.thumb_exec.specs.Effect.{Halts};
 ghost use Rattle.thumb_exec.specs.Fetch.{step_effect};
 ghost use Rattle.thumb_step.specs.Windows.{Glides, IsApart, Keeps, IsAtSyscall, is_at_syscall, view_of, refused_by, held_by};
 ghost use Rattle.board_core.specs.Gliding.{HasWorked};
 
+use crate::breakpoints::Stretch;
 use mem_banks::WindowUser;
 use region_check::Region;
 use std::alloc::Global;
@@ -27,6 +28,18 @@ pub struct Glider {
     pub at_syscall: bool,
 }
 
+/// Whether the stretch of a window lies within its flash, and the flash below its RAM.
+#[inline(always)]
+pub fn is_apart(window: &Window) -> bool
+    ensures apart { result ≡ true → IsApart (view_of window.now) }
+    ensures otherwise { result ≡ false → IsApart (view_of window.now) → ⊥ }
+{
+    let end = window.flash_base as usize + window.flash.len();
+    window.code_base >= window.flash_base
+        && window.code_base as usize + window.code_size as usize <= end
+        && end <= window.ram_base as usize
+}
+
 impl Glider {
     /// One that never had a window.
     pub fn new(alloc: Global) -> Glider {
@@ -46,6 +59,8 @@ impl Glider {
                     flash: Vec::new(alloc),
                     flash_base: 0,
                     readable: false,
+                    code_base: 0,
+                    code_size: 0,
                     ram: Vec::new(alloc),
                     ram_base: 0,
                     area: Vec::new(alloc),
@@ -59,43 +74,61 @@ impl Glider {
         }
     }
 
-    /// It is to make so many instructions at most, of this processor, within these three regions.
-    pub fn aim(&mut self, processor: Cpu, flash: &Region, ram: &Region, area: &Region, most: u32)
-        ensures processor { self.new.runner.processor ≡ processor }
+    /// It is to make so many instructions at most, within these three regions, each of them fetched from a stretch of the first.
+    pub fn aim(&mut self, flash: &Region, code: Stretch, ram: &Region, area: &Region, most: u32)
+        ensures processor { self.new.runner.processor ≡ self.old.runner.processor }
         ensures flash { self.new.runner.window.flash_base ≡ flash.now.base }
         ensures readable { self.new.runner.window.readable ≡ flash.now.rights.read }
+        ensures code { self.new.runner.window.code_base ≡ code.base }
+        ensures size { self.new.runner.window.code_size ≡ code.size }
         ensures ram { self.new.runner.window.ram_base ≡ ram.now.base }
         ensures area { self.new.runner.window.area_base ≡ area.now.base }
         ensures writable { self.new.runner.window.area_writable ≡ area.now.rights.write }
         ensures most { self.new.most ≡ most }
     {
-        self.runner.processor = processor;
         self.runner.window.flash_base = flash.base;
         self.runner.window.readable = flash.rights.read;
+        self.runner.window.code_base = code.base;
+        self.runner.window.code_size = code.size;
         self.runner.window.ram_base = ram.base;
         self.runner.window.area_base = area.base;
         self.runner.window.area_writable = area.rights.write;
         self.most = most;
     }
 
-    /// The instructions, where the flash lies below the RAM.
+    /// The instructions, where the stretch lies within the flash, and the flash below the RAM.
     fn glide(&mut self) -> u32
         ensures glides { Glides (view_of self.old.runner.window) self.old.runner.processor result (view_of self.new.runner.window) self.new.runner.processor }
         ensures within { result ≤ self.old.most }
-        ensures far { IsApart self.old.runner.window → result < self.old.most → Halts (step_effect (refused_by (view_of self.new.runner.window)) (held_by (view_of self.new.runner.window)) self.new.runner.processor) }
+        ensures far { IsApart (view_of self.old.runner.window) → result < self.old.most → Halts (step_effect (refused_by (view_of self.new.runner.window)) (held_by (view_of self.new.runner.window)) self.new.runner.processor) }
         ensures fixed { Keeps (view_of self.old.runner.window) (view_of self.new.runner.window) }
         ensures most { self.new.most ≡ self.old.most }
 
         // It stopped at a system call where it says so, and says so where it did.
         ensures short { self.new.at_syscall ≡ true → result < self.old.most }
         ensures calls { self.new.at_syscall ≡ true → IsAtSyscall (view_of self.new.runner.window) self.new.runner.processor }
-        ensures told { IsApart self.old.runner.window → result < self.old.most → self.new.at_syscall ≡ is_at_syscall (view_of self.new.runner.window) self.new.runner.processor }
+        ensures told { IsApart (view_of self.old.runner.window) → result < self.old.most → self.new.at_syscall ≡ is_at_syscall (view_of self.new.runner.window) self.new.runner.processor }
     {
-        let window = &self.runner.window;
-        if window.flash_base as usize + window.flash.len() > window.ram_base as usize {
+        if !is_apart(&self.runner.window) {
             self.at_syscall = false;
             return 0;
         }
+        self.run()
+    }
+
+    /// The same, where it is known that they do. There is one copy for both who call it, so that LLVM has the runner's loop in it.
+    #[inline(never)]
+    pub fn run(&mut self) -> u32
+        requires apart { IsApart (view_of self.old.runner.window) }
+        ensures glides { Glides (view_of self.old.runner.window) self.old.runner.processor result (view_of self.new.runner.window) self.new.runner.processor }
+        ensures within { result ≤ self.old.most }
+        ensures far { result < self.old.most → Halts (step_effect (refused_by (view_of self.new.runner.window)) (held_by (view_of self.new.runner.window)) self.new.runner.processor) }
+        ensures fixed { Keeps (view_of self.old.runner.window) (view_of self.new.runner.window) }
+        ensures most { self.new.most ≡ self.old.most }
+        ensures short { self.new.at_syscall ≡ true → result < self.old.most }
+        ensures calls { self.new.at_syscall ≡ true → IsAtSyscall (view_of self.new.runner.window) self.new.runner.processor }
+        ensures told { result < self.old.most → self.new.at_syscall ≡ is_at_syscall (view_of self.new.runner.window) self.new.runner.processor }
+    {
         let made = self.runner.glide(self.most);
         self.at_syscall = made < self.most && self.runner.is_at_syscall();
         made

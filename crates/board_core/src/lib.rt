@@ -2,6 +2,7 @@
 #![tactic(auto)]
 
 mod board;
+mod breakpoints;
 mod choice;
 mod device_view;
 mod glider;
@@ -9,6 +10,7 @@ mod list;
 mod loners;
 mod machine;
 mod opening;
+mod poller;
 mod reach;
 mod setting;
 mod setting_laws;

@@ -1,7 +1,7 @@
 //! The boxes of devices that a board was handed.
-ghost use Rattle.std.specs.Prelude.{◌≡◌, ◌<◌, ◌≤◌, ◌+◌, ◌-◌, ◌*◌, ◌%◌, ◌^◌, ◌⊎◌, [], true, length, map, slice_get, None, MatchOption};
+ghost use Rattle.std.specs.Prelude.{◌≡◌, ◌<◌, ◌≤◌, ◌+◌, ◌-◌, ◌*◌, ◌%◌, ◌^◌, ◌⊎◌, [], true, false, length, map, slice_get, None, MatchOption};
 ghost use Rattle.kernel_abi.specs.Devices.{DeviceData, looked, after_load, after_store, given_out, after_input, fed_by, IsSettable, is_behind, behind, device_at, offset_in, with_device, device_number, devices_loaded, devices_stored, device_out, devices_fed, feed_answer};
-ghost use Rattle.board_core.specs.Data.{data_of, IsPlace};
+ghost use Rattle.board_core.specs.Data.{data_of, IsPlace, IsOffset};
 
 use devices::Device;
 use kernel_abi::{Fed, Given, Kind};
@@ -12,12 +12,16 @@ pub struct Devices {
     list: Vec<Box<dyn Device>>,
 }
 
-/// Whether an address is one of a device's.
-fn has_address(device: &Box<dyn Device>, addr: u32) -> bool
-    ensures { result ≡ is_behind addr (shown device.now) }
+/// How far an address is from a device's first, where it is one of the device's.
+fn offset_of(device: &Box<dyn Device>, addr: u32) -> Option<u32>
+    ensures { MatchOption result (is_behind addr (shown device.now) ≡ false) (λ off. IsOffset (shown device.now) addr off) }
 {
     let base = device.base();
-    base <= addr && addr - base < 256
+    if base <= addr && addr - base < 256 {
+        Some(addr - base)
+    } else {
+        None
+    }
 }
 
 /// A device's first address.
@@ -110,27 +114,12 @@ impl Devices {
         self.list.len()
     }
 
-    /// Whether an address is one of the k-th device's.
-    fn is_behind(&self, k: usize, addr: u32) -> bool
+    /// How far an address is from the k-th device's first, where it is one of that device's.
+    fn offset(&self, k: usize, addr: u32) -> Option<u32>
         requires { k < length (data_of shown self.now) }
-        ensures { result ≡ is_behind addr (device_at (data_of shown self.now) k) }
+        ensures { MatchOption result (is_behind addr (device_at (data_of shown self.now) k) ≡ false) (λ off. IsOffset (device_at (data_of shown self.now) k) addr off) }
     {
-        has_address(&self.list[k], addr)
-    }
-
-    /// The index of the device behind an address.
-    pub fn behind(&self, addr: u32) -> Option<usize>
-        ensures { result ≡ behind addr (data_of shown self.now) }
-    {
-        let len = self.len();
-        let mut k = 0;
-        while k < len {
-            if self.is_behind(k, addr) {
-                return Some(k);
-            }
-            k += 1;
-        }
-        None
+        offset_of(&self.list[k], addr)
     }
 
     /// The k-th device's first address.
@@ -178,8 +167,15 @@ impl Devices {
     fn place(&self, addr: u32) -> Option<(usize, u32)>
         ensures { MatchOption result (behind addr (data_of shown self.now) ≡ None) (λ p. IsPlace (data_of shown self.now) addr p.0 p.1) }
     {
-        let k = self.behind(addr)?;
-        Some((k, addr - self.base(k)))
+        let len = self.len();
+        let mut k = 0;
+        while k < len {
+            if let Some(off) = self.offset(k, addr) {
+                return Some((k, off));
+            }
+            k += 1;
+        }
+        None
     }
 
     /// What n bytes from an address on show, where a device is behind it.

@@ -15,16 +15,21 @@ ghost use Rattle.thumb_insn.specs.Range.{IsCoded};
 ghost use Rattle.board_model.specs.Turn.{with_current, noted_at, happened, stepped, executed, cpu_of, with_registers_noted, turn_of, turned_of, happened_next};
 ghost use Rattle.board_core.specs.Machine.{IsReady, IsNext, HasNumber, ReachHolds, MachineHolds, MachineStands, IsLoaded, HasContext};
 ghost use Rattle.board_core.specs.Gliding.{HasGlided};
+ghost use Rattle.board_core.specs.Sights.{ports_of};
 ghost use Rattle.board_core.specs.Windowed.{IsCalling};
 
+use crate::breakpoints::stretch_of;
 use crate::glider::Glider;
 use crate::list::Devices;
+use crate::poller::Poller;
 use crate::reach::Reach;
 use crate::syscalls::syscall;
 use board_model::{Level, Turned};
 use kernel_abi::{Fault, Note};
+use region_check::Region;
 use run_script::{Event, Script};
 use std::alloc::Global;
+use std::mem::swap;
 use task_table::Kernel;
 use thumb_exec::cpu::{Cpu, Outcome};
 use thumb_exec::step::exec;
@@ -33,16 +38,18 @@ use thumb_step::fetch;
 use timer_irq::{interrupt, tick};
 use words_core::{Flags, PROGRAM_COUNTER, Regs, STACK_POINTER};
 
-/// A kernel and a processor. While the context of the current task is loaded, that task's registers
+/// A kernel and a processor, the glider's. While the context of the current task is loaded, that task's registers
 /// and flags are the processor's; what the kernel has of them is of an earlier time.
 #[derive(Drop)]
 pub struct Machine {
     pub reach: Reach,
-    pub processor: Cpu,
     pub loaded: bool,
 
-    /// Who makes instructions on end, within a window of the task's memory.
+    /// The processor, which can make instructions on end within a window of the task's memory.
     pub glider: Glider,
+
+    /// Who makes them for tasks that may read devices.
+    pub poller: Poller,
 }
 
 /// How many instructions a task made on end, and whether the next one is known to be a system call.
@@ -52,14 +59,26 @@ pub struct Glided {
     pub at_syscall: bool,
 }
 
-/// The processor of a task.
-fn cpu(kernel: &Kernel, task: usize) -> Cpu
+/// A processor gets the registers and flags that the kernel has of a task. They are written in place, not by way of a copy.
+#[inline(always)]
+fn load(processor: &mut Cpu, kernel: &Kernel, task: usize)
     requires { task < task_count kernel.now }
-    ensures { (g : Setup) (t : Turn) → Holds g kernel.now t → result ≡ cpu_of (task_at t.state task) }
+    ensures { (g : Setup) (t : Turn) → Holds g kernel.now t → processor.new ≡ cpu_of (task_at t.state task) }
 {
-    Cpu {
-        regs: Regs::of(kernel.registers(task)),
-        flags: kernel.flags(task),
+    processor.regs = Regs::of(kernel.registers(task));
+    processor.flags = kernel.flags(task);
+}
+
+/// No instructions. It is cold, so that the way on has no preparations for it.
+#[cold]
+#[inline(never)]
+fn none_made() -> Glided
+    ensures made { result.made ≡ 0 }
+    ensures call { result.at_syscall ≡ false }
+{
+    Glided {
+        made: 0,
+        at_syscall: false,
     }
 }
 
@@ -70,20 +89,11 @@ impl Machine {
         ensures devices { result.reach.devices ≡ devices }
         ensures loaded { result.loaded ≡ false }
     {
-        let flags = Flags {
-            n: false,
-            z: false,
-            c: false,
-            v: false,
-        };
         Machine {
             reach: Reach { kernel, devices },
-            processor: Cpu {
-                regs: Regs::of([0; 16]),
-                flags,
-            },
             loaded: false,
             glider: Glider::new(alloc),
+            poller: Poller::new(alloc),
         }
     }
 
@@ -95,10 +105,10 @@ impl Machine {
     {
         if self.loaded {
             let task = self.reach.kernel.current();
-            let registers = self.processor.regs.words();
+            let processor = &self.glider.runner.processor;
             self.reach
                 .kernel
-                .set_processor(task, registers, self.processor.flags);
+                .set_processor(task, processor.regs.words(), processor.flags);
             self.loaded = false;
         }
     }
@@ -120,7 +130,7 @@ impl Machine {
     fn load_context(&mut self, task: usize)
         requires { task < task_count self.old.reach.kernel }
         ensures loaded { self.new.loaded ≡ true }
-        ensures holds { (g : Setup) (t : Turn) → MachineHolds shown g self.old t → is_ready t.state task ≡ true → IsLoaded shown g self.new.reach self.new.processor (with_current task t) }
+        ensures holds { (g : Setup) (t : Turn) → MachineHolds shown g self.old t → is_ready t.state task ≡ true → IsLoaded shown g self.new.reach self.new.glider.runner.processor (with_current task t) }
         ensures count { note_count self.new.reach.kernel ≡ note_count self.old.reach.kernel }
     {
         if self.is_loaded_for(task) {
@@ -128,7 +138,7 @@ impl Machine {
         }
         self.save_context();
         self.reach.kernel.set_current(task);
-        self.processor = cpu(&self.reach.kernel, task);
+        load(&mut self.glider.runner.processor, &self.reach.kernel, task);
         self.loaded = true;
     }
 }
@@ -300,7 +310,7 @@ impl Machine {
         ensures holds { (g : Setup) (t : Turn) → IsReady shown g self.old t → MachineHolds shown g self.new (executed g t.state.current insn.now t) }
         ensures count { note_count self.new.reach.kernel ≤ note_count self.old.reach.kernel + syscall_notes + 1 }
     {
-        match exec(&mut self.processor, insn, &mut self.reach) {
+        match exec(&mut self.glider.runner.processor, insn, &mut self.reach) {
             Outcome::Next => {}
             Outcome::Call => self.syscall(),
             Outcome::Trap(fault) => self.fault(fault),
@@ -341,7 +351,7 @@ impl Machine {
         ensures holds { (g : Setup) (t : Turn) → IsReady shown g self.old t → MachineHolds shown g self.new (stepped level g t.state.current t) }
         ensures count { note_count self.new.reach.kernel ≤ note_count self.old.reach.kernel + syscall_notes + 2 }
     {
-        let at = self.processor.regs.get(PROGRAM_COUNTER);
+        let at = self.glider.runner.processor.regs.get(PROGRAM_COUNTER);
         match fetch(&self.reach, at) {
             Ok(fetched) => {
                 self.note_insn(level, at, fetched.code);
@@ -369,7 +379,7 @@ impl Machine {
             }
             Some(task) => {
                 self.load_context(task);
-                let at = self.processor.regs.get(PROGRAM_COUNTER);
+                let at = self.glider.runner.processor.regs.get(PROGRAM_COUNTER);
                 self.step(level);
                 self.note_task(level, task);
                 Turned::Ran {
@@ -383,6 +393,7 @@ impl Machine {
 
 impl Machine {
     /// The processor has a task's context from now on. The task is not the current one yet: that it is once it ran.
+    #[inline(always)]
     fn take_context(&mut self, task: usize)
         requires { task < task_count self.old.reach.kernel }
         ensures holds { (g : Setup) (t : Turn) → MachineHolds shown g self.old t → MachineHolds shown g self.new t }
@@ -392,34 +403,32 @@ impl Machine {
     {
         if !self.is_loaded_for(task) {
             self.save_context();
-            self.processor = cpu(&self.reach.kernel, task);
+            load(&mut self.glider.runner.processor, &self.reach.kernel, task);
         }
     }
 
-    /// Instructions on end of a task within a window of its memory, at most so many. Where there were some, it is the current one.
-    pub fn glide(&mut self, task: usize, most: u32) -> Glided
+    /// Instructions on end of a task within a window of its memory, at most so many, none of them at a breakpoint. Where there were
+    /// some, it is the current one. A task that may read devices is one of `poll`.
+    pub fn glide(&mut self, breakpoints: &[u32], task: usize, most: u32) -> Glided
         requires { task < task_count self.old.reach.kernel }
-        ensures glided { (g : Setup) (t : Turn) → MachineStands shown g self.old t → task < length t.state.tasks → is_ready t.state task ≡ true → HasGlided shown g self.new task t most result.made result.at_syscall }
+        ensures glided { (g : Setup) (t : Turn) → MachineStands shown g self.old t → task < length t.state.tasks → is_ready t.state task ≡ true → ports_of g task ≡ [] → HasGlided shown breakpoints.now g self.new task t most result.made result.at_syscall }
         ensures within { result.made ≤ most }
         ensures count { note_count self.new.reach.kernel ≡ note_count self.old.reach.kernel }
     {
         self.take_context(task);
-        let pc = self.processor.regs.get(PROGRAM_COUNTER);
-        let sp = self.processor.regs.get(STACK_POINTER);
-        let none = Glided {
-            made: 0,
-            at_syscall: false,
-        };
+        let pc = self.glider.runner.processor.regs.get(PROGRAM_COUNTER);
+        let sp = self.glider.runner.processor.regs.get(STACK_POINTER);
         let Some((flash, ram, area)) = self.reach.window(task, pc, sp) else {
-            return none;
+            return none_made();
         };
-        self.glider.aim(self.processor, &flash, &ram, &area, most);
+        let code = stretch_of(breakpoints, &flash, pc);
+        self.glider.aim(&flash, code, &ram, &area, most);
         if !self
             .reach
             .kernel
             .open_window(&flash, &ram, &area, &mut self.glider)
         {
-            return none;
+            return none_made();
         }
         let made = self.glider.made;
         let glided = Glided {
@@ -429,7 +438,56 @@ impl Machine {
         if made == 0 {
             return glided;
         }
-        self.processor = self.glider.runner.processor;
+        self.reach.kernel.set_current(task);
+        self.loaded = true;
+        glided
+    }
+
+    /// The same of a task that may read devices, by these regions: instructions on end within a window of its memory, and over
+    /// it and the devices. Few tasks have a device, so this is a function of its own.
+    #[cold]
+    #[inline(never)]
+    pub fn poll(
+        &mut self,
+        breakpoints: &[u32],
+        task: usize,
+        most: u32,
+        ports: &mut Vec<Region>,
+    ) -> Glided
+        requires { task < task_count self.old.reach.kernel }
+        ensures glided { (g : Setup) (t : Turn) → MachineStands shown g self.old t → task < length t.state.tasks → is_ready t.state task ≡ true → ports.old.items ≡ ports_of g task → HasGlided shown breakpoints.now g self.new task t most result.made result.at_syscall }
+        ensures within { result.made ≤ most }
+        ensures count { note_count self.new.reach.kernel ≡ note_count self.old.reach.kernel }
+        ensures ports { ports.new ≡ ports.old }
+    {
+        self.take_context(task);
+        let pc = self.glider.runner.processor.regs.get(PROGRAM_COUNTER);
+        let sp = self.glider.runner.processor.regs.get(STACK_POINTER);
+        let Some((flash, ram, area)) = self.reach.window(task, pc, sp) else {
+            return none_made();
+        };
+        let code = stretch_of(breakpoints, &flash, pc);
+        self.poller.glider.aim(&flash, code, &ram, &area, most);
+        self.poller.glider.runner.processor = self.glider.runner.processor;
+        swap(&mut self.poller.devices, &mut self.reach.devices);
+        swap(&mut self.poller.ports, ports);
+        let opened = self
+            .reach
+            .kernel
+            .open_window(&flash, &ram, &area, &mut self.poller);
+        swap(&mut self.poller.ports, ports);
+        swap(&mut self.poller.devices, &mut self.reach.devices);
+        if !opened {
+            return none_made();
+        }
+        self.glider.runner.processor = self.poller.glider.runner.processor;
+        let glided = Glided {
+            made: self.poller.made,
+            at_syscall: self.poller.glider.at_syscall,
+        };
+        if glided.made == 0 {
+            return glided;
+        }
         self.reach.kernel.set_current(task);
         self.loaded = true;
         glided

@@ -1,16 +1,19 @@
 //! The kernel at the start of a run of an image.
-ghost use Rattle.std.specs.Prelude.{◌≡◌, ◌<◌, ◌+◌, ◌-◌, length, map, IfOk};
+ghost use Rattle.std.specs.Prelude.{◌≡◌, ◌<◌, ◌+◌, ◌-◌, length, map, filter, vec_items, IfOk};
 ghost use Rattle.image_format.specs.Images.{picture};
 ghost use Rattle.image_format.specs.Picture.{task_in, line_in};
 ghost use Rattle.mem_banks.specs.Memory.{Memory};
 ghost use Rattle.task_table.specs.Start.{start};
 ghost use Rattle.task_table.specs.Parts.{task_setup, line_setup};
-ghost use Rattle.task_table.specs.Holds.{task_count};
+ghost use Rattle.task_table.specs.Holds.{task_count, setup_of};
 ghost use Rattle.board_core.specs.Regions.{ArePlaces, HavePlaces};
 ghost use Rattle.board_core.specs.Opened.{setup_of_image, setup_of_task, setup_of_line};
 ghost use Rattle.board_core.specs.Machine.{IsStarted};
+ghost use Rattle.board_core.specs.Sights.{is_port};
+ghost use Rattle.board_core.specs.Ports.{ArePorts};
 
 use image_format::Image;
+use region_check::Region;
 use std::alloc::{AllocError, Global};
 use task_table::{Kernel, LineStart, Memory, TaskStart};
 
@@ -108,4 +111,26 @@ pub fn kernel(alloc: Global, image: &Image) -> Result<Kernel, AllocError>
     let tasks = task_starts(alloc, image)?;
     let lines = line_starts(alloc, image)?;
     Kernel::start(alloc, memory, image.fault_bits(), &tasks, &lines)
+}
+
+/// Those of some regions that are of devices and may be read.
+fn ports_among(alloc: Global, regions: &[Region]) -> Result<Vec<Region>, AllocError>
+    ensures { IfOk result (λ v. v.items ≡ filter is_port regions.now) }
+{
+    regions
+        .iter()
+        .copied()
+        .filter(|region| region.rights.device && region.rights.read)
+        .collect(alloc)
+}
+
+/// The regions of devices that each task may read.
+pub fn ports(alloc: Global, kernel: &Kernel) -> Result<Vec<Vec<Region>>, AllocError>
+    ensures { IfOk result (λ v. ArePorts (setup_of kernel.now) (task_count kernel.now) (map vec_items v.items)) }
+{
+    let mut ports = Vec::new(alloc);
+    for task in 0..kernel.task_count() {
+        ports.push(ports_among(alloc, kernel.regions(task))?)?;
+    }
+    Ok(ports)
 }

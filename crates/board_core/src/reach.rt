@@ -35,7 +35,7 @@ pub struct Reach {
 
 /// Whether an address is one of those where devices lie, 0x40000000 to 0x5FFFFFFF.
 #[inline(always)]
-fn is_device(addr: u32) -> bool
+pub fn is_device(addr: u32) -> bool
     ensures { result ≡ is_device addr }
 {
     addr >> 29 == 2
@@ -215,6 +215,7 @@ fn area_of(regions: &[Region], stack: &Region) -> Region
 impl Reach {
     /// The three regions in which a task may make many instructions on end: that of the flash that has its PC, that of the RAM
     /// that has its stack, and the first further one of the RAM that it may read. Each of these two may be an empty one.
+    #[inline(always)]
     pub fn window(&self, task: usize, pc: u32, sp: u32) -> Option<(Region, Region, Region)>
         ensures { let regions = (setup_at (setup_of self.now.kernel) task).regions in MatchOption result (list_any (is_flash_at pc) regions ≡ false) (λ w. AreReached regions pc sp w.0 w.1 w.2) }
     {

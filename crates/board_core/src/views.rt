@@ -198,8 +198,8 @@ fn view(machine: &Machine, i: usize) -> TaskView
     let kept = kept(&machine.reach.kernel, i);
     if machine.is_loaded_for(i) {
         return TaskView {
-            regs: machine.processor.regs.words(),
-            flags: machine.processor.flags,
+            regs: machine.glider.runner.processor.regs.words(),
+            flags: machine.glider.runner.processor.flags,
             ..kept
         };
     }

@@ -36,7 +36,7 @@ use Rattle.snapshot.proofs.Restores as restores
 
 module _ {X : Type 0} {H : X → Type 0} (shown : Shows X H) (x : Scenario) (b : Board X H) (u : State) (h : Holds shown x b u) where
   rest : HoldsRest x.setup b.machine.reach.kernel (rested b.machine u)
-  rest = rest_held shown b.machine.loaded x.setup b.machine.reach b.machine.processor _ h.machine
+  rest = rest_held shown b.machine.loaded x.setup b.machine.reach b.machine.glider.runner.processor _ h.machine
 
   pub as_many : count_of b ≡ length u.tasks
   as_many = rest.holds.count ∙ sym rest.rest.count
@@ -98,7 +98,7 @@ same_sites g devices bytes =
 pub accepted_by : {X : Type 0} {H : X → Type 0} (shown : Shows X H) (x y : Scenario) (b : Board X H) (u v : State) (bytes : List ℕ) → Holds shown x b u → Holds shown y b v → state_fault (expected_of y.setup v.devices) bytes ≡ None → IsAccepted (expected_of x.setup u.devices) bytes
 accepted_by shown x y b u v bytes h k none =
     let setup : y.setup ≡ x.setup = sym (rest shown y b v k).holds.setup ∙ (rest shown x b u h).holds.setup in
-    let devices : v.devices ≡ u.devices = sym (devices_held shown b.machine.loaded y.setup b.machine.reach b.machine.processor _ k.machine) ∙ devices_held shown b.machine.loaded x.setup b.machine.reach b.machine.processor _ h.machine in
+    let devices : v.devices ≡ u.devices = sym (devices_held shown b.machine.loaded y.setup b.machine.reach b.machine.glider.runner.processor _ k.machine) ∙ devices_held shown b.machine.loaded x.setup b.machine.reach b.machine.glider.runner.processor _ h.machine in
     subst (λ (g : Setup). IsAccepted (expected_of g u.devices) bytes) setup
     (subst (λ (ds : List DeviceData). IsAccepted (expected_of y.setup ds) bytes) devices (accepted (expected_of y.setup v.devices) bytes none))
 

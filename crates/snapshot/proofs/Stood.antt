@@ -51,7 +51,7 @@ large_by shown true g r cpu t h =
     subst P (sym h.is) (large_processed g cpu h.saved (large_held g r.kernel h.saved h.holds.kernel))
 
 pub large_stood : {X : Type 0} {H : X → Type 0} (shown : Shows X H) (x : Scenario) (b : Board X H) (s : State) → Stands shown x b s → IsAsLarge x.setup s
-large_stood shown x b s st = large_by shown b.machine.loaded x.setup b.machine.reach b.machine.processor _ st.holds.machine
+large_stood shown x b s st = large_by shown b.machine.loaded x.setup b.machine.reach b.machine.glider.runner.processor _ st.holds.machine
 
 -- ## births taken modulo 64 once more
 

@@ -1,7 +1,8 @@
 -- An instruction of the flash, and what comes of it.
-use Rattle.std.proofs.Common.{◌≡◌, ◌≤◌, ◌<◌, ◌+◌, ◌*◌, ◌/◌, ◌^◌, ℕ, zero, suc, Bool, true, false, ◌&&◌, List, [], ◌∷◌, length, Some, None, fold, refl, sym, ◌∙◌, ap, arith}
+use Rattle.std.proofs.Common.{◌≡◌, ◌≤◌, ◌<◌, ◌+◌, ◌*◌, ◌/◌, ◌^◌, ℕ, zero, suc, Bool, true, false, ◌&&◌, List, [], ◌∷◌, length, Some, None, Result, Ok, Err, fold, refl, sym, ◌∙◌, ap, arith}
 use Rattle.std.specs.Prelude.{nat_le}
 use Rattle.std.proofs.lemmas.Bool.{leb-true, lt-leb, false≢true}
+use Rattle.kernel_abi.specs.declared.Fault.{Fault}
 use Rattle.region_check.specs.declared.Right.TheVariants.{Execute}
 use Rattle.thumb_insn.specs.declared.Decoded.{Decoded}
 use Rattle.thumb_insn.specs.declared.Decoded.TheVariants.{Narrow, Wide, Illegal, NeedsSecond}
@@ -11,23 +12,26 @@ use Rattle.thumb_insn.specs.Table.{narrow_of, narrow_result, decoded_of, is_wide
 use Rattle.thumb_exec.specs.declared.cpu.Cpu.{Cpu}
 use Rattle.thumb_exec.specs.declared.cpu.Outcome.TheVariants as outcome
 use Rattle.thumb_exec.specs.Effect.{Effect, Next, Syscall, Trap, Move, Puts, Takes, Moves, Acts, Halts, Refusals, Contents}
-use Rattle.thumb_exec.specs.Fetch.{instruction, after, executed, step_effect}
+use Rattle.thumb_exec.specs.declared.fetch.Fetched.{Fetched}
+use Rattle.thumb_exec.specs.Fetch.{instruction, after, unless_barred, fetched_by, fetched, executed, step_effect}
 use Rattle.words_core.specs.Regs.{reg_at}
 use Rattle.thumb_step.specs.declared.window.Window.{Window}
 use Rattle.thumb_step.specs.declared.window.Runner.{Runner}
-use Rattle.thumb_step.specs.Windows.{View, AreInside, has, number_in, given, refused_by, held_by, put, IsInside, IsFetched, view_of, GoesOn, Keeps, IsAtSyscall}
+use Rattle.thumb_step.specs.Windows.{View, IsApart, AreInside, has, has_code, number_in, given, refused_by, held_by, put, IsInside, IsFetched, view_of, GoesOn, Keeps, IsAtSyscall}
 use Rattle.thumb_step.specs.Did.{IsStored, IsTaken, Did}
 
 -- ## Moves
 
 pub kept : (v v' : View) → v' ≡ v → Keeps v v'
-kept v v' e = rw e record { flash_base = refl; flash = refl; readable = refl; ram_base = refl; size = refl; area_base = refl; area_writable = refl; area_size = refl }
+kept v v' e = rw e record { flash_base = refl; flash = refl; readable = refl; code_base = refl; code_size = refl; ram_base = refl; size = refl; area_base = refl; area_writable = refl; area_size = refl }
 
 pub kept_on : (u v w : View) → Keeps u v → Keeps v w → Keeps u w
 kept_on u v w a b = record {
   flash_base = b.flash_base ∙ a.flash_base;
   flash = b.flash ∙ a.flash;
   readable = b.readable ∙ a.readable;
+  code_base = b.code_base ∙ a.code_base;
+  code_size = b.code_size ∙ a.code_size;
   ram_base = b.ram_base ∙ a.ram_base;
   size = b.size ∙ a.size;
   area_base = b.area_base ∙ a.area_base;
@@ -45,7 +49,7 @@ moves_keep [] w w' e = kept (view_of w) (view_of w') (ap view_of e)
 moves_keep (Puts x ∷ ms) w w' e = kept_on (view_of w) (view_of e.0) (view_of w') e.1.keeps (moves_keep ms e.0 w' e.2)
 moves_keep (Takes a n ∷ ms) w w' e = kept_on (view_of w) (view_of e.0) (view_of w') (kept (view_of w) (view_of e.0) (ap view_of e.1)) (moves_keep ms e.0 w' e.2)
 
-inside_again : (v w : View) (x : Move) → Keeps v w → IsInside w x → IsInside v x
+pub inside_again : (v w : View) (x : Move) → Keeps v w → IsInside w x → IsInside v x
 inside_again v w (Puts x) k h = (h.0, rw (← k.ram_base, ← k.size, ← k.area_base, ← k.area_size, ← k.area_writable) h.1)
 inside_again v w (Takes a n) k h = tt
 
@@ -93,6 +97,16 @@ outside false h = refl
 pub has_not : (base : ℕ) (xs : List ℕ) (a n : ℕ) → (base ≤ a → a + n ≤ base + length xs → ⊥) → has base xs a n ≡ false
 has_not base xs a n h = outside (has base xs a n) (λ k. let two = within base xs a n k in h two.0 two.1)
 
+-- what the stretch has, the flash has
+pub in_flash : (v : View) (a n : ℕ) → has_code v a n ≡ true → has v.flash_base v.flash a n ≡ true
+in_flash v a n h = (both (has v.flash_base v.flash a n) _ h).0
+
+pub in_stretch : (v : View) (a n : ℕ) → has_code v a n ≡ true → (v.code_base ≤ a) × (a + n ≤ v.code_base + v.code_size)
+in_stretch v a n h =
+    let range = (both (has v.flash_base v.flash a n) _ h).1 in
+    let two = both (nat_le v.code_base a) (nat_le (a + n) (v.code_base + v.code_size)) range in
+    (leb-true v.code_base a two.0, leb-true (a + n) (v.code_base + v.code_size) two.1)
+
 -- the flash is no part of the RAM
 pub held_flash : (v : View) (a : ℕ) → v.flash_base + length v.flash ≤ v.ram_base → has v.flash_base v.flash a 2 ≡ true → held_by v a 2 ≡ number_in v.flash_base v.flash a 2
 held_flash v a apart h =
@@ -113,10 +127,10 @@ module _ (refuses : Refusals) (holds : Contents) (c : Cpu) (at first : ℕ) (her
 fetched_may : (v : View) (at half : ℕ) → IsFetched v at half → refused_by v at 2 Execute ≡ None
 fetched_may v at half f = ap (λ (b : Bool). given b at) f.there
 
-fetched_is : (v : View) (at half : ℕ) → v.flash_base + length v.flash ≤ v.ram_base → IsFetched v at half → half ≡ held_by v at 2
-fetched_is v at half apart f = f.is ∙ sym (held_flash v at apart f.there)
+fetched_is : (v : View) (at half : ℕ) → IsApart v → IsFetched v at half → half ≡ held_by v at 2
+fetched_is v at half apart f = f.is ∙ sym (held_flash v at apart.below (in_flash v at 2 f.there))
 
-module _ (v : View) (c : Cpu) (at first : ℕ) (apart : v.flash_base + length v.flash ≤ v.ram_base) (here : at ≡ reg_at c.regs 15) (f : IsFetched v at first) where
+module _ (v : View) (c : Cpu) (at first : ℕ) (apart : IsApart v) (here : at ≡ reg_at c.regs 15) (f : IsFetched v at first) where
   pub narrow_here : is_wide first ≡ false → step_effect (refused_by v) (held_by v) c ≡ executed (refused_by v) (held_by v) c (instruction at first (narrow_result (narrow_of first)))
   narrow_here narrow = narrow_effect (refused_by v) (held_by v) c at first here (fetched_may v at first f) (fetched_is v at first apart f) narrow
 
@@ -128,6 +142,22 @@ module _ (v : View) (c : Cpu) (at first : ℕ) (apart : v.flash_base + length v.
   syscall_here small high =
       let narrow : is_wide first ≡ false = lt-leb _ _ (omega (arith, high)) in
       record { value = field first 0 8; code = first; is = rw (← here, fetched_may v at first f, ← fetched_is v at first apart f, narrow, row_df00 first small high) refl }
+
+-- ## Where it was fetched from
+
+pub fetched_from : (v : View) (at : ℕ) (f : Fetched) → fetched (refused_by v) (held_by v) at ≡ Ok f → has_code v at 2 ≡ true
+fetched_from v at f is = by (has_code v at 2) is
+  where
+    by : (b : Bool) → unless_barred (given b at) at (fetched_by (refused_by v) (held_by v) at (held_by v at 2)) ≡ Ok f → b ≡ true
+    by true e = refl
+    by false e = absurd cc
+
+pub went_from : (v v' : View) (c c' : Cpu) → GoesOn v c v' c' → has_code v (reg_at c.regs 15) 2 ≡ true
+went_from v v' c c' on = by (fetched (refused_by v) (held_by v) (reg_at c.regs 15)) refl on.effect
+  where
+    by : (r : Result Fetched Fault) → fetched (refused_by v) (held_by v) (reg_at c.regs 15) ≡ r → executed (refused_by v) (held_by v) c r ≡ Next c' on.moves → has_code v (reg_at c.regs 15) 2 ≡ true
+    by (Ok f) is e = fetched_from v (reg_at c.regs 15) f is
+    by (Err fault) is e = absurd cc
 
 -- ## What a runner did with a narrow instruction
 

@@ -11,12 +11,14 @@ use Rattle.thumb_insn.specs.declared.Insn.TheVariants.{Svc}
 use Rattle.words_core.specs.Regs.{reg_at, program_counter}
 use Rattle.thumb_step.specs.declared.window.Window.{Window}
 
--- what a processor reaches: bytes from an address on that it may execute, and perhaps read, bytes that it may read and write, and
--- an area that it may read, and perhaps write
+-- what a processor reaches: bytes of the flash from an address on, of which it may execute a stretch, and perhaps read all, bytes that
+-- it may read and write, and an area that it may read, and perhaps write
 pub record View : Type 0 where
   pub flash_base : ℕ
   pub flash : List ℕ
   pub readable : Bool
+  pub code_base : ℕ
+  pub code_size : ℕ
   pub ram_base : ℕ
   pub ram : List ℕ
   pub area_base : ℕ
@@ -28,6 +30,14 @@ pub record View : Type 0 where
 -- whether these bytes, from a base on, have all of n bytes
 abbrev pub has : ℕ → List ℕ → ℕ → ℕ → Bool
 has base bytes a n = nat_le base a && nat_le (a + n) (base + length bytes)
+
+-- whether the flash has all of n bytes, and all of them lie in the stretch that it may execute
+abbrev pub has_code : View → ℕ → ℕ → Bool
+has_code v a n = has v.flash_base v.flash a n && (nat_le v.code_base a && nat_le (a + n) (v.code_base + v.code_size))
+
+-- at how many places of the stretch a halfword can begin
+abbrev pub code_places : View → ℕ
+code_places v = v.code_size - 1
 
 -- what n of them hold
 abbrev pub number_in : ℕ → List ℕ → ℕ → ℕ → ℕ
@@ -46,7 +56,7 @@ abbrev pub may_write : View → ℕ → ℕ → Bool
 may_write v a n = has v.ram_base v.ram a n || (v.area_writable && has v.area_base v.area a n)
 
 abbrev pub refused_by : View → Refusals
-refused_by v a n Execute = given (has v.flash_base v.flash a n) a
+refused_by v a n Execute = given (has_code v a n) a
 refused_by v a n Read = given (may_read v a n) a
 refused_by v a n Write = given (may_write v a n) a
 
@@ -55,9 +65,9 @@ held_by v a n =
     if has v.ram_base v.ram a n then number_in v.ram_base v.ram a n
     else (if has v.flash_base v.flash a n then number_in v.flash_base v.flash a n else number_in v.area_base v.area a n)
 
--- a halfword that the flash has
+-- a halfword of the stretch, as the flash has it
 pub record IsFetched (v : View) (a half : ℕ) : Type 0 where
-  pub there : has v.flash_base v.flash a 2 ≡ true
+  pub there : has_code v a 2 ≡ true
   pub is : half ≡ number_in v.flash_base v.flash a 2
 
 -- ## Moves
@@ -94,9 +104,9 @@ abbrev pub Glides : View → Cpu → ℕ → View → Cpu → Type 0
 Glides v c zero v' c' = (v' ≡ v) × (c' ≡ c)
 Glides v c (suc n) v' c' = (w : View) × (d : Cpu) × Glides v c n w d × GoesOn w d v' c'
 
--- the instruction at PC lies in the flash, and its high byte is that of a system call
+-- the instruction at PC lies in the stretch, and its high byte is that of a system call
 abbrev pub is_at_syscall : View → Cpu → Bool
-is_at_syscall v c = let at = reg_at c.regs program_counter in has v.flash_base v.flash at 2 && nat_eq (number_in v.flash_base v.flash at 2 / 256) 0xDF
+is_at_syscall v c = let at = reg_at c.regs program_counter in has_code v at 2 && nat_eq (number_in v.flash_base v.flash at 2 / 256) 0xDF
 
 -- the instruction at PC is fetched, and is a system call
 pub record IsAtSyscall (v : View) (c : Cpu) : Type 0 where
@@ -109,6 +119,8 @@ pub record Keeps (v v' : View) : Type 0 where
   pub flash_base : v'.flash_base ≡ v.flash_base
   pub flash : v'.flash ≡ v.flash
   pub readable : v'.readable ≡ v.readable
+  pub code_base : v'.code_base ≡ v.code_base
+  pub code_size : v'.code_size ≡ v.code_size
   pub ram_base : v'.ram_base ≡ v.ram_base
   pub size : length v'.ram ≡ length v.ram
   pub area_base : v'.area_base ≡ v.area_base
@@ -123,6 +135,8 @@ view_of w =
       flash_base = w.flash_base;
       flash = w.flash.items;
       readable = w.readable;
+      code_base = w.code_base;
+      code_size = w.code_size;
       ram_base = w.ram_base;
       ram = w.ram.items;
       area_base = w.area_base;
@@ -130,6 +144,8 @@ view_of w =
       area_writable = w.area_writable;
     }
 
--- the flash ends below the RAM
-abbrev pub IsApart : Window → Type 0
-IsApart w = w.flash_base + length w.flash.items ≤ w.ram_base
+-- the stretch lies within the flash, which ends below the RAM
+pub record IsApart (v : View) : Type 0 where
+  pub from : v.flash_base ≤ v.code_base
+  pub to : v.code_base + v.code_size ≤ v.flash_base + length v.flash
+  pub below : v.flash_base + length v.flash ≤ v.ram_base

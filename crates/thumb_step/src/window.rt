@@ -7,7 +7,7 @@ ghost use Rattle.thumb_exec.specs.Effect.{Halts};
 ghost use Rattle.thumb_exec.specs.Sizes.{IsSize};
 ghost use Rattle.thumb_exec.specs.Fetch.{step_effect};
 ghost use Rattle.words_core.specs.Regs.{reg_at, program_counter};
-ghost use Rattle.thumb_step.specs.Windows.{has, IsFetched, refused_by, held_by, view_of, Glides, GoesOn, Keeps, IsApart, is_at_syscall, IsAtSyscall};
+ghost use Rattle.thumb_step.specs.Windows.{has, has_code, code_places, IsFetched, refused_by, held_by, view_of, Glides, GoesOn, Keeps, IsApart, is_at_syscall, IsAtSyscall};
 ghost use Rattle.thumb_step.specs.Did.{Did, IsStored, IsTaken};
 
 use region_check::Right;
@@ -18,7 +18,7 @@ use thumb_exec::step::proceed;
 use thumb_insn::{Decoded, Insn};
 use words_core::PROGRAM_COUNTER;
 
-/// What a processor reaches: the flash, which it may execute, and perhaps read, the RAM, which it may read and
+/// What a processor reaches: the flash, of which it may execute a stretch, and perhaps read all, the RAM, which it may read and
 /// write, and an area, which it may read, and perhaps write, each from an address on. Only accesses beyond flash and
 /// RAM look at the area, so that the others have no test more.
 #[derive(Drop)]
@@ -28,6 +28,10 @@ pub struct Window {
 
     /// Whether the flash may be read.
     pub readable: bool,
+
+    /// The stretch of the flash from which it may fetch.
+    pub code_base: u32,
+    pub code_size: u32,
     pub ram: Vec<u8>,
     pub ram_base: u32,
     pub area: Vec<u8>,
@@ -122,18 +126,40 @@ impl Window {
         has(self.area_base, &self.area, addr, n)
     }
 
-    /// The halfword at an address, where the flash has it. The flash ends within the address space, since it
-    /// ends below the RAM: so one comparison tells.
+    /// Whether the flash has all of n bytes, and all of them lie in the stretch.
     #[inline(always)]
-    fn flash_half(&self, addr: u32) -> Option<u16>
-        requires apart { IsApart self.now }
-        ensures { MatchOption result (has self.now.flash_base self.now.flash.items addr 2 ≡ false) (λ half. IsFetched (view_of self.now) addr half) }
+    fn has_code(&self, addr: u32, n: u32) -> bool
+        ensures { result ≡ has_code (view_of self.now) addr n }
+    {
+        self.has_flash(addr, n)
+            && addr >= self.code_base
+            && (addr - self.code_base) as usize + n as usize <= self.code_size as usize
+    }
+
+    /// At how many places of the stretch a halfword can begin.
+    #[inline(always)]
+    fn code_places(&self) -> u32
+        ensures { result ≡ code_places (view_of self.now) }
+    {
+        if self.code_size > 0 {
+            self.code_size - 1
+        } else {
+            0
+        }
+    }
+
+    /// The halfword at an address, where the stretch has it, by how many places it has for one. It ends within the address space,
+    /// since the flash ends below the RAM: so one comparison tells.
+    #[inline(always)]
+    fn code_half(&self, addr: u32, places: u32) -> Option<u16>
+        requires apart { IsApart (view_of self.now) }
+        requires places { places ≡ code_places (view_of self.now) }
+        ensures { MatchOption result (has_code (view_of self.now) addr 2 ≡ false) (λ half. IsFetched (view_of self.now) addr half) }
     {
         // Read for the proof alone, which needs that it is below 2^32: the range of a field is known once it is read.
         let _end = self.ram_base;
-        let at = addr.wrapping_sub(self.flash_base) as usize;
-        if at + 2 <= self.flash.len() {
-            Some(half(&self.flash, at))
+        if addr.wrapping_sub(self.code_base) < places {
+            Some(half(&self.flash, (addr - self.flash_base) as usize))
         } else {
             None
         }
@@ -203,13 +229,13 @@ impl Bus for Window {
         let is_given = match right {
             Right::Read => self.has_ram(addr, n) || self.reads_beyond(addr, n),
             Right::Write => self.has_ram(addr, n) || (self.area_writable && self.has_area(addr, n)),
-            Right::Execute => self.has_flash(addr, n),
+            Right::Execute => self.has_code(addr, n),
         };
         if is_given { None } else { Some(addr) }
     }
 
     fn fetch(&self, addr: u32) -> Result<u16, u32> {
-        if !self.has_flash(addr, 2) {
+        if !self.has_code(addr, 2) {
             return Err(addr);
         }
         if self.has_ram(addr, 2) {
@@ -255,7 +281,7 @@ impl Bus for Window {
         }
         match right {
             Right::Read | Right::Write => self.has_ram(addr, 4 * count),
-            Right::Execute => self.has_flash(addr, 4 * count),
+            Right::Execute => self.has_code(addr, 4 * count),
         }
     }
 }
@@ -275,30 +301,32 @@ impl Taker for Runner {
 }
 
 impl Runner {
-    /// One instruction, where it is fetched from the flash and goes on within the window; else nothing
-    /// changes, and the answer is false.
+    /// One instruction, where it is fetched from the stretch, which has so many places for a halfword, and goes on within the
+    /// window; else nothing changes, and the answer is false.
     #[inline(always)]
-    fn step(&mut self) -> bool
-        requires apart { IsApart self.old.window }
+    fn step(&mut self, places: u32) -> bool
+        requires apart { IsApart (view_of self.old.window) }
+        requires places { places ≡ code_places (view_of self.old.window) }
         ensures goes { result ≡ true → GoesOn (view_of self.old.window) self.old.processor (view_of self.new.window) self.new.processor }
         ensures halts { result ≡ false → Halts (step_effect (refused_by (view_of self.old.window)) (held_by (view_of self.old.window)) self.old.processor) }
         ensures kept { result ≡ false → self.new ≡ self.old }
         ensures fixed { Keeps (view_of self.old.window) (view_of self.new.window) }
     {
         let at = self.processor.regs.get(PROGRAM_COUNTER);
-        let Some(first) = self.window.flash_half(at) else {
+        let Some(first) = self.window.code_half(at, places) else {
             return false;
         };
         if first / 2048 >= 29 {
-            return self.step_wide(at, first);
+            return self.step_wide(at, first, places);
         }
         narrow_to(first, self)
     }
 
     /// The same where this first halfword begins a wide instruction.
     #[inline(never)]
-    fn step_wide(&mut self, at: u32, first: u16) -> bool
-        requires apart { IsApart self.old.window }
+    fn step_wide(&mut self, at: u32, first: u16, places: u32) -> bool
+        requires apart { IsApart (view_of self.old.window) }
+        requires places { places ≡ code_places (view_of self.old.window) }
         requires here { at ≡ reg_at self.old.processor.regs program_counter }
         requires first { IsFetched (view_of self.old.window) at first }
         requires wide { 29 ≤ first / 2048 }
@@ -307,7 +335,7 @@ impl Runner {
         ensures kept { result ≡ false → self.new ≡ self.old }
         ensures fixed { Keeps (view_of self.old.window) (view_of self.new.window) }
     {
-        let Some(second) = self.window.flash_half(at.wrapping_add(2)) else {
+        let Some(second) = self.window.code_half(at.wrapping_add(2), places) else {
             return false;
         };
         match decode(first, Some(second)) {
@@ -316,10 +344,10 @@ impl Runner {
         }
     }
 
-    /// Instructions on end, at most so many: as long as each is fetched from the flash and goes on within the
+    /// Instructions on end, at most so many: as long as each is fetched from the stretch and goes on within the
     /// window. How many there were.
     pub fn glide(&mut self, most: u32) -> u32
-        requires apart { self.old.window.flash_base + length self.old.window.flash.items ≤ self.old.window.ram_base }
+        requires apart { IsApart (view_of self.old.window) }
         ensures glides { Glides (view_of self.old.window) self.old.processor result (view_of self.new.window) self.new.processor }
         ensures within { result ≤ most }
 
@@ -327,25 +355,23 @@ impl Runner {
         ensures far { result < most → Halts (step_effect (refused_by (view_of self.new.window)) (held_by (view_of self.new.window)) self.new.processor) }
         ensures fixed { Keeps (view_of self.old.window) (view_of self.new.window) }
     {
-        for done in 0..most {
-            if !self.step() {
-                return done;
-            }
+        let places = self.window.code_places();
+        let mut left = most;
+        'on: while left > 0 && self.step(places) {
+            left -= 1;
         }
-        most
+        most - left
     }
 
-    /// Whether the instruction at PC is a system call in the flash, by one look at its halfword.
+    /// Whether the instruction at PC is a system call in the stretch, by one look at its halfword.
     #[inline(always)]
     pub fn is_at_syscall(&self) -> bool
-        requires apart { IsApart self.now.window }
+        requires apart { IsApart (view_of self.now.window) }
         ensures is { result ≡ is_at_syscall (view_of self.now.window) self.now.processor }
         ensures fetched { result ≡ true → IsAtSyscall (view_of self.now.window) self.now.processor }
     {
-        match self
-            .window
-            .flash_half(self.processor.regs.get(PROGRAM_COUNTER))
-        {
+        let at = self.processor.regs.get(PROGRAM_COUNTER);
+        match self.window.code_half(at, self.window.code_places()) {
             None => false,
             Some(half) => half / 256 == 0xDF,
         }

@@ -7,7 +7,7 @@ use Rattle.board_core.proofs.views.view.Goals as goal
 pub returns-then-is_loaded_for : goal.returns-then-is_loaded_for
 returns-then-is_loaded_for boxes c = λ g t h0.
     let h = is_loaded _ _ g _ _ t (c.is_loaded_for.ensures.loaded c.if-is_loaded_for.true) h0 in
-    let P : List ℕ → Type 0 = λ r. IsTask t.state c.args.i record c.kept-kept.result { regs = r; flags = c.args.machine.now.processor.flags } in
+    let P : List ℕ → Type 0 = λ r. IsTask t.state c.args.i record c.kept-kept.result { regs = r; flags = c.args.machine.now.glider.runner.processor.flags } in
     subst P (sym c.words.ensures) (own_view _ g _ _ t c.args.i c.kept-kept.result (c.is_loaded_for.ensures.current c.if-is_loaded_for.true) h (λ u hu. c.kept-kept.ensures g u hu))
 
 pub returns : goal.returns

@@ -1,3 +1,5 @@
+use Rattle.std.specs.Prelude.{map, vec_items}
+use Rattle.board_core.specs.Ports.{AllPorts}
 use Rattle.std.proofs.Common.{ℕ, Option, sym, ◌∙◌, ap, subst, arith}
 use Rattle.run_script.specs.Events.{script_data}
 use Rattle.run_script.specs.Scripts.{IsNext}
@@ -58,6 +60,7 @@ returns-clause-model boxes c =
         turns = let a = st.holds.turns in let r = c.renew.ensures.turns in omega (arith, more, a, r);
         choice = c.renew.ensures.choice x.setup (rested m (turn Calls x s).state) after ((after_events x s).state, sane-after_events x s st.sane, mid.choice) (choice_kept shown Calls x s m _ st.sane h mid.choice);
         script = ap (λ (script : Script). script_data script) c.renew.ensures.script ∙ mid.script;
+        ports = subst (λ ports. AllPorts x.setup (map vec_items ports.items)) (sym c.renew.ensures.ports) mid.ports;
         due = subst D (sym c.renew.ensures.due) (subst N (sym more) mid.due);
       };
       sane = after.sane;

@@ -23,8 +23,8 @@ ended-requires boxes c =
     let s : State = c.requires.stood.1 in
     (x, (turn_after Calls x (turns_of c.on.self - turns_of c.args.self.now - 1) s).state, (c.on.invariant.advanced x s c.requires.stood.2).stands)
 
-pub glide_and_turn-requires-in-on-clause-stood : goal.glide_and_turn-requires-in-on-clause-stood
-glide_and_turn-requires-in-on-clause-stood boxes c =
+pub advance_past-requires-in-on-clause-stood : goal.advance_past-requires-in-on-clause-stood
+advance_past-requires-in-on-clause-stood boxes c =
     let x : Scenario = c.requires.stood.0 in
     let s : State = c.requires.stood.1 in
     (x, (turn_after Calls x (turns_of c.on.self - turns_of c.args.self.now - 1) s).state, (c.on.invariant.advanced x s c.requires.stood.2).stands)
@@ -35,10 +35,10 @@ on-preserved boxes c =
     let inv = c.on.invariant in
     let b = c.args.self.now in
     let b1 = c.on.self in
-    let b2 = c.glide_and_turn-in-on.new.self in
+    let b2 = c.advance_past-in-on.new.self in
     let none : notes_of b1 ≡ [] = sym c.notes.ensures ∙ empty_of c.notes.result.now (sym c.is_empty.ensures ∙ c.if-is_empty.true) in
     let from = inv.more in
-    let more = c.glide_and_turn-in-on.ensures.more in
+    let more = c.advance_past-in-on.ensures.more in
     let n : ℕ = turns_of b1 - turns_of b - 1 in
     let m : ℕ = turns_of b2 - turns_of b1 - 1 in
     let e : n + suc m ≡ turns_of b2 - turns_of b - 1 = omega (arith, from, more) in
@@ -47,10 +47,10 @@ on-preserved boxes c =
           let before = inv.advanced x s st in
           let u : State = (turn_after Calls x n s).state in
           let goes : ending x 1 u ≡ None = goes_on x u c.ended.result (c.ended.ensures.before x u 1 before.stands (omega arith)) (c.is_none.ensures ∙ ap not c.if-is_none.true) in
-          subst (λ (k : ℕ). IsAdvanced shown Calls x k s b2) e (joined _ x n m s b1 b2 before none goes (c.glide_and_turn-in-on.ensures.advanced x u before.stands));
+          subst (λ (k : ℕ). IsAdvanced shown Calls x k s b2) e (joined _ x n m s b1 b2 before none goes (c.advance_past-in-on.ensures.advanced x u before.stands));
       more = omega (arith, from, more);
-      within = c.glide_and_turn-in-on.ensures.within;
-      noted = c.glide_and_turn-in-on.ensures.noted;
+      within = c.advance_past-in-on.ensures.within;
+      noted = c.advance_past-in-on.ensures.noted;
     }
 
 pub returns-else-is_none-clause-far : goal.returns-else-is_none-clause-far

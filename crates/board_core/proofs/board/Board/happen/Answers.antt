@@ -42,5 +42,6 @@ returns-clause-midway boxes c =
       machine = unloaded_stands _ g m (after_events x s) c.save_context.ensures.unloaded stands saved.devices;
       choice = c.renew_choice.ensures g (after_events x s) stands.holds due.choice;
       script = due.script;
+      ports = due.ports;
       due = subst M due.turns (subst N due.script c.next-self.ensures);
     }

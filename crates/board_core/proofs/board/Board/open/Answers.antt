@@ -8,6 +8,7 @@ use Rattle.image_format.specs.Images.{picture}
 use Rattle.board_core.specs.Data.{boxed, data_of}
 use Rattle.board_core.proofs.Running.{started, opened, choice_started, counted_started, turn_started}
 use Rattle.board_core.proofs.Loading.{opened_as}
+use Rattle.board_core.proofs.Ports.{all_ports}
 use Rattle.board_core.proofs.board.Board.open.Goals as goal
 
 pub returns-clause-stands : goal.returns-clause-stands
@@ -24,6 +25,7 @@ returns-clause-stands boxes c =
         machine = opened_as _ g _ c.of.result (started g ds) c.of.ensures.kernel c.of.ensures.loaded (ap (data_of shown) c.of.ensures.devices ∙ c.of-devices.ensures) s.0;
         turns = zero;
         script = c.in_ok-script.ensures;
+        ports = all_ports g c.in_ok-kernel.kernel (begun (start g)) _ c.in_ok-kernel.ensures.stands.holds c.in_ok-ports.ensures;
         due = subst M zero (subst N c.in_ok-script.ensures c.next-due.ensures);
         choice = choice_started g ds _ (c.choice_of-choice.ensures g (begun (start g)) c.in_ok-kernel.ensures.stands.holds);
       };

@@ -25,7 +25,7 @@ returns-clause-holds boxes c = λ x s h.
     let K : List ℕ → Type 0 = λ flash. KernelHolds (with_flash flash x).setup c.set_byte.new.self (rested b.machine u) in
     let flash = flash_set x.setup c.save_context.new.self.reach.kernel c.set_byte.new.self (rested b.machine s) c.args.addr bytes saved.kernel c.set_byte.ensures.memory in
     let kernel : KernelHolds y.setup c.set_byte.new.self (rested b.machine u) = subst K flash (c.set_byte.ensures.holds x.setup (rested b.machine s) saved.kernel) in
-    holds_told _ x y s u b _ h refl refl record { kernel = kernel; devices = saved.devices } c.save_context.ensures.unloaded (choice_stays x.setup s b.choice u.memory.flash u.memory u.turn u.now u.next_call u.lines h.choice) refl refl refl
+    holds_told _ x y s u b _ h refl refl record { kernel = kernel; devices = saved.devices } c.save_context.ensures.unloaded (choice_stays x.setup s b.choice u.memory.flash u.memory u.turn u.now u.next_call u.lines h.choice) refl refl refl record { count = h.ports.count; each = h.ports.each }
 
 pub returns-clause-ram : goal.returns-clause-ram
 returns-clause-ram boxes c = λ high x s h.

@@ -5,19 +5,19 @@ use Rattle.std.specs.List.{list_any}
 use Rattle.task_table.specs.State.{Setup}
 use Rattle.task_table.specs.Reading.{setup_at, register}
 use Rattle.board_core.specs.Reached.{is_flash_at}
-use Rattle.board_core.proofs.Loading.{context_register}
-use Rattle.board_core.proofs.Windowing.{are_usable, has_run, has_stayed}
+use Rattle.board_core.proofs.Loading.{context_register, context_cpu}
+use Rattle.board_core.proofs.Windowing.{are_usable, stretch_as, apart_here, glider_work, context_devices, has_run, has_stayed}
 use Rattle.board_core.proofs.machine.Machine.glide.Goals as goal
 
 pub returns-in_default-clause-glided : goal.returns-in_default-clause-glided
-returns-in_default-clause-glided boxes c = λ g t r inside ready.
+returns-in_default-clause-glided boxes c = λ g t r inside ready alone.
     let m = c.take_context.new.self in
     let task = c.args.task in
     let h = c.take_context.ensures.taken g t r.holds inside ready in
     let pc : c.get-pc.result ≡ register t.state task program_counter = c.get-pc.ensures ∙ context_register _ program_counter g m task t h inside in
     inr record {
-      none = refl;
-      no_call = refl;
+      none = c.none_made.ensures.made;
+      no_call = c.none_made.ensures.call;
       beyond =
           ap (λ (at : ℕ). list_any (is_flash_at at) (setup_at g task).regions) (sym pc)
           ∙ ap (λ (x : Setup). list_any (is_flash_at c.get-pc.result) (setup_at x task).regions) (sym h.holds.kernel.setup)
@@ -26,28 +26,38 @@ returns-in_default-clause-glided boxes c = λ g t r inside ready.
     }
 
 pub returns-then-not-open_window-clause-glided : goal.returns-then-not-open_window-clause-glided
-returns-then-not-open_window-clause-glided boxes c = λ g t r inside ready.
+returns-then-not-open_window-clause-glided boxes c = λ g t r inside ready alone.
     let opened : c.open_window.result ≡ true = c.open_window.ensures.given c.args.task (are_usable _ _ _ _ _ _ c.in-Some.ensures) in
     absurd (false≢true (sym c.if-not-open_window.true ∙ opened))
 
 pub returns-clause-glided : goal.returns-clause-glided
-returns-clause-glided boxes c = λ g t r inside ready.
+returns-clause-glided boxes c = λ g t r inside ready alone.
     let m = c.take_context.new.self in
     let task = c.args.task in
     let h = c.take_context.ensures.taken g t r.holds inside ready in
     let pc = c.get-pc.ensures ∙ context_register _ program_counter g m task t h inside in
     let sp = c.get-sp.ensures ∙ context_register _ stack_pointer g m task t h inside in
     let aim = c.aim.ensures in
-    inl (has_run _ g m task c.args.most t _ _ _ _ _ c.aim.new.self c.open_window.new.user c.open_window.new.self h inside c.in-Some.ensures pc sp aim.processor aim.flash aim.readable aim.ram aim.area aim.writable aim.most (c.open_window.ensures.opened c.if-not-open_window.false)
-    _ (omega (arith, c.if-made-eq0.false)) refl refl refl (λ u held. c.set_current.ensures.holds g u held))
+    let stretch = stretch_as c.args.breakpoints.now _ _ _ _ _ _ _ aim.code aim.size c.stretch_of-code.ensures in
+    let opened = c.open_window.ensures.opened c.if-not-open_window.false in
+    let a = c.aim.new.self in
+    let apart = apart_here _ c.args.breakpoints.now g m task c.args.most t _ _ _ _ _ _ a _ a c.open_window.new.self h inside c.in-Some.ensures pc sp aim.flash stretch aim.readable aim.ram aim.area aim.writable opened in
+    let work = glider_work g task a c.open_window.new.user _ _ _ _ _ t.state.devices _ c.args.most alone (aim.processor ∙ context_cpu _ g m task t h inside) aim.most apart opened.window.work in
+    inl (has_run _ c.args.breakpoints.now g m task c.args.most t _ _ _ _ _ _ a _ a c.open_window.new.self h inside c.in-Some.ensures pc sp aim.flash stretch aim.readable aim.ram aim.area aim.writable opened
+    _ _ _ _ work _ (omega (arith, c.if-made-eq0.false)) refl refl (context_devices _ g m task t h) (λ u held. c.set_current.ensures.holds g u held))
 
 pub returns-then-made-eq0-clause-glided : goal.returns-then-made-eq0-clause-glided
-returns-then-made-eq0-clause-glided boxes c = λ g t r inside ready.
+returns-then-made-eq0-clause-glided boxes c = λ g t r inside ready alone.
     let m = c.take_context.new.self in
     let task = c.args.task in
     let h = c.take_context.ensures.taken g t r.holds inside ready in
     let pc = c.get-pc.ensures ∙ context_register _ program_counter g m task t h inside in
     let sp = c.get-sp.ensures ∙ context_register _ stack_pointer g m task t h inside in
     let aim = c.aim.ensures in
-    inl (has_stayed _ g m task c.args.most t _ _ _ _ _ c.aim.new.self c.open_window.new.user c.open_window.new.self h inside c.in-Some.ensures pc sp aim.processor aim.flash aim.readable aim.ram aim.area aim.writable aim.most (c.open_window.ensures.opened c.if-not-open_window.false)
-    _ (omega (arith, c.if-made-eq0.true)) refl refl refl (c.take_context.ensures.holds g t r.holds))
+    let stretch = stretch_as c.args.breakpoints.now _ _ _ _ _ _ _ aim.code aim.size c.stretch_of-code.ensures in
+    let opened = c.open_window.ensures.opened c.if-not-open_window.false in
+    let a = c.aim.new.self in
+    let apart = apart_here _ c.args.breakpoints.now g m task c.args.most t _ _ _ _ _ _ a _ a c.open_window.new.self h inside c.in-Some.ensures pc sp aim.flash stretch aim.readable aim.ram aim.area aim.writable opened in
+    let work = glider_work g task a c.open_window.new.user _ _ _ _ _ t.state.devices _ c.args.most alone (aim.processor ∙ context_cpu _ g m task t h inside) aim.most apart opened.window.work in
+    inl (has_stayed _ c.args.breakpoints.now g m task c.args.most t _ _ _ _ _ _ a _ a c.open_window.new.self h inside c.in-Some.ensures pc sp aim.flash stretch aim.readable aim.ram aim.area aim.writable opened
+    _ _ _ _ work _ (omega (arith, c.if-made-eq0.true)) refl refl refl (context_devices _ g m task t h) (c.take_context.ensures.holds g t r.holds))

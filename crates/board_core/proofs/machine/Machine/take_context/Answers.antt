@@ -7,7 +7,7 @@ returns-then-not-is_loaded_for-clause-holds boxes c = λ g t h. unloaded_by _ _ 
 pub returns-then-not-is_loaded_for-clause-taken : goal.returns-then-not-is_loaded_for-clause-taken
 returns-then-not-is_loaded_for-clause-taken boxes c = λ g t h inside ready.
     let saved = c.save_context.ensures.holds g t h in
-    context_own _ g _ c.args.task t saved ready (c.cpu-self.ensures g t saved.kernel)
+    context_own _ g _ c.args.task t saved ready (c.load.ensures g t saved.kernel)
 
 pub returns-else-not-is_loaded_for-clause-taken : goal.returns-else-not-is_loaded_for-clause-taken
 returns-else-not-is_loaded_for-clause-taken boxes c = λ g t h inside ready.

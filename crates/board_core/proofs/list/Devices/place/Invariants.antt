@@ -1,6 +1,6 @@
 use Rattle.std.proofs.Common.{◌≡◌, ◌<◌, ◌-◌, ℕ, length, map, false}
 use Rattle.kernel_abi.specs.Devices.{is_behind, device_at}
-use Rattle.board_core.proofs.list.Devices.behind.Given as goal
+use Rattle.board_core.proofs.list.Devices.place.Given as goal
 
 abbrev pub invariant-loop-k : goal.invariant-loop-k
 invariant-loop-k g l =
