@@ -1,2 +1,3 @@
+mod Fresh
 mod SampleOf3
 mod SampleOf5

@@ -9,6 +9,10 @@ mod board;
 #[cfg(test)]
 mod choosing;
 #[cfg(test)]
+mod debugging;
+#[cfg(test)]
+mod eight_devices;
+#[cfg(test)]
 mod memory;
 #[cfg(test)]
 mod saved_states;

@@ -1,0 +1,12 @@
+pub mod Ahead
+pub mod Bytes
+pub mod Carried
+pub mod Few
+pub mod Gone
+pub mod Hitting
+pub mod Latest
+pub mod Others
+pub mod Ranges
+pub mod Seen
+pub mod Standing
+pub mod Walk

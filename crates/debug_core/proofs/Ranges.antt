@@ -1,0 +1,89 @@
+-- What is known of commands that are read.
+use Rattle.std.proofs.Common.{◌≡◌, ℕ, ◌≤◌, ◌+◌, List, [], ◌∷◌, ◌++◌, length, Bool, true, false, nat_lt, if◌then◌else◌, Option, Some, None, Result, Ok, Err, refl, sym, ◌∙◌, subst, arith, codes, bytes_eq}
+use Rattle.std.specs.List.{All, list_all}
+use Rattle.std.proofs.lemmas.List.Elements.{All-push}
+use Rattle.run_script.specs.Scripts.{Refusal}
+use Rattle.run_script.specs.Words.{is_allowed, words}
+use Rattle.run_script.specs.Statements.{starts_by_hash}
+use Rattle.run_script.proofs.Numbers.{number_within_bounds}
+use Rattle.debug_core.specs.declared.command.Command.{Command}
+use Rattle.debug_core.specs.declared.command.Command.TheVariants.{Break, Clear, Step, Back, Go, Regs, Mem}
+use Rattle.debug_core.specs.Lines.{Said, address_in, form_said, length_in, mem_said, named, said, task_in, turns_in, with_number, words_said}
+use Rattle.debug_core.specs.Reading.{AsksForFew, go_on, with_lines, with_said}
+use Rattle.debug_core.proofs.Walk.{no_line, one_line}
+
+-- ---- of a line
+
+abbrev IsShort : Said → Type 0
+IsShort (Ok (Some command)) = AsksForFew command
+IsShort (Ok None) = Unit {0}
+IsShort (Err cause) = Unit {0}
+
+choice : (b : Bool) (x y : Said) → IsShort x → IsShort y → IsShort (if b then x else y)
+choice true x y h k = h
+choice false x y h k = k
+
+few_of : (at len : ℕ) → len ≤ 64 → AsksForFew (Mem at len)
+few_of at len h a n e = let same : len ≡ n = (cc) in omega arith
+
+short_number : (command : ℕ → Command) (o : Option ℕ) → ((n : ℕ) → AsksForFew (command n)) → IsShort (with_number command o)
+short_number command None h = tt
+short_number command (Some n) h = h n
+
+short_mem : (at len : Option ℕ) → ((n : ℕ) → len ≡ Some n → (1 ≤ n) × (n ≤ 64)) → IsShort (mem_said at len)
+short_mem None len h = tt
+short_mem (Some at) None h = tt
+short_mem (Some at) (Some n) h = few_of at n (h n refl).1
+
+short_named : (name word : List ℕ) → IsShort (named name word)
+short_named name word =
+    choice (bytes_eq name (codes "break")) _ _ (short_number Break (address_in word) (λ n at len e. absurd (cc)))
+    (choice (bytes_eq name (codes "clear")) _ _ (short_number Clear (address_in word) (λ n at len e. absurd (cc)))
+    (choice (bytes_eq name (codes "step")) _ _ (short_number Step (turns_in word) (λ n at len e. absurd (cc)))
+    (choice (bytes_eq name (codes "back")) _ _ (short_number Back (turns_in word) (λ n at len e. absurd (cc)))
+    (choice (bytes_eq name (codes "go")) _ _ (short_number Go (turns_in word) (λ n at len e. absurd (cc)))
+    (choice (bytes_eq name (codes "regs")) _ _ (short_number Regs (task_in word) (λ n at len e. absurd (cc))) tt)))))
+
+short_form : (name : List ℕ) (rest : List (List ℕ)) → IsShort (form_said name rest)
+short_form name [] = tt
+short_form name (word ∷ []) = short_named name word
+short_form name (at ∷ len ∷ []) = choice (bytes_eq name (codes "mem")) _ _ (short_mem (address_in at) (length_in len) (number_within_bounds 1 64 len)) tt
+short_form name (a ∷ b ∷ c ∷ rest) = tt
+
+short_words : (ws : List (List ℕ)) → IsShort (words_said ws)
+short_words [] = tt
+short_words (name ∷ rest) = choice (starts_by_hash name) _ _ tt (short_form name rest)
+
+short_said : (line : List ℕ) → IsShort (said line)
+unfolding said
+short_said line = choice (list_all is_allowed line) _ _ (short_words (words line)) tt
+
+-- ---- line by line
+
+same : (cs ds : List Command) → ◌≡◌ {A = Result (List Command) ℕ} (Ok cs) (Ok ds) → cs ≡ ds
+same cs ds h = cc
+
+more : (b : Bool) (cs ds : List Command) → ◌≡◌ {A = Result (List Command) ℕ} (if b then Ok cs else Err 4) (Ok ds) → cs ≡ ds
+more true cs ds h = same cs ds h
+more false cs ds h = absurd (cc)
+
+kept : (cs ds : List Command) (s : Said) → IsShort s → with_said cs s ≡ Ok ds → All AsksForFew cs → All AsksForFew ds
+kept cs ds (Ok None) known h all = subst (All AsksForFew) (same cs ds h) all
+kept cs ds (Ok (Some command)) known h all =
+    subst (All AsksForFew) (more (nat_lt (length cs) 1024) (cs ++ command ∷ []) ds h) (All-push AsksForFew cs command all known)
+kept cs ds (Err cause) known h all = absurd (cc)
+
+kept_by : (cs ds : List Command) (number : ℕ) (s : Said) (o : Result (List Command) ℕ) (rest : List Command → Result (List Command) Refusal) → IsShort s → with_said cs s ≡ o → ((next : List Command) → rest next ≡ Ok ds → All AsksForFew next → All AsksForFew ds) → go_on number o rest ≡ Ok ds → All AsksForFew cs → All AsksForFew ds
+kept_by cs ds number s (Ok next) rest known h go e all = go next e (kept cs next s known h all)
+kept_by cs ds number s (Err cause) rest known h go e all = absurd (cc)
+
+ends_same : (cs ds : List Command) → ◌≡◌ {A = Result (List Command) Refusal} (Ok cs) (Ok ds) → cs ≡ ds
+ends_same cs ds h = cc
+
+short_lines : (lines : List (List ℕ)) (cs ds : List Command) (number : ℕ) → with_lines cs number lines ≡ Ok ds → All AsksForFew cs → All AsksForFew ds
+short_lines [] cs ds number h all = subst (All AsksForFew) (ends_same cs ds (sym (no_line cs number) ∙ h)) all
+short_lines (line ∷ lines) cs ds number h all =
+    kept_by cs ds number (said line) (with_said cs (said line)) (λ next. with_lines next (number + 1) lines) (short_said line) refl (λ next e k. short_lines lines next ds (number + 1) e k) (sym (one_line cs number line lines) ∙ h) all
+
+pub short_read : (lines : List (List ℕ)) (ds : List Command) → with_lines [] 1 lines ≡ Ok ds → All AsksForFew ds
+short_read lines ds h = short_lines lines [] ds 1 h (λ i d lt. absurd (omega arith))

@@ -1,0 +1,36 @@
+use Rattle.std.proofs.Common.{◌∙◌, sym, ap, subst}
+use Rattle.mem_banks.specs.Memory.{Memory}
+use Rattle.board_core.specs.Data.{boxed}
+use Rattle.debug_core.specs.declared.command.Command.{Command}
+use Rattle.debug_core.specs.Answers.{answer, bytes_from}
+use Rattle.debug_core.specs.Session.{after, state_at}
+use Rattle.debug_core.specs.Sessions.{IsSession}
+use Rattle.debug_core.proofs.Ahead.{same_memory}
+use Rattle.debug_core.proofs.debugger.Debugger.carry_out.Goals as goal
+
+pub returns-in-Step-clause-session : goal.returns-in-Step-clause-session
+returns-in-Step-clause-session boxes c = λ x s h.
+    let shown = boxed (λ p. (goal.Device-dyn boxes p).shown p.1) in
+    subst (λ (k : Command). IsSession shown x c.step.new.self (after x s k)) (sym c.in-Step.is) (c.step.ensures.session x s h)
+
+pub returns-in-Back-clause-session : goal.returns-in-Back-clause-session
+returns-in-Back-clause-session boxes c = λ x s h.
+    let shown = boxed (λ p. (goal.Device-dyn boxes p).shown p.1) in
+    subst (λ (k : Command). IsSession shown x c.back.new.self (after x s k)) (sym c.in-Back.is) (c.back.ensures.session x s h)
+
+pub returns-in-Go-clause-session : goal.returns-in-Go-clause-session
+returns-in-Go-clause-session boxes c = λ x s h.
+    let shown = boxed (λ p. (goal.Device-dyn boxes p).shown p.1) in
+    subst (λ (k : Command). IsSession shown x c.go.new.self (after x s k)) (sym c.in-Go.is) (c.go.ensures.session x s h)
+
+pub returns-in-Mem-clause-answer : goal.returns-in-Mem-clause-answer
+returns-in-Mem-clause-answer boxes c = λ x s h.
+    let u = h.at.state in
+    c.bytes.ensures x u.0 u.1
+    ∙ ap (λ (m : Memory). bytes_from m c.in-Mem.at c.in-Mem.len) (same_memory u.0 (state_at x s.cursor) u.2)
+    ∙ ap (answer x s) (sym c.in-Mem.is)
+
+pub returns-in-Mem-clause-session : goal.returns-in-Mem-clause-session
+returns-in-Mem-clause-session boxes c = λ x s h.
+    let shown = boxed (λ p. (goal.Device-dyn boxes p).shown p.1) in
+    subst (λ (k : Command). IsSession shown x c.args.self.now (after x s k)) (sym c.in-Mem.is) h

@@ -1,0 +1,45 @@
+-- The commands that a text is. docs/FORMATS.md, Commands, has the table of causes.
+use Rattle.std.specs.Prelude.{ℕ, ◌≡◌, ◌≤◌, ◌+◌, nat_lt, if◌then◌else◌, List, [], ◌∷◌, ◌++◌, length, Option, Some, None, Result, Ok, Err}
+use Rattle.text_lines.specs.Text.{lines_of}
+use Rattle.run_script.specs.Scripts.{Refusal}
+use Rattle.debug_core.specs.declared.command.Command.{Command}
+use Rattle.debug_core.specs.declared.command.Command.TheVariants.{Mem}
+use Rattle.debug_core.specs.declared.command.CommandFault.{CommandFault}
+use Rattle.debug_core.specs.declared.command.CommandFault.TheVariants as fault
+use Rattle.debug_core.specs.Lines.{Said, said}
+
+-- the commands with what one more line says, or the cause by which that is refused: there are at most 1,024
+abbrev pub with_said : List Command → Said → Result (List Command) ℕ
+with_said commands (Ok None) = Ok commands
+with_said commands (Ok (Some command)) = if nat_lt (length commands) 1024 then Ok (commands ++ command ∷ []) else Err 4
+with_said commands (Err cause) = Err cause
+
+abbrev pub go_on : ℕ → Result (List Command) ℕ → (List Command → Result (List Command) Refusal) → Result (List Command) Refusal
+go_on line (Ok commands) rest = rest commands
+go_on line (Err cause) rest = Err (cause, line)
+
+-- what is read so far, with the lines from this number on
+unfoldable pub with_lines : List Command → ℕ → List (List ℕ) → Result (List Command) Refusal
+with_lines commands number [] = Ok commands
+with_lines commands number (line ∷ lines) =
+    go_on number (with_said commands (said line)) (λ next. with_lines next (number + 1) lines)
+
+-- the commands that the bytes say, or the first cause with its line, from 1
+abbrev pub commands_or_fault : List ℕ → Result (List Command) Refusal
+commands_or_fault bytes = with_lines [] 1 (lines_of bytes)
+
+-- it asks for 64 bytes at most
+abbrev pub AsksForFew : Command → Type 0
+AsksForFew command = (at len : ℕ) → command ≡ Mem at len → len ≤ 64
+
+-- ---- faults
+
+-- the cause and the line that it states; none for want of memory
+abbrev pub stated : CommandFault → Option Refusal
+stated (fault.Refused cause line) = Some (cause, line)
+stated fault.Memory = None
+
+-- the fault is the cause with the line, or want of memory
+abbrev pub Stops : CommandFault → ℕ → Result (List Command) ℕ → Type 0
+Stops (fault.Refused cause place) line answer = (place ≡ line) × (answer ≡ Err cause)
+Stops fault.Memory line answer = Unit {0}

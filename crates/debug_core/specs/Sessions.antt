@@ -1,0 +1,12 @@
+-- At which session a debugger is.
+use Rattle.std.specs.Prelude.{◌≡◌}
+use Rattle.board_model.specs.Script.{Scenario}
+use Rattle.board_core.specs.Data.{Shows}
+use Rattle.debug_core.specs.declared.debugger.Debugger.{Debugger}
+use Rattle.debug_core.specs.Session.{Session}
+use Rattle.debug_core.specs.Times.{IsAt}
+
+-- its run stands at the cursor, and the breakpoints are those of the session
+pub record IsSession {X : Type 0} {H : X → Type 0} (shown : Shows X H) (x : Scenario) (d : Debugger X H) (s : Session) : Type 0 where
+  pub at : IsAt shown x d.timeline s.cursor
+  pub breakpoints : d.breakpoints.items ≡ s.breakpoints

@@ -1,0 +1,43 @@
+-- A run that goes forwards and back: at which turn of it a board stands, with states of the run that were saved on the way.
+use Rattle.std.specs.Prelude.{ℕ, ◌≡◌, ◌≤◌, ◌&&◌, nat_le, if◌then◌else◌, List, length, Option, Some, None}
+use Rattle.std.specs.List.{All, HoldsAt}
+use Rattle.task_table.specs.State.{State}
+use Rattle.task_table.specs.Sane.{Sane, IsCounted}
+use Rattle.board_model.specs.Alike.{reduced}
+use Rattle.board_model.specs.Script.{Scenario, start_of}
+use Rattle.board_core.specs.Data.{Shows}
+use Rattle.board_core.specs.Stands.{Stands}
+use Rattle.snapshot.specs.Saved.{SpellsState}
+use Rattle.debug_core.specs.declared.timeline.Checkpoint.{Checkpoint}
+use Rattle.debug_core.specs.declared.timeline.Timeline.{Timeline}
+use Rattle.debug_core.specs.Session.{most_turns, state_at}
+
+-- bytes are what a board that stands at a turn of the run is saved as
+pub record IsSaved (x : Scenario) (turn : ℕ) (bytes : List ℕ) : Type 0 where
+  pub spelled : SpellsState x.setup (reduced (state_at x turn)) bytes
+  pub counted : IsCounted (reduced (state_at x turn))
+  pub reached : (state_at x turn).turn ≡ turn
+  pub most : turn ≤ most_turns
+
+-- of two checkpoints by their places and turns the later one, where the second is in use and of turn `to` or before
+abbrev pub later_of : ℕ → ℕ × ℕ → ℕ → Option ℕ → ℕ × ℕ
+later_of to best place None = best
+later_of to best place (Some turn) = if nat_le best.1 turn && nat_le turn to then (place, turn) else best
+
+-- a checkpoint is not in use; one that is, is of a turn of the run
+abbrev pub IsFree : Checkpoint → Type 0
+IsFree c = c.turn ≡ None
+
+abbrev pub IsKept : Scenario → Checkpoint → Type 0
+IsKept x c = (turn : ℕ) → c.turn ≡ Some turn → IsSaved x turn c.bytes.items
+
+-- the board stands at a turn that the run reaches, for a state that is equal to the one there with births modulo 64; and the first
+-- checkpoint is of the start
+pub record IsAt {X : Type 0} {H : X → Type 0} (shown : Shows X H) (x : Scenario) (t : Timeline X H) (turn : ℕ) : Type 0 where
+  pub state : (u : State) × Stands shown x t.board u × (reduced u ≡ reduced (state_at x turn))
+  pub reached : (state_at x turn).turn ≡ turn
+  pub most : turn ≤ most_turns
+  pub start : Sane x.setup (start_of x)
+  pub count : length t.kept.items ≡ 64
+  pub kept : All (IsKept x) t.kept.items
+  pub first : HoldsAt (λ c. c.turn ≡ Some 0) t.kept.items 0

@@ -1,0 +1,86 @@
+//! The commands of a text, line by line.
+
+ghost use Rattle.std.specs.Prelude.{◌≡◌, OnOk, IfOk, IfErr, IfSome, Ok, Err, Option, Result, ℕ};
+ghost use Rattle.std.specs.List.{All};
+ghost use Rattle.debug_core.specs.Reading.{AsksForFew, Stops, commands_or_fault, stated, with_said};
+
+use crate::command::{Command, CommandFault};
+use crate::line::said;
+use std::alloc::Global;
+use text_lines::Lines;
+
+const MOST: usize = 1024;
+
+/// Takes what a line says, or tells why it is refused there.
+fn take(
+    commands: &mut Vec<Command>,
+    said: Result<Option<Command>, u8>,
+    line: usize,
+) -> Result<(), CommandFault>
+    ensures ok { OnOk result (with_said commands.old.items said ≡ Ok commands.new.items) }
+    ensures err { IfErr result (λ e. Stops e line (with_said commands.old.items said)) }
+{
+    match said {
+        Err(cause) => Err(CommandFault::Refused { cause, line }),
+        Ok(None) => Ok(()),
+        Ok(Some(command)) => {
+            if commands.len() >= MOST {
+                return Err(CommandFault::Refused { cause: 4, line });
+            }
+            match commands.push(command) {
+                Err(_) => Err(CommandFault::Memory),
+                Ok(()) => Ok(()),
+            }
+        }
+    }
+}
+
+fn commands_of(alloc: Global, bytes: &[u8]) -> Result<Vec<Command>, CommandFault>
+    ensures ok { IfOk result (λ v. commands_or_fault bytes.now ≡ Ok v.items) }
+    ensures refused { IfErr result (λ e.
+        IfSome (stated e) (λ t. commands_or_fault bytes.now ≡ Err t)) }
+{
+    let mut commands = Vec::new(alloc);
+    let mut number = 0usize;
+    let mut lines = Lines::of(bytes);
+    'lines: while let Some(line) = lines.next() {
+        number += 1;
+        match take(&mut commands, said(line), number) {
+            Err(fault) => return Err(fault),
+            Ok(()) => {}
+        }
+    }
+    Ok(commands)
+}
+
+/// Commands as a text says them.
+#[derive(Drop)]
+pub struct Commands {
+    commands: Vec<Command>,
+    ghost few: { All AsksForFew commands.items },
+}
+
+impl Commands {
+    ghost use Rattle.debug_core.specs.Listed.{listed};
+
+    /// The commands that the bytes say, or the first cause by which they are refused with its line, in
+    /// the order of docs/FORMATS.md, Commands; `Memory` where memory ran out. Lines are counted from 1.
+    pub fn read(alloc: Global, bytes: &[u8]) -> Result<Commands, CommandFault>
+        ensures ok { IfOk result (λ c. commands_or_fault bytes.now ≡ Ok (listed c)) }
+        ensures refused { IfErr result (λ e.
+            IfSome (stated e) (λ t. commands_or_fault bytes.now ≡ Err t)) }
+    {
+        match commands_of(alloc, bytes) {
+            Err(fault) => Err(fault),
+            Ok(commands) => Ok(Commands { commands }),
+        }
+    }
+
+    /// The commands in their order.
+    pub fn as_slice(&self) -> &[Command]
+        ensures same { result.now ≡ listed self.now }
+        ensures few { All AsksForFew result.now }
+    {
+        &self.commands
+    }
+}

@@ -1,0 +1,204 @@
+//! Commands carried out, one after the other.
+
+ghost use Rattle.std.specs.Prelude.{ℕ, ◌≡◌, ◌≤◌, ◌+◌, ◌-◌, min, IfOk};
+ghost use Rattle.task_table.specs.State.{State};
+ghost use Rattle.std.specs.List.{flat_map};
+ghost use Rattle.mem_banks.specs.Memory.{byte_at};
+ghost use Rattle.outside_io.specs.Outside.{Pushes, HasCause};
+ghost use Rattle.board_model.specs.Script.{Scenario, start_of};
+ghost use Rattle.board_core.specs.Data.{boxed};
+ghost use Rattle.board_core.specs.Stands.{Stands};
+ghost use Rattle.debug_core.specs.Answers.{answer, answers_from, at_turn, bytes_from, registers_of, text_of};
+ghost use Rattle.debug_core.specs.Listed.{listed};
+ghost use Rattle.debug_core.specs.Reading.{AsksForFew};
+ghost use Rattle.debug_core.specs.Session.{Session, after, opened, state_at};
+ghost use Rattle.debug_core.specs.Sessions.{IsSession};
+ghost use Rattle.debug_core.specs.Times.{IsAt};
+
+use crate::answer::Answer;
+use crate::breakpoints::{Breakpoints, clear, set};
+use crate::command::Command;
+use crate::commands::Commands;
+use crate::text::push_answer;
+use crate::timeline::Timeline;
+use arrayvec::ArrayVec;
+use board_core::Board;
+use outside_io::{Failed, Sink};
+use std::alloc::{AllocError, Global};
+
+/// A run has at most so many turns.
+const TURNS: u32 = 1_000_000_000;
+
+/// So many turns before one, at most to the start.
+fn earlier(turn: u32, turns: u32) -> u32
+    ensures { result ≡ turn - turns }
+{
+    turn.saturating_sub(turns)
+}
+
+/// Where the cursor is.
+fn here(timeline: &Timeline) -> Answer
+    requires { (x : Scenario) × (turn : ℕ) × IsAt (boxed shown) x timeline.now turn }
+    ensures { (x : Scenario) (turn : ℕ) → IsAt (boxed shown) x timeline.now turn → result ≡ at_turn x turn }
+{
+    Answer::At {
+        turn: timeline.board.turns(),
+        now: timeline.board.now(),
+        end: timeline.ending(TURNS),
+    }
+}
+
+fn registers(timeline: &Timeline, task: u16) -> Answer
+    ensures { (x : Scenario) (turn : ℕ) → IsAt (boxed shown) x timeline.now turn → result ≡ registers_of (state_at x turn) task }
+{
+    match timeline.board.task(usize::from(task)) {
+        None => Answer::Absent,
+        Some(view) => {
+            let words = view.regs;
+            Answer::Registers {
+                words,
+                flags: view.flags,
+            }
+        }
+    }
+}
+
+/// The byte so far behind an address.
+fn byte_behind(board: &Board, at: u32, k: u8) -> Option<u8>
+    ensures { (x : Scenario) (s : State) → Stands (boxed shown) x board.now s → result ≡ byte_at s.memory (at + k) }
+{
+    board.byte(at.checked_add(u32::from(k))?)
+}
+
+fn bytes(board: &Board, at: u32, len: u8) -> Answer
+    requires few { len ≤ 64 }
+    ensures { (x : Scenario) (s : State) → Stands (boxed shown) x board.now s → result ≡ bytes_from s.memory at len }
+{
+    let mut bytes = ArrayVec::new();
+    for k in 0..len {
+        match byte_behind(board, at, k) {
+            None => return Answer::Absent,
+            Some(byte) => bytes.push(byte),
+        }
+    }
+    Answer::Bytes { at, bytes }
+}
+
+/// A run that is gone over forwards and back: it stands at a turn, the cursor, and stops where a task is at a breakpoint
+/// (docs/FORMATS.md, Commands). Where it has been it keeps states, from which it goes on when it goes back; no answer shows them.
+#[derive(Drop)]
+pub struct Debugger {
+    timeline: Timeline,
+    breakpoints: Breakpoints,
+}
+
+impl Debugger {
+    /// A session with a run at its start, where the board stands. All memory that is taken is taken here: room for 64 states.
+    ///
+    /// # Errors
+    ///
+    /// Only want of memory. The board is dropped then.
+    pub fn open(alloc: Global, board: Board) -> Result<Debugger, AllocError>
+        requires { (x : Scenario) × Stands (boxed shown) x board (start_of x) }
+        ensures { (x : Scenario) → Stands (boxed shown) x board (start_of x) → IfOk result (λ d. IsSession (boxed shown) x d opened) }
+    {
+        Ok(Debugger {
+            timeline: Timeline::open(alloc, board)?,
+            breakpoints: ArrayVec::new(),
+        })
+    }
+
+    /// So many turns on from the cursor, at most to the last turn that a run may have.
+    fn limit(&self, turns: u32) -> u32
+        ensures limit { (x : Scenario) (s : Session) → IsSession (boxed shown) x self.now s → result ≡ min (s.cursor + turns) 1000000000 }
+        ensures few { result ≤ 1000000000 }
+    {
+        self.timeline.board.turns().saturating_add(turns).min(TURNS)
+    }
+
+    fn step(&mut self, turns: u32) -> Answer
+        requires { (x : Scenario) × (s : Session) × IsSession (boxed shown) x self.old s }
+        ensures answer { (x : Scenario) (s : Session) → IsSession (boxed shown) x self.old s → result ≡ answer x s (Command.Step turns) }
+        ensures session { (x : Scenario) (s : Session) → IsSession (boxed shown) x self.old s → IsSession (boxed shown) x self.new (after x s (Command.Step turns)) }
+    {
+        let to = self.limit(turns);
+        self.timeline.go_to(to);
+        here(&self.timeline)
+    }
+
+    fn back(&mut self, turns: u32) -> Answer
+        requires { (x : Scenario) × (s : Session) × IsSession (boxed shown) x self.old s }
+        ensures answer { (x : Scenario) (s : Session) → IsSession (boxed shown) x self.old s → result ≡ answer x s (Command.Back turns) }
+        ensures session { (x : Scenario) (s : Session) → IsSession (boxed shown) x self.old s → IsSession (boxed shown) x self.new (after x s (Command.Back turns)) }
+    {
+        let to = earlier(self.timeline.board.turns(), turns);
+        self.timeline.back_to(to);
+        here(&self.timeline)
+    }
+
+    fn go(&mut self, turns: u32) -> Answer
+        requires { (x : Scenario) × (s : Session) × IsSession (boxed shown) x self.old s }
+        ensures answer { (x : Scenario) (s : Session) → IsSession (boxed shown) x self.old s → result ≡ answer x s (Command.Go turns) }
+        ensures session { (x : Scenario) (s : Session) → IsSession (boxed shown) x self.old s → IsSession (boxed shown) x self.new (after x s (Command.Go turns)) }
+    {
+        let to = self.limit(turns);
+        match self.timeline.go_to_hit(self.breakpoints.as_slice(), to) {
+            None => here(&self.timeline),
+            Some((task, at)) => Answer::Hit {
+                turn: self.timeline.board.turns(),
+                task,
+                at,
+            },
+        }
+    }
+
+    /// What a command does, and its answer.
+    fn carry_out(&mut self, command: &Command) -> Answer
+        requires session { (x : Scenario) × (s : Session) × IsSession (boxed shown) x self.old s }
+        requires few { AsksForFew command.now }
+        ensures answer { (x : Scenario) (s : Session) → IsSession (boxed shown) x self.old s → result ≡ answer x s command.now }
+        ensures session { (x : Scenario) (s : Session) → IsSession (boxed shown) x self.old s → IsSession (boxed shown) x self.new (after x s command.now) }
+    {
+        match command {
+            Command::Break { at } => set(&mut self.breakpoints, *at),
+            Command::Clear { at } => clear(&mut self.breakpoints, *at),
+            Command::Step { turns } => self.step(*turns),
+            Command::Back { turns } => self.back(*turns),
+            Command::Go { turns } => self.go(*turns),
+            Command::Regs { task } => registers(&self.timeline, *task),
+            Command::Mem { at, len } => bytes(&self.timeline.board, *at, *len),
+        }
+    }
+
+    /// A command is carried out, and its answer pushed, a line a push. It takes no memory.
+    ///
+    /// # Errors
+    ///
+    /// Only where a push failed. The command is carried out all the same.
+    pub fn command<S: Sink>(&mut self, command: &Command, out: &mut S) -> Result<(), Failed>
+        requires session { (x : Scenario) × (s : Session) × IsSession (boxed shown) x self.old s }
+        requires few { AsksForFew command.now }
+        ensures answer { (x : Scenario) (s : Session) → IsSession (boxed shown) x self.old s → Pushes (S.seen out.old).written (S.seen out.new).written (text_of (answer x s command.now)) result }
+        ensures session { (x : Scenario) (s : Session) → IsSession (boxed shown) x self.old s → IsSession (boxed shown) x self.new (after x s command.now) }
+        ensures cause { HasCause (S.seen out.old).faults (S.seen out.new).faults result }
+    {
+        let answer = self.carry_out(command);
+        push_answer(&answer, out)
+    }
+
+    /// All commands of a text, one after the other, each with its answer. It takes no memory.
+    ///
+    /// # Errors
+    ///
+    /// Only where a push failed. No further command is carried out.
+    pub fn carry_out_all<S: Sink>(&mut self, commands: &Commands, out: &mut S) -> Result<(), Failed>
+        requires session { (x : Scenario) × (s : Session) × IsSession (boxed shown) x self.old s }
+        ensures told { (x : Scenario) (s : Session) → IsSession (boxed shown) x self.old s → Pushes (S.seen out.old).written (S.seen out.new).written (flat_map text_of (answers_from x s (listed commands.now))) result }
+        ensures cause { HasCause (S.seen out.old).faults (S.seen out.new).faults result }
+    {
+        for command in commands.as_slice() {
+            self.command(command, out)?;
+        }
+        Ok(())
+    }
+}
