@@ -228,7 +228,7 @@ resume_whole words e =
     let s = shape_at 8 in
     let rows = rows_after s.rules [] words in
     let d = leaf s words resume_sure refl e in
-    inr (inr (inr (inr (inr (inr (inr (inr (
+    inr (inr (inr (inr (inr (inr (inr (inr (inl (
       refl,
       record {
         image = text (rule_at s 0) rows (has_given s.rules (rule_at s 0) rows d.good refl (d.given.0 refl));
@@ -238,19 +238,36 @@ resume_whole words e =
         all = switch (rule_at s 4) rows refl (has_default s.rules (rule_at s 4) rows d.good refl (d.filled.1.1.1.1.0 (omega arith)));
         mem = switch (rule_at s 5) rows refl (has_default s.rules (rule_at s 5) rows d.good refl (d.filled.1.1.1.1.1.0 (omega arith)));
       },
-    ))))))))
+    )))))))))
+
+debug_sure : Each (Sure (shape_at 9).rules) (shape_at 9).rules
+debug_sure = (record { known = refl; sure = refl }, (record { known = refl; sure = refl }, (record { known = refl; sure = refl }, (record { known = refl; sure = refl }, tt))))
+
+debug_whole : (words : List Text) → entered_fault app (Some (codes "debug", words)) ≡ [] → IsWhole (entered app (Some (codes "debug", words)))
+debug_whole words e =
+    let s = shape_at 9 in
+    let rows = rows_after s.rules [] words in
+    let d = leaf s words debug_sure refl e in
+    inr (inr (inr (inr (inr (inr (inr (inr (inr (
+      refl,
+      record {
+        image = text (rule_at s 0) rows (has_given s.rules (rule_at s 0) rows d.good refl (d.given.0 refl));
+        script = text (rule_at s 1) rows (has_given s.rules (rule_at s 1) rows d.good refl (d.given.1.0 refl));
+        commands = text (rule_at s 2) rows (has_given s.rules (rule_at s 2) rows d.good refl (d.given.1.1.0 refl));
+      },
+    )))))))))
 
 -- ---- the program
 
 -- the name of one of its commands
 abbrev IsCommand : Text → Type 0
-IsCommand name = (name ≡ codes "build") ⊎ ((name ≡ codes "run") ⊎ ((name ≡ codes "go") ⊎ ((name ≡ codes "list") ⊎ ((name ≡ codes "sample") ⊎ ((name ≡ codes "migrate") ⊎ ((name ≡ codes "audit") ⊎ ((name ≡ codes "save") ⊎ (name ≡ codes "resume"))))))))
+IsCommand name = (name ≡ codes "build") ⊎ ((name ≡ codes "run") ⊎ ((name ≡ codes "go") ⊎ ((name ≡ codes "list") ⊎ ((name ≡ codes "sample") ⊎ ((name ≡ codes "migrate") ⊎ ((name ≡ codes "audit") ⊎ ((name ≡ codes "save") ⊎ ((name ≡ codes "resume") ⊎ (name ≡ codes "debug")))))))))
 
 top_sure : Each (Sure app.top.rules) app.top.rules
 top_sure = (record { known = refl; sure = refl }, tt)
 
 own : Each (λ n. asks_for_help app.top n.0 ≡ false → IsCommand n.0) (names_of app)
-own = ((λ _. inl refl), ((λ _. inr (inl refl)), ((λ _. inr (inr (inl refl))), ((λ _. inr (inr (inr (inl refl)))), ((λ _. inr (inr (inr (inr (inl refl))))), ((λ _. inr (inr (inr (inr (inr (inl refl)))))), ((λ _. inr (inr (inr (inr (inr (inr (inl refl))))))), ((λ _. inr (inr (inr (inr (inr (inr (inr (inl refl)))))))), ((λ _. inr (inr (inr (inr (inr (inr (inr (inr refl)))))))), ((λ e. cc), tt))))))))))
+own = ((λ _. inl refl), ((λ _. inr (inl refl)), ((λ _. inr (inr (inl refl))), ((λ _. inr (inr (inr (inl refl)))), ((λ _. inr (inr (inr (inr (inl refl))))), ((λ _. inr (inr (inr (inr (inr (inl refl)))))), ((λ _. inr (inr (inr (inr (inr (inr (inl refl))))))), ((λ _. inr (inr (inr (inr (inr (inr (inr (inl refl)))))))), ((λ _. inr (inr (inr (inr (inr (inr (inr (inr (inl refl))))))))), ((λ _. inr (inr (inr (inr (inr (inr (inr (inr (inr refl))))))))), ((λ e. cc), tt)))))))))))
 
 command_whole : (name : Text) (words : List Text) → IsCommand name → entered_fault app (Some (name, words)) ≡ [] → IsWhole (entered app (Some (name, words)))
 command_whole name words (inl is) = subst (λ n. entered_fault app (Some (n, words)) ≡ [] → IsWhole (entered app (Some (n, words)))) (sym is) (build_whole words)
@@ -261,7 +278,8 @@ command_whole name words (inr (inr (inr (inr (inl is))))) = subst (λ n. entered
 command_whole name words (inr (inr (inr (inr (inr (inl is)))))) = subst (λ n. entered_fault app (Some (n, words)) ≡ [] → IsWhole (entered app (Some (n, words)))) (sym is) (migrate_whole words)
 command_whole name words (inr (inr (inr (inr (inr (inr (inl is))))))) = subst (λ n. entered_fault app (Some (n, words)) ≡ [] → IsWhole (entered app (Some (n, words)))) (sym is) (audit_whole words)
 command_whole name words (inr (inr (inr (inr (inr (inr (inr (inl is)))))))) = subst (λ n. entered_fault app (Some (n, words)) ≡ [] → IsWhole (entered app (Some (n, words)))) (sym is) (save_whole words)
-command_whole name words (inr (inr (inr (inr (inr (inr (inr (inr is)))))))) = subst (λ n. entered_fault app (Some (n, words)) ≡ [] → IsWhole (entered app (Some (n, words)))) (sym is) (resume_whole words)
+command_whole name words (inr (inr (inr (inr (inr (inr (inr (inr (inl is))))))))) = subst (λ n. entered_fault app (Some (n, words)) ≡ [] → IsWhole (entered app (Some (n, words)))) (sym is) (resume_whole words)
+command_whole name words (inr (inr (inr (inr (inr (inr (inr (inr (inr is))))))))) = subst (λ n. entered_fault app (Some (n, words)) ≡ [] → IsWhole (entered app (Some (n, words)))) (sym is) (debug_whole words)
 
 stopped : (stop : Option (Text × List Text)) → IfSome stop (λ p. IsCommand p.0) → entered_fault app stop ≡ [] → is_some (entered app stop) ≡ true
     → IsWhole (entered app stop)

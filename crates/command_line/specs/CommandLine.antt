@@ -71,7 +71,7 @@ number_in id rows = number_of (unwrap_or (one_of id rows) [])
 -- notes are counted; to write an image in the form of today, and the name of that file; whether a trace
 -- holds together; the state of a run of an image with a script after so many turns at most, and the name of that
 -- file; the run of an image with a script from the state in a file, up to so many turns, and in which detail it is
--- told.
+-- told; the commands in a file, carried out over the run of an image with a script.
 pub data Asked : Type 0 where
   build : Text → Text → Asked
   run : Text → Text → ℕ → Detail → Asked
@@ -82,6 +82,7 @@ pub data Asked : Type 0 where
   audit : Text → Asked
   save : Text → Text → Text → ℕ → Asked
   resume : Text → Text → Text → ℕ → Detail → Asked
+  debug : Text → Text → Text → Asked
 
 -- `--all` and `--mem`
 abbrev pub detail_in : List Row → Detail
@@ -170,8 +171,16 @@ resume_form = record {
   asks = λ rows. resume (text_in (codes "image") rows) (text_in (codes "script") rows) (text_in (codes "state") rows) (number_in (codes "steps") rows) (detail_in rows);
 }
 
+-- `debug IMAGE SCRIPT COMMANDS`
+abbrev pub debug_form : Form
+debug_form = record {
+  name = codes "debug";
+  rules = positional_rule (codes "image") ∷ positional_rule (codes "script") ∷ positional_rule (codes "commands") ∷ [];
+  asks = λ rows. debug (text_in (codes "image") rows) (text_in (codes "script") rows) (text_in (codes "commands") rows);
+}
+
 abbrev pub forms : List Form
-forms = build_form ∷ run_form ∷ go_form ∷ list_form ∷ sample_form ∷ migrate_form ∷ audit_form ∷ save_form ∷ resume_form ∷ []
+forms = build_form ∷ run_form ∷ go_form ∷ list_form ∷ sample_form ∷ migrate_form ∷ audit_form ∷ save_form ∷ resume_form ∷ debug_form ∷ []
 
 -- ---- the program
 

@@ -76,6 +76,11 @@ pub record IsWholeResume (rows : List Row) : Type 0 where
   pub all : IsSwitch (first_of (codes "all") rows)
   pub mem : IsSwitch (first_of (codes "mem") rows)
 
+pub record IsWholeDebug (rows : List Row) : Type 0 where
+  pub image : HasText (codes "image") rows
+  pub script : HasText (codes "script") rows
+  pub commands : HasText (codes "commands") rows
+
 -- a command of the program, with all that it wants
 abbrev pub IsWhole : Option (Text × List Row) → Type 0
 IsWhole None = ⊥
@@ -87,4 +92,5 @@ IsWhole (Some p) = ((p.0 ≡ codes "build") × IsWholeBuild p.1)
     ⊎ (((p.0 ≡ codes "migrate") × IsWholeMigrate p.1)
     ⊎ (((p.0 ≡ codes "audit") × IsWholeAudit p.1)
     ⊎ (((p.0 ≡ codes "save") × IsWholeSave p.1)
-    ⊎ ((p.0 ≡ codes "resume") × IsWholeResume p.1))))))))
+    ⊎ (((p.0 ≡ codes "resume") × IsWholeResume p.1)
+    ⊎ ((p.0 ≡ codes "debug") × IsWholeDebug p.1)))))))))

@@ -3,7 +3,7 @@ ghost use Rattle.std.specs.Prelude.{◌≡◌, IfOk, false, codes};
 ghost use Rattle.clap.specs.Words.{app_of, rule_of};
 ghost use Rattle.clap.specs.declared.builder.command.Command.TheViews.{out-Command as fields_of};
 ghost use Rattle.command_line.specs.Adding.{AddsForm};
-ghost use Rattle.command_line.specs.CommandLine.{bare_app, hubris_app, most_seed, most_steps, positional_rule, number_parser, number_rule, steps_rule, flag_rule, app_of_form, build_form, run, running_form, run_form, go_form, list_form, sample_form, migrate_form, audit_form, save_form, resume_form};
+ghost use Rattle.command_line.specs.CommandLine.{bare_app, hubris_app, most_seed, most_steps, positional_rule, number_parser, number_rule, steps_rule, flag_rule, app_of_form, build_form, run, running_form, run_form, go_form, list_form, sample_form, migrate_form, audit_form, save_form, resume_form, debug_form};
 
 use clap::builder::ValueParser;
 use clap::{Arg, ArgAction, Command};
@@ -156,6 +156,16 @@ fn resume_command<'a>(alloc: Global) -> Result<Command<'a>, AllocError>
         .arg(flag(alloc, "mem"))
 }
 
+fn debug_command<'a>(alloc: Global) -> Result<Command<'a>, AllocError>
+    ensures shape { IfOk result (λ c. app_of c ≡ app_of_form debug_form) }
+    ensures local { IfOk result (λ c. (fields_of c).has_globals ≡ false) }
+{
+    Command::new(alloc, "debug")
+        .arg(positional(alloc, "image"))?
+        .arg(positional(alloc, "script"))?
+        .arg(positional(alloc, "commands"))
+}
+
 // A program with one command more. It takes the outcome of making that one, so that a program whose
 // command could not be made is dropped in one place.
 fn with_command<'a>(
@@ -186,5 +196,6 @@ pub fn hubris_command<'a>(alloc: Global) -> Result<Command<'a>, AllocError>
     let hubris = with_command(hubris, migrate_command(alloc))?;
     let hubris = with_command(hubris, audit_command(alloc))?;
     let hubris = with_command(hubris, save_command(alloc))?;
-    with_command(hubris, resume_command(alloc))
+    let hubris = with_command(hubris, resume_command(alloc))?;
+    with_command(hubris, debug_command(alloc))
 }

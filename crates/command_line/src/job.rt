@@ -1,7 +1,7 @@
 //! What the matches of a command ask for.
 ghost use Rattle.std.specs.Prelude.{◌≡◌, ◌≤◌, ◌<◌, ◌^◌, ℕ, Some, codes};
 ghost use Rattle.clap.specs.Words.{rows_of, found_of, one_of};
-ghost use Rattle.command_line.specs.CommandLine.{asked_by, build_form, run_form, go_form, list_form, sample_form, migrate_form, audit_form, save_form, resume_form, text_in, is_set, detail_in, number_in, most_steps};
+ghost use Rattle.command_line.specs.CommandLine.{asked_by, build_form, run_form, go_form, list_form, sample_form, migrate_form, audit_form, save_form, resume_form, debug_form, text_in, is_set, detail_in, number_in, most_steps};
 ghost use Rattle.command_line.specs.Required.{IsNumber, IsSeed, IsSteps, IsWhole};
 ghost use Rattle.command_line.specs.Asking.{asked, steps_of};
 
@@ -69,6 +69,12 @@ pub enum Job<'a> {
         state: &'a str,
         steps: u32,
         detail: Detail,
+    },
+    /// Carry out COMMANDS over the run of IMAGE with SCRIPT.
+    Debug {
+        image: &'a str,
+        script: &'a str,
+        commands: &'a str,
     },
 }
 
@@ -217,6 +223,17 @@ fn resume_by<'a>(matches: &ArgMatches<'a>) -> Job<'a>
     }
 }
 
+fn debug_by<'a>(matches: &ArgMatches<'a>) -> Job<'a>
+    ensures job { asked result ≡ debug_form.asks (rows_of (found_of matches.now)) }
+    ensures few { steps_of result ≡ 0 }
+{
+    Job::Debug {
+        image: text_of(matches, "image"),
+        script: text_of(matches, "script"),
+        commands: text_of(matches, "commands"),
+    }
+}
+
 /// The job that a command's name and matches ask for.
 pub fn job_by<'a>(name: &str, matches: &ArgMatches<'a>) -> Job<'a>
     ensures job { IsWhole (Some (name.now, rows_of (found_of matches.now))) → asked_by name.now (rows_of (found_of matches.now)) ≡ Some (asked result) }
@@ -238,7 +255,9 @@ pub fn job_by<'a>(name: &str, matches: &ArgMatches<'a>) -> Job<'a>
         audit_by(matches)
     } else if name == "save" {
         save_by(matches)
-    } else {
+    } else if name == "resume" {
         resume_by(matches)
+    } else {
+        debug_by(matches)
     }
 }

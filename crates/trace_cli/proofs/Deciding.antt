@@ -1,6 +1,6 @@
 -- Where the contents are seen: a reason gives the one verdict, but that a file cannot be read.
 use Rattle.std.proofs.Common.{◌≡◌, ℕ, zero, suc, ◌<◌, ◌⊎◌, Bool, false, List, length, Option, Some, None, [], refl, sym, ap, subst, ◌∙◌, inl, inr, arith, cond}
-use Rattle.std.specs.Prelude.{slice_get, slice_index_or}
+use Rattle.std.specs.Prelude.{slice_get, slice_index_or, Result, Ok}
 use Rattle.std.proofs.lemmas.Option.{same_Some}
 use Rattle.kernel_abi.specs.Devices.{DeviceData}
 use Rattle.outside_io.specs.Outside.{WhereSeen}
@@ -11,8 +11,10 @@ use Rattle.sample_gen.specs.Sample.{sample_app, sample_sources}
 use Rattle.board_model.specs.Script.{Scenario}
 use Rattle.task_table.specs.State.{State}
 use Rattle.snapshot.specs.Restored.{state_in}
-use Rattle.command_line.specs.CommandLine.{Asked, build, run, go, list, sample, migrate, audit, save, resume, is_accepted, job_of}
+use Rattle.command_line.specs.CommandLine.{Asked, build, run, go, list, sample, migrate, audit, save, resume, debug, is_accepted, job_of}
 use Rattle.command_line.specs.declared.job.Detail.{Detail}
+use Rattle.debug_core.specs.declared.command.Command.{Command}
+use Rattle.debug_core.specs.Reading.{commands_or_fault}
 use Rattle.build_laws.proofs.OnePicture.{one_picture}
 use Rattle.trace_audit.specs.declared.verdict.Verdict as trace
 use Rattle.trace_audit.specs.Verdicts as trace_audit
@@ -20,9 +22,9 @@ use Rattle.trace_audit.proofs.Deciding.{one_verdict}
 use Rattle.trace_cli.specs.Contents.{Why, scenario_of, sample_scenario}
 use Rattle.outside_io.specs.Seen.{FilesSeen}
 use Rattle.trace_cli.specs.Words.{job_in}
-use Rattle.trace_cli.specs.Sources.{File, files_by, MayBe, Are, Reaches, TakesAll, IsBuilt, IsRun, IsListing, IsBuild, IsSample, IsAudit, IsSave, IsResume, first_of, described, sources_in, script_in}
+use Rattle.trace_cli.specs.Sources.{File, files_by, MayBe, Are, Reaches, TakesAll, IsBuilt, IsRun, IsListing, IsBuild, IsSample, IsAudit, IsSave, IsResume, IsDebug, first_of, described, sources_in, script_in}
 use Rattle.trace_cli.specs.Verdict as verdict
-use Rattle.trace_cli.specs.Verdict.{Verdict, IsVerdict, Does, runs, lists, builds, samples, saves, resumes, audits, usage, refused, unread, ran, listed, built, sampled, saved, resumed, audited}
+use Rattle.trace_cli.specs.Verdict.{Verdict, IsVerdict, Does, runs, lists, builds, samples, saves, resumes, debugs, audits, usage, refused, unread, ran, listed, built, sampled, saved, resumed, debugged, audited}
 use Rattle.trace_cli.specs.Answer.{JobReason, cannot_read, refuses, does, IsUnread, IsRefused, Reason, no_job, of_job}
 use Rattle.trace_cli.proofs.Lists.{is_below}
 use Rattle.trace_cli.proofs.Faulting.{where_seen}
@@ -99,6 +101,16 @@ same_resumed devices (resume image script file steps detail) cs n n' m m' x y s 
     ap (λ (k : ℕ). resumed k m x s) bound ∙ ap (λ (d : Detail). resumed n' d x s) seen ∙ ap (λ (z : Scenario). resumed n' m' z s) scenario ∙ ap (resumed n' m' y) state
 same_resumed devices job cs n n' m m' x y s t p q = absurd p
 
+same_commands : (r : Result (List Command) (ℕ × ℕ)) (a b : List Command) → r ≡ Ok a → r ≡ Ok b → a ≡ b
+same_commands r a b p q = cc
+
+same_debugged : (devices : List DeviceData) (job : Asked) (cs : List (List ℕ)) (x y : Scenario) (c d : List Command) → IsDebug devices job cs x c → IsDebug devices job cs y d → debugged x c ≡ debugged y d
+same_debugged devices (debug image script commands) cs x y c d p q =
+    let scenario : x ≡ y = p.0 ∙ sym q.0 in
+    let commands : c ≡ d = same_commands (commands_or_fault (slice_index_or cs 2 [])) c d p.1 q.1 in
+    ap (λ (z : Scenario). debugged z c) scenario ∙ ap (debugged y) commands
+same_debugged devices job cs x y c d p q = absurd p
+
 -- an audit is of the first of the files
 audit_first : (job : Asked) (cs : List (List ℕ)) (t : List ℕ) → IsAudit job cs t → t ≡ first_of cs
 audit_first (audit name) cs t p = p
@@ -111,7 +123,7 @@ same_audit job cs t s a b p q g h =
 
 -- ## and a job is of one kind
 
--- a run, a listing, an image that is put, a sample, an audit, a state that is put, a run from a state
+-- a run, a listing, an image that is put, a sample, an audit, a state that is put, a run from a state, commands
 abbrev job_kind : Asked → ℕ
 job_kind (run image script steps detail) = 0
 job_kind (go app script steps detail) = 0
@@ -122,6 +134,7 @@ job_kind (sample seed steps) = 3
 job_kind (audit trace) = 4
 job_kind (save image script out steps) = 5
 job_kind (resume image script state steps detail) = 6
+job_kind (debug image script commands) = 7
 
 run_kind : (devices : List DeviceData) (job : Asked) (cs : List (List ℕ)) (n : ℕ) (m : Detail) (x : Scenario) → IsRun devices job cs n m x → 0 ≡ job_kind job
 run_kind devices (run image script steps detail) cs n m x p = refl
@@ -149,6 +162,10 @@ resume_kind : (devices : List DeviceData) (job : Asked) (cs : List (List ℕ)) (
 resume_kind devices (resume image script state steps detail) cs n m x s p = refl
 resume_kind devices job cs n m x s p = absurd p
 
+debug_kind : (devices : List DeviceData) (job : Asked) (cs : List (List ℕ)) (x : Scenario) (c : List Command) → IsDebug devices job cs x c → 7 ≡ job_kind job
+debug_kind devices (debug image script commands) cs x c p = refl
+debug_kind devices job cs x c p = absurd p
+
 abbrev done_kind : {devices : List DeviceData} {job : Asked} {cs : List (List ℕ)} {v : Verdict} → Does devices job cs v → ℕ
 done_kind (runs n m x p e) = 0
 done_kind (lists a p e) = 1
@@ -157,6 +174,7 @@ done_kind (samples s n x p e) = 3
 done_kind (audits t a p g e) = 4
 done_kind (saves o n x p e) = 5
 done_kind (resumes n m x s p e) = 6
+done_kind (debugs x c p e) = 7
 
 kind_of_job : {devices : List DeviceData} {job : Asked} {cs : List (List ℕ)} {v : Verdict} (p : Does devices job cs v) → done_kind p ≡ job_kind job
 kind_of_job {devices} {job} {cs} {v} (runs n m x p e) = run_kind devices job cs n m x p
@@ -166,6 +184,7 @@ kind_of_job {devices} {job} {cs} {v} (samples s n x p e) = sym (ap job_kind p.is
 kind_of_job {devices} {job} {cs} {v} (audits t a p g e) = audit_kind job cs t p
 kind_of_job {devices} {job} {cs} {v} (saves o n x p e) = save_kind devices job cs o n x p
 kind_of_job {devices} {job} {cs} {v} (resumes n m x s p e) = resume_kind devices job cs n m x s p
+kind_of_job {devices} {job} {cs} {v} (debugs x c p e) = debug_kind devices job cs x c p
 
 same_done : {devices : List DeviceData} (job : Asked) (cs : List (List ℕ)) (u v : Verdict) → Does devices job cs u → Does devices job cs v → u ≡ v
 same_done {devices} job cs u v (runs n m x p e) (runs n' m' y q d) = e ∙ same_run devices job cs n n' m m' x y p q ∙ sym d
@@ -175,6 +194,7 @@ same_done {devices} job cs u v (samples s n x p e) (samples s' n' y q d) = e ∙
 same_done {devices} job cs u v (audits t a p g e) (audits s b q h d) = e ∙ same_audit job cs t s a b p q g h ∙ sym d
 same_done {devices} job cs u v (saves o n x p e) (saves o' n' y q d) = e ∙ same_saved devices job cs o o' n n' x y p q ∙ sym d
 same_done {devices} job cs u v (resumes n m x s p e) (resumes n' m' y t q d) = e ∙ same_resumed devices job cs n n' m m' x y s t p q ∙ sym d
+same_done {devices} job cs u v (debugs x c p e) (debugs y b q d) = e ∙ same_debugged devices job cs x y c b p q ∙ sym d
 same_done {devices} job cs u v p q = let one : done_kind p ≡ done_kind q = kind_of_job p ∙ sym (kind_of_job q) in absurd (omega arith)
 
 -- ## three ways in which lengths meet

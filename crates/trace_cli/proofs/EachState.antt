@@ -1,5 +1,5 @@
 -- What is told from each state that the file of `resume` spells.
-use Rattle.std.proofs.Common.{◌≡◌, ℕ, ◌⊎◌, List, [], Option, Some, refl, sym, ap, subst, ◌∙◌, inl, inr, cond, Bool, true, None, string_bytes}
+use Rattle.std.proofs.Common.{◌≡◌, ℕ, List, [], Some, refl, sym, ap, subst, ◌∙◌, inl, inr, cond, Bool, true, None, string_bytes}
 use Rattle.std.specs.Prelude.{slice_index_or}
 use Rattle.std.proofs.lemmas.Option.{same_Some}
 use Rattle.kernel_abi.specs.Devices.{DeviceData}
@@ -9,14 +9,14 @@ use Rattle.board_model.specs.Script.{Scenario, start_of}
 use Rattle.board_core.specs.Data.{Shows}
 use Rattle.board_core.specs.declared.board.Board.{Board}
 use Rattle.board_core.specs.Stands.{Stands}
-use Rattle.command_line.specs.CommandLine.{Asked, build, run, go, list, sample, migrate, audit, save, resume, is_accepted, job_of}
+use Rattle.command_line.specs.CommandLine.{Asked, resume, is_accepted, job_of}
 use Rattle.command_line.specs.declared.job.Detail.{Detail}
 use Rattle.outside_io.specs.Seen.{FilesSeen, SinkSeen}
 use Rattle.trace_cli.specs.declared.file_faults.NamedFault.{NamedFault}
 use Rattle.trace_cli.specs.declared.file_faults.NamedFault.TheVariants as named_faults
 use Rattle.trace_cli.specs.Contents.{Why}
 use Rattle.trace_cli.specs.Words.{job_in}
-use Rattle.trace_cli.specs.Sources.{Are, TakesAll, IsResume, scenario_in}
+use Rattle.trace_cli.specs.Sources.{IsResume, scenario_in}
 use Rattle.trace_cli.specs.Ready.{IsResumable, IsNamedFaultIn}
 use Rattle.trace_cli.specs.Pushed.{Pushed, Says, pushed, silent, SaysNamedFault}
 use Rattle.trace_cli.specs.Verdict.{Verdict, resumed, unread}

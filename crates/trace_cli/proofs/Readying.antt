@@ -16,18 +16,19 @@ use Rattle.outside_io.specs.Outside.{Rose}
 use Rattle.audit_runs.specs.Last.{IsGoodText}
 use Rattle.trace_audit.specs.declared.verdict.Verdict as trace
 use Rattle.trace_audit.specs.declared.verdict.Verdict.TheVariants.{Yes, No}
-use Rattle.command_line.specs.CommandLine.{Asked, build, run, go, list, sample, migrate, audit, save, resume}
+use Rattle.command_line.specs.CommandLine.{Asked, build, run, go, list, sample, migrate, audit, save, resume, debug}
 use Rattle.command_line.specs.declared.job.Detail.{Detail}
+use Rattle.debug_core.specs.declared.command.Command.{Command}
 use Rattle.trace_cli.specs.declared.file_faults.NamedFault.{NamedFault}
 use Rattle.trace_cli.specs.declared.file_faults.NamedFault.TheVariants as named_faults
 use Rattle.trace_cli.specs.Contents.{Why, picture_of, scenario_of, script_of, state_refusal, application_of}
 use Rattle.outside_io.specs.Seen.{FilesSeen, SinkSeen}
-use Rattle.trace_cli.specs.Sources.{File, image_file, script_file, state_file, trace_file, files_of, files_to_build, first_of, MayBe, Takes, IsBuilt, script_in}
+use Rattle.trace_cli.specs.Sources.{File, image_file, script_file, state_file, trace_file, commands_file, files_of, files_to_build, first_of, MayBe, Takes, IsBuilt, script_in}
 use Rattle.trace_cli.specs.FileFaults.{IsNamedFaultOf}
 use Rattle.trace_cli.specs.Building.{IsImage, IsNamedFaultInApp}
-use Rattle.trace_cli.specs.Ready.{IsImageFile, IsScriptFile, IsSet, IsReady, IsSaveReady, IsLoaded, IsStateSet, IsResumable, IsAuditOf, IsNamedFaultIn}
+use Rattle.trace_cli.specs.Ready.{IsImageFile, IsScriptFile, IsSet, IsReady, IsSaveReady, IsLoaded, IsStateSet, IsResumable, IsCommandsFile, IsDebugReady, IsAuditOf, IsNamedFaultIn}
 use Rattle.trace_cli.specs.Pushed.{Pushed, whole, cut, Says, pushed, silent, IsSilent, SaysNamedFault}
-use Rattle.trace_cli.specs.Verdict.{Verdict, runs, lists, builds, saves, resumes, audits, refused, unread, ran, listed, built, saved, resumed, audited}
+use Rattle.trace_cli.specs.Verdict.{Verdict, runs, lists, builds, saves, resumes, debugs, audits, refused, unread, ran, listed, built, saved, resumed, debugged, audited}
 use Rattle.trace_cli.specs.Answer as answer
 use Rattle.trace_cli.specs.Answer.{JobReason, cannot_read, refuses, does, IsShort, HasPut, HasSpoiled, Tells, IsOfRun, TellsGood, AnswersJob}
 use Rattle.trace_cli.proofs.Lists.{at_end, longer, takes_none, takes_first, takes_wider, takes_last, get_more, get_last}
@@ -200,6 +201,59 @@ pub state_there : {X : Type 0} {H : X → Type 0} {shown : Shows X H} {devices :
     → IsStateSet shown devices seen picture script name bound b → IsStateSet shown devices seen' picture script name bound b
 state_there {X} {H} {shown} {devices} {seen} {seen'} {picture} {script} {name} {bound} {b} same h = subst (λ (t : List ℕ → Option (List ℕ)). IsStateSet shown devices t picture script name bound b) same h
 
+pub commands_there : {seen seen' : List ℕ → Option (List ℕ)} {name : List ℕ} {commands : List Command} → seen ≡ seen' → IsCommandsFile seen name commands → IsCommandsFile seen' name commands
+commands_there {seen} {seen'} {name} {commands} same h = subst (λ (t : List ℕ → Option (List ℕ)). IsCommandsFile t name commands) same h
+
+-- ## `debug`
+
+pub debug_ready : {X : Type 0} {H : X → Type 0} {shown : Shows X H} {devices : List DeviceData} (seen : List ℕ → Option (List ℕ)) (image script name : List ℕ) (picture : Picture) (events : ScriptData) (commands : List Command) (b : Board X H) → IsImageFile seen image picture
+    → IsScriptFile seen script events → IsCommandsFile seen name commands → Stands shown (opened.scenario_of picture events devices) b (start_of (opened.scenario_of picture events devices)) → IsDebugReady shown devices (debug image script name) seen commands b
+debug_ready {X} {H} {shown} {devices} seen image script name picture events commands b i s c stands =
+    let of_image : Stands shown (opened.scenario_of (picture_of i.bytes) events devices) b (start_of (opened.scenario_of (picture_of i.bytes) events devices)) =
+    subst (λ (p : Picture). Stands shown (opened.scenario_of p events devices) b (start_of (opened.scenario_of p events devices))) i.is stands in
+    record {
+      contents = i.bytes ∷ s.bytes ∷ c.bytes ∷ [];
+      accepted = record {
+        takes = takes_first (MayBe seen) (image_file image) (script_file script ∷ commands_file name ∷ []) i.bytes (s.bytes ∷ c.bytes ∷ []) i.held i.accepted
+            (takes_first (MayBe seen) (script_file script) (commands_file name ∷ []) s.bytes (c.bytes ∷ []) s.held s.accepted
+            (takes_first (MayBe seen) (commands_file name) [] c.bytes [] c.held c.accepted (takes_none (MayBe seen) [])));
+        all = refl;
+      };
+      scenario = scenario_of (picture_of i.bytes) s.bytes devices;
+      is = (refl, c.is);
+      stands = subst (λ (d : ScriptData). Stands shown (opened.scenario_of (picture_of i.bytes) d devices) b (start_of (opened.scenario_of (picture_of i.bytes) d devices))) s.is of_image;
+    }
+
+pub debug_image_faults : {devices : List DeviceData} (a c : FilesSeen) (image script name : List ℕ) (h : NamedFault) → IsNamedFaultOf a c (image_file image) h → IsNamedFaultIn devices (debug image script name) a c h
+debug_image_faults {devices} a c image script name h fault = record {
+  contents = [];
+  at = record { takes = takes_none (MayBe a.contents) (files_of devices (debug image script name) []); file = image_file image; next = refl; fault = fault };
+}
+
+pub debug_script_faults : {devices : List DeviceData} (a b c : FilesSeen) (image script name : List ℕ) (picture : Picture) (h : NamedFault) → IsImageFile a.contents image picture → b.contents ≡ a.contents
+    → a.read_faults ≤ b.read_faults → IsNamedFaultOf b c (script_file script) h → IsNamedFaultIn devices (debug image script name) a c h
+debug_script_faults a b c image script name picture h i seen later fault = record {
+  contents = i.bytes ∷ [];
+  at = record {
+    takes = one_file a.contents image picture (script_file script ∷ commands_file name ∷ []) i;
+    file = script_file script;
+    next = refl;
+    fault = faults_earlier a b c (script_file script) h seen later fault;
+  };
+}
+
+pub debug_commands_faults : {devices : List DeviceData} (a b c : FilesSeen) (image script name : List ℕ) (picture : Picture) (events : ScriptData) (h : NamedFault) → IsImageFile a.contents image picture → IsScriptFile a.contents script events
+    → b.contents ≡ a.contents → a.read_faults ≤ b.read_faults → IsNamedFaultOf b c (commands_file name) h → IsNamedFaultIn devices (debug image script name) a c h
+debug_commands_faults a b c image script name picture events h i s seen later fault = record {
+  contents = i.bytes ∷ s.bytes ∷ [];
+  at = record {
+    takes = two_files a.contents image script picture events (commands_file name ∷ []) i s;
+    file = commands_file name;
+    next = refl;
+    fault = faults_earlier a b c (commands_file name) h seen later fault;
+  };
+}
+
 -- ## `list`
 
 pub list_faults : {devices : List DeviceData} (a c : FilesSeen) (image : List ℕ) (h : NamedFault) → IsNamedFaultOf a c (image_file image) h → IsNamedFaultIn devices (list image) a c h
@@ -327,6 +381,7 @@ tells_good (migrate image out) v r h = tt
 tells_good (audit trace) v r h = tt
 tells_good (save image script out steps) v r h = tt
 tells_good (resume image script state steps detail) v r h = tt
+tells_good (debug image script commands) v r h = tt
 
 no_run : (r : ℕ) → 1 ≤ r → r ≤ 5 → IsOfRun r → ⊥
 no_run r low high (inl z) = omega arith
@@ -386,6 +441,12 @@ pub answers_resumed : {X : Type 0} {H : X → Type 0} {shown : Shows X H} {devic
 answers_resumed image script state a b w w' m detail bd r same h tells =
     answers_pushed (resume image script state m detail) a b w w' (resumed m detail h.scenario h.state) r same refl
     (does h.contents h.accepted (resumes m detail h.scenario h.state h.is refl)) tt (tells h.scenario h.state h.stands)
+
+pub answers_debugged : {X : Type 0} {H : X → Type 0} {shown : Shows X H} {devices : List DeviceData} (image script name : List ℕ) (a b : FilesSeen) (w w' : SinkSeen) (commands : List Command) (bd : Board X H) (r : ℕ) → b.contents ≡ a.contents
+    → IsDebugReady shown devices (debug image script name) a.contents commands bd → ((x : Scenario) → Stands shown x bd (start_of x) → Says w w' (debugged x commands) r) → AnswersJob devices (debug image script name) a b w w' r
+answers_debugged image script name a b w w' commands bd r same h says =
+    answers_said (debug image script name) a b w w' (debugged h.scenario commands) r same refl
+    (does h.contents h.accepted (debugs h.scenario commands h.is refl)) tt (says h.scenario h.stands)
 
 pub resumable_stood : {X : Type 0} {H : X → Type 0} {shown : Shows X H} {devices : List DeviceData} (job : Asked) (seen : List ℕ → Option (List ℕ)) (m : ℕ) (detail : Detail) (bd : Board X H) → IsResumable shown devices job seen m detail bd → Stood shown bd × (turns_of bd ≤ m)
 resumable_stood job seen m detail bd h = ((h.scenario, h.state, h.stands), h.turns)

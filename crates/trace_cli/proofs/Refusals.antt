@@ -15,11 +15,13 @@ use Rattle.image_build.specs.Building.{HasRoom, LacksRoom, RefusesSource, IsAcce
 use Rattle.image_build.specs.declared.fault.BuildFault.TheVariants as fault
 use Rattle.image_format.specs.Picture.{Picture, image_or_fault}
 use Rattle.run_script.specs.Scripts.{ScriptData, script_or_fault}
+use Rattle.debug_core.specs.declared.command.Command.{Command}
+use Rattle.debug_core.specs.Reading.{commands_or_fault}
 use Rattle.kernel_abi.specs.Devices.{DeviceData}
 use Rattle.snapshot.specs.Records.{header_at}
 use Rattle.snapshot.specs.Saved.{expected_of}
 use Rattle.snapshot.specs.Waits.{state_fault}
-use Rattle.trace_cli.specs.Contents.{Why, file_limit, trace_limit, trace_refusal, setup_of_image, state_refusal, turn_refusal, or_later, at_number, script_in, script_refusal, script_of, at_line, fault_in, app_in, image_in, image_refusal, picture_of, application_of, app_refusal, room_refusal, source_refusal, code_refusal, code_length}
+use Rattle.trace_cli.specs.Contents.{Why, file_limit, trace_limit, trace_refusal, setup_of_image, state_refusal, turn_refusal, or_later, at_number, commands_refusal, script_in, script_refusal, script_of, at_line, fault_in, app_in, image_in, image_refusal, picture_of, application_of, app_refusal, room_refusal, source_refusal, code_refusal, code_length}
 use Rattle.trace_audit.specs.declared.verdict.Verdict.{Verdict}
 use Rattle.trace_audit.specs.declared.verdict.Verdict.TheVariants.{Yes, No}
 use Rattle.trace_audit.specs.Texts as trace
@@ -46,6 +48,16 @@ script_taken bytes x le is = (short file_limit bytes _ le ∙ ap (λ r. option_m
 pub script_refused : (bytes : List ℕ) (why : ℕ × ℕ) → length bytes ≤ file_limit → script_or_fault bytes ≡ Err why → script_refusal bytes ≡ Some (at_number why)
 unfolding script_refusal
 script_refused bytes why le is = short file_limit bytes _ le ∙ ap (λ r. option_map at_number (fault_in r)) is
+
+-- ## commands
+
+pub commands_taken : (bytes : List ℕ) (cs : List Command) → length bytes ≤ file_limit → commands_or_fault bytes ≡ Ok cs → commands_refusal bytes ≡ None
+unfolding commands_refusal
+commands_taken bytes cs le is = short file_limit bytes _ le ∙ ap (λ r. option_map at_number (fault_in r)) is
+
+pub commands_refused : (bytes : List ℕ) (why : ℕ × ℕ) → length bytes ≤ file_limit → commands_or_fault bytes ≡ Err why → commands_refusal bytes ≡ Some (at_number why)
+unfolding commands_refusal
+commands_refused bytes why le is = short file_limit bytes _ le ∙ ap (λ r. option_map at_number (fault_in r)) is
 
 -- ## a saved state
 

@@ -10,7 +10,7 @@ use Rattle.command_line.specs.declared.job.Detail.{Detail}
 use Rattle.trace_cli.specs.Contents.{Why, image_refusal, script_refusal, picture_of, application_of, scenario_of}
 use Rattle.trace_cli.specs.Words.{job_in}
 use Rattle.trace_cli.specs.Sources.{File, image_file, script_file, files_to_build, Are, Takes, Reaches, TakesAll, IsBuilt, script_in}
-use Rattle.trace_cli.specs.Verdict.{Verdict, IsVerdict, no_job, refuses, does, Does, runs, lists, builds, samples, saves, resumes, audits, refused, ran}
+use Rattle.trace_cli.specs.Verdict.{Verdict, IsVerdict, no_job, refuses, does, Does, runs, lists, builds, samples, saves, resumes, debugs, audits, refused, ran}
 use Rattle.trace_cli.specs.Answer.{HasPut}
 use Rattle.trace_cli.proofs.Lists.{longer, is_below, takes_wider, takes_last}
 use Rattle.trace_cli.proofs.Taking.{as_many_sources}
@@ -52,6 +52,7 @@ made_by seen app out cs b all (lists i is e) = absurd is
 made_by seen app out cs b all (audits t found is v e) = absurd is
 made_by seen app out cs b all (saves o n x is e) = absurd is
 made_by seen app out cs b all (resumes n m x s is e) = absurd is
+made_by seen app out cs b all (debugs x c is e) = absurd is
 made_by seen app out cs b all (samples s n x is e) = absurd (no_sample app out s n is.is)
 made_by seen app out cs b all (builds o i is e) = record {
   image = i;
@@ -145,6 +146,7 @@ ran_of {devices} out script n detail image c s w same (builds o i is e) = absurd
 ran_of {devices} out script n detail image c s w same (audits t found is v e) = absurd is
 ran_of {devices} out script n detail image c s w same (saves o k x is e) = absurd is
 ran_of {devices} out script n detail image c s w same (resumes k m x t is e) = absurd is
+ran_of {devices} out script n detail image c s w same (debugs x d is e) = absurd is
 ran_of {devices} out script n detail image c s w same (samples seed k x is e) = absurd (no_sample_run out script n detail seed k is.is)
 
 after_run : {devices : List DeviceData} (words : List (List ℕ)) (seen seen' : List ℕ → Option (List ℕ)) (app out script : List ℕ) (n : ℕ) (detail : Detail) (cs : List (List ℕ)) (w : Verdict)

@@ -9,17 +9,18 @@ use Rattle.board_model.specs.Script.{Scenario}
 use Rattle.task_table.specs.State.{State}
 use Rattle.board_model.specs.declared.outcomes.End.{End}
 use Rattle.board_model.specs.declared.outcomes.End.TheVariants.{Bound, Still, Supervisor}
-use Rattle.command_line.specs.CommandLine.{Asked, build, run, go, list, sample, migrate, audit, save, resume, is_accepted, job_of}
+use Rattle.command_line.specs.CommandLine.{Asked, build, run, go, migrate, save, is_accepted, job_of}
 use Rattle.command_line.specs.declared.job.Detail.{Detail}
+use Rattle.debug_core.specs.declared.command.Command.{Command}
 use Rattle.trace_audit.specs.declared.verdict.Verdict as trace
 use Rattle.trace_audit.specs.declared.verdict.Verdict.TheVariants.{Yes, No}
 use Rattle.trace_audit.specs.Verdicts as trace_audit
 use Rattle.audit_runs.specs.Last.{IsGoodText}
 use Rattle.outside_io.specs.Seen.{FilesSeen, SinkSeen}
 use Rattle.trace_cli.specs.Words.{job_in, out_of}
-use Rattle.trace_cli.specs.Sources.{IsRun, IsBuild, IsSample, IsAudit, IsSave, IsResume}
-use Rattle.trace_cli.specs.Verdict.{Verdict, IsVerdict, Does, runs, lists, builds, samples, saves, resumes, audits, usage, usage_line, refused, unread, ran, listed, built, sampled, saved, saved_bytes, resumed, audited, run_of, run_from, level_of, status_of}
-use Rattle.trace_cli.specs.Answer.{JobReason, cannot_read, refuses, does, IsAccepted, Reason, no_job, of_job, HasPut, HasSpoiled, Tells, whole, cut, spoiled, short, IsOfRun, TellsGood, TellsGoodIn, AnswersJob, Answers, HasRun, HasResumed, HasSampled, HasSaved, HasAudited, HasPlayed, HasDone, HasRefused, HasUnread, HasFront, Answered, IsComplete}
+use Rattle.trace_cli.specs.Sources.{IsRun, IsBuild, IsSample, IsAudit, IsSave, IsResume, IsDebug}
+use Rattle.trace_cli.specs.Verdict.{Verdict, IsVerdict, Does, runs, lists, builds, samples, saves, resumes, debugs, audits, usage, usage_line, refused, unread, ran, listed, built, sampled, saved, saved_bytes, resumed, debugged, audited, run_of, run_from, level_of, status_of}
+use Rattle.trace_cli.specs.Answer.{JobReason, cannot_read, refuses, does, IsAccepted, Reason, no_job, of_job, HasPut, HasSpoiled, Tells, whole, cut, spoiled, short, IsOfRun, TellsGood, TellsGoodIn, AnswersJob, Answers, HasRun, HasResumed, HasSampled, HasAudited, HasDebugged, HasPlayed, HasDone, HasRefused, HasUnread, HasFront, Answered, IsComplete}
 use Rattle.trace_cli.specs.Pushed as seen
 use Rattle.trace_cli.specs.Pushed.{Pushed, Says, pushed, silent}
 use Rattle.trace_cli.proofs.Readying.{audited_alone}
@@ -97,6 +98,7 @@ done_status job cs v (builds o i p e) = inl (ap (λ (u : Verdict). u.status) e)
 done_status job cs v (samples s n x p e) = of_run v.status (end_status (run_of Calls n x).end v.status (ap (λ (u : Verdict). u.status) e))
 done_status job cs v (saves o n x p e) = inl (ap (λ (u : Verdict). u.status) e)
 done_status job cs v (resumes n m x s p e) = of_run v.status (end_status (run_from (level_of m) n x s).end v.status (ap (λ (u : Verdict). u.status) e))
+done_status job cs v (debugs x c p e) = inl (ap (λ (u : Verdict). u.status) e)
 done_status job cs v (audits t a p g e) = of_audit v.status (audited a).status (ap (λ (u : Verdict). u.status) e) (audit_zero_or_seven a)
 
 not_done : (v : Verdict) (n : ℕ) → IsOfDone v.status → v.status ≡ n → (n ≡ 0 → ⊥) → (6 ≤ n → ⊥) → ⊥
@@ -293,6 +295,19 @@ has_audited words a w w' job cs t found v r at all h is e status text = record {
   text = same_text w w' v (audited found) e text;
 }
 
+has_debugged : {devices : List DeviceData} (words : List (List ℕ)) (a : FilesSeen) (w w' : SinkSeen) (job : Asked) (cs : List (List ℕ)) (x : Scenario) (c : List Command) (v : Verdict)
+    → job_in words ≡ Some job → IsAccepted devices job a.contents cs → IsDebug devices job cs x c → v ≡ debugged x c → Appends w.written w'.written v.text → HasDebugged devices words a.contents w w'
+has_debugged words a w w' job cs x c v at all h is t = record {
+  job = job;
+  command = at;
+  contents = cs;
+  accepted = all;
+  scenario = x;
+  commands = c;
+  is = h;
+  text = same_text w w' v (debugged x c) is t;
+}
+
 done_by : {devices : List DeviceData} (words : List (List ℕ)) (a b : FilesSeen) (w w' : SinkSeen) (v : Verdict) → v.status ≡ 0 → HasPut a.contents b.contents v.put → Appends w.written w'.written v.text → TellsGoodIn (job_in words) v 0 → Reason devices words a b v → HasDone devices words a b w w'
 done_by words a b w w' v e p t good (no_job none is) = let s : v.status ≡ 2 = ap (λ (u : Verdict). u.status) is in absurd (omega arith)
 done_by words a b w w' v e p t good (of_job job at (cannot_read f h is)) = let s : v.status ≡ 3 = ap (λ (u : Verdict). u.status) is in absurd (omega arith)
@@ -325,7 +340,8 @@ done_by words a b w w' v e p t good (of_job job at (does cs all (saves o n x h i
   file = (same_put a b v (saved o n x) is p).0;
   text = same_text w w' v (saved o n x) is t;
 }))))
-done_by words a b w w' v e p t good (of_job job at (does cs all (audits s found h is d))) = inr (inr (inr (inr (has_audited words a w w' job cs s found v 0 at all h is d e t))))
+done_by words a b w w' v e p t good (of_job job at (does cs all (audits s found h is d))) = inr (inr (inr (inr (inl (has_audited words a w w' job cs s found v 0 at all h is d e t)))))
+done_by words a b w w' v e p t good (of_job job at (does cs all (debugs x c h is))) = inr (inr (inr (inr (inr (has_debugged words a w w' job cs x c v at all h is t)))))
 
 pub was_done : {devices : List DeviceData} (words : List (List ℕ)) (a b : FilesSeen) (w w' : SinkSeen) (r : ℕ) → Answers devices words a b w w' r → r ≡ 0 → HasDone devices words a b w w'
 was_done words a b w w' r h e =
@@ -342,6 +358,7 @@ ran_by words a b w w' v e t good (of_job job at (does cs all (saves o n x h is))
 ran_by words a b w w' v e t good (of_job job at (does cs all (runs n m x h is))) = inl (has_run words a w w' job cs n m x v 6 at all h is e t (inr refl) good)
 ran_by words a b w w' v e t good (of_job job at (does cs all (lists i h is))) = let s : v.status ≡ 0 = ap (λ (u : Verdict). u.status) is in absurd (omega arith)
 ran_by words a b w w' v e t good (of_job job at (does cs all (builds o i h is))) = let s : v.status ≡ 0 = ap (λ (u : Verdict). u.status) is in absurd (omega arith)
+ran_by words a b w w' v e t good (of_job job at (does cs all (debugs x c h is))) = let s : v.status ≡ 0 = ap (λ (u : Verdict). u.status) is in absurd (omega arith)
 ran_by words a b w w' v e t good (of_job job at (does cs all (audits s found h is d))) = absurd (by (audit_zero_or_seven found)) where
   by : ((audited found).status ≡ 0) ⊎ ((audited found).status ≡ 7) → ⊥
   by (inl z) = let s : v.status ≡ 0 = ap (λ (u : Verdict). u.status) d ∙ z in omega arith
@@ -369,6 +386,7 @@ audited_by words a b w w' v e t (of_job job at (does cs all (resumes n m x s h i
 audited_by words a b w w' v e t (of_job job at (does cs all (saves o n x h is))) = let s : v.status ≡ 0 = ap (λ (u : Verdict). u.status) is in absurd (omega arith)
 audited_by words a b w w' v e t (of_job job at (does cs all (lists i h is))) = let s : v.status ≡ 0 = ap (λ (u : Verdict). u.status) is in absurd (omega arith)
 audited_by words a b w w' v e t (of_job job at (does cs all (builds o i h is))) = let s : v.status ≡ 0 = ap (λ (u : Verdict). u.status) is in absurd (omega arith)
+audited_by words a b w w' v e t (of_job job at (does cs all (debugs x c h is))) = let s : v.status ≡ 0 = ap (λ (u : Verdict). u.status) is in absurd (omega arith)
 audited_by words a b w w' v e t (of_job job at (does cs all (audits s found h is d))) = has_audited words a w w' job cs s found v 7 at all h is d e t
 
 pub was_bad : {devices : List DeviceData} (words : List (List ℕ)) (a b : FilesSeen) (w w' : SinkSeen) (r : ℕ) → Answers devices words a b w w' r → r ≡ 7 → HasAudited devices words a.contents w w' 7
@@ -400,6 +418,7 @@ reason_puts words a b v (of_job job at (does cs all (runs n m x h is))) = puts_n
 reason_puts words a b v (of_job job at (does cs all (lists i h is))) = puts_none (ap (λ (u : Verdict). u.put) is)
 reason_puts words a b v (of_job job at (does cs all (samples s n x h is))) = puts_none (ap (λ (u : Verdict). u.put) is)
 reason_puts words a b v (of_job job at (does cs all (resumes n m x s h is))) = puts_none (ap (λ (u : Verdict). u.put) is)
+reason_puts words a b v (of_job job at (does cs all (debugs x c h is))) = puts_none (ap (λ (u : Verdict). u.put) is)
 reason_puts words a b v (of_job job at (does cs all (saves o n x h is))) =
     puts_out o (saved_bytes n x) (ap (λ (u : Verdict). u.put) is) (ap out_of at ∙ saved_out _ job cs o n x h) (ap (λ (u : Verdict). u.status) is)
 reason_puts words a b v (of_job job at (does cs all (audits s found h is d))) = puts_none (ap (λ (u : Verdict). u.put) d ∙ audited_alone found)

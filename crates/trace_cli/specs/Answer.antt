@@ -1,5 +1,5 @@
 -- What an answer of the program says of the words, of the files and of the sink.
-use Rattle.std.specs.Prelude.{◌≡◌, ◌≢◌, ◌≤◌, ◌⊎◌, ℕ, false, List, [], slice_index_or, Option, Some, None}
+use Rattle.std.specs.Prelude.{◌≡◌, ◌≢◌, ◌⊎◌, ℕ, false, List, [], slice_index_or, Option, Some, None}
 use Rattle.std.specs.Io.KnownBytes.{Appends}
 use Rattle.kernel_abi.specs.Devices.{DeviceData}
 use Rattle.outside_io.specs.Outside.{WhereSeen, Rose, AppendsFront, IsFront, short_name}
@@ -11,13 +11,14 @@ use Rattle.task_table.specs.Sane.{Sane}
 use Rattle.trace_audit.specs.declared.verdict.Verdict as trace
 use Rattle.trace_audit.specs.Verdicts as trace_audit
 use Rattle.audit_runs.specs.Last.{IsGoodText}
-use Rattle.command_line.specs.CommandLine.{Asked, build, run, go, list, sample, migrate, audit, save, resume, is_accepted}
+use Rattle.command_line.specs.CommandLine.{Asked, build, run, go, list, sample, migrate, audit, save, resume, debug, is_accepted}
 use Rattle.command_line.specs.declared.job.Detail.{Detail}
+use Rattle.debug_core.specs.declared.command.Command.{Command}
 use Rattle.trace_cli.specs.Contents.{Why, image_refusal, script_refusal, state_refusal, picture_of, scenario_of}
 use Rattle.outside_io.specs.Seen.{FilesSeen, SinkSeen}
 use Rattle.trace_cli.specs.Words.{job_in}
-use Rattle.trace_cli.specs.Sources.{File, MayBe, Are, MayBeRefused, Reaches, TakesAll, IsRun, IsListing, IsBuild, IsSample, IsAudit, IsSave, IsResume}
-use Rattle.trace_cli.specs.Verdict.{Verdict, usage, refused, refused_line, unread, unread_line, ran, listed, built, sampled, audited, saved, resumed, saved_bytes, run_of, rest_of_run, Does}
+use Rattle.trace_cli.specs.Sources.{File, MayBe, Are, MayBeRefused, Reaches, TakesAll, IsRun, IsListing, IsBuild, IsSample, IsAudit, IsSave, IsResume, IsDebug}
+use Rattle.trace_cli.specs.Verdict.{Verdict, usage, refused, refused_line, unread, unread_line, ran, listed, built, sampled, audited, saved, resumed, debugged, saved_bytes, run_of, rest_of_run, Does}
 use Rattle.trace_cli.specs.Ready.{IsSpelled}
 
 -- ## why a verdict was given on a job (the files: before and after the call; the devices: those of a run)
@@ -98,6 +99,7 @@ TellsGood (migrate image out) v r = Unit {0}
 TellsGood (audit trace) v r = Unit {0}
 TellsGood (save image script out steps) v r = Unit {0}
 TellsGood (resume image script state steps detail) v r = Unit {0}
+TellsGood (debug image script commands) v r = Unit {0}
 
 -- where the words ask for a job
 abbrev pub TellsGoodIn : Option Asked → Verdict → ℕ → Type 0
@@ -201,6 +203,17 @@ pub record HasAudited (devices : List DeviceData) (words : List (List ℕ)) (see
   pub status : (audited found).status ≡ r
   pub text : Appends w.written w'.written (audited found).text
 
+-- the answers to commands that were carried out over a run
+pub record HasDebugged (devices : List DeviceData) (words : List (List ℕ)) (seen : List ℕ → Option (List ℕ)) (w w' : SinkSeen) : Type 0 where
+  pub job : Asked
+  pub command : job_in words ≡ Some job
+  pub contents : List (List ℕ)
+  pub accepted : IsAccepted devices job seen contents
+  pub scenario : Scenario
+  pub commands : List Command
+  pub is : IsDebug devices job contents scenario commands
+  pub text : Appends w.written w'.written (debugged scenario commands).text
+
 -- what is told of a run that ended so, of files, from a saved state or of a sample: 6 where the supervisor faulted
 abbrev pub HasPlayed : List DeviceData → List (List ℕ) → (List ℕ → Option (List ℕ)) → SinkSeen → SinkSeen → ℕ → Type 0
 HasPlayed devices words seen w w' r = HasRun devices words seen w w' r ⊎ (HasResumed devices words seen w w' r ⊎ HasSampled words w w' r)
@@ -211,7 +224,8 @@ HasDone devices words before after w w' = HasPlayed devices words before.content
     ⊎ (HasListed devices words before.contents w w'
     ⊎ (HasBuilt devices words before.contents after.contents w w'
     ⊎ (HasSaved devices words before.contents after.contents w w'
-    ⊎ HasAudited devices words before.contents w w' 0)))
+    ⊎ (HasAudited devices words before.contents w w' 0
+    ⊎ HasDebugged devices words before.contents w w'))))
 
 -- 1: the line of the file that is refused
 pub record HasRefused (devices : List DeviceData) (words : List (List ℕ)) (seen : List ℕ → Option (List ℕ)) (w w' : SinkSeen) : Type 0 where

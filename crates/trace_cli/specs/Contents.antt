@@ -18,6 +18,7 @@ use Rattle.sample_gen.specs.Sample.{sample_script}
 use Rattle.snapshot.specs.Records.{header_at}
 use Rattle.snapshot.specs.Saved.{expected_of}
 use Rattle.snapshot.specs.Waits.{state_fault}
+use Rattle.debug_core.specs.Reading.{commands_or_fault}
 use Rattle.trace_audit.specs.Texts as trace
 use Rattle.trace_audit.specs.Verdicts.{first_cause}
 
@@ -37,7 +38,7 @@ abbrev pub fault_in : {T W : Type 0} → Result T W → Option W
 fault_in (Ok value) = None
 fault_in (Err why) = Some why
 
--- the most bytes of an image, of a script, of an application or of a source
+-- the most bytes of an image, of a script, of an application, of a source, of a saved state or of commands
 abbrev pub file_limit : ℕ
 file_limit = 2097152
 
@@ -152,6 +153,12 @@ turn_refusal bound bytes = if nat_lt bound (header_at bytes).turn then Some (at_
 unfoldable pub state_refusal : List DeviceData → Picture → ℕ → List ℕ → Option Why
 state_refusal devices image bound bytes =
     unless_long file_limit bytes (or_later (option_map at_number (state_fault (expected_of (setup_of_image image) devices) bytes)) (turn_refusal bound bytes))
+
+-- ## commands
+
+-- why a text of commands is refused, if it is (docs/FORMATS.md, Commands)
+unfoldable pub commands_refusal : List ℕ → Option Why
+commands_refusal bytes = unless_long file_limit bytes (option_map at_number (fault_in (commands_or_fault bytes)))
 
 -- the run of an image with a script and devices
 abbrev pub scenario_of : Picture → List ℕ → List DeviceData → Scenario

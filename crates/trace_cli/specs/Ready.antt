@@ -1,5 +1,5 @@
 -- A board at the start of a job's run, or the file that is not accepted.
-use Rattle.std.specs.Prelude.{◌≡◌, ◌≤◌, ℕ, List, [], Option, None, slice_index_or}
+use Rattle.std.specs.Prelude.{◌≡◌, ◌≤◌, ℕ, List, [], Option, None, Ok, slice_index_or}
 use Rattle.kernel_abi.specs.Devices.{DeviceData}
 use Rattle.image_format.specs.Picture.{Picture}
 use Rattle.image_build.specs.Built.{Built}
@@ -19,10 +19,12 @@ use Rattle.trace_audit.specs.declared.verdict.Verdict as trace
 use Rattle.trace_audit.specs.Verdicts as trace_audit
 use Rattle.command_line.specs.CommandLine.{Asked}
 use Rattle.command_line.specs.declared.job.Detail.{Detail}
+use Rattle.debug_core.specs.declared.command.Command.{Command}
+use Rattle.debug_core.specs.Reading.{commands_or_fault}
 use Rattle.trace_cli.specs.declared.file_faults.NamedFault.{NamedFault}
-use Rattle.trace_cli.specs.Contents.{image_refusal, script_refusal, state_refusal, trace_refusal, picture_of, script_of, scenario_of, sample_scenario}
+use Rattle.trace_cli.specs.Contents.{image_refusal, script_refusal, state_refusal, commands_refusal, trace_refusal, picture_of, script_of, scenario_of, sample_scenario}
 use Rattle.outside_io.specs.Seen.{FilesSeen}
-use Rattle.trace_cli.specs.Sources.{MayBe, TakesAll, files_by, IsRun, IsSave, IsResume}
+use Rattle.trace_cli.specs.Sources.{MayBe, TakesAll, files_by, IsRun, IsSave, IsResume, IsDebug}
 use Rattle.trace_cli.specs.Building.{IsNamedFaultAfter}
 
 -- an image is that which the file of this name spells
@@ -98,6 +100,21 @@ pub record IsResumable {X : Type 0} {H : X → Type 0} (shown : Shows X H) (devi
   pub stands : Stands shown scenario b state
   pub each : (s : State) → IsSpelled scenario (slice_index_or contents 2 []) s → Stands shown scenario b s
   pub turns : turns_of b ≤ n
+
+-- commands are those that the file of this name says
+pub record IsCommandsFile (seen : List ℕ → Option (List ℕ)) (name : List ℕ) (commands : List Command) : Type 0 where
+  pub bytes : List ℕ
+  pub held : MayBe seen name bytes
+  pub accepted : commands_refusal bytes ≡ None
+  pub is : commands_or_fault bytes ≡ Ok commands
+
+-- each file of the job is accepted, and the board stands for the start of the run over which these commands are to be carried out
+pub record IsDebugReady {X : Type 0} {H : X → Type 0} (shown : Shows X H) (devices : List DeviceData) (job : Asked) (seen : List ℕ → Option (List ℕ)) (commands : List Command) (b : Board X H) : Type 0 where
+  pub contents : List (List ℕ)
+  pub accepted : TakesAll (MayBe seen) devices job contents
+  pub scenario : Scenario
+  pub is : IsDebug devices job contents scenario commands
+  pub stands : Stands shown scenario b (start_of scenario)
 
 -- the board stands for the start of the run of the sample of a seed
 pub record IsSampleReady {X : Type 0} {H : X → Type 0} (shown : Shows X H) (seed : ℕ) (b : Board X H) : Type 0 where

@@ -1,5 +1,5 @@
 -- The files of a job, in the order in which they are accepted.
-use Rattle.std.specs.Prelude.{◌≡◌, ℕ, ◌+◌, List, [], ◌∷◌, ◌++◌, length, drop, take, slice_get, slice_index_or, Option, Some, None}
+use Rattle.std.specs.Prelude.{◌≡◌, ℕ, ◌+◌, List, [], ◌∷◌, ◌++◌, length, drop, take, slice_get, slice_index_or, Option, Some, None, Ok}
 use Rattle.kernel_abi.specs.Devices.{DeviceData}
 use Rattle.outside_io.specs.Outside.{WhereSeen}
 use Rattle.app_toml.specs.Apps.{AppData, TaskData}
@@ -8,10 +8,12 @@ use Rattle.image_build.specs.Built.{Built}
 use Rattle.board_model.specs.Script.{Scenario}
 use Rattle.task_table.specs.State.{State}
 use Rattle.snapshot.specs.Restored.{state_in}
-use Rattle.command_line.specs.CommandLine.{Asked, build, run, go, list, sample, migrate, audit, save, resume}
+use Rattle.command_line.specs.CommandLine.{Asked, build, run, go, list, sample, migrate, audit, save, resume, debug}
 use Rattle.command_line.specs.declared.job.Detail.{Detail}
+use Rattle.debug_core.specs.declared.command.Command.{Command}
+use Rattle.debug_core.specs.Reading.{commands_or_fault}
 use Rattle.sample_gen.specs.Sample.{sample_app, sample_sources}
-use Rattle.trace_cli.specs.Contents.{Why, file_limit, trace_limit, image_refusal, script_refusal, app_refusal, source_refusal, trace_refusal, state_refusal, picture_of, application_of, scenario_of, sample_scenario}
+use Rattle.trace_cli.specs.Contents.{Why, file_limit, trace_limit, image_refusal, script_refusal, app_refusal, source_refusal, trace_refusal, state_refusal, commands_refusal, picture_of, application_of, scenario_of, sample_scenario}
 
 -- a file, the most bytes that it may have, and why contents of it are refused
 pub record File : Type 0 where
@@ -39,6 +41,9 @@ trace_file name = record { name = name; limit = trace_limit; refusal = trace_ref
 abbrev pub state_file : List DeviceData → Picture → ℕ → List ℕ → File
 state_file devices image bound name = record { name = name; limit = file_limit; refusal = state_refusal devices image bound }
 
+abbrev pub commands_file : List ℕ → File
+commands_file name = record { name = name; limit = file_limit; refusal = commands_refusal }
+
 -- the sources of these tasks in their order, of which the first is the i-th
 abbrev pub sources_from : AppData → ℕ → List TaskData → List File
 sources_from app i [] = []
@@ -52,8 +57,8 @@ abbrev pub files_to_build : List ℕ → List ℕ → List File
 files_to_build app first = app_file app ∷ source_files (application_of first)
 
 -- The files of a job of which the first file holds these bytes: `build` takes those of its application, `go` too and then
--- its script; `run` and `save` take their image and then their script, `resume` too and then its state, `list` and `migrate` their
--- image, `sample` none, `audit` its trace. The devices are those of a run.
+-- its script; `run` and `save` take their image and then their script, `resume` too and then its state, `debug` too and then its
+-- commands, `list` and `migrate` their image, `sample` none, `audit` its trace. The devices are those of a run.
 abbrev pub files_of : List DeviceData → Asked → List ℕ → List File
 files_of devices (build app out) first = files_to_build app first
 files_of devices (run image script steps detail) first = image_file image ∷ script_file script ∷ []
@@ -64,6 +69,7 @@ files_of devices (migrate image out) first = image_file image ∷ []
 files_of devices (audit trace) first = trace_file trace ∷ []
 files_of devices (save image script out steps) first = image_file image ∷ script_file script ∷ []
 files_of devices (resume image script state steps detail) first = image_file image ∷ script_file script ∷ state_file devices (picture_of first) steps state ∷ []
+files_of devices (debug image script commands) first = image_file image ∷ script_file script ∷ commands_file commands ∷ []
 
 abbrev pub first_of : List (List ℕ) → List ℕ
 first_of contents = slice_index_or contents 0 []
@@ -137,6 +143,7 @@ IsRun devices (migrate image out) contents n d x = ⊥
 IsRun devices (audit trace) contents n d x = ⊥
 IsRun devices (save image script out steps) contents n d x = ⊥
 IsRun devices (resume image script state steps detail) contents n d x = ⊥
+IsRun devices (debug image script commands) contents n d x = ⊥
 
 -- the job is a listing of this image
 abbrev pub IsListing : Asked → List (List ℕ) → Picture → Type 0
@@ -149,6 +156,7 @@ IsListing (migrate file out) contents image = ⊥
 IsListing (audit trace) contents image = ⊥
 IsListing (save file script out steps) contents image = ⊥
 IsListing (resume file script state steps detail) contents image = ⊥
+IsListing (debug file script commands) contents image = ⊥
 
 -- the job is to build this image, or it is the one that the file spells, and to put it under this name
 abbrev pub IsBuild : Asked → List (List ℕ) → List ℕ → Picture → Type 0
@@ -161,6 +169,7 @@ IsBuild (migrate file out) contents name image = (name ≡ out) × (image ≡ pi
 IsBuild (audit trace) contents name image = ⊥
 IsBuild (save file script out steps) contents name image = ⊥
 IsBuild (resume file script state steps detail) contents name image = ⊥
+IsBuild (debug file script commands) contents name image = ⊥
 
 -- the job is the audit of this text
 abbrev pub IsAudit : Asked → List (List ℕ) → List ℕ → Type 0
@@ -173,6 +182,7 @@ IsAudit (sample seed steps) contents text = ⊥
 IsAudit (migrate image out) contents text = ⊥
 IsAudit (save image script out steps) contents text = ⊥
 IsAudit (resume image script state steps detail) contents text = ⊥
+IsAudit (debug image script commands) contents text = ⊥
 
 -- the job is a run of this scenario up to this bound, of which the notes are counted: the sample of this seed, as it is built
 pub record IsSample (job : Asked) (seed n : ℕ) (x : Scenario) : Type 0 where
@@ -196,6 +206,7 @@ IsSave devices (sample seed steps) contents name n x = ⊥
 IsSave devices (migrate image out) contents name n x = ⊥
 IsSave devices (audit trace) contents name n x = ⊥
 IsSave devices (resume image script state steps detail) contents name n x = ⊥
+IsSave devices (debug image script commands) contents name n x = ⊥
 
 -- the job is the run of this scenario up to this bound, told in this detail, from the state that the third of these contents spells
 abbrev pub IsResume : List DeviceData → Asked → List (List ℕ) → ℕ → Detail → Scenario → State → Type 0
@@ -209,3 +220,18 @@ IsResume devices (sample seed steps) contents n d x s = ⊥
 IsResume devices (migrate image out) contents n d x s = ⊥
 IsResume devices (audit trace) contents n d x s = ⊥
 IsResume devices (save image script out steps) contents n d x s = ⊥
+IsResume devices (debug image script commands) contents n d x s = ⊥
+
+-- the job is to carry out these commands over the run of this scenario: those that the third of these contents says
+abbrev pub IsDebug : List DeviceData → Asked → List (List ℕ) → Scenario → List Command → Type 0
+IsDebug devices (debug image script name) contents x commands =
+    (x ≡ scenario_in devices contents) × (commands_or_fault (slice_index_or contents 2 []) ≡ Ok commands)
+IsDebug devices (build app out) contents x commands = ⊥
+IsDebug devices (run image script steps detail) contents x commands = ⊥
+IsDebug devices (go app script steps detail) contents x commands = ⊥
+IsDebug devices (list image) contents x commands = ⊥
+IsDebug devices (sample seed steps) contents x commands = ⊥
+IsDebug devices (migrate image out) contents x commands = ⊥
+IsDebug devices (audit trace) contents x commands = ⊥
+IsDebug devices (save image script out steps) contents x commands = ⊥
+IsDebug devices (resume image script state steps detail) contents x commands = ⊥

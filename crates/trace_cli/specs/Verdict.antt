@@ -17,6 +17,8 @@ use Rattle.snapshot.specs.Saved.{spelling as spelling_of_state}
 use Rattle.board_run.specs.Text.{trace_text}
 use Rattle.board_run.specs.Counts.{summary_text}
 use Rattle.board_run.specs.MemoryText.{memory_text}
+use Rattle.debug_core.specs.declared.command.Command.{Command}
+use Rattle.debug_core.specs.Answers.{text as answers_text}
 use Rattle.trace_audit.specs.declared.verdict.Verdict as trace
 use Rattle.trace_audit.specs.declared.verdict.Verdict.TheVariants.{Yes, No}
 use Rattle.trace_audit.specs.Verdicts as trace_audit
@@ -24,7 +26,7 @@ use Rattle.command_line.specs.CommandLine.{Asked, is_accepted}
 use Rattle.command_line.specs.declared.job.Detail.{Detail}
 use Rattle.trace_cli.specs.Contents.{Why}
 use Rattle.trace_cli.specs.Words.{job_in}
-use Rattle.trace_cli.specs.Sources.{File, Are, Reaches, TakesAll, IsRun, IsListing, IsBuild, IsSample, IsAudit, IsSave, IsResume}
+use Rattle.trace_cli.specs.Sources.{File, Are, Reaches, TakesAll, IsRun, IsListing, IsBuild, IsSample, IsAudit, IsSave, IsResume, IsDebug}
 
 pub record Verdict : Type 0 where
   pub status : ℕ
@@ -37,7 +39,7 @@ abbrev pub line_alone : ℕ → List ℕ → Verdict
 line_alone status line = record { status = status; text = line; put = None }
 
 abbrev pub usage_line : List ℕ
-usage_line = codes "usage: hubris build, run, go, list, sample, migrate, audit, save or resume\n"
+usage_line = codes "usage: hubris build, run, go, list, sample, migrate, audit, save, resume or debug\n"
 
 -- `refused <name> <cause> <place>`
 unfoldable pub refused_front : List ℕ → ℕ → List ℕ
@@ -147,6 +149,10 @@ abbrev pub audited : trace.Verdict → Verdict
 audited (Yes calls left) = line_alone 0 (yes_line calls left)
 audited (No line) = line_alone 7 (no_line line)
 
+-- commands were carried out over the run of a scenario: the answer to each of them
+abbrev pub debugged : Scenario → List Command → Verdict
+debugged x commands = line_alone 0 (answers_text x commands)
+
 -- ## what comes of accepted files with these contents, where a run has these devices
 
 pub data Does (devices : List DeviceData) (job : Asked) (contents : List (List ℕ)) (v : Verdict) : Type 0 where
@@ -156,6 +162,7 @@ pub data Does (devices : List DeviceData) (job : Asked) (contents : List (List �
   samples : (seed n : ℕ) (x : Scenario) → IsSample job seed n x → v ≡ sampled n x → Does devices job contents v
   saves : (out : List ℕ) (n : ℕ) (x : Scenario) → IsSave devices job contents out n x → v ≡ saved out n x → Does devices job contents v
   resumes : (n : ℕ) (detail : Detail) (x : Scenario) (s : State) → IsResume devices job contents n detail x s → v ≡ resumed n detail x s → Does devices job contents v
+  debugs : (x : Scenario) (commands : List Command) → IsDebug devices job contents x commands → v ≡ debugged x commands → Does devices job contents v
   audits : (text : List ℕ) (found : trace.Verdict) → IsAudit job contents text → trace_audit.IsVerdict text found → v ≡ audited found → Does devices job contents v
 
 -- ## the verdict on words and contents, where they are seen as far as they count and a run has these devices

@@ -15,6 +15,7 @@ ghost use Rattle.trace_cli.specs.Answer.{Tells, AnswersJob, Answers, Answered, I
 
 use crate::auditing::{audit_under, tell_audit};
 use crate::building::built_image;
+use crate::debugging::debug_files;
 use crate::file_faults::NamedFault;
 use crate::preparing::{prepare_go, prepare_run, read_image};
 use crate::resuming::resume_files;
@@ -239,6 +240,13 @@ fn answer<F: Files, S: Sink>(
         ) => resume_files(
             alloc, image, script, state, steps, detail, files, out, devices,
         ),
+        Ok(
+            Job::Debug {
+                image,
+                script,
+                commands,
+            },
+        ) => debug_files(alloc, image, script, commands, files, out, devices),
         Err(Refusal::NotAccepted) => tell_usage(out),
         Err(Refusal::Memory) => 5,
     }
@@ -246,21 +254,22 @@ fn answer<F: Files, S: Sink>(
 
 /// All that the program does. The words, the program's name first, and the files are handed in, and
 /// the lines go to the sink, one push each; the answer is the program's exit status. The devices are those of a run of `run`,
-/// `go`, `save` or `resume`, as they are handed in: at most eight, to which nothing has come as yet, each at a place of its own.
+/// `go`, `save`, `resume` or `debug`, as they are handed in: at most eight, to which nothing has come as yet, each at a place of its own.
 /// `sample` runs without a device.
 ///
 /// - 0: the trace of the run (docs/FORMATS.md, Trace), with `--all` each of its instructions, with `--mem` its last
 ///   memory, or the listing of the image was written; or the image that was built, or migrated, is under OUT, and its line was written;
 ///   or the last state of the run (docs/FORMATS.md, Saved state) is under OUT, and its line was written; or the sample was run, and its
 ///   end and the numbers of its notes were written; or the trace holds together (docs/FORMATS.md, Audit), and `yes <calls> <left>`
-///   was written: so many calls were offered in it, and so many of them no line closes.
+///   was written: so many calls were offered in it, and so many of them no line closes; or the commands were carried out
+///   (docs/FORMATS.md, Commands), and the answer to each was written.
 /// - 1: a file is refused, and `refused <name> <cause> <place>` was written.
 /// - 2: the words are not accepted (docs/FORMATS.md, Command line), and the usage line was written.
 /// - 3: a file cannot be read, and `cannot read <name>` was written.
 /// - 4: the output failed. What was written is the beginning of the same text, and under OUT is the image, or the state; or the
 ///   put failed, nothing was written, and under OUT are the old contents or the beginning of the image, or of the state.
 /// - 5: memory is short, and nothing was written or put.
-/// - 6: as 0, and the run ended because the supervisor faulted; a run that is only saved has 0 then too.
+/// - 6: as 0, and the run ended because the supervisor faulted; a run that is only saved, or gone over by commands, has 0 then too.
 /// - 7: a trace does not hold together, and `no <line>` was written: its first line, from 1 on, that does not follow.
 pub fn hubris_main_with<F: Files, S: Sink>(
     alloc: Global,
@@ -273,7 +282,7 @@ pub fn hubris_main_with<F: Files, S: Sink>(
 
     // Where the words and the seen contents give a verdict (of accepted words and files: the trace of
     // their run, the listing, the image that is built or migrated, the state that is saved, the trace from a saved state, the two lines of
-    // a sample, or what an audit found), its file was put, its whole text was pushed under its status; or the sink's count of faults rose, the status is 4, and a front of the text was
+    // a sample, what an audit found, or the answers to commands), its file was put, its whole text was pushed under its status; or the sink's count of faults rose, the status is 4, and a front of the text was
     // pushed; or the count of failed puts rose, the status is 4, and nothing was pushed; or memory is
     // short, the status is 5, and nothing was pushed or put; or the count of failed reads rose, and the
     // same holds of the line of a file that cannot be read.
@@ -314,7 +323,7 @@ pub fn hubris_main<F: Files, S: Sink>(
 ) -> u8
     // Where the words and the seen contents give a verdict (of accepted words and files: the trace of
     // their run, the listing, the image that is built or migrated, the state that is saved, the trace from a saved state, the two lines of
-    // a sample, or what an audit found), its file was put, its whole text was pushed under its status; or the sink's count of faults rose, the status is 4, and a front of the text was
+    // a sample, what an audit found, or the answers to commands), its file was put, its whole text was pushed under its status; or the sink's count of faults rose, the status is 4, and a front of the text was
     // pushed; or the count of failed puts rose, the status is 4, and nothing was pushed; or memory is
     // short, the status is 5, and nothing was pushed or put; or the count of failed reads rose, and the
     // same holds of the line of a file that cannot be read.

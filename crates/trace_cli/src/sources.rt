@@ -15,7 +15,7 @@ use outside_io::{Files, ReadAll, read_all};
 use run_script::{Script, ScriptFault};
 use std::alloc::Global;
 
-/// The most bytes of an image, of a script, of an application or of a source.
+/// The most bytes of an image, of a script, of an application, of a source, of a saved state or of commands.
 pub const FILE_LIMIT: u32 = 2_097_152;
 
 /// The contents under a name, of at most `limit` bytes.

@@ -55,6 +55,16 @@ returns-in-Ok-Resume-clause-each g c =
     let job = rw c.in-Ok-Resume.field-0-is at c.in-Ok-Resume.ensures.job in
     each_of_words (texts_of c.args.words.now) _ _ _ _ _ _ c.in-Ok-Resume.ensures.accepted job c.resume_files.ensures.each
 
+pub returns-in-Ok-Debug-clause-answer : goal.returns-in-Ok-Debug-clause-answer
+returns-in-Ok-Debug-clause-answer g c =
+    let job = rw c.in-Ok-Debug.field-0-is at c.in-Ok-Debug.ensures.job in
+    by_job _ _ _ _ _ _ _ c.in-Ok-Debug.ensures.accepted job c.debug_files.ensures.answer
+
+pub returns-in-Ok-Debug-clause-each : goal.returns-in-Ok-Debug-clause-each
+returns-in-Ok-Debug-clause-each g c =
+    let job = rw c.in-Ok-Debug.field-0-is at c.in-Ok-Debug.ensures.job in
+    each_of_words (texts_of c.args.words.now) _ _ _ _ _ _ c.in-Ok-Debug.ensures.accepted job (none_each _ _ _ _ _ _ (λ devices cs n d x s is. is))
+
 pub returns-in-Ok-Build-clause-each : goal.returns-in-Ok-Build-clause-each
 returns-in-Ok-Build-clause-each g c =
     let job = rw c.in-Ok-Build.field-0-is at c.in-Ok-Build.ensures.job in

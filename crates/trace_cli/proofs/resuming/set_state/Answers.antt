@@ -1,4 +1,4 @@
-use Rattle.std.proofs.Common.{ℕ, List, map, refl, sym, subst}
+use Rattle.std.proofs.Common.{ℕ, List, refl, sym, subst}
 use Rattle.image_format.specs.Images.{picture}
 use Rattle.trace_cli.specs.Sources.{state_file, MayBe}
 use Rattle.trace_cli.proofs.Faulting.{cannot_take, refused_in, long_state}
