@@ -59,9 +59,9 @@ static bool read_image(const char *path) {
     return board.ram;
 }
 
-enum { TICK = LINES };
+enum event_kind { TICK, IRQ, IN };
 static const u64 NEVER = UINT64_MAX;
-static struct event { u32 turn, line; } events[65536];
+static struct event { enum event_kind kind; u32 turn, of, byte; } events[65536]; /* of: a line, a device */
 static u32 event_count, next_event, every;
 static u64 next_tick = UINT64_MAX, due; /* the turns of the next tick of `every` and of the next event of all */
 
@@ -70,16 +70,23 @@ static void plan(void) {
     if (next_event < event_count && events[next_event].turn < due) due = events[next_event].turn;
 }
 
+static bool read_event(struct event *e, const char *text) {
+    if (sscanf(text, " at %u irq %u", &e->turn, &e->of) == 2) e->kind = IRQ;
+    else if (sscanf(text, " at %u in %u %u", &e->turn, &e->of, &e->byte) == 3) e->kind = IN;
+    else if (sscanf(text, " at %u tick", &e->turn) == 1) e->kind = TICK;
+    else return false;
+    return true;
+}
+
 static bool read_script(const char *path) {
     FILE *file = fopen(path, "r");
     if (!file) return false;
     char *text = 0;
     size_t room = 0;
     while (getline(&text, &room, file) >= 0) {
-        char kind[5];
-        u32 turn, line = TICK;
+        struct event *e = &events[event_count];
         if (sscanf(text, " every %u", &every) == 1) next_tick = every;
-        else if (sscanf(text, " at %u %4s %u", &turn, kind, &line) >= 2) events[event_count++] = (struct event){turn, line};
+        else if (read_event(e, text)) event_count++;
     }
     free(text);
     fclose(file);
@@ -87,15 +94,19 @@ static bool read_script(const char *path) {
     return true;
 }
 
+static void play_event(const struct event *e) {
+    switch (e->kind) {
+        case TICK: tick(); break;
+        case IRQ: interrupt(e->of); break;
+        case IN: feed(e->of, e->byte); break;
+    }
+}
 static void play_events(void) {
     if (next_tick == board.turn) {
         tick();
         next_tick += every;
     }
-    for (; next_event < event_count && events[next_event].turn == board.turn; next_event++) {
-        if (events[next_event].line == TICK) tick();
-        else interrupt(events[next_event].line);
-    }
+    for (; next_event < event_count && events[next_event].turn == board.turn; next_event++) play_event(&events[next_event]);
     plan();
 }
 

@@ -13,7 +13,7 @@ enum { READ = 1, WRITE = 2, EXECUTE = 4, DEVICE = 8 };
 enum { SP = 13, LR = 14, PC = 15 };
 enum fault { ILLEGAL = 1, ILLEGAL_TEXT, ACCESS, UNALIGNED, STATE, BREAKPOINT, USAGE, PANIC, INJECTED, REPLY };
 enum usage { BAD_CALL = 1, BAD_TASK_INDEX, INVALID_SLICE, BAD_KERNEL_MESSAGE, NOT_SUPERVISOR, NO_IRQ, OFFSET_OUT_OF_RANGE, LEASE_OUT_OF_RANGE, REPLY_TOO_BIG, BAD_REASON };
-enum outcome { DONE, CALLS, WAITS, FAULTS };
+enum outcome { DONE, GIVES, CALLS, WAITS, FAULTS }; /* GIVES: done, and a device gives out a byte */
 
 struct region { u32 base, size, rights; };
 struct range { u32 base, length; };
@@ -61,7 +61,7 @@ static inline u32 bl_target(u32 at, u32 h, u32 h2) {
     return at + 4 + (u32)((int32_t)(offset << 7) >> 7);
 }
 
-/* Where n bytes stand; null outside the memory. */
+/* Where n bytes stand; null outside the memory, where devices are. */
 static inline u8 *place(u32 a, u32 n) {
     if (a >= 0x20000000u) return (u64)(a - 0x20000000u) + n <= board.ram_size ? board.ram + (a - 0x20000000u) : 0;
     if (a >= 0x08000000u) return (u64)(a - 0x08000000u) + n <= board.flash_size ? board.flash + (a - 0x08000000u) : 0;
@@ -77,10 +77,19 @@ void interrupt(u32 line);
 void call(struct task *t);
 void fault(struct task *t);
 
+/* devices.c: a load looks at what is behind an address, and takes it where the instruction comes to its end */
+u32 device_look(u32 a, u32 n);
+void device_take(u32 a);
+enum outcome device_store(u32 a, u32 value);
+void tell_given(void); /* the byte that a device gave out last */
+void feed(u32 device, u32 byte);
+
 /* text.c */
 enum { ANY = TASKS, KERNEL };
 void tell_tick(void);
 void tell_irq(u32 line, const char *handled);
+void tell_in(u32 device, u32 byte, const char *fed);
+void tell_out(u32 device, u32 byte);
 void tell_post(const struct task *t, u32 bits);
 void tell_call(const struct task *t);
 void tell_listen(const struct task *t);

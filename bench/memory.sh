@@ -14,6 +14,7 @@ out=bench/out/memory
 mkdir -p $out
 gcc -O2 -Wall -shared -fPIC -o $out/refuse.so bench/refuse.c
 "$program" save crates/hubris/data/a.img crates/hubris/data/e.txt $out/state --steps 2 >$out/text
+printf '%s\n' 'break 08000002' 'go 3' 'back 1' 'regs 0' 'mem 08000000 4' > $out/commands
 bad=0
 while read -r words; do
     rm -f $out/app.img
@@ -44,6 +45,7 @@ migrate crates/hubris/data/a.img $out/app.img
 audit examples/client-server/expected-mem.txt
 save crates/hubris/data/a.img crates/hubris/data/e.txt $out/app.img --steps 3
 resume crates/hubris/data/a.img crates/hubris/data/e.txt $out/state --steps 3
+debug crates/hubris/data/a.img crates/hubris/data/e.txt $out/commands
 WORDS
 rm -rf $out
 [ $bad = 0 ]

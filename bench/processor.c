@@ -8,19 +8,27 @@ static inline bool may(const struct task *t, u32 a, u32 n, u32 right) {
         if (g->base <= a && (u64)(a - g->base) + n <= g->size && (g->rights & right)) return true;
     return false;
 }
-/* Each size by a type of its own, so that it is one load of the host. A device reads as zero and takes what is stored. */
+/* Each size by a type of its own, so that it is one load of the host. */
 static inline u32 peek(u32 a, u32 n) {
     u8 *p = place(a, n);
     uint16_t half;
     u32 word;
-    if (!p) return 0;
+    if (!p) return device_look(a, n);
     if (n == 1) return *p;
     if (n == 2) return memcpy(&half, p, 2), half;
     return memcpy(&word, p, 4), word;
 }
-static inline void poke(u32 a, u32 n, u32 value) {
+static inline enum outcome poke(u32 a, u32 n, u32 value) {
     u8 *p = place(a, n);
-    if (p) memcpy(p, &value, n);
+    if (!p) return device_store(a, value);
+    memcpy(p, &value, n);
+    return DONE;
+}
+static inline void take(u32 a) {
+    if (a >= 0x40000000u) device_take(a);
+}
+static void take_words(u32 a, u32 count) {
+    for (u32 k = 0; k < count; k++) take(a + 4 * k);
 }
 static inline enum outcome check(struct task *t, u32 a, u32 n, u32 store) {
     if (a & (n - 1)) return trap(t, UNALIGNED, a, store);
@@ -35,6 +43,7 @@ static enum outcome check_words(struct task *t, u32 a, u32 count, u32 store) {
 static inline enum outcome load(struct task *t, u32 a, u32 n, u32 *value) {
     if (check(t, a, n, 0)) return FAULTS;
     *value = peek(a, n);
+    take(a);
     return DONE;
 }
 static inline enum outcome load_signed(struct task *t, u32 a, u32 n, u32 *value) {
@@ -44,18 +53,18 @@ static inline enum outcome load_signed(struct task *t, u32 a, u32 n, u32 *value)
 }
 static inline enum outcome store(struct task *t, u32 a, u32 n, u32 value) {
     if (check(t, a, n, 1)) return FAULTS;
-    poke(a, n, value);
-    return DONE;
+    return poke(a, n, value);
 }
-static enum outcome load_list(struct task *t, u32 a, u32 list) {
+/* Its loads look at the devices as they are before it. */
+static void load_list(struct task *t, u32 a, u32 list) {
     for (u32 k = 0; k < 8; k++)
         if (list >> k & 1) t->r[k] = peek(a, 4), a += 4;
-    return DONE;
 }
-static enum outcome store_list(struct task *t, u32 a, u32 list) {
+static enum outcome store_list(const struct task *t, u32 a, u32 list) {
+    enum outcome outcome = DONE;
     for (u32 k = 0; k < 15; k++)
-        if (list >> k & 1) poke(a, 4, t->r[k]), a += 4;
-    return DONE;
+        if (list >> k & 1) outcome |= poke(a, 4, t->r[k]), a += 4;
+    return outcome;
 }
 
 /* Each of these sets the flags by its result. */
@@ -199,17 +208,20 @@ static enum outcome pop(struct task *t, u32 pc, u32 h) {
         t->r[PC] = target - 1;
     }
     t->r[SP] = a + 4 * count;
-    return load_list(t, a, h & 255);
+    load_list(t, a, h & 255);
+    take_words(a, count);
+    return DONE;
 }
 static enum outcome several(struct task *t, u32 pc, u32 h) {
     u32 n = h >> 8 & 7, list = h & 255, a = t->r[n], count = ones(list);
     bool named = list >> n & 1, loads = h & 0x800;
     if (!list || (!loads && named && list & ((1u << n) - 1))) return illegal(t, pc);
     if (check_words(t, a, count, !loads)) return FAULTS;
-    if (loads) load_list(t, a, list);
-    else store_list(t, a, list);
+    enum outcome outcome = DONE;
+    if (loads) load_list(t, a, list), take_words(a, count);
+    else outcome = store_list(t, a, list);
     if (!loads || !named) t->r[n] = a + 4 * count;
-    return DONE;
+    return outcome;
 }
 static enum outcome miscellaneous(struct task *t, u32 pc, u32 h) {
     switch (h >> 8 & 15) {
@@ -300,20 +312,24 @@ static inline enum outcome step(struct task *t, bool all) {
     if (all) tell_insn(t, pc, h, h2);
     t->r[PC] = pc + 2;
     enum outcome outcome = wide ? execute_wide(t, pc, h, h2) : execute(t, pc, h);
-    if (outcome != DONE) t->r[PC] = pc;
+    if (outcome > GIVES) t->r[PC] = pc;
     return outcome;
 }
 
 enum outcome run_task(struct task *t, u32 until) {
     bool all = board.all;
     u32 turn = board.turn;
-    enum outcome outcome = DONE;
-    while (turn < until && (outcome = step(t, all)) == DONE) {
-        turn++;
-        if (!all) continue;
-        tell_registers(t);
-        board.turn = turn;
+    enum outcome outcome;
+    for (; turn < until; turn++) {
+        if (all) board.turn = turn;
+        outcome = step(t, all);
+        if (outcome != DONE) {
+            board.turn = turn;
+            if (outcome != GIVES) return outcome;
+            tell_given();
+        }
+        if (all) tell_registers(t);
     }
     board.turn = turn;
-    return outcome;
+    return DONE;
 }

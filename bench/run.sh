@@ -1,7 +1,8 @@
 #!/usr/bin/env bash
 # Speed of `hubris run` against plain C in the same run: turns per second on the two-instruction image at 10^6, 10^7 and
 # 10^8 steps with peak memory, against loop.c; and against interpreter.c, which writes the same lines: turns per second of
-# images compiled by gcc, of the 32 and the 512 tasks of timers/, of the clients and servers of messages/, 21 and 512 tasks, and leases/, of shared/, a task a third of whose accesses lie in a region that it uses, and of the large
+# images compiled by gcc, of the 32 and the 512 tasks of timers/, of the clients and servers of messages/, 21 and 512 tasks, and leases/, of shared/, a task a third of whose accesses lie in a region that it uses,
+# of polls/, a driver that asks a port every third turn, and of the large
 # sample of seed 1 (sample/: its image and its script; idle.img is a task that waits), and bytes per
 # second of two of those images and of messages/ with --all. crc32 and
 # bytecode end in `b .` after their work; here they begin it anew instead. The others (programs/) work for ever.
@@ -17,35 +18,27 @@ program=${program:-$(realpath -m ../crates/hubris/out/hubris)}
 [ -x "$program" ] || { echo "build the program first: (cd crates/hubris && rt run)"; exit 1; }
 mkdir -p out
 gcc -O2 -Wall -o out/loop loop.c
-gcc -O2 -Wall -o out/interpreter interpreter.c kernel.c processor.c text.c
+gcc -O2 -Wall -o out/interpreter interpreter.c kernel.c processor.c text.c devices.c
 gcc -O2 -Wall -o out/measure measure.c
 data=../crates/hubris/data
-images=../crates/stored_runs/data
 : > out/empty.txt
 # each client of messages/ has a server of its own number
 for k in 1 2 3 4; do sed "s/task_server/&$k/" messages/client.s > "out/client$k.s"; done
 made=
 cp shared/app.toml out/shared.toml
+cp polls/app.toml out/polls.toml
+awk -f polls/driver.awk > out/driver.s
+awk -f polls/script.awk > out/polls.txt
 for application in timers messages leases; do
     awk -f "$application/application.awk" > "out/$application.toml"
     made="$made $application"
 done
 awk -v tasks=512 -f timers/application.awk > out/timers512.toml
 awk -v clients=507 -f messages/application.awk > out/messages512.toml
-for application in $made shared timers512 messages512; do
+for application in $made shared polls timers512 messages512; do
     said=$(cd .. && "$program" build "bench/out/$application.toml" "bench/out/$application.img") || { echo "$application not built: $said"; exit 1; }
 done
-# an image compiled by gcc whose last instruction, `b .`, is a branch to its second one; its start and its end no
-# longer take stack, of which each round would take more
-endless() {
-    local code=56
-    cp "$images/$1.img" "out/$1.img"
-    patch() { printf "$2" | dd of="$1" bs=1 seek="$3" conv=notrunc status=none; }
-    patch "out/$1.img" '\000\277' $((code + 6))
-    patch "out/$1.img" '\000\277' $((code + 96))
-    patch "out/$1.img" '\314\347' $((code + 102))
-}
-for image in crc32 bytecode; do endless "$image"; done
+for image in crc32 bytecode; do ./endless.sh "$image" > "out/$image.img"; done
 for image in sha256 quicksort softfloat; do cp "programs/$image.img" out/; done
 compiled="crc32 sha256 quicksort bytecode softfloat"
 # seconds and peak KiB of a command, the best of three
@@ -79,6 +72,9 @@ same out/leases.img out/empty.txt 100000
 same out/leases.img out/empty.txt 20000 --all
 same out/shared.img out/empty.txt 100000
 same out/shared.img out/empty.txt 20000 --all
+same out/polls.img out/polls.txt 300000
+same out/polls.img out/polls.txt 20000 --all
+same out/polls.img out/empty.txt 100000 --all
 same out/timers512.img timers/script.txt 100000
 same out/messages512.img out/empty.txt 100000
 same sample/sample.img sample/script.txt 200000
@@ -100,6 +96,7 @@ for steps in 1000000 10000000; do play "16 clients, 4 servers" out/messages.img 
 play "16 clients, 4 servers, --all" out/messages.img out/empty.txt 1000000 --all
 for steps in 1000000 10000000; do play "8 lenders, 1 server" out/leases.img out/empty.txt "$steps"; done
 for steps in 10000000 100000000; do play "shared memory" out/shared.img out/empty.txt "$steps"; done
+for steps in 10000000 100000000; do play "a driver that polls" out/polls.img out/empty.txt "$steps"; done
 play "512 tasks with timers" out/timers512.img timers/script.txt 10000000
 play "507 clients, 4 servers" out/messages512.img out/empty.txt 10000000
 for steps in 1000000 10000000; do play "large sample" sample/sample.img sample/script.txt "$steps"; done
@@ -129,6 +126,7 @@ instructions() {
 for image in $compiled; do instructions "$image" 66 "out/$image.img" out/empty.txt; done
 instructions "two instructions" 26 "$data/a.img" out/empty.txt
 instructions "shared memory" 70 out/shared.img out/empty.txt
+instructions "a driver that polls" 230 out/polls.img out/empty.txt
 instructions "32 tasks with timers" 365 out/timers.img timers/script.txt
 instructions "16 clients, 4 servers" 250 out/messages.img out/empty.txt
 instructions "8 lenders, 1 server" 260 out/leases.img out/empty.txt

@@ -168,6 +168,11 @@ static void end(char *p) {
 
 void tell_tick(void) { end(number(begin(" tick "), board.now)); }
 void tell_irq(u32 line, const char *handled) { end(words(words(number(begin(" irq "), line), " "), handled)); }
+static char *of_device(const char *kind, u32 device, u32 byte) {
+    return hex(words(number(begin(kind), device), " "), byte, 2);
+}
+void tell_in(u32 device, u32 byte, const char *fed) { end(words(words(of_device(" in ", device, byte), " "), fed)); }
+void tell_out(u32 device, u32 byte) { end(of_device(" out ", device, byte)); }
 void tell_post(const struct task *t, u32 bits) {
     end(hex_words(hex_words(of_task(" post ", t), &bits, 1), &t->posted, 1));
 }

@@ -8,7 +8,7 @@ program=crates/hubris/out/hubris
 made=$(mktemp -d)
 trap 'rm -r "$made"' EXIT
 same() { cmp -s "$1" "$2" || { echo "$3: differs from $2"; exit 1; }; echo "$3: as expected"; }
-for example in one-task client-server blinker driver restart timers watch uart; do
+for example in one-task client-server blinker driver restart timers watch uart debugger; do
     "$program" build "examples/$example/app.toml" "$made/$example.img"
     "$program" list "$made/$example.img" > "$made/listing.txt"
     same "$made/listing.txt" "examples/$example/listing.txt" "$example, listing"
@@ -35,7 +35,7 @@ same "$made/mem.txt" "$light/expected-mem.txt" "blinker, go with its memory"
 grep -v -e ' insn ' -e ' low ' -e ' high ' -e ' idle$' "$made/all.txt" > "$made/calls.txt"
 same "$made/calls.txt" "$light/expected.txt" "blinker, go without what --all tells besides"
 # the folder, its script and how many turns
-for run in "driver script.txt 500" "restart empty.txt 300" "timers script.txt 500" "watch script.txt 500" "uart script.txt 500"; do
+for run in "driver script.txt 500" "restart empty.txt 300" "timers script.txt 500" "watch script.txt 500" "uart script.txt 500" "debugger script.txt 450"; do
     read -r example script steps <<< "$run"
     at=examples/$example
     "$program" go "$at/app.toml" "$at/$script" --steps "$steps" > "$made/go.txt"
@@ -43,8 +43,11 @@ for run in "driver script.txt 500" "restart empty.txt 300" "timers script.txt 50
     "$program" go "$at/app.toml" "$at/$script" --steps "$steps" --mem > "$made/mem.txt"
     same "$made/mem.txt" "$at/expected-mem.txt" "$example, go with its memory"
 done
+at=examples/debugger
+"$program" debug "$made/debugger.img" "$at/script.txt" "$at/commands.txt" > "$made/answers.txt"
+same "$made/answers.txt" "$at/answers.txt" "debugger, back from its fault"
 # each run holds together, its memory behind it too; a borrow of a call that nobody took does not
-for example in one-task client-server blinker driver restart timers watch uart; do
+for example in one-task client-server blinker driver restart timers watch uart debugger; do
     for text in expected expected-mem; do
         "$program" audit "examples/$example/$text.txt" > "$made/audit.txt"
         grep -q '^yes ' "$made/audit.txt" || { echo "$example, audit of $text: $(cat "$made/audit.txt")"; exit 1; }
