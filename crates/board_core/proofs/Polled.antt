@@ -10,11 +10,12 @@ use Rattle.thumb_exec.specs.declared.cpu.Outcome.TheVariants as outcome
 use Rattle.thumb_exec.specs.Effect.{Effect, Next, Syscall, Trap, Store, Move, Puts, Takes, Moves, Acts, effect}
 use Rattle.thumb_exec.specs.declared.fetch.Fetched.{Fetched}
 use Rattle.thumb_exec.specs.Fetch.{fetched, executed, step_effect}
-use Rattle.thumb_step.specs.Windows.{View, AreInside, IsInside, IsApart, Keeps, Glides, IsAtSyscall, is_at_syscall, view_of}
+use Rattle.thumb_step.specs.Windows.{View, AreInside, IsInside, IsApart, Keeps, Glides, view_of}
 use Rattle.thumb_step.proofs.Gliding.{kept, kept_on, inside_again}
 use Rattle.board_model.specs.Turn.{is_device}
 use Rattle.board_core.specs.Data.{Shows, data_of}
 use Rattle.board_core.specs.Sights.{Sight, refused_at, held_at, moved_at, GoesOnBeside, Polls}
+use Rattle.board_core.specs.Gliding.{TellsCall}
 use Rattle.board_core.specs.Polling.{sight_of, cpu_in, IsPut, IsTaken}
 use Rattle.board_core.specs.declared.poller.Poller.{Poller}
 
@@ -143,22 +144,21 @@ pub record HaveBeen {X : Type 0} {H : X → Type 0} (shown : Shows X H) (p : Pol
   pub fixed : Keeps (view_of p.glider.runner.window) (view_of q.glider.runner.window)
   pub ports : q.ports ≡ p.ports
   pub apart : IsApart (view_of q.glider.runner.window)
-  pub short : q.glider.at_syscall ≡ true → made < most
-  pub calls : q.glider.at_syscall ≡ true → IsAtSyscall (view_of q.glider.runner.window) (cpu_in q)
-  pub told : made < most → q.glider.at_syscall ≡ is_at_syscall (view_of q.glider.runner.window) (cpu_in q)
+  pub tells : TellsCall most made (view_of p.glider.runner.window) (view_of q.glider.runner.window) (cpu_in q) q.glider.at_syscall
 
 module _ {X : Type 0} {H : X → Type 0} (shown : Shows X H) where
   pub been_on : (p q r : Poller X H) (most made more : ℕ) → HaveBeen shown p most made q → more ≤ most - made → made < most → 0 < more →
       Polls (sight_of shown q) (cpu_in q) more (sight_of shown r) (cpu_in r) → Keeps (view_of q.glider.runner.window) (view_of r.glider.runner.window) → r.ports ≡ q.ports →
-      (r.glider.at_syscall ≡ true → more < most - made) → (r.glider.at_syscall ≡ true → IsAtSyscall (view_of r.glider.runner.window) (cpu_in r)) →
-      (more < most - made → r.glider.at_syscall ≡ is_at_syscall (view_of r.glider.runner.window) (cpu_in r)) → HaveBeen shown p most (made + more) r
-  been_on p q r most made more h within less some polls keeps ports short calls told = record {
+      TellsCall (most - made) more (view_of q.glider.runner.window) (view_of r.glider.runner.window) (cpu_in r) r.glider.at_syscall → HaveBeen shown p most (made + more) r
+  been_on p q r most made more h within less some polls keeps ports tells = record {
     polls = polls_more made more (sight_of shown p) (sight_of shown q) (sight_of shown r) (cpu_in p) (cpu_in q) (cpu_in r) h.polls polls;
     within = omega (arith, within, less);
     fixed = kept_on (view_of p.glider.runner.window) (view_of q.glider.runner.window) (view_of r.glider.runner.window) h.fixed keeps;
     ports = ports ∙ h.ports;
     apart = apart_on (view_of q.glider.runner.window) (view_of r.glider.runner.window) keeps h.apart;
-    short = λ e. let lt = short e in omega (arith, lt, less);
-    calls = calls;
-    told = λ lt. told (omega (arith, lt, less));
+    tells = record {
+      short = λ e. let lt = tells.short e in omega (arith, lt, less);
+      calling = tells.calling;
+      told = λ apart lt. tells.told h.apart (omega (arith, lt, less));
+    };
   }

@@ -17,7 +17,7 @@ use Rattle.kernel_abi.specs.Devices.{DeviceData}
 use Rattle.thumb_exec.specs.Effect.{Effect, Next, Syscall, Trap, Halts}
 use Rattle.thumb_exec.specs.Fetch.{WidensFetch, fetched, step_effect}
 use Rattle.thumb_insn.specs.declared.Insn.TheVariants.{Svc}
-use Rattle.thumb_step.specs.Windows.{View, given, Keeps, IsApart, IsAtSyscall, is_at_syscall, refused_by, held_by}
+use Rattle.thumb_step.specs.Windows.{View, given, Keeps, IsApart, is_at_syscall, refused_by, held_by}
 use Rattle.thumb_step.proofs.Widening.{fetched_wider, step_wider}
 use Rattle.thumb_step.proofs.Gliding.{fetched_from, in_stretch}
 use Rattle.task_table.specs.State.{Setup, State, Task, Turn}
@@ -55,7 +55,7 @@ use Rattle.board_core.specs.declared.machine.Machine.{Machine}
 use Rattle.board_core.specs.declared.reach.Reach.{Reach}
 use Rattle.board_core.specs.Machine.{IsLoaded, HoldsBy, HasContext, MachineHolds, MachineStands, with_cpu}
 use Rattle.board_core.specs.declared.glider.Glider.{Glider}
-use Rattle.board_core.specs.Gliding.{lent_view, HasWorked, IsGlided, HasGlided}
+use Rattle.board_core.specs.Gliding.{lent_view, TellsCall, HasWorked, IsGlided, HasGlided}
 use Rattle.board_core.specs.declared.board.Board.{Board}
 use Rattle.board_core.specs.Ports.{AllPorts}
 use Rattle.board_core.specs.Stands.{Stands, turns_of}
@@ -345,9 +345,7 @@ context_devices shown g m c t h = h.holds.devices ∙ sym (rest_of (with_current
 pub record IsWork (g : Setup) (c : ℕ) (before left : View) (devices ds : List DeviceData) (from to : Cpu) (most made : ℕ) (calls : Bool) : Type 0 where
   pub polls : Polls (sight_by g c before devices) from made (sight_by g c left ds) to
   pub far : made < most → IsAtLimit (sight_by g c left ds) to
-  pub short : calls ≡ true → made < most
-  pub calling : calls ≡ true → IsAtSyscall left to
-  pub told : IsApart before → made < most → calls ≡ is_at_syscall left to
+  pub tells : TellsCall most made before left to calls
 
 -- where a task may read no device it sees its window alone
 module _ (v : View) (ds : List DeviceData) where
@@ -385,9 +383,7 @@ pub glider_work : (g : Setup) (c : ℕ) (a b : Glider) (flash ram area after are
 glider_work g c a b flash ram area after area_after devices from most none own limit apart work = subst (λ (k : ℕ). IsWork g c (lent_view a flash ram area) (lent_view a flash after area_after) devices devices from b.runner.processor k b.made b.at_syscall) limit record {
   polls = subst (λ (x : Cpu). Polls (sight_by g c (lent_view a flash ram area) devices) x b.made (sight_by g c (lent_view a flash after area_after) devices) b.runner.processor) own (glides_polls b.made _ _ _ _ devices (ports_of g c) work.glides);
   far = λ lt even. subst (λ (ports : List Region). Halts (step_effect (refused_at record { view = lent_view a flash after area_after; devices = devices; ports = ports }) (held_at record { view = lent_view a flash after area_after; devices = devices; ports = ports }) b.runner.processor)) (sym none) (limit_alone (lent_view a flash after area_after) devices b.runner.processor (work.far apart lt));
-  short = work.short;
-  calling = work.calls;
-  told = work.told;
+  tells = work.tells;
 }
 
 -- what the poller did
@@ -403,9 +399,7 @@ poller_work shown g c a b flash ram area after area_after devices from most port
           (subst (λ (ds : List DeviceData). Polls (sight_by g c v ds) a.glider.runner.processor b.made (sight_by g c w e) b.glider.runner.processor) same
           (subst (λ (rs : List Region). Polls record { view = v; devices = data_of shown a.devices; ports = rs } a.glider.runner.processor b.made record { view = w; devices = e; ports = rs } b.glider.runner.processor) ports work.polls));
       far = λ lt. subst (λ (rs : List Region). IsAtLimit record { view = w; devices = e; ports = rs } b.glider.runner.processor) ports (work.far apart lt);
-      short = work.short;
-      calling = work.calls;
-      told = work.told;
+      tells = work.tells;
     }
 
 -- the devices show what they showed, and the kernel stands for what it stood for
@@ -450,9 +444,8 @@ module _ {X : Type 0} {H : X → Type 0} (shown : Shows X H) (breakpoints : List
         whole = whole_here;
         polls = subst (λ (y : Cpu). Polls (sight_by g task before t.state.devices) (cpu_of (task_at t.state task)) made (sight_by g task left ds) y) (sym processor) work.polls;
         far = λ lt. subst (λ (y : Cpu). IsAtLimit (sight_by g task left ds) y) (sym processor) (work.far lt);
-        short = work.short;
-        calling = λ e. subst (λ (y : Cpu). IsAtSyscall left y) (sym processor) (work.calling e);
-        told = λ lt. work.told apart_here lt ∙ ap (is_at_syscall left) (sym processor);
+        apart = apart_here;
+        tells = subst (λ (y : Cpu). TellsCall most made before left y calls) (sym processor) work.tells;
         stays = λ none. absurd (omega (arith, some, none));
         goes = λ lt. loaded_by shown m'.loaded g m'.reach m'.glider.runner.processor _ loaded (subst (λ (at : ℕ). L at before.area_base) (sym ram_is) (subst (λ (by : ℕ). L ram.base by) (sym area_is) (lent_loaded shown g m m'.reach m'.glider.runner.processor task t ram.base area.base opened.window.after opened.window.area_after ds made h inside same (λ u held. f (overlaid area.base opened.window.area_after (overlaid ram.base opened.window.after u)) (opened.holds g u held)))));
       }
@@ -476,9 +469,8 @@ module _ {X : Type 0} {H : X → Type 0} (shown : Shows X H) (breakpoints : List
         whole = whole_here;
         polls = subst (λ (y : Cpu). Polls (sight_by g task before t.state.devices) (cpu_of (task_at t.state task)) made (sight_by g task left ds) y) (sym processor) work.polls;
         far = λ lt. subst (λ (y : Cpu). IsAtLimit (sight_by g task left ds) y) (sym processor) (work.far lt);
-        short = work.short;
-        calling = λ e. subst (λ (y : Cpu). IsAtSyscall left y) (sym processor) (work.calling e);
-        told = λ lt. work.told apart_here lt ∙ ap (is_at_syscall left) (sym processor);
+        apart = apart_here;
+        tells = subst (λ (y : Cpu). TellsCall most made before left y calls) (sym processor) work.tells;
         stays = λ e. rw (loaded, kept) (same_shown shown m.loaded g m.reach m'.reach m.glider.runner.processor t (devices ∙ same.3) K holds);
         goes = λ lt. absurd (omega (arith, lt, none));
       }
@@ -500,6 +492,7 @@ pub record IsMade {X : Type 0} {H : X → Type 0} (shown : Shows X H) (breakpoin
   pub glidden : HasGlidden shown breakpoints x u (turns_of b' - turns_of b) b'
   pub far : turns_of b' < until → MustStop breakpoints x.setup task (register u task program_counter) (register u task stack_pointer) (state_after Calls x (turns_of b' - turns_of b) u) calls
   pub call : calls ≡ true → IsCallPast breakpoints x (state_after Calls x (turns_of b' - turns_of b) u) task
+  pub before : calls ≡ true → turns_of b' < until
 
 -- PC is even
 even_there : (g : Setup) (c : ℕ) (s : State) → Sane g s → c < length s.tasks → reg_at (cpu_of (task_at s c)).regs program_counter % 2 ≡ 0
@@ -634,13 +627,18 @@ module _ {X : Type 0} {H : X → Type 0} (shown : Shows X H) (breakpoints : List
           writable = same.area_writable ∙ h.whole.writable;
         };
         halts = subst (λ (ds : List DeviceData). Halts (step_effect (refused_at (sight_by x.setup task h.after ds)) (held_at (sight_by x.setup task h.after ds)) (cpu_of (task_at v task)))) left.sight.devices halts;
-        told = h.told lt ∙ ap (is_at_syscall h.after) (sym left.processor);
+        told = h.tells.told h.apart lt ∙ ap (is_at_syscall h.after) (sym left.processor);
       }
 
   must_stop : HasGlided shown breakpoints x.setup m task (rested b.machine u) most n calls → n < most → MustStop breakpoints x.setup task (register u task program_counter) (register u task stack_pointer) (state_after Calls x n u) calls
   unfolding state_after
   must_stop (inl h) lt = inl (at_end h lt)
   must_stop (inr h) lt = inr (rw h.none h.beyond, h.no_call)
+
+  -- at a system call there are fewer than there may be
+  is_short : HasGlided shown breakpoints x.setup m task (rested b.machine u) most n calls → calls ≡ true → n < most
+  is_short (inl h) e = h.tells.short e
+  is_short (inr h) e = absurd (false≢true (sym h.no_call ∙ e))
 
   -- at a system call the next turn is that call
   is_call : HasGlided shown breakpoints x.setup m task (rested b.machine u) most n calls → turns_of b + most ≡ until → calls ≡ true → IsCallPast breakpoints x (state_after Calls x n u) task
@@ -649,10 +647,10 @@ module _ {X : Type 0} {H : X → Type 0} (shown : Shows X H) (breakpoints : List
       let are = turns_are h in
       let v : State = state_after Calls x n u in
       let left = left_is h in
-      let call = h.calling e in
+      let call = h.tells.calling e in
       let turns : v.turn ≡ u.turn + n = ap (λ (y : State). y.turn) are.state in
       let wide = fetched_wider (refused_by h.after) (refusals x.setup task) (held_by h.after) (held v) (widens x.setup task v h.after left.sight.window are.sane.steady.placed) (reg_at m.glider.runner.processor.regs 15) _ call.is in
-      let quiet : events_of x.script v.turn ≡ [] = ap (events_of x.script) turns ∙ (let at = st.holds.turns in let lt = h.short e in quiet_before x.script u.turn until b.due st.holds.due later_due few (u.turn + n) (omega arith) (omega (arith, at, lt, all))) in
+      let quiet : events_of x.script v.turn ≡ [] = ap (events_of x.script) turns ∙ (let at = st.holds.turns in let lt = h.tells.short e in quiet_before x.script u.turn until b.due st.holds.due later_due few (u.turn + n) (omega arith) (omega (arith, at, lt, all))) in
       let there : IsFetchedIn h.after task (turned x v) = fetched_there x v task h.after m.glider.runner.processor (are.chosen n (omega arith)) quiet left.processor (fetched_from h.after (reg_at m.glider.runner.processor.regs 15) _ call.is) in
       record {
         call = record {
@@ -688,6 +686,7 @@ made_by {X} {H} shown breakpoints x u b0 m m' task n until calls st0 holds next 
           let stop = must_stop shown breakpoints x u b m' task most n until calls st next up few over later_due none h (omega (arith, lt)) in
           subst (λ (k : ℕ). MustStop breakpoints x.setup task (register u task program_counter) (register u task stack_pointer) (state_after Calls x k u) calls) e stop;
       call = λ yes. subst (λ (k : ℕ). IsCallPast breakpoints x (state_after Calls x k u) task) e (is_call shown breakpoints x u b m' task most n until calls st next up few over later_due none h (omega (arith, left)) yes);
+      before = λ yes. let short = is_short shown breakpoints x u b m' task most n until calls st next up few over later_due none h yes in omega (arith, left, short);
     }
 
 -- ## the ports of a board

@@ -1,20 +1,22 @@
 -- Instructions on end within a window of a task's memory.
 use Rattle.words_core.specs.Regs.{stack_pointer, program_counter}
-use Rattle.std.specs.Prelude.{ℕ, ◌≡◌, ◌⊎◌, ◌≤◌, ◌<◌, Bool, List, true, false}
+use Rattle.std.specs.Prelude.{ℕ, ◌≡◌, ◌⊎◌, ◌≤◌, ◌<◌, Bool, List, length, true, false}
 use Rattle.std.specs.List.{list_any}
 use Rattle.kernel_abi.specs.Devices.{DeviceData}
+use Rattle.region_check.specs.declared.Region.{Region}
+use Rattle.thumb_exec.specs.declared.cpu.Cpu.{Cpu}
 use Rattle.thumb_exec.specs.Effect.{Halts}
 use Rattle.thumb_exec.specs.Fetch.{step_effect}
 use Rattle.thumb_step.specs.Windows.{View, Glides, IsApart, IsAtSyscall, is_at_syscall, refused_by, held_by}
 use Rattle.task_table.specs.State.{Setup, Turn}
-use Rattle.task_table.specs.Reading.{task_at, setup_at, register}
+use Rattle.task_table.specs.Reading.{task_at, setup_at, register, is_ready}
 use Rattle.board_model.specs.Turn.{cpu_of}
 use Rattle.board_core.specs.Reached.{is_flash_at}
-use Rattle.board_core.specs.Sights.{sight_by, Polls, IsAtLimit}
+use Rattle.board_core.specs.Sights.{sight_by, ports_of, Polls, IsAtLimit}
 use Rattle.board_core.specs.Windowed.{IsWholeWindow, later, with_window}
 use Rattle.board_core.specs.declared.glider.Glider.{Glider}
 use Rattle.board_core.specs.declared.machine.Machine.{Machine}
-use Rattle.board_core.specs.Machine.{MachineHolds}
+use Rattle.board_core.specs.Machine.{MachineHolds, MachineStands}
 use Rattle.board_core.specs.Data.{Shows}
 
 -- what the processor reaches while it has these bytes
@@ -33,19 +35,28 @@ lent_view a flash ram area =
       area_writable = a.runner.window.area_writable;
     }
 
+-- the next instruction is a system call, faults or reaches beyond the window
+abbrev pub IsLast : View → Cpu → Type 0
+IsLast v c = Halts (step_effect (refused_by v) (held_by v) c)
+
+-- n instructions of at most so many were made, in a window before and after them: at a system call where that is said, and it is said
+-- where they stopped at one
+pub record TellsCall (most n : ℕ) (before after : View) (c : Cpu) (calls : Bool) : Type 0 where
+  pub short : calls ≡ true → n < most
+  pub calling : calls ≡ true → IsAtSyscall after c
+  pub told : IsApart before → n < most → calls ≡ is_at_syscall after c
+
 -- it made instructions on end within its window
 pub record HasWorked (a : Glider) (flash ram area : List ℕ) (b : Glider) (after area_after : List ℕ) : Type 0 where
   pub glides : Glides (lent_view a flash ram area) a.runner.processor b.made (lent_view a flash after area_after) b.runner.processor
   pub within : b.made ≤ a.most
-  -- it stopped before that many only where the next one is a system call, faults or reaches elsewhere
-  pub far : IsApart (lent_view a flash ram area) → b.made < a.most → Halts (step_effect (refused_by (lent_view a flash after area_after)) (held_by (lent_view a flash after area_after)) b.runner.processor)
-  -- at a system call where it says so, and it says so where it did
-  pub short : b.at_syscall ≡ true → b.made < a.most
-  pub calls : b.at_syscall ≡ true → IsAtSyscall (lent_view a flash after area_after) b.runner.processor
-  pub told : IsApart (lent_view a flash ram area) → b.made < a.most → b.at_syscall ≡ is_at_syscall (lent_view a flash after area_after) b.runner.processor
+  -- it stopped before that many only where it had to
+  pub far : IsApart (lent_view a flash ram area) → b.made < a.most → IsLast (lent_view a flash after area_after) b.runner.processor
+  pub tells : TellsCall a.most b.made (lent_view a flash ram area) (lent_view a flash after area_after) b.runner.processor b.at_syscall
 
--- n instructions on end of a task within a window that fetches from no breakpoint, and over it and the devices that it may read, of which as many go on as there may
--- be, and whether the next one is known to be a system call. Where there were some, the task is the current one.
+-- n instructions on end of a task within a window that fetches from no breakpoint, and over it and the devices that it may read, of
+-- which as many go on as there may be, and whether the next one is known to be a system call. Where there were some, the task is the
+-- current one.
 pub record IsGlided {X : Type 0} {H : X → Type 0} (shown : Shows X H) (breakpoints : List ℕ) (g : Setup) (m : Machine X H) (c : ℕ) (t : Turn) (most n : ℕ) (calls : Bool) : Type 0 where
   pub window : View
   pub after : View
@@ -53,9 +64,8 @@ pub record IsGlided {X : Type 0} {H : X → Type 0} (shown : Shows X H) (breakpo
   pub whole : IsWholeWindow breakpoints g c t.state.memory (register t.state c program_counter) (register t.state c stack_pointer) window
   pub polls : Polls (sight_by g c window t.state.devices) (cpu_of (task_at t.state c)) n (sight_by g c after devices) m.glider.runner.processor
   pub far : n < most → IsAtLimit (sight_by g c after devices) m.glider.runner.processor
-  pub short : calls ≡ true → n < most
-  pub calling : calls ≡ true → IsAtSyscall after m.glider.runner.processor
-  pub told : n < most → calls ≡ is_at_syscall after m.glider.runner.processor
+  pub apart : IsApart window
+  pub tells : TellsCall most n window after m.glider.runner.processor calls
   pub stays : n ≡ 0 → MachineHolds shown g m t
   pub goes : 0 < n → MachineHolds shown g m record t { state = later record t.state { current = c; devices = devices } c m.glider.runner.processor (with_window t.state.memory window after) n }
 
@@ -66,5 +76,12 @@ pub record HasNoWindow {X : Type 0} {H : X → Type 0} (shown : Shows X H) (g : 
   pub beyond : list_any (is_flash_at (register t.state c program_counter)) (setup_at g c).regions ≡ false
   pub holds : MachineHolds shown g m t
 
+-- instructions were made so, or the task fetches from no region of the flash
 abbrev pub HasGlided : {X : Type 0} {H : X → Type 0} → Shows X H → List ℕ → Setup → Machine X H → ℕ → Turn → ℕ → ℕ → Bool → Type 0
 HasGlided shown breakpoints g m c t most n calls = IsGlided shown breakpoints g m c t most n calls ⊎ HasNoWindow shown g m c t n calls
+
+-- what a machine comes to from a turn in which a task is ready that may read devices by these regions
+abbrev pub GlidesFrom : {X : Type 0} {H : X → Type 0} → Shows X H → List ℕ → List Region → ℕ → ℕ → Machine X H → Machine X H → ℕ → Bool → Type 0
+GlidesFrom shown breakpoints ports task most old new made calls =
+    (g : Setup) (t : Turn) → MachineStands shown g old t → task < length t.state.tasks → is_ready t.state task ≡ true →
+    ports_of g task ≡ ports → HasGlided shown breakpoints g new task t most made calls

@@ -1,12 +1,12 @@
 -- Who makes instructions on end of a task that may read devices, and what comes of it.
-use Rattle.std.specs.Prelude.{ℕ, ◌≡◌, ◌≤◌, ◌<◌, List, true, if◌then◌else◌}
+use Rattle.std.specs.Prelude.{ℕ, ◌≡◌, ◌≤◌, ◌<◌, List, if◌then◌else◌}
 use Rattle.kernel_abi.specs.Devices.{devices_loaded}
 use Rattle.thumb_exec.specs.declared.cpu.Cpu.{Cpu}
 use Rattle.thumb_step.specs.Did.{IsStored as IsStoredIn}
-use Rattle.thumb_step.specs.Windows.{IsApart, IsAtSyscall, is_at_syscall, view_of}
+use Rattle.thumb_step.specs.Windows.{IsApart, view_of}
 use Rattle.board_model.specs.Turn.{is_device}
 use Rattle.board_core.specs.Data.{Shows, data_of}
-use Rattle.board_core.specs.Gliding.{lent_view}
+use Rattle.board_core.specs.Gliding.{lent_view, TellsCall}
 use Rattle.board_core.specs.Sights.{Sight, Polls, IsAtLimit}
 use Rattle.board_core.specs.declared.poller.Poller.{Poller}
 
@@ -40,10 +40,7 @@ left_sight shown a flash b after area_after = record { view = lent_view a.glider
 pub record HasPolled {X : Type 0} {H : X → Type 0} (shown : Shows X H) (a : Poller X H) (flash ram area : List ℕ) (b : Poller X H) (after area_after : List ℕ) : Type 0 where
   pub polls : Polls (lent_sight shown a flash ram area) (cpu_in a) b.made (left_sight shown a flash b after area_after) (cpu_in b)
   pub within : b.made ≤ a.glider.most
-  -- it stopped before that many only where the next one is a system call, faults or reaches elsewhere
+  -- it stopped before that many only where it had to
   pub far : IsApart (lent_view a.glider flash ram area) → b.made < a.glider.most → IsAtLimit (left_sight shown a flash b after area_after) (cpu_in b)
-  -- at a system call where it says so, and it says so where it did
-  pub short : b.glider.at_syscall ≡ true → b.made < a.glider.most
-  pub calls : b.glider.at_syscall ≡ true → IsAtSyscall (lent_view a.glider flash after area_after) (cpu_in b)
-  pub told : IsApart (lent_view a.glider flash ram area) → b.made < a.glider.most → b.glider.at_syscall ≡ is_at_syscall (lent_view a.glider flash after area_after) (cpu_in b)
+  pub tells : TellsCall a.glider.most b.made (lent_view a.glider flash ram area) (lent_view a.glider flash after area_after) (cpu_in b) b.glider.at_syscall
   pub ports : b.ports ≡ a.ports

@@ -1,5 +1,5 @@
 -- What a task sees: a window of its memory, and beside it the devices, by the regions of devices that it may read.
-use Rattle.std.specs.Prelude.{ℕ, zero, suc, ◌≡◌, ◌⊎◌, ◌%◌, Bool, true, false, ◌&&◌, if◌then◌else◌, List, fold, filter}
+use Rattle.std.specs.Prelude.{ℕ, zero, suc, ◌≡◌, ◌⊎◌, ◌%◌, Bool, true, false, ◌&&◌, if◌then◌else◌, List, fold, filter, None, Some, Result, MatchResult}
 use Rattle.std.specs.List.{list_any}
 use Rattle.kernel_abi.specs.Devices.{DeviceData, device_number, devices_loaded}
 use Rattle.region_check.specs.declared.Region.{Region}
@@ -50,6 +50,10 @@ refused_at o a n right = if is_device a then given (is_read right && in_port o.p
 
 abbrev pub held_at : Sight → Contents
 held_at o a n = if is_device a then or_zero (device_number o.devices a n) else held_by o.view a n
+
+-- what a load of n bytes answers
+abbrev pub IsRead : Sight → ℕ → ℕ → Result ℕ ℕ → Type 0
+IsRead o a n answer = MatchResult answer (λ value. (refused_at o a n Read ≡ None) × (value ≡ held_at o a n)) (λ at. refused_at o a n Read ≡ Some at)
 
 -- a store is one in the window; what was loaded from a device is taken
 abbrev pub moved_at : Sight → Move → Sight

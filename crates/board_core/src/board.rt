@@ -136,6 +136,7 @@ impl Board {
     /// One turn, and further ones after it as long as each notes nothing, the run goes on and fewer than
     /// `limit` turns are made in all. With all instructions noted each turn notes something, so that it is
     /// one turn.
+    #[inline(always)]
     pub fn advance(&mut self, level: Level, limit: u32)
         requires stood { Stood shown self.old }
         requires left { turns_of self.old < limit }
@@ -155,6 +156,7 @@ impl Board {
     }
 
     /// The same, where instructions are not noted.
+    #[inline(always)]
     fn go_on(&mut self, limit: u32)
         requires stood { Stood shown self.old }
         requires left { turns_of self.old < limit }
@@ -172,7 +174,9 @@ impl Board {
     }
 
     /// As many turns as can be made the fast way, and then a whole one, where fewer than `limit` are made by then: which task that
-    /// one ran and where its PC was, where that is a breakpoint. No turn before it was at one.
+    /// one ran and where its PC was, where that is a breakpoint. No turn before it was at one. Whoever calls this has a copy of the fast
+    /// way, which knows of no breakpoints where there are none.
+    #[inline(always)]
     pub fn advance_past(&mut self, breakpoints: &[u32], limit: u32) -> Option<(u16, u32)>
         requires stood { Stood shown self.old }
         requires left { turns_of self.old < limit }
@@ -188,12 +192,13 @@ impl Board {
         ensures needed { NeededTurn shown breakpoints.now limit self.old self.new }
         ensures idle { WaitedFor shown limit self.old self.new }
     {
-        let calling = self.glide(breakpoints, quiet_until(self.due, limit));
-        if self.turns >= limit {
-            return None;
-        }
-        match calling {
-            None => hit_of(breakpoints, self.turn_at(Level::Calls)),
+        match self.glide(breakpoints, quiet_until(self.due, limit)) {
+            None => {
+                if self.turns >= limit {
+                    return None;
+                }
+                hit_of(breakpoints, self.turn_at(Level::Calls))
+            }
             Some(task) => {
                 self.call(task);
                 None
@@ -204,6 +209,7 @@ impl Board {
     /// The fast way: turns before turn `until`, before which nothing is due, none of which notes anything or is at a breakpoint. They
     /// are those of the task that is chosen, within a window of its memory, as far as it goes there; or all idle ones, where no task is
     /// ready.
+    #[inline(always)]
     fn glide(&mut self, breakpoints: &[u32], until: u32) -> Option<usize>
         requires stood { Stood shown self.old }
         requires few { until ≤ 1000000000 }
@@ -217,6 +223,7 @@ impl Board {
         // where there is none.
         ensures far { WentFar shown breakpoints.now until self.old self.new (is_some result) }
         ensures calls { (task : ℕ) → result ≡ Some task → IsToCall shown breakpoints.now task self.old self.new }
+        ensures before { (task : ℕ) → result ≡ Some task → turns_of self.new < until }
         ensures idle { (x : Scenario) (s : State) → Stands shown x self.old s → chosen x.setup s ≡ None → self.old.choice.down ≡ false → lasts x.script until ≡ true → until ≤ turns_of self.new }
     {
         if self.turns >= until || self.choice.down {
@@ -238,6 +245,7 @@ impl Board {
     }
 
     /// The same, where this task is chosen and the supervisor has not faulted.
+    #[inline(always)]
     fn glide_on(&mut self, breakpoints: &[u32], task: usize, until: u32) -> bool
         requires stood { Stood shown self.old }
         requires next { self.old.choice.next ≡ Some task }
@@ -250,6 +258,7 @@ impl Board {
         ensures within { turns_of self.new ≤ until }
         ensures far { WentFarOn shown breakpoints.now task until self.old self.new result }
         ensures calls { result ≡ true → IsToCall shown breakpoints.now task self.old self.new }
+        ensures before { result ≡ true → turns_of self.new < until }
     {
         if !self.ports[task].is_empty() {
             return self.poll_on(breakpoints, task, until);
@@ -275,6 +284,7 @@ impl Board {
         ensures within { turns_of self.new ≤ until }
         ensures far { WentFarOn shown breakpoints.now task until self.old self.new result }
         ensures calls { result ≡ true → IsToCall shown breakpoints.now task self.old self.new }
+        ensures before { result ≡ true → turns_of self.new < until }
     {
         self.machine.begin();
         let ports = &mut self.ports[task];
@@ -286,6 +296,7 @@ impl Board {
     }
 
     /// One turn of a task that makes a system call in it, and in which nothing is due: what `turn_at` makes of it.
+    #[inline(always)]
     fn call(&mut self, task: usize)
         requires few { turns_of self.old < 1000000000 }
         requires stood { (x : Scenario) × (s : State) × Stands shown x self.old s × IsCall x s task }
@@ -366,6 +377,7 @@ impl Board {
 
     /// What is known of the choice is brought up to date where the last turn noted something: a turn that
     /// notes nothing leaves each task as ready as it was.
+    #[inline(always)]
     fn renew(&mut self)
         requires { (g : Setup) × (t : Turn) × MachineStands shown g self.old.machine t }
         ensures holds { (g : Setup) (t : Turn) → MachineHolds shown g self.old.machine t → MachineHolds shown g self.new.machine t }

@@ -1,9 +1,7 @@
 //! The processor of the current task, which can have a window, the bytes of three of the task's regions.
 ghost use Rattle.std.specs.Prelude.{◌≡◌, ◌≤◌, ◌<◌, true, false, length};
-ghost use Rattle.thumb_exec.specs.Effect.{Halts};
-ghost use Rattle.thumb_exec.specs.Fetch.{step_effect};
-ghost use Rattle.thumb_step.specs.Windows.{Glides, IsApart, Keeps, IsAtSyscall, is_at_syscall, view_of, refused_by, held_by};
-ghost use Rattle.board_core.specs.Gliding.{HasWorked};
+ghost use Rattle.thumb_step.specs.Windows.{Glides, IsApart, Keeps, IsAtSyscall, is_at_syscall, view_of};
+ghost use Rattle.board_core.specs.Gliding.{HasWorked, IsLast, TellsCall};
 
 use crate::breakpoints::Stretch;
 use mem_banks::WindowUser;
@@ -100,14 +98,10 @@ impl Glider {
     fn glide(&mut self) -> u32
         ensures glides { Glides (view_of self.old.runner.window) self.old.runner.processor result (view_of self.new.runner.window) self.new.runner.processor }
         ensures within { result ≤ self.old.most }
-        ensures far { IsApart (view_of self.old.runner.window) → result < self.old.most → Halts (step_effect (refused_by (view_of self.new.runner.window)) (held_by (view_of self.new.runner.window)) self.new.runner.processor) }
+        ensures far { IsApart (view_of self.old.runner.window) → result < self.old.most → IsLast (view_of self.new.runner.window) self.new.runner.processor }
         ensures fixed { Keeps (view_of self.old.runner.window) (view_of self.new.runner.window) }
         ensures most { self.new.most ≡ self.old.most }
-
-        // It stopped at a system call where it says so, and says so where it did.
-        ensures short { self.new.at_syscall ≡ true → result < self.old.most }
-        ensures calls { self.new.at_syscall ≡ true → IsAtSyscall (view_of self.new.runner.window) self.new.runner.processor }
-        ensures told { IsApart (view_of self.old.runner.window) → result < self.old.most → self.new.at_syscall ≡ is_at_syscall (view_of self.new.runner.window) self.new.runner.processor }
+        ensures tells { TellsCall self.old.most result (view_of self.old.runner.window) (view_of self.new.runner.window) self.new.runner.processor self.new.at_syscall }
     {
         if !is_apart(&self.runner.window) {
             self.at_syscall = false;
@@ -122,9 +116,11 @@ impl Glider {
         requires apart { IsApart (view_of self.old.runner.window) }
         ensures glides { Glides (view_of self.old.runner.window) self.old.runner.processor result (view_of self.new.runner.window) self.new.runner.processor }
         ensures within { result ≤ self.old.most }
-        ensures far { result < self.old.most → Halts (step_effect (refused_by (view_of self.new.runner.window)) (held_by (view_of self.new.runner.window)) self.new.runner.processor) }
+        ensures far { result < self.old.most → IsLast (view_of self.new.runner.window) self.new.runner.processor }
         ensures fixed { Keeps (view_of self.old.runner.window) (view_of self.new.runner.window) }
         ensures most { self.new.most ≡ self.old.most }
+
+        // It stopped at a system call where it says so, and says so where it did.
         ensures short { self.new.at_syscall ≡ true → result < self.old.most }
         ensures calls { self.new.at_syscall ≡ true → IsAtSyscall (view_of self.new.runner.window) self.new.runner.processor }
         ensures told { result < self.old.most → self.new.at_syscall ≡ is_at_syscall (view_of self.new.runner.window) self.new.runner.processor }

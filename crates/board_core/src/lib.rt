@@ -5,6 +5,7 @@ mod board;
 mod breakpoints;
 mod choice;
 mod device_view;
+mod fast_way;
 mod glider;
 mod list;
 mod loners;

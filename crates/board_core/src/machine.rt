@@ -13,12 +13,9 @@ ghost use Rattle.task_table.specs.Limits.{syscall_notes, turn_notes};
 ghost use Rattle.task_table.specs.Frames.{AddsNotes};
 ghost use Rattle.thumb_insn.specs.Range.{IsCoded};
 ghost use Rattle.board_model.specs.Turn.{with_current, noted_at, happened, stepped, executed, cpu_of, with_registers_noted, turn_of, turned_of, happened_next};
-ghost use Rattle.board_core.specs.Machine.{IsReady, IsNext, HasNumber, ReachHolds, MachineHolds, MachineStands, IsLoaded, HasContext};
-ghost use Rattle.board_core.specs.Gliding.{HasGlided};
-ghost use Rattle.board_core.specs.Sights.{ports_of};
+ghost use Rattle.board_core.specs.Machine.{IsReady, IsNext, HasNumber, ReachHolds, MachineHolds, MachineStands, IsLoaded};
 ghost use Rattle.board_core.specs.Windowed.{IsCalling};
 
-use crate::breakpoints::stretch_of;
 use crate::glider::Glider;
 use crate::list::Devices;
 use crate::poller::Poller;
@@ -26,17 +23,15 @@ use crate::reach::Reach;
 use crate::syscalls::syscall;
 use board_model::{Level, Turned};
 use kernel_abi::{Fault, Note};
-use region_check::Region;
 use run_script::{Event, Script};
 use std::alloc::Global;
-use std::mem::swap;
 use task_table::Kernel;
 use thumb_exec::cpu::{Cpu, Outcome};
 use thumb_exec::step::exec;
 use thumb_insn::Insn;
 use thumb_step::fetch;
 use timer_irq::{interrupt, tick};
-use words_core::{Flags, PROGRAM_COUNTER, Regs, STACK_POINTER};
+use words_core::{Flags, PROGRAM_COUNTER, Regs};
 
 /// A kernel and a processor, the glider's. While the context of the current task is loaded, that task's registers
 /// and flags are the processor's; what the kernel has of them is of an earlier time.
@@ -52,34 +47,14 @@ pub struct Machine {
     pub poller: Poller,
 }
 
-/// How many instructions a task made on end, and whether the next one is known to be a system call.
-#[derive(Clone, Copy)]
-pub struct Glided {
-    pub made: u32,
-    pub at_syscall: bool,
-}
-
 /// A processor gets the registers and flags that the kernel has of a task. They are written in place, not by way of a copy.
 #[inline(always)]
-fn load(processor: &mut Cpu, kernel: &Kernel, task: usize)
+pub fn load(processor: &mut Cpu, kernel: &Kernel, task: usize)
     requires { task < task_count kernel.now }
     ensures { (g : Setup) (t : Turn) → Holds g kernel.now t → processor.new ≡ cpu_of (task_at t.state task) }
 {
     processor.regs = Regs::of(kernel.registers(task));
     processor.flags = kernel.flags(task);
-}
-
-/// No instructions. It is cold, so that the way on has no preparations for it.
-#[cold]
-#[inline(never)]
-fn none_made() -> Glided
-    ensures made { result.made ≡ 0 }
-    ensures call { result.at_syscall ≡ false }
-{
-    Glided {
-        made: 0,
-        at_syscall: false,
-    }
 }
 
 impl Machine {
@@ -389,111 +364,9 @@ impl Machine {
             }
         }
     }
-}
-
-impl Machine {
-    /// The processor has a task's context from now on. The task is not the current one yet: that it is once it ran.
-    #[inline(always)]
-    fn take_context(&mut self, task: usize)
-        requires { task < task_count self.old.reach.kernel }
-        ensures holds { (g : Setup) (t : Turn) → MachineHolds shown g self.old t → MachineHolds shown g self.new t }
-        ensures taken { (g : Setup) (t : Turn) → MachineHolds shown g self.old t → task < length t.state.tasks → is_ready t.state task ≡ true → HasContext shown g self.new task t }
-        ensures tasks { task_count self.new.reach.kernel ≡ task_count self.old.reach.kernel }
-        ensures count { note_count self.new.reach.kernel ≡ note_count self.old.reach.kernel }
-    {
-        if !self.is_loaded_for(task) {
-            self.save_context();
-            load(&mut self.glider.runner.processor, &self.reach.kernel, task);
-        }
-    }
-
-    /// Instructions on end of a task within a window of its memory, at most so many, none of them at a breakpoint. Where there were
-    /// some, it is the current one. A task that may read devices is one of `poll`.
-    pub fn glide(&mut self, breakpoints: &[u32], task: usize, most: u32) -> Glided
-        requires { task < task_count self.old.reach.kernel }
-        ensures glided { (g : Setup) (t : Turn) → MachineStands shown g self.old t → task < length t.state.tasks → is_ready t.state task ≡ true → ports_of g task ≡ [] → HasGlided shown breakpoints.now g self.new task t most result.made result.at_syscall }
-        ensures within { result.made ≤ most }
-        ensures count { note_count self.new.reach.kernel ≡ note_count self.old.reach.kernel }
-    {
-        self.take_context(task);
-        let pc = self.glider.runner.processor.regs.get(PROGRAM_COUNTER);
-        let sp = self.glider.runner.processor.regs.get(STACK_POINTER);
-        let Some((flash, ram, area)) = self.reach.window(task, pc, sp) else {
-            return none_made();
-        };
-        let code = stretch_of(breakpoints, &flash, pc);
-        self.glider.aim(&flash, code, &ram, &area, most);
-        if !self
-            .reach
-            .kernel
-            .open_window(&flash, &ram, &area, &mut self.glider)
-        {
-            return none_made();
-        }
-        let made = self.glider.made;
-        let glided = Glided {
-            made,
-            at_syscall: self.glider.at_syscall,
-        };
-        if made == 0 {
-            return glided;
-        }
-        self.reach.kernel.set_current(task);
-        self.loaded = true;
-        glided
-    }
-
-    /// The same of a task that may read devices, by these regions: instructions on end within a window of its memory, and over
-    /// it and the devices. Few tasks have a device, so this is a function of its own.
-    #[cold]
-    #[inline(never)]
-    pub fn poll(
-        &mut self,
-        breakpoints: &[u32],
-        task: usize,
-        most: u32,
-        ports: &mut Vec<Region>,
-    ) -> Glided
-        requires { task < task_count self.old.reach.kernel }
-        ensures glided { (g : Setup) (t : Turn) → MachineStands shown g self.old t → task < length t.state.tasks → is_ready t.state task ≡ true → ports.old.items ≡ ports_of g task → HasGlided shown breakpoints.now g self.new task t most result.made result.at_syscall }
-        ensures within { result.made ≤ most }
-        ensures count { note_count self.new.reach.kernel ≡ note_count self.old.reach.kernel }
-        ensures ports { ports.new ≡ ports.old }
-    {
-        self.take_context(task);
-        let pc = self.glider.runner.processor.regs.get(PROGRAM_COUNTER);
-        let sp = self.glider.runner.processor.regs.get(STACK_POINTER);
-        let Some((flash, ram, area)) = self.reach.window(task, pc, sp) else {
-            return none_made();
-        };
-        let code = stretch_of(breakpoints, &flash, pc);
-        self.poller.glider.aim(&flash, code, &ram, &area, most);
-        self.poller.glider.runner.processor = self.glider.runner.processor;
-        swap(&mut self.poller.devices, &mut self.reach.devices);
-        swap(&mut self.poller.ports, ports);
-        let opened = self
-            .reach
-            .kernel
-            .open_window(&flash, &ram, &area, &mut self.poller);
-        swap(&mut self.poller.ports, ports);
-        swap(&mut self.poller.devices, &mut self.reach.devices);
-        if !opened {
-            return none_made();
-        }
-        self.glider.runner.processor = self.poller.glider.runner.processor;
-        let glided = Glided {
-            made: self.poller.made,
-            at_syscall: self.poller.glider.at_syscall,
-        };
-        if glided.made == 0 {
-            return glided;
-        }
-        self.reach.kernel.set_current(task);
-        self.loaded = true;
-        glided
-    }
 
     /// A turn of a task whose instruction is known to be a system call: it is not fetched and decoded again.
+    #[inline(always)]
     pub fn call(&mut self, task: usize)
         requires next { (g : Setup) × (t : Turn) × IsNext shown g self.old t (Some task) × HasNumber t.state }
         requires room { note_count self.old.reach.kernel + syscall_notes + 4 ≤ turn_notes }

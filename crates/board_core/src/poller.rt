@@ -1,13 +1,13 @@
 //! The processor of the current task while it has a window and, beside it, the devices of which the task may read some.
-ghost use Rattle.std.specs.Prelude.{◌≡◌, ◌+◌, ◌%◌, ◌≤◌, ◌<◌, length, None, Some, true, false, MatchResult};
+ghost use Rattle.std.specs.Prelude.{◌≡◌, ◌+◌, ◌%◌, ◌≤◌, ◌<◌, length, true, false};
 ghost use Rattle.kernel_abi.specs.Devices.{device_number};
 ghost use Rattle.words_core.specs.Regs.{reg_at, program_counter};
-ghost use Rattle.region_check.specs.declared.Right.TheVariants.{Read};
 ghost use Rattle.thumb_exec.specs.Sizes.{IsSize};
-ghost use Rattle.thumb_step.specs.Windows.{given, IsApart, Keeps, IsAtSyscall, is_at_syscall, view_of};
+ghost use Rattle.thumb_step.specs.Windows.{given, IsApart, Keeps, IsAtSyscall, view_of};
 ghost use Rattle.board_model.specs.Turn.{is_device, or_zero};
 ghost use Rattle.board_core.specs.Data.{data_of};
-ghost use Rattle.board_core.specs.Sights.{GoesOnBeside, Polls, IsAtLimit, in_port, refused_at, held_at};
+ghost use Rattle.board_core.specs.Sights.{GoesOnBeside, Polls, IsAtLimit, IsRead, in_port, refused_at, held_at};
+ghost use Rattle.board_core.specs.Gliding.{TellsCall};
 ghost use Rattle.board_core.specs.Polling.{sight_of, cpu_in, IsPut, IsTaken, HasPolled};
 
 use crate::glider::{Glider, is_apart};
@@ -60,7 +60,7 @@ impl Poller {
     fn load_device(&self, addr: u32, n: u32) -> Result<u32, u32>
         requires size { IsSize n }
         requires there { is_device addr ≡ true }
-        ensures { MatchResult result (λ value. (refused_at (sight_of shown self.now) addr n Read ≡ None) × (value ≡ held_at (sight_of shown self.now) addr n)) (λ at. refused_at (sight_of shown self.now) addr n Read ≡ Some at) }
+        ensures { IsRead (sight_of shown self.now) addr n result }
     {
         if !self.in_port(addr, n) {
             return Err(addr);
@@ -109,9 +109,7 @@ impl Poller {
         ensures kept { result ≡ 0 → self.new ≡ self.old }
         ensures fixed { Keeps (view_of self.old.glider.runner.window) (view_of self.new.glider.runner.window) }
         ensures ports { self.new.ports ≡ self.old.ports }
-        ensures short { 0 < result → self.new.glider.at_syscall ≡ true → result < most }
-        ensures calls { 0 < result → self.new.glider.at_syscall ≡ true → IsAtSyscall (view_of self.new.glider.runner.window) (cpu_in self.new) }
-        ensures told { 0 < result → result < most → self.new.glider.at_syscall ≡ is_at_syscall (view_of self.new.glider.runner.window) (cpu_in self.new) }
+        ensures tells { 0 < result → TellsCall most result (view_of self.old.glider.runner.window) (view_of self.new.glider.runner.window) (cpu_in self.new) self.new.glider.at_syscall }
     {
         if self.glider.at_syscall {
             return 0;
@@ -130,11 +128,7 @@ impl Poller {
         ensures far { IsApart (view_of self.old.glider.runner.window) → result < self.old.glider.most → IsAtLimit (sight_of shown self.new) (cpu_in self.new) }
         ensures fixed { Keeps (view_of self.old.glider.runner.window) (view_of self.new.glider.runner.window) }
         ensures ports { self.new.ports ≡ self.old.ports }
-
-        // It stopped at a system call where it says so, and says so where it did.
-        ensures short { self.new.glider.at_syscall ≡ true → result < self.old.glider.most }
-        ensures calls { self.new.glider.at_syscall ≡ true → IsAtSyscall (view_of self.new.glider.runner.window) (cpu_in self.new) }
-        ensures told { IsApart (view_of self.old.glider.runner.window) → result < self.old.glider.most → self.new.glider.at_syscall ≡ is_at_syscall (view_of self.new.glider.runner.window) (cpu_in self.new) }
+        ensures tells { TellsCall self.old.glider.most result (view_of self.old.glider.runner.window) (view_of self.new.glider.runner.window) (cpu_in self.new) self.new.glider.at_syscall }
     {
         if !is_apart(&self.glider.runner.window) {
             self.glider.at_syscall = false;

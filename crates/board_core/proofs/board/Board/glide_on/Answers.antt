@@ -44,3 +44,14 @@ returns-clause-calls boxes c = λ yes x s st.
     let inside = (chosen_is s c.args.task st.sane (sym st.holds.choice.next ∙ r.next)).inside in
     let alone = sym (own_list _ x s b st c.args.task _ _ inside c.index.ensures) ∙ no_list c.index.result.now c.if-not-is_empty.ensures in
     (made_by _ c.args.breakpoints.now x s b c.begin.new.self c.glide-glided.new.self c.args.task c.glide-glided.result.made c.args.until c.glide-glided.result.at_syscall st (c.begin.ensures.holds x.setup (rested b.machine s) st.holds.machine) r.next r.up r.few r.left c.glide-glided.ensures.within r.later c.glide-glided.ensures.count (λ t stands here ready. c.glide-glided.ensures.glided x.setup t stands here ready alone)).call yes
+
+pub returns-clause-before : goal.returns-clause-before
+returns-clause-before boxes c = λ yes.
+    let x = c.requires.stood.0 in
+    let s = c.requires.stood.1 in
+    let st = c.requires.stood.2 in
+    let b = c.args.self.now in
+    let r = c.requires in
+    let inside = (chosen_is s c.args.task st.sane (sym st.holds.choice.next ∙ r.next)).inside in
+    let alone = sym (own_list _ x s b st c.args.task _ _ inside c.index.ensures) ∙ no_list c.index.result.now c.if-not-is_empty.ensures in
+    (made_by _ c.args.breakpoints.now x s b c.begin.new.self c.glide-glided.new.self c.args.task c.glide-glided.result.made c.args.until c.glide-glided.result.at_syscall st (c.begin.ensures.holds x.setup (rested b.machine s) st.holds.machine) r.next r.up r.few r.left c.glide-glided.ensures.within r.later c.glide-glided.ensures.count (λ t stands here ready. c.glide-glided.ensures.glided x.setup t stands here ready alone)).before yes

@@ -30,7 +30,7 @@ returns-clause-glided boxes c = λ x s st.
     let r = c.requires in
     let inside = (chosen_is s c.args.task st.sane (sym st.holds.choice.next ∙ r.next)).inside in
     let own = own_list _ x s b st c.args.task _ _ inside c.index_mut-ports.ensures.value in
-    let made = made_by _ c.args.breakpoints.now x s b c.begin.new.self c.poll-glided.new.self c.args.task c.poll-glided.result.made c.args.until c.poll-glided.result.at_syscall st (c.begin.ensures.holds x.setup (rested b.machine s) st.holds.machine) r.next r.up r.few r.left c.poll-glided.ensures.within r.later c.poll-glided.ensures.count (λ t stands here ready. c.poll-glided.ensures.glided x.setup t stands here ready own) in
+    let made = made_by _ c.args.breakpoints.now x s b c.begin.new.self c.poll-glided.new.self c.args.task c.poll-glided.result.made c.args.until c.poll-glided.result.at_syscall st (c.begin.ensures.holds x.setup (rested b.machine s) st.holds.machine) r.next r.up r.few r.left c.poll-glided.ensures.within r.later c.poll-glided.ensures.count (λ t stands here ready. c.poll-glided.ensures.glided x.setup t stands here ready (sym own)) in
     glidden_ports _ c.args.breakpoints.now x s _ _ _ made.glidden (subst (λ lists. AllPorts x.setup (map vec_items lists)) (sym (same_again b.ports.items c.args.task c.poll-glided.new.ports _ (c.poll-glided.ensures.ports ∙ c.index_mut-ports.ensures.value))) st.holds.ports)
 
 pub returns-clause-far : goal.returns-clause-far
@@ -39,7 +39,7 @@ returns-clause-far boxes c = λ x s st lt.
     let r = c.requires in
     let inside = (chosen_is s c.args.task st.sane (sym st.holds.choice.next ∙ r.next)).inside in
     let own = own_list _ x s b st c.args.task _ _ inside c.index_mut-ports.ensures.value in
-    let made = made_by _ c.args.breakpoints.now x s b c.begin.new.self c.poll-glided.new.self c.args.task c.poll-glided.result.made c.args.until c.poll-glided.result.at_syscall st (c.begin.ensures.holds x.setup (rested b.machine s) st.holds.machine) r.next r.up r.few r.left c.poll-glided.ensures.within r.later c.poll-glided.ensures.count (λ t stands here ready. c.poll-glided.ensures.glided x.setup t stands here ready own) in
+    let made = made_by _ c.args.breakpoints.now x s b c.begin.new.self c.poll-glided.new.self c.args.task c.poll-glided.result.made c.args.until c.poll-glided.result.at_syscall st (c.begin.ensures.holds x.setup (rested b.machine s) st.holds.machine) r.next r.up r.few r.left c.poll-glided.ensures.within r.later c.poll-glided.ensures.count (λ t stands here ready. c.poll-glided.ensures.glided x.setup t stands here ready (sym own)) in
     made.far lt
 
 pub returns-clause-calls : goal.returns-clause-calls
@@ -48,5 +48,17 @@ returns-clause-calls boxes c = λ yes x s st.
     let r = c.requires in
     let inside = (chosen_is s c.args.task st.sane (sym st.holds.choice.next ∙ r.next)).inside in
     let own = own_list _ x s b st c.args.task _ _ inside c.index_mut-ports.ensures.value in
-    let made = made_by _ c.args.breakpoints.now x s b c.begin.new.self c.poll-glided.new.self c.args.task c.poll-glided.result.made c.args.until c.poll-glided.result.at_syscall st (c.begin.ensures.holds x.setup (rested b.machine s) st.holds.machine) r.next r.up r.few r.left c.poll-glided.ensures.within r.later c.poll-glided.ensures.count (λ t stands here ready. c.poll-glided.ensures.glided x.setup t stands here ready own) in
+    let made = made_by _ c.args.breakpoints.now x s b c.begin.new.self c.poll-glided.new.self c.args.task c.poll-glided.result.made c.args.until c.poll-glided.result.at_syscall st (c.begin.ensures.holds x.setup (rested b.machine s) st.holds.machine) r.next r.up r.few r.left c.poll-glided.ensures.within r.later c.poll-glided.ensures.count (λ t stands here ready. c.poll-glided.ensures.glided x.setup t stands here ready (sym own)) in
     made.call yes
+
+pub returns-clause-before : goal.returns-clause-before
+returns-clause-before boxes c = λ yes.
+    let x = c.requires.stood.0 in
+    let s = c.requires.stood.1 in
+    let st = c.requires.stood.2 in
+    let b = c.args.self.now in
+    let r = c.requires in
+    let inside = (chosen_is s c.args.task st.sane (sym st.holds.choice.next ∙ r.next)).inside in
+    let own = own_list _ x s b st c.args.task _ _ inside c.index_mut-ports.ensures.value in
+    let made = made_by _ c.args.breakpoints.now x s b c.begin.new.self c.poll-glided.new.self c.args.task c.poll-glided.result.made c.args.until c.poll-glided.result.at_syscall st (c.begin.ensures.holds x.setup (rested b.machine s) st.holds.machine) r.next r.up r.few r.left c.poll-glided.ensures.within r.later c.poll-glided.ensures.count (λ t stands here ready. c.poll-glided.ensures.glided x.setup t stands here ready (sym own)) in
+    made.before yes

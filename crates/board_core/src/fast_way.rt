@@ -1,0 +1,137 @@
+//! Instructions on end of the task that is chosen, the fast way.
+ghost use Rattle.std.specs.Prelude.{◌≡◌, ◌≤◌, ◌<◌, [], length, true, false};
+ghost use Rattle.task_table.specs.State.{Setup, Turn};
+ghost use Rattle.task_table.specs.Reading.{is_ready};
+ghost use Rattle.task_table.specs.Holds.{task_count, note_count};
+ghost use Rattle.board_core.specs.Machine.{MachineHolds, HasContext};
+ghost use Rattle.board_core.specs.Gliding.{GlidesFrom};
+
+use crate::breakpoints::stretch_of;
+use crate::machine::{Machine, load};
+use region_check::Region;
+use std::mem::swap;
+use words_core::{PROGRAM_COUNTER, STACK_POINTER};
+
+/// How many instructions a task made on end, and whether the next one is known to be a system call.
+#[derive(Clone, Copy)]
+pub struct Glided {
+    pub made: u32,
+    pub at_syscall: bool,
+}
+
+/// No instructions. It is cold, so that the way on has no preparations for it.
+#[cold]
+#[inline(never)]
+fn none_made() -> Glided
+    ensures made { result.made ≡ 0 }
+    ensures call { result.at_syscall ≡ false }
+{
+    Glided {
+        made: 0,
+        at_syscall: false,
+    }
+}
+
+impl Machine {
+    /// The processor has a task's context from now on. The task is not the current one yet: that it is once it ran.
+    #[inline(always)]
+    fn take_context(&mut self, task: usize)
+        requires { task < task_count self.old.reach.kernel }
+        ensures holds { (g : Setup) (t : Turn) → MachineHolds shown g self.old t → MachineHolds shown g self.new t }
+        ensures taken { (g : Setup) (t : Turn) → MachineHolds shown g self.old t → task < length t.state.tasks → is_ready t.state task ≡ true → HasContext shown g self.new task t }
+        ensures tasks { task_count self.new.reach.kernel ≡ task_count self.old.reach.kernel }
+        ensures count { note_count self.new.reach.kernel ≡ note_count self.old.reach.kernel }
+    {
+        if !self.is_loaded_for(task) {
+            self.save_context();
+            load(&mut self.glider.runner.processor, &self.reach.kernel, task);
+        }
+    }
+
+    /// Instructions on end of a task within a window of its memory, at most so many, none of them at a breakpoint. Where there were
+    /// some, it is the current one. A task that may read devices is one of `poll`.
+    #[inline(always)]
+    pub fn glide(&mut self, breakpoints: &[u32], task: usize, most: u32) -> Glided
+        requires { task < task_count self.old.reach.kernel }
+        ensures glided { GlidesFrom shown breakpoints.now [] task most self.old self.new result.made result.at_syscall }
+        ensures within { result.made ≤ most }
+        ensures count { note_count self.new.reach.kernel ≡ note_count self.old.reach.kernel }
+    {
+        self.take_context(task);
+        let pc = self.glider.runner.processor.regs.get(PROGRAM_COUNTER);
+        let sp = self.glider.runner.processor.regs.get(STACK_POINTER);
+        let Some((flash, ram, area)) = self.reach.window(task, pc, sp) else {
+            return none_made();
+        };
+        let code = stretch_of(breakpoints, &flash, pc);
+        self.glider.aim(&flash, code, &ram, &area, most);
+        if !self
+            .reach
+            .kernel
+            .open_window(&flash, &ram, &area, &mut self.glider)
+        {
+            return none_made();
+        }
+        let made = self.glider.made;
+        let glided = Glided {
+            made,
+            at_syscall: self.glider.at_syscall,
+        };
+        if made == 0 {
+            return glided;
+        }
+        self.reach.kernel.set_current(task);
+        self.loaded = true;
+        glided
+    }
+
+    /// The same of a task that may read devices, by these regions: instructions on end within a window of its memory, and over
+    /// it and the devices. Few tasks have a device, so this is a function of its own.
+    #[cold]
+    #[inline(never)]
+    pub fn poll(
+        &mut self,
+        breakpoints: &[u32],
+        task: usize,
+        most: u32,
+        ports: &mut Vec<Region>,
+    ) -> Glided
+        requires { task < task_count self.old.reach.kernel }
+        ensures glided { GlidesFrom shown breakpoints.now ports.old.items task most self.old self.new result.made result.at_syscall }
+        ensures within { result.made ≤ most }
+        ensures count { note_count self.new.reach.kernel ≡ note_count self.old.reach.kernel }
+        ensures ports { ports.new ≡ ports.old }
+    {
+        self.take_context(task);
+        let pc = self.glider.runner.processor.regs.get(PROGRAM_COUNTER);
+        let sp = self.glider.runner.processor.regs.get(STACK_POINTER);
+        let Some((flash, ram, area)) = self.reach.window(task, pc, sp) else {
+            return none_made();
+        };
+        let code = stretch_of(breakpoints, &flash, pc);
+        self.poller.glider.aim(&flash, code, &ram, &area, most);
+        self.poller.glider.runner.processor = self.glider.runner.processor;
+        swap(&mut self.poller.devices, &mut self.reach.devices);
+        swap(&mut self.poller.ports, ports);
+        let opened = self
+            .reach
+            .kernel
+            .open_window(&flash, &ram, &area, &mut self.poller);
+        swap(&mut self.poller.ports, ports);
+        swap(&mut self.poller.devices, &mut self.reach.devices);
+        if !opened {
+            return none_made();
+        }
+        self.glider.runner.processor = self.poller.glider.runner.processor;
+        let glided = Glided {
+            made: self.poller.made,
+            at_syscall: self.poller.glider.at_syscall,
+        };
+        if glided.made == 0 {
+            return glided;
+        }
+        self.reach.kernel.set_current(task);
+        self.loaded = true;
+        glided
+    }
+}
