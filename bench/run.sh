@@ -126,11 +126,11 @@ instructions() {
 for image in $compiled; do instructions "$image" 66 "out/$image.img" out/empty.txt; done
 instructions "two instructions" 26 "$data/a.img" out/empty.txt
 instructions "shared memory" 70 out/shared.img out/empty.txt
-instructions "a driver that polls" 230 out/polls.img out/empty.txt
-instructions "32 tasks with timers" 365 out/timers.img timers/script.txt
-instructions "16 clients, 4 servers" 250 out/messages.img out/empty.txt
-instructions "8 lenders, 1 server" 260 out/leases.img out/empty.txt
-instructions "large sample" 162 sample/sample.img sample/script.txt
-instructions "512 tasks with timers" 400 out/timers512.img timers/script.txt
-instructions "507 clients, 4 servers" 270 out/messages512.img out/empty.txt
+instructions "a driver that polls" 210 out/polls.img out/empty.txt
+instructions "32 tasks with timers" 355 out/timers.img timers/script.txt
+instructions "16 clients, 4 servers" 248 out/messages.img out/empty.txt
+instructions "8 lenders, 1 server" 246 out/leases.img out/empty.txt
+instructions "large sample" 158 sample/sample.img sample/script.txt
+instructions "512 tasks with timers" 386 out/timers512.img timers/script.txt
+instructions "507 clients, 4 servers" 260 out/messages512.img out/empty.txt
 exit $short
