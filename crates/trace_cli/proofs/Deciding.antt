@@ -5,26 +5,18 @@ use Rattle.std.proofs.lemmas.Option.{same_Some}
 use Rattle.kernel_abi.specs.Devices.{DeviceData}
 use Rattle.outside_io.specs.Outside.{WhereSeen}
 use Rattle.image_format.specs.Picture.{Picture}
-use Rattle.app_toml.specs.Apps.{AppData}
-use Rattle.image_build.specs.Built.{Built}
 use Rattle.sample_gen.specs.Sample.{sample_app, sample_sources}
-use Rattle.board_model.specs.Script.{Scenario}
-use Rattle.task_table.specs.State.{State}
-use Rattle.snapshot.specs.Restored.{state_in}
 use Rattle.command_line.specs.CommandLine.{Asked, build, run, go, list, sample, migrate, audit, save, resume, debug, is_accepted, job_of}
-use Rattle.command_line.specs.declared.job.Detail.{Detail}
 use Rattle.debug_core.specs.declared.command.Command.{Command}
 use Rattle.debug_core.specs.Reading.{commands_or_fault}
 use Rattle.build_laws.proofs.OnePicture.{one_picture}
-use Rattle.trace_audit.specs.declared.verdict.Verdict as trace
-use Rattle.trace_audit.specs.Verdicts as trace_audit
 use Rattle.trace_audit.proofs.Deciding.{one_verdict}
 use Rattle.trace_cli.specs.Contents.{Why, scenario_of, sample_scenario}
 use Rattle.outside_io.specs.Seen.{FilesSeen}
 use Rattle.trace_cli.specs.Words.{job_in}
-use Rattle.trace_cli.specs.Sources.{File, files_by, MayBe, Are, Reaches, TakesAll, IsBuilt, IsRun, IsListing, IsBuild, IsSample, IsAudit, IsSave, IsResume, IsDebug, first_of, described, sources_in, script_in}
+use Rattle.trace_cli.specs.Sources.{File, files_by, MayBe, Are, Reaches, TakesAll, IsBuilt, first_of, described, sources_in, script_in, scenario_in}
 use Rattle.trace_cli.specs.Verdict as verdict
-use Rattle.trace_cli.specs.Verdict.{Verdict, IsVerdict, Does, runs, lists, builds, samples, saves, resumes, debugs, audits, usage, refused, unread, ran, listed, built, sampled, saved, resumed, debugged, audited}
+use Rattle.trace_cli.specs.Verdict.{Verdict, IsVerdict, Does, usage, refused, unread, ran, built, sampled, debugged, audited}
 use Rattle.trace_cli.specs.Answer.{JobReason, cannot_read, refuses, does, IsUnread, IsRefused, Reason, no_job, of_job}
 use Rattle.trace_cli.proofs.Lists.{is_below}
 use Rattle.trace_cli.proofs.Faulting.{where_seen}
@@ -35,167 +27,23 @@ use Rattle.trace_cli.proofs.Agreeing.{same_files, seen_further, may_further, sam
 same_image : (cs : List (List ℕ)) (a b : Picture) → IsBuilt cs a → IsBuilt cs b → a ≡ b
 same_image cs a b p q = one_picture (described cs) (sources_in cs) a b p.built q.built
 
-same_run : (devices : List DeviceData) (job : Asked) (cs : List (List ℕ)) (n n' : ℕ) (m m' : Detail) (x y : Scenario) → IsRun devices job cs n m x → IsRun devices job cs n' m' y → ran n m x ≡ ran n' m' y
-same_run devices (run image script steps detail) cs n n' m m' x y p q =
-    let bound : n ≡ n' = p.0 ∙ sym q.0 in
-    let seen : m ≡ m' = p.1 ∙ sym q.1 in
-    let scenario : x ≡ y = p.2 ∙ sym q.2 in
-    ap (λ (k : ℕ). ran k m x) bound ∙ ap (λ (d : Detail). ran n' d x) seen ∙ ap (ran n' m') scenario
-same_run devices (go app script steps detail) cs n n' m m' x y p q =
-    let bound : n ≡ n' = p.0 ∙ sym q.0 in
-    let seen : m ≡ m' = p.1 ∙ sym q.1 in
-    let image : p.2.0 ≡ q.2.0 = same_image cs p.2.0 q.2.0 p.2.1 q.2.1 in
-    let scenario : x ≡ y = p.2.2 ∙ ap (λ (i : Picture). scenario_of i (script_in cs) devices) image ∙ sym q.2.2 in
-    ap (λ (k : ℕ). ran k m x) bound ∙ ap (λ (d : Detail). ran n' d x) seen ∙ ap (ran n' m') scenario
-same_run devices job cs n n' m m' x y p q = absurd p
-
-same_listing : (job : Asked) (cs : List (List ℕ)) (a b : Picture) → IsListing job cs a → IsListing job cs b → listed a ≡ listed b
-same_listing (list image) cs a b p q = ap listed (p ∙ sym q)
-same_listing job cs a b p q = absurd p
-
-same_build : (job : Asked) (cs : List (List ℕ)) (o o' : List ℕ) (a b : Picture) → IsBuild job cs o a → IsBuild job cs o' b → built o a ≡ built o' b
-same_build (build app out) cs o o' a b p q =
-    let name : o ≡ o' = p.0 ∙ sym q.0 in
-    let image : a ≡ b = same_image cs a b p.1 q.1 in
-    ap (λ (n : List ℕ). built n a) name ∙ ap (built o') image
-same_build (migrate file out) cs o o' a b p q =
-    let name : o ≡ o' = p.0 ∙ sym q.0 in
-    let image : a ≡ b = p.1 ∙ sym q.1 in
-    ap (λ (n : List ℕ). built n a) name ∙ ap (built o') image
-same_build job cs o o' a b p q = absurd p
-
--- of applications and sources by number
-same_image_at : (app : ℕ → AppData) (sources : ℕ → List (List ℕ)) (s s' : ℕ) (a b : Picture) → s' ≡ s → Built (app s) (sources s) a → Built (app s') (sources s') b → a ≡ b
-same_image_at app sources s s' a b same p q = one_picture (app s) (sources s) a b p (subst (λ (k : ℕ). Built (app k) (sources k) b) same q)
-
-same_sample : (job : Asked) (s s' n n' : ℕ) (x y : Scenario) → IsSample job s n x → IsSample job s' n' y → sampled n x ≡ sampled n' y
-same_sample job s s' n n' x y p q =
-    let both : sample s n ≡ sample s' n' = sym p.is ∙ q.is in
-    let seed : s' ≡ s = seed_of s' s n' n (sym both) in
-    let bound : n ≡ n' = bound_of s s' n n' both in
-    let image : p.image ≡ q.image = same_image_at sample_app sample_sources s s' p.image q.image seed p.built q.built in
-    let scenario : x ≡ y = p.scenario ∙ ap (sample_scenario s) image ∙ ap (λ (k : ℕ). sample_scenario k q.image) (sym seed) ∙ sym q.scenario in
-    ap (λ (k : ℕ). sampled k x) bound ∙ ap (sampled n') scenario
-  where
-    seed_of : (a b c d : ℕ) → sample a c ≡ sample b d → a ≡ b
-    seed_of a b c d e = cc
-
-    bound_of : (a b c d : ℕ) → sample a c ≡ sample b d → c ≡ d
-    bound_of a b c d e = cc
-
-same_saved : (devices : List DeviceData) (job : Asked) (cs : List (List ℕ)) (o o' : List ℕ) (n n' : ℕ) (x y : Scenario) → IsSave devices job cs o n x → IsSave devices job cs o' n' y → saved o n x ≡ saved o' n' y
-same_saved devices (save image script out steps) cs o o' n n' x y p q =
-    let name : o ≡ o' = p.0 ∙ sym q.0 in
-    let bound : n ≡ n' = p.1 ∙ sym q.1 in
-    let scenario : x ≡ y = p.2 ∙ sym q.2 in
-    ap (λ (k : List ℕ). saved k n x) name ∙ ap (λ (k : ℕ). saved o' k x) bound ∙ ap (saved o' n') scenario
-same_saved devices job cs o o' n n' x y p q = absurd p
-
-same_resumed : (devices : List DeviceData) (job : Asked) (cs : List (List ℕ)) (n n' : ℕ) (m m' : Detail) (x y : Scenario) (s t : State) → IsResume devices job cs n m x s → IsResume devices job cs n' m' y t
-    → resumed n m x s ≡ resumed n' m' y t
-same_resumed devices (resume image script file steps detail) cs n n' m m' x y s t p q =
-    let bound : n ≡ n' = p.0 ∙ sym q.0 in
-    let seen : m ≡ m' = p.1 ∙ sym q.1 in
-    let scenario : x ≡ y = p.2 ∙ sym q.2 in
-    let state : s ≡ t = p.3 ∙ ap (λ (z : Scenario). state_in z.setup devices (slice_index_or cs 2 [])) scenario ∙ sym q.3 in
-    ap (λ (k : ℕ). resumed k m x s) bound ∙ ap (λ (d : Detail). resumed n' d x s) seen ∙ ap (λ (z : Scenario). resumed n' m' z s) scenario ∙ ap (resumed n' m' y) state
-same_resumed devices job cs n n' m m' x y s t p q = absurd p
-
 same_commands : (r : Result (List Command) (ℕ × ℕ)) (a b : List Command) → r ≡ Ok a → r ≡ Ok b → a ≡ b
 same_commands r a b p q = cc
 
-same_debugged : (devices : List DeviceData) (job : Asked) (cs : List (List ℕ)) (x y : Scenario) (c d : List Command) → IsDebug devices job cs x c → IsDebug devices job cs y d → debugged x c ≡ debugged y d
-same_debugged devices (debug image script commands) cs x y c d p q =
-    let scenario : x ≡ y = p.0 ∙ sym q.0 in
-    let commands : c ≡ d = same_commands (commands_or_fault (slice_index_or cs 2 [])) c d p.1 q.1 in
-    ap (λ (z : Scenario). debugged z c) scenario ∙ ap (debugged y) commands
-same_debugged devices job cs x y c d p q = absurd p
-
--- an audit is of the first of the files
-audit_first : (job : Asked) (cs : List (List ℕ)) (t : List ℕ) → IsAudit job cs t → t ≡ first_of cs
-audit_first (audit name) cs t p = p
-audit_first job cs t p = absurd p
-
-same_audit : (job : Asked) (cs : List (List ℕ)) (t s : List ℕ) (a b : trace.Verdict) → IsAudit job cs t → IsAudit job cs s → trace_audit.IsVerdict t a → trace_audit.IsVerdict s b → audited a ≡ audited b
-same_audit job cs t s a b p q g h =
-    let text : s ≡ t = audit_first job cs s q ∙ sym (audit_first job cs t p) in
-    ap audited (one_verdict t a b g (subst (λ (u : List ℕ). trace_audit.IsVerdict u b) text h))
-
--- ## and a job is of one kind
-
--- a run, a listing, an image that is put, a sample, an audit, a state that is put, a run from a state, commands
-abbrev job_kind : Asked → ℕ
-job_kind (run image script steps detail) = 0
-job_kind (go app script steps detail) = 0
-job_kind (list image) = 1
-job_kind (build app out) = 2
-job_kind (migrate image out) = 2
-job_kind (sample seed steps) = 3
-job_kind (audit trace) = 4
-job_kind (save image script out steps) = 5
-job_kind (resume image script state steps detail) = 6
-job_kind (debug image script commands) = 7
-
-run_kind : (devices : List DeviceData) (job : Asked) (cs : List (List ℕ)) (n : ℕ) (m : Detail) (x : Scenario) → IsRun devices job cs n m x → 0 ≡ job_kind job
-run_kind devices (run image script steps detail) cs n m x p = refl
-run_kind devices (go app script steps detail) cs n m x p = refl
-run_kind devices job cs n m x p = absurd p
-
-listing_kind : (job : Asked) (cs : List (List ℕ)) (a : Picture) → IsListing job cs a → 1 ≡ job_kind job
-listing_kind (list image) cs a p = refl
-listing_kind job cs a p = absurd p
-
-build_kind : (job : Asked) (cs : List (List ℕ)) (o : List ℕ) (a : Picture) → IsBuild job cs o a → 2 ≡ job_kind job
-build_kind (build app out) cs o a p = refl
-build_kind (migrate file out) cs o a p = refl
-build_kind job cs o a p = absurd p
-
-audit_kind : (job : Asked) (cs : List (List ℕ)) (t : List ℕ) → IsAudit job cs t → 4 ≡ job_kind job
-audit_kind (audit name) cs t p = refl
-audit_kind job cs t p = absurd p
-
-save_kind : (devices : List DeviceData) (job : Asked) (cs : List (List ℕ)) (o : List ℕ) (n : ℕ) (x : Scenario) → IsSave devices job cs o n x → 5 ≡ job_kind job
-save_kind devices (save image script out steps) cs o n x p = refl
-save_kind devices job cs o n x p = absurd p
-
-resume_kind : (devices : List DeviceData) (job : Asked) (cs : List (List ℕ)) (n : ℕ) (m : Detail) (x : Scenario) (s : State) → IsResume devices job cs n m x s → 6 ≡ job_kind job
-resume_kind devices (resume image script state steps detail) cs n m x s p = refl
-resume_kind devices job cs n m x s p = absurd p
-
-debug_kind : (devices : List DeviceData) (job : Asked) (cs : List (List ℕ)) (x : Scenario) (c : List Command) → IsDebug devices job cs x c → 7 ≡ job_kind job
-debug_kind devices (debug image script commands) cs x c p = refl
-debug_kind devices job cs x c p = absurd p
-
-abbrev done_kind : {devices : List DeviceData} {job : Asked} {cs : List (List ℕ)} {v : Verdict} → Does devices job cs v → ℕ
-done_kind (runs n m x p e) = 0
-done_kind (lists a p e) = 1
-done_kind (builds o a p e) = 2
-done_kind (samples s n x p e) = 3
-done_kind (audits t a p g e) = 4
-done_kind (saves o n x p e) = 5
-done_kind (resumes n m x s p e) = 6
-done_kind (debugs x c p e) = 7
-
-kind_of_job : {devices : List DeviceData} {job : Asked} {cs : List (List ℕ)} {v : Verdict} (p : Does devices job cs v) → done_kind p ≡ job_kind job
-kind_of_job {devices} {job} {cs} {v} (runs n m x p e) = run_kind devices job cs n m x p
-kind_of_job {devices} {job} {cs} {v} (lists a p e) = listing_kind job cs a p
-kind_of_job {devices} {job} {cs} {v} (builds o a p e) = build_kind job cs o a p
-kind_of_job {devices} {job} {cs} {v} (samples s n x p e) = sym (ap job_kind p.is)
-kind_of_job {devices} {job} {cs} {v} (audits t a p g e) = audit_kind job cs t p
-kind_of_job {devices} {job} {cs} {v} (saves o n x p e) = save_kind devices job cs o n x p
-kind_of_job {devices} {job} {cs} {v} (resumes n m x s p e) = resume_kind devices job cs n m x s p
-kind_of_job {devices} {job} {cs} {v} (debugs x c p e) = debug_kind devices job cs x c p
-
-same_done : {devices : List DeviceData} (job : Asked) (cs : List (List ℕ)) (u v : Verdict) → Does devices job cs u → Does devices job cs v → u ≡ v
-same_done {devices} job cs u v (runs n m x p e) (runs n' m' y q d) = e ∙ same_run devices job cs n n' m m' x y p q ∙ sym d
-same_done {devices} job cs u v (lists a p e) (lists b q d) = e ∙ same_listing job cs a b p q ∙ sym d
-same_done {devices} job cs u v (builds o a p e) (builds o' b q d) = e ∙ same_build job cs o o' a b p q ∙ sym d
-same_done {devices} job cs u v (samples s n x p e) (samples s' n' y q d) = e ∙ same_sample job s s' n n' x y p q ∙ sym d
-same_done {devices} job cs u v (audits t a p g e) (audits s b q h d) = e ∙ same_audit job cs t s a b p q g h ∙ sym d
-same_done {devices} job cs u v (saves o n x p e) (saves o' n' y q d) = e ∙ same_saved devices job cs o o' n n' x y p q ∙ sym d
-same_done {devices} job cs u v (resumes n m x s p e) (resumes n' m' y t q d) = e ∙ same_resumed devices job cs n n' m m' x y s t p q ∙ sym d
-same_done {devices} job cs u v (debugs x c p e) (debugs y b q d) = e ∙ same_debugged devices job cs x y c b p q ∙ sym d
-same_done {devices} job cs u v p q = let one : done_kind p ≡ done_kind q = kind_of_job p ∙ sym (kind_of_job q) in absurd (omega arith)
+same_done : (devices : List DeviceData) (job : Asked) (cs : List (List ℕ)) (u v : Verdict) → Does devices job cs u → Does devices job cs v → u ≡ v
+same_done devices (build app out) cs u v p q = p.2 ∙ ap (built out) (same_image cs p.0 q.0 p.1 q.1) ∙ sym q.2
+same_done devices (run image script steps detail) cs u v p q = p ∙ sym q
+same_done devices (go app script steps detail) cs u v p q =
+    p.2 ∙ ap (λ (i : Picture). ran steps detail (scenario_of i (script_in cs) devices)) (same_image cs p.0 q.0 p.1 q.1) ∙ sym q.2
+same_done devices (list image) cs u v p q = p ∙ sym q
+same_done devices (sample seed steps) cs u v p q =
+    p.2 ∙ ap (λ (i : Picture). sampled steps (sample_scenario seed i)) (one_picture (sample_app seed) (sample_sources seed) p.0 q.0 p.1 q.1) ∙ sym q.2
+same_done devices (migrate image out) cs u v p q = p ∙ sym q
+same_done devices (audit name) cs u v p q = p.2 ∙ ap audited (one_verdict (first_of cs) p.0 q.0 p.1 q.1) ∙ sym q.2
+same_done devices (save image script out steps) cs u v p q = p ∙ sym q
+same_done devices (resume image script state steps detail) cs u v p q = p ∙ sym q
+same_done devices (debug image script name) cs u v p q =
+    p.2 ∙ ap (debugged (scenario_in devices cs)) (same_commands (commands_or_fault (slice_index_or cs 2 [])) p.0 q.0 p.1 q.1) ∙ sym q.2
 
 -- ## three ways in which lengths meet
 
@@ -296,7 +144,7 @@ all_same {devices} seen job cs ds u v are may p q = by_length (meets (length cs)
       absurd (no_file (files_by devices job ds) (length ds) t.0 may.all t.1)
   by_length (same e) =
       let contents = same_contents seen devices job cs ds are.takes may.takes e in
-      same_done job ds v u q (subst (λ (xs : List (List ℕ)). Does devices job xs u) contents p)
+      same_done devices job ds v u q (subst (λ (xs : List (List ℕ)). Does devices job xs u) contents p)
 
 -- ## the verdict
 

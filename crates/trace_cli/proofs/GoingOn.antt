@@ -26,7 +26,6 @@ use Rattle.command_line.specs.declared.job.Detail.{Detail}
 use Rattle.snapshot.specs.declared.records.Header.{Header}
 use Rattle.snapshot.specs.Loaded.{sites}
 use Rattle.snapshot.specs.Records.{header_at}
-use Rattle.snapshot.specs.Restored.{state_in}
 use Rattle.snapshot.specs.Saved.{expected_of, parts_of}
 use Rattle.snapshot.specs.Waits.{state_fault}
 use Rattle.snapshot.proofs.Accepts.{accepted}
@@ -139,7 +138,7 @@ goes_on {devices} words a b w w' r each = λ image_name script_name state_name i
     } in
     let rest : Verdict = rest_of_run (run_of Calls n x).last.turn m detail x in
     let ok = state_accepted devices (picture_of image) m bytes state_ok in
-    by job rest at (each job at contents m detail x (state_in x.setup devices bytes) rest all (refl, refl, refl, refl) (rest_spelled n m detail x ok.0 ok.1))
+    by job rest at (each job at contents rest all (rest_spelled n m detail x ok.0 ok.1))
   where
     by : (job : Asked) (v : Verdict) → job_in words ≡ Some job → Tells a b w w' v r ⊎ TellsUnread devices job a b w w' r → Answered devices words a b w w' v r
     by job v at (inl t) = inl t

@@ -4,7 +4,7 @@ use Rattle.kernel_abi.specs.Devices.{DeviceData}
 use Rattle.command_line.specs.CommandLine.{Asked}
 use Rattle.outside_io.specs.Seen.{FilesSeen, SinkSeen}
 use Rattle.trace_cli.specs.Verdict.{Verdict, IsVerdict}
-use Rattle.trace_cli.specs.Answer.{Answered, TellsEach, GoesOn, HasFront, HasPlayed, HasDone, HasRefused, HasUnread, HasAudited}
+use Rattle.trace_cli.specs.Answer.{Answered, TellsEach, GoesOn, HasFront, HasDone, HasRefused, HasUnread}
 
 pub no_devices : {A : Type 0} (shown : A → DeviceData) (xs : List A) → xs ≡ [] → map shown xs ≡ []
 no_devices shown xs none = ap (map shown) none
@@ -26,14 +26,8 @@ module _ (devices : List DeviceData) (none : devices ≡ []) where
   pub unread_without : (words : List (List ℕ)) (a b : FilesSeen) (w w' : SinkSeen) → HasUnread devices words a b w w' → HasUnread [] words a b w w'
   unread_without words a b w w' h = subst (λ (ds : List DeviceData). HasUnread ds words a b w w') none h
 
-  pub audited_without : (words : List (List ℕ)) (seen : List ℕ → Option (List ℕ)) (w w' : SinkSeen) (r : ℕ) → HasAudited devices words seen w w' r → HasAudited [] words seen w w' r
-  audited_without words seen w w' r h = subst (λ (ds : List DeviceData). HasAudited ds words seen w w' r) none h
-
-  pub played_without : (words : List (List ℕ)) (seen : List ℕ → Option (List ℕ)) (w w' : SinkSeen) (r : ℕ) → HasPlayed devices words seen w w' r → HasPlayed [] words seen w w' r
-  played_without words seen w w' r h = subst (λ (ds : List DeviceData). HasPlayed ds words seen w w' r) none h
-
-  pub done_without : (words : List (List ℕ)) (a b : FilesSeen) (w w' : SinkSeen) → HasDone devices words a b w w' → HasDone [] words a b w w'
-  done_without words a b w w' h = subst (λ (ds : List DeviceData). HasDone ds words a b w w') none h
+  pub done_without : (words : List (List ℕ)) (a b : FilesSeen) (w w' : SinkSeen) (r : ℕ) → HasDone devices words a b w w' r → HasDone [] words a b w w' r
+  done_without words a b w w' r h = subst (λ (ds : List DeviceData). HasDone ds words a b w w' r) none h
 
   pub each_without : (job : Asked) (a b : FilesSeen) (w w' : SinkSeen) (r : ℕ) → TellsEach devices job a b w w' r → TellsEach [] job a b w w' r
   each_without job a b w w' r h = subst (λ (ds : List DeviceData). TellsEach ds job a b w w' r) none h

@@ -10,7 +10,6 @@ use Rattle.board_model.specs.Script.{Scenario, start_of}
 use Rattle.board_core.specs.Opened as opened
 use Rattle.run_script.specs.Scripts.{ScriptData}
 use Rattle.task_table.specs.State.{State}
-use Rattle.snapshot.specs.Restored.{state_in}
 use Rattle.board_core.specs.Stands.{Stands, Stood, turns_of}
 use Rattle.outside_io.specs.Outside.{Rose}
 use Rattle.audit_runs.specs.Last.{IsGoodText}
@@ -23,12 +22,12 @@ use Rattle.trace_cli.specs.declared.file_faults.NamedFault.{NamedFault}
 use Rattle.trace_cli.specs.declared.file_faults.NamedFault.TheVariants as named_faults
 use Rattle.trace_cli.specs.Contents.{Why, picture_of, scenario_of, script_of, state_refusal, application_of}
 use Rattle.outside_io.specs.Seen.{FilesSeen, SinkSeen}
-use Rattle.trace_cli.specs.Sources.{File, image_file, script_file, state_file, trace_file, commands_file, files_of, files_to_build, first_of, MayBe, Takes, IsBuilt, script_in}
+use Rattle.trace_cli.specs.Sources.{File, image_file, script_file, state_file, trace_file, commands_file, files_of, files_by, files_to_build, first_of, MayBe, Takes, IsBuilt, script_in, scenario_in, state_by}
 use Rattle.trace_cli.specs.FileFaults.{IsNamedFaultOf}
 use Rattle.trace_cli.specs.Building.{IsImage, IsNamedFaultInApp}
 use Rattle.trace_cli.specs.Ready.{IsImageFile, IsScriptFile, IsSet, IsReady, IsSaveReady, IsLoaded, IsStateSet, IsResumable, IsCommandsFile, IsDebugReady, IsAuditOf, IsNamedFaultIn}
 use Rattle.trace_cli.specs.Pushed.{Pushed, whole, cut, Says, pushed, silent, IsSilent, SaysNamedFault}
-use Rattle.trace_cli.specs.Verdict.{Verdict, runs, lists, builds, saves, resumes, debugs, audits, refused, unread, ran, listed, built, saved, resumed, debugged, audited}
+use Rattle.trace_cli.specs.Verdict.{Verdict, refused, unread, ran, listed, built, saved, resumed, debugged, audited}
 use Rattle.trace_cli.specs.Answer as answer
 use Rattle.trace_cli.specs.Answer.{JobReason, cannot_read, refuses, does, IsShort, HasPut, HasSpoiled, Tells, IsOfRun, TellsGood, AnswersJob}
 use Rattle.trace_cli.proofs.Lists.{at_end, longer, takes_none, takes_first, takes_wider, takes_last, get_more, get_last}
@@ -43,6 +42,23 @@ ready_there {X} {H} {shown} {devices} {job} {seen} {n} {detail} {r} {b} is h = s
 -- what is set up by the same contents elsewhere
 pub set_there : {X : Type 0} {H : X → Type 0} {shown : Shows X H} {devices : List DeviceData} {seen seen' : List ℕ → Option (List ℕ)} {picture : Picture} {script : List ℕ} {b : Board X H} → seen ≡ seen' → IsSet shown devices seen picture script b → IsSet shown devices seen' picture script b
 set_there {X} {H} {shown} {devices} {seen} {seen'} {picture} {script} {b} same h = subst (λ (t : List ℕ → Option (List ℕ)). IsSet shown devices t picture script b) same h
+
+-- ## a file that is not accepted
+
+-- the first of a job
+faults_first : {devices : List DeviceData} (job : Asked) (f : File) (a c : FilesSeen) (h : NamedFault) → slice_get (files_of devices job []) 0 ≡ Some f → IsNamedFaultOf a c f h → IsNamedFaultIn devices job a c h
+faults_first {devices} job f a c h next fault = record {
+  contents = [];
+  at = record { takes = takes_none (MayBe a.contents) (files_of devices job []); file = f; next = next; fault = fault };
+}
+
+-- one behind others that are accepted
+faults_at : {devices : List DeviceData} (job : Asked) (contents : List (List ℕ)) (f : File) (a b c : FilesSeen) (h : NamedFault) → Takes (MayBe a.contents) (files_by devices job contents) contents
+    → slice_get (files_by devices job contents) (length contents) ≡ Some f → b.contents ≡ a.contents → a.read_faults ≤ b.read_faults → IsNamedFaultOf b c f h → IsNamedFaultIn devices job a c h
+faults_at job contents f a b c h takes next seen later fault = record {
+  contents = contents;
+  at = record { takes = takes; file = f; next = next; fault = faults_earlier a b c f h seen later fault };
+}
 
 -- ## `run`
 
@@ -59,28 +75,17 @@ run_ready {X} {H} {shown} {devices} seen image script n detail picture b i s = r
     all = refl;
   };
   scenario = scenario_of picture s.script devices;
-  is = (refl, refl, ap (λ (p : Picture). scenario_of p s.script devices) i.is);
+  done = ap (λ (p : Picture). ran n detail (scenario_of p s.script devices)) i.is;
   stands = s.stands;
   turns = s.turns;
 }
 
 pub run_image_faults : {devices : List DeviceData} (a c : FilesSeen) (image script : List ℕ) (n : ℕ) (detail : Detail) (h : NamedFault) → IsNamedFaultOf a c (image_file image) h → IsNamedFaultIn devices (run image script n detail) a c h
-run_image_faults a c image script n detail h fault = record {
-  contents = [];
-  at = record { takes = takes_none (MayBe a.contents) (image_file image ∷ script_file script ∷ []); file = image_file image; next = refl; fault = fault };
-}
+run_image_faults a c image script n detail h fault = faults_first (run image script n detail) (image_file image) a c h refl fault
 
 pub run_script_faults : {devices : List DeviceData} (a b c : FilesSeen) (image script : List ℕ) (n : ℕ) (detail : Detail) (picture : Picture) (h : NamedFault) → IsImageFile a.contents image picture → b.contents ≡ a.contents
     → a.read_faults ≤ b.read_faults → IsNamedFaultOf b c (script_file script) h → IsNamedFaultIn devices (run image script n detail) a c h
-run_script_faults a b c image script n detail picture h i seen later fault = record {
-  contents = i.bytes ∷ [];
-  at = record {
-    takes = one_file a.contents image picture (script_file script ∷ []) i;
-    file = script_file script;
-    next = refl;
-    fault = faults_earlier a b c (script_file script) h seen later fault;
-  };
-}
+run_script_faults a b c image script n detail picture h i seen later fault = faults_at (run image script n detail) (i.bytes ∷ []) (script_file script) a b c h (one_file a.contents image picture (script_file script ∷ []) i) refl seen later fault
 
 -- ## `save`
 
@@ -104,28 +109,17 @@ save_ready {X} {H} {shown} {devices} seen image script out n picture b i s = rec
     all = refl;
   };
   scenario = scenario_of picture s.script devices;
-  is = (refl, refl, ap (λ (p : Picture). scenario_of p s.script devices) i.is);
+  done = ap (λ (p : Picture). saved out n (scenario_of p s.script devices)) i.is;
   stands = s.stands;
   turns = s.turns;
 }
 
 pub save_image_faults : {devices : List DeviceData} (a c : FilesSeen) (image script out : List ℕ) (n : ℕ) (h : NamedFault) → IsNamedFaultOf a c (image_file image) h → IsNamedFaultIn devices (save image script out n) a c h
-save_image_faults a c image script out n h fault = record {
-  contents = [];
-  at = record { takes = takes_none (MayBe a.contents) (image_file image ∷ script_file script ∷ []); file = image_file image; next = refl; fault = fault };
-}
+save_image_faults a c image script out n h fault = faults_first (save image script out n) (image_file image) a c h refl fault
 
 pub save_script_faults : {devices : List DeviceData} (a b c : FilesSeen) (image script out : List ℕ) (n : ℕ) (picture : Picture) (h : NamedFault) → IsImageFile a.contents image picture → b.contents ≡ a.contents
     → a.read_faults ≤ b.read_faults → IsNamedFaultOf b c (script_file script) h → IsNamedFaultIn devices (save image script out n) a c h
-save_script_faults a b c image script out n picture h i seen later fault = record {
-  contents = i.bytes ∷ [];
-  at = record {
-    takes = one_file a.contents image picture (script_file script ∷ []) i;
-    file = script_file script;
-    next = refl;
-    fault = faults_earlier a b c (script_file script) h seen later fault;
-  };
-}
+save_script_faults a b c image script out n picture h i seen later fault = faults_at (save image script out n) (i.bytes ∷ []) (script_file script) a b c h (one_file a.contents image picture (script_file script ∷ []) i) refl seen later fault
 
 -- ## `resume`
 
@@ -143,7 +137,6 @@ resume_ready {X} {H} {shown} {devices} seen image script state m detail picture 
     let accepted : state_refusal devices (picture_of i.bytes) m t.bytes ≡ None = subst (λ (p : Picture). state_refusal devices p m t.bytes ≡ None) i.is t.accepted in
     let of_image : IsLoaded shown (opened.scenario_of (picture_of i.bytes) events devices) t.bytes b = subst (λ (p : Picture). IsLoaded shown (opened.scenario_of p events devices) t.bytes b) i.is t.loaded in
     let loaded : IsLoaded shown (opened.scenario_of (picture_of i.bytes) (script_of s.bytes) devices) t.bytes b = subst (λ (d : ScriptData). IsLoaded shown (opened.scenario_of (picture_of i.bytes) d devices) t.bytes b) s.is of_image in
-    let x : Scenario = scenario_of (picture_of i.bytes) s.bytes devices in
     record {
       contents = i.bytes ∷ s.bytes ∷ t.bytes ∷ [];
       accepted = record {
@@ -152,9 +145,7 @@ resume_ready {X} {H} {shown} {devices} seen image script state m detail picture 
             (takes_first (MayBe seen) file [] t.bytes [] t.held accepted (takes_none (MayBe seen) [])));
         all = refl;
       };
-      scenario = x;
-      state = state_in x.setup devices t.bytes;
-      is = (refl, refl, refl, refl);
+      done = refl;
       start = loaded.start;
       stands = loaded.stands;
       each = loaded.each;
@@ -162,22 +153,11 @@ resume_ready {X} {H} {shown} {devices} seen image script state m detail picture 
     }
 
 pub resume_image_faults : {devices : List DeviceData} (a c : FilesSeen) (image script state : List ℕ) (m : ℕ) (detail : Detail) (h : NamedFault) → IsNamedFaultOf a c (image_file image) h → IsNamedFaultIn devices (resume image script state m detail) a c h
-resume_image_faults {devices} a c image script state m detail h fault = record {
-  contents = [];
-  at = record { takes = takes_none (MayBe a.contents) (files_of devices (resume image script state m detail) []); file = image_file image; next = refl; fault = fault };
-}
+resume_image_faults a c image script state m detail h fault = faults_first (resume image script state m detail) (image_file image) a c h refl fault
 
 pub resume_script_faults : {devices : List DeviceData} (a b c : FilesSeen) (image script state : List ℕ) (m : ℕ) (detail : Detail) (picture : Picture) (h : NamedFault) → IsImageFile a.contents image picture → b.contents ≡ a.contents
     → a.read_faults ≤ b.read_faults → IsNamedFaultOf b c (script_file script) h → IsNamedFaultIn devices (resume image script state m detail) a c h
-resume_script_faults {devices} a b c image script state m detail picture h i seen later fault = record {
-  contents = i.bytes ∷ [];
-  at = record {
-    takes = one_file a.contents image picture (script_file script ∷ state_file devices (picture_of i.bytes) m state ∷ []) i;
-    file = script_file script;
-    next = refl;
-    fault = faults_earlier a b c (script_file script) h seen later fault;
-  };
-}
+resume_script_faults {devices} a b c image script state m detail picture h i seen later fault = faults_at (resume image script state m detail) (i.bytes ∷ []) (script_file script) a b c h (one_file a.contents image picture (script_file script ∷ state_file devices (picture_of i.bytes) m state ∷ []) i) refl seen later fault
 
 pub resume_state_faults : {devices : List DeviceData} (a b c : FilesSeen) (image script state : List ℕ) (m : ℕ) (detail : Detail) (picture : Picture) (events : ScriptData) (h : NamedFault) → IsImageFile a.contents image picture → IsScriptFile a.contents script events
     → b.contents ≡ a.contents → a.read_faults ≤ b.read_faults → IsNamedFaultOf b c (state_file devices picture m state) h → IsNamedFaultIn devices (resume image script state m detail) a c h
@@ -220,75 +200,47 @@ debug_ready {X} {H} {shown} {devices} seen image script name picture events comm
         all = refl;
       };
       scenario = scenario_of (picture_of i.bytes) s.bytes devices;
-      is = (refl, c.is);
+      done = (commands, c.is, refl);
       stands = subst (λ (d : ScriptData). Stands shown (opened.scenario_of (picture_of i.bytes) d devices) b (start_of (opened.scenario_of (picture_of i.bytes) d devices))) s.is of_image;
     }
 
 pub debug_image_faults : {devices : List DeviceData} (a c : FilesSeen) (image script name : List ℕ) (h : NamedFault) → IsNamedFaultOf a c (image_file image) h → IsNamedFaultIn devices (debug image script name) a c h
-debug_image_faults {devices} a c image script name h fault = record {
-  contents = [];
-  at = record { takes = takes_none (MayBe a.contents) (files_of devices (debug image script name) []); file = image_file image; next = refl; fault = fault };
-}
+debug_image_faults a c image script name h fault = faults_first (debug image script name) (image_file image) a c h refl fault
 
 pub debug_script_faults : {devices : List DeviceData} (a b c : FilesSeen) (image script name : List ℕ) (picture : Picture) (h : NamedFault) → IsImageFile a.contents image picture → b.contents ≡ a.contents
     → a.read_faults ≤ b.read_faults → IsNamedFaultOf b c (script_file script) h → IsNamedFaultIn devices (debug image script name) a c h
-debug_script_faults a b c image script name picture h i seen later fault = record {
-  contents = i.bytes ∷ [];
-  at = record {
-    takes = one_file a.contents image picture (script_file script ∷ commands_file name ∷ []) i;
-    file = script_file script;
-    next = refl;
-    fault = faults_earlier a b c (script_file script) h seen later fault;
-  };
-}
+debug_script_faults a b c image script name picture h i seen later fault = faults_at (debug image script name) (i.bytes ∷ []) (script_file script) a b c h (one_file a.contents image picture (script_file script ∷ commands_file name ∷ []) i) refl seen later fault
 
 pub debug_commands_faults : {devices : List DeviceData} (a b c : FilesSeen) (image script name : List ℕ) (picture : Picture) (events : ScriptData) (h : NamedFault) → IsImageFile a.contents image picture → IsScriptFile a.contents script events
     → b.contents ≡ a.contents → a.read_faults ≤ b.read_faults → IsNamedFaultOf b c (commands_file name) h → IsNamedFaultIn devices (debug image script name) a c h
-debug_commands_faults a b c image script name picture events h i s seen later fault = record {
-  contents = i.bytes ∷ s.bytes ∷ [];
-  at = record {
-    takes = two_files a.contents image script picture events (commands_file name ∷ []) i s;
-    file = commands_file name;
-    next = refl;
-    fault = faults_earlier a b c (commands_file name) h seen later fault;
-  };
-}
+debug_commands_faults a b c image script name picture events h i s seen later fault = faults_at (debug image script name) (i.bytes ∷ s.bytes ∷ []) (commands_file name) a b c h (two_files a.contents image script picture events (commands_file name ∷ []) i s) refl seen later fault
 
 -- ## `list`
 
 pub list_faults : {devices : List DeviceData} (a c : FilesSeen) (image : List ℕ) (h : NamedFault) → IsNamedFaultOf a c (image_file image) h → IsNamedFaultIn devices (list image) a c h
-list_faults a c image h fault = record {
-  contents = [];
-  at = record { takes = takes_none (MayBe a.contents) (image_file image ∷ []); file = image_file image; next = refl; fault = fault };
-}
+list_faults a c image h fault = faults_first (list image) (image_file image) a c h refl fault
 
 pub list_reason : {devices : List DeviceData} (a b : FilesSeen) (image : List ℕ) (picture : Picture) → IsImageFile a.contents image picture → JobReason devices (list image) a b (listed picture)
-list_reason a b image picture i = does (i.bytes ∷ []) (record { takes = one_file a.contents image picture [] i; all = refl }) (lists picture i.is refl)
+list_reason a b image picture i = does (i.bytes ∷ []) (record { takes = one_file a.contents image picture [] i; all = refl }) (ap listed i.is)
 
 -- ## `migrate`
 
 pub migrate_faults : {devices : List DeviceData} (a c : FilesSeen) (image out : List ℕ) (h : NamedFault) → IsNamedFaultOf a c (image_file image) h → IsNamedFaultIn devices (migrate image out) a c h
-migrate_faults a c image out h fault = record {
-  contents = [];
-  at = record { takes = takes_none (MayBe a.contents) (image_file image ∷ []); file = image_file image; next = refl; fault = fault };
-}
+migrate_faults a c image out h fault = faults_first (migrate image out) (image_file image) a c h refl fault
 
 migrate_reason : {devices : List DeviceData} (a b : FilesSeen) (image out : List ℕ) (picture : Picture) → IsImageFile a.contents image picture → JobReason devices (migrate image out) a b (built out picture)
 migrate_reason a b image out picture i =
-    does (i.bytes ∷ []) (record { takes = one_file a.contents image picture [] i; all = refl }) (builds out picture (refl, i.is) refl)
+    does (i.bytes ∷ []) (record { takes = one_file a.contents image picture [] i; all = refl }) (ap (built out) i.is)
 
 -- ## `audit`
 
 pub audit_faults : {devices : List DeviceData} (a c : FilesSeen) (name : List ℕ) (h : NamedFault) → IsNamedFaultOf a c (trace_file name) h → IsNamedFaultIn devices (audit name) a c h
-audit_faults a c name h fault = record {
-  contents = [];
-  at = record { takes = takes_none (MayBe a.contents) (trace_file name ∷ []); file = trace_file name; next = refl; fault = fault };
-}
+audit_faults a c name h fault = faults_first (audit name) (trace_file name) a c h refl fault
 
 audit_reason : {devices : List DeviceData} (a b : FilesSeen) (name : List ℕ) (found : trace.Verdict) → IsAuditOf a.contents name found → JobReason devices (audit name) a b (audited found)
 audit_reason a b name found i =
     does (i.bytes ∷ []) (record { takes = takes_first (MayBe a.contents) (trace_file name) [] i.bytes [] i.held i.accepted (takes_none (MayBe a.contents) []); all = refl })
-    (audits i.bytes found refl i.verdict refl)
+    (found, i.verdict, refl)
 
 pub audited_alone : (found : trace.Verdict) → (audited found).put ≡ None
 audited_alone (Yes calls left) = refl
@@ -298,7 +250,7 @@ audited_alone (No line) = refl
 
 pub build_reason : {devices : List DeviceData} (a b : FilesSeen) (app out : List ℕ) (picture : Picture) → IsImage a.contents app picture → JobReason devices (build app out) a b (built out picture)
 build_reason a b app out picture i =
-    does (i.bytes ∷ i.sources) (record { takes = i.each.takes; all = i.each.all }) (builds out picture (refl, i.is) refl)
+    does (i.bytes ∷ i.sources) (record { takes = i.each.takes; all = i.each.all }) (picture, i.is, refl)
 
 pub build_faults : {devices : List DeviceData} (a c : FilesSeen) (app out : List ℕ) (h : NamedFault) → IsNamedFaultInApp a c app h → IsNamedFaultIn devices (build app out) a c h
 build_faults a c app out h i = record { contents = i.contents; at = i.at }
@@ -337,7 +289,7 @@ go_ready {X} {H} {shown} {devices} seen app script n detail picture b i s =
         all = longer files (script_file script) ∙ ap suc i.each.all ∙ sym (longer (i.bytes ∷ i.sources) s.script);
       };
       scenario = scenario_of picture s.script devices;
-      is = (refl, refl, (picture, go_image i.bytes i.sources s.script picture count i.is, ap (λ (t : List ℕ). scenario_of picture t devices) (sym (go_script i.bytes i.sources s.script count))));
+      done = (picture, go_image i.bytes i.sources s.script picture count i.is, ap (λ (t : List ℕ). ran n detail (scenario_of picture t devices)) (sym (go_script i.bytes i.sources s.script count)));
       stands = s.stands;
       turns = s.turns;
     }
@@ -432,24 +384,25 @@ pub answers_run : {X : Type 0} {H : X → Type 0} {shown : Shows X H} {devices :
 answers_run job a b w w' n detail bd r same ready tells good =
     let x = ready.scenario in
     let told : resumed n detail x (start_of x) ≡ ran n detail x = told_from_start n detail x bd ready.stands ready.turns in
-    answers_pushed job a b w w' (ran n detail x) r same refl (does ready.contents ready.accepted (runs n detail x ready.is refl))
+    answers_pushed job a b w w' (ran n detail x) r same refl (does ready.contents ready.accepted ready.done)
     (tells_good job (ran n detail x) r (λ of_run. subst (λ (v : Verdict). IsGoodText v.text) told (good x ready.stands of_run)))
     (subst (λ (v : Verdict). Pushed w w' v r) told (tells x (start_of x) ready.stands))
 
 pub answers_resumed : {X : Type 0} {H : X → Type 0} {shown : Shows X H} {devices : List DeviceData} (image script state : List ℕ) (a b : FilesSeen) (w w' : SinkSeen) (m : ℕ) (detail : Detail) (bd : Board X H) (r : ℕ) → b.contents ≡ a.contents
     → IsResumable shown devices (resume image script state m detail) a.contents m detail bd → ((x : Scenario) (s : State) → Stands shown x bd s → Pushed w w' (resumed m detail x s) r) → AnswersJob devices (resume image script state m detail) a b w w' r
-answers_resumed image script state a b w w' m detail bd r same h tells =
-    answers_pushed (resume image script state m detail) a b w w' (resumed m detail h.scenario h.state) r same refl
-    (does h.contents h.accepted (resumes m detail h.scenario h.state h.is refl)) tt (tells h.scenario h.state h.stands)
+answers_resumed {devices = devices} image script state a b w w' m detail bd r same h tells =
+    let x = scenario_in devices h.contents in
+    answers_pushed (resume image script state m detail) a b w w' (resumed m detail x (state_by devices h.contents)) r same refl
+    (does h.contents h.accepted h.done) tt (tells x (state_by devices h.contents) h.stands)
 
 pub answers_debugged : {X : Type 0} {H : X → Type 0} {shown : Shows X H} {devices : List DeviceData} (image script name : List ℕ) (a b : FilesSeen) (w w' : SinkSeen) (commands : List Command) (bd : Board X H) (r : ℕ) → b.contents ≡ a.contents
     → IsDebugReady shown devices (debug image script name) a.contents commands bd → ((x : Scenario) → Stands shown x bd (start_of x) → Says w w' (debugged x commands) r) → AnswersJob devices (debug image script name) a b w w' r
 answers_debugged image script name a b w w' commands bd r same h says =
     answers_said (debug image script name) a b w w' (debugged h.scenario commands) r same refl
-    (does h.contents h.accepted (debugs h.scenario commands h.is refl)) tt (says h.scenario h.stands)
+    (does h.contents h.accepted h.done) tt (says h.scenario h.stands)
 
 pub resumable_stood : {X : Type 0} {H : X → Type 0} {shown : Shows X H} {devices : List DeviceData} (job : Asked) (seen : List ℕ → Option (List ℕ)) (m : ℕ) (detail : Detail) (bd : Board X H) → IsResumable shown devices job seen m detail bd → Stood shown bd × (turns_of bd ≤ m)
-resumable_stood job seen m detail bd h = ((h.scenario, h.state, h.stands), h.turns)
+resumable_stood {devices = devices} job seen m detail bd h = ((scenario_in devices h.contents, state_by devices h.contents, h.stands), h.turns)
 
 pub save_stood : {X : Type 0} {H : X → Type 0} {shown : Shows X H} {devices : List DeviceData} (job : Asked) (seen : List ℕ → Option (List ℕ)) (out : List ℕ) (n : ℕ) (bd : Board X H) → IsSaveReady shown devices job seen out n bd → Stood shown bd × (turns_of bd ≡ 0)
 save_stood job seen out n bd h = ((h.scenario, start_of h.scenario, h.stands), h.turns)
@@ -486,7 +439,7 @@ pub answers_saved : {X : Type 0} {H : X → Type 0} {shown : Shows X H} {devices
     → IsSaveReady shown devices (save image script out n) a.contents out n bd → ((x : Scenario) → Stands shown x bd (start_of x) → Tells b c w w' (saved out n x) r) → AnswersJob devices (save image script out n) a c w w' r
 answers_saved image script out a b c w w' n bd r same puts h tells =
     let x = h.scenario in
-    inr (saved out n x, does h.contents h.accepted (saves out n x h.is refl), tells_earlier a b c w w' (saved out n x) r same puts (tells x h.stands), tt)
+    inr (saved out n x, does h.contents h.accepted h.done, tells_earlier a b c w w' (saved out n x) r same puts (tells x h.stands), tt)
 
 pub answers_audited : {devices : List DeviceData} (a b : FilesSeen) (w w' : SinkSeen) (name : List ℕ) (found : trace.Verdict) (r : ℕ) → b.contents ≡ a.contents → IsAuditOf a.contents name found → Says w w' (audited found) r
     → AnswersJob devices (audit name) a b w w' r

@@ -10,7 +10,7 @@ use Rattle.command_line.specs.declared.job.Detail.{Detail}
 use Rattle.trace_cli.specs.Contents.{Why, image_refusal, script_refusal, picture_of, application_of, scenario_of}
 use Rattle.trace_cli.specs.Words.{job_in}
 use Rattle.trace_cli.specs.Sources.{File, image_file, script_file, files_to_build, Are, Takes, Reaches, TakesAll, IsBuilt, script_in}
-use Rattle.trace_cli.specs.Verdict.{Verdict, IsVerdict, no_job, refuses, does, Does, runs, lists, builds, samples, saves, resumes, debugs, audits, refused, ran}
+use Rattle.trace_cli.specs.Verdict.{Verdict, IsVerdict, no_job, refuses, does, Does, refused, ran}
 use Rattle.trace_cli.specs.Answer.{HasPut}
 use Rattle.trace_cli.proofs.Lists.{longer, is_below, takes_wider, takes_last}
 use Rattle.trace_cli.proofs.Taking.{as_many_sources}
@@ -39,26 +39,8 @@ has_image : {devices : List DeviceData} (seen : List ℕ → Option (List ℕ)) 
 has_image seen app out [] image all is = let none = all.all in absurd (omega arith)
 has_image seen app out (c ∷ cs) image all is = record { bytes = c; sources = cs; takes = all.takes; all = all.all; is = is }
 
--- another command is no sample
-no_sample : (app out : List ℕ) (s n : ℕ) → build app out ≡ sample s n → ⊥
-no_sample app out s n e = cc
-
-no_sample_run : (image script : List ℕ) (n : ℕ) (detail : Detail) (s k : ℕ) → run image script n detail ≡ sample s k → ⊥
-no_sample_run image script n detail s k e = cc
-
 made_by : {devices : List DeviceData} (seen : List ℕ → Option (List ℕ)) (app out : List ℕ) (cs : List (List ℕ)) (b : Verdict) → TakesAll (Are seen) devices (build app out) cs → Does devices (build app out) cs b → IsMade seen app out b
-made_by seen app out cs b all (runs n m x is e) = absurd is
-made_by seen app out cs b all (lists i is e) = absurd is
-made_by seen app out cs b all (audits t found is v e) = absurd is
-made_by seen app out cs b all (saves o n x is e) = absurd is
-made_by seen app out cs b all (resumes n m x s is e) = absurd is
-made_by seen app out cs b all (debugs x c is e) = absurd is
-made_by seen app out cs b all (samples s n x is e) = absurd (no_sample app out s n is.is)
-made_by seen app out cs b all (builds o i is e) = record {
-  image = i;
-  has = has_image seen app out cs i all is.1;
-  put = ap (λ (u : Verdict). u.put) e ∙ ap (λ (name : List ℕ). Some (name, spelling i)) is.0;
-}
+made_by seen app out cs b all p = record { image = p.0; has = has_image seen app out cs p.0 all p.1; put = ap (λ (u : Verdict). u.put) p.2 }
 
 made : {devices : List DeviceData} (words : List (List ℕ)) (seen : List ℕ → Option (List ℕ)) (app out : List ℕ) (b : Verdict) → job_in words ≡ Some (build app out) → IsVerdict devices words seen b → b.status ≡ 0 → IsMade seen app out b
 made {devices} words seen app out b at (no_job none e) zero = absurd (no_job_of words (build app out) none at)
@@ -90,7 +72,7 @@ go_runs {devices} words seen app script n detail image bytes w at h held accepte
           (takes_wider (Are seen) files (script_file script ∷ []) (h.bytes ∷ h.sources) h.takes)
           (files_then files (script_file script) (length (h.bytes ∷ h.sources)) h.all) held accepted;
       all = longer files (script_file script) ∙ ap suc h.all ∙ sym (longer (h.bytes ∷ h.sources) bytes);
-    }) (runs n detail (scenario_of image bytes devices) (refl, refl, (image, go_image h.bytes h.sources bytes image count h.is, scenario)) e)
+    }) (image, go_image h.bytes h.sources bytes image count h.is, e ∙ ap (ran n detail) scenario)
 
 -- ## from the verdict of `run` to that of `go`
 
@@ -137,30 +119,21 @@ held_of seen f g c e held = subst (λ (h : File). seen h.name ≡ Some c) (sym (
 accepted_of : (f g : File) (c : List ℕ) → Some f ≡ Some g → g.refusal c ≡ None → f.refusal c ≡ None
 accepted_of f g c e accepted = subst (λ (h : File). h.refusal c ≡ None) (sym (same_Some f g e)) accepted
 
-ran_of : {devices : List DeviceData} (out script : List ℕ) (n : ℕ) (detail : Detail) (image : Picture) (c s : List ℕ) (w : Verdict) → picture_of c ≡ image → Does devices (run out script n detail) (c ∷ s ∷ []) w → w ≡ ran n detail (scenario_of image s devices)
-ran_of {devices} out script n detail image c s w same (runs k m x is e) =
-    let scenario : x ≡ scenario_of image s devices = is.2 ∙ ap (λ (i : Picture). scenario_of i s devices) same in
-    e ∙ ap (λ (i : ℕ). ran i m x) is.0 ∙ ap (λ (a : Detail). ran n a x) is.1 ∙ ap (ran n detail) scenario
-ran_of {devices} out script n detail image c s w same (lists i is e) = absurd is
-ran_of {devices} out script n detail image c s w same (builds o i is e) = absurd is
-ran_of {devices} out script n detail image c s w same (audits t found is v e) = absurd is
-ran_of {devices} out script n detail image c s w same (saves o k x is e) = absurd is
-ran_of {devices} out script n detail image c s w same (resumes k m x t is e) = absurd is
-ran_of {devices} out script n detail image c s w same (debugs x d is e) = absurd is
-ran_of {devices} out script n detail image c s w same (samples seed k x is e) = absurd (no_sample_run out script n detail seed k is.is)
+ran_of : (devices : List DeviceData) (out script : List ℕ) (n : ℕ) (detail : Detail) (image : Picture) (c s : List ℕ) (w : Verdict) → picture_of c ≡ image → Does devices (run out script n detail) (c ∷ s ∷ []) w → w ≡ ran n detail (scenario_of image s devices)
+ran_of devices out script n detail image c s w same e = e ∙ ap (λ (i : Picture). ran n detail (scenario_of i s devices)) same
 
 after_run : {devices : List DeviceData} (words : List (List ℕ)) (seen seen' : List ℕ → Option (List ℕ)) (app out script : List ℕ) (n : ℕ) (detail : Detail) (cs : List (List ℕ)) (w : Verdict)
     → job_in words ≡ Some (go app script n detail) → Rebuilt seen seen' app out script → TakesAll (Are seen') devices (run out script n detail) cs → Does devices (run out script n detail) cs w → IsVerdict devices words seen w
 after_run words seen seen' app out script n detail [] w at r all p = let two = all.all in absurd (omega arith)
 after_run words seen seen' app out script n detail (c ∷ []) w at r all p = let two = all.all in absurd (omega arith)
-after_run words seen seen' app out script n detail (c ∷ s ∷ []) w at r all p =
+after_run {devices} words seen seen' app out script n detail (c ∷ s ∷ []) w at r all p =
     let first = all.takes 0 c refl in
     let second = all.takes 1 s refl in
     let bytes : c ≡ spelling r.image = r.put c (held_of seen' (image_file out) first.0 c first.1 first.2) in
     let accepted_sources = spelling_taken r.image r.has.is.sound in
     let image : picture_of c ≡ r.image = ap picture_of bytes ∙ sym accepted_sources.1 in
     let held : seen script ≡ Some s = sym r.script_stays ∙ held_of seen' (script_file script) second.0 s second.1 second.2 in
-    go_runs words seen app script n detail r.image s w at r.has held (accepted_of (script_file script) second.0 s second.1 second.3) (ran_of out script n detail r.image c s w image p)
+    go_runs words seen app script n detail r.image s w at r.has held (accepted_of (script_file script) second.0 s second.1 second.3) (ran_of devices out script n detail r.image c s w image p)
 after_run words seen seen' app out script n detail (c ∷ s ∷ t ∷ more) w at r all p = let two = all.all in absurd (omega arith)
 
 go_by_run : {devices : List DeviceData} (go_words run_words : List (List ℕ)) (seen seen' : List ℕ → Option (List ℕ)) (app out script : List ℕ) (n : ℕ) (detail : Detail) (w : Verdict)

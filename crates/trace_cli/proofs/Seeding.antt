@@ -21,7 +21,7 @@ use Rattle.outside_io.specs.Seen.{FilesSeen, SinkSeen}
 use Rattle.trace_cli.specs.Sources.{MayBe}
 use Rattle.trace_cli.specs.Ready.{IsSampleReady}
 use Rattle.trace_cli.specs.Pushed.{Pushed}
-use Rattle.trace_cli.specs.Verdict.{samples, sampled}
+use Rattle.trace_cli.specs.Verdict.{sampled}
 use Rattle.trace_cli.specs.Answer.{JobReason, does, AnswersJob}
 use Rattle.trace_cli.proofs.Lists.{takes_none}
 use Rattle.trace_cli.proofs.Readying.{answers_pushed}
@@ -61,7 +61,7 @@ sample_stood seed b h = ((sample_scenario seed h.image, start_of (sample_scenari
 
 sample_reason : {X : Type 0} {H : X → Type 0} {shown : Shows X H} {devices : List DeviceData} (a b : FilesSeen) (seed n : ℕ) (bd : Board X H) (r : IsSampleReady shown seed bd) → JobReason devices (sample seed n) a b (sampled n (sample_scenario seed r.image))
 sample_reason a b seed n bd r = does [] (record { takes = takes_none (MayBe a.contents) []; all = refl })
-    (samples seed n (sample_scenario seed r.image) (record { is = refl; image = r.image; built = r.built; scenario = refl }) refl)
+    (r.image, r.built, refl)
 
 pub answers_sample : {X : Type 0} {H : X → Type 0} {shown : Shows X H} {devices : List DeviceData} (seed n : ℕ) (a b : FilesSeen) (w w' : SinkSeen) (bd : Board X H) (r : ℕ) → b.contents ≡ a.contents → IsSampleReady shown seed bd
     → ((x : Scenario) → Stands shown x bd (start_of x) → Pushed w w' (sampled n x) r) → AnswersJob devices (sample seed n) a b w w' r

@@ -3,24 +3,15 @@ use Rattle.std.proofs.Common.{◌≡◌, ◌≢◌, ℕ, ◌≤◌, ◌⊎◌, B
 use Rattle.std.specs.Io.KnownBytes.{Appends}
 use Rattle.kernel_abi.specs.Devices.{DeviceData}
 use Rattle.outside_io.specs.Outside.{Rose}
-use Rattle.image_format.specs.Picture.{Picture, spelling}
-use Rattle.board_model.specs.declared.outcomes.Level.TheVariants.{Calls}
-use Rattle.board_model.specs.Script.{Scenario}
-use Rattle.task_table.specs.State.{State}
 use Rattle.board_model.specs.declared.outcomes.End.{End}
 use Rattle.board_model.specs.declared.outcomes.End.TheVariants.{Bound, Still, Supervisor}
-use Rattle.command_line.specs.CommandLine.{Asked, build, run, go, migrate, save, is_accepted, job_of}
-use Rattle.command_line.specs.declared.job.Detail.{Detail}
-use Rattle.debug_core.specs.declared.command.Command.{Command}
+use Rattle.command_line.specs.CommandLine.{Asked, build, run, go, list, sample, migrate, audit, save, resume, debug, is_accepted, job_of}
 use Rattle.trace_audit.specs.declared.verdict.Verdict as trace
 use Rattle.trace_audit.specs.declared.verdict.Verdict.TheVariants.{Yes, No}
-use Rattle.trace_audit.specs.Verdicts as trace_audit
-use Rattle.audit_runs.specs.Last.{IsGoodText}
 use Rattle.outside_io.specs.Seen.{FilesSeen, SinkSeen}
 use Rattle.trace_cli.specs.Words.{job_in, out_of}
-use Rattle.trace_cli.specs.Sources.{IsRun, IsBuild, IsSample, IsAudit, IsSave, IsResume, IsDebug}
-use Rattle.trace_cli.specs.Verdict.{Verdict, IsVerdict, Does, runs, lists, builds, samples, saves, resumes, debugs, audits, usage, usage_line, refused, unread, ran, listed, built, sampled, saved, saved_bytes, resumed, debugged, audited, run_of, run_from, level_of, status_of}
-use Rattle.trace_cli.specs.Answer.{JobReason, cannot_read, refuses, does, IsAccepted, Reason, no_job, of_job, HasPut, HasSpoiled, Tells, whole, cut, spoiled, short, IsOfRun, TellsGood, TellsGoodIn, AnswersJob, Answers, HasRun, HasResumed, HasSampled, HasAudited, HasDebugged, HasPlayed, HasDone, HasRefused, HasUnread, HasFront, Answered, IsComplete}
+use Rattle.trace_cli.specs.Verdict.{Verdict, IsVerdict, Does, line_alone, usage, usage_line, refused, unread, audited, status_of}
+use Rattle.trace_cli.specs.Answer.{JobReason, cannot_read, refuses, does, Reason, no_job, of_job, HasPut, HasSpoiled, Tells, whole, cut, spoiled, short, TellsGoodIn, AnswersJob, Answers, HasDone, HasRefused, HasUnread, HasFront, Answered, IsComplete, IsDone}
 use Rattle.trace_cli.specs.Pushed as seen
 use Rattle.trace_cli.specs.Pushed.{Pushed, Says, pushed, silent}
 use Rattle.trace_cli.proofs.Readying.{audited_alone}
@@ -78,30 +69,34 @@ audit_zero_or_seven : (found : trace.Verdict) → ((audited found).status ≡ 0)
 audit_zero_or_seven (Yes calls left) = inl refl
 audit_zero_or_seven (No line) = inr refl
 
--- 0, 6 or 7
-abbrev IsOfDone : ℕ → Type 0
-IsOfDone status = (status ≡ 0) ⊎ ((status ≡ 6) ⊎ (status ≡ 7))
-
-of_run : (status : ℕ) → (status ≡ 0) ⊎ (status ≡ 6) → IsOfDone status
+of_run : (status : ℕ) → (status ≡ 0) ⊎ (status ≡ 6) → IsDone status
 of_run status (inl z) = inl z
 of_run status (inr s) = inr (inl s)
 
-of_audit : (status status' : ℕ) → status ≡ status' → (status' ≡ 0) ⊎ (status' ≡ 7) → IsOfDone status
+of_audit : (status status' : ℕ) → status ≡ status' → (status' ≡ 0) ⊎ (status' ≡ 7) → IsDone status
 of_audit status status' same (inl z) = inl (same ∙ z)
 of_audit status status' same (inr s) = inr (inr (same ∙ s))
 
--- of what is done with files
-done_status : {devices : List DeviceData} (job : Asked) (cs : List (List ℕ)) (v : Verdict) → Does devices job cs v → IsOfDone v.status
-done_status job cs v (runs n m x p e) = of_run v.status (end_status (run_of (level_of m) n x).end v.status (ap (λ (u : Verdict). u.status) e))
-done_status job cs v (lists i p e) = inl (ap (λ (u : Verdict). u.status) e)
-done_status job cs v (builds o i p e) = inl (ap (λ (u : Verdict). u.status) e)
-done_status job cs v (samples s n x p e) = of_run v.status (end_status (run_of Calls n x).end v.status (ap (λ (u : Verdict). u.status) e))
-done_status job cs v (saves o n x p e) = inl (ap (λ (u : Verdict). u.status) e)
-done_status job cs v (resumes n m x s p e) = of_run v.status (end_status (run_from (level_of m) n x s).end v.status (ap (λ (u : Verdict). u.status) e))
-done_status job cs v (debugs x c p e) = inl (ap (λ (u : Verdict). u.status) e)
-done_status job cs v (audits t a p g e) = of_audit v.status (audited a).status (ap (λ (u : Verdict). u.status) e) (audit_zero_or_seven a)
+status_as : (v u : Verdict) → v ≡ u → v.status ≡ u.status
+status_as v u e = ap (λ (x : Verdict). x.status) e
 
-not_done : (v : Verdict) (n : ℕ) → IsOfDone v.status → v.status ≡ n → (n ≡ 0 → ⊥) → (6 ≤ n → ⊥) → ⊥
+ran_as : (v : Verdict) (e : End) (text : List ℕ) → v ≡ line_alone (status_of e) text → IsDone v.status
+ran_as v e text is = of_run v.status (end_status e v.status (status_as v (line_alone (status_of e) text) is))
+
+-- of what is done with files
+done_status : (devices : List DeviceData) (job : Asked) (cs : List (List ℕ)) (v : Verdict) → Does devices job cs v → IsDone v.status
+done_status devices (build app out) cs v p = inl (status_as v _ p.2)
+done_status devices (run image script steps detail) cs v p = ran_as v _ _ p
+done_status devices (go app script steps detail) cs v p = ran_as v _ _ p.2
+done_status devices (list image) cs v p = inl (status_as v _ p)
+done_status devices (sample seed steps) cs v p = ran_as v _ _ p.2
+done_status devices (migrate image out) cs v p = inl (status_as v _ p)
+done_status devices (audit name) cs v p = of_audit v.status (audited p.0).status (status_as v (audited p.0) p.2) (audit_zero_or_seven p.0)
+done_status devices (save image script out steps) cs v p = inl (status_as v _ p)
+done_status devices (resume image script state steps detail) cs v p = ran_as v _ _ p
+done_status devices (debug image script name) cs v p = inl (status_as v _ p.2)
+
+not_done : (v : Verdict) (n : ℕ) → IsDone v.status → v.status ≡ n → (n ≡ 0 → ⊥) → (6 ≤ n → ⊥) → ⊥
 not_done v n (inl z) e not0 not6 = not0 (sym e ∙ z)
 not_done v n (inr (inl s)) e not0 not6 = not6 (omega arith)
 not_done v n (inr (inr s)) e not0 not6 = not6 (omega arith)
@@ -113,8 +108,8 @@ IsOfJob status = (status ≤ 3) ⊎ ((6 ≤ status) × (status ≤ 7))
 job_status : {devices : List DeviceData} (job : Asked) (a b : FilesSeen) (v : Verdict) → JobReason devices job a b v → IsOfJob v.status
 job_status job a b v (cannot_read f h is) = let s : v.status ≡ 3 = ap (λ (u : Verdict). u.status) is in inl (omega arith)
 job_status job a b v (refuses f why h is) = let s : v.status ≡ 1 = ap (λ (u : Verdict). u.status) is in inl (omega arith)
-job_status job a b v (does cs all p) = by (done_status job cs v p) where
-  by : IsOfDone v.status → IsOfJob v.status
+job_status job a b v (does cs all p) = by (done_status _ job cs v p) where
+  by : IsDone v.status → IsOfJob v.status
   by (inl z) = inl (omega arith)
   by (inr (inl s)) = inr (omega arith, omega arith)
   by (inr (inr s)) = inr (omega arith, omega arith)
@@ -188,15 +183,12 @@ seen_whole words a b w w' r (inr h) not4 not5 = whole_by words a b w w' h.0 r no
 same_text : (w w' : SinkSeen) (v u : Verdict) → v ≡ u → Appends w.written w'.written v.text → Appends w.written w'.written u.text
 same_text w w' v u e t = let P : Verdict → Type 0 = λ x. Appends w.written w'.written x.text in subst P e t
 
-same_put : (a b : FilesSeen) (v u : Verdict) → v ≡ u → HasPut a.contents b.contents v.put → HasPut a.contents b.contents u.put
-same_put a b v u e p = let P : Verdict → Type 0 = λ x. HasPut a.contents b.contents x.put in subst P e p
-
 refused_by : {devices : List DeviceData} (words : List (List ℕ)) (a b : FilesSeen) (w w' : SinkSeen) (v : Verdict) → v.status ≡ 1 → Appends w.written w'.written v.text → Reason devices words a b v → HasRefused devices words a.contents w w'
 refused_by words a b w w' v e t (no_job none is) = let s : v.status ≡ 2 = ap (λ (u : Verdict). u.status) is in absurd (omega arith)
 refused_by words a b w w' v e t (of_job job at (cannot_read f h is)) = let s : v.status ≡ 3 = ap (λ (u : Verdict). u.status) is in absurd (omega arith)
 refused_by words a b w w' v e t (of_job job at (refuses f why h is)) =
     record { job = job; command = at; file = f; why = why; is = h; line = same_text w w' v (refused f.name why) is t }
-refused_by words a b w w' v e t (of_job job at (does cs all p)) = absurd (not_done v 1 (done_status job cs v p) e (λ z. omega arith) (λ s. omega arith))
+refused_by words a b w w' v e t (of_job job at (does cs all p)) = absurd (not_done v 1 (done_status _ job cs v p) e (λ z. omega arith) (λ s. omega arith))
 
 pub was_refused : {devices : List DeviceData} (words : List (List ℕ)) (a b : FilesSeen) (w w' : SinkSeen) (r : ℕ) → Answers devices words a b w w' r → r ≡ 1 → HasRefused devices words a.contents w w'
 was_refused words a b w w' r h e =
@@ -208,7 +200,7 @@ no_command_by : {devices : List DeviceData} (words : List (List ℕ)) (a b : Fil
 no_command_by words a b w w' v e t (no_job none is) = (none, same_text w w' v usage is t)
 no_command_by words a b w w' v e t (of_job job at (cannot_read f h is)) = let s : v.status ≡ 3 = ap (λ (u : Verdict). u.status) is in absurd (omega arith)
 no_command_by words a b w w' v e t (of_job job at (refuses f why h is)) = let s : v.status ≡ 1 = ap (λ (u : Verdict). u.status) is in absurd (omega arith)
-no_command_by words a b w w' v e t (of_job job at (does cs all p)) = absurd (not_done v 2 (done_status job cs v p) e (λ z. omega arith) (λ s. omega arith))
+no_command_by words a b w w' v e t (of_job job at (does cs all p)) = absurd (not_done v 2 (done_status _ job cs v p) e (λ z. omega arith) (λ s. omega arith))
 
 pub was_no_command : {devices : List DeviceData} (words : List (List ℕ)) (a b : FilesSeen) (w w' : SinkSeen) (r : ℕ) → Answers devices words a b w w' r → r ≡ 2 → (is_accepted words ≡ false) × Appends w.written w'.written usage_line
 was_no_command words a b w w' r h e =
@@ -220,179 +212,46 @@ unread_by words a b w w' v e t (no_job none is) = let s : v.status ≡ 2 = ap (�
 unread_by words a b w w' v e t (of_job job at (cannot_read f h is)) =
     record { job = job; command = at; file = f; is = h; line = same_text w w' v (unread f.name) is t }
 unread_by words a b w w' v e t (of_job job at (refuses f why h is)) = let s : v.status ≡ 1 = ap (λ (u : Verdict). u.status) is in absurd (omega arith)
-unread_by words a b w w' v e t (of_job job at (does cs all p)) = absurd (not_done v 3 (done_status job cs v p) e (λ z. omega arith) (λ s. omega arith))
+unread_by words a b w w' v e t (of_job job at (does cs all p)) = absurd (not_done v 3 (done_status _ job cs v p) e (λ z. omega arith) (λ s. omega arith))
 
 pub was_unread : {devices : List DeviceData} (words : List (List ℕ)) (a b : FilesSeen) (w w' : SinkSeen) (r : ℕ) → Answers devices words a b w w' r → r ≡ 3 → HasUnread devices words a b w w'
 was_unread words a b w w' r h e =
     let t = seen_whole words a b w w' r h (λ is. omega arith) (λ is. omega arith) in
     unread_by words a b w w' t.verdict (t.status ∙ e) t.text t.reason
 
-good_of_run : (devices : List DeviceData) (job : Asked) (cs : List (List ℕ)) (n : ℕ) (m : Detail) (x : Scenario) (v : Verdict) (r : ℕ) → IsRun devices job cs n m x → IsOfRun r → TellsGood job v r → IsGoodText v.text
-good_of_run devices (run image script steps detail) cs n m x v r p told h = h told
-good_of_run devices (go app script steps detail) cs n m x v r p told h = h told
-good_of_run devices job cs n m x v r p told h = absurd p
+-- the job was done
+no_line_of_done : (v : Verdict) (r n : ℕ) → IsDone r → v.status ≡ r → v.status ≡ n → 1 ≤ n → n ≤ 3 → ⊥
+no_line_of_done v r n (inl z) e is low high = omega arith
+no_line_of_done v r n (inr (inl s)) e is low high = omega arith
+no_line_of_done v r n (inr (inr s)) e is low high = omega arith
 
-has_run : {devices : List DeviceData} (words : List (List ℕ)) (a : FilesSeen) (w w' : SinkSeen) (job : Asked) (cs : List (List ℕ)) (n : ℕ) (m : Detail) (x : Scenario) (v : Verdict) (r : ℕ)
-    → job_in words ≡ Some job → IsAccepted devices job a.contents cs → IsRun devices job cs n m x → v ≡ ran n m x → v.status ≡ r → Appends w.written w'.written v.text
-    → IsOfRun r → TellsGoodIn (job_in words) v r → HasRun devices words a.contents w w' r
-has_run {devices} words a w w' job cs n m x v r at all h is e t told good = record {
+done_by : {devices : List DeviceData} (words : List (List ℕ)) (a b : FilesSeen) (w w' : SinkSeen) (v : Verdict) (r : ℕ) → IsDone r → v.status ≡ r → HasPut a.contents b.contents v.put → Appends w.written w'.written v.text → TellsGoodIn (job_in words) v r → Reason devices words a b v
+    → HasDone devices words a b w w' r
+done_by words a b w w' v r done e put text good (no_job none is) = absurd (no_line_of_done v r 2 done e (status_as v usage is) (omega arith) (omega arith))
+done_by words a b w w' v r done e put text good (of_job job at (cannot_read f h is)) = absurd (no_line_of_done v r 3 done e (status_as v _ is) (omega arith) (omega arith))
+done_by words a b w w' v r done e put text good (of_job job at (refuses f why h is)) = absurd (no_line_of_done v r 1 done e (status_as v _ is) (omega arith) (omega arith))
+done_by words a b w w' v r done e put text good (of_job job at (does cs all p)) = record {
   job = job;
   command = at;
   contents = cs;
   accepted = all;
-  bound = n;
-  detail = m;
-  scenario = x;
-  is = h;
-  status = sym (ap (λ (u : Verdict). u.status) is) ∙ e;
-  text = same_text w w' v (ran n m x) is t;
-  good = subst (λ (u : Verdict). IsGoodText u.text) is (good_of_run devices job cs n m x v r h told (subst (λ (o : Option Asked). TellsGoodIn o v r) at good));
+  verdict = v;
+  done = p;
+  status = e;
+  put = put;
+  text = text;
+  good = subst (λ (o : Option Asked). TellsGoodIn o v r) at good;
 }
 
-has_sampled : (words : List (List ℕ)) (w w' : SinkSeen) (job : Asked) (s n : ℕ) (x : Scenario) (v : Verdict) (r : ℕ) → job_in words ≡ Some job → IsSample job s n x → v ≡ sampled n x
-    → v.status ≡ r → Appends w.written w'.written v.text → HasSampled words w w' r
-has_sampled words w w' job s n x v r at h is e t = record {
-  job = job;
-  command = at;
-  seed = s;
-  bound = n;
-  scenario = x;
-  is = h;
-  status = sym (ap (λ (u : Verdict). u.status) is) ∙ e;
-  text = same_text w w' v (sampled n x) is t;
-}
+not_cut_or_short : (r n : ℕ) → IsDone r → 4 ≤ n → n ≤ 5 → r ≡ n → ⊥
+not_cut_or_short r n (inl z) low high e = omega arith
+not_cut_or_short r n (inr (inl s)) low high e = omega arith
+not_cut_or_short r n (inr (inr s)) low high e = omega arith
 
-has_resumed : {devices : List DeviceData} (words : List (List ℕ)) (a : FilesSeen) (w w' : SinkSeen) (job : Asked) (cs : List (List ℕ)) (n : ℕ) (m : Detail) (x : Scenario) (s : State) (v : Verdict) (r : ℕ)
-    → job_in words ≡ Some job → IsAccepted devices job a.contents cs → IsResume devices job cs n m x s → v ≡ resumed n m x s → v.status ≡ r → Appends w.written w'.written v.text
-    → HasResumed devices words a.contents w w' r
-has_resumed words a w w' job cs n m x s v r at all h is e t = record {
-  job = job;
-  command = at;
-  contents = cs;
-  accepted = all;
-  bound = n;
-  detail = m;
-  scenario = x;
-  state = s;
-  is = h;
-  status = sym (ap (λ (u : Verdict). u.status) is) ∙ e;
-  text = same_text w w' v (resumed n m x s) is t;
-}
-
-has_audited : {devices : List DeviceData} (words : List (List ℕ)) (a : FilesSeen) (w w' : SinkSeen) (job : Asked) (cs : List (List ℕ)) (t : List ℕ) (found : trace.Verdict) (v : Verdict) (r : ℕ)
-    → job_in words ≡ Some job → IsAccepted devices job a.contents cs → IsAudit job cs t → trace_audit.IsVerdict t found → v ≡ audited found
-    → v.status ≡ r → Appends w.written w'.written v.text → HasAudited devices words a.contents w w' r
-has_audited words a w w' job cs t found v r at all h is e status text = record {
-  job = job;
-  command = at;
-  contents = cs;
-  accepted = all;
-  bytes = t;
-  is = h;
-  found = found;
-  verdict = is;
-  status = sym (ap (λ (u : Verdict). u.status) e) ∙ status;
-  text = same_text w w' v (audited found) e text;
-}
-
-has_debugged : {devices : List DeviceData} (words : List (List ℕ)) (a : FilesSeen) (w w' : SinkSeen) (job : Asked) (cs : List (List ℕ)) (x : Scenario) (c : List Command) (v : Verdict)
-    → job_in words ≡ Some job → IsAccepted devices job a.contents cs → IsDebug devices job cs x c → v ≡ debugged x c → Appends w.written w'.written v.text → HasDebugged devices words a.contents w w'
-has_debugged words a w w' job cs x c v at all h is t = record {
-  job = job;
-  command = at;
-  contents = cs;
-  accepted = all;
-  scenario = x;
-  commands = c;
-  is = h;
-  text = same_text w w' v (debugged x c) is t;
-}
-
-done_by : {devices : List DeviceData} (words : List (List ℕ)) (a b : FilesSeen) (w w' : SinkSeen) (v : Verdict) → v.status ≡ 0 → HasPut a.contents b.contents v.put → Appends w.written w'.written v.text → TellsGoodIn (job_in words) v 0 → Reason devices words a b v → HasDone devices words a b w w'
-done_by words a b w w' v e p t good (no_job none is) = let s : v.status ≡ 2 = ap (λ (u : Verdict). u.status) is in absurd (omega arith)
-done_by words a b w w' v e p t good (of_job job at (cannot_read f h is)) = let s : v.status ≡ 3 = ap (λ (u : Verdict). u.status) is in absurd (omega arith)
-done_by words a b w w' v e p t good (of_job job at (refuses f why h is)) = let s : v.status ≡ 1 = ap (λ (u : Verdict). u.status) is in absurd (omega arith)
-done_by words a b w w' v e p t good (of_job job at (does cs all (samples s n x h is))) = inl (inr (inr (has_sampled words w w' job s n x v 0 at h is e t)))
-done_by words a b w w' v e p t good (of_job job at (does cs all (resumes n m x s h is))) = inl (inr (inl (has_resumed words a w w' job cs n m x s v 0 at all h is e t)))
-done_by words a b w w' v e p t good (of_job job at (does cs all (runs n m x h is))) = inl (inl (has_run words a w w' job cs n m x v 0 at all h is e t (inl refl) good))
-done_by words a b w w' v e p t good (of_job job at (does cs all (lists i h is))) =
-    inr (inl (record { job = job; command = at; contents = cs; accepted = all; image = i; is = h; text = same_text w w' v (listed i) is t }))
-done_by words a b w w' v e p t good (of_job job at (does cs all (builds o i h is))) = inr (inr (inl (record {
-  job = job;
-  command = at;
-  contents = cs;
-  accepted = all;
-  out = o;
-  image = i;
-  is = h;
-  file = (same_put a b v (built o i) is p).0;
-  text = same_text w w' v (built o i) is t;
-})))
-done_by words a b w w' v e p t good (of_job job at (does cs all (saves o n x h is))) = inr (inr (inr (inl (record {
-  job = job;
-  command = at;
-  contents = cs;
-  accepted = all;
-  out = o;
-  bound = n;
-  scenario = x;
-  is = h;
-  file = (same_put a b v (saved o n x) is p).0;
-  text = same_text w w' v (saved o n x) is t;
-}))))
-done_by words a b w w' v e p t good (of_job job at (does cs all (audits s found h is d))) = inr (inr (inr (inr (inl (has_audited words a w w' job cs s found v 0 at all h is d e t)))))
-done_by words a b w w' v e p t good (of_job job at (does cs all (debugs x c h is))) = inr (inr (inr (inr (inr (has_debugged words a w w' job cs x c v at all h is t)))))
-
-pub was_done : {devices : List DeviceData} (words : List (List ℕ)) (a b : FilesSeen) (w w' : SinkSeen) (r : ℕ) → Answers devices words a b w w' r → r ≡ 0 → HasDone devices words a b w w'
-was_done words a b w w' r h e =
-    let t = seen_whole words a b w w' r h (λ is. omega arith) (λ is. omega arith) in
-    done_by words a b w w' t.verdict (t.status ∙ e) t.put t.text (subst (λ (n : ℕ). TellsGoodIn (job_in words) t.verdict n) e t.good) t.reason
-
-ran_by : {devices : List DeviceData} (words : List (List ℕ)) (a b : FilesSeen) (w w' : SinkSeen) (v : Verdict) → v.status ≡ 6 → Appends w.written w'.written v.text → TellsGoodIn (job_in words) v 6 → Reason devices words a b v → HasPlayed devices words a.contents w w' 6
-ran_by words a b w w' v e t good (no_job none is) = let s : v.status ≡ 2 = ap (λ (u : Verdict). u.status) is in absurd (omega arith)
-ran_by words a b w w' v e t good (of_job job at (cannot_read f h is)) = let s : v.status ≡ 3 = ap (λ (u : Verdict). u.status) is in absurd (omega arith)
-ran_by words a b w w' v e t good (of_job job at (refuses f why h is)) = let s : v.status ≡ 1 = ap (λ (u : Verdict). u.status) is in absurd (omega arith)
-ran_by words a b w w' v e t good (of_job job at (does cs all (samples s n x h is))) = inr (inr (has_sampled words w w' job s n x v 6 at h is e t))
-ran_by words a b w w' v e t good (of_job job at (does cs all (resumes n m x s h is))) = inr (inl (has_resumed words a w w' job cs n m x s v 6 at all h is e t))
-ran_by words a b w w' v e t good (of_job job at (does cs all (saves o n x h is))) = let s : v.status ≡ 0 = ap (λ (u : Verdict). u.status) is in absurd (omega arith)
-ran_by words a b w w' v e t good (of_job job at (does cs all (runs n m x h is))) = inl (has_run words a w w' job cs n m x v 6 at all h is e t (inr refl) good)
-ran_by words a b w w' v e t good (of_job job at (does cs all (lists i h is))) = let s : v.status ≡ 0 = ap (λ (u : Verdict). u.status) is in absurd (omega arith)
-ran_by words a b w w' v e t good (of_job job at (does cs all (builds o i h is))) = let s : v.status ≡ 0 = ap (λ (u : Verdict). u.status) is in absurd (omega arith)
-ran_by words a b w w' v e t good (of_job job at (does cs all (debugs x c h is))) = let s : v.status ≡ 0 = ap (λ (u : Verdict). u.status) is in absurd (omega arith)
-ran_by words a b w w' v e t good (of_job job at (does cs all (audits s found h is d))) = absurd (by (audit_zero_or_seven found)) where
-  by : ((audited found).status ≡ 0) ⊎ ((audited found).status ≡ 7) → ⊥
-  by (inl z) = let s : v.status ≡ 0 = ap (λ (u : Verdict). u.status) d ∙ z in omega arith
-  by (inr n) = let s : v.status ≡ 7 = ap (λ (u : Verdict). u.status) d ∙ n in omega arith
-
-pub was_ran : {devices : List DeviceData} (words : List (List ℕ)) (a b : FilesSeen) (w w' : SinkSeen) (r : ℕ) → Answers devices words a b w w' r → r ≡ 6 → HasPlayed devices words a.contents w w' 6
-was_ran words a b w w' r h e =
-    let t = seen_whole words a b w w' r h (λ is. omega arith) (λ is. omega arith) in
-    ran_by words a b w w' t.verdict (t.status ∙ e) t.text (subst (λ (n : ℕ). TellsGoodIn (job_in words) t.verdict n) e t.good) t.reason
-
--- a run has no such status
-not_seven : (e : End) (v : Verdict) → v.status ≡ status_of e → v.status ≡ 7 → ⊥
-not_seven e v is seven = by (end_zero_or_six e) where
-  by : (status_of e ≡ 0) ⊎ (status_of e ≡ 6) → ⊥
-  by (inl z) = omega arith
-  by (inr s) = omega arith
-
-audited_by : {devices : List DeviceData} (words : List (List ℕ)) (a b : FilesSeen) (w w' : SinkSeen) (v : Verdict) → v.status ≡ 7 → Appends w.written w'.written v.text → Reason devices words a b v → HasAudited devices words a.contents w w' 7
-audited_by words a b w w' v e t (no_job none is) = let s : v.status ≡ 2 = ap (λ (u : Verdict). u.status) is in absurd (omega arith)
-audited_by words a b w w' v e t (of_job job at (cannot_read f h is)) = let s : v.status ≡ 3 = ap (λ (u : Verdict). u.status) is in absurd (omega arith)
-audited_by words a b w w' v e t (of_job job at (refuses f why h is)) = let s : v.status ≡ 1 = ap (λ (u : Verdict). u.status) is in absurd (omega arith)
-audited_by words a b w w' v e t (of_job job at (does cs all (samples s n x h is))) = absurd (not_seven (run_of Calls n x).end v (ap (λ (u : Verdict). u.status) is) e)
-audited_by words a b w w' v e t (of_job job at (does cs all (runs n m x h is))) = absurd (not_seven (run_of (level_of m) n x).end v (ap (λ (u : Verdict). u.status) is) e)
-audited_by words a b w w' v e t (of_job job at (does cs all (resumes n m x s h is))) = absurd (not_seven (run_from (level_of m) n x s).end v (ap (λ (u : Verdict). u.status) is) e)
-audited_by words a b w w' v e t (of_job job at (does cs all (saves o n x h is))) = let s : v.status ≡ 0 = ap (λ (u : Verdict). u.status) is in absurd (omega arith)
-audited_by words a b w w' v e t (of_job job at (does cs all (lists i h is))) = let s : v.status ≡ 0 = ap (λ (u : Verdict). u.status) is in absurd (omega arith)
-audited_by words a b w w' v e t (of_job job at (does cs all (builds o i h is))) = let s : v.status ≡ 0 = ap (λ (u : Verdict). u.status) is in absurd (omega arith)
-audited_by words a b w w' v e t (of_job job at (does cs all (debugs x c h is))) = let s : v.status ≡ 0 = ap (λ (u : Verdict). u.status) is in absurd (omega arith)
-audited_by words a b w w' v e t (of_job job at (does cs all (audits s found h is d))) = has_audited words a w w' job cs s found v 7 at all h is d e t
-
-pub was_bad : {devices : List DeviceData} (words : List (List ℕ)) (a b : FilesSeen) (w w' : SinkSeen) (r : ℕ) → Answers devices words a b w w' r → r ≡ 7 → HasAudited devices words a.contents w w' 7
-was_bad words a b w w' r h e =
-    let t = seen_whole words a b w w' r h (λ is. omega arith) (λ is. omega arith) in
-    audited_by words a b w w' t.verdict (t.status ∙ e) t.text t.reason
+pub was_done : {devices : List DeviceData} (words : List (List ℕ)) (a b : FilesSeen) (w w' : SinkSeen) (r : ℕ) → Answers devices words a b w w' r → IsDone r → HasDone devices words a b w w' r
+was_done words a b w w' r h done =
+    let t = seen_whole words a b w w' r h (not_cut_or_short r 4 done (omega arith) (omega arith)) (not_cut_or_short r 5 done (omega arith) (omega arith)) in
+    done_by words a b w w' t.verdict r done t.status t.put t.text t.good t.reason
 
 -- ## which file is changed, and when
 
@@ -401,29 +260,32 @@ data Puts (words : List (List ℕ)) (v : Verdict) : Type 0 where
   puts_none : v.put ≡ None → Puts words v
   puts_out : (o bytes : List ℕ) → v.put ≡ Some (o, bytes) → out_of (job_in words) ≡ Some o → v.status ≡ 0 → Puts words v
 
-built_out : (job : Asked) (cs : List (List ℕ)) (o : List ℕ) (i : Picture) → IsBuild job cs o i → out_of (Some job) ≡ Some o
-built_out (build app out) cs o i p = ap Some (sym p.0)
-built_out (migrate image out) cs o i p = ap Some (sym p.0)
-built_out job cs o i p = absurd p
+put_as : (v u : Verdict) → v ≡ u → v.put ≡ u.put
+put_as v u e = ap (λ (x : Verdict). x.put) e
 
-saved_out : (devices : List DeviceData) (job : Asked) (cs : List (List ℕ)) (o : List ℕ) (n : ℕ) (x : Scenario) → IsSave devices job cs o n x → out_of (Some job) ≡ Some o
-saved_out devices (save image script out steps) cs o n x p = ap Some (sym p.0)
-saved_out devices job cs o n x p = absurd p
+alone : (words : List (List ℕ)) (v u : Verdict) → v ≡ u → u.put ≡ None → Puts words v
+alone words v u e none = puts_none (put_as v u e ∙ none)
+
+under : (words : List (List ℕ)) (v : Verdict) (out bytes line : List ℕ) → v ≡ record { status = 0; text = line; put = Some (out, bytes) } → out_of (job_in words) ≡ Some out → Puts words v
+under words v out bytes line e is = puts_out out bytes (put_as v _ e) is (status_as v _ e)
+
+done_puts : (devices : List DeviceData) (words : List (List ℕ)) (job : Asked) (cs : List (List ℕ)) (v : Verdict) → job_in words ≡ Some job → Does devices job cs v → Puts words v
+done_puts devices words (build app out) cs v at p = under words v out _ _ p.2 (ap out_of at)
+done_puts devices words (run image script steps detail) cs v at p = alone words v _ p refl
+done_puts devices words (go app script steps detail) cs v at p = alone words v _ p.2 refl
+done_puts devices words (list image) cs v at p = alone words v _ p refl
+done_puts devices words (sample seed steps) cs v at p = alone words v _ p.2 refl
+done_puts devices words (migrate image out) cs v at p = under words v out _ _ p (ap out_of at)
+done_puts devices words (audit name) cs v at p = alone words v (audited p.0) p.2 (audited_alone p.0)
+done_puts devices words (save image script out steps) cs v at p = under words v out _ _ p (ap out_of at)
+done_puts devices words (resume image script state steps detail) cs v at p = alone words v _ p refl
+done_puts devices words (debug image script name) cs v at p = alone words v _ p.2 refl
 
 reason_puts : {devices : List DeviceData} (words : List (List ℕ)) (a b : FilesSeen) (v : Verdict) → Reason devices words a b v → Puts words v
-reason_puts words a b v (no_job none is) = puts_none (ap (λ (u : Verdict). u.put) is)
-reason_puts words a b v (of_job job at (cannot_read f h is)) = puts_none (ap (λ (u : Verdict). u.put) is)
-reason_puts words a b v (of_job job at (refuses f why h is)) = puts_none (ap (λ (u : Verdict). u.put) is)
-reason_puts words a b v (of_job job at (does cs all (runs n m x h is))) = puts_none (ap (λ (u : Verdict). u.put) is)
-reason_puts words a b v (of_job job at (does cs all (lists i h is))) = puts_none (ap (λ (u : Verdict). u.put) is)
-reason_puts words a b v (of_job job at (does cs all (samples s n x h is))) = puts_none (ap (λ (u : Verdict). u.put) is)
-reason_puts words a b v (of_job job at (does cs all (resumes n m x s h is))) = puts_none (ap (λ (u : Verdict). u.put) is)
-reason_puts words a b v (of_job job at (does cs all (debugs x c h is))) = puts_none (ap (λ (u : Verdict). u.put) is)
-reason_puts words a b v (of_job job at (does cs all (saves o n x h is))) =
-    puts_out o (saved_bytes n x) (ap (λ (u : Verdict). u.put) is) (ap out_of at ∙ saved_out _ job cs o n x h) (ap (λ (u : Verdict). u.status) is)
-reason_puts words a b v (of_job job at (does cs all (audits s found h is d))) = puts_none (ap (λ (u : Verdict). u.put) d ∙ audited_alone found)
-reason_puts words a b v (of_job job at (does cs all (builds o i h is))) =
-    puts_out o (spelling i) (ap (λ (u : Verdict). u.put) is) (ap out_of at ∙ built_out job cs o i h) (ap (λ (u : Verdict). u.status) is)
+reason_puts words a b v (no_job none is) = alone words v usage is refl
+reason_puts words a b v (of_job job at (cannot_read f h is)) = alone words v _ is refl
+reason_puts words a b v (of_job job at (refuses f why h is)) = alone words v _ is refl
+reason_puts words a b v (of_job job at (does cs all p)) = done_puts _ words job cs v at p
 
 put_elsewhere : (seen seen' : List ℕ → Option (List ℕ)) (words : List (List ℕ)) (v : Verdict) (name : List ℕ) → Puts words v → HasPut seen seen' v.put
     → out_of (job_in words) ≢ Some name → seen' name ≡ seen name

@@ -3,22 +3,18 @@ use Rattle.std.specs.Prelude.{◌≡◌, ◌≢◌, ◌⊎◌, ℕ, false, List,
 use Rattle.std.specs.Io.KnownBytes.{Appends}
 use Rattle.kernel_abi.specs.Devices.{DeviceData}
 use Rattle.outside_io.specs.Outside.{WhereSeen, Rose, AppendsFront, IsFront, short_name}
-use Rattle.image_format.specs.Picture.{Picture, spelling}
 use Rattle.board_model.specs.declared.outcomes.Level.TheVariants.{Calls}
 use Rattle.board_model.specs.Script.{Scenario, start_of}
 use Rattle.task_table.specs.State.{State}
 use Rattle.task_table.specs.Sane.{Sane}
-use Rattle.trace_audit.specs.declared.verdict.Verdict as trace
-use Rattle.trace_audit.specs.Verdicts as trace_audit
 use Rattle.audit_runs.specs.Last.{IsGoodText}
 use Rattle.command_line.specs.CommandLine.{Asked, build, run, go, list, sample, migrate, audit, save, resume, debug, is_accepted}
 use Rattle.command_line.specs.declared.job.Detail.{Detail}
-use Rattle.debug_core.specs.declared.command.Command.{Command}
 use Rattle.trace_cli.specs.Contents.{Why, image_refusal, script_refusal, state_refusal, picture_of, scenario_of}
 use Rattle.outside_io.specs.Seen.{FilesSeen, SinkSeen}
 use Rattle.trace_cli.specs.Words.{job_in}
-use Rattle.trace_cli.specs.Sources.{File, MayBe, Are, MayBeRefused, Reaches, TakesAll, IsRun, IsListing, IsBuild, IsSample, IsAudit, IsSave, IsResume, IsDebug}
-use Rattle.trace_cli.specs.Verdict.{Verdict, usage, refused, refused_line, unread, unread_line, ran, listed, built, sampled, audited, saved, resumed, debugged, saved_bytes, run_of, rest_of_run, Does}
+use Rattle.trace_cli.specs.Sources.{File, MayBe, Are, MayBeRefused, Reaches, TakesAll, scenario_in}
+use Rattle.trace_cli.specs.Verdict.{Verdict, usage, refused, refused_line, unread, unread_line, resumed, saved_bytes, run_of, rest_of_run, Does}
 use Rattle.trace_cli.specs.Ready.{IsSpelled}
 
 -- ## why a verdict was given on a job (the files: before and after the call; the devices: those of a run)
@@ -116,116 +112,22 @@ Answers devices words before after w w' r = IsShort before after w w' r ⊎ ((v 
 
 -- ## by status
 
--- the whole text of a run that ended so, with its memory where it was asked for; an audit finds it good
-pub record HasRun (devices : List DeviceData) (words : List (List ℕ)) (seen : List ℕ → Option (List ℕ)) (w w' : SinkSeen) (r : ℕ) : Type 0 where
+-- 0, 6 and 7: the job was done, its file put and its text pushed whole, under the status of its verdict; an audit finds the
+-- text of a run good
+pub record HasDone (devices : List DeviceData) (words : List (List ℕ)) (before after : FilesSeen) (w w' : SinkSeen) (r : ℕ) : Type 0 where
   pub job : Asked
   pub command : job_in words ≡ Some job
   pub contents : List (List ℕ)
-  pub accepted : IsAccepted devices job seen contents
-  pub bound : ℕ
-  pub detail : Detail
-  pub scenario : Scenario
-  pub is : IsRun devices job contents bound detail scenario
-  pub status : (ran bound detail scenario).status ≡ r
-  pub text : Appends w.written w'.written (ran bound detail scenario).text
-  pub good : IsGoodText (ran bound detail scenario).text
+  pub accepted : IsAccepted devices job before.contents contents
+  pub verdict : Verdict
+  pub done : Does devices job contents verdict
+  pub status : verdict.status ≡ r
+  pub put : HasPut before.contents after.contents verdict.put
+  pub text : Appends w.written w'.written verdict.text
+  pub good : TellsGood job verdict r
 
--- the line of a listing
-pub record HasListed (devices : List DeviceData) (words : List (List ℕ)) (seen : List ℕ → Option (List ℕ)) (w w' : SinkSeen) : Type 0 where
-  pub job : Asked
-  pub command : job_in words ≡ Some job
-  pub contents : List (List ℕ)
-  pub accepted : IsAccepted devices job seen contents
-  pub image : Picture
-  pub is : IsListing job contents image
-  pub text : Appends w.written w'.written (listed image).text
-
--- an image was put, and its line pushed
-pub record HasBuilt (devices : List DeviceData) (words : List (List ℕ)) (seen seen' : List ℕ → Option (List ℕ)) (w w' : SinkSeen) : Type 0 where
-  pub job : Asked
-  pub command : job_in words ≡ Some job
-  pub contents : List (List ℕ)
-  pub accepted : IsAccepted devices job seen contents
-  pub out : List ℕ
-  pub image : Picture
-  pub is : IsBuild job contents out image
-  pub file : WhereSeen (seen' out) (λ all. all ≡ spelling image)
-  pub text : Appends w.written w'.written (built out image).text
-
--- the last state of a run was put, and its line pushed
-pub record HasSaved (devices : List DeviceData) (words : List (List ℕ)) (seen seen' : List ℕ → Option (List ℕ)) (w w' : SinkSeen) : Type 0 where
-  pub job : Asked
-  pub command : job_in words ≡ Some job
-  pub contents : List (List ℕ)
-  pub accepted : IsAccepted devices job seen contents
-  pub out : List ℕ
-  pub bound : ℕ
-  pub scenario : Scenario
-  pub is : IsSave devices job contents out bound scenario
-  pub file : WhereSeen (seen' out) (λ all. all ≡ saved_bytes bound scenario)
-  pub text : Appends w.written w'.written (saved out bound scenario).text
-
--- the whole text of a run from a state that was saved, which ended so, with its memory where it was asked for
-pub record HasResumed (devices : List DeviceData) (words : List (List ℕ)) (seen : List ℕ → Option (List ℕ)) (w w' : SinkSeen) (r : ℕ) : Type 0 where
-  pub job : Asked
-  pub command : job_in words ≡ Some job
-  pub contents : List (List ℕ)
-  pub accepted : IsAccepted devices job seen contents
-  pub bound : ℕ
-  pub detail : Detail
-  pub scenario : Scenario
-  pub state : State
-  pub is : IsResume devices job contents bound detail scenario state
-  pub status : (resumed bound detail scenario state).status ≡ r
-  pub text : Appends w.written w'.written (resumed bound detail scenario state).text
-
--- the two lines of the run of a sample that ended so
-pub record HasSampled (words : List (List ℕ)) (w w' : SinkSeen) (r : ℕ) : Type 0 where
-  pub job : Asked
-  pub command : job_in words ≡ Some job
-  pub seed : ℕ
-  pub bound : ℕ
-  pub scenario : Scenario
-  pub is : IsSample job seed bound scenario
-  pub status : (sampled bound scenario).status ≡ r
-  pub text : Appends w.written w'.written (sampled bound scenario).text
-
--- the line of an audit that has this status: 0 where the trace holds together, 7 where it does not
-pub record HasAudited (devices : List DeviceData) (words : List (List ℕ)) (seen : List ℕ → Option (List ℕ)) (w w' : SinkSeen) (r : ℕ) : Type 0 where
-  pub job : Asked
-  pub command : job_in words ≡ Some job
-  pub contents : List (List ℕ)
-  pub accepted : IsAccepted devices job seen contents
-  pub bytes : List ℕ
-  pub is : IsAudit job contents bytes
-  pub found : trace.Verdict
-  pub verdict : trace_audit.IsVerdict bytes found
-  pub status : (audited found).status ≡ r
-  pub text : Appends w.written w'.written (audited found).text
-
--- the answers to commands that were carried out over a run
-pub record HasDebugged (devices : List DeviceData) (words : List (List ℕ)) (seen : List ℕ → Option (List ℕ)) (w w' : SinkSeen) : Type 0 where
-  pub job : Asked
-  pub command : job_in words ≡ Some job
-  pub contents : List (List ℕ)
-  pub accepted : IsAccepted devices job seen contents
-  pub scenario : Scenario
-  pub commands : List Command
-  pub is : IsDebug devices job contents scenario commands
-  pub text : Appends w.written w'.written (debugged scenario commands).text
-
--- what is told of a run that ended so, of files, from a saved state or of a sample: 6 where the supervisor faulted
-abbrev pub HasPlayed : List DeviceData → List (List ℕ) → (List ℕ → Option (List ℕ)) → SinkSeen → SinkSeen → ℕ → Type 0
-HasPlayed devices words seen w w' r = HasRun devices words seen w w' r ⊎ (HasResumed devices words seen w w' r ⊎ HasSampled words w w' r)
-
--- 0: the job was done
-abbrev pub HasDone : List DeviceData → List (List ℕ) → FilesSeen → FilesSeen → SinkSeen → SinkSeen → Type 0
-HasDone devices words before after w w' = HasPlayed devices words before.contents w w' 0
-    ⊎ (HasListed devices words before.contents w w'
-    ⊎ (HasBuilt devices words before.contents after.contents w w'
-    ⊎ (HasSaved devices words before.contents after.contents w w'
-    ⊎ (HasAudited devices words before.contents w w' 0
-    ⊎ HasDebugged devices words before.contents w w'))))
+abbrev pub IsDone : ℕ → Type 0
+IsDone r = (r ≡ 0) ⊎ ((r ≡ 6) ⊎ (r ≡ 7))
 
 -- 1: the line of the file that is refused
 pub record HasRefused (devices : List DeviceData) (words : List (List ℕ)) (seen : List ℕ → Option (List ℕ)) (w w' : SinkSeen) : Type 0 where
@@ -289,11 +191,13 @@ pub record IsFromSpelled (m : ℕ) (detail : Detail) (x : Scenario) (bytes : Lis
   pub is : v ≡ resumed m detail x state
 
 -- Where the files of `resume` are seen and accepted: what is told is the run from each state that the last of them spells. That a
--- state is spelled there may rest on the start of the run, which is sane.
+-- state is spelled there may rest on the start of the run, which is sane. Of another job nothing is said.
 abbrev pub TellsEach : List DeviceData → Asked → FilesSeen → FilesSeen → SinkSeen → SinkSeen → ℕ → Type 0
-TellsEach devices job before after w w' r =
-    (contents : List (List ℕ)) (m : ℕ) (detail : Detail) (x : Scenario) (t : State) (v : Verdict) → TakesAll (Are before.contents) devices job contents → IsResume devices job contents m detail x t
-    → (Sane x.setup (start_of x) → IsFromSpelled m detail x (slice_index_or contents 2 []) v) → Tells before after w w' v r ⊎ TellsUnread devices job before after w w' r
+TellsEach devices (resume image script state m detail) before after w w' r =
+    (contents : List (List ℕ)) (v : Verdict) → TakesAll (Are before.contents) devices (resume image script state m detail) contents
+    → let x = scenario_in devices contents in
+    (Sane x.setup (start_of x) → IsFromSpelled m detail x (slice_index_or contents 2 []) v) → Tells before after w w' v r ⊎ TellsUnread devices (resume image script state m detail) before after w w' r
+TellsEach devices job before after w w' r = Unit {0}
 
 -- Where `resume` is asked for with the image and the script of a run, up to turn m, from the state that `save` puts of that run
 -- up to turn n, and that state is accepted: what is told is the text of `run` up to turn m without the lines of turns before the

@@ -24,7 +24,8 @@ use Rattle.debug_core.specs.Reading.{commands_or_fault}
 use Rattle.trace_cli.specs.declared.file_faults.NamedFault.{NamedFault}
 use Rattle.trace_cli.specs.Contents.{image_refusal, script_refusal, state_refusal, commands_refusal, trace_refusal, picture_of, script_of, scenario_of, sample_scenario}
 use Rattle.outside_io.specs.Seen.{FilesSeen}
-use Rattle.trace_cli.specs.Sources.{MayBe, TakesAll, files_by, IsRun, IsSave, IsResume, IsDebug}
+use Rattle.trace_cli.specs.Sources.{MayBe, TakesAll, files_by, scenario_in, state_by}
+use Rattle.trace_cli.specs.Verdict.{Does, ran, saved, resumed, debugged}
 use Rattle.trace_cli.specs.Building.{IsNamedFaultAfter}
 
 -- an image is that which the file of this name spells
@@ -54,7 +55,7 @@ pub record IsReady {X : Type 0} {H : X → Type 0} (shown : Shows X H) (devices 
   pub contents : List (List ℕ)
   pub accepted : TakesAll (MayBe seen) devices job contents
   pub scenario : Scenario
-  pub is : IsRun devices job contents n detail scenario
+  pub done : Does devices job contents (ran n detail scenario)
   pub stands : Stands shown scenario b (start_of scenario)
   pub turns : turns_of b ≡ 0
 
@@ -63,7 +64,7 @@ pub record IsSaveReady {X : Type 0} {H : X → Type 0} (shown : Shows X H) (devi
   pub contents : List (List ℕ)
   pub accepted : TakesAll (MayBe seen) devices job contents
   pub scenario : Scenario
-  pub is : IsSave devices job contents name n scenario
+  pub done : Does devices job contents (saved name n scenario)
   pub stands : Stands shown scenario b (start_of scenario)
   pub turns : turns_of b ≡ 0
 
@@ -93,12 +94,10 @@ pub record IsStateSet {X : Type 0} {H : X → Type 0} (shown : Shows X H) (devic
 pub record IsResumable {X : Type 0} {H : X → Type 0} (shown : Shows X H) (devices : List DeviceData) (job : Asked) (seen : List ℕ → Option (List ℕ)) (n : ℕ) (detail : Detail) (b : Board X H) : Type 0 where
   pub contents : List (List ℕ)
   pub accepted : TakesAll (MayBe seen) devices job contents
-  pub scenario : Scenario
-  pub state : State
-  pub is : IsResume devices job contents n detail scenario state
-  pub start : Sane scenario.setup (start_of scenario)
-  pub stands : Stands shown scenario b state
-  pub each : (s : State) → IsSpelled scenario (slice_index_or contents 2 []) s → Stands shown scenario b s
+  pub done : Does devices job contents (resumed n detail (scenario_in devices contents) (state_by devices contents))
+  pub start : Sane (scenario_in devices contents).setup (start_of (scenario_in devices contents))
+  pub stands : Stands shown (scenario_in devices contents) b (state_by devices contents)
+  pub each : (s : State) → IsSpelled (scenario_in devices contents) (slice_index_or contents 2 []) s → Stands shown (scenario_in devices contents) b s
   pub turns : turns_of b ≤ n
 
 -- commands are those that the file of this name says
@@ -113,7 +112,7 @@ pub record IsDebugReady {X : Type 0} {H : X → Type 0} (shown : Shows X H) (dev
   pub contents : List (List ℕ)
   pub accepted : TakesAll (MayBe seen) devices job contents
   pub scenario : Scenario
-  pub is : IsDebug devices job contents scenario commands
+  pub done : Does devices job contents (debugged scenario commands)
   pub stands : Stands shown scenario b (start_of scenario)
 
 -- the board stands for the start of the run of the sample of a seed

@@ -1,5 +1,5 @@
 -- The files of a job, in the order in which they are accepted.
-use Rattle.std.specs.Prelude.{◌≡◌, ℕ, ◌+◌, List, [], ◌∷◌, ◌++◌, length, drop, take, slice_get, slice_index_or, Option, Some, None, Ok}
+use Rattle.std.specs.Prelude.{◌≡◌, ℕ, ◌+◌, List, [], ◌∷◌, ◌++◌, length, drop, take, slice_get, slice_index_or, Option, Some, None}
 use Rattle.kernel_abi.specs.Devices.{DeviceData}
 use Rattle.outside_io.specs.Outside.{WhereSeen}
 use Rattle.app_toml.specs.Apps.{AppData, TaskData}
@@ -9,11 +9,7 @@ use Rattle.board_model.specs.Script.{Scenario}
 use Rattle.task_table.specs.State.{State}
 use Rattle.snapshot.specs.Restored.{state_in}
 use Rattle.command_line.specs.CommandLine.{Asked, build, run, go, list, sample, migrate, audit, save, resume, debug}
-use Rattle.command_line.specs.declared.job.Detail.{Detail}
-use Rattle.debug_core.specs.declared.command.Command.{Command}
-use Rattle.debug_core.specs.Reading.{commands_or_fault}
-use Rattle.sample_gen.specs.Sample.{sample_app, sample_sources}
-use Rattle.trace_cli.specs.Contents.{Why, file_limit, trace_limit, image_refusal, script_refusal, app_refusal, source_refusal, trace_refusal, state_refusal, commands_refusal, picture_of, application_of, scenario_of, sample_scenario}
+use Rattle.trace_cli.specs.Contents.{Why, file_limit, trace_limit, image_refusal, script_refusal, app_refusal, source_refusal, trace_refusal, state_refusal, commands_refusal, picture_of, application_of, scenario_of}
 
 -- a file, the most bytes that it may have, and why contents of it are refused
 pub record File : Type 0 where
@@ -130,108 +126,10 @@ pub record IsBuilt (contents : List (List ℕ)) (image : Picture) : Type 0 where
   pub built : Built (described contents) (sources_in contents) image
   pub sound : Sound image
 
--- the job is a run of this scenario with these devices up to this bound, told in this detail
-abbrev pub IsRun : List DeviceData → Asked → List (List ℕ) → ℕ → Detail → Scenario → Type 0
-IsRun devices (run image script steps detail) contents n d x =
-    (n ≡ steps) × (d ≡ detail) × (x ≡ scenario_of (picture_of (first_of contents)) (slice_index_or contents 1 []) devices)
-IsRun devices (go app script steps detail) contents n d x =
-    (n ≡ steps) × (d ≡ detail) × ((image : Picture) × IsBuilt contents image × (x ≡ scenario_of image (script_in contents) devices))
-IsRun devices (build app out) contents n d x = ⊥
-IsRun devices (list image) contents n d x = ⊥
-IsRun devices (sample seed steps) contents n d x = ⊥
-IsRun devices (migrate image out) contents n d x = ⊥
-IsRun devices (audit trace) contents n d x = ⊥
-IsRun devices (save image script out steps) contents n d x = ⊥
-IsRun devices (resume image script state steps detail) contents n d x = ⊥
-IsRun devices (debug image script commands) contents n d x = ⊥
-
--- the job is a listing of this image
-abbrev pub IsListing : Asked → List (List ℕ) → Picture → Type 0
-IsListing (list name) contents image = image ≡ picture_of (first_of contents)
-IsListing (build app out) contents image = ⊥
-IsListing (run name script steps detail) contents image = ⊥
-IsListing (go app script steps detail) contents image = ⊥
-IsListing (sample seed steps) contents image = ⊥
-IsListing (migrate file out) contents image = ⊥
-IsListing (audit trace) contents image = ⊥
-IsListing (save file script out steps) contents image = ⊥
-IsListing (resume file script state steps detail) contents image = ⊥
-IsListing (debug file script commands) contents image = ⊥
-
--- the job is to build this image, or it is the one that the file spells, and to put it under this name
-abbrev pub IsBuild : Asked → List (List ℕ) → List ℕ → Picture → Type 0
-IsBuild (build app out) contents name image = (name ≡ out) × IsBuilt contents image
-IsBuild (run file script steps detail) contents name image = ⊥
-IsBuild (go app script steps detail) contents name image = ⊥
-IsBuild (list file) contents name image = ⊥
-IsBuild (sample seed steps) contents name image = ⊥
-IsBuild (migrate file out) contents name image = (name ≡ out) × (image ≡ picture_of (first_of contents))
-IsBuild (audit trace) contents name image = ⊥
-IsBuild (save file script out steps) contents name image = ⊥
-IsBuild (resume file script state steps detail) contents name image = ⊥
-IsBuild (debug file script commands) contents name image = ⊥
-
--- the job is the audit of this text
-abbrev pub IsAudit : Asked → List (List ℕ) → List ℕ → Type 0
-IsAudit (audit trace) contents text = text ≡ first_of contents
-IsAudit (build app out) contents text = ⊥
-IsAudit (run image script steps detail) contents text = ⊥
-IsAudit (go app script steps detail) contents text = ⊥
-IsAudit (list image) contents text = ⊥
-IsAudit (sample seed steps) contents text = ⊥
-IsAudit (migrate image out) contents text = ⊥
-IsAudit (save image script out steps) contents text = ⊥
-IsAudit (resume image script state steps detail) contents text = ⊥
-IsAudit (debug image script commands) contents text = ⊥
-
--- the job is a run of this scenario up to this bound, of which the notes are counted: the sample of this seed, as it is built
-pub record IsSample (job : Asked) (seed n : ℕ) (x : Scenario) : Type 0 where
-  pub is : job ≡ sample seed n
-  pub image : Picture
-  pub built : Built (sample_app seed) (sample_sources seed) image
-  pub scenario : x ≡ sample_scenario seed image
-
 -- the run of the image in the first of these contents with the script in the second one
 abbrev pub scenario_in : List DeviceData → List (List ℕ) → Scenario
 scenario_in devices contents = scenario_of (picture_of (first_of contents)) (slice_index_or contents 1 []) devices
 
--- the job is to put the last state of a run of this scenario up to this bound under this name
-abbrev pub IsSave : List DeviceData → Asked → List (List ℕ) → List ℕ → ℕ → Scenario → Type 0
-IsSave devices (save image script out steps) contents name n x = (name ≡ out) × (n ≡ steps) × (x ≡ scenario_in devices contents)
-IsSave devices (build app out) contents name n x = ⊥
-IsSave devices (run image script steps detail) contents name n x = ⊥
-IsSave devices (go app script steps detail) contents name n x = ⊥
-IsSave devices (list image) contents name n x = ⊥
-IsSave devices (sample seed steps) contents name n x = ⊥
-IsSave devices (migrate image out) contents name n x = ⊥
-IsSave devices (audit trace) contents name n x = ⊥
-IsSave devices (resume image script state steps detail) contents name n x = ⊥
-IsSave devices (debug image script commands) contents name n x = ⊥
-
--- the job is the run of this scenario up to this bound, told in this detail, from the state that the third of these contents spells
-abbrev pub IsResume : List DeviceData → Asked → List (List ℕ) → ℕ → Detail → Scenario → State → Type 0
-IsResume devices (resume image script state steps detail) contents n d x s =
-    (n ≡ steps) × (d ≡ detail) × (x ≡ scenario_in devices contents) × (s ≡ state_in x.setup devices (slice_index_or contents 2 []))
-IsResume devices (build app out) contents n d x s = ⊥
-IsResume devices (run image script steps detail) contents n d x s = ⊥
-IsResume devices (go app script steps detail) contents n d x s = ⊥
-IsResume devices (list image) contents n d x s = ⊥
-IsResume devices (sample seed steps) contents n d x s = ⊥
-IsResume devices (migrate image out) contents n d x s = ⊥
-IsResume devices (audit trace) contents n d x s = ⊥
-IsResume devices (save image script out steps) contents n d x s = ⊥
-IsResume devices (debug image script commands) contents n d x s = ⊥
-
--- the job is to carry out these commands over the run of this scenario: those that the third of these contents says
-abbrev pub IsDebug : List DeviceData → Asked → List (List ℕ) → Scenario → List Command → Type 0
-IsDebug devices (debug image script name) contents x commands =
-    (x ≡ scenario_in devices contents) × (commands_or_fault (slice_index_or contents 2 []) ≡ Ok commands)
-IsDebug devices (build app out) contents x commands = ⊥
-IsDebug devices (run image script steps detail) contents x commands = ⊥
-IsDebug devices (go app script steps detail) contents x commands = ⊥
-IsDebug devices (list image) contents x commands = ⊥
-IsDebug devices (sample seed steps) contents x commands = ⊥
-IsDebug devices (migrate image out) contents x commands = ⊥
-IsDebug devices (audit trace) contents x commands = ⊥
-IsDebug devices (save image script out steps) contents x commands = ⊥
-IsDebug devices (resume image script state steps detail) contents x commands = ⊥
+-- the state of that run that the third of them spells
+abbrev pub state_by : List DeviceData → List (List ℕ) → State
+state_by devices contents = state_in (scenario_in devices contents).setup devices (slice_index_or contents 2 [])

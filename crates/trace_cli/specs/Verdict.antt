@@ -1,9 +1,11 @@
 -- What the program answers: a status, its text, and the file that it puts.
-use Rattle.std.specs.Prelude.{◌≡◌, ℕ, ◌-◌, Bool, false, if◌then◌else◌, List, [], ◌++◌, length, codes, decimal, Option, Some, None}
+use Rattle.std.specs.Prelude.{◌≡◌, ℕ, ◌-◌, Bool, false, if◌then◌else◌, List, [], ◌++◌, length, slice_index_or, codes, decimal, Option, Some, None, Ok}
 use Rattle.kernel_abi.specs.Devices.{DeviceData}
 use Rattle.serde_json.specs.Written.{compact_text}
 use Rattle.image_format.specs.Picture.{Picture, spelling}
 use Rattle.image_list.specs.Listing.{image_data}
+use Rattle.image_build.specs.Built.{Built}
+use Rattle.sample_gen.specs.Sample.{sample_app, sample_sources}
 use Rattle.board_model.specs.declared.outcomes.End.{End}
 use Rattle.board_model.specs.declared.outcomes.End.TheVariants.{Bound, Still, Supervisor}
 use Rattle.task_table.specs.State.{Setup, State}
@@ -19,14 +21,15 @@ use Rattle.board_run.specs.Counts.{summary_text}
 use Rattle.board_run.specs.MemoryText.{memory_text}
 use Rattle.debug_core.specs.declared.command.Command.{Command}
 use Rattle.debug_core.specs.Answers.{text as answers_text}
+use Rattle.debug_core.specs.Reading.{commands_or_fault}
 use Rattle.trace_audit.specs.declared.verdict.Verdict as trace
 use Rattle.trace_audit.specs.declared.verdict.Verdict.TheVariants.{Yes, No}
 use Rattle.trace_audit.specs.Verdicts as trace_audit
-use Rattle.command_line.specs.CommandLine.{Asked, is_accepted}
+use Rattle.command_line.specs.CommandLine.{Asked, build, run, go, list, sample, migrate, audit, save, resume, debug, is_accepted}
 use Rattle.command_line.specs.declared.job.Detail.{Detail}
-use Rattle.trace_cli.specs.Contents.{Why}
+use Rattle.trace_cli.specs.Contents.{Why, picture_of, scenario_of, sample_scenario}
 use Rattle.trace_cli.specs.Words.{job_in}
-use Rattle.trace_cli.specs.Sources.{File, Are, Reaches, TakesAll, IsRun, IsListing, IsBuild, IsSample, IsAudit, IsSave, IsResume, IsDebug}
+use Rattle.trace_cli.specs.Sources.{File, Are, Reaches, TakesAll, IsBuilt, first_of, script_in, scenario_in, state_by}
 
 pub record Verdict : Type 0 where
   pub status : ℕ
@@ -153,17 +156,20 @@ audited (No line) = line_alone 7 (no_line line)
 abbrev pub debugged : Scenario → List Command → Verdict
 debugged x commands = line_alone 0 (answers_text x commands)
 
--- ## what comes of accepted files with these contents, where a run has these devices
+-- ## what comes of accepted files with these contents, where a run has these devices: each command by its line
 
-pub data Does (devices : List DeviceData) (job : Asked) (contents : List (List ℕ)) (v : Verdict) : Type 0 where
-  runs : (n : ℕ) (detail : Detail) (x : Scenario) → IsRun devices job contents n detail x → v ≡ ran n detail x → Does devices job contents v
-  lists : (image : Picture) → IsListing job contents image → v ≡ listed image → Does devices job contents v
-  builds : (out : List ℕ) (image : Picture) → IsBuild job contents out image → v ≡ built out image → Does devices job contents v
-  samples : (seed n : ℕ) (x : Scenario) → IsSample job seed n x → v ≡ sampled n x → Does devices job contents v
-  saves : (out : List ℕ) (n : ℕ) (x : Scenario) → IsSave devices job contents out n x → v ≡ saved out n x → Does devices job contents v
-  resumes : (n : ℕ) (detail : Detail) (x : Scenario) (s : State) → IsResume devices job contents n detail x s → v ≡ resumed n detail x s → Does devices job contents v
-  debugs : (x : Scenario) (commands : List Command) → IsDebug devices job contents x commands → v ≡ debugged x commands → Does devices job contents v
-  audits : (text : List ℕ) (found : trace.Verdict) → IsAudit job contents text → trace_audit.IsVerdict text found → v ≡ audited found → Does devices job contents v
+abbrev pub Does : List DeviceData → Asked → List (List ℕ) → Verdict → Type 0
+Does devices (build app out) contents v = (image : Picture) × IsBuilt contents image × (v ≡ built out image)
+Does devices (run image script steps detail) contents v = v ≡ ran steps detail (scenario_in devices contents)
+Does devices (go app script steps detail) contents v = (image : Picture) × IsBuilt contents image × (v ≡ ran steps detail (scenario_of image (script_in contents) devices))
+Does devices (list image) contents v = v ≡ listed (picture_of (first_of contents))
+Does devices (sample seed steps) contents v = (image : Picture) × Built (sample_app seed) (sample_sources seed) image × (v ≡ sampled steps (sample_scenario seed image))
+Does devices (migrate image out) contents v = v ≡ built out (picture_of (first_of contents))
+Does devices (audit name) contents v = (found : trace.Verdict) × trace_audit.IsVerdict (first_of contents) found × (v ≡ audited found)
+Does devices (save image script out steps) contents v = v ≡ saved out steps (scenario_in devices contents)
+Does devices (resume image script state steps detail) contents v = v ≡ resumed steps detail (scenario_in devices contents) (state_by devices contents)
+Does devices (debug image script name) contents v =
+    (commands : List Command) × (commands_or_fault (slice_index_or contents 2 []) ≡ Ok commands) × (v ≡ debugged (scenario_in devices contents) commands)
 
 -- ## the verdict on words and contents, where they are seen as far as they count and a run has these devices
 

@@ -11,7 +11,7 @@ ghost use Rattle.outside_io.specs.Seen.{FilesSeen};
 ghost use Rattle.trace_cli.specs.Words.{texts_of, job_in, out_of};
 ghost use Rattle.trace_cli.specs.Verdict.{Verdict, IsVerdict, usage_line, built};
 ghost use Rattle.trace_cli.specs.Ready.{IsReady, IsNamedFaultIn};
-ghost use Rattle.trace_cli.specs.Answer.{Tells, AnswersJob, Answers, Answered, IsComplete, TellsEach, GoesOn, HasPlayed, HasDone, HasAudited, HasRefused, HasUnread, HasFront};
+ghost use Rattle.trace_cli.specs.Answer.{Tells, AnswersJob, Answers, Answered, IsComplete, TellsEach, GoesOn, IsDone, HasDone, HasRefused, HasUnread, HasFront};
 
 use crate::auditing::{audit_under, tell_audit};
 use crate::building::built_image;
@@ -295,14 +295,12 @@ pub fn hubris_main_with<F: Files, S: Sink>(
     ensures goes_on { GoesOn (map shown devices.items) (texts_of words.now) (F.seen files.old) (F.seen files.new) (S.seen out.old) (S.seen out.new) result }
 
     // When each status comes, and what was pushed and put with it.
-    ensures done { result ≡ 0 → HasDone (map shown devices.items) (texts_of words.now) (F.seen files.old) (F.seen files.new) (S.seen out.old) (S.seen out.new) }
+    ensures done { IsDone result → HasDone (map shown devices.items) (texts_of words.now) (F.seen files.old) (F.seen files.new) (S.seen out.old) (S.seen out.new) result }
     ensures refused { result ≡ 1 → HasRefused (map shown devices.items) (texts_of words.now) (F.seen files.old).contents (S.seen out.old) (S.seen out.new) }
     ensures no_command { result ≡ 2 → (is_accepted (texts_of words.now) ≡ false) × Appends (S.seen out.old).written (S.seen out.new).written usage_line }
     ensures unread { result ≡ 3 → HasUnread (map shown devices.items) (texts_of words.now) (F.seen files.old) (F.seen files.new) (S.seen out.old) (S.seen out.new) }
     ensures cut { result ≡ 4 → HasFront (map shown devices.items) (texts_of words.now) (F.seen files.old) (F.seen files.new) (S.seen out.old) (S.seen out.new) }
     ensures short { result ≡ 5 → ((S.seen out.new).written ≡ (S.seen out.old).written) × ((S.seen out.new).faults ≡ (S.seen out.old).faults) × ((F.seen files.new).contents ≡ (F.seen files.old).contents) }
-    ensures supervisor { result ≡ 6 → HasPlayed (map shown devices.items) (texts_of words.now) (F.seen files.old).contents (S.seen out.old) (S.seen out.new) 6 }
-    ensures bad { result ≡ 7 → HasAudited (map shown devices.items) (texts_of words.now) (F.seen files.old).contents (S.seen out.old) (S.seen out.new) 7 }
     ensures known { result ≤ 7 }
 
     // Only the file under OUT is changed, and only under the statuses 0 and 4.
@@ -336,14 +334,12 @@ pub fn hubris_main<F: Files, S: Sink>(
     ensures goes_on { GoesOn [] (texts_of words.now) (F.seen files.old) (F.seen files.new) (S.seen out.old) (S.seen out.new) result }
 
     // When each status comes, and what was pushed and put with it.
-    ensures done { result ≡ 0 → HasDone [] (texts_of words.now) (F.seen files.old) (F.seen files.new) (S.seen out.old) (S.seen out.new) }
+    ensures done { IsDone result → HasDone [] (texts_of words.now) (F.seen files.old) (F.seen files.new) (S.seen out.old) (S.seen out.new) result }
     ensures refused { result ≡ 1 → HasRefused [] (texts_of words.now) (F.seen files.old).contents (S.seen out.old) (S.seen out.new) }
     ensures no_command { result ≡ 2 → (is_accepted (texts_of words.now) ≡ false) × Appends (S.seen out.old).written (S.seen out.new).written usage_line }
     ensures unread { result ≡ 3 → HasUnread [] (texts_of words.now) (F.seen files.old) (F.seen files.new) (S.seen out.old) (S.seen out.new) }
     ensures cut { result ≡ 4 → HasFront [] (texts_of words.now) (F.seen files.old) (F.seen files.new) (S.seen out.old) (S.seen out.new) }
     ensures short { result ≡ 5 → ((S.seen out.new).written ≡ (S.seen out.old).written) × ((S.seen out.new).faults ≡ (S.seen out.old).faults) × ((F.seen files.new).contents ≡ (F.seen files.old).contents) }
-    ensures supervisor { result ≡ 6 → HasPlayed [] (texts_of words.now) (F.seen files.old).contents (S.seen out.old) (S.seen out.new) 6 }
-    ensures bad { result ≡ 7 → HasAudited [] (texts_of words.now) (F.seen files.old).contents (S.seen out.old) (S.seen out.new) 7 }
     ensures known { result ≤ 7 }
 
     // Only the file under OUT is changed, and only under the statuses 0 and 4.

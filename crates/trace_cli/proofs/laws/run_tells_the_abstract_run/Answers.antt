@@ -6,7 +6,7 @@ use Rattle.command_line.specs.declared.job.Detail.{Detail}
 use Rattle.trace_cli.specs.Contents.{image_refusal, script_refusal, picture_of, scenario_of}
 use Rattle.trace_cli.specs.Words.{job_in}
 use Rattle.trace_cli.specs.Sources.{image_file, script_file, Are, Takes}
-use Rattle.trace_cli.specs.Verdict.{Verdict, IsVerdict, does, runs, ran}
+use Rattle.trace_cli.specs.Verdict.{Verdict, IsVerdict, does, ran}
 use Rattle.trace_cli.proofs.OneVerdict.{one_verdict}
 use Rattle.trace_cli.proofs.laws.run_tells_the_abstract_run.Goals as goal
 
@@ -19,7 +19,7 @@ module _ (devices : List DeviceData) (seen : List ℕ → Option (List ℕ)) (im
   takes_both (suc (suc k)) bytes e = absurd (cc)
 
   verdict : (words : List (List ℕ)) (n : ℕ) (detail : Detail) (v : Verdict) → job_in words ≡ Some (run image_name script_name n detail) → v ≡ ran n detail (scenario_of (picture_of image) script devices) → IsVerdict devices words seen v
-  verdict words n detail v at e = does (run image_name script_name n detail) (image ∷ script ∷ []) at (record { takes = takes_both; all = refl }) (runs n detail (scenario_of (picture_of image) script devices) (refl, refl, refl) e)
+  verdict words n detail v at e = does (run image_name script_name n detail) (image ∷ script ∷ []) at (record { takes = takes_both; all = refl }) e
 
 pub returns : goal.returns
 returns c = λ devices words seen image_name script_name image script n detail v at image_seen script_seen image_taken script_taken.

@@ -1,7 +1,7 @@
 use Rattle.std.proofs.Common.{refl}
 use Rattle.trace_cli.specs.Words.{texts_of}
 use Rattle.trace_cli.proofs.Deciding.{no_job_of}
-use Rattle.trace_cli.proofs.EachState.{each_of_words, none_each}
+use Rattle.trace_cli.proofs.EachState.{each_of_words}
 use Rattle.trace_cli.proofs.Statuses.{answers_usage, by_job}
 use Rattle.trace_cli.proofs.program.answer.Goals as goal
 
@@ -53,7 +53,7 @@ returns-in-Ok-Resume-clause-answer g c =
 pub returns-in-Ok-Resume-clause-each : goal.returns-in-Ok-Resume-clause-each
 returns-in-Ok-Resume-clause-each g c =
     let job = rw c.in-Ok-Resume.field-0-is at c.in-Ok-Resume.ensures.job in
-    each_of_words (texts_of c.args.words.now) _ _ _ _ _ _ c.in-Ok-Resume.ensures.accepted job c.resume_files.ensures.each
+    each_of_words _ (texts_of c.args.words.now) _ _ _ _ _ _ c.in-Ok-Resume.ensures.accepted job c.resume_files.ensures.each
 
 pub returns-in-Ok-Debug-clause-answer : goal.returns-in-Ok-Debug-clause-answer
 returns-in-Ok-Debug-clause-answer g c =
@@ -63,47 +63,47 @@ returns-in-Ok-Debug-clause-answer g c =
 pub returns-in-Ok-Debug-clause-each : goal.returns-in-Ok-Debug-clause-each
 returns-in-Ok-Debug-clause-each g c =
     let job = rw c.in-Ok-Debug.field-0-is at c.in-Ok-Debug.ensures.job in
-    each_of_words (texts_of c.args.words.now) _ _ _ _ _ _ c.in-Ok-Debug.ensures.accepted job (none_each _ _ _ _ _ _ (λ devices cs n d x s is. is))
+    each_of_words _ (texts_of c.args.words.now) _ _ _ _ _ _ c.in-Ok-Debug.ensures.accepted job tt
 
 pub returns-in-Ok-Build-clause-each : goal.returns-in-Ok-Build-clause-each
 returns-in-Ok-Build-clause-each g c =
     let job = rw c.in-Ok-Build.field-0-is at c.in-Ok-Build.ensures.job in
-    each_of_words (texts_of c.args.words.now) _ _ _ _ _ _ c.in-Ok-Build.ensures.accepted job (none_each _ _ _ _ _ _ (λ devices cs n d x s is. is))
+    each_of_words _ (texts_of c.args.words.now) _ _ _ _ _ _ c.in-Ok-Build.ensures.accepted job tt
 
 pub returns-in-Ok-Run-clause-each : goal.returns-in-Ok-Run-clause-each
 returns-in-Ok-Run-clause-each g c =
     let job = rw c.in-Ok-Run.field-0-is at c.in-Ok-Run.ensures.job in
-    each_of_words (texts_of c.args.words.now) _ _ _ _ _ _ c.in-Ok-Run.ensures.accepted job (none_each _ _ _ _ _ _ (λ devices cs n d x s is. is))
+    each_of_words _ (texts_of c.args.words.now) _ _ _ _ _ _ c.in-Ok-Run.ensures.accepted job tt
 
 pub returns-in-Ok-Go-clause-each : goal.returns-in-Ok-Go-clause-each
 returns-in-Ok-Go-clause-each g c =
     let job = rw c.in-Ok-Go.field-0-is at c.in-Ok-Go.ensures.job in
-    each_of_words (texts_of c.args.words.now) _ _ _ _ _ _ c.in-Ok-Go.ensures.accepted job (none_each _ _ _ _ _ _ (λ devices cs n d x s is. is))
+    each_of_words _ (texts_of c.args.words.now) _ _ _ _ _ _ c.in-Ok-Go.ensures.accepted job tt
 
 pub returns-in-Ok-List-clause-each : goal.returns-in-Ok-List-clause-each
 returns-in-Ok-List-clause-each g c =
     let job = rw c.in-Ok-List.field-0-is at c.in-Ok-List.ensures.job in
-    each_of_words (texts_of c.args.words.now) _ _ _ _ _ _ c.in-Ok-List.ensures.accepted job (none_each _ _ _ _ _ _ (λ devices cs n d x s is. is))
+    each_of_words _ (texts_of c.args.words.now) _ _ _ _ _ _ c.in-Ok-List.ensures.accepted job tt
 
 pub returns-in-Ok-Sample-clause-each : goal.returns-in-Ok-Sample-clause-each
 returns-in-Ok-Sample-clause-each g c =
     let job = rw c.in-Ok-Sample.field-0-is at c.in-Ok-Sample.ensures.job in
-    each_of_words (texts_of c.args.words.now) _ _ _ _ _ _ c.in-Ok-Sample.ensures.accepted job (none_each _ _ _ _ _ _ (λ devices cs n d x s is. is))
+    each_of_words _ (texts_of c.args.words.now) _ _ _ _ _ _ c.in-Ok-Sample.ensures.accepted job tt
 
 pub returns-in-Ok-Migrate-clause-each : goal.returns-in-Ok-Migrate-clause-each
 returns-in-Ok-Migrate-clause-each g c =
     let job = rw c.in-Ok-Migrate.field-0-is at c.in-Ok-Migrate.ensures.job in
-    each_of_words (texts_of c.args.words.now) _ _ _ _ _ _ c.in-Ok-Migrate.ensures.accepted job (none_each _ _ _ _ _ _ (λ devices cs n d x s is. is))
+    each_of_words _ (texts_of c.args.words.now) _ _ _ _ _ _ c.in-Ok-Migrate.ensures.accepted job tt
 
 pub returns-in-Ok-Audit-clause-each : goal.returns-in-Ok-Audit-clause-each
 returns-in-Ok-Audit-clause-each g c =
     let job = rw c.in-Ok-Audit.field-0-is at c.in-Ok-Audit.ensures.job in
-    each_of_words (texts_of c.args.words.now) _ _ _ _ _ _ c.in-Ok-Audit.ensures.accepted job (none_each _ _ _ _ _ _ (λ devices cs n d x s is. is))
+    each_of_words _ (texts_of c.args.words.now) _ _ _ _ _ _ c.in-Ok-Audit.ensures.accepted job tt
 
 pub returns-in-Ok-Save-clause-each : goal.returns-in-Ok-Save-clause-each
 returns-in-Ok-Save-clause-each g c =
     let job = rw c.in-Ok-Save.field-0-is at c.in-Ok-Save.ensures.job in
-    each_of_words (texts_of c.args.words.now) _ _ _ _ _ _ c.in-Ok-Save.ensures.accepted job (none_each _ _ _ _ _ _ (λ devices cs n d x s is. is))
+    each_of_words _ (texts_of c.args.words.now) _ _ _ _ _ _ c.in-Ok-Save.ensures.accepted job tt
 
 pub returns-in-Err-NotAccepted-clause-each : goal.returns-in-Err-NotAccepted-clause-each
 returns-in-Err-NotAccepted-clause-each g c = λ job at. absurd (no_job_of (texts_of c.args.words.now) job (c.in-Err-NotAccepted.ensures.refused c.in-Err-NotAccepted.field-0-is) at)

@@ -1,5 +1,5 @@
 use Rattle.devices.proofs.Fresh.{none_fresh}
-use Rattle.trace_cli.proofs.Handed.{no_devices, verdict_of_none, answered_without, each_without, on_without, front_without, refused_without, unread_without, audited_without, played_without, done_without}
+use Rattle.trace_cli.proofs.Handed.{no_devices, verdict_of_none, answered_without, each_without, on_without, front_without, refused_without, unread_without, done_without}
 use Rattle.trace_cli.proofs.program.hubris_main.Goals as goal
 
 pub hubris_main_with-requires : goal.hubris_main_with-requires
@@ -14,7 +14,7 @@ pub returns-clause-complete : goal.returns-clause-complete
 returns-clause-complete g c = λ reads puts pushes v h. c.hubris_main_with.ensures.complete reads puts pushes v (verdict_of_none _ (no_devices _ _ c.new.ensures.items) _ _ v h)
 
 pub returns-clause-done : goal.returns-clause-done
-returns-clause-done g c = λ status. done_without _ (no_devices _ _ c.new.ensures.items) _ (g.F.Files.seen c.args.files.now) (g.F.Files.seen c.hubris_main_with.new.files) _ _ (c.hubris_main_with.ensures.done status)
+returns-clause-done g c = λ status. done_without _ (no_devices _ _ c.new.ensures.items) _ (g.F.Files.seen c.args.files.now) (g.F.Files.seen c.hubris_main_with.new.files) _ _ _ (c.hubris_main_with.ensures.done status)
 
 pub returns-clause-refused : goal.returns-clause-refused
 returns-clause-refused g c = λ status. refused_without _ (no_devices _ _ c.new.ensures.items) _ _ _ _ (c.hubris_main_with.ensures.refused status)
@@ -24,12 +24,6 @@ returns-clause-unread g c = λ status. unread_without _ (no_devices _ _ c.new.en
 
 pub returns-clause-cut : goal.returns-clause-cut
 returns-clause-cut g c = λ status. front_without _ (no_devices _ _ c.new.ensures.items) _ _ _ _ _ (c.hubris_main_with.ensures.cut status)
-
-pub returns-clause-supervisor : goal.returns-clause-supervisor
-returns-clause-supervisor g c = λ status. played_without _ (no_devices _ _ c.new.ensures.items) _ _ _ _ _ (c.hubris_main_with.ensures.supervisor status)
-
-pub returns-clause-bad : goal.returns-clause-bad
-returns-clause-bad g c = λ status. audited_without _ (no_devices _ _ c.new.ensures.items) _ _ _ _ _ (c.hubris_main_with.ensures.bad status)
 
 pub returns-clause-each : goal.returns-clause-each
 returns-clause-each g c = λ job at. each_without _ (no_devices _ _ c.new.ensures.items) job _ _ _ _ _ (c.hubris_main_with.ensures.each job at)

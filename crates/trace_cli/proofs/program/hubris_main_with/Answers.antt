@@ -1,4 +1,4 @@
-use Rattle.trace_cli.proofs.Statuses.{answered, completed, was_cut, was_done, was_refused, was_no_command, was_unread, was_short, was_ran, was_bad, known, others, kept}
+use Rattle.trace_cli.proofs.Statuses.{answered, completed, was_cut, was_done, was_refused, was_no_command, was_unread, was_short, known, others, kept}
 use Rattle.trace_cli.proofs.GoingOn.{goes_on}
 use Rattle.trace_cli.proofs.program.hubris_main_with.Goals as goal
 
@@ -34,12 +34,6 @@ returns-clause-cut g c = λ e. was_cut _ _ _ _ _ _ c.answer.ensures.answer e
 
 pub returns-clause-short : goal.returns-clause-short
 returns-clause-short g c = λ e. was_short _ _ _ _ _ _ c.answer.ensures.answer e
-
-pub returns-clause-supervisor : goal.returns-clause-supervisor
-returns-clause-supervisor g c = λ e. was_ran _ _ _ _ _ _ c.answer.ensures.answer e
-
-pub returns-clause-bad : goal.returns-clause-bad
-returns-clause-bad g c = λ e. was_bad _ _ _ _ _ _ c.answer.ensures.answer e
 
 pub returns-clause-goes_on : goal.returns-clause-goes_on
 returns-clause-goes_on g c = goes_on _ _ _ _ _ _ c.answer.ensures.each

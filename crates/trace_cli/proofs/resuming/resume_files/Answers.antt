@@ -38,4 +38,4 @@ returns-in-Err-clause-each g c =
     let b = g.F.Files.seen c.prepare_resume.new.files in
     let w = g.S.Sink.seen c.args.out.now in
     let w' = g.S.Sink.seen c.tell_named_fault.new.out in
-    fault_each (resume c.args.image.now c.args.script.now c.args.state.now c.args.steps c.args.detail) a b w w' c.in-Err.named_fault c.tell_named_fault.result c.in-Err.ensures.contents (c.in-Err.ensures.named_fault c.args.detail) c.tell_named_fault.ensures
+    fault_each c.args.image.now c.args.script.now c.args.state.now c.args.steps c.args.detail a b w w' c.in-Err.named_fault c.tell_named_fault.result c.in-Err.ensures.contents (c.in-Err.ensures.named_fault c.args.detail) c.tell_named_fault.ensures
