@@ -1,14 +1,16 @@
 #!/usr/bin/env bash
-# Builds each example and compares what is built, listed and run with what stands beside it. It needs the built program
-# (crates/hubris/out/hubris, made by `rt ci` or `rt run`).
+# Builds each example and compares what is built, listed and run, and what the programs of tools/ say of it, with what stands beside it.
+# It needs the built program (crates/hubris/out/hubris, made by `rt ci` or `rt run`; or HUBRIS names another), bash and any awk.
 set -eu
+program=${HUBRIS:+$(realpath "$HUBRIS")}
 cd "$(dirname "$0")/.."
-program=crates/hubris/out/hubris
+program=${program:-$PWD/crates/hubris/out/hubris}
+export HUBRIS=$program
 [ -x "$program" ] || { echo "build the program first: (cd crates/hubris && rt run)"; exit 1; }
 made=$(mktemp -d)
 trap 'rm -r "$made"' EXIT
 same() { cmp -s "$1" "$2" || { echo "$3: differs from $2"; exit 1; }; echo "$3: as expected"; }
-for example in one-task client-server blinker driver restart timers watch uart debugger; do
+for example in one-task client-server blinker driver restart timers watch uart debugger from-c; do
     "$program" build "examples/$example/app.toml" "$made/$example.img"
     "$program" list "$made/$example.img" > "$made/listing.txt"
     same "$made/listing.txt" "examples/$example/listing.txt" "$example, listing"
@@ -35,7 +37,7 @@ same "$made/mem.txt" "$light/expected-mem.txt" "blinker, go with its memory"
 grep -v -e ' insn ' -e ' low ' -e ' high ' -e ' idle$' "$made/all.txt" > "$made/calls.txt"
 same "$made/calls.txt" "$light/expected.txt" "blinker, go without what --all tells besides"
 # the folder, its script and how many turns
-for run in "driver script.txt 500" "restart empty.txt 300" "timers script.txt 500" "watch script.txt 500" "uart script.txt 500" "debugger script.txt 450"; do
+for run in "driver script.txt 500" "restart empty.txt 300" "timers script.txt 500" "watch script.txt 500" "uart script.txt 500" "debugger script.txt 450" "from-c empty.txt 1000"; do
     read -r example script steps <<< "$run"
     at=examples/$example
     "$program" go "$at/app.toml" "$at/$script" --steps "$steps" > "$made/go.txt"
@@ -47,7 +49,7 @@ at=examples/debugger
 "$program" debug "$made/debugger.img" "$at/script.txt" "$at/commands.txt" > "$made/answers.txt"
 same "$made/answers.txt" "$at/answers.txt" "debugger, back from its fault"
 # each run holds together, its memory behind it too; a borrow of a call that nobody took does not
-for example in one-task client-server blinker driver restart timers watch uart debugger; do
+for example in one-task client-server blinker driver restart timers watch uart debugger from-c; do
     for text in expected expected-mem; do
         "$program" audit "examples/$example/$text.txt" > "$made/audit.txt"
         grep -q '^yes ' "$made/audit.txt" || { echo "$example, audit of $text: $(cat "$made/audit.txt")"; exit 1; }
@@ -57,5 +59,106 @@ done
 grep -v ' take 1 ' "$loan/expected.txt" > "$made/untaken.txt"
 "$program" audit "$made/untaken.txt" > "$made/audit.txt" && status=0 || status=$?
 [ "$status $(cat "$made/audit.txt")" = "7 no 9" ] || { echo "an audit of a call that was not taken: $status $(cat "$made/audit.txt")"; exit 1; }
-awk -f examples/readable.awk examples/restart/app.toml examples/restart/expected.txt > "$made/readable.txt"
-same "$made/readable.txt" examples/restart/readable.txt "restart, in words"
+# each program of tools/: its status, its words, and the text beside the example that it writes. $made has what is made here
+at=examples/from-c
+"$program" go "$at/app.toml" "$at/empty.txt" --steps 1000 --all > "$made/all.txt"
+sed 's/^689 out 0 20/689 out 0 21/' "$at/expected.txt" > "$made/other.txt"
+"$program" save "$made/driver.img" examples/driver/script.txt "$made/state" --steps 150 > "$made/saved.txt"
+while IFS='|' read -r status words expected; do
+    eval "tools/$words" > "$made/told.txt" 2>&1 && told=0 || told=$?
+    [ "$told" = "$status" ] || { echo "tools/$words: status $told"; cat "$made/told.txt"; exit 1; }
+    same "$made/told.txt" "$expected" "tools/${words%% *}"
+done <<'END'
+0|readable examples/restart/app.toml examples/restart/expected.txt|examples/restart/readable.txt
+0|names $at/app.toml $at/expected.txt|examples/from-c/places.txt
+0|cover $at/app.toml "$made/all.txt"|examples/from-c/cover.txt
+0|labels $at/app.toml|examples/from-c/labels.txt
+1|compare $at/expected.txt "$made/other.txt"|examples/from-c/compare.txt
+0|calls examples/restart/app.toml examples/restart/expected.txt|examples/restart/calls.txt
+0|timeline examples/driver/app.toml examples/driver/expected.txt|examples/driver/timeline.vcd
+0|state examples/driver/app.toml "$made/state"|examples/driver/state.txt
+0|expect examples/uart/app.toml examples/uart/dialogue.txt 500|examples/uart/dialogue-script.txt
+0|since examples/debugger/app.toml examples/debugger/script.txt 220 20000148 1|examples/debugger/since.txt
+0|debug examples/debugger/app.toml examples/debugger/script.txt 450 < examples/debugger/session.txt|examples/debugger/session-answers.txt
+1|refusal < examples/uart/refusals.txt|examples/uart/refusals-in-words.txt
+END
+# where everything lies is where it does: each instruction of a run is at a line of its source, and none behind its end
+light=examples/blinker
+"$program" go "$light/app.toml" "$light/script.txt" --steps 600 --all > "$made/light.txt"
+tools/names "$light/app.toml" "$made/light.txt" | grep ' insn ' > "$made/named.txt"
+grep -v -e ' (line [0-9]*)$' "$made/named.txt" && { echo "blinker, an instruction without its line"; exit 1; }
+tools/compare "$at/expected.txt" "$at/expected-mem.txt" > "$made/told.txt" || { echo "from-c differs from itself"; cat "$made/told.txt"; exit 1; }
+# what they refuse: the words, and what is said
+printf 'hello\n' > "$made/hello.txt"
+sed 's/upper\.s/nowhere.s/' "$at/app.toml" > "$made/missing.toml"
+sed '/^ram = 256/d' "$at/app.toml" > "$made/keyless.toml"
+printf 'every 50 tick\nafter 3 listen 1 | in 1 300\nafter 1 out | in 1 3\n' > "$made/dialogue.txt"
+while IFS='|' read -r status words said; do
+    eval "tools/$words" > "$made/told.txt" 2> "$made/said.txt" && told=0 || told=$?
+    eval "said=\"$said\""
+    [ "$told $(cat "$made/said.txt")" = "$status $said" ] && [ ! -s "$made/told.txt" ] ||
+        { echo "tools/$words: status $told"; cat "$made/said.txt" "$made/told.txt"; exit 1; }
+done <<'END'
+2|readable|usage: readable APP TRACE
+1|readable $at/app.toml nowhere.txt|readable: cannot read nowhere.txt
+1|readable $at/expected.txt $at/expected.txt|readable: $at/expected.txt is no description: no line is [[task]]
+1|readable $at/app.toml $made/hello.txt|readable: $made/hello.txt: line 1 is no line of a trace
+1|readable examples/one-task/app.toml $at/expected.txt|readable: $at/expected.txt has 3 tasks, and examples/one-task/app.toml 1
+2|names $at/app.toml|usage: names APP TRACE
+1|names $made/missing.toml $at/expected.txt|names: cannot read $at/nowhere.s, the source of upper: sources are named from where go was called
+1|names $made/keyless.toml $at/expected.txt|names: $made/keyless.toml: task[0].ram is not on a line of its own
+2|cover $at/app.toml $at/expected.txt --all|usage: cover APP TRACE
+1|cover $at/app.toml $at/expected.txt|cover: $at/expected.txt has no instructions: it is to be of a run with --all
+2|labels|usage: labels APP
+1|labels $at/empty.txt|labels: $at/empty.txt is no description: no line is [[task]]
+2|compare $at/expected.txt|usage: compare TRACE TRACE
+1|compare $at/expected.txt $at/empty.txt|compare: $at/empty.txt is no trace: it is empty
+2|calls $at/app.toml|usage: calls APP TRACE
+1|calls $at $at/expected.txt|calls: cannot read $at
+2|timeline $at/expected.txt|usage: timeline APP TRACE
+1|timeline $at/app.toml $at/app.toml|timeline: $at/app.toml: line 1 is no line of a trace
+2|state $made/state|usage: state APP STATE
+1|state $at/app.toml $made/driver.img|state: $made/driver.img is no saved state: it does not begin with HBS1
+1|state examples/one-task/app.toml $made/state|state: $made/state has 3 tasks, and examples/one-task/app.toml 1
+2|expect examples/uart/app.toml examples/uart/dialogue.txt many|usage: expect APP DIALOGUE STEPS
+1|expect examples/uart/app.toml $made/dialogue.txt 500|expect: $made/dialogue.txt:2: no number, or one out of range
+2|since $at/app.toml $at/empty.txt 5 text 1|usage: since APP SCRIPT TURN ADDRESS LENGTH
+1|since $at/app.toml $at/empty.txt 5 client.nothing 1|since: no label or variable is client.nothing
+1|since $at/app.toml $at/empty.txt 5 30000000 1|since: no 1 bytes of flash or RAM at 30000000
+2|debug $at/app.toml|usage: debug APP SCRIPT [STEPS]
+1|debug $made/missing.toml $at/empty.txt|debug: cannot read $at/nowhere.s
+2|refusal $at/app.toml|usage: refusal < WHAT HUBRIS WROTE
+END
+echo "what the tools refuse: as expected"
+# a file may be a pipe, and need not be one that can be sought
+at=examples/timers
+cat "$made/timers.img" | "$program" run /dev/stdin "$at/script.txt" --steps 500 > "$made/run.txt"
+same "$made/run.txt" "$at/expected.txt" "timers, its image from a pipe"
+mkfifo "$made/fifo"
+cat "$made/timers.img" > "$made/fifo" &
+"$program" run "$made/fifo" "$at/script.txt" --steps 500 > "$made/run.txt"
+same "$made/run.txt" "$at/expected.txt" "timers, its image from a fifo"
+"$program" run <(cat "$made/timers.img") <(cat "$at/script.txt") --steps 500 > "$made/run.txt"
+same "$made/run.txt" "$at/expected.txt" "timers, its image and its script substituted"
+"$program" audit "$at/expected-mem.txt" > "$made/audit.txt"
+cat "$at/expected-mem.txt" | "$program" audit /dev/stdin > "$made/piped.txt"
+same "$made/piped.txt" "$made/audit.txt" "timers, audit of a trace from a pipe"
+at=examples/debugger
+cat "$at/commands.txt" | "$program" debug "$made/debugger.img" "$at/script.txt" /dev/stdin > "$made/answers.txt"
+same "$made/answers.txt" "$at/answers.txt" "debugger, its commands from a pipe"
+# what a run or a session has told is read while it goes on: this one makes a call, and then 10^9 turns that tell nothing
+printf '%s\n' '[board]' 'flash = 4096' 'ram = 1024' '[supervisor]' 'fault = "fault"' '[[task]]' 'name = "busy"' \
+    "source = \"$made/busy.s\"" 'priority = 0' 'flash = 256' 'ram = 256' 'stack = 64' 'notifications = ["fault"]' > "$made/busy.toml"
+printf '%s\n' 'movs r0, #9' 'mov r11, r0' 'svc #0' 'busy: b busy' > "$made/busy.s"
+"$program" build "$made/busy.toml" "$made/busy.img" > "$made/built.txt"
+# what it is, its first line, and the program's words: the program is stopped as soon as that line is there
+goes_on() {
+    "$program" "${@:3}" > "$made/fifo" & going=$!
+    read -r line < "$made/fifo" || true
+    kill "$going" && wait "$going" 2> /dev/null && status=0 || status=$?
+    [ "$status $line" = "143 $2" ] || { echo "$1: status $status, told '$line'"; exit 1; }
+    echo "$1: as expected"
+}
+goes_on "a run that goes on" "2 call 0 9$(printf ' %08d' 0 0 0 0 0 0 0)" run "$made/busy.img" "$task/empty.txt" --steps 1000000000
+printf '%s\n' 'step 1' 'go 1000000000' > "$made/commands.txt"
+goes_on "a session that goes on" "at 1 0 -" debug "$made/busy.img" "$task/empty.txt" "$made/commands.txt"
